@@ -1,0 +1,156 @@
+ghost use Rattle.std.specs.Prelude.{◌≡◌, ℕ, ◌+◌, ◌-◌, ◌*◌, ◌%◌, ◌^◌, ◌<◌, ◌≤◌, ◌↔◌, List, [], ◌∷◌, ◌++◌, Bool, true, not, length, slice_get, remove, OnOk, OnErr, IsOk, IsTrue, MatchOption, if◌then◌else◌};
+ghost use Rattle.lola_value.specs.declared.text.Field.{Field};
+ghost use Rattle.lola_value.specs.declared.value.Outcome.TheVariants as outcome;
+ghost use Rattle.lola_value.specs.Naming.{Naming, read_outcome, the_values, IsHeld, IsHeldIn};
+ghost use Rattle.lola_model.specs.Store.{Seen, Fits, CanBegin, IsNew, IsStarted, IsRunning, start_seen, time_seen, max_offset, target_of, pane_of, never_spawns, instances_seen, place_of, now_of, now_seen, is_silent, is_of_kind, is_outcome_of, are_of_kinds, is_well_formed, parameters_of, kind_in, spawns_in, after_start, after_prepare, after_begin, after_outcome, after_poison_stream, after_spawn, after_close, window_kind, has_spawned};
+ghost use Rattle.lola_model.specs.Reading.{held_answer, window_reading, KeepsAll, KeepsOthers, IsHeldBy};
+ghost use Rattle.lola_model.specs.Spawning.{has_room, spawn_end};
+ghost use Rattle.lola_model.specs.Accesses.{from_end, one_more};
+
+use lola_value::text::Memory;
+use lola_value::value::{Outcome, Params, Value};
+
+/// What became of a spawn.
+#[derive(Clone, Copy, Debug, PartialEq, Eq)]
+pub enum SpawnEnd {
+    Born,
+    Living,
+    TooMany,
+}
+
+/// The values of all streams so far, or as much of them as accesses need.
+pub trait StreamStore: Drop {
+    const BOUNDED: bool;
+
+    ghost BOUNDED: { Bool };
+
+    /// What it shows, also where it stands for nothing.
+    ghost seen: { Self → Seen };
+
+    /// Which earlier values it remembers for an instance, by its stream and place.
+    ghost remembers: { Self → Naming → ℕ → ℕ → List (ℕ × Field) → Type 0 };
+
+    /// Sets where time counts from.
+    fn start_at(&mut self, start: u64)
+        requires { IsNew (seen self.old) }
+        ensures seen { seen self.new ≡ after_start (seen self.old) start }
+        ensures past { KeepsAll (remembers self.old) (remembers self.new) };
+
+    /// Makes room for one whole step.
+    fn prepare(&mut self) -> Result<(), Memory>
+        ensures ok { OnOk result (seen self.new ≡ after_prepare (seen self.old)) }
+        ensures err { OnErr result (seen self.new ≡ seen self.old) }
+        ensures past { KeepsAll (remembers self.old) (remembers self.new) }
+        ensures bounded { IsTrue BOUNDED → IsTrue (never_spawns (seen self.old).layout.streams) → IsOk result };
+
+    /// Begins a step: what was this step's is now an earlier value.
+    fn begin(&mut self, time: u64)
+        requires { CanBegin (seen self.old) time }
+        ensures seen { seen self.new ≡ after_begin (seen self.old) time }
+        ensures past { (names : Naming) (n i : ℕ) (values : List (ℕ × Field)) → remembers self.old names n i values
+            → remembers self.new names n i (values ++ one_more (time_seen (seen self.old)) (read_outcome names (now_seen (seen self.old) n i))) };
+
+    /// The value at this step.
+    fn now(&self, stream: u32, params: &Params) -> Outcome
+        requires running { IsRunning (seen self.now) }
+        requires fits { Fits (seen self.now) stream params.now }
+        ensures value { result ≡ now_of (seen self.now) stream params.now }
+        ensures kind { IsTrue (is_outcome_of (kind_in (slice_get (seen self.now).layout.streams stream)) result) };
+
+    /// The newest value at this step or before.
+    fn newest(&self, stream: u32, params: &Params) -> Outcome
+        requires running { IsRunning (seen self.now) }
+        requires fits { Fits (seen self.now) stream params.now }
+        ensures living { MatchOption (place_of (seen self.now) stream params.now)
+            (result ≡ now_of (seen self.now) stream params.now)
+            (λ i. (names : Naming) (values : List (ℕ × Field)) → remembers self.now names stream i values
+            → IsHeldIn names (now_of (seen self.now) stream params.now)
+            → (read_outcome names result ≡ held_answer (read_outcome names (now_of (seen self.now) stream params.now)) values) × IsHeldIn names result) }
+        ensures kind { IsTrue (is_outcome_of (kind_in (slice_get (seen self.now).layout.streams stream)) result) };
+
+    /// The k-th value before this step, from the newest.
+    fn back(&self, stream: u32, params: &Params, k: u32) -> Outcome
+        requires running { IsRunning (seen self.now) }
+        requires fits { Fits (seen self.now) stream params.now }
+        requires k_low { 1 ≤ k }
+        requires k_high { k ≤ max_offset (seen self.now) stream }
+        ensures living { MatchOption (place_of (seen self.now) stream params.now)
+            (result ≡ outcome.Missing)
+            (λ i. (names : Naming) (values : List (ℕ × Field)) → remembers self.now names stream i values
+            → (read_outcome names result ≡ from_end values k) × IsHeldIn names result) }
+        ensures kind { IsTrue (is_outcome_of (kind_in (slice_get (seen self.now).layout.streams stream)) result) };
+
+    /// The answer of a window at this step.
+    fn window(&self, window: u32, params: &Params) -> Outcome
+        requires running { IsRunning (seen self.now) }
+        requires window { window < length (seen self.now).layout.windows }
+        requires fits { Fits (seen self.now) (target_of (slice_get (seen self.now).layout.windows window)) params.now }
+        requires whole { (k : ℕ) × (time_seen (seen self.now) ≡ start_seen (seen self.now) + k * pane_of (slice_get (seen self.now).layout.panes window)) }
+        ensures living { MatchOption (place_of (seen self.now) (target_of (slice_get (seen self.now).layout.windows window)) params.now)
+            ((names : Naming) → read_outcome names result ≡ window_reading (seen self.now) window names (now_of (seen self.now) (target_of (slice_get (seen self.now).layout.windows window)) params.now) [])
+            (λ i. (names : Naming) (values : List (ℕ × Field)) → remembers self.now names (target_of (slice_get (seen self.now).layout.windows window)) i values
+            → read_outcome names result ≡ window_reading (seen self.now) window names (now_of (seen self.now) (target_of (slice_get (seen self.now).layout.windows window)) params.now) values) }
+        ensures kind { IsTrue (is_outcome_of (window_kind (seen self.now) window) result) };
+
+    /// How many instances live.
+    fn instances(&self, stream: u32) -> u32
+        requires { stream < length (seen self.now).layout.streams }
+        ensures { result ≡ length (instances_seen (seen self.now) stream) };
+
+    /// The parameters of an instance.
+    fn params_of(&self, stream: u32, index: u32) -> Params
+        requires { index < length (instances_seen (seen self.now) stream) }
+        ensures value { MatchOption (slice_get (instances_seen (seen self.now) stream) index) ⊥ (λ x. result ≡ x.params) }
+        ensures kinds { IsTrue (are_of_kinds (parameters_of (slice_get (seen self.now).layout.streams stream)) (the_values result)) }
+        ensures places { IsTrue (is_well_formed result) };
+
+    /// Gives an instance its value of this step.
+    fn push(&mut self, stream: u32, index: u32, value: Value)
+        requires running { IsRunning (seen self.old) }
+        requires index { index < length (instances_seen (seen self.old) stream) }
+        requires silent { IsTrue (is_silent (now_seen (seen self.old) stream index)) }
+        requires kind { IsTrue (is_of_kind (kind_in (slice_get (seen self.old).layout.streams stream)) value) }
+        ensures seen { seen self.new ≡ after_outcome (seen self.old) stream index (outcome.Value value) }
+        // through the namings that have the value's text: no other could read it at the next step
+        ensures past { (names : Naming) (n i : ℕ) (values : List (ℕ × Field)) → IsHeld names value
+            → remembers self.old names n i values → remembers self.new names n i values };
+
+    /// Poisons an instance in this step.
+    fn poison(&mut self, stream: u32, index: u32)
+        requires running { IsRunning (seen self.old) }
+        requires index { index < length (instances_seen (seen self.old) stream) }
+        requires silent { IsTrue (is_silent (now_seen (seen self.old) stream index)) }
+        ensures seen { seen self.new ≡ after_outcome (seen self.old) stream index outcome.Poison }
+        ensures past { KeepsAll (remembers self.old) (remembers self.new) };
+
+    /// Poisons a stream in this step.
+    fn poison_stream(&mut self, stream: u32)
+        requires running { IsRunning (seen self.old) }
+        requires stream { stream < length (seen self.old).layout.streams }
+        ensures seen { seen self.new ≡ after_poison_stream (seen self.old) stream }
+        ensures past { KeepsAll (remembers self.old) (remembers self.new) };
+
+    /// A new instance, if it does not live and there is room.
+    fn spawn(&mut self, stream: u32, params: Params) -> SpawnEnd
+        requires running { IsRunning (seen self.old) }
+        requires fits { Fits (seen self.old) stream params }
+        requires spawns { IsTrue (spawns_in (slice_get (seen self.old).layout.streams stream)) }
+        requires first { IsTrue (not (has_spawned (slice_get (seen self.old).streams stream))) }
+        ensures end { result ≡ spawn_end (place_of (seen self.old) stream params) (length (instances_seen (seen self.old) stream)) }
+        ensures seen { seen self.new ≡ after_spawn (seen self.old) stream params (has_room (place_of (seen self.old) stream params) (length (instances_seen (seen self.old) stream))) }
+        ensures past { KeepsAll (remembers self.old) (remembers self.new) }
+        ensures new { (names : Naming) → IsTrue (has_room (place_of (seen self.old) stream params) (length (instances_seen (seen self.old) stream)))
+            → remembers self.new names stream (length (instances_seen (seen self.old) stream)) [] };
+
+    /// Takes an instance away with its values; later ones move up by one.
+    fn close(&mut self, stream: u32, index: u32)
+        requires running { IsRunning (seen self.old) }
+        requires spawns { IsTrue (spawns_in (slice_get (seen self.old).layout.streams stream)) }
+        requires index { index < length (instances_seen (seen self.old) stream) }
+        ensures seen { seen self.new ≡ after_close (seen self.old) stream index }
+        ensures past { KeepsOthers stream index (remembers self.old) (remembers self.new) };
+
+    /// A naming that has more texts serves as well.
+    ghost renamed: { (s : Self) (names more : Naming) (n i : ℕ) (values : List (ℕ × Field))
+        → IsHeldBy names more → remembers s names n i values → remembers s more n i values };
+}

@@ -1,0 +1,117 @@
+ghost use Rattle.std.specs.Prelude.{◌≡◌, ◌++◌, [], ◌∷◌, IfOk, OnOk, OnErr};
+
+use std::alloc::{AllocError, AllocFailed, Global};
+use std::marker::Model;
+
+/// There is no memory for what was asked.
+#[derive(Clone, Copy, Debug, PartialEq, Eq)]
+pub struct Memory;
+
+impl From<AllocError> for Memory {
+    fn from(_: AllocError) -> Self {
+        Memory
+    }
+}
+
+impl<T: Drop> From<AllocFailed<T>> for Memory {
+    fn from(_: AllocFailed<T>) -> Self {
+        Memory
+    }
+}
+
+/// A text, seen as its bytes.
+#[derive(Drop)]
+pub struct Text {
+    bytes: Vec<u8>,
+}
+
+impl Model for Text {
+    ghost use Rattle.std.specs.Prelude.{ℕ, List};
+
+    ghost Value = { List ℕ };
+
+    ghost view = { λ a. a.bytes.items };
+}
+
+impl Text {
+    /// A copy of these bytes.
+    pub fn from_bytes(alloc: Global, bytes: &[u8]) -> Result<Text, Memory>
+        ensures { IfOk result (λ text. text ≡ bytes.now) }
+    {
+        Ok(Text {
+            bytes: bytes.to_vec(alloc)?,
+        })
+    }
+
+    /// Puts bytes behind those that it has; unchanged where there is no memory.
+    pub fn append(&mut self, bytes: &[u8]) -> Result<(), Memory>
+        ensures ok { OnOk result (self.new ≡ self.old ++ bytes.now) }
+        ensures err { OnErr result (self.new ≡ self.old) }
+    {
+        self.bytes.extend_from_slice(bytes)?;
+        Ok(())
+    }
+
+    /// Takes all bytes away, and keeps the room for them.
+    pub fn clear(&mut self)
+        ensures { self.new ≡ [] }
+    {
+        self.bytes.clear();
+    }
+
+    /// Its bytes.
+    pub fn as_bytes(&self) -> &[u8]
+        ensures { result.now ≡ self.now }
+    {
+        self.bytes.as_slice()
+    }
+}
+
+/// A field of a row: absent, or a value with its text whole.
+#[derive(Drop)]
+pub enum Field {
+    Absent,
+    Bool(bool),
+    Int(i128),
+    Text(Text),
+}
+
+/// A list of fields.
+#[derive(Drop)]
+pub struct Fields {
+    items: Vec<Field>,
+}
+
+impl Model for Fields {
+    ghost use Rattle.std.specs.Prelude.{List};
+    ghost use Rattle.lola_value.specs.declared.text.Field.{Field};
+
+    ghost Value = { List Field };
+
+    ghost view = { λ a. a.items.items };
+}
+
+impl Fields {
+    pub fn create(alloc: Global) -> Fields
+        ensures { result ≡ [] }
+    {
+        Fields {
+            items: Vec::new(alloc),
+        }
+    }
+
+    pub fn as_slice(&self) -> &[Field]
+        ensures { result.now ≡ self.now }
+    {
+        self.items.as_slice()
+    }
+
+    /// Puts a field behind the others; unchanged where there is no memory.
+    pub fn push(&mut self, item: Field) -> Result<(), Memory>
+        ensures ok { OnOk result (self.new ≡ self.old ++ item ∷ []) }
+        ensures err { OnErr result (self.new ≡ self.old) }
+    {
+        self.items.push(item)?;
+        Ok(())
+    }
+}
