@@ -1,14 +1,12 @@
 -- What a store shows of itself, and what it stands for.
-use Rattle.std.specs.Prelude.{ℕ, ◌≡◌, ◌+◌, ◌-◌, ◌^◌, ◌<◌, ◌≤◌, List, [], ◌∷◌, ◌++◌, Option, Some, None, Bool, true, false, not, ◌&&◌, if◌then◌else◌, nat_eq, length, map, drop, zero, suc, int_le, slice_get, unwrap_or, IsTrue, remove}
+use Rattle.std.specs.Prelude.{ℕ, ◌≡◌, ◌+◌, ◌-◌, ◌^◌, ◌<◌, ◌≤◌, List, [], ◌∷◌, ◌++◌, Option, Some, None, Bool, true, false, not, ◌&&◌, if◌then◌else◌, length, map, drop, zero, suc, slice_get, unwrap_or, IsTrue, remove}
 use Rattle.lola_value.specs.declared.text.Field.{Field}
 use Rattle.lola_value.specs.declared.value.Kind.{Kind}
 use Rattle.lola_value.specs.declared.value.Kind.TheVariants as kind
-use Rattle.lola_value.specs.declared.value.Value.{Value}
 use Rattle.lola_value.specs.declared.value.Value.TheVariants as value
 use Rattle.lola_value.specs.declared.value.Outcome.{Outcome}
 use Rattle.lola_value.specs.declared.value.Outcome.TheVariants as outcome
 use Rattle.lola_value.specs.declared.value.Params.{Params}
-use Rattle.lola_value.specs.Arithmetic.{is_within, bools_equal}
 use Rattle.lola_value.specs.Naming.{Naming, read_outcome, read_params, the_values, AreHeld, IsHeldIn}
 pub use Rattle.lola_value.specs.Kinds.{values_same, all_same, same_params, is_well_formed, is_of_kind, are_of_kinds, is_outcome_of}
 use Rattle.lola_model.specs.Content.{Life, StreamContent, Content}

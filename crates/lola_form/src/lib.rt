@@ -1,0 +1,2 @@
+//! The first form of specifications: sums of inputs and triggers that compare them.
+#![tactic(auto)]

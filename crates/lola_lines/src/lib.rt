@@ -1,0 +1,2 @@
+//! The first form of sources: rows of whole numbers.
+#![tactic(auto)]

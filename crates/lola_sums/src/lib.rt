@@ -1,0 +1,2 @@
+//! The evaluation of sums: each row by the evaluation model.
+#![tactic(auto)]
