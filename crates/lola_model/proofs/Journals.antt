@@ -1,5 +1,5 @@
 -- Journals, traces and texts part by part: what each comes to where one goes on after another.
-use Rattle.std.proofs.Common.{◌≡◌, refl, ap, sym, ◌∙◌, ℕ, List, [], ◌∷◌, ◌++◌, append_assoc, append-nil, Option, cond, Bool, true, false, nat_eq}
+use Rattle.std.proofs.Common.{◌≡◌, ◌<◌, ◌≤◌, subst, refl, ap, sym, ◌∙◌, ℕ, List, [], ◌∷◌, ◌++◌, append_assoc, append-nil, Option, cond, Bool, true, false, nat_eq}
 use Rattle.lola_model.specs.Journal.{time_after, IsRightlyMarked, IsLegalFrom, merged_from, add_accepted, accepted, rows_of}
 use Rattle.lola_model.specs.Table.{TableRow}
 use Rattle.lola_model.specs.Runs.{run_start, settled_model, whole_model, settled_lines, final_lines, settled_fault, first_fault}
@@ -10,6 +10,7 @@ use Rattle.lola_model.specs.Texts.{row_lines, table_lines, text_of}
 use Rattle.lola_model.specs.Trace.{trace_line, trace_text}
 use Rattle.lola_model.specs.declared.journal.Row.{Row}
 use Rattle.lola_model.specs.declared.journal.Entry.{Entry}
+use Rattle.lola_model.specs.declared.journal.Mark.{Mark}
 use Rattle.lola_model.specs.declared.journal.Mark.TheVariants as mark
 use Rattle.lola_model.specs.declared.journal.Show.{Show}
 use Rattle.lola_model.specs.declared.plan.Plan.{Plan}
@@ -28,6 +29,35 @@ time_after-accepted merged e h = ap (λ m. elim m [ mark.Accepted ↦ e.row.stam
 
 pub time_after-late : (merged : ℕ) (e : Entry) (t : ℕ) → e.mark ≡ mark.Late t → time_after merged e ≡ merged
 time_after-late merged e t h = ap (λ m. elim m [ mark.Accepted ↦ e.row.stamp | mark.Late s ↦ merged ]) h
+
+-- what a right mark says, by the mark
+abbrev RightAs : ℕ → Entry → Mark → Type 0
+RightAs merged e mark.Accepted = merged ≤ e.row.stamp
+RightAs merged e (mark.Late t) = (t ≡ merged) × (e.row.stamp < merged)
+
+-- the same, without a definition
+abbrev RightBy : ℕ → Entry → Mark → Type 0
+RightBy merged e k = elim k as (λ _. Type 0) [ mark.Accepted ↦ merged ≤ e.row.stamp | mark.Late m ↦ (m ≡ merged) × (e.row.stamp < merged) ]
+
+as_right : (merged : ℕ) (e : Entry) (k : Mark) → RightBy merged e k → RightAs merged e k
+as_right merged e mark.Accepted h = h
+as_right merged e (mark.Late t) h = h
+
+by_right : (merged : ℕ) (e : Entry) (k : Mark) → RightAs merged e k → RightBy merged e k
+by_right merged e mark.Accepted h = h
+by_right merged e (mark.Late t) h = h
+
+pub rightly_accepted : (merged : ℕ) (e : Entry) → e.mark ≡ mark.Accepted → IsRightlyMarked merged e → merged ≤ e.row.stamp
+rightly_accepted merged e q h = subst (RightAs merged e) q (as_right merged e e.mark h)
+
+pub rightly_late : (merged : ℕ) (e : Entry) (t : ℕ) → e.mark ≡ mark.Late t → IsRightlyMarked merged e → (t ≡ merged) × (e.row.stamp < merged)
+rightly_late merged e t q h = subst (RightAs merged e) q (as_right merged e e.mark h)
+
+pub IsRightlyMarked-accepted : (merged : ℕ) (e : Entry) → e.mark ≡ mark.Accepted → merged ≤ e.row.stamp → IsRightlyMarked merged e
+IsRightlyMarked-accepted merged e q h = by_right merged e e.mark (subst (RightAs merged e) (sym q) h)
+
+pub IsRightlyMarked-late : (merged : ℕ) (e : Entry) → e.mark ≡ mark.Late merged → e.row.stamp < merged → IsRightlyMarked merged e
+IsRightlyMarked-late merged e q h = by_right merged e e.mark (subst (RightAs merged e) (sym q) (refl, h))
 
 -- the accepted rows of one journal after another
 
