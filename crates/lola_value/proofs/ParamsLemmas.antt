@@ -1,5 +1,5 @@
 -- The same parameters, and parameters whose unused places hold `false`.
-use Rattle.std.proofs.Common.{◌≡◌, ◌≢◌, ◌<◌, ◌≤◌, ◌+◌, ◌∷◌, [], ◌&&◌, ℕ, zero, suc, true, false, Bool, nat_le, nat_eq, take, drop, length, List, arith, refl, ap, sym, ◌∙◌, ◌++◌, ◌⊎◌, ⊎_elim, ℤ, int_le, length-drop, take-append-drop}
+use Rattle.std.proofs.Common.{◌≡◌, ◌≢◌, ◌<◌, ◌≤◌, ◌+◌, ◌∷◌, [], ◌&&◌, ℕ, zero, suc, true, false, Bool, nat_le, take, drop, length, List, arith, refl, ap, sym, ◌∙◌, ◌++◌, ⊎_elim, ℤ, int_le, length-drop, take-append-drop}
 use Rattle.std.proofs.lemmas.Grind.{common_steps}
 use Rattle.std.proofs.lemmas.Int.{ints}
 use Rattle.std.proofs.lemmas.Bool.{cases_eq}
@@ -8,7 +8,6 @@ use Rattle.lola_value.specs.declared.value.TextId.{TextId}
 use Rattle.lola_value.specs.declared.value.Value.{Value}
 use Rattle.lola_value.specs.declared.value.Value.TheVariants as value
 use Rattle.lola_value.specs.declared.value.Params.{Params}
-use Rattle.lola_value.specs.Naming.{the_values}
 use Rattle.lola_value.specs.Arithmetic.{bools_equal}
 use Rattle.lola_value.specs.Kinds.{all_same, all_unused, is_unused, is_well_formed, same_params, values_same}
 
