@@ -1,12 +1,15 @@
-//! Where a monitor's bytes come from and where its lines go.
+//! Where a monitor's bytes come from and where its lines go: the traits, objects in memory for tests, and the objects
+//! of the machine.
 #![tactic(auto)]
 
 mod machine;
 mod memory;
 mod shelf;
+#[cfg(test)]
+mod tests;
 mod traits;
 
-pub use machine::{FileSource, FolderShelf, OutSink};
-pub use memory::{IdleGate, MemorySink, MemorySource, Stored};
+pub use machine::{ErrSink, FileSource, FolderShelf, OutSink};
+pub use memory::{IdleGate, MemorySink, MemorySource};
 pub use shelf::MemoryShelf;
 pub use traits::{Ask, FetchEnd, Gate, PutEnd, ReadFailed, Shelf, Sink, Source};

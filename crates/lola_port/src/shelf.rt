@@ -1,16 +1,40 @@
-// A shelf in memory. It tells its content.
-ghost use Rattle.std.specs.Prelude.{◌≡◌, ◌+◌, ◌-◌, ◌^◌, ◌<◌, ◌≤◌, ◌++◌, [], ◌∷◌, List, ℕ, None, Some, length, min, IfOk, OnOk, OnErr, IsTrue, IsFalse, MatchOption, if◌then◌else◌};
-ghost use Rattle.std.specs.Option.{option_or};
+//! A shelf in memory, which tells its content, and the list of asks that every shelf keeps.
+
+ghost use Rattle.std.specs.Prelude.{◌≡◌, ◌+◌, ◌^◌, ◌<◌, ◌≤◌, ◌++◌, [], ◌∷◌, Some, None, true, false, length, option_map, IfOk, OnOk, OnErr, IsErrOf, IsTrue, IsFalse};
+ghost use Rattle.std.specs.Option.{option_copied};
+ghost use Rattle.std.specs.List.{list_any};
 ghost use Rattle.std.specs.Str.{bytes_eq};
 ghost use Rattle.lola_port.specs.Asks.{IsGivenAt, count_set, failed_ask, given_ask};
-ghost use Rattle.lola_port.specs.Memory.{bytes_under};
+ghost use Rattle.lola_port.specs.Memory.{bytes_under, file_under, is_refused, lent_state, refused_state, shelf_state, source_of, source_state};
+ghost use Rattle.lola_port.specs.States.{FetchBroke, IsFresh, back, lent};
 
-use crate::memory::{MemorySource, Stored};
+use crate::memory::MemorySource;
 use crate::{Ask, FetchEnd, Shelf};
 use lola_value::text::{Memory, Text};
 use std::alloc::Global;
+use std::marker::Model;
 
-/// Files in memory.
+// A file of a shelf in memory.
+#[derive(Drop)]
+struct Stored {
+    name: Text,
+    bytes: Vec<u8>,
+    piece: u32,
+    fails: Vec<u64>,
+}
+
+impl Model for Stored {
+    ghost use Rattle.std.specs.Prelude.{◌^◌, ◌≤◌, length};
+    ghost use Rattle.lola_port.specs.Memory.{StoredFile};
+
+    ghost Value = { StoredFile };
+
+    ghost view = { λ s. record { name = s.name; bytes = s.bytes.items; piece = s.piece; fails = s.fails.items } };
+
+    ghost invariant = { λ s. (length s.bytes.items ≤ 2 ^ 62) × (1 ≤ s.piece) };
+}
+
+/// Files in memory, with reads and fetches that fail as the test wants it.
 #[derive(Drop)]
 pub struct MemoryShelf {
     alloc: Global,
@@ -21,12 +45,18 @@ pub struct MemoryShelf {
     faults: u64,
 }
 
+impl Model for MemoryShelf {
+    ghost use Rattle.lola_port.specs.Memory.{MemoryShelfState};
+
+    ghost Value = { MemoryShelfState };
+
+    ghost view = { λ s. record { files = s.stored.items; failing = s.failing.items; asks = s.asks.items; count = s.faults; out = s.sources_out } };
+}
+
 impl MemoryShelf {
     /// An empty shelf.
     pub fn create(alloc: Global) -> MemoryShelf
-        ensures out { result.sources_out ≡ 0 }
-        ensures asks { result.asks.items ≡ [] }
-        ensures stored { result.stored.items ≡ [] }
+        ensures { result ≡ record { files = []; failing = []; asks = []; count = 0; out = 0 } }
     {
         MemoryShelf {
             alloc,
@@ -38,38 +68,14 @@ impl MemoryShelf {
         }
     }
 
-    // Notes a fetch that fails.
-    fn refuse(&mut self, name: &str) -> FetchEnd
-        ensures stored { self.new.stored.items ≡ self.old.stored.items }
-        ensures out { self.new.sources_out ≡ self.old.sources_out }
-        ensures failed { result ≡ FetchEnd.Failed → (self.new.asks.items ≡ self.old.asks.items ++ failed_ask name.now ∷ []) × (self.new.faults ≡ min (self.old.faults + 1) (2 ^ 64 - 1)) }
-        ensures memory { result ≡ FetchEnd.Memory → (self.new.asks.items ≡ self.old.asks.items) × (self.new.faults ≡ self.old.faults) }
-    {
-        match note(self.alloc, &mut self.asks, name, false) {
-            Ok(()) => {
-                self.faults = self.faults.saturating_add(1);
-                FetchEnd::Failed
-            }
-            Err(_) => FetchEnd::Memory,
-        }
-    }
-
-    /// What it was asked for.
-    pub fn asks(&self) -> &[Ask]
-        ensures { result.now ≡ self.now.asks.items }
-    {
-        &self.asks
-    }
-
-    #[tactic(auto, using(crate::proofs::Shelves::under_push))]
-    /// Stores a source, whose reads give at most `piece` bytes, and whose reads with some numbers fail.
+    /// Stores the bytes of a name that is new to the shelf. Reads of its sources give at most `piece` bytes, and those
+    /// with the numbers of `fails`, from 0, fail. Where there is no memory the shelf is as it was.
     pub fn add(&mut self, name: &str, bytes: &[u8], piece: u32, fails: &[u64]) -> Result<(), Memory>
+        requires some { 1 ≤ piece }
         requires small { length bytes.now ≤ 2 ^ 62 }
-        requires new { bytes_under self.old.stored.items name.now ≡ None }
-        ensures out { self.new.sources_out ≡ self.old.sources_out }
-        ensures asks { self.new.asks.items ≡ self.old.asks.items }
-        ensures told { OnOk result ((other : List ℕ) → bytes_under self.new.stored.items other ≡ option_or (bytes_under self.old.stored.items other) (if bytes_eq name.now other then Some bytes.now else None)) }
-        ensures err { OnErr result (self.new.stored.items ≡ self.old.stored.items) }
+        requires new { bytes_under self.old.files name.now ≡ None }
+        ensures ok { OnOk result (self.new ≡ record self.old { files = self.old.files ++ record { name = name.now; bytes = bytes.now; piece = piece; fails = fails.now } ∷ [] }) }
+        ensures err { OnErr result (self.new ≡ self.old) }
     {
         let stored = Stored {
             name: Text::from_bytes(self.alloc, name.as_bytes())?,
@@ -81,20 +87,104 @@ impl MemoryShelf {
         Ok(())
     }
 
-    /// Lets every fetch of a name fail.
+    /// Lets every fetch of a name fail. Where there is no memory the shelf is as it was.
     pub fn fail_fetch(&mut self, name: &str) -> Result<(), Memory>
-        ensures out { self.new.sources_out ≡ self.old.sources_out }
-        ensures asks { self.new.asks.items ≡ self.old.asks.items }
-        ensures stored { self.new.stored.items ≡ self.old.stored.items }
+        ensures ok { OnOk result (self.new ≡ record self.old { failing = self.old.failing ++ name.now ∷ [] }) }
+        ensures err { OnErr result (self.new ≡ self.old) }
     {
-        self.failing.push(Text::from_bytes(self.alloc, name.as_bytes())?)?;
+        self.failing
+            .push(Text::from_bytes(self.alloc, name.as_bytes())?)?;
         Ok(())
+    }
+
+    /// What it was asked for, in order.
+    pub fn asks(&self) -> &[Ask]
+        ensures { result.now ≡ self.now.asks }
+    {
+        &self.asks
+    }
+
+    // Notes a fetch that fails.
+    fn refuse(&mut self, name: &str) -> FetchEnd
+        ensures failed { result ≡ FetchEnd.Failed → self.new ≡ refused_state self.old name.now }
+        ensures broke { result ≡ FetchEnd.Failed → FetchBroke (shelf_state self.old) (shelf_state self.new) name.now }
+        ensures memory { result ≡ FetchEnd.Memory → self.new ≡ self.old }
+    {
+        match note(self.alloc, &mut self.asks, name, false) {
+            Ok(()) => {
+                self.faults = self.faults.saturating_add(1);
+                FetchEnd::Failed
+            }
+            Err(_) => FetchEnd::Memory,
+        }
+    }
+
+    // Opens a source over the file of a name, and notes that.
+    fn lend(&mut self, name: &str, source: MemorySource) -> Result<MemorySource, FetchEnd>
+        requires { self.old.out < 65536 }
+        ensures ok { IfOk result (λ file. file ≡ source) }
+        ensures lent { OnOk result (self.new ≡ lent_state self.old name.now) }
+        ensures memory { OnErr result (self.new ≡ self.old) }
+        ensures no_other { result ≡ Err FetchEnd.Failed → IsFalse true }
+    {
+        match note(self.alloc, &mut self.asks, name, true) {
+            Ok(()) => {
+                self.sources_out += 1;
+                Ok(source)
+            }
+            Err(_) => Err(FetchEnd::Memory),
+        }
+    }
+}
+
+impl Shelf for MemoryShelf {
+    type File = MemorySource;
+
+    ghost state = { shelf_state };
+
+    fn fetch(&mut self, name: &str) -> Result<MemorySource, FetchEnd>
+        requires { (shelf_state self.old).out < 65536 }
+        ensures file { IfOk result (λ file. IsFresh (shelf_state self.old) name.now (source_state file)) }
+        ensures given { OnOk result (shelf_state self.new ≡ lent (shelf_state self.old) name.now) }
+        ensures failed { IsErrOf result FetchEnd.Failed → FetchBroke (shelf_state self.old) (shelf_state self.new) name.now }
+        ensures memory { IsErrOf result FetchEnd.Memory → shelf_state self.new ≡ shelf_state self.old }
+
+        // which source, what the shelf is then, and which fetches fail
+        ensures opened { IfOk result (λ file. option_map (source_of (length self.old.asks)) (file_under self.old.files name.now) ≡ Some file) }
+        ensures lent { OnOk result (self.new ≡ lent_state self.old name.now) }
+        ensures refused { IsErrOf result FetchEnd.Failed → self.new ≡ refused_state self.old name.now }
+        ensures same { IsErrOf result FetchEnd.Memory → self.new ≡ self.old }
+        ensures works { OnOk result (is_refused self.old name.now ≡ false) }
+        ensures fails { IsErrOf result FetchEnd.Failed → is_refused self.old name.now ≡ true }
+    {
+        let file = find(&self.stored, name.as_bytes());
+        let Some(file) = file else {
+            return Err(self.refuse(name));
+        };
+        if is_one_of(&self.failing, name.as_bytes()) {
+            return Err(self.refuse(name));
+        }
+        match open(self.alloc, file, self.asks.len()) {
+            Ok(source) => self.lend(name, source),
+            Err(_) => Err(FetchEnd::Memory),
+        }
+    }
+
+    fn give_back(&mut self, source: MemorySource)
+        requires is_out { 0 < (shelf_state self.old).out }
+        requires given { IsGivenAt (shelf_state self.old).asks (source_state source).place }
+        ensures back { shelf_state self.new ≡ back (shelf_state self.old) (source_state source) }
+        ensures rest { (self.new.files ≡ self.old.files) × (self.new.failing ≡ self.old.failing) }
+    {
+        set_count(&mut self.asks, source.place, source.faults);
+        self.sources_out -= 1;
+        self.faults = self.faults.saturating_add(source.faults);
     }
 }
 
 // The file of a name.
 fn find<'a>(stored: &'a [Stored], name: &[u8]) -> Option<&'a Stored>
-    ensures { MatchOption result (bytes_under stored.now name.now ≡ None) (λ file. bytes_under stored.now name.now ≡ Some file.now.bytes.items) }
+    ensures { option_copied result ≡ file_under stored.now name.now }
 {
     for file in stored {
         if file.name.as_bytes() == name {
@@ -106,10 +196,8 @@ fn find<'a>(stored: &'a [Stored], name: &[u8]) -> Option<&'a Stored>
 
 // A source over a copy of a file's bytes.
 fn open(alloc: Global, file: &Stored, place: usize) -> Result<MemorySource, Memory>
-    ensures bytes { IfOk result (λ source. source.bytes.items ≡ file.now.bytes.items) }
-    ensures at { IfOk result (λ source. source.at ≡ 0) }
-    ensures faults { IfOk result (λ source. source.faults ≡ 0) }
-    ensures place { IfOk result (λ source. source.place ≡ place) }
+    ensures source { IfOk result (λ source. source ≡ source_of place file.now) }
+    ensures small { length file.now.bytes ≤ 2 ^ 62 }
 {
     Ok(MemorySource {
         bytes: file.bytes.to_vec(alloc)?,
@@ -122,7 +210,14 @@ fn open(alloc: Global, file: &Stored, place: usize) -> Result<MemorySource, Memo
     })
 }
 
-// Notes an ask.
+// Whether a name is one of these.
+fn is_one_of(names: &[Text], name: &[u8]) -> bool
+    ensures { result ≡ list_any (λ other. bytes_eq other name.now) names.now }
+{
+    names.iter().any(|other| other.as_bytes() == name)
+}
+
+// Notes an ask behind the others.
 pub(crate) fn note(
     alloc: Global,
     asks: &mut Vec<Ask>,
@@ -147,42 +242,4 @@ pub(crate) fn set_count(asks: &mut [Ask], place: usize, count: u64)
     ensures { asks.new ≡ count_set asks.old place count }
 {
     asks[place].count = count;
-}
-
-// Whether a name is one of these.
-fn is_one_of(names: &[Text], name: &[u8]) -> bool {
-    names.iter().any(|other| other.as_bytes() == name)
-}
-
-impl Shelf for MemoryShelf {
-    type File = MemorySource;
-
-    ghost state = { λ s. record { told = bytes_under s.stored.items; asks = s.asks.items; count = s.faults; out = s.sources_out } };
-
-    fn fetch(&mut self, name: &str) -> Result<MemorySource, FetchEnd> {
-        let file = find(&self.stored, name.as_bytes());
-        let Some(file) = file else {
-            return Err(self.refuse(name));
-        };
-        if is_one_of(&self.failing, name.as_bytes()) {
-            return Err(self.refuse(name));
-        }
-        let source = match open(self.alloc, file, self.asks.len()) {
-            Ok(source) => source,
-            Err(_) => return Err(FetchEnd::Memory),
-        };
-        match note(self.alloc, &mut self.asks, name, true) {
-            Ok(()) => {
-                self.sources_out += 1;
-                Ok(source)
-            }
-            Err(_) => Err(FetchEnd::Memory),
-        }
-    }
-
-    fn give_back(&mut self, source: MemorySource) {
-        set_count(&mut self.asks, source.place, source.faults);
-        self.sources_out -= 1;
-        self.faults = self.faults.saturating_add(source.faults);
-    }
 }

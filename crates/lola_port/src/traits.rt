@@ -1,22 +1,27 @@
-// The outside as the monitor sees it. An object may tell its content; each counts its faults.
+//! The outside as the monitor sees it: where bytes come from, where lines go, and hooks for tests. Each source, shelf
+//! and sink has a count of its faults, which never falls and rises with each call that answers a failure; it ends at
+//! the greatest u64. An object may tell its content: those in memory do, files and streams do not.
+
 ghost use Rattle.std.specs.Prelude.{◌≡◌, ◌<◌, length, take, IfOk, OnOk, OnErr, IsErrOf};
 ghost use Rattle.std.specs.Io.{ReadsAtMost};
 ghost use Rattle.std.specs.Io.KnownBytes.{IsAtEnd};
 
 use lola_value::text::Text;
 
-/// A read that failed.
+/// A read that failed: no bytes were moved, and the source's count rose.
 #[derive(Clone, Copy, Debug, PartialEq, Eq)]
 pub struct ReadFailed;
 
-/// Bytes in order.
+/// Bytes in order, with an end: at most 2^62 are still to come of a source that was just fetched. A source has a
+/// place, a number that no call changes, by which its shelf knows it again.
 pub trait Source: Drop {
     ghost use Rattle.lola_port.specs.States.{Moved, ReadBroke, SourceState};
 
     /// What is known of it.
     ghost state: { Self → SourceState };
 
-    /// Moves the next bytes into the front of `buf`. None come only at the end, or where `buf` has no room.
+    /// Moves the next bytes into the front of `buf`, and says how many. None come only at the end, or where `buf` has
+    /// no room.
     fn read(&mut self, buf: &mut [u8]) -> Result<usize, ReadFailed>
         ensures within { ReadsAtMost result buf.new }
         ensures moved { IfOk result (λ count. Moved (state self.old) (state self.new) (take count buf.new)) }
@@ -24,7 +29,8 @@ pub trait Source: Drop {
         ensures failed { OnErr result (ReadBroke (state self.old) (state self.new)) };
 }
 
-/// One ask of a shelf: for which name, whether a source was given, and how often that source has failed.
+/// One ask of a shelf: for which name, whether a source was given, and how many faults there were: 1 where none was
+/// given, and else those of the source, once it is given back.
 #[derive(Drop)]
 pub struct Ask {
     pub name: Text,
@@ -32,14 +38,15 @@ pub struct Ask {
     pub count: u64,
 }
 
-/// Why no source was given.
+/// Why no source was given: the fetch failed, and the shelf's count rose, or there was no memory, and nothing changed.
 #[derive(Clone, Copy, Debug, PartialEq, Eq)]
 pub enum FetchEnd {
     Failed,
     Memory,
 }
 
-/// Sources by their names.
+/// Sources by their names. A shelf keeps the list of what it was asked for, and the number of its sources that are
+/// out. No call changes the bytes that it tells of a name.
 pub trait Shelf {
     ghost use Rattle.lola_port.specs.Asks.{IsGivenAt};
     ghost use Rattle.lola_port.specs.States.{FetchBroke, IsFresh, ShelfState, back, lent};
@@ -49,7 +56,8 @@ pub trait Shelf {
     /// What is known of it.
     ghost state: { Self → ShelfState };
 
-    /// A source with all bytes of a name.
+    /// A source with all bytes of a name, and no faults yet. Its place is that of its ask. A name may be fetched more
+    /// than once. Fewer than 65,536 sources are to be out.
     fn fetch(&mut self, name: &str) -> Result<Self::File, FetchEnd>
         requires { (state self.old).out < 65536 }
         ensures file { IfOk result (λ file. IsFresh (state self.old) name.now (Self.File.state file)) }
@@ -57,14 +65,16 @@ pub trait Shelf {
         ensures failed { IsErrOf result FetchEnd.Failed → FetchBroke (state self.old) (state self.new) name.now }
         ensures memory { IsErrOf result FetchEnd.Memory → state self.new ≡ state self.old };
 
-    /// Takes a source back, with its count.
+    /// Takes a source back that is out: its count becomes that of its ask, and is added to the shelf's, up to the
+    /// greatest u64.
     fn give_back(&mut self, source: Self::File)
         requires is_out { 0 < (state self.old).out }
         requires given { IsGivenAt (state self.old).asks (Self.File.state source).place }
         ensures { state self.new ≡ back (state self.old) (Self.File.state source) };
 }
 
-/// Why not all bytes were taken.
+/// Why not all bytes were taken: the put failed, only a part was taken, and the sink's count rose, or there was no
+/// memory, and nothing was taken.
 #[derive(Clone, Copy, Debug, PartialEq, Eq)]
 pub enum PutEnd {
     Failed,
@@ -78,7 +88,7 @@ pub trait Sink {
     /// What is known of it.
     ghost state: { Self → SinkState };
 
-    /// Appends bytes.
+    /// Takes bytes, of which there are some, behind those that it has.
     fn put(&mut self, bytes: &[u8]) -> Result<(), PutEnd>
         requires { 0 < length bytes.now }
         ensures ok { OnOk result (state self.new ≡ grown (state self.old) bytes.now) }
@@ -86,11 +96,15 @@ pub trait Sink {
         ensures memory { IsErrOf result PutEnd.Memory → state self.new ≡ state self.old };
 }
 
-/// Hooks for tests. A gate answers nothing and changes nothing.
+/// Hooks, by which a test makes threads wait for each other. A gate answers nothing, and changes nothing that a
+/// contract speaks of.
 pub trait Gate {
+    /// A worker begins a task of a step, numbered from 0.
     fn enter(&self, task: u32);
 
+    /// The worker of a source, numbered from 0, begins a turn.
     fn source_turn(&self, source: u32);
 
+    /// The engine is done with a step, over a store whose memory is bounded or not.
     fn step_done(&self, bounded: bool);
 }

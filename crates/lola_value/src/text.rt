@@ -1,9 +1,12 @@
+//! Texts, rows of fields, and the one answer for want of memory.
+
 ghost use Rattle.std.specs.Prelude.{◌≡◌, ◌++◌, [], ◌∷◌, IfOk, OnOk, OnErr};
 
 use std::alloc::{AllocError, AllocFailed, Global};
 use std::marker::Model;
 
-/// There is no memory for what was asked.
+/// There is no memory for what was asked. Nothing ties it to how much there is: every call that takes memory may
+/// answer it.
 #[derive(Clone, Copy, Debug, PartialEq, Eq)]
 pub struct Memory;
 
@@ -19,7 +22,7 @@ impl<T: Drop> From<AllocFailed<T>> for Memory {
     }
 }
 
-/// A text, seen as its bytes.
+/// A text that grows, seen as the list of its bytes.
 #[derive(Drop)]
 pub struct Text {
     bytes: Vec<u8>,
@@ -43,7 +46,7 @@ impl Text {
         })
     }
 
-    /// Puts bytes behind those that it has; unchanged where there is no memory.
+    /// Puts bytes behind those that it has. Where there is no memory it is as it was.
     pub fn append(&mut self, bytes: &[u8]) -> Result<(), Memory>
         ensures ok { OnOk result (self.new ≡ self.old ++ bytes.now) }
         ensures err { OnErr result (self.new ≡ self.old) }
@@ -67,7 +70,7 @@ impl Text {
     }
 }
 
-/// A field of a row: absent, or a value with its text whole.
+/// A field of a row: absent, or a value of some kind, a text by its bytes.
 #[derive(Drop)]
 pub enum Field {
     Absent,
@@ -76,7 +79,7 @@ pub enum Field {
     Text(Text),
 }
 
-/// A list of fields.
+/// The fields of a row, one for each input or parameter, seen as the list of them.
 #[derive(Drop)]
 pub struct Fields {
     items: Vec<Field>,
@@ -92,6 +95,7 @@ impl Model for Fields {
 }
 
 impl Fields {
+    /// No fields.
     pub fn create(alloc: Global) -> Fields
         ensures { result ≡ [] }
     {
@@ -100,13 +104,14 @@ impl Fields {
         }
     }
 
+    /// The fields in order.
     pub fn as_slice(&self) -> &[Field]
         ensures { result.now ≡ self.now }
     {
         self.items.as_slice()
     }
 
-    /// Puts a field behind the others; unchanged where there is no memory.
+    /// Puts a field behind the others. Where there is no memory they are as they were.
     pub fn push(&mut self, item: Field) -> Result<(), Memory>
         ensures ok { OnOk result (self.new ≡ self.old ++ item ∷ []) }
         ensures err { OnErr result (self.new ≡ self.old) }
