@@ -29,7 +29,8 @@ IsWithin s t = satisfies t.0 s ≡ true
 abbrev pub AreApart : InputSet → InputSet → Type 0
 AreApart s t = ¬ (IsWithin s t) × ¬ (IsWithin t s)
 
--- the least sets of inputs that pass a test: each passes, each set that passes has all of one of them, and none has all of another
+-- the least sets of inputs that pass a test: each passes, each set of inputs that passes has all of one
+-- of them, and none has all of another
 pub record AreLeastSets (passes : ℕ → Bool) (sets : List InputSet) : Type 0 where
   pub passing : All (λ (s : InputSet). passes s.0 ≡ true) sets
   pub enough : (inputs : ℕ) → passes inputs ≡ true → satisfies_some inputs sets ≡ true

@@ -49,5 +49,6 @@ abbrev pub listed_streams : {A : Type 0} → (Expr → List A) → List Stream �
 listed_streams f [] = []
 listed_streams f (s ∷ ss) = listed_stream f s ++ listed_streams f ss
 
+-- of a specification
 abbrev pub listed_spec : {A : Type 0} → (Expr → List A) → Spec → List A
 listed_spec f spec = listed_streams f spec.streams
