@@ -24,31 +24,38 @@ use Rattle.lola_model.specs.declared.spec.Formula.TheVariants.{Input, And', Or'}
 
 -- tests
 
+-- one of two tests
 or_cases : (a b : Bool) → (a || b) ≡ true → (a ≡ true) ⊎ (b ≡ true)
 or_cases true b h = inl refl
 or_cases false b h = inr h
 
+-- by the first
 or_left : (a b : Bool) → a ≡ true → (a || b) ≡ true
 or_left true b h = refl
 or_left false b h = absurd (cc)
 
+-- by the second
 or_right : (a b : Bool) → b ≡ true → (a || b) ≡ true
 or_right true b h = refl
 or_right false b h = h
 
+-- both of two tests
 and_parts : (a b : Bool) → (a && b) ≡ true → (a ≡ true) × (b ≡ true)
 and_parts true b h = (refl, h)
 and_parts false b h = absurd (cc)
 
+-- by both
 and_both : (a b : Bool) → a ≡ true → b ≡ true → (a && b) ≡ true
 and_both true b h g = g
 and_both false b h g = absurd (cc)
 
 -- sets of inputs
 
+-- a set within inputs is their common part
 within_is : (inputs : ℕ) (s : InputSet) → satisfies inputs s ≡ true → bit_and s.0 inputs ≡ s.0
 within_is inputs s h = eqb-true (bit_and s.0 inputs) s.0 h
 
+-- a set has all of itself
 pub satisfies-self : (s : InputSet) → satisfies s.0 s ≡ true
 satisfies-self s = eq-eqb (bit_and s.0 s.0) s.0 (and_self s.0)
 
@@ -70,6 +77,7 @@ satisfies_some-member inputs (s ∷ sets) h = go (or_cases (satisfies inputs s) 
     go (inl e) more = (s, Contains-here s sets, e)
     go (inr e) more = let w = more e in (w.0, Contains-there s w.0 sets w.1, w.2)
 
+-- and back
 pub satisfies_some-by_member : (inputs : ℕ) (sets : List InputSet) (s : InputSet) → Contains sets s → satisfies inputs s ≡ true → satisfies_some inputs sets ≡ true
 satisfies_some-by_member inputs [] s c h = absurd (Contains-none s c)
 satisfies_some-by_member inputs (t ∷ sets) s c h = go (Contains-cases t s sets c) (satisfies_some-by_member inputs sets s)
@@ -105,6 +113,7 @@ has_more inputs s n h g =
     let low : bit_at inputs n < 2 = bit_at-lt inputs n in
     eq-eqb (bit_at inputs n) 1 (omega arith)
 
+-- of formulas
 pub satisfies_formula-through : (inputs : ℕ) (s : InputSet) (f : Formula) → satisfies inputs s ≡ true → satisfies_formula s.0 f ≡ true → satisfies_formula inputs f ≡ true
 satisfies_formula-through inputs s (Input n) h g = has_more inputs s n h g
 satisfies_formula-through inputs s (And' u a v b) h g =
@@ -136,10 +145,12 @@ formulas_imply f g a b h k = (
 
 -- rates
 
+-- equal fractions have the same whole part
 same_quotient : (a b c d : ℕ) → 0 < b → 0 < d → a * d ≡ c * b → a / b ≡ c / d
 same_quotient a b c d pb pd e =
     sym (mul-div-mul_right a b pd) ∙ (ap (λ x. x / (b * d)) e ∙ (ap (λ x. c * b / x) (mul_comm b d) ∙ mul-div-mul_right c d pb))
 
+-- the products of two equal fractions
 products : (k m rd rn qd qn g : ℕ) → qn * rd ≡ m * (qd * rn) → k * (rd * g) * qn ≡ k * m * (qd * g) * rn
 products k m rd rn qd qn g h =
     let a : k * (rd * g) * qn ≡ k * g * (qn * rd) = grind arith in
@@ -152,18 +163,21 @@ deadline_of_multiple r q w h g k =
     same_quotient (k * (r.den * 1000000000)) r.num (k * w.0 * (q.den * 1000000000)) q.num h.num g.num
     (products k w.0 r.den r.num q.den q.num 1000000000 w.1)
 
+-- a deadline is told by the next after the moment before it
 is_deadline_by : (r : Ratio) (t k : ℕ) → IsRate r → 0 < t → deadline r k ≡ t → is_deadline r t ≡ true
 is_deadline_by r t k h above e =
     let low : t - 1 < next_deadline r (t - 1) = next_deadline_above r (t - 1) h in
     let high : next_deadline r (t - 1) ≤ deadline r k = next_deadline_least r (t - 1) k h (omega arith) in
     and_both (nat_lt 0 t) (nat_eq (next_deadline r (t - 1)) t) (lt-ltb 0 t above) (eq-eqb (next_deadline r (t - 1)) t (omega arith))
 
+-- where a rate has a deadline, each whole multiple of it has one
 multiple_is_due : (r q : Ratio) → IsWholeMultipleOf q r → IsRate r → IsRate q → (t : ℕ) → is_deadline r t ≡ true → is_deadline q t ≡ true
 multiple_is_due r q w h g t e =
     let p = and_parts (nat_lt 0 t) (nat_eq (next_deadline r (t - 1)) t) e in
     let at : next_deadline r (t - 1) ≡ t = eqb-true (next_deadline r (t - 1)) t p.1 in
     is_deadline_by q t (next_number r (t - 1) * w.0) g (ltb-true 0 t p.0) (sym (deadline_of_multiple r q w h g (next_number r (t - 1))) ∙ at)
 
+-- at a row, or at deadlines
 implied_at : (start time : ℕ) (fields : Option (List Field)) (p q : Pacing) → IsPacing p → IsPacing q → Implies p q → is_active_at start time fields p ≡ true → is_active_at start time fields q ≡ true
 implied_at start time (Some fields) (Event a) (Event b) hp hq i e = i (present fields) e
 implied_at start time None (Event a) (Event b) hp hq i e = absurd (cc)
@@ -176,6 +190,7 @@ implied_at start time None (Periodic r) (Periodic q) hp hq i e = multiple_is_due
 pub implied_is_active : (start : ℕ) (step : Step) (p q : Pacing) → IsPacing p → IsPacing q → Implies p q → is_active start step (Some p) ≡ true → is_active start step (Some q) ≡ true
 implied_is_active start step p q hp hq i e = implied_at start step.time step.fields p q hp hq i e
 
+-- the law
 pub means_implication : (p q : Pacing) → MeansImplication p q
 means_implication p q = record {
   active = λ hp hq i start step e. implied_is_active start step p q hp hq i e;

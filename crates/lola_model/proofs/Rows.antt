@@ -1,6 +1,10 @@
 -- Runs of small specifications, computed: outcomes of all streams, verdict lines and faults.
-use Rattle.std.proofs.Common.{◌≡◌, refl, ap, ◌∙◌, lit<, ℕ, ◌+◌, ◌*◌, ◌<◌, List, [], ◌∷◌, ◌++◌, Some, None, true, false, map}
+use Rattle.std.proofs.Common.{Bool, ◌||◌, ◌⊎◌, inl, inr, nat_eq, rules, ◌≡◌, refl, ap, ◌∙◌, lit<, lit≤, ℕ, ◌+◌, ◌*◌, ◌<◌, List, [], ◌∷◌, ◌++◌, Some, None, true, false, map}
 use Rattle.std.proofs.lemmas.Fmt.{decimal_digit}
+use Rattle.std.proofs.lemmas.Bool.{eq-eqb}
+use Rattle.std.proofs.lemmas.Str.{IsUtf8-from_ascii}
+use Rattle.std.specs.List.{list_any, Contains}
+use Rattle.lola_model.proofs.Strictly.{Contains-none, Contains-cases}
 use Rattle.std.specs.Prelude.{codes, decimal, replicate, length, ◌-◌}
 use Rattle.lola_value.specs.Answer.{Answer, Given, Missing, Failed, Poisoned}
 use Rattle.lola_value.specs.declared.text.Field.TheVariants as field
@@ -10,6 +14,8 @@ use Rattle.lola_model.specs.declared.expr.Binary.TheVariants as binary
 use Rattle.lola_model.specs.declared.expr.Expr.TheVariants.{Parameter}
 use Rattle.lola_model.specs.declared.plan.Plan.{Plan}
 use Rattle.lola_model.specs.declared.journal.Row.{Row}
+use Rattle.lola_model.specs.declared.journal.Entry.{Entry}
+use Rattle.lola_model.specs.declared.journal.Mark.TheVariants as mark
 use Rattle.lola_model.specs.declared.journal.Show.TheVariants.{Triggers, Outputs}
 use Rattle.lola_model.specs.declared.spec.Stream.{Stream}
 use Rattle.lola_model.specs.declared.spec.Agg.TheVariants as agg
@@ -21,6 +27,7 @@ use Rattle.lola_model.specs.Model.{model, IsModel, in_order, the_instance}
 use Rattle.lola_model.specs.Table.{Step, TableRow, StreamRow, Idle}
 use Rattle.lola_model.specs.Content.{outcome_among}
 use Rattle.lola_model.specs.Texts.{text_of}
+use Rattle.lola_model.specs.Trace.{IsTraceable, trace_line}
 use Rattle.lola_model.specs.Runs.{first_fault, whole_model, final_lines}
 use Rattle.lola_model.proofs.Build.{Around, here, num, direct, last, or, both, with, input, output, named, triggered, on_a, hz, plan_of, at_row, row_at, accepted_all, int, gist, window, last_at}
 
@@ -204,3 +211,44 @@ unfolding final_lines whole_model model
 instances_are_shown_with_their_parameters u =
     let e : final_lines (counts_of_values u) None (accepted_all zeros_and_ones) Outputs ≡ instance_lines decimal = refl in
     e ∙ instance_lines_in_digits decimal decimal_digit
+
+-- lines of the trace
+
+abbrev quote_entry : Entry
+quote_entry = record { row = record { source = 0; number = 1; stamp = 0; fields = field.Text (codes "x,\"y") ∷ [] }; mark = mark.Accepted }
+
+abbrev late_entry : Entry
+late_entry = record { row = record { source = 1; number = 1; stamp = second; fields = int 1 ∷ [] }; mark = mark.Late (5 * second) }
+
+-- a field with a comma and a double quote is quoted, and the double quote stands twice
+a_text_with_a_quote_is_quoted : trace_line quote_entry ≡ codes "0,1,0.000000000,A,\"x,\"\"y\"\n"
+a_text_with_a_quote_is_quoted = rw (decimal_digit 0 (lit< tt), decimal_digit 1 (lit< tt)) refl
+
+a_late_row_tells_the_merged_time : trace_line late_entry ≡ codes "1,1,1.000000000,L5.000000000,1\n"
+a_late_row_tells_the_merged_time = rw (decimal_digit 0 (lit< tt), decimal_digit 1 (lit< tt), decimal_digit 5 (lit< tt)) refl
+
+-- a number that no test finds is no member
+not_contained : (x : ℕ) (xs : List ℕ) → list_any (λ y. nat_eq y x) xs ≡ false → ¬ (Contains xs x)
+not_contained x [] h c = Contains-none x c
+not_contained x (y ∷ ys) h c = go (nat_eq y x) refl h (Contains-cases y x ys c) (not_contained x ys)
+  where
+    go : (b : Bool) → nat_eq y x ≡ b → (b || list_any (λ z. nat_eq z x) ys) ≡ false → (y ≡ x) ⊎ Contains ys x → (list_any (λ z. nat_eq z x) ys ≡ false → ¬ (Contains ys x)) → ⊥
+    go true e g m more = absurd (cc)
+    go false e g (inl k) more = let t : nat_eq y x ≡ true = eq-eqb y x k in absurd (cc)
+    go false e g (inr d) more = more g d
+
+-- both are entries that a trace can tell
+a_number_is_traceable : (u : Around) → IsTraceable (sum_and_trigger u) late_entry
+a_number_is_traceable u = record { fields = (record { integer = refl; within = refl }, tt); source = lit< tt; number = lit< tt; stamp = lit≤ tt; mark = lit≤ tt }
+
+abbrev text_input : Plan
+text_input = plan_of (record input { kind = Some kind.Text } ∷ []) [] (on_a ∷ [])
+
+a_text_is_traceable : IsTraceable text_input quote_entry
+a_text_is_traceable = record {
+  fields = ((refl, record { utf8 = IsUtf8-from_ascii _ (search rules); some = λ e. cc; present = λ e. cc; one_line = (not_contained 13 (codes "x,\"y") refl, not_contained 10 (codes "x,\"y") refl) }), tt);
+  source = lit< tt;
+  number = lit< tt;
+  stamp = lit≤ tt;
+  mark = tt;
+}
