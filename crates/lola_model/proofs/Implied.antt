@@ -1,13 +1,14 @@
 -- What implication of pacings comes to: by the sets of normal forms, by formulas, and in each step of a run.
-use Rattle.std.proofs.Common.{◌≡◌, refl, ap, sym, subst, ◌∙◌, ℕ, ◌-◌, ◌*◌, ◌/◌, ◌<◌, ◌≤◌, min, ◌⊎◌, inl, inr, ◌↔◌, List, [], ◌∷◌, Option, Some, None, Bool, true, false, ◌&&◌, ◌||◌, nat_eq, nat_lt, arith}
-use Rattle.std.proofs.lemmas.Bool.{ltb-true, lt-ltb, eqb-true, eq-eqb}
-use Rattle.std.proofs.lemmas.Nat.{and_assoc}
+use Rattle.std.proofs.Common.{get_or, ◌≡◌, refl, ap, sym, subst, ◌∙◌, ℕ, ◌-◌, ◌*◌, ◌/◌, ◌<◌, ◌≤◌, min, ◌⊎◌, inl, inr, ◌↔◌, List, [], ◌∷◌, Option, Some, None, Bool, true, false, ◌&&◌, ◌||◌, nat_eq, nat_lt, arith}
+use Rattle.std.proofs.lemmas.Bool.{cases_lt, ltb-true, lt-ltb, eqb-true, eq-eqb}
+use Rattle.std.proofs.lemmas.Nat.{and_assoc, and_comm}
 use Rattle.std.specs.Int.Bits.{bit_and, and_self}
 use Rattle.std.proofs.lemmas.Nat.Bits.{bit_at_and, bit_at-lt}
 use Rattle.std.proofs.lemmas.List.Elements.{All-contains}
+use Rattle.std.proofs.lemmas.List.{get_or_default}
 use Rattle.std.proofs.Math.Nat.{mul_comm, mul-div-mul_right}
 use Rattle.std.specs.Int.{bit_at}
-use Rattle.std.specs.List.{All, Contains}
+use Rattle.std.specs.List.{AllPairs, All, Contains}
 use Rattle.lola_value.specs.Ratio.{Ratio}
 use Rattle.lola_value.specs.Rate.{deadline, next_deadline, next_number}
 use Rattle.lola_value.specs.declared.text.Field.{Field}
@@ -15,7 +16,7 @@ use Rattle.lola_model.proofs.Strictly.{Contains-here, Contains-there, Contains-c
 use Rattle.lola_model.proofs.Deadlines.{IsRate, next_deadline_above, next_deadline_least}
 use Rattle.lola_model.specs.Table.{Step}
 use Rattle.lola_model.specs.Activity.{satisfies, satisfies_some, present, is_deadline, is_active_at, is_active}
-use Rattle.lola_model.specs.Implication.{has_input, satisfies_formula, IsNormalFormOf, FormulaImplies, IsWholeMultipleOf, IsPacing, Implies, MeansImplication}
+use Rattle.lola_model.specs.Implication.{IsWithin, AreApart, AreLeastSets, has_input, satisfies_formula, IsNormalFormOf, FormulaImplies, IsWholeMultipleOf, IsPacing, Implies, MeansImplication}
 use Rattle.lola_model.specs.declared.pacing.InputSet.{InputSet}
 use Rattle.lola_model.specs.declared.pacing.Pacing.{Pacing}
 use Rattle.lola_model.specs.declared.pacing.Pacing.TheVariants.{Event, Periodic}
@@ -126,6 +127,37 @@ satisfies_formula-through inputs s (Or' u a v b) h g =
         → (satisfies_formula s.0 b ≡ true → satisfies_formula inputs b ≡ true) → (satisfies_formula inputs a || satisfies_formula inputs b) ≡ true
     go (inl e) l r = or_left (satisfies_formula inputs a) (satisfies_formula inputs b) (l e)
     go (inr e) l r = or_right (satisfies_formula inputs a) (satisfies_formula inputs b) (r e)
+
+-- two members of a list whose elements stand apart are the same where one has all of the other
+member_by_within : (sets : List InputSet) (s w : InputSet) → AllPairs AreApart sets → Contains sets s → Contains sets w → IsWithin w s → w ≡ s
+member_by_within sets s w apart c d h =
+    let at_s : get_or sets c.0 s ≡ s = c.2 in
+    let at_w : get_or sets d.0 s ≡ w = get_or_default sets d.0 s w d.1 ∙ d.2 in
+    elim (cases_lt c.0 d.0) [
+      | inl lt ↦ absurd ((apart c.0 d.0 s lt d.1).1 (subst (λ x. IsWithin x (get_or sets c.0 s)) (sym at_w) (subst (λ x. IsWithin w x) (sym at_s) h)))
+      | inr le ↦
+          elim (cases_lt d.0 c.0) [
+            | inl lt ↦ absurd ((apart d.0 c.0 s lt c.1).0 (subst (λ x. IsWithin x (get_or sets c.0 s)) (sym at_w) (subst (λ x. IsWithin w x) (sym at_s) h)))
+            | inr ge ↦ let e : d.0 ≡ c.0 = omega arith in sym at_w ∙ (ap (λ x. get_or sets x s) e ∙ at_s)
+          ]
+    ]
+
+-- sets that have all of each other are the same
+same_by_within : (s t : InputSet) → IsWithin s t → IsWithin t s → s ≡ t
+same_by_within s t h g =
+    let a : bit_and s.0 t.0 ≡ s.0 = within_is t.0 s h in
+    let b : bit_and t.0 s.0 ≡ t.0 = within_is s.0 t g in
+    let e : s.0 ≡ t.0 = sym a ∙ (and_comm s.0 t.0 ∙ b) in
+    ap (λ (x : ℕ). let r : InputSet = record { 0 = x } in r) e
+
+-- a test has no other least sets than these
+pub least_sets_are_the_same : (passes : ℕ → Bool) (a b : List InputSet) → AreLeastSets passes a → AreLeastSets passes b → (s : InputSet) → Contains a s → Contains b s
+least_sets_are_the_same passes a b h g s c =
+    let u = satisfies_some-member s.0 b (g.enough s.0 (All-contains (λ (x : InputSet). passes x.0 ≡ true) a s h.passing c)) in
+    let w = satisfies_some-member u.0.0 a (h.enough u.0.0 (All-contains (λ (x : InputSet). passes x.0 ≡ true) b u.0 g.passing u.1)) in
+    let e : w.0 ≡ s = member_by_within a s w.0 h.apart c w.1 (satisfies-through s.0 u.0 w.0 u.2 w.2) in
+    let back : IsWithin s u.0 = subst (λ (x : InputSet). IsWithin x u.0) e w.2 in
+    subst (λ (x : InputSet). Contains b x) (same_by_within u.0 s u.2 back) u.1
 
 -- a set of inputs satisfies a formula exactly where it satisfies some set of its normal form
 pub normal_form_decides : (f : Formula) (sets : List InputSet) → IsNormalFormOf f sets → (inputs : ℕ) → (satisfies_formula inputs f ≡ true) ↔ (satisfies_some inputs sets ≡ true)
