@@ -21,11 +21,13 @@ use Rattle.lola_model.specs.declared.pacing.ClausePacings.{ClausePacings}
 
 -- the order of origins
 
+-- not both are first
 no_first_both : (a b : Origin) → IsFirst a b → IsFirst b a → ⊥
 no_first_both (OfRow j q) (OfRow k r) h g = absurd (omega arith)
 no_first_both (OfRow j q) (OfDeadlines t) h g = g
 no_first_both (OfDeadlines t) b h g = h
 
+-- not both are before the other
 pub before_is_strict : (a b : Origin) → IsBefore a b → IsBefore b a → ⊥
 before_is_strict a b (inl h) (inl g) = omega arith
 before_is_strict a b (inl h) (inr g) = omega (arith, h, g.0)
@@ -50,23 +52,28 @@ only_steps Origins os ordered members steps = (
 
 -- stamps
 
+-- from an earlier time on too
 DoNotFall-later : (a b : ℕ) (rows : List Row) → a ≤ b → DoNotFall b rows → DoNotFall a rows
 DoNotFall-later a b [] le h = tt
 DoNotFall-later a b (r ∷ rs) le h = (let k : b ≤ r.stamp = h.0 in omega arith, h.1)
 
+-- no stamp is below the time
 stamp_low : (low : ℕ) (rows : List Row) (i : ℕ) (r : Row) → DoNotFall low rows → slice_get rows i ≡ Some r → low ≤ r.stamp
 stamp_low low [] i r h e = absurd (cc)
 stamp_low low (q ∷ rows) zero r h e = let k : q ≡ r = cc in subst (λ (x : Row). low ≤ x.stamp) k h.0
 stamp_low low (q ∷ rows) (suc i) r h e = let k : low ≤ q.stamp = h.0 in let l : q.stamp ≤ r.stamp = stamp_low q.stamp rows i r h.1 e in omega arith
 
+-- the first stamp is at most the last
 last_low : (low : ℕ) (r : Row) (rows : List Row) → DoNotFall low (r ∷ rows) → r.stamp ≤ last_stamp (r ∷ rows)
 last_low low r [] h = omega arith
 last_low low r (q ∷ rows) h = let k : r.stamp ≤ q.stamp = h.1.0 in let l : q.stamp ≤ last_stamp (q ∷ rows) = last_low r.stamp q rows h.1 in omega arith
 
+-- and the last of fewer rows
 last_high : (r : Row) (rows : List Row) → last_stamp rows ≤ last_stamp (r ∷ rows)
 last_high r [] = omega arith
 last_high r (q ∷ rows) = omega arith
 
+-- no stamp is above the last
 stamp_high : (low : ℕ) (rows : List Row) (i : ℕ) (r : Row) → DoNotFall low rows → slice_get rows i ≡ Some r → r.stamp ≤ last_stamp rows
 stamp_high low [] i r h e = absurd (cc)
 stamp_high low (q ∷ rows) zero r h e = let k : q ≡ r = cc in subst (λ (x : Row). x.stamp ≤ last_stamp (q ∷ rows)) k (last_low low q rows h)
@@ -74,6 +81,7 @@ stamp_high low (q ∷ rows) (suc i) r h e =
     let k : r.stamp ≤ last_stamp rows = stamp_high q.stamp rows i r h.1 e in let l : last_stamp rows ≤ last_stamp (q ∷ rows) = last_high q rows in omega arith
 
 module _ (rates : List Ratio) (start : ℕ) (positive : AreRates rates) where
+  -- the origins of deadlines between two offsets
   abbrev due_origins : ℕ → ℕ → List Origin
   due_origins passed limit = map (λ t. OfDeadlines (start + t)) (deadlines_between rates passed limit)
 
@@ -82,15 +90,18 @@ module _ (rates : List Ratio) (start : ℕ) (positive : AreRates rates) where
   origins_from place passed [] = []
   origins_from place passed (r ∷ rs) = due_origins passed (r.stamp - start) ++ (OfRow place r ∷ origins_from (place + 1) (r.stamp - start - 1) rs)
 
+  -- the origin of the deadline at the last stamp, if there is one
   abbrev last_origins : List Row → List Origin
   last_origins [] = []
   last_origins (r ∷ []) = due_origins (r.stamp - start - 1) (r.stamp - start + 1)
   last_origins (r ∷ q ∷ rs) = last_origins (q ∷ rs)
 
+  -- their steps
   due_steps : (ts : List ℕ) → map step_of (map (λ t. OfDeadlines (start + t)) ts) ≡ map (λ t. deadline_step (start + t)) ts
   due_steps [] = refl
   due_steps (t ∷ ts) = ap (λ ss. deadline_step (start + t) ∷ ss) (due_steps ts)
 
+  -- the steps of the origins are the steps that are made
   steps_of_origins : (place passed : ℕ) (rows : List Row) → map step_of (origins_from place passed rows) ≡ steps_from rates start passed rows
   steps_of_origins place passed [] = refl
   steps_of_origins place passed (r ∷ rs) =
@@ -98,6 +109,7 @@ module _ (rates : List Ratio) (start : ℕ) (positive : AreRates rates) where
       ∙ (ap (λ ss. ss ++ map step_of (OfRow place r ∷ origins_from (place + 1) (r.stamp - start - 1) rs)) (due_steps (deadlines_between rates passed (r.stamp - start)))
       ∙ ap (λ ss. deadline_steps rates start passed (r.stamp - start) ++ (row_step r ∷ ss)) (steps_of_origins (place + 1) (r.stamp - start - 1) rs))
 
+  -- and so is the step of the last
   steps_of_last : (rows : List Row) → map step_of (last_origins rows) ≡ last_deadline rates start rows
   steps_of_last [] = refl
   steps_of_last (r ∷ []) = due_steps (deadlines_between rates (r.stamp - start - 1) (r.stamp - start + 1))
@@ -115,6 +127,7 @@ module _ (rates : List Ratio) (start : ℕ) (positive : AreRates rates) where
   IsOf place passed rows (OfRow k r) = (i : ℕ) × (k ≡ place + i) × (slice_get rows i ≡ Some r)
   IsOf place passed rows (OfDeadlines t) = IsDeadlineAt passed t × (t < last_stamp rows)
 
+  -- each is of a deadline between the two offsets
   due_is : (passed limit : ℕ) (o : Origin) → Contains (due_origins passed limit) o
       → (t : ℕ) × (OfDeadlines (start + t) ≡ o) × IsSomeDeadline rates t × (passed < t) × (t < limit)
   due_is passed limit o c =
@@ -122,11 +135,13 @@ module _ (rates : List Ratio) (start : ℕ) (positive : AreRates rates) where
       let s : IsSomeDeadline rates w.0 × (passed < w.0) × (w.0 < limit) = deadlines_sound rates passed limit w.0 positive w.1 in
       (w.0, w.2, s.0, s.1, s.2)
 
+  -- and each such deadline is among them
   is_due : (passed limit t : ℕ) → IsSomeDeadline rates t → passed < t → t < limit → Contains (due_origins passed limit) (OfDeadlines (start + t))
   is_due passed limit t d above below =
       Contains-map (λ t. OfDeadlines (start + t)) (deadlines_between rates passed limit) t
       (Contains-from_in t (deadlines_between rates passed limit) (deadlines_complete rates passed limit t positive d above below))
 
+  -- a deadline before the first row
   due_of : (low place passed : ℕ) (r : Row) (rows : List Row) (o : Origin) → DoNotFall low (r ∷ rows) → Contains (due_origins passed (r.stamp - start)) o → IsOf place passed (r ∷ rows) o
   due_of low place passed r rows (OfRow k q) h c = let w = due_is passed (r.stamp - start) (OfRow k q) c in absurd (cc (w.1))
   due_of low place passed r rows (OfDeadlines t) h c =
@@ -136,9 +151,11 @@ module _ (rates : List Ratio) (start : ℕ) (positive : AreRates rates) where
       let last : r.stamp ≤ last_stamp (r ∷ rows) = last_low low r rows h in
       (record { offset = w.0; at = sym e; some = w.2; above = w.3 }, omega arith)
 
+  -- the first row
   row_of : (place passed : ℕ) (r : Row) (rows : List Row) (o : Origin) → OfRow place r ≡ o → IsOf place passed (r ∷ rows) o
   row_of place passed r rows o e = subst (λ x. IsOf place passed (r ∷ rows) x) e (0, omega arith, refl)
 
+  -- what comes of the rows behind it
   rest_of : (place passed : ℕ) (r : Row) (rows : List Row) (o : Origin) → passed ≤ r.stamp - start - 1 → IsOf (place + 1) (r.stamp - start - 1) rows o → IsOf place passed (r ∷ rows) o
   rest_of place passed r rows (OfRow k q) le w = (suc w.0, omega (arith, w.1), w.2)
   rest_of place passed r rows (OfDeadlines t) le w =
@@ -167,10 +184,12 @@ module _ (rates : List Ratio) (start : ℕ) (positive : AreRates rates) where
   in_rest_of place passed r rows k q zero e f = let a : place ≡ k = omega arith in let b : r ≡ q = cc in inl (cc)
   in_rest_of place passed r rows k q (suc i) e f = inr (i, omega arith, f)
 
+  -- a moment below the last stamp and not below the first row
   below_last : (r : Row) (rows : List Row) (t : ℕ) → t < last_stamp (r ∷ rows) → r.stamp ≤ t → t < last_stamp rows
   below_last r [] t h g = absurd (omega arith)
   below_last r (q ∷ rows) t h g = h
 
+  -- a deadline that is not before the first row
   later_than : (place passed : ℕ) (r : Row) (rows : List Row) (t : ℕ) (d : IsDeadlineAt passed t) → start ≤ r.stamp → r.stamp - start ≤ d.offset → t < last_stamp (r ∷ rows)
       → IsOf (place + 1) (r.stamp - start - 1) rows (OfDeadlines t)
   later_than place passed r rows t d from on below =
@@ -240,6 +259,7 @@ module _ (rates : List Ratio) (start : ℕ) (positive : AreRates rates) where
           let above : r.stamp - start - 1 < d.offset = d.above in
           omega arith
 
+  -- the made origins are in order
   made_in_order : (low place passed : ℕ) (rows : List Row) → start ≤ low → DoNotFall low rows → AllPairs IsBefore (origins_from place passed rows)
   made_in_order low place passed [] from h = AllPairs-nil IsBefore
   made_in_order low place passed (r ∷ rows) from h =
@@ -267,6 +287,7 @@ module _ (rates : List Ratio) (start : ℕ) (positive : AreRates rates) where
     pub above : 0 < offset
     pub last : start + offset ≡ last_stamp rows
 
+  -- the last is a deadline at the last stamp
   last_sound : (low : ℕ) (rows : List Row) → start ≤ low → DoNotFall low rows → (o : Origin) → Contains (last_origins rows) o → IsLastDeadline rows o
   last_sound low [] from h o c = absurd (Contains-none o c)
   last_sound low (r ∷ []) from h o c =
@@ -280,16 +301,19 @@ module _ (rates : List Ratio) (start : ℕ) (positive : AreRates rates) where
       let w = last_sound r.stamp (q ∷ rows) (omega arith) h.1 o c in
       record { offset = w.offset; origin = w.origin; some = w.some; above = w.above; last = w.last }
 
+  -- and such a deadline is the last
   last_complete : (rows : List Row) (d : ℕ) → IsSomeDeadline rates d → 0 < d → start + d ≡ last_stamp rows → Contains (last_origins rows) (OfDeadlines (start + d))
   last_complete [] d some above e = absurd (omega arith)
   last_complete (r ∷ []) d some above e = is_due (r.stamp - start - 1) (r.stamp - start + 1) d some (omega arith) (omega arith)
   last_complete (r ∷ q ∷ rows) d some above e = last_complete (q ∷ rows) d some above e
 
+  -- it is alone
   last_in_order : (rows : List Row) → AllPairs IsBefore (last_origins rows)
   last_in_order [] = AllPairs-nil IsBefore
   last_in_order (r ∷ []) = due_in_order (deadlines_between rates (r.stamp - start - 1) (r.stamp - start + 1)) (deadlines_rise rates (r.stamp - start - 1) (r.stamp - start + 1) positive)
   last_in_order (r ∷ q ∷ rows) = last_in_order (q ∷ rows)
 
+  -- all others are before it
   before_last : (low : ℕ) (rows : List Row) → DoNotFall low rows → (a b : Origin) → IsOf 0 0 rows a → IsLastDeadline rows b → IsBefore a b
   before_last low rows h (OfRow k q) b w v =
       let high : q.stamp ≤ last_stamp rows = stamp_high low rows w.0 q h w.2 in
@@ -300,6 +324,7 @@ module _ (rates : List Ratio) (start : ℕ) (positive : AreRates rates) where
       let e : start + v.offset ≡ last_stamp rows = v.last in
       subst (λ x. IsBefore (OfDeadlines t) x) v.origin (inl (omega arith))
 
+  -- with it they are in order
   all_in_order : (rows : List Row) → DoNotFall start rows → AllPairs IsBefore (origins_from 0 0 rows ++ last_origins rows)
   all_in_order rows h =
       AllPairs-append IsBefore (origins_from 0 0 rows) (last_origins rows) (made_in_order start 0 0 rows (omega arith) h) (last_in_order rows)
@@ -307,6 +332,7 @@ module _ (rates : List Ratio) (start : ℕ) (positive : AreRates rates) where
 
 -- from origins as they are made to origins as they are said
 module _ (pacings : List ClausePacings) (start : ℕ) (positive : AreRates (rates_of pacings)) where
+  -- a deadline above the start is due
   due_by : (t : ℕ) → IsDeadlineAt (rates_of pacings) start positive 0 t → IsDue pacings start t
   due_by t d =
       let at : t ≡ start + d.offset = d.at in
@@ -315,6 +341,7 @@ module _ (pacings : List ClausePacings) (start : ℕ) (positive : AreRates (rate
       let w = rate_of_some (rates_of pacings) d.offset d.some in
       record { rate = w.0; listed = w.1; later = omega arith; deadline = subst (λ x. IsDeadline w.0 x) (sym e) w.2 }
 
+  -- and back
   by_due : (t : ℕ) → IsDue pacings start t → IsDeadlineAt (rates_of pacings) start positive 0 t
   by_due t d =
       let later : start < t = d.later in
@@ -371,6 +398,7 @@ module _ (pacings : List ClausePacings) (start : ℕ) (positive : AreRates (rate
 
 -- the accepted rows of a legal journal have stamps that do not fall
 
+-- from a merged time on
 legal_rows : (merged : ℕ) (es : List Entry) → IsLegalFrom merged es → DoNotFall merged (accepted es)
 legal_rows merged [] h = tt
 legal_rows merged (e ∷ es) h = go e.mark refl (legal_rows (time_after merged e) es h.1)
@@ -383,6 +411,7 @@ legal_rows merged (e ∷ es) h = go e.mark refl (legal_rows (time_after merged e
         subst (λ rows. DoNotFall merged rows) (sym (late_is_none e (accepted es) t q))
         (subst (λ s. DoNotFall s (accepted es)) (time_after-late merged e t q) more)
 
+-- of the whole journal
 pub legal_do_not_fall : (start : Option ℕ) (journal : List Entry) → IsLegal start journal → DoNotFall (opening_time start) (accepted journal)
 legal_do_not_fall start journal h = legal_rows (opening_time start) journal h
 
@@ -392,6 +421,7 @@ from_start (Some t) rows h = h
 from_start None [] h = tt
 from_start None (r ∷ rows) h = (omega arith, h.1)
 
+-- the law
 pub has_the_steps : (pacings : List ClausePacings) → AreRates (rates_of pacings) → HasTheSteps pacings
 has_the_steps pacings positive = record {
   all = λ start rows h steps.

@@ -5,12 +5,15 @@ use Rattle.std.specs.List.{All, AllPairs, Contains}
 
 -- the members of a list with one more in front
 
+-- the first
 pub Contains-here : {X : Type 0} (x : X) (xs : List X) → Contains (x ∷ xs) x
 Contains-here x xs = (0, omega arith, refl)
 
+-- a member of the others
 pub Contains-there : {X : Type 0} (x y : X) (xs : List X) → Contains xs y → Contains (x ∷ xs) y
 Contains-there x y xs c = (suc c.0, omega (arith, c.1), c.2)
 
+-- it is one or the other
 pub Contains-cases : {X : Type 0} (x y : X) (xs : List X) → Contains (x ∷ xs) y → (x ≡ y) ⊎ Contains xs y
 Contains-cases {X} x y xs c = go c.0 c.1 c.2
   where
@@ -18,6 +21,7 @@ Contains-cases {X} x y xs c = go c.0 c.1 c.2
     go zero lt e = inl e
     go (suc k) lt e = inr (k, omega arith, e)
 
+-- nothing has no member
 pub Contains-none : {X : Type 0} (y : X) → Contains [] y → ⊥
 Contains-none y c = omega (arith, c.1)
 
@@ -30,6 +34,7 @@ Contains-map {X} {Y} f (y ∷ ys) x c = go (Contains-cases y x ys c) (Contains-m
     go (inl e) h = subst (λ z. Contains (map f (y ∷ ys)) (f z)) e (Contains-here (f y) (map f ys))
     go (inr d) h = Contains-there (f y) (f x) (map f ys) (h d)
 
+-- each is of a member
 pub Contains-map_cases : {X Y : Type 0} (f : X → Y) (xs : List X) (y : Y) → Contains (map f xs) y → (x : X) × Contains xs x × (f x ≡ y)
 Contains-map_cases f [] y c = absurd (Contains-none y c)
 Contains-map_cases {X} {Y} f (x ∷ xs) y c = go (Contains-cases (f x) y (map f xs) c) (Contains-map_cases f xs y)
@@ -44,9 +49,11 @@ All-from_members P [] h = λ k d lt. absurd (omega arith)
 All-from_members P (x ∷ xs) h = All-cons P x xs (h x (Contains-here x xs)) (All-from_members P xs (λ y c. h y (Contains-there x y xs c)))
 
 module _ {X : Type 0} (R : X → X → Type 0) where
+  -- no elements
   pub AllPairs-nil : AllPairs R []
   AllPairs-nil = λ i j d lt l. absurd (omega arith)
 
+  -- one more in front
   pub AllPairs-cons : (x : X) (xs : List X) → All (R x) xs → AllPairs R xs → AllPairs R (x ∷ xs)
   AllPairs-cons x xs h g = λ i j d lt l. go i j d lt l
     where
@@ -55,9 +62,11 @@ module _ {X : Type 0} (R : X → X → Type 0) where
       go zero (suc j) d lt l = h j d (omega arith)
       go (suc i) (suc j) d lt l = g i j d (omega arith) (omega arith)
 
+  -- the first and all others
   pub AllPairs-first : (x : X) (xs : List X) → AllPairs R (x ∷ xs) → All (R x) xs
   AllPairs-first x xs h = λ k d l. h 0 (suc k) d (omega arith) (omega arith)
 
+  -- the others
   pub AllPairs-rest : (x : X) (xs : List X) → AllPairs R (x ∷ xs) → AllPairs R xs
   AllPairs-rest x xs h = λ i j d lt l. h (suc i) (suc j) d (omega arith) (omega arith)
 

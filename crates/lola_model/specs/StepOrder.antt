@@ -1,4 +1,5 @@
--- The order of a run's steps, said of them as a whole: where steps come from, which of two is first, and that a list has them all.
+-- The steps of a run, said of them as a whole: where they come from, which of two is first, and that a list
+-- has each of them once.
 use Rattle.std.specs.Prelude.{ℕ, ◌≡◌, ◌<◌, ◌≤◌, ◌-◌, ◌⊎◌, ◌↔◌, List, [], ◌∷◌, Option, Some, slice_get, map, Contains, AllPairs}
 use Rattle.lola_value.specs.Ratio.{Ratio}
 use Rattle.lola_value.specs.Rate.{IsDeadline}
@@ -14,6 +15,7 @@ pub record IsRate (r : Ratio) : Type 0 where
   pub num : 0 < r.num
   pub den : 0 < r.den
 
+-- each of these rates is
 abbrev pub AreRates : List Ratio → Type 0
 AreRates [] = Unit {0}
 AreRates (r ∷ rs) = IsRate r × AreRates rs
@@ -23,10 +25,12 @@ pub data Origin : Type 0 where
   OfRow : (place : ℕ) (row : Row) → Origin
   OfDeadlines : (time : ℕ) → Origin
 
+-- the step itself
 abbrev pub step_of : Origin → Step
 step_of (OfRow place row) = row_step row
 step_of (OfDeadlines time) = deadline_step time
 
+-- its time
 abbrev pub moment_of : Origin → ℕ
 moment_of (OfRow place row) = row.stamp
 moment_of (OfDeadlines time) = time

@@ -1,3 +1,10 @@
+//! Stores: what a run keeps of its past.
+//!
+//! A store shows exactly what it is between two calls (`seen`): how far it is, and the living
+//! instances of each stream with their parameters and their outcomes of this step. Of the values
+//! before this step it need not keep all: `remembers` says which lists of them it may stand for, and
+//! each reading call answers what every such list has.
+
 ghost use Rattle.std.specs.Prelude.{◌≡◌, ℕ, ◌+◌, ◌-◌, ◌*◌, ◌%◌, ◌^◌, ◌<◌, ◌≤◌, ◌↔◌, List, [], ◌∷◌, ◌++◌, Bool, true, not, length, slice_get, remove, OnOk, OnErr, IsOk, IsTrue, MatchOption, if◌then◌else◌};
 ghost use Rattle.lola_value.specs.declared.text.Field.{Field};
 ghost use Rattle.lola_value.specs.declared.value.Outcome.TheVariants as outcome;
@@ -13,13 +20,18 @@ use lola_value::value::{Outcome, Params, Value};
 /// What became of a spawn.
 #[derive(Clone, Copy, Debug, PartialEq, Eq)]
 pub enum SpawnEnd {
+    /// The instance lives from this step on.
     Born,
+    /// It lived already, and nothing has changed.
     Living,
+    /// 65,536 instances of the stream live, and nothing has changed.
     TooMany,
 }
 
 /// The values of all streams so far, or as much of them as accesses need.
 pub trait StreamStore: Drop {
+    /// Whether it keeps only what accesses need, and has its room from the start: `prepare` then never
+    /// lacks memory where no stream has a spawn clause.
     const BOUNDED: bool;
 
     ghost BOUNDED: { Bool };
@@ -30,34 +42,35 @@ pub trait StreamStore: Drop {
     /// Which earlier values it remembers for an instance, by its stream and place.
     ghost remembers: { Self → Naming → ℕ → ℕ → List (ℕ × Field) → Type 0 };
 
-    /// Sets where time counts from.
+    /// Sets where time counts from, in nanoseconds. Once, before the first step.
     fn start_at(&mut self, start: u64)
         requires { IsNew (seen self.old) }
         ensures seen { seen self.new ≡ after_start (seen self.old) start }
         ensures past { KeepsAll (remembers self.old) (remembers self.new) };
 
-    /// Makes room for one whole step.
+    /// Makes room for one whole step, so that no call of the step takes memory.
     fn prepare(&mut self) -> Result<(), Memory>
         ensures ok { OnOk result (seen self.new ≡ after_prepare (seen self.old)) }
         ensures err { OnErr result (seen self.new ≡ seen self.old) }
         ensures past { KeepsAll (remembers self.old) (remembers self.new) }
         ensures bounded { IsTrue BOUNDED → IsTrue (never_spawns (seen self.old).layout.streams) → IsOk result };
 
-    /// Begins a step: what was this step's is now an earlier value.
+    /// Begins a step at a time in nanoseconds: what was this step's is now an earlier value.
     fn begin(&mut self, time: u64)
         requires { CanBegin (seen self.old) time }
         ensures seen { seen self.new ≡ after_begin (seen self.old) time }
         ensures past { (names : Naming) (n i : ℕ) (values : List (ℕ × Field)) → remembers self.old names n i values
             → remembers self.new names n i (values ++ one_more (time_seen (seen self.old)) (read_outcome names (now_seen (seen self.old) n i))) };
 
-    /// The value at this step.
+    /// The value at this step, for a direct access and `get`: poison where the stream is poisoned, and
+    /// missing where the instance does not live.
     fn now(&self, stream: u32, params: &Params) -> Outcome
         requires running { IsRunning (seen self.now) }
         requires fits { Fits (seen self.now) stream params.now }
         ensures value { result ≡ now_of (seen self.now) stream params.now }
         ensures kind { IsTrue (is_outcome_of (kind_in (slice_get (seen self.now).layout.streams stream)) result) };
 
-    /// The newest value at this step or before.
+    /// The newest value at this step or before, for `hold`.
     fn newest(&self, stream: u32, params: &Params) -> Outcome
         requires running { IsRunning (seen self.now) }
         requires fits { Fits (seen self.now) stream params.now }
@@ -68,7 +81,7 @@ pub trait StreamStore: Drop {
             → (read_outcome names result ≡ held_answer (read_outcome names (now_of (seen self.now) stream params.now)) values) × IsHeldIn names result) }
         ensures kind { IsTrue (is_outcome_of (kind_in (slice_get (seen self.now).layout.streams stream)) result) };
 
-    /// The k-th value before this step, from the newest.
+    /// The k-th value before this step from the newest, from 1, for `offset(by: -k)`.
     fn back(&self, stream: u32, params: &Params, k: u32) -> Outcome
         requires running { IsRunning (seen self.now) }
         requires fits { Fits (seen self.now) stream params.now }
@@ -80,7 +93,7 @@ pub trait StreamStore: Drop {
             → (read_outcome names result ≡ from_end values k) × IsHeldIn names result) }
         ensures kind { IsTrue (is_outcome_of (kind_in (slice_get (seen self.now).layout.streams stream)) result) };
 
-    /// The answer of a window at this step.
+    /// The answer of a window at this step, whose time is a whole number of panes after the start.
     fn window(&self, window: u32, params: &Params) -> Outcome
         requires running { IsRunning (seen self.now) }
         requires window { window < length (seen self.now).layout.windows }
@@ -92,12 +105,12 @@ pub trait StreamStore: Drop {
             → read_outcome names result ≡ window_reading (seen self.now) window names (now_of (seen self.now) (target_of (slice_get (seen self.now).layout.windows window)) params.now) values) }
         ensures kind { IsTrue (is_outcome_of (window_kind (seen self.now) window) result) };
 
-    /// How many instances live.
+    /// How many instances of a stream live.
     fn instances(&self, stream: u32) -> u32
         requires { stream < length (seen self.now).layout.streams }
         ensures { result ≡ length (instances_seen (seen self.now) stream) };
 
-    /// The parameters of an instance.
+    /// The parameters of an instance, by its place among those of its stream in order of birth.
     fn params_of(&self, stream: u32, index: u32) -> Params
         requires { index < length (instances_seen (seen self.now) stream) }
         ensures value { MatchOption (slice_get (instances_seen (seen self.now) stream) index) ⊥ (λ x. result ≡ x.params) }
@@ -115,7 +128,7 @@ pub trait StreamStore: Drop {
         ensures past { (names : Naming) (n i : ℕ) (values : List (ℕ × Field)) → IsHeld names value
             → remembers self.old names n i values → remembers self.new names n i values };
 
-    /// Poisons an instance in this step.
+    /// Poisons an instance in this step: its expression has a fault, or read one that is poisoned.
     fn poison(&mut self, stream: u32, index: u32)
         requires running { IsRunning (seen self.old) }
         requires index { index < length (instances_seen (seen self.old) stream) }
@@ -123,14 +136,14 @@ pub trait StreamStore: Drop {
         ensures seen { seen self.new ≡ after_outcome (seen self.old) stream index outcome.Poison }
         ensures past { KeepsAll (remembers self.old) (remembers self.new) };
 
-    /// Poisons a stream in this step.
+    /// Poisons a stream in this step: its spawn clause has a fault or is poisoned.
     fn poison_stream(&mut self, stream: u32)
         requires running { IsRunning (seen self.old) }
         requires stream { stream < length (seen self.old).layout.streams }
         ensures seen { seen self.new ≡ after_poison_stream (seen self.old) stream }
         ensures past { KeepsAll (remembers self.old) (remembers self.new) };
 
-    /// A new instance, if it does not live and there is room.
+    /// A new instance, if it does not live and there is room. At most one of a stream in a step.
     fn spawn(&mut self, stream: u32, params: Params) -> SpawnEnd
         requires running { IsRunning (seen self.old) }
         requires fits { Fits (seen self.old) stream params }
