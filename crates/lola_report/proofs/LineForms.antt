@@ -1,11 +1,10 @@
 -- The lines of entries, of verdicts and of ends.
-use Rattle.std.proofs.Common.{◌≡◌, ℕ, List, [], ◌∷◌, ◌++◌, true, Option, Some, None, codes, refl, sym, ap, ◌∙◌, subst}
+use Rattle.std.proofs.Common.{◌≡◌, ℕ, List, [], ◌∷◌, ◌++◌, Option, Some, None, codes, refl, ap}
 use Rattle.std.specs.Prelude.{IsTrue}
 use Rattle.std.specs.List.{list_all}
 use Rattle.std.specs.Fmt.{decimal}
 use Rattle.std.proofs.lemmas.List.Folds.{list_all-append}
 use Rattle.lola_value.specs.declared.text.Field.{Field}
-use Rattle.lola_value.specs.declared.text.Field.TheVariants as field
 use Rattle.lola_value.specs.declared.front.Code.{Code}
 use Rattle.lola_value.specs.declared.front.Code.TheVariants as code
 use Rattle.lola_value.specs.declared.value.FaultKind.{FaultKind}
@@ -17,13 +16,13 @@ use Rattle.lola_model.specs.declared.journal.Entry.{Entry}
 use Rattle.lola_model.specs.declared.spec.Sort.{Sort}
 use Rattle.lola_model.specs.declared.spec.Sort.TheVariants as sort
 use Rattle.lola_model.specs.declared.spec.Stream.{Stream}
-use Rattle.lola_model.specs.Texts.{quoted, value_text, params_text, trigger_line, output_line, value_lines, trigger_lines, output_lines}
+use Rattle.lola_model.specs.Texts.{quoted, value_text, params_text, trigger_line, output_line, trigger_lines, output_lines}
 use Rattle.lola_model.specs.declared.journal.Show.TheVariants.{Outputs}
 use Rattle.lola_model.specs.Trace.{mark_text, fields_text, trace_line}
 use Rattle.lola_report.specs.Names.{code_number, code_name, malformed_number, malformed_name, fault_number, fault_name}
 use Rattle.lola_report.specs.Verdicts.{IsShown, HasVerdict, line_of_sort, verdict_text, shown_lines}
-use Rattle.lola_report.specs.Ends.{done_text, refused_text, malformed_text, fault_text, unreadable_text, analysed_text, end_text}
-use Rattle.lola_report.specs.Lines.{has_no_lf, IsLine, is_plain, has_plain_name, is_plain_end}
+use Rattle.lola_report.specs.Ends.{end_text}
+use Rattle.lola_report.specs.Lines.{IsLine, is_plain, has_plain_name, is_plain_end}
 use Rattle.lola_report.specs.declared.end.EndLine.{EndLine}
 use Rattle.lola_report.specs.declared.end.EndLine.TheVariants as end
 use Rattle.lola_report.proofs.Plain.{Plain, both, decimal_plain, time_plain, quoted_plain, value_plain, params_plain, fields_plain, mark_plain, ended, before, byte_before}

@@ -1,26 +1,18 @@
 -- Texts without LF, and the lines that they make.
-use Rattle.std.proofs.Common.{◌≡◌, ℕ, ℤ, pos, negsuc, ◌+◌, ◌*◌, ◌-◌, ◌/◌, ◌%◌, ◌<◌, ◌≤◌, zero, suc, List, [], ◌∷◌, ◌++◌, Bool, true, false, cond, Option, Some, None, codes, refl, sym, ap, ◌∙◌, subst, append_assoc, flat_map, length, replicate, arith}
-use Rattle.std.specs.Prelude.{nat_eq, nat_lt, not, IsTrue, ◌&&◌}
+use Rattle.std.proofs.Common.{◌≡◌, ℕ, ℤ, pos, negsuc, ◌+◌, ◌-◌, ◌/◌, ◌%◌, ◌<◌, zero, suc, List, [], ◌∷◌, ◌++◌, Bool, true, false, cond, Option, Some, None, codes, refl, sym, ap, ◌∙◌, append_assoc, flat_map, length, replicate, arith}
+use Rattle.std.specs.Prelude.{nat_eq, not, IsTrue}
 use Rattle.std.specs.List.{list_all, list_any}
 use Rattle.std.specs.Fmt.{decimal, digits, digits_onto, digit_glyph}
 use Rattle.std.proofs.lemmas.Bool.{and_from, and_parts, lt-ltb, ne_eqb, cond_both}
 use Rattle.std.proofs.lemmas.List.Folds.{list_all-append}
 use Rattle.lola_value.specs.declared.text.Field.{Field}
 use Rattle.lola_value.specs.declared.text.Field.TheVariants as field
-use Rattle.lola_value.specs.declared.front.Code.{Code}
-use Rattle.lola_value.specs.declared.front.Code.TheVariants as code
-use Rattle.lola_value.specs.declared.value.FaultKind.{FaultKind}
-use Rattle.lola_value.specs.declared.value.FaultKind.TheVariants as fault
 use Rattle.lola_value.specs.Numbers.{integer_text}
 use Rattle.lola_value.specs.Times.{time_text, nine_digits}
-use Rattle.lola_model.specs.declared.source.MalformedKind.{MalformedKind}
-use Rattle.lola_model.specs.declared.source.MalformedKind.TheVariants as malformed
 use Rattle.lola_model.specs.declared.journal.Mark.{Mark}
 use Rattle.lola_model.specs.declared.journal.Mark.TheVariants as mark
-use Rattle.lola_model.specs.declared.journal.Entry.{Entry}
-use Rattle.lola_model.specs.declared.spec.Stream.{Stream}
-use Rattle.lola_model.specs.Texts.{letter_of, escaped, quoted, value_text, commas, params_text, trigger_line, output_line}
-use Rattle.lola_model.specs.Trace.{is_quotable, doubled, field_of_text, field_text, fields_text, mark_text, trace_line}
+use Rattle.lola_model.specs.Texts.{escaped, quoted, value_text, commas, params_text}
+use Rattle.lola_model.specs.Trace.{is_quotable, doubled, field_text, fields_text, mark_text}
 use Rattle.lola_report.specs.Lines.{is_not_lf, has_no_lf, IsLine, is_plain}
 
 -- a text without LF
