@@ -1,2 +1,4 @@
 pub mod Sequences
 pub mod Runs
+pub mod Plain
+pub mod LineForms

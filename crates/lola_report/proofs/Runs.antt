@@ -1,5 +1,5 @@
 -- Texts of the bytes of a list, in which runs of bytes stand for themselves.
-use Rattle.std.proofs.Common.{◌≡◌, List, [], ◌∷◌, ◌++◌, ℕ, ◌+◌, ◌-◌, ◌<◌, ◌≤◌, length, get_or, take, drop, refl, sym, ap, ◌∙◌, append_assoc, append-nil, flat_map, arith, take-append-drop}
+use Rattle.std.proofs.Common.{◌≡◌, List, [], ◌∷◌, ◌++◌, ℕ, ◌+◌, ◌-◌, ◌<◌, ◌≤◌, length, get_or, take, drop, sym, ap, ◌∙◌, append_assoc, append-nil, flat_map, arith, take-append-drop}
 use Rattle.std.specs.List.{between}
 use Rattle.std.proofs.lemmas.List.{take-take, take_all}
 use Rattle.std.proofs.lemmas.List.Edits.{between_none, between_more}

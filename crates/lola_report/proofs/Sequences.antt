@@ -1,5 +1,5 @@
 -- Texts of the items of a list, appended one after another.
-use Rattle.std.proofs.Common.{Result, Ok, Err, OnErr, ◌≡◌, List, [], ◌∷◌, ◌++◌, ℕ, ◌+◌, ◌<◌, length, get_or, take, drop, refl, sym, ap, ◌∙◌, subst, append_assoc, append-nil, flat_map, arith, take-append-drop, drop-cons, add-one}
+use Rattle.std.proofs.Common.{Result, Ok, Err, OnErr, ◌≡◌, List, [], ◌∷◌, ◌++◌, ℕ, ◌+◌, ◌<◌, length, get_or, take, drop, refl, sym, ap, ◌∙◌, subst, append-nil, flat_map, take-append-drop}
 use Rattle.std.proofs.lemmas.List.{take_more, flat_map_more}
 use Rattle.std.proofs.lemmas.List.Concat.{flat_map-append}
 use Rattle.lola_value.specs.declared.text.Field.{Field}

@@ -3,3 +3,4 @@ pub mod Spellings
 pub mod Pieces
 pub mod Verdicts
 pub mod Ends
+pub mod Lines

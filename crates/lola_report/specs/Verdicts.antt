@@ -2,7 +2,8 @@
 use Rattle.std.specs.Prelude.{ℕ, ◌≡◌, List, [], true, Option, Some, None}
 use Rattle.lola_value.specs.declared.text.Field.{Field}
 use Rattle.lola_value.specs.declared.text.Field.TheVariants as field
-use Rattle.lola_model.specs.Texts.{trigger_line, output_line}
+use Rattle.lola_model.specs.Texts.{trigger_line, output_line, value_lines}
+use Rattle.lola_model.specs.declared.journal.Show.TheVariants.{Outputs}
 use Rattle.lola_model.specs.declared.spec.Sort.{Sort}
 use Rattle.lola_model.specs.declared.spec.Sort.TheVariants as sort
 use Rattle.lola_model.specs.declared.spec.Stream.{Stream}
@@ -28,3 +29,8 @@ line_of_sort sort.Trigger time s p v = trigger_line time s
 abbrev pub verdict_text : Option Stream → ℕ → List Field → Field → List ℕ
 verdict_text None time p v = []
 verdict_text (Some s) time p v = line_of_sort s.sort time s p v
+
+-- what is shown of a stream's value, where outputs are shown too
+abbrev pub shown_lines : Option Stream → ℕ → List Field → Field → List (List ℕ)
+shown_lines None time p v = []
+shown_lines (Some s) time p v = value_lines Outputs time s p v

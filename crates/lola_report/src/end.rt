@@ -129,29 +129,6 @@ fn fault_line(name: &Text, kind: FaultKind, time: u64, to: &mut Text) -> Result<
     )
 }
 
-/// Appends the line that tells how a command ended, with its LF. After `Memory` a front of the line may stand behind
-/// what was there.
-pub fn end_line(line: &EndLine, to: &mut Text) -> Result<(), Memory>
-    ensures ok { OnOk result (to.new ≡ to.old ++ end_text line.now) }
-    ensures memory { OnErr result (AppendsPart to.old to.new (end_text line.now)) }
-{
-    match line {
-        EndLine::Done {
-            accepted,
-            late,
-            steps,
-            lines,
-        } => done_line(*accepted, *late, *steps, *lines, to),
-        EndLine::Usage => to.append(b"= usage\n"),
-        EndLine::Refused(refusal) => refused_line(*refusal, to),
-        EndLine::Malformed { source, row, kind } => malformed_line(*source, *row, *kind, to),
-        EndLine::Fault { name, kind, time } => fault_line(name, *kind, *time, to),
-        EndLine::UnreadableSpecification => to.append(b"= unreadable specification\n"),
-        EndLine::UnreadableSource(source) => unreadable_line(*source, to),
-        EndLine::Analysed { streams, windows } => analysed_line(*streams, *windows, to),
-    }
-}
-
 fn unreadable_line(source: u32, to: &mut Text) -> Result<(), Memory>
     ensures ok { OnOk result (to.new ≡ to.old ++ unreadable_text source) }
     ensures memory { OnErr result (AppendsPart to.old to.new (unreadable_text source)) }
@@ -180,4 +157,27 @@ fn analysed_line(streams: u32, windows: u32, to: &mut Text) -> Result<(), Memory
         ],
         to,
     )
+}
+
+/// Appends the line that tells how a command ended, with its LF. After `Memory` a front of the line may stand behind
+/// what was there.
+pub fn end_line(line: &EndLine, to: &mut Text) -> Result<(), Memory>
+    ensures ok { OnOk result (to.new ≡ to.old ++ end_text line.now) }
+    ensures memory { OnErr result (AppendsPart to.old to.new (end_text line.now)) }
+{
+    match line {
+        EndLine::Done {
+            accepted,
+            late,
+            steps,
+            lines,
+        } => done_line(*accepted, *late, *steps, *lines, to),
+        EndLine::Usage => to.append(b"= usage\n"),
+        EndLine::Refused(refusal) => refused_line(*refusal, to),
+        EndLine::Malformed { source, row, kind } => malformed_line(*source, *row, *kind, to),
+        EndLine::Fault { name, kind, time } => fault_line(name, *kind, *time, to),
+        EndLine::UnreadableSpecification => to.append(b"= unreadable specification\n"),
+        EndLine::UnreadableSource(source) => unreadable_line(*source, to),
+        EndLine::Analysed { streams, windows } => analysed_line(*streams, *windows, to),
+    }
 }

@@ -6,5 +6,7 @@ pub mod law;
 mod names;
 mod piece;
 mod spelling;
+#[cfg(test)]
+mod tests;
 pub mod trace;
 pub mod verdict;

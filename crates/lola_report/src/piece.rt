@@ -37,6 +37,7 @@ pub enum Piece<'a> {
     Fields(&'a [Field]),
 }
 
+/// Appends a number of up to 128 bits in decimal. Where there is no memory the text is as it was.
 fn wide_number_text(n: u128, to: &mut Text) -> Result<(), Memory>
     ensures ok { OnOk result (to.new ≡ to.old ++ decimal n) }
     ensures err { OnErr result (to.new ≡ to.old) }

@@ -7,7 +7,7 @@ ghost use Rattle.lola_report.specs.Spellings.{spelled, between_quotes};
 use lola_value::text::{Memory, Text};
 
 /// How a byte is spelled between double quotes.
-#[derive(Clone, Copy, Debug, PartialEq, Eq)]
+#[derive(Clone, Copy)]
 pub enum Spelling {
     /// Behind a backslash where it is a quote, a backslash, LF, CR or a tab: in a verdict line.
     Escaped,

@@ -68,8 +68,10 @@ pub fn verdict_line(
     to: &mut Text,
 ) -> Result<(), Memory>
     requires { HasVerdict (slice_get plan.now.spec.streams stream) value.now }
-    ensures ok { OnOk result (to.new ≡ to.old ++ verdict_text (slice_get plan.now.spec.streams stream) time params.now value.now) }
-    ensures memory { OnErr result (AppendsPart to.old to.new (verdict_text (slice_get plan.now.spec.streams stream) time params.now value.now)) }
+    ensures ok { OnOk result
+        (to.new ≡ to.old ++ verdict_text (slice_get plan.now.spec.streams stream) time params.now value.now) }
+    ensures memory { OnErr result
+        (AppendsPart to.old to.new (verdict_text (slice_get plan.now.spec.streams stream) time params.now value.now)) }
 {
     let of = &plan.spec.streams.as_slice()[stream as usize];
     match of.sort {

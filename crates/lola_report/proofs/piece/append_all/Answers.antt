@@ -1,4 +1,4 @@
-use Rattle.std.proofs.Common.{◌∷◌, flat_map, arith}
+use Rattle.std.proofs.Common.{arith}
 use Rattle.lola_report.specs.Pieces.{piece_text}
 use Rattle.lola_report.proofs.Sequences.{on_err, part_within}
 use Rattle.lola_report.proofs.piece.append_all.Goals as goal

@@ -1,4 +1,4 @@
-use Rattle.std.proofs.Common.{◌≡◌, ◌∷◌, ◌++◌, flat_map, take}
+use Rattle.std.proofs.Common.{◌≡◌, ◌++◌, flat_map, take}
 use Rattle.lola_report.specs.Pieces.{piece_text}
 use Rattle.lola_report.proofs.piece.append_all.Given as goal
 

@@ -1,4 +1,4 @@
-use Rattle.std.proofs.Common.{rules, ◌≡◌, arith}
+use Rattle.std.proofs.Common.{arith}
 use Rattle.std.proofs.lemmas.Grind.{common_steps}
 use Rattle.lola_report.proofs.Sequences.{more_commas}
 use Rattle.lola_report.proofs.piece.commas_text.Goals as goal

@@ -1,4 +1,4 @@
-use Rattle.std.proofs.Common.{◌∷◌, flat_map, arith}
+use Rattle.std.proofs.Common.{◌∷◌, arith}
 use Rattle.lola_model.specs.Texts.{value_text}
 use Rattle.lola_report.proofs.Sequences.{on_err, part_within}
 use Rattle.lola_report.proofs.piece.more_values.Goals as goal

@@ -1,6 +1,5 @@
-use Rattle.std.proofs.Common.{rules, ◌≡◌, [], ◌∷◌, ◌++◌, OnOk, OnErr, MatchOption, flat_map, ℕ, ◌+◌, ◌-◌, ◌<◌, ◌≤◌, length, get_or, List, refl, sym, ap, ◌∙◌, arith}
+use Rattle.std.proofs.Common.{◌≡◌, ◌++◌, ℕ, ◌+◌, ◌<◌, length, get_or, List, refl, sym, ap, ◌∙◌, arith}
 use Rattle.std.proofs.lemmas.Result.{on_ok_weaker, on_err_weaker}
-use Rattle.lola_value.specs.Appending.{AppendsPart}
 use Rattle.lola_report.specs.Spellings.{spelled}
 use Rattle.lola_report.proofs.Sequences.{on_err, part_at, one_more}
 use Rattle.lola_report.proofs.Runs.{run_appended, run_more, run_none, run_to_end}
