@@ -1,0 +1,43 @@
+//! What a reader of rows answers.
+
+use lola_model::journal::Row;
+use lola_model::source::MalformedKind;
+
+/// How a reader ended.
+#[derive(Clone, Copy, Debug, PartialEq, Eq)]
+pub enum Ending {
+    /// All rows were given.
+    End,
+    /// The line of this row, or the heading for row 0, has another form.
+    Malformed { kind: MalformedKind, row: u64 },
+    /// A read failed.
+    ReadFault,
+    /// There was no memory for a row.
+    Memory,
+}
+
+/// One answer of a reader: the next row, or how it ended.
+#[derive(Drop)]
+pub enum RowAnswer {
+    Row(Row),
+    End,
+    Malformed { kind: MalformedKind, row: u64 },
+    ReadFault,
+    Memory,
+}
+
+impl From<Ending> for RowAnswer {
+    ghost use Rattle.std.specs.Prelude.{◌≡◌};
+    ghost use Rattle.lola_lines.specs.Reading.{answer_of};
+
+    ghost from_gives = { λ ending answer. answer ≡ answer_of ending };
+
+    fn from(ending: Ending) -> RowAnswer {
+        match ending {
+            Ending::End => RowAnswer::End,
+            Ending::Malformed { kind, row } => RowAnswer::Malformed { kind, row },
+            Ending::ReadFault => RowAnswer::ReadFault,
+            Ending::Memory => RowAnswer::Memory,
+        }
+    }
+}
