@@ -8,7 +8,7 @@ ghost use Rattle.lola_lines.specs.Fields.{below, digit_after, read_below, texts_
 use crate::fill::LONGEST_LINE;
 use lola_model::journal::Row;
 use lola_value::text::{Field, Fields, Memory};
-use memchr::memchr;
+use lola_value::times::time_read;
 use std::alloc::Global;
 
 /// What a row of a source has to be: the number of the source, the most rows, and how many inputs.
@@ -79,7 +79,8 @@ fn read_fields(
 // The place of the first comma from here on, or the end of the line.
 fn field_end(line: &[u8], start: usize) -> usize
     requires { start ≤ length line.now }
-    ensures { result ≡ start + position_or_len is_comma (drop start line.now) }
+    ensures place { result ≡ start + position_or_len is_comma (drop start line.now) }
+    ensures within { result ≤ length line.now }
 {
     for at in start..line.len() {
         if line[at] == b',' {
@@ -127,10 +128,4 @@ fn with_digit(size: u64, byte: u8) -> Option<u64>
         return None;
     }
     size.checked_mul(10)?.checked_add((byte - b'0') as u64)
-}
-
-fn time_read(_field: &[u8]) -> Option<u64>
-    ensures { result ≡ read_time _field.now }
-{
-    None
 }
