@@ -3,4 +3,5 @@ pub mod Filling
 pub mod Heading
 pub mod Lines
 pub mod Reading
+pub mod Steps
 pub mod Window

@@ -73,6 +73,24 @@ is_line_end b = nat_eq b 10
 abbrev pub longest_line : ℕ
 longest_line = 65536
 
+-- a row before others
+abbrev pub one_more : Row → SourceRows → SourceRows
+one_more row rest = record { rows = row ∷ rest.rows; end = rest.end }
+
+-- no row, and this end
+abbrev pub ended : SourceEnd → SourceRows
+ended end = record { rows = []; end = end }
+
+-- a row before those of the later lines, or a line that is none
+abbrev pub row_before : ℕ → Option Row → SourceRows → SourceRows
+row_before number None rest = ended (MalformedAt number)
+row_before number (Some row) rest = one_more row rest
+
+-- what stands behind the last line end: a source ends whole only where that is nothing
+abbrev pub at_last : ℕ → List ℕ → SourceRows
+at_last number [] = ended Whole
+at_last number (b ∷ bs) = ended (MalformedAt number)
+
 abbrev pub row_with : ℕ → ℕ → ℕ → List Field → Row
 row_with source number stamp fields = record { source = source; number = number; stamp = stamp; fields = fields }
 
@@ -90,23 +108,11 @@ module _ (inputs source most : ℕ) where
       then row_of_fields number (slice_split is_comma line)
       else None
 
-  abbrev pub one_more : Row → SourceRows → SourceRows
-  one_more row rest = record { rows = row ∷ rest.rows; end = rest.end }
-
-  abbrev pub ended : SourceEnd → SourceRows
-  ended end = record { rows = []; end = end }
-
-  -- a source that ends without a line end is malformed there
-  abbrev pub at_last : ℕ → List ℕ → SourceRows
-  at_last number [] = ended Whole
-  at_last number (b ∷ bs) = ended (MalformedAt number)
-
   -- what the lines from the row of this number on give: the part behind the last line end is no line
   abbrev pub rows_from : ℕ → List (List ℕ) → SourceRows
   rows_from number [] = ended Whole
   rows_from number (last ∷ []) = at_last number last
-  rows_from number (line ∷ next ∷ lines) =
-      elim (row_of_line number line) [ None ↦ ended (MalformedAt number) | Some row ↦ one_more row (rows_from (number + 1) (next ∷ lines)) ]
+  rows_from number (line ∷ next ∷ lines) = row_before number (row_of_line number line) (rows_from (number + 1) (next ∷ lines))
 
   -- what all lines give, of which the first has to be this heading
   abbrev pub after_heading : List ℕ → List (List ℕ) → SourceRows

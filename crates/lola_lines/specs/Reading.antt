@@ -10,7 +10,7 @@ use Rattle.lola_model.specs.declared.journal.Row.{Row}
 use Rattle.lola_model.specs.declared.source.MalformedKind.TheVariants as malformed
 use Rattle.lola_model.specs.declared.spec.Stream.{Stream}
 use Rattle.lola_port.specs.States.{Rose, SourceState}
-use Rattle.lola_lines.specs.Lines.{SourceEnd, SourceRows, Whole, MalformedAt, after_heading, ended, heading, input_names, parts, rows_from}
+use Rattle.lola_lines.specs.Lines.{SourceEnd, SourceRows, Whole, MalformedAt, after_heading, heading, input_names, parts, rows_from}
 use Rattle.lola_lines.specs.declared.answer.Ending.{Ending}
 use Rattle.lola_lines.specs.declared.answer.Ending.TheVariants as ending
 use Rattle.lola_lines.specs.declared.answer.RowAnswer.{RowAnswer}

@@ -2,6 +2,7 @@
 
 use lola_model::journal::Row;
 use lola_model::source::MalformedKind;
+use lola_value::text::Memory;
 
 /// How a reader ended.
 #[derive(Clone, Copy, Debug, PartialEq, Eq)]
@@ -39,5 +40,16 @@ impl From<Ending> for RowAnswer {
             Ending::ReadFault => RowAnswer::ReadFault,
             Ending::Memory => RowAnswer::Memory,
         }
+    }
+}
+
+impl From<Memory> for Ending {
+    ghost use Rattle.std.specs.Prelude.{◌≡◌};
+    ghost use Rattle.lola_lines.specs.declared.answer.Ending.TheVariants as how;
+
+    ghost from_gives = { λ _ ending. ending ≡ how.Memory };
+
+    fn from(_: Memory) -> Ending {
+        Ending::Memory
     }
 }

@@ -1,10 +1,11 @@
 //! A reader of the rows of a source, one after the other.
 ghost use Rattle.std.specs.Prelude.{◌≡◌, ◌+◌, ◌≤◌, ◌^◌, ◌↔◌, ℕ, List, Some, None, true, false, IfOk, IsTrue, length, drop, take, position};
+ghost use Rattle.std.specs.Io.KnownBytes.{IsAtEnd};
 ghost use Rattle.lola_lines.specs.Lines.{is_line_end, rows_of_source, input_names};
 
 use crate::answer::{Ending, RowAnswer};
 use crate::fields::{Form, read_row};
-use crate::fill::{Filled, fill_line};
+use crate::fill::{Filled, LONGEST_LINE, fill_line};
 use crate::heading::Heading;
 use crate::window::Window;
 use lola_model::journal::Row;
@@ -95,7 +96,8 @@ impl<S: Source> Model for RowReader<S> {
 }
 
 impl<S: Source> RowReader<S> {
-    ghost use Rattle.lola_lines.specs.Reading.{Answers, Keeps, Repeats, fresh, rest_of, shape_of};
+    ghost use Rattle.lola_lines.specs.Reading.{Answers, Keeps, Repeats, Stops, fresh, rest_of, shape_of};
+    ghost use Rattle.lola_lines.specs.Steps.{Begins, Fills, Takes};
 
     /// Makes all the room that a reader of the source with this index needs, for at most `most` rows.
     pub fn reserve(
@@ -119,5 +121,158 @@ impl<S: Source> RowReader<S> {
             title: heading.text,
             window,
         })
+    }
+
+    /// Makes the room, and joins it with its source, which is dropped where there is no memory.
+    pub fn create(
+        alloc: Global,
+        plan: &Plan,
+        index: u32,
+        most: u64,
+        source: S,
+    ) -> Result<RowReader<S>, Memory>
+        requires { most ≤ 2 ^ 40 }
+        ensures made { IfOk result (λ reader. reader ≡ fresh (shape_of plan.now.spec.streams index most) (S.state source)) }
+    {
+        let empty = RowReader::<S>::reserve(alloc, plan, index, most)?;
+        Ok(empty.with(source))
+    }
+
+    /// The next row, or how the reader ended. A reader that has ended answers the same again, and reads nothing.
+    pub fn next(&mut self) -> RowAnswer
+        ensures open { self.old.ended ≡ None → Answers result self.old self.new }
+        ensures over { (how : Ending) → self.old.ended ≡ Some how → Repeats how result self.old self.new }
+        ensures kept { Keeps self.old self.new }
+    {
+        if let Some(ending) = self.ended {
+            return RowAnswer::from(ending);
+        }
+        match self.advance() {
+            Ok(row) => RowAnswer::Row(row),
+            Err(ending) => {
+                self.ended = Some(ending);
+                RowAnswer::from(ending)
+            }
+        }
+    }
+
+    // The next row, with the heading before the first.
+    fn advance(&mut self) -> Result<Row, Ending>
+        ensures takes { Takes result self.old self.new }
+        ensures kept { Keeps self.old self.new }
+        ensures ended { self.new.ended ≡ self.old.ended }
+    {
+        self.begin()?;
+        self.take_row()
+    }
+
+    // Takes the heading, unless it was taken.
+    fn begin(&mut self) -> Result<(), Ending>
+        ensures begins { Begins result self.old self.new }
+        ensures kept { Keeps self.old self.new }
+        ensures ended { self.new.ended ≡ self.old.ended }
+    {
+        if self.begun {
+            return Ok(());
+        }
+        match self.fill() {
+            Filled::Line(length) => self.take_heading(length),
+            Filled::Last => Err(malformed(0)),
+            Filled::TooLong => Err(malformed(0)),
+            Filled::Fault => Err(Ending::ReadFault),
+        }
+    }
+
+    // Takes the heading, which is held whole.
+    fn take_heading(&mut self, length: usize) -> Result<(), Ending>
+        requires first { self.old.begun ≡ false }
+        requires held { position is_line_end self.old.held ≡ Some length }
+        ensures begins { Begins result self.old self.new }
+        ensures kept { Keeps self.old self.new }
+        ensures ended { self.new.ended ≡ self.old.ended }
+    {
+        if length > LONGEST_LINE {
+            return Err(malformed(0));
+        }
+        if &self.window.as_slice()[..length] != self.title.as_slice() {
+            return Err(malformed(0));
+        }
+        self.window.consume(length + 1);
+        self.begun = true;
+        Ok(())
+    }
+
+    // The row of the next line.
+    fn take_row(&mut self) -> Result<Row, Ending>
+        requires { self.old.begun ≡ true }
+        ensures takes { Takes result self.old self.new }
+        ensures kept { Keeps self.old self.new }
+        ensures ended { self.new.ended ≡ self.old.ended }
+    {
+        match self.fill() {
+            Filled::Line(length) => self.take_line(length),
+            Filled::Last => Err(self.last()),
+            Filled::TooLong => Err(malformed(self.given + 1)),
+            Filled::Fault => Err(Ending::ReadFault),
+        }
+    }
+
+    // The row of the next line, which is held whole.
+    fn take_line(&mut self, length: usize) -> Result<Row, Ending>
+        requires begun { self.old.begun ≡ true }
+        requires held { position is_line_end self.old.held ≡ Some length }
+        ensures takes { Takes result self.old self.new }
+        ensures kept { Keeps self.old self.new }
+        ensures ended { self.new.ended ≡ self.old.ended }
+    {
+        let number = self.given + 1;
+        let line = &self.window.as_slice()[..length];
+        let Some(row) = read_row(self.alloc, self.form, number, line)? else {
+            return Err(malformed(number));
+        };
+        self.window.consume(length + 1);
+        self.given = number;
+        Ok(row)
+    }
+
+    // What the bytes behind the last line end mean.
+    fn last(&self) -> Ending
+        requires begun { self.now.begun ≡ true }
+        requires unended { position is_line_end self.now.held ≡ None }
+        requires all { IsAtEnd self.now.source.left }
+        ensures { Stops result self.now self.now }
+    {
+        if self.window.as_slice().is_empty() {
+            Ending::End
+        } else {
+            malformed(self.given + 1)
+        }
+    }
+
+    // Reads until a line is held whole, or none will come.
+    fn fill(&mut self) -> Filled
+        ensures fills { Fills result self.old self.new }
+        ensures begun { self.new.begun ≡ self.old.begun }
+        ensures kept { Keeps self.old self.new }
+        ensures ended { self.new.ended ≡ self.old.ended }
+    {
+        fill_line(&mut self.window, &mut self.source)
+    }
+
+    /// The source, with the place it had.
+    pub fn into_source(self) -> S
+        ensures { S.state result ≡ self.source }
+    {
+        self.source
+    }
+}
+
+// A line of another form. What is wrong with it is not told apart.
+fn malformed(row: u64) -> Ending
+    ensures { result ≡ Ending.Malformed MalformedKind.Unbuilt row }
+{
+    Ending::Malformed {
+        kind: MalformedKind::Unbuilt,
+        row,
     }
 }
