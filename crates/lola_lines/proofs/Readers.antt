@@ -51,10 +51,10 @@ stops-last r begun none end some =
     ∙ ap (rest_at r.shape true r.given) (append-nil r.held)
     ∙ ap (rows_from r.shape.inputs r.shape.index r.shape.most (r.given + 1)) (parts-last r.held (none-found is_line_end r.held none))
     ∙ last r.held some)
-    where
-      last : (held : List ℕ) → false ≡ nat_eq (length held) 0 → rows_from r.shape.inputs r.shape.index r.shape.most (r.given + 1) (held ∷ []) ≡ ended (MalformedAt (r.given + 1))
-      last [] some = absurd (cc some)
-      last (b ∷ bs) some = refl
+  where
+    last : (held : List ℕ) → false ≡ nat_eq (length held) 0 → rows_from r.shape.inputs r.shape.index r.shape.most (r.given + 1) (held ∷ []) ≡ ended (MalformedAt (r.given + 1))
+    last [] some = absurd (cc some)
+    last (b ∷ bs) some = refl
 
 -- more bytes than a line may have are no row
 pub stops-long : (r : Reading) → r.begun ≡ true → position is_line_end r.held ≡ None → longest_line < length r.held → Stops (ending.Malformed malformed.Unbuilt (r.given + 1)) r r

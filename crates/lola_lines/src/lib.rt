@@ -6,6 +6,8 @@ mod fields;
 mod fill;
 mod heading;
 mod reader;
+#[cfg(test)]
+mod tests;
 mod window;
 
 pub use answer::{Ending, RowAnswer};

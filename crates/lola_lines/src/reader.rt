@@ -84,12 +84,12 @@ impl<S: Source> Model for RowReader<S> {
     ghost Value = { Reading };
 
     ghost view = { λ r. record {
-        shape = record { index = r.form.index; most = r.form.most; inputs = r.form.inputs; title = r.title.items };
-        begun = r.begun;
-        given = r.given;
-        held = items r.window;
-        source = S.state r.source;
-        ended = r.ended
+      shape = record { index = r.form.index; most = r.form.most; inputs = r.form.inputs; title = r.title.items };
+      begun = r.begun;
+      given = r.given;
+      held = items r.window;
+      source = S.state r.source;
+      ended = r.ended;
     } };
 
     ghost invariant = { λ r. (r.form.most ≤ 2 ^ 40) × (r.given ≤ 2 ^ 40) × (r.begun ≡ false → r.given ≡ 0) };
@@ -100,12 +100,7 @@ impl<S: Source> RowReader<S> {
     ghost use Rattle.lola_lines.specs.Steps.{Begins, Fills, Takes};
 
     /// Makes all the room that a reader of the source with this index needs, for at most `most` rows.
-    pub fn reserve(
-        alloc: Global,
-        plan: &Plan,
-        index: u32,
-        most: u64,
-    ) -> Result<EmptyReader, Memory>
+    pub fn reserve(alloc: Global, plan: &Plan, index: u32, most: u64) -> Result<EmptyReader, Memory>
         requires { most ≤ 2 ^ 40 }
         ensures { IfOk result (λ empty. empty ≡ shape_of plan.now.spec.streams index most) }
     {
@@ -133,6 +128,7 @@ impl<S: Source> RowReader<S> {
     ) -> Result<RowReader<S>, Memory>
         requires { most ≤ 2 ^ 40 }
         ensures made { IfOk result (λ reader. reader ≡ fresh (shape_of plan.now.spec.streams index most) (S.state source)) }
+        ensures told { IfOk result (λ reader. (bytes : List ℕ) → (S.state source).left ≡ Some bytes → rest_of reader ≡ Some (rows_of_source (input_names plan.now.spec.streams) index most bytes)) }
     {
         let empty = RowReader::<S>::reserve(alloc, plan, index, most)?;
         Ok(empty.with(source))
