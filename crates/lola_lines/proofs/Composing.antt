@@ -1,14 +1,13 @@
 -- For callers: many answers of a reader make the rows of its source.
-use Rattle.std.proofs.Common.{◌≡◌, ℕ, zero, suc, ◌+◌, Bool, true, false, List, [], ◌∷◌, ◌++◌, Option, Some, None, option_map, length, filter, refl, sym, ap, subst, ◌∙◌, arith, inl, inr, append_assoc}
+use Rattle.std.proofs.Common.{◌≡◌, ℕ, suc, List, [], ◌∷◌, ◌++◌, Option, Some, length, filter, refl, sym, ap, ◌∙◌, inl, inr, append_assoc}
 use Rattle.std.proofs.lemmas.Bool.{cases_Bool}
 use Rattle.std.proofs.lemmas.List.{append-nil}
-use Rattle.std.specs.Io.KnownBytes.{prepend_known}
 use Rattle.lola_model.specs.Model.{is_input}
 use Rattle.lola_model.specs.declared.journal.Row.{Row}
 use Rattle.lola_model.specs.declared.spec.Stream.{Stream}
 use Rattle.lola_port.specs.States.{SourceState}
 use Rattle.lola_lines.specs.Lines.{SourceEnd, SourceRows, input_names, rows_of_source}
-use Rattle.lola_lines.specs.Reading.{Ends, HasFront, Passes, fresh, rest_of, shape_of}
+use Rattle.lola_lines.specs.Reading.{Ends, Passes, fresh, rest_of, shape_of}
 
 -- a reader that has read nothing still gives all rows of its source
 pub rest-fresh : (streams : List Stream) (index most : ℕ) (source : SourceState) (bytes : List ℕ) → source.left ≡ Some bytes

@@ -1,6 +1,6 @@
 -- Bytes cut at line ends, of which only a front is held.
-use Rattle.std.proofs.Common.{◌≡◌, ℕ, zero, suc, ◌+◌, ◌-◌, ◌<◌, ◌≤◌, Bool, true, false, List, [], ◌∷◌, ◌++◌, Option, Some, None, length, take, drop, get_or, nat_lt, position, refl, sym, ap, ◌∙◌, arith, inl, inr}
-use Rattle.std.specs.List.{list_any, position_or_len, slice_split, onto_first, before_first, after_first}
+use Rattle.std.proofs.Common.{◌≡◌, ℕ, ◌+◌, ◌<◌, ◌≤◌, Bool, true, false, List, [], ◌∷◌, ◌++◌, Some, length, take, drop, nat_lt, position, refl, ap, ◌∙◌, arith, inl, inr}
+use Rattle.std.specs.List.{list_any, position_or_len, onto_first}
 use Rattle.std.proofs.lemmas.Bool.{cases_Bool, cases_lt, or_parts, le-ltb, lt-ltb}
 use Rattle.std.proofs.lemmas.List.{take-append-le, drop-append-le, length-append}
 use Rattle.std.proofs.lemmas.List.Splits.{slice_split_first, slice_split-cons_no}

@@ -1,15 +1,12 @@
 -- What a reader still gives, as its bytes are taken.
-use Rattle.std.proofs.Common.{◌≡◌, ℕ, zero, suc, ◌+◌, ◌-◌, ◌<◌, ◌≤◌, Bool, true, false, ◌&&◌, List, [], ◌∷◌, ◌++◌, Option, Some, None, option_map, length, take, drop, nat_le, nat_lt, position, refl, sym, ap, subst, ◌∙◌, arith, inl, inr}
-use Rattle.std.specs.List.{list_any}
-use Rattle.std.specs.Io.KnownBytes.{IsAtEnd, prepend_known}
-use Rattle.std.proofs.lemmas.Bool.{cases_Bool, lt-leb, le-leb, and_left, and_right}
-use Rattle.std.proofs.lemmas.List.{append-nil, length-take-le, length-drop}
+use Rattle.std.proofs.Common.{◌≡◌, ℕ, ◌+◌, ◌<◌, ◌≤◌, true, false, List, [], ◌∷◌, ◌++◌, Option, Some, None, option_map, length, refl, sym, ap, ◌∙◌, arith}
+use Rattle.std.specs.Io.KnownBytes.{prepend_known}
+use Rattle.std.proofs.lemmas.Bool.{lt-leb, le-leb, and_right}
 use Rattle.lola_value.specs.Arithmetic.{bytes_equal}
 use Rattle.lola_model.specs.declared.journal.Row.{Row}
-use Rattle.lola_lines.specs.Lines.{SourceEnd, SourceRows, Whole, MalformedAt, after_heading, at_last, ended, heading, is_line_end, longest_line, one_more, parts, row_before, row_of_line, rows_from}
-use Rattle.lola_lines.specs.Reading.{Ends, HasFront, Passes, Shape, rest_at}
-use Rattle.lola_lines.proofs.Cutting.{HasParts, parts-last, parts-line, parts-long, some-parts}
-use Rattle.lola_lines.proofs.Pieces.{none-found}
+use Rattle.lola_lines.specs.Lines.{SourceEnd, SourceRows, MalformedAt, after_heading, ended, longest_line, one_more, parts, row_before, row_of_line, rows_from}
+use Rattle.lola_lines.specs.Reading.{Ends, Passes, Shape}
+use Rattle.lola_lines.proofs.Cutting.{some-parts}
 
 -- a function of known bytes behind a front is another's behind another front
 pub known-same : (F G : List ℕ → SourceRows) (held0 held1 : List ℕ) (left : Option (List ℕ)) → ((bytes : List ℕ) → F (held0 ++ bytes) ≡ G (held1 ++ bytes))

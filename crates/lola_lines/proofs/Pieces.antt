@@ -1,8 +1,8 @@
 -- Parts of a buffer, and the first line end in them.
-use Rattle.std.proofs.Common.{◌≡◌, ℕ, zero, suc, ◌+◌, ◌-◌, ◌<◌, ◌≤◌, Bool, true, false, ◌||◌, not, cond, List, [], ◌∷◌, ◌++◌, Option, Some, None, option_map, length, take, drop, get_or, slice_range, position, nat_lt, refl, sym, ap, subst, ◌∙◌, arith, inl, inr}
-use Rattle.std.specs.List.{list_any, position_or_len, slice_split}
-use Rattle.std.proofs.lemmas.Bool.{or_parts, cases_lt, lt-ltb, le-ltb, cases_Bool, ltb-true, ltb-false, true_from_ne_false, false_from_ne_true}
-use Rattle.std.proofs.lemmas.List.{append-nil, take_at, drop_at, take-append-le, take-take, drop-append-le, drop-take, drop-drop, length-take-le, length-drop, length-take, length-append}
+use Rattle.std.proofs.Common.{◌≡◌, ℕ, ◌+◌, ◌-◌, ◌<◌, ◌≤◌, Bool, true, false, List, [], ◌∷◌, ◌++◌, Option, Some, None, option_map, length, take, drop, slice_range, position, nat_lt, refl, sym, ap, subst, ◌∙◌, arith, inl, inr}
+use Rattle.std.specs.List.{list_any, position_or_len}
+use Rattle.std.proofs.lemmas.Bool.{or_parts, cases_lt, lt-ltb, le-ltb, cases_Bool, false_from_ne_true}
+use Rattle.std.proofs.lemmas.List.{take_at, drop_at, take-append-le, take-take, drop-append-le, drop-take, drop-drop, length-take-le, length-drop, length-take, length-append}
 use Rattle.std.proofs.lemmas.List.Sums.{position_or_len_is}
 use Rattle.std.proofs.lemmas.List.Edits.{length-between}
 use borrow.Rule.Slice.PartMut.{put_mid, post_of}

@@ -1,6 +1,5 @@
 -- The steps of a reader, by what it is before and after them.
-use Rattle.std.proofs.Common.{◌≡◌, ℕ, zero, suc, ◌+◌, ◌-◌, ◌<◌, ◌≤◌, Bool, true, false, List, [], ◌∷◌, ◌++◌, Option, Some, None, option_map, length, take, drop, nat_eq, not, ◌&&◌, position, refl, sym, ap, subst, ◌∙◌, arith, inl, inr, Result, Ok, Err}
-use Rattle.std.specs.List.{list_any}
+use Rattle.std.proofs.Common.{◌≡◌, ℕ, ◌+◌, ◌<◌, ◌≤◌, Bool, true, false, List, [], ◌∷◌, ◌++◌, Option, Some, None, option_map, length, take, drop, nat_eq, not, ◌&&◌, position, refl, sym, ap, subst, ◌∙◌, arith, Result, Ok, Err}
 use Rattle.std.specs.Cmp.Lexicographic.{pointwise}
 use Rattle.std.specs.Io.KnownBytes.{IsAtEnd, prepend_known}
 use Rattle.std.proofs.lemmas.List.{append-nil, length-take-le, length-drop}
@@ -10,11 +9,11 @@ use Rattle.lola_model.specs.declared.source.MalformedKind.TheVariants as malform
 use Rattle.lola_port.specs.States.{Rose, SourceState}
 use Rattle.lola_lines.specs.declared.answer.Ending.{Ending}
 use Rattle.lola_lines.specs.declared.answer.Ending.TheVariants as ending
-use Rattle.lola_lines.specs.Lines.{MalformedAt, Whole, SourceEnd, after_heading, ended, is_line_end, longest_line, parts, row_of_line, rows_from}
-use Rattle.lola_lines.specs.Reading.{Ends, GaveRow, HasFront, IsRowOf, Keeps, Passes, Reading, Shape, Stops, rest_at, rest_of, size_of}
+use Rattle.lola_lines.specs.Lines.{MalformedAt, Whole, after_heading, ended, is_line_end, longest_line, parts, row_of_line, rows_from}
+use Rattle.lola_lines.specs.Reading.{Ends, GaveRow, Passes, Reading, Shape, Stops, rest_at, rest_of}
 use Rattle.lola_lines.specs.Steps.{Begins, Goes, Takes}
 use Rattle.lola_lines.proofs.Cutting.{first-place, parts-last, parts-line, parts-long}
-use Rattle.lola_lines.proofs.Passing.{known-ends, known-passes, known-same, heading-long, heading-other, heading-taken, line-last, line-long, line-none, line-row}
+use Rattle.lola_lines.proofs.Passing.{known-ends, known-passes, known-same, heading-long, heading-other, heading-taken, line-long, line-none, line-row}
 use Rattle.lola_lines.proofs.Pieces.{none-found}
 use Rattle.lola_lines.proofs.Rows.{row-facts}
 

@@ -1,8 +1,8 @@
 -- The row of a line: how its parts make it, and what each row is.
-use Rattle.std.proofs.Common.{◌≡◌, ℕ, zero, suc, ◌+◌, ◌-◌, ◌<◌, ◌≤◌, Bool, true, false, ◌&&◌, List, [], ◌∷◌, ◌++◌, Option, Some, None, option_map, length, take, drop, nat_eq, nat_le, if◌then◌else◌, refl, sym, ap, ◌∙◌, arith, inl, inr, ℤ}
+use Rattle.std.proofs.Common.{◌≡◌, ℕ, ◌+◌, ◌≤◌, Bool, true, false, ◌&&◌, List, [], ◌∷◌, Option, Some, None, option_map, length, take, drop, nat_eq, nat_le, if◌then◌else◌, refl, sym, ap, ◌∙◌, arith, ℤ}
 use Rattle.std.specs.List.{position_or_len, slice_split, before_first, after_first}
 use Rattle.std.proofs.lemmas.Option.{cond_some}
-use Rattle.std.proofs.lemmas.Bool.{cases_Bool, and_parts, leb-true, le-leb, lt-leb, eqb-true}
+use Rattle.std.proofs.lemmas.Bool.{and_parts, leb-true, le-leb, eqb-true}
 use Rattle.lola_value.specs.declared.text.Field.{Field}
 use Rattle.lola_value.specs.declared.text.Field.TheVariants as field
 use Rattle.lola_value.specs.declared.value.Kind.TheVariants as kind

@@ -1,5 +1,5 @@
 -- The rows of a source, and its end, as functions of all its bytes: the first form, of whole numbers alone.
-use Rattle.std.specs.Prelude.{ℕ, ℤ, pos, neg_ℤ, ◌+◌, List, [], ◌∷◌, ◌++◌, Option, Some, None, option_map, Bool, true, false, ◌&&◌, if◌then◌else◌, nat_eq, nat_lt, nat_le, length, codes}
+use Rattle.std.specs.Prelude.{ℕ, ℤ, pos, neg_ℤ, ◌+◌, List, [], ◌∷◌, ◌++◌, Option, Some, None, option_map, Bool, ◌&&◌, if◌then◌else◌, nat_eq, nat_lt, nat_le, length, codes}
 use Rattle.std.specs.List.{list_all, slice_split}
 use Rattle.lola_value.specs.declared.value.Kind.TheVariants as kind
 use Rattle.lola_value.specs.declared.text.Field.{Field}

@@ -1,5 +1,5 @@
 -- What the steps of one call of a reader do.
-use Rattle.std.specs.Prelude.{◌≡◌, ℕ, ◌+◌, ◌<◌, ◌≤◌, Bool, true, None, Some, Result, Ok, Err, length, position}
+use Rattle.std.specs.Prelude.{◌≡◌, ◌<◌, ◌≤◌, true, None, Some, Result, Ok, Err, length, position}
 use Rattle.std.specs.Io.KnownBytes.{IsAtEnd}
 use Rattle.lola_model.specs.declared.journal.Row.{Row}
 use Rattle.lola_lines.specs.declared.answer.Ending.{Ending}

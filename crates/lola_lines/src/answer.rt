@@ -20,10 +20,15 @@ pub enum Ending {
 /// One answer of a reader: the next row, or how it ended.
 #[derive(Drop)]
 pub enum RowAnswer {
+    /// The next row, numbered from 1.
     Row(Row),
+    /// All rows were given.
     End,
+    /// The line of this row, or the heading for row 0, has another form.
     Malformed { kind: MalformedKind, row: u64 },
+    /// A read failed.
     ReadFault,
+    /// There was no memory for a row.
     Memory,
 }
 

@@ -1,7 +1,6 @@
 //! The row that a line spells.
 ghost use Rattle.std.specs.Prelude.{◌≡◌, ◌+◌, ◌≤◌, ◌^◌, length, drop, option_map, IfOk};
 ghost use Rattle.std.specs.List.{position_or_len};
-ghost use Rattle.lola_value.specs.Times.{read_time};
 ghost use Rattle.lola_lines.specs.Lines.{exactly, and_then, is_comma, read_number, read_numbers, row_of_line};
 ghost use Rattle.lola_lines.specs.Fields.{below, digit_after, read_below, texts_behind};
 

@@ -1,6 +1,6 @@
 //! The heading that the inputs of a specification call for.
-ghost use Rattle.std.specs.Prelude.{◌≡◌, ◌+◌, ◌<◌, ◌^◌, length, ◌++◌, IfOk, OnOk, if◌then◌else◌};
-ghost use Rattle.lola_lines.specs.Lines.{heading, input_names, names_text};
+ghost use Rattle.std.specs.Prelude.{◌≡◌, ◌<◌, ◌^◌, length, IfOk, OnOk};
+ghost use Rattle.lola_lines.specs.Lines.{heading, input_names};
 
 use lola_model::spec::{Sort, Stream};
 use lola_value::text::Memory;

@@ -1,5 +1,5 @@
 //! A reader of the rows of a source, one after the other.
-ghost use Rattle.std.specs.Prelude.{◌≡◌, ◌+◌, ◌≤◌, ◌^◌, ◌↔◌, ℕ, List, Some, None, true, false, IfOk, IsTrue, length, drop, take, position};
+ghost use Rattle.std.specs.Prelude.{◌≡◌, ◌≤◌, ◌^◌, ℕ, List, Some, None, true, false, IfOk, position};
 ghost use Rattle.std.specs.Io.KnownBytes.{IsAtEnd};
 ghost use Rattle.lola_lines.specs.Lines.{is_line_end, rows_of_source, input_names};
 
@@ -16,7 +16,8 @@ use lola_value::text::Memory;
 use std::alloc::Global;
 use std::marker::Model;
 
-/// A reader that has all its room, and no source yet.
+/// A reader that has all its room, and no source yet. To join it with a source takes no memory, so that no source is
+/// lost for want of it.
 #[derive(Drop)]
 pub struct EmptyReader {
     alloc: Global,
@@ -63,7 +64,15 @@ impl EmptyReader {
     }
 }
 
-/// Reads a source: its heading, and then a row after the other.
+/// Reads a source of the first form, a row after the other.
+///
+/// The source begins with the heading, which is `time` and the names of the inputs, joined by commas. Each later
+/// line is a row: a time in seconds, and for each input a whole number of 64 bits. A line ends with a line feed, has
+/// at most 65,536 bytes before it, and no space is allowed in it. The first line of another form, a row more than
+/// are allowed, and bytes behind the last line feed end the source as malformed.
+///
+/// It holds at most 131,072 bytes, gives each read room for at least 4,096, and stops at a line that is too long as
+/// soon as it holds too much of it.
 #[derive(Drop)]
 pub struct RowReader<S: Source> {
     alloc: Global,
@@ -99,7 +108,8 @@ impl<S: Source> RowReader<S> {
     ghost use Rattle.lola_lines.specs.Reading.{Answers, Keeps, Repeats, Stops, fresh, rest_of, shape_of};
     ghost use Rattle.lola_lines.specs.Steps.{Begins, Fills, Takes};
 
-    /// Makes all the room that a reader of the source with this index needs, for at most `most` rows.
+    /// Makes all the room that a reader of the source with this index needs, for at most `most` rows. Later only the
+    /// list of a row's fields takes memory.
     pub fn reserve(alloc: Global, plan: &Plan, index: u32, most: u64) -> Result<EmptyReader, Memory>
         requires { most ≤ 2 ^ 40 }
         ensures { IfOk result (λ empty. empty ≡ shape_of plan.now.spec.streams index most) }
@@ -134,9 +144,10 @@ impl<S: Source> RowReader<S> {
         Ok(empty.with(source))
     }
 
-    /// The next row, or how the reader ended. A reader that has ended answers the same again, and reads nothing.
+    /// The next row, or how the reader ended: all rows given, a line of another form, a failed read, or no memory for
+    /// a row. A reader that has ended answers the same again, and reads nothing.
     pub fn next(&mut self) -> RowAnswer
-        ensures open { self.old.ended ≡ None → Answers result self.old self.new }
+        ensures going { self.old.ended ≡ None → Answers result self.old self.new }
         ensures over { (how : Ending) → self.old.ended ≡ Some how → Repeats how result self.old self.new }
         ensures kept { Keeps self.old self.new }
     {

@@ -1,12 +1,11 @@
-use Rattle.std.proofs.Common.{◌≡◌, ◌≤◌, ◌<◌, ◌++◌, ◌∷◌, [], length, drop, ap, ◌∙◌, sym, arith, rules}
+use Rattle.std.proofs.Common.{◌<◌, length, drop, ap, ◌∙◌, sym, arith, rules}
 use Rattle.std.proofs.lemmas.List.{length_push}
-use Rattle.lola_value.specs.declared.text.Field.{Field}
 use Rattle.lola_value.specs.declared.text.Field.TheVariants as field
 use Rattle.std.proofs.lemmas.Int.{to_z-of_z}
 use mir.Syntax.{w128}
 use mir.Val.{SFits}
 use Rattle.lola_lines.specs.Fields.{texts_behind}
-use Rattle.lola_lines.proofs.Splitting.{all_fields, reads-full, reads-fails, reads-more, reads-all}
+use Rattle.lola_lines.proofs.Splitting.{all_fields, reads-full, reads-fails, reads-more}
 use Rattle.lola_lines.proofs.fields.read_fields.Goals as goal
 
 pub returns-then-as_slice-inputs : goal.returns-then-as_slice-inputs

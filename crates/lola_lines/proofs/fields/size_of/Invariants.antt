@@ -1,5 +1,4 @@
 use Rattle.std.proofs.Common.{◌≡◌, ◌<◌, ◌^◌, drop}
-use Rattle.lola_lines.specs.Fields.{below}
 use Rattle.lola_lines.proofs.Numerals.{digits_on}
 use Rattle.lola_lines.proofs.fields.size_of.Given as goal
 

@@ -1,4 +1,4 @@
-use Rattle.std.proofs.Common.{◌≡◌, ◌+◌, ℕ, List, true, false, take, drop, refl, sym, ap, subst, ◌∙◌}
+use Rattle.std.proofs.Common.{◌≡◌, ◌+◌, true, false, take, drop, refl, sym, ap, subst, ◌∙◌}
 use Rattle.lola_value.specs.Arithmetic.{bytes_equal}
 use Rattle.lola_lines.specs.declared.answer.Ending.{Ending}
 use Rattle.lola_lines.specs.Reading.{Reading, Stops}

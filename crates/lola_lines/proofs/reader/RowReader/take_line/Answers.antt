@@ -1,4 +1,4 @@
-use Rattle.std.proofs.Common.{◌≡◌, ◌+◌, ℕ, List, Option, Some, None, true, take, drop, refl, sym, ap, subst, ◌∙◌, arith}
+use Rattle.std.proofs.Common.{◌≡◌, ◌+◌, ℕ, List, take, drop, sym, ap, subst, ◌∙◌}
 use Rattle.lola_model.specs.declared.source.MalformedKind.TheVariants as malformed
 use Rattle.lola_lines.specs.declared.answer.Ending.{Ending}
 use Rattle.lola_lines.specs.declared.answer.Ending.TheVariants as ending
