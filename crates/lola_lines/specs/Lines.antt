@@ -1,5 +1,5 @@
 -- The rows of a source, and its end, as functions of all its bytes: the first form, of whole numbers alone.
-use Rattle.std.specs.Prelude.{ℕ, ℤ, pos, neg_ℤ, ◌+◌, List, [], ◌∷◌, ◌++◌, Option, Some, None, option_map, Bool, true, false, ◌&&◌, if◌then◌else◌, nat_eq, nat_lt, nat_le, length, codes}
+use Rattle.std.specs.Prelude.{ℕ, ℤ, pos, neg_ℤ, ◌+◌, List, [], ◌∷◌, ◌++◌, Option, Some, None, option_map, Bool, ◌&&◌, if◌then◌else◌, nat_eq, nat_lt, nat_le, length, codes}
 use Rattle.std.specs.List.{list_all, slice_split}
 use Rattle.lola_value.specs.declared.value.Kind.TheVariants as kind
 use Rattle.lola_value.specs.declared.text.Field.{Field}
@@ -62,9 +62,34 @@ read_numbers (t ∷ ts) = and_then (read_number t) (λ f. option_map (λ fs. f �
 abbrev pub exactly : ℕ → List Field → Option (List Field)
 exactly inputs fields = if nat_eq (length fields) inputs then Some fields else None
 
--- the longest line, and the most rows of a source
+-- a byte that ends a field, and one that ends a line
+abbrev pub is_comma : ℕ → Bool
+is_comma b = nat_eq b 44
+
+abbrev pub is_line_end : ℕ → Bool
+is_line_end b = nat_eq b 10
+
+-- the longest line, without its end
 abbrev pub longest_line : ℕ
 longest_line = 65536
+
+-- a row before others
+abbrev pub one_more : Row → SourceRows → SourceRows
+one_more row rest = record { rows = row ∷ rest.rows; end = rest.end }
+
+-- no row, and this end
+abbrev pub ended : SourceEnd → SourceRows
+ended end = record { rows = []; end = end }
+
+-- a row before those of the later lines, or a line that is none
+abbrev pub row_before : ℕ → Option Row → SourceRows → SourceRows
+row_before number None rest = ended (MalformedAt number)
+row_before number (Some row) rest = one_more row rest
+
+-- what stands behind the last line end: a source ends whole only where that is nothing
+abbrev pub at_last : ℕ → List ℕ → SourceRows
+at_last number [] = ended Whole
+at_last number (b ∷ bs) = ended (MalformedAt number)
 
 abbrev pub row_with : ℕ → ℕ → ℕ → List Field → Row
 row_with source number stamp fields = record { source = source; number = number; stamp = stamp; fields = fields }
@@ -80,36 +105,26 @@ module _ (inputs source most : ℕ) where
   abbrev pub row_of_line : ℕ → List ℕ → Option Row
   row_of_line number line =
       if nat_le (length line) longest_line && nat_le number most
-      then row_of_fields number (slice_split (λ b. nat_eq b 44) line)
+      then row_of_fields number (slice_split is_comma line)
       else None
-
-  abbrev pub one_more : Row → SourceRows → SourceRows
-  one_more row rest = record { rows = row ∷ rest.rows; end = rest.end }
-
-  abbrev pub ended : SourceEnd → SourceRows
-  ended end = record { rows = []; end = end }
 
   -- what the lines from the row of this number on give: the part behind the last line end is no line
   abbrev pub rows_from : ℕ → List (List ℕ) → SourceRows
   rows_from number [] = ended Whole
-  rows_from number ([] ∷ []) = ended Whole
-  rows_from number (last ∷ []) = ended (MalformedAt number)
-  rows_from number (line ∷ next ∷ lines) =
-      elim (row_of_line number line) [ None ↦ ended (MalformedAt number) | Some row ↦ one_more row (rows_from (number + 1) (next ∷ lines)) ]
+  rows_from number (last ∷ []) = at_last number last
+  rows_from number (line ∷ next ∷ lines) = row_before number (row_of_line number line) (rows_from (number + 1) (next ∷ lines))
+
+  -- what all lines give, of which the first has to be this heading
+  abbrev pub after_heading : List ℕ → List (List ℕ) → SourceRows
+  after_heading title [] = ended (MalformedAt 0)
+  after_heading title (last ∷ []) = ended (MalformedAt 0)
+  after_heading title (line ∷ next ∷ lines) =
+      if nat_le (length line) longest_line && bytes_equal line title then rows_from 1 (next ∷ lines) else ended (MalformedAt 0)
 
 -- the parts of the bytes between line ends
 abbrev pub parts : List ℕ → List (List ℕ)
-parts bytes = slice_split (λ b. nat_eq b 10) bytes
+parts bytes = slice_split is_line_end bytes
 
-module _ (names : List (List ℕ)) (source most : ℕ) where
-  abbrev pub after_heading : List (List ℕ) → SourceRows
-  after_heading [] = record { rows = []; end = MalformedAt 0 }
-  after_heading (last ∷ []) = record { rows = []; end = MalformedAt 0 }
-  after_heading (line ∷ next ∷ lines) =
-      if nat_le (length line) longest_line && bytes_equal line (heading names)
-      then rows_from (length names) source most 1 (next ∷ lines)
-      else record { rows = []; end = MalformedAt 0 }
-
-  -- the rows of a source and its end, from all its bytes
-  unfoldable pub rows_of_source : List ℕ → SourceRows
-  rows_of_source bytes = after_heading (parts bytes)
+-- the rows of a source and its end, from all its bytes
+unfoldable pub rows_of_source : List (List ℕ) → ℕ → ℕ → List ℕ → SourceRows
+rows_of_source names source most bytes = after_heading (length names) source most (heading names) (parts bytes)
