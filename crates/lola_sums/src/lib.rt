@@ -1,2 +1,4 @@
 //! The evaluation of sums: each row by the evaluation model.
 #![tactic(auto)]
+
+mod sum;

@@ -1,0 +1,84 @@
+-- What streams of sums come to in a row.
+use Rattle.std.specs.Prelude.{ℕ, ◌≡◌, ◌+◌, ◌<◌, List, [], ◌∷◌, Option, Some, None, Bool, true, false, not, ◌&&◌, nat_lt, length, slice_get, if◌then◌else◌}
+use Rattle.lola_value.specs.declared.value.Kind.TheVariants as kind
+use Rattle.lola_value.specs.declared.value.FaultKind.{FaultKind}
+use Rattle.lola_value.specs.declared.value.Value.TheVariants as value
+use Rattle.lola_value.specs.declared.value.Outcome.{Outcome}
+use Rattle.lola_value.specs.declared.value.Outcome.TheVariants as outcome
+use Rattle.lola_value.specs.declared.text.Field.{Field}
+use Rattle.lola_value.specs.Answer.{Answer}
+use Rattle.lola_value.specs.Arithmetic.{is_within}
+use Rattle.lola_value.specs.Naming.{read_outcome}
+use Rattle.lola_model.specs.Accesses.{answer_of}
+use Rattle.lola_model.specs.Content.{Content, seen}
+use Rattle.lola_model.specs.Model.{is_input, input_outcome, eval_outcome}
+use Rattle.lola_model.specs.declared.expr.Access.TheVariants as access
+use Rattle.lola_model.specs.declared.expr.Binary.{Binary}
+use Rattle.lola_model.specs.declared.expr.Binary.TheVariants as binary
+use Rattle.lola_model.specs.declared.expr.Expr.{Expr}
+use Rattle.lola_model.specs.declared.expr.Expr.TheVariants.{Literal, Read, Both'}
+use Rattle.lola_model.specs.declared.expr.Arguments.TheVariants.{End}
+use Rattle.lola_model.specs.declared.spec.Stream.{Stream}
+use Rattle.lola_model.specs.declared.spec.Spec.{Spec}
+use Rattle.lola_form.specs.Simple.{is_trigger, is_noted_number, is_addition}
+
+-- a number of 64 bits, or no value
+abbrev pub is_number : Outcome → Bool
+is_number (outcome.Value (value.Int z)) = is_within kind.Int64 z
+is_number (outcome.Value v) = false
+is_number o = true
+
+-- a truth value, or no value
+abbrev pub is_truth : Outcome → Bool
+is_truth (outcome.Value (value.Bool b)) = true
+is_truth (outcome.Value v) = false
+is_truth o = true
+
+-- what a reader sees of an outcome: another's fault is poison
+abbrev pub seen_outcome : Outcome → Outcome
+seen_outcome (outcome.Fault k) = outcome.Poison
+seen_outcome o = o
+
+abbrev pub is_number_in : Option Outcome → Bool
+is_number_in None = false
+is_number_in (Some o) = is_number o
+
+-- a sum whose reads are numbers among these outcomes
+abbrev pub is_sum_over : List Outcome → Expr → Bool
+is_sum_over earlier (Literal place (value.Int z)) = is_within kind.Int64 z
+is_sum_over earlier (Read place m access.Direct End) = is_number_in (slice_get earlier m)
+is_sum_over earlier (Both' place sign u a v b) = (is_noted_number place && is_addition sign) && (is_sum_over earlier a && is_sum_over earlier b)
+is_sum_over earlier _ = false
+
+-- a comparison of two such sums
+abbrev pub is_comparison_over : List Outcome → Expr → Bool
+is_comparison_over earlier (Both' place binary.Greater u a v b) = is_sum_over earlier a && is_sum_over earlier b
+is_comparison_over earlier _ = false
+
+-- the streams of a content, from the first on, have these outcomes
+abbrev pub Shows : Content → List Outcome → Type 0
+Shows c outcomes = (m : ℕ) (o : Outcome) → slice_get outcomes m ≡ Some o → answer_of c access.Direct m [] ≡ seen (read_outcome [] o)
+
+-- what the one instance of a stream comes to where all inputs have a value
+abbrev pub stream_answer : Spec → Content → List Field → ℕ → Stream → Answer
+stream_answer spec c fields i s = if is_input s then input_outcome i (Some fields) else eval_outcome spec c false true s.eval []
+
+-- each of these streams has its outcome, where i inputs stand before the first
+abbrev pub AreAnswered : Spec → Content → List Field → ℕ → List Stream → List Outcome → Type 0
+AreAnswered spec c fields i [] [] = Unit {0}
+AreAnswered spec c fields i (s ∷ ss) (o ∷ os) = (read_outcome [] o ≡ stream_answer spec c fields i s) × AreAnswered spec c fields (if is_input s then i + 1 else i) ss os
+AreAnswered spec c fields i _ _ = ⊥
+
+-- a trigger has a truth value, each other stream a number, if they have a value
+abbrev pub is_sorted : Stream → Outcome → Bool
+is_sorted s o = if is_trigger s then is_truth o else is_number o
+
+abbrev pub are_sorted : List Stream → List Outcome → Bool
+are_sorted [] [] = true
+are_sorted (s ∷ ss) (o ∷ os) = is_sorted s o && are_sorted ss os
+are_sorted _ _ = false
+
+-- the streams of a row with these fields have these outcomes, whatever else the specification has
+pub record AreOutcomes (fields : List Field) (streams : List Stream) (outcomes : List Outcome) : Type 0 where
+  pub sorted : are_sorted streams outcomes ≡ true
+  pub answered : (spec : Spec) (c : Content) → Shows c outcomes → AreAnswered spec c fields 0 streams outcomes
