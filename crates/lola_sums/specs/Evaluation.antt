@@ -20,7 +20,9 @@ use Rattle.lola_model.specs.declared.expr.Expr.TheVariants.{Literal, Read, Both'
 use Rattle.lola_model.specs.declared.expr.Arguments.TheVariants.{End}
 use Rattle.lola_model.specs.declared.spec.Stream.{Stream}
 use Rattle.lola_model.specs.declared.spec.Spec.{Spec}
-use Rattle.lola_form.specs.Simple.{is_trigger, is_noted_number, is_addition}
+use Rattle.lola_model.specs.declared.spec.Clause.{Clause}
+use Rattle.lola_model.specs.declared.spec.Sort.TheVariants as sort
+use Rattle.lola_form.specs.Simple.{is_trigger, is_noted_number, is_addition, is_plain_clause}
 
 -- a number of 64 bits, or no value
 abbrev pub is_number : Outcome → Bool
@@ -82,3 +84,21 @@ are_sorted _ _ = false
 pub record AreOutcomes (fields : List Field) (streams : List Stream) (outcomes : List Outcome) : Type 0 where
   pub sorted : are_sorted streams outcomes ≡ true
   pub answered : (spec : Spec) (c : Content) → Shows c outcomes → AreAnswered spec c fields 0 streams outcomes
+
+-- the expression of a clause
+abbrev pub expression_of : Option Clause → Option Expr
+expression_of None = None
+expression_of (Some k) = elim k.with [ [] ↦ None | e ∷ es ↦ Some e ]
+
+-- a stream that can be answered from these fields, at an input of number i, and these earlier outcomes
+abbrev pub is_answerable : List Field → ℕ → List Outcome → Stream → Bool
+is_answerable fields i earlier s =
+    elim s.sort [
+      | sort.Input ↦ nat_lt i (length fields)
+      | sort.Output ↦ is_plain_clause (is_sum_over earlier) s.eval
+      | sort.Trigger ↦ is_plain_clause (is_comparison_over earlier) s.eval
+    ]
+
+abbrev pub failed_with : Outcome → Option FaultKind
+failed_with (outcome.Fault k) = Some k
+failed_with o = None

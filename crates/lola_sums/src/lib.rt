@@ -1,4 +1,5 @@
 //! The evaluation of sums: each row by the evaluation model.
 #![tactic(auto)]
 
+mod row;
 mod sum;
