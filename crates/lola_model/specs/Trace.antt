@@ -1,9 +1,9 @@
 -- The trace: a line for each entry of the journal.
-use Rattle.std.specs.Prelude.{ℕ, ◌≡◌, ◌≢◌, ◌≤◌, ◌<◌, ◌^◌, List, [], ◌∷◌, ◌++◌, ◌||◌, Bool, true, false, if◌then◌else◌, codes, decimal, flat_map, nat_eq, length, map, IsTrue, IsUtf8}
+use Rattle.std.specs.Prelude.{ℕ, List, [], ◌∷◌, ◌++◌, ◌||◌, Bool, if◌then◌else◌, codes, decimal, flat_map, nat_eq}
 use Rattle.std.specs.List.{list_any}
 use Rattle.lola_value.specs.declared.text.Field.{Field}
 use Rattle.lola_value.specs.declared.text.Field.TheVariants as field
-use Rattle.lola_value.specs.Times.{time_text, latest}
+use Rattle.lola_value.specs.Times.{time_text}
 use Rattle.lola_model.specs.Texts.{integer_text}
 use Rattle.lola_model.specs.declared.journal.Entry.{Entry}
 use Rattle.lola_model.specs.declared.journal.Mark.{Mark}
