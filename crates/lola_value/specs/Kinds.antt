@@ -1,5 +1,5 @@
 -- What is said of kinds.
-use Rattle.std.specs.Prelude.{nat_eq, nat_le, drop, int_le, slice_get, ℕ, ℤ, ◌≡◌, Bool, true, false, not, ◌&&◌, ◌||◌, List, [], ◌∷◌, Option, Some, None, Result, Ok, Err}
+use Rattle.std.specs.Prelude.{nat_eq, nat_le, drop, int_le, ℕ, ℤ, ◌≡◌, Bool, true, false, not, ◌&&◌, List, [], ◌∷◌, Result, Ok, Err}
 use Rattle.lola_value.specs.declared.value.Kind.{Kind}
 use Rattle.lola_value.specs.declared.value.Kind.TheVariants as kind
 use Rattle.lola_value.specs.declared.value.Value.{Value}
