@@ -1,3 +1,5 @@
 pub mod Answering
 pub mod Growing
 pub mod Moments
+pub mod Pacings
+pub mod PlainRows
