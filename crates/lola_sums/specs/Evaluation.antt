@@ -1,5 +1,5 @@
 -- What streams of sums come to in a row.
-use Rattle.std.specs.Prelude.{ℕ, ◌≡◌, ◌+◌, ◌<◌, List, [], ◌∷◌, Option, Some, None, Bool, true, false, not, ◌&&◌, nat_lt, length, slice_get, if◌then◌else◌}
+use Rattle.std.specs.Prelude.{ℕ, ◌≡◌, ◌+◌, List, [], ◌∷◌, ◌++◌, Option, Some, None, Result, Ok, Err, Bool, true, false, not, ◌&&◌, nat_lt, length, slice_get, if◌then◌else◌}
 use Rattle.lola_value.specs.declared.value.Kind.TheVariants as kind
 use Rattle.lola_value.specs.declared.value.FaultKind.{FaultKind}
 use Rattle.lola_value.specs.declared.value.Value.TheVariants as value
@@ -11,6 +11,14 @@ use Rattle.lola_value.specs.Arithmetic.{is_within}
 use Rattle.lola_value.specs.Naming.{read_outcome}
 use Rattle.lola_model.specs.Accesses.{answer_of}
 use Rattle.lola_model.specs.Content.{Content, seen}
+use Rattle.lola_value.specs.Appending.{AppendsPart}
+use Rattle.lola_model.specs.Faults.{RowFault}
+use Rattle.lola_model.specs.Texts.{answer_lines, text_of}
+use Rattle.lola_model.specs.declared.journal.Show.{Show}
+use Rattle.lola_model.specs.declared.plan.Plan.{Plan}
+use Rattle.lola_report.specs.Verdicts.{HasVerdict, verdict_text}
+use Rattle.lola_sums.specs.declared.end.EngineEnd.{EngineEnd}
+use Rattle.lola_sums.specs.declared.end.EngineEnd.TheVariants.{Fault, Memory}
 use Rattle.lola_model.specs.Model.{is_input, input_outcome, eval_outcome}
 use Rattle.lola_model.specs.declared.expr.Access.TheVariants as access
 use Rattle.lola_model.specs.declared.expr.Binary.{Binary}
@@ -102,3 +110,33 @@ is_answerable fields i earlier s =
 abbrev pub failed_with : Outcome → Option FaultKind
 failed_with (outcome.Fault k) = Some k
 failed_with o = None
+
+-- the first outcome that is a fault of its own, where the first of these has number n
+abbrev pub first_failed : ℕ → List Outcome → Option RowFault
+first_failed n [] = None
+first_failed n (o ∷ os) = elim (failed_with o) [ None ↦ first_failed (n + 1) os | Some k ↦ Some (record { stream = n; kind = k }) ]
+
+-- a fault that was found, by its parts
+abbrev pub IsFirst : Option RowFault → ℕ → FaultKind → Type 0
+IsFirst found stream kind = found ≡ Some (record { stream = stream; kind = kind })
+
+-- the lines of one stream's outcome
+abbrev pub outcome_lines : Show → ℕ → Stream → Outcome → List (List ℕ)
+outcome_lines show time s o = answer_lines show time s [] (read_outcome [] o)
+
+-- the lines of all streams' outcomes
+abbrev pub all_lines : Show → ℕ → List Stream → List Outcome → List (List ℕ)
+all_lines show time (s ∷ ss) (o ∷ os) = outcome_lines show time s o ++ all_lines show time ss os
+all_lines show time _ _ = []
+
+-- what is shown of an outcome
+abbrev pub Displays : Show → Stream → Outcome → Option Field → Type 0
+Displays show s o None = (time : ℕ) → outcome_lines show time s o ≡ []
+Displays show s o (Some v) = HasVerdict (Some s) v × ((time : ℕ) → outcome_lines show time s o ≡ verdict_text (Some s) time [] v ∷ [])
+
+-- what a row came to, by its outcomes
+abbrev pub RowComes : Result ℕ EngineEnd → Plan → Show → ℕ → List Outcome → List ℕ → List ℕ → Type 0
+RowComes (Ok count) plan show time os text0 text1 =
+    (first_failed 0 os ≡ None) × (text1 ≡ text0 ++ text_of (all_lines show time plan.spec.streams os)) × (count ≡ length (all_lines show time plan.spec.streams os))
+RowComes (Err (Fault stream kind t)) plan show time os text0 text1 = IsFirst (first_failed 0 os) stream kind × (t ≡ time) × (text1 ≡ text0)
+RowComes (Err Memory) plan show time os text0 text1 = (first_failed 0 os ≡ None) × AppendsPart text0 text1 (text_of (all_lines show time plan.spec.streams os))

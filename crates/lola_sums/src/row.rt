@@ -1,19 +1,19 @@
 //! What all streams come to in a row.
 
-ghost use Rattle.std.specs.Prelude.{◌≡◌, ◌<◌, ◌+◌, [], ◌∷◌, IsTrue, length};
+ghost use Rattle.std.specs.Prelude.{◌≡◌, ◌<◌, [], IsTrue, length, None, IfNone, IfSome};
 ghost use Rattle.std.specs.Option.{option_copied};
 ghost use Rattle.lola_value.specs.Naming.{read_outcome};
 ghost use Rattle.lola_model.specs.Content.{Content};
 ghost use Rattle.lola_model.specs.Model.{is_input as is_input_stream, input_outcome};
 ghost use Rattle.lola_model.specs.declared.spec.Spec.{Spec};
 ghost use Rattle.lola_form.specs.Simple.{are_numbers, are_simple_from, input_count};
-ghost use Rattle.lola_sums.specs.Evaluation.{is_number, Shows, stream_answer, is_sorted, AreOutcomes, is_answerable, expression_of};
+ghost use Rattle.lola_sums.specs.Evaluation.{is_number, Shows, stream_answer, is_sorted, AreOutcomes, is_answerable, expression_of, first_failed, IsFirst};
 
 use crate::sum::{comparison, sum};
 use lola_model::expr::Expr;
 use lola_model::spec::{Clause, Sort, Stream};
 use lola_value::text::Field;
-use lola_value::value::{Outcome, Value};
+use lola_value::value::{FaultKind, Outcome, Value};
 
 fn is_input(stream: &Stream) -> bool
     ensures { result ≡ is_input_stream stream.now }
@@ -84,4 +84,17 @@ pub fn evaluate(streams: &[Stream], fields: &[Field], outcomes: &mut [Outcome])
             input += 1;
         }
     }
+}
+
+/// The first stream that has a fault of its own, and the fault.
+pub fn first_fault(outcomes: &[Outcome]) -> Option<(usize, FaultKind)>
+    ensures none { IfNone result (first_failed 0 outcomes.now ≡ None) }
+    ensures some { IfSome result (λ found. (found.0 < length outcomes.now) × IsFirst (first_failed 0 outcomes.now) found.0 found.1) }
+{
+    for (n, outcome) in outcomes.iter().enumerate() {
+        if let Outcome::Fault(kind) = *outcome {
+            return Some((n, kind));
+        }
+    }
+    None
 }
