@@ -1,2 +1,10 @@
 //! The lines of the trace, of verdicts and of the end.
 #![tactic(auto)]
+
+pub mod end;
+pub mod law;
+mod names;
+mod piece;
+mod spelling;
+pub mod trace;
+pub mod verdict;

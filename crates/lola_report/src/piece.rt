@@ -1,0 +1,207 @@
+//! Lines put together from pieces.
+
+ghost use Rattle.std.specs.Prelude.{◌≡◌, ◌∷◌, ◌++◌, OnOk, OnErr, decimal, flat_map};
+ghost use Rattle.std.specs.List.{list_any};
+ghost use Rattle.lola_value.specs.Appending.{AppendsPart};
+ghost use Rattle.lola_model.specs.Texts.{value_text, commas, params_text};
+ghost use Rattle.lola_model.specs.Trace.{is_quotable, field_of_text, field_text, mark_text, fields_text};
+ghost use Rattle.lola_report.specs.Pieces.{bool_name, piece_text};
+
+use crate::spelling::{Spelling, quote};
+use itoa::Buffer;
+use lola_model::journal::Mark;
+use lola_value::numbers::{integer_text, number_text};
+use lola_value::text::{Field, Memory, Text};
+use lola_value::times::time_text;
+
+/// A piece of a line.
+#[derive(Clone, Copy)]
+pub enum Piece<'a> {
+    /// Bytes as they are.
+    Words(&'a [u8]),
+    /// A number in decimal.
+    Number(u64),
+    /// A number of up to 128 bits in decimal.
+    Wide(u128),
+    /// A time in nanoseconds, as seconds with nine decimals.
+    Time(u64),
+    /// A text between double quotes, with escapes.
+    Quoted(&'a [u8]),
+    /// A value as a verdict line shows it.
+    Value(&'a Field),
+    /// The parameters of an instance in brackets, or nothing where there are none.
+    Params(&'a [Field]),
+    /// The mark of a row of the trace.
+    Mark(Mark),
+    /// The fields of a row of the trace, each behind a comma.
+    Fields(&'a [Field]),
+}
+
+fn wide_number_text(n: u128, to: &mut Text) -> Result<(), Memory>
+    ensures ok { OnOk result (to.new ≡ to.old ++ decimal n) }
+    ensures err { OnErr result (to.new ≡ to.old) }
+{
+    let mut buffer = Buffer::new();
+    to.append(buffer.format(n).as_bytes())
+}
+
+fn bool_name(value: bool) -> &'static str
+    ensures { result.now ≡ bool_name value }
+{
+    if value { "true" } else { "false" }
+}
+
+/// Appends a value as a verdict line shows it.
+fn value_text(value: &Field, to: &mut Text) -> Result<(), Memory>
+    ensures ok { OnOk result (to.new ≡ to.old ++ value_text value.now) }
+    ensures memory { OnErr result (AppendsPart to.old to.new (value_text value.now)) }
+{
+    match value {
+        Field::Absent => to.append(b"#"),
+        Field::Bool(b) => to.append(bool_name(*b).as_bytes()),
+        Field::Int(z) => integer_text(*z, to),
+        Field::Text(text) => quote(Spelling::Escaped, text.as_bytes(), to),
+    }
+}
+
+/// Appends a value behind a comma.
+fn one_more_value(value: &Field, to: &mut Text) -> Result<(), Memory>
+    ensures ok { OnOk result (to.new ≡ to.old ++ 44 ∷ value_text value.now) }
+    ensures memory { OnErr result (AppendsPart to.old to.new (44 ∷ value_text value.now)) }
+{
+    to.append(b",")?;
+    value_text(value, to)
+}
+
+/// Appends values, each behind a comma.
+fn more_values(values: &[Field], to: &mut Text) -> Result<(), Memory>
+    ensures ok { OnOk result (to.new ≡ to.old ++ flat_map (λ v. 44 ∷ value_text v) values.now) }
+    ensures memory { OnErr result (AppendsPart to.old to.new (flat_map (λ v. 44 ∷ value_text v) values.now)) }
+{
+    for value in values {
+        one_more_value(value, to)?;
+    }
+    Ok(())
+}
+
+/// Appends values with commas between them.
+fn commas_text(first: &Field, others: &[Field], to: &mut Text) -> Result<(), Memory>
+    ensures ok { OnOk result (to.new ≡ to.old ++ commas (first.now ∷ others.now)) }
+    ensures memory { OnErr result (AppendsPart to.old to.new (commas (first.now ∷ others.now))) }
+{
+    value_text(first, to)?;
+    more_values(others, to)
+}
+
+/// Appends the parameters of an instance.
+fn params_text(params: &[Field], to: &mut Text) -> Result<(), Memory>
+    ensures ok { OnOk result (to.new ≡ to.old ++ params_text params.now) }
+    ensures memory { OnErr result (AppendsPart to.old to.new (params_text params.now)) }
+{
+    let Some((first, others)) = params.split_first() else {
+        return Ok(());
+    };
+    to.append(b"(")?;
+    commas_text(first, others, to)?;
+    to.append(b")")
+}
+
+fn is_quotable(byte: u8) -> bool
+    ensures { result ≡ is_quotable byte }
+{
+    byte == b',' || byte == b'"'
+}
+
+fn needs_quotes(text: &[u8]) -> bool
+    ensures { result ≡ list_any is_quotable text.now }
+{
+    text.iter().any(|byte| is_quotable(*byte))
+}
+
+/// Appends a text as a field of the trace: between quotes exactly where it has a comma or a double quote.
+fn field_of_text(text: &[u8], to: &mut Text) -> Result<(), Memory>
+    ensures ok { OnOk result (to.new ≡ to.old ++ field_of_text text.now) }
+    ensures memory { OnErr result (AppendsPart to.old to.new (field_of_text text.now)) }
+{
+    if needs_quotes(text) {
+        quote(Spelling::Doubled, text, to)
+    } else {
+        to.append(text)
+    }
+}
+
+/// Appends a field of the trace.
+fn field_text(field: &Field, to: &mut Text) -> Result<(), Memory>
+    ensures ok { OnOk result (to.new ≡ to.old ++ field_text field.now) }
+    ensures memory { OnErr result (AppendsPart to.old to.new (field_text field.now)) }
+{
+    match field {
+        Field::Absent => to.append(b"#"),
+        Field::Bool(b) => to.append(bool_name(*b).as_bytes()),
+        Field::Int(z) => integer_text(*z, to),
+        Field::Text(text) => field_of_text(text.as_bytes(), to),
+    }
+}
+
+/// Appends a field of the trace behind a comma.
+fn one_more_field(field: &Field, to: &mut Text) -> Result<(), Memory>
+    ensures ok { OnOk result (to.new ≡ to.old ++ 44 ∷ field_text field.now) }
+    ensures memory { OnErr result (AppendsPart to.old to.new (44 ∷ field_text field.now)) }
+{
+    to.append(b",")?;
+    field_text(field, to)
+}
+
+/// Appends the fields of a row of the trace.
+fn fields_text(fields: &[Field], to: &mut Text) -> Result<(), Memory>
+    ensures ok { OnOk result (to.new ≡ to.old ++ fields_text fields.now) }
+    ensures memory { OnErr result (AppendsPart to.old to.new (fields_text fields.now)) }
+{
+    for field in fields {
+        one_more_field(field, to)?;
+    }
+    Ok(())
+}
+
+/// Appends the mark of a row of the trace.
+fn mark_text(mark: Mark, to: &mut Text) -> Result<(), Memory>
+    ensures ok { OnOk result (to.new ≡ to.old ++ mark_text mark) }
+    ensures memory { OnErr result (AppendsPart to.old to.new (mark_text mark)) }
+{
+    match mark {
+        Mark::Accepted => to.append(b"A"),
+        Mark::Late(merged) => {
+            to.append(b"L")?;
+            time_text(merged, to)
+        }
+    }
+}
+
+/// Appends a piece.
+fn append_piece(piece: &Piece, to: &mut Text) -> Result<(), Memory>
+    ensures ok { OnOk result (to.new ≡ to.old ++ piece_text piece.now) }
+    ensures memory { OnErr result (AppendsPart to.old to.new (piece_text piece.now)) }
+{
+    match *piece {
+        Piece::Words(bytes) => to.append(bytes),
+        Piece::Number(n) => number_text(n, to),
+        Piece::Wide(n) => wide_number_text(n, to),
+        Piece::Time(t) => time_text(t, to),
+        Piece::Quoted(bytes) => quote(Spelling::Escaped, bytes, to),
+        Piece::Value(value) => value_text(value, to),
+        Piece::Params(params) => params_text(params, to),
+        Piece::Mark(mark) => mark_text(mark, to),
+        Piece::Fields(fields) => fields_text(fields, to),
+    }
+}
+
+/// Appends pieces, one after another.
+pub fn append_all(pieces: &[Piece], to: &mut Text) -> Result<(), Memory>
+    ensures ok { OnOk result (to.new ≡ to.old ++ flat_map piece_text pieces.now) }
+    ensures memory { OnErr result (AppendsPart to.old to.new (flat_map piece_text pieces.now)) }
+{
+    for piece in pieces {
+        append_piece(piece, to)?;
+    }
+    Ok(())
+}
