@@ -3,3 +3,4 @@ pub mod Growing
 pub mod Moments
 pub mod Pacings
 pub mod PlainRows
+pub mod LineLemmas

@@ -83,6 +83,10 @@ AreAnswered spec c fields i _ _ = ⊥
 abbrev pub is_sorted : Stream → Outcome → Bool
 is_sorted s o = if is_trigger s then is_truth o else is_number o
 
+abbrev pub IsSortedIn : Option Stream → Outcome → Type 0
+IsSortedIn None o = ⊥
+IsSortedIn (Some s) o = is_sorted s o ≡ true
+
 abbrev pub are_sorted : List Stream → List Outcome → Bool
 are_sorted [] [] = true
 are_sorted (s ∷ ss) (o ∷ os) = is_sorted s o && are_sorted ss os
@@ -123,6 +127,10 @@ IsFirst found stream kind = found ≡ Some (record { stream = stream; kind = kin
 -- the lines of one stream's outcome
 abbrev pub outcome_lines : Show → ℕ → Stream → Outcome → List (List ℕ)
 outcome_lines show time s o = answer_lines show time s [] (read_outcome [] o)
+
+abbrev pub lines_of : Show → ℕ → Option Stream → Outcome → List (List ℕ)
+lines_of show time None o = []
+lines_of show time (Some s) o = outcome_lines show time s o
 
 -- the lines of all streams' outcomes
 abbrev pub all_lines : Show → ℕ → List Stream → List Outcome → List (List ℕ)

@@ -2,6 +2,7 @@
 #![tactic(auto)]
 
 pub mod end;
+pub mod engine;
 mod lines;
 mod row;
 mod sum;
