@@ -4,3 +4,4 @@ pub mod Moments
 pub mod Pacings
 pub mod PlainRows
 pub mod LineLemmas
+pub mod Accepting
