@@ -163,3 +163,24 @@ module _ (old : Evaluating) (simple : IsSimple old.plan) (row : Row) (numbers : 
   pub accepts_end : (end : EngineEnd) (new : Evaluating) → RowComes (Err end) old.plan old.show row.stamp os text0 text1 → Accepts (Err end) row old new text0 text1
   accepts_end (Fault stream kind time) new r = fails_row stream time kind r
   accepts_end Memory new r = cuts_row r
+
+-- an engine that has run no row
+pub stands_at_first : (engine : Evaluating) → engine.ended ≡ None → engine.steps ≡ 0 → engine.lines ≡ 0 → StandsFor engine []
+unfolding settled_fault settled_lines settled_model model
+stands_at_first engine going steps lines = record { going = going; fine = refl; steps = steps; lines = lines }
+
+-- the same, of the value of an engine that this one is
+module _ (now old : Evaluating) (is : old ≡ now) (simple : IsSimple old.plan) (row : Row) (numbers : HasNumbers now.plan row.fields) (os : List Outcome) (a : AreOutcomes row.fields old.plan.spec.streams os) (text0 text1 : List ℕ) where
+  old_numbers : HasNumbers old.plan row.fields
+  old_numbers = subst (λ (e : Evaluating). HasNumbers e.plan row.fields) (sym is) numbers
+
+  pub accepts_row : (count : ℕ) (ended : Option EngineEnd) → ended ≡ None → RowComes (Ok count) old.plan old.show row.stamp os text0 text1
+      → Accepts (Ok tt) row now (record { plan = old.plan; show = old.show; steps = old.steps + 1; lines = old.lines + count; ended = ended }) text0 text1
+  accepts_row count ended none r =
+      subst (λ (e : Evaluating). Accepts (Ok tt) row e (record { plan = old.plan; show = old.show; steps = old.steps + 1; lines = old.lines + count; ended = ended }) text0 text1) is
+      (subst (λ (o : Option EngineEnd). Accepts (Ok tt) row old (record { plan = old.plan; show = old.show; steps = old.steps + 1; lines = old.lines + count; ended = o }) text0 text1) (sym none)
+      (runs_row old simple row old_numbers os a text0 text1 count r))
+
+  pub accepts_no_more : (end : EngineEnd) (new : Evaluating) → RowComes (Err end) old.plan old.show row.stamp os text0 text1 → Accepts (Err end) row now new text0 text1
+  accepts_no_more end new r =
+      subst (λ (e : Evaluating). Accepts (Err end) row e new text0 text1) is (accepts_end old simple row old_numbers os a text0 text1 end new r)
