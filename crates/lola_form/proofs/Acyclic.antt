@@ -1,6 +1,6 @@
 -- A plan of sums has no closed walk of weight 0: each read leads to an earlier stream.
-use Rattle.std.proofs.Common.{◌≡◌, refl, ap, sym, ◌∙◌, subst, ℕ, zero, suc, ◌+◌, ◌*◌, ◌<◌, ◌≤◌, ◌≤ℤ◌, pos, List, [], ◌∷◌, ◌++◌, Option, Some, None, Bool, true, false, ◌&&◌, not, nat_lt, nat_eq, length, slice_get, arith}
-use Rattle.std.specs.List.{Contains, slice_index_or}
+use Rattle.std.proofs.Common.{◌≡◌, refl, subst, ℕ, zero, suc, ◌+◌, ◌<◌, pos, List, [], ◌∷◌, ◌++◌, Option, Some, None, Bool, true, false, ◌&&◌, nat_lt, nat_eq, length, arith}
+use Rattle.std.specs.List.{slice_index_or}
 use Rattle.std.proofs.lemmas.Bool.{ltb-true, eqb-true}
 use Rattle.std.proofs.lemmas.Int.{ints}
 use Rattle.lola_value.specs.declared.value.Value.TheVariants as value
@@ -21,7 +21,7 @@ use Rattle.lola_model.specs.declared.spec.WindowSpec.{WindowSpec}
 use Rattle.lola_model.specs.declared.plan.Plan.{Plan}
 use Rattle.lola_model.proofs.Walks.{none_comes_back}
 use Rattle.lola_model.proofs.Layers.{has_one_model}
-use Rattle.lola_form.specs.Simple.{is_noted_number, is_addition, is_trigger, is_number_before, is_sum, is_comparison, is_plain_clause, has_none, is_simple_stream, are_simple_from, IsSimple}
+use Rattle.lola_form.specs.Simple.{is_noted_number, is_addition, is_number_before, is_sum, is_comparison, is_plain_clause, has_none, is_simple_stream, are_simple_from, IsSimple}
 
 -- an edge to a lower node
 pub record Falls (e : Edge) : Type 0 where

@@ -1,15 +1,13 @@
 -- What a row of outcomes comes to, after the accepted rows of a journal.
-use Rattle.std.proofs.Common.{◌≡◌, refl, ap, sym, ◌∙◌, subst, ℕ, zero, suc, ◌+◌, List, [], ◌∷◌, ◌++◌, Option, Some, None, is_some, Bool, true, false, Result, Ok, Err, length, map, if◌then◌else◌, append-nil, length-append, arith}
-use Rattle.lola_value.specs.Appending.{AppendsPart}
+use Rattle.std.proofs.Common.{◌≡◌, refl, ap, sym, ◌∙◌, subst, ℕ, ◌+◌, List, [], ◌∷◌, ◌++◌, Option, Some, None, is_some, true, false, Ok, Err, length, map, if◌then◌else◌, append-nil, length-append, arith}
 use Rattle.lola_value.specs.declared.value.FaultKind.{FaultKind}
 use Rattle.lola_value.specs.declared.value.Outcome.{Outcome}
 use Rattle.lola_value.specs.declared.value.Outcome.TheVariants as outcome
-use Rattle.lola_value.specs.declared.value.Value.{Value}
-use Rattle.lola_model.specs.Table.{Step, StreamRow, TableRow}
+use Rattle.lola_model.specs.Table.{Step, TableRow}
 use Rattle.lola_model.specs.Model.{answered, model, last_row, has_fault}
-use Rattle.lola_model.specs.Faults.{RowFault, RunFault, own_fault, least_kind, first_with, or_else, row_fault, at_time, fault_of_last}
-use Rattle.lola_model.specs.Texts.{stream_lines, row_lines, table_lines, text_of}
-use Rattle.lola_model.specs.Steps.{row_step, settled_steps}
+use Rattle.lola_model.specs.Faults.{RowFault, own_fault, least_kind, first_with, or_else, row_fault, at_time, fault_of_last}
+use Rattle.lola_model.specs.Texts.{stream_lines, row_lines, table_lines}
+use Rattle.lola_model.specs.Steps.{row_step}
 use Rattle.lola_model.specs.Runs.{run_start, settled_model, settled_lines, settled_fault}
 use Rattle.lola_model.specs.declared.journal.Row.{Row}
 use Rattle.lola_model.specs.declared.journal.Show.{Show}

@@ -10,10 +10,9 @@ use Rattle.lola_value.specs.declared.text.Field.TheVariants as field
 use Rattle.lola_value.specs.declared.value.Kind.TheVariants as kind
 use Rattle.lola_value.specs.Arithmetic.{is_within}
 use Rattle.lola_value.specs.Naming.{read_outcome}
-use Rattle.lola_model.specs.Content.{Content, seen}
+use Rattle.lola_model.specs.Content.{Content}
 use Rattle.lola_model.specs.Model.{is_input}
 use Rattle.lola_model.specs.declared.expr.Access.TheVariants as access
-use Rattle.lola_model.specs.declared.expr.Binary.{Binary}
 use Rattle.lola_model.specs.declared.expr.Binary.TheVariants as binary
 use Rattle.lola_model.specs.declared.expr.Expr.{Expr}
 use Rattle.lola_model.specs.declared.expr.Expr.TheVariants.{Literal, Parameter, Read, Window, Defaults', Unary', Both', Choice'}
@@ -24,7 +23,7 @@ use Rattle.lola_model.specs.declared.spec.Clause.{Clause}
 use Rattle.lola_model.specs.declared.spec.Sort.TheVariants as sort
 use Rattle.lola_model.specs.declared.spec.Sort.{Sort}
 use Rattle.lola_form.specs.Simple.{is_trigger, is_number_before, is_noted_number, is_addition, is_sum, is_comparison, is_plain_clause, is_simple_stream, are_simple_from, input_count, has_none, are_numbers}
-use Rattle.lola_sums.specs.Evaluation.{is_number, is_number_in, is_sum_over, is_comparison_over, Shows, stream_answer, AreAnswered, is_sorted, are_sorted, AreOutcomes, is_answerable}
+use Rattle.lola_sums.specs.Evaluation.{is_number_in, is_sum_over, is_comparison_over, Shows, stream_answer, AreAnswered, is_sorted, are_sorted, AreOutcomes, is_answerable}
 
 pub both_true : (a b : Bool) → (a && b) ≡ true → (a ≡ true) × (b ≡ true)
 both_true true b h = (refl, h)

@@ -1,10 +1,10 @@
 -- One step more: the model goes on by one row, unless its last row has a fault.
-use Rattle.std.proofs.Common.{◌≡◌, refl, ap, sym, ◌∙◌, ℕ, zero, suc, ◌+◌, ◌<◌, ◌≤◌, List, [], ◌∷◌, ◌++◌, Option, Some, None, is_some, Bool, true, false, ◌||◌, length, slice_get, arith, append_assoc, append-nil, length-append}
+use Rattle.std.proofs.Common.{◌≡◌, refl, ap, sym, ◌∙◌, ℕ, zero, suc, ◌+◌, ◌<◌, List, [], ◌∷◌, ◌++◌, Option, Some, None, is_some, Bool, true, false, ◌||◌, length, slice_get, arith, append_assoc, append-nil, length-append}
 use Rattle.lola_value.specs.Answer.{Answer, Given, Missing, Failed, Poisoned}
 use Rattle.lola_value.specs.declared.value.FaultKind.{FaultKind}
 use Rattle.lola_model.specs.Table.{Step, Spawned, Idle, Named, SpawnFailed, SpawnPoisoned, Living, StreamRow, TableRow}
 use Rattle.lola_model.specs.Model.{answered, has_fault, has_failed, some_failed, spawn_has_failed, has_evaluation_fault, has_close_fault, Next, in_order, made, model, last_row}
-use Rattle.lola_model.specs.Faults.{RowFault, RunFault, lesser_kind, add_failed, least_failed, least_kind, own_fault, first_with, or_else, row_fault, at_time, fault_of_last}
+use Rattle.lola_model.specs.Faults.{RowFault, lesser_kind, add_failed, least_failed, least_kind, own_fault, first_with, or_else, row_fault, at_time, fault_of_last}
 use Rattle.lola_model.specs.declared.plan.Plan.{Plan}
 
 pub slice_get-append : {A : Type 0} (xs ys : List A) (k : ℕ) → k < length xs → slice_get (xs ++ ys) k ≡ slice_get xs k

@@ -5,3 +5,4 @@ pub mod Pacings
 pub mod PlainRows
 pub mod LineLemmas
 pub mod Accepting
+pub mod Lasting

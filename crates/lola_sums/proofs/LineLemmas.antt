@@ -1,5 +1,5 @@
 -- The lines of outcomes part by part.
-use Rattle.std.proofs.Common.{◌≡◌, refl, ap, sym, ◌∙◌, subst, ℕ, zero, suc, ◌+◌, ◌<◌, ◌≤◌, List, [], ◌∷◌, ◌++◌, Option, Some, None, Bool, true, false, ◌&&◌, length, take, drop, get_or, slice_get, arith, append_assoc, append-nil, length-append, add-one, Result, Ok, Err}
+use Rattle.std.proofs.Common.{◌≡◌, refl, ap, sym, ◌∙◌, subst, ℕ, zero, suc, ◌+◌, ◌<◌, ◌≤◌, List, [], ◌∷◌, ◌++◌, Option, Some, None, true, length, take, drop, get_or, slice_get, arith, append_assoc, append-nil, length-append, add-one, Result, Ok, Err}
 use Rattle.std.specs.Result.{OnErr}
 use Rattle.lola_value.specs.declared.value.Outcome.{Outcome}
 use Rattle.lola_value.specs.Appending.{AppendsPart}

@@ -1,27 +1,25 @@
 -- A plan of sums has no deadlines: its steps are its accepted rows.
-use Rattle.std.proofs.Common.{◌≡◌, refl, ap, sym, ◌∙◌, subst, ℕ, zero, suc, ◌+◌, ◌-◌, List, [], ◌∷◌, ◌++◌, Option, Some, None, is_some, Bool, true, false, ◌&&◌, map, append-nil, append_assoc}
+use Rattle.std.proofs.Common.{◌≡◌, refl, ap, sym, ◌∙◌, ℕ, zero, suc, ◌+◌, ◌-◌, List, [], ◌∷◌, ◌++◌, Option, Some, None, true, ◌&&◌, map, append-nil}
 use Rattle.lola_value.specs.Ratio.{Ratio}
 use Rattle.lola_model.specs.Table.{Step, TableRow}
-use Rattle.lola_model.specs.Steps.{row_step, deadline_step, deadlines_up_to, deadlines_between, deadline_steps, steps_from, last_deadline, rate_of, rates_of, start_of, first_stamp, settled_steps, all_steps}
-use Rattle.lola_model.specs.Journal.{accepted, add_accepted}
+use Rattle.lola_model.specs.Steps.{row_step, deadline_step, deadlines_up_to, deadline_steps, steps_from, last_deadline, rate_of, rates_of, start_of, first_stamp, settled_steps, all_steps}
+use Rattle.lola_model.specs.Journal.{accepted}
 use Rattle.lola_model.specs.Model.{answered, model, last_row}
-use Rattle.lola_model.specs.Faults.{RunFault, fault_of_last}
+use Rattle.lola_model.specs.Faults.{fault_of_last}
 use Rattle.lola_model.specs.Texts.{table_lines}
 use Rattle.lola_model.specs.Runs.{run_start, settled_model, whole_model, settled_lines, final_lines, settled_fault, first_fault}
 use Rattle.lola_model.specs.declared.pacing.Pacing.{Pacing}
-use Rattle.lola_model.specs.declared.pacing.InputSet.{InputSet}
 use Rattle.lola_model.specs.declared.pacing.Pacing.TheVariants.{Event, Periodic}
 use Rattle.lola_model.specs.declared.pacing.ClausePacings.{ClausePacings}
 use Rattle.lola_model.specs.declared.journal.Row.{Row}
 use Rattle.lola_model.specs.declared.journal.Show.{Show}
 use Rattle.lola_model.specs.declared.journal.Entry.{Entry}
-use Rattle.lola_model.specs.declared.journal.Mark.{Mark}
 use Rattle.lola_model.specs.declared.journal.Mark.TheVariants as mark
 use Rattle.lola_model.specs.declared.plan.Plan.{Plan}
-use Rattle.lola_model.proofs.Journals.{accepted-append_accepted, settled_model-append_late, settled_model-by_accepted}
+use Rattle.lola_model.proofs.Journals.{accepted-append_accepted}
 use Rattle.lola_form.specs.Simple.{is_paced_by, has_no_pacing, are_paced_by, input_count, IsSimple}
 use Rattle.lola_sums.proofs.Answering.{both_true}
-use Rattle.lola_sums.proofs.Growing.{grown, is_ended, model_more, model_none, ended_by_fault}
+use Rattle.lola_sums.proofs.Growing.{grown, is_ended, model_more, model_none}
 
 no_rate : (p : Option Pacing) → has_no_pacing p ≡ true → rate_of p ≡ []
 no_rate None h = refl
@@ -100,7 +98,7 @@ module _ (plan : Plan) (simple : IsSimple plan) where
 
   rows_more : (rows : List Row) (row : Row) → model plan (first_stamp (rows ++ row ∷ [])) (settled_steps plan.pacings None (rows ++ row ∷ []))
       ≡ grown (is_ended (model plan (first_stamp rows) (settled_steps plan.pacings None rows))) (model plan (first_stamp rows) (settled_steps plan.pacings None rows))
-          (answered plan (first_stamp (rows ++ row ∷ [])) (model plan (first_stamp rows) (settled_steps plan.pacings None rows)) (row_step row))
+      (answered plan (first_stamp (rows ++ row ∷ [])) (model plan (first_stamp rows) (settled_steps plan.pacings None rows)) (row_step row))
   rows_more rows row =
       let start = first_stamp (rows ++ row ∷ []) in
       ap (model plan start) (settled_steps_are_rows None (rows ++ row ∷ []) ∙ map_more rows row)

@@ -1,29 +1,28 @@
 -- The rows of a plan of sums: each stream has its one instance, and the outcomes that solve the equations are the model's.
-use Rattle.std.proofs.Common.{◌≡◌, refl, ap, sym, ◌∙◌, subst, ℕ, zero, suc, ◌+◌, ◌<◌, ◌≤◌, List, [], ◌∷◌, ◌++◌, Option, Some, None, Bool, true, false, ◌&&◌, not, if◌then◌else◌, map, length, slice_get, arith, append_assoc, append-nil}
+use Rattle.std.proofs.Common.{◌≡◌, refl, ap, sym, ◌∙◌, subst, ℕ, zero, suc, ◌+◌, ◌<◌, List, [], ◌∷◌, ◌++◌, Option, Some, None, Bool, true, false, ◌&&◌, if◌then◌else◌, map, length, slice_get, arith, append_assoc, append-nil}
 use Rattle.std.specs.List.{Contains}
 use Rattle.std.proofs.lemmas.Option.{slice_get_within}
 use Rattle.lola_value.specs.declared.text.Field.{Field}
 use Rattle.lola_value.specs.declared.value.Outcome.{Outcome}
 use Rattle.lola_value.specs.Naming.{read_outcome}
-use Rattle.lola_value.specs.Answer.{Answer, Missing}
+use Rattle.lola_value.specs.Answer.{Answer}
 use Rattle.lola_model.specs.Table.{Step, Instance, Spawned, Idle, Living, StreamRow, TableRow}
-use Rattle.lola_model.specs.Content.{Content, StreamContent, content, streams_from, seen, is_bad}
-use Rattle.lola_model.specs.Accesses.{answer_of, accessed, bad_in, life_in}
+use Rattle.lola_model.specs.Content.{Content, content, streams_from, seen}
+use Rattle.lola_model.specs.Accesses.{accessed, bad_in, life_in}
 use Rattle.lola_model.specs.Activity.{is_active}
 use Rattle.lola_model.specs.Graph.{edges_of, nodes_of}
-use Rattle.lola_model.specs.Model.{is_input, input_outcome, eval_outcome, eval_pacing, spawn_pacing, spawn_outcome, survivors, survivors_in, surviving, last_row, the_instance, newborn, spawned_in, outcome_of, stream_outcome, outcomes_from, evaluated, closing, closes_from, is_closing, has_evaluation_fault, has_fault, IsRow, answered, Next, in_order, made, model}
+use Rattle.lola_model.specs.Model.{is_input, input_outcome, eval_outcome, spawn_pacing, spawn_outcome, survivors, survivors_in, surviving, last_row, the_instance, newborn, spawned_in, outcome_of, stream_outcome, outcomes_from, evaluated, closing, closes_from, has_evaluation_fault, has_fault, IsRow, answered, Next, in_order, made, model}
 use Rattle.lola_model.specs.declared.expr.Access.TheVariants as access
 use Rattle.lola_model.specs.declared.graph.Edge.{Edge}
 use Rattle.lola_model.specs.declared.spec.Clause.{Clause}
 use Rattle.lola_model.specs.declared.spec.Stream.{Stream}
-use Rattle.lola_model.specs.declared.spec.Spec.{Spec}
 use Rattle.lola_model.specs.declared.plan.Plan.{Plan}
 use Rattle.lola_model.proofs.Growth.{last_row-append}
 use Rattle.lola_model.proofs.Walks.{depth_of, layer_exists}
 use Rattle.lola_model.proofs.Targets.{lead_to_nodes, among, from_among, among_acyclic}
 use Rattle.lola_model.proofs.Layers.{has_one_row}
 use Rattle.lola_model.proofs.OneModel.{HasOneRow}
-use Rattle.lola_form.specs.Simple.{has_none, is_simple_stream, are_simple_from, are_numbers, input_count, IsSimple, HasNumbers}
+use Rattle.lola_form.specs.Simple.{has_none, is_simple_stream, are_simple_from, input_count, IsSimple, HasNumbers}
 use Rattle.lola_form.proofs.Acyclic.{simple_is_acyclic}
 use Rattle.lola_sums.specs.Evaluation.{Shows, stream_answer, AreAnswered, AreOutcomes}
 use Rattle.lola_sums.proofs.Answering.{both_true}

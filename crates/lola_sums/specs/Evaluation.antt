@@ -1,5 +1,5 @@
 -- What streams of sums come to in a row.
-use Rattle.std.specs.Prelude.{ℕ, ◌≡◌, ◌+◌, List, [], ◌∷◌, ◌++◌, Option, Some, None, Result, Ok, Err, Bool, true, false, not, ◌&&◌, nat_lt, length, slice_get, if◌then◌else◌}
+use Rattle.std.specs.Prelude.{ℕ, ◌≡◌, ◌+◌, List, [], ◌∷◌, ◌++◌, Option, Some, None, Result, Ok, Err, Bool, true, false, ◌&&◌, nat_lt, length, slice_get, if◌then◌else◌}
 use Rattle.lola_value.specs.declared.value.Kind.TheVariants as kind
 use Rattle.lola_value.specs.declared.value.FaultKind.{FaultKind}
 use Rattle.lola_value.specs.declared.value.Value.TheVariants as value
@@ -21,7 +21,6 @@ use Rattle.lola_sums.specs.declared.end.EngineEnd.{EngineEnd}
 use Rattle.lola_sums.specs.declared.end.EngineEnd.TheVariants.{Fault, Memory}
 use Rattle.lola_model.specs.Model.{is_input, input_outcome, eval_outcome}
 use Rattle.lola_model.specs.declared.expr.Access.TheVariants as access
-use Rattle.lola_model.specs.declared.expr.Binary.{Binary}
 use Rattle.lola_model.specs.declared.expr.Binary.TheVariants as binary
 use Rattle.lola_model.specs.declared.expr.Expr.{Expr}
 use Rattle.lola_model.specs.declared.expr.Expr.TheVariants.{Literal, Read, Both'}

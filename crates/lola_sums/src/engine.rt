@@ -47,7 +47,14 @@ impl Model for Engine {
 
 /// Runs a row: its outcomes, and then either its fault or its lines, of which it answers the number.
 /// `none` is the list of no parameters.
-fn run(plan: &Plan, show: Show, row: &Row, none: &Fields, outcomes: &mut [Outcome], to: &mut Text) -> Result<usize, EngineEnd>
+fn run(
+    plan: &Plan,
+    show: Show,
+    row: &Row,
+    none: &Fields,
+    outcomes: &mut [Outcome],
+    to: &mut Text,
+) -> Result<usize, EngineEnd>
     requires simple { IsSimple plan.now }
     requires few { length plan.now.spec.streams < 2 ^ 32 }
     requires none { none.now ≡ [] }
@@ -57,7 +64,11 @@ fn run(plan: &Plan, show: Show, row: &Row, none: &Fields, outcomes: &mut [Outcom
     ensures comes { RowComes result plan.now show row.now.stamp outcomes.new to.old to.new }
     ensures small { IfOk result (λ count. count ≤ length plan.now.spec.streams) }
 {
-    evaluate(plan.spec.streams.as_slice(), row.fields.as_slice(), outcomes);
+    evaluate(
+        plan.spec.streams.as_slice(),
+        row.fields.as_slice(),
+        outcomes,
+    );
     if let Some((stream, kind)) = first_fault(outcomes) {
         return Err(EngineEnd::Fault {
             stream: stream as u32,
@@ -115,7 +126,14 @@ impl Engine {
         if let Some(end) = self.ended {
             return Err(end);
         }
-        match run(&self.plan, self.show, row, &self.no_parameters, &mut self.outcomes, lines) {
+        match run(
+            &self.plan,
+            self.show,
+            row,
+            &self.no_parameters,
+            &mut self.outcomes,
+            lines,
+        ) {
             Ok(count) => {
                 self.steps += 1;
                 self.lines += count as u128;

@@ -3,6 +3,7 @@
 
 pub mod end;
 pub mod engine;
+pub mod law;
 mod lines;
 mod row;
 mod sum;

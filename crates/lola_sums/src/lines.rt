@@ -30,7 +30,15 @@ fn displayed(show: Show, stream: &Stream, outcome: Outcome) -> Option<Field>
 
 /// Appends the line of a stream's outcome, if it has one, and answers how many lines that is.
 /// `none` is the list of no parameters.
-fn put_line(plan: &Plan, show: Show, time: u64, stream: u32, outcome: Outcome, none: &Fields, to: &mut Text) -> Result<usize, Memory>
+fn put_line(
+    plan: &Plan,
+    show: Show,
+    time: u64,
+    stream: u32,
+    outcome: Outcome,
+    none: &Fields,
+    to: &mut Text,
+) -> Result<usize, Memory>
     requires stream { stream < length plan.now.spec.streams }
     requires sorted { IsSortedIn (slice_get plan.now.spec.streams stream) outcome }
     requires none { none.now ≡ [] }
@@ -39,7 +47,11 @@ fn put_line(plan: &Plan, show: Show, time: u64, stream: u32, outcome: Outcome, n
     ensures small { IfOk result (λ count. count ≤ 1) }
     ensures memory { OnErr result (AppendsPart to.old to.new (text_of (lines_of show time (slice_get plan.now.spec.streams stream) outcome))) }
 {
-    match displayed(show, &plan.spec.streams.as_slice()[stream as usize], outcome) {
+    match displayed(
+        show,
+        &plan.spec.streams.as_slice()[stream as usize],
+        outcome,
+    ) {
         Some(value) => {
             verdict_line(plan, stream, time, none, &value, to)?;
             Ok(1)
@@ -50,7 +62,14 @@ fn put_line(plan: &Plan, show: Show, time: u64, stream: u32, outcome: Outcome, n
 
 /// Appends the lines of all streams' outcomes, by the streams' numbers, and answers how many lines
 /// these are. `none` is the list of no parameters. After `Memory` a front of the lines may be appended.
-pub fn put_lines(plan: &Plan, show: Show, time: u64, outcomes: &[Outcome], none: &Fields, to: &mut Text) -> Result<usize, Memory>
+pub fn put_lines(
+    plan: &Plan,
+    show: Show,
+    time: u64,
+    outcomes: &[Outcome],
+    none: &Fields,
+    to: &mut Text,
+) -> Result<usize, Memory>
     requires few { length plan.now.spec.streams < 2 ^ 32 }
     requires sorted { IsTrue (are_sorted plan.now.spec.streams outcomes.now) }
     requires none { none.now ≡ [] }

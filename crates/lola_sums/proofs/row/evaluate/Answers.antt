@@ -1,5 +1,5 @@
 -- One stream more has its outcome.
-use Rattle.std.proofs.Common.{sym, ◌∙◌, arith, get_or}
+use Rattle.std.proofs.Common.{sym, ◌∙◌, arith}
 use Rattle.lola_sums.proofs.Answering.{next_answerable, next_outcomes, count_input, count_other, input_number, input_count_most}
 use Rattle.lola_sums.proofs.row.evaluate.Goals as goal
 use Rattle.lola_sums.proofs.row.evaluate.Goals.{then-is_input, else-is_input}
