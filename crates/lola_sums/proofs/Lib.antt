@@ -6,3 +6,4 @@ pub mod PlainRows
 pub mod LineLemmas
 pub mod Accepting
 pub mod Lasting
+pub mod Worked

@@ -7,3 +7,6 @@ pub mod law;
 mod lines;
 mod row;
 mod sum;
+
+#[cfg(test)]
+mod tests;
