@@ -1,1 +1,4 @@
 pub mod Standing
+pub mod Evaluation
+pub mod Ready
+pub mod Worked
