@@ -1,0 +1,74 @@
+-- What a shelf was asked for in a call.
+use Rattle.std.proofs.Common.{◌≡◌, ◌⊎◌, ℕ, subst, List, [], ◌∷◌, ◌++◌, map, length, take, drop, inl, inr, Some, refl, sym, ap, ◌∙◌, append_assoc}
+use Rattle.std.proofs.lemmas.List.{append-nil}
+use Rattle.std.proofs.Math.Seq.{take-append_seam, drop-append_seam}
+use Rattle.lola_port.specs.Asks.{given_ask}
+use Rattle.lola_port.specs.States.{ShelfState}
+use Rattle.lola_port.specs.declared.traits.Ask.{Ask}
+use Rattle.lola_model.specs.declared.plan.Plan.{Plan}
+use Rattle.lola_report.specs.declared.end.EndLine.TheVariants.{Done, Usage, Refused, Malformed, Fault, UnreadableSpecification, UnreadableSource, Analysed}
+use Rattle.lola_monitor.specs.Command.{Names, command_of, names_of, names_asked}
+use Rattle.lola_monitor.specs.Monitor.{Asked, IsFrontOf, Outside, asks_between}
+use Rattle.lola_monitor.specs.Outcomes.{Marred, RunsSource, Stopped, noted}
+use Rattle.lola_monitor.specs.declared.outcome.Outcome.{Outcome}
+use Rattle.lola_monitor.specs.declared.outcome.Outcome.TheVariants.{Line, Put, Memory}
+
+-- the asks of a call, as one list
+pub record Grew (names : List (List ℕ)) (before after : ShelfState) : Type 0 where
+  pub asks : List Ask
+  pub appended : after.asks ≡ before.asks ++ asks
+  pub front : IsFrontOf (map (λ ask. ask.name) asks) names
+  pub home : after.out ≡ before.out
+
+pub between : (before after : ShelfState) (asks : List Ask) → after.asks ≡ before.asks ++ asks → asks_between before after ≡ asks
+between before after asks is = ap (drop (length before.asks)) is ∙ drop-append_seam before.asks asks
+
+pub asked : (names : List (List ℕ)) (before after : ShelfState) → Grew names before after → Asked names before after
+asked names before after grew = record {
+  kept = ap (take (length before.asks)) grew.appended ∙ take-append_seam before.asks grew.asks;
+  front = (grew.front.0, grew.front.1 ∙ ap (λ (asks : List Ask). map (λ ask. ask.name) asks ++ grew.front.0) (sym (between before after grew.asks grew.appended)));
+  home = grew.home;
+}
+
+pub grew_none : (names : List (List ℕ)) (before : ShelfState) → Grew names before before
+grew_none names before = record { asks = []; appended = sym (append-nil before.asks); front = (names, refl); home = refl }
+
+pub grew_one : (name : List ℕ) (names : List (List ℕ)) (before after : ShelfState) (ask : Ask) → ask.name ≡ name → after.asks ≡ before.asks ++ ask ∷ [] → after.out ≡ before.out → Grew (name ∷ names) before after
+grew_one name names before after ask is appended home = record { asks = ask ∷ []; appended = appended; front = (names, ap (λ (n : List ℕ). n ∷ names) (sym is)); home = home }
+
+pub grew_noted : (name : List ℕ) (names : List (List ℕ)) (before after : ShelfState) → after ≡ noted before name → Grew (name ∷ names) before after
+grew_noted name names before after is = grew_one name names before after (given_ask name) refl (ap (λ s. s.asks) is) (ap (λ s. s.out) is)
+
+pub grew_marred : (name : List ℕ) (names : List (List ℕ)) (before after : ShelfState) → Marred name before after → Grew (name ∷ names) before after
+grew_marred name names before after m = grew_one name names before after m.ask m.name_is m.asks m.out
+
+grew_stopped_by : (name : List ℕ) (names : List (List ℕ)) (before after : ShelfState) → (after.asks ≡ before.asks) ⊎ ((ask : Ask) × (ask.name ≡ name) × (after.asks ≡ before.asks ++ ask ∷ [])) → after.out ≡ before.out → Grew (name ∷ names) before after
+grew_stopped_by name names before after (inl same) out = record { asks = []; appended = same ∙ sym (append-nil before.asks); front = (name ∷ names, refl); home = out }
+grew_stopped_by name names before after (inr one) out = grew_one name names before after one.0 one.1 one.2 out
+
+pub grew_stopped : (name : List ℕ) (names : List (List ℕ)) (before after : ShelfState) → Stopped name before after → Grew (name ∷ names) before after
+grew_stopped name names before after s = grew_stopped_by name names before after s.asks s.out
+
+pub grew_source : (outcome : Outcome) (plan : Plan) (name : List ℕ) (before after : Outside) → RunsSource outcome plan name before after → Grew (name ∷ []) before.shelf after.shelf
+grew_source (Line (Done a l n v)) plan name before after ran = grew_noted name [] before.shelf after.shelf ran.ended.shelf
+grew_source (Line (Malformed n row kind)) plan name before after ran = grew_noted name [] before.shelf after.shelf ran.ended.shelf
+grew_source (Line (Fault stream kind time)) plan name before after ran = grew_noted name [] before.shelf after.shelf ran.shelf
+grew_source (Line (UnreadableSource n)) plan name before after ran = grew_marred name [] before.shelf after.shelf ran.shelf
+grew_source (Line Usage) plan name before after ran = absurd ran
+grew_source (Line (Refused r)) plan name before after ran = absurd ran
+grew_source (Line UnreadableSpecification) plan name before after ran = absurd ran
+grew_source (Line (Analysed n w)) plan name before after ran = absurd ran
+grew_source Put plan name before after ran = grew_stopped name [] before.shelf after.shelf ran.shelf
+grew_source Memory plan name before after ran = grew_stopped name [] before.shelf after.shelf ran.shelf
+
+pub grew_twice : (name : List ℕ) (names : List (List ℕ)) (before mid after : ShelfState) → mid ≡ noted before name → Grew names mid after → Grew (name ∷ names) before after
+grew_twice name names before mid after is grew = record {
+  asks = given_ask name ∷ grew.asks;
+  appended = grew.appended ∙ ap (λ (s : ShelfState). s.asks ++ grew.asks) is ∙ append_assoc before.asks (given_ask name ∷ []) grew.asks;
+  front = (grew.front.0, ap (λ (l : List (List ℕ)). name ∷ l) grew.front.1);
+  home = grew.home ∙ ap (λ s. s.out) is;
+}
+
+-- a command's asks
+pub asked_for : (words : List (List ℕ)) (names : Names) (before after : ShelfState) → command_of words ≡ Some names → Grew (names_of names) before after → Asked (names_asked (command_of words)) before after
+asked_for words names before after is grew = subst (λ command. Asked (names_asked command) before after) (sym is) (asked (names_of names) before after grew)

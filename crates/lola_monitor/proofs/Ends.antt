@@ -1,0 +1,378 @@
+-- The last line of a call, and its status.
+use Rattle.std.proofs.Common.{map, ◌≡◌, ◌⊎◌, ℕ, ◌+◌, ◌≤◌, List, [], ◌∷◌, ◌++◌, true, Bool, inl, inr, ⊎_elim, Option, None, Some, refl, sym, ap, ◌∙◌, subst, append_assoc, if◌then◌else◌, arith}
+use Rattle.std.proofs.lemmas.List.{append-nil}
+use Rattle.std.specs.Io.KnownBytes.{append_known}
+use Rattle.std.specs.Option.{option_map}
+use Rattle.lola_port.specs.Asks.{given_ask}
+use Rattle.lola_port.specs.declared.traits.Ask.{Ask}
+use Rattle.lola_port.specs.States.{PutBroke, Rose, SinkState, grown}
+use Rattle.lola_model.specs.Journal.{rows_of}
+use Rattle.lola_model.specs.Runs.{settled_fault}
+use Rattle.lola_model.specs.declared.plan.Plan.{Plan}
+use Rattle.lola_lines.specs.Lines.{SourceEnd, Whole, MalformedAt, SourceRows}
+use Rattle.lola_report.specs.Ends.{end_text}
+use Rattle.lola_report.specs.declared.end.EndLine.{EndLine}
+use Rattle.lola_report.specs.declared.end.EndLine.TheVariants.{Done, Usage, Refused, Malformed, Fault, UnreadableSpecification, UnreadableSource, Analysed}
+use Rattle.lola_monitor.specs.Command.{Names, command_of}
+use Rattle.lola_monitor.specs.Monitor.{BrokeOff, IsBroken, IsClean, IsCutShort, Ran, IsDone, IsEarly, IsFault, IsMalformed, IsRefused, IsUnread, IsUsage, Outside, Wrote, HasFrontOf, asks_between, done_line, first_faulty, is_faulty, verdicts}
+use Rattle.lola_monitor.specs.Outcomes.{Concluded, NoCommand, NoPlan, NotRead, Stood, StoodCut, StoodDone, StoodEnded, StoodFault, StoodMalformed, Works}
+use Rattle.lola_monitor.specs.declared.outcome.Outcome.{Outcome}
+use Rattle.lola_monitor.specs.declared.outcome.Outcome.TheVariants.{Line, Put, Memory}
+use Rattle.lola_monitor.proofs.Runs.{grown_twice, known_append, no_part, some_line}
+use Rattle.lola_monitor.proofs.Sources.{an_entry}
+
+-- a text and then a whole or broken one
+wrote_after : (s0 s1 s2 : SinkState) (xs ys : List ℕ) → s1 ≡ grown s0 xs → Wrote s1 s2 ys → Wrote s0 s2 (xs ++ ys)
+wrote_after s0 s1 s2 xs ys first (inl second) = inl (second ∙ ap (λ s. grown s ys) first ∙ grown_twice s0 xs ys)
+wrote_after s0 s1 s2 xs ys first (inr broke) = inr (record {
+  part = xs ++ broke.part;
+  is_part = record {
+    rest = broke.is_part.rest;
+    joined = ap (λ (l : List ℕ). xs ++ l) broke.is_part.joined ∙ sym (append_assoc xs broke.part broke.is_part.rest);
+    not_whole = broke.is_part.not_whole;
+  };
+  written = broke.written ∙ ap (λ s. (grown s broke.part).written) first ∙ known_append s0.written xs broke.part;
+  later = subst (λ n. n ≤ s2.count) (ap (λ s. s.count) first) broke.later;
+  rose = subst (λ n. Rose n s2.count) (ap (λ s. s.count) first) broke.rose;
+})
+
+wrote_same : (s0 s1 s2 : SinkState) (ys : List ℕ) → s1 ≡ s0 → Wrote s1 s2 ys → Wrote s0 s2 ys
+wrote_same s0 s1 s2 ys same wrote = subst (λ s. Wrote s s2 ys) same wrote
+
+-- a front that ends inside the last part
+broken_front : (s0 s1 s2 : SinkState) (text more : List ℕ) → s1 ≡ grown s0 text → PutBroke s1 s2 more → HasFrontOf s0 s2 (text ++ more)
+broken_front s0 s1 s2 text more first broke = record {
+  part = text ++ broke.part;
+  rest = broke.is_part.rest;
+  joined = ap (λ (l : List ℕ). text ++ l) broke.is_part.joined ∙ sym (append_assoc text broke.part broke.is_part.rest);
+  written = broke.written ∙ ap (λ s. append_known s.written broke.part) first ∙ known_append s0.written text broke.part;
+}
+
+-- the second ask is the first faulty one
+second_faulty : (asks : List Ask) (name : List ℕ) (ask : Ask) → asks ≡ given_ask name ∷ ask ∷ [] → is_faulty ask ≡ true → first_faulty asks ≡ Some 1
+second_faulty asks name ask is faulty = ap first_faulty is ∙ ap (λ (b : Bool). option_map (λ n. n + 1) (if b then Some 0 else option_map (λ n. n + 1) None)) faulty
+
+module _ (words : List (List ℕ)) (before after : Outside) (last : SinkState) where
+  -- the same run, whatever the last line is
+  abbrev ran_with : Ran words before after → Ran words before (record after { out = last })
+  ran_with r = record { names = r.names; is_command = r.is_command; plan = r.plan; is_plan = r.is_plan; journal = r.journal; legal = r.legal; sources = r.sources; trace = r.trace }
+
+  -- the end line of a run that ends well
+  ends_done : (line : EndLine) (s : StoodDone line words before after) → last ≡ grown after.out (end_text line) → IsDone words before (record after { out = last })
+  ends_done line s is = record {
+    run = ran_with s.ended.stood.run;
+    rows = s.ended.rows;
+    no_fault = s.ended.no_fault;
+    out = is ∙ ap (λ o. grown o (end_text line)) s.ended.stood.out ∙ grown_twice before.out _ _ ∙ ap (λ e. grown before.out (verdicts s.ended.stood.run.plan s.ended.stood.run.journal ++ end_text e)) s.line_is;
+    asks = s.ended.asks;
+    count = s.ended.count;
+  }
+
+  ends_malformed : (line : EndLine) (row : ℕ) (s : StoodMalformed line row words before after) → last ≡ grown after.out (end_text line) → IsMalformed words before (record after { out = last })
+  ends_malformed line row s is = record {
+    run = ran_with s.ended.stood.run;
+    row = row;
+    rows = s.ended.rows;
+    no_fault = s.ended.no_fault;
+    out = is ∙ ap (λ o. grown o (end_text line)) s.ended.stood.out ∙ grown_twice before.out _ _ ∙ ap (λ e. grown before.out (verdicts s.ended.stood.run.plan s.ended.stood.run.journal ++ end_text e)) s.line_is;
+    asks = s.ended.asks;
+    count = s.ended.count;
+  }
+
+  ends_fault : (line : EndLine) (s : StoodFault line words before after) → Wrote after.out last (end_text line) → IsFault words before (record after { out = last })
+  ends_fault line s wrote = record {
+    run = ran_with s.stood.run;
+    fault = s.fault;
+    rows = s.stood.rows;
+    is_fault = s.is_fault;
+    stands = inl s.stands;
+    out = subst (λ e. Wrote before.out last (verdicts s.stood.run.plan s.stood.run.journal ++ end_text e)) s.line_is (wrote_after before.out after.out last _ _ s.stood.out wrote);
+    asks = s.asks;
+    count = s.count;
+  }
+
+  ends_cut_short : (line : EndLine) (s : StoodCut line words before after) → Wrote after.out last (end_text line) → IsCutShort words before (record after { out = last })
+  ends_cut_short line s wrote = record {
+    run = ran_with s.stood.run;
+    rows = s.stood.rows;
+    no_fault = s.no_fault;
+    ask = s.ask;
+    asks = s.asks;
+    faulty = s.faulty;
+    unless_given = s.unless_given;
+    rose = s.rose;
+    out = subst (λ e. Wrote before.out last (verdicts s.stood.run.plan s.stood.run.journal ++ end_text e)) s.line_is (wrote_after before.out after.out last _ _ s.stood.out wrote);
+  }
+
+  ends_usage : NoCommand words before after → Wrote after.out last (end_text Usage) → IsUsage words before (record after { out = last })
+  ends_usage s wrote = record { no_command = s.no_command; shelf = s.shelf; trace = s.early.trace; out = wrote_same before.out after.out last _ s.early.out wrote }
+
+  ends_refused : (line : EndLine) (s : NoPlan line words before after) → Wrote after.out last (end_text line) → IsRefused words before (record after { out = last })
+  ends_refused line s wrote = record {
+    names = s.names;
+    is_command = s.is_command;
+    no_plan = s.no_plan;
+    asks = s.asks;
+    count = s.count;
+    trace = s.early.trace;
+    out = subst (λ e. Wrote before.out last (end_text e)) s.line_is (wrote_same before.out after.out last _ s.early.out wrote);
+  }
+
+  ends_unread : NotRead words before after → Wrote after.out last (end_text UnreadableSpecification) → IsUnread words before (record after { out = last })
+  ends_unread s wrote = record { names = s.names; is_command = s.is_command; faulty = s.faulty; rose = s.rose; trace = s.early.trace; out = wrote_same before.out after.out last _ s.early.out wrote }
+
+  -- the last line broke
+  broke_end : (line : EndLine) (s : Stood words before after) → settled_fault s.run.plan None s.run.journal ≡ None → PutBroke after.out last (end_text line) → IsBroken words before (record after { out = last })
+  broke_end line s none broke = record {
+    off = record {
+      names = s.run.names;
+      is_command = s.run.is_command;
+      plan = s.run.plan;
+      is_plan = s.run.is_plan;
+      journal = s.run.journal;
+      legal = s.run.legal;
+      sources = s.run.sources;
+      rows = s.rows;
+      trace = no_part before.trace after.trace s.run.journal an_entry (some_line an_entry) s.run.trace;
+      line = line;
+      out = broken_front before.out after.out last _ (end_text line) s.out broke;
+    };
+    no_fault = none;
+    rose = inl (subst (λ n. Rose n last.count) (ap (λ o. o.count) s.out) broke.rose);
+  }
+
+  -- no memory for the last line
+  off_end : (line : EndLine) → Stood words before after → last ≡ after.out → BrokeOff words before (record after { out = last })
+  off_end line s same = record {
+    names = s.run.names;
+    is_command = s.run.is_command;
+    plan = s.run.plan;
+    is_plan = s.run.is_plan;
+    journal = s.run.journal;
+    legal = s.run.legal;
+    sources = s.run.sources;
+    rows = s.rows;
+    trace = no_part before.trace after.trace s.run.journal an_entry (some_line an_entry) s.run.trace;
+    line = line;
+    out = record { part = verdicts s.run.plan s.run.journal; rest = end_text line; joined = refl; written = ap (λ o. o.written) (same ∙ s.out) };
+  }
+
+  early_end : IsEarly before after → last ≡ after.out → IsEarly before (record after { out = last })
+  early_end early same = record { trace = early.trace; out = same ∙ early.out }
+
+-- all rows were taken, and the last line was put
+pub done_of : (status : ℕ) (outcome : Outcome) (words : List (List ℕ)) (before after : Outside) (last : SinkState) → Works outcome words before after → Concluded status outcome after.out last → status ≡ 0 → IsDone words before (record after { out = last })
+done_of status (Line (Done a l n v)) words before after last works (inl done) is = ends_done words before after last (Done a l n v) works done.1
+done_of status (Line (Done a l n v)) words before after last works (inr (inl broke)) is = absurd (omega (arith, broke.0))
+done_of status (Line (Done a l n v)) words before after last works (inr (inr same)) is = absurd (omega (arith, same.0))
+done_of status (Line Usage) words before after last works (inl done) is = absurd (omega (arith, done.0))
+done_of status (Line Usage) words before after last works (inr (inl broke)) is = absurd (omega (arith, broke.0))
+done_of status (Line Usage) words before after last works (inr (inr same)) is = absurd (omega (arith, same.0))
+done_of status (Line (Refused r)) words before after last works (inl done) is = absurd (omega (arith, done.0))
+done_of status (Line (Refused r)) words before after last works (inr (inl broke)) is = absurd (omega (arith, broke.0))
+done_of status (Line (Refused r)) words before after last works (inr (inr same)) is = absurd (omega (arith, same.0))
+done_of status (Line (Malformed m row kind)) words before after last works (inl done) is = absurd (omega (arith, done.0))
+done_of status (Line (Malformed m row kind)) words before after last works (inr (inl broke)) is = absurd (omega (arith, broke.0))
+done_of status (Line (Malformed m row kind)) words before after last works (inr (inr same)) is = absurd (omega (arith, same.0))
+done_of status (Line (Fault nm kind time)) words before after last works (inl done) is = absurd (omega (arith, done.0))
+done_of status (Line (Fault nm kind time)) words before after last works (inr (inl broke)) is = absurd (omega (arith, broke.0))
+done_of status (Line (Fault nm kind time)) words before after last works (inr (inr same)) is = absurd (omega (arith, same.0))
+done_of status (Line UnreadableSpecification) words before after last works (inl done) is = absurd (omega (arith, done.0))
+done_of status (Line UnreadableSpecification) words before after last works (inr (inl broke)) is = absurd (omega (arith, broke.0))
+done_of status (Line UnreadableSpecification) words before after last works (inr (inr same)) is = absurd (omega (arith, same.0))
+done_of status (Line (UnreadableSource m)) words before after last works (inl done) is = absurd (omega (arith, done.0))
+done_of status (Line (UnreadableSource m)) words before after last works (inr (inl broke)) is = absurd (omega (arith, broke.0))
+done_of status (Line (UnreadableSource m)) words before after last works (inr (inr same)) is = absurd (omega (arith, same.0))
+done_of status (Line (Analysed n w)) words before after last works done is = absurd works
+done_of status Put words before after last works done is = absurd (omega (arith, done.0))
+done_of status Memory words before after last works done is = absurd (omega (arith, done.0))
+
+-- no command
+pub usage_of : (status : ℕ) (outcome : Outcome) (words : List (List ℕ)) (before after : Outside) (last : SinkState) → Works outcome words before after → Concluded status outcome after.out last → status ≡ 2 → IsUsage words before (record after { out = last })
+usage_of status (Line (Done a l n v)) words before after last works (inl done) is = absurd (omega (arith, done.0))
+usage_of status (Line (Done a l n v)) words before after last works (inr (inl broke)) is = absurd (omega (arith, broke.0))
+usage_of status (Line (Done a l n v)) words before after last works (inr (inr same)) is = absurd (omega (arith, same.0))
+usage_of status (Line Usage) words before after last works (inl done) is = ends_usage words before after last works (inl done.1)
+usage_of status (Line Usage) words before after last works (inr (inl broke)) is = ends_usage words before after last works (inr broke.1)
+usage_of status (Line Usage) words before after last works (inr (inr same)) is = absurd (omega (arith, same.0))
+usage_of status (Line (Refused r)) words before after last works (inl done) is = absurd (omega (arith, done.0))
+usage_of status (Line (Refused r)) words before after last works (inr (inl broke)) is = absurd (omega (arith, broke.0))
+usage_of status (Line (Refused r)) words before after last works (inr (inr same)) is = absurd (omega (arith, same.0))
+usage_of status (Line (Malformed m row kind)) words before after last works (inl done) is = absurd (omega (arith, done.0))
+usage_of status (Line (Malformed m row kind)) words before after last works (inr (inl broke)) is = absurd (omega (arith, broke.0))
+usage_of status (Line (Malformed m row kind)) words before after last works (inr (inr same)) is = absurd (omega (arith, same.0))
+usage_of status (Line (Fault nm kind time)) words before after last works (inl done) is = absurd (omega (arith, done.0))
+usage_of status (Line (Fault nm kind time)) words before after last works (inr (inl broke)) is = absurd (omega (arith, broke.0))
+usage_of status (Line (Fault nm kind time)) words before after last works (inr (inr same)) is = absurd (omega (arith, same.0))
+usage_of status (Line UnreadableSpecification) words before after last works (inl done) is = absurd (omega (arith, done.0))
+usage_of status (Line UnreadableSpecification) words before after last works (inr (inl broke)) is = absurd (omega (arith, broke.0))
+usage_of status (Line UnreadableSpecification) words before after last works (inr (inr same)) is = absurd (omega (arith, same.0))
+usage_of status (Line (UnreadableSource m)) words before after last works (inl done) is = absurd (omega (arith, done.0))
+usage_of status (Line (UnreadableSource m)) words before after last works (inr (inl broke)) is = absurd (omega (arith, broke.0))
+usage_of status (Line (UnreadableSource m)) words before after last works (inr (inr same)) is = absurd (omega (arith, same.0))
+usage_of status (Line (Analysed n w)) words before after last works done is = absurd works
+usage_of status Put words before after last works done is = absurd (omega (arith, done.0))
+usage_of status Memory words before after last works done is = absurd (omega (arith, done.0))
+
+-- no plan
+pub refused_of : (status : ℕ) (outcome : Outcome) (words : List (List ℕ)) (before after : Outside) (last : SinkState) → Works outcome words before after → Concluded status outcome after.out last → status ≡ 3 → IsRefused words before (record after { out = last })
+refused_of status (Line (Done a l n v)) words before after last works (inl done) is = absurd (omega (arith, done.0))
+refused_of status (Line (Done a l n v)) words before after last works (inr (inl broke)) is = absurd (omega (arith, broke.0))
+refused_of status (Line (Done a l n v)) words before after last works (inr (inr same)) is = absurd (omega (arith, same.0))
+refused_of status (Line Usage) words before after last works (inl done) is = absurd (omega (arith, done.0))
+refused_of status (Line Usage) words before after last works (inr (inl broke)) is = absurd (omega (arith, broke.0))
+refused_of status (Line Usage) words before after last works (inr (inr same)) is = absurd (omega (arith, same.0))
+refused_of status (Line (Refused r)) words before after last works (inl done) is = ends_refused words before after last (Refused r) works (inl done.1)
+refused_of status (Line (Refused r)) words before after last works (inr (inl broke)) is = ends_refused words before after last (Refused r) works (inr broke.1)
+refused_of status (Line (Refused r)) words before after last works (inr (inr same)) is = absurd (omega (arith, same.0))
+refused_of status (Line (Malformed m row kind)) words before after last works (inl done) is = absurd (omega (arith, done.0))
+refused_of status (Line (Malformed m row kind)) words before after last works (inr (inl broke)) is = absurd (omega (arith, broke.0))
+refused_of status (Line (Malformed m row kind)) words before after last works (inr (inr same)) is = absurd (omega (arith, same.0))
+refused_of status (Line (Fault nm kind time)) words before after last works (inl done) is = absurd (omega (arith, done.0))
+refused_of status (Line (Fault nm kind time)) words before after last works (inr (inl broke)) is = absurd (omega (arith, broke.0))
+refused_of status (Line (Fault nm kind time)) words before after last works (inr (inr same)) is = absurd (omega (arith, same.0))
+refused_of status (Line UnreadableSpecification) words before after last works (inl done) is = absurd (omega (arith, done.0))
+refused_of status (Line UnreadableSpecification) words before after last works (inr (inl broke)) is = absurd (omega (arith, broke.0))
+refused_of status (Line UnreadableSpecification) words before after last works (inr (inr same)) is = absurd (omega (arith, same.0))
+refused_of status (Line (UnreadableSource m)) words before after last works (inl done) is = absurd (omega (arith, done.0))
+refused_of status (Line (UnreadableSource m)) words before after last works (inr (inl broke)) is = absurd (omega (arith, broke.0))
+refused_of status (Line (UnreadableSource m)) words before after last works (inr (inr same)) is = absurd (omega (arith, same.0))
+refused_of status (Line (Analysed n w)) words before after last works done is = absurd works
+refused_of status Put words before after last works done is = absurd (omega (arith, done.0))
+refused_of status Memory words before after last works done is = absurd (omega (arith, done.0))
+
+-- a line of another form
+pub malformed_of : (status : ℕ) (outcome : Outcome) (words : List (List ℕ)) (before after : Outside) (last : SinkState) → Works outcome words before after → Concluded status outcome after.out last → status ≡ 4 → IsMalformed words before (record after { out = last })
+malformed_of status (Line (Done a l n v)) words before after last works (inl done) is = absurd (omega (arith, done.0))
+malformed_of status (Line (Done a l n v)) words before after last works (inr (inl broke)) is = absurd (omega (arith, broke.0))
+malformed_of status (Line (Done a l n v)) words before after last works (inr (inr same)) is = absurd (omega (arith, same.0))
+malformed_of status (Line Usage) words before after last works (inl done) is = absurd (omega (arith, done.0))
+malformed_of status (Line Usage) words before after last works (inr (inl broke)) is = absurd (omega (arith, broke.0))
+malformed_of status (Line Usage) words before after last works (inr (inr same)) is = absurd (omega (arith, same.0))
+malformed_of status (Line (Refused r)) words before after last works (inl done) is = absurd (omega (arith, done.0))
+malformed_of status (Line (Refused r)) words before after last works (inr (inl broke)) is = absurd (omega (arith, broke.0))
+malformed_of status (Line (Refused r)) words before after last works (inr (inr same)) is = absurd (omega (arith, same.0))
+malformed_of status (Line (Malformed m row kind)) words before after last works (inl done) is = ends_malformed words before after last (Malformed m row kind) row works done.1
+malformed_of status (Line (Malformed m row kind)) words before after last works (inr (inl broke)) is = absurd (omega (arith, broke.0))
+malformed_of status (Line (Malformed m row kind)) words before after last works (inr (inr same)) is = absurd (omega (arith, same.0))
+malformed_of status (Line (Fault nm kind time)) words before after last works (inl done) is = absurd (omega (arith, done.0))
+malformed_of status (Line (Fault nm kind time)) words before after last works (inr (inl broke)) is = absurd (omega (arith, broke.0))
+malformed_of status (Line (Fault nm kind time)) words before after last works (inr (inr same)) is = absurd (omega (arith, same.0))
+malformed_of status (Line UnreadableSpecification) words before after last works (inl done) is = absurd (omega (arith, done.0))
+malformed_of status (Line UnreadableSpecification) words before after last works (inr (inl broke)) is = absurd (omega (arith, broke.0))
+malformed_of status (Line UnreadableSpecification) words before after last works (inr (inr same)) is = absurd (omega (arith, same.0))
+malformed_of status (Line (UnreadableSource m)) words before after last works (inl done) is = absurd (omega (arith, done.0))
+malformed_of status (Line (UnreadableSource m)) words before after last works (inr (inl broke)) is = absurd (omega (arith, broke.0))
+malformed_of status (Line (UnreadableSource m)) words before after last works (inr (inr same)) is = absurd (omega (arith, same.0))
+malformed_of status (Line (Analysed n w)) words before after last works done is = absurd works
+malformed_of status Put words before after last works done is = absurd (omega (arith, done.0))
+malformed_of status Memory words before after last works done is = absurd (omega (arith, done.0))
+
+-- a fault
+pub fault_of : (status : ℕ) (outcome : Outcome) (words : List (List ℕ)) (before after : Outside) (last : SinkState) → Works outcome words before after → Concluded status outcome after.out last → status ≡ 5 → IsFault words before (record after { out = last })
+fault_of status (Line (Done a l n v)) words before after last works (inl done) is = absurd (omega (arith, done.0))
+fault_of status (Line (Done a l n v)) words before after last works (inr (inl broke)) is = absurd (omega (arith, broke.0))
+fault_of status (Line (Done a l n v)) words before after last works (inr (inr same)) is = absurd (omega (arith, same.0))
+fault_of status (Line Usage) words before after last works (inl done) is = absurd (omega (arith, done.0))
+fault_of status (Line Usage) words before after last works (inr (inl broke)) is = absurd (omega (arith, broke.0))
+fault_of status (Line Usage) words before after last works (inr (inr same)) is = absurd (omega (arith, same.0))
+fault_of status (Line (Refused r)) words before after last works (inl done) is = absurd (omega (arith, done.0))
+fault_of status (Line (Refused r)) words before after last works (inr (inl broke)) is = absurd (omega (arith, broke.0))
+fault_of status (Line (Refused r)) words before after last works (inr (inr same)) is = absurd (omega (arith, same.0))
+fault_of status (Line (Malformed m row kind)) words before after last works (inl done) is = absurd (omega (arith, done.0))
+fault_of status (Line (Malformed m row kind)) words before after last works (inr (inl broke)) is = absurd (omega (arith, broke.0))
+fault_of status (Line (Malformed m row kind)) words before after last works (inr (inr same)) is = absurd (omega (arith, same.0))
+fault_of status (Line (Fault nm kind time)) words before after last works (inl done) is = ends_fault words before after last (Fault nm kind time) works (inl done.1)
+fault_of status (Line (Fault nm kind time)) words before after last works (inr (inl broke)) is = ends_fault words before after last (Fault nm kind time) works (inr broke.1)
+fault_of status (Line (Fault nm kind time)) words before after last works (inr (inr same)) is = absurd (omega (arith, same.0))
+fault_of status (Line UnreadableSpecification) words before after last works (inl done) is = absurd (omega (arith, done.0))
+fault_of status (Line UnreadableSpecification) words before after last works (inr (inl broke)) is = absurd (omega (arith, broke.0))
+fault_of status (Line UnreadableSpecification) words before after last works (inr (inr same)) is = absurd (omega (arith, same.0))
+fault_of status (Line (UnreadableSource m)) words before after last works (inl done) is = absurd (omega (arith, done.0))
+fault_of status (Line (UnreadableSource m)) words before after last works (inr (inl broke)) is = absurd (omega (arith, broke.0))
+fault_of status (Line (UnreadableSource m)) words before after last works (inr (inr same)) is = absurd (omega (arith, same.0))
+fault_of status (Line (Analysed n w)) words before after last works done is = absurd works
+fault_of status Put words before after last works done is = absurd (omega (arith, done.0))
+fault_of status Memory words before after last works done is = absurd (omega (arith, done.0))
+
+-- something could not be read
+pub unreadable_of : (status : ℕ) (outcome : Outcome) (words : List (List ℕ)) (before after : Outside) (last : SinkState) → Works outcome words before after → Concluded status outcome after.out last → status ≡ 6 → IsUnread words before (record after { out = last }) ⊎ IsCutShort words before (record after { out = last })
+unreadable_of status (Line (Done a l n v)) words before after last works (inl done) is = absurd (omega (arith, done.0))
+unreadable_of status (Line (Done a l n v)) words before after last works (inr (inl broke)) is = absurd (omega (arith, broke.0))
+unreadable_of status (Line (Done a l n v)) words before after last works (inr (inr same)) is = absurd (omega (arith, same.0))
+unreadable_of status (Line Usage) words before after last works (inl done) is = absurd (omega (arith, done.0))
+unreadable_of status (Line Usage) words before after last works (inr (inl broke)) is = absurd (omega (arith, broke.0))
+unreadable_of status (Line Usage) words before after last works (inr (inr same)) is = absurd (omega (arith, same.0))
+unreadable_of status (Line (Refused r)) words before after last works (inl done) is = absurd (omega (arith, done.0))
+unreadable_of status (Line (Refused r)) words before after last works (inr (inl broke)) is = absurd (omega (arith, broke.0))
+unreadable_of status (Line (Refused r)) words before after last works (inr (inr same)) is = absurd (omega (arith, same.0))
+unreadable_of status (Line (Malformed m row kind)) words before after last works (inl done) is = absurd (omega (arith, done.0))
+unreadable_of status (Line (Malformed m row kind)) words before after last works (inr (inl broke)) is = absurd (omega (arith, broke.0))
+unreadable_of status (Line (Malformed m row kind)) words before after last works (inr (inr same)) is = absurd (omega (arith, same.0))
+unreadable_of status (Line (Fault nm kind time)) words before after last works (inl done) is = absurd (omega (arith, done.0))
+unreadable_of status (Line (Fault nm kind time)) words before after last works (inr (inl broke)) is = absurd (omega (arith, broke.0))
+unreadable_of status (Line (Fault nm kind time)) words before after last works (inr (inr same)) is = absurd (omega (arith, same.0))
+unreadable_of status (Line UnreadableSpecification) words before after last works (inl done) is = inl (ends_unread words before after last works (inl done.1))
+unreadable_of status (Line UnreadableSpecification) words before after last works (inr (inl broke)) is = inl (ends_unread words before after last works (inr broke.1))
+unreadable_of status (Line UnreadableSpecification) words before after last works (inr (inr same)) is = absurd (omega (arith, same.0))
+unreadable_of status (Line (UnreadableSource m)) words before after last works (inl done) is = inr (ends_cut_short words before after last (UnreadableSource m) works (inl done.1))
+unreadable_of status (Line (UnreadableSource m)) words before after last works (inr (inl broke)) is = inr (ends_cut_short words before after last (UnreadableSource m) works (inr broke.1))
+unreadable_of status (Line (UnreadableSource m)) words before after last works (inr (inr same)) is = absurd (omega (arith, same.0))
+unreadable_of status (Line (Analysed n w)) words before after last works done is = absurd works
+unreadable_of status Put words before after last works done is = absurd (omega (arith, done.0))
+unreadable_of status Memory words before after last works done is = absurd (omega (arith, done.0))
+
+-- a put failed
+pub broken_of : (status : ℕ) (outcome : Outcome) (words : List (List ℕ)) (before after : Outside) (last : SinkState) → Works outcome words before after → Concluded status outcome after.out last → status ≡ 7 → IsBroken words before (record after { out = last })
+broken_of status (Line (Done a l n v)) words before after last works (inl done) is = absurd (omega (arith, done.0))
+broken_of status (Line (Done a l n v)) words before after last works (inr (inl broke)) is = broke_end words before after last (Done a l n v) works.ended.stood works.ended.settled broke.1
+broken_of status (Line (Done a l n v)) words before after last works (inr (inr same)) is = absurd (omega (arith, same.0))
+broken_of status (Line Usage) words before after last works (inl done) is = absurd (omega (arith, done.0))
+broken_of status (Line Usage) words before after last works (inr (inl broke)) is = absurd (omega (arith, broke.0))
+broken_of status (Line Usage) words before after last works (inr (inr same)) is = absurd (omega (arith, same.0))
+broken_of status (Line (Refused r)) words before after last works (inl done) is = absurd (omega (arith, done.0))
+broken_of status (Line (Refused r)) words before after last works (inr (inl broke)) is = absurd (omega (arith, broke.0))
+broken_of status (Line (Refused r)) words before after last works (inr (inr same)) is = absurd (omega (arith, same.0))
+broken_of status (Line (Malformed m row kind)) words before after last works (inl done) is = absurd (omega (arith, done.0))
+broken_of status (Line (Malformed m row kind)) words before after last works (inr (inl broke)) is = broke_end words before after last (Malformed m row kind) works.ended.stood works.ended.settled broke.1
+broken_of status (Line (Malformed m row kind)) words before after last works (inr (inr same)) is = absurd (omega (arith, same.0))
+broken_of status (Line (Fault nm kind time)) words before after last works (inl done) is = absurd (omega (arith, done.0))
+broken_of status (Line (Fault nm kind time)) words before after last works (inr (inl broke)) is = absurd (omega (arith, broke.0))
+broken_of status (Line (Fault nm kind time)) words before after last works (inr (inr same)) is = absurd (omega (arith, same.0))
+broken_of status (Line UnreadableSpecification) words before after last works (inl done) is = absurd (omega (arith, done.0))
+broken_of status (Line UnreadableSpecification) words before after last works (inr (inl broke)) is = absurd (omega (arith, broke.0))
+broken_of status (Line UnreadableSpecification) words before after last works (inr (inr same)) is = absurd (omega (arith, same.0))
+broken_of status (Line (UnreadableSource m)) words before after last works (inl done) is = absurd (omega (arith, done.0))
+broken_of status (Line (UnreadableSource m)) words before after last works (inr (inl broke)) is = absurd (omega (arith, broke.0))
+broken_of status (Line (UnreadableSource m)) words before after last works (inr (inr same)) is = absurd (omega (arith, same.0))
+broken_of status (Line (Analysed n w)) words before after last works done is = absurd works
+broken_of status Put words before after last works done is = subst (λ s. IsBroken words before (record after { out = s })) (sym done.1) works
+broken_of status Memory words before after last works done is = absurd (omega (arith, done.0))
+
+-- no memory
+pub memory_of : (status : ℕ) (outcome : Outcome) (words : List (List ℕ)) (before after : Outside) (last : SinkState) → Works outcome words before after → Concluded status outcome after.out last → status ≡ 8 → IsEarly before (record after { out = last }) ⊎ BrokeOff words before (record after { out = last })
+memory_of status (Line (Done a l n v)) words before after last works (inl done) is = absurd (omega (arith, done.0))
+memory_of status (Line (Done a l n v)) words before after last works (inr (inl broke)) is = absurd (omega (arith, broke.0))
+memory_of status (Line (Done a l n v)) words before after last works (inr (inr same)) is = inr (off_end words before after last (Done a l n v) works.ended.stood same.1)
+memory_of status (Line Usage) words before after last works (inl done) is = absurd (omega (arith, done.0))
+memory_of status (Line Usage) words before after last works (inr (inl broke)) is = absurd (omega (arith, broke.0))
+memory_of status (Line Usage) words before after last works (inr (inr same)) is = inl (early_end words before after last works.early same.1)
+memory_of status (Line (Refused r)) words before after last works (inl done) is = absurd (omega (arith, done.0))
+memory_of status (Line (Refused r)) words before after last works (inr (inl broke)) is = absurd (omega (arith, broke.0))
+memory_of status (Line (Refused r)) words before after last works (inr (inr same)) is = inl (early_end words before after last works.early same.1)
+memory_of status (Line (Malformed m row kind)) words before after last works (inl done) is = absurd (omega (arith, done.0))
+memory_of status (Line (Malformed m row kind)) words before after last works (inr (inl broke)) is = absurd (omega (arith, broke.0))
+memory_of status (Line (Malformed m row kind)) words before after last works (inr (inr same)) is = inr (off_end words before after last (Malformed m row kind) works.ended.stood same.1)
+memory_of status (Line (Fault nm kind time)) words before after last works (inl done) is = absurd (omega (arith, done.0))
+memory_of status (Line (Fault nm kind time)) words before after last works (inr (inl broke)) is = absurd (omega (arith, broke.0))
+memory_of status (Line (Fault nm kind time)) words before after last works (inr (inr same)) is = inr (off_end words before after last (Fault nm kind time) works.stood same.1)
+memory_of status (Line UnreadableSpecification) words before after last works (inl done) is = absurd (omega (arith, done.0))
+memory_of status (Line UnreadableSpecification) words before after last works (inr (inl broke)) is = absurd (omega (arith, broke.0))
+memory_of status (Line UnreadableSpecification) words before after last works (inr (inr same)) is = inl (early_end words before after last works.early same.1)
+memory_of status (Line (UnreadableSource m)) words before after last works (inl done) is = absurd (omega (arith, done.0))
+memory_of status (Line (UnreadableSource m)) words before after last works (inr (inl broke)) is = absurd (omega (arith, broke.0))
+memory_of status (Line (UnreadableSource m)) words before after last works (inr (inr same)) is = inr (off_end words before after last (UnreadableSource m) works.stood same.1)
+memory_of status (Line (Analysed n w)) words before after last works done is = absurd works
+memory_of status Put words before after last works done is = absurd (omega (arith, done.0))
+memory_of status Memory words before after last works done is = subst (λ s. IsEarly before (record after { out = s }) ⊎ BrokeOff words before (record after { out = s })) (sym done.1) works
+

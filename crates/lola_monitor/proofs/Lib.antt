@@ -1,0 +1,13 @@
+pub mod Runs
+pub mod Shelves
+pub mod BytesRead
+pub mod Calls
+pub mod Sources
+pub mod Ends
+pub mod Statuses
+pub mod Working
+pub mod Taking
+pub mod Settling
+pub mod Views
+pub mod Stepping
+pub mod Specifications

@@ -1,0 +1,4 @@
+pub mod Command
+pub mod Monitor
+pub mod Parts
+pub mod Outcomes

@@ -1,0 +1,269 @@
+-- What the top call leaves, by its status.
+use Rattle.std.specs.Prelude.{ℕ, ◌≡◌, ◌⊎◌, ◌+◌, ◌<◌, List, [], ◌∷◌, ◌++◌, Option, Some, None, option_map, Bool, true, false, not, ◌||◌, if◌then◌else◌, nat_lt, length, take, drop, map, slice_get, All}
+use Rattle.std.specs.Io.KnownBytes.{append_known}
+use Rattle.lola_port.specs.Asks.{given_ask}
+use Rattle.lola_port.specs.States.{PutBroke, Rose, ShelfState, SinkState, IsProperPart, grown}
+use Rattle.lola_port.specs.declared.traits.Ask.{Ask}
+use Rattle.lola_value.specs.declared.front.Code.TheVariants as code
+use Rattle.lola_model.specs.Journal.{IsLegal, accepted, rows_of}
+use Rattle.lola_model.specs.Faults.{RunFault}
+use Rattle.lola_model.specs.Steps.{all_steps}
+use Rattle.lola_model.specs.Texts.{text_of}
+use Rattle.lola_model.specs.Trace.{trace_line, trace_text}
+use Rattle.lola_model.specs.Runs.{settled_fault, final_lines, first_fault}
+use Rattle.lola_model.specs.declared.plan.Plan.{Plan}
+use Rattle.lola_model.specs.declared.spec.Stream.{Stream}
+use Rattle.lola_model.specs.declared.journal.Row.{Row}
+use Rattle.lola_model.specs.declared.journal.Entry.{Entry}
+use Rattle.lola_model.specs.declared.journal.Mark.TheVariants as mark
+use Rattle.lola_model.specs.declared.journal.Show.TheVariants.{Triggers}
+use Rattle.lola_model.specs.declared.source.MalformedKind.TheVariants.{Unbuilt}
+use Rattle.lola_form.specs.Planned.{IsPlanOfBytes}
+use Rattle.lola_lines.specs.Lines.{SourceRows, SourceEnd, Whole, MalformedAt, rows_of_source, input_names}
+use Rattle.lola_report.specs.Ends.{end_text}
+use Rattle.lola_report.specs.declared.end.EndLine.{EndLine}
+use Rattle.lola_report.specs.declared.end.EndLine.TheVariants.{Done, Usage, Refused, Malformed, Fault, UnreadableSpecification, UnreadableSource}
+use Rattle.lola_monitor.specs.Command.{Names, command_of, names_of}
+
+-- all that a call of the monitor is lent
+pub record Outside : Type 0 where
+  pub shelf : ShelfState
+  pub out : SinkState
+  pub trace : SinkState
+
+abbrev pub outside : ShelfState → SinkState → SinkState → Outside
+outside shelf out trace = record { shelf = shelf; out = out; trace = trace }
+
+-- an ask that was not given, or whose source has failed
+abbrev pub is_faulty : Ask → Bool
+is_faulty ask = not ask.given || nat_lt 0 ask.count
+
+-- the place of the first faulty ask
+abbrev pub first_faulty : List Ask → Option ℕ
+first_faulty [] = None
+first_faulty (ask ∷ asks) = if is_faulty ask then Some 0 else option_map (λ n. n + 1) (first_faulty asks)
+
+-- the asks of this call
+abbrev pub asks_between : ShelfState → ShelfState → List Ask
+asks_between before after = drop (length before.asks) after.asks
+
+-- the list is a front of the other
+abbrev pub IsFrontOf : List (List ℕ) → List (List ℕ) → Type 0
+IsFrontOf xs ys = (rest : List (List ℕ)) × (ys ≡ xs ++ rest)
+
+-- the shelf was asked for the first of these names in their order, and has each source back
+pub record Asked (names : List (List ℕ)) (before after : ShelfState) : Type 0 where
+  pub kept : take (length before.asks) after.asks ≡ before.asks
+  pub front : IsFrontOf (map (λ ask. ask.name) (asks_between before after)) names
+  pub home : after.out ≡ before.out
+
+-- the sink received a text, or its count rose and it received a proper part of that text
+abbrev pub Wrote : SinkState → SinkState → List ℕ → Type 0
+Wrote old new text = (new ≡ grown old text) ⊎ PutBroke old new text
+
+-- the most rows of a source
+abbrev pub most_rows : ℕ
+most_rows = 1099511627776
+
+-- the rows and the end of a source with these bytes
+abbrev pub source_rows : Plan → List ℕ → SourceRows
+source_rows plan bytes = rows_of_source (input_names plan.spec.streams) 0 most_rows bytes
+
+-- where the source tells its bytes, it has these rows and this end
+abbrev pub Ends : Option (List ℕ) → Plan → List Row → SourceEnd → Type 0
+Ends told plan rows end = (bytes : List ℕ) → told ≡ Some bytes → source_rows plan bytes ≡ record { rows = rows; end = end }
+
+-- where the source tells its bytes, these are its first rows
+abbrev pub Begins : Option (List ℕ) → Plan → List Row → Type 0
+Begins told plan rows = (bytes : List ℕ) → told ≡ Some bytes → (rest : List Row) × ((source_rows plan bytes).rows ≡ rows ++ rest)
+
+-- how many entries are late
+abbrev pub add_late : Entry → ℕ → ℕ
+add_late e count = elim e.mark [ mark.Accepted ↦ count | mark.Late m ↦ count + 1 ]
+
+abbrev pub late_count : List Entry → ℕ
+late_count [] = 0
+late_count (e ∷ es) = add_late e (late_count es)
+
+-- the last line of a run that ends well: how many rows were accepted and late, steps run and lines written
+abbrev pub done_line : Plan → List Entry → EndLine
+done_line plan journal =
+    Done (length (accepted journal)) (late_count journal) (length (all_steps plan.pacings None (accepted journal))) (length (final_lines plan None journal Triggers))
+
+-- all verdicts of a journal's rows
+abbrev pub verdicts : Plan → List Entry → List ℕ
+verdicts plan journal = text_of (final_lines plan None journal Triggers)
+
+abbrev pub name_in : Option Stream → List ℕ
+name_in None = []
+name_in (Some s) = s.name
+
+abbrev pub fault_line : Plan → RunFault → EndLine
+fault_line plan fault = Fault (name_in (slice_get plan.spec.streams fault.stream)) fault.kind fault.time
+
+-- each entry is of a source of this call
+abbrev pub AreOfSources : ℕ → List Entry → Type 0
+AreOfSources count journal = All (λ (e : Entry). e.row.source < count) journal
+
+-- rows were taken under a specification: they stand in one legal journal, which is the trace
+pub record Ran (words : List (List ℕ)) (before after : Outside) : Type 0 where
+  pub names : Names
+  pub is_command : command_of words ≡ Some names
+  pub plan : Plan
+  pub is_plan : (bytes : List ℕ) → before.shelf.told names.specification ≡ Some bytes → IsPlanOfBytes bytes plan
+  pub journal : List Entry
+  pub legal : IsLegal None journal
+  pub sources : AreOfSources 1 journal
+  pub trace : after.trace ≡ grown before.trace (trace_text journal)
+
+-- all rows of the source were taken, and it ends well
+pub record IsDone (words : List (List ℕ)) (before after : Outside) : Type 0 where
+  pub run : Ran words before after
+  pub rows : Ends (before.shelf.told run.names.source) run.plan (rows_of 0 run.journal) Whole
+  pub no_fault : first_fault run.plan None run.journal ≡ None
+  pub out : after.out ≡ grown before.out (verdicts run.plan run.journal ++ end_text (done_line run.plan run.journal))
+  pub asks : asks_between before.shelf after.shelf ≡ map given_ask (names_of run.names)
+  pub count : after.shelf.count ≡ before.shelf.count
+
+-- the words are no command: nothing is asked, and nothing is traced
+pub record IsUsage (words : List (List ℕ)) (before after : Outside) : Type 0 where
+  pub no_command : command_of words ≡ None
+  pub shelf : after.shelf ≡ before.shelf
+  pub trace : after.trace ≡ before.trace
+  pub out : Wrote before.out after.out (end_text Usage)
+
+-- the specification was read, and spells no plan
+pub record IsRefused (words : List (List ℕ)) (before after : Outside) : Type 0 where
+  pub names : Names
+  pub is_command : command_of words ≡ Some names
+  pub no_plan : (bytes : List ℕ) → before.shelf.told names.specification ≡ Some bytes → (plan : Plan) → IsPlanOfBytes bytes plan → ⊥
+  pub asks : asks_between before.shelf after.shelf ≡ given_ask names.specification ∷ []
+  pub count : after.shelf.count ≡ before.shelf.count
+  pub trace : after.trace ≡ before.trace
+  pub out : Wrote before.out after.out (end_text (Refused (record { code = code.Unbuilt; at = 0 })))
+
+-- all rows of the source before a line of another form were taken
+pub record IsMalformed (words : List (List ℕ)) (before after : Outside) : Type 0 where
+  pub run : Ran words before after
+  pub row : ℕ
+  pub rows : Ends (before.shelf.told run.names.source) run.plan (rows_of 0 run.journal) (MalformedAt row)
+  pub no_fault : first_fault run.plan None run.journal ≡ None
+  pub out : after.out ≡ grown before.out (verdicts run.plan run.journal ++ end_text (Malformed 0 row Unbuilt))
+  pub asks : asks_between before.shelf after.shelf ≡ map given_ask (names_of run.names)
+  pub count : after.shelf.count ≡ before.shelf.count
+
+-- the journal ends with the row at whose step the settled steps first have this fault
+pub record IsRowFault (plan : Plan) (journal : List Entry) (fault : RunFault) : Type 0 where
+  pub front : List Entry
+  pub row : Row
+  pub whole : journal ≡ front ++ record { row = row; mark = mark.Accepted } ∷ []
+  pub none_before : settled_fault plan None front ≡ None
+  pub settled : settled_fault plan None journal ≡ Some fault
+
+-- no row's step has a fault: it stands at the deadline of the last stamp, and the whole source was read
+pub record IsDeadlineFault (told : Option (List ℕ)) (plan : Plan) (journal : List Entry) : Type 0 where
+  pub settled : settled_fault plan None journal ≡ None
+  pub end : SourceEnd
+  pub rows : Ends told plan (rows_of 0 journal) end
+
+-- the first rows of the source were taken, up to the first fault
+pub record IsFault (words : List (List ℕ)) (before after : Outside) : Type 0 where
+  pub run : Ran words before after
+  pub fault : RunFault
+  pub rows : Begins (before.shelf.told run.names.source) run.plan (rows_of 0 run.journal)
+  pub is_fault : first_fault run.plan None run.journal ≡ Some fault
+  pub stands : IsRowFault run.plan run.journal fault ⊎ IsDeadlineFault (before.shelf.told run.names.source) run.plan run.journal
+  pub out : Wrote before.out after.out (verdicts run.plan run.journal ++ end_text (fault_line run.plan fault))
+  pub asks : asks_between before.shelf after.shelf ≡ map given_ask (names_of run.names)
+  pub count : after.shelf.count ≡ before.shelf.count
+
+-- the specification was not given, or could not be read
+pub record IsUnread (words : List (List ℕ)) (before after : Outside) : Type 0 where
+  pub names : Names
+  pub is_command : command_of words ≡ Some names
+  pub faulty : first_faulty (asks_between before.shelf after.shelf) ≡ Some 0
+  pub rose : Rose before.shelf.count after.shelf.count
+  pub trace : after.trace ≡ before.trace
+  pub out : Wrote before.out after.out (end_text UnreadableSpecification)
+
+-- the source was not given, or its first rows were taken and then it could not be read
+pub record IsCutShort (words : List (List ℕ)) (before after : Outside) : Type 0 where
+  pub run : Ran words before after
+  pub rows : Begins (before.shelf.told run.names.source) run.plan (rows_of 0 run.journal)
+  pub no_fault : first_fault run.plan None run.journal ≡ None
+  pub ask : Ask
+  pub asks : asks_between before.shelf after.shelf ≡ given_ask run.names.specification ∷ ask ∷ []
+  pub faulty : is_faulty ask ≡ true
+  pub unless_given : ask.given ≡ false → run.journal ≡ []
+  pub rose : Rose before.shelf.count after.shelf.count
+  pub out : Wrote before.out after.out (verdicts run.plan run.journal ++ end_text (UnreadableSource 0))
+
+-- the sink received the lines of a journal, and a proper part of one more
+pub record HasLines (old new : SinkState) (journal : List Entry) : Type 0 where
+  pub entry : Entry
+  pub part : List ℕ
+  pub is_part : IsProperPart part (trace_line entry)
+  pub written : new.written ≡ append_known old.written (trace_text journal ++ part)
+
+-- the sink received a front of a text
+pub record HasFrontOf (old new : SinkState) (text : List ℕ) : Type 0 where
+  pub part : List ℕ
+  pub rest : List ℕ
+  pub joined : text ≡ part ++ rest
+  pub written : new.written ≡ append_known old.written part
+
+-- a run that broke off: the trace has whole lines and a proper part of one more, and `out` a front of
+-- what belongs to these lines
+pub record BrokeOff (words : List (List ℕ)) (before after : Outside) : Type 0 where
+  pub names : Names
+  pub is_command : command_of words ≡ Some names
+  pub plan : Plan
+  pub is_plan : (bytes : List ℕ) → before.shelf.told names.specification ≡ Some bytes → IsPlanOfBytes bytes plan
+  pub journal : List Entry
+  pub legal : IsLegal None journal
+  pub sources : AreOfSources 1 journal
+  pub rows : Begins (before.shelf.told names.source) plan (rows_of 0 journal)
+  pub trace : HasLines before.trace after.trace journal
+  pub line : EndLine
+  pub out : HasFrontOf before.out after.out (verdicts plan journal ++ end_text line)
+
+-- a put failed, and no row before it had a fault
+pub record IsBroken (words : List (List ℕ)) (before after : Outside) : Type 0 where
+  pub off : BrokeOff words before after
+  pub no_fault : settled_fault off.plan None off.journal ≡ None
+  pub rose : Rose before.out.count after.out.count ⊎ Rose before.trace.count after.trace.count
+
+-- no memory before any row
+pub record IsEarly (before after : Outside) : Type 0 where
+  pub trace : after.trace ≡ before.trace
+  pub out : after.out ≡ before.out
+
+-- no other status comes
+abbrev pub IsStatus : ℕ → Type 0
+IsStatus n = (n ≡ 0) ⊎ ((n < 9) × (1 < n))
+
+-- a command whose specification and source are told and right, whose rows have no fault, and whose
+-- objects have not failed
+pub record IsClean (words : List (List ℕ)) (before after : Outside) : Type 0 where
+  pub names : Names
+  pub is_command : command_of words ≡ Some names
+  pub specification : List ℕ
+  pub specification_is : before.shelf.told names.specification ≡ Some specification
+  pub plan : Plan
+  pub is_plan : IsPlanOfBytes specification plan
+  pub source : List ℕ
+  pub source_is : before.shelf.told names.source ≡ Some source
+  pub ends : (other : Plan) → IsPlanOfBytes specification other → (source_rows other source).end ≡ Whole
+  pub no_fault : (other : Plan) (journal : List Entry) → IsPlanOfBytes specification other → after.trace ≡ grown before.trace (trace_text journal) → first_fault other None journal ≡ None
+  pub shelf : Rose before.shelf.count after.shelf.count → ⊥
+  pub out : Rose before.out.count after.out.count → ⊥
+  pub trace : Rose before.trace.count after.trace.count → ⊥
+
+-- a command whose specification is told and spells no plan, on a shelf that has not failed
+pub record IsSpoiled (words : List (List ℕ)) (before after : Outside) : Type 0 where
+  pub names : Names
+  pub is_command : command_of words ≡ Some names
+  pub specification : List ℕ
+  pub specification_is : before.shelf.told names.specification ≡ Some specification
+  pub no_plan : (plan : Plan) → IsPlanOfBytes specification plan → ⊥
+  pub shelf : Rose before.shelf.count after.shelf.count → ⊥

@@ -1,0 +1,259 @@
+-- What the parts of the top call leave, before its last line.
+use Rattle.std.specs.Prelude.{◌≡◌, ◌⊎◌, ℕ, ◌<◌, List, [], ◌∷◌, ◌++◌, length, map, true, false, None, Some, Option}
+use Rattle.lola_port.specs.Asks.{given_ask}
+use Rattle.lola_port.specs.States.{Moved, PutBroke, Rose, ShelfState, SinkState, SourceState, grown}
+use Rattle.lola_port.specs.declared.traits.Ask.{Ask}
+use Rattle.lola_value.specs.declared.front.Code.TheVariants as code
+use Rattle.lola_value.specs.declared.front.FrontEnd.{FrontEnd}
+use Rattle.lola_value.specs.declared.front.FrontEnd.TheVariants as front_end
+use Rattle.lola_model.specs.Journal.{IsLegal, rows_of}
+use Rattle.lola_model.specs.Faults.{RunFault}
+use Rattle.lola_model.specs.Trace.{trace_text}
+use Rattle.lola_model.specs.Runs.{first_fault, settled_fault}
+use Rattle.lola_model.specs.declared.plan.Plan.{Plan}
+use Rattle.lola_model.specs.declared.journal.Entry.{Entry}
+use Rattle.lola_model.specs.declared.source.MalformedKind.TheVariants.{Unbuilt}
+use Rattle.lola_form.specs.Planned.{IsPlanOfBytes}
+use Rattle.lola_lines.specs.Lines.{SourceEnd, Whole, MalformedAt}
+use Rattle.lola_report.specs.Ends.{end_text}
+use Rattle.lola_report.specs.declared.end.EndLine.{EndLine}
+use Rattle.lola_report.specs.declared.end.EndLine.TheVariants.{Done, Usage, Refused, Malformed, Fault, UnreadableSpecification, UnreadableSource, Analysed}
+use Rattle.lola_monitor.specs.Command.{Names, command_of, names_of}
+use Rattle.lola_monitor.specs.Monitor.{AreOfSources, Begins, BrokeOff, Ends, HasFrontOf, HasLines, IsBroken, IsDeadlineFault, IsEarly, IsRowFault, Outside, Ran, asks_between, done_line, fault_line, first_faulty, is_faulty, verdicts}
+use Rattle.lola_monitor.specs.Parts.{Keeping}
+use Rattle.lola_monitor.specs.declared.outcome.Stop.{Stop}
+use Rattle.lola_monitor.specs.declared.outcome.Stop.TheVariants as stop
+use Rattle.lola_monitor.specs.declared.outcome.Outcome.{Outcome}
+use Rattle.lola_monitor.specs.declared.outcome.Outcome.TheVariants.{Line, Put, Memory}
+
+-- what was read of all bytes: all of them, or more than so many
+abbrev pub IsReadFront : ℕ → List ℕ → List ℕ → Type 0
+IsReadFront most bytes all = (bytes ≡ all) ⊎ ((most < length bytes) × (rest : List ℕ) × (all ≡ bytes ++ rest))
+
+-- so many bytes were read from a source and appended
+pub record AppendsRead (count : ℕ) (before after : List ℕ) (old new : SourceState) : Type 0 where
+  pub more : List ℕ
+  pub appended : after ≡ before ++ more
+  pub count_is : length more ≡ count
+  pub moved : Moved old new more
+
+-- the shelf with one ask more, whose source is back and has not failed
+abbrev pub noted : ShelfState → List ℕ → ShelfState
+noted shelf name = record shelf { asks = shelf.asks ++ given_ask name ∷ [] }
+
+-- one ask more, which is faulty
+pub record Marred (name : List ℕ) (before after : ShelfState) : Type 0 where
+  pub ask : Ask
+  pub name_is : ask.name ≡ name
+  pub faulty : is_faulty ask ≡ true
+  pub asks : after.asks ≡ before.asks ++ ask ∷ []
+  pub out : after.out ≡ before.out
+  pub told : after.told ≡ before.told
+  pub rose : Rose before.count after.count
+
+-- no memory: the name was asked for or not
+pub record Stopped (name : List ℕ) (before after : ShelfState) : Type 0 where
+  pub asks : (after.asks ≡ before.asks) ⊎ ((ask : Ask) × (ask.name ≡ name) × (after.asks ≡ before.asks ++ ask ∷ []))
+  pub out : after.out ≡ before.out
+
+-- the rows that were taken of a source, with their trace and their verdicts
+pub record SourceRun (plan : Plan) (before after : Outside) : Type 0 where
+  pub journal : List Entry
+  pub legal : IsLegal None journal
+  pub sources : AreOfSources 1 journal
+  pub trace : after.trace ≡ grown before.trace (trace_text journal)
+  pub out : after.out ≡ grown before.out (verdicts plan journal)
+
+-- a source was run to its end
+pub record EndedRun (end : SourceEnd) (plan : Plan) (name : List ℕ) (before after : Outside) : Type 0 where
+  pub run : SourceRun plan before after
+  pub shelf : after.shelf ≡ noted before.shelf name
+  pub rows : Ends (before.shelf.told name) plan (rows_of 0 run.journal) end
+  pub no_fault : first_fault plan None run.journal ≡ None
+  pub settled : settled_fault plan None run.journal ≡ None
+
+-- a source was run to its end, and ends well
+pub record DoneRun (line : EndLine) (plan : Plan) (name : List ℕ) (before after : Outside) : Type 0 where
+  pub ended : EndedRun Whole plan name before after
+  pub line_is : line ≡ done_line plan ended.run.journal
+
+-- a source was run to a line of another form
+pub record MalformedRun (line : EndLine) (row : ℕ) (plan : Plan) (name : List ℕ) (before after : Outside) : Type 0 where
+  pub ended : EndedRun (MalformedAt row) plan name before after
+  pub line_is : line ≡ Malformed 0 row Unbuilt
+
+-- a source was run to the first fault
+pub record FaultRun (line : EndLine) (plan : Plan) (name : List ℕ) (before after : Outside) : Type 0 where
+  pub run : SourceRun plan before after
+  pub shelf : after.shelf ≡ noted before.shelf name
+  pub fault : RunFault
+  pub rows : Begins (before.shelf.told name) plan (rows_of 0 run.journal)
+  pub is_fault : first_fault plan None run.journal ≡ Some fault
+  pub stands : IsRowFault plan run.journal fault
+  pub line_is : line ≡ fault_line plan fault
+
+-- a source was run until it could not be read, or was not given
+pub record CutRun (line : EndLine) (plan : Plan) (name : List ℕ) (before after : Outside) : Type 0 where
+  pub run : SourceRun plan before after
+  pub shelf : Marred name before.shelf after.shelf
+  pub rows : Begins (before.shelf.told name) plan (rows_of 0 run.journal)
+  pub no_fault : first_fault plan None run.journal ≡ None
+  pub unless_given : shelf.ask.given ≡ false → run.journal ≡ []
+  pub line_is : line ≡ UnreadableSource 0
+
+-- what stands of a run that was cut short
+pub record CutFacts (plan : Plan) (name : List ℕ) (before after : Outside) : Type 0 where
+  pub journal : List Entry
+  pub legal : IsLegal None journal
+  pub sources : AreOfSources 1 journal
+  pub rows : Begins (before.shelf.told name) plan (rows_of 0 journal)
+  pub trace : HasLines before.trace after.trace journal
+  pub out : HasFrontOf before.out after.out (verdicts plan journal)
+
+-- a source was run until a put failed
+pub record BrokenRun (plan : Plan) (name : List ℕ) (before after : Outside) : Type 0 where
+  pub shelf : Stopped name before.shelf after.shelf
+  pub cut : CutFacts plan name before after
+  pub no_fault : settled_fault plan None cut.journal ≡ None
+  pub rose : Rose before.out.count after.out.count ⊎ Rose before.trace.count after.trace.count
+
+-- a source was run, or asked for, until there was no memory
+pub record StoppedRun (plan : Plan) (name : List ℕ) (before after : Outside) : Type 0 where
+  pub shelf : Stopped name before.shelf after.shelf
+  pub cut : CutFacts plan name before after ⊎ IsEarly before after
+
+-- a run of a source
+abbrev pub RunsSource : Outcome → Plan → List ℕ → Outside → Outside → Type 0
+RunsSource (Line (Done a l s v)) plan name before after = DoneRun (Done a l s v) plan name before after
+RunsSource (Line (Malformed n row kind)) plan name before after = MalformedRun (Malformed n row kind) row plan name before after
+RunsSource (Line (Fault stream kind time)) plan name before after = FaultRun (Fault stream kind time) plan name before after
+RunsSource (Line (UnreadableSource n)) plan name before after = CutRun (UnreadableSource n) plan name before after
+RunsSource (Line Usage) plan name before after = ⊥
+RunsSource (Line (Refused r)) plan name before after = ⊥
+RunsSource (Line UnreadableSpecification) plan name before after = ⊥
+RunsSource (Line (Analysed s w)) plan name before after = ⊥
+RunsSource Put plan name before after = BrokenRun plan name before after
+RunsSource Memory plan name before after = StoppedRun plan name before after
+
+-- what a refusal makes of a call
+abbrev pub without_plan : FrontEnd → Outcome
+without_plan (front_end.Refused r) = Line (Refused r)
+without_plan front_end.Memory = Memory
+
+-- what a run's end makes of a call
+abbrev pub OutcomeAfter : Stop → Plan → Keeping → Outcome → Type 0
+OutcomeAfter stop.Ended plan kept outcome = outcome ≡ Line (Done kept.accepted kept.late kept.engine.steps kept.engine.lines)
+OutcomeAfter (stop.Malformed row) plan kept outcome = outcome ≡ Line (Malformed 0 row Unbuilt)
+OutcomeAfter stop.ReadFault plan kept outcome = outcome ≡ Line (UnreadableSource 0)
+OutcomeAfter (stop.Fault stream kind time) plan kept outcome = (outcome ≡ Line (fault_line plan (record { stream = stream; kind = kind; time = time }))) ⊎ (outcome ≡ Memory)
+OutcomeAfter stop.Put plan kept outcome = outcome ≡ Put
+OutcomeAfter stop.Memory plan kept outcome = outcome ≡ Memory
+
+-- all but the last line: rows were taken
+pub record Stood (words : List (List ℕ)) (before after : Outside) : Type 0 where
+  pub run : Ran words before after
+  pub out : after.out ≡ grown before.out (verdicts run.plan run.journal)
+  pub rows : Begins (before.shelf.told run.names.source) run.plan (rows_of 0 run.journal)
+
+-- all but the last line: a source was run to its end
+pub record StoodEnded (end : SourceEnd) (words : List (List ℕ)) (before after : Outside) : Type 0 where
+  pub stood : Stood words before after
+  pub rows : Ends (before.shelf.told stood.run.names.source) stood.run.plan (rows_of 0 stood.run.journal) end
+  pub no_fault : first_fault stood.run.plan None stood.run.journal ≡ None
+  pub settled : settled_fault stood.run.plan None stood.run.journal ≡ None
+  pub asks : asks_between before.shelf after.shelf ≡ map given_ask (names_of stood.run.names)
+  pub count : after.shelf.count ≡ before.shelf.count
+
+pub record StoodDone (line : EndLine) (words : List (List ℕ)) (before after : Outside) : Type 0 where
+  pub ended : StoodEnded Whole words before after
+  pub line_is : line ≡ done_line ended.stood.run.plan ended.stood.run.journal
+
+pub record StoodMalformed (line : EndLine) (row : ℕ) (words : List (List ℕ)) (before after : Outside) : Type 0 where
+  pub ended : StoodEnded (MalformedAt row) words before after
+  pub line_is : line ≡ Malformed 0 row Unbuilt
+
+-- all but the last line: a source was run to the first fault
+pub record StoodFault (line : EndLine) (words : List (List ℕ)) (before after : Outside) : Type 0 where
+  pub stood : Stood words before after
+  pub fault : RunFault
+  pub is_fault : first_fault stood.run.plan None stood.run.journal ≡ Some fault
+  pub stands : IsRowFault stood.run.plan stood.run.journal fault
+  pub asks : asks_between before.shelf after.shelf ≡ map given_ask (names_of stood.run.names)
+  pub count : after.shelf.count ≡ before.shelf.count
+  pub line_is : line ≡ fault_line stood.run.plan fault
+
+-- all but the last line: a source was not given, or could not be read to its end
+pub record StoodCut (line : EndLine) (words : List (List ℕ)) (before after : Outside) : Type 0 where
+  pub stood : Stood words before after
+  pub no_fault : first_fault stood.run.plan None stood.run.journal ≡ None
+  pub ask : Ask
+  pub asks : asks_between before.shelf after.shelf ≡ given_ask stood.run.names.specification ∷ ask ∷ []
+  pub faulty : is_faulty ask ≡ true
+  pub unless_given : ask.given ≡ false → stood.run.journal ≡ []
+  pub rose : Rose before.shelf.count after.shelf.count
+  pub line_is : line ≡ UnreadableSource 0
+
+-- all but the last line: the words are no command
+pub record NoCommand (words : List (List ℕ)) (before after : Outside) : Type 0 where
+  pub no_command : command_of words ≡ None
+  pub shelf : after.shelf ≡ before.shelf
+  pub early : IsEarly before after
+
+-- all but the last line: the specification spells no plan
+pub record NoPlan (line : EndLine) (words : List (List ℕ)) (before after : Outside) : Type 0 where
+  pub names : Names
+  pub is_command : command_of words ≡ Some names
+  pub no_plan : (bytes : List ℕ) → before.shelf.told names.specification ≡ Some bytes → (plan : Plan) → IsPlanOfBytes bytes plan → ⊥
+  pub asks : asks_between before.shelf after.shelf ≡ given_ask names.specification ∷ []
+  pub count : after.shelf.count ≡ before.shelf.count
+  pub early : IsEarly before after
+  pub line_is : line ≡ Refused (record { code = code.Unbuilt; at = 0 })
+
+-- all but the last line: the specification was not read
+pub record NotRead (words : List (List ℕ)) (before after : Outside) : Type 0 where
+  pub names : Names
+  pub is_command : command_of words ≡ Some names
+  pub faulty : first_faulty (asks_between before.shelf after.shelf) ≡ Some 0
+  pub rose : Rose before.shelf.count after.shelf.count
+  pub early : IsEarly before after
+
+-- all but the last line
+abbrev pub Works : Outcome → List (List ℕ) → Outside → Outside → Type 0
+Works (Line (Done a l s v)) words before after = StoodDone (Done a l s v) words before after
+Works (Line (Malformed n row kind)) words before after = StoodMalformed (Malformed n row kind) row words before after
+Works (Line (Fault stream kind time)) words before after = StoodFault (Fault stream kind time) words before after
+Works (Line (UnreadableSource n)) words before after = StoodCut (UnreadableSource n) words before after
+Works (Line Usage) words before after = NoCommand words before after
+Works (Line (Refused r)) words before after = NoPlan (Refused r) words before after
+Works (Line UnreadableSpecification) words before after = NotRead words before after
+Works (Line (Analysed s w)) words before after = ⊥
+Works Put words before after = IsBroken words before after
+Works Memory words before after = IsEarly before after ⊎ BrokeOff words before after
+
+abbrev pub status_with : EndLine → ℕ
+status_with (Done a l s v) = 0
+status_with Usage = 2
+status_with (Refused r) = 3
+status_with (Malformed n row kind) = 4
+status_with (Fault stream kind time) = 5
+status_with UnreadableSpecification = 6
+status_with (UnreadableSource n) = 6
+status_with (Analysed s w) = 0
+
+-- what a failed last line makes of a status
+abbrev pub status_without : EndLine → ℕ
+status_without (Done a l s v) = 7
+status_without Usage = 2
+status_without (Refused r) = 3
+status_without (Malformed n row kind) = 7
+status_without (Fault stream kind time) = 5
+status_without UnreadableSpecification = 6
+status_without (UnreadableSource n) = 6
+status_without (Analysed s w) = 7
+
+-- the last line was put, or a part of it, or there was no memory
+abbrev pub Concluded : ℕ → Outcome → SinkState → SinkState → Type 0
+Concluded status (Line line) old new =
+    ((status ≡ status_with line) × (new ≡ grown old (end_text line))) ⊎ (((status ≡ status_without line) × PutBroke old new (end_text line)) ⊎ ((status ≡ 8) × (new ≡ old)))
+Concluded status Put old new = (status ≡ 7) × (new ≡ old)
+Concluded status Memory old new = (status ≡ 8) × (new ≡ old)

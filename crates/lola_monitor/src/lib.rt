@@ -1,0 +1,13 @@
+//! The monitor's one call: all that the program does.
+#![tactic(auto)]
+
+mod command;
+mod monitor;
+mod outcome;
+mod reading;
+mod rows;
+mod run;
+mod source;
+mod putting;
+
+pub use monitor::run_monitor;

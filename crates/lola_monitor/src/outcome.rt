@@ -1,0 +1,33 @@
+//! How a run stops, and how a call ends before its last line is put.
+
+use lola_report::end::EndLine;
+use lola_value::value::FaultKind;
+
+/// Why a run takes no further row.
+#[derive(Clone, Copy, Debug, PartialEq, Eq)]
+pub enum Stop {
+    /// The source has ended well.
+    Ended,
+    /// The source has a line of another form, the row of this number.
+    Malformed(u64),
+    /// A read of the source failed.
+    ReadFault,
+    /// A row has a fault: the stream, its kind, and the row's time in nanoseconds.
+    Fault {
+        stream: u32,
+        kind: FaultKind,
+        time: u64,
+    },
+    /// A put failed.
+    Put,
+    /// There is no memory.
+    Memory,
+}
+
+/// A call ends with a line, or with a failed put, or for want of memory.
+#[derive(Drop)]
+pub enum Outcome {
+    Line(EndLine),
+    Put,
+    Memory,
+}

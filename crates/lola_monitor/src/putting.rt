@@ -1,0 +1,111 @@
+//! Lines that are put to a sink.
+ghost use Rattle.std.specs.Prelude.{◌≡◌, ◌<◌, IfOk, length};
+ghost use Rattle.lola_model.specs.Trace.{trace_line};
+ghost use Rattle.lola_report.specs.Ends.{end_text};
+ghost use Rattle.lola_monitor.specs.Outcomes.{Concluded, status_with, status_without};
+ghost use Rattle.lola_monitor.specs.Parts.{Puts};
+
+use crate::outcome::{Outcome, Stop};
+use lola_model::journal::Entry;
+use lola_port::{PutEnd, Sink};
+use lola_report::end::{EndLine, end_line};
+use lola_report::trace::trace_line;
+use lola_value::text::{Memory, Text};
+use std::alloc::Global;
+
+impl From<PutEnd> for Stop {
+    ghost use Rattle.std.specs.Prelude.{◌≡◌};
+    ghost use Rattle.lola_monitor.specs.Parts.{stop_of};
+
+    ghost from_gives = { λ end stop. stop ≡ stop_of end };
+
+    fn from(end: PutEnd) -> Self {
+        match end {
+            PutEnd::Failed => Stop::Put,
+            PutEnd::Memory => Stop::Memory,
+        }
+    }
+}
+
+impl From<Memory> for Stop {
+    ghost use Rattle.std.specs.Prelude.{◌≡◌};
+    ghost use Rattle.lola_monitor.specs.declared.outcome.Stop.TheVariants as stop;
+
+    ghost from_gives = { λ _ end. end ≡ stop.Memory };
+
+    fn from(_: Memory) -> Self {
+        Stop::Memory
+    }
+}
+
+/// Puts a text, unless it is empty.
+pub fn put_text<K: Sink>(text: &[u8], out: &mut K) -> Result<(), Stop>
+    ensures { Puts result text.now (K.state out.old) (K.state out.new) }
+{
+    if text.is_empty() {
+        return Ok(());
+    }
+    out.put(text)?;
+    Ok(())
+}
+
+/// Puts the line of an entry to the trace, made in a text that is kept.
+pub fn put_entry<T: Sink>(entry: &Entry, line: &mut Text, trace: &mut T) -> Result<(), Stop>
+    ensures { Puts result (trace_line entry.now) (T.state trace.old) (T.state trace.new) }
+{
+    line.clear();
+    trace_line(entry, line)?;
+    put_text(line.as_bytes(), trace)
+}
+
+// The text of a last line.
+fn line_text(alloc: Global, line: &EndLine) -> Result<Text, Memory>
+    ensures { IfOk result (λ text. text ≡ end_text line.now) }
+{
+    let mut text = Text::from_bytes(alloc, b"")?;
+    end_line(line, &mut text)?;
+    Ok(text)
+}
+
+// The status that goes with a last line.
+fn status_of(line: &EndLine) -> u8
+    ensures { result ≡ status_with line.now }
+{
+    match line {
+        EndLine::Done { .. } | EndLine::Analysed { .. } => 0,
+        EndLine::Usage => 2,
+        EndLine::Refused(_) => 3,
+        EndLine::Malformed { .. } => 4,
+        EndLine::Fault { .. } => 5,
+        EndLine::UnreadableSpecification | EndLine::UnreadableSource(_) => 6,
+    }
+}
+
+// The status where the last line was not put whole.
+fn status_without_line(line: &EndLine) -> u8
+    ensures { result ≡ status_without line.now }
+{
+    match line {
+        EndLine::Done { .. } | EndLine::Malformed { .. } | EndLine::Analysed { .. } => 7,
+        _ => status_of(line),
+    }
+}
+
+/// Puts the last line of a call, and answers its status.
+pub fn conclude<K: Sink>(alloc: Global, outcome: Outcome, out: &mut K) -> u8
+    ensures { Concluded result outcome (K.state out.old) (K.state out.new) }
+{
+    let line = match outcome {
+        Outcome::Line(line) => line,
+        Outcome::Put => return 7,
+        Outcome::Memory => return 8,
+    };
+    let Ok(text) = line_text(alloc, &line) else {
+        return 8;
+    };
+    match out.put(text.as_bytes()) {
+        Ok(()) => status_of(&line),
+        Err(PutEnd::Failed) => status_without_line(&line),
+        Err(PutEnd::Memory) => 8,
+    }
+}
