@@ -68,7 +68,8 @@ impl Sink for MemorySink {
     fn put(&mut self, bytes: &[u8]) -> Result<(), PutEnd>
         requires { 0 < length bytes.now }
         ensures ok { OnOk result (sink_state self.new ≡ grown (sink_state self.old) bytes.now) }
-        ensures failed { IsErrOf result PutEnd.Failed → PutBroke (sink_state self.old) (sink_state self.new) bytes.now }
+        ensures failed { IsErrOf result PutEnd.Failed →
+            PutBroke (sink_state self.old) (sink_state self.new) bytes.now }
         ensures memory { IsErrOf result PutEnd.Memory → sink_state self.new ≡ sink_state self.old }
 
         // what it is then, and which puts fail
@@ -110,7 +111,14 @@ impl Model for MemorySource {
 
     ghost Value = { MemorySourceState };
 
-    ghost view = { λ s. record { left = drop s.at s.bytes.items; piece = s.piece; fails = s.fails.items; reads = s.reads; count = s.faults; place = s.place } };
+    ghost view = { λ s. record {
+      left = drop s.at s.bytes.items;
+      piece = s.piece;
+      fails = s.fails.items;
+      reads = s.reads;
+      count = s.faults;
+      place = s.place;
+    } };
 
     ghost invariant = { λ s. (s.at ≤ length s.bytes.items) × (1 ≤ s.piece) };
 }
@@ -120,8 +128,10 @@ impl Source for MemorySource {
 
     fn read(&mut self, buf: &mut [u8]) -> Result<usize, ReadFailed>
         ensures within { ReadsAtMost result buf.new }
-        ensures moved { IfOk result (λ count. Moved (source_state self.old) (source_state self.new) (take count buf.new)) }
-        ensures end { IfOk result (λ count. count ≡ 0 → 0 < length buf.new → IsAtEnd (source_state self.new).left) }
+        ensures moved { IfOk result (λ count.
+            Moved (source_state self.old) (source_state self.new) (take count buf.new)) }
+        ensures end { IfOk result (λ count.
+            count ≡ 0 → 0 < length buf.new → IsAtEnd (source_state self.new).left) }
         ensures failed { OnErr result (ReadBroke (source_state self.old) (source_state self.new)) }
 
         // how many bytes, what it is then, and which reads fail

@@ -50,7 +50,13 @@ impl Model for MemoryShelf {
 
     ghost Value = { MemoryShelfState };
 
-    ghost view = { λ s. record { files = s.stored.items; failing = s.failing.items; asks = s.asks.items; count = s.faults; out = s.sources_out } };
+    ghost view = { λ s. record {
+      files = s.stored.items;
+      failing = s.failing.items;
+      asks = s.asks.items;
+      count = s.faults;
+      out = s.sources_out;
+    } };
 }
 
 impl MemoryShelf {
@@ -74,7 +80,10 @@ impl MemoryShelf {
         requires some { 1 ≤ piece }
         requires small { length bytes.now ≤ 2 ^ 62 }
         requires new { bytes_under self.old.files name.now ≡ None }
-        ensures ok { OnOk result (self.new ≡ record self.old { files = self.old.files ++ record { name = name.now; bytes = bytes.now; piece = piece; fails = fails.now } ∷ [] }) }
+        ensures ok { OnOk result (self.new ≡ record self.old {
+          files = self.old.files
+              ++ record { name = name.now; bytes = bytes.now; piece = piece; fails = fails.now } ∷ [];
+        }) }
         ensures err { OnErr result (self.new ≡ self.old) }
     {
         let stored = Stored {
@@ -119,13 +128,13 @@ impl MemoryShelf {
         }
     }
 
-    // Opens a source over the file of a name, and notes that.
+    // Hands a source out for a name, and notes that.
     fn lend(&mut self, name: &str, source: MemorySource) -> Result<MemorySource, FetchEnd>
         requires { self.old.out < 65536 }
         ensures ok { IfOk result (λ file. file ≡ source) }
         ensures lent { OnOk result (self.new ≡ lent_state self.old name.now) }
         ensures memory { OnErr result (self.new ≡ self.old) }
-        ensures no_other { result ≡ Err FetchEnd.Failed → IsFalse true }
+        ensures no_other { IsErrOf result FetchEnd.Failed → ⊥ }
     {
         match note(self.alloc, &mut self.asks, name, true) {
             Ok(()) => {
@@ -146,11 +155,13 @@ impl Shelf for MemoryShelf {
         requires { (shelf_state self.old).out < 65536 }
         ensures file { IfOk result (λ file. IsFresh (shelf_state self.old) name.now (source_state file)) }
         ensures given { OnOk result (shelf_state self.new ≡ lent (shelf_state self.old) name.now) }
-        ensures failed { IsErrOf result FetchEnd.Failed → FetchBroke (shelf_state self.old) (shelf_state self.new) name.now }
+        ensures failed { IsErrOf result FetchEnd.Failed →
+            FetchBroke (shelf_state self.old) (shelf_state self.new) name.now }
         ensures memory { IsErrOf result FetchEnd.Memory → shelf_state self.new ≡ shelf_state self.old }
 
         // which source, what the shelf is then, and which fetches fail
-        ensures opened { IfOk result (λ file. option_map (source_of (length self.old.asks)) (file_under self.old.files name.now) ≡ Some file) }
+        ensures opened { IfOk result (λ file.
+            option_map (source_of (length self.old.asks)) (file_under self.old.files name.now) ≡ Some file) }
         ensures lent { OnOk result (self.new ≡ lent_state self.old name.now) }
         ensures refused { IsErrOf result FetchEnd.Failed → self.new ≡ refused_state self.old name.now }
         ensures same { IsErrOf result FetchEnd.Memory → self.new ≡ self.old }

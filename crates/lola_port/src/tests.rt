@@ -61,7 +61,7 @@ fn objects_of_the_machine(rt: HostRuntime) -> Result<(), Fail> {
     fs::write(&rt, "rows_of_a_test.csv", "time,a\n")?;
     let mut shelf = FolderShelf::create(rt, rt.alloc());
     let Ok(mut file) = shelf.fetch("rows_of_a_test.csv") else {
-        return Err("no file")?;
+        return Err("no file".into());
     };
     let mut buf = [0u8; 16];
     assert_eq!(rt; file.read(&mut buf), Ok(7));

@@ -21,6 +21,7 @@ record IsScaledGcd (a b k g : ℕ) : Type 0 where
   here : IsGcd a b g
   scaled : IsGcd (a * k) (b * k) (g * k)
 
+-- there is one, by the remainders of the two numbers
 scaled_up_to : (most a b k : ℕ) → 0 < k → b < most → (g : ℕ) × IsScaledGcd a b k g
 scaled_up_to zero a b k h few = absurd (omega arith)
 scaled_up_to (suc most) a b k h few = ⊎_elim
@@ -46,6 +47,7 @@ divides_other n d q h coprime divides =
     let of_both : d ∣ g.0 * q = g.1.scaled.2 d divides (dvd-mul_right d q) in
     subst (λ x. d ∣ x) (ap (λ x. x * q) is_one ∙ one-mul q) of_both
 
+-- the greatest common divisor of parts in lowest terms is 1
 pub gcd_of_lowest : (r : Ratio) → IsLowest r → IsGcd r.num r.den 1
 gcd_of_lowest r lowest = (one-dvd r.num, one-dvd r.den, λ d a b. subst (λ x. x ∣ 1) (sym (lowest d a b)) (one-dvd 1))
 
@@ -86,6 +88,7 @@ pub record IsSameRatio (r q : Ratio) : Type 0 where
   pub num : r.num ≡ q.num
   pub den : r.den ≡ q.den
 
+-- in lowest terms there is one fraction of a number
 pub lowest_is_one : (r q : Ratio) → 0 < r.den → 0 < q.den → IsLowest r → IsLowest q → r.num * q.den ≡ q.num * r.den → IsSameRatio r q
 lowest_is_one r q hr hq lr lq same =
     let q_in_r : q.den ∣ r.den = divides_other q.num q.den r.den hr (gcd_of_lowest q lq) (subst (λ n. q.den ∣ n) same (dvd-mul_left q.den r.num)) in
@@ -96,5 +99,6 @@ lowest_is_one r q hr hq lr lq same =
       den = den;
     }
 
+-- fractions with the same parts are one
 pub same_ratio : (r q : Ratio) → IsSameRatio r q → r ≡ q
 same_ratio r q same = ap (λ n. let x : Ratio = record { num = n; den = r.den } in x) same.num ∙ ap (λ d. let x : Ratio = record { num = q.num; den = d } in x) same.den

@@ -19,6 +19,7 @@ one_used (suc (suc zero)) first a b c d few was = grind (arith, common_steps)
 one_used (suc (suc (suc zero))) first a b c d few was = refl
 one_used (suc (suc (suc (suc n)))) first a b c d few was = absurd (omega arith)
 
+-- a test and one that fails
 and_false : (b : Bool) → (b && false) ≡ false
 and_false true = refl
 and_false false = refl
@@ -34,20 +35,23 @@ other_lengths (suc n) (suc m) (x ∷ xs) [] h e ne = absurd (omega arith)
 other_lengths (suc n) (suc m) (x ∷ xs) (y ∷ ys) h e ne =
     rw (other_lengths n m xs ys (omega arith) (omega arith) (λ q. ne (ap suc q))) (and_false (values_same x y))
 
+-- parameters of two counts are not the same
 pub other_counts : (p q : Params) → p.count ≤ 4 → q.count ≤ 4 → p.count ≢ q.count → same_params p q ≡ false
 other_counts p q h e ne =
     other_lengths p.count q.count (p.at0 ∷ p.at1 ∷ p.at2 ∷ p.at3 ∷ []) (q.at0 ∷ q.at1 ∷ q.at2 ∷ q.at3 ∷ []) h e ne
 
--- values that are the same are one
+-- truth values that are the same are one
 same_bools : (a b : Bool) → bools_equal a b ≡ true → a ≡ b
 same_bools true true h = refl
 same_bools true false h = cc
 same_bools false true h = cc
 same_bools false false h = refl
 
+-- numbers that are no greater than each other are one
 same_integers : (a b : ℤ) → (int_le a b && int_le b a) ≡ true → a ≡ b
 same_integers a b h = grind (arith, ints)
 
+-- values that are the same are one
 pub same_values : (a b : Value) → values_same a b ≡ true → a ≡ b
 same_values (value.Bool a) (value.Bool b) h = ap value.Bool (same_bools a b h)
 same_values (value.Int a) (value.Int b) h = ap value.Int (same_integers a b h)
@@ -61,6 +65,7 @@ same_values (value.Int a) (value.Text b) h = cc
 same_values (value.Text a) (value.Bool b) h = cc
 same_values (value.Text a) (value.Int b) h = cc
 
+-- lists that are the same are one
 same_lists : (xs ys : List Value) → all_same xs ys ≡ true → xs ≡ ys
 same_lists [] [] h = refl
 same_lists [] (y ∷ ys) h = cc
@@ -75,6 +80,7 @@ unused_is (value.Bool false) h = refl
 unused_is (value.Int z) h = cc
 unused_is (value.Text id) h = cc
 
+-- as many unused places are one list
 unused_same : (xs ys : List Value) → length xs ≡ length ys → all_unused xs ≡ true → all_unused ys ≡ true → xs ≡ ys
 unused_same [] [] e h k = refl
 unused_same [] (y ∷ ys) e h k = absurd (omega arith)
@@ -87,12 +93,14 @@ unused_same (x ∷ xs) (y ∷ ys) e h k =
 abbrev pub places : Params → List Value
 places p = p.at0 ∷ p.at1 ∷ p.at2 ∷ p.at3 ∷ []
 
+-- parameters that are the same have one count
 same_counts : (p q : Params) → p.count ≤ 4 → q.count ≤ 4 → same_params p q ≡ true → p.count ≡ q.count
 same_counts p q h e same = ⊎_elim
     (λ is. is)
     (λ other. absurd (let no = other_counts p q h e other in cc))
     (cases_eq p.count q.count)
 
+-- parameters with one count and the same places are one
 same_parts : (p q : Params) → p.count ≡ q.count → places p ≡ places q → p ≡ q
 same_parts p q n l =
     let a : p.at0 ≡ q.at0 = cc in

@@ -20,6 +20,7 @@ pub record AreParts (num den g : ℕ) : Type 0 where
   pub positive : 0 < g
   pub gcd : IsGcd num den g
 
+-- the parts that a rate is made of
 pub parts : (num den g : ℕ) → (num ≡ 0 → ⊥) → (den ≡ 0 → ⊥) → 0 < g → IsGcd num den g → AreParts num den g
 parts num den g a b h gcd = record { num_positive = omega (arith, a); den_positive = omega (arith, b); positive = h; gcd = gcd }
 
@@ -39,6 +40,7 @@ same_number n d g num den a b =
     let right : n * g * d ≡ num * d = ap (λ x. x * d) a in
     omega (arith, left, right)
 
+-- and the rate of the two numbers
 pub is_rate_of : (num den g : ℕ) → AreParts num den g → IsWithinLimits (by_divisor num den g) → IsRateOf num den (by_divisor num den g)
 is_rate_of num den g p limits = record {
   divisor = p.den_positive;
@@ -74,6 +76,7 @@ ceil_is a d n h enough least =
     let high : (a + d - 1) / d < suc n = (div-lt_iff_lt-mul h).1 above in
     omega arith
 
+-- the number of the next deadline, by a quotient rounded up
 pub next_number_is : (r : Ratio) (t : ℕ) → IsRate r → div_ceil ((t + 1) * r.num) (period_over r) ≡ next_number r t
 next_number_is r t is =
     let positive : 0 < period_over r = let d : 0 < r.den = is.den in omega arith in
@@ -88,5 +91,6 @@ numbered n time = (n, time)
 in_time : (o : Option ℕ) (n d : ℕ) → o ≡ up_to_latest d → option_map (λ time. numbered n time) o ≡ (if nat_le d latest then Some (n, d) else None)
 in_time o n d is = ap (λ o. option_map (λ time. numbered n time) o) is ∙ elim (nat_le d latest) as (λ b. option_map (λ time. numbered n time) (if b then Some d else None) ≡ (if b then Some (n, d) else None)) [ true ↦ refl | false ↦ refl ]
 
+-- the answer for the next deadline, by its number
 pub next_in_time_is : (r : Ratio) (t n : ℕ) (o : Option ℕ) → n ≡ next_number r t → o ≡ up_to_latest (deadline r n) → option_map (λ time. numbered n time) o ≡ next_in_time r t
 next_in_time_is r t n o number is = in_time o n (deadline r n) is ∙ ap (λ k. if nat_le (deadline r k) latest then Some (k, deadline r k) else None) number

@@ -19,10 +19,12 @@ is_integer kind.Bool = false
 is_integer kind.Text = false
 is_integer _ = true
 
+-- the kind of truth values
 abbrev pub is_bool : Kind → Bool
 is_bool kind.Bool = true
 is_bool _ = false
 
+-- the kind of texts
 abbrev pub is_text : Kind → Bool
 is_text kind.Text = true
 is_text _ = false
@@ -58,25 +60,30 @@ pub record IsOperand (k : Kind) (z : ℤ) : Type 0 where
   pub integer : is_integer k ≡ true
   pub within : is_within k z ≡ true
 
+-- the same value, with texts by their numbers
 abbrev pub values_same : Value → Value → Bool
 values_same (value.Bool a) (value.Bool b) = bools_equal a b
 values_same (value.Int a) (value.Int b) = int_le a b && int_le b a
 values_same (value.Text a) (value.Text b) = nat_eq a.0 b.0
 values_same _ _ = false
 
+-- the same values, in order
 abbrev pub all_same : List Value → List Value → Bool
 all_same [] [] = true
 all_same (a ∷ as') (b ∷ bs) = values_same a b && all_same as' bs
 all_same _ _ = false
 
+-- what a place holds that is not used
 abbrev pub is_unused : Value → Bool
 is_unused (value.Bool b) = not b
 is_unused _ = false
 
+-- none of these places is used
 abbrev pub all_unused : List Value → Bool
 all_unused [] = true
 all_unused (v ∷ vs) = is_unused v && all_unused vs
 
+-- the same parameters, whatever the unused places hold
 abbrev pub same_params : Params → Params → Bool
 same_params p q = all_same (the_values p) (the_values q)
 

@@ -14,9 +14,11 @@ time_text t = decimal (t / 1000000000) ++ (46 ∷ nine_digits (t % 1000000000))
 abbrev pub latest : ℕ
 latest = 4000000000000000000
 
+-- the byte of a decimal digit
 abbrev pub is_digit : ℕ → Bool
 is_digit b = nat_le 48 b && nat_le b 57
 
+-- the byte of a point
 abbrev pub is_point : ℕ → Bool
 is_point b = nat_eq b 46
 
@@ -33,6 +35,7 @@ number_of digits = number_after 0 digits
 abbrev pub nanoseconds : List ℕ → List ℕ → ℕ
 nanoseconds whole decimals = number_of whole * 1000000000 + number_of (take 9 (decimals ++ replicate 9 48))
 
+-- a time, where it is no greater than the greatest
 abbrev pub up_to_latest : ℕ → Option ℕ
 up_to_latest t = if nat_le t latest then Some t else None
 
