@@ -1,0 +1,3 @@
+pub mod Tried
+pub mod Utf8
+pub mod Cut

@@ -1,0 +1,30 @@
+-- Tokens of the program, as they are seen.
+use Rattle.std.specs.Prelude.{ℕ, ◌≤◌, List, map}
+use Rattle.lola_form.specs.Tokens as token
+use Rattle.lola_form.specs.Tokens.{Token}
+use Rattle.lola_form.specs.declared.token.Token as code
+use Rattle.lola_form.specs.declared.token.Token.TheVariants as is
+use Rattle.lola_form.specs.declared.token.Placed.{Placed}
+
+abbrev pub seen : code.Token → Token
+seen is.Input = token.Input
+seen is.Output = token.Output
+seen is.Trigger = token.Trigger
+seen (is.Name text) = token.Name text.now
+seen (is.Integer digits) = token.Integer digits.now
+seen (is.Message text) = token.Message text.now
+seen is.Colon = token.Colon
+seen is.Define = token.Define
+seen is.Plus = token.Plus
+seen is.Minus = token.Minus
+seen is.Greater = token.Greater
+
+abbrev pub seen_at : code.Token × ℕ → Token × ℕ
+seen_at t = (seen t.0, t.1)
+
+abbrev pub seen_all : List Placed → List Token
+seen_all ts = map (λ t. seen t.token) ts
+
+-- at least one byte, and no more than there are
+abbrev pub IsWithin : ℕ → ℕ → Type 0
+IsWithin len n = (1 ≤ n) × (n ≤ len)
