@@ -1,2 +1,4 @@
 //! The first form of specifications: sums of inputs and triggers that compare them.
 #![tactic(auto)]
+
+mod token;
