@@ -1,3 +1,4 @@
 pub mod Tried
 pub mod Utf8
 pub mod Cut
+pub mod Advance

@@ -1,10 +1,12 @@
 -- Tokens of the program, as they are seen.
-use Rattle.std.specs.Prelude.{ℕ, ◌≤◌, List, map}
+use Rattle.std.specs.Prelude.{ℕ, ◌≤◌, List, ◌∷◌, map, Bool, true, false}
 use Rattle.lola_form.specs.Tokens as token
 use Rattle.lola_form.specs.Tokens.{Token}
 use Rattle.lola_form.specs.declared.token.Token as code
 use Rattle.lola_form.specs.declared.token.Token.TheVariants as is
 use Rattle.lola_form.specs.declared.token.Placed.{Placed}
+use Rattle.lola_form.specs.declared.reader.Sign.{Sign}
+use Rattle.lola_form.specs.declared.reader.Sign.TheVariants as sign
 
 abbrev pub seen : code.Token → Token
 seen is.Input = token.Input
@@ -28,3 +30,12 @@ seen_all ts = map (λ t. seen t.token) ts
 -- at least one byte, and no more than there are
 abbrev pub IsWithin : ℕ → ℕ → Type 0
 IsWithin len n = (1 ≤ n) × (n ≤ len)
+
+abbrev pub sign_token : Sign → Token
+sign_token sign.Plus = token.Plus
+sign_token sign.Minus = token.Minus
+
+abbrev pub begins_with_sign : List Token → Bool
+begins_with_sign (token.Plus ∷ ts) = true
+begins_with_sign (token.Minus ∷ ts) = true
+begins_with_sign ts = false

@@ -1,4 +1,5 @@
 //! The first form of specifications: sums of inputs and triggers that compare them.
 #![tactic(auto)]
 
+mod reader;
 mod token;
