@@ -2,3 +2,4 @@ pub mod Tried
 pub mod Utf8
 pub mod Cut
 pub mod Advance
+pub mod Numbers

@@ -1,7 +1,7 @@
 -- The first form of specifications: declarations of inputs, sums and comparisons of sums.
 use Rattle.std.specs.Prelude.{ℕ, zero, suc, List, [], ◌∷◌, ◌++◌, Option, Some, None, option_and_then, Bool, true, false, not, ◌&&◌, ◌||◌, if◌then◌else◌, nat_le, nat_lt, length, map, flat_map, codes, is_some}
+use Rattle.std.specs.List.{position_from}
 use Rattle.std.specs.Str.{bytes_eq}
-use Rattle.std.specs.Option.{option_map}
 use Rattle.lola_value.specs.Times.{number_of}
 use Rattle.lola_form.specs.Tokens as token
 use Rattle.lola_form.specs.Tokens.{Token, tokens_of}
@@ -42,8 +42,7 @@ is_name n (Some m) = bytes_eq m n
 
 -- the number of the stream that has a name, if one has
 abbrev pub stream_named : List ℕ → Names → Option ℕ
-stream_named n [] = None
-stream_named n (m ∷ ms) = if is_name n m then Some 0 else option_map suc (stream_named n ms)
+stream_named n names = position_from (is_name n) 0 names
 
 -- whether a name is declared
 abbrev pub is_declared : Names → List ℕ → Bool
@@ -106,6 +105,10 @@ module _ (names : Names) where
   term_of (token.Integer d) = if nat_le (number_of d) greatest then Some (Number d) else None
   term_of t = None
 
+  abbrev pub first_term : List Token → Reading Term
+  first_term [] = None
+  first_term (t ∷ ts) = elim (term_of t) [ None ↦ None | Some x ↦ Some (x, ts) ]
+
   -- a sum goes on as long as signs come
   abbrev pub more_of : Sum → List Token → Reading Sum
   more_of s (token.Plus ∷ t ∷ ts) = elim (term_of t) [ None ↦ None | Some x ↦ more_of (Plus s x) ts ]
@@ -115,8 +118,7 @@ module _ (names : Names) where
   more_of s ts = Some (s, ts)
 
   unfoldable pub sum_of : List Token → Reading Sum
-  sum_of [] = None
-  sum_of (t ∷ ts) = elim (term_of t) [ None ↦ None | Some x ↦ more_of (Only x) ts ]
+  sum_of ts = first_term ts >>= λ t ts. more_of (Only t) ts
 
   -- a new name, and the kind of all streams
   unfoldable pub head_of : List Token → Reading (List ℕ)

@@ -118,10 +118,13 @@ pub record Known : Type 0 where
   pub set : ℕ
   pub layer : ℕ
 
+abbrev pub names_in : List Known → Names
+names_in known = map (λ k. k.name) known
+
 -- behind streams of which this is known
 module _ (known : List Known) where
   abbrev pub found : List ℕ → Option Known
-  found n = option_and_then (slice_get known) (stream_named n (map (λ k. k.name) known))
+  found n = option_and_then (slice_get known) (stream_named n (names_in known))
 
   abbrev pub set_in : Option Known → ℕ
   set_in None = 0

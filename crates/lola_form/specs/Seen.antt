@@ -2,9 +2,13 @@
 use Rattle.std.specs.Prelude.{ℕ, ◌≤◌, List, ◌∷◌, map, Bool, true, false}
 use Rattle.lola_form.specs.Tokens as token
 use Rattle.lola_form.specs.Tokens.{Token}
+use Rattle.lola_form.specs.Form.{Names}
+use Rattle.lola_form.specs.Planned.{Known, names_in}
+use Rattle.std.specs.Option.{option_copied}
 use Rattle.lola_form.specs.declared.token.Token as code
 use Rattle.lola_form.specs.declared.token.Token.TheVariants as is
 use Rattle.lola_form.specs.declared.token.Placed.{Placed}
+use Rattle.lola_form.specs.declared.part.Known as code_known
 use Rattle.lola_form.specs.declared.reader.Sign.{Sign}
 use Rattle.lola_form.specs.declared.reader.Sign.TheVariants as sign
 
@@ -39,3 +43,12 @@ abbrev pub begins_with_sign : List Token → Bool
 begins_with_sign (token.Plus ∷ ts) = true
 begins_with_sign (token.Minus ∷ ts) = true
 begins_with_sign ts = false
+
+abbrev pub known_seen : code_known.Known → Known
+known_seen k = record { name = option_copied k.name; set = k.set; layer = k.layer }
+
+abbrev pub all_known : List code_known.Known → List Known
+all_known ks = map known_seen ks
+
+abbrev pub names_seen : List code_known.Known → Names
+names_seen ks = names_in (all_known ks)

@@ -1,0 +1,74 @@
+//! Terms and sums, with what they read.
+
+ghost use Rattle.std.specs.Prelude.{◌≡◌, ◌<◌, ◌^◌, ℕ, List, pos, IfOk, All, map, nat_le, Some, None, if◌then◌else◌};
+ghost use Rattle.lola_value.specs.Times.{number_of};
+ghost use Rattle.lola_form.specs.Form.{Sum, Term, is_name, stream_named, greatest, first_term, sum_of};
+ghost use Rattle.lola_form.specs.Seen.{seen, known_seen, names_seen};
+//ghost use Rattle.lola_form.specs.Parts.{IsPartOf, IsTermRead, IsSumRead, joined_by};
+
+use crate::reader::{Reader, Sign};
+use crate::token::{Token, is, refused};
+use lola_model::expr::{Access, Arguments, Binary, Expr, Place};
+use lola_value::front::FrontEnd;
+use lola_value::text::Memory;
+use lola_value::value::{Kind, Value};
+use std::alloc::Global;
+
+/// What is known of a stream.
+#[derive(Clone, Copy)]
+pub struct Known<'a> {
+    /// Its name; a trigger has none that could be read.
+    pub name: Option<&'a [u8]>,
+    /// The inputs that it reaches: bit i is input i.
+    pub set: u64,
+    /// How many reads lead from it one after another at most.
+    pub layer: u32,
+}
+
+/// An expression, and what it reads.
+#[derive(Drop)]
+pub struct Part {
+    pub expr: Expr,
+    /// The inputs that it reaches: bit i is input i.
+    pub set: u64,
+    /// One more than the greatest layer of the streams that it reads, and 0 where it reads none.
+    pub layer: u32,
+}
+
+/// The greatest integer.
+const GREATEST: u128 = 9223372036854775807;
+
+/// The number that digits spell, if it is in range.
+fn number(digits: &[u8]) -> Option<i128>
+    ensures { result ≡ (if nat_le (number_of digits.now) greatest then Some (pos (number_of digits.now)) else None) }
+{
+    let mut n: u128 = 0;
+    for b in digits {
+        n = n * 10 + u128::from(b.saturating_sub(b'0'));
+        if n > GREATEST {
+            return None;
+        }
+    }
+    Some(n as i128)
+}
+
+fn has_name(known: &Known<'_>, name: &[u8]) -> bool
+    ensures { result ≡ is_name name.now (known_seen known.now).name }
+{
+    match known.name {
+        None => false,
+        Some(other) => is(other, name),
+    }
+}
+
+/// The number of the stream that has a name.
+pub fn find(known: &[Known<'_>], name: &[u8]) -> Option<usize>
+    ensures { result ≡ stream_named name.now (names_seen known.now) }
+{
+    for (i, other) in known.iter().enumerate() {
+        if has_name(other, name) {
+            return Some(i);
+        }
+    }
+    None
+}
