@@ -3,3 +3,4 @@ pub mod Utf8
 pub mod Cut
 pub mod Advance
 pub mod Numbers
+pub mod Terms

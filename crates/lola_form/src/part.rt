@@ -1,10 +1,11 @@
 //! Terms and sums, with what they read.
 
-ghost use Rattle.std.specs.Prelude.{◌≡◌, ◌<◌, ◌^◌, ℕ, List, pos, IfOk, All, map, nat_le, Some, None, if◌then◌else◌};
+ghost use Rattle.std.specs.Prelude.{◌≡◌, ◌<◌, ◌^◌, ℕ, List, IfSome, length, nat_le, Some, None, if◌then◌else◌};
 ghost use Rattle.lola_value.specs.Times.{number_of};
-ghost use Rattle.lola_form.specs.Form.{Sum, Term, is_name, stream_named, greatest, first_term, sum_of};
-ghost use Rattle.lola_form.specs.Seen.{seen, known_seen, names_seen};
-//ghost use Rattle.lola_form.specs.Parts.{IsPartOf, IsTermRead, IsSumRead, joined_by};
+ghost use Rattle.lola_form.specs.Form.{Sum, Term, is_name, stream_named, greatest, term_of};
+ghost use Rattle.lola_form.specs.Seen.{seen, known_seen, all_known, names_seen};
+ghost use Rattle.lola_form.specs.Tokens as token;
+ghost use Rattle.lola_form.specs.Parts.{GivesTerm, AreLow};
 
 use crate::reader::{Reader, Sign};
 use crate::token::{Token, is, refused};
@@ -39,8 +40,8 @@ pub struct Part {
 const GREATEST: u128 = 9223372036854775807;
 
 /// The number that digits spell, if it is in range.
-fn number(digits: &[u8]) -> Option<i128>
-    ensures { result ≡ (if nat_le (number_of digits.now) greatest then Some (pos (number_of digits.now)) else None) }
+fn number(digits: &[u8]) -> Option<u64>
+    ensures { result ≡ (if nat_le (number_of digits.now) greatest then Some (number_of digits.now) else None) }
 {
     let mut n: u128 = 0;
     for b in digits {
@@ -49,7 +50,7 @@ fn number(digits: &[u8]) -> Option<i128>
             return None;
         }
     }
-    Some(n as i128)
+    Some(n as u64)
 }
 
 fn has_name(known: &Known<'_>, name: &[u8]) -> bool
@@ -62,8 +63,9 @@ fn has_name(known: &Known<'_>, name: &[u8]) -> bool
 }
 
 /// The number of the stream that has a name.
-pub fn find(known: &[Known<'_>], name: &[u8]) -> Option<usize>
-    ensures { result ≡ stream_named name.now (names_seen known.now) }
+fn find(known: &[Known<'_>], name: &[u8]) -> Option<usize>
+    ensures bound { IfSome result (λ i. i < length known.now) }
+    ensures value { result ≡ stream_named name.now (names_seen known.now) }
 {
     for (i, other) in known.iter().enumerate() {
         if has_name(other, name) {
@@ -71,4 +73,55 @@ pub fn find(known: &[Known<'_>], name: &[u8]) -> Option<usize>
         }
     }
     None
+}
+
+/// A stream's value of this step.
+fn read(known: &[Known<'_>], name: &[u8], at: u32) -> Result<Part, FrontEnd>
+    requires few { length known.now < 2 ^ 32 }
+    requires low { AreLow known.now }
+    ensures { GivesTerm (all_known known.now) (term_of (names_seen known.now) (token.Name name.now)) result }
+{
+    let Some(i) = find(known, name) else {
+        return Err(refused());
+    };
+    let place = Place {
+        at,
+        kind: Some(Kind::Int64),
+    };
+    let stream = known[i];
+    Ok(Part {
+        expr: Expr::Read(place, i as u32, Access::Direct, Arguments::End),
+        set: stream.set,
+        layer: stream.layer + 1,
+    })
+}
+
+fn literal(known: &[Known<'_>], digits: &[u8], at: u32) -> Result<Part, FrontEnd>
+    ensures { GivesTerm (all_known known.now) (term_of (names_seen known.now) (token.Integer digits.now)) result }
+{
+    let Some(n) = number(digits) else {
+        return Err(refused());
+    };
+    let place = Place {
+        at,
+        kind: Some(Kind::Int64),
+    };
+    Ok(Part {
+        expr: Expr::Literal(place, Value::Int(i128::from(n))),
+        set: 0,
+        layer: 0,
+    })
+}
+
+/// The term that a token is, behind these streams.
+fn term_at(known: &[Known<'_>], token: Token<'_>, at: u32) -> Result<Part, FrontEnd>
+    requires few { length known.now < 2 ^ 32 }
+    requires low { AreLow known.now }
+    ensures { GivesTerm (all_known known.now) (term_of (names_seen known.now) (seen token.entry)) result }
+{
+    match token {
+        Token::Name(name) => read(known, name, at),
+        Token::Integer(digits) => literal(known, digits, at),
+        _ => Err(refused()),
+    }
 }
