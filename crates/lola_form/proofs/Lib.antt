@@ -4,3 +4,4 @@ pub mod Cut
 pub mod Advance
 pub mod Numbers
 pub mod Terms
+pub mod Sums

@@ -38,3 +38,8 @@ AreLow known = All (λ k. k.layer < 4294967295) known
 abbrev pub joined_by : Sign → Sum → Term → Sum
 joined_by sign.Plus s t = Plus s t
 joined_by sign.Minus s t = Minus s t
+
+-- a sum, with one more term
+abbrev pub IsJoined : Sign → Part → Part → Part → Type 0
+IsJoined sign left right part =
+    (known : List Known) (s : Sum) (t : Term) → IsPartOf known s left → IsPartOf known (Only t) right → IsPartOf known (joined_by sign s t) part

@@ -1,14 +1,14 @@
 //! Terms and sums, with what they read.
 
-ghost use Rattle.std.specs.Prelude.{◌≡◌, ◌<◌, ◌^◌, ℕ, List, IfSome, length, nat_le, Some, None, if◌then◌else◌};
+ghost use Rattle.std.specs.Prelude.{◌≡◌, ◌<◌, ◌^◌, ℕ, List, IfOk, IfSome, length, nat_le, Some, None, if◌then◌else◌};
 ghost use Rattle.lola_value.specs.Times.{number_of};
-ghost use Rattle.lola_form.specs.Form.{Sum, Term, is_name, stream_named, greatest, term_of};
+ghost use Rattle.lola_form.specs.Form.{Sum, Term, is_name, stream_named, greatest, term_of, first_term, sum_of};
 ghost use Rattle.lola_form.specs.Seen.{seen, known_seen, all_known, names_seen};
 ghost use Rattle.lola_form.specs.Tokens as token;
-ghost use Rattle.lola_form.specs.Parts.{GivesTerm, AreLow};
+ghost use Rattle.lola_form.specs.Parts.{GivesTerm, ReadsTerm, ReadsSum, IsJoined, AreLow};
 
 use crate::reader::{Reader, Sign};
-use crate::token::{Token, is, refused};
+use crate::token::{Placed, Token, is, refused};
 use lola_model::expr::{Access, Arguments, Binary, Expr, Place};
 use lola_value::front::FrontEnd;
 use lola_value::text::Memory;
@@ -124,4 +124,55 @@ fn term_at(known: &[Known<'_>], token: Token<'_>, at: u32) -> Result<Part, Front
         Token::Integer(digits) => literal(known, digits, at),
         _ => Err(refused()),
     }
+}
+
+/// Reads one term.
+fn term(known: &[Known<'_>], reader: &mut Reader<'_>) -> Result<Part, FrontEnd>
+    requires few { length known.now < 2 ^ 32 }
+    requires low { AreLow known.now }
+    ensures { ReadsTerm (all_known known.now) (first_term (names_seen known.now) reader.old) reader.new result }
+{
+    match reader.take() {
+        Some(Placed { token, at }) => term_at(known, token, at),
+        None => Err(refused()),
+    }
+}
+
+/// A sum, with one more term.
+fn joined(alloc: Global, sign: Sign, at: u32, left: Part, right: Part) -> Result<Part, Memory>
+    ensures { IfOk result (IsJoined sign left right) }
+{
+    let place = Place {
+        at,
+        kind: Some(Kind::Int64),
+    };
+    let sign = match sign {
+        Sign::Plus => Binary::Add,
+        Sign::Minus => Binary::Sub,
+    };
+    let a = Box::new(alloc, left.expr)?;
+    let b = Box::new(alloc, right.expr)?;
+    Ok(Part {
+        expr: Expr::Both(place, sign, a, b),
+        set: left.set | right.set,
+        layer: left.layer.max(right.layer),
+    })
+}
+
+/// Reads a sum.
+pub fn sum(
+    alloc: Global,
+    known: &[Known<'_>],
+    reader: &mut Reader<'_>,
+) -> Result<Part, FrontEnd>
+    requires few { length known.now < 2 ^ 32 }
+    requires low { AreLow known.now }
+    ensures { ReadsSum (all_known known.now) (sum_of (names_seen known.now) reader.old) reader.new result }
+{
+    let mut left = term(known, reader)?;
+    while let Some((sign, at)) = reader.sign() {
+        let right = term(known, reader)?;
+        left = joined(alloc, sign, at, left, right)?;
+    }
+    Ok(left)
 }
