@@ -5,3 +5,4 @@ pub mod Advance
 pub mod Numbers
 pub mod Terms
 pub mod Sums
+pub mod Layered

@@ -1,5 +1,5 @@
 -- The plan of declarations.
-use Rattle.std.specs.Prelude.{ℕ, suc, ◌≡◌, ◌+◌, ◌^◌, pos, List, [], ◌∷◌, ◌++◌, Option, Some, None, option_and_then, Bool, true, false, if◌then◌else◌, ◌==◌, length, map, max, bit_or, count_by, slice_get, codes, decimal, replicate}
+use Rattle.std.specs.Prelude.{ℕ, suc, ◌≡◌, ◌+◌, ◌^◌, pos, List, [], ◌∷◌, ◌++◌, Option, Some, None, option_and_then, Bool, true, false, if◌then◌else◌, ◌==◌, length, map, max, bit_or, slice_get, codes, decimal, replicate}
 use Rattle.lola_value.specs.Times.{number_of}
 use Rattle.lola_value.specs.declared.value.Kind.{Kind}
 use Rattle.lola_value.specs.declared.value.Kind.TheVariants as kind
@@ -17,7 +17,7 @@ use Rattle.lola_model.specs.declared.spec.Sort.TheVariants as sort
 use Rattle.lola_model.specs.declared.pacing.ClausePacings.{ClausePacings}
 use Rattle.lola_model.specs.declared.pacing.Pacing.TheVariants.{Event}
 use Rattle.lola_model.specs.declared.plan.Plan.{Plan}
-use Rattle.lola_form.specs.Form.{Term, Named, Number, Sum, Only, Plus, Minus, Declaration, Input, Output, Trigger, Names, names_of, declared_name, stream_named, has_name, form_of}
+use Rattle.lola_form.specs.Form.{Term, Named, Number, Sum, Only, Plus, Minus, Declaration, Input, Output, Trigger, Names, declared_name, stream_named, form_of}
 
 -- Expressions. Boxes and places are left open.
 
@@ -92,22 +92,26 @@ kind_in (Input n) = kind.Int64
 kind_in (Output n s) = kind.Int64
 kind_in (Trigger l r m) = kind.Bool
 
--- the stream of a declaration, behind these
-pub record IsStreamOf (front : List Declaration) (d : Declaration) (s : Stream) : Type 0 where
-  pub name : s.name ≡ stream_name (count_by is_trigger_declared front) d
+abbrev pub with_trigger : ℕ → Declaration → ℕ
+with_trigger triggers d = if is_trigger_declared d then triggers + 1 else triggers
+
+-- the stream of a declaration, behind streams of these names, so many of them triggers
+pub record IsStreamOf (names : Names) (triggers : ℕ) (d : Declaration) (s : Stream) : Type 0 where
+  pub name : s.name ≡ stream_name triggers d
   pub sort : s.sort ≡ sort_of d
   pub message : s.message ≡ message_in d
   pub kind : s.kind ≡ Some (kind_in d)
   pub parameters : s.parameters ≡ []
   pub spawn : s.spawn ≡ None
-  pub eval : IsEvalOf (names_of front) d s.eval
+  pub eval : IsEvalOf names d s.eval
   pub close : s.close ≡ None
 
--- the streams of declarations, in their order, behind these
-abbrev pub AreStreamsOf : List Declaration → List Declaration → List Stream → Type 0
-AreStreamsOf front [] [] = Unit {0}
-AreStreamsOf front (d ∷ ds) (s ∷ ss) = IsStreamOf front d s × AreStreamsOf (front ++ d ∷ []) ds ss
-AreStreamsOf front ds ss = ⊥
+-- the streams of declarations, in their order
+abbrev pub AreStreamsOf : Names → ℕ → List Declaration → List Stream → Type 0
+AreStreamsOf names triggers [] [] = Unit {0}
+AreStreamsOf names triggers (d ∷ ds) (s ∷ ss) =
+    IsStreamOf names triggers d s × AreStreamsOf (names ++ declared_name d ∷ []) (with_trigger triggers d) ds ss
+AreStreamsOf names triggers ds ss = ⊥
 
 -- Pacings and layers.
 
@@ -182,7 +186,7 @@ by_node (l ∷ ls) = elim (by_node ls) [ [] ↦ (if l == 0 then [] else l ∷ []
 
 -- the plan of declarations
 pub record IsPlanOf (ds : List Declaration) (plan : Plan) : Type 0 where
-  pub streams : AreStreamsOf [] ds plan.spec.streams
+  pub streams : AreStreamsOf [] 0 ds plan.spec.streams
   pub constants : plan.spec.constants ≡ []
   pub windows : plan.spec.windows ≡ []
   pub texts : plan.spec.texts ≡ []

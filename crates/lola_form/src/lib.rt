@@ -1,6 +1,8 @@
 //! The first form of specifications: sums of inputs and triggers that compare them.
 #![tactic(auto)]
 
+mod builder;
 mod part;
 mod reader;
+mod stream;
 mod token;
