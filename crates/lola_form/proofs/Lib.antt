@@ -6,3 +6,5 @@ pub mod Numbers
 pub mod Terms
 pub mod Sums
 pub mod Layered
+pub mod Grown
+pub mod Read

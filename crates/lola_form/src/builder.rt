@@ -6,9 +6,10 @@ ghost use Rattle.lola_form.specs.Form as form;
 ghost use Rattle.lola_form.specs.Planned.{paced_by};
 ghost use Rattle.lola_form.specs.Seen.{known_seen, all_known, names_seen};
 ghost use Rattle.lola_form.specs.Answers.{Gives};
-ghost use Rattle.lola_form.specs.Built.{IsAdded, IsEmpty, layered};
+ghost use Rattle.lola_form.specs.Parts.{ReadsSum};
+ghost use Rattle.lola_form.specs.Built.{IsAdded, IsEmpty, IsSmall, Declares, layered};
 
-use crate::part::{Known, sum};
+use crate::part::{Known, Part, is_declared, sum};
 use crate::reader::{Reader, Word};
 use crate::stream::{clause, compared, stream, trigger_name};
 use crate::token::{Placed, Token, is, refused};
@@ -93,5 +94,98 @@ impl<'a> Builder<'a> {
         note_layer(&mut self.layers, self.known.len(), known.layer)?;
         self.kept.push(1)?;
         push_known(&mut self.known, known)
+    }
+
+    /// Reads a new name and the kind of all streams.
+    #[tactic(auto, unfolding(crate::specs::Form::head_of))]
+    fn head(&self, reader: &mut Reader<'a>) -> Result<Word<'a>, FrontEnd>
+        ensures { Gives (λ w. (w.text.now, reader.new)) (form.head_of (names_seen self.now.known.items) reader.old) result }
+    {
+        let name = reader.name()?;
+        reader.colon()?;
+        let kind = reader.name()?;
+        if !is(kind.text, b"Int64") || is_declared(self.known.as_slice(), name.text) {
+            return Err(refused());
+        }
+        Ok(name)
+    }
+
+    /// Reads a sum behind the streams so far.
+    fn sum(&self, reader: &mut Reader<'a>) -> Result<Part, FrontEnd>
+        requires { IsSmall self.now }
+        ensures { ReadsSum (all_known self.now.known.items) (form.sum_of (names_seen self.now.known.items) reader.old) reader.new result }
+    {
+        sum(self.alloc, self.known.as_slice(), reader)
+    }
+
+    /// Reads what stands behind `input`, and adds it.
+    #[tactic(auto, unfolding(crate::specs::Form::input_of))]
+    fn input(&mut self, reader: &mut Reader<'a>) -> Result<(), FrontEnd>
+        requires { IsSmall self.old }
+        ensures { Declares (form.input_of (names_seen self.old.known.items) reader.old) reader.new self.old result self.new }
+    {
+        let word = self.head(reader)?;
+        let name = Text::from_bytes(self.alloc, word.text)?;
+        let stream = stream(self.alloc, word.at, Sort::Input, name, b"", None)?;
+        let known = Known {
+            name: Some(word.text),
+            set: 1 << self.inputs,
+            layer: 0,
+        };
+        self.add(stream, known)?;
+        self.inputs += 1;
+        Ok(())
+    }
+
+    /// Reads what stands behind `output`, and adds it.
+    #[tactic(auto, unfolding(crate::specs::Form::output_of))]
+    fn output(&mut self, reader: &mut Reader<'a>) -> Result<(), FrontEnd>
+        requires { IsSmall self.old }
+        ensures { Declares (form.output_of (names_seen self.old.known.items) reader.old) reader.new self.old result self.new }
+    {
+        let word = self.head(reader)?;
+        let at = reader.define()?;
+        let part = self.sum(reader)?;
+        if part.layer == 0 {
+            return Err(refused());
+        }
+        let eval = clause(self.alloc, at, part.expr)?;
+        let name = Text::from_bytes(self.alloc, word.text)?;
+        let stream = stream(self.alloc, word.at, Sort::Output, name, b"", Some(eval))?;
+        let known = Known {
+            name: Some(word.text),
+            set: part.set,
+            layer: part.layer,
+        };
+        self.add(stream, known)?;
+        Ok(())
+    }
+
+    /// Reads what stands behind `trigger`, which is at this place, and adds it.
+    #[tactic(auto, unfolding(crate::specs::Form::trigger_of))]
+    fn trigger(&mut self, at: u32, reader: &mut Reader<'a>) -> Result<(), FrontEnd>
+        requires { IsSmall self.old }
+        ensures { Declares (form.trigger_of (names_seen self.old.known.items) reader.old) reader.new self.old result self.new }
+    {
+        let left = self.sum(reader)?;
+        let sign = reader.greater()?;
+        let right = self.sum(reader)?;
+        let message = reader.message()?;
+        let layer = left.layer.max(right.layer);
+        if layer == 0 {
+            return Err(refused());
+        }
+        let known = Known {
+            name: None,
+            set: left.set | right.set,
+            layer,
+        };
+        let expr = compared(self.alloc, sign, left.expr, right.expr)?;
+        let eval = clause(self.alloc, at, expr)?;
+        let name = trigger_name(self.alloc, self.triggers)?;
+        let stream = stream(self.alloc, at, Sort::Trigger, name, message.text, Some(eval))?;
+        self.add(stream, known)?;
+        self.triggers += 1;
+        Ok(())
     }
 }

@@ -2,6 +2,7 @@
 
 ghost use Rattle.std.specs.Prelude.{◌≡◌, ◌<◌, ◌^◌, ℕ, List, IfOk, IfSome, length, nat_le, Some, None, if◌then◌else◌};
 ghost use Rattle.lola_value.specs.Times.{number_of};
+ghost use Rattle.lola_form.specs.Form as form;
 ghost use Rattle.lola_form.specs.Form.{Sum, Term, is_name, stream_named, greatest, term_of, first_term, sum_of};
 ghost use Rattle.lola_form.specs.Seen.{seen, known_seen, all_known, names_seen};
 ghost use Rattle.lola_form.specs.Tokens as token;
@@ -73,6 +74,13 @@ fn find(known: &[Known<'_>], name: &[u8]) -> Option<usize>
         }
     }
     None
+}
+
+/// Whether a stream has this name.
+pub fn is_declared(known: &[Known<'_>], name: &[u8]) -> bool
+    ensures { result ≡ form.is_declared (names_seen known.now) name.now }
+{
+    find(known, name).is_some()
 }
 
 /// A stream's value of this step.
