@@ -8,3 +8,4 @@ pub mod Sums
 pub mod Layered
 pub mod Grown
 pub mod Read
+pub mod Spelling

@@ -2,6 +2,7 @@
 use Rattle.std.specs.Prelude.{◌≡◌, ◌<◌, ℕ, ◌*◌, ◌-◌, List, [], ◌∷◌, ◌++◌, Option, Some, None, Result, Ok, Err, length, replicate, if◌then◌else◌, ◌==◌}
 use Rattle.lola_model.specs.declared.spec.Stream.{Stream}
 use Rattle.lola_value.specs.declared.front.FrontEnd.{FrontEnd}
+use Rattle.lola_model.specs.declared.plan.Plan.{Plan}
 use Rattle.lola_form.specs.Tokens.{Token}
 use Rattle.lola_form.specs.Form.{Declaration, Reading}
 use Rattle.lola_form.specs.Planned.{Known, known_next, with_input, with_trigger, paced_by, IsStreamOf}
@@ -57,3 +58,15 @@ pub record IsSmall (b : Builder) : Type 0 where
   pub inputs : b.inputs < 64
   pub triggers : b.triggers < 1024
   pub low : AreLow b.known.items
+
+-- the plan, with nothing in it that the form does not have
+pub record IsPlanBuilt (b : Builder) (plan : Plan) : Type 0 where
+  pub streams : plan.spec.streams ≡ b.streams
+  pub constants : plan.spec.constants ≡ []
+  pub windows : plan.spec.windows ≡ []
+  pub texts : plan.spec.texts ≡ []
+  pub refused : plan.spec.refused ≡ []
+  pub pacings : plan.pacings ≡ b.pacings
+  pub layers : plan.layers ≡ b.layers
+  pub kept : plan.kept ≡ b.kept
+  pub panes : plan.panes ≡ []

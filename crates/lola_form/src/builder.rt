@@ -7,7 +7,7 @@ ghost use Rattle.lola_form.specs.Planned.{paced_by};
 ghost use Rattle.lola_form.specs.Seen.{known_seen, all_known, names_seen};
 ghost use Rattle.lola_form.specs.Answers.{Gives};
 ghost use Rattle.lola_form.specs.Parts.{ReadsSum};
-ghost use Rattle.lola_form.specs.Built.{IsAdded, IsEmpty, IsSmall, Declares, layered};
+ghost use Rattle.lola_form.specs.Built.{IsAdded, IsEmpty, IsPlanBuilt, IsSmall, Declares, layered};
 
 use crate::part::{Known, Part, is_declared, sum};
 use crate::reader::{Reader, Word};
@@ -187,5 +187,41 @@ impl<'a> Builder<'a> {
         self.add(stream, known)?;
         self.triggers += 1;
         Ok(())
+    }
+
+    /// Reads one declaration, and adds it.
+    pub fn declaration(&mut self, reader: &mut Reader<'a>) -> Result<(), FrontEnd>
+        requires { IsSmall self.old }
+        ensures { Declares (form.declaration_of (names_seen self.old.known.items) reader.old) reader.new self.old result self.new }
+    {
+        let Some(Placed { token, at }) = reader.take() else {
+            return Err(refused());
+        };
+        match token {
+            Token::Input => self.input(reader),
+            Token::Output => self.output(reader),
+            Token::Trigger => self.trigger(at, reader),
+            _ => Err(refused()),
+        }
+    }
+
+    /// The plan.
+    pub fn into_plan(self) -> Plan
+        ensures { IsPlanBuilt self.entry result }
+    {
+        let alloc = self.alloc;
+        Plan {
+            spec: Spec {
+                streams: self.streams,
+                constants: Constants::create(alloc),
+                windows: Windows::create(alloc),
+                texts: Texts::create(alloc),
+                refused: Places::create(alloc),
+            },
+            pacings: self.pacings,
+            layers: self.layers,
+            kept: self.kept,
+            panes: PaneSizes::create(alloc),
+        }
     }
 }
