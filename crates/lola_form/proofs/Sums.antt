@@ -31,18 +31,9 @@ module _ (names : Names) where
 
   -- no sign comes
   pub ended : (s : Sum) (ts : List Token) → begins_with_sign ts ≡ false → more_of names s ts ≡ Some (s, ts)
-  ended s [] h = refl
   ended s (token.Plus ∷ ts) h = absurd cc
   ended s (token.Minus ∷ ts) h = absurd cc
-  ended s (token.Input ∷ ts) h = refl
-  ended s (token.Output ∷ ts) h = refl
-  ended s (token.Trigger ∷ ts) h = refl
-  ended s (token.Name n ∷ ts) h = refl
-  ended s (token.Integer d ∷ ts) h = refl
-  ended s (token.Message m ∷ ts) h = refl
-  ended s (token.Colon ∷ ts) h = refl
-  ended s (token.Define ∷ ts) h = refl
-  ended s (token.Greater ∷ ts) h = refl
+  ended s ts h = refl
 
   taken : (s : Sum) (o : Option Term) (ts rest : List Token) (x : Term) → (elim o as (λ v. Reading Term) [ None ↦ None | Some y ↦ Some (y, ts) ]) ≡ Some (x, rest) → (o ≡ Some x) × (ts ≡ rest)
   taken s None ts rest x h = absurd cc
