@@ -3,6 +3,7 @@ use Rattle.std.proofs.Common.{◌≡◌, ℕ, zero, suc, ◌+◌, ◌≤◌, Lis
 use Rattle.std.proofs.lemmas.Bool.{false≢true}
 use Rattle.std.proofs.lemmas.List.{append-nil, map-append}
 use Rattle.std.specs.Str.{bytes_eq}
+use Rattle.std.proofs.lemmas.Slice.Eq.{bytes_eq-Decides}
 use Rattle.lola_value.specs.Times.{number_of}
 use Rattle.lola_form.specs.Tokens as token
 use Rattle.lola_form.specs.Tokens.{Token}
@@ -56,6 +57,12 @@ define_sound ts rest u h = absurd cc
 greater_sound : (ts rest : List Token) (u : Unit {0}) → greater_of ts ≡ Some (u, rest) → ts ≡ token.Greater ∷ rest
 greater_sound (token.Greater ∷ ts) rest u h = let q = some_pair tt u ts rest h in rw q.1 refl
 greater_sound ts rest u h = absurd cc
+
+-- a trigger's tokens, and those behind them
+regrouped : (l r : Sum) (m : List ℕ) (rest : List Token) → sum_tokens l ++ token.Greater ∷ (sum_tokens r ++ token.Message m ∷ rest) ≡ (sum_tokens l ++ token.Greater ∷ (sum_tokens r ++ token.Message m ∷ [])) ++ rest
+regrouped l r m rest =
+    ap (λ us. sum_tokens l ++ token.Greater ∷ us) (sym (append_assoc (sum_tokens r) (token.Message m ∷ []) rest))
+    ∙ sym (append_assoc (sum_tokens l) (token.Greater ∷ (sum_tokens r ++ token.Message m ∷ [])) rest)
 
 -- sums
 
@@ -140,3 +147,66 @@ module _ (names : Names) where
   -- a sum that is spelled so is read
   pub sum_complete : (x : Sum) (rest : List Token) → is_valid_sum names x ≡ true → begins_with_sign rest ≡ false → sum_of names (sum_tokens x ++ rest) ≡ Some (x, rest)
   sum_complete x rest h k = sum_goes x rest h ∙ ended names x rest k
+
+  -- declarations
+
+  not_true : (b : Bool) → not b ≡ true → b ≡ false
+  not_true true h = absurd (false≢true h)
+  not_true false h = refl
+
+  head_sound : (ts rest : List Token) (n : List ℕ) → head_of names ts ≡ Some (n, rest) → (ts ≡ head_tokens n ++ rest) × (not (is_declared names n) ≡ true)
+  unfolding head_of
+  head_sound ts rest n h =
+      let a = bind_some (name_of ts) _ (n, rest) h in
+      let b = bind_some (colon_of a.1) _ (n, rest) a.3 in
+      let c = bind_some (name_of b.1) _ (n, rest) b.3 in
+      let d = where_some (bytes_eq c.0 (codes "Int64") && not (is_declared names a.0)) a.0 n c.1 rest c.3 in
+      let v = both_parts (bytes_eq c.0 (codes "Int64")) (not (is_declared names a.0)) d.0 in
+      let k : c.0 ≡ codes "Int64" = (bytes_eq-Decides c.0 (codes "Int64")).0 v.0 in
+      let e0 : ts ≡ token.Name a.0 ∷ a.1 = name_sound ts a.1 a.0 a.2 in
+      let e1 : a.1 ≡ token.Colon ∷ b.1 = colon_sound a.1 b.1 b.0 b.2 in
+      let e2 : b.1 ≡ token.Name c.0 ∷ c.1 = name_sound b.1 c.1 c.0 c.2 in
+      (e0 ∙ ap (λ us. token.Name a.0 ∷ us) (e1 ∙ ap (λ us. token.Colon ∷ us) (e2 ∙ ap (λ m. token.Name m ∷ c.1) k ∙ ap (λ us. token.Name (codes "Int64") ∷ us) d.2))
+       ∙ ap (λ m. token.Name m ∷ token.Colon ∷ token.Name (codes "Int64") ∷ rest) d.1,
+       ap (λ m. not (is_declared names m)) (sym d.1) ∙ v.1)
+
+  head_complete : (n : List ℕ) (rest : List Token) → not (is_declared names n) ≡ true → head_of names (head_tokens n ++ rest) ≡ Some (n, rest)
+  unfolding head_of
+  head_complete n rest h = rw h refl
+
+  input_sound : (ts rest : List Token) (d : Declaration) → input_of names ts ≡ Some (d, rest) → (token.Input ∷ ts ≡ declaration_tokens d ++ rest) × (is_valid names d ≡ true)
+  unfolding input_of
+  input_sound ts rest d h =
+      let a = bind_some (head_of names ts) _ (d, rest) h in
+      let q = some_pair (Input a.0) d a.1 rest a.3 in
+      let k = head_sound ts a.1 a.0 a.2 in
+      (ap (λ us. token.Input ∷ us) k.0 ∙ ap (λ us. token.Input ∷ (head_tokens a.0 ++ us)) q.1 ∙ ap (λ e. declaration_tokens e ++ rest) q.0, ap (is_valid names) (sym q.0) ∙ k.1)
+
+  output_sound : (ts rest : List Token) (d : Declaration) → output_of names ts ≡ Some (d, rest) → (token.Output ∷ ts ≡ declaration_tokens d ++ rest) × (is_valid names d ≡ true)
+  unfolding output_of
+  output_sound ts rest d h =
+      let a = bind_some (head_of names ts) _ (d, rest) h in
+      let b = bind_some (define_of a.1) _ (d, rest) a.3 in
+      let c = bind_some (sum_of names b.1) _ (d, rest) b.3 in
+      let q = where_some (has_name c.0) (Output a.0 c.0) d c.1 rest c.3 in
+      let k = head_sound ts a.1 a.0 a.2 in
+      let m = sum_sound b.1 c.1 c.0 c.2 in
+      let e : ts ≡ (head_tokens a.0 ++ token.Define ∷ sum_tokens c.0) ++ rest =
+          k.0 ∙ ap (λ us. head_tokens a.0 ++ us) (define_sound a.1 b.1 b.0 b.2 ∙ ap (λ us. token.Define ∷ us) (m.0 ∙ ap (λ us. sum_tokens c.0 ++ us) q.2)) in
+      (ap (λ us. token.Output ∷ us) e ∙ ap (λ x. declaration_tokens x ++ rest) q.1,
+       ap (is_valid names) (sym q.1) ∙ both (not (is_declared names a.0)) (is_valid_sum names c.0 && has_name c.0) k.1 (both (is_valid_sum names c.0) (has_name c.0) m.1 q.0))
+
+  trigger_sound : (ts rest : List Token) (d : Declaration) → trigger_of names ts ≡ Some (d, rest) → (token.Trigger ∷ ts ≡ declaration_tokens d ++ rest) × (is_valid names d ≡ true)
+  unfolding trigger_of
+  trigger_sound ts rest d h =
+      let a = bind_some (sum_of names ts) _ (d, rest) h in
+      let b = bind_some (greater_of a.1) _ (d, rest) a.3 in
+      let c = bind_some (sum_of names b.1) _ (d, rest) b.3 in
+      let f = bind_some (message_of c.1) _ (d, rest) c.3 in
+      let q = where_some (has_name a.0 || has_name c.0) (Trigger a.0 c.0 f.0) d f.1 rest f.3 in
+      let l = sum_sound ts a.1 a.0 a.2 in
+      let r = sum_sound b.1 c.1 c.0 c.2 in
+      let e : ts ≡ sum_tokens a.0 ++ token.Greater ∷ (sum_tokens c.0 ++ token.Message f.0 ∷ rest) =
+          l.0 ∙ ap (λ us. sum_tokens a.0 ++ us) (greater_sound a.1 b.1 b.0 b.2 ∙ ap (λ us. token.Greater ∷ us) (r.0 ∙ ap (λ us. sum_tokens c.0 ++ us) (message_sound c.1 f.1 f.0 f.2 ∙ ap (λ us. token.Message f.0 ∷ us) q.2))) in
+      (ap (λ us. token.Trigger ∷ us) (e ∙ regrouped a.0 c.0 f.0 rest) ∙ ap (λ x. declaration_tokens x ++ rest) q.1,
+       ap (is_valid names) (sym q.1) ∙ both (is_valid_sum names a.0 && is_valid_sum names c.0) (has_name a.0 || has_name c.0) (both (is_valid_sum names a.0) (is_valid_sum names c.0) l.1 r.1) q.0)
