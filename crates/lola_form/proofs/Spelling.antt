@@ -1,7 +1,7 @@
 -- What is read is spelled so, and what is spelled so is read.
-use Rattle.std.proofs.Common.{◌≡◌, ℕ, zero, suc, ◌+◌, ◌≤◌, List, [], ◌∷◌, ◌++◌, Option, Some, None, Bool, true, false, not, ◌&&◌, ◌||◌, cond, nat_le, length, map, flat_map, codes, refl, sym, ap, ◌∙◌, append_assoc, arith}
+use Rattle.std.proofs.Common.{◌≡◌, ◌↔◌, ℕ, zero, suc, ◌+◌, ◌≤◌, ◌<◌, List, [], ◌∷◌, ◌++◌, Option, Some, None, Bool, true, false, not, ◌&&◌, ◌||◌, cond, nat_le, length, map, flat_map, codes, refl, sym, ap, ◌∙◌, append_assoc, arith}
 use Rattle.std.proofs.lemmas.Bool.{false≢true}
-use Rattle.std.proofs.lemmas.List.{append-nil, map-append}
+use Rattle.std.proofs.lemmas.List.{append-nil, map-append, length-append}
 use Rattle.std.specs.Str.{bytes_eq}
 use Rattle.std.proofs.lemmas.Slice.Eq.{bytes_eq-Decides}
 use Rattle.lola_value.specs.Times.{number_of}
@@ -210,3 +210,109 @@ module _ (names : Names) where
           l.0 ∙ ap (λ us. sum_tokens a.0 ++ us) (greater_sound a.1 b.1 b.0 b.2 ∙ ap (λ us. token.Greater ∷ us) (r.0 ∙ ap (λ us. sum_tokens c.0 ++ us) (message_sound c.1 f.1 f.0 f.2 ∙ ap (λ us. token.Message f.0 ∷ us) q.2))) in
       (ap (λ us. token.Trigger ∷ us) (e ∙ regrouped a.0 c.0 f.0 rest) ∙ ap (λ x. declaration_tokens x ++ rest) q.1,
        ap (is_valid names) (sym q.1) ∙ both (is_valid_sum names a.0 && is_valid_sum names c.0) (has_name a.0 || has_name c.0) (both (is_valid_sum names a.0) (is_valid_sum names c.0) l.1 r.1) q.0)
+
+  -- a declaration that is read is spelled so, and may stand there
+  pub declaration_sound : (ts rest : List Token) (d : Declaration) → declaration_of names ts ≡ Some (d, rest) → (ts ≡ declaration_tokens d ++ rest) × (is_valid names d ≡ true)
+  declaration_sound (token.Input ∷ ts) rest d h = input_sound ts rest d h
+  declaration_sound (token.Output ∷ ts) rest d h = output_sound ts rest d h
+  declaration_sound (token.Trigger ∷ ts) rest d h = trigger_sound ts rest d h
+  declaration_sound ts rest d h = absurd cc
+
+  input_complete : (n : List ℕ) (rest : List Token) → not (is_declared names n) ≡ true → input_of names (head_tokens n ++ rest) ≡ Some (Input n, rest)
+  unfolding input_of
+  input_complete n rest h = rw (head_complete n rest h) refl
+
+  output_complete : (n : List ℕ) (s : Sum) (rest : List Token) → is_valid names (Output n s) ≡ true → begins_with_sign rest ≡ false → output_of names ((head_tokens n ++ token.Define ∷ sum_tokens s) ++ rest) ≡ Some (Output n s, rest)
+  unfolding output_of
+  output_complete n s rest h k =
+      let v = both_parts (not (is_declared names n)) (is_valid_sum names s && has_name s) h in
+      let w = both_parts (is_valid_sum names s) (has_name s) v.1 in
+      rw (head_complete n (token.Define ∷ (sum_tokens s ++ rest)) v.0, sum_complete s rest w.0 k, w.1) refl
+
+  trigger_complete : (l r : Sum) (m : List ℕ) (rest : List Token) → is_valid names (Trigger l r m) ≡ true → trigger_of names ((sum_tokens l ++ token.Greater ∷ (sum_tokens r ++ token.Message m ∷ [])) ++ rest) ≡ Some (Trigger l r m, rest)
+  unfolding trigger_of
+  trigger_complete l r m rest h =
+      let v = both_parts (is_valid_sum names l && is_valid_sum names r) (has_name l || has_name r) h in
+      let w = both_parts (is_valid_sum names l) (is_valid_sum names r) v.0 in
+      rw (← regrouped l r m rest, sum_complete l (token.Greater ∷ (sum_tokens r ++ token.Message m ∷ rest)) w.0 refl, sum_complete r (token.Message m ∷ rest) w.1 refl, v.1) refl
+
+  -- a declaration that is spelled so and may stand there is read
+  pub declaration_complete : (d : Declaration) (rest : List Token) → is_valid names d ≡ true → begins_with_sign rest ≡ false → declaration_of names (declaration_tokens d ++ rest) ≡ Some (d, rest)
+  declaration_complete (Input n) rest h k = input_complete n rest h
+  declaration_complete (Output n s) rest h k = output_complete n s rest h k
+  declaration_complete (Trigger l r m) rest h k = trigger_complete l r m rest h
+
+-- lists
+
+some_token : (d : Declaration) → (t : Token) × (ts : List Token) × (declaration_tokens d ≡ t ∷ ts)
+some_token (Input n) = (token.Input, head_tokens n, refl)
+some_token (Output n s) = (token.Output, head_tokens n ++ token.Define ∷ sum_tokens s, refl)
+some_token (Trigger l r m) = (token.Trigger, sum_tokens l ++ token.Greater ∷ (sum_tokens r ++ token.Message m ∷ []), refl)
+
+no_sign : (ds : List Declaration) → begins_with_sign (all_tokens ds) ≡ false
+no_sign [] = refl
+no_sign (Input n ∷ ds) = refl
+no_sign (Output n s ∷ ds) = refl
+no_sign (Trigger l r m ∷ ds) = refl
+
+names_more : (front : List Declaration) (d : Declaration) → names_of (front ++ d ∷ []) ≡ names_of front ++ declared_name d ∷ []
+names_more front d = map-append declared_name front (d ∷ [])
+
+-- at least as many tokens as declarations
+length_of : (d : Declaration) (rest : List Token) → length rest + 1 ≤ length (declaration_tokens d ++ rest)
+length_of d rest =
+    let t = some_token d in
+    rw t.2 (omega (arith, length-append t.1 rest))
+
+-- one declaration is read
+pub step : (most : ℕ) (front : List Declaration) (ts rest : List Token) (d : Declaration) → declaration_of (names_of front) ts ≡ Some (d, rest) → declarations_behind (suc most) front ts ≡ declarations_behind most (front ++ d ∷ []) rest
+step most front [] rest d h = absurd cc
+step most front (t ∷ ts) rest d h = rw (h, declarations_behind) refl
+
+-- none is read
+pub stop : (most : ℕ) (front : List Declaration) (ts : List Token) → 0 < length ts → declaration_of (names_of front) ts ≡ None → declarations_behind most front ts ≡ None
+stop most front [] some h = absurd (omega (arith, some))
+stop zero front (t ∷ ts) some h = refl
+stop (suc most) front (t ∷ ts) some h = rw (h, declarations_behind) refl
+
+list_complete : (most : ℕ) (front ds : List Declaration) → length (all_tokens ds) ≤ most → are_valid (names_of front) ds ≡ true → declarations_behind most front (all_tokens ds) ≡ Some (front ++ ds)
+list_complete most front [] h v = ap (λ (xs : List Declaration). Some xs) (sym (append-nil front))
+list_complete zero front (d ∷ ds) h v = absurd (omega (arith, h, length_of d (all_tokens ds)))
+list_complete (suc most) front (d ∷ ds) h v =
+    let w = both_parts (is_valid (names_of front) d) (are_valid (names_of front ++ declared_name d ∷ []) ds) v in
+    let e = declaration_complete (names_of front) d (all_tokens ds) w.0 (no_sign ds) in
+    let i = list_complete most (front ++ d ∷ []) ds (omega (arith, h, length_of d (all_tokens ds))) (rw names_more w.1) in
+    step most front (all_tokens (d ∷ ds)) (all_tokens ds) d e ∙ i ∙ ap (λ (xs : List Declaration). Some xs) (append_assoc front (d ∷ []) ds)
+
+-- the declarations behind the front, and the tokens that spell them
+record IsSpelled (front all : List Declaration) (ts : List Token) : Type 0 where
+  more : List Declaration
+  joined : all ≡ front ++ more
+  tokens : ts ≡ all_tokens more
+  valid : are_valid (names_of front) more ≡ true
+
+read_on : (most : ℕ) (front all : List Declaration) (t : Token) (ts : List Token) (o : Reading Declaration) → declaration_of (names_of front) (t ∷ ts) ≡ o → declarations_behind (suc most) front (t ∷ ts) ≡ Some all
+    → (d : Declaration) × (rest : List Token) × (declaration_of (names_of front) (t ∷ ts) ≡ Some (d, rest)) × (declarations_behind most (front ++ d ∷ []) rest ≡ Some all)
+read_on most front all t ts None e h = absurd (let z = stop (suc most) front (t ∷ ts) (omega arith) e in cc)
+read_on most front all t ts (Some y) e h = (y.0, y.1, e, sym (step most front (t ∷ ts) y.1 y.0 e) ∙ h)
+
+list_sound : (most : ℕ) (front all : List Declaration) (ts : List Token) → declarations_behind most front ts ≡ Some all → IsSpelled front all ts
+list_sound most front all [] h = record { more = []; joined = (let e : front ≡ all = cc in sym e ∙ sym (append-nil front)); tokens = refl; valid = refl }
+list_sound zero front all (t ∷ ts) h = absurd cc
+list_sound (suc most) front all (t ∷ ts) h =
+    let q = read_on most front all t ts (declaration_of (names_of front) (t ∷ ts)) refl h in
+    let k = declaration_sound (names_of front) (t ∷ ts) q.1 q.0 q.2 in
+    let i = list_sound most (front ++ q.0 ∷ []) all q.1 q.3 in
+    record {
+      more = q.0 ∷ i.more;
+      joined = i.joined ∙ append_assoc front (q.0 ∷ []) i.more;
+      tokens = k.0 ∙ ap (λ us. declaration_tokens q.0 ++ us) i.tokens;
+      valid = both (is_valid (names_of front) q.0) (are_valid (names_of front ++ declared_name q.0 ∷ []) i.more) k.1 (rw (← names_more front q.0) i.valid);
+    }
+
+-- The tokens spell exactly the declarations that are read.
+pub reads_exactly : (ts : List Token) (ds : List Declaration) → (declarations_of ts ≡ Some ds) ↔ ((ts ≡ all_tokens ds) × (are_valid [] ds ≡ true))
+unfolding declarations_of
+reads_exactly ts ds =
+    (λ h. let q = list_sound (length ts) [] ds ts h in (q.tokens ∙ ap all_tokens (sym q.joined), ap (are_valid []) q.joined ∙ q.valid),
+     λ h. rw h.0 (list_complete (length (all_tokens ds)) [] ds (omega arith) h.1))
