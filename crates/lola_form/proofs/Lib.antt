@@ -9,3 +9,4 @@ pub mod Layered
 pub mod Grown
 pub mod Read
 pub mod Spelling
+pub mod Costs
