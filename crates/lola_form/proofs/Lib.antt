@@ -10,3 +10,4 @@ pub mod Grown
 pub mod Read
 pub mod Spelling
 pub mod Costs
+pub mod Bounds

@@ -125,18 +125,18 @@ pub record Known : Type 0 where
 abbrev pub names_in : List Known → Names
 names_in known = map (λ k. k.name) known
 
+abbrev pub set_in : Option Known → ℕ
+set_in None = 0
+set_in (Some k) = k.set
+
+abbrev pub layer_in : Option Known → ℕ
+layer_in None = 0
+layer_in (Some k) = k.layer
+
 -- behind streams of which this is known
 module _ (known : List Known) where
   abbrev pub found : List ℕ → Option Known
   found n = option_and_then (slice_get known) (stream_named n (names_in known))
-
-  abbrev pub set_in : Option Known → ℕ
-  set_in None = 0
-  set_in (Some k) = k.set
-
-  abbrev pub layer_in : Option Known → ℕ
-  layer_in None = 0
-  layer_in (Some k) = k.layer
 
   -- the inputs that a sum reaches
   abbrev pub term_set : Term → ℕ
