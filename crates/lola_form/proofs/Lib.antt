@@ -11,3 +11,4 @@ pub mod Read
 pub mod Spelling
 pub mod Costs
 pub mod Bounds
+pub mod Builds
