@@ -12,3 +12,4 @@ pub mod Spelling
 pub mod Costs
 pub mod Bounds
 pub mod Builds
+pub mod Compiled

@@ -259,7 +259,7 @@ names_more : (front : List Declaration) (d : Declaration) → names_of (front ++
 names_more front d = map-append declared_name front (d ∷ [])
 
 -- at least as many tokens as declarations
-length_of : (d : Declaration) (rest : List Token) → length rest + 1 ≤ length (declaration_tokens d ++ rest)
+pub length_of : (d : Declaration) (rest : List Token) → length rest + 1 ≤ length (declaration_tokens d ++ rest)
 length_of d rest =
     let t = some_token d in
     rw t.2 (omega (arith, length-append t.1 rest))

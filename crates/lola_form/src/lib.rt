@@ -2,7 +2,10 @@
 #![tactic(auto)]
 
 mod builder;
+mod compiler;
 mod part;
 mod reader;
 mod stream;
 mod token;
+
+pub use compiler::compile;
