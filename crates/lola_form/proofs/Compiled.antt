@@ -28,7 +28,7 @@ pub record IsSoFar (value : Option (List Declaration)) (rest : List Token) (b : 
 is_long : (n : ℕ) → 512 < n → nat_lt most_bytes n ≡ true
 is_long n h = grind (arith, nat_tests)
 
-is_short : (n : ℕ) → n ≤ 512 → nat_lt most_bytes n ≡ false
+pub is_short : (n : ℕ) → n ≤ 512 → nat_lt most_bytes n ≡ false
 is_short n h = grind (arith, nat_tests)
 
 either_none : {A : Type 0} (b : Bool) → (let x : Option A = cond b None None in x) ≡ None

@@ -13,3 +13,5 @@ pub mod Costs
 pub mod Bounds
 pub mod Builds
 pub mod Compiled
+pub mod Whole
+pub mod SimplePlan

@@ -29,10 +29,10 @@ some_pair {A} x y ts rest h =
     let q : (x, ts) ≡ (y, rest) = cc in
     (ap (λ (p : A × List Token). p.0) q, ap (λ (p : A × List Token). p.1) q)
 
-both : (a b : Bool) → a ≡ true → b ≡ true → (a && b) ≡ true
+pub both : (a b : Bool) → a ≡ true → b ≡ true → (a && b) ≡ true
 both a b h k = rw (h, k) refl
 
-both_parts : (a b : Bool) → (a && b) ≡ true → (a ≡ true) × (b ≡ true)
+pub both_parts : (a b : Bool) → (a && b) ≡ true → (a ≡ true) × (b ≡ true)
 both_parts true b h = (refl, h)
 both_parts false b h = absurd (false≢true h)
 
