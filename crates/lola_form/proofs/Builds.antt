@@ -44,7 +44,7 @@ length_known i known (d ∷ ds) =
     let h = length_known (with_input i d) (known ++ known_next known i d ∷ []) ds in
     omega (arith, h, length-append known (known_next known i d ∷ []))
 
-known_of-length : (ds : List Declaration) → length (known_of ds) ≡ length ds
+pub known_of-length : (ds : List Declaration) → length (known_of ds) ≡ length ds
 unfolding known_of
 known_of-length ds = length_known 0 [] ds ∙ omega arith
 

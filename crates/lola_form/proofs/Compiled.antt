@@ -114,3 +114,7 @@ none_left b n h k = grind (arith, nat_tests)
 -- fewer tokens are left
 pub shorter : (names : Names) (ts next : List Token) (d : Declaration) → declaration_of names ts ≡ Some (d, next) → length next < length ts
 shorter names ts next d h = rw (declaration_sound names ts next d h).0 (let e = length_of d next in omega (arith, e))
+
+-- the plan of a text that was read to its end
+pub finished : (bytes : List ℕ) (rest : List Token) (b : Builder) (plan : Plan) → IsSoFar (form_of bytes) rest b → length rest ≡ 0 → IsPlanBuilt b plan → IsPlanOfBytes bytes plan
+finished bytes rest b plan far none built = record { declarations = far.front; spelled = ends (form_of bytes) rest b far none; planned = planned far.front b plan far.builds built }

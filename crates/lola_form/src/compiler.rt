@@ -3,6 +3,7 @@
 ghost use Rattle.std.specs.Prelude.{IfOk, IfErr};
 ghost use Rattle.lola_form.specs.Form.{form_of};
 ghost use Rattle.lola_form.specs.Planned.{IsPlanOfBytes};
+ghost use Rattle.lola_form.specs.Simple.{IsSimple};
 ghost use Rattle.lola_form.specs.Answers.{Refuses};
 
 use crate::builder::Builder;
@@ -19,6 +20,7 @@ const MOST_BYTES: usize = 512;
 pub fn compile(alloc: Global, bytes: &[u8]) -> Result<Plan, FrontEnd>
     ensures plan { IfOk result (IsPlanOfBytes bytes.now) }
     ensures refused { IfErr result (Refuses (form_of bytes.now)) }
+    ensures simple { IfOk result IsSimple }
 {
     if bytes.len() > MOST_BYTES {
         return Err(refused());

@@ -3,7 +3,8 @@ use Rattle.std.proofs.lemmas.Result.{err_from_is_err_and}
 use Rattle.lola_form.specs.Tokens.{tokens_of}
 use Rattle.lola_form.specs.Form.{declaration_of, form_of}
 use Rattle.lola_form.specs.Seen.{names_seen, seen_all}
-use Rattle.lola_form.proofs.Compiled.{IsSoFar, too_long, no_tokens, begins, has_room, breaks, goes, ends, fails, some_left, none_left, shorter}
+use Rattle.lola_form.proofs.Compiled.{IsSoFar, too_long, no_tokens, begins, has_room, breaks, goes, finished, fails, some_left, none_left, shorter}
+use Rattle.lola_form.proofs.SimplePlan.{simple_plan}
 use Rattle.lola_form.proofs.Sums.{refuses_on}
 use Rattle.lola_form.proofs.compiler.compile.Goals as goal
 
@@ -44,3 +45,13 @@ returns-in_err-declaration-clause-refused c =
     let some : 0 < length c.loop-reader.reader = some_left c.is_done.result (length c.loop-reader.reader) c.is_done.ensures c.loop-reader-test.true in
     fails value c.from_residual-in_err-declaration.result q.0 e q.1 q.2
     (refuses_on (declaration_of (names_seen c.loop-reader.builder.known.items) c.loop-reader.reader) value e (breaks value c.loop-reader.reader c.loop-reader.builder c.loop-reader.invariant some) c.in_err-declaration.ensures)
+
+pub returns-clause-plan : goal.returns-clause-plan
+returns-clause-plan c =
+    let none : length c.loop-reader.reader ≡ 0 = none_left c.is_done.result (length c.loop-reader.reader) c.is_done.ensures c.loop-reader-test.false in
+    finished c.args.bytes.now c.loop-reader.reader c.loop-reader.builder c.into_plan.result c.loop-reader.invariant none c.into_plan.ensures
+
+pub returns-clause-simple : goal.returns-clause-simple
+returns-clause-simple c =
+    let none : length c.loop-reader.reader ≡ 0 = none_left c.is_done.result (length c.loop-reader.reader) c.is_done.ensures c.loop-reader-test.false in
+    simple_plan c.args.bytes.now c.into_plan.result (finished c.args.bytes.now c.loop-reader.reader c.loop-reader.builder c.into_plan.result c.loop-reader.invariant none c.into_plan.ensures)
