@@ -1,2 +1,11 @@
 //! The first form of specifications: sums of inputs and triggers that compare them.
 #![tactic(auto)]
+
+mod builder;
+mod compiler;
+mod part;
+mod reader;
+mod stream;
+mod token;
+
+pub use compiler::compile;

@@ -9,5 +9,7 @@ mod rows;
 mod run;
 mod source;
 mod putting;
+#[cfg(test)]
+mod tests;
 
 pub use monitor::run_monitor;

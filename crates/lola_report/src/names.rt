@@ -11,7 +11,7 @@ use lola_value::value::FaultKind;
 pub fn code_number(code: Code) -> u64
     ensures { result ≡ code_number code }
 {
-    code as u64 + 1
+    code as u64
 }
 
 pub fn code_name(code: Code) -> &'static str
@@ -68,7 +68,7 @@ pub fn malformed_name(kind: MalformedKind) -> &'static str
 pub fn fault_number(kind: FaultKind) -> u64
     ensures { result ≡ fault_number kind }
 {
-    kind as u64 + 1
+    kind as u64
 }
 
 pub fn fault_name(kind: FaultKind) -> &'static str

@@ -1,0 +1,84 @@
+//! Whole runs over objects in memory.
+ghost use Rattle.std.specs.Prelude.{◌≡◌, ◌^◌, ◌≤◌, length, IfOk};
+
+use crate::run_monitor;
+use lola_port::{IdleGate, MemoryShelf, MemorySink};
+use lola_value::text::Memory;
+use std::alloc::Global;
+use std::sync::Wait;
+use std::thread::Threads;
+
+/// A specification, a source, and what a run of them leaves.
+struct Case<'a> {
+    specification: &'a str,
+    source: &'a str,
+    piece: u32,
+    failing_reads: &'a [u64],
+    failing_puts: &'a [u64],
+    status: u8,
+    out: &'a str,
+    trace: &'a str,
+}
+
+const SUM: &str = "input a: Int64\noutput b: Int64 := a + 1\ntrigger b > 2 \"high\"";
+
+fn words(alloc: Global, command: &str) -> Result<Vec<String>, Memory> {
+    let mut words = Vec::new(alloc);
+    for word in ["lolamon", command, "spec", "rows"] {
+        words.push(String::from_str(alloc, word)?)?;
+    }
+    Ok(words)
+}
+
+fn shelf_of(alloc: Global, case: &Case<'_>) -> Result<MemoryShelf, Memory>
+    requires piece { 1 ≤ case.now.piece }
+    requires specification { length case.now.specification.now ≤ 2 ^ 62 }
+    requires source { length case.now.source.now ≤ 2 ^ 62 }
+    ensures { IfOk result (λ shelf. shelf.out ≡ 0) }
+{
+    let mut shelf = MemoryShelf::create(alloc);
+    shelf.add("spec", case.specification.as_bytes(), 512, &[])?;
+    shelf.add("rows", case.source.as_bytes(), case.piece, case.failing_reads)?;
+    Ok(shelf)
+}
+
+/// Whether a run leaves what the case says.
+fn holds<R: Threads + Wait + Sync>(rt: &R, alloc: Global, case: &Case<'_>) -> Result<bool, Memory>
+    requires piece { 1 ≤ case.now.piece }
+    requires specification { length case.now.specification.now ≤ 2 ^ 62 }
+    requires source { length case.now.source.now ≤ 2 ^ 62 }
+{
+    let mut shelf = shelf_of(alloc, case)?;
+    let mut out = MemorySink::create(alloc, case.failing_puts)?;
+    let mut trace = MemorySink::create(alloc, &[])?;
+    let words = words(alloc, "run")?;
+    let status = run_monitor(
+        rt, alloc, &words, &mut shelf, &mut out, &mut trace, &IdleGate,
+    );
+    Ok(status == case.status
+        && out.written() == case.out.as_bytes()
+        && trace.written() == case.trace.as_bytes())
+}
+
+#[test]
+fn rows_are_traced_and_judged(rt: HostRuntime) -> Result<(), Memory> {
+    let case = Case {
+        specification: SUM,
+        source: "time,a\n0,1\n1,2\n",
+        piece: 4,
+        failing_reads: &[],
+        failing_puts: &[],
+        status: 0,
+        out: "1.000000000 trigger_1 \"high\"\n= done accepted 2 late 0 steps 2 lines 1\n",
+        trace: "0,1,0.000000000,A,1\n0,2,1.000000000,A,2\n",
+    };
+    assert!(rt; holds(&rt, rt.alloc(), &case)?);
+    let heading_alone = Case {
+        source: "time,a\n",
+        out: "= done accepted 0 late 0 steps 0 lines 0\n",
+        trace: "",
+        ..case
+    };
+    assert!(rt; holds(&rt, rt.alloc(), &heading_alone)?);
+    Ok(())
+}
