@@ -4,7 +4,7 @@ ghost use Rattle.std.specs.Prelude.{◌≡◌, ◌∷◌, ◌&&◌, [], ℕ, Lis
 ghost use Rattle.lola_value.specs.declared.value.Kind.TheVariants as kind;
 ghost use Rattle.lola_value.specs.Arithmetic.{is_within};
 ghost use Rattle.lola_model.specs.declared.spec.Stream.{Stream as StreamValue};
-ghost use Rattle.lola_form.specs.Simple.{is_sum, is_comparison, is_number_before, are_simple_from, input_count, are_numbers, IsSimple};
+ghost use Rattle.lola_form.specs.Simple.{is_sum, is_comparison, is_number_before, are_simple_from, are_paced_by, input_count, are_numbers, IsSimple};
 ghost use Rattle.lola_sums.specs.Worked.{IsPlain, IsStream, IsOnInput};
 
 use crate::end::EngineEnd;
@@ -104,9 +104,9 @@ fn on_input(alloc: Global) -> Result<ClausePacings, Memory>
     })
 }
 
-fn worked_plan(alloc: Global) -> Result<Plan, Memory>
-    ensures simple { IfOk result (λ plan. IsSimple plan) }
-    ensures inputs { IfOk result (λ plan. input_count plan.spec.streams ≡ 1) }
+fn three_pacings(alloc: Global) -> Result<Pacings, Memory>
+    ensures paced { IfOk result (λ pacings. are_paced_by 1 pacings ≡ true) }
+    ensures three { IfOk result (λ pacings. length pacings ≡ 3) }
 {
     let mut pacings = Pacings::create(alloc);
     let of_input = on_input(alloc)?;
@@ -115,9 +115,18 @@ fn worked_plan(alloc: Global) -> Result<Plan, Memory>
     pacings.push(of_output)?;
     let of_trigger = on_input(alloc)?;
     pacings.push(of_trigger)?;
+    Ok(pacings)
+}
+
+fn worked_plan(alloc: Global) -> Result<Plan, Memory>
+    ensures simple { IfOk result (λ plan. IsSimple plan) }
+    ensures inputs { IfOk result (λ plan. input_count plan.spec.streams ≡ 1) }
+{
+    let pacings = three_pacings(alloc)?;
+    let streams = three_streams(alloc)?;
     Ok(Plan {
         spec: Spec {
-            streams: three_streams(alloc)?,
+            streams,
             constants: Constants::create(alloc),
             windows: Windows::create(alloc),
             texts: Texts::create(alloc),
@@ -145,6 +154,7 @@ fn row(alloc: Global, number: u64, stamp: u64, value: i64) -> Result<Row, Memory
 }
 
 /// Rows of 1 at 0 s and of 2 at 1 s: `b` is 2 and then 3, so the trigger is true in the second.
+#[tactic(none)]
 #[test]
 fn runs_the_worked_example(rt: HostRuntime) -> Result<(), Fail> {
     let alloc = rt.alloc();
@@ -160,6 +170,7 @@ fn runs_the_worked_example(rt: HostRuntime) -> Result<(), Fail> {
 }
 
 /// The greatest number has no successor: the output has a fault, in each later row too.
+#[tactic(none)]
 #[test]
 fn ends_at_a_fault(rt: HostRuntime) -> Result<(), Fail> {
     let alloc = rt.alloc();
