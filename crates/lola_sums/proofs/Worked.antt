@@ -1,5 +1,5 @@
 -- What makes a plan of three streams simple: an input, a sum, and a trigger.
-use Rattle.std.proofs.Common.{◌≡◌, refl, ap, sym, ◌∙◌, ℕ, List, [], ◌∷◌, Option, Some, None, Bool, true, false, ◌&&◌, not, nat_lt, nat_eq, length}
+use Rattle.std.proofs.Common.{◌≡◌, refl, ap, ◌∙◌, ℕ, List, [], ◌∷◌, ◌++◌, Option, Some, None, Bool, true, false, ◌&&◌, not, nat_eq, length}
 use Rattle.lola_model.specs.declared.expr.Expr.{Expr}
 use Rattle.lola_model.specs.declared.spec.Clause.{Clause}
 use Rattle.lola_model.specs.declared.spec.Sort.{Sort}
@@ -47,3 +47,7 @@ on_input p ps h g = both _ _ (both _ _ (ap has_no_pacing h.spawn) (ap has_no_pac
 
 pub three_paced : (p q r : ClausePacings) (k : ℕ) → IsOnInput p → IsOnInput q → IsOnInput r → k ≡ 1 → are_paced_by k (p ∷ q ∷ r ∷ []) ≡ true
 three_paced p q r k hp hq hr e = ap (λ k. are_paced_by k (p ∷ q ∷ r ∷ [])) e ∙ on_input p (q ∷ r ∷ []) hp (on_input q (r ∷ []) hq (on_input r [] hr refl))
+
+-- a list that was pushed to three times
+pub pushed : {A : Type 0} (w x y z : List A) (a b c : A) → w ≡ [] → x ≡ w ++ a ∷ [] → y ≡ x ++ b ∷ [] → z ≡ y ++ c ∷ [] → z ≡ a ∷ b ∷ c ∷ []
+pushed w x y z a b c e f g h = h ∙ ap (λ l. l ++ c ∷ []) (g ∙ ap (λ l. l ++ b ∷ []) (f ∙ ap (λ l. l ++ a ∷ []) e))
