@@ -13,7 +13,9 @@ use lola_model::expr::{Access, Arguments, Binary, Expr, Place};
 use lola_model::journal::{Row, Show};
 use lola_model::pacing::{ClausePacings, InputSet, NormalForm, Pacing, Pacings};
 use lola_model::plan::{Layers, Numbers, PaneSizes, Plan};
-use lola_model::spec::{Clause, Constants, Exprs, Kinds, Places, Sort, Spec, Stream, Streams, Texts, Windows};
+use lola_model::spec::{
+    Clause, Constants, Exprs, Kinds, Places, Sort, Spec, Stream, Streams, Texts, Windows,
+};
 use lola_value::text::{Field, Fields, Memory, Text};
 use lola_value::value::{FaultKind, Kind, Value};
 use std::alloc::Global;
@@ -57,7 +59,13 @@ fn clause(alloc: Global, expr: Expr) -> Result<Clause, Memory>
     })
 }
 
-fn stream(alloc: Global, name: &str, sort: Sort, message: &str, eval: Option<Clause>) -> Result<Stream, Memory>
+fn stream(
+    alloc: Global,
+    name: &str,
+    sort: Sort,
+    message: &str,
+    eval: Option<Clause>,
+) -> Result<Stream, Memory>
     ensures { IfOk result (λ s. IsStream s sort eval) }
 {
     Ok(Stream {
@@ -154,7 +162,6 @@ fn row(alloc: Global, number: u64, stamp: u64, value: i64) -> Result<Row, Memory
 }
 
 /// Rows of 1 at 0 s and of 2 at 1 s: `b` is 2 and then 3, so the trigger is true in the second.
-#[tactic(none)]
 #[test]
 fn runs_the_worked_example(rt: HostRuntime) -> Result<(), Fail> {
     let alloc = rt.alloc();
@@ -162,7 +169,10 @@ fn runs_the_worked_example(rt: HostRuntime) -> Result<(), Fail> {
     let mut lines = Text::from_bytes(alloc, b"")?;
     engine.accept(&row(alloc, 1, 0, 1)?, &mut lines)?;
     engine.accept(&row(alloc, 2, 1_000_000_000, 2)?, &mut lines)?;
-    assert_eq!(rt; lines.as_bytes(), b"1.000000000 trigger_1 \"high\"\n".as_slice());
+    assert_eq!(rt;
+        lines.as_bytes(),
+        b"1.000000000 trigger_1 \"high\"\n".as_slice()
+    );
     let counts = engine.counts();
     assert_eq!(rt; counts.steps, 2);
     assert_eq!(rt; counts.lines, 1);
@@ -170,7 +180,6 @@ fn runs_the_worked_example(rt: HostRuntime) -> Result<(), Fail> {
 }
 
 /// The greatest number has no successor: the output has a fault, in each later row too.
-#[tactic(none)]
 #[test]
 fn ends_at_a_fault(rt: HostRuntime) -> Result<(), Fail> {
     let alloc = rt.alloc();
@@ -181,7 +190,10 @@ fn ends_at_a_fault(rt: HostRuntime) -> Result<(), Fail> {
         kind: FaultKind::Overflow,
         time: 5,
     });
-    assert_eq!(rt; engine.accept(&row(alloc, 1, 5, i64::MAX)?, &mut lines), fault);
+    assert_eq!(rt;
+        engine.accept(&row(alloc, 1, 5, i64::MAX)?, &mut lines),
+        fault
+    );
     assert_eq!(rt; engine.accept(&row(alloc, 2, 6, 1)?, &mut lines), fault);
     assert_eq!(rt; lines.as_bytes(), b"".as_slice());
     Ok(())
