@@ -1,14 +1,16 @@
 -- What makes a plan of three streams simple: an input, a sum, and a trigger.
-use Rattle.std.proofs.Common.{◌≡◌, refl, ap, sym, ◌∙◌, ℕ, List, [], ◌∷◌, Option, Some, None, Bool, true, false, ◌&&◌, not, nat_lt, nat_eq, length}
+use Rattle.std.proofs.Common.{◌≡◌, refl, ap, ◌∙◌, ℕ, List, [], ◌∷◌, ◌++◌, Option, Some, None, Bool, true, false, ◌&&◌, not, nat_eq, length, sym, arith, ◌+◌, ◌≤◌, Result, Ok, Err}
+use Rattle.std.specs.Result.{OnOk, OnErr}
+use Rattle.lola_value.specs.declared.text.Field.{Field}
+use Rattle.lola_model.specs.declared.plan.Plan.{Plan}
+use Rattle.lola_sums.specs.declared.end.EngineEnd.{EngineEnd}
 use Rattle.lola_model.specs.declared.expr.Expr.{Expr}
 use Rattle.lola_model.specs.declared.spec.Clause.{Clause}
 use Rattle.lola_model.specs.declared.spec.Sort.{Sort}
 use Rattle.lola_model.specs.declared.spec.Sort.TheVariants as sort
 use Rattle.lola_model.specs.declared.spec.Stream.{Stream}
-use Rattle.lola_model.specs.declared.pacing.Pacing.{Pacing}
-use Rattle.lola_model.specs.declared.pacing.Pacing.TheVariants.{Event}
 use Rattle.lola_model.specs.declared.pacing.ClausePacings.{ClausePacings}
-use Rattle.lola_form.specs.Simple.{is_trigger, is_number_before, is_sum, is_comparison, is_plain_clause, has_none, has_no_pacing, is_paced_by, is_simple_stream, are_simple_from, are_paced_by, input_count}
+use Rattle.lola_form.specs.Simple.{is_trigger, is_number_before, is_sum, is_comparison, is_plain_clause, has_none, has_no_pacing, is_paced_by, is_simple_stream, are_simple_from, are_paced_by, input_count, are_numbers, HasNumbers}
 use Rattle.lola_sums.specs.Worked.{IsPlain, IsStream, IsOnInput}
 use Rattle.lola_sums.proofs.Answering.{both}
 
@@ -47,3 +49,16 @@ on_input p ps h g = both _ _ (both _ _ (ap has_no_pacing h.spawn) (ap has_no_pac
 
 pub three_paced : (p q r : ClausePacings) (k : ℕ) → IsOnInput p → IsOnInput q → IsOnInput r → k ≡ 1 → are_paced_by k (p ∷ q ∷ r ∷ []) ≡ true
 three_paced p q r k hp hq hr e = ap (λ k. are_paced_by k (p ∷ q ∷ r ∷ [])) e ∙ on_input p (q ∷ r ∷ []) hp (on_input q (r ∷ []) hq (on_input r [] hr refl))
+
+-- a list that was pushed to three times
+pub pushed : {A : Type 0} (w x y z : List A) (a b c : A) → w ≡ [] → x ≡ w ++ a ∷ [] → y ≡ x ++ b ∷ [] → z ≡ y ++ c ∷ [] → z ≡ a ∷ b ∷ c ∷ []
+pushed w x y z a b c e f g h = h ∙ ap (λ l. l ++ c ∷ []) (g ∙ ap (λ l. l ++ b ∷ []) (f ∙ ap (λ l. l ++ a ∷ []) e))
+
+-- a row that has numbers for a plan with one input
+pub one_number : (plan other : Plan) (fields : List Field) → plan ≡ other → input_count other.spec.streams ≡ 1 → length fields ≡ 1 → are_numbers fields ≡ true → HasNumbers plan fields
+one_number plan other fields e one count numbers = record { count = count ∙ sym (ap (λ (p : Plan). input_count p.spec.streams) e ∙ one); numbers = numbers }
+
+-- an answer counts at most one step
+pub few_after : (r : Result (Unit {0}) EngineEnd) (old new : ℕ) (P : Type 0) → OnOk r (new ≡ old + 1) → OnErr r ((new ≡ old) × P) → new ≤ old + 1
+few_after (Ok done) old new P h g = omega (arith, h)
+few_after (Err end) old new P h g = omega (arith, g.0)

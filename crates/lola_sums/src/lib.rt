@@ -7,6 +7,5 @@ pub mod law;
 mod lines;
 mod row;
 mod sum;
-
 #[cfg(test)]
 mod tests;

@@ -4,7 +4,7 @@ ghost use Rattle.std.specs.Prelude.{◌≡◌, ◌∷◌, ◌&&◌, [], ℕ, Lis
 ghost use Rattle.lola_value.specs.declared.value.Kind.TheVariants as kind;
 ghost use Rattle.lola_value.specs.Arithmetic.{is_within};
 ghost use Rattle.lola_model.specs.declared.spec.Stream.{Stream as StreamValue};
-ghost use Rattle.lola_form.specs.Simple.{is_sum, is_comparison, is_number_before, are_simple_from, input_count, are_numbers, IsSimple};
+ghost use Rattle.lola_form.specs.Simple.{is_sum, is_comparison, is_number_before, are_simple_from, are_paced_by, input_count, are_numbers, IsSimple};
 ghost use Rattle.lola_sums.specs.Worked.{IsPlain, IsStream, IsOnInput};
 
 use crate::end::EngineEnd;
@@ -13,7 +13,9 @@ use lola_model::expr::{Access, Arguments, Binary, Expr, Place};
 use lola_model::journal::{Row, Show};
 use lola_model::pacing::{ClausePacings, InputSet, NormalForm, Pacing, Pacings};
 use lola_model::plan::{Layers, Numbers, PaneSizes, Plan};
-use lola_model::spec::{Clause, Constants, Exprs, Kinds, Places, Sort, Spec, Stream, Streams, Texts, Windows};
+use lola_model::spec::{
+    Clause, Constants, Exprs, Kinds, Places, Sort, Spec, Stream, Streams, Texts, Windows,
+};
 use lola_value::text::{Field, Fields, Memory, Text};
 use lola_value::value::{FaultKind, Kind, Value};
 use std::alloc::Global;
@@ -57,7 +59,13 @@ fn clause(alloc: Global, expr: Expr) -> Result<Clause, Memory>
     })
 }
 
-fn stream(alloc: Global, name: &str, sort: Sort, message: &str, eval: Option<Clause>) -> Result<Stream, Memory>
+fn stream(
+    alloc: Global,
+    name: &str,
+    sort: Sort,
+    message: &str,
+    eval: Option<Clause>,
+) -> Result<Stream, Memory>
     ensures { IfOk result (λ s. IsStream s sort eval) }
 {
     Ok(Stream {
@@ -104,9 +112,9 @@ fn on_input(alloc: Global) -> Result<ClausePacings, Memory>
     })
 }
 
-fn worked_plan(alloc: Global) -> Result<Plan, Memory>
-    ensures simple { IfOk result (λ plan. IsSimple plan) }
-    ensures inputs { IfOk result (λ plan. input_count plan.spec.streams ≡ 1) }
+fn three_pacings(alloc: Global) -> Result<Pacings, Memory>
+    ensures paced { IfOk result (λ pacings. are_paced_by 1 pacings ≡ true) }
+    ensures three { IfOk result (λ pacings. length pacings ≡ 3) }
 {
     let mut pacings = Pacings::create(alloc);
     let of_input = on_input(alloc)?;
@@ -115,9 +123,18 @@ fn worked_plan(alloc: Global) -> Result<Plan, Memory>
     pacings.push(of_output)?;
     let of_trigger = on_input(alloc)?;
     pacings.push(of_trigger)?;
+    Ok(pacings)
+}
+
+fn worked_plan(alloc: Global) -> Result<Plan, Memory>
+    ensures simple { IfOk result (λ plan. IsSimple plan) }
+    ensures inputs { IfOk result (λ plan. input_count plan.spec.streams ≡ 1) }
+{
+    let pacings = three_pacings(alloc)?;
+    let streams = three_streams(alloc)?;
     Ok(Plan {
         spec: Spec {
-            streams: three_streams(alloc)?,
+            streams,
             constants: Constants::create(alloc),
             windows: Windows::create(alloc),
             texts: Texts::create(alloc),
@@ -152,7 +169,10 @@ fn runs_the_worked_example(rt: HostRuntime) -> Result<(), Fail> {
     let mut lines = Text::from_bytes(alloc, b"")?;
     engine.accept(&row(alloc, 1, 0, 1)?, &mut lines)?;
     engine.accept(&row(alloc, 2, 1_000_000_000, 2)?, &mut lines)?;
-    assert_eq!(rt; lines.as_bytes(), b"1.000000000 trigger_1 \"high\"\n".as_slice());
+    assert_eq!(rt;
+        lines.as_bytes(),
+        b"1.000000000 trigger_1 \"high\"\n".as_slice()
+    );
     let counts = engine.counts();
     assert_eq!(rt; counts.steps, 2);
     assert_eq!(rt; counts.lines, 1);
@@ -170,7 +190,10 @@ fn ends_at_a_fault(rt: HostRuntime) -> Result<(), Fail> {
         kind: FaultKind::Overflow,
         time: 5,
     });
-    assert_eq!(rt; engine.accept(&row(alloc, 1, 5, i64::MAX)?, &mut lines), fault);
+    assert_eq!(rt;
+        engine.accept(&row(alloc, 1, 5, i64::MAX)?, &mut lines),
+        fault
+    );
     assert_eq!(rt; engine.accept(&row(alloc, 2, 6, 1)?, &mut lines), fault);
     assert_eq!(rt; lines.as_bytes(), b"".as_slice());
     Ok(())
