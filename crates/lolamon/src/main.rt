@@ -26,7 +26,10 @@ fn main(rt: HostRuntime) -> ExitCode {
     };
     let mut shelf = FolderShelf::create(&rt, alloc);
     let mut out = OutSink::create(&rt);
-    let mut trace = ErrSink::create(&rt);
+    let Ok(own) = rt.clone() else {
+        return ExitCode::from(8);
+    };
+    let mut trace = ErrSink::create(own);
     let status = run_monitor(
         &rt, alloc, &words, &mut shelf, &mut out, &mut trace, &IdleGate,
     );
