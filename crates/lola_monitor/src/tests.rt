@@ -9,6 +9,7 @@ use std::sync::Wait;
 use std::thread::Threads;
 
 /// A specification, a source, and what a run of them leaves.
+#[derive(Clone, Copy)]
 struct Case<'a> {
     specification: &'a str,
     source: &'a str,
