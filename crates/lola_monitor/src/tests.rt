@@ -83,3 +83,77 @@ fn rows_are_traced_and_judged(rt: HostRuntime) -> Result<(), Memory> {
     assert!(rt; holds(&rt, rt.alloc(), &heading_alone)?);
     Ok(())
 }
+
+/// The worked run, to be changed in one part.
+fn worked() -> Case<'static>
+    ensures piece { 1 ≤ result.piece }
+    ensures specification { length result.specification.now ≤ 2 ^ 62 }
+    ensures source { length result.source.now ≤ 2 ^ 62 }
+{
+    Case {
+        specification: SUM,
+        source: "time,a\n0,1\n1,2\n",
+        piece: 11,
+        failing_reads: &[],
+        failing_puts: &[],
+        status: 0,
+        out: "1.000000000 trigger_1 \"high\"\n= done accepted 2 late 0 steps 2 lines 1\n",
+        trace: "0,1,0.000000000,A,1\n0,2,1.000000000,A,2\n",
+    }
+}
+
+#[test]
+fn late_rows_faults_and_refusals(rt: HostRuntime) -> Result<(), Memory> {
+    let late = Case {
+        source: "time,a\n5,1\n1,1\n6,1\n",
+        out: "= done accepted 2 late 1 steps 2 lines 0\n",
+        trace: "0,1,5.000000000,A,1\n0,2,1.000000000,L5.000000000,1\n0,3,6.000000000,A,1\n",
+        ..worked()
+    };
+    assert!(rt; holds(&rt, rt.alloc(), &late)?);
+    let overflow = Case {
+        source: "time,a\n0,1\n1,9223372036854775807\n2,5\n",
+        status: 5,
+        out: "= fault b 1 Overflow at 1.000000000\n",
+        trace: "0,1,0.000000000,A,1\n0,2,1.000000000,A,9223372036854775807\n",
+        ..worked()
+    };
+    assert!(rt; holds(&rt, rt.alloc(), &overflow)?);
+    let product = Case {
+        specification: "input a: Int64\noutput b: Int64 := a * 1\ntrigger b > 2 \"high\"",
+        status: 3,
+        out: "= refused E20 Unbuilt at 0\n",
+        trace: "",
+        ..worked()
+    };
+    assert!(rt; holds(&rt, rt.alloc(), &product)?);
+    Ok(())
+}
+
+#[test]
+fn sources_and_sinks_that_fail(rt: HostRuntime) -> Result<(), Memory> {
+    let no_bytes = Case {
+        source: "",
+        status: 4,
+        out: "= malformed source 0 row 0 kind 0 Unbuilt\n",
+        trace: "",
+        ..worked()
+    };
+    assert!(rt; holds(&rt, rt.alloc(), &no_bytes)?);
+    let failed_read = Case {
+        failing_reads: &[1],
+        status: 6,
+        out: "= unreadable source 0\n",
+        trace: "0,1,0.000000000,A,1\n",
+        ..worked()
+    };
+    assert!(rt; holds(&rt, rt.alloc(), &failed_read)?);
+    let failed_put = Case {
+        failing_puts: &[0],
+        status: 7,
+        out: "",
+        ..worked()
+    };
+    assert!(rt; holds(&rt, rt.alloc(), &failed_put)?);
+    Ok(())
+}
