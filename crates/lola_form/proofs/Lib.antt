@@ -15,3 +15,4 @@ pub mod Builds
 pub mod Compiled
 pub mod Whole
 pub mod SimplePlan
+pub mod Printed
