@@ -16,3 +16,4 @@ pub mod Builds
 pub mod Compiled
 pub mod Whole
 pub mod SimplePlan
+pub mod Printed

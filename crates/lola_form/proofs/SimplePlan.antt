@@ -20,14 +20,14 @@ use Rattle.lola_model.specs.declared.spec.Stream.{Stream}
 use Rattle.lola_model.specs.declared.spec.Sort.TheVariants as sort
 use Rattle.lola_model.specs.declared.plan.Plan.{Plan}
 use Rattle.lola_form.specs.Form.{Term, Named, Number, Sum, Only, Plus, Minus, Declaration, Input, Output, Trigger, Names, declared_name, names_of, is_name, stream_named, is_declared, greatest, has_name}
-use Rattle.lola_form.specs.Spelled.{is_valid_term, is_valid_sum, is_valid, are_valid}
+use Rattle.lola_form.specs.Spelled.{IsForm, is_valid_term, is_valid_sum, is_valid, are_valid}
 use Rattle.lola_form.specs.Planned.{Known, IsNoted, IsTermOf, IsSumOf, IsComparisonOf, IsOne, IsClause, IsEvalOf, IsStreamOf, AreStreamsOf, IsPlanOf, IsPlanOfBytes, known_of, with_input, with_trigger, paced_by}
 use Rattle.lola_form.specs.Simple.{is_noted_number, is_trigger, is_number_before, is_sum, is_comparison, is_plain_clause, has_none, is_simple_stream, are_simple_from, input_count, is_paced_by, are_paced_by, IsSimple}
 use Rattle.lola_form.proofs.Bounds.{IsLow, AllLow, all_low}
 use Rattle.lola_form.proofs.Builds.{known_of-length}
 use Rattle.lola_form.proofs.Costs.{costs, few_inputs}
 use Rattle.lola_form.proofs.Spelling.{both, both_parts}
-use Rattle.lola_form.proofs.Whole.{IsForm, form_is, form_light}
+use Rattle.lola_form.proofs.Whole.{form_is, form_light}
 
 -- a stream that has numbers
 abbrev has_number : Option Stream → Bool

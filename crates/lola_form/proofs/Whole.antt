@@ -3,16 +3,10 @@ use Rattle.std.proofs.Common.{◌≡◌, ◌↔◌, ℕ, ◌+◌, ◌≤◌, ◌
 use Rattle.std.proofs.lemmas.Bool.Decides.{nat_tests}
 use Rattle.lola_form.specs.Tokens.{Token, tokens_of}
 use Rattle.lola_form.specs.Form.{Declaration, declarations_of, form_of, most_bytes}
-use Rattle.lola_form.specs.Spelled.{declaration_tokens, all_tokens, are_valid}
+use Rattle.lola_form.specs.Spelled.{IsForm, declaration_tokens, all_tokens, are_valid}
 use Rattle.lola_form.proofs.Costs.{weights, tokens_light, cost, costs, declaration_light}
 use Rattle.lola_form.proofs.Spelling.{reads_exactly}
 use Rattle.lola_form.proofs.Compiled.{is_short}
-
--- the text is short, its tokens spell the declarations, and they may stand so
-pub record IsForm (bytes : List ℕ) (ds : List Declaration) : Type 0 where
-  pub short : length bytes ≤ most_bytes
-  pub spelled : tokens_of bytes ≡ Some (all_tokens ds)
-  pub valid : are_valid [] ds ≡ true
 
 short_enough : (n : ℕ) → nat_lt most_bytes n ≡ false → n ≤ most_bytes
 short_enough n h = grind (arith, nat_tests)

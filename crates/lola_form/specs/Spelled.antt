@@ -1,9 +1,9 @@
 -- By which tokens declarations are spelled, and which declarations a text may have.
-use Rattle.std.specs.Prelude.{ℕ, List, [], ◌∷◌, ◌++◌, Bool, true, not, ◌&&◌, ◌||◌, nat_le, flat_map, codes}
+use Rattle.std.specs.Prelude.{ℕ, ◌≡◌, ◌≤◌, List, [], ◌∷◌, ◌++◌, Bool, true, not, ◌&&◌, ◌||◌, nat_le, flat_map, length, Some, codes}
 use Rattle.lola_value.specs.Times.{number_of}
 use Rattle.lola_form.specs.Tokens as token
-use Rattle.lola_form.specs.Tokens.{Token}
-use Rattle.lola_form.specs.Form.{Term, Named, Number, Sum, Only, Plus, Minus, Declaration, Input, Output, Trigger, Names, declared_name, is_declared, greatest, has_name}
+use Rattle.lola_form.specs.Tokens.{Token, tokens_of}
+use Rattle.lola_form.specs.Form.{Term, Named, Number, Sum, Only, Plus, Minus, Declaration, Input, Output, Trigger, Names, declared_name, is_declared, greatest, has_name, most_bytes}
 
 abbrev pub term_token : Term → Token
 term_token (Named n) = token.Name n
@@ -46,3 +46,9 @@ is_valid names (Trigger l r m) = (is_valid_sum names l && is_valid_sum names r) 
 abbrev pub are_valid : Names → List Declaration → Bool
 are_valid names [] = true
 are_valid names (d ∷ ds) = is_valid names d && are_valid (names ++ declared_name d ∷ []) ds
+
+-- the text is short, its tokens spell the declarations, and they may stand so
+pub record IsForm (bytes : List ℕ) (ds : List Declaration) : Type 0 where
+  pub short : length bytes ≤ most_bytes
+  pub spelled : tokens_of bytes ≡ Some (all_tokens ds)
+  pub valid : are_valid [] ds ≡ true

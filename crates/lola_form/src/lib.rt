@@ -3,6 +3,7 @@
 
 mod builder;
 mod compiler;
+pub mod law;
 mod part;
 mod reader;
 mod stream;
