@@ -68,7 +68,7 @@ builds_more ds old new d b g =
     let names : names_seen old.known.items ≡ names_of ds = ap names_in b.known ∙ names_known ds in
     let all = known_snoc ds d in
     let len : length old.known.items ≡ length (map (λ (x : Known). x.layer) (known_of ds)) =
-        sym (length-map old.known.items known_seen) ∙ ap (λ (xs : List Known). length xs) b.known ∙ sym (length-map (known_of ds) (λ (x : Known). x.layer)) in
+    sym (length-map old.known.items known_seen) ∙ ap (λ (xs : List Known). length xs) b.known ∙ sym (length-map (known_of ds) (λ (x : Known). x.layer)) in
     record {
       known = g.known ∙ rw (next, b.known) (sym all);
       inputs = g.inputs ∙ ap (λ i. with_input i d) b.inputs ∙ sym (fold-append with_input 0 ds (d ∷ []));

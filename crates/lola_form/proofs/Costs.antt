@@ -56,8 +56,8 @@ word_light z =
     let w = take (prefix_len in_name z) z in
     let len : length w ≡ prefix_len in_name z = length-prefix_len in_name z in
     word_cases (bytes_eq w (codes "input")) (bytes_eq w (codes "output")) (bytes_eq w (codes "trigger")) (is_left_out w) w (prefix_len in_name z) len
-        (λ h. omega (arith, len, spelled_len w (codes "input") h)) (λ h. omega (arith, len, spelled_len w (codes "output") h)) (λ h. omega (arith, len, spelled_len w (codes "trigger") h))
-        z (prefix_len-le-length in_name z)
+    (λ h. omega (arith, len, spelled_len w (codes "input") h)) (λ h. omega (arith, len, spelled_len w (codes "output") h)) (λ h. omega (arith, len, spelled_len w (codes "trigger") h))
+    z (prefix_len-le-length in_name z)
 
 weightless : (z : List ℕ) (n : ℕ) (b : Bool) (t : Token) → weight t ≡ 0 → IsLight z (sized n (cond b (Some t) None))
 weightless z n true t h = light_0 z t n h

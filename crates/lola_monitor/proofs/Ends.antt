@@ -375,4 +375,3 @@ memory_of status (Line (UnreadableSource m)) words before after last works (inr 
 memory_of status (Line (Analysed n w)) words before after last works done is = absurd works
 memory_of status Put words before after last works done is = absurd (omega (arith, done.0))
 memory_of status Memory words before after last works done is = subst (λ s. IsEarly before (record after { out = s }) ⊎ BrokeOff words before (record after { out = s })) (sym done.1) works
-

@@ -98,16 +98,16 @@ takes_accepted (Err (stop.Malformed n)) row old new out0 out1 next ran = ran
 takes_accepted (Err stop.ReadFault) row old new out0 out1 next ran = ran
 takes_accepted (Err (stop.Fault stream kind time)) row old new out0 out1 next ran = (
   λ journal stands.
-    let f = ran.0.1 journal stands.engine in
-    record { is_fault = f.is_fault; brings = brings_shown old journal (accepted_entry row) [] stands f.none; out = ran.1 },
+      let f = ran.0.1 journal stands.engine in
+      record { is_fault = f.is_fault; brings = brings_shown old journal (accepted_entry row) [] stands f.none; out = ran.1 },
   tt,
   ran.2,
 )
 takes_accepted (Err stop.Put) row old new out0 out1 next ran = (cut_accepted row old new out0 out1 ran.0 ran.1 ran.2, ran.2.rose, ran.1.plan)
 takes_accepted (Err stop.Memory) row old new out0 out1 next (inl cut, out, plan) = (
   λ journal stands.
-    let c = cut.1 journal stands.engine in
-    record { lines = c.lines; brings = brings_shown old journal (accepted_entry row) c.lines stands c.brings; out = out },
+      let c = cut.1 journal stands.engine in
+      record { lines = c.lines; brings = brings_shown old journal (accepted_entry row) c.lines stands c.brings; out = out },
   plan,
 )
 takes_accepted (Err stop.Memory) row old new out0 out1 next (inr ran, out, plan) = (kept_accepted row old new out0 out1 ran.0 ran.1 out, plan)
@@ -126,8 +126,7 @@ pub takes_late : (row : Row) (t : ℕ) (old new : Keeping) (out : SinkState) →
     → Takes (Ok tt) (record { row = row; mark = mark.Late t }) old new out out
 takes_late row t old new out next engine merged count late =
     let entry : Entry = record { row = row; mark = mark.Late t } in
-    let plan : new.engine.plan ≡ old.engine.plan = ap (λ (e : Evaluating). e.plan) engine in
-    (
+    let plan : new.engine.plan ≡ old.engine.plan = ap (λ (e : Evaluating). e.plan) engine in (
       λ journal stands. record {
         stands = record {
           legal = IsLegalFrom-append_one 0 journal entry stands.legal (subst (λ m. IsRightlyMarked m entry) stands.merged next);

@@ -4,11 +4,11 @@
 mod command;
 mod monitor;
 mod outcome;
+mod putting;
 mod reading;
 mod rows;
 mod run;
 mod source;
-mod putting;
 #[cfg(test)]
 mod tests;
 

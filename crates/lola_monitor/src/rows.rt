@@ -6,8 +6,7 @@ ghost use Rattle.lola_monitor.specs.Parts.{HasRoom, Reads, Runs, Stands, Steps, 
 
 use crate::outcome::Stop;
 use crate::run::Run;
-use lola_lines::RowAnswer;
-use lola_lines::RowReader;
+use lola_lines::{RowAnswer, RowReader};
 use lola_model::journal::Row;
 use lola_port::{Sink, Source};
 

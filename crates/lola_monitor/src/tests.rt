@@ -39,7 +39,12 @@ fn shelf_of(alloc: Global, case: &Case<'_>) -> Result<MemoryShelf, Memory>
 {
     let mut shelf = MemoryShelf::create(alloc);
     shelf.add("spec", case.specification.as_bytes(), 512, &[])?;
-    shelf.add("rows", case.source.as_bytes(), case.piece, case.failing_reads)?;
+    shelf.add(
+        "rows",
+        case.source.as_bytes(),
+        case.piece,
+        case.failing_reads,
+    )?;
     Ok(shelf)
 }
 
@@ -56,9 +61,11 @@ fn holds<R: Threads + Wait + Sync>(rt: &R, alloc: Global, case: &Case<'_>) -> Re
     let status = run_monitor(
         rt, alloc, &words, &mut shelf, &mut out, &mut trace, &IdleGate,
     );
-    Ok(status == case.status
-        && out.written() == case.out.as_bytes()
-        && trace.written() == case.trace.as_bytes())
+    Ok(
+        status == case.status
+            && out.written() == case.out.as_bytes()
+            && trace.written() == case.trace.as_bytes(),
+    )
 }
 
 #[test]

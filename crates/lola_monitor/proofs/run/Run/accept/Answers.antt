@@ -6,12 +6,11 @@ use Rattle.lola_monitor.proofs.run.Run.accept.Goals as goal
 
 pub returns-in-Err-Memory-clause-runs : goal.returns-in-Err-Memory-clause-runs
 returns-in-Err-Memory-clause-runs g c =
-    let same = ap (λ (k : Keeping). k.engine) c.self.view_is in
-    (
+    let same = ap (λ (k : Keeping). k.engine) c.self.view_is in (
       inl (
         c.accept.new.lines,
         subst (λ end. Accepts (Err end) c.args.row.now c.args.self.now.engine c.accept.new.self [] c.accept.new.lines) c.in-Err-Memory.field-0-is
-        (accepts_as (Err c.in-Err-Memory.field-0) c.args.row.now c.self.inside.engine c.args.self.now.engine c.accept.new.self c.clear.new.self c.accept.new.lines same c.clear.ensures c.in-Err-Memory.ensures.accepts),
+            (accepts_as (Err c.in-Err-Memory.field-0) c.args.row.now c.self.inside.engine c.args.self.now.engine c.accept.new.self c.clear.new.self c.accept.new.lines same c.clear.ensures c.in-Err-Memory.ensures.accepts),
       ),
       refl,
       c.accept.ensures.plan ∙ ap (λ e. e.plan) same,
