@@ -164,3 +164,34 @@ fn sources_and_sinks_that_fail(rt: HostRuntime) -> Result<(), Memory> {
     assert!(rt; holds(&rt, rt.alloc(), &failed_put)?);
     Ok(())
 }
+
+#[test]
+fn words_and_names_that_are_none(rt: HostRuntime) -> Result<(), Memory> {
+    let alloc = rt.alloc();
+    let case = worked();
+    let mut shelf = shelf_of(alloc, &case)?;
+    let mut out = MemorySink::create(alloc, &[])?;
+    let mut trace = MemorySink::create(alloc, &[])?;
+    let judge = words(alloc, "judge")?;
+    let status = run_monitor(
+        &rt, alloc, &judge, &mut shelf, &mut out, &mut trace, &IdleGate,
+    );
+    assert!(rt;
+        status == 2 && out.written() == "= usage\n".as_bytes() && trace.written().is_empty()
+    );
+    let mut bare = MemoryShelf::create(alloc);
+    let mut unread = MemorySink::create(alloc, &[])?;
+    let run = words(alloc, "run")?;
+    let status = run_monitor(
+        &rt,
+        alloc,
+        &run,
+        &mut bare,
+        &mut unread,
+        &mut trace,
+        &IdleGate,
+    );
+    assert!(rt; status == 6 && unread.written() == "= unreadable specification\n".as_bytes());
+    assert!(rt; trace.written().is_empty());
+    Ok(())
+}
