@@ -1,6 +1,5 @@
 -- The plan so far is that of the declarations so far.
-use Rattle.std.proofs.Common.{◌≡◌, ℕ, zero, suc, ◌+◌, ◌*◌, ◌≤◌, ◌<◌, List, [], ◌∷◌, ◌++◌, Option, Some, None, length, map, fold, replicate, All, get_or, refl, sym, ap, ◌∙◌, arith, append_assoc, length-append}
-use Rattle.std.specs.List.{AllByRecursion}
+use Rattle.std.proofs.Common.{◌≡◌, ℕ, zero, suc, ◌+◌, ◌≤◌, ◌<◌, List, [], ◌∷◌, ◌++◌, length, map, fold, replicate, get_or, refl, sym, ap, ◌∙◌, arith, append_assoc, length-append}
 use Rattle.std.proofs.lemmas.List.{append-nil, map-append, length-map}
 use Rattle.std.proofs.lemmas.List.Sums.{fold-append}
 use Rattle.lola_model.specs.declared.plan.Plan.{Plan}
@@ -9,10 +8,10 @@ use Rattle.lola_form.specs.Form.{Declaration, Names, declared_name, names_of}
 use Rattle.lola_form.specs.Planned.{Known, names_in, known_next, known_behind, known_of, with_input, with_trigger, paced_by, by_node, IsStreamOf, AreStreamsOf, IsPlanOf}
 use Rattle.lola_form.specs.Seen.{known_seen, all_known, names_seen}
 use Rattle.lola_form.specs.Parts.{AreLow}
-use Rattle.lola_form.specs.Built.{IsEmpty, IsGrown, IsSmall, IsPlanBuilt, layered}
+use Rattle.lola_form.specs.Built.{IsEmpty, IsGrown, IsSmall, IsPlanBuilt}
 use Rattle.lola_form.specs.declared.builder.Builder.{Builder}
 use Rattle.lola_form.specs.declared.part.Known as code
-use Rattle.lola_form.proofs.Bounds.{IsLow, AllLow, all_low, names_known, known_snoc}
+use Rattle.lola_form.proofs.Bounds.{AllLow, all_low, names_known, known_snoc}
 use Rattle.lola_form.proofs.Costs.{costs, few_inputs, few_triggers, few_streams}
 use Rattle.lola_form.proofs.Layered.{by_node-snoc}
 
@@ -68,7 +67,7 @@ builds_more ds old new d b g =
     let names : names_seen old.known.items ≡ names_of ds = ap names_in b.known ∙ names_known ds in
     let all = known_snoc ds d in
     let len : length old.known.items ≡ length (map (λ (x : Known). x.layer) (known_of ds)) =
-        sym (length-map old.known.items known_seen) ∙ ap (λ (xs : List Known). length xs) b.known ∙ sym (length-map (known_of ds) (λ (x : Known). x.layer)) in
+    sym (length-map old.known.items known_seen) ∙ ap (λ (xs : List Known). length xs) b.known ∙ sym (length-map (known_of ds) (λ (x : Known). x.layer)) in
     record {
       known = g.known ∙ rw (next, b.known) (sym all);
       inputs = g.inputs ∙ ap (λ i. with_input i d) b.inputs ∙ sym (fold-append with_input 0 ds (d ∷ []));

@@ -1,12 +1,11 @@
 -- A declaration more.
-use Rattle.std.proofs.Common.{◌≡◌, ℕ, List, [], ◌∷◌, ◌++◌, Option, Some, None, length, refl, sym, ap, ◌∙◌}
-use Rattle.lola_value.specs.declared.value.Kind.TheVariants as kind
+use Rattle.std.proofs.Common.{◌≡◌, ℕ, List, [], ◌∷◌, ◌++◌, Option, Some, None, length, refl, ap, ◌∙◌}
 use Rattle.lola_model.specs.declared.expr.Expr.{Expr}
 use Rattle.lola_model.specs.declared.spec.Clause.{Clause}
 use Rattle.lola_model.specs.declared.spec.Sort.TheVariants as sort
 use Rattle.lola_model.specs.declared.spec.Stream.{Stream}
 use Rattle.lola_form.specs.Form.{Names, Sum, Declaration, Input, Output, Trigger}
-use Rattle.lola_form.specs.Planned.{Known, known_next, with_input, with_trigger, paced_by, stream_name, IsSumOf, IsComparisonOf, IsClause, IsOne, IsStreamOf}
+use Rattle.lola_form.specs.Planned.{Known, known_next, with_input, with_trigger, paced_by, stream_name, IsSumOf, IsComparisonOf, IsStreamOf}
 use Rattle.lola_form.specs.Streams.{IsPlain, IsPlainStream}
 use Rattle.lola_form.specs.Seen.{all_known, names_seen}
 use Rattle.lola_form.specs.Built.{IsAdded, IsGrown, layered}
@@ -34,7 +33,12 @@ input_stream names t n name s p e = record { name = p.name_is ∙ e; sort = p.so
 pub output_stream : (names : Names) (t : ℕ) (n name : List ℕ) (x : Sum) (e : Expr) (c : Clause) (s : Stream) → IsPlainStream sort.Output name [] (Some c) s → name ≡ n → IsPlain e c → IsSumOf names x e
     → IsStreamOf names t (Output n x) s
 output_stream names t n name x e c s p is plain sum = record {
-  name = p.name_is ∙ is; sort = p.sort_is; message = p.message_is; kind = p.kind_is; parameters = p.parameters; spawn = p.spawn;
+  name = p.name_is ∙ is;
+  sort = p.sort_is;
+  message = p.message_is;
+  kind = p.kind_is;
+  parameters = p.parameters;
+  spawn = p.spawn;
   eval = rw p.eval_is (plain.pace, plain.when, rw plain.one sum);
   close = p.close;
 }
@@ -42,7 +46,12 @@ output_stream names t n name x e c s p is plain sum = record {
 pub trigger_stream : (names : Names) (t : ℕ) (l r : Sum) (m name : List ℕ) (e : Expr) (c : Clause) (s : Stream) → IsPlainStream sort.Trigger name m (Some c) s → name ≡ stream_name t (Trigger l r m) → IsPlain e c
     → IsComparisonOf names l r e → IsStreamOf names t (Trigger l r m) s
 trigger_stream names t l r m name e c s p is plain compared = record {
-  name = p.name_is ∙ is; sort = p.sort_is; message = p.message_is; kind = p.kind_is; parameters = p.parameters; spawn = p.spawn;
+  name = p.name_is ∙ is;
+  sort = p.sort_is;
+  message = p.message_is;
+  kind = p.kind_is;
+  parameters = p.parameters;
+  spawn = p.spawn;
   eval = rw p.eval_is (plain.pace, plain.when, rw plain.one compared);
   close = p.close;
 }

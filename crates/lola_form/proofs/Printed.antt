@@ -1,5 +1,5 @@
 -- What is printed is read again.
-use Rattle.std.proofs.Common.{◌≡◌, ℕ, zero, suc, ◌+◌, ◌≤◌, ◌<◌, List, [], ◌∷◌, ◌++◌, Option, Some, None, Bool, true, false, not, ◌&&◌, ◌||◌, cond, ◌==◌, nat_le, length, take, drop, codes, slice_index, refl, sym, ap, ◌∙◌, arith, append_assoc, length-append}
+use Rattle.std.proofs.Common.{◌≡◌, ℕ, ◌+◌, ◌≤◌, ◌<◌, List, [], ◌∷◌, ◌++◌, Option, Some, None, Bool, true, false, ◌==◌, nat_le, length, take, drop, codes, slice_index, refl, sym, ap, ◌∙◌, arith, append_assoc, length-append}
 use Rattle.std.proofs.lemmas.Bool.{false≢true}
 use Rattle.std.specs.List.{AllByRecursion, list_all, list_any, prefix_len}
 use Rattle.std.specs.Char.{is_ascii_digit}
@@ -70,9 +70,10 @@ not_from m n h = grind (arith, nat_tests)
 
 digit_no_letter : (c : ℕ) → is_ascii_digit c ≡ true → (begins_name c ≡ false) × (is_blank c ≡ false)
 digit_no_letter c h =
-    let low : c ≤ 57 = at_most c 57 (both_parts (nat_le 48 c) (nat_le c 57) h).1 in
-    (rw (not_from 65 c (omega (arith, low)), not_from 97 c (omega (arith, low)), differs is_ascii_digit c 95 h refl) refl,
-     rw (differs is_ascii_digit c 32 h refl, differs is_ascii_digit c 10 h refl) refl)
+    let low : c ≤ 57 = at_most c 57 (both_parts (nat_le 48 c) (nat_le c 57) h).1 in (
+      rw (not_from 65 c (omega (arith, low)), not_from 97 c (omega (arith, low)), differs is_ascii_digit c 95 h refl) refl,
+      rw (differs is_ascii_digit c 32 h refl, differs is_ascii_digit c 10 h refl) refl,
+    )
 
 -- names and reserved words
 word_found : (z : List ℕ) (k : ℕ) (w : List ℕ) (t : Token) → begins_name (slice_index z 0) ≡ true → prefix_len in_name z ≡ k → take k z ≡ w → word w ≡ Some t → token_at z ≡ Some (t, k)

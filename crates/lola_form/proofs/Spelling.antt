@@ -1,5 +1,5 @@
 -- What is read is spelled so, and what is spelled so is read.
-use Rattle.std.proofs.Common.{◌≡◌, ◌↔◌, ℕ, zero, suc, ◌+◌, ◌≤◌, ◌<◌, List, [], ◌∷◌, ◌++◌, Option, Some, None, Bool, true, false, not, ◌&&◌, ◌||◌, cond, nat_le, length, map, flat_map, codes, refl, sym, ap, ◌∙◌, append_assoc, arith}
+use Rattle.std.proofs.Common.{◌≡◌, ◌↔◌, ℕ, zero, suc, ◌+◌, ◌≤◌, ◌<◌, List, [], ◌∷◌, ◌++◌, Option, Some, None, Bool, true, false, not, ◌&&◌, ◌||◌, cond, nat_le, length, codes, refl, sym, ap, ◌∙◌, append_assoc, arith}
 use Rattle.std.proofs.lemmas.Bool.{false≢true}
 use Rattle.std.proofs.lemmas.List.{append-nil, map-append, length-append}
 use Rattle.std.specs.Str.{bytes_eq}
@@ -165,10 +165,11 @@ module _ (names : Names) where
       let k : c.0 ≡ codes "Int64" = (bytes_eq-Decides c.0 (codes "Int64")).0 v.0 in
       let e0 : ts ≡ token.Name a.0 ∷ a.1 = name_sound ts a.1 a.0 a.2 in
       let e1 : a.1 ≡ token.Colon ∷ b.1 = colon_sound a.1 b.1 b.0 b.2 in
-      let e2 : b.1 ≡ token.Name c.0 ∷ c.1 = name_sound b.1 c.1 c.0 c.2 in
-      (e0 ∙ ap (λ us. token.Name a.0 ∷ us) (e1 ∙ ap (λ us. token.Colon ∷ us) (e2 ∙ ap (λ m. token.Name m ∷ c.1) k ∙ ap (λ us. token.Name (codes "Int64") ∷ us) d.2))
-       ∙ ap (λ m. token.Name m ∷ token.Colon ∷ token.Name (codes "Int64") ∷ rest) d.1,
-       ap (λ m. not (is_declared names m)) (sym d.1) ∙ v.1)
+      let e2 : b.1 ≡ token.Name c.0 ∷ c.1 = name_sound b.1 c.1 c.0 c.2 in (
+        e0 ∙ ap (λ us. token.Name a.0 ∷ us) (e1 ∙ ap (λ us. token.Colon ∷ us) (e2 ∙ ap (λ m. token.Name m ∷ c.1) k ∙ ap (λ us. token.Name (codes "Int64") ∷ us) d.2))
+            ∙ ap (λ m. token.Name m ∷ token.Colon ∷ token.Name (codes "Int64") ∷ rest) d.1,
+        ap (λ m. not (is_declared names m)) (sym d.1) ∙ v.1,
+      )
 
   head_complete : (n : List ℕ) (rest : List Token) → not (is_declared names n) ≡ true → head_of names (head_tokens n ++ rest) ≡ Some (n, rest)
   unfolding head_of
@@ -192,9 +193,10 @@ module _ (names : Names) where
       let k = head_sound ts a.1 a.0 a.2 in
       let m = sum_sound b.1 c.1 c.0 c.2 in
       let e : ts ≡ (head_tokens a.0 ++ token.Define ∷ sum_tokens c.0) ++ rest =
-          k.0 ∙ ap (λ us. head_tokens a.0 ++ us) (define_sound a.1 b.1 b.0 b.2 ∙ ap (λ us. token.Define ∷ us) (m.0 ∙ ap (λ us. sum_tokens c.0 ++ us) q.2)) in
-      (ap (λ us. token.Output ∷ us) e ∙ ap (λ x. declaration_tokens x ++ rest) q.1,
-       ap (is_valid names) (sym q.1) ∙ both (not (is_declared names a.0)) (is_valid_sum names c.0 && has_name c.0) k.1 (both (is_valid_sum names c.0) (has_name c.0) m.1 q.0))
+      k.0 ∙ ap (λ us. head_tokens a.0 ++ us) (define_sound a.1 b.1 b.0 b.2 ∙ ap (λ us. token.Define ∷ us) (m.0 ∙ ap (λ us. sum_tokens c.0 ++ us) q.2)) in (
+        ap (λ us. token.Output ∷ us) e ∙ ap (λ x. declaration_tokens x ++ rest) q.1,
+        ap (is_valid names) (sym q.1) ∙ both (not (is_declared names a.0)) (is_valid_sum names c.0 && has_name c.0) k.1 (both (is_valid_sum names c.0) (has_name c.0) m.1 q.0),
+      )
 
   trigger_sound : (ts rest : List Token) (d : Declaration) → trigger_of names ts ≡ Some (d, rest) → (token.Trigger ∷ ts ≡ declaration_tokens d ++ rest) × (is_valid names d ≡ true)
   unfolding trigger_of
@@ -207,9 +209,10 @@ module _ (names : Names) where
       let l = sum_sound ts a.1 a.0 a.2 in
       let r = sum_sound b.1 c.1 c.0 c.2 in
       let e : ts ≡ sum_tokens a.0 ++ token.Greater ∷ (sum_tokens c.0 ++ token.Message f.0 ∷ rest) =
-          l.0 ∙ ap (λ us. sum_tokens a.0 ++ us) (greater_sound a.1 b.1 b.0 b.2 ∙ ap (λ us. token.Greater ∷ us) (r.0 ∙ ap (λ us. sum_tokens c.0 ++ us) (message_sound c.1 f.1 f.0 f.2 ∙ ap (λ us. token.Message f.0 ∷ us) q.2))) in
-      (ap (λ us. token.Trigger ∷ us) (e ∙ regrouped a.0 c.0 f.0 rest) ∙ ap (λ x. declaration_tokens x ++ rest) q.1,
-       ap (is_valid names) (sym q.1) ∙ both (is_valid_sum names a.0 && is_valid_sum names c.0) (has_name a.0 || has_name c.0) (both (is_valid_sum names a.0) (is_valid_sum names c.0) l.1 r.1) q.0)
+      l.0 ∙ ap (λ us. sum_tokens a.0 ++ us) (greater_sound a.1 b.1 b.0 b.2 ∙ ap (λ us. token.Greater ∷ us) (r.0 ∙ ap (λ us. sum_tokens c.0 ++ us) (message_sound c.1 f.1 f.0 f.2 ∙ ap (λ us. token.Message f.0 ∷ us) q.2))) in (
+        ap (λ us. token.Trigger ∷ us) (e ∙ regrouped a.0 c.0 f.0 rest) ∙ ap (λ x. declaration_tokens x ++ rest) q.1,
+        ap (is_valid names) (sym q.1) ∙ both (is_valid_sum names a.0 && is_valid_sum names c.0) (has_name a.0 || has_name c.0) (both (is_valid_sum names a.0) (is_valid_sum names c.0) l.1 r.1) q.0,
+      )
 
   -- a declaration that is read is spelled so, and may stand there
   pub declaration_sound : (ts rest : List Token) (d : Declaration) → declaration_of names ts ≡ Some (d, rest) → (ts ≡ declaration_tokens d ++ rest) × (is_valid names d ≡ true)
@@ -313,6 +316,7 @@ list_sound (suc most) front all (t ∷ ts) h =
 -- The tokens spell exactly the declarations that are read.
 pub reads_exactly : (ts : List Token) (ds : List Declaration) → (declarations_of ts ≡ Some ds) ↔ ((ts ≡ all_tokens ds) × (are_valid [] ds ≡ true))
 unfolding declarations_of
-reads_exactly ts ds =
-    (λ h. let q = list_sound (length ts) [] ds ts h in (q.tokens ∙ ap all_tokens (sym q.joined), ap (are_valid []) q.joined ∙ q.valid),
-     λ h. rw h.0 (list_complete (length (all_tokens ds)) [] ds (omega arith) h.1))
+reads_exactly ts ds = (
+  λ h. let q = list_sound (length ts) [] ds ts h in (q.tokens ∙ ap all_tokens (sym q.joined), ap (are_valid []) q.joined ∙ q.valid),
+  λ h. rw h.0 (list_complete (length (all_tokens ds)) [] ds (omega arith) h.1),
+)

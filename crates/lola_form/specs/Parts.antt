@@ -1,5 +1,5 @@
 -- Parts of the program, and the sums that they are.
-use Rattle.std.specs.Prelude.{◌≡◌, ◌<◌, List, Option, Some, None, Result, Ok, Err, All}
+use Rattle.std.specs.Prelude.{◌≡◌, ◌<◌, List, Option, Some, Result, Ok, Err, All}
 use Rattle.lola_value.specs.declared.front.FrontEnd.{FrontEnd}
 use Rattle.lola_form.specs.Tokens.{Token}
 use Rattle.lola_form.specs.Form.{Term, Sum, Only, Plus, Minus, Reading}

@@ -183,7 +183,14 @@ impl<'a> Builder<'a> {
         let expr = compared(self.alloc, sign, left.expr, right.expr)?;
         let eval = clause(self.alloc, at, expr)?;
         let name = trigger_name(self.alloc, self.triggers)?;
-        let stream = stream(self.alloc, at, Sort::Trigger, name, message.text, Some(eval))?;
+        let stream = stream(
+            self.alloc,
+            at,
+            Sort::Trigger,
+            name,
+            message.text,
+            Some(eval),
+        )?;
         self.add(stream, known)?;
         self.triggers += 1;
         Ok(())

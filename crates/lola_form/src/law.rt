@@ -9,11 +9,9 @@ ghost use Rattle.lola_form.specs.Print.{AreWritten, print};
 /// stands, and the text is not too long.
 pub fn spells_declarations()
     ensures { (bytes : List ℕ) (ds : List Declaration) → (form_of bytes ≡ Some ds) ↔ IsForm bytes ds }
-{
-}
+{}
 
 /// Declarations that are printed, each on a line, are read again.
 pub fn reads_what_is_printed()
     ensures { (ds : List Declaration) → AreWritten ds → are_valid [] ds ≡ true → length (print ds) ≤ most_bytes → form_of (print ds) ≡ Some ds }
-{
-}
+{}

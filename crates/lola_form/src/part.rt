@@ -168,11 +168,7 @@ fn joined(alloc: Global, sign: Sign, at: u32, left: Part, right: Part) -> Result
 }
 
 /// Reads a sum.
-pub fn sum(
-    alloc: Global,
-    known: &[Known<'_>],
-    reader: &mut Reader<'_>,
-) -> Result<Part, FrontEnd>
+pub fn sum(alloc: Global, known: &[Known<'_>], reader: &mut Reader<'_>) -> Result<Part, FrontEnd>
     requires few { length known.now < 2 ^ 32 }
     requires low { AreLow known.now }
     ensures { ReadsSum (all_known known.now) (sum_of (names_seen known.now) reader.old) reader.new result }

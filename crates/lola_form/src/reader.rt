@@ -84,10 +84,12 @@ impl<'a> Reader<'a> {
         ensures { Gives (λ w. (w.text.now, self.new)) (form.name_of self.old) result }
     {
         match self.take() {
-            Some(Placed {
-                token: Token::Name(text),
-                at,
-            }) => Ok(Word { text, at }),
+            Some(
+                Placed {
+                    token: Token::Name(text),
+                    at,
+                },
+            ) => Ok(Word { text, at }),
             _ => Err(refused()),
         }
     }
@@ -97,23 +99,27 @@ impl<'a> Reader<'a> {
         ensures { Gives (λ w. (w.text.now, self.new)) (form.message_of self.old) result }
     {
         match self.take() {
-            Some(Placed {
-                token: Token::Message(text),
-                at,
-            }) => Ok(Word { text, at }),
+            Some(
+                Placed {
+                    token: Token::Message(text),
+                    at,
+                },
+            ) => Ok(Word { text, at }),
             _ => Err(refused()),
         }
     }
 
-    /// Takes `:`, and gives its place.
-    pub fn colon(&mut self) -> Result<u32, FrontEnd>
+    /// Takes `:`.
+    pub fn colon(&mut self) -> Result<(), FrontEnd>
         ensures { Gives (λ _. (tt, self.new)) (form.colon_of self.old) result }
     {
         match self.take() {
-            Some(Placed {
-                token: Token::Colon,
-                at,
-            }) => Ok(at),
+            Some(
+                Placed {
+                    token: Token::Colon,
+                    at: _,
+                },
+            ) => Ok(()),
             _ => Err(refused()),
         }
     }
@@ -123,10 +129,12 @@ impl<'a> Reader<'a> {
         ensures { Gives (λ _. (tt, self.new)) (form.define_of self.old) result }
     {
         match self.take() {
-            Some(Placed {
-                token: Token::Define,
-                at,
-            }) => Ok(at),
+            Some(
+                Placed {
+                    token: Token::Define,
+                    at,
+                },
+            ) => Ok(at),
             _ => Err(refused()),
         }
     }
@@ -136,10 +144,12 @@ impl<'a> Reader<'a> {
         ensures { Gives (λ _. (tt, self.new)) (form.greater_of self.old) result }
     {
         match self.take() {
-            Some(Placed {
-                token: Token::Greater,
-                at,
-            }) => Ok(at),
+            Some(
+                Placed {
+                    token: Token::Greater,
+                    at,
+                },
+            ) => Ok(at),
             _ => Err(refused()),
         }
     }

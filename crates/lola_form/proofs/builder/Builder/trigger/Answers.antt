@@ -30,6 +30,8 @@ returns c =
     let set : bit_or c.in_ok-left.left.set c.in_ok-right.right.set ≡ bit_or (sum_set known l.0) (sum_set known r.0) = rw (l.2.set, r.2.set) refl in
     let some = some_name known l.0 r.0 (λ e. c.if-layer-eq0.false (layer ∙ e)) in
     let is = trigger_stream names old.triggers l.0 r.0 m c.in_ok-name.name c.in_ok-expr.expr c.in_ok-eval.eval c.in_ok-stream.stream c.in_ok-stream.ensures c.in_ok-name.ensures c.in_ok-eval.ensures
-        (c.in_ok-expr.ensures names l.0 r.0 l.2.expr r.2.expr) in
-    (d, trigger_read names c.args.reader.now c.sum.new.reader c.greater.new.self c.sum-2.new.reader c.message.new.self l.0 r.0 m l.1 c.in_ok-sign.ensures r.1 c.in_ok-message.ensures some,
-     grows old c.add.new.self c.in_ok-stream.stream _ d _ _ c.in_ok-add.ensures (same_known None _ _ c.max-layer.result _ set layer) is c.in_ok-add.ensures.inputs (ap (λ t. t + 1) c.in_ok-add.ensures.triggers))
+    (c.in_ok-expr.ensures names l.0 r.0 l.2.expr r.2.expr) in (
+      d,
+      trigger_read names c.args.reader.now c.sum.new.reader c.greater.new.self c.sum-2.new.reader c.message.new.self l.0 r.0 m l.1 c.in_ok-sign.ensures r.1 c.in_ok-message.ensures some,
+      grows old c.add.new.self c.in_ok-stream.stream _ d _ _ c.in_ok-add.ensures (same_known None _ _ c.max-layer.result _ set layer) is c.in_ok-add.ensures.inputs (ap (λ t. t + 1) c.in_ok-add.ensures.triggers),
+    )
