@@ -1,12 +1,12 @@
 -- How far layers and sets of inputs go.
-use Rattle.std.proofs.Common.{◌≡◌, ℕ, zero, suc, ◌+◌, ◌^◌, ◌≤◌, ◌<◌, List, [], ◌∷◌, ◌++◌, Option, Some, None, option_and_then, length, slice_get, map, max, bit_or, fold, All, refl, sym, ap, ◌∙◌, arith, length-append, append_assoc, zero-add}
+use Rattle.std.proofs.Common.{◌≡◌, ℕ, zero, suc, ◌+◌, ◌^◌, ◌≤◌, ◌<◌, List, [], ◌∷◌, ◌++◌, Option, Some, None, option_and_then, length, slice_get, fold, refl, sym, ap, ◌∙◌, arith, append_assoc, zero-add}
 use Rattle.std.proofs.lemmas.List.{append-nil, map-append}
 use Rattle.std.specs.List.{AllByRecursion}
 use Rattle.std.proofs.Math.Pow.{pow_mono, pow-lt}
 use Rattle.std.proofs.Math.Nat.{one-le-pow}
 use Rattle.std.proofs.lemmas.Nat.{or_lt}
-use Rattle.lola_form.specs.Form.{Term, Named, Number, Sum, Only, Plus, Minus, Declaration, Input, Output, Trigger, Names, declared_name, names_of, stream_named}
-use Rattle.lola_form.specs.Planned.{Known, names_in, found, set_in, layer_in, term_set, sum_set, term_layer, sum_layer, known_next, with_input, known_behind, known_of}
+use Rattle.lola_form.specs.Form.{Term, Named, Number, Sum, Only, Plus, Minus, Declaration, Input, Output, Trigger, declared_name, names_of, stream_named}
+use Rattle.lola_form.specs.Planned.{Known, names_in, set_in, layer_in, term_set, sum_set, term_layer, sum_layer, known_next, with_input, known_behind, known_of}
 
 -- a layer of at most m, and inputs below i
 pub record IsLow (m i : ℕ) (k : Known) : Type 0 where

@@ -1,6 +1,5 @@
 -- The plan so far is that of the declarations so far.
-use Rattle.std.proofs.Common.{◌≡◌, ℕ, zero, suc, ◌+◌, ◌*◌, ◌≤◌, ◌<◌, List, [], ◌∷◌, ◌++◌, Option, Some, None, length, map, fold, replicate, All, get_or, refl, sym, ap, ◌∙◌, arith, append_assoc, length-append}
-use Rattle.std.specs.List.{AllByRecursion}
+use Rattle.std.proofs.Common.{◌≡◌, ℕ, zero, suc, ◌+◌, ◌≤◌, ◌<◌, List, [], ◌∷◌, ◌++◌, length, map, fold, replicate, get_or, refl, sym, ap, ◌∙◌, arith, append_assoc, length-append}
 use Rattle.std.proofs.lemmas.List.{append-nil, map-append, length-map}
 use Rattle.std.proofs.lemmas.List.Sums.{fold-append}
 use Rattle.lola_model.specs.declared.plan.Plan.{Plan}
@@ -9,10 +8,10 @@ use Rattle.lola_form.specs.Form.{Declaration, Names, declared_name, names_of}
 use Rattle.lola_form.specs.Planned.{Known, names_in, known_next, known_behind, known_of, with_input, with_trigger, paced_by, by_node, IsStreamOf, AreStreamsOf, IsPlanOf}
 use Rattle.lola_form.specs.Seen.{known_seen, all_known, names_seen}
 use Rattle.lola_form.specs.Parts.{AreLow}
-use Rattle.lola_form.specs.Built.{IsEmpty, IsGrown, IsSmall, IsPlanBuilt, layered}
+use Rattle.lola_form.specs.Built.{IsEmpty, IsGrown, IsSmall, IsPlanBuilt}
 use Rattle.lola_form.specs.declared.builder.Builder.{Builder}
 use Rattle.lola_form.specs.declared.part.Known as code
-use Rattle.lola_form.proofs.Bounds.{IsLow, AllLow, all_low, names_known, known_snoc}
+use Rattle.lola_form.proofs.Bounds.{AllLow, all_low, names_known, known_snoc}
 use Rattle.lola_form.proofs.Costs.{costs, few_inputs, few_triggers, few_streams}
 use Rattle.lola_form.proofs.Layered.{by_node-snoc}
 

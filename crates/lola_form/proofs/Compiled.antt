@@ -1,13 +1,12 @@
 -- One turn of the loop over declarations.
-use Rattle.std.proofs.Common.{◌≡◌, ℕ, zero, suc, ◌+◌, ◌≤◌, ◌<◌, List, [], ◌∷◌, ◌++◌, Option, Some, None, option_and_then, Bool, true, false, cond, nat_lt, nat_eq, Result, Ok, Err, IfErr, length, refl, sym, ap, ◌∙◌, arith, length-append}
+use Rattle.std.proofs.Common.{◌≡◌, ℕ, zero, suc, ◌+◌, ◌≤◌, ◌<◌, List, [], ◌∷◌, ◌++◌, Option, Some, None, Bool, true, false, cond, nat_lt, nat_eq, Result, Err, IfErr, length, refl, ap, ◌∙◌, arith}
 use Rattle.std.proofs.lemmas.Bool.Decides.{nat_tests}
 use Rattle.lola_model.specs.declared.plan.Plan.{Plan}
 use Rattle.lola_form.specs.Tokens.{Token, tokens_of}
 use Rattle.lola_form.specs.Form.{Declaration, Names, names_of, declaration_of, declarations_behind, declarations_of, form_of, most_bytes}
-use Rattle.lola_form.specs.Planned.{names_in, known_of, IsPlanOf, IsPlanOfBytes}
+use Rattle.lola_form.specs.Planned.{names_in, IsPlanOfBytes}
 use Rattle.lola_value.specs.declared.front.FrontEnd.{FrontEnd}
 use Rattle.lola_form.specs.Answers.{Refuses}
-use Rattle.lola_form.specs.Spelled.{declaration_tokens}
 use Rattle.lola_form.specs.Seen.{names_seen}
 use Rattle.lola_form.specs.Built.{IsEmpty, IsGrown, IsSmall, IsPlanBuilt}
 use Rattle.lola_form.specs.declared.builder.Builder.{Builder}

@@ -1,5 +1,5 @@
 -- How many bytes declarations take at least.
-use Rattle.std.proofs.Common.{◌≡◌, ℕ, zero, suc, ◌+◌, ◌-◌, ◌*◌, ◌≤◌, ◌<◌, List, [], ◌∷◌, ◌++◌, Option, Some, None, Bool, true, false, cond, ◌==◌, slice_index, length, drop, take, codes, fold, refl, sym, ap, ◌∙◌, inl, inr, ⊎_elim, ◌⊎◌, arith, length-append, length-drop}
+use Rattle.std.proofs.Common.{◌≡◌, ℕ, zero, suc, ◌+◌, ◌-◌, ◌*◌, ◌≤◌, List, [], ◌∷◌, ◌++◌, Option, Some, None, Bool, true, false, cond, ◌==◌, slice_index, length, drop, take, codes, fold, refl, ap, inl, inr, ⊎_elim, ◌⊎◌, arith, length-drop}
 use Rattle.std.specs.Str.{bytes_eq}
 use Rattle.std.specs.List.{prefix_len}
 use Rattle.std.specs.Char.{is_ascii_digit}
@@ -10,7 +10,7 @@ use Rattle.lola_form.specs.Tokens as token
 use Rattle.lola_form.specs.Tokens.{Token, begins_name, in_name, is_plain, follows, is_left_out, is_blank, word, integer, quoted, sized, sign_at, token_at, led_by, going_on, tokens_behind, tokens_of}
 use Rattle.lola_form.specs.Form.{Declaration, Input, Output, Trigger}
 use Rattle.lola_form.specs.Planned.{with_input, with_trigger}
-use Rattle.lola_form.specs.Spelled.{declaration_tokens, sum_tokens}
+use Rattle.lola_form.specs.Spelled.{declaration_tokens}
 
 -- a lower bound on the bytes of a token
 abbrev pub weight : Token → ℕ

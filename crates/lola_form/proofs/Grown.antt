@@ -1,12 +1,11 @@
 -- A declaration more.
-use Rattle.std.proofs.Common.{◌≡◌, ℕ, List, [], ◌∷◌, ◌++◌, Option, Some, None, length, refl, sym, ap, ◌∙◌}
-use Rattle.lola_value.specs.declared.value.Kind.TheVariants as kind
+use Rattle.std.proofs.Common.{◌≡◌, ℕ, List, [], ◌∷◌, ◌++◌, Option, Some, None, length, refl, ap, ◌∙◌}
 use Rattle.lola_model.specs.declared.expr.Expr.{Expr}
 use Rattle.lola_model.specs.declared.spec.Clause.{Clause}
 use Rattle.lola_model.specs.declared.spec.Sort.TheVariants as sort
 use Rattle.lola_model.specs.declared.spec.Stream.{Stream}
 use Rattle.lola_form.specs.Form.{Names, Sum, Declaration, Input, Output, Trigger}
-use Rattle.lola_form.specs.Planned.{Known, known_next, with_input, with_trigger, paced_by, stream_name, IsSumOf, IsComparisonOf, IsClause, IsOne, IsStreamOf}
+use Rattle.lola_form.specs.Planned.{Known, known_next, with_input, with_trigger, paced_by, stream_name, IsSumOf, IsComparisonOf, IsStreamOf}
 use Rattle.lola_form.specs.Streams.{IsPlain, IsPlainStream}
 use Rattle.lola_form.specs.Seen.{all_known, names_seen}
 use Rattle.lola_form.specs.Built.{IsAdded, IsGrown, layered}

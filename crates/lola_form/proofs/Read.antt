@@ -1,5 +1,5 @@
 -- Declarations that are read.
-use Rattle.std.proofs.Common.{◌≡◌, ℕ, ◌+◌, List, Option, Some, None, Bool, true, false, ◌||◌, max, refl, sym, ap, ◌∙◌, arith}
+use Rattle.std.proofs.Common.{◌≡◌, ℕ, List, Some, None, Bool, true, false, ◌||◌, max, refl, sym, arith}
 use Rattle.std.proofs.lemmas.Bool.{false≢true}
 use Rattle.lola_form.specs.Tokens.{Token}
 use Rattle.lola_form.specs.Form.{Term, Named, Number, Sum, Only, Plus, Minus, Input, Output, Trigger, Names, is_named, has_name, head_of, define_of, greater_of, message_of, sum_of, input_of, output_of, trigger_of}

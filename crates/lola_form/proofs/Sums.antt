@@ -1,8 +1,8 @@
 -- One turn of the loop over a sum.
-use Rattle.std.proofs.Common.{◌≡◌, List, [], ◌∷◌, Option, Some, None, Result, Ok, Err, Bool, true, false, refl, sym, ap, ◌∙◌}
+use Rattle.std.proofs.Common.{◌≡◌, List, [], ◌∷◌, Option, Some, None, Result, Err, false, refl, ap}
 use Rattle.lola_form.specs.Tokens.{Token}
 use Rattle.lola_form.specs.Tokens as token
-use Rattle.lola_form.specs.Form.{Term, Sum, Only, Plus, Minus, Names, Reading, ◌>>=◌, first_term, term_of, more_of, sum_of}
+use Rattle.lola_form.specs.Form.{Term, Sum, Only, Names, Reading, first_term, term_of, more_of, sum_of}
 use Rattle.lola_form.specs.Planned.{Known, names_in}
 use Rattle.lola_form.specs.Parts.{IsPartOf, ReadsSum, joined_by}
 use Rattle.lola_form.specs.Answers.{Refuses}

@@ -1,12 +1,10 @@
 -- Terms that are read.
-use Rattle.std.proofs.Common.{◌≡◌, ℕ, ◌+◌, ◌-◌, ◌^◌, ◌<◌, ◌≤◌, List, [], ◌∷◌, length, Bool, true, false, cond, get_or, slice_get, nat_le, Some, None, Option, option_and_then, is_some, All, zero, suc, pos, refl, sym, ap, ◌∙◌, arith}
-use Rattle.std.specs.Option.{option_copied}
+use Rattle.std.proofs.Common.{◌≡◌, ℕ, ◌<◌, List, [], ◌∷◌, length, Bool, true, false, cond, get_or, slice_get, nat_le, Some, None, zero, suc, refl, arith}
 use Rattle.lola_value.specs.Times.{number_of}
 use Rattle.lola_form.specs.Tokens as token
-use Rattle.lola_form.specs.Form.{Term, Named, Number, Names, is_declared, stream_named, greatest, term_of}
-use Rattle.lola_form.specs.Planned.{Known, found}
+use Rattle.lola_form.specs.Form.{Named, Number, Names, stream_named, greatest, term_of}
+use Rattle.lola_form.specs.Planned.{found}
 use Rattle.lola_form.specs.Seen.{known_seen, all_known, names_seen}
-use Rattle.lola_form.specs.Parts.{AreLow}
 use Rattle.lola_form.specs.declared.part.Known as code
 
 abbrev pub no_stream : code.Known

@@ -1,5 +1,5 @@
 -- The form at work.
-use Rattle.std.proofs.Common.{◌≡◌, ℕ, List, ◌∷◌, [], Some, None, refl, codes}
+use Rattle.std.proofs.Common.{◌≡◌, ◌∷◌, [], Some, None, refl, codes}
 use Rattle.std.specs.Str.{is_utf8, chars}
 use lib.Utf8.{encode}
 use Rattle.lola_form.specs.Tokens.{tokens_of, token_at}

@@ -1,10 +1,10 @@
 -- What a text of the form has.
-use Rattle.std.proofs.Common.{◌≡◌, ◌↔◌, ℕ, ◌+◌, ◌≤◌, ◌<◌, List, [], ◌∷◌, ◌++◌, Option, Some, None, option_and_then, Bool, true, false, cond, nat_lt, length, refl, sym, ap, ◌∙◌, arith}
+use Rattle.std.proofs.Common.{◌≡◌, ◌↔◌, ℕ, ◌≤◌, List, [], ◌∷◌, Option, Some, None, option_and_then, Bool, true, false, cond, nat_lt, length, refl, ap, ◌∙◌, arith}
 use Rattle.std.proofs.lemmas.Bool.Decides.{nat_tests}
 use Rattle.lola_form.specs.Tokens.{Token, tokens_of}
 use Rattle.lola_form.specs.Form.{Declaration, declarations_of, form_of, most_bytes}
-use Rattle.lola_form.specs.Spelled.{IsForm, declaration_tokens, all_tokens, are_valid}
-use Rattle.lola_form.proofs.Costs.{weights, tokens_light, cost, costs, declaration_light}
+use Rattle.lola_form.specs.Spelled.{IsForm, all_tokens}
+use Rattle.lola_form.proofs.Costs.{weights, tokens_light, costs, declaration_light}
 use Rattle.lola_form.proofs.Spelling.{reads_exactly}
 use Rattle.lola_form.proofs.Compiled.{is_short}
 

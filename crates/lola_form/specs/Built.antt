@@ -1,5 +1,5 @@
 -- The plan so far, in the program.
-use Rattle.std.specs.Prelude.{◌≡◌, ◌<◌, ℕ, ◌*◌, ◌-◌, List, [], ◌∷◌, ◌++◌, Option, Some, None, Result, Ok, Err, length, replicate, if◌then◌else◌, ◌==◌}
+use Rattle.std.specs.Prelude.{◌≡◌, ◌<◌, ℕ, ◌*◌, ◌-◌, List, [], ◌∷◌, ◌++◌, Some, Result, Ok, Err, length, replicate, if◌then◌else◌, ◌==◌}
 use Rattle.lola_model.specs.declared.spec.Stream.{Stream}
 use Rattle.lola_value.specs.declared.front.FrontEnd.{FrontEnd}
 use Rattle.lola_model.specs.declared.plan.Plan.{Plan}

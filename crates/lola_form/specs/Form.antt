@@ -1,5 +1,5 @@
 -- The first form of specifications: declarations of inputs, sums and comparisons of sums.
-use Rattle.std.specs.Prelude.{ℕ, zero, suc, List, [], ◌∷◌, ◌++◌, Option, Some, None, option_and_then, Bool, true, false, not, ◌&&◌, ◌||◌, if◌then◌else◌, nat_le, nat_lt, length, map, flat_map, codes, is_some}
+use Rattle.std.specs.Prelude.{ℕ, zero, suc, List, [], ◌∷◌, ◌++◌, Option, Some, None, option_and_then, Bool, true, false, not, ◌&&◌, ◌||◌, if◌then◌else◌, nat_le, nat_lt, length, map, codes, is_some}
 use Rattle.std.specs.List.{position_from}
 use Rattle.std.specs.Str.{bytes_eq}
 use Rattle.lola_value.specs.Times.{number_of}
@@ -33,9 +33,11 @@ declared_name (Trigger l r m) = None
 abbrev pub Names : Type 0
 Names = List (Option (List ℕ))
 
+-- the names that declarations declare
 abbrev pub names_of : List Declaration → Names
 names_of ds = map declared_name ds
 
+-- whether a stream has this name
 abbrev pub is_name : List ℕ → Option (List ℕ) → Bool
 is_name n None = false
 is_name n (Some m) = bytes_eq m n
@@ -52,7 +54,7 @@ is_declared names n = is_some (stream_named n names)
 abbrev pub greatest : ℕ
 greatest = 9223372036854775807
 
--- whether a name stands in a sum
+-- whether a stream's name stands in a sum
 abbrev pub is_named : Term → Bool
 is_named (Named n) = true
 is_named (Number d) = false
@@ -66,6 +68,7 @@ has_name (Minus s t) = has_name s || is_named t
 abbrev pub Reading : Type 0 → Type 0
 Reading A = Option (A × List Token)
 
+-- what is read behind it; none, where there is none
 infixl 10 ◌>>=◌
 abbrev pub ◌>>=◌ : {A B : Type 0} → Reading A → (A → List Token → Reading B) → Reading B
 None >>= f = None
@@ -105,6 +108,7 @@ module _ (names : Names) where
   term_of (token.Integer d) = if nat_le (number_of d) greatest then Some (Number d) else None
   term_of t = None
 
+  -- the term in front
   abbrev pub first_term : List Token → Reading Term
   first_term [] = None
   first_term (t ∷ ts) = elim (term_of t) [ None ↦ None | Some x ↦ Some (x, ts) ]
@@ -126,6 +130,7 @@ module _ (names : Names) where
       name_of ts >>= λ n ts. colon_of ts >>= λ _ ts. name_of ts >>= λ k ts.
       where_true (bytes_eq k (codes "Int64") && not (is_declared names n)) n ts
 
+  -- what stands behind the word of a declaration
   unfoldable pub input_of : List Token → Reading Declaration
   input_of ts = head_of ts >>= λ n ts. Some (Input n, ts)
 
@@ -137,6 +142,7 @@ module _ (names : Names) where
       sum_of ts >>= λ l ts. greater_of ts >>= λ _ ts. sum_of ts >>= λ r ts. message_of ts >>= λ m ts.
       where_true (has_name l || has_name r) (Trigger l r m) ts
 
+  -- a declaration, by its first word
   abbrev pub declaration_of : List Token → Reading Declaration
   declaration_of (token.Input ∷ ts) = input_of ts
   declaration_of (token.Output ∷ ts) = output_of ts
@@ -150,6 +156,7 @@ declarations_behind zero front (t ∷ ts) = None
 declarations_behind (suc most) front (t ∷ ts) =
     elim (declaration_of (names_of front) (t ∷ ts)) [ None ↦ None | Some d ↦ declarations_behind most (front ++ d.0 ∷ []) d.1 ]
 
+-- the declarations that the tokens spell
 unfoldable pub declarations_of : List Token → Option (List Declaration)
 declarations_of ts = declarations_behind (length ts) [] ts
 

@@ -1,5 +1,5 @@
 -- Parts of the program, and the sums that they are.
-use Rattle.std.specs.Prelude.{◌≡◌, ◌<◌, List, Option, Some, None, Result, Ok, Err, All}
+use Rattle.std.specs.Prelude.{◌≡◌, ◌<◌, List, Option, Some, Result, Ok, Err, All}
 use Rattle.lola_value.specs.declared.front.FrontEnd.{FrontEnd}
 use Rattle.lola_form.specs.Tokens.{Token}
 use Rattle.lola_form.specs.Form.{Term, Sum, Only, Plus, Minus, Reading}
@@ -35,6 +35,7 @@ ReadsSum known value rest (Err e) = Refuses value e
 abbrev pub AreLow : List code.Known → Type 0
 AreLow known = All (λ k. k.layer < 4294967295) known
 
+-- a sum and one more term, by a sign
 abbrev pub joined_by : Sign → Sum → Term → Sum
 joined_by sign.Plus s t = Plus s t
 joined_by sign.Minus s t = Minus s t

@@ -1,5 +1,5 @@
 -- The plan of declarations.
-use Rattle.std.specs.Prelude.{ℕ, suc, ◌≡◌, ◌+◌, ◌^◌, pos, List, [], ◌∷◌, ◌++◌, Option, Some, None, option_and_then, Bool, true, false, if◌then◌else◌, ◌==◌, length, map, max, bit_or, slice_get, codes, decimal, replicate}
+use Rattle.std.specs.Prelude.{ℕ, ◌≡◌, ◌+◌, ◌^◌, pos, List, [], ◌∷◌, ◌++◌, Option, Some, None, option_and_then, Bool, true, false, if◌then◌else◌, ◌==◌, length, map, max, bit_or, slice_get, codes, decimal, replicate}
 use Rattle.lola_value.specs.Times.{number_of}
 use Rattle.lola_value.specs.declared.value.Kind.{Kind}
 use Rattle.lola_value.specs.declared.value.Kind.TheVariants as kind
@@ -33,6 +33,7 @@ module _ (names : Names) where
   IsTermOf (Number d) (Literal place (value.Int z)) = IsNoted place kind.Int64 × (z ≡ pos (number_of d))
   IsTermOf t e = ⊥
 
+  -- terms joined from the left by the signs that are written
   abbrev pub IsSumOf : Sum → Expr → Type 0
   IsSumOf (Only t) e = IsTermOf t e
   IsSumOf (Plus s t) (Both' place binary.Add u a v b) = IsNoted place kind.Int64 × IsSumOf s a × IsTermOf t b
@@ -56,11 +57,13 @@ abbrev pub IsClause : (Expr → Type 0) → Option Clause → Type 0
 IsClause f None = ⊥
 IsClause f (Some c) = (c.pace ≡ None) × (c.when ≡ None) × IsOne f c.with
 
+-- what a stream does in each step, which an input leaves to its source
 abbrev pub IsEvalOf : Names → Declaration → Option Clause → Type 0
 IsEvalOf names (Input n) c = c ≡ None
 IsEvalOf names (Output n s) c = IsClause (IsSumOf names s) c
 IsEvalOf names (Trigger l r m) c = IsClause (IsComparisonOf names l r) c
 
+-- which sort is declared
 abbrev pub is_input_declared : Declaration → Bool
 is_input_declared (Input n) = true
 is_input_declared (Output n s) = false
@@ -77,6 +80,7 @@ stream_name triggers (Input n) = n
 stream_name triggers (Output n s) = n
 stream_name triggers (Trigger l r m) = codes "trigger_" ++ decimal (triggers + 1)
 
+-- the sort, the message and the kind of a declaration's stream
 abbrev pub sort_of : Declaration → Sort
 sort_of (Input n) = sort.Input
 sort_of (Output n s) = sort.Output
@@ -92,6 +96,7 @@ kind_in (Input n) = kind.Int64
 kind_in (Output n s) = kind.Int64
 kind_in (Trigger l r m) = kind.Bool
 
+-- how many triggers there are with this declaration
 abbrev pub with_trigger : ℕ → Declaration → ℕ
 with_trigger triggers d = if is_trigger_declared d then triggers + 1 else triggers
 
@@ -116,15 +121,17 @@ AreStreamsOf names triggers ds ss = ⊥
 -- Pacings and layers.
 
 -- what is known of a stream: its name, if it has one; the inputs that it reaches, bit i for input i; and its
--- layer, how many reads lead from it one after another at most
+-- layer, the most reads that lead from it one after another
 pub record Known : Type 0 where
   pub name : Option (List ℕ)
   pub set : ℕ
   pub layer : ℕ
 
+-- their names
 abbrev pub names_in : List Known → Names
 names_in known = map (λ k. k.name) known
 
+-- the inputs and the layer of a stream that was looked for
 abbrev pub set_in : Option Known → ℕ
 set_in None = 0
 set_in (Some k) = k.set
@@ -135,6 +142,7 @@ layer_in (Some k) = k.layer
 
 -- behind streams of which this is known
 module _ (known : List Known) where
+  -- the stream that has a name
   abbrev pub found : List ℕ → Option Known
   found n = option_and_then (slice_get known) (stream_named n (names_in known))
 
@@ -164,6 +172,7 @@ module _ (known : List Known) where
   known_next inputs (Output n s) = record { name = Some n; set = sum_set s; layer = sum_layer s }
   known_next inputs (Trigger l r m) = record { name = None; set = bit_or (sum_set l) (sum_set r); layer = max (sum_layer l) (sum_layer r) }
 
+-- how many inputs there are with this declaration
 abbrev pub with_input : ℕ → Declaration → ℕ
 with_input inputs d = if is_input_declared d then inputs + 1 else inputs
 
@@ -172,6 +181,7 @@ abbrev pub known_behind : ℕ → List Known → List Declaration → List Known
 known_behind inputs known [] = known
 known_behind inputs known (d ∷ ds) = known_behind (with_input inputs d) (known ++ known_next known inputs d ∷ []) ds
 
+-- what is known of all streams of declarations
 unfoldable pub known_of : List Declaration → List Known
 known_of ds = known_behind 0 [] ds
 

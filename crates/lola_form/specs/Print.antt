@@ -28,6 +28,7 @@ line [] = 10 ∷ []
 line (t ∷ []) = token_text t ++ 10 ∷ []
 line (t ∷ u ∷ ts) = token_text t ++ 32 ∷ line (u ∷ ts)
 
+-- each declaration on a line
 abbrev pub print : List Declaration → List ℕ
 print [] = []
 print (d ∷ ds) = line (declaration_tokens d) ++ print ds
@@ -64,6 +65,7 @@ IsWritten (Input n) = IsName n
 IsWritten (Output n s) = IsName n × IsWrittenSum s
 IsWritten (Trigger l r m) = IsWrittenSum l × IsWrittenSum r × IsMessage m
 
+-- each of them is
 abbrev pub AreWritten : List Declaration → Type 0
 AreWritten [] = Unit {0}
 AreWritten (d ∷ ds) = IsWritten d × AreWritten ds

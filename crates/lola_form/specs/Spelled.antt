@@ -5,10 +5,12 @@ use Rattle.lola_form.specs.Tokens as token
 use Rattle.lola_form.specs.Tokens.{Token, tokens_of}
 use Rattle.lola_form.specs.Form.{Term, Named, Number, Sum, Only, Plus, Minus, Declaration, Input, Output, Trigger, Names, declared_name, is_declared, greatest, has_name, most_bytes}
 
+-- the token of a term
 abbrev pub term_token : Term → Token
 term_token (Named n) = token.Name n
 term_token (Number d) = token.Integer d
 
+-- the tokens of a sum
 abbrev pub sum_tokens : Sum → List Token
 sum_tokens (Only t) = term_token t ∷ []
 sum_tokens (Plus s t) = sum_tokens s ++ token.Plus ∷ term_token t ∷ []
@@ -18,11 +20,13 @@ sum_tokens (Minus s t) = sum_tokens s ++ token.Minus ∷ term_token t ∷ []
 abbrev pub head_tokens : List ℕ → List Token
 head_tokens n = token.Name n ∷ token.Colon ∷ token.Name (codes "Int64") ∷ []
 
+-- the tokens of a declaration
 abbrev pub declaration_tokens : Declaration → List Token
 declaration_tokens (Input n) = token.Input ∷ head_tokens n
 declaration_tokens (Output n s) = token.Output ∷ (head_tokens n ++ token.Define ∷ sum_tokens s)
 declaration_tokens (Trigger l r m) = token.Trigger ∷ (sum_tokens l ++ token.Greater ∷ (sum_tokens r ++ token.Message m ∷ []))
 
+-- the tokens of declarations
 abbrev pub all_tokens : List Declaration → List Token
 all_tokens ds = flat_map declaration_tokens ds
 

@@ -21,6 +21,7 @@ abbrev pub IsCompared : Expr → Expr → Expr → Type 0
 IsCompared left right e =
     (names : Names) (l r : Sum) → IsSumOf names l left → IsSumOf names r right → IsComparisonOf names l r e
 
+-- the kind of a stream of a sort
 abbrev pub kind_by : Sort → Kind
 kind_by sort.Input = kind.Int64
 kind_by sort.Output = kind.Int64

@@ -60,9 +60,11 @@ abbrev pub sized : ℕ → Option Token → Option (Token × ℕ)
 sized len None = None
 sized len (Some t) = Some (t, len)
 
+-- a word, which ends before the first byte that no word has
 abbrev pub word_at : List ℕ → Option (Token × ℕ)
 word_at z = sized (prefix_len in_name z) (word (take_while in_name z))
 
+-- an integer, which ends before the first byte that is no digit
 abbrev pub integer_at : List ℕ → Option (Token × ℕ)
 integer_at z = sized (prefix_len is_ascii_digit z) (integer (take_while is_ascii_digit z) (drop (prefix_len is_ascii_digit z) z))
 
@@ -88,6 +90,7 @@ token_at z =
     else if b == 34 then message_at (drop 1 z)
     else sign_at b (drop 1 z)
 
+-- a space or a line feed
 abbrev pub is_blank : ℕ → Bool
 is_blank b = b == 32 || b == 10
 

@@ -16,7 +16,16 @@ use std::alloc::Global;
 /// The most bytes of a text.
 const MOST_BYTES: usize = 512;
 
-/// The plan of a specification of the first form, or the one refusal.
+/// The plan of a specification in the first form: inputs of 64-bit integers, outputs that are sums
+/// of inputs, of earlier outputs and of integers, and triggers that ask whether one sum is above
+/// another. A direct access reads the value of the same step, so a stream is active exactly where
+/// all inputs that it reaches through what it reads have a value, and its layer is one more than
+/// the greatest of the streams that it reads.
+///
+/// Any other text is refused as a form that is not built, at byte 0; so is a text of more than
+/// 512 bytes, a name that is declared twice or only further on, an integer above the range, and a
+/// sum or a trigger that reads no stream. `Memory` comes only for want of memory. The plan notes
+/// where tokens stand, for messages; what it notes there is left open.
 pub fn compile(alloc: Global, bytes: &[u8]) -> Result<Plan, FrontEnd>
     ensures plan { IfOk result (IsPlanOfBytes bytes.now) }
     ensures refused { IfErr result (Refuses (form_of bytes.now)) }
@@ -63,7 +72,13 @@ mod tests {
         assert_eq!(rt; streams[0].sort, Sort::Input);
         assert_eq!(rt; streams[1].sort, Sort::Output);
         assert_eq!(rt; streams[2].sort, Sort::Trigger);
+        assert_eq!(rt; streams[0].place, 6);
+        assert_eq!(rt; streams[1].place, 22);
         assert_eq!(rt; streams[2].place, 40);
+        assert_eq!(rt;
+            streams[1].eval.as_ref().map(|clause| clause.place),
+            Some(31)
+        );
         assert_eq!(rt; plan.layers.as_slice(), [0, 0, 1, 0, 2].as_slice());
         assert_eq!(rt; plan.kept.as_slice(), [1, 1, 1].as_slice());
         assert_eq!(rt; plan.pacings.as_slice().len(), 3);

@@ -109,17 +109,17 @@ impl<'a> Reader<'a> {
         }
     }
 
-    /// Takes `:`, and gives its place.
-    pub fn colon(&mut self) -> Result<u32, FrontEnd>
+    /// Takes `:`.
+    pub fn colon(&mut self) -> Result<(), FrontEnd>
         ensures { Gives (λ _. (tt, self.new)) (form.colon_of self.old) result }
     {
         match self.take() {
             Some(
                 Placed {
                     token: Token::Colon,
-                    at,
+                    at: _,
                 },
-            ) => Ok(at),
+            ) => Ok(()),
             _ => Err(refused()),
         }
     }

@@ -1,9 +1,9 @@
-use Rattle.std.proofs.Common.{◌≡◌, ◌<◌, length, ap, sym, ◌∙◌, refl, arith}
+use Rattle.std.proofs.Common.{◌≡◌, ◌<◌, length, ap, ◌∙◌, refl, arith}
 use Rattle.std.proofs.lemmas.Result.{err_from_is_err_and}
 use Rattle.lola_form.specs.Tokens.{tokens_of}
 use Rattle.lola_form.specs.Form.{declaration_of, form_of}
 use Rattle.lola_form.specs.Seen.{names_seen, seen_all}
-use Rattle.lola_form.proofs.Compiled.{IsSoFar, too_long, no_tokens, begins, has_room, breaks, goes, finished, fails, some_left, none_left, shorter}
+use Rattle.lola_form.proofs.Compiled.{too_long, no_tokens, begins, has_room, breaks, goes, finished, fails, some_left, none_left, shorter}
 use Rattle.lola_form.proofs.SimplePlan.{simple_plan}
 use Rattle.lola_form.proofs.Sums.{refuses_on}
 use Rattle.lola_form.proofs.compiler.compile.Goals as goal

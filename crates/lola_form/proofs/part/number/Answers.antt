@@ -1,7 +1,5 @@
-use Rattle.std.proofs.Common.{◌+◌, ◌*◌, ◌<◌, ◌∙◌}
-use Rattle.std.proofs.lemmas.Grind.{common_steps}
+use Rattle.std.proofs.Common.{◌+◌, ◌*◌, ◌∙◌}
 use Rattle.lola_value.specs.Times.{number_of}
-use Rattle.lola_form.specs.Form.{greatest}
 use Rattle.lola_form.proofs.Numbers.{one_digit, out_of_range}
 use Rattle.lola_form.proofs.part.number.Goals as goal
 

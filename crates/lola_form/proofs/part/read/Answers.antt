@@ -1,7 +1,5 @@
-use Rattle.std.proofs.Common.{◌≡◌, ap, sym, ◌∙◌, refl, arith}
+use Rattle.std.proofs.Common.{sym, refl}
 use Rattle.lola_form.specs.Form.{Named}
-use Rattle.lola_form.specs.Planned.{set_in, layer_in}
-use Rattle.lola_form.specs.Seen.{names_seen}
 use Rattle.lola_form.proofs.Terms.{name_read}
 use Rattle.lola_form.proofs.part.read.Goals as goal
 

@@ -1,4 +1,4 @@
-use Rattle.std.proofs.Common.{◌≡◌, ap, sym, ◌∙◌, refl}
+use Rattle.std.proofs.Common.{ap, ◌∙◌}
 use Rattle.std.proofs.lemmas.Result.{err_from_is_err_and}
 use Rattle.lola_form.specs.Form.{Only, first_term, sum_of, more_of}
 use Rattle.lola_form.specs.Seen.{all_known, names_seen}
