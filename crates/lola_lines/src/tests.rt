@@ -53,7 +53,8 @@ fn source(
     piece: u32,
     fails: &[u64],
 ) -> Result<Option<MemorySource>, Memory>
-    requires { length bytes.now ≤ 2 ^ 62 }
+    requires bytes { length bytes.now ≤ 2 ^ 62 }
+    requires piece { 1 ≤ piece }
 {
     let mut shelf = MemoryShelf::create(alloc);
     shelf.add("source", bytes, piece, fails)?;
@@ -83,7 +84,8 @@ fn described(alloc: Global, answer: &RowAnswer) -> Result<String, Fail> {
 
 // The first four answers of a reader of at most two rows.
 fn answers(alloc: Global, bytes: &[u8], piece: u32, fails: &[u64]) -> Result<String, Fail>
-    requires { length bytes.now ≤ 2 ^ 62 }
+    requires bytes { length bytes.now ≤ 2 ^ 62 }
+    requires piece { 1 ≤ piece }
 {
     let source = source(alloc, bytes, piece, fails)?.ok_or("no source")?;
     let mut reader = RowReader::create(alloc, &plan(alloc)?, 7, 2, source)?;
@@ -96,10 +98,12 @@ fn answers(alloc: Global, bytes: &[u8], piece: u32, fails: &[u64]) -> Result<Str
 
 #[test]
 fn pieces(rt: HostRuntime) -> Result<(), Fail> {
-    for piece in [1, 3, 11, 100] {
-        let text = answers(rt.alloc(), b"time,a,b\n0,1,-2\n1.5,30,4\n", piece, &[])?;
-        assert_eq!(rt; text.as_str(), "7 1 0 1 -2;7 2 1500000000 30 4;end;end;");
-    }
+    let rows = b"time,a,b\n0,1,-2\n1.5,30,4\n";
+    let expected = "7 1 0 1 -2;7 2 1500000000 30 4;end;end;";
+    assert_eq!(rt; answers(rt.alloc(), rows, 1, &[])?.as_str(), expected);
+    assert_eq!(rt; answers(rt.alloc(), rows, 3, &[])?.as_str(), expected);
+    assert_eq!(rt; answers(rt.alloc(), rows, 11, &[])?.as_str(), expected);
+    assert_eq!(rt; answers(rt.alloc(), rows, 100, &[])?.as_str(), expected);
     Ok(())
 }
 

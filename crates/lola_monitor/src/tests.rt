@@ -14,8 +14,10 @@ struct Case<'a> {
     specification: &'a str,
     source: &'a str,
     piece: u32,
+    failing_specification_reads: &'a [u64],
     failing_reads: &'a [u64],
     failing_puts: &'a [u64],
+    failing_trace_puts: &'a [u64],
     status: u8,
     out: &'a str,
     trace: &'a str,
@@ -38,7 +40,12 @@ fn shelf_of(alloc: Global, case: &Case<'_>) -> Result<MemoryShelf, Memory>
     ensures { IfOk result (λ shelf. shelf.out ≡ 0) }
 {
     let mut shelf = MemoryShelf::create(alloc);
-    shelf.add("spec", case.specification.as_bytes(), 512, &[])?;
+    shelf.add(
+        "spec",
+        case.specification.as_bytes(),
+        512,
+        case.failing_specification_reads,
+    )?;
     shelf.add(
         "rows",
         case.source.as_bytes(),
@@ -56,7 +63,7 @@ fn holds<R: Threads + Wait + Sync>(rt: &R, alloc: Global, case: &Case<'_>) -> Re
 {
     let mut shelf = shelf_of(alloc, case)?;
     let mut out = MemorySink::create(alloc, case.failing_puts)?;
-    let mut trace = MemorySink::create(alloc, &[])?;
+    let mut trace = MemorySink::create(alloc, case.failing_trace_puts)?;
     let words = words(alloc, "run")?;
     let status = run_monitor(
         rt, alloc, &words, &mut shelf, &mut out, &mut trace, &IdleGate,
@@ -66,29 +73,6 @@ fn holds<R: Threads + Wait + Sync>(rt: &R, alloc: Global, case: &Case<'_>) -> Re
             && out.written() == case.out.as_bytes()
             && trace.written() == case.trace.as_bytes(),
     )
-}
-
-#[test]
-fn rows_are_traced_and_judged(rt: HostRuntime) -> Result<(), Memory> {
-    let case = Case {
-        specification: SUM,
-        source: "time,a\n0,1\n1,2\n",
-        piece: 4,
-        failing_reads: &[],
-        failing_puts: &[],
-        status: 0,
-        out: "1.000000000 trigger_1 \"high\"\n= done accepted 2 late 0 steps 2 lines 1\n",
-        trace: "0,1,0.000000000,A,1\n0,2,1.000000000,A,2\n",
-    };
-    assert!(rt; holds(&rt, rt.alloc(), &case)?);
-    let heading_alone = Case {
-        source: "time,a\n",
-        out: "= done accepted 0 late 0 steps 0 lines 0\n",
-        trace: "",
-        ..case
-    };
-    assert!(rt; holds(&rt, rt.alloc(), &heading_alone)?);
-    Ok(())
 }
 
 /// The worked run, to be changed in one part.
@@ -101,12 +85,27 @@ fn worked() -> Case<'static>
         specification: SUM,
         source: "time,a\n0,1\n1,2\n",
         piece: 11,
+        failing_specification_reads: &[],
         failing_reads: &[],
         failing_puts: &[],
+        failing_trace_puts: &[],
         status: 0,
         out: "1.000000000 trigger_1 \"high\"\n= done accepted 2 late 0 steps 2 lines 1\n",
         trace: "0,1,0.000000000,A,1\n0,2,1.000000000,A,2\n",
     }
+}
+
+#[test]
+fn rows_are_traced_and_judged(rt: HostRuntime) -> Result<(), Memory> {
+    assert!(rt; holds(&rt, rt.alloc(), &worked())?);
+    let heading_alone = Case {
+        source: "time,a\n",
+        out: "= done accepted 0 late 0 steps 0 lines 0\n",
+        trace: "",
+        ..worked()
+    };
+    assert!(rt; holds(&rt, rt.alloc(), &heading_alone)?);
+    Ok(())
 }
 
 #[test]
@@ -193,5 +192,117 @@ fn words_and_names_that_are_none(rt: HostRuntime) -> Result<(), Memory> {
     );
     assert!(rt; status == 6 && unread.written() == "= unreadable specification\n".as_bytes());
     assert!(rt; trace.written().is_empty());
+    Ok(())
+}
+
+#[test]
+fn lines_of_another_form(rt: HostRuntime) -> Result<(), Memory> {
+    let blank = Case {
+        source: "\n\n\n",
+        status: 4,
+        out: "= malformed source 0 row 0 kind 0 Unbuilt\n",
+        trace: "",
+        ..worked()
+    };
+    assert!(rt; holds(&rt, rt.alloc(), &blank)?);
+    let cut = Case {
+        source: "time,a\n0,1\n1",
+        status: 4,
+        out: "= malformed source 0 row 2 kind 0 Unbuilt\n",
+        trace: "0,1,0.000000000,A,1\n",
+        ..worked()
+    };
+    assert!(rt; holds(&rt, rt.alloc(), &cut)?);
+    let empty_field = Case {
+        source: "time,a\n0,1\n1,",
+        ..cut
+    };
+    assert!(rt; holds(&rt, rt.alloc(), &empty_field)?);
+    Ok(())
+}
+
+#[test]
+fn reads_that_fail(rt: HostRuntime) -> Result<(), Memory> {
+    let specification = Case {
+        failing_specification_reads: &[0],
+        status: 6,
+        out: "= unreadable specification\n",
+        trace: "",
+        ..worked()
+    };
+    assert!(rt; holds(&rt, rt.alloc(), &specification)?);
+    let first = Case {
+        failing_reads: &[0],
+        status: 6,
+        out: "= unreadable source 0\n",
+        trace: "",
+        ..worked()
+    };
+    assert!(rt; holds(&rt, rt.alloc(), &first)?);
+    let before_the_line_feed = Case {
+        piece: 1,
+        failing_reads: &[10],
+        ..first
+    };
+    assert!(rt; holds(&rt, rt.alloc(), &before_the_line_feed)?);
+    let behind_it = Case {
+        piece: 1,
+        failing_reads: &[11],
+        trace: "0,1,0.000000000,A,1\n",
+        ..first
+    };
+    assert!(rt; holds(&rt, rt.alloc(), &behind_it)?);
+    Ok(())
+}
+
+#[test]
+fn puts_that_fail(rt: HostRuntime) -> Result<(), Memory> {
+    let first = Case {
+        failing_trace_puts: &[0],
+        status: 7,
+        out: "",
+        trace: "",
+        ..worked()
+    };
+    assert!(rt; holds(&rt, rt.alloc(), &first)?);
+    let second = Case {
+        failing_trace_puts: &[1],
+        trace: "0,1,0.000000000,A,1\n",
+        ..first
+    };
+    assert!(rt; holds(&rt, rt.alloc(), &second)?);
+    let end_line = Case {
+        source: "time,a\n",
+        failing_puts: &[0],
+        status: 7,
+        out: "",
+        trace: "",
+        ..worked()
+    };
+    assert!(rt; holds(&rt, rt.alloc(), &end_line)?);
+    let fault_line = Case {
+        source: "time,a\n0,1\n1,9223372036854775807\n2,5\n",
+        failing_puts: &[0],
+        status: 5,
+        out: "",
+        trace: "0,1,0.000000000,A,1\n0,2,1.000000000,A,9223372036854775807\n",
+        ..worked()
+    };
+    assert!(rt; holds(&rt, rt.alloc(), &fault_line)?);
+    Ok(())
+}
+
+#[test]
+fn usage_line_that_is_not_put(rt: HostRuntime) -> Result<(), Memory> {
+    let alloc = rt.alloc();
+    let mut shelf = MemoryShelf::create(alloc);
+    let mut out = MemorySink::create(alloc, &[0])?;
+    let mut trace = MemorySink::create(alloc, &[])?;
+    let mut name = Vec::new(alloc);
+    name.push(String::from_str(alloc, "lolamon")?)?;
+    let status = run_monitor(
+        &rt, alloc, &name, &mut shelf, &mut out, &mut trace, &IdleGate,
+    );
+    assert!(rt; status == 2 && out.written().is_empty() && trace.written().is_empty());
     Ok(())
 }
