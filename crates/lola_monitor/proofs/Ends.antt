@@ -1,41 +1,22 @@
 -- The last line of a call, and its status.
-use Rattle.std.proofs.Common.{map, ◌≡◌, ◌⊎◌, ℕ, ◌+◌, ◌≤◌, List, [], ◌∷◌, ◌++◌, true, Bool, inl, inr, ⊎_elim, Option, None, Some, refl, sym, ap, ◌∙◌, subst, append_assoc, if◌then◌else◌, arith}
-use Rattle.std.proofs.lemmas.List.{append-nil}
+use Rattle.std.proofs.Common.{◌≡◌, ◌⊎◌, ℕ, ◌+◌, List, [], ◌∷◌, ◌++◌, true, Bool, inl, inr, None, Some, refl, sym, ap, ◌∙◌, subst, append_assoc, if◌then◌else◌, arith}
 use Rattle.std.specs.Io.KnownBytes.{append_known}
 use Rattle.std.specs.Option.{option_map}
 use Rattle.lola_port.specs.Asks.{given_ask}
 use Rattle.lola_port.specs.declared.traits.Ask.{Ask}
 use Rattle.lola_port.specs.States.{PutBroke, Rose, SinkState, grown}
-use Rattle.lola_model.specs.Journal.{rows_of}
 use Rattle.lola_model.specs.Runs.{settled_fault}
-use Rattle.lola_model.specs.declared.plan.Plan.{Plan}
-use Rattle.lola_lines.specs.Lines.{SourceEnd, Whole, MalformedAt, SourceRows}
 use Rattle.lola_report.specs.Ends.{end_text}
 use Rattle.lola_report.specs.declared.end.EndLine.{EndLine}
 use Rattle.lola_report.specs.declared.end.EndLine.TheVariants.{Done, Usage, Refused, Malformed, Fault, UnreadableSpecification, UnreadableSource, Analysed}
-use Rattle.lola_monitor.specs.Command.{Names, command_of}
-use Rattle.lola_monitor.specs.Monitor.{BrokeOff, IsBroken, IsClean, IsCutShort, Ran, IsDone, IsEarly, IsFault, IsMalformed, IsRefused, IsUnread, IsUsage, Outside, Wrote, HasFrontOf, asks_between, done_line, first_faulty, is_faulty, verdicts}
-use Rattle.lola_monitor.specs.Outcomes.{Concluded, NoCommand, NoPlan, NotRead, Stood, StoodCut, StoodDone, StoodEnded, StoodFault, StoodMalformed, Works}
+use Rattle.lola_monitor.specs.Monitor.{BrokeOff, IsBroken, IsCutShort, Ran, IsDone, IsEarly, IsFault, IsMalformed, IsRefused, IsUnread, IsUsage, Outside, Wrote, HasFrontOf, first_faulty, is_faulty, verdicts}
+use Rattle.lola_monitor.specs.Outcomes.{Concluded, NoCommand, NoPlan, NotRead, Stood, StoodCut, StoodDone, StoodFault, StoodMalformed, Works}
 use Rattle.lola_monitor.specs.declared.outcome.Outcome.{Outcome}
 use Rattle.lola_monitor.specs.declared.outcome.Outcome.TheVariants.{Line, Put, Memory}
 use Rattle.lola_monitor.proofs.Runs.{grown_twice, known_append, no_part, some_line}
 use Rattle.lola_monitor.proofs.Sources.{an_entry}
 
--- a text and then a whole or broken one
-wrote_after : (s0 s1 s2 : SinkState) (xs ys : List ℕ) → s1 ≡ grown s0 xs → Wrote s1 s2 ys → Wrote s0 s2 (xs ++ ys)
-wrote_after s0 s1 s2 xs ys first (inl second) = inl (second ∙ ap (λ s. grown s ys) first ∙ grown_twice s0 xs ys)
-wrote_after s0 s1 s2 xs ys first (inr broke) = inr (record {
-  part = xs ++ broke.part;
-  is_part = record {
-    rest = broke.is_part.rest;
-    joined = ap (λ (l : List ℕ). xs ++ l) broke.is_part.joined ∙ sym (append_assoc xs broke.part broke.is_part.rest);
-    not_whole = broke.is_part.not_whole;
-  };
-  written = broke.written ∙ ap (λ s. (grown s broke.part).written) first ∙ known_append s0.written xs broke.part;
-  later = subst (λ n. n ≤ s2.count) (ap (λ s. s.count) first) broke.later;
-  rose = subst (λ n. Rose n s2.count) (ap (λ s. s.count) first) broke.rose;
-})
-
+-- from the same state
 wrote_same : (s0 s1 s2 : SinkState) (ys : List ℕ) → s1 ≡ s0 → Wrote s1 s2 ys → Wrote s0 s2 ys
 wrote_same s0 s1 s2 ys same wrote = subst (λ s. Wrote s s2 ys) same wrote
 
@@ -86,7 +67,7 @@ module _ (words : List (List ℕ)) (before after : Outside) (last : SinkState) w
     rows = s.stood.rows;
     is_fault = s.is_fault;
     stands = inl s.stands;
-    out = subst (λ e. Wrote before.out last (verdicts s.stood.run.plan s.stood.run.journal ++ end_text e)) s.line_is (wrote_after before.out after.out last _ _ s.stood.out wrote);
+    out = subst (λ e. Wrote (grown before.out (verdicts s.stood.run.plan s.stood.run.journal)) last (end_text e)) s.line_is (wrote_same (grown before.out (verdicts s.stood.run.plan s.stood.run.journal)) after.out last _ s.stood.out wrote);
     asks = s.asks;
     count = s.count;
   }
@@ -101,7 +82,7 @@ module _ (words : List (List ℕ)) (before after : Outside) (last : SinkState) w
     faulty = s.faulty;
     unless_given = s.unless_given;
     rose = s.rose;
-    out = subst (λ e. Wrote before.out last (verdicts s.stood.run.plan s.stood.run.journal ++ end_text e)) s.line_is (wrote_after before.out after.out last _ _ s.stood.out wrote);
+    out = subst (λ e. Wrote (grown before.out (verdicts s.stood.run.plan s.stood.run.journal)) last (end_text e)) s.line_is (wrote_same (grown before.out (verdicts s.stood.run.plan s.stood.run.journal)) after.out last _ s.stood.out wrote);
   }
 
   ends_usage : NoCommand words before after → Wrote after.out last (end_text Usage) → IsUsage words before (record after { out = last })

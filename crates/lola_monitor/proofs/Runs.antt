@@ -1,10 +1,10 @@
 -- How a run goes on, and how it ends.
-use Rattle.std.proofs.Common.{◌≡◌, ℕ, ◌⊎◌, ◌+◌, ◌<◌, ◌≤◌, ◌^◌, List, [], ◌∷◌, ◌++◌, Option, None, Some, refl, sym, ap, ◌∙◌, Result, Ok, Err, inl, inr, arith, append_assoc, subst, codes, length, decimal, length-append}
+use Rattle.std.proofs.Common.{◌≡◌, ℕ, ◌⊎◌, ◌<◌, List, [], ◌∷◌, ◌++◌, Option, None, Some, refl, sym, ap, ◌∙◌, Err, inl, inr, arith, append_assoc, subst, codes, length, decimal, length-append}
 use Rattle.std.proofs.lemmas.List.{append-nil}
 use Rattle.std.proofs.lemmas.List.Elements.{All-append, All-cons, All-nil}
 use Rattle.std.specs.Io.KnownBytes.{append_known}
-use Rattle.lola_port.specs.States.{PutBroke, Rose, SinkState, grown}
-use Rattle.lola_model.specs.Journal.{IsLegal, IsRightlyMarked, accepted, merged_from, rows_of}
+use Rattle.lola_port.specs.States.{Rose, SinkState, grown}
+use Rattle.lola_model.specs.Journal.{IsLegal, IsRightlyMarked, merged_from, rows_of}
 use Rattle.lola_model.specs.Faults.{RunFault}
 use Rattle.lola_model.specs.Texts.{text_of}
 use Rattle.lola_model.specs.Trace.{trace_line, trace_text}
@@ -18,8 +18,8 @@ use Rattle.lola_model.specs.declared.journal.Show.TheVariants.{Triggers}
 use Rattle.lola_model.proofs.Journals.{IsLegalFrom-append_one, rows_of-append, text_of-append, trace_text-append_one}
 use Rattle.lola_sums.specs.Standing.{Brings}
 use Rattle.lola_lines.specs.Lines.{SourceEnd, SourceRows, Whole, MalformedAt}
-use Rattle.lola_monitor.specs.Monitor.{AreOfSources, HasFrontOf, HasLines, IsRowFault, most_rows}
-use Rattle.lola_monitor.specs.Parts.{BeganWith, CameTo, IsAccepted, CutNext, EndedWith, FaultNext, IsAt, IsNext, Keeping, KeptNext, OutCut, OutKept, Passes, RanTo, RanToCut, RanToFault, RanToPutFault, RanToReadFault, Runs, SawEnd, SawFault, SawMemory, SawPutFault, SawReadFault, SoFar, Stands, StandsNext, Stepped, Steps, Traced, TraceCut, World, led_by, settled_text}
+use Rattle.lola_monitor.specs.Monitor.{AreOfSources, HasLines}
+use Rattle.lola_monitor.specs.Parts.{BeganWith, CameTo, IsAccepted, EndedWith, IsAt, Keeping, OutCut, OutKept, Passes, RanTo, RanToCut, RanToFault, RanToPutFault, RanToReadFault, Runs, SawEnd, SawFault, SawReadFault, SoFar, Stands, Stepped, Steps, Traced, TraceCut, World, led_by, settled_text}
 use Rattle.lola_report.specs.Ends.{end_text}
 use Rattle.lola_report.specs.declared.end.EndLine.{EndLine}
 use Rattle.lola_report.specs.declared.end.EndLine.TheVariants as end_line

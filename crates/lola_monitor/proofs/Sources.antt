@@ -1,5 +1,5 @@
 -- A run of a source that was fetched and came back.
-use Rattle.std.proofs.Common.{◌≡◌, ℕ, ◌+◌, ◌<◌, List, [], ◌∷◌, ◌++◌, Option, Some, None, option_map, sym, ap, refl, ◌∙◌, inl, inr, subst, length, true, false}
+use Rattle.std.proofs.Common.{◌≡◌, ℕ, ◌<◌, List, [], ◌∷◌, ◌++◌, Option, Some, None, option_map, sym, ap, refl, ◌∙◌, inl, inr, subst, length, true, false}
 use Rattle.std.proofs.lemmas.List.{append-nil}
 use Rattle.std.proofs.lemmas.List.Elements.{All-nil}
 use Rattle.lola_port.specs.States.{FetchBroke, IsFresh, Rose, ShelfState, SinkState, SourceState, back, grown, lent}
@@ -16,17 +16,14 @@ use Rattle.lola_model.specs.declared.journal.Entry.{Entry}
 use Rattle.lola_model.specs.declared.journal.Row.{Row}
 use Rattle.lola_model.specs.declared.journal.Mark.TheVariants as mark
 use Rattle.lola_model.specs.declared.journal.Show.TheVariants.{Triggers}
-use Rattle.lola_model.specs.declared.source.MalformedKind.TheVariants.{Unbuilt}
-use Rattle.lola_lines.specs.Lines.{SourceEnd, SourceRows, Whole, MalformedAt, rows_of_source}
-use Rattle.lola_report.specs.declared.end.EndLine.{EndLine}
-use Rattle.lola_report.specs.declared.end.EndLine.TheVariants.{Done, Malformed, Fault, UnreadableSource}
+use Rattle.lola_lines.specs.Lines.{SourceEnd, Whole, MalformedAt, rows_of_source}
+use Rattle.lola_report.specs.declared.end.EndLine.TheVariants.{Done, UnreadableSource}
 use Rattle.lola_monitor.specs.Monitor.{Begins, Ends, IsRowFault, Outside, done_line, fault_line, late_count, most_rows, outside, source_rows, verdicts}
-use Rattle.lola_monitor.specs.Outcomes.{CutFacts, CutRun, DoneRun, EndedRun, FaultRun, MalformedRun, OutcomeAfter, RunsSource, SourceRun}
+use Rattle.lola_monitor.specs.Outcomes.{CutFacts, CutRun, EndedRun, FaultRun, OutcomeAfter, RunsSource, SourceRun}
 use Rattle.lola_monitor.specs.Parts.{BeganWith, CameTo, EndedWith, Keeping, Reading, RanTo, RanToCut, RanToFault, Runs, settled_text, view_of, world}
 use Rattle.lola_monitor.specs.declared.outcome.Stop.{Stop}
 use Rattle.lola_monitor.specs.declared.outcome.Stop.TheVariants as stop
 use Rattle.lola_monitor.specs.declared.outcome.Outcome.{Outcome}
-use Rattle.lola_monitor.specs.declared.outcome.Outcome.TheVariants.{Line, Put, Memory}
 use Rattle.lola_lines.specs.Reading as lines
 use Rattle.lola_monitor.proofs.Runs.{grown_nil, no_part, some_line}
 use Rattle.lola_monitor.proofs.Shelves.{CameBack, came_back, given_last, marred, stopped, whole}

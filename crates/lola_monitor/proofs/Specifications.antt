@@ -1,9 +1,8 @@
 -- A specification that was read to its end, or past the most bytes of one.
-use Rattle.std.proofs.Common.{◌≡◌, ℕ, ◌+◌, ◌<◌, ◌≤◌, List, [], ◌∷◌, ◌++◌, Option, Some, None, Bool, true, false, inl, inr, refl, sym, ap, ◌∙◌, subst, arith, length, length-append, nat_lt, if◌then◌else◌}
+use Rattle.std.proofs.Common.{◌≡◌, ℕ, ◌<◌, ◌≤◌, List, Option, Some, None, Bool, true, false, inl, inr, refl, sym, ap, ◌∙◌, subst, arith, length, length-append, nat_lt, if◌then◌else◌}
 use Rattle.std.proofs.lemmas.Bool.Decides.{nat_tests}
-use Rattle.lola_value.specs.declared.front.FrontEnd.{FrontEnd}
 use Rattle.lola_model.specs.declared.plan.Plan.{Plan}
-use Rattle.lola_form.specs.Form.{Declaration, form_of, most_bytes}
+use Rattle.lola_form.specs.Form.{Declaration, form_of}
 use Rattle.lola_form.specs.Planned.{IsPlanOfBytes}
 use Rattle.lola_monitor.specs.Outcomes.{IsReadFront}
 

@@ -1,7 +1,7 @@
 -- Which status a call has, from what holds of it.
-use Rattle.std.proofs.Common.{◌≡◌, ◌⊎◌, ℕ, List, [], ◌∷◌, inl, inr, ⊎_elim, Option, None, Some, refl, sym, ap, ◌∙◌, subst}
-use Rattle.lola_port.specs.States.{Rose, SinkState}
-use Rattle.lola_lines.specs.Lines.{SourceRows, SourceEnd, Whole, MalformedAt}
+use Rattle.std.proofs.Common.{◌≡◌, ◌⊎◌, ℕ, List, inl, inr, ⊎_elim, None, Some, sym, ap, ◌∙◌}
+use Rattle.lola_port.specs.States.{SinkState}
+use Rattle.lola_lines.specs.Lines.{SourceRows, Whole, MalformedAt}
 use Rattle.lola_report.specs.declared.end.EndLine.TheVariants.{Done, Usage, Refused, Malformed, Fault, UnreadableSpecification, UnreadableSource, Analysed}
 use Rattle.lola_monitor.specs.Command.{Names, command_of}
 use Rattle.lola_monitor.specs.Monitor.{IsBroken, IsClean, IsCutShort, IsDone, IsFault, IsMalformed, IsRefused, IsSpoiled, IsUnread, IsUsage, Outside, source_rows}

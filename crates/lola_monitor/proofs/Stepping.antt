@@ -1,8 +1,6 @@
 -- One step of a run, by what became of its row.
-use Rattle.std.proofs.Common.{◌≡◌, ℕ, ◌⊎◌, List, [], ◌∷◌, ◌++◌, Option, Some, None, Result, Ok, Err, inl, inr, refl, sym, ap, ◌∙◌, subst, arith}
-use Rattle.std.proofs.lemmas.List.{append-nil}
-use Rattle.std.specs.Io.KnownBytes.{append_known}
-use Rattle.lola_port.specs.States.{IsProperPart, PutBroke, Rose, SinkState, grown}
+use Rattle.std.proofs.Common.{◌≡◌, [], Result, Ok, Err, inl, inr, refl, sym, ap, ◌∙◌, subst, arith}
+use Rattle.lola_port.specs.States.{SinkState, grown}
 use Rattle.lola_model.specs.Trace.{trace_line}
 use Rattle.lola_model.specs.declared.plan.Plan.{Plan}
 use Rattle.lola_model.specs.declared.journal.Row.{Row}

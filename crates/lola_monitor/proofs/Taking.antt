@@ -1,23 +1,19 @@
 -- A run that takes one entry more, whatever journal it stands for.
-use Rattle.std.proofs.Common.{◌≡◌, ℕ, ◌⊎◌, ◌+◌, ◌≤◌, List, [], ◌∷◌, ◌++◌, Option, Some, None, Result, Ok, Err, inl, inr, refl, sym, ap, ◌∙◌, subst, arith, length, length-append}
+use Rattle.std.proofs.Common.{◌≡◌, ℕ, ◌+◌, List, [], ◌∷◌, ◌++◌, None, Result, Ok, Err, inl, inr, refl, sym, ap, ◌∙◌, subst, arith, length, length-append}
 use Rattle.std.proofs.lemmas.List.{append-nil}
 use Rattle.lola_port.specs.States.{PutBroke, SinkState, grown}
-use Rattle.lola_model.specs.Journal.{IsLegal, IsRightlyMarked, accepted, merged_from, rows_of}
-use Rattle.lola_model.specs.Faults.{RunFault}
-use Rattle.lola_model.specs.Texts.{text_of}
-use Rattle.lola_model.specs.Runs.{settled_fault, settled_lines, settled_model}
-use Rattle.lola_model.specs.declared.plan.Plan.{Plan}
+use Rattle.lola_model.specs.Journal.{IsRightlyMarked, accepted}
+use Rattle.lola_model.specs.Runs.{settled_fault}
 use Rattle.lola_model.specs.declared.journal.Row.{Row}
 use Rattle.lola_model.specs.declared.journal.Entry.{Entry}
 use Rattle.lola_model.specs.declared.journal.Mark.{Mark}
 use Rattle.lola_model.specs.declared.journal.Mark.TheVariants as mark
 use Rattle.lola_model.specs.declared.journal.Show.TheVariants.{Triggers}
 use Rattle.lola_model.proofs.Journals.{IsLegalFrom-append_one, accepted-append_accepted, accepted-append_late, merged_from-append_accepted, merged_from-append_late, settled_fault-append_late, settled_lines-append_late, settled_model-append_late}
-use Rattle.lola_sums.specs.Standing.{Accepts, Brings, Evaluating, RunsRow, StandsFor, accepted_entry}
+use Rattle.lola_sums.specs.Standing.{Accepts, Brings, Evaluating, StandsFor, accepted_entry}
 use Rattle.lola_sums.specs.declared.end.EngineEnd.{EngineEnd}
-use Rattle.lola_sums.specs.declared.end.EngineEnd.TheVariants as engine_end
 use Rattle.lola_monitor.specs.Monitor.{add_late, late_count}
-use Rattle.lola_monitor.specs.Parts.{CutNext, FaultNext, IsNext, Keeping, KeptNext, Puts, RanRow, RunsAccepted, Stands, StandsNext, Takes}
+use Rattle.lola_monitor.specs.Parts.{CutNext, IsNext, Keeping, KeptNext, Puts, RanRow, RunsAccepted, Stands, StandsNext, Takes}
 use Rattle.lola_monitor.specs.declared.outcome.Stop.{Stop}
 use Rattle.lola_monitor.specs.declared.outcome.Stop.TheVariants as stop
 use Rattle.lola_monitor.proofs.Runs.{grown_nil}

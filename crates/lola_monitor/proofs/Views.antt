@@ -1,5 +1,5 @@
 -- What a reader's answers are to a run.
-use Rattle.std.proofs.Common.{◌≡◌, ℕ, suc, ◌+◌, ◌≤◌, List, [], ◌∷◌, ◌++◌, Option, Some, None, option_map, Bool, true, false, ◌&&◌, IsTrue, refl, sym, ap, ◌∙◌, arith, length, filter, subst, if◌then◌else◌}
+use Rattle.std.proofs.Common.{◌≡◌, suc, ◌≤◌, List, [], ◌∷◌, ◌++◌, Option, true, false, ◌&&◌, IsTrue, refl, sym, ap, ◌∙◌, length, filter, subst, if◌then◌else◌}
 use Rattle.lola_value.specs.declared.text.Field.{Field}
 use Rattle.lola_value.specs.declared.text.Field.TheVariants as field
 use Rattle.lola_value.specs.declared.value.Kind.TheVariants as kind

@@ -1,8 +1,8 @@
 -- A command's run, after its specification was read.
-use Rattle.std.proofs.Common.{◌≡◌, ℕ, ◌≤◌, List, [], ◌∷◌, ◌++◌, map, Option, Some, None, inl, inr, ⊎_elim, sym, ap, ◌∙◌, subst, append_assoc}
+use Rattle.std.proofs.Common.{◌≡◌, ℕ, ◌≤◌, List, [], ◌∷◌, ◌++◌, map, Option, Some, inl, inr, ⊎_elim, sym, ap, ◌∙◌, subst, append_assoc}
 use Rattle.std.proofs.lemmas.List.{append-nil}
 use Rattle.lola_port.specs.Asks.{given_ask}
-use Rattle.lola_port.specs.States.{Rose, ShelfState, grown}
+use Rattle.lola_port.specs.States.{Rose, ShelfState}
 use Rattle.lola_port.specs.declared.traits.Ask.{Ask}
 use Rattle.lola_model.specs.Journal.{rows_of}
 use Rattle.lola_model.specs.declared.plan.Plan.{Plan}
@@ -12,7 +12,7 @@ use Rattle.lola_lines.specs.Lines.{SourceEnd, SourceRows, Whole, MalformedAt}
 use Rattle.lola_report.specs.Ends.{end_text}
 use Rattle.lola_report.specs.declared.end.EndLine.TheVariants.{Done, Usage, Refused, Malformed, Fault, UnreadableSpecification, UnreadableSource, Analysed}
 use Rattle.lola_monitor.specs.Command.{Names, command_of, names_of}
-use Rattle.lola_monitor.specs.Monitor.{Begins, BrokeOff, Ends, HasFrontOf, IsEarly, Outside, Ran, asks_between, verdicts}
+use Rattle.lola_monitor.specs.Monitor.{Begins, BrokeOff, Ends, IsEarly, Outside, Ran, asks_between}
 use Rattle.lola_monitor.specs.Outcomes.{CutFacts, EndedRun, IsReadFront, RunsSource, SourceRun, Stood, StoodEnded, Works, noted, without_plan}
 use Rattle.lola_monitor.specs.declared.outcome.Outcome.{Outcome}
 use Rattle.lola_monitor.specs.declared.outcome.Outcome.TheVariants.{Line, Put, Memory}

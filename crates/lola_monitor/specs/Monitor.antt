@@ -173,7 +173,7 @@ pub record IsFault (words : List (List ℕ)) (before after : Outside) : Type 0 w
   pub rows : Begins (before.shelf.told run.names.source) run.plan (rows_of 0 run.journal)
   pub is_fault : first_fault run.plan None run.journal ≡ Some fault
   pub stands : IsRowFault run.plan run.journal fault ⊎ IsDeadlineFault (before.shelf.told run.names.source) run.plan run.journal
-  pub out : Wrote before.out after.out (verdicts run.plan run.journal ++ end_text (fault_line run.plan fault))
+  pub out : Wrote (grown before.out (verdicts run.plan run.journal)) after.out (end_text (fault_line run.plan fault))
   pub asks : asks_between before.shelf after.shelf ≡ map given_ask (names_of run.names)
   pub count : after.shelf.count ≡ before.shelf.count
 
@@ -196,7 +196,7 @@ pub record IsCutShort (words : List (List ℕ)) (before after : Outside) : Type 
   pub faulty : is_faulty ask ≡ true
   pub unless_given : ask.given ≡ false → run.journal ≡ []
   pub rose : Rose before.shelf.count after.shelf.count
-  pub out : Wrote before.out after.out (verdicts run.plan run.journal ++ end_text (UnreadableSource 0))
+  pub out : Wrote (grown before.out (verdicts run.plan run.journal)) after.out (end_text (UnreadableSource 0))
 
 -- the sink received the lines of a journal, and a proper part of one more
 pub record HasLines (old new : SinkState) (journal : List Entry) : Type 0 where

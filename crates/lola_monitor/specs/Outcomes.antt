@@ -1,5 +1,5 @@
 -- What the parts of the top call leave, before its last line.
-use Rattle.std.specs.Prelude.{◌≡◌, ◌⊎◌, ℕ, ◌<◌, List, [], ◌∷◌, ◌++◌, length, map, true, false, None, Some, Option}
+use Rattle.std.specs.Prelude.{◌≡◌, ◌⊎◌, ℕ, ◌<◌, List, [], ◌∷◌, ◌++◌, length, map, true, false, None, Some}
 use Rattle.lola_port.specs.Asks.{given_ask}
 use Rattle.lola_port.specs.States.{Moved, PutBroke, Rose, ShelfState, SinkState, SourceState, grown}
 use Rattle.lola_port.specs.declared.traits.Ask.{Ask}
@@ -19,7 +19,7 @@ use Rattle.lola_report.specs.Ends.{end_text}
 use Rattle.lola_report.specs.declared.end.EndLine.{EndLine}
 use Rattle.lola_report.specs.declared.end.EndLine.TheVariants.{Done, Usage, Refused, Malformed, Fault, UnreadableSpecification, UnreadableSource, Analysed}
 use Rattle.lola_monitor.specs.Command.{Names, command_of, names_of}
-use Rattle.lola_monitor.specs.Monitor.{AreOfSources, Begins, BrokeOff, Ends, HasFrontOf, HasLines, IsBroken, IsDeadlineFault, IsEarly, IsRowFault, Outside, Ran, asks_between, done_line, fault_line, first_faulty, is_faulty, verdicts}
+use Rattle.lola_monitor.specs.Monitor.{AreOfSources, Begins, BrokeOff, Ends, HasFrontOf, HasLines, IsBroken, IsEarly, IsRowFault, Outside, Ran, asks_between, done_line, fault_line, first_faulty, is_faulty, verdicts}
 use Rattle.lola_monitor.specs.Parts.{Keeping}
 use Rattle.lola_monitor.specs.declared.outcome.Stop.{Stop}
 use Rattle.lola_monitor.specs.declared.outcome.Stop.TheVariants as stop

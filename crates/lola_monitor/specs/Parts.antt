@@ -13,7 +13,6 @@ use Rattle.lola_model.specs.declared.plan.Plan.{Plan}
 use Rattle.lola_model.specs.declared.journal.Row.{Row}
 use Rattle.lola_model.specs.declared.journal.Entry.{Entry}
 use Rattle.lola_model.specs.declared.journal.Mark.TheVariants as mark
-use Rattle.lola_model.specs.declared.journal.Show.{Show}
 use Rattle.lola_model.specs.declared.journal.Show.TheVariants.{Triggers}
 use Rattle.lola_form.specs.Simple.{HasNumbers}
 use Rattle.lola_lines.specs.Lines.{SourceRows, SourceEnd, Whole, MalformedAt}

@@ -1,5 +1,4 @@
-use Rattle.std.proofs.Common.{Err, Global, List, ℕ, [], ◌∷◌, Result, map, string_bytes, ap, sym, subst, refl, ◌∙◌, lit≤}
-use Rattle.lola_form.specs.Planned.{IsPlanOfBytes}
+use Rattle.std.proofs.Common.{Err, Global, List, ℕ, [], ◌∷◌, map, string_bytes, ap, sym, subst, refl, ◌∙◌, lit≤}
 use Rattle.lola_monitor.specs.Command.{Names}
 use Rattle.lola_monitor.specs.Monitor.{outside}
 use Rattle.lola_monitor.specs.Outcomes.{IsReadFront, Works}

@@ -1,4 +1,4 @@
-use Rattle.std.proofs.Common.{ap, ◌∙◌, refl, sym, Err}
+use Rattle.std.proofs.Common.{ap, ◌∙◌, refl, Err}
 use Rattle.lola_monitor.proofs.Settling.{is_settled}
 use Rattle.lola_monitor.proofs.Sources.{is_given, not_given, ran_file}
 use Rattle.lola_monitor.proofs.source.run_file.Goals as goal
