@@ -18,7 +18,7 @@ use Rattle.lola_model.specs.declared.plan.Plan.{Plan}
 use Rattle.lola_form.specs.Form.{Term, Named, Number, Sum, Only, Plus, Minus, Declaration, Input, Output, Trigger, Names, declared_name, names_of, is_name, stream_named, is_declared, has_name}
 use Rattle.lola_form.specs.Spelled.{is_valid_term, is_valid_sum, is_valid, are_valid}
 use Rattle.lola_form.specs.Planned.{Known, IsNoted, IsTermOf, IsSumOf, IsComparisonOf, IsOne, IsClause, IsStreamOf, AreStreamsOf, IsPlanOfBytes, known_of, with_input, with_trigger, paced_by}
-use Rattle.lola_form.specs.Simple.{is_noted_number, is_trigger, is_number_before, is_sum, is_comparison, is_plain_clause, is_simple_stream, are_simple_from, input_count, are_paced_by, IsSimple}
+use Rattle.lola_form.specs.Simple.{is_noted_number, is_trigger, is_number_before, is_sum, is_comparison, is_plain_clause, is_simple_stream, are_simple_from, is_number_input, are_number_inputs, input_count, are_paced_by, IsSimple}
 use Rattle.lola_form.proofs.Bounds.{AllLow, all_low}
 use Rattle.lola_form.proofs.Builds.{known_of-length}
 use Rattle.lola_form.proofs.Costs.{few_inputs}
@@ -167,6 +167,21 @@ as_many names t [] [] a = refl
 as_many names t (d ∷ ds) (s ∷ ss) a = ap suc (as_many (names ++ declared_name d ∷ []) (with_trigger t d) ds ss a.1)
 as_many names t [] (s ∷ ss) a = absurd a
 as_many names t (d ∷ ds) [] a = absurd a
+
+-- each input is a number
+number_input : (names : Names) (t : ℕ) (d : Declaration) (s : Stream) → IsStreamOf names t d s → is_number_input s ≡ true
+number_input names t (Input n) s h = rw (h.sort, h.kind) refl
+number_input names t (Output n x) s h = rw h.sort refl
+number_input names t (Trigger l r m) s h = rw h.sort refl
+
+all_number_inputs : (names : Names) (t : ℕ) (ds : List Declaration) (ss : List Stream) → AreStreamsOf names t ds ss → are_number_inputs ss ≡ true
+all_number_inputs names t [] [] a = refl
+all_number_inputs names t (d ∷ ds) (s ∷ ss) a = rw (number_input names t d s a.0) (all_number_inputs (names ++ declared_name d ∷ []) (with_trigger t d) ds ss a.1)
+all_number_inputs names t [] (s ∷ ss) a = absurd a
+all_number_inputs names t (d ∷ ds) [] a = absurd a
+
+pub plan_of_numbers : (bytes : List ℕ) (plan : Plan) → IsPlanOfBytes bytes plan → are_number_inputs plan.spec.streams ≡ true
+plan_of_numbers bytes plan h = all_number_inputs [] 0 h.declarations plan.spec.streams h.planned.streams
 
 -- pacings
 paced_low : (m i : ℕ) (known : List Known) → AllLow m i known → are_paced_by i (map (λ k. paced_by k.set) known) ≡ true

@@ -1,5 +1,6 @@
 -- Plans of sums over inputs: no instances, no past, no deadlines.
 use Rattle.std.specs.Prelude.{ℕ, ◌≡◌, ◌+◌, ◌^◌, ◌≤◌, List, [], ◌∷◌, Option, Some, None, Bool, true, false, not, ◌&&◌, nat_eq, nat_lt, length, filter, slice_get, IsTrue}
+use Rattle.std.specs.List.{list_all}
 use Rattle.lola_value.specs.declared.value.Kind.TheVariants as kind
 use Rattle.lola_value.specs.declared.value.Value.TheVariants as value
 use Rattle.lola_value.specs.declared.text.Field.{Field}
@@ -95,9 +96,21 @@ pub record IsSimple (plan : Plan) : Type 0 where
   pub pacing_count : length plan.pacings ≡ length plan.spec.streams
   pub inputs : input_count plan.spec.streams ≤ 64
 
--- one number for each input
+-- each input is a number of 64 bits
+abbrev pub is_number_input : Stream → Bool
+is_number_input s = elim s.sort [
+  | sort.Input ↦ elim s.kind [ None ↦ false | Some k ↦ elim k [ kind.Int64 ↦ true | _ ↦ false ] ]
+  | sort.Output ↦ true
+  | sort.Trigger ↦ true
+]
+
+abbrev pub are_number_inputs : List Stream → Bool
+are_number_inputs streams = list_all is_number_input streams
+
+-- a number for each input, or no value
 abbrev pub are_numbers : List Field → Bool
 are_numbers [] = true
+are_numbers (field.Absent ∷ fs) = are_numbers fs
 are_numbers (field.Int z ∷ fs) = is_within kind.Int64 z && are_numbers fs
 are_numbers _ = false
 

@@ -1,9 +1,9 @@
 //! Compiles a text of the first form to a plan.
 
-ghost use Rattle.std.specs.Prelude.{IfOk, IfErr};
+ghost use Rattle.std.specs.Prelude.{IfOk, IfErr, IsTrue};
 ghost use Rattle.lola_form.specs.Form.{form_of};
 ghost use Rattle.lola_form.specs.Planned.{IsPlanOfBytes};
-ghost use Rattle.lola_form.specs.Simple.{IsSimple};
+ghost use Rattle.lola_form.specs.Simple.{IsSimple, are_number_inputs};
 ghost use Rattle.lola_form.specs.Answers.{Refuses};
 
 use crate::builder::Builder;
@@ -30,6 +30,7 @@ pub fn compile(alloc: Global, bytes: &[u8]) -> Result<Plan, FrontEnd>
     ensures plan { IfOk result (IsPlanOfBytes bytes.now) }
     ensures refused { IfErr result (Refuses (form_of bytes.now)) }
     ensures simple { IfOk result IsSimple }
+    ensures numbers { IfOk result (λ plan. IsTrue (are_number_inputs plan.spec.streams)) }
 {
     if bytes.len() > MOST_BYTES {
         return Err(refused());

@@ -1,5 +1,5 @@
 -- What a reader's answers are to a run.
-use Rattle.std.proofs.Common.{◌≡◌, suc, ◌≤◌, List, [], ◌∷◌, ◌++◌, Option, true, false, ◌&&◌, IsTrue, refl, sym, ap, ◌∙◌, length, filter, subst, if◌then◌else◌}
+use Rattle.std.proofs.Common.{◌≡◌, suc, ◌≤◌, List, [], ◌∷◌, ◌++◌, Option, Bool, true, false, ◌&&◌, IsTrue, refl, sym, ap, ◌∙◌, length, filter, subst, if◌then◌else◌}
 use Rattle.lola_value.specs.declared.text.Field.{Field}
 use Rattle.lola_value.specs.declared.text.Field.TheVariants as field
 use Rattle.lola_value.specs.declared.value.Kind.TheVariants as kind
@@ -32,12 +32,16 @@ names_counted : (streams : List Stream) → length (input_names streams) ≡ inp
 names_counted [] = refl
 names_counted (s ∷ ss) = elim (is_input s) as (λ b. length (if b then s.name ∷ input_names ss else input_names ss) ≡ length (if b then s ∷ filter is_input ss else filter is_input ss)) [ true ↦ ap suc (names_counted ss) | false ↦ names_counted ss ]
 
-numbers_are : (fields : List Field) → lines.are_numbers fields ≡ simple.are_numbers fields
-numbers_are [] = refl
-numbers_are (field.Absent ∷ fs) = refl
-numbers_are (field.Bool b ∷ fs) = refl
-numbers_are (field.Int z ∷ fs) = ap (λ b. is_within kind.Int64 z && b) (numbers_are fs)
-numbers_are (field.Text t ∷ fs) = refl
+numbers_are : (fields : List Field) → lines.are_numbers fields ≡ true → simple.are_numbers fields ≡ true
+numbers_are [] h = refl
+numbers_are (field.Absent ∷ fs) h = absurd (cc)
+numbers_are (field.Bool b ∷ fs) h = absurd (cc)
+numbers_are (field.Int z ∷ fs) h = go (is_within kind.Int64 z) h
+  where
+    go : (b : Bool) → (b && lines.are_numbers fs) ≡ true → (b && simple.are_numbers fs) ≡ true
+    go true h = numbers_are fs h
+    go false h = h
+numbers_are (field.Text t ∷ fs) h = absurd (cc)
 
 module _ (plan : Plan) (old new : lines.Reading) (shape : old.shape ≡ lines.shape_of plan.spec.streams 0 most_rows) where
   pub took : (row : Row) → lines.GaveRow row old new → TookRow plan row (view_of old) (view_of new)
@@ -46,7 +50,7 @@ module _ (plan : Plan) (old new : lines.Reading) (shape : old.shape ≡ lines.sh
     source = gave.is_row.source ∙ ap (λ (s : lines.Shape). s.index) shape;
     numbers = record {
       count = gave.is_row.count ∙ ap (λ (s : lines.Shape). s.inputs) shape ∙ names_counted plan.spec.streams;
-      numbers = subst IsTrue (numbers_are row.fields) gave.is_row.numbers;
+      numbers = numbers_are row.fields gave.is_row.numbers;
     };
     number = gave.given ∙ gave.is_row.number;
     few = subst (λ n. n ≤ most_rows) (sym gave.given) (subst (λ n. row.number ≤ n) (ap (λ (s : lines.Shape). s.most) shape) gave.is_row.within);

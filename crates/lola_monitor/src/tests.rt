@@ -2,10 +2,14 @@
 ghost use Rattle.std.specs.Prelude.{◌≡◌, ◌^◌, ◌≤◌, length, IfOk};
 
 use crate::run_monitor;
-use lola_port::{IdleGate, MemoryShelf, MemorySink};
+use lola_port::{IdleGate, MemoryShelf, MemorySink, OutSink};
 use lola_value::text::Memory;
 use std::alloc::Global;
+use std::fmt::Display;
+use std::fs::{File, OpenOptions};
+use std::io::{self, Write};
 use std::sync::Wait;
+use std::test::Fail;
 use std::thread::Threads;
 
 /// A specification, a source, and what a run of them leaves.
@@ -304,5 +308,41 @@ fn usage_line_that_is_not_put(rt: HostRuntime) -> Result<(), Memory> {
         &rt, alloc, &name, &mut shelf, &mut out, &mut trace, &IdleGate,
     );
     assert!(rt; status == 2 && out.written().is_empty() && trace.written().is_empty());
+    Ok(())
+}
+
+/// A file that is printed to, as standard error is.
+#[derive(Drop)]
+struct PrintedFile {
+    file: File,
+}
+
+impl Print for PrintedFile {
+    fn print<D: Display + Drop>(&self, value: D) -> io::Result<()> {
+        write!(&self.file, "{value}")
+    }
+
+    fn println<D: Display + Drop>(&self, value: D) -> io::Result<()> {
+        writeln!(&self.file, "{value}")
+    }
+
+    fn write_all(&self, bytes: &[u8]) -> io::Result<()> {
+        (&self.file).write_all(bytes)
+    }
+}
+
+/// The trace of the worked run goes to a device that is always full.
+#[test]
+fn trace_to_a_full_device(rt: HostRuntime) -> Result<(), Fail> {
+    let alloc = rt.alloc();
+    let file = OpenOptions::new().write(true).open(&rt, "/dev/full")?;
+    let mut trace = OutSink::create(PrintedFile { file });
+    let mut shelf = shelf_of(alloc, &worked())?;
+    let mut out = MemorySink::create(alloc, &[])?;
+    let words = words(alloc, "run")?;
+    let status = run_monitor(
+        &rt, alloc, &words, &mut shelf, &mut out, &mut trace, &IdleGate,
+    );
+    assert!(rt; status == 7 && out.written().is_empty());
     Ok(())
 }

@@ -16,7 +16,7 @@ use Rattle.lola_model.specs.declared.plan.Plan.{Plan}
 use Rattle.lola_model.specs.declared.spec.Stream.{Stream}
 use Rattle.lola_model.proofs.Growth.{last_row-append}
 use Rattle.lola_model.proofs.Journals.{table_lines-append_one}
-use Rattle.lola_form.specs.Simple.{IsSimple, HasNumbers}
+use Rattle.lola_form.specs.Simple.{IsSimple}
 use Rattle.lola_sums.specs.declared.end.EngineEnd.{EngineEnd}
 use Rattle.lola_sums.specs.declared.end.EngineEnd.TheVariants.{Fault, Memory}
 use Rattle.lola_sums.specs.Evaluation.{AreOutcomes, failed_with, first_failed, outcome_lines, all_lines, RowComes}
@@ -84,7 +84,7 @@ module _ (plan : Plan) (simple : IsSimple plan) where
   unfolding settled_fault
   fine_is_not_ended journal h = sym (ended_by_fault (settled_model plan None journal)) ∙ ap is_some h
 
-  module _ (row : Row) (numbers : HasNumbers plan row.fields) (os : List Outcome) (a : AreOutcomes row.fields plan.spec.streams os) (journal : List Entry) (fine : settled_fault plan None journal ≡ None) where
+  module _ (row : Row) (os : List Outcome) (a : AreOutcomes row.fields plan.pacings plan.spec.streams os) (journal : List Entry) (fine : settled_fault plan None journal ≡ None) where
     abbrev longer : List Entry
     longer = journal ++ accepted_entry row ∷ []
 
@@ -94,7 +94,7 @@ module _ (plan : Plan) (simple : IsSimple plan) where
         let start = run_start plan None longer in
         settled_more plan simple journal (accepted_entry row) refl
         ∙ (ap (λ b. grown b t (answered plan start t (row_step row))) (fine_is_not_ended journal fine)
-        ∙ ap (λ (r : TableRow). t ++ r ∷ []) (outcomes_are_row plan simple start t row.stamp row.fields numbers os (one_each_settled journal) a))
+        ∙ ap (λ (r : TableRow). t ++ r ∷ []) (outcomes_are_row plan simple start t row.stamp row.fields os (one_each_settled journal) a))
 
     fault_more : settled_fault plan None longer ≡ at_time row.stamp (first_failed 0 os)
     unfolding settled_fault
@@ -122,18 +122,18 @@ module _ (plan : Plan) (simple : IsSimple plan) where
 abbrev pub ran : Evaluating → ℕ → Evaluating
 ran engine count = record { plan = engine.plan; show = engine.show; steps = engine.steps + 1; lines = engine.lines + count; ended = None }
 
-module _ (old : Evaluating) (simple : IsSimple old.plan) (row : Row) (numbers : HasNumbers old.plan row.fields) (os : List Outcome) (a : AreOutcomes row.fields old.plan.spec.streams os) (text0 text1 : List ℕ) where
+module _ (old : Evaluating) (simple : IsSimple old.plan) (row : Row) (os : List Outcome) (a : AreOutcomes row.fields old.plan.pacings old.plan.spec.streams os) (text0 text1 : List ℕ) where
   pub runs_row : (count : ℕ) → RowComes (Ok count) old.plan old.show row.stamp os text0 text1 → (journal : List Entry) → StandsFor old journal → RunsRow row journal old (ran old count) text0 text1
   runs_row count r journal h =
-      let b = brings_lines old.plan simple row numbers os a journal h.fine old.show r.0 in
+      let b = brings_lines old.plan simple row os a journal h.fine old.show r.0 in
       record {
         lines = all_lines old.show row.stamp old.plan.spec.streams os;
         brings = b;
         text = r.1;
         stands = record {
           going = refl;
-          fine = fault_more old.plan simple row numbers os a journal h.fine ∙ ap (at_time row.stamp) r.0;
-          steps = omega (arith, steps_more old.plan simple row numbers os a journal h.fine, h.steps);
+          fine = fault_more old.plan simple row os a journal h.fine ∙ ap (at_time row.stamp) r.0;
+          steps = omega (arith, steps_more old.plan simple row os a journal h.fine, h.steps);
           lines = (let e = ap length b ∙ length-append (settled_lines old.plan None journal old.show) (all_lines old.show row.stamp old.plan.spec.streams os) in omega (arith, e, r.2, h.lines));
         };
       }
@@ -142,16 +142,16 @@ module _ (old : Evaluating) (simple : IsSimple old.plan) (row : Row) (numbers : 
       → (journal : List Entry) → StandsFor old journal → FailsRow row (record { stream = stream; kind = kind; time = time }) journal old text0 text1
   fails_row stream time kind r journal h = record {
     is_fault =
-        fault_more old.plan simple row numbers os a journal h.fine
+        fault_more old.plan simple row os a journal h.fine
         ∙ (ap (at_time row.stamp) r.0 ∙ ap (λ (t : ℕ). Some (record { stream = stream; kind = kind; time = t })) (sym r.1));
-    none = brings_none old.plan simple row numbers os a journal h.fine old.show _ r.0;
+    none = brings_none old.plan simple row os a journal h.fine old.show _ r.0;
     text = r.2;
   }
 
   pub cuts_row : RowComes (Err Memory) old.plan old.show row.stamp os text0 text1 → (journal : List Entry) → StandsFor old journal → CutsRow row journal old text0 text1
   cuts_row r journal h = record {
     lines = all_lines old.show row.stamp old.plan.spec.streams os;
-    brings = brings_lines old.plan simple row numbers os a journal h.fine old.show r.0;
+    brings = brings_lines old.plan simple row os a journal h.fine old.show r.0;
     part = r.1.part;
     rest = r.1.rest;
     joined = r.1.joined;
@@ -168,17 +168,14 @@ unfolding settled_fault settled_lines settled_model model
 stands_at_first engine going steps lines = record { going = going; fine = refl; steps = steps; lines = lines }
 
 -- the same, of the value of an engine that this one is
-module _ (now old : Evaluating) (is : old ≡ now) (simple : IsSimple old.plan) (row : Row) (numbers : HasNumbers now.plan row.fields) (os : List Outcome) (a : AreOutcomes row.fields old.plan.spec.streams os) (text0 text1 : List ℕ) where
-  old_numbers : HasNumbers old.plan row.fields
-  old_numbers = subst (λ (e : Evaluating). HasNumbers e.plan row.fields) (sym is) numbers
-
+module _ (now old : Evaluating) (is : old ≡ now) (simple : IsSimple old.plan) (row : Row) (os : List Outcome) (a : AreOutcomes row.fields old.plan.pacings old.plan.spec.streams os) (text0 text1 : List ℕ) where
   pub accepts_row : (count : ℕ) (ended : Option EngineEnd) → ended ≡ None → RowComes (Ok count) old.plan old.show row.stamp os text0 text1
       → Accepts (Ok tt) row now (record { plan = old.plan; show = old.show; steps = old.steps + 1; lines = old.lines + count; ended = ended }) text0 text1
   accepts_row count ended none r =
       subst (λ (e : Evaluating). Accepts (Ok tt) row e (record { plan = old.plan; show = old.show; steps = old.steps + 1; lines = old.lines + count; ended = ended }) text0 text1) is
       (subst (λ (o : Option EngineEnd). Accepts (Ok tt) row old (record { plan = old.plan; show = old.show; steps = old.steps + 1; lines = old.lines + count; ended = o }) text0 text1) (sym none)
-      (runs_row old simple row old_numbers os a text0 text1 count r))
+      (runs_row old simple row os a text0 text1 count r))
 
   pub accepts_no_more : (end : EngineEnd) (new : Evaluating) → RowComes (Err end) old.plan old.show row.stamp os text0 text1 → Accepts (Err end) row now new text0 text1
   accepts_no_more end new r =
-      subst (λ (e : Evaluating). Accepts (Err end) row e new text0 text1) is (accepts_end old simple row old_numbers os a text0 text1 end new r)
+      subst (λ (e : Evaluating). Accepts (Err end) row e new text0 text1) is (accepts_end old simple row os a text0 text1 end new r)

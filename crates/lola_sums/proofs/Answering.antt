@@ -1,7 +1,7 @@
 -- One stream more: what it needs, and what it adds to the outcomes so far.
-use Rattle.std.proofs.Common.{◌≡◌, ℕ, zero, suc, ◌+◌, ◌<◌, ◌≤◌, refl, arith, List, [], ◌∷◌, ◌++◌, Option, Some, None, Bool, true, false, ap, sym, ◌∙◌, slice_get, subst, length, if◌then◌else◌, nat_lt, nat_eq, not, ◌&&◌, take, filter, cond, ℤ, get_or, set, add-one}
+use Rattle.std.proofs.Common.{◌≡◌, ℕ, zero, suc, ◌+◌, ◌<◌, ◌≤◌, refl, arith, List, [], ◌∷◌, ◌++◌, Option, Some, None, Bool, true, false, ap, sym, ◌∙◌, slice_get, subst, length, if◌then◌else◌, nat_lt, nat_eq, not, ◌&&◌, take, filter, cond, ℤ, get_or, set, add-one, ◌⊎◌, inl, inr}
 use Rattle.std.proofs.Math.Seq.{take-suc}
-use Rattle.std.proofs.lemmas.List.{take_more_set}
+use Rattle.std.proofs.lemmas.List.{length-take-le, take_more_set}
 use Rattle.std.proofs.lemmas.Bool.{ltb-true, lt-ltb}
 use Rattle.lola_value.specs.declared.value.Value.TheVariants as value
 use Rattle.lola_value.specs.declared.value.Outcome.{Outcome}
@@ -11,19 +11,22 @@ use Rattle.lola_value.specs.declared.value.Kind.TheVariants as kind
 use Rattle.lola_value.specs.Arithmetic.{is_within}
 use Rattle.lola_value.specs.Naming.{read_outcome}
 use Rattle.lola_model.specs.Content.{Content}
-use Rattle.lola_model.specs.Model.{is_input}
+use Rattle.lola_value.specs.Answer.{Missing}
+use Rattle.lola_model.specs.Model.{is_input, field_outcome, input_outcome}
 use Rattle.lola_model.specs.declared.expr.Access.TheVariants as access
 use Rattle.lola_model.specs.declared.expr.Binary.TheVariants as binary
 use Rattle.lola_model.specs.declared.expr.Expr.{Expr}
 use Rattle.lola_model.specs.declared.expr.Expr.TheVariants.{Literal, Parameter, Read, Window, Defaults', Unary', Both', Choice'}
 use Rattle.lola_model.specs.declared.expr.Arguments.TheVariants.{End, More'}
+use Rattle.lola_model.specs.declared.pacing.ClausePacings.{ClausePacings}
 use Rattle.lola_model.specs.declared.spec.Stream.{Stream}
 use Rattle.lola_model.specs.declared.spec.Spec.{Spec}
 use Rattle.lola_model.specs.declared.spec.Clause.{Clause}
 use Rattle.lola_model.specs.declared.spec.Sort.TheVariants as sort
 use Rattle.lola_model.specs.declared.spec.Sort.{Sort}
 use Rattle.lola_form.specs.Simple.{is_trigger, is_number_before, is_noted_number, is_addition, is_sum, is_comparison, is_plain_clause, is_simple_stream, are_simple_from, input_count, has_none, are_numbers}
-use Rattle.lola_sums.specs.Evaluation.{is_number_in, is_sum_over, is_comparison_over, Shows, stream_answer, AreAnswered, is_sorted, are_sorted, AreOutcomes, is_answerable}
+use Rattle.lola_model.specs.Activity.{present}
+use Rattle.lola_sums.specs.Evaluation.{answer_where, is_run_at, is_number_in, is_sum_over, is_comparison_over, Shows, stream_answer, AreAnswered, is_sorted, are_sorted, AreOutcomes, is_answerable}
 
 pub both_true : (a b : Bool) → (a && b) ≡ true → (a ≡ true) × (b ≡ true)
 both_true true b h = (refl, h)
@@ -138,30 +141,32 @@ input_count-more (x ∷ ss) s = go (is_input x) (is_input s) (input_count-more s
     go false true e = e
     go false false e = e
 
-answered_more : (spec : Spec) (c : Content) (fields : List Field) (i : ℕ) (ss : List Stream) (os : List Outcome) (s : Stream) (o : Outcome) (j : ℕ) → j ≡ i + input_count ss
-    → AreAnswered spec c fields i ss os → read_outcome [] o ≡ stream_answer spec c fields j s → AreAnswered spec c fields i (ss ++ s ∷ []) (os ++ o ∷ [])
-answered_more spec c fields i [] [] s o j e h g = let q : j ≡ i = omega arith in (rw (← q) g, tt)
-answered_more spec c fields i [] (y ∷ os) s o j e h g = absurd h
-answered_more spec c fields i (x ∷ ss) [] s o j e h g = absurd h
-answered_more spec c fields i (x ∷ ss) (y ∷ os) s o j e h g = (h.0, answered_more spec c fields (if is_input x then i + 1 else i) ss os s o j (go (is_input x) e) h.1 g)
+answered_more : (spec : Spec) (c : Content) (fields : List Field) (ps : List ClausePacings) (n i : ℕ) (ss : List Stream) (os : List Outcome) (s : Stream) (o : Outcome) (m j : ℕ)
+    → m ≡ n + length ss → j ≡ i + input_count ss
+    → AreAnswered spec c fields ps n i ss os → read_outcome [] o ≡ stream_answer spec c fields ps m j s → AreAnswered spec c fields ps n i (ss ++ s ∷ []) (os ++ o ∷ [])
+answered_more spec c fields ps n i [] [] s o m j d e h g = let p : m ≡ n = omega arith in let q : j ≡ i = omega arith in (rw (← p, ← q) g, tt)
+answered_more spec c fields ps n i [] (y ∷ os) s o m j d e h g = absurd h
+answered_more spec c fields ps n i (x ∷ ss) [] s o m j d e h g = absurd h
+answered_more spec c fields ps n i (x ∷ ss) (y ∷ os) s o m j d e h g =
+    (h.0, answered_more spec c fields ps (n + 1) (if is_input x then i + 1 else i) ss os s o m j (omega arith) (go (is_input x) e) h.1 g)
   where
     go : (b : Bool) → j ≡ i + length (cond b (x ∷ filter is_input ss) (filter is_input ss)) → j ≡ (if b then i + 1 else i) + input_count ss
     go true e = omega arith
     go false e = e
 
 -- with one stream more
-pub outcomes_more : (fields : List Field) (ss : List Stream) (os : List Outcome) (s : Stream) (o : Outcome) → AreOutcomes fields ss os
-    → ((spec : Spec) (c : Content) → Shows c os → read_outcome [] o ≡ stream_answer spec c fields (input_count ss) s) → is_sorted s o ≡ true
-    → AreOutcomes fields (ss ++ s ∷ []) (os ++ o ∷ [])
-outcomes_more fields ss os s o h g e = record {
+pub outcomes_more : (fields : List Field) (ps : List ClausePacings) (ss : List Stream) (os : List Outcome) (s : Stream) (o : Outcome) → AreOutcomes fields ps ss os
+    → ((spec : Spec) (c : Content) → Shows c os → read_outcome [] o ≡ stream_answer spec c fields ps (length ss) (input_count ss) s) → is_sorted s o ≡ true
+    → AreOutcomes fields ps (ss ++ s ∷ []) (os ++ o ∷ [])
+outcomes_more fields ps ss os s o h g e = record {
   sorted = sorted_more ss os s o h.sorted e;
   answered = λ spec c shows.
       let front = shows_front c os (o ∷ []) shows in
-      answered_more spec c fields 0 ss os s o (input_count ss) (omega arith) (h.answered spec c front) (g spec c front);
+      answered_more spec c fields ps 0 0 ss os s o (length ss) (input_count ss) (omega arith) (omega arith) (h.answered spec c front) (g spec c front);
 }
 
-pub no_outcomes : (fields : List Field) → AreOutcomes fields [] []
-no_outcomes fields = record { sorted = refl; answered = λ spec c shows. tt }
+pub no_outcomes : (fields : List Field) (ps : List ClausePacings) → AreOutcomes fields ps [] []
+no_outcomes fields ps = record { sorted = refl; answered = λ spec c shows. tt }
 
 -- a field that is a number of 64 bits
 pub record IsNumberField (f : Field) : Type 0 where
@@ -169,13 +174,21 @@ pub record IsNumberField (f : Field) : Type 0 where
   pub is : f ≡ field.Int number
   pub within : is_within kind.Int64 number ≡ true
 
-pub number_field : (fs : List Field) (i : ℕ) (d : Field) → are_numbers fs ≡ true → i < length fs → IsNumberField (get_or fs i d)
+-- each field is none or such a number
+pub number_field : (fs : List Field) (i : ℕ) (d : Field) → are_numbers fs ≡ true → i < length fs → (get_or fs i d ≡ field.Absent) ⊎ IsNumberField (get_or fs i d)
 number_field [] i d h lt = absurd (omega arith)
-number_field (field.Int z ∷ fs) zero d h lt = record { number = z; is = refl; within = (both_true (is_within kind.Int64 z) (are_numbers fs) h).0 }
+number_field (field.Int z ∷ fs) zero d h lt = inr (record { number = z; is = refl; within = (both_true (is_within kind.Int64 z) (are_numbers fs) h).0 })
 number_field (field.Int z ∷ fs) (suc i) d h lt = number_field fs i d (both_true (is_within kind.Int64 z) (are_numbers fs) h).1 (omega arith)
-number_field (field.Absent ∷ fs) i d h lt = absurd (cc)
+number_field (field.Absent ∷ fs) zero d h lt = inl refl
+number_field (field.Absent ∷ fs) (suc i) d h lt = number_field fs i d h (omega arith)
 number_field (field.Bool b ∷ fs) i d h lt = absurd (cc)
 number_field (field.Text t ∷ fs) i d h lt = absurd (cc)
+
+-- an input without a value
+pub none_at : (fs : List Field) (i : ℕ) (d : Field) → i < length fs → get_or fs i d ≡ field.Absent → input_outcome i (Some fs) ≡ Missing
+none_at [] i d lt e = absurd (omega arith)
+none_at (f ∷ fs) zero d lt e = ap (λ g. field_outcome (Some g)) e
+none_at (f ∷ fs) (suc i) d lt e = none_at fs i d (omega arith) e
 
 pub simple_at : (all : List Stream) (ss : List Stream) (k n m : ℕ) (d : Stream) → are_simple_from all k ss ≡ true → n < length ss → m ≡ k + n → is_simple_stream all m (get_or ss n d) ≡ true
 simple_at all [] k n m d h lt e = absurd (omega arith)
@@ -205,22 +218,28 @@ input_number (x ∷ ss) (suc n) d lt e = go (is_input x) (input_number ss n d (o
     go false h = h
 
 -- the next stream can be answered
-pub next_answerable : (fields : List Field) (streams : List Stream) (n i : ℕ) (os : List Outcome) (s : Stream)
+pub next_answerable : (fields : List Field) (ps : List ClausePacings) (streams : List Stream) (n i : ℕ) (os : List Outcome) (s : Stream)
     → are_simple_from streams 0 streams ≡ true → length fields ≡ input_count streams → n < length streams → i ≡ input_count (take n streams) → s ≡ get_or streams n s
-    → AreOutcomes fields (take n streams) os → is_answerable fields i os s ≡ true
-next_answerable fields streams n i os s simple count lt e is h =
+    → AreOutcomes fields ps (take n streams) os → is_answerable fields i os s ≡ true
+next_answerable fields ps streams n i os s simple count lt e is h =
     answerable streams n os h.sorted fields i s (subst (λ x. is_simple_stream streams n x ≡ true) (sym is) (simple_at streams streams 0 n n s simple lt (omega arith)))
     (λ q. omega (arith, input_number streams n s lt (subst (λ x. is_input x ≡ true) is q)))
 
 -- and has its outcome then
-pub next_outcomes : (fields : List Field) (streams : List Stream) (n i : ℕ) (os : List Outcome) (s : Stream) (o : Outcome)
-    → n < length streams → n < length os → i ≡ input_count (take n streams) → s ≡ get_or streams n s
-    → AreOutcomes fields (take n streams) (take n os)
-    → ((spec : Spec) (c : Content) → Shows c (take n os) → read_outcome [] o ≡ stream_answer spec c fields i s) → is_sorted s o ≡ true
-    → AreOutcomes fields (take (n + 1) streams) (take (n + 1) (set os n o))
-next_outcomes fields streams n i os s o lt room e is h g t =
+pub next_outcomes : (fields : List Field) (ps : List ClausePacings) (streams : List Stream) (n i : ℕ) (os : List Outcome) (s : Stream) (o : Outcome) (active : Bool)
+    → n < length streams → n < length os → i ≡ input_count (take n streams) → s ≡ get_or streams n s → active ≡ is_run_at (present fields) (slice_get ps n)
+    → AreOutcomes fields ps (take n streams) (take n os)
+    → ((spec : Spec) (c : Content) → Shows c (take n os) → read_outcome [] o ≡ answer_where active spec c fields i s) → is_sorted s o ≡ true
+    → AreOutcomes fields ps (take (n + 1) streams) (take (n + 1) (set os n o))
+next_outcomes fields ps streams n i os s o active lt room e is run h g t =
     let a : take (n + 1) streams ≡ take n streams ++ s ∷ [] = rw (add-one, take-suc streams n s lt) (ap (λ x. take n streams ++ x ∷ []) (sym is)) in
-    rw (a, take_more_set os n o room) (outcomes_more fields (take n streams) (take n os) s o h (λ spec c shows. g spec c shows ∙ ap (λ j. stream_answer spec c fields j s) e) t)
+    let d : n ≡ length (take n streams) = sym (length-take-le n streams (omega arith)) in
+    rw (a, take_more_set os n o room) (outcomes_more fields ps (take n streams) (take n os) s o h
+        (λ spec c shows.
+            g spec c shows
+            ∙ (ap (λ b. answer_where b spec c fields i s) run
+            ∙ (ap (λ j. stream_answer spec c fields ps n j s) e
+            ∙ ap (λ m. stream_answer spec c fields ps m (input_count (take n streams)) s) d))) t)
 
 next_count : (streams : List Stream) (n : ℕ) (s : Stream) → n < length streams → s ≡ get_or streams n s
     → input_count (take (n + 1) streams) ≡ (if is_input s then input_count (take n streams) + 1 else input_count (take n streams))

@@ -1,7 +1,6 @@
 -- The rows of a plan of sums: each stream has its one instance, and the outcomes that solve the equations are the model's.
-use Rattle.std.proofs.Common.{◌≡◌, refl, ap, sym, ◌∙◌, subst, ℕ, zero, suc, ◌+◌, ◌<◌, List, [], ◌∷◌, ◌++◌, Option, Some, None, Bool, true, false, ◌&&◌, if◌then◌else◌, map, length, slice_get, arith, append_assoc, append-nil}
+use Rattle.std.proofs.Common.{◌≡◌, refl, ap, sym, ◌∙◌, subst, ℕ, zero, suc, ◌+◌, List, [], ◌∷◌, ◌++◌, Option, Some, None, Bool, true, false, ◌&&◌, if◌then◌else◌, map, length, slice_get, arith, append_assoc, append-nil}
 use Rattle.std.specs.List.{Contains}
-use Rattle.std.proofs.lemmas.Option.{slice_get_within}
 use Rattle.lola_value.specs.declared.text.Field.{Field}
 use Rattle.lola_value.specs.declared.value.Outcome.{Outcome}
 use Rattle.lola_value.specs.Naming.{read_outcome}
@@ -11,7 +10,7 @@ use Rattle.lola_model.specs.Content.{Content, content, streams_from, seen}
 use Rattle.lola_model.specs.Accesses.{accessed, bad_in, life_in}
 use Rattle.lola_model.specs.Activity.{is_active}
 use Rattle.lola_model.specs.Graph.{edges_of, nodes_of}
-use Rattle.lola_model.specs.Model.{is_input, input_outcome, eval_outcome, spawn_pacing, spawn_outcome, survivors, survivors_in, surviving, last_row, the_instance, newborn, spawned_in, outcome_of, stream_outcome, outcomes_from, evaluated, closing, closes_from, has_evaluation_fault, has_fault, IsRow, answered, Next, in_order, made, model}
+use Rattle.lola_model.specs.Model.{is_input, eval_pacing, spawn_pacing, spawn_outcome, survivors, survivors_in, surviving, last_row, the_instance, newborn, spawned_in, outcome_of, stream_outcome, outcomes_from, evaluated, closing, closes_from, has_evaluation_fault, has_fault, IsRow, answered, Next, in_order, made, model}
 use Rattle.lola_model.specs.declared.expr.Access.TheVariants as access
 use Rattle.lola_model.specs.declared.graph.Edge.{Edge}
 use Rattle.lola_model.specs.declared.spec.Clause.{Clause}
@@ -22,11 +21,11 @@ use Rattle.lola_model.proofs.Walks.{depth_of, layer_exists}
 use Rattle.lola_model.proofs.Targets.{lead_to_nodes, among, from_among, among_acyclic}
 use Rattle.lola_model.proofs.Layers.{has_one_row}
 use Rattle.lola_model.proofs.OneModel.{HasOneRow}
-use Rattle.lola_form.specs.Simple.{has_none, is_simple_stream, are_simple_from, input_count, IsSimple, HasNumbers}
+use Rattle.lola_form.specs.Simple.{has_none, is_simple_stream, are_simple_from, input_count, IsSimple}
 use Rattle.lola_form.proofs.Acyclic.{simple_is_acyclic}
-use Rattle.lola_sums.specs.Evaluation.{Shows, stream_answer, AreAnswered, AreOutcomes}
+use Rattle.lola_sums.specs.Evaluation.{Shows, answer_where, stream_answer, AreAnswered, AreOutcomes}
 use Rattle.lola_sums.proofs.Answering.{both_true}
-use Rattle.lola_sums.proofs.Pacings.{all_active, none_closing}
+use Rattle.lola_sums.proofs.Pacings.{active_at_row, none_closing}
 
 -- what a stream of sums did in a row: its one instance has this outcome
 abbrev pub answer_row : Answer → StreamRow
@@ -171,42 +170,41 @@ module _ (plan : Plan) (simple : IsSimple plan) (start : ℕ) where
   unfolding model
   one_each steps = one_each_made (in_order steps) (length steps) [] (one_each_at_first streams (spawnless streams 0 streams simple.streams))
 
-  -- a row with all inputs
-  module _ (rows : List TableRow) (time : ℕ) (fields : List Field) (numbers : HasNumbers plan fields) where
+  -- a row with some of the inputs
+  module _ (rows : List TableRow) (time : ℕ) (fields : List Field) where
     abbrev step : Step
     step = record { time = time; fields = Some fields }
 
-    outcome_is : (c : Content) (n i : ℕ) (s : Stream) → n < length streams → outcome_of plan start rows step c n i s Idle the_instance ≡ stream_answer plan.spec c fields i s
-    outcome_is c n i s lt =
-        ap (λ b. if is_input s then input_outcome i (Some fields) else eval_outcome plan.spec c false b s.eval [])
-        (all_active start time (input_count streams) fields plan.pacings n numbers.numbers numbers.count simple.pacings (omega (arith, simple.pacing_count)))
+    outcome_is : (c : Content) (n i : ℕ) (s : Stream) → outcome_of plan start rows step c n i s Idle the_instance ≡ stream_answer plan.spec c fields plan.pacings n i s
+    outcome_is c n i s =
+        ap (λ b. answer_where b plan.spec c fields i s) (active_at_row start time fields (eval_pacing (slice_get plan.pacings n)))
 
-    stream_is : (c : Content) (n i : ℕ) (s : Stream) (sp : Spawned) (o : Outcome) → n < length streams → s.spawn ≡ None → sp ≡ Idle → survivors n s (last_row rows) ≡ the_instance ∷ []
-        → read_outcome [] o ≡ stream_answer plan.spec c fields i s → stream_outcome plan start rows step c n i s sp ≡ outcome_row o
-    stream_is c n i s sp o lt k g alive e =
+    stream_is : (c : Content) (n i : ℕ) (s : Stream) (sp : Spawned) (o : Outcome) → s.spawn ≡ None → sp ≡ Idle → survivors n s (last_row rows) ≡ the_instance ∷ []
+        → read_outcome [] o ≡ stream_answer plan.spec c fields plan.pacings n i s → stream_outcome plan start rows step c n i s sp ≡ outcome_row o
+    stream_is c n i s sp o k g alive e =
         let active = is_active start step (spawn_pacing (slice_get plan.pacings n)) in
         let a : spawn_outcome plan.spec c active s.spawn (survivors n s (last_row rows)) ≡ Idle = idle rows step active c s.spawn (survivors n s (last_row rows)) k in
         let f : Instance → Answer = λ x. outcome_of plan start rows step c n i s sp x in
         let b : living_by rows step f (survivors n s (last_row rows)) sp ≡ record { instance = the_instance; outcome = f the_instance } ∷ [] = one_alive rows step f (survivors n s (last_row rows)) sp alive g in
-        let d : f the_instance ≡ read_outcome [] o = ap (λ p. outcome_of plan start rows step c n i s p the_instance) g ∙ (outcome_is c n i s lt ∙ sym e) in
+        let d : f the_instance ≡ read_outcome [] o = ap (λ p. outcome_of plan start rows step c n i s p the_instance) g ∙ (outcome_is c n i s ∙ sym e) in
         ap (λ p. record { spawned = p; living = living_by rows step f (survivors n s (last_row rows)) sp; closed = []; close_faults = [] }) a
         ∙ (ap (λ (ls : List Living). record { spawned = Idle; living = ls; closed = []; close_faults = [] }) b
         ∙ ap answer_row d)
 
     streams_are : (row : TableRow) (n i : ℕ) (ss : List Stream) (os : List Outcome) → ((m : ℕ) → spawned_in (slice_get row.streams m) ≡ Idle)
-        → ((j : ℕ) → slice_get streams (n + j) ≡ slice_get ss j) → AreSpawnless ss → HasOneEach streams rows → AreAnswered plan.spec (content start rows row) fields i ss os
+        → ((j : ℕ) → slice_get streams (n + j) ≡ slice_get ss j) → AreSpawnless ss → HasOneEach streams rows → AreAnswered plan.spec (content start rows row) fields plan.pacings n i ss os
         → outcomes_from plan start rows step row n i ss ≡ map outcome_row os
     streams_are row n i [] [] sp at k h a = refl
     streams_are row n i [] (o ∷ os) sp at k h a = absurd a
     streams_are row n i (s ∷ ss) [] sp at k h a = absurd a
     streams_are row n i (s ∷ ss) (o ∷ os) sp at k h a =
         let here : slice_get streams n ≡ Some s = (let z : n ≡ n + 0 = omega arith in ap (slice_get streams) z ∙ at 0) in
-        let first = stream_is (content start rows row) n i s (spawned_in (slice_get row.streams n)) o (slice_get_within streams n s here) k.0 (sp n) (h n s here) a.0 in
+        let first = stream_is (content start rows row) n i s (spawned_in (slice_get row.streams n)) o k.0 (sp n) (h n s here) a.0 in
         let rest = streams_are row (n + 1) (if is_input s then i + 1 else i) ss os sp (λ j. (let z : n + 1 + j ≡ n + suc j = omega arith in ap (slice_get streams) z) ∙ at (suc j)) k.1 h a.1 in
         ap (λ (x : StreamRow). x ∷ outcomes_from plan start rows step row (n + 1) (if is_input s then i + 1 else i) ss) first ∙ ap (λ (xs : List StreamRow). outcome_row o ∷ xs) rest
 
     -- outcomes of all streams are the model's row
-    pub outcomes_are_row : (os : List Outcome) → HasOneEach streams rows → AreOutcomes fields streams os → answered plan start rows step ≡ row_of_outcomes step os
+    pub outcomes_are_row : (os : List Outcome) → HasOneEach streams rows → AreOutcomes fields plan.pacings streams os → answered plan start rows step ≡ row_of_outcomes step os
     outcomes_are_row os h a =
         let row = row_of_outcomes step os in
         let rs = streams_are row 0 0 streams os (idle_at os) (λ j. let z : 0 + j ≡ j = omega arith in ap (slice_get streams) z) (spawnless streams 0 streams simple.streams) h (a.answered plan.spec (content start rows row) (row_shows start rows step os)) in

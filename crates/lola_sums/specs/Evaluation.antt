@@ -19,7 +19,11 @@ use Rattle.lola_model.specs.declared.plan.Plan.{Plan}
 use Rattle.lola_report.specs.Verdicts.{HasVerdict, verdict_text}
 use Rattle.lola_sums.specs.declared.end.EngineEnd.{EngineEnd}
 use Rattle.lola_sums.specs.declared.end.EngineEnd.TheVariants.{Fault, Memory}
-use Rattle.lola_model.specs.Model.{is_input, input_outcome, eval_outcome}
+use Rattle.lola_model.specs.Activity.{present, satisfies_some}
+use Rattle.lola_model.specs.Model.{is_input, input_outcome, eval_outcome, eval_pacing}
+use Rattle.lola_model.specs.declared.pacing.Pacing.{Pacing}
+use Rattle.lola_model.specs.declared.pacing.Pacing.TheVariants.{Event, Periodic}
+use Rattle.lola_model.specs.declared.pacing.ClausePacings.{ClausePacings}
 use Rattle.lola_model.specs.declared.expr.Access.TheVariants as access
 use Rattle.lola_model.specs.declared.expr.Binary.TheVariants as binary
 use Rattle.lola_model.specs.declared.expr.Expr.{Expr}
@@ -68,15 +72,31 @@ is_comparison_over earlier _ = false
 abbrev pub Shows : Content → List Outcome → Type 0
 Shows c outcomes = (m : ℕ) (o : Outcome) → slice_get outcomes m ≡ Some o → answer_of c access.Direct m [] ≡ seen (read_outcome [] o)
 
--- what the one instance of a stream comes to where all inputs have a value
-abbrev pub stream_answer : Spec → Content → List Field → ℕ → Stream → Answer
-stream_answer spec c fields i s = if is_input s then input_outcome i (Some fields) else eval_outcome spec c false true s.eval []
+-- whether a pacing is active at a row that has these inputs: a rate never is
+abbrev pub is_active_at_row : ℕ → Option Pacing → Bool
+is_active_at_row inputs None = false
+is_active_at_row inputs (Some (Event sets)) = satisfies_some inputs sets
+is_active_at_row inputs (Some (Periodic rate)) = false
 
--- each of these streams has its outcome, where i inputs stand before the first
-abbrev pub AreAnswered : Spec → Content → List Field → ℕ → List Stream → List Outcome → Type 0
-AreAnswered spec c fields i [] [] = Unit {0}
-AreAnswered spec c fields i (s ∷ ss) (o ∷ os) = (read_outcome [] o ≡ stream_answer spec c fields i s) × AreAnswered spec c fields (if is_input s then i + 1 else i) ss os
-AreAnswered spec c fields i _ _ = ⊥
+-- the same of a stream's eval clause
+abbrev pub is_run_at : ℕ → Option ClausePacings → Bool
+is_run_at inputs p = is_active_at_row inputs (eval_pacing p)
+
+-- what the one instance of a stream comes to, where it is active or not; it is the input of number i if it is one
+abbrev pub answer_where : Bool → Spec → Content → List Field → ℕ → Stream → Answer
+answer_where active spec c fields i s = if is_input s then input_outcome i (Some fields) else eval_outcome spec c false active s.eval []
+
+-- of streams that are paced so, at a row with these fields
+module _ (spec : Spec) (c : Content) (fields : List Field) (pacings : List ClausePacings) where
+  -- what the one instance of stream n comes to
+  abbrev pub stream_answer : ℕ → ℕ → Stream → Answer
+  stream_answer n i s = answer_where (is_run_at (present fields) (slice_get pacings n)) spec c fields i s
+
+  -- each of these has its outcome, where the first is stream n and i inputs stand before it
+  abbrev pub AreAnswered : ℕ → ℕ → List Stream → List Outcome → Type 0
+  AreAnswered n i [] [] = Unit {0}
+  AreAnswered n i (s ∷ ss) (o ∷ os) = (read_outcome [] o ≡ stream_answer n i s) × AreAnswered (n + 1) (if is_input s then i + 1 else i) ss os
+  AreAnswered n i _ _ = ⊥
 
 -- a trigger has a truth value, each other stream a number, if they have a value
 abbrev pub is_sorted : Stream → Outcome → Bool
@@ -91,10 +111,10 @@ are_sorted [] [] = true
 are_sorted (s ∷ ss) (o ∷ os) = is_sorted s o && are_sorted ss os
 are_sorted _ _ = false
 
--- the streams of a row with these fields have these outcomes, whatever else the specification has
-pub record AreOutcomes (fields : List Field) (streams : List Stream) (outcomes : List Outcome) : Type 0 where
+-- streams that are paced so have these outcomes at a row with these fields, whatever else the specification has
+pub record AreOutcomes (fields : List Field) (pacings : List ClausePacings) (streams : List Stream) (outcomes : List Outcome) : Type 0 where
   pub sorted : are_sorted streams outcomes ≡ true
-  pub answered : (spec : Spec) (c : Content) → Shows c outcomes → AreAnswered spec c fields 0 streams outcomes
+  pub answered : (spec : Spec) (c : Content) → Shows c outcomes → AreAnswered spec c fields pacings 0 0 streams outcomes
 
 -- the expression of a clause
 abbrev pub expression_of : Option Clause → Option Expr

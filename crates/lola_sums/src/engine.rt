@@ -60,12 +60,13 @@ fn run(
     requires none { none.now ≡ [] }
     requires room { length outcomes.old ≡ length plan.now.spec.streams }
     requires numbers { HasNumbers plan.now row.now.fields }
-    ensures outcomes { AreOutcomes row.now.fields plan.now.spec.streams outcomes.new }
+    ensures outcomes { AreOutcomes row.now.fields plan.now.pacings plan.now.spec.streams outcomes.new }
     ensures comes { RowComes result plan.now show row.now.stamp outcomes.new to.old to.new }
     ensures small { IfOk result (λ count. count ≤ length plan.now.spec.streams) }
 {
     evaluate(
         plan.spec.streams.as_slice(),
+        plan.pacings.as_slice(),
         row.fields.as_slice(),
         outcomes,
     );

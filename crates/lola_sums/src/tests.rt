@@ -147,12 +147,21 @@ fn worked_plan(alloc: Global) -> Result<Plan, Memory>
     })
 }
 
-fn row(alloc: Global, number: u64, stamp: u64, value: i64) -> Result<Row, Memory>
+fn reading(value: Option<i64>) -> Field
+    ensures { IsTrue (are_numbers (result ∷ [])) }
+{
+    match value {
+        Some(number) => Field::Int(number as i128),
+        None => Field::Absent,
+    }
+}
+
+fn row(alloc: Global, number: u64, stamp: u64, value: Option<i64>) -> Result<Row, Memory>
     ensures count { IfOk result (λ row. length row.fields ≡ 1) }
     ensures numbers { IfOk result (λ row. IsTrue (are_numbers row.fields)) }
 {
     let mut fields = Fields::create(alloc);
-    fields.push(Field::Int(value as i128))?;
+    fields.push(reading(value))?;
     Ok(Row {
         source: 0,
         number,
@@ -167,8 +176,8 @@ fn runs_the_worked_example(rt: HostRuntime) -> Result<(), Fail> {
     let alloc = rt.alloc();
     let mut engine = Engine::create(alloc, worked_plan(alloc)?, Show::Triggers)?;
     let mut lines = Text::from_bytes(alloc, b"")?;
-    engine.accept(&row(alloc, 1, 0, 1)?, &mut lines)?;
-    engine.accept(&row(alloc, 2, 1_000_000_000, 2)?, &mut lines)?;
+    engine.accept(&row(alloc, 1, 0, Some(1))?, &mut lines)?;
+    engine.accept(&row(alloc, 2, 1_000_000_000, Some(2))?, &mut lines)?;
     assert_eq!(rt;
         lines.as_bytes(),
         b"1.000000000 trigger_1 \"high\"\n".as_slice()
@@ -191,10 +200,24 @@ fn ends_at_a_fault(rt: HostRuntime) -> Result<(), Fail> {
         time: 5,
     });
     assert_eq!(rt;
-        engine.accept(&row(alloc, 1, 5, i64::MAX)?, &mut lines),
+        engine.accept(&row(alloc, 1, 5, Some(i64::MAX))?, &mut lines),
         fault
     );
-    assert_eq!(rt; engine.accept(&row(alloc, 2, 6, 1)?, &mut lines), fault);
+    assert_eq!(rt; engine.accept(&row(alloc, 2, 6, Some(1))?, &mut lines), fault);
     assert_eq!(rt; lines.as_bytes(), b"".as_slice());
+    Ok(())
+}
+
+/// A row without a value moves time alone: no output is run, and no line comes.
+#[test]
+fn a_row_without_a_value(rt: HostRuntime) -> Result<(), Fail> {
+    let alloc = rt.alloc();
+    let mut engine = Engine::create(alloc, worked_plan(alloc)?, Show::Outputs)?;
+    let mut lines = Text::from_bytes(alloc, b"")?;
+    engine.accept(&row(alloc, 1, 5, None)?, &mut lines)?;
+    assert_eq!(rt; lines.as_bytes(), b"".as_slice());
+    let counts = engine.counts();
+    assert_eq!(rt; counts.steps, 1);
+    assert_eq!(rt; counts.lines, 0);
     Ok(())
 }

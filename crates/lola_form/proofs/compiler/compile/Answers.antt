@@ -4,7 +4,7 @@ use Rattle.lola_form.specs.Tokens.{tokens_of}
 use Rattle.lola_form.specs.Form.{declaration_of, form_of}
 use Rattle.lola_form.specs.Seen.{names_seen, seen_all}
 use Rattle.lola_form.proofs.Compiled.{too_long, no_tokens, begins, has_room, breaks, goes, finished, fails, some_left, none_left, shorter}
-use Rattle.lola_form.proofs.SimplePlan.{simple_plan}
+use Rattle.lola_form.proofs.SimplePlan.{plan_of_numbers, simple_plan}
 use Rattle.lola_form.proofs.Sums.{refuses_on}
 use Rattle.lola_form.proofs.compiler.compile.Goals as goal
 
@@ -55,3 +55,8 @@ pub returns-clause-simple : goal.returns-clause-simple
 returns-clause-simple c =
     let none : length c.loop-reader.reader ≡ 0 = none_left c.is_done.result (length c.loop-reader.reader) c.is_done.ensures c.loop-reader-test.false in
     simple_plan c.args.bytes.now c.into_plan.result (finished c.args.bytes.now c.loop-reader.reader c.loop-reader.builder c.into_plan.result c.loop-reader.invariant none c.into_plan.ensures)
+
+pub returns-clause-numbers : goal.returns-clause-numbers
+returns-clause-numbers c =
+    let none : length c.loop-reader.reader ≡ 0 = none_left c.is_done.result (length c.loop-reader.reader) c.is_done.ensures c.loop-reader-test.false in
+    plan_of_numbers c.args.bytes.now c.into_plan.result (finished c.args.bytes.now c.loop-reader.reader c.loop-reader.builder c.into_plan.result c.loop-reader.invariant none c.into_plan.ensures)

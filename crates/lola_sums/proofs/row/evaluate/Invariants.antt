@@ -7,5 +7,5 @@ use Rattle.lola_sums.proofs.row.evaluate.Given as goal
 abbrev pub invariant-loop-n : goal.invariant-loop-n
 invariant-loop-n l = record {
   input : l.input ≡ input_count (take l.n l.streams);
-  outcomes : AreOutcomes l.fields (take l.n l.streams) (take l.n l.outcomes);
+  outcomes : AreOutcomes l.fields l.pacings (take l.n l.streams) (take l.n l.outcomes);
 }
