@@ -1,13 +1,11 @@
 //! How a source of rows can end before its bytes do.
 
-/// Why a source ends at a line that is no row. The kinds are numbered from 0 in this order; a
+/// Why a source ends at a line that is no row. The kinds are numbered from 1 in this order; a
 /// source ends at its first such line, and the rows before it are its rows.
 #[derive(Clone, Copy, Debug, PartialEq, Eq)]
 pub enum MalformedKind {
-    /// A line of a form that is not read yet.
-    Unbuilt,
     /// No line at all, not one time column, an input named twice, or a second byte order mark.
-    BadHeading,
+    BadHeading = 1,
     /// A row of another number of fields than the heading.
     FieldCount,
     /// A time field that is no time.

@@ -8,6 +8,7 @@ use Rattle.lola_port.specs.States.{PutBroke, Rose, SinkState, grown}
 use Rattle.lola_model.specs.Runs.{settled_fault}
 use Rattle.lola_report.specs.Ends.{end_text}
 use Rattle.lola_report.specs.declared.end.EndLine.{EndLine}
+use Rattle.lola_model.specs.declared.source.MalformedKind.{MalformedKind}
 use Rattle.lola_report.specs.declared.end.EndLine.TheVariants.{Done, Usage, Refused, Malformed, Fault, UnreadableSpecification, UnreadableSource, Analysed}
 use Rattle.lola_monitor.specs.Monitor.{BrokeOff, IsBroken, IsCutShort, Ran, IsDone, IsEarly, IsFault, IsMalformed, IsRefused, IsUnread, IsUsage, Outside, Wrote, HasFrontOf, first_faulty, is_faulty, verdicts}
 use Rattle.lola_monitor.specs.Outcomes.{Concluded, NoCommand, NoPlan, NotRead, Stood, StoodCut, StoodDone, StoodFault, StoodMalformed, Works}
@@ -49,9 +50,10 @@ module _ (words : List (List ℕ)) (before after : Outside) (last : SinkState) w
     count = s.ended.count;
   }
 
-  ends_malformed : (line : EndLine) (row : ℕ) (s : StoodMalformed line row words before after) → last ≡ grown after.out (end_text line) → IsMalformed words before (record after { out = last })
-  ends_malformed line row s is = record {
+  ends_malformed : (line : EndLine) (kind : MalformedKind) (row : ℕ) (s : StoodMalformed line kind row words before after) → last ≡ grown after.out (end_text line) → IsMalformed words before (record after { out = last })
+  ends_malformed line kind row s is = record {
     run = ran_with s.ended.stood.run;
+    kind = kind;
     row = row;
     rows = s.ended.rows;
     no_fault = s.ended.no_fault;
@@ -222,7 +224,7 @@ refused_of status (Line (Analysed n w)) words before after last works done is = 
 refused_of status Put words before after last works done is = absurd (omega (arith, done.0))
 refused_of status Memory words before after last works done is = absurd (omega (arith, done.0))
 
--- a line of another form
+-- a malformed line
 pub malformed_of : (status : ℕ) (outcome : Outcome) (words : List (List ℕ)) (before after : Outside) (last : SinkState) → Works outcome words before after → Concluded status outcome after.out last → status ≡ 4 → IsMalformed words before (record after { out = last })
 malformed_of status (Line (Done a l n v)) words before after last works (inl done) is = absurd (omega (arith, done.0))
 malformed_of status (Line (Done a l n v)) words before after last works (inr (inl broke)) is = absurd (omega (arith, broke.0))
@@ -233,7 +235,7 @@ malformed_of status (Line Usage) words before after last works (inr (inr same)) 
 malformed_of status (Line (Refused r)) words before after last works (inl done) is = absurd (omega (arith, done.0))
 malformed_of status (Line (Refused r)) words before after last works (inr (inl broke)) is = absurd (omega (arith, broke.0))
 malformed_of status (Line (Refused r)) words before after last works (inr (inr same)) is = absurd (omega (arith, same.0))
-malformed_of status (Line (Malformed m row kind)) words before after last works (inl done) is = ends_malformed words before after last (Malformed m row kind) row works done.1
+malformed_of status (Line (Malformed m row kind)) words before after last works (inl done) is = ends_malformed words before after last (Malformed m row kind) kind row works done.1
 malformed_of status (Line (Malformed m row kind)) words before after last works (inr (inl broke)) is = absurd (omega (arith, broke.0))
 malformed_of status (Line (Malformed m row kind)) words before after last works (inr (inr same)) is = absurd (omega (arith, same.0))
 malformed_of status (Line (Fault nm kind time)) words before after last works (inl done) is = absurd (omega (arith, done.0))

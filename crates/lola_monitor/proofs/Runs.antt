@@ -17,7 +17,7 @@ use Rattle.lola_model.specs.declared.journal.Mark.TheVariants as mark
 use Rattle.lola_model.specs.declared.journal.Show.TheVariants.{Triggers}
 use Rattle.lola_model.proofs.Journals.{IsLegalFrom-append_one, rows_of-append, text_of-append, trace_text-append_one}
 use Rattle.lola_sums.specs.Standing.{Brings}
-use Rattle.lola_lines.specs.Lines.{SourceEnd, SourceRows, Whole, MalformedAt}
+use Rattle.lola_rows.specs.Rows.{SourceEnd, SourceRows, Whole, MalformedAt}
 use Rattle.lola_monitor.specs.Monitor.{AreOfSources, HasLines}
 use Rattle.lola_monitor.specs.Parts.{BeganWith, CameTo, IsAccepted, EndedWith, IsAt, Keeping, OutCut, OutKept, Passes, RanTo, RanToCut, RanToFault, RanToPutFault, RanToReadFault, Runs, SawEnd, SawFault, SawReadFault, SoFar, Stands, Stepped, Steps, Traced, TraceCut, World, led_by, settled_text}
 use Rattle.lola_report.specs.Ends.{end_text}
@@ -267,7 +267,7 @@ put_fault first now last so (inr cut) rose =
 
 pub stops : (stop : Stop) (first now last : World) → SoFar first now → Steps (Err stop) now last → Runs stop first last
 stops stop.Ended first now last so saw = ends Whole first now last so saw
-stops (stop.Malformed row) first now last so saw = ends (MalformedAt row) first now last so saw
+stops (stop.Malformed kind row) first now last so saw = ends (MalformedAt kind row) first now last so saw
 stops stop.ReadFault first now last so saw = fails_to_read first now last so saw
 stops (stop.Fault stream kind time) first now last so saw = fails (record { stream = stream; kind = kind; time = time }) first now last so saw
 stops stop.Put first now last so saw = put_fault first now last so saw.cut saw.rose

@@ -16,7 +16,7 @@ use Rattle.lola_model.specs.declared.journal.Entry.{Entry}
 use Rattle.lola_model.specs.declared.journal.Row.{Row}
 use Rattle.lola_model.specs.declared.journal.Mark.TheVariants as mark
 use Rattle.lola_model.specs.declared.journal.Show.TheVariants.{Triggers}
-use Rattle.lola_lines.specs.Lines.{SourceEnd, Whole, MalformedAt, rows_of_source}
+use Rattle.lola_rows.specs.Rows.{SourceEnd, Whole, MalformedAt, rows_of_source}
 use Rattle.lola_report.specs.declared.end.EndLine.TheVariants.{Done, UnreadableSource}
 use Rattle.lola_monitor.specs.Monitor.{Begins, Ends, IsRowFault, Outside, done_line, fault_line, late_count, most_rows, outside, source_rows, verdicts}
 use Rattle.lola_monitor.specs.Outcomes.{CutFacts, CutRun, EndedRun, FaultRun, OutcomeAfter, RunsSource, SourceRun}
@@ -24,7 +24,7 @@ use Rattle.lola_monitor.specs.Parts.{BeganWith, CameTo, EndedWith, Keeping, Read
 use Rattle.lola_monitor.specs.declared.outcome.Stop.{Stop}
 use Rattle.lola_monitor.specs.declared.outcome.Stop.TheVariants as stop
 use Rattle.lola_monitor.specs.declared.outcome.Outcome.{Outcome}
-use Rattle.lola_lines.specs.Reading as lines
+use Rattle.lola_rows.specs.Reading as rows
 use Rattle.lola_monitor.proofs.Runs.{grown_nil, no_part, some_line}
 use Rattle.lola_monitor.proofs.Shelves.{CameBack, came_back, given_last, marred, stopped, whole}
 
@@ -134,7 +134,7 @@ module _ (name : List ℕ) (plan : Plan) (before after : Outside) (kept0 kept1 :
 
     pub ran_source : (stop : Stop) (outcome : Outcome) → OutcomeAfter stop plan kept1 outcome → Runs stop (world kept0 source0 before.out before.trace) (world kept1 source1 after.out after.trace) → RunsSource outcome plan name before after
     ran_source stop.Ended outcome is ran = subst (λ o. RunsSource o plan name before after) (sym is) (record { ended = ended Whole ran; line_is = done_is ran })
-    ran_source (stop.Malformed row) outcome is ran = subst (λ o. RunsSource o plan name before after) (sym is) (record { ended = ended (MalformedAt row) ran; line_is = refl })
+    ran_source (stop.Malformed kind row) outcome is ran = subst (λ o. RunsSource o plan name before after) (sym is) (record { ended = ended (MalformedAt kind row) ran; line_is = refl })
     ran_source stop.ReadFault outcome is ran = subst (λ o. RunsSource o plan name before after) (sym is) (record {
       run = run_is ran.came;
       shelf = marred name before.shelf after.shelf file returned (subst (λ n. Rose n file.count) counts (subst (λ n. Rose source0.count n) (sym count_is) ran.rose));
@@ -195,16 +195,15 @@ module _ (plan : Plan) (settled : IsSettled plan) where
   }
 
 -- a fresh reader of a told source has all its rows to come
-pub fresh_rows : (plan : Plan) (told : Option (List ℕ)) (source : SourceState) → source.left ≡ told → IsOfSource plan told (view_of (lines.fresh (lines.shape_of plan.spec.streams 0 most_rows) source))
+pub fresh_rows : (plan : Plan) (told : Option (List ℕ)) (source : SourceState) → source.left ≡ told → IsOfSource plan told (view_of (rows.fresh (rows.shape_of plan.spec.streams 0 most_rows) source))
 unfolding rows_of_source
-fresh_rows plan told source is bytes known =
-    ap (λ (o : Option (List ℕ)). option_map (lines.rest_at (lines.shape_of plan.spec.streams 0 most_rows) false 0) (prepend_known [] o)) (is ∙ known)
+fresh_rows plan told source is bytes known = ap (λ (o : Option (List ℕ)). rows.rest_of (rows.fresh (rows.shape_of plan.spec.streams 0 most_rows) (record source { left = o }))) (is ∙ known)
 
 -- a source that was fetched, read by a fresh reader, and came back
-module _ (name : List ℕ) (plan : Plan) (before mid : ShelfState) (first last : SourceState) (empty : lines.Shape) (reader0 reader1 : lines.Reading) where
-  module _ (shape : empty ≡ lines.shape_of plan.spec.streams 0 most_rows) (made : reader0 ≡ lines.fresh empty first) (fresh : IsFresh before name first) (given : mid ≡ lent before name) (keeps : lines.Keeps reader0 reader1) (out_is : last ≡ reader1.source) where
+module _ (name : List ℕ) (plan : Plan) (before mid : ShelfState) (first last : SourceState) (empty : rows.Shape) (reader0 reader1 : rows.Reading) where
+  module _ (shape : empty ≡ rows.shape_of plan.spec.streams 0 most_rows) (made : reader0 ≡ rows.fresh empty first) (fresh : IsFresh before name first) (given : mid ≡ lent before name) (keeps : rows.Keeps reader0 reader1) (out_is : last ≡ reader1.source) where
     source_is : reader0.source ≡ first
-    source_is = ap (λ (r : lines.Reading). r.source) made
+    source_is = ap (λ (r : rows.Reading). r.source) made
 
     place_is : last.place ≡ first.place
     place_is = ap (λ (s : SourceState). s.place) out_is ∙ keeps.place ∙ ap (λ (s : SourceState). s.place) source_is
@@ -217,7 +216,7 @@ module _ (name : List ℕ) (plan : Plan) (before mid : ShelfState) (first last :
 
     all_to_come : IsOfSource plan (before.told name) (view_of reader0)
     all_to_come =
-        subst (λ (r : lines.Reading). IsOfSource plan (before.told name) (view_of r)) (sym (made ∙ ap (λ (e : lines.Shape). lines.fresh e first) shape))
+        subst (λ (r : rows.Reading). IsOfSource plan (before.told name) (view_of r)) (sym (made ∙ ap (λ (e : rows.Shape). rows.fresh e first) shape))
         (fresh_rows plan (before.told name) first fresh.left)
 
     pub ran_file : (after : ShelfState) (out0 trace0 out1 trace1 : SinkState) (kept0 kept1 : Keeping) (stop : Stop) (outcome : Outcome) → IsSettled plan → kept0.engine.plan ≡ plan → kept1.engine.plan ≡ plan

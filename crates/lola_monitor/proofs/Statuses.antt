@@ -1,7 +1,8 @@
 -- Which status a call has, from what holds of it.
 use Rattle.std.proofs.Common.{◌≡◌, ◌⊎◌, ℕ, List, inl, inr, ⊎_elim, None, Some, sym, ap, ◌∙◌}
 use Rattle.lola_port.specs.States.{SinkState}
-use Rattle.lola_lines.specs.Lines.{SourceRows, Whole, MalformedAt}
+use Rattle.lola_rows.specs.Rows.{SourceRows, Whole, MalformedAt}
+use Rattle.lola_model.specs.declared.source.MalformedKind.{MalformedKind}
 use Rattle.lola_report.specs.declared.end.EndLine.TheVariants.{Done, Usage, Refused, Malformed, Fault, UnreadableSpecification, UnreadableSource, Analysed}
 use Rattle.lola_monitor.specs.Command.{Names, command_of}
 use Rattle.lola_monitor.specs.Monitor.{IsBroken, IsClean, IsCutShort, IsDone, IsFault, IsMalformed, IsRefused, IsSpoiled, IsUnread, IsUsage, Outside, source_rows}
@@ -14,8 +15,8 @@ use Rattle.lola_monitor.proofs.Ends.{broken_of, done_of, fault_of, malformed_of,
 same_names : (words : List (List ℕ)) (a b : Names) → command_of words ≡ Some a → command_of words ≡ Some b → a ≡ b
 same_names words a b first second = cc
 
-two_ends : (r : SourceRows) (row : ℕ) → r.end ≡ Whole → r.end ≡ MalformedAt row → ⊥
-two_ends r row first second = let both : Whole ≡ MalformedAt row = sym first ∙ second in absurd (cc)
+two_ends : (r : SourceRows) (kind : MalformedKind) (row : ℕ) → r.end ≡ Whole → r.end ≡ MalformedAt kind row → ⊥
+two_ends r kind row first second = let both : Whole ≡ MalformedAt kind row = sym first ∙ second in absurd (cc)
 
 module _ (words : List (List ℕ)) (before after : Outside) (last : SinkState) where
   module _ (clean : IsClean words before (record after { out = last })) where
@@ -27,7 +28,7 @@ module _ (words : List (List ℕ)) (before after : Outside) (last : SinkState) w
 
     clean_malformed : IsMalformed words before (record after { out = last }) → ⊥
     clean_malformed bad =
-        two_ends (source_rows bad.run.plan clean.source) bad.row (clean.ends bad.run.plan (bad.run.is_plan clean.specification (told_specification bad.run.names bad.run.is_command)))
+        two_ends (source_rows bad.run.plan clean.source) bad.kind bad.row (clean.ends bad.run.plan (bad.run.is_plan clean.specification (told_specification bad.run.names bad.run.is_command)))
         (ap (λ (r : SourceRows). r.end) (bad.rows clean.source (told_source bad.run.names bad.run.is_command)))
 
     clean_fault : IsFault words before (record after { out = last }) → ⊥

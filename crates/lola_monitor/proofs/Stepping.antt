@@ -1,12 +1,13 @@
 -- One step of a run, by what became of its row.
-use Rattle.std.proofs.Common.{◌≡◌, [], Result, Ok, Err, inl, inr, refl, sym, ap, ◌∙◌, subst, arith}
+use Rattle.std.proofs.Common.{◌≡◌, [], Result, Ok, Err, true, inl, inr, refl, sym, ap, ◌∙◌, subst, arith}
 use Rattle.lola_port.specs.States.{SinkState, grown}
 use Rattle.lola_model.specs.Trace.{trace_line}
 use Rattle.lola_model.specs.declared.plan.Plan.{Plan}
 use Rattle.lola_model.specs.declared.journal.Row.{Row}
 use Rattle.lola_model.specs.declared.journal.Entry.{Entry}
-use Rattle.lola_lines.specs.Lines.{Whole, MalformedAt}
-use Rattle.lola_lines.specs.Reading as lines
+use Rattle.lola_form.specs.Simple.{are_number_inputs}
+use Rattle.lola_rows.specs.Rows.{Whole, MalformedAt}
+use Rattle.lola_rows.specs.Reading as rows
 use Rattle.lola_monitor.specs.Monitor.{most_rows}
 use Rattle.lola_monitor.specs.Parts.{HasRoom, IsNext, Keeping, Puts, Reads, Reading, SoFar, Steps, Takes, TookRow, Traced, World, view_of, world}
 use Rattle.lola_monitor.specs.declared.outcome.Stop.{Stop}
@@ -17,11 +18,11 @@ use Rattle.lola_monitor.proofs.Views.{at_end, took}
 
 module _ (k0 : Keeping) (o0 t0 : SinkState) where
   -- no row was taken
-  module _ (r0 r1 : lines.Reading) (shape : r0.shape ≡ lines.shape_of k0.engine.plan.spec.streams 0 most_rows) where
+  module _ (r0 r1 : rows.Reading) (shape : r0.shape ≡ rows.shape_of k0.engine.plan.spec.streams 0 most_rows) (inputs : are_number_inputs k0.engine.plan.spec.streams ≡ true) where
     pub no_row : (end : Stop) → Reads (Err end) r0 r1 → Steps (Err end) (world k0 (view_of r0) o0 t0) (world k0 (view_of r1) o0 t0)
-    no_row stop.Ended reads = record { is_at = at_end k0.engine.plan r0 r1 shape Whole reads.0; kept = refl; count = reads.1; trace = refl; out = refl }
-    no_row (stop.Malformed row) reads = record { is_at = at_end k0.engine.plan r0 r1 shape (MalformedAt row) reads.0; kept = refl; count = reads.1; trace = refl; out = refl }
-    no_row stop.ReadFault reads = record { rose = reads; kept = refl; trace = refl; out = refl }
+    no_row stop.Ended reads = record { is_at = at_end k0.engine.plan r0 r1 shape inputs Whole reads.0; kept = refl; count = reads.1; trace = refl; out = refl }
+    no_row (stop.Malformed kind row) reads = record { is_at = at_end k0.engine.plan r0 r1 shape inputs (MalformedAt kind row) reads.0; kept = refl; count = reads.1; trace = refl; out = refl }
+    no_row stop.ReadFault reads = record { rose = reads.rose; kept = refl; trace = refl; out = refl }
     no_row (stop.Fault stream kind time) reads = absurd reads
     no_row stop.Put reads = absurd reads
     no_row stop.Memory reads = record {
@@ -39,7 +40,7 @@ module _ (k0 : Keeping) (o0 t0 : SinkState) where
     -- a row was taken, and its trace line was not put whole
     pub not_traced : (t1 : SinkState) (end : Stop) → Puts (Err end) (trace_line entry) t0 t1 → Steps (Err end) (world k0 s0 o0 t0) (world k0 s1 o0 t1)
     not_traced t1 stop.Ended puts = absurd puts
-    not_traced t1 (stop.Malformed n) puts = absurd puts
+    not_traced t1 (stop.Malformed kind n) puts = absurd puts
     not_traced t1 stop.ReadFault puts = absurd puts
     not_traced t1 (stop.Fault stream kind time) puts = absurd puts
     not_traced t1 stop.Put puts = record {
@@ -66,15 +67,15 @@ module _ (k0 : Keeping) (o0 t0 : SinkState) where
       pub stepped : (result : Result (Unit {0}) Stop) → Takes result entry k0 k1 o0 o1 → Steps result (world k0 s0 o0 t0) (world k1 s1 o1 t1)
       stepped (Ok done) takes = record { entry = entry; traced = traced; plan = takes.1; rows = takes.2; runs = takes.0 }
       stepped (Err stop.Ended) takes = absurd takes
-      stepped (Err (stop.Malformed n)) takes = absurd takes
+      stepped (Err (stop.Malformed kind n)) takes = absurd takes
       stepped (Err stop.ReadFault) takes = absurd takes
       stepped (Err (stop.Fault stream kind time)) takes = record { entry = entry; traced = traced; accepted = takes.1; plan = takes.2; runs = takes.0 }
       stepped (Err stop.Put) takes = record { cut = inr (record { entry = entry; traced = traced; runs = takes.0 }); rose = inl takes.1; plan = takes.2 }
       stepped (Err stop.Memory) takes = record { cut = inr (record { entry = entry; traced = traced; runs = takes.0 }); plan = takes.1 }
 
 -- the entry of a row that a reader gave
-pub took_entry : (plan : Plan) (old new : lines.Reading) (row : Row) (entry : Entry) → old.shape ≡ lines.shape_of plan.spec.streams 0 most_rows → entry.row ≡ row → lines.GaveRow row old new → TookRow plan entry.row (view_of old) (view_of new)
-took_entry plan old new row entry shape is gave = subst (λ (r : Row). TookRow plan r (view_of old) (view_of new)) (sym is) (took plan old new shape row gave)
+pub took_entry : (plan : Plan) (old new : rows.Reading) (row : Row) (entry : Entry) → old.shape ≡ rows.shape_of plan.spec.streams 0 most_rows → are_number_inputs plan.spec.streams ≡ true → entry.row ≡ row → rows.GaveRow row old new → TookRow plan entry.row (view_of old) (view_of new)
+took_entry plan old new row entry shape inputs is gave = subst (λ (r : Row). TookRow plan r (view_of old) (view_of new)) (sym is) (took plan old new shape inputs row gave)
 
 -- so few rows leave room for one more
 pub room_left : (first now : World) → SoFar first now → HasRoom now.kept

@@ -90,7 +90,7 @@ kept_accepted row old new out0 out1 text ran out journal stands =
 pub takes_accepted : (result : Result (Unit {0}) Stop) (row : Row) (old new : Keeping) (out0 out1 : SinkState) → IsNext old (accepted_entry row) → RunsAccepted result row old new out0 out1 → Takes result (accepted_entry row) old new out0 out1
 takes_accepted (Ok done) row old new out0 out1 next ran = (next_accepted row old new out0 out1 ran.0 next ran.1 ran.2, ran.1.plan, omega (arith, ran.1.accepted, ran.1.late))
 takes_accepted (Err stop.Ended) row old new out0 out1 next ran = ran
-takes_accepted (Err (stop.Malformed n)) row old new out0 out1 next ran = ran
+takes_accepted (Err (stop.Malformed kind n)) row old new out0 out1 next ran = ran
 takes_accepted (Err stop.ReadFault) row old new out0 out1 next ran = ran
 takes_accepted (Err (stop.Fault stream kind time)) row old new out0 out1 next ran = (
   λ journal stands.
@@ -145,7 +145,7 @@ takes_late row t old new out next engine merged count late =
 pub ran_and_put : (result : Result (Unit {0}) Stop) (row : Row) (old new : Keeping) (out0 out1 : SinkState) (text : List ℕ) → RanRow row old new text → Puts result text out0 out1 → RunsAccepted result row old new out0 out1
 ran_and_put (Ok done) row old new out0 out1 text ran puts = (text, ran, puts)
 ran_and_put (Err stop.Ended) row old new out0 out1 text ran puts = puts
-ran_and_put (Err (stop.Malformed n)) row old new out0 out1 text ran puts = puts
+ran_and_put (Err (stop.Malformed kind n)) row old new out0 out1 text ran puts = puts
 ran_and_put (Err stop.ReadFault) row old new out0 out1 text ran puts = puts
 ran_and_put (Err (stop.Fault stream kind time)) row old new out0 out1 text ran puts = absurd puts
 ran_and_put (Err stop.Put) row old new out0 out1 text ran puts = (text, ran, puts)

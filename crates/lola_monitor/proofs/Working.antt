@@ -8,7 +8,7 @@ use Rattle.lola_model.specs.Journal.{rows_of}
 use Rattle.lola_model.specs.declared.plan.Plan.{Plan}
 use Rattle.lola_model.specs.declared.journal.Row.{Row}
 use Rattle.lola_form.specs.Planned.{IsPlanOfBytes}
-use Rattle.lola_lines.specs.Lines.{SourceEnd, SourceRows, Whole, MalformedAt}
+use Rattle.lola_rows.specs.Rows.{SourceEnd, SourceRows, Whole, MalformedAt}
 use Rattle.lola_report.specs.Ends.{end_text}
 use Rattle.lola_report.specs.declared.end.EndLine.TheVariants.{Done, Usage, Refused, Malformed, Fault, UnreadableSpecification, UnreadableSource, Analysed}
 use Rattle.lola_monitor.specs.Command.{Names, command_of, names_of}
@@ -81,7 +81,7 @@ module _ (words : List (List ℕ)) (names : Names) (plan : Plan) (before after :
 
     pub works_after : (outcome : Outcome) → RunsSource outcome plan names.source (record before { shelf = shelf }) after → Works outcome words before after
     works_after (Line (Done a l s v)) r = record { ended = ended Whole r.ended; line_is = r.line_is }
-    works_after (Line (Malformed n row kind)) r = record { ended = ended (MalformedAt row) r.ended; line_is = r.line_is }
+    works_after (Line (Malformed n row kind)) r = record { ended = ended (MalformedAt kind row) r.ended; line_is = r.line_is }
     works_after (Line (Fault stream kind time)) r = record {
       stood = stood r.run r.rows;
       fault = r.fault;

@@ -17,9 +17,10 @@ use Rattle.lola_model.specs.declared.journal.Row.{Row}
 use Rattle.lola_model.specs.declared.journal.Entry.{Entry}
 use Rattle.lola_model.specs.declared.journal.Mark.TheVariants as mark
 use Rattle.lola_model.specs.declared.journal.Show.TheVariants.{Triggers}
-use Rattle.lola_model.specs.declared.source.MalformedKind.TheVariants.{Unbuilt}
+use Rattle.lola_model.specs.declared.source.MalformedKind.{MalformedKind}
 use Rattle.lola_form.specs.Planned.{IsPlanOfBytes}
-use Rattle.lola_lines.specs.Lines.{SourceRows, SourceEnd, Whole, MalformedAt, rows_of_source, input_names}
+use Rattle.lola_rows.specs.Rows.{SourceRows, SourceEnd, Whole, MalformedAt, rows_of_source}
+use Rattle.lola_rows.specs.Columns.{inputs_of}
 use Rattle.lola_report.specs.Ends.{end_text}
 use Rattle.lola_report.specs.declared.end.EndLine.{EndLine}
 use Rattle.lola_report.specs.declared.end.EndLine.TheVariants.{Done, Usage, Refused, Malformed, Fault, UnreadableSpecification, UnreadableSource}
@@ -67,7 +68,7 @@ most_rows = 1099511627776
 
 -- the rows and the end of a source with these bytes
 abbrev pub source_rows : Plan → List ℕ → SourceRows
-source_rows plan bytes = rows_of_source (input_names plan.spec.streams) 0 most_rows bytes
+source_rows plan bytes = rows_of_source (inputs_of plan.spec.streams) 0 most_rows bytes
 
 -- where the source tells its bytes, it has these rows and this end
 abbrev pub Ends : Option (List ℕ) → Plan → List Row → SourceEnd → Type 0
@@ -142,13 +143,14 @@ pub record IsRefused (words : List (List ℕ)) (before after : Outside) : Type 0
   pub trace : after.trace ≡ before.trace
   pub out : Wrote before.out after.out (end_text (Refused (record { code = code.Unbuilt; at = 0 })))
 
--- all rows of the source before a line of another form were taken
+-- all rows of the source before a malformed line were taken
 pub record IsMalformed (words : List (List ℕ)) (before after : Outside) : Type 0 where
   pub run : Ran words before after
+  pub kind : MalformedKind
   pub row : ℕ
-  pub rows : Ends (before.shelf.told run.names.source) run.plan (rows_of 0 run.journal) (MalformedAt row)
+  pub rows : Ends (before.shelf.told run.names.source) run.plan (rows_of 0 run.journal) (MalformedAt kind row)
   pub no_fault : first_fault run.plan None run.journal ≡ None
-  pub out : after.out ≡ grown before.out (verdicts run.plan run.journal ++ end_text (Malformed 0 row Unbuilt))
+  pub out : after.out ≡ grown before.out (verdicts run.plan run.journal ++ end_text (Malformed 0 row kind))
   pub asks : asks_between before.shelf after.shelf ≡ map given_ask (names_of run.names)
   pub count : after.shelf.count ≡ before.shelf.count
 

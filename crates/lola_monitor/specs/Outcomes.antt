@@ -12,9 +12,9 @@ use Rattle.lola_model.specs.Trace.{trace_text}
 use Rattle.lola_model.specs.Runs.{first_fault, settled_fault}
 use Rattle.lola_model.specs.declared.plan.Plan.{Plan}
 use Rattle.lola_model.specs.declared.journal.Entry.{Entry}
-use Rattle.lola_model.specs.declared.source.MalformedKind.TheVariants.{Unbuilt}
+use Rattle.lola_model.specs.declared.source.MalformedKind.{MalformedKind}
 use Rattle.lola_form.specs.Planned.{IsPlanOfBytes}
-use Rattle.lola_lines.specs.Lines.{SourceEnd, Whole, MalformedAt}
+use Rattle.lola_rows.specs.Rows.{SourceEnd, Whole, MalformedAt}
 use Rattle.lola_report.specs.Ends.{end_text}
 use Rattle.lola_report.specs.declared.end.EndLine.{EndLine}
 use Rattle.lola_report.specs.declared.end.EndLine.TheVariants.{Done, Usage, Refused, Malformed, Fault, UnreadableSpecification, UnreadableSource, Analysed}
@@ -77,10 +77,10 @@ pub record DoneRun (line : EndLine) (plan : Plan) (name : List ℕ) (before afte
   pub ended : EndedRun Whole plan name before after
   pub line_is : line ≡ done_line plan ended.run.journal
 
--- a source was run to a line of another form
-pub record MalformedRun (line : EndLine) (row : ℕ) (plan : Plan) (name : List ℕ) (before after : Outside) : Type 0 where
-  pub ended : EndedRun (MalformedAt row) plan name before after
-  pub line_is : line ≡ Malformed 0 row Unbuilt
+-- a source was run to a malformed line
+pub record MalformedRun (line : EndLine) (kind : MalformedKind) (row : ℕ) (plan : Plan) (name : List ℕ) (before after : Outside) : Type 0 where
+  pub ended : EndedRun (MalformedAt kind row) plan name before after
+  pub line_is : line ≡ Malformed 0 row kind
 
 -- a source was run to the first fault
 pub record FaultRun (line : EndLine) (plan : Plan) (name : List ℕ) (before after : Outside) : Type 0 where
@@ -125,7 +125,7 @@ pub record StoppedRun (plan : Plan) (name : List ℕ) (before after : Outside) :
 -- a run of a source
 abbrev pub RunsSource : Outcome → Plan → List ℕ → Outside → Outside → Type 0
 RunsSource (Line (Done a l s v)) plan name before after = DoneRun (Done a l s v) plan name before after
-RunsSource (Line (Malformed n row kind)) plan name before after = MalformedRun (Malformed n row kind) row plan name before after
+RunsSource (Line (Malformed n row kind)) plan name before after = MalformedRun (Malformed n row kind) kind row plan name before after
 RunsSource (Line (Fault stream kind time)) plan name before after = FaultRun (Fault stream kind time) plan name before after
 RunsSource (Line (UnreadableSource n)) plan name before after = CutRun (UnreadableSource n) plan name before after
 RunsSource (Line Usage) plan name before after = ⊥
@@ -143,7 +143,7 @@ without_plan front_end.Memory = Memory
 -- what a run's end makes of a call
 abbrev pub OutcomeAfter : Stop → Plan → Keeping → Outcome → Type 0
 OutcomeAfter stop.Ended plan kept outcome = outcome ≡ Line (Done kept.accepted kept.late kept.engine.steps kept.engine.lines)
-OutcomeAfter (stop.Malformed row) plan kept outcome = outcome ≡ Line (Malformed 0 row Unbuilt)
+OutcomeAfter (stop.Malformed kind row) plan kept outcome = outcome ≡ Line (Malformed 0 row kind)
 OutcomeAfter stop.ReadFault plan kept outcome = outcome ≡ Line (UnreadableSource 0)
 OutcomeAfter (stop.Fault stream kind time) plan kept outcome = (outcome ≡ Line (fault_line plan (record { stream = stream; kind = kind; time = time }))) ⊎ (outcome ≡ Memory)
 OutcomeAfter stop.Put plan kept outcome = outcome ≡ Put
@@ -168,9 +168,9 @@ pub record StoodDone (line : EndLine) (words : List (List ℕ)) (before after : 
   pub ended : StoodEnded Whole words before after
   pub line_is : line ≡ done_line ended.stood.run.plan ended.stood.run.journal
 
-pub record StoodMalformed (line : EndLine) (row : ℕ) (words : List (List ℕ)) (before after : Outside) : Type 0 where
-  pub ended : StoodEnded (MalformedAt row) words before after
-  pub line_is : line ≡ Malformed 0 row Unbuilt
+pub record StoodMalformed (line : EndLine) (kind : MalformedKind) (row : ℕ) (words : List (List ℕ)) (before after : Outside) : Type 0 where
+  pub ended : StoodEnded (MalformedAt kind row) words before after
+  pub line_is : line ≡ Malformed 0 row kind
 
 -- all but the last line: a source was run to the first fault
 pub record StoodFault (line : EndLine) (words : List (List ℕ)) (before after : Outside) : Type 0 where
@@ -220,7 +220,7 @@ pub record NotRead (words : List (List ℕ)) (before after : Outside) : Type 0 w
 -- all but the last line
 abbrev pub Works : Outcome → List (List ℕ) → Outside → Outside → Type 0
 Works (Line (Done a l s v)) words before after = StoodDone (Done a l s v) words before after
-Works (Line (Malformed n row kind)) words before after = StoodMalformed (Malformed n row kind) row words before after
+Works (Line (Malformed n row kind)) words before after = StoodMalformed (Malformed n row kind) kind row words before after
 Works (Line (Fault stream kind time)) words before after = StoodFault (Fault stream kind time) words before after
 Works (Line (UnreadableSource n)) words before after = StoodCut (UnreadableSource n) words before after
 Works (Line Usage) words before after = NoCommand words before after

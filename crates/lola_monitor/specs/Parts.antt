@@ -15,8 +15,8 @@ use Rattle.lola_model.specs.declared.journal.Entry.{Entry}
 use Rattle.lola_model.specs.declared.journal.Mark.TheVariants as mark
 use Rattle.lola_model.specs.declared.journal.Show.TheVariants.{Triggers}
 use Rattle.lola_form.specs.Simple.{HasNumbers}
-use Rattle.lola_lines.specs.Lines.{SourceRows, SourceEnd, Whole, MalformedAt}
-use Rattle.lola_lines.specs.Reading as Lines
+use Rattle.lola_rows.specs.Rows.{SourceRows, SourceEnd, Whole, MalformedAt}
+use Rattle.lola_rows.specs.Reading as Rows
 use Rattle.lola_sums.specs.Standing.{Evaluating, StandsFor, Brings, Accepts}
 use Rattle.lola_sums.specs.declared.end.EngineEnd.TheVariants as engine_end
 use Rattle.lola_monitor.specs.Monitor.{AreOfSources, HasFrontOf, HasLines, IsRowFault, late_count, most_rows}
@@ -32,8 +32,8 @@ pub record Reading : Type 0 where
   pub bound : ℕ
 
 -- the same of a reader of the crate that reads rows
-abbrev pub view_of : Lines.Reading → Reading
-view_of r = record { rest = Lines.rest_of r; number = r.given; count = r.source.count; bound = Lines.size_of r }
+abbrev pub view_of : Rows.Reading → Reading
+view_of r = record { rest = Rows.rest_of r; number = r.given; count = r.source.count; bound = Rows.size_of r }
 
 -- rows, and then what is to come
 abbrev pub led_by : List Row → SourceRows → SourceRows
@@ -135,7 +135,7 @@ IsNext kept entry = IsRightlyMarked kept.merged entry
 abbrev pub Takes : Result (Unit {0}) Stop → Entry → Keeping → Keeping → SinkState → SinkState → Type 0
 Takes (Ok done) entry old new out0 out1 = ((journal : List Entry) → Stands journal old → StandsNext journal entry old new out0 out1) × (new.engine.plan ≡ old.engine.plan) × (new.accepted + new.late ≡ old.accepted + old.late + 1)
 Takes (Err stop.Ended) entry old new out0 out1 = ⊥
-Takes (Err (stop.Malformed row)) entry old new out0 out1 = ⊥
+Takes (Err (stop.Malformed kind row)) entry old new out0 out1 = ⊥
 Takes (Err stop.ReadFault) entry old new out0 out1 = ⊥
 Takes (Err (stop.Fault stream kind time)) entry old new out0 out1 = ((journal : List Entry) → Stands journal old → FaultNext (record { stream = stream; kind = kind; time = time }) journal entry old out0 out1) × IsAccepted entry × (new.engine.plan ≡ old.engine.plan)
 Takes (Err stop.Put) entry old new out0 out1 = ((journal : List Entry) → Stands journal old → CutNext journal entry old out0 out1) × Rose out0.count out1.count × (new.engine.plan ≡ old.engine.plan)
@@ -155,7 +155,7 @@ pub record RanRow (row : Row) (old new : Keeping) (text : List ℕ) : Type 0 whe
 abbrev pub RunsAccepted : Result (Unit {0}) Stop → Row → Keeping → Keeping → SinkState → SinkState → Type 0
 RunsAccepted (Ok done) row old new out0 out1 = (text : List ℕ) × RanRow row old new text × (out1 ≡ grown out0 text)
 RunsAccepted (Err stop.Ended) row old new out0 out1 = ⊥
-RunsAccepted (Err (stop.Malformed n)) row old new out0 out1 = ⊥
+RunsAccepted (Err (stop.Malformed kind n)) row old new out0 out1 = ⊥
 RunsAccepted (Err stop.ReadFault) row old new out0 out1 = ⊥
 RunsAccepted (Err (stop.Fault stream kind time)) row old new out0 out1 = ((text : List ℕ) × Accepts (Err (engine_end.Fault stream kind time)) row old.engine new.engine [] text) × (out1 ≡ out0) × (new.engine.plan ≡ old.engine.plan)
 RunsAccepted (Err stop.Put) row old new out0 out1 = (text : List ℕ) × RanRow row old new text × PutBroke out0 out1 text
@@ -166,7 +166,7 @@ RunsAccepted (Err stop.Memory) row old new out0 out1 =
 abbrev pub Puts : Result (Unit {0}) Stop → List ℕ → SinkState → SinkState → Type 0
 Puts (Ok done) bytes old new = new ≡ grown old bytes
 Puts (Err stop.Ended) bytes old new = ⊥
-Puts (Err (stop.Malformed row)) bytes old new = ⊥
+Puts (Err (stop.Malformed kind row)) bytes old new = ⊥
 Puts (Err stop.ReadFault) bytes old new = ⊥
 Puts (Err (stop.Fault stream kind time)) bytes old new = ⊥
 Puts (Err stop.Put) bytes old new = PutBroke old new bytes
@@ -178,14 +178,14 @@ stop_of put.Failed = stop.Put
 stop_of put.Memory = stop.Memory
 
 -- one answer of the reader
-abbrev pub Reads : Result Row Stop → Lines.Reading → Lines.Reading → Type 0
-Reads (Ok row) old new = Lines.GaveRow row old new × (new.ended ≡ None)
-Reads (Err stop.Ended) old new = Lines.Ends (Lines.rest_of old) Whole × (new.source.count ≡ old.source.count)
-Reads (Err (stop.Malformed row)) old new = Lines.Ends (Lines.rest_of old) (MalformedAt row) × (new.source.count ≡ old.source.count)
-Reads (Err stop.ReadFault) old new = Rose old.source.count new.source.count
+abbrev pub Reads : Result Row Stop → Rows.Reading → Rows.Reading → Type 0
+Reads (Ok row) old new = Rows.GaveRow row old new × (new.ended ≡ None)
+Reads (Err stop.Ended) old new = Rows.Ends (Rows.rest_of old) Whole × (new.source.count ≡ old.source.count)
+Reads (Err (stop.Malformed kind row)) old new = Rows.Ends (Rows.rest_of old) (MalformedAt kind row) × (new.source.count ≡ old.source.count)
+Reads (Err stop.ReadFault) old new = Rows.BrokeOff old new
 Reads (Err (stop.Fault stream kind time)) old new = ⊥
 Reads (Err stop.Put) old new = ⊥
-Reads (Err stop.Memory) old new = new.source.count ≡ old.source.count
+Reads (Err stop.Memory) old new = Rows.RanOut old new
 
 -- a row was taken and traced
 pub record Traced (entry : Entry) (old new : World) : Type 0 where
@@ -259,7 +259,7 @@ pub record SawMemory (old new : World) : Type 0 where
 abbrev pub Steps : Result (Unit {0}) Stop → World → World → Type 0
 Steps (Ok done) old new = Stepped old new
 Steps (Err stop.Ended) old new = SawEnd Whole old new
-Steps (Err (stop.Malformed row)) old new = SawEnd (MalformedAt row) old new
+Steps (Err (stop.Malformed kind row)) old new = SawEnd (MalformedAt kind row) old new
 Steps (Err stop.ReadFault) old new = SawReadFault old new
 Steps (Err (stop.Fault stream kind time)) old new = SawFault (record { stream = stream; kind = kind; time = time }) old new
 Steps (Err stop.Put) old new = SawPutFault old new
@@ -330,7 +330,7 @@ pub record RanToPutFault (first last : World) : Type 0 where
 -- a whole run
 abbrev pub Runs : Stop → World → World → Type 0
 Runs stop.Ended first last = RanTo Whole first last
-Runs (stop.Malformed row) first last = RanTo (MalformedAt row) first last
+Runs (stop.Malformed kind row) first last = RanTo (MalformedAt kind row) first last
 Runs stop.ReadFault first last = RanToReadFault first last
 Runs (stop.Fault stream kind time) first last = RanToFault (record { stream = stream; kind = kind; time = time }) first last
 Runs stop.Put first last = RanToPutFault first last

@@ -74,7 +74,7 @@ fn work<F: Shelf, K: Sink, T: Sink>(
 /// | 0 | all rows were taken, and the source ends well |
 /// | 2 | the words are no command |
 /// | 3 | the specification was read, and is refused |
-/// | 4 | all rows were taken up to a line of another form |
+/// | 4 | all rows were taken up to a malformed line |
 /// | 5 | a row has a fault |
 /// | 6 | the specification or the source was not given, or could not be read |
 /// | 7 | a put failed |

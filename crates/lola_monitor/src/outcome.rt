@@ -1,5 +1,6 @@
 //! How a run stops, and how a call ends before its last line is put.
 
+use lola_model::source::MalformedKind;
 use lola_report::end::EndLine;
 use lola_value::value::FaultKind;
 
@@ -8,8 +9,8 @@ use lola_value::value::FaultKind;
 pub enum Stop {
     /// The source has ended well.
     Ended,
-    /// The source has a line of another form, the row of this number.
-    Malformed(u64),
+    /// The source has a malformed line, the row of this number (the heading is row 0).
+    Malformed { kind: MalformedKind, row: u64 },
     /// A read of the source failed.
     ReadFault,
     /// A row has a fault: the stream, its kind, and the row's time in nanoseconds.

@@ -1,12 +1,13 @@
 //! The rows of a source, one after another.
-ghost use Rattle.std.specs.Prelude.{◌≡◌, ◌≤◌, ◌<◌, ◌^◌, [], None, OnOk};
-ghost use Rattle.lola_lines.specs.Reading.{Keeps, shape_of};
+ghost use Rattle.std.specs.Prelude.{◌≡◌, ◌≤◌, ◌<◌, ◌^◌, [], None, OnOk, IsTrue};
+ghost use Rattle.lola_form.specs.Simple.{are_number_inputs};
+ghost use Rattle.lola_rows.specs.Reading.{Keeps, shape_of};
 ghost use Rattle.lola_monitor.specs.Monitor.{most_rows};
 ghost use Rattle.lola_monitor.specs.Parts.{HasRoom, Reads, Runs, Stands, Steps, view_of, world};
 
 use crate::outcome::Stop;
 use crate::run::Run;
-use lola_lines::{RowAnswer, RowReader};
+use lola_rows::{RowAnswer, RowReader};
 use lola_model::journal::Row;
 use lola_port::{Sink, Source};
 
@@ -22,7 +23,7 @@ fn take_row<S: Source>(reader: &mut RowReader<S>) -> Result<Row, Stop>
     match reader.next() {
         RowAnswer::Row(row) => Ok(row),
         RowAnswer::End => Err(Stop::Ended),
-        RowAnswer::Malformed { row, .. } => Err(Stop::Malformed(row)),
+        RowAnswer::Malformed { kind, row } => Err(Stop::Malformed { kind, row }),
         RowAnswer::ReadFault => Err(Stop::ReadFault),
         RowAnswer::Memory => Err(Stop::Memory),
     }
@@ -36,6 +37,7 @@ fn step<S: Source, K: Sink, T: Sink>(
     trace: &mut T,
 ) -> Result<(), Stop>
     requires room { HasRoom run.old }
+    requires inputs { IsTrue (are_number_inputs run.old.engine.plan.spec.streams) }
     requires shape { reader.old.shape ≡ shape_of run.old.engine.plan.spec.streams 0 most_rows }
     requires open { reader.old.ended ≡ None }
     ensures step { Steps result (world run.old (view_of reader.old) (K.state out.old) (T.state trace.old))
@@ -63,6 +65,7 @@ pub fn run_rows<S: Source, K: Sink, T: Sink>(
     trace: &mut T,
 ) -> Stop
     requires fresh { Stands [] run.old }
+    requires inputs { IsTrue (are_number_inputs run.old.engine.plan.spec.streams) }
     requires shape { reader.old.shape ≡ shape_of run.old.engine.plan.spec.streams 0 most_rows }
     requires open { reader.old.ended ≡ None }
     requires none { reader.old.given ≡ 0 }

@@ -10,7 +10,6 @@ use crate::outcome::{Outcome, Stop};
 use crate::putting::{put_entry, put_text};
 use lola_model::journal::{Entry, Mark, Row, Show};
 use lola_model::plan::Plan;
-use lola_model::source::MalformedKind;
 use lola_port::Sink;
 use lola_report::end::EndLine;
 use lola_sums::end::EngineEnd;
@@ -156,10 +155,10 @@ impl Run {
     {
         match stop {
             Stop::Ended => Outcome::Line(self.done_line()),
-            Stop::Malformed(row) => Outcome::Line(EndLine::Malformed {
+            Stop::Malformed { kind, row } => Outcome::Line(EndLine::Malformed {
                 source: 0,
                 row,
-                kind: MalformedKind::Unbuilt,
+                kind,
             }),
             Stop::ReadFault => Outcome::Line(EndLine::UnreadableSource(0)),
             Stop::Fault { stream, kind, time } => {

@@ -1,7 +1,7 @@
 //! A source: fetched, run, and given back.
-ghost use Rattle.std.specs.Prelude.{◌≡◌, ◌<◌, ◌≤◌, ◌^◌, [], None, IfOk};
-ghost use Rattle.lola_form.specs.Simple.{IsSimple};
-ghost use Rattle.lola_lines.specs.Reading.{shape_of};
+ghost use Rattle.std.specs.Prelude.{IsTrue, ◌≡◌, ◌<◌, ◌≤◌, ◌^◌, [], None, IfOk};
+ghost use Rattle.lola_form.specs.Simple.{IsSimple, are_number_inputs};
+ghost use Rattle.lola_rows.specs.Reading.{shape_of};
 ghost use Rattle.lola_monitor.specs.Monitor.{most_rows, outside};
 ghost use Rattle.lola_monitor.specs.Outcomes.{RunsSource};
 ghost use Rattle.lola_monitor.specs.Parts.{Stands};
@@ -9,7 +9,7 @@ ghost use Rattle.lola_monitor.specs.Parts.{Stands};
 use crate::outcome::Outcome;
 use crate::rows::{MOST_ROWS, run_rows};
 use crate::run::Run;
-use lola_lines::{EmptyReader, RowReader};
+use lola_rows::{EmptyReader, RowReader};
 use lola_model::plan::Plan;
 use lola_port::{FetchEnd, Shelf, Sink};
 use lola_report::end::EndLine;
@@ -27,6 +27,7 @@ fn run_file<F: Shelf, K: Sink, T: Sink>(
 ) -> Outcome
     requires out { (F.state shelf.old).out < 65536 }
     requires simple { IsSimple run.old.engine.plan }
+    requires inputs { IsTrue (are_number_inputs run.old.engine.plan.spec.streams) }
     requires fresh { Stands [] run.old }
     requires shape { empty ≡ shape_of run.old.engine.plan.spec.streams 0 most_rows }
     ensures { RunsSource result run.old.engine.plan name.now (outside (F.state shelf.old) (K.state out.old) (T.state trace.old))
@@ -55,6 +56,7 @@ pub fn run_source<F: Shelf, K: Sink, T: Sink>(
 ) -> Outcome
     requires out { (F.state shelf.old).out < 65536 }
     requires simple { IsSimple plan }
+    requires inputs { IsTrue (are_number_inputs plan.spec.streams) }
     ensures { RunsSource result plan name.now (outside (F.state shelf.old) (K.state out.old) (T.state trace.old))
         (outside (F.state shelf.new) (K.state out.new) (T.state trace.new)) }
 {

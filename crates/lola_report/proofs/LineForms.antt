@@ -76,7 +76,7 @@ code_plain code.TooLong = refl
 code_plain _ = refl
 
 malformed_plain : (k : MalformedKind) → Plain (malformed_name k)
-malformed_plain malformed.Unbuilt = refl
+malformed_plain malformed.BadHeading = refl
 malformed_plain _ = refl
 
 fault_plain : (k : FaultKind) → Plain (fault_name k)

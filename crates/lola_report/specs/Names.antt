@@ -54,7 +54,6 @@ code_name code.Unbuilt = codes "Unbuilt"
 
 -- the number of a kind of malformed row
 abbrev pub malformed_number : MalformedKind → ℕ
-malformed_number malformed.Unbuilt = 0
 malformed_number malformed.BadHeading = 1
 malformed_number malformed.FieldCount = 2
 malformed_number malformed.BadTime = 3
@@ -65,7 +64,6 @@ malformed_number malformed.RowTooLong = 7
 malformed_number malformed.TooManyRows = 8
 
 abbrev pub malformed_name : MalformedKind → List ℕ
-malformed_name malformed.Unbuilt = codes "Unbuilt"
 malformed_name malformed.BadHeading = codes "BadHeading"
 malformed_name malformed.FieldCount = codes "FieldCount"
 malformed_name malformed.BadTime = codes "BadTime"

@@ -41,7 +41,7 @@ pub fn code_name(code: Code) -> &'static str
     }
 }
 
-/// The number of a kind of malformed row, from 0.
+/// The number of a kind of malformed row, from 1.
 pub fn malformed_number(kind: MalformedKind) -> u64
     ensures { result ≡ malformed_number kind }
 {
@@ -52,7 +52,6 @@ pub fn malformed_name(kind: MalformedKind) -> &'static str
     ensures { result.now ≡ malformed_name kind }
 {
     match kind {
-        MalformedKind::Unbuilt => "Unbuilt",
         MalformedKind::BadHeading => "BadHeading",
         MalformedKind::FieldCount => "FieldCount",
         MalformedKind::BadTime => "BadTime",

@@ -1,0 +1,9 @@
+//! Lines of CSV: the fields of one line, as the crate `csv` reads them, and the values that fields spell.
+#![tactic(auto)]
+
+pub mod blanks;
+pub mod line;
+pub mod numbers;
+#[cfg(test)]
+mod tests;
+pub mod values;

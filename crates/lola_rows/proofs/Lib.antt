@@ -1,0 +1,5 @@
+pub mod Pieces
+pub mod Cutting
+pub mod Seeking
+pub mod Placing
+pub mod RowFacts

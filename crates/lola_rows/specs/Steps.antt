@@ -1,0 +1,44 @@
+-- What the steps of one call of a reader do.
+use Rattle.std.specs.Prelude.{ℕ, ◌≡◌, ◌≢◌, ◌<◌, ◌≤◌, List, Option, Some, None, Result, Ok, Err}
+use Rattle.lola_model.specs.declared.journal.Row.{Row}
+use Rattle.lola_model.specs.declared.source.MalformedKind.{MalformedKind}
+use Rattle.lola_rows.specs.declared.answer.Ending.{Ending}
+use Rattle.lola_rows.specs.declared.answer.Ending.TheVariants as ending
+use Rattle.lola_rows.specs.declared.flaw.Flaw.{Flaw}
+use Rattle.lola_rows.specs.declared.flaw.Flaw.TheVariants as flaw
+use Rattle.lola_rows.specs.declared.stage.Stage.TheVariants as stage
+use Rattle.lola_rows.specs.Reading.{GaveRow, Reading, Stops, rest_of, size_of}
+
+-- bytes were read, or the heading was taken: what the reader still gives is the same
+pub record Goes (old new : Reading) : Type 0 where
+  pub rest : rest_of new ≡ rest_of old
+  pub size : size_of new ≤ size_of old
+  pub given : new.given ≡ old.given
+  pub shape : new.shape ≡ old.shape
+  pub count : new.source.count ≡ old.source.count
+
+-- the mark was dropped, or the heading was taken, or why not
+abbrev pub Begins : Result (Unit {0}) Ending → Reading → Reading → Type 0
+Begins (Ok done) old new = Goes old new
+Begins (Err how) old new = Stops how old new
+
+-- a row was taken, or there is none
+abbrev pub Takes : Result Row Ending → Reading → Reading → Type 0
+Takes (Ok row) old new = GaveRow row old new
+Takes (Err how) old new = Stops how old new
+
+-- a value that is made, or what is wrong; want of memory says nothing
+abbrev pub Makes : {X Y : Type 0} → (X → Y) → Result X Flaw → Result Y MalformedKind → Type 0
+Makes view (Ok x) made = made ≡ Ok (view x)
+Makes view (Err (flaw.Malformed kind)) made = made ≡ Err kind
+Makes view (Err flaw.Memory) made = Unit {0}
+
+-- nothing is wrong, or this
+abbrev pub Tells : Result (Unit {0}) MalformedKind → Option MalformedKind → Type 0
+Tells (Ok done) wrong = wrong ≡ None
+Tells (Err kind) wrong = wrong ≡ Some kind
+
+-- how a reader ends at a flaw of the row with this number
+abbrev pub ending_of : Flaw → ℕ → Ending
+ending_of (flaw.Malformed kind) row = ending.Malformed kind row
+ending_of flaw.Memory row = ending.Memory

@@ -1,0 +1,12 @@
+//! How far a reader is.
+
+/// What a reader looks at next.
+#[derive(Clone, Copy, Debug, PartialEq, Eq)]
+pub enum Stage {
+    /// The first bytes of the source, which may be a byte order mark.
+    Start,
+    /// The heading.
+    Heading,
+    /// A row.
+    Rows,
+}
