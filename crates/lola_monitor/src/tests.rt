@@ -27,6 +27,9 @@ struct Case<'a> {
     trace: &'a str,
 }
 
+/// The most bytes that a case's texts have.
+const MOST: usize = 1000;
+
 const SUM: &str = "input a: Int64\noutput b: Int64 := a + 1\ntrigger b > 2 \"high\"";
 
 fn words(alloc: Global, command: &str) -> Result<Vec<String>, Memory> {
@@ -60,11 +63,10 @@ fn shelf_of(alloc: Global, case: &Case<'_>) -> Result<MemoryShelf, Memory>
 }
 
 /// Whether a run leaves what the case says.
-fn holds<R: Threads + Wait + Sync>(rt: &R, alloc: Global, case: &Case<'_>) -> Result<bool, Memory>
-    requires piece { 1 ≤ case.now.piece }
-    requires specification { length case.now.specification.now ≤ 2 ^ 62 }
-    requires source { length case.now.source.now ≤ 2 ^ 62 }
-{
+fn holds<R: Threads + Wait + Sync>(rt: &R, alloc: Global, case: &Case<'_>) -> Result<bool, Memory> {
+    if case.piece == 0 || case.specification.len() > MOST || case.source.len() > MOST {
+        return Ok(false);
+    }
     let mut shelf = shelf_of(alloc, case)?;
     let mut out = MemorySink::create(alloc, case.failing_puts)?;
     let mut trace = MemorySink::create(alloc, case.failing_trace_puts)?;
@@ -102,13 +104,51 @@ fn worked() -> Case<'static>
 #[test]
 fn rows_are_traced_and_judged(rt: HostRuntime) -> Result<(), Memory> {
     assert!(rt; holds(&rt, rt.alloc(), &worked())?);
-    let heading_alone = Case {
-        source: "time,a\n",
-        out: "= done accepted 0 late 0 steps 0 lines 0\n",
-        trace: "",
-        ..worked()
-    };
-    assert!(rt; holds(&rt, rt.alloc(), &heading_alone)?);
+    Ok(())
+}
+
+/// What a source may look like, and each line that is malformed: status, output, trace.
+#[test]
+fn sources_of_each_form(rt: HostRuntime) -> Result<(), Memory> {
+    let one = "0,1,0.000000000,A,1\n";
+    let one_row = "= done accepted 1 late 0 steps 1 lines 0\n";
+    let table = [
+        ("time,a\n", 0, "= done accepted 0 late 0 steps 0 lines 0\n", ""),
+        ("time,a\r\n0,1\r\n", 0, one_row, one),
+        ("time,a\n0,1", 0, one_row, one),
+        ("\u{feff}time,a\n\n0,1\n\n", 0, one_row, one),
+        ("x, a , ts\n\"7,\"\"8\",+01, 0 \n", 0, one_row, one),
+        ("time\n0\n", 0, one_row, "0,1,0.000000000,A,#\n"),
+        (
+            "time,a\n0,1\n1,",
+            0,
+            "= done accepted 2 late 0 steps 2 lines 0\n",
+            "0,1,0.000000000,A,1\n0,2,1.000000000,A,#\n",
+        ),
+        ("", 4, "= malformed source 0 row 0 kind 1 BadHeading\n", ""),
+        ("\n\n\n", 4, "= malformed source 0 row 0 kind 1 BadHeading\n", ""),
+        ("a\n0\n", 4, "= malformed source 0 row 0 kind 1 BadHeading\n", ""),
+        ("time,a\n0\n", 4, "= malformed source 0 row 1 kind 2 FieldCount\n", ""),
+        ("time,a\n0,1\n1", 4, "= malformed source 0 row 2 kind 2 FieldCount\n", one),
+        (
+            "time,a\n0.30000000000000004,1\n1,2\n1.5,3\n1e3,4\n",
+            4,
+            "1.000000000 trigger_1 \"high\"\n1.500000000 trigger_1 \"high\"\n= malformed source 0 row 4 kind 3 BadTime\n",
+            "0,1,0.300000000,A,1\n0,2,1.000000000,A,2\n0,3,1.500000000,A,3\n",
+        ),
+        ("time,a\n0,x\n", 4, "= malformed source 0 row 1 kind 4 BadValue\n", ""),
+        ("time,a\n0\r,1\n", 4, "= malformed source 0 row 1 kind 6 BareCr\n", ""),
+    ];
+    for (source, status, out, trace) in table {
+        let case = Case {
+            source,
+            status,
+            out,
+            trace,
+            ..worked()
+        };
+        assert!(rt; holds(&rt, rt.alloc(), &case)?, "{source}");
+    }
     Ok(())
 }
 
@@ -142,14 +182,6 @@ fn late_rows_faults_and_refusals(rt: HostRuntime) -> Result<(), Memory> {
 
 #[test]
 fn sources_and_sinks_that_fail(rt: HostRuntime) -> Result<(), Memory> {
-    let no_bytes = Case {
-        source: "",
-        status: 4,
-        out: "= malformed source 0 row 0 kind 0 Unbuilt\n",
-        trace: "",
-        ..worked()
-    };
-    assert!(rt; holds(&rt, rt.alloc(), &no_bytes)?);
     let failed_read = Case {
         failing_reads: &[1],
         status: 6,
@@ -196,32 +228,6 @@ fn words_and_names_that_are_none(rt: HostRuntime) -> Result<(), Memory> {
     );
     assert!(rt; status == 6 && unread.written() == "= unreadable specification\n".as_bytes());
     assert!(rt; trace.written().is_empty());
-    Ok(())
-}
-
-#[test]
-fn lines_of_another_form(rt: HostRuntime) -> Result<(), Memory> {
-    let blank = Case {
-        source: "\n\n\n",
-        status: 4,
-        out: "= malformed source 0 row 0 kind 0 Unbuilt\n",
-        trace: "",
-        ..worked()
-    };
-    assert!(rt; holds(&rt, rt.alloc(), &blank)?);
-    let cut = Case {
-        source: "time,a\n0,1\n1",
-        status: 4,
-        out: "= malformed source 0 row 2 kind 0 Unbuilt\n",
-        trace: "0,1,0.000000000,A,1\n",
-        ..worked()
-    };
-    assert!(rt; holds(&rt, rt.alloc(), &cut)?);
-    let empty_field = Case {
-        source: "time,a\n0,1\n1,",
-        ..cut
-    };
-    assert!(rt; holds(&rt, rt.alloc(), &empty_field)?);
     Ok(())
 }
 

@@ -235,11 +235,11 @@ next_outcomes fields ps streams n i os s o active lt room e is run h g t =
     let a : take (n + 1) streams ≡ take n streams ++ s ∷ [] = rw (add-one, take-suc streams n s lt) (ap (λ x. take n streams ++ x ∷ []) (sym is)) in
     let d : n ≡ length (take n streams) = sym (length-take-le n streams (omega arith)) in
     rw (a, take_more_set os n o room) (outcomes_more fields ps (take n streams) (take n os) s o h
-        (λ spec c shows.
-            g spec c shows
-            ∙ (ap (λ b. answer_where b spec c fields i s) run
-            ∙ (ap (λ j. stream_answer spec c fields ps n j s) e
-            ∙ ap (λ m. stream_answer spec c fields ps m (input_count (take n streams)) s) d))) t)
+    (λ spec c shows.
+    g spec c shows
+    ∙ (ap (λ b. answer_where b spec c fields i s) run
+    ∙ (ap (λ j. stream_answer spec c fields ps n j s) e
+    ∙ ap (λ m. stream_answer spec c fields ps m (input_count (take n streams)) s) d))) t)
 
 next_count : (streams : List Stream) (n : ℕ) (s : Stream) → n < length streams → s ≡ get_or streams n s
     → input_count (take (n + 1) streams) ≡ (if is_input s then input_count (take n streams) + 1 else input_count (take n streams))

@@ -74,10 +74,12 @@ fn is_run(pacings: &[ClausePacings], stream: usize, present: u64) -> bool
     ensures { result ≡ is_run_at present (slice_get pacings.now stream) }
 {
     match pacings.get(stream) {
-        Some(ClausePacings {
-            eval: Some(Pacing::Event(sets)),
-            ..
-        }) => satisfies_some(sets.as_slice(), present),
+        Some(
+            ClausePacings {
+                eval: Some(Pacing::Event(sets)),
+                ..
+            },
+        ) => satisfies_some(sets.as_slice(), present),
         _ => false,
     }
 }

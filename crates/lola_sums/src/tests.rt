@@ -203,7 +203,10 @@ fn ends_at_a_fault(rt: HostRuntime) -> Result<(), Fail> {
         engine.accept(&row(alloc, 1, 5, Some(i64::MAX))?, &mut lines),
         fault
     );
-    assert_eq!(rt; engine.accept(&row(alloc, 2, 6, Some(1))?, &mut lines), fault);
+    assert_eq!(rt;
+        engine.accept(&row(alloc, 2, 6, Some(1))?, &mut lines),
+        fault
+    );
     assert_eq!(rt; lines.as_bytes(), b"".as_slice());
     Ok(())
 }
