@@ -1,11 +1,11 @@
 -- Numbers that no kind has, and texts by their bytes.
-use Rattle.std.proofs.Common.{◌≡◌, ℕ, ℤ, zero, suc, pos, negsuc, neg_ℤ, ◌≤ℤ◌, ◌<◌, ◌≤◌, ◌^◌, Bool, true, false, List, [], ◌∷◌, Option, Some, None, option_map, nat_eq, nat_lt, length, ◌||◌, codes, refl, sym, ap, ◌∙◌, arith, inl, inr}
+use Rattle.std.proofs.Common.{◌≡◌, ℕ, ℤ, zero, suc, pos, negsuc, neg_ℤ, ◌≤ℤ◌, ◌≤◌, ◌^◌, Bool, false, List, [], ◌∷◌, Option, Some, None, option_map, nat_eq, nat_lt, length, ◌||◌, codes, refl, sym, ap, ◌∙◌, arith, inl, inr}
 use Rattle.std.proofs.lemmas.Bool.{cases_Bool, ltb-false, ne_eqb}
 use Rattle.std.proofs.lemmas.Int.{ints}
 use Rattle.lola_value.specs.declared.value.Kind.{Kind}
 use Rattle.lola_value.specs.Arithmetic.{bytes_equal, is_within}
 use Rattle.lola_value.proofs.Ranges.{small}
-use Rattle.lola_csv.specs.Values.{and_then, below, in_range, is_absent, read_truth, read_below, read_digits, read_integer, read_number, small_integer}
+use Rattle.lola_csv.specs.Values.{and_then, below, in_range, is_absent, read_truth, read_digits, read_number, small_integer}
 
 -- a number of 65 bits or more is of no kind
 large : (k : Kind) (n : ℕ) → 2 ^ 64 ≤ n → is_within k (pos n) ≡ false

@@ -1,9 +1,8 @@
 -- A run of a source that was fetched and came back.
-use Rattle.std.proofs.Common.{◌≡◌, ℕ, ◌<◌, List, [], ◌∷◌, ◌++◌, Option, Some, None, option_map, sym, ap, refl, ◌∙◌, inl, inr, subst, length, true, false}
+use Rattle.std.proofs.Common.{◌≡◌, ℕ, ◌<◌, List, [], ◌∷◌, ◌++◌, Option, Some, None, sym, ap, refl, ◌∙◌, inl, inr, subst, length, true, false}
 use Rattle.std.proofs.lemmas.List.{append-nil}
 use Rattle.std.proofs.lemmas.List.Elements.{All-nil}
 use Rattle.lola_port.specs.States.{FetchBroke, IsFresh, Rose, ShelfState, SinkState, SourceState, back, grown, lent}
-use Rattle.std.specs.Io.KnownBytes.{prepend_known}
 use Rattle.lola_port.specs.Asks.{IsGivenAt, failed_ask, given_ask}
 use Rattle.lola_model.specs.Journal.{accepted, rows_of}
 use Rattle.lola_model.specs.Faults.{RunFault}
@@ -24,7 +23,7 @@ use Rattle.lola_monitor.specs.Parts.{BeganWith, CameTo, EndedWith, Keeping, Read
 use Rattle.lola_monitor.specs.declared.outcome.Stop.{Stop}
 use Rattle.lola_monitor.specs.declared.outcome.Stop.TheVariants as stop
 use Rattle.lola_monitor.specs.declared.outcome.Outcome.{Outcome}
-use Rattle.lola_rows.specs.Reading as rows
+use Rattle.lola_rows.specs.Reading as reader
 use Rattle.lola_monitor.proofs.Runs.{grown_nil, no_part, some_line}
 use Rattle.lola_monitor.proofs.Shelves.{CameBack, came_back, given_last, marred, stopped, whole}
 
@@ -195,15 +194,15 @@ module _ (plan : Plan) (settled : IsSettled plan) where
   }
 
 -- a fresh reader of a told source has all its rows to come
-pub fresh_rows : (plan : Plan) (told : Option (List ℕ)) (source : SourceState) → source.left ≡ told → IsOfSource plan told (view_of (rows.fresh (rows.shape_of plan.spec.streams 0 most_rows) source))
+pub fresh_rows : (plan : Plan) (told : Option (List ℕ)) (source : SourceState) → source.left ≡ told → IsOfSource plan told (view_of (reader.fresh (reader.shape_of plan.spec.streams 0 most_rows) source))
 unfolding rows_of_source
-fresh_rows plan told source is bytes known = ap (λ (o : Option (List ℕ)). rows.rest_of (rows.fresh (rows.shape_of plan.spec.streams 0 most_rows) (record source { left = o }))) (is ∙ known)
+fresh_rows plan told source is bytes known = ap (λ (o : Option (List ℕ)). reader.rest_of (reader.fresh (reader.shape_of plan.spec.streams 0 most_rows) (record source { left = o }))) (is ∙ known)
 
 -- a source that was fetched, read by a fresh reader, and came back
-module _ (name : List ℕ) (plan : Plan) (before mid : ShelfState) (first last : SourceState) (empty : rows.Shape) (reader0 reader1 : rows.Reading) where
-  module _ (shape : empty ≡ rows.shape_of plan.spec.streams 0 most_rows) (made : reader0 ≡ rows.fresh empty first) (fresh : IsFresh before name first) (given : mid ≡ lent before name) (keeps : rows.Keeps reader0 reader1) (out_is : last ≡ reader1.source) where
+module _ (name : List ℕ) (plan : Plan) (before mid : ShelfState) (first last : SourceState) (empty : reader.Shape) (reader0 reader1 : reader.Reading) where
+  module _ (shape : empty ≡ reader.shape_of plan.spec.streams 0 most_rows) (made : reader0 ≡ reader.fresh empty first) (fresh : IsFresh before name first) (given : mid ≡ lent before name) (keeps : reader.Keeps reader0 reader1) (out_is : last ≡ reader1.source) where
     source_is : reader0.source ≡ first
-    source_is = ap (λ (r : rows.Reading). r.source) made
+    source_is = ap (λ (r : reader.Reading). r.source) made
 
     place_is : last.place ≡ first.place
     place_is = ap (λ (s : SourceState). s.place) out_is ∙ keeps.place ∙ ap (λ (s : SourceState). s.place) source_is
@@ -216,7 +215,7 @@ module _ (name : List ℕ) (plan : Plan) (before mid : ShelfState) (first last :
 
     all_to_come : IsOfSource plan (before.told name) (view_of reader0)
     all_to_come =
-        subst (λ (r : rows.Reading). IsOfSource plan (before.told name) (view_of r)) (sym (made ∙ ap (λ (e : rows.Shape). rows.fresh e first) shape))
+        subst (λ (r : reader.Reading). IsOfSource plan (before.told name) (view_of r)) (sym (made ∙ ap (λ (e : reader.Shape). reader.fresh e first) shape))
         (fresh_rows plan (before.told name) first fresh.left)
 
     pub ran_file : (after : ShelfState) (out0 trace0 out1 trace1 : SinkState) (kept0 kept1 : Keeping) (stop : Stop) (outcome : Outcome) → IsSettled plan → kept0.engine.plan ≡ plan → kept1.engine.plan ≡ plan

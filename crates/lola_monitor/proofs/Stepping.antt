@@ -7,7 +7,7 @@ use Rattle.lola_model.specs.declared.journal.Row.{Row}
 use Rattle.lola_model.specs.declared.journal.Entry.{Entry}
 use Rattle.lola_form.specs.Simple.{are_number_inputs}
 use Rattle.lola_rows.specs.Rows.{Whole, MalformedAt}
-use Rattle.lola_rows.specs.Reading as rows
+use Rattle.lola_rows.specs.Reading as reader
 use Rattle.lola_monitor.specs.Monitor.{most_rows}
 use Rattle.lola_monitor.specs.Parts.{HasRoom, IsNext, Keeping, Puts, Reads, Reading, SoFar, Steps, Takes, TookRow, Traced, World, view_of, world}
 use Rattle.lola_monitor.specs.declared.outcome.Stop.{Stop}
@@ -18,7 +18,7 @@ use Rattle.lola_monitor.proofs.Views.{at_end, took}
 
 module _ (k0 : Keeping) (o0 t0 : SinkState) where
   -- no row was taken
-  module _ (r0 r1 : rows.Reading) (shape : r0.shape ≡ rows.shape_of k0.engine.plan.spec.streams 0 most_rows) (inputs : are_number_inputs k0.engine.plan.spec.streams ≡ true) where
+  module _ (r0 r1 : reader.Reading) (shape : r0.shape ≡ reader.shape_of k0.engine.plan.spec.streams 0 most_rows) (inputs : are_number_inputs k0.engine.plan.spec.streams ≡ true) where
     pub no_row : (end : Stop) → Reads (Err end) r0 r1 → Steps (Err end) (world k0 (view_of r0) o0 t0) (world k0 (view_of r1) o0 t0)
     no_row stop.Ended reads = record { is_at = at_end k0.engine.plan r0 r1 shape inputs Whole reads.0; kept = refl; count = reads.1; trace = refl; out = refl }
     no_row (stop.Malformed kind row) reads = record { is_at = at_end k0.engine.plan r0 r1 shape inputs (MalformedAt kind row) reads.0; kept = refl; count = reads.1; trace = refl; out = refl }
@@ -74,7 +74,7 @@ module _ (k0 : Keeping) (o0 t0 : SinkState) where
       stepped (Err stop.Memory) takes = record { cut = inr (record { entry = entry; traced = traced; runs = takes.0 }); plan = takes.1 }
 
 -- the entry of a row that a reader gave
-pub took_entry : (plan : Plan) (old new : rows.Reading) (row : Row) (entry : Entry) → old.shape ≡ rows.shape_of plan.spec.streams 0 most_rows → are_number_inputs plan.spec.streams ≡ true → entry.row ≡ row → rows.GaveRow row old new → TookRow plan entry.row (view_of old) (view_of new)
+pub took_entry : (plan : Plan) (old new : reader.Reading) (row : Row) (entry : Entry) → old.shape ≡ reader.shape_of plan.spec.streams 0 most_rows → are_number_inputs plan.spec.streams ≡ true → entry.row ≡ row → reader.GaveRow row old new → TookRow plan entry.row (view_of old) (view_of new)
 took_entry plan old new row entry shape inputs is gave = subst (λ (r : Row). TookRow plan r (view_of old) (view_of new)) (sym is) (took plan old new shape inputs row gave)
 
 -- so few rows leave room for one more

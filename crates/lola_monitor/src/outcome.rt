@@ -10,7 +10,10 @@ pub enum Stop {
     /// The source has ended well.
     Ended,
     /// The source has a malformed line, the row of this number (the heading is row 0).
-    Malformed { kind: MalformedKind, row: u64 },
+    Malformed {
+        kind: MalformedKind,
+        row: u64,
+    },
     /// A read of the source failed.
     ReadFault,
     /// A row has a fault: the stream, its kind, and the row's time in nanoseconds.

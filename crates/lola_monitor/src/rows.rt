@@ -7,9 +7,9 @@ ghost use Rattle.lola_monitor.specs.Parts.{HasRoom, Reads, Runs, Stands, Steps, 
 
 use crate::outcome::Stop;
 use crate::run::Run;
-use lola_rows::{RowAnswer, RowReader};
 use lola_model::journal::Row;
 use lola_port::{Sink, Source};
+use lola_rows::{RowAnswer, RowReader};
 
 /// The most rows of a source.
 pub const MOST_ROWS: u64 = 1099511627776;

@@ -9,10 +9,10 @@ ghost use Rattle.lola_monitor.specs.Parts.{Stands};
 use crate::outcome::Outcome;
 use crate::rows::{MOST_ROWS, run_rows};
 use crate::run::Run;
-use lola_rows::{EmptyReader, RowReader};
 use lola_model::plan::Plan;
 use lola_port::{FetchEnd, Shelf, Sink};
 use lola_report::end::EndLine;
+use lola_rows::{EmptyReader, RowReader};
 use std::alloc::Global;
 
 // Fetches a source, runs its rows in a run that is new, and gives it back.

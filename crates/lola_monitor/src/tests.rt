@@ -113,7 +113,12 @@ fn sources_of_each_form(rt: HostRuntime) -> Result<(), Memory> {
     let one = "0,1,0.000000000,A,1\n";
     let one_row = "= done accepted 1 late 0 steps 1 lines 0\n";
     let table = [
-        ("time,a\n", 0, "= done accepted 0 late 0 steps 0 lines 0\n", ""),
+        (
+            "time,a\n",
+            0,
+            "= done accepted 0 late 0 steps 0 lines 0\n",
+            "",
+        ),
         ("time,a\r\n0,1\r\n", 0, one_row, one),
         ("time,a\n0,1", 0, one_row, one),
         ("\u{feff}time,a\n\n0,1\n\n", 0, one_row, one),
@@ -126,18 +131,48 @@ fn sources_of_each_form(rt: HostRuntime) -> Result<(), Memory> {
             "0,1,0.000000000,A,1\n0,2,1.000000000,A,#\n",
         ),
         ("", 4, "= malformed source 0 row 0 kind 1 BadHeading\n", ""),
-        ("\n\n\n", 4, "= malformed source 0 row 0 kind 1 BadHeading\n", ""),
-        ("a\n0\n", 4, "= malformed source 0 row 0 kind 1 BadHeading\n", ""),
-        ("time,a\n0\n", 4, "= malformed source 0 row 1 kind 2 FieldCount\n", ""),
-        ("time,a\n0,1\n1", 4, "= malformed source 0 row 2 kind 2 FieldCount\n", one),
+        (
+            "\n\n\n",
+            4,
+            "= malformed source 0 row 0 kind 1 BadHeading\n",
+            "",
+        ),
+        (
+            "a\n0\n",
+            4,
+            "= malformed source 0 row 0 kind 1 BadHeading\n",
+            "",
+        ),
+        (
+            "time,a\n0\n",
+            4,
+            "= malformed source 0 row 1 kind 2 FieldCount\n",
+            "",
+        ),
+        (
+            "time,a\n0,1\n1",
+            4,
+            "= malformed source 0 row 2 kind 2 FieldCount\n",
+            one,
+        ),
         (
             "time,a\n0.30000000000000004,1\n1,2\n1.5,3\n1e3,4\n",
             4,
             "1.000000000 trigger_1 \"high\"\n1.500000000 trigger_1 \"high\"\n= malformed source 0 row 4 kind 3 BadTime\n",
             "0,1,0.300000000,A,1\n0,2,1.000000000,A,2\n0,3,1.500000000,A,3\n",
         ),
-        ("time,a\n0,x\n", 4, "= malformed source 0 row 1 kind 4 BadValue\n", ""),
-        ("time,a\n0\r,1\n", 4, "= malformed source 0 row 1 kind 6 BareCr\n", ""),
+        (
+            "time,a\n0,x\n",
+            4,
+            "= malformed source 0 row 1 kind 4 BadValue\n",
+            "",
+        ),
+        (
+            "time,a\n0\r,1\n",
+            4,
+            "= malformed source 0 row 1 kind 6 BareCr\n",
+            "",
+        ),
     ];
     for (source, status, out, trace) in table {
         let case = Case {

@@ -3,3 +3,6 @@ pub mod Cutting
 pub mod Seeking
 pub mod Placing
 pub mod RowFacts
+pub mod FitFacts
+pub mod Readers
+pub mod Composing

@@ -1,14 +1,14 @@
 -- Titles that are found among those of a heading.
-use Rattle.std.proofs.Common.{◌≡◌, ℕ, zero, suc, ◌+◌, ◌-◌, ◌<◌, ◌≤◌, Bool, true, false, not, ◌||◌, List, [], ◌∷◌, ◌++◌, Option, Some, None, Result, Ok, Err, length, map, drop, get_or, filter, position, nat_eq, nat_lt, if◌then◌else◌, codes, refl, sym, ap, subst, ◌∙◌, arith, inl, inr, append_assoc}
+use Rattle.std.proofs.Common.{◌≡◌, ℕ, zero, suc, ◌+◌, ◌<◌, ◌≤◌, Bool, true, false, List, [], ◌∷◌, ◌++◌, Option, Some, None, Result, Ok, Err, length, map, drop, get_or, filter, position, nat_eq, nat_lt, if◌then◌else◌, codes, refl, sym, ap, ◌∙◌, arith, inl, inr, append_assoc}
 use Rattle.std.specs.List.{list_any, position_or_len}
-use Rattle.std.proofs.lemmas.Bool.{cases_Bool, cases_lt, eq-eqb, lt-ltb, le-ltb, ne_eqb, or_parts}
+use Rattle.std.proofs.lemmas.Bool.{cases_Bool, cases_lt, eq-eqb, lt-ltb, le-ltb, ne_eqb}
 use Rattle.std.proofs.lemmas.List.{append-nil, drop_all, drop_more}
 use Rattle.csv.specs.Records.{field_at}
 use Rattle.lola_value.specs.Arithmetic.{bytes_equal}
 use Rattle.lola_model.specs.declared.source.MalformedKind.{MalformedKind}
 use Rattle.lola_model.specs.declared.source.MalformedKind.TheVariants as malformed
 use Rattle.lola_csv.specs.Blanks.{trimmed}
-use Rattle.lola_rows.specs.Columns.{Columns, column_of, columns_in, is_time_name, is_twice, place_of}
+use Rattle.lola_rows.specs.Columns.{column_of, columns_in, is_time_name, is_twice}
 use Rattle.lola_rows.specs.Places.{after_title, column_made, columns_made, places_from, places_in, title_at}
 use Rattle.lola_rows.specs.Rows.{or_else_flaw, then_value}
 use Rattle.lola_rows.specs.Steps.{Makes}
@@ -99,7 +99,6 @@ pub next-title : (p : List ℕ → Bool) (fields : List (List ℕ)) (found : Pla
 next-title p fields found place within =
     ap (places_from p found place) (drop_more (map trimmed fields) place [] (omega (arith, titles-count fields)))
     ∙ ap (λ t. places_from p (after_title found (p t) place) (place + 1) (drop (place + 1) (map trimmed fields))) (sym (title-is fields place within))
-
 
 -- a search of all titles tells how many there are
 pub counted : (p : List ℕ → Bool) (titles : List (List ℕ)) → IsFound p (places_in p titles) titles

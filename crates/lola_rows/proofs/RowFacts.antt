@@ -1,6 +1,5 @@
 -- The row of a line, by its parts.
-use Rattle.std.specs.Prelude.{◌||◌}
-use Rattle.std.proofs.Common.{◌≡◌, ℕ, zero, suc, ◌+◌, ◌<◌, ◌≤◌, Bool, true, false, List, [], ◌∷◌, ◌++◌, Option, Some, None, option_map, length, drop, get_or, slice_get, refl, sym, ap, ◌∙◌, arith, append_assoc, Result, Ok, Err, MatchResult, IfOk, nat_lt, is_ok, inl, inr}
+use Rattle.std.proofs.Common.{◌≡◌, ℕ, zero, suc, ◌+◌, ◌<◌, ◌≤◌, false, List, [], ◌∷◌, ◌++◌, Option, Some, None, option_map, length, drop, get_or, slice_get, refl, sym, ap, ◌∙◌, append_assoc, Result, Ok, Err, MatchResult, IfOk, nat_lt, is_ok, inl, inr}
 use Rattle.std.specs.List.{list_any}
 use Rattle.std.proofs.lemmas.List.{append-nil, drop_all, drop_more}
 use Rattle.std.proofs.lemmas.Bool.{cases_Bool, ltb-false, or_parts}
@@ -13,11 +12,11 @@ use Rattle.lola_value.specs.declared.text.Memory.{Memory}
 use Rattle.lola_value.specs.Times.{read_time}
 use Rattle.lola_model.specs.declared.source.MalformedKind.{MalformedKind}
 use Rattle.lola_csv.specs.Blanks.{trimmed}
-use Rattle.lola_csv.specs.Values.{read_value}
+use Rattle.lola_csv.specs.Values.{and_then, read_value}
 use Rattle.lola_csv.specs.Line.{has_line_end}
 use Rattle.lola_rows.specs.Steps.{Tells}
 use Rattle.lola_rows.specs.Lines.{Line, is_line_end, is_return, longest_line}
-use Rattle.lola_rows.specs.Rows.{flaw_of_line, time_of, value_of, values_of}
+use Rattle.lola_rows.specs.Rows.{flaw_of_line, time_of, value_at, value_in, value_of, values_of}
 use Rattle.lola_rows.specs.declared.columns.Column.{Column}
 
 pub field-get : (fields : List (List ℕ)) (i : ℕ) → field_at fields i ≡ slice_get fields i
@@ -48,22 +47,21 @@ utf8-by bytes (Err e) P Q is = elim (cases_Bool (is_utf8 bytes)) [
 
 -- the time of a row
 pub time-there : (fields : List (List ℕ)) (place : ℕ) (text : List ℕ) → Some text ≡ field_at fields place → read_time (trimmed text) ≡ time_of fields place
-time-there fields place text is = let here : slice_get fields place ≡ Some text = sym (field-get fields place) ∙ sym is in rw here refl
+time-there fields place text is = ap (λ o. and_then o (λ t. read_time (trimmed t))) (is ∙ field-get fields place)
 
 pub time-none : (fields : List (List ℕ)) (place : ℕ) → None ≡ field_at fields place → None ≡ time_of fields place
-time-none fields place is = let here : slice_get fields place ≡ None = sym (field-get fields place) ∙ sym is in rw here refl
+time-none fields place is = ap (λ (o : Option (List ℕ)). and_then o (λ t. read_time (trimmed t))) (is ∙ field-get fields place)
 
 -- the value of a column
 pub value-made : (fields : List (List ℕ)) (column : Column) (place : ℕ) (text : List ℕ) (r : Result (Option Field) Memory) → column.place ≡ Some place → Some text ≡ field_at fields place
     → IfOk r (λ v. v ≡ read_value column.kind text) → IfOk r (λ v. v ≡ value_of fields column)
 value-made fields column place text (Ok v) placed is made =
-    let here : slice_get fields place ≡ Some text = sym (field-get fields place) ∙ sym is in
-    made ∙ (rw (placed, here) refl)
+    made ∙ ap (value_at column.kind) (is ∙ field-get fields place) ∙ ap (value_in fields column.kind) (sym placed)
 value-made fields column place text (Err e) placed is made = made
 
 pub value-none : (fields : List (List ℕ)) (column : Column) (place : ℕ) → column.place ≡ Some place → None ≡ field_at fields place → Some field.Absent ≡ value_of fields column
 value-none fields column place placed is =
-    let here : slice_get fields place ≡ None = sym (field-get fields place) ∙ sym is in rw (placed, here) refl
+    ap (value_at column.kind) (is ∙ field-get fields place) ∙ ap (value_in fields column.kind) (sym placed)
 
 -- a line of which nothing is wrong has no carriage return, and is UTF-8
 pub record IsSound (line : Line) : Type 0 where
@@ -92,21 +90,23 @@ unflawed size text (Ok done) tells never = (sound (record { size = size; text = 
 unflawed size text (Err k) tells never = absurd (never k refl)
 
 -- one value more
+led-more : (front : List Field) (v : Field) (o : Option (List Field)) → led_values (front ++ v ∷ []) o ≡ led_values front (option_map (λ vs. v ∷ vs) o)
+led-more front v None = refl
+led-more front v (Some vs) = ap (λ (l : List Field). Some l) (append_assoc front (v ∷ []) vs)
+
+abbrev next_values : List (List ℕ) → List Field → List Column → Option Field → Option (List Field)
+next_values fields front later o = led_values front (and_then o (λ v. option_map (λ vs. v ∷ vs) (values_of fields later)))
+
 pub values-more : (fields : List (List ℕ)) (columns : List Column) (i : ℕ) (d : Column) (front : List Field) (v : Field) → i < length columns → Some v ≡ value_of fields (get_or columns i d)
     → led_values front (values_of fields (drop i columns)) ≡ values_of fields columns → led_values (front ++ v ∷ []) (values_of fields (drop (i + 1) columns)) ≡ values_of fields columns
 values-more fields columns i d front v within is so_far =
-    let here : value_of fields (get_or columns i d) ≡ Some v = sym is in
-    more (values_of fields (drop (i + 1) columns)) ∙ sym (ap (λ l. led_values front (values_of fields l)) (drop_more columns i d within) ∙ (rw here refl)) ∙ so_far
-  where
-    more : (o : Option (List Field)) → led_values (front ++ v ∷ []) o ≡ led_values front (elim o [ None ↦ None | Some vs ↦ Some (v ∷ vs) ])
-    more None = refl
-    more (Some vs) = ap (λ (l : List Field). Some l) (append_assoc front (v ∷ []) vs)
+    led-more front v (values_of fields (drop (i + 1) columns)) ∙ ap (next_values fields front (drop (i + 1) columns)) is
+    ∙ sym (ap (λ l. led_values front (values_of fields l)) (drop_more columns i d within)) ∙ so_far
 
 pub values-fail : (fields : List (List ℕ)) (columns : List Column) (i : ℕ) (d : Column) (front : List Field) → i < length columns → None ≡ value_of fields (get_or columns i d)
     → led_values front (values_of fields (drop i columns)) ≡ values_of fields columns → None ≡ values_of fields columns
 values-fail fields columns i d front within is so_far =
-    let here : value_of fields (get_or columns i d) ≡ None = sym is in
-    sym (ap (λ l. led_values front (values_of fields l)) (drop_more columns i d within) ∙ (rw here refl)) ∙ so_far
+    ap (next_values fields front (drop (i + 1) columns)) is ∙ sym (ap (λ l. led_values front (values_of fields l)) (drop_more columns i d within)) ∙ so_far
 
 pub values-done : (fields : List (List ℕ)) (columns : List Column) (i : ℕ) (front : List Field) → length columns ≤ i → led_values front (values_of fields (drop i columns)) ≡ values_of fields columns → Some front ≡ values_of fields columns
 values-done fields columns i front past so_far =

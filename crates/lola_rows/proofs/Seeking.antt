@@ -1,18 +1,17 @@
 -- The next line, as it is cut from the bytes that are held.
-use Rattle.std.proofs.Common.{◌≡◌, ℕ, zero, suc, ◌+◌, ◌-◌, ◌<◌, ◌≤◌, Bool, true, false, List, [], ◌∷◌, ◌++◌, Option, Some, None, option_map, length, take, drop, get_or, position, nat_eq, if◌then◌else◌, refl, sym, ap, subst, ◌∙◌, arith, inl, inr}
+use Rattle.std.proofs.Common.{◌≡◌, ℕ, zero, suc, ◌+◌, ◌<◌, ◌≤◌, true, false, List, [], ◌∷◌, ◌++◌, Option, Some, None, option_map, length, take, drop, get_or, position, nat_eq, if◌then◌else◌, refl, sym, ap, subst, ◌∙◌, arith, inl, inr}
 use Rattle.std.specs.List.{list_any}
 use Rattle.std.specs.Io.KnownBytes.{IsAtEnd, prepend_known}
 use Rattle.std.proofs.lemmas.Bool.{cases_Bool, eq-eqb, ne_eqb}
 use Rattle.std.proofs.lemmas.List.{append-nil, length-drop, length-take-le, take-take, take_all, drop_all}
 use Rattle.lola_csv.proofs.LineFacts.{any-take}
 use Rattle.lola_port.specs.States.{ReadBroke, Rose, SourceState}
-use Rattle.lola_rows.specs.Filling.{BeginsTooLong, Brought, Failed, Finds, IsFront, LastFound, Lost, Sought, line_at}
+use Rattle.lola_rows.specs.Filling.{BeginsTooLong, Brought, Failed, Finds, IsFront, LastFound, Lost, Sought}
 use Rattle.lola_rows.specs.Lines.{Line, ended_line, is_empty, is_line_end, is_return, last_line, line_before, lines_between, lines_of, longest_line, without_return}
 use Rattle.lola_rows.specs.declared.seek.Extent.{Extent}
 use Rattle.lola_rows.specs.declared.seek.Found.{Found}
 use Rattle.lola_rows.specs.declared.seek.Found.TheVariants as found
 use Rattle.lola_rows.proofs.Cutting.{first-place, none-before, parts, parts-last, parts-line, parts-long, some-parts}
-use Rattle.lola_rows.proofs.Pieces.{none-found}
 
 pub at-end : (left : Option (List ℕ)) (bytes : List ℕ) → IsAtEnd left → left ≡ Some bytes → bytes ≡ []
 at-end None bytes end is = absurd (cc is)

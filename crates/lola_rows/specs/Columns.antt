@@ -1,7 +1,6 @@
 -- The heading of a source: which field is the time, and which gives an input.
 use Rattle.std.specs.Prelude.{ℕ, List, [], ◌∷◌, Option, Some, None, Bool, not, ◌||◌, if◌then◌else◌, nat_eq, nat_lt, length, map, filter, codes, position, unwrap_or}
 use Rattle.std.specs.List.{list_any, position_or_len}
-use Rattle.lola_value.specs.declared.value.Kind.{Kind}
 use Rattle.lola_value.specs.declared.value.Kind.TheVariants as kind
 use Rattle.lola_value.specs.Arithmetic.{bytes_equal}
 use Rattle.lola_model.specs.Model.{is_input}

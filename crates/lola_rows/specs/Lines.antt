@@ -1,6 +1,6 @@
 -- The lines of a source, as a function of all its bytes.
 use Rattle.std.specs.Prelude.{ℕ, List, [], ◌∷◌, Bool, true, false, if◌then◌else◌, nat_eq, length}
-use Rattle.std.specs.List.{list_any, slice_split}
+use Rattle.std.specs.List.{slice_split}
 use Rattle.csv.specs.Reading.{is_bom}
 
 -- the byte that ends a line

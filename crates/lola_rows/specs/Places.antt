@@ -1,5 +1,5 @@
 -- A search of the titles of a heading, as far as it goes.
-use Rattle.std.specs.Prelude.{◌≡◌, ℕ, ◌+◌, List, [], ◌∷◌, Option, Some, None, Result, Ok, Err, Bool, if◌then◌else◌, map, unwrap_or, option_map}
+use Rattle.std.specs.Prelude.{ℕ, ◌+◌, List, [], ◌∷◌, Result, Ok, Err, Bool, if◌then◌else◌, unwrap_or}
 use Rattle.csv.specs.Records.{field_at}
 use Rattle.lola_value.specs.Arithmetic.{bytes_equal}
 use Rattle.lola_model.specs.declared.source.MalformedKind.{MalformedKind}

@@ -1,11 +1,10 @@
 -- A reader of rows: what it still gives, and what its calls do.
-use Rattle.std.specs.Prelude.{◌≡◌, ℕ, ◌+◌, ◌<◌, ◌≤◌, ◌^◌, List, [], ◌∷◌, ◌++◌, Option, Some, None, option_map, Bool, true, false, length, map}
+use Rattle.std.specs.Prelude.{◌≡◌, ℕ, ◌+◌, ◌<◌, ◌≤◌, List, [], ◌∷◌, ◌++◌, Option, Some, None, option_map, false, length, map}
 use Rattle.std.specs.Io.KnownBytes.{prepend_known}
 use Rattle.std.specs.List.{AllZip, list_any}
 use Rattle.lola_value.specs.Times.{latest}
 use Rattle.lola_model.specs.Trace.{IsFieldOf}
 use Rattle.lola_model.specs.declared.journal.Row.{Row}
-use Rattle.lola_model.specs.declared.source.MalformedKind.{MalformedKind}
 use Rattle.lola_model.specs.declared.spec.Stream.{Stream}
 use Rattle.lola_port.specs.States.{Rose, SourceState}
 use Rattle.lola_rows.specs.Columns.{Columns, inputs_of}
@@ -142,8 +141,8 @@ pub record Keeps (old new : Reading) : Type 0 where
   pub shape : new.shape ≡ old.shape
   pub place : new.source.place ≡ old.source.place
 
--- before the heading no row was given
-abbrev pub NoneBefore : Stage → ℕ → Type 0
-NoneBefore stage.Start given = given ≡ 0
-NoneBefore stage.Heading given = given ≡ 0
-NoneBefore stage.Rows given = Unit {0}
+-- before the heading no row was given, and behind it the columns are those of the inputs
+abbrev pub IsInStep : Stage → ℕ → Columns → List Input → Type 0
+IsInStep stage.Start given columns inputs = given ≡ 0
+IsInStep stage.Heading given columns inputs = given ≡ 0
+IsInStep stage.Rows given columns inputs = map (λ c. c.kind) columns.inputs ≡ map (λ i. i.kind) inputs

@@ -1,16 +1,17 @@
 -- The rows of a source and its end, as a function of all its bytes.
-use Rattle.std.specs.Prelude.{ℕ, ◌+◌, List, [], ◌∷◌, Option, Some, None, Result, Ok, Err, Bool, true, false, not, if◌then◌else◌, nat_eq, nat_lt, length, slice_get}
+use Rattle.std.specs.Prelude.{ℕ, ◌+◌, List, [], ◌∷◌, Option, Some, None, option_map, Result, Ok, Err, Bool, not, if◌then◌else◌, nat_eq, nat_lt, length, slice_get}
 use Rattle.std.specs.List.{list_any}
 use Rattle.std.specs.Str.{is_utf8}
 use Rattle.lola_value.specs.declared.text.Field.{Field}
 use Rattle.lola_value.specs.declared.text.Field.TheVariants as field
+use Rattle.lola_value.specs.declared.value.Kind.{Kind}
 use Rattle.lola_value.specs.Times.{read_time}
 use Rattle.lola_model.specs.declared.journal.Row.{Row}
 use Rattle.lola_model.specs.declared.source.MalformedKind.{MalformedKind}
 use Rattle.lola_model.specs.declared.source.MalformedKind.TheVariants as malformed
 use Rattle.lola_csv.specs.Blanks.{trimmed}
 use Rattle.lola_csv.specs.Line.{begins_with_mark, fields_of_line}
-use Rattle.lola_csv.specs.Values.{read_value}
+use Rattle.lola_csv.specs.Values.{and_then, read_value}
 use Rattle.lola_rows.specs.Columns.{Columns, columns_of}
 use Rattle.lola_rows.specs.declared.columns.Column.{Column}
 use Rattle.lola_rows.specs.declared.columns.Input.{Input}
@@ -53,20 +54,29 @@ then_value (Err kind) f = Err kind
 abbrev pub flaw_of_line : Line → Option MalformedKind
 flaw_of_line line =
     or_flaw (flaw_if (nat_lt longest_line line.size) malformed.RowTooLong)
-        (or_flaw (flaw_if (list_any is_return line.text) malformed.BareCr) (flaw_if (not (is_utf8 line.text)) malformed.BadText))
+    (or_flaw (flaw_if (list_any is_return line.text) malformed.BareCr) (flaw_if (not (is_utf8 line.text)) malformed.BadText))
 
--- the value of a column: an input without one is absent
+-- the value of a kind in a field, and absent where there is no field
+abbrev pub value_at : Kind → Option (List ℕ) → Option Field
+value_at k None = Some field.Absent
+value_at k (Some text) = read_value k text
+
+-- the value at a place, and absent where the heading has none
+abbrev pub value_in : List (List ℕ) → Kind → Option ℕ → Option Field
+value_in fields k None = Some field.Absent
+value_in fields k (Some place) = value_at k (slice_get fields place)
+
 abbrev pub value_of : List (List ℕ) → Column → Option Field
-value_of fields column = elim column.place [ None ↦ Some field.Absent | Some place ↦ elim (slice_get fields place) [ None ↦ Some field.Absent | Some text ↦ read_value column.kind text ] ]
+value_of fields column = value_in fields column.kind column.place
 
 -- the values of all columns
 abbrev pub values_of : List (List ℕ) → List Column → Option (List Field)
 values_of fields [] = Some []
-values_of fields (c ∷ cs) = elim (value_of fields c) [ None ↦ None | Some v ↦ elim (values_of fields cs) [ None ↦ None | Some vs ↦ Some (v ∷ vs) ] ]
+values_of fields (c ∷ cs) = and_then (value_of fields c) (λ v. option_map (λ vs. v ∷ vs) (values_of fields cs))
 
 -- the time of a row
 abbrev pub time_of : List (List ℕ) → ℕ → Option ℕ
-time_of fields place = elim (slice_get fields place) [ None ↦ None | Some text ↦ read_time (trimmed text) ]
+time_of fields place = and_then (slice_get fields place) (λ text. read_time (trimmed text))
 
 abbrev pub row_with : ℕ → ℕ → ℕ → List Field → Row
 row_with source number stamp fields = record { source = source; number = number; stamp = stamp; fields = fields }

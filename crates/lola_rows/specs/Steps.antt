@@ -1,13 +1,20 @@
 -- What the steps of one call of a reader do.
-use Rattle.std.specs.Prelude.{ℕ, ◌≡◌, ◌≢◌, ◌<◌, ◌≤◌, List, Option, Some, None, Result, Ok, Err}
+use Rattle.std.specs.Prelude.{ℕ, ◌≡◌, ◌≤◌, ◌⊎◌, List, [], ◌++◌, length, true, Option, Some, None, Result, Ok, Err}
 use Rattle.lola_model.specs.declared.journal.Row.{Row}
 use Rattle.lola_model.specs.declared.source.MalformedKind.{MalformedKind}
 use Rattle.lola_rows.specs.declared.answer.Ending.{Ending}
 use Rattle.lola_rows.specs.declared.answer.Ending.TheVariants as ending
 use Rattle.lola_rows.specs.declared.flaw.Flaw.{Flaw}
 use Rattle.lola_rows.specs.declared.flaw.Flaw.TheVariants as flaw
-use Rattle.lola_rows.specs.declared.stage.Stage.TheVariants as stage
-use Rattle.lola_rows.specs.Reading.{GaveRow, Reading, Stops, rest_of, size_of}
+use Rattle.std.specs.Io.KnownBytes.{IsAtEnd}
+use Rattle.std.specs.List.{list_any}
+use Rattle.lola_rows.specs.Filling.{BeginsTooLong, IsFront}
+use Rattle.lola_rows.specs.Lines.{is_line_end, lines_of}
+use Rattle.lola_rows.specs.declared.fill.Filled.{Filled}
+use Rattle.lola_rows.specs.declared.fill.Filled.TheVariants as filled
+use Rattle.lola_rows.specs.declared.seek.Found.{Found}
+use Rattle.lola_rows.specs.declared.seek.Found.TheVariants as found
+use Rattle.lola_rows.specs.Reading.{BrokeOff, GaveRow, Reading, Stops, rest_of, size_of}
 
 -- bytes were read, or the heading was taken: what the reader still gives is the same
 pub record Goes (old new : Reading) : Type 0 where
@@ -16,6 +23,24 @@ pub record Goes (old new : Reading) : Type 0 where
   pub given : new.given ≡ old.given
   pub shape : new.shape ≡ old.shape
   pub count : new.source.count ≡ old.source.count
+
+-- so much is held of the start of a source that a byte order mark would be held whole
+abbrev pub ShowsMark : List ℕ → Option (List ℕ) → Type 0
+ShowsMark held left = (3 ≤ length held) ⊎ ((list_any is_line_end held ≡ true) ⊎ IsAtEnd left)
+
+-- so much is held, or a read failed
+abbrev pub Fills : Filled → Reading → Reading → Type 0
+Fills (filled.Line n) old new = Goes old new × ShowsMark new.held new.source.left
+Fills filled.Last old new = Goes old new × ShowsMark new.held new.source.left
+Fills filled.TooLong old new = Goes old new × ShowsMark new.held new.source.left
+Fills filled.Fault old new = BrokeOff old new
+
+-- the next line that is not empty stands at the front, or why not
+abbrev pub Seeks : Found → Reading → Reading → Type 0
+Seeks (found.Line e) old new = Goes old new × IsFront e new.held new.source.left
+Seeks found.TooLong old new = Goes old new × ((bytes : List ℕ) → new.source.left ≡ Some bytes → BeginsTooLong (lines_of (new.held ++ bytes)))
+Seeks found.Nothing old new = Goes old new × ((bytes : List ℕ) → new.source.left ≡ Some bytes → lines_of (new.held ++ bytes) ≡ [])
+Seeks found.Fault old new = BrokeOff old new
 
 -- the mark was dropped, or the heading was taken, or why not
 abbrev pub Begins : Result (Unit {0}) Ending → Reading → Reading → Type 0

@@ -182,11 +182,7 @@ fn input_column(fields: &ByteRecord, input: &Input) -> Result<Column, MalformedK
 }
 
 // The columns of all inputs.
-fn input_columns(
-    alloc: Global,
-    inputs: &[Input],
-    fields: &ByteRecord,
-) -> Result<Vec<Column>, Flaw>
+fn input_columns(alloc: Global, inputs: &[Input], fields: &ByteRecord) -> Result<Vec<Column>, Flaw>
     ensures { Makes (λ columns. columns.items) result (columns_made (map trimmed (fields_of fields.now)) inputs.now) }
 {
     let mut columns = Vec::new(alloc);

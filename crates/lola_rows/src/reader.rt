@@ -102,7 +102,7 @@ pub struct RowReader<S: Source> {
 impl<S: Source> Model for RowReader<S> {
     ghost use Rattle.std.specs.Prelude.{◌≤◌, ◌^◌};
     ghost use Rattle.lola_rows.specs.Places.{layout_columns};
-    ghost use Rattle.lola_rows.specs.Reading.{Reading, NoneBefore};
+    ghost use Rattle.lola_rows.specs.Reading.{IsInStep, Reading};
     ghost use Rattle.lola_rows.specs.Window.{items};
 
     ghost Value = { Reading };
@@ -117,13 +117,13 @@ impl<S: Source> Model for RowReader<S> {
       ended = r.ended;
     } };
 
-    ghost invariant = { λ r. (r.form.most ≤ 2 ^ 40) × (r.given ≤ 2 ^ 40) × NoneBefore r.stage r.given };
+    ghost invariant = { λ r. (r.form.most ≤ 2 ^ 40) × (r.given ≤ 2 ^ 40) × IsInStep r.stage r.given (layout_columns r.layout) r.inputs.items };
 }
 
 impl<S: Source> RowReader<S> {
     ghost use Rattle.lola_rows.specs.Filling.{IsFront};
     ghost use Rattle.lola_rows.specs.Reading.{Answers, Keeps, Repeats, Stops, fresh, rest_of, shape_of};
-    ghost use Rattle.lola_rows.specs.Steps.{Begins, Takes};
+    ghost use Rattle.lola_rows.specs.Steps.{Begins, Fills, Seeks, Takes};
 
     /// Makes the room that a reader of the source with this index needs, for at most `most` rows.
     pub fn reserve(alloc: Global, plan: &Plan, index: u32, most: u64) -> Result<EmptyReader, Memory>
@@ -199,12 +199,36 @@ impl<S: Source> RowReader<S> {
         let Stage::Start = self.stage else {
             return Ok(());
         };
-        if let Filled::Fault = fill_line(&mut self.window, &mut self.source) {
-            return Err(Ending::ReadFault);
+        match self.fill() {
+            Filled::Fault => Err(Ending::ReadFault),
+            _ => {
+                self.window.drop_mark();
+                self.stage = Stage::Heading;
+                Ok(())
+            }
         }
-        self.window.drop_mark();
-        self.stage = Stage::Heading;
-        Ok(())
+    }
+
+    // Reads so much that a mark is held whole, if there is one.
+    fn fill(&mut self) -> Filled
+        requires { self.old.stage ≡ Stage.Start }
+        ensures fills { Fills result self.old self.new }
+        ensures stage { self.new.stage ≡ self.old.stage }
+        ensures kept { Keeps self.old self.new }
+        ensures ended { self.new.ended ≡ self.old.ended }
+    {
+        fill_line(&mut self.window, &mut self.source)
+    }
+
+    // Finds the next line that is not empty.
+    fn seek(&mut self) -> Found
+        requires { self.old.stage ≡ Stage.Start → ⊥ }
+        ensures seeks { Seeks result self.old self.new }
+        ensures stage { self.new.stage ≡ self.old.stage }
+        ensures kept { Keeps self.old self.new }
+        ensures ended { self.new.ended ≡ self.old.ended }
+    {
+        seek_line(&mut self.window, &mut self.source)
     }
 
     // Takes the heading, unless it was taken.
@@ -218,7 +242,7 @@ impl<S: Source> RowReader<S> {
         if let Stage::Rows = self.stage {
             return Ok(());
         }
-        match seek_line(&mut self.window, &mut self.source) {
+        match self.seek() {
             Found::Line(extent) => self.use_heading(extent),
             Found::TooLong => Err(malformed(MalformedKind::RowTooLong, 0)),
             Found::Nothing => Err(malformed(MalformedKind::BadHeading, 0)),
@@ -252,7 +276,7 @@ impl<S: Source> RowReader<S> {
         ensures kept { Keeps self.old self.new }
         ensures ended { self.new.ended ≡ self.old.ended }
     {
-        match seek_line(&mut self.window, &mut self.source) {
+        match self.seek() {
             Found::Line(extent) => self.use_line(extent),
             Found::TooLong => Err(malformed(MalformedKind::RowTooLong, self.given + 1)),
             Found::Nothing => Err(Ending::End),

@@ -59,7 +59,11 @@ fn text_length(line: &[u8]) -> usize
         return 0;
     }
     let last = line.len() - 1;
-    if line[last] == b'\r' { last } else { line.len() }
+    if line[last] == b'\r' {
+        last
+    } else {
+        line.len()
+    }
 }
 
 // All that is held, as the last line.

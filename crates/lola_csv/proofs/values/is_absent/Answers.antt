@@ -1,4 +1,4 @@
-use Rattle.std.proofs.Common.{◌∙◌, refl, sym, ap, false, ◌||◌}
+use Rattle.std.proofs.Common.{◌∙◌, false}
 use Rattle.lola_csv.proofs.ValueFacts.{absent-by}
 use Rattle.lola_csv.proofs.values.is_absent.Goals as goal
 

@@ -1,4 +1,4 @@
-use Rattle.std.proofs.Common.{◌∙◌, sym}
+use Rattle.std.proofs.Common.{sym}
 use Rattle.lola_csv.proofs.ValueFacts.{truth-none}
 use Rattle.lola_csv.proofs.values.truth.Goals as goal
 

@@ -1,11 +1,10 @@
-use Rattle.std.proofs.Common.{◌≡◌, ◌∙◌, sym, ap, map, List, ℕ, Ok, Some, None, Bool}
+use Rattle.std.proofs.Common.{◌∙◌, sym, ap, map, List, ℕ, Ok}
 use Rattle.csv.specs.Records.{fields_of}
 use Rattle.lola_value.specs.Arithmetic.{bytes_equal}
 use Rattle.lola_csv.specs.Blanks.{trimmed}
 use Rattle.lola_rows.specs.Columns.{is_time_name}
 use Rattle.lola_rows.specs.Places.{places_in}
 use Rattle.lola_rows.specs.declared.columns.Column.{Column}
-use Rattle.lola_rows.specs.declared.columns.Places.TheVariants as places
 use Rattle.lola_rows.proofs.Placing.{column-nowhere, column-there, column-time, column-twice}
 use Rattle.lola_rows.proofs.columns.input_column.Goals as goal
 

@@ -1,4 +1,4 @@
-use Rattle.std.proofs.Common.{◌≡◌, ◌∙◌, sym, ap, subst, map, length, List, ℕ, Ok, Err, Result, Vec, Global}
+use Rattle.std.proofs.Common.{◌∙◌, sym, ap, subst, map, length, List, Ok, Err, Result, Vec, Global}
 use Rattle.csv.specs.Records.{fields_of}
 use Rattle.lola_model.specs.declared.source.MalformedKind.{MalformedKind}
 use Rattle.lola_csv.specs.Blanks.{trimmed}

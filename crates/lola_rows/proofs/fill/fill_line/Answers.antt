@@ -1,5 +1,4 @@
-use Rattle.std.proofs.Common.{◌≡◌, ◌∙◌, sym, ap, length, List, ℕ, false}
-use Rattle.std.specs.List.{list_any}
+use Rattle.std.proofs.Common.{◌∙◌, sym}
 use Rattle.lola_rows.specs.Lines.{is_line_end}
 use Rattle.lola_rows.specs.Window.{items}
 use Rattle.lola_rows.proofs.Pieces.{none-found}

@@ -1,4 +1,4 @@
-use Rattle.std.proofs.Common.{◌∙◌, ap, sym}
+use Rattle.std.proofs.Common.{◌∙◌, ap}
 use Rattle.lola_value.specs.Times.{read_time}
 use Rattle.csv.specs.Records.{fields_of}
 use Rattle.lola_rows.proofs.RowFacts.{time-none, time-there}

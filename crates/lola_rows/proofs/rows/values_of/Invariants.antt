@@ -1,4 +1,4 @@
-use Rattle.std.proofs.Common.{◌≡◌, ◌++◌, drop, option_map}
+use Rattle.std.proofs.Common.{◌≡◌, drop}
 use Rattle.csv.specs.Records.{fields_of}
 use Rattle.lola_rows.specs.Rows.{values_of}
 use Rattle.lola_rows.proofs.RowFacts.{led_values}

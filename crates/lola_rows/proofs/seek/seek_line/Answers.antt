@@ -1,4 +1,4 @@
-use Rattle.std.proofs.Common.{◌≡◌, ◌∙◌, sym, ap, length, take, List, ℕ, arith}
+use Rattle.std.proofs.Common.{◌∙◌, ap, length, take, List, ℕ, arith}
 use Rattle.lola_rows.specs.Lines.{without_return}
 use Rattle.lola_rows.specs.Window.{items}
 use Rattle.lola_rows.proofs.Pieces.{none-found}

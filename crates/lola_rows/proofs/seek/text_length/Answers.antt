@@ -1,4 +1,4 @@
-use Rattle.std.proofs.Common.{◌≡◌, ◌<◌, ◌-◌, ◌+◌, length, arith}
+use Rattle.std.proofs.Common.{◌-◌, length, arith}
 use Rattle.lola_rows.proofs.Seeking.{return-none, return-there, some-bytes}
 use Rattle.lola_rows.proofs.seek.text_length.Goals as goal
 
