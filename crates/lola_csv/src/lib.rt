@@ -2,6 +2,7 @@
 #![tactic(auto)]
 
 pub mod blanks;
+pub mod laws;
 pub mod line;
 pub mod numbers;
 #[cfg(test)]

@@ -112,6 +112,13 @@ pub fn read_line(
     }
 }
 
+/// Whether a line holds a CR or an LF, which `read_line` does not take.
+pub fn has_line_end(line: &[u8]) -> bool
+    ensures { result ≡ has_line_end line.now }
+{
+    line.iter().any(|b| *b == b'\r' || *b == b'\n')
+}
+
 /// The record that csv's own reader gives for a line alone, if there is one. It shows what `read_line` is measured by,
 /// and is slow, since it makes a reader for the one line.
 pub fn by_reader(alloc: Global, line: &[u8]) -> Result<Option<ByteRecord>, Error>

@@ -16,7 +16,7 @@ use Rattle.lola_rows.specs.declared.columns.Input.{Input}
 use Rattle.lola_rows.specs.declared.fill.Filled.{Filled}
 use Rattle.lola_rows.specs.declared.fill.Filled.TheVariants as filled
 use Rattle.lola_rows.proofs.Cutting.{first-place}
-use Rattle.lola_rows.specs.Filling.{BeginsTooLong, Brought, Failed, Finds, IsFront, Lost, Sought, line_at}
+use Rattle.lola_rows.specs.Filling.{is_last, stage_behind, BeginsTooLong, Brought, Failed, Finds, IsFront, Lost, Sought, line_at}
 use Rattle.lola_rows.specs.Lines.{Line, is_line_end, lines_of, longest_line, without_mark}
 use Rattle.lola_rows.specs.Reading.{BrokeOff, Ends, GaveRow, IsInStep, IsRowOf, Passes, Reading, Shape, Stops, lines_at, rest_at, rest_of}
 use Rattle.lola_rows.specs.Rows.{MalformedAt, SourceEnd, SourceRows, Whole, columns_of_line, ended, one_more, row_before, row_of_line, rows_from, rows_under}
@@ -86,6 +86,7 @@ by-lines : (s : Shape) (st : Stage) (c : Columns) (g : ℕ) (o : Option (List �
 by-lines s stage.Start c g o past = absurd (past refl)
 by-lines s stage.Heading c g o past = map-map (rest_at s stage.Heading c g) o
 by-lines s stage.Rows c g o past = map-map (rest_at s stage.Rows c g) o
+by-lines s stage.Over c g o past = map-map (rest_at s stage.Over c g) o
 
 -- a reader whose source and bytes alone changed
 pub record Alike (old new : Reading) : Type 0 where
@@ -220,16 +221,24 @@ line-flaw r e (flaw.Malformed kind) is front makes =
     ∙ ap (λ row. row_before (r.given + 1) row (rows_from r.shape.index r.shape.most r.columns (r.given + 1 + 1) (lines_of (drop e.whole r.held ++ bytes)))) makes)
 line-flaw r e flaw.Memory is front makes = record { rest = refl; count = refl }
 
+-- the lines behind one
+behind : (s : Shape) (c : Columns) (g : ℕ) (e : Extent) (bytes : List ℕ) → (is_last e ≡ true → lines_of bytes ≡ []) → rows_from s.index s.most c (g + 1) (lines_of bytes) ≡ gives s (stage_behind e) c g bytes
+behind s c g e bytes none = elim (cases_Bool (is_last e)) [
+  | inl last ↦ ap (rows_from s.index s.most c (g + 1)) (none last) ∙ (rw last refl)
+  | inr more ↦ rw more refl
+]
+
 -- a line that is one
 pub line-gave : (old new : Reading) (e : Extent) (row : Row) → old.stage ≡ stage.Rows → map (λ c. c.kind) old.columns.inputs ≡ map (λ i. i.kind) old.shape.inputs → IsFront e old.held old.source.left → row_at old e ≡ Ok row
-    → new.shape ≡ old.shape → new.stage ≡ stage.Rows → new.columns ≡ old.columns → new.given ≡ old.given + 1 → new.held ≡ drop e.whole old.held → new.source ≡ old.source → GaveRow row old new
+    → new.shape ≡ old.shape → new.stage ≡ stage_behind e → new.columns ≡ old.columns → new.given ≡ old.given + 1 → new.held ≡ drop e.whole old.held → new.source ≡ old.source → GaveRow row old new
 line-gave old new e row is kinds front made shape still columns given held source =
     let facts = row-facts old.shape old.columns old.given (line_at e old.held) row kinds front.unended made in
     let before = rest-is old old.shape stage.Rows old.columns old.given old.held old.source.left refl is refl refl refl refl in
-    let after = rest-is new old.shape stage.Rows old.columns (old.given + 1) (drop e.whole old.held) old.source.left shape still columns given held (ap (λ (x : SourceState). x.left) source) in
-    let passed = known-passes (gives old.shape stage.Rows old.columns old.given) (gives old.shape stage.Rows old.columns (old.given + 1)) old.held (drop e.whole old.held) old.source.left row (λ bytes told.
+    let after = rest-is new old.shape (stage_behind e) old.columns (old.given + 1) (drop e.whole old.held) old.source.left shape still columns given held (ap (λ (x : SourceState). x.left) source) in
+    let passed = known-passes (gives old.shape stage.Rows old.columns old.given) (gives old.shape (stage_behind e) old.columns (old.given + 1)) old.held (drop e.whole old.held) old.source.left row (λ bytes told.
     ap (rest_at old.shape stage.Rows old.columns old.given) (front.lines bytes told)
-    ∙ ap (λ x. row_before (old.given + 1) x (rows_from old.shape.index old.shape.most old.columns (old.given + 1 + 1) (lines_of (drop e.whole old.held ++ bytes)))) made) in
+    ∙ ap (λ x. row_before (old.given + 1) x (rows_from old.shape.index old.shape.most old.columns (old.given + 1 + 1) (lines_of (drop e.whole old.held ++ bytes)))) made
+    ∙ ap (one_more row) (behind old.shape old.columns (old.given + 1) e (drop e.whole old.held ++ bytes) (λ last. front.last last bytes told))) in
     record {
       passes = subst (λ o. Passes o (rest_of new) (row ∷ [])) (sym before) (subst (λ o. Passes (option_map (gives old.shape stage.Rows old.columns old.given) (prepend_known old.held old.source.left)) o (row ∷ [])) (sym after) passed);
       is_row = facts;
@@ -237,6 +246,11 @@ line-gave old new e row is kinds front made shape still columns given held sourc
       less = omega (arith, front.some, front.inside, ap length held, length-drop e.whole old.held, ap (λ (x : SourceState). x.to_come) source);
       count = ap (λ (x : SourceState). x.count) source;
     }
+
+-- all lines were taken
+pub over-ends : (r : Reading) → r.stage ≡ stage.Over → Stops ending.End r r
+over-ends r is =
+    (known-ends (gives r.shape r.stage r.columns r.given) r.held r.source.left Whole (λ bytes told. ap (λ (x : Stage). gives r.shape x r.columns r.given (r.held ++ bytes)) is), refl)
 
 -- bytes that come in change no end
 pub goes-stops : (old new : Reading) (how : Ending) → Goes old new → Stops how new new → Stops how old new
@@ -356,6 +370,7 @@ kinds-at : (st : Stage) (given : ℕ) (columns : Columns) (inputs : List Input) 
 kinds-at stage.Start given columns inputs in_step is = absurd (cc is)
 kinds-at stage.Heading given columns inputs in_step is = absurd (cc is)
 kinds-at stage.Rows given columns inputs in_step is = in_step
+kinds-at stage.Over given columns inputs in_step is = absurd (cc is)
 
 pub kinds-in-step : (r : Reading) → InStep r → r.stage ≡ stage.Rows → map (λ c. c.kind) r.columns.inputs ≡ map (λ i. i.kind) r.shape.inputs
 kinds-in-step r in_step is = kinds-at r.stage r.given r.columns r.shape.inputs in_step is
@@ -364,6 +379,7 @@ pub none-given : (st : Stage) (given : ℕ) (columns : Columns) (inputs : List I
 none-given stage.Start given columns inputs is in_step = in_step
 none-given stage.Heading given columns inputs is in_step = in_step
 none-given stage.Rows given columns inputs is in_step = absurd (cc is)
+none-given stage.Over given columns inputs is in_step = absurd (cc is)
 
 gone : (p : ℕ → Bool) (xs : List ℕ) → list_any p xs ≡ false → position_or_len p xs < length xs → ⊥
 gone p [] miss within = omega arith

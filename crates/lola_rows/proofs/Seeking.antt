@@ -2,7 +2,7 @@
 use Rattle.std.proofs.Common.{◌≡◌, ℕ, zero, suc, ◌+◌, ◌<◌, ◌≤◌, true, false, List, [], ◌∷◌, ◌++◌, Option, Some, None, option_map, length, take, drop, get_or, position, nat_eq, if◌then◌else◌, refl, sym, ap, subst, ◌∙◌, arith, inl, inr}
 use Rattle.std.specs.List.{list_any}
 use Rattle.std.specs.Io.KnownBytes.{IsAtEnd, prepend_known}
-use Rattle.std.proofs.lemmas.Bool.{cases_Bool, eq-eqb, ne_eqb}
+use Rattle.std.proofs.lemmas.Bool.{cases_Bool, eq-eqb, eqb-true, ne_eqb}
 use Rattle.std.proofs.lemmas.List.{append-nil, length-drop, length-take-le, take-take, take_all, drop_all}
 use Rattle.lola_csv.proofs.LineFacts.{any-take}
 use Rattle.lola_port.specs.States.{ReadBroke, Rose, SourceState}
@@ -102,6 +102,7 @@ front-line held left n text is text_is some =
       lines = λ bytes told.
           lines-line held bytes n is ∙ full (ended_line (take n held)) (lines_of (drop (n + 1) held ++ bytes)) (omega (arith, ap length cut, text_is))
           ∙ ap (λ (l : Line). l ∷ lines_of (drop (n + 1) held ++ bytes)) (ap (λ m. record { size = m; text = without_return (take n held) }) sized ∙ ap (λ t. record { size = n; text = t }) (sym cut));
+      last = λ is. absurd (omega (arith, eqb-true (n + 1) n is));
     }
 
 -- the last line
@@ -119,6 +120,7 @@ front-last held left some none end =
           ap (λ (l : List ℕ). lines_of (held ++ l)) nothing ∙ ap lines_of (append-nil held) ∙ lines-last held none ∙ full (last_line held) [] some
           ∙ ap (λ (t : List ℕ). record { size = length held; text = t } ∷ []) (sym all)
           ∙ ap (λ (l : List Line). record { size = length held; text = take (length held) held } ∷ l) (sym (ap (λ (l : List ℕ). lines_of (l ++ bytes)) (drop_all (length held) held (omega arith)) ∙ ap lines_of nothing));
+      last = λ is bytes told. ap (λ (l : List ℕ). lines_of (l ++ bytes)) (drop_all (length held) held (omega arith)) ∙ ap lines_of (at-end left bytes end told);
     }
 
 -- bytes that came in leave the lines

@@ -1,5 +1,5 @@
 -- How a line comes to be held.
-use Rattle.std.specs.Prelude.{◌≡◌, ℕ, ◌+◌, ◌<◌, ◌≤◌, List, [], ◌∷◌, ◌++◌, Option, false, length, take, drop, Some, None, position, option_map}
+use Rattle.std.specs.Prelude.{Bool, true, nat_eq, if◌then◌else◌, ◌≡◌, ℕ, ◌+◌, ◌<◌, ◌≤◌, List, [], ◌∷◌, ◌++◌, Option, false, length, take, drop, Some, None, position, option_map}
 use Rattle.std.specs.Io.KnownBytes.{IsAtEnd, prepend_known}
 use Rattle.std.specs.List.{list_any}
 use Rattle.lola_port.specs.States.{Moved, Rose, SourceState}
@@ -7,6 +7,8 @@ use Rattle.lola_rows.specs.Lines.{Line, is_line_end, lines_of, longest_line}
 use Rattle.lola_rows.specs.declared.fill.Filled.{Filled}
 use Rattle.lola_rows.specs.declared.fill.Filled.TheVariants as filled
 use Rattle.lola_rows.specs.declared.seek.Extent.{Extent}
+use Rattle.lola_rows.specs.declared.stage.Stage.{Stage}
+use Rattle.lola_rows.specs.declared.stage.Stage.TheVariants as stage
 use Rattle.lola_rows.specs.declared.seek.Found.{Found}
 use Rattle.lola_rows.specs.declared.seek.Found.TheVariants as found
 
@@ -59,6 +61,14 @@ pub record Lost (held0 held1 : List ℕ) (old new : SourceState) : Type 0 where
 abbrev pub line_at : Extent → List ℕ → Line
 line_at e held = record { size = e.size; text = take e.text held }
 
+-- a line that no line feed ends
+abbrev pub is_last : Extent → Bool
+is_last e = nat_eq e.whole e.size
+
+-- what a reader looks at behind the line of a row
+abbrev pub stage_behind : Extent → Stage
+stage_behind e = if is_last e then stage.Over else stage.Rows
+
 -- a line stands at the front of the bytes held
 pub record IsFront (e : Extent) (held : List ℕ) (left : Option (List ℕ)) : Type 0 where
   pub some : 0 < e.whole
@@ -66,6 +76,7 @@ pub record IsFront (e : Extent) (held : List ℕ) (left : Option (List ℕ)) : T
   pub short : e.text ≤ e.whole
   pub unended : list_any is_line_end (take e.text held) ≡ false
   pub lines : (bytes : List ℕ) → left ≡ Some bytes → lines_of (held ++ bytes) ≡ line_at e held ∷ lines_of (drop e.whole held ++ bytes)
+  pub last : is_last e ≡ true → (bytes : List ℕ) → left ≡ Some bytes → lines_of (drop e.whole held ++ bytes) ≡ []
 
 -- lines of which the first is too long
 pub record BeginsTooLong (lines : List Line) : Type 0 where

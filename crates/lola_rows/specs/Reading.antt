@@ -10,7 +10,7 @@ use Rattle.lola_port.specs.States.{Rose, SourceState}
 use Rattle.lola_rows.specs.Columns.{Columns, inputs_of}
 use Rattle.lola_rows.specs.declared.columns.Input.{Input}
 use Rattle.lola_rows.specs.Lines.{Line, is_line_end, lines_of, without_mark}
-use Rattle.lola_rows.specs.Rows.{SourceEnd, SourceRows, Whole, MalformedAt, rows_from, rows_of_lines}
+use Rattle.lola_rows.specs.Rows.{ended, SourceEnd, SourceRows, Whole, MalformedAt, rows_from, rows_of_lines}
 use Rattle.lola_rows.specs.declared.answer.Ending.{Ending}
 use Rattle.lola_rows.specs.declared.answer.Ending.TheVariants as ending
 use Rattle.lola_rows.specs.declared.answer.RowAnswer.{RowAnswer}
@@ -51,12 +51,14 @@ abbrev pub lines_at : Stage → List ℕ → List Line
 lines_at stage.Start bytes = lines_of (without_mark bytes)
 lines_at stage.Heading bytes = lines_of bytes
 lines_at stage.Rows bytes = lines_of bytes
+lines_at stage.Over bytes = lines_of bytes
 
 -- what lines give, with the heading in front of them, or after this many rows
 abbrev pub rest_at : Shape → Stage → Columns → ℕ → List Line → SourceRows
 rest_at s stage.Start columns given lines = rows_of_lines s.index s.most s.inputs lines
 rest_at s stage.Heading columns given lines = rows_of_lines s.index s.most s.inputs lines
 rest_at s stage.Rows columns given lines = rows_from s.index s.most columns (given + 1) lines
+rest_at s stage.Over columns given lines = ended Whole
 
 -- the rows that a reader has not given and the end behind them, where its source tells its bytes
 abbrev pub rest_of : Reading → Option SourceRows
@@ -146,3 +148,4 @@ abbrev pub IsInStep : Stage → ℕ → Columns → List Input → Type 0
 IsInStep stage.Start given columns inputs = given ≡ 0
 IsInStep stage.Heading given columns inputs = given ≡ 0
 IsInStep stage.Rows given columns inputs = map (λ c. c.kind) columns.inputs ≡ map (λ i. i.kind) inputs
+IsInStep stage.Over given columns inputs = Unit {0}

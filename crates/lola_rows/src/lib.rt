@@ -6,10 +6,13 @@ mod checks;
 mod columns;
 mod fill;
 mod flaw;
+pub mod laws;
 mod reader;
 mod rows;
 mod seek;
 mod stage;
+#[cfg(test)]
+mod tests;
 mod window;
 
 pub use answer::{Ending, RowAnswer};

@@ -1,5 +1,5 @@
 //! A reader of the rows of a source, one after the other.
-ghost use Rattle.std.specs.Prelude.{◌≡◌, ◌≤◌, ◌^◌, ℕ, List, Some, None, IfOk, OnOk};
+ghost use Rattle.std.specs.Prelude.{◌≡◌, ◌≤◌, ◌^◌, ℕ, List, Some, None, Err, IfOk, OnOk};
 ghost use Rattle.lola_rows.specs.Columns.{inputs_of};
 ghost use Rattle.lola_rows.specs.Rows.{rows_of_source};
 
@@ -164,6 +164,9 @@ impl<S: Source> RowReader<S> {
     pub fn next(&mut self) -> RowAnswer
         ensures going { self.old.ended ≡ None → Answers result self.old self.new }
         ensures over { (how : Ending) → self.old.ended ≡ Some how → Repeats how result self.old self.new }
+        // Behind a last line without a line feed nothing is read any more.
+        ensures last { self.old.ended ≡ None → self.old.stage ≡ Stage.Over
+            → (result ≡ RowAnswer.End) × (self.new.source ≡ self.old.source) }
         ensures kept { Keeps self.old self.new }
     {
         if let Some(ending) = self.ended {
@@ -181,9 +184,13 @@ impl<S: Source> RowReader<S> {
     // The next row, with the mark and the heading before the first.
     fn advance(&mut self) -> Result<Row, Ending>
         ensures takes { Takes result self.old self.new }
+        ensures last { self.old.stage ≡ Stage.Over → (result ≡ Err Ending.End) × (self.new ≡ self.old) }
         ensures kept { Keeps self.old self.new }
         ensures ended { self.new.ended ≡ self.old.ended }
     {
+        if let Stage::Over = self.stage {
+            return Err(Ending::End);
+        }
         self.drop_mark()?;
         self.take_heading()?;
         self.take_row()
@@ -191,8 +198,10 @@ impl<S: Source> RowReader<S> {
 
     // Drops a byte order mark at the very start.
     fn drop_mark(&mut self) -> Result<(), Ending>
+        requires { self.old.stage ≡ Stage.Over → ⊥ }
         ensures begins { Begins result self.old self.new }
         ensures past { OnOk result (self.new.stage ≡ Stage.Start → ⊥) }
+        ensures not_over { OnOk result (self.new.stage ≡ Stage.Over → ⊥) }
         ensures kept { Keeps self.old self.new }
         ensures ended { self.new.ended ≡ self.old.ended }
     {
@@ -233,7 +242,8 @@ impl<S: Source> RowReader<S> {
 
     // Takes the heading, unless it was taken.
     fn take_heading(&mut self) -> Result<(), Ending>
-        requires { self.old.stage ≡ Stage.Start → ⊥ }
+        requires past { self.old.stage ≡ Stage.Start → ⊥ }
+        requires not_over { self.old.stage ≡ Stage.Over → ⊥ }
         ensures begins { Begins result self.old self.new }
         ensures taken { OnOk result (self.new.stage ≡ Stage.Rows) }
         ensures kept { Keeps self.old self.new }
@@ -306,6 +316,7 @@ impl<S: Source> RowReader<S> {
             Ok(row) => {
                 self.window.consume(extent.whole);
                 self.given = number;
+                self.stage = extent.stage_behind();
                 Ok(row)
             }
             Err(flaw) => Err(flaw.ending(number)),

@@ -5,6 +5,7 @@ ghost use Rattle.lola_rows.specs.Lines.{without_return};
 ghost use Rattle.lola_rows.specs.Window.{items};
 
 use crate::fill::{Filled, fill_line};
+use crate::stage::Stage;
 use crate::window::Window;
 use lola_port::Source;
 
@@ -15,6 +16,21 @@ pub(crate) struct Extent {
     pub(crate) size: usize,
     pub(crate) text: usize,
     pub(crate) whole: usize,
+}
+
+impl Extent {
+    ghost use Rattle.lola_rows.specs.Filling.{stage_behind};
+
+    /// What a reader looks at behind this line of a row.
+    pub(crate) fn stage_behind(&self) -> Stage
+        ensures { result ≡ stage_behind self.now }
+    {
+        if self.whole == self.size {
+            Stage::Over
+        } else {
+            Stage::Rows
+        }
+    }
 }
 
 /// What was found.

@@ -9,4 +9,6 @@ pub enum Stage {
     Heading,
     /// A row.
     Rows,
+    /// Nothing: the last line had no line feed, and was taken.
+    Over,
 }

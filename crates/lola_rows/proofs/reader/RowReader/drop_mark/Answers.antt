@@ -20,6 +20,7 @@ returns-in_default-fill g c =
       begins = goes-then-goes old mid new fill.0 (unmarked mid new begun fill.1 (ap (λ (x : Reading). x.shape) is) refl (ap (λ (x : Reading). x.columns) is) (ap (λ (x : Reading). x.given) is)
           (c.drop_mark.ensures ∙ ap (λ (x : Reading). without_mark x.held) is) (ap (λ (x : Reading). x.source) is));
       past = λ e. absurd (cc e);
+      not_over = λ e. absurd (cc e);
       kept = record { shape = ap (λ (x : Reading). x.shape) is ∙ c.fill.ensures.kept.shape; place = ap (λ (x : Reading). x.source.place) is ∙ c.fill.ensures.kept.place };
       ended = ap (λ (x : Reading). x.ended) is ∙ c.fill.ensures.ended;
     }

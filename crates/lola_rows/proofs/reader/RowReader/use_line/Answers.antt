@@ -17,9 +17,8 @@ returns-in-Ok-clause-takes g c =
     let e = c.args.extent in
     let same = ap (λ (l : List ℕ). row_of_line i.form.index i.form.most (layout_columns i.layout) (i.given + 1) (record { size = e.size; text = take e.text l })) c.as_slice.ensures
     ∙ ap (λ (x : Reading). row_at x e) c.self.view_is in
-    let stage = ap (λ (x : Reading). x.stage) c.self.view_is ∙ c.requires.stage in
     let kinds = kinds-in-step r (subst InStep c.self.view_is c.self.invariant.2) c.requires.stage in
-    line-gave r _ e c.in-Ok.row c.requires.stage kinds c.requires.front (sym same ∙ c.in-Ok.ensures) (ap (λ (x : Reading). x.shape) c.self.view_is) stage (ap (λ (x : Reading). x.columns) c.self.view_is)
+    line-gave r _ e c.in-Ok.row c.requires.stage kinds c.requires.front (sym same ∙ c.in-Ok.ensures) (ap (λ (x : Reading). x.shape) c.self.view_is) c.stage_behind-self-inside.ensures (ap (λ (x : Reading). x.columns) c.self.view_is)
     (ap (λ (x : Reading). x.given + 1) c.self.view_is) (c.consume.ensures ∙ ap (λ (x : Reading). drop e.whole x.held) c.self.view_is) (ap (λ (x : Reading). x.source) c.self.view_is)
 
 pub returns-in-Err-clause-takes : goal.returns-in-Err-clause-takes
