@@ -1,0 +1,11 @@
+pub mod Tests
+pub mod Laws
+pub mod Complete
+pub mod Local
+pub mod Viable
+pub mod Refusal
+pub mod Within
+pub mod Over
+pub mod All
+pub mod Deep
+pub mod Same

@@ -1,0 +1,10 @@
+//! Cuts the bytes of a specification into the tokens of RTLola's whole-number profile.
+#![tactic(auto)]
+
+pub mod cut;
+pub mod law;
+pub mod scan;
+pub mod shape;
+#[cfg(test)]
+mod tests;
+pub mod token;

@@ -1,0 +1,5 @@
+pub mod Answering
+pub mod Orders
+mod Waiting
+mod Turning
+mod Listing

@@ -1,0 +1,5 @@
+pub mod Literals
+pub mod Grammar
+pub mod Cursor
+pub mod Nests
+pub mod Whole

@@ -1,0 +1,5 @@
+//! Tests of reading a specification, from its bytes to its tree.
+#![tactic(auto)]
+
+#[cfg(test)]
+mod tests;

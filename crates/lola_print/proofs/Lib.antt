@@ -1,0 +1,4 @@
+pub mod Equations
+pub mod Formulas
+pub mod Writing
+pub mod Digits

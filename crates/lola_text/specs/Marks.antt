@@ -1,0 +1,56 @@
+-- The entries of a table, and the marks of a sweep.
+use Rattle.std.specs.Prelude.{ℕ, ◌≡◌, ◌<◌, ◌≤◌, ◌+◌, List, [], ◌∷◌, Bool, true, false, not, Option, Some, None, length, if◌then◌else◌, nat_eq, map}
+use Rattle.std.specs.List.{HoldsAt, list_any}
+use Rattle.std.specs.declared.alloc.Global.{Global}
+use Rattle.std.specs.Prelude.{Vec}
+use Rattle.lola_value.specs.Naming.{Naming}
+use Rattle.lola_value.specs.declared.value.TextId.{TextId}
+use Rattle.lola_text.specs.declared.search.Held.{Held}
+
+-- a text as the table keeps it, with its number and mark
+abbrev pub Entry : Type 0
+Entry = Vec ℕ Global × Held
+
+-- the numbers with their texts
+abbrev pub naming_of : List Entry → Naming
+naming_of es = map (λ e. (e.1.number, e.0.items)) es
+
+-- the number of an entry is this one
+abbrev pub has_number : ℕ → Entry → Bool
+has_number number e = nat_eq e.1.number number
+
+-- all numbers are at least this one, and each is below the next
+abbrev pub RiseFrom : ℕ → List Entry → Type 0
+RiseFrom low [] = Unit {0}
+RiseFrom low (e ∷ es) = (low ≤ e.1.number) × RiseFrom (e.1.number + 1) es
+
+abbrev pub NumbersRise : List Entry → Type 0
+NumbersRise es = RiseFrom 0 es
+
+-- the same truth value
+abbrev pub is_same : Bool → Bool → Bool
+is_same true b = b
+is_same false b = not b
+
+-- an entry with this mark
+abbrev pub is_marked : Bool → Entry → Bool
+is_marked mark e = is_same e.1.mark mark
+
+-- an entry, marked where it has this number
+abbrev pub marked_at : ℕ → Bool → Entry → Entry
+marked_at number mark e = if has_number number e then (e.0, record { number = e.1.number; mark = mark }) else e
+
+-- the place of this number, where some entry has it
+abbrev pub IsPlaceOf : ℕ → List Entry → Option ℕ → Type 0
+IsPlaceOf number es (Some i) = (i < length es) × HoldsAt (λ e. e.1.number ≡ number) es i
+IsPlaceOf number es None = list_any (has_number number) es ≡ false
+
+-- marked where they have one of these numbers
+abbrev pub marked_all : List TextId → Bool → List Entry → List Entry
+marked_all [] mark es = es
+marked_all (id ∷ ids) mark es = marked_all ids mark (map (marked_at id.0 mark) es)
+
+-- all entries have this mark
+abbrev pub AreMarked : Bool → List Entry → Type 0
+AreMarked mark [] = Unit {0}
+AreMarked mark (e ∷ es) = (e.1.mark ≡ mark) × AreMarked mark es

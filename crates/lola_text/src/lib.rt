@@ -1,0 +1,10 @@
+//! The table of a run's texts: equal texts that are held have one number, so that values with texts are copied and
+//! compared freely.
+#![tactic(auto)]
+
+mod search;
+mod table;
+#[cfg(test)]
+mod tests;
+
+pub use table::TextTable;

@@ -1,0 +1,59 @@
+//! Texts by their numbers, and the marks of a sweep, over the entries of a table.
+ghost use Rattle.std.specs.Prelude.{◌≡◌, map, filter};
+ghost use Rattle.lola_text.specs.Marks.{IsPlaceOf, NumbersRise, is_same, is_marked, marked_all, marked_at};
+
+use indexmap::IndexMap;
+use lola_value::value::TextId;
+
+/// The number of a text, and the mark that the newest sweep left.
+#[derive(Clone, Copy, Debug)]
+pub(crate) struct Held {
+    pub(crate) number: u64,
+    pub(crate) mark: bool,
+}
+
+/// The texts that are held, in the order in which they got their numbers.
+pub(crate) type Entries = IndexMap<Vec<u8>, Held>;
+
+/// The place of the text with this number.
+pub(crate) fn place_of(texts: &Entries, number: u64) -> Option<usize>
+    requires { NumbersRise texts.now.entries }
+    ensures { IsPlaceOf number texts.now.entries result }
+{
+    texts
+        .binary_search_by(|_text, held| held.number.cmp(&number))
+        .ok()
+}
+
+// Marks the text with this number, where it is held.
+fn mark_one(texts: &mut Entries, number: u64, mark: bool)
+    requires { NumbersRise texts.old.entries }
+    ensures { texts.new.entries ≡ map (marked_at number mark) texts.old.entries }
+{
+    if let Some(place) = place_of(texts, number) {
+        if let Some(held) = texts.get_index_mut(place) {
+            held.mark = mark;
+        }
+    }
+}
+
+/// Marks the texts with these numbers.
+pub(crate) fn mark_all(texts: &mut Entries, ids: &[TextId], mark: bool)
+    requires { NumbersRise texts.old.entries }
+    ensures { texts.new.entries ≡ marked_all ids.now mark texts.old.entries }
+{
+    for id in ids {
+        mark_one(texts, id.0, mark);
+    }
+}
+
+/// Drops the texts without this mark.
+pub(crate) fn keep_marked(texts: &mut Entries, mark: bool)
+    ensures { texts.new.entries ≡ filter (is_marked mark) texts.old.entries }
+{
+    texts.retain(
+        |_text: &Vec<u8>, held: &mut Held| -> bool
+            ensures { (result ≡ is_same held.old.mark mark) × (held.new ≡ held.old) }
+        { held.mark == mark },
+    );
+}

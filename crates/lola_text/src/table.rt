@@ -1,0 +1,102 @@
+//! The table of texts.
+ghost use Rattle.std.specs.Prelude.{◌≡◌, ◌<◌, ◌==◌, ◌^◌, IfOk, OnErr, length, option_map};
+ghost use Rattle.lola_value.specs.Naming.{text_at};
+ghost use Rattle.lola_text.specs.Texts.{Interns, IsTable, no_texts, swept};
+
+use crate::search::{Entries, Held, keep_marked, mark_all, place_of};
+use indexmap::IndexMap;
+use lola_value::text::Memory;
+use lola_value::value::TextId;
+use std::alloc::Global;
+use std::marker::Model;
+
+/// Texts with numbers. Equal texts have one number among those held, a new text gets the number of new texts before
+/// it, and no number is ever given to another text.
+#[derive(Drop)]
+pub struct TextTable {
+    alloc: Global,
+    texts: Entries,
+    given: u64,
+    mark: bool,
+}
+
+impl Model for TextTable {
+    ghost use Rattle.lola_text.specs.Marks.{AreMarked, naming_of};
+    ghost use Rattle.lola_text.specs.Texts.{IsTable, Texts};
+
+    ghost Value = { Texts };
+
+    ghost view = { λ t. record { held = naming_of t.texts.entries; given = t.given } };
+
+    ghost invariant = { λ t. IsTable (record { held = naming_of t.texts.entries; given = t.given }) × AreMarked t.mark t.texts.entries };
+}
+
+impl TextTable {
+    /// A table that holds no text.
+    pub fn create(alloc: Global) -> TextTable
+        ensures { result ≡ no_texts }
+    {
+        TextTable {
+            alloc,
+            texts: IndexMap::new(alloc),
+            given: 0,
+            mark: false,
+        }
+    }
+
+    /// The number of a text: that of an equal text that is held, or a new one, which is the number of new ones given
+    /// before. Where there is no memory the table is as it was.
+    pub fn intern(&mut self, bytes: &[u8]) -> Result<TextId, Memory>
+        requires { self.old.given < 2 ^ 63 }
+        ensures ok { IfOk result (λ id. Interns bytes.now id.0 self.old self.new) }
+        ensures err { OnErr result (self.new ≡ self.old) }
+        ensures table { IsTable self.new }
+    {
+        if let Some(held) = self.texts.get(bytes) {
+            return Ok(TextId(held.number));
+        }
+        let text = Vec::from_slice(self.alloc, bytes)?;
+        let held = Held {
+            number: self.given,
+            mark: self.mark,
+        };
+        self.texts.insert(text, held)?;
+        self.given += 1;
+        Ok(TextId(held.number))
+    }
+
+    /// The text of a number. There is none exactly where the number is not held.
+    pub fn get(&self, id: TextId) -> Option<&[u8]>
+        ensures value { option_map (λ text. text.now) result ≡ text_at self.now.held id.0 }
+        ensures table { IsTable self.now }
+    {
+        let place = place_of(&self.texts, id.0)?;
+        let (text, _held) = self.texts.get_index(place)?;
+        Some(text.as_slice())
+    }
+
+    /// Drops all texts but those whose numbers are listed. It takes no memory.
+    pub fn sweep(&mut self, kept: &[TextId])
+        ensures swept { self.new ≡ swept self.old kept.now }
+        ensures table { IsTable self.new }
+    {
+        self.mark = !self.mark;
+        mark_all(&mut self.texts, kept, self.mark);
+        keep_marked(&mut self.texts, self.mark);
+    }
+
+    /// How many texts are held.
+    pub fn len(&self) -> u64
+        ensures count { result ≡ length self.now.held }
+        ensures table { IsTable self.now }
+    {
+        self.texts.len() as u64
+    }
+
+    /// Whether no text is held.
+    pub fn is_empty(&self) -> bool
+        ensures { result ≡ (length self.now.held == 0) }
+    {
+        self.texts.is_empty()
+    }
+}
