@@ -9,3 +9,4 @@ pub mod Over
 pub mod All
 pub mod Deep
 pub mod Same
+pub mod Exactly

@@ -204,7 +204,7 @@ module _ (marks : List Terminal) where
   -- ---- the last mark of what was read
 
   -- the tokens are split at their last mark, before which there are n
-  abbrev SplitsAtLast : ℕ → List Lexeme → List Lexeme → List Lexeme → Type 0
+  abbrev pub SplitsAtLast : ℕ → List Lexeme → List Lexeme → List Lexeme → Type 0
   SplitsAtLast n u rest d = (v : List Lexeme) × (t : Lexeme) × (w : List Lexeme) × (u ≡ v ++ t ∷ w) × (is_mark marks t ≡ true) × (marks_in marks v ≡ n) × (marks_in marks w ≡ 0) × (d ≡ t ∷ (w ++ rest))
 
   module _ (ks : List Terminal) (same : (t : Lexeme) → any_fits ks t ≡ is_mark marks t) where
@@ -222,7 +222,7 @@ module _ (marks : List Terminal) where
         let none : is_mark marks t ≡ false = no_more (is_mark marks t) (λ e. omega (arith, more_marks t u true e, h)) in
         next_last t (u ++ rest) best (length u) false none ∙ last_none u rest best (omega (arith, more_marks t u false none, h))
 
-    abbrev LastIn : List Lexeme → List Lexeme → Type 0
+    abbrev pub LastIn : List Lexeme → List Lexeme → Type 0
     LastIn u rest = (best : List Lexeme) (n : ℕ) → marks_in marks u ≡ suc n → SplitsAtLast n u rest (last_mark ks (length u) best (u ++ rest))
 
     last_here : (t : Lexeme) (u rest best : List Lexeme) (n : ℕ) → is_mark marks t ≡ true → marks_in marks u ≡ 0 → marks_in marks (t ∷ u) ≡ suc n → SplitsAtLast n (t ∷ u) rest (last_mark ks (suc (length u)) best (t ∷ (u ++ rest)))
@@ -239,7 +239,7 @@ module _ (marks : List Terminal) where
     last_cases t u rest best n false e zero q later h = absurd (omega (arith, more_marks t u false e, q, h))
     last_cases t u rest best n b e (suc k) q later h = last_later t u rest best n k b e later q h
 
-    last_is : (u rest : List Lexeme) → LastIn u rest
+    pub last_is : (u rest : List Lexeme) → LastIn u rest
     last_is [] rest best n h = absurd (omega (arith, h))
     last_is (t ∷ u) rest best n h = last_cases t u rest best n (is_mark marks t) refl (marks_in marks u) refl (last_is u rest) h
 

@@ -3,7 +3,9 @@ use Rattle.std.proofs.Common.{◌≡◌, ℕ, suc, ◌<◌, ◌≤◌, List, [],
 use Rattle.lola_value.specs.declared.front.FrontEnd.{FrontEnd}
 use Rattle.lola_value.specs.declared.front.FrontEnd.TheVariants as front_end
 use Rattle.lola_tree.specs.declared.declarations.Declaration.{Declaration}
-use Rattle.lola_grammar.specs.Syntax.{Lexeme, Refusal, Unexpected, TooDeep, Outcome, max_marks, read, all_read, read_all}
+use Rattle.lola_grammar.specs.Syntax.{Lexeme, Spells, Refusal, Unexpected, TooDeep, Outcome, max_marks, read, all_read, read_all}
+use Rattle.lola_grammar.specs.Exceeding.{Exceeds}
+use Rattle.lola_grammar.proofs.Exactly.{deep_in_sentence}
 use Rattle.lola_grammar.proofs.Over.{over_whole}
 use Rattle.lola_grammar.proofs.All.{fitting_is_read}
 use Rattle.lola_grammar.proofs.Refusal.{read_is_spelled, refused_at}
@@ -51,12 +53,17 @@ pub refuses : (ts : List Lexeme) (end : ℕ) (r : Result (List Declaration) Fron
 refuses ts end (Ok v) h = read_is_spelled (specification most_levels) ts v h
 refuses ts end (Err front_end.Memory) h = tt
 refuses ts end (Err (front_end.Refused r)) (inl h) = inl (h.0, (h.1.0, h.1.1, λ n le. refused_at (specification n) (specification_fine n) ts h.1.0 (alike n le ts ∙ h.1.2)))
-refuses ts end (Err (front_end.Refused r)) (inr h) = inr (h.0, λ n le. at_level n le)
+refuses ts end (Err (front_end.Refused r)) (inr h) = inr (h.0, λ n le. at_level n le, λ n le x g. in_tree n le x g)
   where
     at_level : (n : ℕ) → most_levels ≤ n → (u : List Lexeme) × (t : Lexeme) × (rest : List Lexeme) × (r.at ≡ t.from) × (ts ≡ u ++ t ∷ rest) × IsOver all_marks (specification n) u t rest
     at_level n le =
         let p = over_whole all_marks (specification n) (specification_counted n (more n le)) max_marks ts h.1.0 (deep_read n ts h.1.0 (alike n le ts ∙ h.1.2)) in
         (p.0, p.1, p.2, h.1.1 ∙ ap (λ (w : List Lexeme). place_of w end) p.3, p.4, p.5)
+
+    in_tree : (n : ℕ) → most_levels ≤ n → (x : List Declaration) → Spells (specification n) ts x → (u : List Lexeme) × (t : Lexeme) × (v : List Lexeme) × (r.at ≡ t.from) × (ts ≡ u ++ t ∷ v) × Exceeds all_marks (specification n) u t v x
+    in_tree n le x g =
+        let p = deep_in_sentence all_marks (specification n) (specification_fine n) (specification_counted n (more n le)) max_marks ts h.1.0 x (deep_read n ts h.1.0 (alike n le ts ∙ h.1.2)) g in
+        (p.0, p.1, p.2, h.1.1 ∙ ap (λ (w : List Lexeme). place_of w end) p.4, p.3, p.5)
 
 is_that : (ts : List Lexeme) (end : ℕ) (r : Result (List Declaration) FrontEnd) (x : List Declaration) → Answers ts end r → read_all (specification most_levels) ts ≡ Ok x → IsThat x r
 is_that ts end (Ok v) x h e = cc

@@ -8,6 +8,7 @@ use Rattle.lola_tree.specs.declared.declarations.Declaration.{Declaration}
 use Rattle.lola_grammar.specs.Syntax.{Lexeme, Spells, read_all, IsFirstMisfit}
 use Rattle.lola_grammar.specs.Syntax as reading
 use Rattle.lola_grammar.specs.Marks.{IsOver, Fits}
+use Rattle.lola_grammar.specs.Exceeding.{Exceeds}
 use Rattle.lola_parser.specs.Cursor.{place_of}
 use Rattle.lola_parser.specs.Grammar.{specification, all_marks}
 
@@ -38,12 +39,18 @@ abbrev pub IsTooDeepAt : List Lexeme → ℕ → Type 0
 IsTooDeepAt ts at = (n : ℕ) → most_levels ≤ n
     → (u : List Lexeme) × (t : Lexeme) × (rest : List Lexeme) × (at ≡ t.from) × (ts ≡ u ++ t ∷ rest) × IsOver all_marks (specification n) u t rest
 
+-- in every tree that the tokens spell, the place is that of a mark before which exactly as many marks as may come stand in
+-- the same whole expression or formula
+abbrev pub IsOneTooMany : List Lexeme → ℕ → Type 0
+IsOneTooMany ts at = (n : ℕ) → most_levels ≤ n → (x : List Declaration) → Spells (specification n) ts x
+    → (u : List Lexeme) × (t : Lexeme) × (v : List Lexeme) × (at ≡ t.from) × (ts ≡ u ++ t ∷ v) × Exceeds all_marks (specification n) u t v x
+
 -- What is returned is spelled by the tokens. A token that does not fit is the first such, and one that is too deep is one
 -- mark too many.
 abbrev pub Refuses : List Lexeme → ℕ → Result (List Declaration) FrontEnd → Type 0
 Refuses ts end (Ok v) = Spells (specification most_levels) ts v
 Refuses ts end (Err front_end.Memory) = Unit {0}
-Refuses ts end (Err (front_end.Refused r)) = ((r.code ≡ code.Unexpected) × IsMisfitAt ts end r.at) ⊎ ((r.code ≡ code.TooDeep) × IsTooDeepAt ts r.at)
+Refuses ts end (Err (front_end.Refused r)) = ((r.code ≡ code.Unexpected) × IsMisfitAt ts end r.at) ⊎ ((r.code ≡ code.TooDeep) × IsTooDeepAt ts r.at × IsOneTooMany ts r.at)
 
 abbrev pub IsThat : List Declaration → Result (List Declaration) FrontEnd → Type 0
 IsThat x (Ok v) = v ≡ x

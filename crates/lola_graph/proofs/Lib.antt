@@ -1,0 +1,5 @@
+pub mod ReadLemmas
+mod MarkLemmas
+mod NodeLemmas
+mod ListLemmas
+mod CycleLemmas

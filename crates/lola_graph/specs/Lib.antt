@@ -1,0 +1,7 @@
+pub mod Small
+pub mod Readable
+pub mod Nodes
+pub mod Paths
+pub mod Marks
+pub mod Cycle
+pub mod Worked

@@ -1,0 +1,3 @@
+mod GraphLemmas
+mod RaiseLemmas
+mod LongestWalks
