@@ -1,0 +1,4 @@
+//! The law of printing: what is printed of a specification spells it.
+#![tactic(auto)]
+
+pub mod law;
