@@ -41,6 +41,10 @@ fn places_of_refusals(rt: HostRuntime) {
         ("output b: Int64 spawn with (a, b eval with a", (3, 48)),
         ("constant c: Int64 := a", (3, 36)),
         ("trigger", (3, 22)),
+        ("output b: Int64 := ((a)", (3, 38)),
+        ("output b: Int64 := a /* b", (2, 36)),
+        ("trigger a == 1 \"high", (2, 30)),
+        ("trigger a == 1 \"\\x\"", (2, 30)),
     ];
     for (text, refusal) in table {
         let whole = format!(in rt.alloc(); "{I}{text}").expect(&rt, "memory");
@@ -120,6 +124,10 @@ fn worked_specifications(rt: HostRuntime) {
         (
             "input dev: String\ninput temp: Int64\ninput hum: Int64\noutput mean: Int64 @1Hz := temp.aggregate(over: 1min, using: avg).defaults(to: 0)\noutput last_hum: Int64 @1Hz := hum.hold(or: 0)\noutput seen(d: String): Int64\n  spawn with dev\n  eval @dev when dev == d with seen(d).last(or: 0) + 1\ntrigger mean >= 224 && last_hum > 90 \"warm and damp\"\n",
             7,
+        ),
+        (
+            "input dev: String\ninput v: Int64\ninput w: Int64\noutput total: Int64 @v := total.last(or: 0) + v\noutput mean: Int64 @1Hz := v.aggregate(over: 10s, using: avg).defaults(to: 0)\noutput both: Int64 @(v || w) := v.hold(or: 0) + w.hold(or: 0)\noutput seen(d: String): Int64\n  spawn with dev\n  eval @dev when dev == d with seen(d).last(or: 0) + 1\n  close when seen(d).hold(or: 0) >= 100\ntrigger v > 490 \"high\"\ntrigger mean > 20 \"mean\"\ntrigger both > 500 \"both\"\n",
+            10,
         ),
         (
             "output both: Int64 @(v || w) := v.hold(or: 0) + w.hold(or: 0)\noutput c @Local(1s) := 1\nconstant k: Int8 := - 1",
