@@ -205,9 +205,9 @@ fn four_sources_and_an_engine(rt: HostRuntime) -> Result<(), Fail> {
 
 #[test]
 fn as_many_sources_as_there_can_be(rt: HostRuntime) -> Result<(), Fail> {
-    let (taken, all) = taken_of(&rt, rt.alloc(), 64, 100)?;
+    let (taken, all) = taken_of(&rt, rt.alloc(), 64, 10_000)?;
     assert!(rt; all);
-    assert_eq!(rt; taken.len(), 6_400);
-    assert!(rt; are_right(rt.alloc(), taken.as_slice(), 64, 100)?);
+    assert_eq!(rt; taken.len(), 640_000);
+    assert!(rt; are_right(rt.alloc(), taken.as_slice(), 64, 10_000)?);
     Ok(())
 }
