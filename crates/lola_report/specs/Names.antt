@@ -6,29 +6,7 @@ use Rattle.lola_value.specs.declared.value.FaultKind.{FaultKind}
 use Rattle.lola_value.specs.declared.value.FaultKind.TheVariants as fault
 use Rattle.lola_model.specs.declared.source.MalformedKind.{MalformedKind}
 use Rattle.lola_model.specs.declared.source.MalformedKind.TheVariants as malformed
-
--- the number of a code behind its E
-abbrev pub code_number : Code → ℕ
-code_number code.TooLong = 1
-code_number code.BadToken = 2
-code_number code.Unexpected = 3
-code_number code.TooDeep = 4
-code_number code.Duplicate = 5
-code_number code.Unknown = 6
-code_number code.TooMany = 7
-code_number code.BadArity = 8
-code_number code.WrongType = 9
-code_number code.LiteralRange = 10
-code_number code.NotImplied = 11
-code_number code.NoPacing = 12
-code_number code.PacingTooWide = 13
-code_number code.DirectToFiltered = 14
-code_number code.WindowOutsidePeriodic = 15
-code_number code.WindowTooFine = 16
-code_number code.PeriodTooShort = 17
-code_number code.WindowNeedsWholePeriod = 18
-code_number code.ZeroCycle = 19
-code_number code.Unbuilt = 20
+pub use Rattle.lola_model.specs.Refusals.{code_number}
 
 abbrev pub code_name : Code → List ℕ
 code_name code.TooLong = codes "TooLong"
