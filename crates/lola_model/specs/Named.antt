@@ -16,7 +16,11 @@ use Rattle.lola_model.specs.declared.expr.Expr.TheVariants.{Literal, Parameter, 
 use Rattle.lola_model.specs.declared.spec.Spec.{Spec}
 use Rattle.lola_model.specs.declared.spec.Stream.{Stream}
 use Rattle.lola_model.specs.declared.spec.Clause.{Clause}
+use Rattle.lola_model.specs.declared.spec.Pace.{Pace}
+use Rattle.lola_model.specs.declared.spec.Pace.TheVariants as pace
 use Rattle.lola_model.specs.declared.spec.Sort.TheVariants as sort
+use Rattle.lola_model.specs.declared.spec.WrittenRate.{WrittenRate}
+use Rattle.lola_model.specs.declared.spec.WrittenRate.TheVariants as rate
 use Rattle.lola_model.specs.declared.spec.Part.{Part}
 use Rattle.lola_model.specs.declared.spec.Part.TheVariants as part
 use Rattle.lola_model.specs.declared.spec.WindowSpec.{WindowSpec}
@@ -156,6 +160,41 @@ abbrev pub literal_text : Expr → List ℕ
 literal_text (Literal place v) = text_number v
 literal_text _ = []
 
+-- quantities
+
+abbrev pub is_rate_in_range : WrittenRate → Bool
+is_rate_in_range rate.OutOfRange = false
+is_rate_in_range rate.TooFast = true
+is_rate_in_range (rate.Of r) = true
+
+abbrev pub is_pace_in_range : Option Pace → Bool
+is_pace_in_range None = true
+is_pace_in_range (Some (pace.Event at f)) = true
+is_pace_in_range (Some (pace.Rate at r)) = is_rate_in_range r
+is_pace_in_range (Some (pace.Global at r)) = is_rate_in_range r
+is_pace_in_range (Some (pace.Local at r)) = is_rate_in_range r
+
+abbrev pub is_clause_paced_in_range : Option Clause → Bool
+is_clause_paced_in_range None = true
+is_clause_paced_in_range (Some c) = is_pace_in_range c.pace
+
+abbrev pub is_stream_paced_in_range : Stream → Bool
+is_stream_paced_in_range s = is_clause_paced_in_range s.spawn && (is_clause_paced_in_range s.eval && is_clause_paced_in_range s.close)
+
+-- a length of time that a window may have, in nanoseconds
+abbrev pub is_span : WindowSpec → Bool
+is_span w = nat_le 1 w.over && nat_le w.over 4000000000000000000
+
+abbrev pub all_windows : (WindowSpec → Bool) → List WindowSpec → Bool
+all_windows f [] = true
+all_windows f (w ∷ ws) = f w && all_windows f ws
+
+-- rates, lengths of windows and offsets are in their ranges
+pub record IsRanged (spec : Spec) : Type 0 where
+  pub rates : IsTrue (all_streams is_stream_paced_in_range spec.streams)
+  pub offsets : IsTrue (all_numbers (λ k. nat_le 1 k) (listed_spec offset_in spec))
+  pub window_spans : IsTrue (all_windows is_span spec.windows)
+
 -- the names of a specification are resolved, within the limits of the language
 pub record IsNamed (spec : Spec) : Type 0 where
   pub few_streams : length spec.streams ≤ 1024
@@ -171,3 +210,4 @@ pub record IsNamed (spec : Spec) : Type 0 where
   pub texts : IsTrue (are_distinct spec.texts)
   pub text_numbers : IsTrue (all_numbers (λ i. nat_lt i (length spec.texts)) (listed_spec literal_text spec))
   pub texts_used : (i : ℕ) → i < length spec.texts → Contains (listed_spec literal_text spec) i
+  pub ranges : spec.refused ≡ [] → IsRanged spec

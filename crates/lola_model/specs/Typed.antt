@@ -1,15 +1,13 @@
 -- What is known of a specification whose kinds are all filled in.
-use Rattle.std.specs.Prelude.{◌≡◌, List, [], ◌∷◌, Bool, true, ◌&&◌, nat_le, IsTrue}
+use Rattle.std.specs.Prelude.{◌≡◌, List, [], ◌∷◌, Bool, true, ◌&&◌, IsTrue}
 use Rattle.lola_value.specs.Kinds.{is_of_kind}
 use Rattle.lola_value.specs.declared.value.Kind.{Kind}
-use Rattle.lola_model.specs.Named.{all_streams, all_numbers, has_kind, offset_in}
-use Rattle.lola_model.specs.Parts.{listed_spec}
+use Rattle.lola_model.specs.Named.{IsRanged, all_streams, has_kind}
 use Rattle.lola_model.specs.Store.{layouts_from}
 use Rattle.lola_model.specs.Typing.{Scope, is_kind_at, is_whole}
 use Rattle.lola_model.specs.Wholes.{Whole, wholes_of, all_wholes}
 use Rattle.lola_model.specs.declared.spec.Constant.{Constant}
 use Rattle.lola_model.specs.declared.spec.Spec.{Spec}
-use Rattle.lola_model.specs.declared.spec.WindowSpec.{WindowSpec}
 
 -- where an expression stands that has parameters of these kinds
 abbrev pub scope_in : Spec → List Kind → Scope
@@ -26,19 +24,10 @@ abbrev pub all_constants : (Constant → Bool) → List Constant → Bool
 all_constants f [] = true
 all_constants f (c ∷ cs) = f c && all_constants f cs
 
--- a length of time that a window may have
-abbrev pub is_span : WindowSpec → Bool
-is_span w = nat_le 1 w.over && nat_le w.over 4000000000000000000
-
-abbrev pub all_windows : (WindowSpec → Bool) → List WindowSpec → Bool
-all_windows f [] = true
-all_windows f (w ∷ ws) = f w && all_windows f ws
-
 -- each kind is found, each expression is of the kind that it has to be of, and each number is in its range
 pub record IsTyped (spec : Spec) : Type 0 where
   pub kinds : IsTrue (all_streams (λ s. has_kind s.kind) spec.streams)
   pub typed : IsTrue (all_wholes (whole_is_typed spec) (wholes_of spec))
   pub constants : IsTrue (all_constants constant_is_typed spec.constants)
   pub ranges : spec.refused ≡ []
-  pub offsets : IsTrue (all_numbers (λ k. nat_le 1 k) (listed_spec offset_in spec))
-  pub window_spans : IsTrue (all_windows is_span spec.windows)
+  pub ranged : IsRanged spec
