@@ -44,8 +44,8 @@ fn run_file<F: Shelf, K: Sink, T: Sink>(
     run.outcome(alloc, stop)
 }
 
-/// Fetches a source, runs its rows by a plan, and gives it back. All room that does not depend on
-/// the rows is made before the source is fetched.
+/// Fetches a source, runs its rows by a plan, and gives it back. The engine and the reader's room are
+/// made before the source is fetched.
 pub fn run_source<F: Shelf, K: Sink, T: Sink>(
     alloc: Global,
     plan: Plan,
