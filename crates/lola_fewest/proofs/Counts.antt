@@ -9,6 +9,7 @@ use Rattle.lola_tree.specs.declared.literals.Name.{Name}
 use Rattle.lola_tree.specs.declared.literals.Literal.{Literal}
 use Rattle.lola_tree.specs.declared.literals.Quantity.{Quantity}
 use Rattle.lola_tree.specs.declared.literals.Value.TheVariants as value
+use Rattle.lola_tree.specs.declared.expressions.Prefix.{Prefix}
 use Rattle.lola_tree.specs.declared.expressions.Prefix.TheVariants as pre
 use Rattle.lola_tree.specs.declared.expressions.Binary.{Binary}
 use Rattle.lola_tree.specs.declared.expressions.Binary.TheVariants as by
@@ -16,6 +17,7 @@ use Rattle.lola_tree.specs.declared.expressions.Access.{Access}
 use Rattle.lola_tree.specs.declared.expressions.Access.TheVariants as a
 use Rattle.lola_tree.specs.declared.expressions.Expr.{Expr}
 use Rattle.lola_tree.specs.declared.expressions.Expr.TheVariants as e
+use Rattle.lola_tree.specs.declared.expressions.Expr.TheBlock as X
 use Rattle.lola_grammar.specs.Syntax.{Lexeme, Of, fits, clashes, listed, same_shape}
 use Rattle.lola_grammar.specs.Marks.{marks_in}
 use Rattle.lola_grammar.proofs.Tests.{shapes_same}
@@ -416,3 +418,10 @@ other_defaults p x y = elim (either_way (heads x)) [
   | inl h ↦ omega (arith, heads_other x h, other_most (e.Defaults p x y), count-Defaults p x y, at_tight 7 x (omega (arith, level_top x h)))
   | inr h ↦ omega (arith, no_heads_other x h, no_heads_other (e.Defaults p x y) (heads-Defaults p x y ∙ h), at_defaults p x y)
 ]
+
+heads-Prefix : (op : Prefix) (p : ℕ) (x : Expr) → heads (e.Prefix op p x) ≡ false
+unfolding X.shape-the_row-Expr-1 X.hidden-the_row-Expr-1 denote.Hole.Carrier.hidden denote.Hole.Carrier.shown denote.Hole.Carrier.roll denote.Hole.Carrier.out
+heads-Prefix op p x = refl
+
+pub minus_Prefix : (op : Prefix) (p : ℕ) (x : Expr) → behind_minus (e.Prefix op p x) ≡ alone (e.Prefix op p x)
+minus_Prefix op p x = no_heads_minus (e.Prefix op p x) (heads-Prefix op p x) ∙ at_tight 6 (e.Prefix op p x) (omega (arith, level-Prefix op p x))

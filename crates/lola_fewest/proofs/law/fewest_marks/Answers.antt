@@ -1,7 +1,5 @@
-use Rattle.lola_fewest.proofs.Counts.{other_defaults}
-use Rattle.lola_fewest.proofs.Costs.{joined}
-use Rattle.lola_fewest.proofs.Operands.{named_costs}
+use Rattle.lola_fewest.proofs.Expressions.{fewest}
 use Rattle.lola_fewest.proofs.law.fewest_marks.Goals as goal
 
 pub returns : goal.returns
-returns c = ?
+returns c n ts x h = fewest n ts x h
