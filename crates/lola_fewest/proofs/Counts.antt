@@ -58,7 +58,7 @@ no_mark : (s : TokenShape) (w : List ℕ) → not (clashes (Of s) all_marks) ≡
 unfolding count
 no_mark s w h = token_none all_marks (Of s) (lex_of s w) h (shape_fits s w)
 
-marked : (s : TokenShape) → listed (Of s) all_marks ≡ true → (ts : List Lexeme) → count (lex s ∷ ts) ≡ suc (count ts)
+pub marked : (s : TokenShape) → listed (Of s) all_marks ≡ true → (ts : List Lexeme) → count (lex s ∷ ts) ≡ suc (count ts)
 marked s h ts = omega (arith, count-cons (lex s) ts, one_mark s (lex s) h (shape_fits s (lex s).text))
 
 free : (s : TokenShape) (w : List ℕ) → not (clashes (Of s) all_marks) ≡ true → (ts : List Lexeme) → count (lex_of s w ∷ ts) ≡ count ts
@@ -161,11 +161,11 @@ pub if_least : (b : Bool) (ts : List Lexeme) → count ts ≤ count (bracketed_i
 if_least true ts = omega (arith, bracketed_count ts)
 if_least false ts = omega arith
 
-if_true : (b : Bool) (ts : List Lexeme) → b ≡ true → count (bracketed_if b ts) ≡ suc (count ts)
+pub if_true : (b : Bool) (ts : List Lexeme) → b ≡ true → count (bracketed_if b ts) ≡ suc (count ts)
 if_true true ts h = bracketed_count ts
 if_true false ts h = absurd cc
 
-if_false : (b : Bool) (ts : List Lexeme) → b ≡ false → count (bracketed_if b ts) ≡ count ts
+pub if_false : (b : Bool) (ts : List Lexeme) → b ≡ false → count (bracketed_if b ts) ≡ count ts
 if_false true ts h = absurd cc
 if_false false ts h = refl
 
@@ -190,7 +190,7 @@ at_least k x = if_least (nat_lt (level x) k) (bare x)
 pub at_most : (k : ℕ) (x : Expr) → at k x ≤ suc (alone x)
 at_most k x = if_most (nat_lt (level x) k) (bare x)
 
-not_below : (k l : ℕ) → k ≤ l → nat_lt l k ≡ false
+pub not_below : (k l : ℕ) → k ≤ l → nat_lt l k ≡ false
 not_below k l le = by (nat_lt l k) refl
   where
     by : (b : Bool) → nat_lt l k ≡ b → b ≡ false
