@@ -1,0 +1,5 @@
+use Rattle.lola_fewest.proofs.Limits.{specification_small}
+use Rattle.lola_fewest.proofs.law.printed_within.Goals as goal
+
+pub returns : goal.returns
+returns c n m ts xs h k = ?
