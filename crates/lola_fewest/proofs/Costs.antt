@@ -1,10 +1,10 @@
 -- Parts of a grammar whose sentences have at least so many marks.
-use Rattle.std.proofs.Common.{◌≡◌, ℕ, zero, suc, ◌+◌, ◌≤◌, true, List, [], ◌∷◌, ◌++◌, Option, Some, None, refl, sym, ap, subst, ◌∙◌, ◌⊎◌, arith, inl, inr}
+use Rattle.std.proofs.Common.{◌≡◌, ℕ, suc, ◌+◌, ◌≤◌, true, List, [], ◌∷◌, ap, arith, inl, inr}
 use Rattle.std.specs.Prelude.{fold}
 use Rattle.lola_lexer.specs.declared.shape.TokenShape.{TokenShape}
-use Rattle.lola_grammar.specs.Syntax.{Lexeme, Terminal, Of, listed, Syntax, Past, Token, Mark, Whole, Known, Then, Map, Either, Maybe, Many, Repeats, Spells}
-use Rattle.lola_parser.specs.Grammar.{all_marks, token, mark, folded, ◌*>◌, ◌<*◌, ◌|>◌, ◌>>◌}
-use Rattle.lola_fewest.proofs.Counts.{count, count-nil, count-append, one_mark}
+use Rattle.lola_grammar.specs.Syntax.{Lexeme, Terminal, Of, listed, Syntax, Past, Known, Then, Map, Either, Repeats, Spells}
+use Rattle.lola_parser.specs.Grammar.{all_marks, mark, folded, ◌*>◌, ◌<*◌, ◌|>◌, ◌>>◌}
+use Rattle.lola_fewest.proofs.Counts.{count, count-append, one_mark}
 
 -- each sentence has at least so many marks as its value takes
 abbrev pub Costs : {A : Type 0} → Syntax A → (A → ℕ) → Type 0

@@ -1,12 +1,11 @@
 -- How many marks are printed of each form of a tree.
-use Rattle.std.proofs.Common.{◌≡◌, ℕ, zero, suc, ◌+◌, ◌≤◌, ◌<◌, Bool, true, false, not, ◌||◌, List, [], ◌∷◌, ◌++◌, Option, Some, None, refl, sym, ap, subst, ◌∙◌, ◌⊎◌, arith, inl, inr, lt-ltb, ltb-true, ltb-false}
+use Rattle.std.proofs.Common.{◌≡◌, ℕ, suc, ◌+◌, ◌≤◌, ◌<◌, Bool, true, false, not, ◌||◌, List, [], ◌∷◌, ◌++◌, Option, refl, ap, ◌∙◌, ◌⊎◌, arith, inl, inr, lt-ltb, ltb-true}
 use Rattle.std.specs.Bool.{if◌then◌else◌}
 use Rattle.std.specs.Prelude.{nat_lt, codes, ◌==◌}
 use Rattle.std.proofs.lemmas.Bool.{cases_lt}
 use Rattle.lola_lexer.specs.declared.shape.TokenShape.{TokenShape}
 use Rattle.lola_lexer.specs.declared.shape.TokenShape.TheVariants as is
 use Rattle.lola_tree.specs.declared.literals.Name.{Name}
-use Rattle.lola_tree.specs.declared.literals.Literal.{Literal}
 use Rattle.lola_tree.specs.declared.literals.Quantity.{Quantity}
 use Rattle.lola_tree.specs.declared.literals.Value.TheVariants as value
 use Rattle.lola_tree.specs.declared.expressions.Prefix.{Prefix}
@@ -25,7 +24,7 @@ use Rattle.lola_grammar.proofs.Within.{marks-append, mark_one, token_none}
 use Rattle.lola_parser.specs.Grammar.{all_marks}
 use Rattle.lola_print.specs.Print as out
 use Rattle.lola_print.specs.Print.{lex, lex_of, bare, print, level, heads, tightness, left_of, shape_of, bracketed, bracketed_if}
-use Rattle.lola_print.proofs.Equations.{bare-Binary, bare-Prefix, bare-If, bare-Reference, bare-Defaults, default_of-Reference, heads-Defaults, level-Prefix, level-Binary, level-If, level-Defaults}
+use Rattle.lola_print.proofs.Equations.{bare-Binary, bare-Prefix, bare-If, bare-Reference, bare-Defaults, default_of-Reference, heads-Defaults, level-Prefix, level-Binary, level-Defaults}
 
 -- how many marks there are among the tokens
 unfoldable pub count : List Lexeme → ℕ
@@ -227,8 +226,14 @@ count-Negate p x = ap count (bare-Prefix pre.Negate p x) ∙ marked is.Minus is-
 pub count-If : (p : ℕ) (x y z : Expr) → alone (e.If p x y z) ≡ suc (alone x + (alone y + alone z))
 count-If p x y z =
     ap count (bare-If p x y z)
-    ∙ omega (arith, marked is.If is-If (bare x ++ (lex is.Then ∷ (bare y ++ (lex is.Else ∷ bare z)))), count-append (bare x) (lex is.Then ∷ (bare y ++ (lex is.Else ∷ bare z))), then_free (bare y ++ (lex is.Else ∷ bare z)),
-    count-append (bare y) (lex is.Else ∷ bare z), else_free (bare z))
+    ∙ omega (
+      arith,
+      marked is.If is-If (bare x ++ (lex is.Then ∷ (bare y ++ (lex is.Else ∷ bare z)))),
+      count-append (bare x) (lex is.Then ∷ (bare y ++ (lex is.Else ∷ bare z))),
+      then_free (bare y ++ (lex is.Else ∷ bare z)),
+      count-append (bare y) (lex is.Else ∷ bare z),
+      else_free (bare z),
+    )
 
 -- ---- calls and defaults
 
@@ -243,8 +248,14 @@ default_count ts = call_count (codes "defaults") (out.labelled (codes "to") ts) 
 
 offset_count : (k : ℕ) → count (out.call (codes "offset") (out.labelled (codes "by") (lex is.Minus ∷ out.integer k ∷ []))) ≡ 3
 offset_count k =
-    omega (arith, call_count (codes "offset") (out.labelled (codes "by") (lex is.Minus ∷ out.integer k ∷ [])), labelled_count (codes "by") (lex is.Minus ∷ out.integer k ∷ []),
-    marked is.Minus is-Minus (out.integer k ∷ []), integer_free k [], count-nil)
+    omega (
+      arith,
+      call_count (codes "offset") (out.labelled (codes "by") (lex is.Minus ∷ out.integer k ∷ [])),
+      labelled_count (codes "by") (lex is.Minus ∷ out.integer k ∷ []),
+      marked is.Minus is-Minus (out.integer k ∷ []),
+      integer_free k [],
+      count-nil,
+    )
 
 -- the marks that an access takes by itself, and with a default
 pub access_most : (how : Access) → count (out.access how) ≤ 3
@@ -257,9 +268,16 @@ access_most (a.Offset dot k p) = by (k == 1)
 access_most (a.Hold dot) = omega (arith, call_count (codes "hold") [], count-nil)
 access_most (a.Get dot) = omega (arith, call_count (codes "get") [], count-nil)
 access_most (a.Window dot exactly q n) =
-    omega (arith, call_count (codes "aggregate") (out.labelled (out.over_word exactly) (out.quantity q ∷ lex is.Comma ∷ out.labelled (codes "using") (out.name n ∷ []))),
-    labelled_count (out.over_word exactly) (out.quantity q ∷ lex is.Comma ∷ out.labelled (codes "using") (out.name n ∷ [])), quantity_free q (lex is.Comma ∷ out.labelled (codes "using") (out.name n ∷ [])),
-    comma_free (out.labelled (codes "using") (out.name n ∷ [])), labelled_count (codes "using") (out.name n ∷ []), name_free n.text [], count-nil)
+    omega (
+      arith,
+      call_count (codes "aggregate") (out.labelled (out.over_word exactly) (out.quantity q ∷ lex is.Comma ∷ out.labelled (codes "using") (out.name n ∷ []))),
+      labelled_count (out.over_word exactly) (out.quantity q ∷ lex is.Comma ∷ out.labelled (codes "using") (out.name n ∷ [])),
+      quantity_free q (lex is.Comma ∷ out.labelled (codes "using") (out.name n ∷ [])),
+      comma_free (out.labelled (codes "using") (out.name n ∷ [])),
+      labelled_count (codes "using") (out.name n ∷ []),
+      name_free n.text [],
+      count-nil,
+    )
 
 pub last_count : (dot p : ℕ) → count (out.access (a.Offset dot 1 p)) ≡ 2
 last_count dot p = omega (arith, call_count (codes "last") [], count-nil)
@@ -272,9 +290,16 @@ get_count dot = omega (arith, call_count (codes "get") [], count-nil)
 
 pub window_count : (dot : ℕ) (exactly : Bool) (q : Quantity) (n : Name) → count (out.access (a.Window dot exactly q n)) ≡ 2
 window_count dot exactly q n =
-    omega (arith, call_count (codes "aggregate") (out.labelled (out.over_word exactly) (out.quantity q ∷ lex is.Comma ∷ out.labelled (codes "using") (out.name n ∷ []))),
-    labelled_count (out.over_word exactly) (out.quantity q ∷ lex is.Comma ∷ out.labelled (codes "using") (out.name n ∷ [])), quantity_free q (lex is.Comma ∷ out.labelled (codes "using") (out.name n ∷ [])),
-    comma_free (out.labelled (codes "using") (out.name n ∷ [])), labelled_count (codes "using") (out.name n ∷ []), name_free n.text [], count-nil)
+    omega (
+      arith,
+      call_count (codes "aggregate") (out.labelled (out.over_word exactly) (out.quantity q ∷ lex is.Comma ∷ out.labelled (codes "using") (out.name n ∷ []))),
+      labelled_count (out.over_word exactly) (out.quantity q ∷ lex is.Comma ∷ out.labelled (codes "using") (out.name n ∷ [])),
+      quantity_free q (lex is.Comma ∷ out.labelled (codes "using") (out.name n ∷ [])),
+      comma_free (out.labelled (codes "using") (out.name n ∷ [])),
+      labelled_count (codes "using") (out.name n ∷ []),
+      name_free n.text [],
+      count-nil,
+    )
 
 or_call : (w : List ℕ) (ts : List Lexeme) → count (out.call w (out.labelled (codes "or") ts)) ≡ suc (suc (count ts))
 or_call w ts = call_count w (out.labelled (codes "or") ts) ∙ ap (λ (n : ℕ). suc (suc n)) (labelled_count (codes "or") ts)
@@ -328,8 +353,15 @@ count-Defaults p x y = omega (arith, ap count (bare-Defaults p x y), by x)
     by : (x : Expr) → count (out.default_of x y) ≤ at 7 x + suc (suc (alone y))
     by (e.Literal l) = plain (e.Literal l)
     by (e.Reference' n b shape row how) =
-        omega (arith, name_free n.text (out.arguments row ++ out.access_or how (bare y)), count-append (out.arguments row) (out.access_or how (bare y)), access_or_most how (bare y),
-        name_free n.text (out.arguments row ++ out.access how), count-append (out.arguments row) (out.access how), at_least 7 (e.Reference' n b shape row how))
+        omega (
+          arith,
+          name_free n.text (out.arguments row ++ out.access_or how (bare y)),
+          count-append (out.arguments row) (out.access_or how (bare y)),
+          access_or_most how (bare y),
+          name_free n.text (out.arguments row ++ out.access how),
+          count-append (out.arguments row) (out.access how),
+          at_least 7 (e.Reference' n b shape row how),
+        )
     by (e.Defaults' p q r s t) = plain (e.Defaults' p q r s t)
     by (e.Prefix' op p q r) = plain (e.Prefix' op p q r)
     by (e.Binary' op p q r s t) = plain (e.Binary' op p q r s t)

@@ -1,21 +1,19 @@
 -- What expressions cost: no spelling has fewer marks than the printed one.
-use Rattle.std.proofs.Common.{◌≡◌, ℕ, zero, suc, ◌+◌, ◌≤◌, Bool, true, false, List, [], ◌∷◌, ◌++◌, Option, Some, None, refl, sym, ap, subst, ◌∙◌, arith, inl, inr}
-use Rattle.lola_lexer.specs.declared.shape.TokenShape.{TokenShape}
+use Rattle.std.proofs.Common.{◌≡◌, ℕ, zero, suc, ◌+◌, ◌≤◌, true, false, List, Option, Some, None, refl, ap, ◌∙◌, arith, inl, inr}
 use Rattle.lola_lexer.specs.declared.shape.TokenShape.TheVariants as is
 use Rattle.lola_tree.specs.declared.literals.Literal.{Literal}
-use Rattle.lola_tree.specs.declared.literals.Value.TheVariants as value
 use Rattle.lola_tree.specs.declared.expressions.Prefix.TheVariants as pre
 use Rattle.lola_tree.specs.declared.expressions.Binary.{Binary}
 use Rattle.lola_tree.specs.declared.expressions.Binary.TheVariants as by
 use Rattle.lola_tree.specs.declared.expressions.Expr.{Expr}
 use Rattle.lola_tree.specs.declared.expressions.Expr.TheVariants as e
-use Rattle.lola_grammar.specs.Syntax.{Lexeme, Of, listed, Syntax, Past, Then, Map, Either, Maybe, Many, Perhaps, Spells}
+use Rattle.lola_grammar.specs.Syntax.{Lexeme, Syntax, Then, Map, Either, Perhaps, Spells}
 use Rattle.lola_grammar.specs.Marks.{marks_in}
 use Rattle.lola_parser.specs.Grammar as g
 use Rattle.lola_parser.specs.Grammar.{all_marks, token, mark, whole_number, truth_at, join, compared, folded, expr_in, other_in, expr_begins, expr_goes_on, other_begins, other_goes_on, ◌*>◌, ◌<*◌, ◌|>◌, ◌>>◌}
-use Rattle.lola_print.specs.Print.{bare, level, heads, tightness, left_of, shape_of}
-use Rattle.lola_fewest.proofs.Counts.{count, count-nil, count-append, alone, at, behind_minus, of_other, at_tight, at_least, at_most, at_rises, minus_least, operand_least, minus_most, no_heads_other, at-Binary, count-Not, count-Negate, count-If, negative_count, truth_count, minus_Prefix, is-If, is-Not, is-Minus, is-sign}
-use Rattle.lola_fewest.proofs.Costs.{Costs, Adds, nothing, marked, past, known, both, mapped, either, behind, before, weaker, followed, chained, from_more, joined}
+use Rattle.lola_print.specs.Print.{bare, tightness, left_of, shape_of}
+use Rattle.lola_fewest.proofs.Counts.{count, count-append, alone, at, behind_minus, of_other, at_tight, at_least, at_most, at_rises, minus_least, operand_least, no_heads_other, at-Binary, count-Not, count-Negate, count-If, negative_count, truth_count, minus_Prefix, is-If, is-Not, is-Minus, is-sign}
+use Rattle.lola_fewest.proofs.Costs.{Costs, Adds, marked, past, known, both, mapped, either, behind, weaker, followed, chained, from_more, joined}
 use Rattle.lola_fewest.proofs.Operands.{number_costs, worded_costs, bracketed_costs, named_costs, defaults_add, defaults_other}
 
 -- ---- signs between operands
@@ -222,8 +220,19 @@ module _ (E O : Syntax Expr) (inner : Costs E alone) (inner_other : Costs O behi
       let m = l.4 in
       let n = m.2 in
       let x = m.0.0 left in
-      omega (arith, ap (λ (k : Expr → Expr). alone (k left)) (h.1 ∙ m.1), ap count l.2, count-append l.0 l.1, ap count n.2, count-append n.0 n.1, at_most 7 left, defaults_add E O inner n.0 m.0.0 n.3 left, at_rises 5 7 x (omega arith),
-      disjunctions_add n.1 m.0.1 n.4 x, at_least 1 (m.0.1 x))
+      omega (
+        arith,
+        ap (λ (k : Expr → Expr). alone (k left)) (h.1 ∙ m.1),
+        ap count l.2,
+        count-append l.0 l.1,
+        ap count n.2,
+        count-append n.0 n.1,
+        at_most 7 left,
+        defaults_add E O inner n.0 m.0.0 n.3 left,
+        at_rises 5 7 x (omega arith),
+        disjunctions_add n.1 m.0.1 n.4 x,
+        at_least 1 (m.0.1 x),
+      )
 
 -- ---- at whatever depth
 

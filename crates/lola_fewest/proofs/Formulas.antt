@@ -1,5 +1,5 @@
 -- What formulas of pacings cost: no spelling has fewer marks than the printed one.
-use Rattle.std.proofs.Common.{◌≡◌, ℕ, zero, suc, ◌+◌, ◌≤◌, ◌<◌, List, [], ◌∷◌, ◌++◌, refl, ap, ◌∙◌, arith, inl, inr, lt-ltb}
+use Rattle.std.proofs.Common.{◌≡◌, ℕ, zero, suc, ◌+◌, ◌≤◌, ◌<◌, List, [], ◌∷◌, refl, ap, ◌∙◌, arith, inl, inr, lt-ltb}
 use Rattle.std.specs.Prelude.{nat_lt}
 use Rattle.std.proofs.lemmas.Bool.{cases_lt}
 use Rattle.lola_lexer.specs.declared.shape.TokenShape.TheVariants as is
@@ -8,11 +8,10 @@ use Rattle.lola_tree.specs.declared.pacing.Formula.{Formula}
 use Rattle.lola_tree.specs.declared.pacing.Formula.TheVariants as f
 use Rattle.lola_tree.specs.declared.pacing.Formula.TheBlock as X
 use Rattle.lola_tree.specs.declared.expressions.Binary.TheVariants as by
-use Rattle.lola_grammar.specs.Syntax.{Lexeme, Syntax, Past, Then, Map, Either, Spells}
+use Rattle.lola_grammar.specs.Syntax.{Lexeme, Syntax, Then, Map, Spells}
 use Rattle.lola_grammar.specs.Marks.{marks_in}
 use Rattle.lola_parser.specs.Grammar as g
 use Rattle.lola_parser.specs.Grammar.{all_marks, token, mark, name, formula_in, formula_begins, formula_goes_on, ◌*>◌, ◌<*◌, ◌|>◌}
-use Rattle.lola_print.specs.Print as out
 use Rattle.lola_print.specs.Print.{lex, bare_formula, print_formula, formula_level}
 use Rattle.lola_print.proofs.Formulas.{bare_formula-Both, bare_formula-Either}
 use Rattle.lola_fewest.proofs.Counts.{count, count-nil, count-append, marked, name_free, if_most, if_least, if_true, if_false, not_below, is-Open, is-sign}

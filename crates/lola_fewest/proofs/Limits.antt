@@ -1,10 +1,8 @@
 -- Where a spelling of a specification keeps the limit of marks, the trees of its whole expressions and formulas need no more.
-use Rattle.std.proofs.Common.{◌≡◌, ℕ, suc, ◌+◌, ◌≤◌, List, [], ◌∷◌, ◌++◌, Option, Some, None, refl, sym, ap, subst, ◌∙◌, arith, inl, inr}
+use Rattle.std.proofs.Common.{ℕ, suc, ◌+◌, ◌≤◌, List, [], ◌∷◌, Option, Some, None, sym, ap, subst, arith, inl, inr}
 use Rattle.lola_lexer.specs.declared.shape.TokenShape.{TokenShape}
 use Rattle.lola_lexer.specs.declared.shape.TokenShape.TheVariants as is
-use Rattle.lola_tree.specs.declared.literals.Quantity.{Quantity}
 use Rattle.lola_tree.specs.declared.expressions.Expr.{Expr}
-use Rattle.lola_tree.specs.declared.pacing.Formula.{Formula}
 use Rattle.lola_tree.specs.declared.pacing.Formula.TheVariants as f
 use Rattle.lola_tree.specs.declared.pacing.Rhythm.{Rhythm}
 use Rattle.lola_tree.specs.declared.pacing.Rhythm.TheVariants as r
@@ -15,11 +13,10 @@ use Rattle.lola_tree.specs.declared.clauses.Eval.{Eval}
 use Rattle.lola_tree.specs.declared.clauses.Close.{Close}
 use Rattle.lola_tree.specs.declared.declarations.Declaration.{Declaration}
 use Rattle.lola_tree.specs.declared.declarations.Declaration.TheVariants as d
-use Rattle.lola_grammar.specs.Syntax.{Lexeme, Terminal, Syntax, Whole, Known, Then, Map, Either, Maybe, Many, Fork, Repeats, Perhaps, Spells, max_marks}
+use Rattle.lola_grammar.specs.Syntax.{Lexeme, Terminal, Syntax, Whole, Known, Then, Map, Either, Maybe, Many, Spells, max_marks}
 use Rattle.lola_grammar.specs.Marks.{Fits}
 use Rattle.lola_parser.specs.Grammar as g
 use Rattle.lola_parser.specs.Grammar.{all_marks, token, expr_in, other_in, formula_in, ◌*>◌, ◌<*◌}
-use Rattle.lola_print.specs.Print as out
 use Rattle.lola_print.specs.Print.{bare, bare_formula}
 use Rattle.lola_fewest.proofs.Counts.{count, count_is, alone, name_free, count-nil}
 use Rattle.lola_fewest.proofs.Costs as costs
@@ -160,8 +157,7 @@ module _ (n : ℕ) where
   more_small ts ps h x bracket at small =
       let inner = h.2 in
       let list = inner.2.3 in
-      subst (λ (m : g.Parts). Each SmallPart (m x bracket at)) (sym h.1)
-      (
+      subst (λ (m : g.Parts). Each SmallPart (m x bracket at)) (sym h.1) (
         small,
         (
           subst SmallPart (ap (λ (p : Part × List Part). p.0) (sym inner.1)) (part_small is.Comma list.0 inner.0.0.0 list.3),
@@ -212,37 +208,37 @@ module _ (n : ℕ) where
   spawn_small =
       mapped _ _ SmallSpawn
       (λ ts p h.
-          let all = second (token is.Spawn) _ (λ q. IfSome SmallPacing q.0 × (IfSome SmallPart q.1.0 × IfSome (Each SmallPart) q.1.1))
-          (both (Maybe (g.pacing n)) _ (IfSome SmallPacing) (λ q. IfSome SmallPart q.0 × IfSome (Each SmallPart) q.1) pacing_perhaps
-          (both (Maybe (g.part_behind n is.When)) (Maybe (g.with_parts n)) (IfSome SmallPart) (IfSome (Each SmallPart)) when_perhaps (perhaps (g.with_parts n) (Each SmallPart) with_small))) ts p h in
-          record { pacing = all.0; when = all.1.0; with = maybe_parts p.1.1.1 all.1.1 })
+      let all = second (token is.Spawn) _ (λ q. IfSome SmallPacing q.0 × (IfSome SmallPart q.1.0 × IfSome (Each SmallPart) q.1.1))
+      (both (Maybe (g.pacing n)) _ (IfSome SmallPacing) (λ q. IfSome SmallPart q.0 × IfSome (Each SmallPart) q.1) pacing_perhaps
+      (both (Maybe (g.part_behind n is.When)) (Maybe (g.with_parts n)) (IfSome SmallPart) (IfSome (Each SmallPart)) when_perhaps (perhaps (g.with_parts n) (Each SmallPart) with_small))) ts p h in
+      record { pacing = all.0; when = all.1.0; with = maybe_parts p.1.1.1 all.1.1 })
 
   eval_small : Leaves (g.eval n) SmallEval
   unfolding g.eval
   eval_small =
       mapped _ _ SmallEval
       (λ ts p h.
-          let all = second (token is.Eval) _ (λ q. IfSome SmallPacing q.0 × (IfSome SmallPart q.1.0 × SmallPart q.1.1))
-          (both (Maybe (g.pacing n)) _ (IfSome SmallPacing) (λ q. IfSome SmallPart q.0 × SmallPart q.1) pacing_perhaps
-          (both (Maybe (g.part_behind n is.When)) (g.part_behind n is.With) (IfSome SmallPart) SmallPart when_perhaps (part_small is.With))) ts p h in
-          record { pacing = all.0; when = all.1.0; with = all.1.1 })
+      let all = second (token is.Eval) _ (λ q. IfSome SmallPacing q.0 × (IfSome SmallPart q.1.0 × SmallPart q.1.1))
+      (both (Maybe (g.pacing n)) _ (IfSome SmallPacing) (λ q. IfSome SmallPart q.0 × SmallPart q.1) pacing_perhaps
+      (both (Maybe (g.part_behind n is.When)) (g.part_behind n is.With) (IfSome SmallPart) SmallPart when_perhaps (part_small is.With))) ts p h in
+      record { pacing = all.0; when = all.1.0; with = all.1.1 })
 
   close_small : Leaves (g.close n) SmallClose
   unfolding g.close
   close_small =
       mapped _ _ SmallClose
       (λ ts p h.
-          let all = second (token is.Close) _ (λ q. IfSome SmallPacing q.0 × SmallPart q.1)
-          (both (Maybe (g.pacing n)) (g.part_behind n is.When) (IfSome SmallPacing) SmallPart pacing_perhaps (part_small is.When)) ts p h in
-          record { pacing = all.0; when = all.1 })
+      let all = second (token is.Close) _ (λ q. IfSome SmallPacing q.0 × SmallPart q.1)
+      (both (Maybe (g.pacing n)) (g.part_behind n is.When) (IfSome SmallPacing) SmallPart pacing_perhaps (part_small is.When)) ts p h in
+      record { pacing = all.0; when = all.1 })
 
   short_small : Leaves (g.short_eval n) SmallEval
   unfolding g.short_eval
   short_small =
       mapped _ _ SmallEval
       (λ ts p h.
-          let all = both (Maybe (g.pacing n)) (g.part_behind n is.Define) (IfSome SmallPacing) SmallPart pacing_perhaps (part_small is.Define) ts p h in
-          record { pacing = all.0; when = tt; with = all.1 })
+      let all = both (Maybe (g.pacing n)) (g.part_behind n is.Define) (IfSome SmallPacing) SmallPart pacing_perhaps (part_small is.Define) ts p h in
+      record { pacing = all.0; when = tt; with = all.1 })
 
   abbrev OfBody : g.Body → Type 0
   OfBody b = SmallBody b.0 b.1 b.2
@@ -254,9 +250,9 @@ module _ (n : ℕ) where
       (either _ _ OfBody (mapped _ (g.eval n) OfBody (λ ts x h. record { spawn = tt; eval = eval_small ts x h; close = tt }))
       (mapped _ _ OfBody
       (λ ts p h.
-          let all = both (g.spawn n) _ SmallSpawn (λ q. SmallEval q.0 × IfSome SmallClose q.1) spawn_small
-          (both (g.eval n) (Maybe (g.close n)) SmallEval (IfSome SmallClose) eval_small (perhaps (g.close n) SmallClose close_small)) ts p h in
-          record { spawn = all.0; eval = all.1.0; close = all.1.1 })))
+      let all = both (g.spawn n) _ SmallSpawn (λ q. SmallEval q.0 × IfSome SmallClose q.1) spawn_small
+      (both (g.eval n) (Maybe (g.close n)) SmallEval (IfSome SmallClose) eval_small (perhaps (g.close n) SmallClose close_small)) ts p h in
+      record { spawn = all.0; eval = all.1.0; close = all.1.1 })))
 
   -- ---- declarations
 
@@ -265,16 +261,16 @@ module _ (n : ℕ) where
   output_small =
       mapped _ _ SmallDeclaration
       (λ ts p h.
-          second (token is.Output) _ (λ q. OfBody q.1.1.1)
-          (second g.name _ (λ q. OfBody q.1.1) (second (Maybe g.parameters) _ (λ q. OfBody q.1) (second (Maybe g.kind) (g.body n) OfBody body_small))) ts p h)
+      second (token is.Output) _ (λ q. OfBody q.1.1.1)
+      (second g.name _ (λ q. OfBody q.1.1) (second (Maybe g.parameters) _ (λ q. OfBody q.1) (second (Maybe g.kind) (g.body n) OfBody body_small))) ts p h)
 
   trigger_small : Leaves (g.trigger n) SmallDeclaration
   unfolding g.trigger
   trigger_small =
       mapped _ _ SmallDeclaration
       (λ ts p h.
-          second (token is.Trigger) _ (λ q. IfSome SmallPacing q.0 × Small q.1.0)
-          (both (Maybe (g.pacing n)) _ (IfSome SmallPacing) (λ q. Small q.0) pacing_perhaps (first (g.whole n) g.message Small whole_small)) ts p h)
+      second (token is.Trigger) _ (λ q. IfSome SmallPacing q.0 × Small q.1.0)
+      (both (Maybe (g.pacing n)) _ (IfSome SmallPacing) (λ q. Small q.0) pacing_perhaps (first (g.whole n) g.message Small whole_small)) ts p h)
 
   inputs_small : Leaves g.inputs SmallDeclaration
   unfolding g.inputs

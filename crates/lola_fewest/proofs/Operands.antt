@@ -1,21 +1,20 @@
 -- What operands without prefix signs cost: no spelling has fewer marks than the printed one.
-use Rattle.std.proofs.Common.{◌≡◌, ℕ, zero, suc, ◌+◌, ◌≤◌, Bool, true, false, List, [], ◌∷◌, ◌++◌, Option, Some, None, refl, sym, ap, subst, ◌∙◌, arith, inl, inr}
+use Rattle.std.proofs.Common.{◌≡◌, ℕ, suc, ◌+◌, ◌≤◌, true, false, List, [], ◌∷◌, Option, Some, None, refl, ap, ◌∙◌, arith, inl, inr}
 use Rattle.std.specs.Prelude.{codes}
 use Rattle.lola_lexer.specs.declared.shape.TokenShape.TheVariants as is
 use Rattle.lola_tree.specs.declared.literals.Name.{Name}
 use Rattle.lola_tree.specs.declared.literals.Literal.{Literal}
-use Rattle.lola_tree.specs.declared.literals.Quantity.{Quantity}
 use Rattle.lola_tree.specs.declared.expressions.Access.{Access}
 use Rattle.lola_tree.specs.declared.expressions.Access.TheVariants as a
 use Rattle.lola_tree.specs.declared.expressions.Expr.{Expr}
 use Rattle.lola_tree.specs.declared.expressions.Expr.TheVariants as e
-use Rattle.lola_grammar.specs.Syntax.{Lexeme, Syntax, Then, Map, Either, Maybe, Many, Repeats, Perhaps, Spells}
+use Rattle.lola_grammar.specs.Syntax.{Lexeme, Syntax, Then, Map, Either, Maybe, Many, Perhaps, Spells}
 use Rattle.lola_parser.specs.Grammar as g
 use Rattle.lola_parser.specs.Grammar.{token, mark, word, whole_number, truth_at, text_at, with_default, reference, or_else, read_by, named_by, ◌*>◌, ◌<*◌, ◌|>◌, ◌>>◌}
 use Rattle.lola_print.specs.Print as out
 use Rattle.lola_print.specs.Print.{level, heads}
 use Rattle.lola_print.proofs.Equations.{heads-Defaults, level-Defaults}
-use Rattle.lola_fewest.proofs.Counts.{count, count-nil, count-append, alone, at, of_other, at_tight, at_most, other_most, no_heads_other, at_defaults, other_defaults, count-Reference, count-Reference_or, access_most, last_count, hold_count, get_count, window_count, direct_or, last_or, hold_or, get_or, arguments_count, further_count, integer_count, negative_count, truth_count, text_count, is-Open, is-Dot, is-Minus}
+use Rattle.lola_fewest.proofs.Counts.{count, count-nil, count-append, alone, at, of_other, at_tight, other_most, no_heads_other, at_defaults, other_defaults, count-Reference, count-Reference_or, access_most, last_count, hold_count, get_count, window_count, direct_or, last_or, hold_or, get_or, arguments_count, further_count, integer_count, truth_count, text_count, is-Open, is-Dot, is-Minus}
 use Rattle.lola_fewest.proofs.Costs.{Costs, Adds, nothing, marked, both, mapped, either, behind_mark, behind, before, weaker, followed, joined}
 
 -- the marks of the arguments of a name

@@ -20,7 +20,7 @@ use Rattle.lola_tree.specs.declared.declarations.Output.{Output}
 use Rattle.lola_tree.specs.declared.declarations.Trigger.{Trigger}
 use Rattle.lola_tree.specs.declared.declarations.Declaration.{Declaration}
 use Rattle.lola_tree.specs.declared.declarations.Declaration.TheVariants as d
-use Rattle.lola_grammar.specs.Syntax.{Lexeme, Of, Syntax, Past, Token, Mark, Whole, Known, Then, Map, Either, Maybe, Many, Fork, Repeats, Spells, max_marks}
+use Rattle.lola_grammar.specs.Syntax.{Lexeme, Syntax, Past, Token, Mark, Whole, Known, Then, Map, Either, Maybe, Many, Fork, Repeats, Spells, max_marks}
 use Rattle.lola_grammar.specs.Marks as marks
 use Rattle.lola_grammar.specs.Marks.{marks_in}
 use Rattle.lola_grammar.proofs.Tests.{and_both}
@@ -31,7 +31,6 @@ use Rattle.lola_print.specs.Print.{lex, bare, bare_formula}
 use Rattle.lola_printed.specs.Erased as erased
 use Rattle.lola_printed.specs.Erased.{QuantityReads, formula_need}
 use Rattle.lola_printed.specs.Fitting.{RhythmFits, Perhaps, Fits, AllFit, PacingFits, PartFits, SpawnFits, EvalFits, CloseFits, BodyFits, DeclarationFits, AllDeclarationsFit}
-use Rattle.lola_printed.proofs.Single as single
 use Rattle.lola_printed.proofs.Single.{token_spelled, name_spelled}
 use Rattle.lola_printed.proofs.Operands.{quantity_spelled}
 use Rattle.lola_printed.proofs.PrintedFormulas.{formula_printed, formula_whole}
