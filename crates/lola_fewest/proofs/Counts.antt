@@ -257,28 +257,7 @@ offset_count k =
       count-nil,
     )
 
--- the marks that an access takes by itself, and with a default
-pub access_most : (how : Access) → count (out.access how) ≤ 3
-access_most a.Direct = omega (arith, count-nil)
-access_most (a.Offset dot k p) = by (k == 1)
-  where
-    by : (b : Bool) → count (if b then out.call (codes "last") [] else out.call (codes "offset") (out.labelled (codes "by") (lex is.Minus ∷ out.integer k ∷ []))) ≤ 3
-    by true = omega (arith, call_count (codes "last") [], count-nil)
-    by false = omega (arith, offset_count k)
-access_most (a.Hold dot) = omega (arith, call_count (codes "hold") [], count-nil)
-access_most (a.Get dot) = omega (arith, call_count (codes "get") [], count-nil)
-access_most (a.Window dot exactly q n) =
-    omega (
-      arith,
-      call_count (codes "aggregate") (out.labelled (out.over_word exactly) (out.quantity q ∷ lex is.Comma ∷ out.labelled (codes "using") (out.name n ∷ []))),
-      labelled_count (out.over_word exactly) (out.quantity q ∷ lex is.Comma ∷ out.labelled (codes "using") (out.name n ∷ [])),
-      quantity_free q (lex is.Comma ∷ out.labelled (codes "using") (out.name n ∷ [])),
-      comma_free (out.labelled (codes "using") (out.name n ∷ [])),
-      labelled_count (codes "using") (out.name n ∷ []),
-      name_free n.text [],
-      count-nil,
-    )
-
+-- the marks that an access takes by itself
 pub last_count : (dot p : ℕ) → count (out.access (a.Offset dot 1 p)) ≡ 2
 last_count dot p = omega (arith, call_count (codes "last") [], count-nil)
 
@@ -300,6 +279,17 @@ window_count dot exactly q n =
       name_free n.text [],
       count-nil,
     )
+
+pub access_most : (how : Access) → count (out.access how) ≤ 3
+access_most a.Direct = omega (arith, count-nil)
+access_most (a.Offset dot k p) = by (k == 1)
+  where
+    by : (b : Bool) → count (if b then out.call (codes "last") [] else out.call (codes "offset") (out.labelled (codes "by") (lex is.Minus ∷ out.integer k ∷ []))) ≤ 3
+    by true = omega (arith, call_count (codes "last") [], count-nil)
+    by false = omega (arith, offset_count k)
+access_most (a.Hold dot) = omega (arith, hold_count dot)
+access_most (a.Get dot) = omega (arith, get_count dot)
+access_most (a.Window dot exactly q n) = omega (arith, window_count dot exactly q n)
 
 or_call : (w : List ℕ) (ts : List Lexeme) → count (out.call w (out.labelled (codes "or") ts)) ≡ suc (suc (count ts))
 or_call w ts = call_count w (out.labelled (codes "or") ts) ∙ ap (λ (n : ℕ). suc (suc n)) (labelled_count (codes "or") ts)
@@ -367,15 +357,12 @@ count-Defaults p x y = omega (arith, ap count (bare-Defaults p x y), by x)
     by (e.Binary' op p q r s t) = plain (e.Binary' op p q r s t)
     by (e.If' p q r s t u v) = plain (e.If' p q r s t u v)
 
-further_list_count : (x : Expr) (xs : List Expr) → count (out.further_list (x ∷ xs)) ≡ alone x + count (out.further_list xs)
-further_list_count x xs = comma_free (bare x ++ out.further_list xs) ∙ count-append (bare x) (out.further_list xs)
-
 pub arguments_count : (x : Expr) (xs : List Expr) → count (out.argument_list (x ∷ xs)) ≡ suc (alone x + count (out.further_list xs))
 arguments_count x xs =
     omega (arith, marked is.Open is-Open (bare x ++ (out.further_list xs ++ lex is.Shut ∷ [])), count-append (bare x) (out.further_list xs ++ lex is.Shut ∷ []), count-append (out.further_list xs) (lex is.Shut ∷ []), shut_free [], count-nil)
 
 pub further_count : (x : Expr) (xs : List Expr) → count (out.further_list (x ∷ xs)) ≡ alone x + count (out.further_list xs)
-further_count x xs = further_list_count x xs
+further_count x xs = comma_free (bare x ++ out.further_list xs) ∙ count-append (bare x) (out.further_list xs)
 
 pub integer_count : (n p : ℕ) → alone (e.Literal (record { value = value.Integer false n; at = p })) ≡ 0
 integer_count n p = integer_free n [] ∙ count-nil
@@ -398,7 +385,7 @@ or_second b c h = ap (λ (d : Bool). d || c) h
 or_first : (b c : Bool) → b ≡ true → (b || c) ≡ true
 or_first b c h = ap (λ (d : Bool). d || c) h
 
--- what stands in brackets alone
+-- what has an integer at its front binds more tightly than any sign
 level_top : (x : Expr) → heads x ≡ true → level x ≡ 8
 level_top (e.Literal l) h = refl
 level_top (e.Reference' n b shape row how) h = refl

@@ -30,7 +30,7 @@ use Rattle.lola_printed.proofs.PrintedFormulas.{formula_printed, formula_whole}
 
 -- ---- pacings
 
-pub enclosed_spelled : {A : Type 0} (s : Syntax A) (u : List Lexeme) (x : A) → Spells s u x → Spells (g.enclosed s) (out.bracketed u) x
+enclosed_spelled : {A : Type 0} (s : Syntax A) (u : List Lexeme) (x : A) → Spells s u x → Spells (g.enclosed s) (out.bracketed u) x
 enclosed_spelled s u x h =
     after (token is.Open) (s <* token is.Shut) (lex is.Open ∷ []) (u ++ lex is.Shut ∷ []) 0 x (token_spelled is.Open)
     (before s (token is.Shut) u (lex is.Shut ∷ []) x 0 h (token_spelled is.Shut))

@@ -107,7 +107,7 @@ module _ (n : ℕ) where
 
 -- ---- names with kinds
 
-pub typed_spelled : (t : Typed) → Spells g.typed (out.typed t) (erased.typed t)
+typed_spelled : (t : Typed) → Spells g.typed (out.typed t) (erased.typed t)
 unfolding g.typed
 typed_spelled t =
     mapped _ _ (out.typed t) (erased.name t.name, erased.name t.kind)
