@@ -40,7 +40,7 @@ either_false true b h = absurd (true≢false h)
 either_false false b h = (refl, h)
 
 -- a name that is no clock
-other_spelled : (n : Name) → out.is_clock n.text ≡ false → Spells (g.other_name g.clock_words) (out.name n ∷ []) (erased.name n)
+pub other_spelled : (n : Name) → out.is_clock n.text ≡ false → Spells (g.other_name g.clock_words) (out.name n ∷ []) (erased.name n)
 unfolding Spells g.other_name fits
 other_spelled n h =
     let parts = either_false (bytes_eq n.text (codes "Global")) (bytes_eq n.text (codes "Local")) h in
@@ -76,7 +76,7 @@ event_spelled : (n : ℕ) (x : Formula) → formula_need x ≤ n → Spells (g.r
 event_spelled n (f.Input nm) le = input_event n nm (out.is_clock nm.text) refl
 event_spelled n x le = formula_event n x le
 
-clock_call : (w : List ℕ) (q : Quantity) → QuantityReads q → Spells (word w *> g.enclosed g.quantity) (out.word w ∷ out.bracketed (out.quantity q ∷ [])) (erased.quantity q)
+pub clock_call : (w : List ℕ) (q : Quantity) → QuantityReads q → Spells (word w *> g.enclosed g.quantity) (out.word w ∷ out.bracketed (out.quantity q ∷ [])) (erased.quantity q)
 clock_call w q h =
     after (word w) (g.enclosed g.quantity) (out.word w ∷ []) (out.bracketed (out.quantity q ∷ [])) 0 (erased.quantity q) (word_spelled w)
     (enclosed_spelled g.quantity (out.quantity q ∷ []) (erased.quantity q) (quantity_spelled q h))
@@ -215,7 +215,7 @@ comma_list : (n : ℕ) (p : Part) (ps : List Part) → Fits n p.expr → AllFit 
 comma_list n p ps h k = both (g.part_behind (suc n) is.Comma) (Many (g.part_behind (suc n) is.Comma)) (out.part is.Comma p) (out.further_parts ps) (erased.part p) (map erased.part ps) (part_spelled n is.Comma p h) (commas_spelled n ps k)
 
 -- an expression where brackets are looked for: one level less is needed
-whole_level : (n : ℕ) (x : Expr) → Fits n x → Spells (g.expr_with (expr_in (suc n)) (other_in (suc n))) (bare x) (erased.expr x)
+pub whole_level : (n : ℕ) (x : Expr) → Fits n x → Spells (g.expr_with (expr_in (suc n)) (other_in (suc n))) (bare x) (erased.expr x)
 whole_level n x h = level_whole x (suc n) (printed x (suc n) (omega (arith, h.need)) h.reads)
 
 abbrev pub some_parts : List Part → Option (List Part)

@@ -36,7 +36,7 @@ module _ (n : ℕ) where
   maybe_when : (o : Option Part) → Perhaps (PartFits n) o → Spells (Maybe (g.part_behind (suc n) is.When)) (out.maybe (out.part is.When) o) (erased.perhaps erased.part o)
   maybe_when o h = maybe_spelled (g.part_behind (suc n) is.When) (out.part is.When) erased.part (PartFits n) (λ p k. part_spelled n is.When p k) o h
 
-  parts_are : (ps : List Part) → g.parts_or_none (some_parts ps) ≡ map erased.part ps
+  pub parts_are : (ps : List Part) → g.parts_or_none (some_parts ps) ≡ map erased.part ps
   parts_are [] = refl
   parts_are (p ∷ ps) = refl
 
@@ -127,11 +127,11 @@ listed_spelled t ts =
     mapped _ _ (out.listed (t ∷ ts)) (erased.typed t, map erased.typed ts)
     (both g.typed (Many (g.further g.typed)) (out.typed t) (out.further_typed ts) (erased.typed t) (map erased.typed ts) (typed_spelled t) (further_spelled ts))
 
-abbrev bracketed_typed : List Typed → Option g.Bracketed
+abbrev pub bracketed_typed : List Typed → Option g.Bracketed
 bracketed_typed [] = None
 bracketed_typed (t ∷ ts) = Some (0, map erased.typed (t ∷ ts))
 
-parameters_spelled : (ts : List Typed) → Spells (Maybe g.parameters) (out.parameters ts) (bracketed_typed ts)
+pub parameters_spelled : (ts : List Typed) → Spells (Maybe g.parameters) (out.parameters ts) (bracketed_typed ts)
 unfolding Spells g.parameters
 parameters_spelled [] = refl
 parameters_spelled (t ∷ ts) = (
@@ -142,7 +142,7 @@ parameters_spelled (t ∷ ts) = (
   before (g.listed g.typed) (token is.Shut) (out.listed (t ∷ ts)) (lex is.Shut ∷ []) (map erased.typed (t ∷ ts)) 0 (listed_spelled t ts) (token_spelled is.Shut),
 )
 
-kind_spelled : (o : Option Name) → Spells (Maybe g.kind) (out.kind o) (erased.perhaps erased.name o)
+pub kind_spelled : (o : Option Name) → Spells (Maybe g.kind) (out.kind o) (erased.perhaps erased.name o)
 unfolding Spells g.kind
 kind_spelled None = refl
 kind_spelled (Some m) = after (token is.Colon) g.name (lex is.Colon ∷ []) (out.name m ∷ []) 0 (erased.name m) (token_spelled is.Colon) (name_spelled m)
@@ -157,21 +157,21 @@ literal_spelled (value.Truth true) h = inr (inr (inl (0, refl, token_spelled is.
 literal_spelled (value.Truth false) h = inr (inr (inr (inl (0, refl, token_spelled is.False))))
 literal_spelled (value.Text z) h = inr (inr (inr (inr ((z, 0), refl, text_spelled z h))))
 
-message_spelled : (z : List ℕ) → MessageReads z → Spells g.message (out.message z) z
+pub message_spelled : (z : List ℕ) → MessageReads z → Spells g.message (out.message z) z
 unfolding Spells g.message
 message_spelled [] h = (None, refl, refl)
 message_spelled (b ∷ z) h = (Some (b ∷ z, 0), refl, text_spelled (b ∷ z) h)
 
 -- ---- declarations
 
-inputs_spelled : (at : ℕ) (ts : List Typed) → 0 < length ts → Spells g.inputs (lex is.Input ∷ out.listed ts) (d.Inputs (record { at = 0; inputs = map erased.typed ts }))
+pub inputs_spelled : (at : ℕ) (ts : List Typed) → 0 < length ts → Spells g.inputs (lex is.Input ∷ out.listed ts) (d.Inputs (record { at = 0; inputs = map erased.typed ts }))
 unfolding g.inputs
 inputs_spelled at [] h = absurd (omega (arith, h))
 inputs_spelled at (t ∷ ts) h =
     mapped _ _ (lex is.Input ∷ out.listed (t ∷ ts)) (0, map erased.typed (t ∷ ts))
     (both (token is.Input) (g.listed g.typed) (lex is.Input ∷ []) (out.listed (t ∷ ts)) 0 (map erased.typed (t ∷ ts)) (token_spelled is.Input) (listed_spelled t ts))
 
-constant_spelled : (c : Constant) → ValueReads c.literal.value → Spells g.constant (lex is.Constant ∷ out.constant c) (erased.declaration (d.Constant c))
+pub constant_spelled : (c : Constant) → ValueReads c.literal.value → Spells g.constant (lex is.Constant ∷ out.constant c) (erased.declaration (d.Constant c))
 unfolding g.constant
 constant_spelled c h =
     mapped _ _ (lex is.Constant ∷ out.constant c) (0, (erased.name c.name, (erased.name c.kind, erased.literal c.literal)))
@@ -181,11 +181,11 @@ constant_spelled c h =
     (after (token is.Colon) g.name (lex is.Colon ∷ []) (out.name c.kind ∷ []) 0 (erased.name c.kind) (token_spelled is.Colon) (name_spelled c.kind))
     (after (token is.Define) g.literal (lex is.Define ∷ []) (out.literal c.literal.value) 0 (erased.literal c.literal) (token_spelled is.Define) (literal_spelled c.literal.value h)))))
 
-bracket_is : (ts : List Typed) → g.bracket_of (bracketed_typed ts) ≡ erased.parameters_bracket ts
+pub bracket_is : (ts : List Typed) → g.bracket_of (bracketed_typed ts) ≡ erased.parameters_bracket ts
 bracket_is [] = refl
 bracket_is (t ∷ ts) = refl
 
-parameters_are : (ts : List Typed) → g.parameters_of (bracketed_typed ts) ≡ map erased.typed ts
+pub parameters_are : (ts : List Typed) → g.parameters_of (bracketed_typed ts) ≡ map erased.typed ts
 parameters_are [] = refl
 parameters_are (t ∷ ts) = refl
 
