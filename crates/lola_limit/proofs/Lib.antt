@@ -1,0 +1,4 @@
+pub mod Opening
+pub mod Decided
+pub mod Every
+pub mod Open
