@@ -2,3 +2,4 @@ pub mod Opening
 pub mod Decided
 pub mod Every
 pub mod Open
+pub mod Free
