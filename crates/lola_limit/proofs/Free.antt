@@ -170,11 +170,11 @@ reads_free s fine u x rest h stop =
       | inr e ↦ absurd (never_deep s max_marks (u ++ rest) e.0 e.1)
     ]
 
--- a text begins with one sentence that what follows it does not go on
+-- a text begins with one sentence that what follows it does not go on, and that has one value
 pub unique : {A : Type 0} (s : Syntax A) → is_fine s ≡ true → (u v : List Lexeme) (x y : A) (rest after : List Lexeme) → Spells s u x → Spells s v y → starts (more s) rest ≡ false → starts (more s) after ≡ false
-    → u ++ rest ≡ v ++ after → (u ≡ v) × (rest ≡ after)
+    → u ++ rest ≡ v ++ after → (u ≡ v) × (rest ≡ after) × (x ≡ y)
 unique s fine u v x y rest after h g stop stops e =
     let p = reads_free s fine u x rest h stop in
     let q = reads_free s fine v y after g stops in
     let same = done_is x y p.0 q.0 rest after (sym p.1 ∙ ap (λ (w : List Lexeme). read (free s) max_marks w) e ∙ q.1) in
-    (append_cancel_right u v rest (e ∙ ap (λ (w : List Lexeme). v ++ w) (sym same.2)), same.2)
+    (append_cancel_right u v rest (e ∙ ap (λ (w : List Lexeme). v ++ w) (sym same.2)), same.2, same.0)

@@ -3,3 +3,4 @@ pub mod Decided
 pub mod Every
 pub mod Open
 pub mod Free
+pub mod Keeps
