@@ -4,3 +4,4 @@ pub mod Every
 pub mod Open
 pub mod Free
 pub mod Keeps
+pub mod Kept
