@@ -5,3 +5,4 @@ pub mod Open
 pub mod Free
 pub mod Keeps
 pub mod Kept
+pub mod Going
