@@ -6,3 +6,5 @@ pub mod Free
 pub mod Keeps
 pub mod Kept
 pub mod Going
+pub mod Answered
+pub mod Levels

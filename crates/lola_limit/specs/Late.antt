@@ -1,5 +1,5 @@
 -- Which mark of its whole expression a token is.
-use Rattle.std.specs.Prelude.{◌≡◌, ℕ, suc, ◌+◌, ◌≤◌, Bool, true, List, ◌∷◌, ◌++◌, ◌⊎◌}
+use Rattle.std.specs.Prelude.{◌≡◌, ℕ, suc, ◌+◌, ◌≤◌, ◌<◌, Bool, true, List, ◌∷◌, ◌++◌, length, ◌⊎◌}
 use Rattle.lola_grammar.specs.Syntax.{Lexeme, Terminal, Syntax, Past, Token, Mark, Whole, Known, Then, Map, Either, Maybe, Many, Fork, Spells, max_marks}
 use Rattle.lola_grammar.specs.Marks.{is_mark, marks_in}
 use Rattle.lola_grammar.specs.Exceeding.{ExceedsAmong, ExceedsIfSome}
@@ -35,3 +35,11 @@ module _ (marks : List Terminal) where
   -- In every sentence that begins with u, t and w, t is a mark too many.
   abbrev pub IsLateInEvery : {A : Type 0} → Syntax A → List Lexeme → Lexeme → List Lexeme → Type 0
   IsLateInEvery {A} s u t w = (q : List Lexeme) (x : A) → Spells s (u ++ t ∷ (w ++ q)) x → IsLate s u t (w ++ q) x
+
+  -- In the sentence z, with this value, none of the first n tokens is a mark too many.
+  abbrev pub NoneIsLate : {A : Type 0} → Syntax A → ℕ → List Lexeme → A → Type 0
+  NoneIsLate s n z x = (k : ℕ) (u : List Lexeme) (t : Lexeme) (v : List Lexeme) → z ≡ u ++ t ∷ v → length u < n → IsMarkBehind k s u t v x → k < max_marks
+
+  -- In the sentence of u, t and v, with this value, t is the first mark too many.
+  abbrev pub IsFirstLate : {A : Type 0} → Syntax A → List Lexeme → Lexeme → List Lexeme → A → Type 0
+  IsFirstLate s u t v x = IsMarkBehind max_marks s u t v x × NoneIsLate s (length u) (u ++ t ∷ v) x

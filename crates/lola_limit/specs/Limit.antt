@@ -1,9 +1,10 @@
 -- Where a specification is refused as too deep.
-use Rattle.std.specs.Prelude.{◌≡◌, ◌≤◌, ℕ, List, ◌∷◌, ◌++◌, Result, Err}
-use Rattle.lola_grammar.specs.Syntax.{Lexeme, TooDeep, read_all}
+use Rattle.std.specs.Prelude.{◌≡◌, ◌≤◌, ℕ, suc, List, ◌∷◌, ◌++◌, length, Result, Err, ◌⊎◌}
+use Rattle.lola_tree.specs.declared.declarations.Declaration.{Declaration}
+use Rattle.lola_grammar.specs.Syntax.{Lexeme, Unexpected, TooDeep, Spells, max_marks, read_all}
 use Rattle.lola_parser.specs.Grammar.{specification, all_marks}
 use Rattle.lola_parser.specs.Whole.{most_levels}
-use Rattle.lola_limit.specs.Late.{IsLateInEvery}
+use Rattle.lola_limit.specs.Late.{IsMarkBehind, IsLateInEvery, NoneIsLate, IsFirstLate}
 use Rattle.lola_limit.specs.Fronts.{IsLongestFront}
 
 -- The mark that is refused as too deep stands before the first token that does not fit. It is a mark too many of a whole
@@ -11,3 +12,15 @@ use Rattle.lola_limit.specs.Fronts.{IsLongestFront}
 abbrev pub TooDeepIsLateInEvery : Type 0
 TooDeepIsLateInEvery = (n : ℕ) → most_levels ≤ n → (ts d p rest : List Lexeme) → read_all (specification n) ts ≡ Err (TooDeep d) → IsLongestFront (specification n) ts p rest
     → (u : List Lexeme) × (t : Lexeme) × (w : List Lexeme) × (p ≡ u ++ t ∷ w) × (d ≡ t ∷ (w ++ rest)) × IsLateInEvery all_marks (specification n) u t w
+
+-- Where some mark before the first token that does not fit is a mark too many in every specification that begins with the
+-- tokens before that one, the text is refused as too deep, and not at that token.
+abbrev pub LateInEveryIsTooDeep : Type 0
+LateInEveryIsTooDeep = (n : ℕ) → most_levels ≤ n → (ts p rest : List Lexeme) → IsLongestFront (specification n) ts p rest
+    → (u : List Lexeme) (t : Lexeme) (w : List Lexeme) → p ≡ u ++ t ∷ w → IsLateInEvery all_marks (specification n) u t w → (d : List Lexeme) × (read_all (specification n) ts ≡ Err (TooDeep d))
+
+-- Where a text is refused at a token that does not fit, the tokens before it begin a specification in which none of them is
+-- a mark too many.
+abbrev pub UnexpectedKeepsTheLimit : Type 0
+UnexpectedKeepsTheLimit = (n : ℕ) → most_levels ≤ n → (ts rest : List Lexeme) → read_all (specification n) ts ≡ Err (Unexpected rest)
+    → (p : List Lexeme) × IsLongestFront (specification n) ts p rest × ((q : List Lexeme) × (x : List Declaration) × Spells (specification n) (p ++ q) x × NoneIsLate all_marks (specification n) (length p) (p ++ q) x)

@@ -1,10 +1,22 @@
 //! The laws, about definitions alone.
 
-ghost use Rattle.lola_limit.specs.Limit.{TooDeepIsLateInEvery};
+ghost use Rattle.lola_limit.specs.Limit.{TooDeepIsLateInEvery, LateInEveryIsTooDeep, UnexpectedKeepsTheLimit};
 
 /// The mark at which reading is refused as too deep is the 513th or a later mark of a whole expression or formula in every
 /// specification that begins with the tokens before the first one that does not fit, also where the tokens are no
 /// specification.
 pub fn late_in_every()
     ensures { TooDeepIsLateInEvery }
+{}
+
+/// Where a mark before the first token that does not fit is the 513th or a later mark of a whole expression or formula in
+/// every specification that begins with the tokens before that token, the text is refused as too deep, and not at that token.
+pub fn late_is_too_deep()
+    ensures { LateInEveryIsTooDeep }
+{}
+
+/// Where a text is refused at a token that does not fit, the tokens before it begin a specification in which none of them is
+/// the 513th or a later mark of a whole expression or formula.
+pub fn unexpected_keeps_the_limit()
+    ensures { UnexpectedKeepsTheLimit }
 {}
