@@ -139,11 +139,11 @@ module _ (marks : List Terminal) where
   then_ok : {A B : Type 0} (r : Outcome A) (f : A → Reader B) (x : A) (i : ℕ) (mid : List Lexeme) (o : Outcome B) → r ≡ Ok (x, i, mid) → f x i mid ≡ o → (r >>= f) ≡ o
   then_ok r f x i mid o e g = rw e g
 
-  opens_part : {A : Type 0} (s : Syntax A) → is_fine s ≡ true → nullable s ≡ false → (v : List Lexeme) (x : A) (rest : List Lexeme) → Spells s v x → starts (first s) (v ++ rest) ≡ true
+  pub opens_part : {A : Type 0} (s : Syntax A) → is_fine s ≡ true → nullable s ≡ false → (v : List Lexeme) (x : A) (rest : List Lexeme) → Spells s v x → starts (first s) (v ++ rest) ≡ true
   opens_part s fine full [] x rest h = absurd (full_is s fine full x h)
   opens_part s fine full (t ∷ v) x rest h = begins s fine t v x h
 
-  misses_part : {A : Type 0} (ks : List Terminal) (s : Syntax A) → is_fine s ≡ true → nullable s ≡ false → apart ks (first s) ≡ true → (v : List Lexeme) (x : A) (rest : List Lexeme) → Spells s v x → starts ks (v ++ rest) ≡ false
+  pub misses_part : {A : Type 0} (ks : List Terminal) (s : Syntax A) → is_fine s ≡ true → nullable s ≡ false → apart ks (first s) ≡ true → (v : List Lexeme) (x : A) (rest : List Lexeme) → Spells s v x → starts ks (v ++ rest) ≡ false
   misses_part ks s fine full away [] x rest h = absurd (full_is s fine full x h)
   misses_part ks s fine full away (t ∷ v) x rest h = no_more (any_fits ks t) (λ c. apart_excludes ks (first s) t away c (begins s fine t v x h))
 

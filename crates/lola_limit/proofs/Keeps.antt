@@ -133,7 +133,7 @@ module _ (marks : List Terminal) where
 
     -- ---- repetitions
 
-    after_item : {A : Type 0} (a : Syntax A) → is_fine a ≡ true → apart (more a) (first a) ≡ true → (w : List Lexeme) (xs : List A) (rest : List Lexeme) → Repeats (Spells a) w xs → starts (first a ++ more a) rest ≡ false → starts (more a) (w ++ rest) ≡ false
+    pub after_item : {A : Type 0} (a : Syntax A) → is_fine a ≡ true → apart (more a) (first a) ≡ true → (w : List Lexeme) (xs : List A) (rest : List Lexeme) → Repeats (Spells a) w xs → starts (first a ++ more a) rest ≡ false → starts (more a) (w ++ rest) ≡ false
     after_item a fine away [] xs rest h stop = (any_split (first a) (more a) rest stop).1
     after_item a fine away (s ∷ w) xs rest h stop = no_more (any_fits (more a) s) (λ c. apart_excludes (more a) (first a) s away c (repeats_begin (Spells a) (first a) (begins a fine) s w xs h))
 

@@ -8,3 +8,4 @@ pub mod Kept
 pub mod Going
 pub mod Answered
 pub mod Levels
+pub mod First

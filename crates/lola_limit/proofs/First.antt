@@ -1,0 +1,218 @@
+-- Which mark of a sentence its reading ends at: the first that is too many, or behind a bracket that is a mark the next one.
+use Rattle.std.proofs.Common.{◌≡◌, ℕ, zero, suc, ◌+◌, ◌-◌, ◌≤◌, ◌<◌, Bool, true, false, not, ◌&&◌, List, [], ◌∷◌, ◌++◌, length, Option, Some, None, Ok, Err, refl, sym, ap, subst, ◌∙◌, append_assoc, arith, inl, inr, ◌⊎◌}
+use Rattle.std.proofs.lemmas.List.{append-nil, length-append, append_cancel_right}
+use Rattle.lola_grammar.specs.Syntax.{Lexeme, Terminal, fits, any_fits, apart, within, Syntax, Past, Token, Mark, Whole, Known, Then, Map, Either, Maybe, Many, Fork, charged, either_rest, last_mark, Repeats, Spells, starts, first, nullable, more, is_fine, Unexpected, TooDeep, Outcome, Reader, ◌>>=◌, max_marks, repeated, read}
+use Rattle.lola_grammar.specs.Marks.{guards, is_mark, marks_in, tallies, is_counted}
+use Rattle.lola_grammar.specs.Exceeding.{ExceedsAmong}
+use Rattle.lola_grammar.proofs.Tests.{and_both, not_true, no_more, apart_excludes}
+use Rattle.lola_grammar.proofs.Laws.{chosen, done_is}
+use Rattle.lola_grammar.proofs.Complete.{and_three, choice_parts, known_parts, fork_is, begins, spells_nil, any_split, follows, tail_stops, stops_within, full_is, fork_follows, complete, OkOrDeep, ForkParts}
+use Rattle.lola_grammar.proofs.Viable.{bind_err}
+use Rattle.lola_grammar.proofs.Within.{marks-append, complete_within}
+use Rattle.lola_grammar.proofs.Over.{ForkCounted, fork_counted, charged_ends, last_is}
+use Rattle.lola_grammar.proofs.Exactly.{few_or_more, too_many, opens_part, misses_part}
+use Rattle.lola_limit.specs.Late.{IsMarkBehind, NoneIsLate, IsFirstLate}
+use Rattle.lola_limit.proofs.Keeps.{Keeps, KeepsAmong, few_all, few_front, keeps_none, keeps_whole, keeps_then, keeps_left, keeps_right, keeps_map, keeps_some, keeps_nil, keeps_cons, keeps_many, keeps_list, keeps_bracket, after_item}
+use Rattle.lola_limit.proofs.Kept.{read_kept}
+
+-- what was read of a sentence, where reading it ended
+done_or_not : {A : Type 0} (o : Outcome A) (x y : A) (i : ℕ) (rest mid : List Lexeme) → OkOrDeep o x rest → o ≡ Ok (y, i, mid) → (x ≡ y) × (rest ≡ mid)
+done_or_not o x y i rest mid (inl e) h = let q = done_is x y e.0 i rest mid (sym e.1 ∙ h) in (q.0, q.2)
+done_or_not o x y i rest mid (inr e) h = absurd (let d = e.1 in cc)
+
+module _ (marks : List Terminal) where
+  abbrev Firsts : (ℕ → List Lexeme → Lexeme → List Lexeme → Type 0) → (ℕ → Type 0) → List Lexeme → List Lexeme → List Lexeme → Type 0
+  Firsts Q K z rest d = (u : List Lexeme) × (t : Lexeme) × (v : List Lexeme) × (z ≡ u ++ t ∷ v) × (d ≡ t ∷ (v ++ rest)) × ((Q max_marks u t v × K (length u)) ⊎ Q (suc max_marks) u t v)
+
+  -- of the sentence z and what follows it, reading ended at its first mark too many, or at the next mark
+  abbrev pub IsFirst : {A : Type 0} → Syntax A → List Lexeme → A → List Lexeme → List Lexeme → Type 0
+  IsFirst s z x rest d = Firsts (λ k u t v. IsMarkBehind marks k s u t v x) (λ n. Keeps marks max_marks s n z x) z rest d
+
+  abbrev IsFirstAmong : {A : Type 0} → Syntax A → List Lexeme → List A → List Lexeme → List Lexeme → Type 0
+  IsFirstAmong a z xs rest d = Firsts (λ k u t v. ExceedsAmong (IsMarkBehind marks k a) (Spells a) u t v xs) (λ n. KeepsAmong marks max_marks a n z xs) z rest d
+
+  -- it stands in the first of two parts
+  in_first : (Q R : ℕ → List Lexeme → Lexeme → List Lexeme → Type 0) (K L : ℕ → Type 0) (z1 z2 rest d : List Lexeme) → Firsts Q K z1 (z2 ++ rest) d
+      → ((k : ℕ) (u : List Lexeme) (t : Lexeme) (v : List Lexeme) → Q k u t v → R k u t (v ++ z2)) → ((n : ℕ) → n ≤ length z1 → K n → L n) → Firsts R L (z1 ++ z2) rest d
+  in_first Q R K L z1 z2 rest d p grow keep =
+      (
+        p.0,
+        p.1,
+        p.2 ++ z2,
+        ap (λ (w : List Lexeme). w ++ z2) p.3 ∙ append_assoc p.0 (p.1 ∷ p.2) z2,
+        p.4 ∙ ap (λ (w : List Lexeme). p.1 ∷ w) (sym (append_assoc p.2 z2 rest)),
+        elim p.5 [
+          | inl q ↦ inl (grow max_marks p.0 p.1 p.2 q.0, keep (length p.0) (omega (arith, ap length p.3, length-append p.0 (p.1 ∷ p.2))) q.1)
+          | inr q ↦ inr (grow (suc max_marks) p.0 p.1 p.2 q)
+        ],
+      )
+
+  -- it stands in the second
+  in_next : (Q R : ℕ → List Lexeme → Lexeme → List Lexeme → Type 0) (K L : ℕ → Type 0) (z1 z2 rest d : List Lexeme) → Firsts Q K z2 rest d
+      → ((k : ℕ) (u : List Lexeme) (t : Lexeme) (v : List Lexeme) → Q k u t v → R k (z1 ++ u) t v) → ((n j : ℕ) → n ≡ length z1 + j → K j → L n) → Firsts R L (z1 ++ z2) rest d
+  in_next Q R K L z1 z2 rest d p grow keep =
+      (
+        z1 ++ p.0,
+        p.1,
+        p.2,
+        ap (λ (w : List Lexeme). z1 ++ w) p.3 ∙ sym (append_assoc z1 p.0 (p.1 ∷ p.2)),
+        p.4,
+        elim p.5 [
+          | inl q ↦ inl (grow max_marks p.0 p.1 p.2 q.0, keep (length (z1 ++ p.0)) (length p.0) (omega (arith, length-append z1 p.0)) q.1)
+          | inr q ↦ inr (grow (suc max_marks) p.0 p.1 p.2 q)
+        ],
+      )
+
+  regrouped : (z z1 z2 rest : List Lexeme) → z ≡ z1 ++ z2 → z ++ rest ≡ z1 ++ (z2 ++ rest)
+  regrouped z z1 z2 rest e = ap (λ (w : List Lexeme). w ++ rest) e ∙ append_assoc z1 z2 rest
+
+  -- what was read of a first part keeps the limit
+  first_kept : {A : Type 0} (a : Syntax A) → is_fine a ≡ true → is_counted marks a ≡ true → (m : ℕ) (z1 after : List Lexeme) (x : A) (i : ℕ) → read a m (z1 ++ after) ≡ Ok (x, i, after) → (n : ℕ) → Keeps marks max_marks a n z1 x
+  first_kept a fine count m z1 after x i h n =
+      let k = read_kept marks a fine count m (z1 ++ after) x i after h in
+      subst (λ (w : List Lexeme). Keeps marks max_marks a n w x) (append_cancel_right k.0 z1 after (sym k.1)) (k.3 n)
+
+  -- the sentence by its parts
+  of_parts : {A : Type 0} (s : Syntax A) (z y : List Lexeme) (x : A) (rest d : List Lexeme) → z ≡ y → IsFirst s y x rest d → IsFirst s z x rest d
+  of_parts s z y x rest d e h = subst (λ (w : List Lexeme). IsFirst s w x rest d) (sym e) h
+
+  abbrev EachFirst : {A : Type 0} → Syntax A → Type 0
+  EachFirst {A} a = (m : ℕ) (z : List Lexeme) (x : A) (rest d : List Lexeme) → Spells a z x → starts (more a) rest ≡ false → read a m (z ++ rest) ≡ Err (TooDeep d) → IsFirst a z x rest d
+
+  repeated_first : {A : Type 0} (a : Syntax A) → is_fine a ≡ true → is_counted marks a ≡ true → apart (more a) (first a) ≡ true → EachFirst a
+      → (n m : ℕ) (z : List Lexeme) (xs : List A) (rest d : List Lexeme) → Repeats (Spells a) z xs → starts (first a ++ more a) rest ≡ false → repeated (read a) (first a) n m (z ++ rest) ≡ Err (TooDeep d) → IsFirstAmong a z xs rest d
+  repeated_first a fine count away each zero m z xs rest d h stop e = absurd cc
+  repeated_first a fine count away each (suc n) m z [] rest d h stop e =
+      let none : starts (first a) (z ++ rest) ≡ false = ap (λ (w : List Lexeme). starts (first a) (w ++ rest)) h ∙ (any_split (first a) (more a) rest stop).0 in
+      elim (chosen (starts (first a) (z ++ rest)) _ _ _ e) [ inl c ↦ absurd (let w = c.0 in cc) | inr c ↦ absurd (let w = c.1 in cc) ]
+  repeated_first {A} a fine count away each (suc n) m z (x ∷ xs) rest d h stop e =
+      let clear : starts (more a) (h.1 ++ rest) ≡ false = after_item marks max_marks a fine away h.1 xs rest h.4 stop in
+      let split : z ++ rest ≡ h.0 ++ (h.1 ++ rest) = regrouped z h.0 h.1 rest h.2 in
+      let e' : repeated (read a) (first a) (suc n) m (h.0 ++ (h.1 ++ rest)) ≡ Err (TooDeep d) = ap (λ (w : List Lexeme). repeated (read a) (first a) (suc n) m w) (sym split) ∙ e in
+      let found : IsFirstAmong a (h.0 ++ h.1) (x ∷ xs) rest d = elim (chosen (starts (first a) (h.0 ++ (h.1 ++ rest))) _ _ _ e') [
+        | inl c ↦
+            elim (bind_err (read a m (h.0 ++ (h.1 ++ rest))) _ (TooDeep d) c.1) [
+              | inl g ↦
+                  let p = each m h.0 x (h.1 ++ rest) d h.3 clear g in
+                  in_first (λ k u t v. IsMarkBehind marks k a u t v x) (λ k u t v. ExceedsAmong (IsMarkBehind marks k a) (Spells a) u t v (x ∷ xs)) (λ l. Keeps marks max_marks a l h.0 x) (λ l. KeepsAmong marks max_marks a l (h.0 ++ h.1) (x ∷ xs)) h.0 h.1 rest d p
+                  (λ k u t v q. inl (v, h.1, refl, q, h.4))
+                  (λ l le q. keeps_cons marks max_marks a fine away l 0 h.0 h.1 [] x xs h.3 h.4 refl q (λ k u t v parts low r. absurd (omega (arith, low))) (omega (arith, le)))
+              | inr q ↦
+                  elim (bind_err (repeated (read a) (first a) n q.1 q.2) _ (TooDeep d) q.4) [
+                    | inl g ↦
+                        let same = done_or_not (read a m (h.0 ++ (h.1 ++ rest))) x q.0 q.1 (h.1 ++ rest) q.2 (complete a fine m h.0 x (h.1 ++ rest) h.3 clear) q.3 in
+                        let ok : read a m (h.0 ++ (h.1 ++ rest)) ≡ Ok (x, q.1, h.1 ++ rest) = q.3 ∙ ap (λ (w : List Lexeme). Ok (q.0, q.1, w)) (sym same.1) ∙ ap (λ (y : A). Ok (y, q.1, h.1 ++ rest)) (sym same.0) in
+                        let g' : repeated (read a) (first a) n q.1 (h.1 ++ rest) ≡ Err (TooDeep d) = ap (λ (w : List Lexeme). repeated (read a) (first a) n q.1 w) same.1 ∙ g in
+                        let p = repeated_first a fine count away each n q.1 h.1 xs rest d h.4 stop g' in
+                        in_next (λ k u t v. ExceedsAmong (IsMarkBehind marks k a) (Spells a) u t v xs) (λ k u t v. ExceedsAmong (IsMarkBehind marks k a) (Spells a) u t v (x ∷ xs)) (λ l. KeepsAmong marks max_marks a l h.1 xs) (λ l. KeepsAmong marks max_marks a l (h.0 ++ h.1) (x ∷ xs)) h.0 h.1 rest d p
+                        (λ k u t v r. inr (h.0, u, refl, h.3, r))
+                        (λ l j le r. keeps_cons marks max_marks a fine away l j h.0 h.1 [] x xs h.3 h.4 refl (first_kept a fine count m h.0 (h.1 ++ rest) x q.1 ok l) r (omega (arith, le)))
+                    | inr y ↦ absurd (let w = y.4 in cc)
+                  ]
+            ]
+        | inr c ↦ absurd (let w = c.1 in cc)
+      ] in
+      subst (λ (w : List Lexeme). IsFirstAmong a w (x ∷ xs) rest d) (sym h.2) found
+
+  -- ---- each grammar
+
+  same_part : (Q R : ℕ → List Lexeme → Lexeme → List Lexeme → Type 0) (K L : ℕ → Type 0) (z rest d : List Lexeme) → Firsts Q K z rest d
+      → ((k : ℕ) (u : List Lexeme) (t : Lexeme) (v : List Lexeme) → Q k u t v → R k u t v) → ((n : ℕ) → K n → L n) → Firsts R L z rest d
+  same_part Q R K L z rest d p grow keep =
+      (
+        p.0,
+        p.1,
+        p.2,
+        p.3,
+        p.4,
+        elim p.5 [
+          | inl q ↦ inl (grow max_marks p.0 p.1 p.2 q.0, keep (length p.0) q.1)
+          | inr q ↦ inr (grow (suc max_marks) p.0 p.1 p.2 q)
+        ],
+      )
+
+  not_deep : {A : Type 0} (o : Outcome A) (p : A × ℕ × List Lexeme) (d : List Lexeme) → o ≡ Ok p → o ≡ Err (TooDeep d) → ⊥
+  not_deep o p d h e = absurd cc
+
+  same_deep : {A : Type 0} (o : Outcome A) (c d : List Lexeme) → o ≡ Err (TooDeep c) → o ≡ Err (TooDeep d) → d ≡ c
+  same_deep {A} o c d h e = let k : ◌≡◌ {A = Outcome A} (Err (TooDeep d)) (Err (TooDeep c)) = sym e ∙ h in let q : TooDeep d ≡ TooDeep c = cc in cc
+
+  -- of a part whose marks are counted
+  abbrev IsCountedFirst : ℕ → List Lexeme → List Lexeme → List Lexeme → Type 0
+  IsCountedFirst m z rest d = (v : List Lexeme) × (t : Lexeme) × (w : List Lexeme) × (z ≡ v ++ t ∷ w) × (d ≡ t ∷ (w ++ rest)) × (marks_in marks v ≡ m) × (is_mark marks t ≡ true)
+
+  counted_first : {A : Type 0} (a : Syntax A) → is_fine a ≡ true → tallies marks a ≡ true → guards (suc max_marks) a ≡ true → (m : ℕ) → m ≤ max_marks → (z : List Lexeme) (x : A) (rest d : List Lexeme) → Spells a z x → starts (more a) rest ≡ false
+      → read a m (z ++ rest) ≡ Err (TooDeep d) → IsCountedFirst m z rest d
+  counted_first a fine tally guard m le z x rest d h stop e =
+      elim (few_or_more (marks_in marks z) m) [
+        | inl few ↦ absurd (not_deep (read a m (z ++ rest)) (x, m - marks_in marks z, rest) d (complete_within marks a fine tally (suc max_marks) guard m z x rest (omega (arith, le)) h stop few) e)
+        | inr many ↦
+            let p = too_many marks a fine tally guard m le z x rest h stop many in
+            (p.0, p.1, p.2, p.3, same_deep (read a m (z ++ rest)) (p.1 ∷ (p.2 ++ rest)) d p.4 e, p.5.0, p.5.1)
+      ]
+
+  module _ {A B : Type 0} (ks : List Terminal) (a : Syntax A) (b c : Syntax B) (f : ForkParts a b c) (g : ForkCounted marks ks a b c) (z1 z2 rest d : List Lexeme) (x : A × B) (ha : Spells a z1 x.0) where
+    -- reading ended in the first part
+    head_first : (hz : Spells b z2 x.1 ⊎ Spells c z2 x.1) → IsCountedFirst max_marks z1 (z2 ++ rest) d → IsFirst (Fork ks a b c) (z1 ++ z2) x rest d
+    unfolding IsMarkBehind
+    head_first hz p =
+        let there : Spells a (p.0 ++ p.1 ∷ p.2) x.0 = subst (λ (w : List Lexeme). Spells a w x.0) p.3 ha in
+        (
+          p.0,
+          p.1,
+          p.2 ++ z2,
+          ap (λ (w : List Lexeme). w ++ z2) p.3 ∙ append_assoc p.0 (p.1 ∷ p.2) z2,
+          p.4 ∙ ap (λ (w : List Lexeme). p.1 ∷ w) (sym (append_assoc p.2 z2 rest)),
+          elim hz [
+            | inl hb ↦
+                inl (
+                  inl (inl (p.2, z2, refl, there, hb, p.5, p.6)),
+                  keeps_list marks max_marks ks a b c f (length p.0) 0 z1 z2 x ha hb (few_front marks max_marks 0 z1 p.0 (p.1 ∷ p.2) p.3 (omega (arith, p.5))) (keeps_none marks max_marks b z2 x.1) (omega (arith, ap length p.3, length-append p.0 (p.1 ∷ p.2))),
+                )
+            | inr hc ↦ inr (inl (inr (p.2, z2, refl, there, hc, ap suc p.5, p.6)))
+          ],
+        )
+
+    module _ (i : ℕ) (full : max_marks ≡ i + marks_in marks z1) where
+      list_first : Spells b z2 x.1 → IsFirst b z2 x.1 rest d → IsFirst (Fork ks a b c) (z1 ++ z2) x rest d
+      unfolding IsMarkBehind
+      list_first hb p =
+          in_next (λ k u t v. IsMarkBehind marks k b u t v x.1) (λ k u t v. IsMarkBehind marks k (Fork ks a b c) u t v x) (λ n. Keeps marks max_marks b n z2 x.1) (λ n. Keeps marks max_marks (Fork ks a b c) n (z1 ++ z2) x) z1 z2 rest d p
+          (λ k u t v q. inr (inl (z1, u, refl, ha, q)))
+          (λ n j le q. keeps_list marks max_marks ks a b c f n j z1 z2 x ha hb (few_all marks max_marks 0 n z1 (omega (arith, full))) q (omega (arith, le)))
+
+      -- the last mark of the first part is too many, since the bracket was one
+      last_first : Spells c z2 x.1 → i ≡ 0 → d ≡ last_mark ks (length (z1 ++ (z2 ++ rest)) - length (z2 ++ rest)) (z2 ++ rest) (z1 ++ (z2 ++ rest)) → IsFirst (Fork ks a b c) (z1 ++ z2) x rest d
+      unfolding IsMarkBehind
+      last_first hc none is =
+          let mid = z2 ++ rest in
+          let p = last_is marks ks g.same z1 mid mid 511 (omega (arith, full, none)) in
+          let len : length (z1 ++ mid) - length mid ≡ length z1 = omega (arith, length-append z1 mid) in
+          let there : d ≡ p.1 ∷ (p.2 ++ mid) = is ∙ ap (λ (k : ℕ). last_mark ks k mid (z1 ++ mid)) len ∙ p.7 in
+          (
+            p.0,
+            p.1,
+            p.2 ++ z2,
+            ap (λ (w : List Lexeme). w ++ z2) p.3 ∙ append_assoc p.0 (p.1 ∷ p.2) z2,
+            there ∙ ap (λ (w : List Lexeme). p.1 ∷ w) (sym (append_assoc p.2 z2 rest)),
+            inl (
+              inl (inr (p.2, z2, refl, subst (λ (w : List Lexeme). Spells a w x.0) p.3 ha, hc, omega (arith, p.5), p.4)),
+              keeps_bracket marks max_marks ks a b c f (length p.0) 0 z1 z2 x ha hc (few_front marks max_marks 1 z1 p.0 (p.1 ∷ p.2) p.3 (omega (arith, p.5))) (λ u t v parts low mark. absurd (omega (arith, low))) (omega (arith, ap length p.3, length-append p.0 (p.1 ∷ p.2))),
+            ),
+          )
+
+      bracket_first : Spells c z2 x.1 → (j : ℕ) → i ≡ suc j → IsCountedFirst j z2 rest d → IsFirst (Fork ks a b c) (z1 ++ z2) x rest d
+      unfolding IsMarkBehind
+      bracket_first hc j is p =
+          (
+            z1 ++ p.0,
+            p.1,
+            p.2,
+            ap (λ (w : List Lexeme). z1 ++ w) p.3 ∙ sym (append_assoc z1 p.0 (p.1 ∷ p.2)),
+            p.4,
+            inl (
+              inr (inr (z1, p.0, refl, ha, subst (λ (w : List Lexeme). Spells c w x.1) p.3 hc, omega (arith, full, is, p.5), p.6)),
+              keeps_bracket marks max_marks ks a b c f (length (z1 ++ p.0)) (length p.0) z1 z2 x ha hc (few_all marks max_marks 1 (length (z1 ++ p.0)) z1 (omega (arith, full, is)))
+              (few_front marks max_marks (suc (marks_in marks z1)) z2 p.0 (p.1 ∷ p.2) p.3 (omega (arith, full, is, p.5))) (omega (arith, length-append z1 p.0)),
+            ),
+          )
