@@ -1,7 +1,7 @@
 -- Which mark of a sentence its reading ends at: the first that is too many, or behind a bracket that is a mark the next one.
-use Rattle.std.proofs.Common.{◌≡◌, ℕ, zero, suc, ◌+◌, ◌-◌, ◌≤◌, ◌<◌, Bool, true, false, not, ◌&&◌, List, [], ◌∷◌, ◌++◌, length, Option, Some, None, Ok, Err, refl, sym, ap, subst, ◌∙◌, append_assoc, arith, inl, inr, ◌⊎◌}
+use Rattle.std.proofs.Common.{◌≡◌, ℕ, zero, suc, ◌+◌, ◌-◌, ◌≤◌, ◌<◌, Bool, true, false, cond, not, ◌&&◌, List, [], ◌∷◌, ◌++◌, length, Option, Some, None, Ok, Err, refl, sym, ap, subst, ◌∙◌, append_assoc, arith, inl, inr, ◌⊎◌}
 use Rattle.std.proofs.lemmas.List.{append-nil, length-append, append_cancel_right}
-use Rattle.lola_grammar.specs.Syntax.{Lexeme, Terminal, fits, any_fits, apart, within, Syntax, Past, Token, Mark, Whole, Known, Then, Map, Either, Maybe, Many, Fork, charged, either_rest, last_mark, Repeats, Spells, starts, first, nullable, more, is_fine, Unexpected, TooDeep, Outcome, Reader, ◌>>=◌, max_marks, repeated, read}
+use Rattle.lola_grammar.specs.Syntax.{Lexeme, Terminal, fits, any_fits, apart, within, Syntax, Past, Token, Mark, Whole, Known, Then, Map, Either, Maybe, Many, Fork, charged, either_rest, last_mark, Repeats, Spells, starts, first, nullable, more, is_fine, Unexpected, TooDeep, Outcome, Reader, ◌>>=◌, take_token, max_marks, repeated, read}
 use Rattle.lola_grammar.specs.Marks.{guards, is_mark, marks_in, tallies, is_counted}
 use Rattle.lola_grammar.specs.Exceeding.{ExceedsAmong}
 use Rattle.lola_grammar.proofs.Tests.{and_both, not_true, no_more, apart_excludes}
@@ -9,7 +9,7 @@ use Rattle.lola_grammar.proofs.Laws.{chosen, done_is}
 use Rattle.lola_grammar.proofs.Complete.{and_three, choice_parts, known_parts, fork_is, begins, spells_nil, any_split, follows, tail_stops, stops_within, full_is, fork_follows, complete, OkOrDeep, ForkParts}
 use Rattle.lola_grammar.proofs.Viable.{bind_err}
 use Rattle.lola_grammar.proofs.Within.{marks-append, complete_within}
-use Rattle.lola_grammar.proofs.Over.{ForkCounted, fork_counted, charged_ends, last_is}
+use Rattle.lola_grammar.proofs.Over.{counts, ForkCounted, fork_counted, charged_ends, last_is}
 use Rattle.lola_grammar.proofs.Exactly.{few_or_more, too_many, opens_part, misses_part}
 use Rattle.lola_limit.specs.Late.{IsMarkBehind, NoneIsLate, IsFirstLate}
 use Rattle.lola_limit.proofs.Keeps.{Keeps, KeepsAmong, few_all, few_front, keeps_none, keeps_whole, keeps_then, keeps_left, keeps_right, keeps_map, keeps_some, keeps_nil, keeps_cons, keeps_many, keeps_list, keeps_bracket, after_item}
@@ -19,6 +19,18 @@ use Rattle.lola_limit.proofs.Kept.{read_kept}
 done_or_not : {A : Type 0} (o : Outcome A) (x y : A) (i : ℕ) (rest mid : List Lexeme) → OkOrDeep o x rest → o ≡ Ok (y, i, mid) → (x ≡ y) × (rest ≡ mid)
 done_or_not o x y i rest mid (inl e) h = let q = done_is x y e.0 i rest mid (sym e.1 ∙ h) in (q.0, q.2)
 done_or_not o x y i rest mid (inr e) h = absurd (let d = e.1 in cc)
+
+chosen_true : {A : Type 0} (b : Bool) (x y z : A) → b ≡ true → cond b x y ≡ z → x ≡ z
+chosen_true true x y z e h = h
+chosen_true false x y z e h = absurd cc
+
+chosen_false : {A : Type 0} (b : Bool) (x y z : A) → b ≡ false → cond b x y ≡ z → y ≡ z
+chosen_false true x y z e h = absurd cc
+chosen_false false x y z e h = h
+
+token_never : (k : Terminal) (m : ℕ) (ts d : List Lexeme) → take_token k m ts ≡ Err (TooDeep d) → ⊥
+token_never k m [] d g = absurd (let q : Unexpected [] ≡ TooDeep d = cc in cc)
+token_never k m (t ∷ ts) d g = elim (chosen (fits k t) _ _ _ g) [ inl c ↦ absurd (let w = c.1 in cc) | inr c ↦ absurd (let w = c.1 in let q : Unexpected (t ∷ ts) ≡ TooDeep d = cc in cc) ]
 
 module _ (marks : List Terminal) where
   abbrev Firsts : (ℕ → List Lexeme → Lexeme → List Lexeme → Type 0) → (ℕ → Type 0) → List Lexeme → List Lexeme → List Lexeme → Type 0
@@ -216,3 +228,138 @@ module _ (marks : List Terminal) where
               (few_front marks max_marks (suc (marks_in marks z1)) z2 p.0 (p.1 ∷ p.2) p.3 (omega (arith, full, is, p.5))) (omega (arith, length-append z1 p.0)),
             ),
           )
+
+  pub first_late : {A : Type 0} (s : Syntax A) → is_fine s ≡ true → is_counted marks s ≡ true → EachFirst s
+  unfolding read Spells more is_fine is_counted nullable first IsMarkBehind
+  first_late (Past a) fine count m z x rest d h stop e = absurd (let c = count in cc)
+  first_late (Token k) fine count m z x rest d h stop e = absurd (token_never k m (z ++ rest) d e)
+  first_late (Mark k) fine count m z x rest d h stop e = absurd (let c = count in cc)
+  first_late (Whole a) fine count m z x rest d h stop e =
+      let c = and_both (tallies marks a) (guards (suc max_marks) a) count in
+      let p = counted_first a fine c.0 c.1 max_marks (omega arith) z x rest d h stop e in
+      (
+        p.0,
+        p.1,
+        p.2,
+        p.3,
+        p.4,
+        inl (
+          (subst (λ (w : List Lexeme). Spells a w x) p.3 h, p.5, p.6),
+          keeps_whole marks max_marks a (length p.0) z x (few_front marks max_marks 0 z p.0 (p.1 ∷ p.2) p.3 (omega (arith, p.5))),
+        ),
+      )
+  first_late (Known fs ms a) fine count m z x rest d h stop e =
+      let f = known_parts (is_fine a) (nullable a) (within (first a) fs) (within (more a) ms) fine in
+      first_late a f.0 count m z x rest d h (stops_within (more a) ms rest f.3 stop) e
+  first_late (Then a b) fine count m z x rest d h stop e =
+      let f = and_three (is_fine a) (is_fine b) (apart (more a) (first b)) fine in
+      let c = and_both (is_counted marks a) (is_counted marks b) count in
+      let s = tail_stops (nullable b) (more b) (more a) rest stop in
+      let clear : starts (more a) (h.1 ++ rest) ≡ false = follows (more a) b f.1 h.1 x.1 rest f.2 h.4 s.1 in
+      let split : z ++ rest ≡ h.0 ++ (h.1 ++ rest) = regrouped z h.0 h.1 rest h.2 in
+      let e' : read (Then a b) m (h.0 ++ (h.1 ++ rest)) ≡ Err (TooDeep d) = ap (λ (w : List Lexeme). read (Then a b) m w) (sym split) ∙ e in
+      of_parts (Then a b) z (h.0 ++ h.1) x rest d h.2
+      (elim (bind_err (read a m (h.0 ++ (h.1 ++ rest))) _ (TooDeep d) e') [
+        | inl g ↦
+            let p = first_late a f.0 c.0 m h.0 x.0 (h.1 ++ rest) d h.3 clear g in
+            in_first (λ k u t v. IsMarkBehind marks k a u t v x.0) (λ k u t v. IsMarkBehind marks k (Then a b) u t v x) (λ l. Keeps marks max_marks a l h.0 x.0) (λ l. Keeps marks max_marks (Then a b) l (h.0 ++ h.1) x) h.0 h.1 rest d p
+            (λ k u t v q. inl (v, h.1, refl, q, h.4))
+            (λ l le q. keeps_then marks max_marks a b f.0 f.1 f.2 l 0 h.0 h.1 [] x h.3 h.4 refl q (keeps_none marks max_marks b h.1 x.1) (omega (arith, le)))
+        | inr q ↦
+            elim (bind_err (read b q.1 q.2) _ (TooDeep d) q.4) [
+              | inl g ↦
+                  let same = done_or_not (read a m (h.0 ++ (h.1 ++ rest))) x.0 q.0 q.1 (h.1 ++ rest) q.2 (complete a f.0 m h.0 x.0 (h.1 ++ rest) h.3 clear) q.3 in
+                  let ok : read a m (h.0 ++ (h.1 ++ rest)) ≡ Ok (x.0, q.1, h.1 ++ rest) = q.3 ∙ ap (λ (w : List Lexeme). Ok (q.0, q.1, w)) (sym same.1) ∙ ap (λ y. Ok (y, q.1, h.1 ++ rest)) (sym same.0) in
+                  let p = first_late b f.1 c.1 q.1 h.1 x.1 rest d h.4 s.0 (ap (λ (w : List Lexeme). read b q.1 w) same.1 ∙ g) in
+                  in_next (λ k u t v. IsMarkBehind marks k b u t v x.1) (λ k u t v. IsMarkBehind marks k (Then a b) u t v x) (λ l. Keeps marks max_marks b l h.1 x.1) (λ l. Keeps marks max_marks (Then a b) l (h.0 ++ h.1) x) h.0 h.1 rest d p
+                  (λ k u t v r. inr (h.0, u, refl, h.3, r))
+                  (λ l j le r. keeps_then marks max_marks a b f.0 f.1 f.2 l j h.0 h.1 [] x h.3 h.4 refl (first_kept a f.0 c.0 m h.0 (h.1 ++ rest) x.0 q.1 ok l) r (omega (arith, le)))
+              | inr y ↦ absurd (let w = y.4 in cc)
+            ]
+      ])
+  first_late (Map g a) fine count m z y rest d h stop e =
+      elim (bind_err (read a m (z ++ rest)) _ (TooDeep d) e) [
+        | inl k ↦
+            let p = first_late a fine count m z h.0 rest d h.2 stop k in
+            same_part (λ k u t v. IsMarkBehind marks k a u t v h.0) (λ k u t v. IsMarkBehind marks k (Map g a) u t v y) (λ l. Keeps marks max_marks a l z h.0) (λ l. Keeps marks max_marks (Map g a) l z y) z rest d p
+            (λ k u t v q. (h.0, h.1, q))
+            (λ l q. subst (Keeps marks max_marks (Map g a) l z) (sym h.1) (keeps_map marks max_marks g a fine l z h.0 h.2 q))
+        | inr k ↦ absurd (let w = k.4 in cc)
+      ]
+  first_late (Either a b) fine count m [] x rest d (inl h) stop e =
+      let f = choice_parts (is_fine a) (is_fine b) (nullable a) (nullable b) (apart (first a) (first b)) fine in
+      absurd (let k = spells_nil a f.0 x h in let v = f.2 in cc)
+  first_late (Either a b) fine count m [] x rest d (inr h) stop e =
+      let f = choice_parts (is_fine a) (is_fine b) (nullable a) (nullable b) (apart (first a) (first b)) fine in
+      absurd (let k = spells_nil b f.1 x h in let v = f.3 in cc)
+  first_late (Either a b) fine count m (t ∷ z) x rest d (inl h) stop e =
+      let f = choice_parts (is_fine a) (is_fine b) (nullable a) (nullable b) (apart (first a) (first b)) fine in
+      let c = and_both (is_counted marks a) (is_counted marks b) count in
+      let back : read (Either a b) m ((t ∷ z) ++ rest) ≡ read a m ((t ∷ z) ++ rest) = rw (begins a f.0 t z x h) refl in
+      let p = first_late a f.0 c.0 m (t ∷ z) x rest d h (any_split (more a) (more b) rest stop).0 (sym back ∙ e) in
+      same_part (λ k u s v. IsMarkBehind marks k a u s v x) (λ k u s v. IsMarkBehind marks k (Either a b) u s v x) (λ l. Keeps marks max_marks a l (t ∷ z) x) (λ l. Keeps marks max_marks (Either a b) l (t ∷ z) x) (t ∷ z) rest d p
+      (λ k u s v q. inl q) (λ l q. keeps_left marks max_marks a b f.0 f.1 f.4 l (t ∷ z) x h q)
+  first_late (Either a b) fine count m (t ∷ z) x rest d (inr h) stop e =
+      let f = choice_parts (is_fine a) (is_fine b) (nullable a) (nullable b) (apart (first a) (first b)) fine in
+      let c = and_both (is_counted marks a) (is_counted marks b) count in
+      let misses : any_fits (first a) t ≡ false = no_more (any_fits (first a) t) (λ k. apart_excludes (first a) (first b) t f.4 k (begins b f.1 t z x h)) in
+      let back : read (Either a b) m ((t ∷ z) ++ rest) ≡ read b m ((t ∷ z) ++ rest) = rw misses refl in
+      let p = first_late b f.1 c.1 m (t ∷ z) x rest d h (any_split (more a) (more b) rest stop).1 (sym back ∙ e) in
+      same_part (λ k u s v. IsMarkBehind marks k b u s v x) (λ k u s v. IsMarkBehind marks k (Either a b) u s v x) (λ l. Keeps marks max_marks b l (t ∷ z) x) (λ l. Keeps marks max_marks (Either a b) l (t ∷ z) x) (t ∷ z) rest d p
+      (λ k u s v q. inr q) (λ l q. keeps_right marks max_marks a b f.0 f.1 f.4 l (t ∷ z) x h q)
+  first_late (Maybe a) fine count m z None rest d h stop e =
+      let back : read (Maybe a) m (z ++ rest) ≡ Ok (None, m, rest) = rw (h, (any_split (first a) (more a) rest stop).0) refl in
+      absurd (not_deep (read (Maybe a) m (z ++ rest)) (None, m, rest) d back e)
+  first_late (Maybe a) fine count m [] (Some x) rest d h stop e =
+      let f = and_both (is_fine a) (not (nullable a)) fine in
+      absurd (let k = spells_nil a f.0 x h in let v = not_true (nullable a) f.1 in cc)
+  first_late (Maybe a) fine count m (t ∷ z) (Some x) rest d h stop e =
+      let f = and_both (is_fine a) (not (nullable a)) fine in
+      let back : read (Maybe a) m ((t ∷ z) ++ rest) ≡ (read a m ((t ∷ z) ++ rest) >>= λ y i end. Ok (Some y, i, end)) = rw (begins a f.0 t z x h) refl in
+      elim (bind_err (read a m ((t ∷ z) ++ rest)) _ (TooDeep d) (sym back ∙ e)) [
+        | inl k ↦
+            let p = first_late a f.0 count m (t ∷ z) x rest d h (any_split (first a) (more a) rest stop).1 k in
+            same_part (λ k u s v. IsMarkBehind marks k a u s v x) (λ k u s v. IsMarkBehind marks k (Maybe a) u s v (Some x)) (λ l. Keeps marks max_marks a l (t ∷ z) x) (λ l. Keeps marks max_marks (Maybe a) l (t ∷ z) (Some x)) (t ∷ z) rest d p
+            (λ k u s v q. q) (λ l q. keeps_some marks max_marks a l (t ∷ z) x q)
+        | inr k ↦ absurd (let w = k.4 in cc)
+      ]
+  first_late (Many a) fine count m z xs rest d h stop e =
+      let f = and_three (is_fine a) (not (nullable a)) (apart (more a) (first a)) fine in
+      repeated_first a f.0 count f.2 (first_late a f.0 count) (length (z ++ rest)) m z xs rest d h stop e
+  first_late (Fork ks a b c) fine count m z x rest d h stop e =
+      let f = fork_is ks a b c fine in
+      let g = fork_counted marks ks a b c count in
+      let s = any_split (more b) (more c) rest stop in
+      let mid = h.1 ++ rest in
+      let ts = h.0 ++ mid in
+      let clear : starts (more a) mid ≡ false = fork_follows (more a) b c f.one f.two h.1 x.1 rest h.4 in
+      let e' : read (Fork ks a b c) m ts ≡ Err (TooDeep d) = ap (λ (w : List Lexeme). read (Fork ks a b c) m w) (sym (regrouped z h.0 h.1 rest h.2)) ∙ e in
+      of_parts (Fork ks a b c) z (h.0 ++ h.1) x rest d h.2
+      (elim (bind_err (read a max_marks ts) _ (TooDeep d) e') [
+        | inl k ↦ head_first ks a b c f g h.0 h.1 rest d x h.3 h.4 (counted_first a f.head g.head g.head_guard max_marks (omega arith) h.0 x.0 mid d h.3 clear k)
+        | inr q ↦
+            let t = counts marks a g.head max_marks ts q.0 q.1 q.2 q.3 in
+            let same = done_or_not (read a max_marks ts) x.0 q.0 q.1 mid q.2 (complete a f.head max_marks h.0 x.0 mid h.3 clear) q.3 in
+            let front : t.0 ≡ h.0 = append_cancel_right t.0 h.0 mid (ap (λ (w : List Lexeme). t.0 ++ w) same.1 ∙ sym t.1) in
+            let full : max_marks ≡ q.1 + marks_in marks h.0 = t.3 ∙ ap (λ (w : List Lexeme). q.1 + marks_in marks w) front in
+            elim (bind_err (either_rest (first b) (read b) (first c) (charged (last_mark ks (length ts - length q.2) q.2 ts) (read c)) q.1 q.2) _ (TooDeep d) q.4) [
+              | inl k ↦
+                  let k' : either_rest (first b) (read b) (first c) (charged (last_mark ks (length ts - length mid) mid ts) (read c)) q.1 mid ≡ Err (TooDeep d) =
+                  ap (λ (w : List Lexeme). either_rest (first b) (read b) (first c) (charged (last_mark ks (length ts - length w) w ts) (read c)) q.1 w) same.1 ∙ k in
+                  elim h.4 [
+                    | inl hb ↦
+                        let o = opens_part marks b f.one.0 f.one.1 h.1 x.1 rest hb in
+                        let k'' : read b q.1 mid ≡ Err (TooDeep d) = chosen_true (starts (first b) mid) _ _ _ o k' in
+                        list_first ks a b c f g h.0 h.1 rest d x h.3 q.1 full hb (first_late b f.one.0 g.one q.1 h.1 x.1 rest d hb s.0 k'')
+                    | inr hc ↦
+                        let n = misses_part marks (first b) c f.two.0 f.two.1 f.clear h.1 x.1 rest hc in
+                        let o = opens_part marks c f.two.0 f.two.1 h.1 x.1 rest hc in
+                        let k'' = chosen_true (starts (first c) mid) _ _ _ o (chosen_false (starts (first b) mid) _ _ _ n k') in
+                        elim (charged_ends marks (read c) (last_mark ks (length ts - length mid) mid ts) mid d q.1 k'') [
+                          | inl r ↦ last_first ks a b c f g h.0 h.1 rest d x h.3 q.1 full hc r.0 r.1
+                          | inr r ↦ bracket_first ks a b c f g h.0 h.1 rest d x h.3 q.1 full hc r.0 r.1 (counted_first c f.two.0 g.two g.two_guard r.0 (omega (arith, full, r.1)) h.1 x.1 rest d hc s.1 r.2)
+                        ]
+                  ]
+              | inr y ↦ absurd (let w = y.4 in cc)
+            ]
+      ])
