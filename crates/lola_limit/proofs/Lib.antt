@@ -9,3 +9,4 @@ pub mod Going
 pub mod Answered
 pub mod Levels
 pub mod First
+pub mod Place

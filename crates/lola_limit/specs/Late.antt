@@ -43,3 +43,13 @@ module _ (marks : List Terminal) where
   -- In the sentence of u, t and v, with this value, t is the first mark too many.
   abbrev pub IsFirstLate : {A : Type 0} → Syntax A → List Lexeme → Lexeme → List Lexeme → A → Type 0
   IsFirstLate s u t v x = IsMarkBehind max_marks s u t v x × NoneIsLate s (length u) (u ++ t ∷ v) x
+
+  -- t is the first mark that is one too many in every sentence that begins with u, t and w.
+  abbrev pub IsDeepPlace : {A : Type 0} → Syntax A → List Lexeme → Lexeme → List Lexeme → Type 0
+  IsDeepPlace s u t w =
+      IsLateInEvery s u t w
+      × ((u' : List Lexeme) (t' : Lexeme) (w' : List Lexeme) → u ++ t ∷ w ≡ u' ++ t' ∷ w' → length u' < length u → IsLateInEvery s u' t' w' → ⊥)
+
+  -- In every sentence that begins with u, t and w, t is not the first mark too many but the next.
+  abbrev pub IsNextInEvery : {A : Type 0} → Syntax A → List Lexeme → Lexeme → List Lexeme → Type 0
+  IsNextInEvery {A} s u t w = (q : List Lexeme) (x : A) → Spells s (u ++ t ∷ (w ++ q)) x → IsMarkBehind (suc max_marks) s u t (w ++ q) x

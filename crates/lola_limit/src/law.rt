@@ -1,6 +1,6 @@
 //! The laws, about definitions alone.
 
-ghost use Rattle.lola_limit.specs.Limit.{TooDeepIsLateInEvery, LateInEveryIsTooDeep, UnexpectedKeepsTheLimit};
+ghost use Rattle.lola_limit.specs.Limit.{TooDeepIsLateInEvery, LateInEveryIsTooDeep, UnexpectedKeepsTheLimit, TooDeepIsFirst, TooDeepStandsThere};
 
 /// The mark at which reading is refused as too deep is the 513th or a later mark of a whole expression or formula in every
 /// specification that begins with the tokens before the first one that does not fit, also where the tokens are no
@@ -19,4 +19,16 @@ pub fn late_is_too_deep()
 /// the 513th or a later mark of a whole expression or formula.
 pub fn unexpected_keeps_the_limit()
     ensures { UnexpectedKeepsTheLimit }
+{}
+
+/// The mark at which reading is refused as too deep is, in each specification that begins with the tokens before the first one
+/// that does not fit, the 513th of a whole expression or formula and the first too many, or it is the 514th.
+pub fn too_deep_is_first()
+    ensures { TooDeepIsFirst }
+{}
+
+/// The first mark that is the 513th or a later mark in every specification that begins with the tokens before the first one
+/// that does not fit is refused as too deep, or the next mark is, which then is the 514th in each of these specifications.
+pub fn too_deep_stands_there()
+    ensures { TooDeepStandsThere }
 {}

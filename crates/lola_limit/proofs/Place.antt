@@ -1,0 +1,116 @@
+-- The place at which a text is refused as too deep.
+use Rattle.std.proofs.Common.{◌≡◌, ℕ, zero, suc, ◌+◌, ◌≤◌, ◌<◌, Bool, true, List, [], ◌∷◌, ◌++◌, length, Err, refl, sym, ap, subst, ◌∙◌, append_assoc, arith, inl, inr, ◌⊎◌}
+use Rattle.std.proofs.lemmas.List.{append-nil, length-append, append_cancel_right}
+use Rattle.lola_grammar.specs.Syntax.{Lexeme, Terminal, Syntax, Spells, is_fine, TooDeep, max_marks, read, read_all}
+use Rattle.lola_grammar.specs.Marks.{is_counted}
+use Rattle.lola_limit.specs.Late.{IsMarkBehind, IsLate, IsLateInEvery, NoneIsLate, IsFirstLate, IsDeepPlace, IsNextInEvery}
+use Rattle.lola_limit.specs.Fronts.{IsLongestFront}
+use Rattle.lola_limit.proofs.Opening.{forks_open}
+use Rattle.lola_limit.proofs.Decided.{IsDecided}
+use Rattle.lola_limit.proofs.Every.{fronts, in_front, decided_all}
+use Rattle.lola_limit.proofs.First.{first_late}
+use Rattle.lola_limit.proofs.Answered.{late_is_deep}
+
+module _ (marks : List Terminal) where
+  abbrev pub IsFirstOrNext : {A : Type 0} → Syntax A → List Lexeme → Lexeme → List Lexeme → A → Type 0
+  IsFirstOrNext s u t v x = IsFirstLate marks s u t v x ⊎ IsMarkBehind marks (suc max_marks) s u t v x
+
+  moved : {A : Type 0} (s : Syntax A) (u u' : List Lexeme) (t t' : Lexeme) (v v' : List Lexeme) (x : A) → u ≡ u' → t ≡ t' → v ≡ v' → IsFirstOrNext s u t v x → IsFirstOrNext s u' t' v' x
+  moved s u u' t t' v v' x e f g h =
+      subst (λ (w : List Lexeme). IsFirstOrNext s u' t' w x) g (subst (λ (y : Lexeme). IsFirstOrNext s u' y v x) f (subst (λ (w : List Lexeme). IsFirstOrNext s w t v x) e h))
+
+  -- in a sentence, of which reading ends there
+  ends_first : {A : Type 0} (s : Syntax A) → is_fine s ≡ true → is_counted marks s ≡ true → (u : List Lexeme) (t : Lexeme) (v : List Lexeme) (x : A) → Spells s (u ++ t ∷ v) x → read s max_marks (u ++ t ∷ v) ≡ Err (TooDeep (t ∷ v)) → IsFirstOrNext s u t v x
+  ends_first s fine count u t v x h e =
+      let z = u ++ t ∷ v in
+      let p = first_late marks s fine count max_marks z x [] (t ∷ v) h refl (ap (λ (w : List Lexeme). read s max_marks w) (append-nil z) ∙ e) in
+      let there : t ∷ v ≡ p.1 ∷ p.2 = p.4 ∙ ap (λ (w : List Lexeme). p.1 ∷ w) (append-nil p.2) in
+      let front : p.0 ≡ u = append_cancel_right p.0 u (t ∷ v) (ap (λ (w : List Lexeme). p.0 ++ w) there ∙ sym p.3) in
+      let token : p.1 ≡ t = cc in
+      let behind : p.2 ≡ v = cc in
+      moved s p.0 u p.1 t p.2 v x front token behind
+      (elim p.5 [
+        | inl q ↦ inl (q.0, subst (λ (w : List Lexeme). NoneIsLate marks s (length p.0) w x) p.3 q.1)
+        | inr q ↦ inr q
+      ])
+
+  pub deep_is_first : {A : Type 0} (s : Syntax A) → is_fine s ≡ true → is_counted marks s ≡ true → forks_open s ≡ true → (ts d p rest : List Lexeme) → read_all s ts ≡ Err (TooDeep d) → IsLongestFront s ts p rest
+      → (u : List Lexeme) × (t : Lexeme) × (w : List Lexeme) × (p ≡ u ++ t ∷ w) × (d ≡ t ∷ (w ++ rest)) × ((q : List Lexeme) (x : A) → Spells s (u ++ t ∷ (w ++ q)) x → IsFirstOrNext s u t (w ++ q) x)
+  deep_is_first s fine count opens ts d p rest h l =
+      let c = decided_all marks s fine count opens ts d h in
+      let z = c.0 ++ c.1 ∷ c.2 in
+      let whole : ts ≡ z ++ c.3 = c.4 ∙ sym (append_assoc c.0 (c.1 ∷ c.2) c.3) in
+      let f = in_front s z c.3 p rest c.7 (sym whole ∙ l.0, l.1, l.2) in
+      (
+        c.0,
+        c.1,
+        c.2 ++ f.0,
+        f.1 ∙ append_assoc c.0 (c.1 ∷ c.2) f.0,
+        c.5 ∙ ap (λ (w : List Lexeme). c.1 ∷ w) (ap (λ (w : List Lexeme). c.2 ++ w) f.2 ∙ sym (append_assoc c.2 f.0 rest)),
+        λ q x g.
+            let regroup : (c.2 ++ f.0) ++ q ≡ c.2 ++ (f.0 ++ q) = append_assoc c.2 f.0 q in
+            let g' : Spells s (c.0 ++ c.1 ∷ (c.2 ++ (f.0 ++ q))) x = subst (λ (w : List Lexeme). Spells s (c.0 ++ c.1 ∷ w) x) regroup g in
+            subst (λ (w : List Lexeme). IsFirstOrNext s c.0 c.1 w x) (sym regroup) (ends_first s fine count c.0 c.1 (c.2 ++ (f.0 ++ q)) x g' (c.6 (f.0 ++ q))),
+      )
+
+  first_is_late : {A : Type 0} (s : Syntax A) (u : List Lexeme) (t : Lexeme) (v : List Lexeme) (x : A) → IsFirstOrNext s u t v x → IsLate marks s u t v x
+  first_is_late s u t v x (inl h) = (max_marks, omega arith, h.0)
+  first_is_late s u t v x (inr h) = (suc max_marks, omega arith, h)
+
+  -- ---- the first mark that is late in every sentence that begins so
+
+  -- a mark before it that is late makes it the next
+  is_next : {A : Type 0} (s : Syntax A) (u : List Lexeme) (t : Lexeme) (w u' : List Lexeme) (t' : Lexeme) (w' : List Lexeme) → u ++ t ∷ w ≡ u' ++ t' ∷ w' → length u < length u' → IsLateInEvery marks s u t w
+      → (q : List Lexeme) (x : A) → Spells s (u' ++ t' ∷ (w' ++ q)) x → IsFirstOrNext s u' t' (w' ++ q) x → IsMarkBehind marks (suc max_marks) s u' t' (w' ++ q) x
+  is_next s u t w u' t' w' same less late q x g (inr h) = h
+  is_next s u t w u' t' w' same less late q x g (inl h) =
+      let whole : u' ++ t' ∷ (w' ++ q) ≡ u ++ t ∷ (w ++ q) = sym (append_assoc u' (t' ∷ w') q) ∙ ap (λ (y : List Lexeme). y ++ q) (sym same) ∙ append_assoc u (t ∷ w) q in
+      let l = late q x (subst (λ (y : List Lexeme). Spells s y x) whole g) in
+      let low = h.1 l.0 u t (w ++ q) whole less l.2 in
+      absurd (omega (arith, low, l.1))
+
+  order : (a b : ℕ) → (a < b) ⊎ ((a ≡ b) ⊎ (b < a))
+  order zero zero = inr (inl refl)
+  order zero (suc b) = inl (omega arith)
+  order (suc a) zero = inr (inr (omega arith))
+  order (suc a) (suc b) = elim (order a b) [ inl h ↦ inl (omega (arith, h)) | inr h ↦ elim h [ inl e ↦ inr (inl (ap suc e)) | inr l ↦ inr (inr (omega (arith, l))) ] ]
+
+  -- two marks of one text at one place
+  same_place : (u u' : List Lexeme) (t t' : Lexeme) (w w' : List Lexeme) → u ++ t ∷ w ≡ u' ++ t' ∷ w' → length u ≡ length u' → t' ∷ w' ≡ t ∷ w
+  same_place u u' t t' w w' e l =
+      elim (fronts u (t ∷ w) u' (t' ∷ w') e) [
+        | inl f ↦ at_once f.0 f.2 (omega (arith, l, ap length f.1, length-append u f.0))
+        | inr f ↦ absurd (omega (arith, l, ap length f.2, length-append u' (f.0 ∷ f.1)))
+      ]
+    where
+      at_once : (y : List Lexeme) → t ∷ w ≡ y ++ t' ∷ w' → length y ≡ 0 → t' ∷ w' ≡ t ∷ w
+      at_once [] f n = sym f
+      at_once (s ∷ y) f n = absurd (omega (arith, n))
+
+  pub deep_stands_there : {A : Type 0} (s : Syntax A) → is_fine s ≡ true → is_counted marks s ≡ true → forks_open s ≡ true → (ts p rest : List Lexeme) → IsLongestFront s ts p rest
+      → (u : List Lexeme) (t : Lexeme) (w : List Lexeme) → p ≡ u ++ t ∷ w → IsDeepPlace marks s u t w
+      → (read_all s ts ≡ Err (TooDeep (t ∷ (w ++ rest))))
+          ⊎ ((u' : List Lexeme) × (t' : Lexeme) × (w' : List Lexeme) × (p ≡ u' ++ t' ∷ w') × (length u < length u') × (read_all s ts ≡ Err (TooDeep (t' ∷ (w' ++ rest)))) × IsNextInEvery marks s u' t' w')
+  deep_stands_there s fine count opens ts p rest l u t w e place =
+      let d = late_is_deep marks s fine count ts p rest l u t w e place.0 in
+      let f = deep_is_first s fine count opens ts d.0 p rest d.1 l in
+      elim (order (length u) (length f.0)) [
+        | inl less ↦
+            inr (
+              f.0,
+              f.1,
+              f.2,
+              f.3,
+              less,
+              d.1 ∙ ap (λ (y : List Lexeme). Err (TooDeep y)) f.4,
+              λ q x g. is_next s u t w f.0 f.1 f.2 (sym e ∙ f.3) less place.0 q x g (f.5 q x g),
+            )
+        | inr other ↦
+            elim other [
+              | inl same ↦
+                  let there : f.1 ∷ f.2 ≡ t ∷ w = same_place u f.0 t f.1 w f.2 (sym e ∙ f.3) same in
+                  inl (d.1 ∙ ap (λ (y : List Lexeme). Err (TooDeep y)) (f.4 ∙ ap (λ (y : List Lexeme). y ++ rest) there))
+              | inr less ↦
+                  absurd (place.1 f.0 f.1 f.2 (sym e ∙ f.3) less (λ q x g. first_is_late s f.0 f.1 (f.2 ++ q) x (f.5 q x g)))
+            ]
+      ]
