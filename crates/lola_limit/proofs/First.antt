@@ -11,7 +11,7 @@ use Rattle.lola_grammar.proofs.Viable.{bind_err}
 use Rattle.lola_grammar.proofs.Within.{marks-append, complete_within}
 use Rattle.lola_grammar.proofs.Over.{counts, ForkCounted, fork_counted, charged_ends, last_is}
 use Rattle.lola_grammar.proofs.Exactly.{few_or_more, too_many, opens_part, misses_part}
-use Rattle.lola_limit.specs.Late.{IsMarkBehind, NoneIsLate, IsFirstLate}
+use Rattle.lola_limit.specs.Late.{IsMarkBehind, IsNextBehindBracket}
 use Rattle.lola_limit.proofs.Keeps.{Keeps, KeepsAmong, few_all, few_front, keeps_none, keeps_whole, keeps_then, keeps_left, keeps_right, keeps_map, keeps_some, keeps_nil, keeps_cons, keeps_many, keeps_list, keeps_bracket, after_item}
 use Rattle.lola_limit.proofs.Kept.{read_kept}
 
@@ -33,20 +33,23 @@ token_never k m [] d g = absurd (let q : Unexpected [] ≡ TooDeep d = cc in cc)
 token_never k m (t ∷ ts) d g = elim (chosen (fits k t) _ _ _ g) [ inl c ↦ absurd (let w = c.1 in cc) | inr c ↦ absurd (let w = c.1 in let q : Unexpected (t ∷ ts) ≡ TooDeep d = cc in cc) ]
 
 module _ (marks : List Terminal) where
-  abbrev Firsts : (ℕ → List Lexeme → Lexeme → List Lexeme → Type 0) → (ℕ → Type 0) → List Lexeme → List Lexeme → List Lexeme → Type 0
-  Firsts Q K z rest d = (u : List Lexeme) × (t : Lexeme) × (v : List Lexeme) × (z ≡ u ++ t ∷ v) × (d ≡ t ∷ (v ++ rest)) × ((Q max_marks u t v × K (length u)) ⊎ Q (suc max_marks) u t v)
+  abbrev Marked : Type 1
+  Marked = List Lexeme → Lexeme → List Lexeme → Type 0
+
+  abbrev Firsts : Marked → Marked → (ℕ → Type 0) → List Lexeme → List Lexeme → List Lexeme → Type 0
+  Firsts Q N K z rest d = (u : List Lexeme) × (t : Lexeme) × (v : List Lexeme) × (z ≡ u ++ t ∷ v) × (d ≡ t ∷ (v ++ rest)) × ((Q u t v × K (length u)) ⊎ N u t v)
 
   -- of the sentence z and what follows it, reading ended at its first mark too many, or at the next mark
   abbrev pub IsFirst : {A : Type 0} → Syntax A → List Lexeme → A → List Lexeme → List Lexeme → Type 0
-  IsFirst s z x rest d = Firsts (λ k u t v. IsMarkBehind marks k s u t v x) (λ n. Keeps marks max_marks s n z x) z rest d
+  IsFirst s z x rest d = Firsts (λ u t v. IsMarkBehind marks max_marks s u t v x) (λ u t v. IsNextBehindBracket marks s u t v x) (λ n. Keeps marks max_marks s n z x) z rest d
 
   abbrev IsFirstAmong : {A : Type 0} → Syntax A → List Lexeme → List A → List Lexeme → List Lexeme → Type 0
-  IsFirstAmong a z xs rest d = Firsts (λ k u t v. ExceedsAmong (IsMarkBehind marks k a) (Spells a) u t v xs) (λ n. KeepsAmong marks max_marks a n z xs) z rest d
+  IsFirstAmong a z xs rest d = Firsts (λ u t v. ExceedsAmong (IsMarkBehind marks max_marks a) (Spells a) u t v xs) (λ u t v. ExceedsAmong (IsNextBehindBracket marks a) (Spells a) u t v xs) (λ n. KeepsAmong marks max_marks a n z xs) z rest d
 
   -- it stands in the first of two parts
-  in_first : (Q R : ℕ → List Lexeme → Lexeme → List Lexeme → Type 0) (K L : ℕ → Type 0) (z1 z2 rest d : List Lexeme) → Firsts Q K z1 (z2 ++ rest) d
-      → ((k : ℕ) (u : List Lexeme) (t : Lexeme) (v : List Lexeme) → Q k u t v → R k u t (v ++ z2)) → ((n : ℕ) → n ≤ length z1 → K n → L n) → Firsts R L (z1 ++ z2) rest d
-  in_first Q R K L z1 z2 rest d p grow keep =
+  in_first : (Q N R M : Marked) (K L : ℕ → Type 0) (z1 z2 rest d : List Lexeme) → Firsts Q N K z1 (z2 ++ rest) d
+      → ((u : List Lexeme) (t : Lexeme) (v : List Lexeme) → Q u t v → R u t (v ++ z2)) → ((u : List Lexeme) (t : Lexeme) (v : List Lexeme) → N u t v → M u t (v ++ z2)) → ((n : ℕ) → n ≤ length z1 → K n → L n) → Firsts R M L (z1 ++ z2) rest d
+  in_first Q N R M K L z1 z2 rest d p grow next keep =
       (
         p.0,
         p.1,
@@ -54,15 +57,15 @@ module _ (marks : List Terminal) where
         ap (λ (w : List Lexeme). w ++ z2) p.3 ∙ append_assoc p.0 (p.1 ∷ p.2) z2,
         p.4 ∙ ap (λ (w : List Lexeme). p.1 ∷ w) (sym (append_assoc p.2 z2 rest)),
         elim p.5 [
-          | inl q ↦ inl (grow max_marks p.0 p.1 p.2 q.0, keep (length p.0) (omega (arith, ap length p.3, length-append p.0 (p.1 ∷ p.2))) q.1)
-          | inr q ↦ inr (grow (suc max_marks) p.0 p.1 p.2 q)
+          | inl q ↦ inl (grow p.0 p.1 p.2 q.0, keep (length p.0) (omega (arith, ap length p.3, length-append p.0 (p.1 ∷ p.2))) q.1)
+          | inr q ↦ inr (next p.0 p.1 p.2 q)
         ],
       )
 
   -- it stands in the second
-  in_next : (Q R : ℕ → List Lexeme → Lexeme → List Lexeme → Type 0) (K L : ℕ → Type 0) (z1 z2 rest d : List Lexeme) → Firsts Q K z2 rest d
-      → ((k : ℕ) (u : List Lexeme) (t : Lexeme) (v : List Lexeme) → Q k u t v → R k (z1 ++ u) t v) → ((n j : ℕ) → n ≡ length z1 + j → K j → L n) → Firsts R L (z1 ++ z2) rest d
-  in_next Q R K L z1 z2 rest d p grow keep =
+  in_next : (Q N R M : Marked) (K L : ℕ → Type 0) (z1 z2 rest d : List Lexeme) → Firsts Q N K z2 rest d
+      → ((u : List Lexeme) (t : Lexeme) (v : List Lexeme) → Q u t v → R (z1 ++ u) t v) → ((u : List Lexeme) (t : Lexeme) (v : List Lexeme) → N u t v → M (z1 ++ u) t v) → ((n j : ℕ) → n ≡ length z1 + j → K j → L n) → Firsts R M L (z1 ++ z2) rest d
+  in_next Q N R M K L z1 z2 rest d p grow next keep =
       (
         z1 ++ p.0,
         p.1,
@@ -70,8 +73,8 @@ module _ (marks : List Terminal) where
         ap (λ (w : List Lexeme). z1 ++ w) p.3 ∙ sym (append_assoc z1 p.0 (p.1 ∷ p.2)),
         p.4,
         elim p.5 [
-          | inl q ↦ inl (grow max_marks p.0 p.1 p.2 q.0, keep (length (z1 ++ p.0)) (length p.0) (omega (arith, length-append z1 p.0)) q.1)
-          | inr q ↦ inr (grow (suc max_marks) p.0 p.1 p.2 q)
+          | inl q ↦ inl (grow p.0 p.1 p.2 q.0, keep (length (z1 ++ p.0)) (length p.0) (omega (arith, length-append z1 p.0)) q.1)
+          | inr q ↦ inr (next p.0 p.1 p.2 q)
         ],
       )
 
@@ -106,8 +109,8 @@ module _ (marks : List Terminal) where
             elim (bind_err (read a m (h.0 ++ (h.1 ++ rest))) _ (TooDeep d) c.1) [
               | inl g ↦
                   let p = each m h.0 x (h.1 ++ rest) d h.3 clear g in
-                  in_first (λ k u t v. IsMarkBehind marks k a u t v x) (λ k u t v. ExceedsAmong (IsMarkBehind marks k a) (Spells a) u t v (x ∷ xs)) (λ l. Keeps marks max_marks a l h.0 x) (λ l. KeepsAmong marks max_marks a l (h.0 ++ h.1) (x ∷ xs)) h.0 h.1 rest d p
-                  (λ k u t v q. inl (v, h.1, refl, q, h.4))
+                  in_first (λ u t v. IsMarkBehind marks max_marks a u t v x) (λ u t v. IsNextBehindBracket marks a u t v x) (λ u t v. ExceedsAmong (IsMarkBehind marks max_marks a) (Spells a) u t v (x ∷ xs)) (λ u t v. ExceedsAmong (IsNextBehindBracket marks a) (Spells a) u t v (x ∷ xs)) (λ l. Keeps marks max_marks a l h.0 x) (λ l. KeepsAmong marks max_marks a l (h.0 ++ h.1) (x ∷ xs)) h.0 h.1 rest d p
+                  (λ u t v q. inl (v, h.1, refl, q, h.4)) (λ u t v q. inl (v, h.1, refl, q, h.4))
                   (λ l le q. keeps_cons marks max_marks a fine away l 0 h.0 h.1 [] x xs h.3 h.4 refl q (λ k u t v parts low r. absurd (omega (arith, low))) (omega (arith, le)))
               | inr q ↦
                   elim (bind_err (repeated (read a) (first a) n q.1 q.2) _ (TooDeep d) q.4) [
@@ -116,8 +119,8 @@ module _ (marks : List Terminal) where
                         let ok : read a m (h.0 ++ (h.1 ++ rest)) ≡ Ok (x, q.1, h.1 ++ rest) = q.3 ∙ ap (λ (w : List Lexeme). Ok (q.0, q.1, w)) (sym same.1) ∙ ap (λ (y : A). Ok (y, q.1, h.1 ++ rest)) (sym same.0) in
                         let g' : repeated (read a) (first a) n q.1 (h.1 ++ rest) ≡ Err (TooDeep d) = ap (λ (w : List Lexeme). repeated (read a) (first a) n q.1 w) same.1 ∙ g in
                         let p = repeated_first a fine count away each n q.1 h.1 xs rest d h.4 stop g' in
-                        in_next (λ k u t v. ExceedsAmong (IsMarkBehind marks k a) (Spells a) u t v xs) (λ k u t v. ExceedsAmong (IsMarkBehind marks k a) (Spells a) u t v (x ∷ xs)) (λ l. KeepsAmong marks max_marks a l h.1 xs) (λ l. KeepsAmong marks max_marks a l (h.0 ++ h.1) (x ∷ xs)) h.0 h.1 rest d p
-                        (λ k u t v r. inr (h.0, u, refl, h.3, r))
+                        in_next (λ u t v. ExceedsAmong (IsMarkBehind marks max_marks a) (Spells a) u t v xs) (λ u t v. ExceedsAmong (IsNextBehindBracket marks a) (Spells a) u t v xs) (λ u t v. ExceedsAmong (IsMarkBehind marks max_marks a) (Spells a) u t v (x ∷ xs)) (λ u t v. ExceedsAmong (IsNextBehindBracket marks a) (Spells a) u t v (x ∷ xs)) (λ l. KeepsAmong marks max_marks a l h.1 xs) (λ l. KeepsAmong marks max_marks a l (h.0 ++ h.1) (x ∷ xs)) h.0 h.1 rest d p
+                        (λ u t v r. inr (h.0, u, refl, h.3, r)) (λ u t v r. inr (h.0, u, refl, h.3, r))
                         (λ l j le r. keeps_cons marks max_marks a fine away l j h.0 h.1 [] x xs h.3 h.4 refl (first_kept a fine count m h.0 (h.1 ++ rest) x q.1 ok l) r (omega (arith, le)))
                     | inr y ↦ absurd (let w = y.4 in cc)
                   ]
@@ -128,9 +131,9 @@ module _ (marks : List Terminal) where
 
   -- ---- each grammar
 
-  same_part : (Q R : ℕ → List Lexeme → Lexeme → List Lexeme → Type 0) (K L : ℕ → Type 0) (z rest d : List Lexeme) → Firsts Q K z rest d
-      → ((k : ℕ) (u : List Lexeme) (t : Lexeme) (v : List Lexeme) → Q k u t v → R k u t v) → ((n : ℕ) → K n → L n) → Firsts R L z rest d
-  same_part Q R K L z rest d p grow keep =
+  same_part : (Q N R M : Marked) (K L : ℕ → Type 0) (z rest d : List Lexeme) → Firsts Q N K z rest d
+      → ((u : List Lexeme) (t : Lexeme) (v : List Lexeme) → Q u t v → R u t v) → ((u : List Lexeme) (t : Lexeme) (v : List Lexeme) → N u t v → M u t v) → ((n : ℕ) → K n → L n) → Firsts R M L z rest d
+  same_part Q N R M K L z rest d p grow next keep =
       (
         p.0,
         p.1,
@@ -138,8 +141,8 @@ module _ (marks : List Terminal) where
         p.3,
         p.4,
         elim p.5 [
-          | inl q ↦ inl (grow max_marks p.0 p.1 p.2 q.0, keep (length p.0) q.1)
-          | inr q ↦ inr (grow (suc max_marks) p.0 p.1 p.2 q)
+          | inl q ↦ inl (grow p.0 p.1 p.2 q.0, keep (length p.0) q.1)
+          | inr q ↦ inr (next p.0 p.1 p.2 q)
         ],
       )
 
@@ -166,7 +169,7 @@ module _ (marks : List Terminal) where
   module _ {A B : Type 0} (ks : List Terminal) (a : Syntax A) (b c : Syntax B) (f : ForkParts a b c) (g : ForkCounted marks ks a b c) (z1 z2 rest d : List Lexeme) (x : A × B) (ha : Spells a z1 x.0) where
     -- reading ended in the first part
     head_first : (hz : Spells b z2 x.1 ⊎ Spells c z2 x.1) → IsCountedFirst max_marks z1 (z2 ++ rest) d → IsFirst (Fork ks a b c) (z1 ++ z2) x rest d
-    unfolding IsMarkBehind
+    unfolding IsMarkBehind IsNextBehindBracket
     head_first hz p =
         let there : Spells a (p.0 ++ p.1 ∷ p.2) x.0 = subst (λ (w : List Lexeme). Spells a w x.0) p.3 ha in
         (
@@ -181,21 +184,21 @@ module _ (marks : List Terminal) where
                   inl (inl (p.2, z2, refl, there, hb, p.5, p.6)),
                   keeps_list marks max_marks ks a b c f (length p.0) 0 z1 z2 x ha hb (few_front marks max_marks 0 z1 p.0 (p.1 ∷ p.2) p.3 (omega (arith, p.5))) (keeps_none marks max_marks b z2 x.1) (omega (arith, ap length p.3, length-append p.0 (p.1 ∷ p.2))),
                 )
-            | inr hc ↦ inr (inl (inr (p.2, z2, refl, there, hc, ap suc p.5, p.6)))
+            | inr hc ↦ inr (inl (p.2, z2, refl, there, hc, p.5, p.6))
           ],
         )
 
     module _ (i : ℕ) (full : max_marks ≡ i + marks_in marks z1) where
       list_first : Spells b z2 x.1 → IsFirst b z2 x.1 rest d → IsFirst (Fork ks a b c) (z1 ++ z2) x rest d
-      unfolding IsMarkBehind
+      unfolding IsMarkBehind IsNextBehindBracket
       list_first hb p =
-          in_next (λ k u t v. IsMarkBehind marks k b u t v x.1) (λ k u t v. IsMarkBehind marks k (Fork ks a b c) u t v x) (λ n. Keeps marks max_marks b n z2 x.1) (λ n. Keeps marks max_marks (Fork ks a b c) n (z1 ++ z2) x) z1 z2 rest d p
-          (λ k u t v q. inr (inl (z1, u, refl, ha, q)))
+          in_next (λ u t v. IsMarkBehind marks max_marks b u t v x.1) (λ u t v. IsNextBehindBracket marks b u t v x.1) (λ u t v. IsMarkBehind marks max_marks (Fork ks a b c) u t v x) (λ u t v. IsNextBehindBracket marks (Fork ks a b c) u t v x) (λ n. Keeps marks max_marks b n z2 x.1) (λ n. Keeps marks max_marks (Fork ks a b c) n (z1 ++ z2) x) z1 z2 rest d p
+          (λ u t v q. inr (inl (z1, u, refl, ha, q))) (λ u t v q. inr (z1, u, refl, ha, q))
           (λ n j le q. keeps_list marks max_marks ks a b c f n j z1 z2 x ha hb (few_all marks max_marks 0 n z1 (omega (arith, full))) q (omega (arith, le)))
 
       -- the last mark of the first part is too many, since the bracket was one
       last_first : Spells c z2 x.1 → i ≡ 0 → d ≡ last_mark ks (length (z1 ++ (z2 ++ rest)) - length (z2 ++ rest)) (z2 ++ rest) (z1 ++ (z2 ++ rest)) → IsFirst (Fork ks a b c) (z1 ++ z2) x rest d
-      unfolding IsMarkBehind
+      unfolding IsMarkBehind IsNextBehindBracket
       last_first hc none is =
           let mid = z2 ++ rest in
           let p = last_is marks ks g.same z1 mid mid 511 (omega (arith, full, none)) in
@@ -214,7 +217,7 @@ module _ (marks : List Terminal) where
           )
 
       bracket_first : Spells c z2 x.1 → (j : ℕ) → i ≡ suc j → IsCountedFirst j z2 rest d → IsFirst (Fork ks a b c) (z1 ++ z2) x rest d
-      unfolding IsMarkBehind
+      unfolding IsMarkBehind IsNextBehindBracket
       bracket_first hc j is p =
           (
             z1 ++ p.0,
@@ -230,7 +233,7 @@ module _ (marks : List Terminal) where
           )
 
   pub first_late : {A : Type 0} (s : Syntax A) → is_fine s ≡ true → is_counted marks s ≡ true → EachFirst s
-  unfolding read Spells more is_fine is_counted nullable first IsMarkBehind
+  unfolding read Spells more is_fine is_counted nullable first IsMarkBehind IsNextBehindBracket
   first_late (Past a) fine count m z x rest d h stop e = absurd (let c = count in cc)
   first_late (Token k) fine count m z x rest d h stop e = absurd (token_never k m (z ++ rest) d e)
   first_late (Mark k) fine count m z x rest d h stop e = absurd (let c = count in cc)
@@ -262,8 +265,8 @@ module _ (marks : List Terminal) where
       (elim (bind_err (read a m (h.0 ++ (h.1 ++ rest))) _ (TooDeep d) e') [
         | inl g ↦
             let p = first_late a f.0 c.0 m h.0 x.0 (h.1 ++ rest) d h.3 clear g in
-            in_first (λ k u t v. IsMarkBehind marks k a u t v x.0) (λ k u t v. IsMarkBehind marks k (Then a b) u t v x) (λ l. Keeps marks max_marks a l h.0 x.0) (λ l. Keeps marks max_marks (Then a b) l (h.0 ++ h.1) x) h.0 h.1 rest d p
-            (λ k u t v q. inl (v, h.1, refl, q, h.4))
+            in_first (λ u t v. IsMarkBehind marks max_marks a u t v x.0) (λ u t v. IsNextBehindBracket marks a u t v x.0) (λ u t v. IsMarkBehind marks max_marks (Then a b) u t v x) (λ u t v. IsNextBehindBracket marks (Then a b) u t v x) (λ l. Keeps marks max_marks a l h.0 x.0) (λ l. Keeps marks max_marks (Then a b) l (h.0 ++ h.1) x) h.0 h.1 rest d p
+            (λ u t v q. inl (v, h.1, refl, q, h.4)) (λ u t v q. inl (v, h.1, refl, q, h.4))
             (λ l le q. keeps_then marks max_marks a b f.0 f.1 f.2 l 0 h.0 h.1 [] x h.3 h.4 refl q (keeps_none marks max_marks b h.1 x.1) (omega (arith, le)))
         | inr q ↦
             elim (bind_err (read b q.1 q.2) _ (TooDeep d) q.4) [
@@ -271,8 +274,8 @@ module _ (marks : List Terminal) where
                   let same = done_or_not (read a m (h.0 ++ (h.1 ++ rest))) x.0 q.0 q.1 (h.1 ++ rest) q.2 (complete a f.0 m h.0 x.0 (h.1 ++ rest) h.3 clear) q.3 in
                   let ok : read a m (h.0 ++ (h.1 ++ rest)) ≡ Ok (x.0, q.1, h.1 ++ rest) = q.3 ∙ ap (λ (w : List Lexeme). Ok (q.0, q.1, w)) (sym same.1) ∙ ap (λ y. Ok (y, q.1, h.1 ++ rest)) (sym same.0) in
                   let p = first_late b f.1 c.1 q.1 h.1 x.1 rest d h.4 s.0 (ap (λ (w : List Lexeme). read b q.1 w) same.1 ∙ g) in
-                  in_next (λ k u t v. IsMarkBehind marks k b u t v x.1) (λ k u t v. IsMarkBehind marks k (Then a b) u t v x) (λ l. Keeps marks max_marks b l h.1 x.1) (λ l. Keeps marks max_marks (Then a b) l (h.0 ++ h.1) x) h.0 h.1 rest d p
-                  (λ k u t v r. inr (h.0, u, refl, h.3, r))
+                  in_next (λ u t v. IsMarkBehind marks max_marks b u t v x.1) (λ u t v. IsNextBehindBracket marks b u t v x.1) (λ u t v. IsMarkBehind marks max_marks (Then a b) u t v x) (λ u t v. IsNextBehindBracket marks (Then a b) u t v x) (λ l. Keeps marks max_marks b l h.1 x.1) (λ l. Keeps marks max_marks (Then a b) l (h.0 ++ h.1) x) h.0 h.1 rest d p
+                  (λ u t v r. inr (h.0, u, refl, h.3, r)) (λ u t v r. inr (h.0, u, refl, h.3, r))
                   (λ l j le r. keeps_then marks max_marks a b f.0 f.1 f.2 l j h.0 h.1 [] x h.3 h.4 refl (first_kept a f.0 c.0 m h.0 (h.1 ++ rest) x.0 q.1 ok l) r (omega (arith, le)))
               | inr y ↦ absurd (let w = y.4 in cc)
             ]
@@ -281,8 +284,8 @@ module _ (marks : List Terminal) where
       elim (bind_err (read a m (z ++ rest)) _ (TooDeep d) e) [
         | inl k ↦
             let p = first_late a fine count m z h.0 rest d h.2 stop k in
-            same_part (λ k u t v. IsMarkBehind marks k a u t v h.0) (λ k u t v. IsMarkBehind marks k (Map g a) u t v y) (λ l. Keeps marks max_marks a l z h.0) (λ l. Keeps marks max_marks (Map g a) l z y) z rest d p
-            (λ k u t v q. (h.0, h.1, q))
+            same_part (λ u t v. IsMarkBehind marks max_marks a u t v h.0) (λ u t v. IsNextBehindBracket marks a u t v h.0) (λ u t v. IsMarkBehind marks max_marks (Map g a) u t v y) (λ u t v. IsNextBehindBracket marks (Map g a) u t v y) (λ l. Keeps marks max_marks a l z h.0) (λ l. Keeps marks max_marks (Map g a) l z y) z rest d p
+            (λ u t v q. (h.0, h.1, q)) (λ u t v q. (h.0, h.1, q))
             (λ l q. subst (Keeps marks max_marks (Map g a) l z) (sym h.1) (keeps_map marks max_marks g a fine l z h.0 h.2 q))
         | inr k ↦ absurd (let w = k.4 in cc)
       ]
@@ -297,16 +300,16 @@ module _ (marks : List Terminal) where
       let c = and_both (is_counted marks a) (is_counted marks b) count in
       let back : read (Either a b) m ((t ∷ z) ++ rest) ≡ read a m ((t ∷ z) ++ rest) = rw (begins a f.0 t z x h) refl in
       let p = first_late a f.0 c.0 m (t ∷ z) x rest d h (any_split (more a) (more b) rest stop).0 (sym back ∙ e) in
-      same_part (λ k u s v. IsMarkBehind marks k a u s v x) (λ k u s v. IsMarkBehind marks k (Either a b) u s v x) (λ l. Keeps marks max_marks a l (t ∷ z) x) (λ l. Keeps marks max_marks (Either a b) l (t ∷ z) x) (t ∷ z) rest d p
-      (λ k u s v q. inl q) (λ l q. keeps_left marks max_marks a b f.0 f.1 f.4 l (t ∷ z) x h q)
+      same_part (λ u s v. IsMarkBehind marks max_marks a u s v x) (λ u s v. IsNextBehindBracket marks a u s v x) (λ u s v. IsMarkBehind marks max_marks (Either a b) u s v x) (λ u s v. IsNextBehindBracket marks (Either a b) u s v x) (λ l. Keeps marks max_marks a l (t ∷ z) x) (λ l. Keeps marks max_marks (Either a b) l (t ∷ z) x) (t ∷ z) rest d p
+      (λ u s v q. inl q) (λ u s v q. inl q) (λ l q. keeps_left marks max_marks a b f.0 f.1 f.4 l (t ∷ z) x h q)
   first_late (Either a b) fine count m (t ∷ z) x rest d (inr h) stop e =
       let f = choice_parts (is_fine a) (is_fine b) (nullable a) (nullable b) (apart (first a) (first b)) fine in
       let c = and_both (is_counted marks a) (is_counted marks b) count in
       let misses : any_fits (first a) t ≡ false = no_more (any_fits (first a) t) (λ k. apart_excludes (first a) (first b) t f.4 k (begins b f.1 t z x h)) in
       let back : read (Either a b) m ((t ∷ z) ++ rest) ≡ read b m ((t ∷ z) ++ rest) = rw misses refl in
       let p = first_late b f.1 c.1 m (t ∷ z) x rest d h (any_split (more a) (more b) rest stop).1 (sym back ∙ e) in
-      same_part (λ k u s v. IsMarkBehind marks k b u s v x) (λ k u s v. IsMarkBehind marks k (Either a b) u s v x) (λ l. Keeps marks max_marks b l (t ∷ z) x) (λ l. Keeps marks max_marks (Either a b) l (t ∷ z) x) (t ∷ z) rest d p
-      (λ k u s v q. inr q) (λ l q. keeps_right marks max_marks a b f.0 f.1 f.4 l (t ∷ z) x h q)
+      same_part (λ u s v. IsMarkBehind marks max_marks b u s v x) (λ u s v. IsNextBehindBracket marks b u s v x) (λ u s v. IsMarkBehind marks max_marks (Either a b) u s v x) (λ u s v. IsNextBehindBracket marks (Either a b) u s v x) (λ l. Keeps marks max_marks b l (t ∷ z) x) (λ l. Keeps marks max_marks (Either a b) l (t ∷ z) x) (t ∷ z) rest d p
+      (λ u s v q. inr q) (λ u s v q. inr q) (λ l q. keeps_right marks max_marks a b f.0 f.1 f.4 l (t ∷ z) x h q)
   first_late (Maybe a) fine count m z None rest d h stop e =
       let back : read (Maybe a) m (z ++ rest) ≡ Ok (None, m, rest) = rw (h, (any_split (first a) (more a) rest stop).0) refl in
       absurd (not_deep (read (Maybe a) m (z ++ rest)) (None, m, rest) d back e)
@@ -319,8 +322,8 @@ module _ (marks : List Terminal) where
       elim (bind_err (read a m ((t ∷ z) ++ rest)) _ (TooDeep d) (sym back ∙ e)) [
         | inl k ↦
             let p = first_late a f.0 count m (t ∷ z) x rest d h (any_split (first a) (more a) rest stop).1 k in
-            same_part (λ k u s v. IsMarkBehind marks k a u s v x) (λ k u s v. IsMarkBehind marks k (Maybe a) u s v (Some x)) (λ l. Keeps marks max_marks a l (t ∷ z) x) (λ l. Keeps marks max_marks (Maybe a) l (t ∷ z) (Some x)) (t ∷ z) rest d p
-            (λ k u s v q. q) (λ l q. keeps_some marks max_marks a l (t ∷ z) x q)
+            same_part (λ u s v. IsMarkBehind marks max_marks a u s v x) (λ u s v. IsNextBehindBracket marks a u s v x) (λ u s v. IsMarkBehind marks max_marks (Maybe a) u s v (Some x)) (λ u s v. IsNextBehindBracket marks (Maybe a) u s v (Some x)) (λ l. Keeps marks max_marks a l (t ∷ z) x) (λ l. Keeps marks max_marks (Maybe a) l (t ∷ z) (Some x)) (t ∷ z) rest d p
+            (λ u s v q. q) (λ u s v q. q) (λ l q. keeps_some marks max_marks a l (t ∷ z) x q)
         | inr k ↦ absurd (let w = k.4 in cc)
       ]
   first_late (Many a) fine count m z xs rest d h stop e =

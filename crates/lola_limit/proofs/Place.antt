@@ -1,9 +1,10 @@
 -- The place at which a text is refused as too deep.
-use Rattle.std.proofs.Common.{◌≡◌, ℕ, zero, suc, ◌+◌, ◌≤◌, ◌<◌, Bool, true, List, [], ◌∷◌, ◌++◌, length, Err, refl, sym, ap, subst, ◌∙◌, append_assoc, arith, inl, inr, ◌⊎◌}
+use Rattle.std.proofs.Common.{◌≡◌, ℕ, zero, suc, ◌+◌, ◌≤◌, ◌<◌, Bool, true, List, [], ◌∷◌, ◌++◌, length, Some, None, Err, refl, sym, ap, subst, ◌∙◌, append_assoc, arith, inl, inr, ◌⊎◌}
 use Rattle.std.proofs.lemmas.List.{append-nil, length-append, append_cancel_right}
-use Rattle.lola_grammar.specs.Syntax.{Lexeme, Terminal, Syntax, Spells, is_fine, TooDeep, max_marks, read, read_all}
+use Rattle.lola_grammar.specs.Syntax.{Lexeme, Terminal, Syntax, Past, Token, Mark, Whole, Known, Then, Map, Either, Maybe, Many, Fork, Spells, is_fine, TooDeep, max_marks, read, read_all}
 use Rattle.lola_grammar.specs.Marks.{is_counted}
-use Rattle.lola_limit.specs.Late.{IsMarkBehind, IsLate, IsLateInEvery, NoneIsLate, IsFirstLate, IsDeepPlace, IsNextInEvery}
+use Rattle.lola_grammar.specs.Exceeding.{ExceedsAmong}
+use Rattle.lola_limit.specs.Late.{IsMarkBehind, IsNextBehindBracket, IsLate, IsLateInEvery, NoneIsLate, IsFirstLate, IsDeepPlace, IsNextInEvery}
 use Rattle.lola_limit.specs.Fronts.{IsLongestFront}
 use Rattle.lola_limit.proofs.Opening.{forks_open}
 use Rattle.lola_limit.proofs.Decided.{IsDecided}
@@ -12,8 +13,32 @@ use Rattle.lola_limit.proofs.First.{first_late}
 use Rattle.lola_limit.proofs.Answered.{late_is_deep}
 
 module _ (marks : List Terminal) where
+  next_among : {A : Type 0} (P : List Lexeme → A → Type 0) (Q R : List Lexeme → Lexeme → List Lexeme → A → Type 0) → ((u : List Lexeme) (t : Lexeme) (v : List Lexeme) (x : A) → Q u t v x → R u t v x)
+      → (u : List Lexeme) (t : Lexeme) (v : List Lexeme) (xs : List A) → ExceedsAmong Q P u t v xs → ExceedsAmong R P u t v xs
+  next_among P Q R f u t v [] h = h
+  next_among P Q R f u t v (x ∷ xs) (inl h) = inl (h.0, h.1, h.2, f u t h.0 x h.3, h.4)
+  next_among P Q R f u t v (x ∷ xs) (inr h) = inr (h.0, h.1, h.2, h.3, next_among P Q R f h.1 t v xs h.4)
+
+  next_mark : {A : Type 0} (s : Syntax A) (u : List Lexeme) (t : Lexeme) (v : List Lexeme) (x : A) → IsNextBehindBracket marks s u t v x → IsMarkBehind marks (suc max_marks) s u t v x
+  unfolding IsMarkBehind IsNextBehindBracket
+  next_mark (Past a) u t v x h = h
+  next_mark (Token k) u t v x h = h
+  next_mark (Mark k) u t v x h = h
+  next_mark (Whole a) u t v x h = absurd h
+  next_mark (Known fs ms a) u t v x h = next_mark a u t v x h
+  next_mark (Then a b) u t v x (inl h) = inl (h.0, h.1, h.2, next_mark a u t h.0 x.0 h.3, h.4)
+  next_mark (Then a b) u t v x (inr h) = inr (h.0, h.1, h.2, h.3, next_mark b h.1 t v x.1 h.4)
+  next_mark (Map f a) u t v y h = (h.0, h.1, next_mark a u t v h.0 h.2)
+  next_mark (Either a b) u t v x (inl h) = inl (next_mark a u t v x h)
+  next_mark (Either a b) u t v x (inr h) = inr (next_mark b u t v x h)
+  next_mark (Maybe a) u t v None h = h
+  next_mark (Maybe a) u t v (Some x) h = next_mark a u t v x h
+  next_mark (Many a) u t v xs h = next_among (Spells a) (IsNextBehindBracket marks a) (IsMarkBehind marks (suc max_marks) a) (next_mark a) u t v xs h
+  next_mark (Fork ks a b c) u t v x (inl h) = inl (inr (h.0, h.1, h.2, h.3, h.4, ap suc h.5, h.6))
+  next_mark (Fork ks a b c) u t v x (inr h) = inr (inl (h.0, h.1, h.2, h.3, next_mark b h.1 t v x.1 h.4))
+
   abbrev pub IsFirstOrNext : {A : Type 0} → Syntax A → List Lexeme → Lexeme → List Lexeme → A → Type 0
-  IsFirstOrNext s u t v x = IsFirstLate marks s u t v x ⊎ IsMarkBehind marks (suc max_marks) s u t v x
+  IsFirstOrNext s u t v x = IsFirstLate marks s u t v x ⊎ IsNextBehindBracket marks s u t v x
 
   moved : {A : Type 0} (s : Syntax A) (u u' : List Lexeme) (t t' : Lexeme) (v v' : List Lexeme) (x : A) → u ≡ u' → t ≡ t' → v ≡ v' → IsFirstOrNext s u t v x → IsFirstOrNext s u' t' v' x
   moved s u u' t t' v v' x e f g h =
@@ -55,13 +80,13 @@ module _ (marks : List Terminal) where
 
   first_is_late : {A : Type 0} (s : Syntax A) (u : List Lexeme) (t : Lexeme) (v : List Lexeme) (x : A) → IsFirstOrNext s u t v x → IsLate marks s u t v x
   first_is_late s u t v x (inl h) = (max_marks, omega arith, h.0)
-  first_is_late s u t v x (inr h) = (suc max_marks, omega arith, h)
+  first_is_late s u t v x (inr h) = (suc max_marks, omega arith, next_mark s u t v x h)
 
   -- ---- the first mark that is late in every sentence that begins so
 
   -- a mark before it that is late makes it the next
   is_next : {A : Type 0} (s : Syntax A) (u : List Lexeme) (t : Lexeme) (w u' : List Lexeme) (t' : Lexeme) (w' : List Lexeme) → u ++ t ∷ w ≡ u' ++ t' ∷ w' → length u < length u' → IsLateInEvery marks s u t w
-      → (q : List Lexeme) (x : A) → Spells s (u' ++ t' ∷ (w' ++ q)) x → IsFirstOrNext s u' t' (w' ++ q) x → IsMarkBehind marks (suc max_marks) s u' t' (w' ++ q) x
+      → (q : List Lexeme) (x : A) → Spells s (u' ++ t' ∷ (w' ++ q)) x → IsFirstOrNext s u' t' (w' ++ q) x → IsNextBehindBracket marks s u' t' (w' ++ q) x
   is_next s u t w u' t' w' same less late q x g (inr h) = h
   is_next s u t w u' t' w' same less late q x g (inl h) =
       let whole : u' ++ t' ∷ (w' ++ q) ≡ u ++ t ∷ (w ++ q) = sym (append_assoc u' (t' ∷ w') q) ∙ ap (λ (y : List Lexeme). y ++ q) (sym same) ∙ append_assoc u (t ∷ w) q in

@@ -28,6 +28,25 @@ module _ (marks : List Terminal) where
         ⊎ (((w z : List Lexeme) × (u ≡ w ++ z) × Spells a w x.0 × IsMarkBehind b z t v x.1)
         ⊎ ((w z : List Lexeme) × (u ≡ w ++ z) × Spells a w x.0 × Spells c (z ++ t ∷ v) x.1 × (suc (marks_in marks w + marks_in marks z) ≡ k) × (is_mark marks t ≡ true)))
 
+  -- In the sentence of u, t and v, with this value, t is the next mark behind the first one too many, where a bracket that only
+  -- what stands behind its end shows to be a mark begins the expression: so many as may come stand between the bracket and t.
+  unfoldable pub IsNextBehindBracket : {A : Type 0} → Syntax A → List Lexeme → Lexeme → List Lexeme → A → Type 0
+  IsNextBehindBracket (Past a) u t v x = ⊥
+  IsNextBehindBracket (Token c) u t v x = ⊥
+  IsNextBehindBracket (Mark c) u t v x = ⊥
+  IsNextBehindBracket (Whole a) u t v x = ⊥
+  IsNextBehindBracket (Known fs ms a) u t v x = IsNextBehindBracket a u t v x
+  IsNextBehindBracket (Then a b) u t v x =
+      ((w z : List Lexeme) × (v ≡ w ++ z) × IsNextBehindBracket a u t w x.0 × Spells b z x.1)
+      ⊎ ((w z : List Lexeme) × (u ≡ w ++ z) × Spells a w x.0 × IsNextBehindBracket b z t v x.1)
+  IsNextBehindBracket (Map f a) u t v y = (x : _) × (y ≡ f x) × IsNextBehindBracket a u t v x
+  IsNextBehindBracket (Either a b) u t v x = IsNextBehindBracket a u t v x ⊎ IsNextBehindBracket b u t v x
+  IsNextBehindBracket (Maybe a) u t v x = ExceedsIfSome (IsNextBehindBracket a u t v) x
+  IsNextBehindBracket (Many a) u t v xs = ExceedsAmong (IsNextBehindBracket a) (Spells a) u t v xs
+  IsNextBehindBracket (Fork ks a b c) u t v x =
+      ((w z : List Lexeme) × (v ≡ w ++ z) × Spells a (u ++ t ∷ w) x.0 × Spells c z x.1 × (marks_in marks u ≡ max_marks) × (is_mark marks t ≡ true))
+      ⊎ ((w z : List Lexeme) × (u ≡ w ++ z) × Spells a w x.0 × IsNextBehindBracket b z t v x.1)
+
   -- In the sentence of u, t and v, with this value, t is a mark too many: as many as may come stand before it, or more.
   abbrev pub IsLate : {A : Type 0} → Syntax A → List Lexeme → Lexeme → List Lexeme → A → Type 0
   IsLate s u t v x = (k : ℕ) × (max_marks ≤ k) × IsMarkBehind k s u t v x
@@ -50,6 +69,6 @@ module _ (marks : List Terminal) where
       IsLateInEvery s u t w
       × ((u' : List Lexeme) (t' : Lexeme) (w' : List Lexeme) → u ++ t ∷ w ≡ u' ++ t' ∷ w' → length u' < length u → IsLateInEvery s u' t' w' → ⊥)
 
-  -- In every sentence that begins with u, t and w, t is not the first mark too many but the next.
+  -- In every sentence that begins with u, t and w, t is the next mark behind the first one too many.
   abbrev pub IsNextInEvery : {A : Type 0} → Syntax A → List Lexeme → Lexeme → List Lexeme → Type 0
-  IsNextInEvery {A} s u t w = (q : List Lexeme) (x : A) → Spells s (u ++ t ∷ (w ++ q)) x → IsMarkBehind (suc max_marks) s u t (w ++ q) x
+  IsNextInEvery {A} s u t w = (q : List Lexeme) (x : A) → Spells s (u ++ t ∷ (w ++ q)) x → IsNextBehindBracket s u t (w ++ q) x

@@ -1,10 +1,10 @@
 -- Where a specification is refused as too deep.
-use Rattle.std.specs.Prelude.{◌≡◌, ◌≤◌, ◌<◌, ℕ, suc, List, ◌∷◌, ◌++◌, length, Result, Err, ◌⊎◌}
+use Rattle.std.specs.Prelude.{◌≡◌, ◌≤◌, ◌<◌, ℕ, List, ◌∷◌, ◌++◌, length, Result, Err, ◌⊎◌}
 use Rattle.lola_tree.specs.declared.declarations.Declaration.{Declaration}
-use Rattle.lola_grammar.specs.Syntax.{Lexeme, Unexpected, TooDeep, Spells, max_marks, read_all}
+use Rattle.lola_grammar.specs.Syntax.{Lexeme, Unexpected, TooDeep, Spells, read_all}
 use Rattle.lola_parser.specs.Grammar.{specification, all_marks}
 use Rattle.lola_parser.specs.Whole.{most_levels}
-use Rattle.lola_limit.specs.Late.{IsMarkBehind, IsLateInEvery, NoneIsLate, IsFirstLate, IsDeepPlace, IsNextInEvery}
+use Rattle.lola_limit.specs.Late.{IsNextBehindBracket, IsLateInEvery, NoneIsLate, IsFirstLate, IsDeepPlace, IsNextInEvery}
 use Rattle.lola_limit.specs.Fronts.{IsLongestFront}
 
 -- The mark that is refused as too deep stands before the first token that does not fit. It is a mark too many of a whole
@@ -26,12 +26,13 @@ UnexpectedKeepsTheLimit = (n : ℕ) → most_levels ≤ n → (ts rest : List Le
     → (p : List Lexeme) × IsLongestFront (specification n) ts p rest × ((q : List Lexeme) × (x : List Declaration) × Spells (specification n) (p ++ q) x × NoneIsLate all_marks (specification n) (length p) (p ++ q) x)
 
 -- The mark that is refused as too deep is the first mark too many in each specification that begins with the tokens before the
--- first one that does not fit, or the next mark behind that one.
+-- first one that does not fit; or, where a bracket behind the `with` of a spawn begins an expression, and the expression in it
+-- has more marks alone than may come, it is the next mark.
 abbrev pub TooDeepIsFirst : Type 0
 TooDeepIsFirst = (n : ℕ) → most_levels ≤ n → (ts d p rest : List Lexeme) → read_all (specification n) ts ≡ Err (TooDeep d) → IsLongestFront (specification n) ts p rest
     → (u : List Lexeme) × (t : Lexeme) × (w : List Lexeme) × (p ≡ u ++ t ∷ w) × (d ≡ t ∷ (w ++ rest))
     × ((q : List Lexeme) (x : List Declaration) → Spells (specification n) (u ++ t ∷ (w ++ q)) x
-        → IsFirstLate all_marks (specification n) u t (w ++ q) x ⊎ IsMarkBehind all_marks (suc max_marks) (specification n) u t (w ++ q) x)
+        → IsFirstLate all_marks (specification n) u t (w ++ q) x ⊎ IsNextBehindBracket all_marks (specification n) u t (w ++ q) x)
 
 -- The text is refused at the next mark behind t.
 abbrev pub IsNextRefused : ℕ → List Lexeme → List Lexeme → List Lexeme → List Lexeme → Type 0
@@ -39,8 +40,8 @@ IsNextRefused n ts p rest u =
     (u' : List Lexeme) × (t' : Lexeme) × (w' : List Lexeme) × (p ≡ u' ++ t' ∷ w') × (length u < length u') × (read_all (specification n) ts ≡ Err (TooDeep (t' ∷ (w' ++ rest)))) × IsNextInEvery all_marks (specification n) u' t' w'
 
 -- Where t is the first mark that is one too many in every specification that begins with the tokens before the first one
--- that does not fit, the text is refused there as too deep, or it is refused at the next mark, which then is the 514th of an
--- expression in each of these specifications.
+-- that does not fit, the text is refused there as too deep. Or it is refused at the next mark, and in each of these
+-- specifications both stand behind a bracket that begins an expression behind the `with` of a spawn.
 abbrev pub TooDeepStandsThere : Type 0
 TooDeepStandsThere = (n : ℕ) → most_levels ≤ n → (ts p rest : List Lexeme) → IsLongestFront (specification n) ts p rest
     → (u : List Lexeme) (t : Lexeme) (w : List Lexeme) → p ≡ u ++ t ∷ w → IsDeepPlace all_marks (specification n) u t w

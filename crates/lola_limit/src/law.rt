@@ -22,13 +22,15 @@ pub fn unexpected_keeps_the_limit()
 {}
 
 /// The mark at which reading is refused as too deep is, in each specification that begins with the tokens before the first one
-/// that does not fit, the 513th of a whole expression or formula and the first too many, or it is the 514th.
+/// that does not fit, the 513th of a whole expression or formula and the first too many. Or, behind a bracket that begins an
+/// expression behind the `with` of a spawn, it is the next mark.
 pub fn too_deep_is_first()
     ensures { TooDeepIsFirst }
 {}
 
 /// The first mark that is the 513th or a later mark in every specification that begins with the tokens before the first one
-/// that does not fit is refused as too deep, or the next mark is, which then is the 514th in each of these specifications.
+/// that does not fit is refused as too deep. Or the next mark is, and in each of these specifications both stand behind a
+/// bracket that begins an expression behind the `with` of a spawn.
 pub fn too_deep_stands_there()
     ensures { TooDeepStandsThere }
 {}
