@@ -1,10 +1,10 @@
 -- The place at which a text is refused as too deep.
 use Rattle.std.proofs.Common.{◌≡◌, ℕ, zero, suc, ◌+◌, ◌≤◌, ◌<◌, Bool, true, List, [], ◌∷◌, ◌++◌, length, Some, None, Err, refl, sym, ap, subst, ◌∙◌, append_assoc, arith, inl, inr, ◌⊎◌}
 use Rattle.std.proofs.lemmas.List.{append-nil, length-append, append_cancel_right}
-use Rattle.lola_grammar.specs.Syntax.{Lexeme, Terminal, Syntax, Past, Token, Mark, Whole, Known, Then, Map, Either, Maybe, Many, Fork, Spells, is_fine, TooDeep, max_marks, read, read_all}
+use Rattle.lola_grammar.specs.Syntax.{Lexeme, Terminal, Syntax, Past, Token, Mark, Whole, Known, Then, Map, Either, Maybe, Many, Fork, Spells, is_fine, TooDeep, max_marks, read, read_all, Begins}
 use Rattle.lola_grammar.specs.Marks.{is_counted}
 use Rattle.lola_grammar.specs.Exceeding.{ExceedsAmong}
-use Rattle.lola_limit.specs.Late.{IsMarkBehind, IsNextBehindBracket, IsLate, IsLateInEvery, NoneIsLate, IsFirstLate, IsDeepPlace, IsNextInEvery}
+use Rattle.lola_limit.specs.Late.{IsMarkBehind, IsNextBehindBracket, IsLate, IsLateInEvery, NoneIsLate, IsFirstLate, IsDeepPlace, IsNextInEvery, HasNoNext}
 use Rattle.lola_limit.specs.Fronts.{IsLongestFront}
 use Rattle.lola_limit.proofs.Opening.{forks_open}
 use Rattle.lola_limit.proofs.Decided.{IsDecided}
@@ -139,3 +139,52 @@ module _ (marks : List Terminal) where
                   absurd (place.1 f.0 f.1 f.2 (sym e ∙ f.3) less (λ q x g. first_is_late s f.0 f.1 (f.2 ++ q) x (f.5 q x g)))
             ]
       ]
+
+  -- ---- where it is never the next mark
+
+  -- some sentence begins with the tokens
+  goes_on : {A : Type 0} (s : Syntax A) (p u : List Lexeme) (t : Lexeme) (w : List Lexeme) → p ≡ u ++ t ∷ w → Begins s p → (q : List Lexeme) × (x : A) × Spells s (u ++ t ∷ (w ++ q)) x
+  goes_on s p u t w e b = (b.0, b.1, subst (λ (y : List Lexeme). Spells s y b.1) (ap (λ (y : List Lexeme). y ++ b.0) e ∙ append_assoc u (t ∷ w) b.0) b.2)
+
+  only_first : {A : Type 0} (s : Syntax A) (p u : List Lexeme) (t : Lexeme) (w q : List Lexeme) (x : A) → HasNoNext marks s p → p ≡ u ++ t ∷ w → Spells s (u ++ t ∷ (w ++ q)) x → IsFirstOrNext s u t (w ++ q) x → IsFirstLate marks s u t (w ++ q) x
+  only_first s p u t w q x none e g (inl h) = h
+  only_first s p u t w q x none e g (inr h) = absurd (none u t w q x e g h)
+
+  first_in_each : {A : Type 0} (s : Syntax A) (p u : List Lexeme) (t : Lexeme) (w : List Lexeme) → p ≡ u ++ t ∷ w → Begins s p → ((q : List Lexeme) (x : A) → Spells s (u ++ t ∷ (w ++ q)) x → IsFirstLate marks s u t (w ++ q) x) → IsDeepPlace marks s u t w
+  first_in_each s p u t w e b each =
+      (
+        λ q x g. (max_marks, omega arith, (each q x g).0),
+        λ u' t' w' same less late.
+            let o = goes_on s p u t w e b in
+            let f = each o.0 o.1 o.2 in
+            let whole : u ++ t ∷ (w ++ o.0) ≡ u' ++ t' ∷ (w' ++ o.0) = sym (append_assoc u (t ∷ w) o.0) ∙ ap (λ (y : List Lexeme). y ++ o.0) same ∙ append_assoc u' (t' ∷ w') o.0 in
+            let l = late o.0 o.1 (subst (λ (y : List Lexeme). Spells s y o.1) whole o.2) in
+            let low = f.1 l.0 u' t' (w' ++ o.0) whole less l.2 in
+            omega (arith, low, l.1),
+      )
+
+  pub deep_stands_exactly : {A : Type 0} (s : Syntax A) → is_fine s ≡ true → is_counted marks s ≡ true → forks_open s ≡ true → (ts p rest : List Lexeme) → IsLongestFront s ts p rest → HasNoNext marks s p
+      → (u : List Lexeme) (t : Lexeme) (w : List Lexeme) → p ≡ u ++ t ∷ w
+      → (IsDeepPlace marks s u t w → read_all s ts ≡ Err (TooDeep (t ∷ (w ++ rest)))) × (read_all s ts ≡ Err (TooDeep (t ∷ (w ++ rest))) → IsDeepPlace marks s u t w)
+  deep_stands_exactly s fine count opens ts p rest l none u t w e = (there, back)
+    where
+      there : IsDeepPlace marks s u t w → read_all s ts ≡ Err (TooDeep (t ∷ (w ++ rest)))
+      there place =
+          elim (deep_stands_there s fine count opens ts p rest l u t w e place) [
+            | inl h ↦ h
+            | inr h ↦ absurd (let o = goes_on s p h.0 h.1 h.2 h.3 l.1 in none h.0 h.1 h.2 o.0 o.1 h.3 o.2 (h.6 o.0 o.1 o.2))
+          ]
+
+      back : read_all s ts ≡ Err (TooDeep (t ∷ (w ++ rest))) → IsDeepPlace marks s u t w
+      back h =
+          let f = deep_is_first s fine count opens ts (t ∷ (w ++ rest)) p rest h l in
+          let token : t ≡ f.1 = (let k = f.4 in cc) in
+          let behind : w ++ rest ≡ f.2 ++ rest = (let k = f.4 in cc) in
+          let tail : w ≡ f.2 = append_cancel_right w f.2 rest behind in
+          let rests : f.1 ∷ f.2 ≡ t ∷ w = ap (λ (y : Lexeme). y ∷ f.2) (sym token) ∙ ap (λ (y : List Lexeme). t ∷ y) (sym tail) in
+          let front : f.0 ≡ u = append_cancel_right f.0 u (t ∷ w) (ap (λ (y : List Lexeme). f.0 ++ y) (sym rests) ∙ sym f.3 ∙ e) in
+          first_in_each s p u t w e l.1
+          (λ q x g.
+              let whole : f.0 ++ f.1 ∷ (f.2 ++ q) ≡ u ++ t ∷ (w ++ q) = ap (λ (y : List Lexeme). y ++ (f.1 ∷ (f.2 ++ q))) front ∙ ap (λ (y : List Lexeme). u ++ (y ++ q)) rests in
+              let found = f.5 q x (subst (λ (y : List Lexeme). Spells s y x) (sym whole) g) in
+              only_first s p u t w q x none e g (moved s f.0 u f.1 t (f.2 ++ q) (w ++ q) x front (sym token) (ap (λ (y : List Lexeme). y ++ q) (sym tail)) found))

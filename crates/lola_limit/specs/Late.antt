@@ -72,3 +72,7 @@ module _ (marks : List Terminal) where
   -- In every sentence that begins with u, t and w, t is the next mark behind the first one too many.
   abbrev pub IsNextInEvery : {A : Type 0} → Syntax A → List Lexeme → Lexeme → List Lexeme → Type 0
   IsNextInEvery {A} s u t w = (q : List Lexeme) (x : A) → Spells s (u ++ t ∷ (w ++ q)) x → IsNextBehindBracket s u t (w ++ q) x
+
+  -- In no sentence that begins with p a token of p is that next mark.
+  abbrev pub HasNoNext : {A : Type 0} → Syntax A → List Lexeme → Type 0
+  HasNoNext {A} s p = (u : List Lexeme) (t : Lexeme) (w q : List Lexeme) (x : A) → p ≡ u ++ t ∷ w → Spells s (u ++ t ∷ (w ++ q)) x → IsNextBehindBracket s u t (w ++ q) x → ⊥

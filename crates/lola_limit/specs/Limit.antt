@@ -4,7 +4,7 @@ use Rattle.lola_tree.specs.declared.declarations.Declaration.{Declaration}
 use Rattle.lola_grammar.specs.Syntax.{Lexeme, Unexpected, TooDeep, Spells, read_all}
 use Rattle.lola_parser.specs.Grammar.{specification, all_marks}
 use Rattle.lola_parser.specs.Whole.{most_levels}
-use Rattle.lola_limit.specs.Late.{IsNextBehindBracket, IsLateInEvery, NoneIsLate, IsFirstLate, IsDeepPlace, IsNextInEvery}
+use Rattle.lola_limit.specs.Late.{IsNextBehindBracket, IsLateInEvery, NoneIsLate, IsFirstLate, IsDeepPlace, IsNextInEvery, HasNoNext}
 use Rattle.lola_limit.specs.Fronts.{IsLongestFront}
 
 -- The mark that is refused as too deep stands before the first token that does not fit. It is a mark too many of a whole
@@ -46,3 +46,12 @@ abbrev pub TooDeepStandsThere : Type 0
 TooDeepStandsThere = (n : ℕ) → most_levels ≤ n → (ts p rest : List Lexeme) → IsLongestFront (specification n) ts p rest
     → (u : List Lexeme) (t : Lexeme) (w : List Lexeme) → p ≡ u ++ t ∷ w → IsDeepPlace all_marks (specification n) u t w
     → (read_all (specification n) ts ≡ Err (TooDeep (t ∷ (w ++ rest)))) ⊎ IsNextRefused n ts p rest u
+
+-- Where no spawn's `with` is followed by a bracketed expression that has more marks alone than may come, the text is refused
+-- as too deep exactly at the first mark that is one too many in every specification that begins with the tokens before the
+-- first one that does not fit.
+abbrev pub TooDeepStandsExactly : Type 0
+TooDeepStandsExactly = (n : ℕ) → most_levels ≤ n → (ts p rest : List Lexeme) → IsLongestFront (specification n) ts p rest → HasNoNext all_marks (specification n) p
+    → (u : List Lexeme) (t : Lexeme) (w : List Lexeme) → p ≡ u ++ t ∷ w
+    → (IsDeepPlace all_marks (specification n) u t w → read_all (specification n) ts ≡ Err (TooDeep (t ∷ (w ++ rest))))
+        × (read_all (specification n) ts ≡ Err (TooDeep (t ∷ (w ++ rest))) → IsDeepPlace all_marks (specification n) u t w)

@@ -1,6 +1,6 @@
 //! The laws, about definitions alone.
 
-ghost use Rattle.lola_limit.specs.Limit.{TooDeepIsLateInEvery, LateInEveryIsTooDeep, UnexpectedKeepsTheLimit, TooDeepIsFirst, TooDeepStandsThere};
+ghost use Rattle.lola_limit.specs.Limit.{TooDeepIsLateInEvery, LateInEveryIsTooDeep, UnexpectedKeepsTheLimit, TooDeepIsFirst, TooDeepStandsThere, TooDeepStandsExactly};
 
 /// The mark at which reading is refused as too deep is the 513th or a later mark of a whole expression or formula in every
 /// specification that begins with the tokens before the first one that does not fit, also where the tokens are no
@@ -33,4 +33,11 @@ pub fn too_deep_is_first()
 /// bracket that begins an expression behind the `with` of a spawn.
 pub fn too_deep_stands_there()
     ensures { TooDeepStandsThere }
+{}
+
+/// Where no spawn's `with` is followed by a bracketed expression that has more than 512 marks in its bracket, a text is refused
+/// as too deep exactly at the first mark that is the 513th or a later one in every specification that begins with the tokens
+/// before the first one that does not fit.
+pub fn too_deep_stands_exactly()
+    ensures { TooDeepStandsExactly }
 {}
