@@ -140,26 +140,35 @@ module _ (marks : List Terminal) where
             ]
       ]
 
-  -- ---- where it is never the next mark
+  -- ---- where it is not always the next mark
 
-  -- some sentence begins with the tokens
-  goes_on : {A : Type 0} (s : Syntax A) (p u : List Lexeme) (t : Lexeme) (w : List Lexeme) → p ≡ u ++ t ∷ w → Begins s p → (q : List Lexeme) × (x : A) × Spells s (u ++ t ∷ (w ++ q)) x
-  goes_on s p u t w e b = (b.0, b.1, subst (λ (y : List Lexeme). Spells s y b.1) (ap (λ (y : List Lexeme). y ++ b.0) e ∙ append_assoc u (t ∷ w) b.0) b.2)
+  with_more : (p q u w : List Lexeme) (t : Lexeme) → p ≡ u ++ t ∷ w → p ++ q ≡ u ++ t ∷ (w ++ q)
+  with_more p q u w t e = ap (λ (y : List Lexeme). y ++ q) e ∙ append_assoc u (t ∷ w) q
 
-  only_first : {A : Type 0} (s : Syntax A) (p u : List Lexeme) (t : Lexeme) (w q : List Lexeme) (x : A) → HasNoNext marks s p → p ≡ u ++ t ∷ w → Spells s (u ++ t ∷ (w ++ q)) x → IsFirstOrNext s u t (w ++ q) x → IsFirstLate marks s u t (w ++ q) x
-  only_first s p u t w q x none e g (inl h) = h
-  only_first s p u t w q x none e g (inr h) = absurd (none u t w q x e g h)
+  inside : (p u w : List Lexeme) (t : Lexeme) → p ≡ u ++ t ∷ w → length u < length p
+  inside p u w t e = omega (arith, ap length e, length-append u (t ∷ w))
 
-  first_in_each : {A : Type 0} (s : Syntax A) (p u : List Lexeme) (t : Lexeme) (w : List Lexeme) → p ≡ u ++ t ∷ w → Begins s p → ((q : List Lexeme) (x : A) → Spells s (u ++ t ∷ (w ++ q)) x → IsFirstLate marks s u t (w ++ q) x) → IsDeepPlace marks s u t w
-  first_in_each s p u t w e b each =
+  not_next : {A : Type 0} (s : Syntax A) (p u : List Lexeme) (t : Lexeme) (w : List Lexeme) → p ≡ u ++ t ∷ w → HasNoNext marks s p → IsNextInEvery marks s u t w → ⊥
+  not_next s p u t w e none next =
+      let whole = with_more p none.0 u w t e in
+      none.3 u t (w ++ none.0) whole (inside p u w t e) (next none.0 none.1 (subst (λ (y : List Lexeme). Spells s y none.1) whole none.2))
+
+  only_first : {A : Type 0} (s : Syntax A) (u : List Lexeme) (t : Lexeme) (v : List Lexeme) (x : A) → (IsNextBehindBracket marks s u t v x → ⊥) → IsFirstOrNext s u t v x → IsFirstLate marks s u t v x
+  only_first s u t v x none (inl h) = h
+  only_first s u t v x none (inr h) = absurd (none h)
+
+  -- what is the first in one of the sentences and a mark too many in all
+  first_in_one : {A : Type 0} (s : Syntax A) (p u : List Lexeme) (t : Lexeme) (w : List Lexeme) → p ≡ u ++ t ∷ w → HasNoNext marks s p → ((q : List Lexeme) (x : A) → Spells s (u ++ t ∷ (w ++ q)) x → IsFirstOrNext s u t (w ++ q) x) → IsDeepPlace marks s u t w
+  first_in_one s p u t w e none each =
       (
-        λ q x g. (max_marks, omega arith, (each q x g).0),
+        λ q x g. first_is_late s u t (w ++ q) x (each q x g),
         λ u' t' w' same less late.
-            let o = goes_on s p u t w e b in
-            let f = each o.0 o.1 o.2 in
-            let whole : u ++ t ∷ (w ++ o.0) ≡ u' ++ t' ∷ (w' ++ o.0) = sym (append_assoc u (t ∷ w) o.0) ∙ ap (λ (y : List Lexeme). y ++ o.0) same ∙ append_assoc u' (t' ∷ w') o.0 in
-            let l = late o.0 o.1 (subst (λ (y : List Lexeme). Spells s y o.1) whole o.2) in
-            let low = f.1 l.0 u' t' (w' ++ o.0) whole less l.2 in
+            let o = with_more p none.0 u w t e in
+            let g = subst (λ (y : List Lexeme). Spells s y none.1) o none.2 in
+            let f = only_first s u t (w ++ none.0) none.1 (none.3 u t (w ++ none.0) o (inside p u w t e)) (each none.0 none.1 g) in
+            let whole = sym o ∙ with_more p none.0 u' w' t' (e ∙ same) in
+            let l = late none.0 none.1 (subst (λ (y : List Lexeme). Spells s y none.1) whole g) in
+            let low = f.1 l.0 u' t' (w' ++ none.0) whole less l.2 in
             omega (arith, low, l.1),
       )
 
@@ -172,7 +181,7 @@ module _ (marks : List Terminal) where
       there place =
           elim (deep_stands_there s fine count opens ts p rest l u t w e place) [
             | inl h ↦ h
-            | inr h ↦ absurd (let o = goes_on s p h.0 h.1 h.2 h.3 l.1 in none h.0 h.1 h.2 o.0 o.1 h.3 o.2 (h.6 o.0 o.1 o.2))
+            | inr h ↦ absurd (not_next s p h.0 h.1 h.2 h.3 none h.6)
           ]
 
       back : read_all s ts ≡ Err (TooDeep (t ∷ (w ++ rest))) → IsDeepPlace marks s u t w
@@ -183,8 +192,8 @@ module _ (marks : List Terminal) where
           let tail : w ≡ f.2 = append_cancel_right w f.2 rest behind in
           let rests : f.1 ∷ f.2 ≡ t ∷ w = ap (λ (y : Lexeme). y ∷ f.2) (sym token) ∙ ap (λ (y : List Lexeme). t ∷ y) (sym tail) in
           let front : f.0 ≡ u = append_cancel_right f.0 u (t ∷ w) (ap (λ (y : List Lexeme). f.0 ++ y) (sym rests) ∙ sym f.3 ∙ e) in
-          first_in_each s p u t w e l.1
+          first_in_one s p u t w e none
           (λ q x g.
               let whole : f.0 ++ f.1 ∷ (f.2 ++ q) ≡ u ++ t ∷ (w ++ q) = ap (λ (y : List Lexeme). y ++ (f.1 ∷ (f.2 ++ q))) front ∙ ap (λ (y : List Lexeme). u ++ (y ++ q)) rests in
               let found = f.5 q x (subst (λ (y : List Lexeme). Spells s y x) (sym whole) g) in
-              only_first s p u t w q x none e g (moved s f.0 u f.1 t (f.2 ++ q) (w ++ q) x front (sym token) (ap (λ (y : List Lexeme). y ++ q) (sym tail)) found))
+              moved s f.0 u f.1 t (f.2 ++ q) (w ++ q) x front (sym token) (ap (λ (y : List Lexeme). y ++ q) (sym tail)) found)

@@ -73,6 +73,8 @@ module _ (marks : List Terminal) where
   abbrev pub IsNextInEvery : {A : Type 0} → Syntax A → List Lexeme → Lexeme → List Lexeme → Type 0
   IsNextInEvery {A} s u t w = (q : List Lexeme) (x : A) → Spells s (u ++ t ∷ (w ++ q)) x → IsNextBehindBracket s u t (w ++ q) x
 
-  -- In no sentence that begins with p a token of p is that next mark.
+  -- Some sentence begins with p in which no token of p is that next mark.
   abbrev pub HasNoNext : {A : Type 0} → Syntax A → List Lexeme → Type 0
-  HasNoNext {A} s p = (u : List Lexeme) (t : Lexeme) (w q : List Lexeme) (x : A) → p ≡ u ++ t ∷ w → Spells s (u ++ t ∷ (w ++ q)) x → IsNextBehindBracket s u t (w ++ q) x → ⊥
+  HasNoNext {A} s p =
+      (q : List Lexeme) × (x : A) × Spells s (p ++ q) x
+      × ((u : List Lexeme) (t : Lexeme) (v : List Lexeme) → p ++ q ≡ u ++ t ∷ v → length u < length p → IsNextBehindBracket s u t v x → ⊥)

@@ -47,9 +47,9 @@ TooDeepStandsThere = (n : ℕ) → most_levels ≤ n → (ts p rest : List Lexem
     → (u : List Lexeme) (t : Lexeme) (w : List Lexeme) → p ≡ u ++ t ∷ w → IsDeepPlace all_marks (specification n) u t w
     → (read_all (specification n) ts ≡ Err (TooDeep (t ∷ (w ++ rest)))) ⊎ IsNextRefused n ts p rest u
 
--- Where no spawn's `with` is followed by a bracketed expression that has more marks alone than may come, the text is refused
--- as too deep exactly at the first mark that is one too many in every specification that begins with the tokens before the
--- first one that does not fit.
+-- A text is refused as too deep exactly at the first mark that is one too many in every specification that begins with the
+-- tokens before the first one that does not fit; unless in each of these a bracketed expression behind the `with` of a spawn
+-- has more marks in its bracket than may come.
 abbrev pub TooDeepStandsExactly : Type 0
 TooDeepStandsExactly = (n : ℕ) → most_levels ≤ n → (ts p rest : List Lexeme) → IsLongestFront (specification n) ts p rest → HasNoNext all_marks (specification n) p
     → (u : List Lexeme) (t : Lexeme) (w : List Lexeme) → p ≡ u ++ t ∷ w

@@ -35,9 +35,9 @@ pub fn too_deep_stands_there()
     ensures { TooDeepStandsThere }
 {}
 
-/// Where no spawn's `with` is followed by a bracketed expression that has more than 512 marks in its bracket, a text is refused
-/// as too deep exactly at the first mark that is the 513th or a later one in every specification that begins with the tokens
-/// before the first one that does not fit.
+/// A text is refused as too deep exactly at the first mark that is the 513th or a later one of a whole expression or formula in
+/// every specification that begins with the tokens before the first one that does not fit; unless in each of these a bracketed
+/// expression behind the `with` of a spawn has more than 512 marks in its bracket.
 pub fn too_deep_stands_exactly()
     ensures { TooDeepStandsExactly }
 {}
