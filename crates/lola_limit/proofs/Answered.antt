@@ -1,11 +1,11 @@
 -- A text that has a mark too many, whatever follows, is refused as too deep.
-use Rattle.std.proofs.Common.{◌≡◌, ℕ, zero, suc, ◌+◌, ◌≤◌, ◌<◌, Bool, true, List, [], ◌∷◌, ◌++◌, length, Result, Ok, Err, refl, sym, ap, subst, ◌∙◌, append_assoc, arith, inl, inr}
+use Rattle.std.proofs.Common.{◌≡◌, true, List, [], ◌∷◌, ◌++◌, length, Result, Ok, Err, refl, sym, ap, subst, ◌∙◌, append_assoc, arith}
 use Rattle.std.proofs.lemmas.List.{append-nil, length-append, append_cancel_right}
-use Rattle.lola_grammar.specs.Syntax.{Lexeme, Terminal, Syntax, Spells, is_fine, Refusal, Unexpected, TooDeep, Outcome, max_marks, read, all_read, read_all, Begins, IsFirstMisfit}
+use Rattle.lola_grammar.specs.Syntax.{Lexeme, Terminal, Syntax, Spells, is_fine, Refusal, Unexpected, TooDeep, Outcome, max_marks, read, all_read, read_all, IsFirstMisfit}
 use Rattle.lola_grammar.specs.Marks.{is_counted}
 use Rattle.lola_grammar.proofs.Refusal.{refused_at}
-use Rattle.lola_limit.specs.Late.{IsMarkBehind, IsLate, IsLateInEvery, NoneIsLate}
-use Rattle.lola_limit.specs.Fronts.{EndsThere, IsLongestFront}
+use Rattle.lola_limit.specs.Late.{IsLateInEvery, NoneIsLate}
+use Rattle.lola_limit.specs.Fronts.{IsLongestFront}
 use Rattle.lola_limit.proofs.Every.{in_front}
 use Rattle.lola_limit.proofs.Kept.{IsKept, read_kept}
 use Rattle.lola_limit.proofs.Going.{IsGoing, going}

@@ -1,15 +1,15 @@
 -- What decides that reading is too deep: no token behind it matters, and some sentence begins with it.
-use Rattle.std.proofs.Common.{◌≡◌, ℕ, zero, suc, ◌+◌, ◌-◌, ◌≤◌, ◌<◌, Bool, true, false, cond, not, ◌&&◌, List, [], ◌∷◌, ◌++◌, length, Some, None, Ok, Err, refl, sym, ap, subst, ◌∙◌, append_assoc, arith, inl, inr, ◌⊎◌}
+use Rattle.std.proofs.Common.{◌≡◌, ℕ, zero, suc, ◌+◌, ◌-◌, ◌<◌, Bool, true, false, cond, not, List, [], ◌∷◌, ◌++◌, length, Some, Ok, Err, refl, sym, ap, subst, ◌∙◌, append_assoc, arith, inl, inr, ◌⊎◌}
 use Rattle.std.proofs.lemmas.List.{append-nil, length-append, append_cancel_right}
-use Rattle.lola_grammar.specs.Syntax.{Lexeme, Terminal, fits, any_fits, Syntax, Past, Token, Mark, Whole, Known, Then, Map, Either, Maybe, Many, Fork, charged, either_rest, last_mark, Repeats, Spells, starts, first, nullable, more, apart, within, is_fine, Refusal, Unexpected, TooDeep, Outcome, Reader, ◌>>=◌, counted, take_token, take_mark, max_marks, repeated, read}
+use Rattle.lola_grammar.specs.Syntax.{Lexeme, Terminal, fits, any_fits, Syntax, Past, Token, Mark, Whole, Known, Then, Map, Either, Maybe, Many, Fork, charged, either_rest, last_mark, Repeats, Spells, starts, first, nullable, more, apart, within, is_fine, Refusal, Unexpected, TooDeep, Outcome, Reader, ◌>>=◌, max_marks, repeated, read}
 use Rattle.lola_grammar.specs.Marks.{lower, least, guards, is_mark, marks_in, tallies, is_counted}
 use Rattle.lola_grammar.proofs.Tests.{and_both, not_true}
-use Rattle.lola_grammar.proofs.Laws.{IsSound, sound, chosen, done_is}
+use Rattle.lola_grammar.proofs.Laws.{IsSound, sound, chosen}
 use Rattle.lola_grammar.proofs.Complete.{and_three, choice_parts, known_parts, fork_is}
 use Rattle.lola_grammar.proofs.Local.{IsLocal, local, through, same_start, fuel, eats}
 use Rattle.lola_grammar.proofs.Viable.{sample, bind_err}
 use Rattle.lola_grammar.proofs.Within.{lower_is, none_is, spells_least}
-use Rattle.lola_grammar.proofs.Over.{counts, one_over, charged_ends, last_is, ForkCounted, fork_counted}
+use Rattle.lola_grammar.proofs.Over.{counts, one_over, charged_ends, last_is, fork_counted}
 use Rattle.lola_limit.proofs.Opening.{Opens, opens_then, is_open, first_begins, forks_open}
 
 -- Reading ends at t, the tokens up to w decide that, and something begins with them.
@@ -27,14 +27,13 @@ first_decided r g P R j m ts d p pass grow = (p.0, p.1, p.2, p.3, p.4, p.5, λ o
 next_decided : {A B C : Type 0} (r : Reader A) (h : Reader C) (g : Reader B) (Q : List Lexeme → C → Type 0) (R : List Lexeme → B → Type 0) → IsLocal r → (m : ℕ) (ts d : List Lexeme) (x : A) (i j : ℕ) (mid : List Lexeme) → r m ts ≡ Ok (x, i, mid)
     → (p : IsDecided h Q j mid d)
     → ((u other e : List Lexeme) → ts ≡ u ++ mid → r m (u ++ (p.0 ++ p.1 ∷ (p.2 ++ other))) ≡ Ok (x, i, p.0 ++ p.1 ∷ (p.2 ++ other)) → h j (p.0 ++ p.1 ∷ (p.2 ++ other)) ≡ Err (TooDeep e)
-        → g m (u ++ (p.0 ++ p.1 ∷ (p.2 ++ other))) ≡ Err (TooDeep e))
+    → g m (u ++ (p.0 ++ p.1 ∷ (p.2 ++ other))) ≡ Err (TooDeep e))
     → ((u : List Lexeme) → ts ≡ u ++ mid → (z : List Lexeme) → Opens Q z → Opens R (u ++ z)) → IsDecided g R m ts d
 next_decided r h g Q R loc m ts d x i j mid ok p pass grow =
     let there : r m ts ≡ Ok (x, i, p.0 ++ p.1 ∷ (p.2 ++ p.3)) = ok ∙ ap (λ (w : List Lexeme). Ok (x, i, w)) p.4 in
     let q = through r loc m ts x i p.0 p.1 (p.2 ++ p.3) there in
     let regroup : (other : List Lexeme) → (q.0 ++ p.0) ++ p.1 ∷ other ≡ q.0 ++ (p.0 ++ p.1 ∷ other) = λ other. append_assoc q.0 p.0 (p.1 ∷ other) in
-    let parts : ts ≡ q.0 ++ mid = q.1 ∙ ap (λ (w : List Lexeme). q.0 ++ w) (sym p.4) in
-    (
+    let parts : ts ≡ q.0 ++ mid = q.1 ∙ ap (λ (w : List Lexeme). q.0 ++ w) (sym p.4) in (
       q.0 ++ p.0,
       p.1,
       p.2,
@@ -114,8 +113,8 @@ module _ {A : Type 0} (r : Reader A) (P : List Lexeme → A → Type 0) (ks : Li
                         let p = repeated_decided each keep n q.1 q.2 d (keep m ts q.0 q.1 q.2 g q.3) e in
                         next_decided r (repeated r ks n) (repeated r ks (suc n)) (Repeats P) (Repeats P) loc m ts d q.0 q.1 q.1 q.2 q.3 p
                         (λ u other f parts ok k.
-                            let whole : ts ≡ u ++ (p.0 ++ p.1 ∷ (p.2 ++ p.3)) = parts ∙ ap (λ (w : List Lexeme). u ++ w) p.4 in
-                            turn_deep n m q.1 q.0 (u ++ (p.0 ++ p.1 ∷ (p.2 ++ other))) (p.0 ++ p.1 ∷ (p.2 ++ other)) f (starts_there ks true ts u p.0 p.1 (p.2 ++ p.3) (p.2 ++ other) whole c.0) ok k)
+                        let whole : ts ≡ u ++ (p.0 ++ p.1 ∷ (p.2 ++ p.3)) = parts ∙ ap (λ (w : List Lexeme). u ++ w) p.4 in
+                        turn_deep n m q.1 q.0 (u ++ (p.0 ++ p.1 ∷ (p.2 ++ other))) (p.0 ++ p.1 ∷ (p.2 ++ other)) f (starts_there ks true ts u p.0 p.1 (p.2 ++ p.3) (p.2 ++ other) whole c.0) ok k)
                         (λ u parts z o. (o.0, q.0 ∷ o.1, (u, z ++ o.0, append_assoc u z o.0, took m ts q.0 q.1 q.2 q.3 u parts, o.2)))
                     | inr z ↦ absurd (let w = z.4 in cc)
                   ]
@@ -127,20 +126,19 @@ module _ {A : Type 0} (r : Reader A) (P : List Lexeme → A → Type 0) (ks : Li
 
 many_decided : {A : Type 0} (a : Syntax A) → is_fine a ≡ true → nullable a ≡ false → (m : ℕ) (ts d : List Lexeme) → IsDecided (repeated (read a) (first a) (length ts)) (Repeats (Spells a)) m ts d
     → IsDecided (λ k us. repeated (read a) (first a) (length us) k us) (Repeats (Spells a)) m ts d
-many_decided a fine full m ts d p =
-    (
-      p.0,
-      p.1,
-      p.2,
-      p.3,
-      p.4,
-      p.5,
-      λ other.
-          let us = p.0 ++ p.1 ∷ (p.2 ++ other) in
-          let raised = more_turns (read a) (first a) (length us) (length ts) m us (TooDeep (p.1 ∷ (p.2 ++ other))) (p.6 other) (length us + length ts) refl in
-          fuel (read a) (first a) (eats a fine full) (length us) (length us + length ts) m us (omega arith) (omega arith) ∙ raised,
-      p.7,
-    )
+many_decided a fine full m ts d p = (
+  p.0,
+  p.1,
+  p.2,
+  p.3,
+  p.4,
+  p.5,
+  λ other.
+      let us = p.0 ++ p.1 ∷ (p.2 ++ other) in
+      let raised = more_turns (read a) (first a) (length us) (length ts) m us (TooDeep (p.1 ∷ (p.2 ++ other))) (p.6 other) (length us + length ts) refl in
+      fuel (read a) (first a) (eats a fine full) (length us) (length us + length ts) m us (omega arith) (omega arith) ∙ raised,
+  p.7,
+)
 
 -- the tokens from the last mark on, whatever follows
 last_step : (ks : List Terminal) (t : Lexeme) (u best rest : List Lexeme) → ((b : List Lexeme) → last_mark ks (length u) (b ++ rest) (u ++ rest) ≡ last_mark ks (length u) b u ++ rest) → (b : Bool)
@@ -241,8 +239,7 @@ module _ (marks : List Terminal) where
         let again : (other : List Lexeme) → read a max_marks (u ++ s ∷ other) ≡ Ok (x, 0, s ∷ other) = λ other. subst (λ (w : List Lexeme). read a max_marks (w ++ s ∷ other) ≡ Ok (x, 0, s ∷ other)) front (q.2 other) in
         let regroup : (other : List Lexeme) → l.0 ++ l.1 ∷ ((l.2 ++ s ∷ []) ++ other) ≡ u ++ s ∷ other =
         λ other. ap (λ (w : List Lexeme). l.0 ++ l.1 ∷ w) (append_assoc l.2 (s ∷ []) other) ∙ sym (append_assoc l.0 (l.1 ∷ l.2) (s ∷ other)) ∙ ap (λ (w : List Lexeme). w ++ s ∷ other) (sym l.3) in
-        let o = first_begins c opens s fits_c in
-        (
+        let o = first_begins c opens s fits_c in (
           l.0,
           l.1,
           l.2 ++ s ∷ [],
@@ -336,8 +333,8 @@ module _ (marks : List Terminal) where
                   let p = decided a f.0 m ts d g e in
                   first_decided (read a) (read (Maybe a)) (Spells a) (Spells (Maybe a)) m m ts d p
                   (λ other e k.
-                      choice_left (starts (first a) (p.0 ++ p.1 ∷ (p.2 ++ other))) _ _ e (starts_so (first a) true ts p.0 p.1 (p.2 ++ p.3) (p.2 ++ other) p.4 c.0)
-                      (bind_deep (read a m (p.0 ++ p.1 ∷ (p.2 ++ other))) (λ x i rest. Ok (Some x, i, rest)) e k))
+                  choice_left (starts (first a) (p.0 ++ p.1 ∷ (p.2 ++ other))) _ _ e (starts_so (first a) true ts p.0 p.1 (p.2 ++ p.3) (p.2 ++ other) p.4 c.0)
+                  (bind_deep (read a m (p.0 ++ p.1 ∷ (p.2 ++ other))) (λ x i rest. Ok (Some x, i, rest)) e k))
                   (λ z o. (o.0, Some o.1, o.2))
               | inr z ↦ absurd (let w = z.4 in cc)
             ]
@@ -378,8 +375,8 @@ module _ (marks : List Terminal) where
                                     let p = decided c f.two.0 z.0 q.2 d (inl (suc max_marks, k.two, k.two_guard, omega (arith, t.3, z.1))) z.2 in
                                     next_decided (λ l us. read a max_marks us) (read c) (read (Fork ks a b c)) (Spells c) (Spells (Fork ks a b c)) (λ l. local a f.head max_marks) m ts d q.0 q.1 z.0 q.2 q.3 p
                                     (λ u other c' parts ok l.
-                                        fork_goes ks a b c m (u ++ (p.0 ++ p.1 ∷ (p.2 ++ other))) q.0 q.1 (p.0 ++ p.1 ∷ (p.2 ++ other)) ok c' z.0 (starts_so (first b) false q.2 p.0 p.1 (p.2 ++ p.3) (p.2 ++ other) p.4 s.0)
-                                        (starts_so (first c) true q.2 p.0 p.1 (p.2 ++ p.3) (p.2 ++ other) p.4 v.0) z.1 l)
+                                    fork_goes ks a b c m (u ++ (p.0 ++ p.1 ∷ (p.2 ++ other))) q.0 q.1 (p.0 ++ p.1 ∷ (p.2 ++ other)) ok c' z.0 (starts_so (first b) false q.2 p.0 p.1 (p.2 ++ p.3) (p.2 ++ other) p.4 s.0)
+                                    (starts_so (first c) true q.2 p.0 p.1 (p.2 ++ p.3) (p.2 ++ other) p.4 v.0) z.1 l)
                                     (λ u parts z' o. (o.0, (q.0, o.1), (u, z' ++ o.0, append_assoc u z' o.0, taken a max_marks ts q.0 q.1 q.2 q.3 u parts, inr o.2)))
                               ]
                           | inr v ↦ absurd (let w = v.1 in let e : Unexpected q.2 ≡ TooDeep d = cc in cc)

@@ -1,9 +1,9 @@
 -- The mark at which reading is too deep is a mark too many in every sentence that begins with the tokens before the first
 -- that does not fit.
-use Rattle.std.proofs.Common.{◌≡◌, ℕ, suc, ◌+◌, ◌≤◌, Bool, true, List, [], ◌∷◌, ◌++◌, length, Option, Some, None, Result, Ok, Err, refl, sym, ap, subst, ◌∙◌, append_assoc, arith, inl, inr, ◌⊎◌}
-use Rattle.std.proofs.lemmas.List.{append-nil, append_cancel_right}
-use Rattle.lola_grammar.specs.Syntax.{Lexeme, Terminal, Syntax, Past, Token, Mark, Whole, Known, Then, Map, Either, Maybe, Many, Fork, Spells, Repeats, is_fine, Refusal, Unexpected, TooDeep, Outcome, max_marks, read, all_read, read_all, Begins}
-use Rattle.lola_grammar.specs.Marks.{is_mark, marks_in, is_counted}
+use Rattle.std.proofs.Common.{◌≡◌, ℕ, suc, ◌≤◌, true, List, [], ◌∷◌, ◌++◌, Some, None, Ok, Err, refl, sym, ap, subst, ◌∙◌, append_assoc, arith, inl, inr, ◌⊎◌}
+use Rattle.std.proofs.lemmas.List.{append_cancel_right}
+use Rattle.lola_grammar.specs.Syntax.{Lexeme, Terminal, Syntax, Past, Token, Mark, Whole, Known, Then, Map, Either, Maybe, Many, Fork, Spells, is_fine, Unexpected, TooDeep, Outcome, max_marks, read, all_read, read_all, Begins}
+use Rattle.lola_grammar.specs.Marks.{is_counted}
 use Rattle.lola_grammar.specs.Exceeding.{Exceeds, ExceedsAmong}
 use Rattle.lola_grammar.proofs.Exactly.{deep_in_sentence}
 use Rattle.lola_limit.specs.Late.{IsMarkBehind, IsLate, IsLateInEvery}
@@ -108,8 +108,7 @@ module _ (marks : List Terminal) where
       let c = decided_all s fine count opens ts d h in
       let z = c.0 ++ c.1 ∷ c.2 in
       let whole : ts ≡ z ++ c.3 = c.4 ∙ sym (append_assoc c.0 (c.1 ∷ c.2) c.3) in
-      let f = in_front s z c.3 p rest c.7 (sym whole ∙ l.0, l.1, l.2) in
-      (
+      let f = in_front s z c.3 p rest c.7 (sym whole ∙ l.0, l.1, l.2) in (
         c.0,
         c.1,
         c.2 ++ f.0,

@@ -1,18 +1,18 @@
 -- Which mark of a sentence its reading ends at: the first that is too many, or behind a bracket that is a mark the next one.
-use Rattle.std.proofs.Common.{◌≡◌, ℕ, zero, suc, ◌+◌, ◌-◌, ◌≤◌, ◌<◌, Bool, true, false, cond, not, ◌&&◌, List, [], ◌∷◌, ◌++◌, length, Option, Some, None, Ok, Err, refl, sym, ap, subst, ◌∙◌, append_assoc, arith, inl, inr, ◌⊎◌}
-use Rattle.std.proofs.lemmas.List.{append-nil, length-append, append_cancel_right}
-use Rattle.lola_grammar.specs.Syntax.{Lexeme, Terminal, fits, any_fits, apart, within, Syntax, Past, Token, Mark, Whole, Known, Then, Map, Either, Maybe, Many, Fork, charged, either_rest, last_mark, Repeats, Spells, starts, first, nullable, more, is_fine, Unexpected, TooDeep, Outcome, Reader, ◌>>=◌, take_token, max_marks, repeated, read}
+use Rattle.std.proofs.Common.{◌≡◌, ℕ, zero, suc, ◌+◌, ◌-◌, ◌≤◌, Bool, true, false, cond, not, List, [], ◌∷◌, ◌++◌, length, Some, None, Ok, Err, refl, sym, ap, subst, ◌∙◌, append_assoc, arith, inl, inr, ◌⊎◌}
+use Rattle.std.proofs.lemmas.List.{length-append, append_cancel_right}
+use Rattle.lola_grammar.specs.Syntax.{Lexeme, Terminal, fits, any_fits, apart, within, Syntax, Past, Token, Mark, Whole, Known, Then, Map, Either, Maybe, Many, Fork, charged, either_rest, last_mark, Repeats, Spells, starts, first, nullable, more, is_fine, Unexpected, TooDeep, Outcome, ◌>>=◌, take_token, max_marks, repeated, read}
 use Rattle.lola_grammar.specs.Marks.{guards, is_mark, marks_in, tallies, is_counted}
 use Rattle.lola_grammar.specs.Exceeding.{ExceedsAmong}
 use Rattle.lola_grammar.proofs.Tests.{and_both, not_true, no_more, apart_excludes}
 use Rattle.lola_grammar.proofs.Laws.{chosen, done_is}
-use Rattle.lola_grammar.proofs.Complete.{and_three, choice_parts, known_parts, fork_is, begins, spells_nil, any_split, follows, tail_stops, stops_within, full_is, fork_follows, complete, OkOrDeep, ForkParts}
+use Rattle.lola_grammar.proofs.Complete.{and_three, choice_parts, known_parts, fork_is, begins, spells_nil, any_split, follows, tail_stops, stops_within, fork_follows, complete, OkOrDeep, ForkParts}
 use Rattle.lola_grammar.proofs.Viable.{bind_err}
-use Rattle.lola_grammar.proofs.Within.{marks-append, complete_within}
+use Rattle.lola_grammar.proofs.Within.{complete_within}
 use Rattle.lola_grammar.proofs.Over.{counts, ForkCounted, fork_counted, charged_ends, last_is}
 use Rattle.lola_grammar.proofs.Exactly.{few_or_more, too_many, opens_part, misses_part}
 use Rattle.lola_limit.specs.Late.{IsMarkBehind, IsNextBehindBracket}
-use Rattle.lola_limit.proofs.Keeps.{Keeps, KeepsAmong, few_all, few_front, keeps_none, keeps_whole, keeps_then, keeps_left, keeps_right, keeps_map, keeps_some, keeps_nil, keeps_cons, keeps_many, keeps_list, keeps_bracket, after_item}
+use Rattle.lola_limit.proofs.Keeps.{Keeps, KeepsAmong, few_all, few_front, keeps_none, keeps_whole, keeps_then, keeps_left, keeps_right, keeps_map, keeps_some, keeps_cons, keeps_list, keeps_bracket, after_item}
 use Rattle.lola_limit.proofs.Kept.{read_kept}
 
 -- what was read of a sentence, where reading it ended
@@ -49,34 +49,32 @@ module _ (marks : List Terminal) where
   -- it stands in the first of two parts
   in_first : (Q N R M : Marked) (K L : ℕ → Type 0) (z1 z2 rest d : List Lexeme) → Firsts Q N K z1 (z2 ++ rest) d
       → ((u : List Lexeme) (t : Lexeme) (v : List Lexeme) → Q u t v → R u t (v ++ z2)) → ((u : List Lexeme) (t : Lexeme) (v : List Lexeme) → N u t v → M u t (v ++ z2)) → ((n : ℕ) → n ≤ length z1 → K n → L n) → Firsts R M L (z1 ++ z2) rest d
-  in_first Q N R M K L z1 z2 rest d p grow next keep =
-      (
-        p.0,
-        p.1,
-        p.2 ++ z2,
-        ap (λ (w : List Lexeme). w ++ z2) p.3 ∙ append_assoc p.0 (p.1 ∷ p.2) z2,
-        p.4 ∙ ap (λ (w : List Lexeme). p.1 ∷ w) (sym (append_assoc p.2 z2 rest)),
-        elim p.5 [
-          | inl q ↦ inl (grow p.0 p.1 p.2 q.0, keep (length p.0) (omega (arith, ap length p.3, length-append p.0 (p.1 ∷ p.2))) q.1)
-          | inr q ↦ inr (next p.0 p.1 p.2 q)
-        ],
-      )
+  in_first Q N R M K L z1 z2 rest d p grow next keep = (
+    p.0,
+    p.1,
+    p.2 ++ z2,
+    ap (λ (w : List Lexeme). w ++ z2) p.3 ∙ append_assoc p.0 (p.1 ∷ p.2) z2,
+    p.4 ∙ ap (λ (w : List Lexeme). p.1 ∷ w) (sym (append_assoc p.2 z2 rest)),
+    elim p.5 [
+      | inl q ↦ inl (grow p.0 p.1 p.2 q.0, keep (length p.0) (omega (arith, ap length p.3, length-append p.0 (p.1 ∷ p.2))) q.1)
+      | inr q ↦ inr (next p.0 p.1 p.2 q)
+    ],
+  )
 
   -- it stands in the second
   in_next : (Q N R M : Marked) (K L : ℕ → Type 0) (z1 z2 rest d : List Lexeme) → Firsts Q N K z2 rest d
       → ((u : List Lexeme) (t : Lexeme) (v : List Lexeme) → Q u t v → R (z1 ++ u) t v) → ((u : List Lexeme) (t : Lexeme) (v : List Lexeme) → N u t v → M (z1 ++ u) t v) → ((n j : ℕ) → n ≡ length z1 + j → K j → L n) → Firsts R M L (z1 ++ z2) rest d
-  in_next Q N R M K L z1 z2 rest d p grow next keep =
-      (
-        z1 ++ p.0,
-        p.1,
-        p.2,
-        ap (λ (w : List Lexeme). z1 ++ w) p.3 ∙ sym (append_assoc z1 p.0 (p.1 ∷ p.2)),
-        p.4,
-        elim p.5 [
-          | inl q ↦ inl (grow p.0 p.1 p.2 q.0, keep (length (z1 ++ p.0)) (length p.0) (omega (arith, length-append z1 p.0)) q.1)
-          | inr q ↦ inr (next p.0 p.1 p.2 q)
-        ],
-      )
+  in_next Q N R M K L z1 z2 rest d p grow next keep = (
+    z1 ++ p.0,
+    p.1,
+    p.2,
+    ap (λ (w : List Lexeme). z1 ++ w) p.3 ∙ sym (append_assoc z1 p.0 (p.1 ∷ p.2)),
+    p.4,
+    elim p.5 [
+      | inl q ↦ inl (grow p.0 p.1 p.2 q.0, keep (length (z1 ++ p.0)) (length p.0) (omega (arith, length-append z1 p.0)) q.1)
+      | inr q ↦ inr (next p.0 p.1 p.2 q)
+    ],
+  )
 
   regrouped : (z z1 z2 rest : List Lexeme) → z ≡ z1 ++ z2 → z ++ rest ≡ z1 ++ (z2 ++ rest)
   regrouped z z1 z2 rest e = ap (λ (w : List Lexeme). w ++ rest) e ∙ append_assoc z1 z2 rest
@@ -133,18 +131,17 @@ module _ (marks : List Terminal) where
 
   same_part : (Q N R M : Marked) (K L : ℕ → Type 0) (z rest d : List Lexeme) → Firsts Q N K z rest d
       → ((u : List Lexeme) (t : Lexeme) (v : List Lexeme) → Q u t v → R u t v) → ((u : List Lexeme) (t : Lexeme) (v : List Lexeme) → N u t v → M u t v) → ((n : ℕ) → K n → L n) → Firsts R M L z rest d
-  same_part Q N R M K L z rest d p grow next keep =
-      (
-        p.0,
-        p.1,
-        p.2,
-        p.3,
-        p.4,
-        elim p.5 [
-          | inl q ↦ inl (grow p.0 p.1 p.2 q.0, keep (length p.0) q.1)
-          | inr q ↦ inr (next p.0 p.1 p.2 q)
-        ],
-      )
+  same_part Q N R M K L z rest d p grow next keep = (
+    p.0,
+    p.1,
+    p.2,
+    p.3,
+    p.4,
+    elim p.5 [
+      | inl q ↦ inl (grow p.0 p.1 p.2 q.0, keep (length p.0) q.1)
+      | inr q ↦ inr (next p.0 p.1 p.2 q)
+    ],
+  )
 
   not_deep : {A : Type 0} (o : Outcome A) (p : A × ℕ × List Lexeme) (d : List Lexeme) → o ≡ Ok p → o ≡ Err (TooDeep d) → ⊥
   not_deep o p d h e = absurd cc
@@ -171,8 +168,7 @@ module _ (marks : List Terminal) where
     head_first : (hz : Spells b z2 x.1 ⊎ Spells c z2 x.1) → IsCountedFirst max_marks z1 (z2 ++ rest) d → IsFirst (Fork ks a b c) (z1 ++ z2) x rest d
     unfolding IsMarkBehind IsNextBehindBracket
     head_first hz p =
-        let there : Spells a (p.0 ++ p.1 ∷ p.2) x.0 = subst (λ (w : List Lexeme). Spells a w x.0) p.3 ha in
-        (
+        let there : Spells a (p.0 ++ p.1 ∷ p.2) x.0 = subst (λ (w : List Lexeme). Spells a w x.0) p.3 ha in (
           p.0,
           p.1,
           p.2 ++ z2,
@@ -203,8 +199,7 @@ module _ (marks : List Terminal) where
           let mid = z2 ++ rest in
           let p = last_is marks ks g.same z1 mid mid 511 (omega (arith, full, none)) in
           let len : length (z1 ++ mid) - length mid ≡ length z1 = omega (arith, length-append z1 mid) in
-          let there : d ≡ p.1 ∷ (p.2 ++ mid) = is ∙ ap (λ (k : ℕ). last_mark ks k mid (z1 ++ mid)) len ∙ p.7 in
-          (
+          let there : d ≡ p.1 ∷ (p.2 ++ mid) = is ∙ ap (λ (k : ℕ). last_mark ks k mid (z1 ++ mid)) len ∙ p.7 in (
             p.0,
             p.1,
             p.2 ++ z2,
@@ -218,19 +213,18 @@ module _ (marks : List Terminal) where
 
       bracket_first : Spells c z2 x.1 → (j : ℕ) → i ≡ suc j → IsCountedFirst j z2 rest d → IsFirst (Fork ks a b c) (z1 ++ z2) x rest d
       unfolding IsMarkBehind IsNextBehindBracket
-      bracket_first hc j is p =
-          (
-            z1 ++ p.0,
-            p.1,
-            p.2,
-            ap (λ (w : List Lexeme). z1 ++ w) p.3 ∙ sym (append_assoc z1 p.0 (p.1 ∷ p.2)),
-            p.4,
-            inl (
-              inr (inr (z1, p.0, refl, ha, subst (λ (w : List Lexeme). Spells c w x.1) p.3 hc, omega (arith, full, is, p.5), p.6)),
-              keeps_bracket marks max_marks ks a b c f (length (z1 ++ p.0)) (length p.0) z1 z2 x ha hc (few_all marks max_marks 1 (length (z1 ++ p.0)) z1 (omega (arith, full, is)))
+      bracket_first hc j is p = (
+        z1 ++ p.0,
+        p.1,
+        p.2,
+        ap (λ (w : List Lexeme). z1 ++ w) p.3 ∙ sym (append_assoc z1 p.0 (p.1 ∷ p.2)),
+        p.4,
+        inl (
+          inr (inr (z1, p.0, refl, ha, subst (λ (w : List Lexeme). Spells c w x.1) p.3 hc, omega (arith, full, is, p.5), p.6)),
+          keeps_bracket marks max_marks ks a b c f (length (z1 ++ p.0)) (length p.0) z1 z2 x ha hc (few_all marks max_marks 1 (length (z1 ++ p.0)) z1 (omega (arith, full, is)))
               (few_front marks max_marks (suc (marks_in marks z1)) z2 p.0 (p.1 ∷ p.2) p.3 (omega (arith, full, is, p.5))) (omega (arith, length-append z1 p.0)),
-            ),
-          )
+        ),
+      )
 
   pub first_late : {A : Type 0} (s : Syntax A) → is_fine s ≡ true → is_counted marks s ≡ true → EachFirst s
   unfolding read Spells more is_fine is_counted nullable first IsMarkBehind IsNextBehindBracket
@@ -239,8 +233,7 @@ module _ (marks : List Terminal) where
   first_late (Mark k) fine count m z x rest d h stop e = absurd (let c = count in cc)
   first_late (Whole a) fine count m z x rest d h stop e =
       let c = and_both (tallies marks a) (guards (suc max_marks) a) count in
-      let p = counted_first a fine c.0 c.1 max_marks (omega arith) z x rest d h stop e in
-      (
+      let p = counted_first a fine c.0 c.1 max_marks (omega arith) z x rest d h stop e in (
         p.0,
         p.1,
         p.2,

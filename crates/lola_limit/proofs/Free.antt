@@ -1,7 +1,7 @@
 -- The same grammar with no mark counted: a text has one front that is a sentence which what follows does not go on.
-use Rattle.std.proofs.Common.{◌≡◌, ℕ, zero, suc, Bool, true, false, cond, not, ◌&&◌, ◌||◌, List, [], ◌∷◌, ◌++◌, length, Option, Some, None, Ok, Err, refl, sym, ap, subst, ◌∙◌, inl, inr, ◌⊎◌}
+use Rattle.std.proofs.Common.{◌≡◌, ℕ, zero, suc, Bool, true, false, not, ◌||◌, List, [], ◌∷◌, ◌++◌, length, Some, None, Ok, Err, refl, sym, ap, ◌∙◌, inl, inr}
 use Rattle.std.proofs.lemmas.List.{append_cancel_right}
-use Rattle.lola_grammar.specs.Syntax.{Lexeme, Terminal, fits, clash, clashes, apart, within, Syntax, Past, Token, Mark, Whole, Known, Then, Map, Either, Maybe, Many, Fork, Repeats, Spells, starts, first, nullable, more, is_fine, Unexpected, TooDeep, Outcome, Reader, ◌>>=◌, max_marks, repeated, read}
+use Rattle.lola_grammar.specs.Syntax.{Lexeme, Terminal, fits, clash, clashes, apart, within, Syntax, Past, Token, Mark, Whole, Known, Then, Map, Either, Maybe, Many, Fork, Repeats, Spells, starts, first, nullable, more, is_fine, Unexpected, TooDeep, Reader, max_marks, repeated, read}
 use Rattle.lola_grammar.proofs.Tests.{and_both, not_true}
 use Rattle.lola_grammar.proofs.Laws.{chosen, done_is}
 use Rattle.lola_grammar.proofs.Complete.{and_three, choice_parts, known_parts, fork_is, complete}
@@ -93,8 +93,7 @@ free_is (Fork ks a b c) fine =
     let p = free_is a f.head in
     let q = free_is b f.one.0 in
     let r = free_is c f.two.0 in
-    let away = apart_append (more a) (first b) (first c) f.one.2 f.two.2 in
-    (
+    let away = apart_append (more a) (first b) (first c) f.one.2 f.two.2 in (
       rw (p.1, f.some, p.0) refl,
       rw (p.1, f.some) refl,
       rw (q.1, r.1, f.one.1, f.two.1, q.2, r.2) refl,

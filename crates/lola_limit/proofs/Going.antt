@@ -1,17 +1,17 @@
 -- Where reading stops at a token that does not fit, what stands before it begins a sentence in which none of these tokens is a
 -- mark too many.
-use Rattle.std.proofs.Common.{◌≡◌, ℕ, zero, suc, ◌+◌, ◌-◌, ◌≤◌, ◌<◌, Bool, true, false, not, ◌&&◌, List, [], ◌∷◌, ◌++◌, length, Option, Some, None, Ok, Err, refl, sym, ap, subst, ◌∙◌, append_assoc, arith, inl, inr, ◌⊎◌}
+use Rattle.std.proofs.Common.{◌≡◌, ℕ, zero, suc, ◌+◌, ◌-◌, ◌≤◌, true, not, List, [], ◌∷◌, ◌++◌, length, Some, Ok, Err, refl, sym, ap, subst, ◌∙◌, append_assoc, arith, inl, inr, ◌⊎◌}
 use Rattle.std.proofs.lemmas.List.{append-nil, length-append, append_cancel_right}
-use Rattle.lola_grammar.specs.Syntax.{Lexeme, Terminal, fits, any_fits, apart, within, Syntax, Past, Token, Mark, Whole, Known, Then, Map, Either, Maybe, Many, Fork, charged, either_rest, last_mark, Repeats, Spells, starts, first, nullable, more, is_fine, Unexpected, TooDeep, Outcome, Reader, ◌>>=◌, counted, take_token, take_mark, max_marks, repeated, read}
-use Rattle.lola_grammar.specs.Marks.{guards, is_mark, marks_in, tallies, is_counted}
-use Rattle.lola_grammar.proofs.Tests.{and_both, not_true}
-use Rattle.lola_grammar.proofs.Laws.{chosen, done_is}
+use Rattle.lola_grammar.specs.Syntax.{Lexeme, Terminal, fits, apart, within, Syntax, Past, Token, Mark, Whole, Known, Then, Map, Either, Maybe, Many, Fork, charged, either_rest, last_mark, Repeats, Spells, starts, first, nullable, more, is_fine, Unexpected, TooDeep, Reader, counted, max_marks, repeated, read}
+use Rattle.lola_grammar.specs.Marks.{guards, marks_in, tallies, is_counted}
+use Rattle.lola_grammar.proofs.Tests.{and_both}
+use Rattle.lola_grammar.proofs.Laws.{chosen}
 use Rattle.lola_grammar.proofs.Complete.{and_three, choice_parts, known_parts, fork_is}
 use Rattle.lola_grammar.proofs.Viable.{sample, bind_err, viable}
 use Rattle.lola_grammar.proofs.Within.{marks-append}
-use Rattle.lola_grammar.proofs.Over.{Counts, counts, ForkCounted, fork_counted}
+use Rattle.lola_grammar.proofs.Over.{Counts, counts, fork_counted}
 use Rattle.lola_limit.specs.Late.{IsMarkBehind}
-use Rattle.lola_limit.proofs.Keeps.{Keeps, KeepsAmong, few_all, few_front, keeps_none, keeps_whole, keeps_then, keeps_left, keeps_right, keeps_map, keeps_some, keeps_nil, keeps_cons, keeps_many, keeps_list, keeps_bracket}
+use Rattle.lola_limit.proofs.Keeps.{Keeps, KeepsAmong, few_all, few_front, keeps_none, keeps_whole, keeps_then, keeps_left, keeps_right, keeps_map, keeps_some, keeps_nil, keeps_cons, keeps_list, keeps_bracket}
 use Rattle.lola_limit.proofs.Kept.{IsKept, read_kept}
 
 module _ (marks : List Terminal) where
@@ -127,8 +127,7 @@ module _ (marks : List Terminal) where
                   elim (bind_err (repeated (read a) (first a) n q.1 q.2) _ (Unexpected rest) q.4) [
                     | inl e ↦
                         let t = each m ts q.0 q.1 q.2 q.3 in
-                        let g = repeated_going a fine away each goes n q.1 q.2 rest e in
-                        (
+                        let g = repeated_going a fine away each goes n q.1 q.2 rest e in (
                           t.0 ++ g.0,
                           g.1,
                           t.0 ++ g.2,
@@ -175,8 +174,7 @@ module _ (marks : List Terminal) where
       elim (bind_err (read a m ts) _ (Unexpected rest) h) [
         | inl e ↦
             let g = going a f.0 c.0 m ts rest e in
-            let o = sample b in
-            (
+            let o = sample b in (
               g.0,
               g.1 ++ o.0,
               g.2 ++ o.0,
@@ -190,8 +188,7 @@ module _ (marks : List Terminal) where
             elim (bind_err (read b q.1 q.2) _ (Unexpected rest) q.4) [
               | inl e ↦
                   let t = read_kept marks a f.0 c.0 m ts q.0 q.1 q.2 q.3 in
-                  let g = going b f.1 c.1 q.1 q.2 rest e in
-                  (
+                  let g = going b f.1 c.1 q.1 q.2 rest e in (
                     t.0 ++ g.0,
                     g.1,
                     t.0 ++ g.2,
@@ -235,8 +232,7 @@ module _ (marks : List Terminal) where
       let o = sample b in
       elim (bind_err (read a max_marks ts) _ (Unexpected rest) h) [
         | inl e ↦
-            let g = begun a k.head max_marks ts rest e in
-            (
+            let g = begun a k.head max_marks ts rest e in (
               g.0,
               g.1 ++ o.0,
               (g.0 ++ g.1) ++ o.0,
@@ -253,8 +249,7 @@ module _ (marks : List Terminal) where
               | inl e ↦
                   elim (either_stops (first b) (first c) (read b) (charged deep (read c)) q.1 q.2 rest e) [
                     | inl l ↦
-                        let g = going b f.one.0 k.one q.1 q.2 rest l in
-                        (
+                        let g = going b f.one.0 k.one q.1 q.2 rest l in (
                           t.0 ++ g.0,
                           g.1,
                           t.0 ++ g.2,
@@ -268,8 +263,7 @@ module _ (marks : List Terminal) where
                         elim l [
                           | inl n ↦
                               let j = charged_stops (read c) deep q.2 q.1 rest n in
-                              let g = begun c k.two j.0 q.2 rest j.2 in
-                              (
+                              let g = begun c k.two j.0 q.2 rest j.2 in (
                                 t.0 ++ g.0,
                                 g.1,
                                 t.0 ++ (g.0 ++ g.1),
@@ -278,19 +272,18 @@ module _ (marks : List Terminal) where
                                 sym (append_assoc t.0 g.0 g.1),
                                 (t.0, g.0 ++ g.1, refl, t.2, inr g.4),
                                 keeps_bracket marks max_marks ks a b c f (length (t.0 ++ g.0)) (length g.0) t.0 (g.0 ++ g.1) (q.0, g.2) t.2 g.4 (few_all marks max_marks 1 (length (t.0 ++ g.0)) t.0 (omega (arith, t.3, j.1)))
-                                (few_front marks max_marks (suc (marks_in marks t.0)) (g.0 ++ g.1) g.0 g.1 refl (omega (arith, t.3, j.1, g.5))) (omega (arith, length-append t.0 g.0)),
+                                    (few_front marks max_marks (suc (marks_in marks t.0)) (g.0 ++ g.1) g.0 g.1 refl (omega (arith, t.3, j.1, g.5))) (omega (arith, length-append t.0 g.0)),
                               )
-                          | inr n ↦
-                              (
-                                t.0,
-                                o.0,
-                                t.0 ++ o.0,
-                                (q.0, o.1),
-                                t.1 ∙ ap (λ (w : List Lexeme). t.0 ++ w) n,
-                                refl,
-                                (t.0, o.0, refl, t.2, inl o.2),
-                                keeps_list marks max_marks ks a b c f (length t.0) 0 t.0 o.0 (q.0, o.1) t.2 o.2 (few_all marks max_marks 0 (length t.0) t.0 (omega (arith, t.3))) (keeps_none marks max_marks b o.0 o.1) (omega arith),
-                              )
+                          | inr n ↦ (
+                            t.0,
+                            o.0,
+                            t.0 ++ o.0,
+                            (q.0, o.1),
+                            t.1 ∙ ap (λ (w : List Lexeme). t.0 ++ w) n,
+                            refl,
+                            (t.0, o.0, refl, t.2, inl o.2),
+                            keeps_list marks max_marks ks a b c f (length t.0) 0 t.0 o.0 (q.0, o.1) t.2 o.2 (few_all marks max_marks 0 (length t.0) t.0 (omega (arith, t.3))) (keeps_none marks max_marks b o.0 o.1) (omega arith),
+                          )
                         ]
                   ]
               | inr z ↦ absurd (let w = z.4 in cc)

@@ -1,11 +1,11 @@
 -- In a sentence, which of its first tokens may be marks too many, by the parts of the sentence.
-use Rattle.std.proofs.Common.{◌≡◌, ℕ, zero, suc, ◌+◌, ◌≤◌, ◌<◌, Bool, true, false, not, ◌&&◌, List, [], ◌∷◌, ◌++◌, length, Option, Some, None, refl, sym, ap, subst, ◌∙◌, append_assoc, arith, inl, inr, ◌⊎◌}
-use Rattle.std.proofs.lemmas.List.{append-nil, length-append, append_cancel_right}
+use Rattle.std.proofs.Common.{◌≡◌, ℕ, suc, ◌+◌, ◌≤◌, ◌<◌, Bool, true, false, List, [], ◌∷◌, ◌++◌, length, Some, None, refl, sym, ap, subst, ◌∙◌, append_assoc, arith, inl, inr, ◌⊎◌}
+use Rattle.std.proofs.lemmas.List.{length-append, append_cancel_right}
 use Rattle.lola_grammar.specs.Syntax.{Lexeme, Terminal, any_fits, apart, Syntax, Past, Token, Mark, Whole, Known, Then, Map, Either, Maybe, Many, Fork, Repeats, Spells, starts, first, nullable, more, is_fine}
 use Rattle.lola_grammar.specs.Marks.{is_mark, marks_in, one_if}
 use Rattle.lola_grammar.specs.Exceeding.{ExceedsAmong}
 use Rattle.lola_grammar.proofs.Tests.{no_more, apart_excludes}
-use Rattle.lola_grammar.proofs.Complete.{begins, any_split, follows, tail_stops, repeats_begin, rest_parts, ForkParts, full_is, fork_follows}
+use Rattle.lola_grammar.proofs.Complete.{begins, any_split, follows, tail_stops, repeats_begin, ForkParts, full_is, fork_follows}
 use Rattle.lola_grammar.proofs.Within.{marks-append}
 use Rattle.lola_limit.specs.Late.{IsMarkBehind}
 use Rattle.lola_limit.proofs.Every.{fronts}
@@ -93,13 +93,13 @@ module _ (marks : List Terminal) where
     keeps_then a b fa fb away n j z1 z2 rest x ha hb stop one two le k u t v parts low (inl h) =
         let s = tail_stops (nullable b) (more b) (more a) rest stop in
         let p = unique a fa (u ++ t ∷ h.0) z1 x.0 x.0 (h.1 ++ rest) (z2 ++ rest) (mark_spells a k u t h.0 x.0 h.3) ha (follows (more a) b fb h.1 x.1 rest away h.4 s.1) (follows (more a) b fb z2 x.1 rest away hb s.1)
-            (regroup_first u h.0 h.1 rest z1 z2 v t parts h.2) in
+        (regroup_first u h.0 h.1 rest z1 z2 v t parts h.2) in
         one k u t h.0 (sym p.0) low h.3
     keeps_then a b fa fb away n j z1 z2 rest x ha hb stop one two le k u t v parts low (inr h) =
         let s = tail_stops (nullable b) (more b) (more a) rest stop in
         let there = mark_spells b k h.1 t v x.1 h.4 in
         let p = unique a fa h.0 z1 x.0 x.0 ((h.1 ++ t ∷ v) ++ rest) (z2 ++ rest) h.3 ha (follows (more a) b fb (h.1 ++ t ∷ v) x.1 rest away there s.1) (follows (more a) b fb z2 x.1 rest away hb s.1)
-            (regroup_next u h.0 h.1 rest z1 z2 v t parts h.2) in
+        (regroup_next u h.0 h.1 rest z1 z2 v t parts h.2) in
         let whole : z2 ≡ h.1 ++ t ∷ v = append_cancel_right z2 (h.1 ++ t ∷ v) rest (sym p.1) in
         two k h.1 t v whole (low_next u h.0 h.1 z1 n j h.2 p.0 low le) h.4
 
@@ -144,12 +144,12 @@ module _ (marks : List Terminal) where
         → Spells a z1 x → Repeats (Spells a) z2 xs → starts (first a ++ more a) rest ≡ false → Keeps a n z1 x → KeepsAmong a j z2 xs → n ≤ length z1 + j → KeepsAmong a n (z1 ++ z2) (x ∷ xs)
     keeps_cons a fine away n j z1 z2 rest x xs ha hb stop one two le k u t v parts low (inl h) =
         let p = unique a fine (u ++ t ∷ h.0) z1 x x (h.1 ++ rest) (z2 ++ rest) (mark_spells a k u t h.0 x h.3) ha (after_item a fine away h.1 xs rest h.4 stop) (after_item a fine away z2 xs rest hb stop)
-            (regroup_first u h.0 h.1 rest z1 z2 v t parts h.2) in
+        (regroup_first u h.0 h.1 rest z1 z2 v t parts h.2) in
         one k u t h.0 (sym p.0) low h.3
     keeps_cons a fine away n j z1 z2 rest x xs ha hb stop one two le k u t v parts low (inr h) =
         let there = among_spells (Spells a) (IsMarkBehind marks k a) (mark_spells a k) h.1 t v xs h.4 in
         let p = unique a fine h.0 z1 x x ((h.1 ++ t ∷ v) ++ rest) (z2 ++ rest) h.3 ha (after_item a fine away (h.1 ++ t ∷ v) xs rest there stop) (after_item a fine away z2 xs rest hb stop)
-            (regroup_next u h.0 h.1 rest z1 z2 v t parts h.2) in
+        (regroup_next u h.0 h.1 rest z1 z2 v t parts h.2) in
         let whole : z2 ≡ h.1 ++ t ∷ v = append_cancel_right z2 (h.1 ++ t ∷ v) rest (sym p.1) in
         two k h.1 t v whole (low_next u h.0 h.1 z1 n j h.2 p.0 low le) h.4
 

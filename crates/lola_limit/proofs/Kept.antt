@@ -1,17 +1,14 @@
 -- What is read has no mark too many, and where reading stops at a token that does not fit, what stands before it begins a
 -- sentence in which none of these tokens is a mark too many.
-use Rattle.std.proofs.Common.{◌≡◌, ℕ, zero, suc, ◌+◌, ◌-◌, ◌≤◌, ◌<◌, Bool, true, false, not, ◌&&◌, List, [], ◌∷◌, ◌++◌, length, Option, Some, None, Ok, Err, refl, sym, ap, subst, ◌∙◌, append_assoc, arith, inl, inr, ◌⊎◌}
-use Rattle.std.proofs.lemmas.List.{append-nil, length-append, append_cancel_right}
-use Rattle.lola_grammar.specs.Syntax.{Lexeme, Terminal, fits, any_fits, apart, within, Syntax, Past, Token, Mark, Whole, Known, Then, Map, Either, Maybe, Many, Fork, charged, either_rest, last_mark, Repeats, Spells, starts, first, nullable, more, is_fine, Unexpected, TooDeep, Outcome, Reader, ◌>>=◌, counted, take_token, take_mark, max_marks, repeated, read}
-use Rattle.lola_grammar.specs.Marks.{guards, is_mark, marks_in, tallies, is_counted}
-use Rattle.lola_grammar.proofs.Tests.{and_both, not_true}
-use Rattle.lola_grammar.proofs.Laws.{chosen, done_is, bind_ok, counted_ok, sound}
+use Rattle.std.proofs.Common.{◌≡◌, ℕ, zero, suc, ◌-◌, true, not, List, [], ◌∷◌, ◌++◌, length, Some, None, Ok, refl, sym, ap, subst, ◌∙◌, append_assoc, arith, inl, inr, ◌⊎◌}
+use Rattle.lola_grammar.specs.Syntax.{Lexeme, Terminal, apart, within, Syntax, Past, Token, Mark, Whole, Known, Then, Map, Either, Maybe, Many, Fork, charged, either_rest, last_mark, Repeats, Spells, starts, first, nullable, more, is_fine, Reader, max_marks, repeated, read}
+use Rattle.lola_grammar.specs.Marks.{guards, marks_in, tallies, is_counted}
+use Rattle.lola_grammar.proofs.Tests.{and_both}
+use Rattle.lola_grammar.proofs.Laws.{chosen, done_is, bind_ok, sound}
 use Rattle.lola_grammar.proofs.Complete.{and_three, choice_parts, known_parts, fork_is}
-use Rattle.lola_grammar.proofs.Viable.{sample, bind_err, viable}
-use Rattle.lola_grammar.proofs.Within.{marks-append}
-use Rattle.lola_grammar.proofs.Over.{counts, ForkCounted, fork_counted}
+use Rattle.lola_grammar.proofs.Over.{counts, fork_counted}
 use Rattle.lola_limit.specs.Late.{IsMarkBehind}
-use Rattle.lola_limit.proofs.Keeps.{Keeps, KeepsAmong, few_all, few_front, keeps_none, keeps_whole, keeps_then, keeps_left, keeps_right, keeps_map, keeps_some, keeps_nil, keeps_cons, keeps_many, keeps_list, keeps_bracket}
+use Rattle.lola_limit.proofs.Keeps.{Keeps, KeepsAmong, few_all, keeps_whole, keeps_then, keeps_left, keeps_right, keeps_map, keeps_some, keeps_nil, keeps_cons, keeps_list, keeps_bracket}
 
 module _ (marks : List Terminal) where
   -- ---- what is read
@@ -36,8 +33,7 @@ module _ (marks : List Terminal) where
             let q = done_is (p.0 ∷ b.0) xs b.1 i b.2 rest b.4 in
             let t = each m ts p.0 p.1 p.2 p.3 in
             let u = repeated_kept a fine away each l p.1 p.2 b.0 b.1 b.2 b.3 in
-            let parts : ts ≡ (t.0 ++ u.0) ++ rest = t.1 ∙ ap (λ (w : List Lexeme). t.0 ++ w) (u.1 ∙ ap (λ (w : List Lexeme). u.0 ++ w) q.2) ∙ sym (append_assoc t.0 u.0 rest) in
-            (
+            let parts : ts ≡ (t.0 ++ u.0) ++ rest = t.1 ∙ ap (λ (w : List Lexeme). t.0 ++ w) (u.1 ∙ ap (λ (w : List Lexeme). u.0 ++ w) q.2) ∙ sym (append_assoc t.0 u.0 rest) in (
               t.0 ++ u.0,
               parts,
               subst (Repeats (Spells a) (t.0 ++ u.0)) q.0 (t.0, u.0, refl, t.2, u.2),
@@ -83,8 +79,7 @@ module _ (marks : List Terminal) where
       let d = done_is (p.0, q.0) x q.1 i q.2 rest q.4 in
       let t = read_kept a f.0 c.0 m ts p.0 p.1 p.2 p.3 in
       let u = read_kept b f.1 c.1 p.1 p.2 q.0 q.1 q.2 q.3 in
-      let parts : ts ≡ (t.0 ++ u.0) ++ rest = t.1 ∙ ap (λ (w : List Lexeme). t.0 ++ w) (u.1 ∙ ap (λ (w : List Lexeme). u.0 ++ w) d.2) ∙ sym (append_assoc t.0 u.0 rest) in
-      (
+      let parts : ts ≡ (t.0 ++ u.0) ++ rest = t.1 ∙ ap (λ (w : List Lexeme). t.0 ++ w) (u.1 ∙ ap (λ (w : List Lexeme). u.0 ++ w) d.2) ∙ sym (append_assoc t.0 u.0 rest) in (
         t.0 ++ u.0,
         parts,
         subst (Spells (Then a b) (t.0 ++ u.0)) d.0 (t.0, u.0, refl, t.2, u.2),
@@ -108,8 +103,7 @@ module _ (marks : List Terminal) where
         | inl k ↦
             let p = bind_ok (read a m ts) _ x i rest k.1 in
             let d = done_is (Some p.0) x p.1 i p.2 rest p.4 in
-            let t = read_kept a f.0 count m ts p.0 p.1 p.2 p.3 in
-            (
+            let t = read_kept a f.0 count m ts p.0 p.1 p.2 p.3 in (
               t.0,
               t.1 ∙ ap (λ (w : List Lexeme). t.0 ++ w) d.2,
               subst (Spells (Maybe a) t.0) d.0 t.2,
@@ -131,8 +125,7 @@ module _ (marks : List Terminal) where
       elim (either_read (first b) (first c) (read b) (charged deep (read c)) p.1 p.2 q.0 q.1 q.2 q.3) [
         | inl k ↦
             let u = read_kept b f.one.0 g.one p.1 p.2 q.0 q.1 q.2 k in
-            let parts : ts ≡ (t.0 ++ u.0) ++ rest = t.1 ∙ ap (λ (w : List Lexeme). t.0 ++ w) (u.1 ∙ ap (λ (w : List Lexeme). u.0 ++ w) d.2) ∙ sym (append_assoc t.0 u.0 rest) in
-            (
+            let parts : ts ≡ (t.0 ++ u.0) ++ rest = t.1 ∙ ap (λ (w : List Lexeme). t.0 ++ w) (u.1 ∙ ap (λ (w : List Lexeme). u.0 ++ w) d.2) ∙ sym (append_assoc t.0 u.0 rest) in (
               t.0 ++ u.0,
               parts,
               subst (Spells (Fork ks a b c) (t.0 ++ u.0)) d.0 (t.0, u.0, refl, t.2, inl u.2),
@@ -141,12 +134,11 @@ module _ (marks : List Terminal) where
         | inr k ↦
             let j = charged_read (read c) deep p.2 p.1 q.0 q.1 q.2 k in
             let u = counts marks c g.two j.0 p.2 q.0 q.1 q.2 j.2 in
-            let parts : ts ≡ (t.0 ++ u.0) ++ rest = t.1 ∙ ap (λ (w : List Lexeme). t.0 ++ w) (u.1 ∙ ap (λ (w : List Lexeme). u.0 ++ w) d.2) ∙ sym (append_assoc t.0 u.0 rest) in
-            (
+            let parts : ts ≡ (t.0 ++ u.0) ++ rest = t.1 ∙ ap (λ (w : List Lexeme). t.0 ++ w) (u.1 ∙ ap (λ (w : List Lexeme). u.0 ++ w) d.2) ∙ sym (append_assoc t.0 u.0 rest) in (
               t.0 ++ u.0,
               parts,
               subst (Spells (Fork ks a b c) (t.0 ++ u.0)) d.0 (t.0, u.0, refl, t.2, inr u.2),
               λ n. subst (Keeps marks max_marks (Fork ks a b c) n (t.0 ++ u.0)) d.0
-              (keeps_bracket marks max_marks ks a b c f n n t.0 u.0 (p.0, q.0) t.2 u.2 (few_all marks max_marks 1 n t.0 (omega (arith, t.3, j.1))) (few_all marks max_marks (suc (marks_in marks t.0)) n u.0 (omega (arith, t.3, j.1, u.3))) (omega arith)),
+                  (keeps_bracket marks max_marks ks a b c f n n t.0 u.0 (p.0, q.0) t.2 u.2 (few_all marks max_marks 1 n t.0 (omega (arith, t.3, j.1))) (few_all marks max_marks (suc (marks_in marks t.0)) n u.0 (omega (arith, t.3, j.1, u.3))) (omega arith)),
             )
       ]

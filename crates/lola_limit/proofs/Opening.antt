@@ -1,5 +1,5 @@
 -- Grammars of which each token that they may begin with begins some sentence.
-use Rattle.std.proofs.Common.{◌≡◌, Bool, true, false, not, ◌&&◌, ◌||◌, cond, List, [], ◌∷◌, ◌++◌, Some, refl, sym, ap, subst, append_assoc, inl, inr, ◌⊎◌}
+use Rattle.std.proofs.Common.{◌≡◌, Bool, true, false, not, ◌&&◌, ◌||◌, cond, List, [], ◌∷◌, ◌++◌, Some, refl, sym, ap, append_assoc, inl, inr, ◌⊎◌}
 use Rattle.std.proofs.lemmas.List.{append-nil}
 use Rattle.lola_grammar.specs.Syntax.{Lexeme, Terminal, fits, any_fits, within, Syntax, Past, Token, Mark, Whole, Known, Then, Map, Either, Maybe, Many, Fork, Spells, nullable, first}
 use Rattle.lola_grammar.proofs.Tests.{and_both, or_either, not_true, within_fits}

@@ -1,13 +1,12 @@
 -- The place at which a text is refused as too deep.
-use Rattle.std.proofs.Common.{◌≡◌, ℕ, zero, suc, ◌+◌, ◌≤◌, ◌<◌, Bool, true, List, [], ◌∷◌, ◌++◌, length, Some, None, Err, refl, sym, ap, subst, ◌∙◌, append_assoc, arith, inl, inr, ◌⊎◌}
+use Rattle.std.proofs.Common.{◌≡◌, ℕ, zero, suc, ◌<◌, true, List, [], ◌∷◌, ◌++◌, length, Some, None, Err, refl, sym, ap, subst, ◌∙◌, append_assoc, arith, inl, inr, ◌⊎◌}
 use Rattle.std.proofs.lemmas.List.{append-nil, length-append, append_cancel_right}
-use Rattle.lola_grammar.specs.Syntax.{Lexeme, Terminal, Syntax, Past, Token, Mark, Whole, Known, Then, Map, Either, Maybe, Many, Fork, Spells, is_fine, TooDeep, max_marks, read, read_all, Begins}
+use Rattle.lola_grammar.specs.Syntax.{Lexeme, Terminal, Syntax, Past, Token, Mark, Whole, Known, Then, Map, Either, Maybe, Many, Fork, Spells, is_fine, TooDeep, max_marks, read, read_all}
 use Rattle.lola_grammar.specs.Marks.{is_counted}
 use Rattle.lola_grammar.specs.Exceeding.{ExceedsAmong}
 use Rattle.lola_limit.specs.Late.{IsMarkBehind, IsNextBehindBracket, IsLate, IsLateInEvery, NoneIsLate, IsFirstLate, IsDeepPlace, IsNextInEvery, HasNoNext}
 use Rattle.lola_limit.specs.Fronts.{IsLongestFront}
 use Rattle.lola_limit.proofs.Opening.{forks_open}
-use Rattle.lola_limit.proofs.Decided.{IsDecided}
 use Rattle.lola_limit.proofs.Every.{fronts, in_front, decided_all}
 use Rattle.lola_limit.proofs.First.{first_late}
 use Rattle.lola_limit.proofs.Answered.{late_is_deep}
@@ -65,8 +64,7 @@ module _ (marks : List Terminal) where
       let c = decided_all marks s fine count opens ts d h in
       let z = c.0 ++ c.1 ∷ c.2 in
       let whole : ts ≡ z ++ c.3 = c.4 ∙ sym (append_assoc c.0 (c.1 ∷ c.2) c.3) in
-      let f = in_front s z c.3 p rest c.7 (sym whole ∙ l.0, l.1, l.2) in
-      (
+      let f = in_front s z c.3 p rest c.7 (sym whole ∙ l.0, l.1, l.2) in (
         c.0,
         c.1,
         c.2 ++ f.0,
@@ -115,7 +113,7 @@ module _ (marks : List Terminal) where
   pub deep_stands_there : {A : Type 0} (s : Syntax A) → is_fine s ≡ true → is_counted marks s ≡ true → forks_open s ≡ true → (ts p rest : List Lexeme) → IsLongestFront s ts p rest
       → (u : List Lexeme) (t : Lexeme) (w : List Lexeme) → p ≡ u ++ t ∷ w → IsDeepPlace marks s u t w
       → (read_all s ts ≡ Err (TooDeep (t ∷ (w ++ rest))))
-          ⊎ ((u' : List Lexeme) × (t' : Lexeme) × (w' : List Lexeme) × (p ≡ u' ++ t' ∷ w') × (length u < length u') × (read_all s ts ≡ Err (TooDeep (t' ∷ (w' ++ rest)))) × IsNextInEvery marks s u' t' w')
+      ⊎ ((u' : List Lexeme) × (t' : Lexeme) × (w' : List Lexeme) × (p ≡ u' ++ t' ∷ w') × (length u < length u') × (read_all s ts ≡ Err (TooDeep (t' ∷ (w' ++ rest)))) × IsNextInEvery marks s u' t' w')
   deep_stands_there s fine count opens ts p rest l u t w e place =
       let d = late_is_deep marks s fine count ts p rest l u t w e place.0 in
       let f = deep_is_first s fine count opens ts d.0 p rest d.1 l in
@@ -159,18 +157,17 @@ module _ (marks : List Terminal) where
 
   -- what is the first in one of the sentences and a mark too many in all
   first_in_one : {A : Type 0} (s : Syntax A) (p u : List Lexeme) (t : Lexeme) (w : List Lexeme) → p ≡ u ++ t ∷ w → HasNoNext marks s p → ((q : List Lexeme) (x : A) → Spells s (u ++ t ∷ (w ++ q)) x → IsFirstOrNext s u t (w ++ q) x) → IsDeepPlace marks s u t w
-  first_in_one s p u t w e none each =
-      (
-        λ q x g. first_is_late s u t (w ++ q) x (each q x g),
-        λ u' t' w' same less late.
-            let o = with_more p none.0 u w t e in
-            let g = subst (λ (y : List Lexeme). Spells s y none.1) o none.2 in
-            let f = only_first s u t (w ++ none.0) none.1 (none.3 u t (w ++ none.0) o (inside p u w t e)) (each none.0 none.1 g) in
-            let whole = sym o ∙ with_more p none.0 u' w' t' (e ∙ same) in
-            let l = late none.0 none.1 (subst (λ (y : List Lexeme). Spells s y none.1) whole g) in
-            let low = f.1 l.0 u' t' (w' ++ none.0) whole less l.2 in
-            omega (arith, low, l.1),
-      )
+  first_in_one s p u t w e none each = (
+    λ q x g. first_is_late s u t (w ++ q) x (each q x g),
+    λ u' t' w' same less late.
+        let o = with_more p none.0 u w t e in
+        let g = subst (λ (y : List Lexeme). Spells s y none.1) o none.2 in
+        let f = only_first s u t (w ++ none.0) none.1 (none.3 u t (w ++ none.0) o (inside p u w t e)) (each none.0 none.1 g) in
+        let whole = sym o ∙ with_more p none.0 u' w' t' (e ∙ same) in
+        let l = late none.0 none.1 (subst (λ (y : List Lexeme). Spells s y none.1) whole g) in
+        let low = f.1 l.0 u' t' (w' ++ none.0) whole less l.2 in
+        omega (arith, low, l.1),
+  )
 
   pub deep_stands_exactly : {A : Type 0} (s : Syntax A) → is_fine s ≡ true → is_counted marks s ≡ true → forks_open s ≡ true → (ts p rest : List Lexeme) → IsLongestFront s ts p rest → HasNoNext marks s p
       → (u : List Lexeme) (t : Lexeme) (w : List Lexeme) → p ≡ u ++ t ∷ w
@@ -194,6 +191,6 @@ module _ (marks : List Terminal) where
           let front : f.0 ≡ u = append_cancel_right f.0 u (t ∷ w) (ap (λ (y : List Lexeme). f.0 ++ y) (sym rests) ∙ sym f.3 ∙ e) in
           first_in_one s p u t w e none
           (λ q x g.
-              let whole : f.0 ++ f.1 ∷ (f.2 ++ q) ≡ u ++ t ∷ (w ++ q) = ap (λ (y : List Lexeme). y ++ (f.1 ∷ (f.2 ++ q))) front ∙ ap (λ (y : List Lexeme). u ++ (y ++ q)) rests in
-              let found = f.5 q x (subst (λ (y : List Lexeme). Spells s y x) (sym whole) g) in
-              moved s f.0 u f.1 t (f.2 ++ q) (w ++ q) x front (sym token) (ap (λ (y : List Lexeme). y ++ q) (sym tail)) found)
+          let whole : f.0 ++ f.1 ∷ (f.2 ++ q) ≡ u ++ t ∷ (w ++ q) = ap (λ (y : List Lexeme). y ++ (f.1 ∷ (f.2 ++ q))) front ∙ ap (λ (y : List Lexeme). u ++ (y ++ q)) rests in
+          let found = f.5 q x (subst (λ (y : List Lexeme). Spells s y x) (sym whole) g) in
+          moved s f.0 u f.1 t (f.2 ++ q) (w ++ q) x front (sym token) (ap (λ (y : List Lexeme). y ++ q) (sym tail)) found)

@@ -1,5 +1,5 @@
 -- Which mark of its whole expression a token is.
-use Rattle.std.specs.Prelude.{◌≡◌, ℕ, suc, ◌+◌, ◌≤◌, ◌<◌, Bool, true, List, ◌∷◌, ◌++◌, length, ◌⊎◌}
+use Rattle.std.specs.Prelude.{◌≡◌, ℕ, suc, ◌+◌, ◌≤◌, ◌<◌, true, List, ◌∷◌, ◌++◌, length, ◌⊎◌}
 use Rattle.lola_grammar.specs.Syntax.{Lexeme, Terminal, Syntax, Past, Token, Mark, Whole, Known, Then, Map, Either, Maybe, Many, Fork, Spells, max_marks}
 use Rattle.lola_grammar.specs.Marks.{is_mark, marks_in}
 use Rattle.lola_grammar.specs.Exceeding.{ExceedsAmong, ExceedsIfSome}

@@ -1,5 +1,5 @@
 -- Where a specification is refused as too deep.
-use Rattle.std.specs.Prelude.{◌≡◌, ◌≤◌, ◌<◌, ℕ, List, ◌∷◌, ◌++◌, length, Result, Err, ◌⊎◌}
+use Rattle.std.specs.Prelude.{◌≡◌, ◌≤◌, ◌<◌, ℕ, List, ◌∷◌, ◌++◌, length, Err, ◌⊎◌}
 use Rattle.lola_tree.specs.declared.declarations.Declaration.{Declaration}
 use Rattle.lola_grammar.specs.Syntax.{Lexeme, Unexpected, TooDeep, Spells, read_all}
 use Rattle.lola_parser.specs.Grammar.{specification, all_marks}
@@ -32,7 +32,7 @@ abbrev pub TooDeepIsFirst : Type 0
 TooDeepIsFirst = (n : ℕ) → most_levels ≤ n → (ts d p rest : List Lexeme) → read_all (specification n) ts ≡ Err (TooDeep d) → IsLongestFront (specification n) ts p rest
     → (u : List Lexeme) × (t : Lexeme) × (w : List Lexeme) × (p ≡ u ++ t ∷ w) × (d ≡ t ∷ (w ++ rest))
     × ((q : List Lexeme) (x : List Declaration) → Spells (specification n) (u ++ t ∷ (w ++ q)) x
-        → IsFirstLate all_marks (specification n) u t (w ++ q) x ⊎ IsNextBehindBracket all_marks (specification n) u t (w ++ q) x)
+    → IsFirstLate all_marks (specification n) u t (w ++ q) x ⊎ IsNextBehindBracket all_marks (specification n) u t (w ++ q) x)
 
 -- The text is refused at the next mark behind t.
 abbrev pub IsNextRefused : ℕ → List Lexeme → List Lexeme → List Lexeme → List Lexeme → Type 0
@@ -54,4 +54,4 @@ abbrev pub TooDeepStandsExactly : Type 0
 TooDeepStandsExactly = (n : ℕ) → most_levels ≤ n → (ts p rest : List Lexeme) → IsLongestFront (specification n) ts p rest → HasNoNext all_marks (specification n) p
     → (u : List Lexeme) (t : Lexeme) (w : List Lexeme) → p ≡ u ++ t ∷ w
     → (IsDeepPlace all_marks (specification n) u t w → read_all (specification n) ts ≡ Err (TooDeep (t ∷ (w ++ rest))))
-        × (read_all (specification n) ts ≡ Err (TooDeep (t ∷ (w ++ rest))) → IsDeepPlace all_marks (specification n) u t w)
+    × (read_all (specification n) ts ≡ Err (TooDeep (t ∷ (w ++ rest))) → IsDeepPlace all_marks (specification n) u t w)
