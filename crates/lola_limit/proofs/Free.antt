@@ -1,11 +1,13 @@
 -- The same grammar with no mark counted: a text has one front that is a sentence which what follows does not go on.
-use Rattle.std.proofs.Common.{◌≡◌, ℕ, zero, suc, Bool, true, false, not, ◌||◌, List, [], ◌∷◌, ◌++◌, length, Some, None, Ok, Err, refl, sym, ap, ◌∙◌, inl, inr}
-use Rattle.std.proofs.lemmas.List.{append_cancel_right}
-use Rattle.lola_grammar.specs.Syntax.{Lexeme, Terminal, fits, clash, clashes, apart, within, Syntax, Past, Token, Mark, Whole, Known, Then, Map, Either, Maybe, Many, Fork, Repeats, Spells, starts, first, nullable, more, is_fine, Unexpected, TooDeep, Reader, max_marks, repeated, read}
+use Rattle.std.proofs.Common.{◌≡◌, ℕ, zero, suc, Bool, true, false, not, ◌||◌, List, [], ◌∷◌, ◌++◌, length, Some, None, Ok, Err, refl, sym, ap, ◌∙◌, inl, inr, Result, subst}
+use Rattle.std.proofs.lemmas.List.{append-nil, append_cancel_right}
+use Rattle.lola_grammar.specs.Syntax.{Lexeme, Terminal, fits, clash, clashes, apart, within, Syntax, Past, Token, Mark, Whole, Known, Then, Map, Either, Maybe, Many, Fork, Repeats, Spells, starts, first, nullable, more, is_fine, Unexpected, TooDeep, Reader, max_marks, repeated, read, Outcome, all_read, read_all, Begins, IsFirstMisfit, Refusal}
 use Rattle.lola_grammar.proofs.Tests.{and_both, not_true}
 use Rattle.lola_grammar.proofs.Laws.{chosen, done_is}
 use Rattle.lola_grammar.proofs.Complete.{and_three, choice_parts, known_parts, fork_is, complete}
 use Rattle.lola_grammar.proofs.Viable.{bind_err}
+use Rattle.lola_grammar.proofs.Refusal.{read_is_spelled, refused_at}
+use Rattle.lola_limit.specs.Fronts.{IsLongestFront}
 
 unfoldable pub free : {A : Type 0} → Syntax A → Syntax A
 free (Past a) = free a
@@ -39,6 +41,22 @@ spells_free (Maybe a) u None h = h
 spells_free (Maybe a) u (Some x) h = spells_free a u x h
 spells_free (Many a) u xs h = repeats_free (Spells a) (Spells (free a)) (spells_free a) u xs h
 spells_free (Fork ks a b c) u x h = (h.0, h.1, h.2, spells_free a h.0 x.0 h.3, elim h.4 [ inl p ↦ inl (spells_free b h.1 x.1 p) | inr p ↦ inr (spells_free c h.1 x.1 p) ])
+
+spells_back : {A : Type 0} (s : Syntax A) (u : List Lexeme) (x : A) → Spells (free s) u x → Spells s u x
+unfolding free Spells
+spells_back (Past a) u x h = spells_back a u x h
+spells_back (Token k) u x h = h
+spells_back (Mark k) u x h = h
+spells_back (Whole a) u x h = spells_back a u x h
+spells_back (Known fs ms a) u x h = spells_back a u x h
+spells_back (Then a b) u x h = (h.0, h.1, h.2, spells_back a h.0 x.0 h.3, spells_back b h.1 x.1 h.4)
+spells_back (Map f a) u y h = (h.0, h.1, spells_back a u h.0 h.2)
+spells_back (Either a b) u x (inl h) = inl (spells_back a u x h)
+spells_back (Either a b) u x (inr h) = inr (spells_back b u x h)
+spells_back (Maybe a) u None h = h
+spells_back (Maybe a) u (Some x) h = spells_back a u x h
+spells_back (Many a) u xs h = repeats_free (Spells (free a)) (Spells a) (spells_back a) u xs h
+spells_back (Fork ks a b c) u x h = (h.0, h.1, h.2, spells_back a h.0 x.0 h.3, elim h.4 [ inl p ↦ inl (spells_back b h.1 x.1 p) | inr p ↦ inr (spells_back c h.1 x.1 p) ])
 
 clashes_append : (k : Terminal) (ls ms : List Terminal) → clashes k ls ≡ false → clashes k ms ≡ false → clashes k (ls ++ ms) ≡ false
 clashes_append k [] ms h i = i
@@ -177,3 +195,34 @@ unique s fine u v x y rest after h g stop stops e =
     let q = reads_free s fine v y after g stops in
     let same = done_is x y p.0 q.0 rest after (sym p.1 ∙ ap (λ (w : List Lexeme). read (free s) max_marks w) e ∙ q.1) in
     (append_cancel_right u v rest (e ∙ ap (λ (w : List Lexeme). v ++ w) (sym same.2)), same.2, same.0)
+
+-- ---- the longest front
+
+begins_back : {A : Type 0} (s : Syntax A) (p : List Lexeme) → Begins (free s) p → Begins s p
+begins_back s p b = (b.0, b.1, spells_back s (p ++ b.0) b.1 b.2)
+
+begins_free : {A : Type 0} (s : Syntax A) (p : List Lexeme) → Begins s p → Begins (free s) p
+begins_free s p b = (b.0, b.1, spells_free s (p ++ b.0) b.1 b.2)
+
+all_deep : {A : Type 0} (s : Syntax A) (ts d : List Lexeme) → read_all (free s) ts ≡ Err (TooDeep d) → ⊥
+unfolding read_all NeverDeep
+all_deep {A} s ts d h = by (read (free s) max_marks ts) refl h
+  where
+    by : (o : Outcome A) → read (free s) max_marks ts ≡ o → all_read o ≡ Err (TooDeep d) → ⊥
+    by (Ok (x, i, [])) is e = absurd cc
+    by (Ok (x, i, (t ∷ rest))) is e = let c : Unexpected (t ∷ rest) ≡ TooDeep d = cc in absurd cc
+    by (Err c) is e = let k : c ≡ TooDeep d = cc in never_deep s max_marks ts d (is ∙ ap (λ z. Err z) k)
+
+pub has_front : {A : Type 0} (s : Syntax A) → is_fine s ≡ true → (ts : List Lexeme) → (p : List Lexeme) × (rest : List Lexeme) × IsLongestFront s ts p rest
+has_front {A} s fine ts = by (read_all (free s) ts) refl
+  where
+    misfit : (rest : List Lexeme) → IsFirstMisfit (free s) ts rest → (p : List Lexeme) × (rest : List Lexeme) × IsLongestFront s ts p rest
+    misfit [] h = (ts, [], (sym (append-nil ts), begins_back s ts h.0, tt))
+    misfit (t ∷ rest) h = (h.0, t ∷ rest, (h.1, begins_back s h.0 h.2, λ b. h.3 (begins_free s (h.0 ++ t ∷ []) b)))
+
+    by : (o : Result A Refusal) → read_all (free s) ts ≡ o → (p : List Lexeme) × (rest : List Lexeme) × IsLongestFront s ts p rest
+    by (Ok x) is =
+        let h = spells_back s ts x (read_is_spelled (free s) ts x is) in
+        (ts, [], (sym (append-nil ts), ([], x, subst (λ (w : List Lexeme). Spells s w x) (sym (append-nil ts)) h), tt))
+    by (Err (Unexpected rest)) is = misfit rest (refused_at (free s) (free_is s fine).3 ts rest is)
+    by (Err (TooDeep d)) is = absurd (all_deep s ts d is)

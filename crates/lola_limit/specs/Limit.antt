@@ -7,6 +7,10 @@ use Rattle.lola_parser.specs.Whole.{most_levels}
 use Rattle.lola_limit.specs.Late.{IsNextBehindBracket, IsLateInEvery, NoneIsLate, IsFirstLate, IsDeepPlace, IsNextInEvery, HasNoNext}
 use Rattle.lola_limit.specs.Fronts.{IsLongestFront}
 
+-- In each text there is a first token such that no specification begins with the tokens up to it, or there is none such.
+abbrev pub HasLongestFront : Type 0
+HasLongestFront = (n : ℕ) (ts : List Lexeme) → (p : List Lexeme) × (rest : List Lexeme) × IsLongestFront (specification n) ts p rest
+
 -- The mark that is refused as too deep stands before the first token that does not fit. It is a mark too many of a whole
 -- expression or formula in every specification that begins with the tokens before that one.
 abbrev pub TooDeepIsLateInEvery : Type 0
@@ -34,7 +38,8 @@ TooDeepIsFirst = (n : ℕ) → most_levels ≤ n → (ts d p rest : List Lexeme)
     × ((q : List Lexeme) (x : List Declaration) → Spells (specification n) (u ++ t ∷ (w ++ q)) x
     → IsFirstLate all_marks (specification n) u t (w ++ q) x ⊎ IsNextBehindBracket all_marks (specification n) u t (w ++ q) x)
 
--- The text is refused at the next mark behind t.
+-- The text is refused behind u and the token there, at a mark that in every specification that begins so is the next behind the
+-- first one too many.
 abbrev pub IsNextRefused : ℕ → List Lexeme → List Lexeme → List Lexeme → List Lexeme → Type 0
 IsNextRefused n ts p rest u =
     (u' : List Lexeme) × (t' : Lexeme) × (w' : List Lexeme) × (p ≡ u' ++ t' ∷ w') × (length u < length u') × (read_all (specification n) ts ≡ Err (TooDeep (t' ∷ (w' ++ rest)))) × IsNextInEvery all_marks (specification n) u' t' w'

@@ -1,6 +1,12 @@
 //! The laws, about definitions alone.
 
-ghost use Rattle.lola_limit.specs.Limit.{TooDeepIsLateInEvery, LateInEveryIsTooDeep, UnexpectedKeepsTheLimit, TooDeepIsFirst, TooDeepStandsThere, TooDeepStandsExactly};
+ghost use Rattle.lola_limit.specs.Limit.{HasLongestFront, TooDeepIsLateInEvery, LateInEveryIsTooDeep, UnexpectedKeepsTheLimit, TooDeepIsFirst, TooDeepStandsThere, TooDeepStandsExactly};
+
+/// In each text there is a first token such that no specification begins with the tokens up to it, or there is none such: what
+/// the laws below call the tokens before the first one that does not fit is there for every text.
+pub fn has_longest_front()
+    ensures { HasLongestFront }
+{}
 
 /// The mark at which reading is refused as too deep is the 513th or a later mark of a whole expression or formula in every
 /// specification that begins with the tokens before the first one that does not fit, also where the tokens are no
