@@ -11,7 +11,7 @@ use Rattle.lola_grammar.proofs.Within.{marks-append, complete_within}
 use Rattle.lola_grammar.proofs.Over.{SplitsAtLast, last_is, counts, over, ForkCounted, fork_counted}
 
 -- two splits of one list
-pub split_two : (a b c : List Lexeme) (t : Lexeme) (d : List Lexeme) → a ++ b ≡ c ++ t ∷ d
+split_two : (a b c : List Lexeme) (t : Lexeme) (d : List Lexeme) → a ++ b ≡ c ++ t ∷ d
     → ((w : List Lexeme) × (a ≡ c ++ t ∷ w) × (d ≡ w ++ b)) ⊎ ((w : List Lexeme) × (c ≡ a ++ w))
 split_two [] b c t d e = inr (c, refl)
 split_two (x ∷ a) b [] t d e = let p : x ≡ t = cc in let q : a ++ b ≡ d = cc in inl (a, ap (λ (y : Lexeme). y ∷ a) p, sym q)

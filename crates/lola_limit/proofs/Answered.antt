@@ -6,7 +6,7 @@ use Rattle.lola_grammar.specs.Marks.{is_counted}
 use Rattle.lola_grammar.proofs.Refusal.{refused_at}
 use Rattle.lola_limit.specs.Late.{IsLateInEvery, NoneIsLate}
 use Rattle.lola_limit.specs.Fronts.{IsLongestFront}
-use Rattle.lola_limit.proofs.Every.{in_front}
+use Rattle.lola_limit.proofs.Placed.{in_front}
 use Rattle.lola_limit.proofs.Kept.{IsKept, read_kept}
 use Rattle.lola_limit.proofs.Going.{IsGoing, going}
 

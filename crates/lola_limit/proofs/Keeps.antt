@@ -8,7 +8,7 @@ use Rattle.lola_grammar.proofs.Tests.{no_more, apart_excludes}
 use Rattle.lola_grammar.proofs.Complete.{begins, any_split, follows, tail_stops, repeats_begin, ForkParts, full_is, fork_follows}
 use Rattle.lola_grammar.proofs.Within.{marks-append}
 use Rattle.lola_limit.specs.Late.{IsMarkBehind}
-use Rattle.lola_limit.proofs.Every.{fronts}
+use Rattle.lola_limit.proofs.Placed.{fronts}
 use Rattle.lola_limit.proofs.Free.{unique}
 
 module _ (marks : List Terminal) where

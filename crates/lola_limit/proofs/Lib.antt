@@ -1,6 +1,6 @@
 pub mod Opening
 pub mod Decided
-pub mod Every
+pub mod Placed
 pub mod Open
 pub mod Free
 pub mod Keeps

@@ -7,7 +7,7 @@ use Rattle.lola_grammar.specs.Exceeding.{ExceedsAmong}
 use Rattle.lola_limit.specs.Late.{IsMarkBehind, IsNextBehindBracket, IsLate, IsLateInEvery, NoneIsLate, IsFirstLate, IsDeepPlace, IsNextInEvery, HasNoNext}
 use Rattle.lola_limit.specs.Fronts.{IsLongestFront}
 use Rattle.lola_limit.proofs.Opening.{forks_open}
-use Rattle.lola_limit.proofs.Every.{fronts, in_front, decided_all}
+use Rattle.lola_limit.proofs.Placed.{fronts, in_front, decided_all}
 use Rattle.lola_limit.proofs.First.{first_late}
 use Rattle.lola_limit.proofs.Answered.{late_is_deep}
 
@@ -79,6 +79,12 @@ module _ (marks : List Terminal) where
   first_is_late : {A : Type 0} (s : Syntax A) (u : List Lexeme) (t : Lexeme) (v : List Lexeme) (x : A) → IsFirstOrNext s u t v x → IsLate marks s u t v x
   first_is_late s u t v x (inl h) = (max_marks, omega arith, h.0)
   first_is_late s u t v x (inr h) = (suc max_marks, omega arith, next_mark s u t v x h)
+
+  pub deep_in_every : {A : Type 0} (s : Syntax A) → is_fine s ≡ true → is_counted marks s ≡ true → forks_open s ≡ true → (ts d p rest : List Lexeme) → read_all s ts ≡ Err (TooDeep d) → IsLongestFront s ts p rest
+      → (u : List Lexeme) × (t : Lexeme) × (w : List Lexeme) × (p ≡ u ++ t ∷ w) × (d ≡ t ∷ (w ++ rest)) × IsLateInEvery marks s u t w
+  deep_in_every s fine count opens ts d p rest h l =
+      let f = deep_is_first s fine count opens ts d p rest h l in
+      (f.0, f.1, f.2, f.3, f.4, λ q x g. first_is_late s f.0 f.1 (f.2 ++ q) x (f.5 q x g))
 
   -- ---- the first mark that is late in every sentence that begins so
 

@@ -2,7 +2,7 @@ use Rattle.lola_parser.specs.Grammar.{specification, all_marks}
 use Rattle.lola_parser.proofs.Fine.{specification_fine}
 use Rattle.lola_limit.proofs.Levels.{counted_at}
 use Rattle.lola_limit.proofs.Open.{specification_open}
-use Rattle.lola_limit.proofs.Every.{deep_in_every}
+use Rattle.lola_limit.proofs.Place.{deep_in_every}
 use Rattle.lola_limit.proofs.law.late_in_every.Goals as goal
 
 pub returns : goal.returns
