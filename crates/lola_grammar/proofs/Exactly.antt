@@ -23,7 +23,7 @@ split_two (x ∷ a) b (y ∷ c) t d e =
       | inr s ↦ inr (s.0, ap (λ (w : List Lexeme). y ∷ w) s.1 ∙ ap (λ (z : Lexeme). z ∷ (a ++ s.0)) (sym p))
     ]
 
-few_or_more : (a b : ℕ) → (a ≤ b) ⊎ (b < a)
+pub few_or_more : (a b : ℕ) → (a ≤ b) ⊎ (b < a)
 few_or_more zero b = inl (omega arith)
 few_or_more (suc a) zero = inr (omega arith)
 few_or_more (suc a) (suc b) = elim (few_or_more a b) [ inl h ↦ inl (omega (arith, h)) | inr h ↦ inr (omega (arith, h)) ]
@@ -33,14 +33,14 @@ module _ (marks : List Terminal) where
   IsDone r x rest = (i : ℕ) × (r ≡ Ok (x, i, rest))
 
   -- the reading of u ends at a mark that exceeds
-  abbrev IsDeep : {A : Type 0} → Outcome A → (List Lexeme → Lexeme → List Lexeme → Type 0) → List Lexeme → List Lexeme → Type 0
+  abbrev pub IsDeep : {A : Type 0} → Outcome A → (List Lexeme → Lexeme → List Lexeme → Type 0) → List Lexeme → List Lexeme → Type 0
   IsDeep r Q u rest = (v : List Lexeme) × (t : Lexeme) × (w : List Lexeme) × (u ≡ v ++ t ∷ w) × (r ≡ Err (TooDeep (t ∷ (w ++ rest)))) × Q v t w
 
   abbrev IsEither : {A : Type 0} → Reader A → (List Lexeme → A → Type 0) → (List Lexeme → Lexeme → List Lexeme → A → Type 0) → List Terminal → Type 0
   IsEither {A} r P Q ks = (m : ℕ) (u : List Lexeme) (x : A) (rest : List Lexeme) → P u x → starts ks rest ≡ false → IsDone (r m (u ++ rest)) x rest ⊎ IsDeep (r m (u ++ rest)) (λ v t w. Q v t w x) u rest
 
   -- more marks than may come: the reading of the part ends at the one that is too many
-  too_many : {A : Type 0} (a : Syntax A) → is_fine a ≡ true → tallies marks a ≡ true → guards (suc max_marks) a ≡ true → (m : ℕ) → m ≤ max_marks → (u : List Lexeme) (x : A) (rest : List Lexeme) → Spells a u x → starts (more a) rest ≡ false → m < marks_in marks u
+  pub too_many : {A : Type 0} (a : Syntax A) → is_fine a ≡ true → tallies marks a ≡ true → guards (suc max_marks) a ≡ true → (m : ℕ) → m ≤ max_marks → (u : List Lexeme) (x : A) (rest : List Lexeme) → Spells a u x → starts (more a) rest ≡ false → m < marks_in marks u
       → IsDeep (read a m (u ++ rest)) (λ v t w. (marks_in marks v ≡ m) × (is_mark marks t ≡ true)) u rest
   too_many a fine tally guard m low u x rest h stop many =
       elim (complete a fine m u x rest h stop) [
@@ -139,11 +139,11 @@ module _ (marks : List Terminal) where
   then_ok : {A B : Type 0} (r : Outcome A) (f : A → Reader B) (x : A) (i : ℕ) (mid : List Lexeme) (o : Outcome B) → r ≡ Ok (x, i, mid) → f x i mid ≡ o → (r >>= f) ≡ o
   then_ok r f x i mid o e g = rw e g
 
-  opens_part : {A : Type 0} (s : Syntax A) → is_fine s ≡ true → nullable s ≡ false → (v : List Lexeme) (x : A) (rest : List Lexeme) → Spells s v x → starts (first s) (v ++ rest) ≡ true
+  pub opens_part : {A : Type 0} (s : Syntax A) → is_fine s ≡ true → nullable s ≡ false → (v : List Lexeme) (x : A) (rest : List Lexeme) → Spells s v x → starts (first s) (v ++ rest) ≡ true
   opens_part s fine full [] x rest h = absurd (full_is s fine full x h)
   opens_part s fine full (t ∷ v) x rest h = begins s fine t v x h
 
-  misses_part : {A : Type 0} (ks : List Terminal) (s : Syntax A) → is_fine s ≡ true → nullable s ≡ false → apart ks (first s) ≡ true → (v : List Lexeme) (x : A) (rest : List Lexeme) → Spells s v x → starts ks (v ++ rest) ≡ false
+  pub misses_part : {A : Type 0} (ks : List Terminal) (s : Syntax A) → is_fine s ≡ true → nullable s ≡ false → apart ks (first s) ≡ true → (v : List Lexeme) (x : A) (rest : List Lexeme) → Spells s v x → starts ks (v ++ rest) ≡ false
   misses_part ks s fine full away [] x rest h = absurd (full_is s fine full x h)
   misses_part ks s fine full away (t ∷ v) x rest h = no_more (any_fits ks t) (λ c. apart_excludes ks (first s) t away c (begins s fine t v x h))
 

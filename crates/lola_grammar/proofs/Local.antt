@@ -36,7 +36,7 @@ fail_moves : {A B : Type 0} (d : Refusal) (e : End B) (rest : List Lexeme) → f
 fail_moves d (Read x i) rest h = absurd cc
 fail_moves d Stopped rest h = (Stopped, let q : d ≡ Unexpected rest = cc in ap (λ x. Err x) q, λ r g other i. rw i refl)
 
-through : {A : Type 0} (r : Reader A) → IsLocal r → (m : ℕ) (ts : List Lexeme) (x : A) (i : ℕ) (v : List Lexeme) (t : Lexeme) (rest : List Lexeme) → r m ts ≡ Ok (x, i, v ++ t ∷ rest)
+pub through : {A : Type 0} (r : Reader A) → IsLocal r → (m : ℕ) (ts : List Lexeme) (x : A) (i : ℕ) (v : List Lexeme) (t : Lexeme) (rest : List Lexeme) → r m ts ≡ Ok (x, i, v ++ t ∷ rest)
     → (u : List Lexeme) × (ts ≡ u ++ (v ++ t ∷ rest)) × ((other : List Lexeme) → r m (u ++ (v ++ t ∷ other)) ≡ Ok (x, i, v ++ t ∷ other))
 through r loc m ts x i [] t rest h = loc m ts (Read x i) t rest h
 through r loc m ts x i (s ∷ v) t rest h =
@@ -62,7 +62,7 @@ bind_cases {A} {B} r f loc next m ts (Ok y) is e t rest h =
 bind_local : {A B : Type 0} (r : Reader A) (f : A → Reader B) → IsLocal r → ((x : A) → IsLocal (f x)) → IsLocal (bind r f)
 bind_local r f loc next m ts e t rest h = bind_cases r f loc next m ts (r m ts) refl e t rest h
 
-same_start : (ks : List Terminal) (u : List Lexeme) (t : Lexeme) (rest other : List Lexeme) → starts ks (u ++ t ∷ rest) ≡ starts ks (u ++ t ∷ other)
+pub same_start : (ks : List Terminal) (u : List Lexeme) (t : Lexeme) (rest other : List Lexeme) → starts ks (u ++ t ∷ rest) ≡ starts ks (u ++ t ∷ other)
 same_start ks [] t rest other = refl
 same_start ks (s ∷ u) t rest other = refl
 
@@ -135,7 +135,7 @@ repeated_local {A} r ks loc (suc n) =
 
 -- ---- how often it may be read does not matter, from the count of tokens on
 
-abbrev Eats : {A : Type 0} → Reader A → Type 0
+abbrev pub Eats : {A : Type 0} → Reader A → Type 0
 Eats {A} r = (m : ℕ) (ts : List Lexeme) (x : A) (i : ℕ) (rest : List Lexeme) → r m ts ≡ Ok (x, i, rest) → length rest < length ts
 
 same_bind : {A B : Type 0} (r : Outcome A) (f g : A → Reader B) → ((x : A) (i : ℕ) (rest : List Lexeme) → r ≡ Ok (x, i, rest) → f x i rest ≡ g x i rest) → (r >>= f) ≡ (r >>= g)
@@ -145,7 +145,7 @@ same_bind (Err d) f g h = refl
 same_choice : {A : Type 0} (c : Bool) (x y z : A) → x ≡ y → cond c x z ≡ cond c y z
 same_choice c x y z h = ap (λ w. cond c w z) h
 
-fuel : {A : Type 0} (r : Reader A) (ks : List Terminal) → Eats r → (n l m : ℕ) (ts : List Lexeme) → length ts ≤ n → length ts ≤ l → repeated r ks n m ts ≡ repeated r ks l m ts
+pub fuel : {A : Type 0} (r : Reader A) (ks : List Terminal) → Eats r → (n l m : ℕ) (ts : List Lexeme) → length ts ≤ n → length ts ≤ l → repeated r ks n m ts ≡ repeated r ks l m ts
 fuel r ks eats zero zero m ts a b = refl
 fuel r ks eats zero (suc l) m [] a b = refl
 fuel r ks eats zero (suc l) m (t ∷ ts) a b = absurd (omega (arith, a))
@@ -156,7 +156,7 @@ fuel {A} r ks eats (suc n) (suc l) m ts a b =
     (same_bind (r m ts) (λ x. bind (repeated r ks n) (λ xs. pure (x ∷ xs))) (λ x. bind (repeated r ks l) (λ xs. pure (x ∷ xs)))
     (λ x i rest h. let e = eats m ts x i rest h in ap (λ (o : Outcome (List A)). o >>= λ xs j end. Ok (x ∷ xs, j, end)) (fuel r ks eats n l i rest (omega (arith, e, a)) (omega (arith, e, b)))))
 
-eats : {A : Type 0} (s : Syntax A) → is_fine s ≡ true → nullable s ≡ false → Eats (read s)
+pub eats : {A : Type 0} (s : Syntax A) → is_fine s ≡ true → nullable s ≡ false → Eats (read s)
 eats s fine misses m ts x i rest h = let p = sound s m ts x i rest h in some p.0 p.1 p.2
   where
     some : (u : List Lexeme) → ts ≡ u ++ rest → Spells s u x → length rest < length ts

@@ -114,7 +114,7 @@ module _ (marks : List Terminal) where
         | inr c ↦ absurd (let w = c.1 in cc)
       ]
 
-  one_over : (t : Lexeme) (m : ℕ) (ts d : List Lexeme) → counted t m ts ≡ Err (TooDeep d) → (m ≡ 0) × (d ≡ t ∷ ts)
+  pub one_over : (t : Lexeme) (m : ℕ) (ts d : List Lexeme) → counted t m ts ≡ Err (TooDeep d) → (m ≡ 0) × (d ≡ t ∷ ts)
   one_over t zero ts d h = (refl, let e : TooDeep (t ∷ ts) ≡ TooDeep d = cc in cc)
   one_over t (suc m) ts d h = absurd cc
 
@@ -268,7 +268,7 @@ module _ (marks : List Terminal) where
       let k = and_three (guards (suc max_marks) c) (within ks marks) (within marks ks) g.2 in
       record { head = f.0; head_guard = f.1; one = g.0; two = g.1; two_guard = k.0; same = same_marks ks k.1 k.2 }
 
-  charged_ends : {B : Type 0} (r : Reader B) (deep mid d : List Lexeme) (i : ℕ) → charged deep r i mid ≡ Err (TooDeep d) → ((i ≡ 0) × (d ≡ deep)) ⊎ ((j : ℕ) × (i ≡ suc j) × (r j mid ≡ Err (TooDeep d)))
+  pub charged_ends : {B : Type 0} (r : Reader B) (deep mid d : List Lexeme) (i : ℕ) → charged deep r i mid ≡ Err (TooDeep d) → ((i ≡ 0) × (d ≡ deep)) ⊎ ((j : ℕ) × (i ≡ suc j) × (r j mid ≡ Err (TooDeep d)))
   charged_ends r deep mid d zero h = inl (refl, let e : TooDeep deep ≡ TooDeep d = cc in cc)
   charged_ends r deep mid d (suc j) h = inr (j, refl, h)
 

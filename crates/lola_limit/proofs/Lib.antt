@@ -1,0 +1,12 @@
+pub mod Opening
+pub mod Decided
+pub mod Placed
+pub mod Open
+pub mod Free
+pub mod Keeps
+pub mod Kept
+pub mod Going
+pub mod Answered
+pub mod Levels
+pub mod First
+pub mod Place

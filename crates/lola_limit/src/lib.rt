@@ -1,0 +1,4 @@
+//! The law of the limit of marks: where a specification is refused as too deep.
+#![tactic(auto)]
+
+pub mod law;
