@@ -2,3 +2,11 @@ pub mod Numbers
 pub mod Texts
 pub mod Quantities
 pub mod Cut
+pub mod Carried
+pub mod Leaves
+pub mod Forms
+pub mod Expressions
+pub mod Clauses
+pub mod Limited
+pub mod Round
+pub mod Twice

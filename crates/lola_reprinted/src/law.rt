@@ -2,6 +2,7 @@
 
 ghost use Rattle.lola_reprinted.specs.Literals.{IntegersRead, TextsRead, QuantitiesRead};
 ghost use Rattle.lola_reprinted.specs.Places.{CutIsLexed, PrintedIsCut};
+ghost use Rattle.lola_reprinted.specs.Round.{PlacesAreFree, ReadIsWithin, ReadIsPrintable, ReprintedWithin};
 
 /// An integer that is printed is read back, if it has no more than 128 bits.
 pub fn integers_read()
@@ -26,4 +27,26 @@ pub fn cut_is_lexed()
 /// Tokens that are printed are cut from the printed text, each with its bytes, whatever their places were.
 pub fn printed_is_cut()
     ensures { PrintedIsCut }
+{}
+
+/// What tokens spell is spelled by the same tokens at other places too, places left aside, and within the same limit.
+pub fn places_are_free()
+    ensures { PlacesAreFree }
+{}
+
+/// What is read is spelled by its tokens within the limit of marks.
+pub fn read_is_within()
+    ensures { ReadIsWithin }
+{}
+
+/// What is read of a text is of the grammar's shape, its literals are read back as they are printed, and what is printed
+/// of it are tokens of the language.
+pub fn read_is_printable()
+    ensures { ReadIsPrintable }
+{}
+
+/// What is printed of a specification that was read is read as the same specification, places left aside, if what is
+/// printed keeps the limit of marks.
+pub fn reprinted_within()
+    ensures { ReprintedWithin }
 {}
