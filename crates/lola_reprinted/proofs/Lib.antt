@@ -10,3 +10,4 @@ pub mod Clauses
 pub mod Limited
 pub mod Round
 pub mod Twice
+pub mod Unplaced

@@ -58,3 +58,7 @@ IsReprinted = (z : List ℕ) (xs : List Declaration) → IsReadAs z xs → lengt
 -- the same, where what is printed keeps the limit of marks
 abbrev pub ReprintedWithin : Type 0
 ReprintedWithin = PrintedWithin → IsReprinted
+
+-- trees that differ in their places alone are printed alike
+abbrev pub PlacesAreNotPrinted : Type 0
+PlacesAreNotPrinted = (xs ys : List Declaration) → DifferInPlaces xs ys → out.specification ys ≡ out.specification xs

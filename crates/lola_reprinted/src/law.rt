@@ -2,7 +2,7 @@
 
 ghost use Rattle.lola_reprinted.specs.Literals.{IntegersRead, TextsRead, QuantitiesRead};
 ghost use Rattle.lola_reprinted.specs.Places.{CutIsLexed, PrintedIsCut};
-ghost use Rattle.lola_reprinted.specs.Round.{PlacesAreFree, ReadIsWithin, ReadIsPrintable, ReprintedWithin};
+ghost use Rattle.lola_reprinted.specs.Round.{PlacesAreFree, ReadIsWithin, ReadIsPrintable, ReprintedWithin, PlacesAreNotPrinted};
 
 /// An integer that is printed is read back, if it has no more than 128 bits.
 pub fn integers_read()
@@ -49,4 +49,10 @@ pub fn read_is_printable()
 /// printed keeps the limit of marks.
 pub fn reprinted_within()
     ensures { ReprintedWithin }
+{}
+
+/// Trees that differ in their places alone are printed alike: what is printed of a tree that was read back is the same
+/// text again.
+pub fn places_are_not_printed()
+    ensures { PlacesAreNotPrinted }
 {}
