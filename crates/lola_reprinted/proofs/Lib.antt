@@ -6,7 +6,10 @@ pub mod Carried
 pub mod Leaves
 pub mod Forms
 pub mod Expressions
+pub mod InStep
+pub mod Pacings
 pub mod Clauses
+pub mod Declarations
 pub mod Limited
 pub mod Round
 pub mod Twice

@@ -16,10 +16,11 @@ use Rattle.lola_printed.specs.Erased as erased
 use Rattle.lola_reprinted.specs.Places.{AreLexed, AreSame, DifferInPlaces}
 use Rattle.lola_reprinted.specs.Round.{PlacesAreFree, IsReadAs, ReadIsWithin, IsPrintable, ReadIsPrintable, PrintedWithin, ReprintedWithin}
 use Rattle.lola_reprinted.proofs.Carried.{alike_from, same_self}
-use Rattle.lola_reprinted.proofs.Clauses.{specification_carried, same_erased, same_fit, same_lexed}
+use Rattle.lola_reprinted.proofs.Declarations.{specification_carried, same_erased, same_fit, same_lexed}
 use Rattle.lola_reprinted.proofs.Cut.{cut_lexed, printed_cut}
 use Rattle.lola_reprinted.proofs.Limited.{read_is_within}
 use Rattle.lola_reprinted.proofs.Twice.{erased_twice}
+use Rattle.lola_reprinted.proofs.Unplaced.{not_printed}
 
 pub places_free : PlacesAreFree
 places_free =
@@ -59,8 +60,11 @@ reprinted printed z xs h short =
     let m = p.fits.0 + most_levels in
     let s = printed most_levels m (lexemes z h.tokens) xs (within (lexemes z h.tokens) xs h.read) (p.fits.1 m (omega arith)) in
     let cut = printed_cut (out.specification xs) p.lexed short in
-    let r = places_free.fitted (suc m) (out.specification xs) (lexemes (spelled_out (out.specification xs)) cut.0) cut.2 (map erased.declaration xs) s in (
-      r.0,
-      record { tokens = cut.0; cut = cut.1; read = read_at_last (suc m) (omega arith) (lexemes (spelled_out (out.specification xs)) cut.0) r.0 r.1 },
-      r.2 ∙ erased_twice xs,
-    )
+    let r = places_free.fitted (suc m) (out.specification xs) (lexemes (spelled_out (out.specification xs)) cut.0) cut.2 (map erased.declaration xs) s in
+    let same : DifferInPlaces xs r.0 = r.2 ∙ erased_twice xs in
+    record {
+      tree = r.0;
+      read = record { tokens = cut.0; cut = cut.1; read = read_at_last (suc m) (omega arith) (lexemes (spelled_out (out.specification xs)) cut.0) r.0 r.1 };
+      same = same;
+      again = ap spelled_out (not_printed xs r.0 same);
+    }

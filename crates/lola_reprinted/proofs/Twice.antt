@@ -19,7 +19,7 @@ use Rattle.lola_tree.specs.declared.declarations.Declaration.{Declaration}
 use Rattle.lola_tree.specs.declared.declarations.Declaration.TheVariants as d
 use Rattle.lola_printed.specs.Erased as erased
 use Rattle.lola_reprinted.proofs.Forms.{erased-Binary, erased-Defaults, erased-Prefix, erased-If, erased-Reference}
-use Rattle.lola_reprinted.proofs.Clauses.{erased-Both, erased-Either}
+use Rattle.lola_reprinted.proofs.Pacings.{erased-Both, erased-Either}
 
 access_twice : (h : Access) → erased.access (erased.access h) ≡ erased.access h
 access_twice a.Direct = refl

@@ -50,15 +50,22 @@ abbrev pub PrintedWithin : Type 0
 PrintedWithin = (n m : ℕ) (ts : List Lexeme) (xs : List Declaration) → Fits all_marks (specification n) ts xs → AllDeclarationsFit m xs
     → Fits all_marks (specification (suc m)) (out.specification xs) (map erased.declaration xs)
 
--- what is printed of a specification that was read is read as the same specification, places left aside
+-- trees that differ in their places alone are printed alike
+abbrev pub PlacesAreNotPrinted : Type 0
+PlacesAreNotPrinted = (xs ys : List Declaration) → DifferInPlaces xs ys → out.specification ys ≡ out.specification xs
+
+-- the text is read as this tree, places left aside, and what is printed of what is read is the same text again
+pub record IsReadBack (t : List ℕ) (xs : List Declaration) : Type 0 where
+  pub tree : List Declaration
+  pub read : IsReadAs t tree
+  pub same : DifferInPlaces xs tree
+  pub again : spelled_out (out.specification tree) ≡ t
+
+-- what is printed of a specification that was read is read back, if it is no longer than a text may be
 abbrev pub IsReprinted : Type 0
 IsReprinted = (z : List ℕ) (xs : List Declaration) → IsReadAs z xs → length (spelled_out (out.specification xs)) ≤ 1_048_576
-    → (ys : List Declaration) × IsReadAs (spelled_out (out.specification xs)) ys × DifferInPlaces xs ys
+    → IsReadBack (spelled_out (out.specification xs)) xs
 
 -- the same, where what is printed keeps the limit of marks
 abbrev pub ReprintedWithin : Type 0
 ReprintedWithin = PrintedWithin → IsReprinted
-
--- trees that differ in their places alone are printed alike
-abbrev pub PlacesAreNotPrinted : Type 0
-PlacesAreNotPrinted = (xs ys : List Declaration) → DifferInPlaces xs ys → out.specification ys ≡ out.specification xs
