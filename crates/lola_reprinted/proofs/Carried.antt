@@ -1,12 +1,12 @@
 -- What tokens spell is spelled by the same tokens at other places, and what is spelled has what its tokens have: by the parts
 -- of the grammar. The proposition W stands for "the tokens are tokens of the language".
 use Rattle.std.specs.Prelude.{fold}
-use Rattle.std.proofs.Common.{◌≡◌, ℕ, suc, ◌+◌, ◌≤◌, Bool, true, false, ◌&&◌, not, List, [], ◌∷◌, ◌++◌, Option, Some, None, refl, sym, ap, ap₂, subst, ◌∙◌, inl, inr}
+use Rattle.std.proofs.Common.{◌≡◌, ℕ, suc, ◌+◌, ◌≤◌, true, ◌&&◌, not, List, [], ◌∷◌, ◌++◌, Option, Some, None, refl, sym, ap, ap₂, subst, ◌∙◌, inl, inr}
 use Rattle.std.specs.Str.{bytes_eq}
 use Rattle.lola_lexer.specs.declared.shape.TokenShape.{TokenShape}
 use Rattle.lola_lexer.specs.declared.shape.TokenShape.TheVariants as is
 use Rattle.lola_grammar.specs.Syntax.{Lexeme, Terminal, Of, Word, Other, is_among, same_shape, fits, any_fits, Syntax, Past, Token, Mark, Whole, Known, Then, Map, Either, Maybe, Many, Fork, Repeats, Perhaps, Spells, max_marks}
-use Rattle.lola_grammar.specs.Marks.{Fits, is_mark, one_if, marks_in}
+use Rattle.lola_grammar.specs.Marks.{Fits, one_if, marks_in}
 use Rattle.lola_parser.specs.Grammar.{all_marks, place, ◌*>◌, ◌<*◌, ◌|>◌, ◌>>◌, folded, enclosed, further, listed}
 use Rattle.lola_parser.specs.Grammar as g
 use Rattle.lola_reprinted.specs.Places.{IsLexed, AreLexed, IsSame, AreSame}

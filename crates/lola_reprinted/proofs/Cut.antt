@@ -1,25 +1,22 @@
 -- What is printed is cut into the same tokens.
 use Rattle.std.specs.Bool.{if◌then◌else◌}
 use Rattle.std.specs.Prelude.{nat_lt}
-use Rattle.std.proofs.Common.{◌≡◌, ℕ, ◌+◌, ◌-◌, ◌≤◌, Bool, true, false, List, [], ◌∷◌, ◌++◌, length, map, take, drop, Result, Ok, Err, refl, sym, ap, ap₂, subst, ◌∙◌, arith, ltb-false}
+use Rattle.std.proofs.Common.{◌≡◌, ℕ, ◌+◌, Bool, true, false, List, [], ◌∷◌, ◌++◌, length, map, take, drop, Ok, Err, refl, sym, ap, ap₂, subst, ◌∙◌, arith, ltb-false}
 use Rattle.std.specs.List.{All}
 use Rattle.std.proofs.lemmas.List.{drop-drop}
 use Rattle.std.proofs.lemmas.List.Elements.{All-nil, All-cons}
-use Rattle.lola_value.specs.declared.front.FrontEnd.{FrontEnd}
-use Rattle.lola_value.specs.declared.front.Refusal.{Refusal}
 use Rattle.lola_value.specs.declared.front.Code.TheVariants.{TooLong}
-use Rattle.lola_lexer.specs.declared.shape.TokenShape.{TokenShape}
 use Rattle.lola_lexer.specs.declared.scan.thing.Thing.{Thing}
 use Rattle.lola_lexer.specs.declared.scan.thing.Thing.TheVariants as thing
 use Rattle.lola_lexer.specs.declared.token.Token.{Token}
 use Rattle.lola_lexer.specs.Spelling.{Bytes, IsToken}
-use Rattle.lola_lexer.specs.Tokens.{Cut, tokens_of, tokens_from}
+use Rattle.lola_lexer.specs.Tokens.{tokens_of, tokens_from}
 use Rattle.lola_lexer.specs.Written.{Mark, IsMark, written, marks_at, bytes_of}
 use Rattle.lola_lexer.specs.Cuts.{Covers, IsWhole, tokens_among}
 use Rattle.lola_lexer.proofs.Cutting.{given_is_cut}
 use Rattle.lola_lexer.proofs.Writing.{written_is_cut, texts_are}
 use Rattle.lola_grammar.specs.Syntax.{Lexeme}
-use Rattle.lola_parser.specs.Cursor.{lexeme, lexemes}
+use Rattle.lola_parser.specs.Cursor.{lexemes}
 use Rattle.lola_print.specs.Print.{spelled_out}
 use Rattle.lola_reprinted.specs.Places.{AreLexed, AreSame, CutIsLexed, PrintedIsCut}
 

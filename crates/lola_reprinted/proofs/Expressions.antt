@@ -1,5 +1,5 @@
 -- Expressions at other places, by the grammar.
-use Rattle.std.proofs.Common.{◌≡◌, ℕ, zero, suc, Bool, true, false, List, [], ◌∷◌, ◌++◌, Option, Some, None, refl, sym, ap, subst, ◌∙◌, arith}
+use Rattle.std.proofs.Common.{◌≡◌, ℕ, zero, suc, Bool, true, false, List, [], ◌∷◌, Option, Some, None, refl, ap, ◌∙◌, arith}
 use Rattle.std.specs.Prelude.{codes}
 use Rattle.lola_lexer.specs.declared.shape.TokenShape.{TokenShape}
 use Rattle.lola_lexer.specs.declared.shape.TokenShape.TheVariants as is
@@ -12,14 +12,13 @@ use Rattle.lola_tree.specs.declared.expressions.Access.{Access}
 use Rattle.lola_tree.specs.declared.expressions.Access.TheVariants as a
 use Rattle.lola_tree.specs.declared.expressions.Expr.{Expr}
 use Rattle.lola_tree.specs.declared.expressions.Expr.TheVariants as e
-use Rattle.lola_grammar.specs.Syntax.{Lexeme, Syntax, Then, Map, Either, Maybe, Many}
+use Rattle.lola_grammar.specs.Syntax.{Syntax, Then, Map, Either, Maybe}
 use Rattle.lola_parser.specs.Grammar as g
 use Rattle.lola_parser.specs.Grammar.{token, mark, word, ◌*>◌, ◌<*◌, ◌|>◌, ◌>>◌, Sign, Joined}
-use Rattle.lola_print.specs.Print as out
 use Rattle.lola_printed.specs.Erased as erased
-use Rattle.lola_reprinted.proofs.Carried.{Carries, Any, Both, Opt, Each, Fun, Some_each, then_carried, map_carried, either_carried, maybe_carried, many_carried, past_carried, known_carried, weaker, after, before, onto, behind, token_any, mark_any, word_any, behind_token, behind_mark, behind_word, before_token, listed_carried, folded_carried}
+use Rattle.lola_reprinted.proofs.Carried.{Carries, Any, Both, Opt, Each, Fun, Some_each, then_carried, map_carried, either_carried, maybe_carried, past_carried, known_carried, weaker, onto, behind, token_any, mark_any, word_any, behind_token, behind_mark, behind_word, before_token, listed_carried, folded_carried}
 use Rattle.lola_reprinted.proofs.Leaves.{IntegerIs, integer_is, SameName, erased_name, name_carried, SameInteger, integer_carried, SameQuantity, quantity_carried, SameLiteral, same_number, same_truth, word_literal_carried}
-use Rattle.lola_reprinted.proofs.Forms.{AccessIs, direct_is, offset_is, hold_is, get_is, window_is, SameAccess, SameExpr, same_literal, same_binary, same_defaults, same_prefix, same_if, same_reference}
+use Rattle.lola_reprinted.proofs.Forms.{direct_is, offset_is, hold_is, get_is, window_is, SameAccess, SameExpr, same_literal, same_binary, same_defaults, same_prefix, same_if, same_reference}
 
 one_is : IntegerIs 1
 one_is = integer_is 1 (omega arith)

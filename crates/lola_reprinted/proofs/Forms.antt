@@ -1,6 +1,6 @@
 -- Each form of an expression: with places left aside, and what is printed of it.
 use Rattle.std.specs.Bool.{if◌then◌else◌}
-use Rattle.std.proofs.Common.{◌≡◌, ℕ, suc, Bool, true, false, ◌||◌, ◌==◌, List, [], ◌∷◌, ◌++◌, map, Option, Some, None, refl, sym, ap, subst, ◌∙◌, append-nil}
+use Rattle.std.proofs.Common.{◌≡◌, ℕ, suc, Bool, true, false, ◌||◌, ◌==◌, List, [], ◌∷◌, ◌++◌, map, Option, refl, sym, ap, subst, ◌∙◌}
 use Rattle.std.specs.Prelude.{codes, nat_lt}
 use Rattle.std.proofs.lemmas.List.Sums.{AllPass-from_list_all}
 use Rattle.lola_lexer.specs.declared.shape.TokenShape.TheVariants as is
@@ -26,7 +26,7 @@ use Rattle.lola_printed.specs.Erased as erased
 use Rattle.lola_printed.specs.Erased.{AccessReads, ExprReads, RowReads}
 use Rattle.lola_reprinted.specs.Places.{IsLexed, AreLexed}
 use Rattle.lola_reprinted.proofs.Carried.{Each}
-use Rattle.lola_reprinted.proofs.Leaves.{lexed-append, lexed_front, lexed_back, word_lexed, lexed_bracketed, lexed_if, IntegerIs, QuantityIs, ValueIs, SameName, erased_name, SameLiteral, erased_literal, SameQuantity}
+use Rattle.lola_reprinted.proofs.Leaves.{lexed-append, lexed_front, lexed_back, word_lexed, lexed_bracketed, lexed_if, IntegerIs, QuantityIs, ValueIs, SameName, erased_name, SameLiteral, erased_literal}
 
 -- ---- words that are printed
 

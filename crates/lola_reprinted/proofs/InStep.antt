@@ -1,47 +1,14 @@
 -- Values in step that may be left out, and lists of them; and what holds from some level on.
-use Rattle.std.proofs.Common.{◌≡◌, ℕ, zero, suc, ◌+◌, ◌≤◌, ◌<◌, Bool, true, false, not, ◌&&◌, ◌||◌, List, [], ◌∷◌, ◌++◌, map, length, Option, Some, None, is_some, refl, sym, ap, subst, ◌∙◌, arith, append-nil}
-use Rattle.std.specs.Bool.{if◌then◌else◌}
-use Rattle.std.specs.Prelude.{codes}
-use Rattle.std.specs.List.{flat_map}
-use Rattle.lola_lexer.specs.declared.shape.TokenShape.{TokenShape}
-use Rattle.lola_lexer.specs.declared.shape.TokenShape.TheVariants as is
-use Rattle.lola_tree.specs.declared.literals.Name.{Name}
-use Rattle.lola_tree.specs.declared.literals.Typed.{Typed}
-use Rattle.lola_tree.specs.declared.literals.Literal.{Literal}
-use Rattle.lola_tree.specs.declared.literals.Quantity.{Quantity}
-use Rattle.lola_tree.specs.declared.expressions.Expr.{Expr}
-use Rattle.lola_tree.specs.declared.pacing.Formula.{Formula, more_of-Formula, end_of-Formula}
-use Rattle.lola_tree.specs.declared.pacing.Formula.TheVariants as f
-use Rattle.lola_tree.specs.declared.pacing.Formula.TheBlock as X
-use Rattle.lola_tree.specs.declared.pacing.Rhythm.{Rhythm}
-use Rattle.lola_tree.specs.declared.pacing.Rhythm.TheVariants as r
-use Rattle.lola_tree.specs.declared.pacing.Pacing.{Pacing}
-use Rattle.lola_tree.specs.declared.clauses.Part.{Part}
-use Rattle.lola_tree.specs.declared.clauses.Spawn.{Spawn}
-use Rattle.lola_tree.specs.declared.clauses.Eval.{Eval}
-use Rattle.lola_tree.specs.declared.clauses.Close.{Close}
-use Rattle.lola_tree.specs.declared.declarations.Inputs.{Inputs}
-use Rattle.lola_tree.specs.declared.declarations.Constant.{Constant}
-use Rattle.lola_tree.specs.declared.declarations.Output.{Output}
-use Rattle.lola_tree.specs.declared.declarations.Trigger.{Trigger}
-use Rattle.lola_tree.specs.declared.declarations.Declaration.{Declaration}
-use Rattle.lola_tree.specs.declared.declarations.Declaration.TheVariants as d
-use Rattle.lola_grammar.specs.Syntax.{Lexeme, Syntax, Then, Map, Either, Maybe, Many, Fork, Known, Whole, Of}
-use Rattle.lola_parser.specs.Grammar as g
-use Rattle.lola_parser.specs.Grammar.{token, mark, word, ◌*>◌, ◌<*◌, ◌|>◌, all_marks}
+use Rattle.std.proofs.Common.{◌≡◌, ℕ, ◌+◌, List, [], ◌∷◌, map, Option, Some, None, refl, ap, ◌∙◌, arith}
+use Rattle.lola_grammar.specs.Syntax.{Lexeme}
 use Rattle.lola_print.specs.Print as out
 use Rattle.lola_print.specs.Print.{lex, bare, print_formula}
-use Rattle.lola_print.proofs.Formulas.{bare_formula-Both, bare_formula-Either}
 use Rattle.lola_printed.specs.Erased as erased
 use Rattle.lola_printed.specs.Erased.{formula_need, QuantityReads, TextReads, ValueReads}
-use Rattle.lola_printed.specs.Fitting.{need, RhythmFits, Perhaps, Fits, AllFit, PacingFits, PartFits, SpawnFits, EvalFits, CloseFits, BodyFits, MessageReads, DeclarationFits, AllDeclarationsFit}
-use Rattle.lola_reprinted.specs.Places.{IsLexed, AreLexed}
+use Rattle.lola_printed.specs.Fitting.{Perhaps}
+use Rattle.lola_reprinted.specs.Places.{AreLexed}
 use Rattle.lola_reprinted.specs.Round.{Eventually}
-use Rattle.lola_reprinted.proofs.Carried.{Carries, Any, Both, Opt, Each, Fun, Some_each, then_carried, map_carried, either_carried, maybe_carried, many_carried, past_carried, known_carried, whole_carried, fork_carried, weaker, after, before, onto, behind, token_any, mark_any, word_any, behind_token, behind_mark, behind_word, before_token, listed_carried, folded_carried}
-use Rattle.lola_reprinted.proofs.Texts.{text_read}
-use Rattle.lola_reprinted.proofs.Leaves.{lexed-append, lexed_bracketed, lexed_if, SameName, erased_name, name_carried, other_name_carried, QuantityIs, SameQuantity, quantity_carried, SameText, text_carried, SameLiteral, erased_literal, literal_carried}
-use Rattle.lola_reprinted.proofs.Forms.{ExprIs, SameExpr, global_lexed, local_lexed}
-use Rattle.lola_reprinted.proofs.Expressions.{expr_in_carried, other_in_carried, open_expr_carried, closed_carried}
+use Rattle.lola_reprinted.proofs.Carried.{Opt, Each}
 
 -- ---- from some level on
 

@@ -1,18 +1,13 @@
 -- Names and literals: at other places, and what is printed of them.
-use Rattle.std.specs.Bool.{if◌then◌else◌}
-use Rattle.std.proofs.Common.{◌≡◌, ℕ, suc, ◌+◌, ◌*◌, ◌/◌, ◌%◌, ◌^◌, ◌≤◌, ◌<◌, min, Bool, true, false, not, ◌&&◌, ◌==◌, List, [], ◌∷◌, ◌++◌, length, refl, sym, ap, subst, ◌∙◌, arith, length-append}
-use Rattle.std.specs.Prelude.{fold, codes}
-use Rattle.std.specs.List.{AllPass}
+use Rattle.std.proofs.Common.{◌≡◌, ℕ, ◌+◌, ◌%◌, ◌^◌, ◌≤◌, ◌<◌, Bool, true, false, not, List, [], ◌∷◌, ◌++◌, length, refl, sym, ap, subst, arith, length-append}
 use Rattle.std.specs.Char.{is_ascii_digit}
 use Rattle.std.specs.Fmt.{decimal}
-use Rattle.std.specs.Str.{bytes_eq}
 use Rattle.std.proofs.lemmas.Bool.Decides.{nat_tests}
 use Rattle.std.proofs.lemmas.Fmt.{decimal_by_steps_wide, length-decimal-le_wide}
 use Rattle.std.proofs.lemmas.List.Elements.{All-nil, All-cons, All-append}
-use Rattle.std.proofs.lemmas.List.Sums.{AllPass-from_list_all}
 use Rattle.lola_lexer.specs.declared.shape.TokenShape.{TokenShape}
 use Rattle.lola_lexer.specs.declared.shape.TokenShape.TheVariants as is
-use Rattle.lola_lexer.specs.Spelling.{in_name, IsWord, IsDigits, IsQuantity, IsToken}
+use Rattle.lola_lexer.specs.Spelling.{IsWord, IsDigits, IsQuantity, IsToken}
 use Rattle.lola_lexer.specs.Lexical.{shape_of_word}
 use Rattle.lola_lexer.proofs.Words.{word_shape}
 use Rattle.lola_tree.specs.declared.literals.Name.{Name}
@@ -20,9 +15,9 @@ use Rattle.lola_tree.specs.declared.literals.Quantity.{Quantity}
 use Rattle.lola_tree.specs.declared.literals.Literal.{Literal}
 use Rattle.lola_tree.specs.declared.literals.Value.{Value}
 use Rattle.lola_tree.specs.declared.literals.Value.TheVariants as value
-use Rattle.lola_grammar.specs.Syntax.{Lexeme, Terminal, Of, Word, Other, fits, same_shape, is_among, Syntax, Token, Then, Map, Either}
+use Rattle.lola_grammar.specs.Syntax.{Lexeme, Of, Other, fits, same_shape, is_among, Token, Then, Map}
 use Rattle.lola_grammar.proofs.Tests.{shape_is, and_both}
-use Rattle.lola_parser.specs.Literals.{greatest, with_digit, number_of, text_of_literal}
+use Rattle.lola_parser.specs.Literals.{number_of, text_of_literal}
 use Rattle.lola_parser.specs.Grammar as g
 use Rattle.lola_parser.specs.Grammar.{quantity_of}
 use Rattle.lola_print.specs.Print as out
@@ -30,7 +25,7 @@ use Rattle.lola_print.specs.Print.{lex}
 use Rattle.lola_printed.specs.Erased as erased
 use Rattle.lola_printed.specs.Erased.{IntegerReads, QuantityReads, TextReads, ValueReads}
 use Rattle.lola_reprinted.specs.Places.{IsLexed, AreLexed}
-use Rattle.lola_reprinted.proofs.Carried.{IsAlike, Carries, Any, Both, SameToken, token_carried, token_any, map_carried, then_carried, either_carried}
+use Rattle.lola_reprinted.proofs.Carried.{Carries, Any, Both, SameToken, token_carried, token_any, map_carried, then_carried, either_carried}
 use Rattle.lola_reprinted.proofs.Numbers.{number_read, value, fold_value, value_small, power_up}
 use Rattle.lola_reprinted.proofs.Quantities.{quantity_read}
 use Rattle.lola_reprinted.proofs.Texts.{text_read, text_token}

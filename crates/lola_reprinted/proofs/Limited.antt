@@ -1,9 +1,9 @@
 -- What is read is spelled within the limit of marks.
-use Rattle.std.proofs.Common.{◌≡◌, ℕ, zero, suc, ◌+◌, ◌-◌, ◌≤◌, ◌&&◌, true, false, List, [], ◌∷◌, ◌++◌, length, Some, None, Ok, Err, refl, sym, ap, subst, ◌∙◌, append_assoc, append-nil, arith, inl, inr, ◌⊎◌}
-use Rattle.lola_grammar.specs.Syntax.{Lexeme, Terminal, fits, Syntax, Past, Token, Mark, Whole, Known, Then, Map, Either, Maybe, Many, Fork, charged, either_rest, last_mark, Repeats, Perhaps, Spells, starts, first, Outcome, Reader, ◌>>=◌, max_marks, repeated, read, all_read, read_all}
-use Rattle.lola_grammar.specs.Marks.{marks_in, tallies, guards, is_counted, Fits}
+use Rattle.std.proofs.Common.{◌≡◌, ℕ, zero, suc, ◌-◌, true, List, [], ◌∷◌, ◌++◌, length, Some, None, Ok, Err, refl, sym, ap, subst, ◌∙◌, append_assoc, append-nil, arith, inl, inr, ◌⊎◌}
+use Rattle.lola_grammar.specs.Syntax.{Lexeme, Terminal, fits, Syntax, Past, Token, Mark, Whole, Known, Then, Map, Either, Maybe, Many, Fork, charged, either_rest, last_mark, Repeats, Perhaps, starts, first, Outcome, Reader, max_marks, repeated, read, all_read, read_all}
+use Rattle.lola_grammar.specs.Marks.{tallies, guards, is_counted, Fits}
 use Rattle.lola_grammar.proofs.Tests.{and_both}
-use Rattle.lola_grammar.proofs.Laws.{sound, bind_ok, done_is, chosen, Takes, IsSound}
+use Rattle.lola_grammar.proofs.Laws.{bind_ok, done_is, chosen, IsSound}
 use Rattle.lola_grammar.proofs.Over.{counts, fork_counted}
 
 module _ (marks : List Terminal) where

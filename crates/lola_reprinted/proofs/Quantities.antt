@@ -1,6 +1,6 @@
 -- Quantities are printed as they were written.
-use Rattle.std.proofs.Common.{◌≡◌, ℕ, suc, ◌+◌, ◌-◌, ◌^◌, ◌≤◌, ◌<◌, Bool, true, false, not, ◌==◌, List, [], ◌∷◌, ◌++◌, length, take, drop, refl, sym, ap, subst, ◌∙◌, append_assoc, append-nil, arith, length-append}
-use Rattle.std.specs.Prelude.{fold, cond, codes, count_by}
+use Rattle.std.proofs.Common.{◌≡◌, ℕ, suc, ◌+◌, ◌-◌, ◌^◌, ◌≤◌, ◌<◌, Bool, true, false, not, ◌==◌, List, [], ◌∷◌, ◌++◌, length, take, drop, refl, sym, ap, subst, ◌∙◌, append_assoc, arith, length-append}
+use Rattle.std.specs.Prelude.{fold, cond, codes}
 use Rattle.std.specs.List.{prefix_len, slice_index, All, AllPass, Contains}
 use Rattle.std.specs.Char.{is_ascii_digit, is_ascii_alphabetic}
 use Rattle.std.specs.Fmt.{decimal}
@@ -12,11 +12,10 @@ use Rattle.lola_lexer.specs.Spelling.{units, IsQuantity}
 use Rattle.lola_lexer.specs.Spelling as lexical
 use Rattle.lola_lexer.proofs.Runs.{run_whole}
 use Rattle.lola_grammar.specs.Syntax.{Lexeme}
-use Rattle.lola_parser.specs.Literals.{greatest, with_digit, number_of, digits_in, before_point, before_letters, decimals_in, unit_named, unit_of}
+use Rattle.lola_parser.specs.Literals.{with_digit, number_of, digits_in, before_point, before_letters, decimals_in, unit_named, unit_of}
 use Rattle.lola_parser.specs.Grammar.{quantity_of}
 use Rattle.lola_print.specs.Print as out
 use Rattle.lola_print.specs.Print.{pointed, padded, unit_name}
-use Rattle.lola_printed.specs.Erased as erased
 use Rattle.lola_printed.specs.Erased.{QuantityReads}
 use Rattle.lola_reprinted.proofs.Numbers.{value, fold_value, value_small, power_up, digits_back}
 

@@ -1,9 +1,9 @@
 -- The round trip.
-use Rattle.std.proofs.Common.{◌≡◌, ℕ, suc, ◌+◌, ◌≤◌, List, [], ◌∷◌, map, Ok, refl, sym, ap, ◌∙◌, arith}
+use Rattle.std.proofs.Common.{◌≡◌, ℕ, suc, ◌+◌, ◌≤◌, List, map, Ok, sym, ap, ◌∙◌, arith}
 use Rattle.lola_tree.specs.declared.declarations.Declaration.{Declaration}
 use Rattle.lola_grammar.specs.Syntax.{Lexeme, max_marks, read_all}
 use Rattle.lola_grammar.specs.Marks.{Fits}
-use Rattle.lola_grammar.proofs.All.{fitting_is_read, fits_spells}
+use Rattle.lola_grammar.proofs.All.{fitting_is_read}
 use Rattle.lola_parser.specs.Cursor.{lexemes}
 use Rattle.lola_parser.specs.Grammar.{specification, all_marks}
 use Rattle.lola_parser.specs.Whole.{most_levels}
@@ -13,8 +13,8 @@ use Rattle.lola_parser.proofs.Levels.{read_alike}
 use Rattle.lola_print.specs.Print as out
 use Rattle.lola_print.specs.Print.{spelled_out}
 use Rattle.lola_printed.specs.Erased as erased
-use Rattle.lola_reprinted.specs.Places.{AreLexed, AreSame, DifferInPlaces}
-use Rattle.lola_reprinted.specs.Round.{PlacesAreFree, IsReadAs, ReadIsWithin, IsPrintable, ReadIsPrintable, PrintedWithin, ReprintedWithin}
+use Rattle.lola_reprinted.specs.Places.{AreLexed, DifferInPlaces}
+use Rattle.lola_reprinted.specs.Round.{PlacesAreFree, ReadIsWithin, IsPrintable, ReadIsPrintable, ReprintedWithin}
 use Rattle.lola_reprinted.proofs.Carried.{alike_from, same_self}
 use Rattle.lola_reprinted.proofs.Declarations.{specification_carried, same_erased, same_fit, same_lexed}
 use Rattle.lola_reprinted.proofs.Cut.{cut_lexed, printed_cut}

@@ -1,13 +1,13 @@
 -- Texts are printed and read back.
 use Rattle.std.specs.Bool.{if◌then◌else◌}
-use Rattle.std.proofs.Common.{◌≡◌, ℕ, zero, suc, ◌+◌, ◌-◌, ◌≤◌, ◌<◌, ◌⊎◌, inl, inr, Bool, true, false, not, ◌||◌, ◌&&◌, ◌==◌, List, [], ◌∷◌, ◌++◌, length, take, drop, map, get_or, refl, sym, ap, subst, ◌∙◌, append_assoc, append-nil, arith, length-append, eqb-true, true≢false, ltb-true, lt-ltb, cond, ◌/◌, ◌%◌}
+use Rattle.std.proofs.Common.{◌≡◌, ℕ, zero, suc, ◌+◌, ◌-◌, ◌≤◌, ◌<◌, ◌⊎◌, inl, inr, Bool, true, false, ◌&&◌, ◌==◌, List, [], ◌∷◌, ◌++◌, length, take, map, refl, sym, ap, subst, ◌∙◌, append-nil, arith, length-append, eqb-true, true≢false, ltb-true, lt-ltb, ◌/◌}
 use Rattle.std.specs.List.{All, concat, flat_map, slice_index}
 use Rattle.std.specs.Str.{IsUtf8}
 use lib.Utf8.{scalar, scalars, encode, encodes, next}
 use lib.Dec.{ltb}
 use Rattle.std.proofs.lemmas.Bool.Decides.{nat_tests}
 use Rattle.std.proofs.lemmas.List.{take_at}
-use Rattle.std.proofs.lemmas.List.Elements.{All-nil, All-cons, All-head, All-tail}
+use Rattle.std.proofs.lemmas.List.Elements.{All-nil, All-cons}
 use Rattle.std.proofs.lemmas.Str.{IsUtf8-append, IsUtf8-from_ascii, IsUtf8-take, IsUtf8-past_char, IsCharBoundary-at_seam}
 use Rattle.lola_lexer.specs.Spelling.{is_plain, is_escape, IsPiece, IsText}
 use Rattle.lola_lexer.proofs.Runs.{not_true}

@@ -1,5 +1,5 @@
 -- To leave places aside twice is to leave them aside once.
-use Rattle.std.proofs.Common.{◌≡◌, ℕ, List, [], ◌∷◌, map, Option, Some, None, refl, sym, ap, ap₂, ◌∙◌}
+use Rattle.std.proofs.Common.{◌≡◌, ℕ, List, [], ◌∷◌, map, Option, Some, None, refl, ap, ap₂, ◌∙◌}
 use Rattle.lola_tree.specs.declared.literals.Typed.{Typed}
 use Rattle.lola_tree.specs.declared.expressions.Access.{Access}
 use Rattle.lola_tree.specs.declared.expressions.Access.TheVariants as a

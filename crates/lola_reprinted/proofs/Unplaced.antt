@@ -1,6 +1,6 @@
 -- What is printed does not depend on places.
 use Rattle.std.specs.Bool.{if◌then◌else◌}
-use Rattle.std.proofs.Common.{◌≡◌, ℕ, suc, Bool, true, false, not, ◌&&◌, ◌||◌, List, [], ◌∷◌, ◌++◌, map, Option, Some, None, is_some, refl, sym, ap, ap₂, subst, ◌∙◌, inl, inr}
+use Rattle.std.proofs.Common.{◌≡◌, ℕ, suc, not, ◌&&◌, ◌||◌, List, [], ◌∷◌, ◌++◌, map, Option, Some, None, is_some, refl, sym, ap, ap₂, ◌∙◌, inl, inr}
 use Rattle.std.specs.Prelude.{nat_lt}
 use Rattle.std.specs.List.{flat_map}
 use Rattle.lola_lexer.specs.declared.shape.TokenShape.{TokenShape}
@@ -32,7 +32,6 @@ use Rattle.lola_print.specs.Print.{lex, bare, bare_formula, level, formula_level
 use Rattle.lola_print.proofs.Equations.{bare-Binary, bare-Prefix, bare-If, bare-Reference, bare-Defaults, heads-Defaults, level-Prefix, level-Binary, level-If, level-Defaults, default_of-Reference, default_of-other}
 use Rattle.lola_print.proofs.Formulas.{bare_formula-Both, bare_formula-Either}
 use Rattle.lola_printed.specs.Erased as erased
-use Rattle.lola_reprinted.specs.Places.{DifferInPlaces}
 use Rattle.lola_reprinted.specs.Round.{PlacesAreNotPrinted}
 
 -- ---- accesses
