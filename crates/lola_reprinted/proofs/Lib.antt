@@ -1,0 +1,16 @@
+pub mod Numbers
+pub mod Texts
+pub mod Quantities
+pub mod Cut
+pub mod Carried
+pub mod Leaves
+pub mod Forms
+pub mod Expressions
+pub mod InStep
+pub mod Pacings
+pub mod Clauses
+pub mod Declarations
+pub mod Limited
+pub mod Round
+pub mod Twice
+pub mod Unplaced
