@@ -14,13 +14,15 @@ use Rattle.lola_print.specs.Print as out
 use Rattle.lola_print.specs.Print.{spelled_out}
 use Rattle.lola_printed.specs.Erased as erased
 use Rattle.lola_reprinted.specs.Places.{AreLexed, DifferInPlaces}
-use Rattle.lola_reprinted.specs.Round.{PlacesAreFree, ReadIsWithin, IsPrintable, ReadIsPrintable, ReprintedWithin}
+use Rattle.lola_reprinted.specs.Round.{PlacesAreFree, ReadIsWithin, IsPrintable, ReadIsPrintable, IsReprinted}
 use Rattle.lola_reprinted.proofs.Carried.{alike_from, same_self}
 use Rattle.lola_reprinted.proofs.Declarations.{specification_carried, same_erased, same_fit, same_lexed}
 use Rattle.lola_reprinted.proofs.Cut.{cut_lexed, printed_cut}
 use Rattle.lola_reprinted.proofs.Limited.{read_is_within}
 use Rattle.lola_reprinted.proofs.Twice.{erased_twice}
 use Rattle.lola_reprinted.proofs.Unplaced.{not_printed}
+use Rattle.lola_fewest.proofs.Limits.{specification_small}
+use Rattle.lola_fewest.proofs.Within.{specification_kept}
 
 pub places_free : PlacesAreFree
 places_free =
@@ -54,11 +56,11 @@ read_at_last n le ts xs h =
     let more : suc max_marks ≤ n = omega (arith, le) in
     sym (read_alike n most_levels more enough ts) ∙ fitting_is_read all_marks (specification n) (specification_fine n) (specification_counted n more) ts xs h
 
-pub reprinted : ReprintedWithin
-reprinted printed z xs h short =
+pub reprinted : IsReprinted
+reprinted z xs h short =
     let p = read_printable z xs h in
     let m = p.fits.0 + most_levels in
-    let s = printed most_levels m (lexemes z h.tokens) xs (within (lexemes z h.tokens) xs h.read) (p.fits.1 m (omega arith)) in
+    let s = specification_kept m xs (p.fits.1 m (omega arith)) (specification_small most_levels (lexemes z h.tokens) xs (within (lexemes z h.tokens) xs h.read)) in
     let cut = printed_cut (out.specification xs) p.lexed short in
     let r = places_free.fitted (suc m) (out.specification xs) (lexemes (spelled_out (out.specification xs)) cut.0) cut.2 (map erased.declaration xs) s in
     let same : DifferInPlaces xs r.0 = r.2 ∙ erased_twice xs in

@@ -1,5 +1,5 @@
 -- The round trip: a text is read, its tree is printed, and what is printed is read again.
-use Rattle.std.specs.Prelude.{◌≡◌, ℕ, suc, ◌≤◌, List, length, map, Ok}
+use Rattle.std.specs.Prelude.{◌≡◌, ℕ, ◌≤◌, List, length, Ok}
 use Rattle.lola_lexer.specs.declared.token.Token.{Token}
 use Rattle.lola_lexer.specs.Tokens.{tokens_of}
 use Rattle.lola_tree.specs.declared.declarations.Declaration.{Declaration}
@@ -10,7 +10,6 @@ use Rattle.lola_parser.specs.Grammar.{specification, all_marks}
 use Rattle.lola_parser.specs.Whole.{most_levels}
 use Rattle.lola_print.specs.Print as out
 use Rattle.lola_print.specs.Print.{spelled_out}
-use Rattle.lola_printed.specs.Erased as erased
 use Rattle.lola_printed.specs.Fitting.{AllDeclarationsFit}
 use Rattle.lola_reprinted.specs.Places.{AreLexed, AreSame, DifferInPlaces}
 
@@ -45,11 +44,6 @@ pub record IsPrintable (xs : List Declaration) : Type 0 where
 abbrev pub ReadIsPrintable : Type 0
 ReadIsPrintable = (z : List ℕ) (xs : List Declaration) → IsReadAs z xs → IsPrintable xs
 
--- what is printed keeps the limit of marks where some spelling does
-abbrev pub PrintedWithin : Type 0
-PrintedWithin = (n m : ℕ) (ts : List Lexeme) (xs : List Declaration) → Fits all_marks (specification n) ts xs → AllDeclarationsFit m xs
-    → Fits all_marks (specification (suc m)) (out.specification xs) (map erased.declaration xs)
-
 -- trees that differ in their places alone are printed alike
 abbrev pub PlacesAreNotPrinted : Type 0
 PlacesAreNotPrinted = (xs ys : List Declaration) → DifferInPlaces xs ys → out.specification ys ≡ out.specification xs
@@ -65,7 +59,3 @@ pub record IsReadBack (t : List ℕ) (xs : List Declaration) : Type 0 where
 abbrev pub IsReprinted : Type 0
 IsReprinted = (z : List ℕ) (xs : List Declaration) → IsReadAs z xs → length (spelled_out (out.specification xs)) ≤ 1_048_576
     → IsReadBack (spelled_out (out.specification xs)) xs
-
--- the same, where what is printed keeps the limit of marks
-abbrev pub ReprintedWithin : Type 0
-ReprintedWithin = PrintedWithin → IsReprinted

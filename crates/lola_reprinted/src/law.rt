@@ -2,7 +2,7 @@
 
 ghost use Rattle.lola_reprinted.specs.Literals.{IntegersRead, TextsRead, QuantitiesRead};
 ghost use Rattle.lola_reprinted.specs.Places.{CutIsLexed, PrintedIsCut};
-ghost use Rattle.lola_reprinted.specs.Round.{PlacesAreFree, ReadIsWithin, ReadIsPrintable, ReprintedWithin, PlacesAreNotPrinted};
+ghost use Rattle.lola_reprinted.specs.Round.{PlacesAreFree, ReadIsWithin, ReadIsPrintable, IsReprinted, PlacesAreNotPrinted};
 
 /// An integer that is printed is read back, if it has no more than 128 bits.
 pub fn integers_read()
@@ -45,10 +45,10 @@ pub fn read_is_printable()
     ensures { ReadIsPrintable }
 {}
 
-/// What is printed of a specification that was read is read as the same specification, places left aside, if what is
-/// printed keeps the limit of marks.
-pub fn reprinted_within()
-    ensures { ReprintedWithin }
+/// What is printed of a specification that was read is read as the same specification, places left aside, and printed as the
+/// same text again, if it is no longer than a text may be.
+pub fn reprinted()
+    ensures { IsReprinted }
 {}
 
 /// Trees that differ in their places alone are printed alike: what is printed of a tree that was read back is the same

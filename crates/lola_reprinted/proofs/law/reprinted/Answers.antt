@@ -1,5 +1,5 @@
 use Rattle.lola_reprinted.proofs.Round.{reprinted}
-use Rattle.lola_reprinted.proofs.law.reprinted_within.Goals as goal
+use Rattle.lola_reprinted.proofs.law.reprinted.Goals as goal
 
 pub returns : goal.returns
 returns c = reprinted
