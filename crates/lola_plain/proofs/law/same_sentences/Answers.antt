@@ -1,0 +1,5 @@
+use Rattle.lola_plain.proofs.Operands.{other_same}
+use Rattle.lola_plain.proofs.law.same_sentences.Goals as goal
+
+pub returns : goal.returns
+returns c ts x = ?
