@@ -1,3 +1,4 @@
 pub mod Within
 pub mod Turns
 pub mod Operands
+pub mod Expressions

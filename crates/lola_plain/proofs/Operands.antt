@@ -15,7 +15,7 @@ use Rattle.lola_parser.specs.Grammar.{token, mark, integer, name, ◌*>◌, ◌<
 use Rattle.lola_plain.specs.Plain as plain
 use Rattle.lola_plain.specs.Plain.{from_left, read_so}
 use Rattle.lola_plain.proofs.Within.{Within, Same, within_self, within_chain, within_map, within_then, within_either, within_left, within_right, same_self, same_chain, same_back, same_map, same_then, same_either}
-use Rattle.lola_plain.proofs.Turns.{regroup, ungroup, led_from_left, split, same_from_left}
+use Rattle.lola_plain.proofs.Turns.{regroup, ungroup, four, led_from_left, same_from_left, split_from_left, map_twice, map_either}
 
 module _ (E O : Syntax Expr) where
   -- an operand behind a sign
@@ -100,9 +100,6 @@ module _ (E O : Syntax Expr) where
   abbrev pub a_name : Syntax Expr
   a_name = Map read_so (Then (plain.ref E U O) pointed)
 
-  four : (s p q r : List Lexeme) → ((s ++ p) ++ q) ++ r ≡ s ++ (p ++ (q ++ r))
-  four s p q r = append_assoc (s ++ p) q r ∙ append_assoc s p (q ++ r)
-
   named_to : (ts : List Lexeme) (x : Expr) → Spells (from_left with_default a_name (g.dotted_default E O)) ts x → Spells (g.named E O) ts x
   unfolding Spells g.named g.arguments plain.ref token mark
   named_to ts x (p, e, (w, v, c, (q, d, (r, t, k, (s, u, l, i, args), how)), rs)) =
@@ -121,5 +118,141 @@ module _ (E O : Syntax Expr) where
   named_same : Same (from_left with_default a_name (g.dotted_default E O)) (g.named E O)
   named_same = record { to = record { spells = named_to }; back = record { spells = named_back } }
 
-  pub other_same : Same (from_left with_default a_name (g.dotted_default E O)) (g.named E O)
-  other_same = named_same
+  -- ---- literals and brackets with their defaults
+
+  abbrev pub with_defaults : Syntax Expr → Syntax Expr
+  with_defaults x = from_left with_default x (g.dotted_default E O)
+
+  abbrev pub of_literal : Syntax Literal → Syntax Expr
+  of_literal l = Map (λ x. e.Literal x) l
+
+  abbrev bracket : Syntax Expr
+  bracket = token is.Open *> E <* token is.Shut
+
+  bracketed_same : Same (with_defaults bracket) (g.bracketed E O)
+  unfolding Spells g.bracketed g.defaults token mark
+  bracketed_same =
+      same_chain (with_defaults bracket) (with_defaults (mark is.Open *> E <* token is.Shut)) (g.bracketed E O)
+      (record { to = record { spells = λ ts x h. h }; back = record { spells = λ ts x h. h } })
+      (same_back (g.bracketed E O) _ (led_from_left with_default (mark is.Open *> E <* token is.Shut) (g.dotted_default E O)))
+
+  abbrev positive : Syntax Literal
+  positive = Map (λ p. whole_number false p.0 p.1) integer
+
+  abbrev minus_one : Syntax Literal
+  minus_one = Map (λ p. whole_number true p.1.0 p.0) (Then (token is.Minus) integer)
+
+  number_same : Same (with_defaults (of_literal positive)) (g.number E O)
+  unfolding g.number g.defaults
+  number_same =
+      same_chain _ _ (g.number E O)
+      (same_from_left with_default _ _ (g.dotted_default E O) _ (map_twice (λ x. e.Literal x) (λ p. whole_number false p.0 p.1) integer) (same_self _))
+      (same_back (g.number E O) _ (led_from_left with_default (Map (λ p. e.Literal (whole_number false p.0 p.1)) integer) (g.dotted_default E O)))
+
+  worded_same : Same (with_defaults (of_literal g.word_literal)) (g.worded E O)
+  unfolding g.worded g.defaults
+  worded_same = same_back (g.worded E O) _ (led_from_left with_default (of_literal g.word_literal) (g.dotted_default E O))
+
+  -- a `-` that is part of a literal
+  abbrev negative : Syntax Expr
+  negative = with_defaults (of_literal minus_one)
+
+  minus_to : (ts : List Lexeme) (x : Expr) → Spells (g.minus E O) ts x → Spells (Either negative (plain.minus_unary E U O)) ts x
+  unfolding Spells g.minus g.negative g.defaults plain.minus_unary token mark
+  minus_to ts x (p, d, (u, v, c, s, inl (q, f, (w, z, k, i, (rs, h, more))))) =
+      let value = e.Literal (whole_number true q.0.0 p.0) in
+      inl ((value, rs), d ∙ ap (λ (y : ℕ → Expr). y p.0) f ∙ ap (λ (y : Expr → Expr). y value) h,
+      (u ++ w, z, regroup ts u v w z c k, (whole_number true q.0.0 p.0, refl, ((p.0, q.0), refl, (u, w, refl, s, i))), more))
+  minus_to ts x (p, d, (u, v, c, s, inr (y, f, o))) = inr ((p.0, y), d ∙ ap (λ (y : ℕ → Expr). y p.0) f, (u, v, c, s, o))
+
+  minus_back : (ts : List Lexeme) (x : Expr) → Spells (Either negative (plain.minus_unary E U O)) ts x → Spells (g.minus E O) ts x
+  unfolding Spells g.minus g.negative g.defaults plain.minus_unary token mark
+  minus_back ts x (inl (p, d, (w, v, c, (l, h, (q, f, (u, z, k, s, i))), more))) =
+      ((q.0, λ at. with_all (e.Literal (whole_number true q.1.0 at)) p.1), d ∙ ap (λ (y : Expr). with_all y p.1) (h ∙ ap (λ (y : Literal). e.Literal y) f),
+      (u, z ++ v, ungroup ts w v u z c k, s, inl ((q.1, λ left. with_all left p.1), refl, (z, v, refl, i, (p.1, refl, more)))))
+  minus_back ts x (inr (p, d, (u, v, c, s, o))) = ((p.0, λ at. e.Prefix pre.Negate at p.1), d, (u, v, c, s, inr (p.1, refl, o)))
+
+  -- ---- operands
+
+  -- what begins with no integer and no sign that stands before an operand
+  abbrev bare : Syntax Expr
+  bare = Either (Either negative (g.worded E O)) (Either (g.bracketed E O) (g.named E O))
+
+  abbrev a_post : Syntax Literal → Syntax Expr
+  a_post l = with_defaults (plain.prim E U O l)
+
+  post_as : (l : Syntax Literal) → Same (plain.post E U O l) (a_post l)
+  unfolding plain.post
+  post_as l = same_from_left with_default _ _ _ _ (same_self _) default_same
+
+  prim_as : (l : Syntax Literal) (c : Syntax Expr) → Same (with_defaults (of_literal l)) c → Same (a_post l) (Either c (Either (g.bracketed E O) (g.named E O)))
+  unfolding plain.prim
+  prim_as l c h = split_from_left with_default _ _ _ _ (g.dotted_default E O) h (split_from_left with_default _ _ _ _ (g.dotted_default E O) bracketed_same named_same)
+
+  several : (l m : Syntax Literal) (c d : Syntax Expr) → Same (with_defaults (of_literal l)) c → Same (with_defaults (of_literal m)) d → Same (with_defaults (of_literal (Either l m))) (Either c d)
+  several l m c d h k =
+      same_chain _ _ _ (same_from_left with_default _ _ (g.dotted_default E O) _ (map_either (λ x. e.Literal x) l m) (same_self _))
+      (split_from_left with_default _ _ c d (g.dotted_default E O) h k)
+
+  others : Same (with_defaults (of_literal plain.other_literal)) (Either negative (g.worded E O))
+  unfolding plain.other_literal g.word_literal
+  others = several minus_one g.word_literal negative (g.worded E O) (same_self _) worded_same
+
+  pub other_post : Same (plain.post E U O plain.other_literal) bare
+  other_post = same_chain _ _ _ (post_as plain.other_literal) (prim_as plain.other_literal _ others)
+
+  pub any_post : Same (plain.post E U O plain.literal) (Either (Either (g.number E O) (Either negative (g.worded E O))) (Either (g.bracketed E O) (g.named E O)))
+  unfolding plain.literal
+  any_post = same_chain _ _ _ (post_as plain.literal) (prim_as plain.literal _ (several positive plain.other_literal (g.number E O) _ number_same others))
+
+  minus_literal : (ts : List Lexeme) (x : Expr) → Spells negative ts x → Spells (g.minus E O) ts x
+  unfolding Spells
+  minus_literal ts x h = minus_back ts x (inl h)
+
+  bare_other : (ts : List Lexeme) (x : Expr) → Spells bare ts x → Spells (g.other_with E O) ts x
+  unfolding Spells g.other_with g.plain
+  bare_other ts x (inl (inl h)) = inr (inr (inl (minus_literal ts x h)))
+  bare_other ts x (inl (inr h)) = inr (inr (inr (inr h)))
+  bare_other ts x (inr (inl h)) = inl h
+  bare_other ts x (inr (inr h)) = inr (inr (inr (inl h)))
+
+  other_to : (ts : List Lexeme) (x : Expr) → Spells (plain.other_with E U O) ts x → Spells (g.other_with E O) ts x
+  unfolding Spells plain.other_with plain.not_unary g.other_with g.plain g.negation mark token
+  other_to ts x (inl h) = inr (inl h)
+  other_to ts x (inr (inl h)) = inr (inr (inl (minus_back ts x (inr h))))
+  other_to ts x (inr (inr h)) = bare_other ts x (other_post.to.spells ts x h)
+
+  other_back : (ts : List Lexeme) (x : Expr) → Spells (g.other_with E O) ts x → Spells (plain.other_with E U O) ts x
+  unfolding Spells plain.other_with plain.not_unary g.other_with g.plain g.negation mark token
+  other_back ts x (inl h) = inr (inr (other_post.back.spells ts x (inr (inl h))))
+  other_back ts x (inr (inl h)) = inl h
+  other_back ts x (inr (inr (inl h))) = elim (minus_to ts x h) [ inl j ↦ inr (inr (other_post.back.spells ts x (inl (inl j)))) | inr j ↦ inr (inl j) ]
+  other_back ts x (inr (inr (inr (inl h)))) = inr (inr (other_post.back.spells ts x (inr (inr h))))
+  other_back ts x (inr (inr (inr (inr h)))) = inr (inr (other_post.back.spells ts x (inl (inr h))))
+
+  pub other_same : Same (plain.other_with E U O) (g.other_with E O)
+  other_same = record { to = record { spells = other_to }; back = record { spells = other_back } }
+
+  unary_to : (ts : List Lexeme) (x : Expr) → Spells (plain.unary_with E U O) ts x → Spells (g.unary E O) ts x
+  unfolding Spells plain.unary_with plain.other_with g.unary
+  unary_to ts x (inl h) = inr (other_to ts x (inl h))
+  unary_to ts x (inr (inl h)) = inr (other_to ts x (inr (inl h)))
+  unary_to ts x (inr (inr h)) = elim (any_post.to.spells ts x h) [
+    | inl (inl j) ↦ inl j
+    | inl (inr j) ↦ inr (bare_other ts x (inl j))
+    | inr j ↦ inr (bare_other ts x (inr j))
+  ]
+
+  other_unary : (ts : List Lexeme) (x : Expr) → Spells (plain.other_with E U O) ts x → Spells (plain.unary_with E U O) ts x
+  unfolding Spells plain.unary_with plain.other_with
+  other_unary ts x (inl h) = inl h
+  other_unary ts x (inr (inl h)) = inr (inl h)
+  other_unary ts x (inr (inr h)) = inr (inr (elim (other_post.to.spells ts x h) [ inl j ↦ any_post.back.spells ts x (inl (inr j)) | inr j ↦ any_post.back.spells ts x (inr j) ]))
+
+  unary_back : (ts : List Lexeme) (x : Expr) → Spells (g.unary E O) ts x → Spells (plain.unary_with E U O) ts x
+  unfolding Spells plain.unary_with g.unary
+  unary_back ts x (inl h) = inr (inr (any_post.back.spells ts x (inl (inl h))))
+  unary_back ts x (inr h) = other_unary ts x (other_back ts x h)
+
+  pub unary_same : Same (plain.unary_with E U O) (g.unary E O)
+  unary_same = record { to = record { spells = unary_to }; back = record { spells = unary_back } }

@@ -14,6 +14,9 @@ regroup ts u v p q h k = h ∙ ap (λ (w : List Lexeme). u ++ w) k ∙ sym (appe
 abbrev pub ungroup : (ts u v p q : List Lexeme) → ts ≡ u ++ v → u ≡ p ++ q → ts ≡ p ++ (q ++ v)
 ungroup ts u v p q h k = h ∙ ap (λ (w : List Lexeme). w ++ v) k ∙ append_assoc p q v
 
+pub four : (s p q r : List Lexeme) → ((s ++ p) ++ q) ++ r ≡ s ++ (p ++ (q ++ r))
+four s p q r = append_assoc (s ++ p) q r ∙ append_assoc s p (q ++ r)
+
 -- what follows something by a value of it
 module _ {A B : Type 0} (a : Syntax B) (h : A → B → B) (b : Syntax A) where
   led_to : (ts : List Lexeme) (x : B) → Spells (a |> Map h b) ts x → Spells (Map (λ p. h p.1 p.0) (Then a b)) ts x
