@@ -15,6 +15,7 @@ use Rattle.lola_parser.specs.Grammar.{token, mark, integer, name, ◌*>◌, ◌<
 use Rattle.lola_plain.specs.Plain as plain
 use Rattle.lola_plain.specs.Plain.{from_left, read_so}
 use Rattle.lola_plain.proofs.Within.{Within, Same, within_self, within_chain, within_map, within_then, within_either, within_left, within_right, same_self, same_chain, same_back, same_map, same_then, same_either}
+use Rattle.lola_plain.proofs.Wider.{other_in_unary}
 use Rattle.lola_plain.proofs.Turns.{regroup, ungroup, four, led_from_left, same_from_left, split_from_left, map_twice, map_either}
 
 module _ (E O : Syntax Expr) where
@@ -243,16 +244,10 @@ module _ (E O : Syntax Expr) where
     | inr j ↦ inr (bare_other ts x (inr j))
   ]
 
-  other_unary : (ts : List Lexeme) (x : Expr) → Spells (plain.other_with E U O) ts x → Spells (plain.unary_with E U O) ts x
-  unfolding Spells plain.unary_with plain.other_with
-  other_unary ts x (inl h) = inl h
-  other_unary ts x (inr (inl h)) = inr (inl h)
-  other_unary ts x (inr (inr h)) = inr (inr (elim (other_post.to.spells ts x h) [ inl j ↦ any_post.back.spells ts x (inl (inr j)) | inr j ↦ any_post.back.spells ts x (inr j) ]))
-
   unary_back : (ts : List Lexeme) (x : Expr) → Spells (g.unary E O) ts x → Spells (plain.unary_with E U O) ts x
   unfolding Spells plain.unary_with g.unary
   unary_back ts x (inl h) = inr (inr (any_post.back.spells ts x (inl (inl h))))
-  unary_back ts x (inr h) = other_unary ts x (other_back ts x h)
+  unary_back ts x (inr h) = (other_in_unary E U O).spells ts x (other_back ts x h)
 
   pub unary_same : Same (plain.unary_with E U O) (g.unary E O)
   unary_same = record { to = record { spells = unary_to }; back = record { spells = unary_back } }

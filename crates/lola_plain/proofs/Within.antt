@@ -53,6 +53,10 @@ pub within_right : {A : Type 0} (a b : Syntax A) → Within b (Either a b)
 unfolding Spells
 within_right a b = record { spells = λ ts x s. inr s }
 
+pub within_cases : {A : Type 0} (a b c : Syntax A) → Within a c → Within b c → Within (Either a b) c
+unfolding Spells
+within_cases a b c h k = record { spells = λ ts x p. elim p [ inl s ↦ h.spells ts x s | inr s ↦ k.spells ts x s ] }
+
 -- ---- the same
 
 pub same_self : {A : Type 0} (a : Syntax A) → Same a a
