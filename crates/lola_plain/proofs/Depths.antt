@@ -131,6 +131,10 @@ unfolding twice
 twice-le zero = omega arith
 twice-le (suc n) = let h = twice-le n in omega (arith, h)
 
+pub twice-more : (n : ℕ) → twice n ≤ twice (suc n)
+unfolding twice
+twice-more n = omega arith
+
 abbrev Plain : ℕ → Type 0
 Plain n = Within (g.expr_in n) (plain.expr_in (twice n)) × Within (g.other_in n) (plain.other_in (twice n))
 

@@ -4,3 +4,6 @@ pub mod Wider
 pub mod Operands
 pub mod Expressions
 pub mod Depths
+pub mod Lists
+pub mod Clauses
+pub mod Whole
