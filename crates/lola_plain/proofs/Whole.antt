@@ -6,19 +6,22 @@ use Rattle.lola_value.specs.declared.front.FrontEnd.TheVariants as front_end
 use Rattle.lola_tree.specs.declared.declarations.Declaration.{Declaration}
 use Rattle.lola_grammar.specs.Syntax.{Lexeme, Spells, Begins, IsFirstMisfit}
 use Rattle.lola_parser.specs.Grammar as g
-use Rattle.lola_parser.specs.Whole.{most_levels, Refuses}
+use Rattle.lola_parser.specs.Whole.{most_levels, Refuses, ReadsAll}
+use Rattle.lola_parser.proofs.Fine.{specification_fine}
 use Rattle.lola_plain.specs.Plain as plain
-use Rattle.lola_plain.specs.Alike.{SpellsPlainly, SpellsFactored, BeginsPlainly, IsFirstPlainMisfit, RefusesPlainly}
-use Rattle.lola_plain.proofs.Within.{Within, within_chain}
+use Rattle.lola_plain.specs.Alike.{SpellsPlainly, SpellsFactored, BeginsPlainly, IsFirstPlainMisfit, RefusesPlainly, ReadsPlainly}
+use Rattle.lola_plain.proofs.Within.{within_chain}
+use Rattle.lola_plain.proofs.Fitting.{Fitting}
 use Rattle.lola_plain.proofs.Depths.{twice, twice-le, twice-more, plain_later, factored_later, expr_read, expr_plain, expr_out, form_later, form_same}
+use Rattle.lola_plain.proofs.Free.{one_value}
 use Rattle.lola_plain.proofs.Clauses.{spec_read, spec_plain}
 
 -- what is plainly spelled is read at each level that is as deep
-pub plain_read : (m n : ℕ) → m ≤ n → Within (plain.specification m) (g.specification n)
+pub plain_read : (m n : ℕ) → m ≤ n → Fitting (plain.specification m) (g.specification n)
 plain_read m n le =
     spec_read n (plain.expr_in m) (plain.form_in m) (within_chain _ _ _ (expr_read m) (factored_later m n le)) (within_chain _ _ _ (form_later m n le) (form_same n).back)
 
-pub read_plain : (n : ℕ) → Within (g.specification n) (plain.specification (twice (suc n)))
+pub read_plain : (n : ℕ) → Fitting (g.specification n) (plain.specification (twice (suc n)))
 read_plain n =
     let h = twice-le (suc n) in
     let le : n ≤ twice (suc n) = omega (arith, h) in
@@ -32,6 +35,10 @@ factored_of ts x (n, s) = (n, (plain_read n n (omega arith)).spells ts x s)
 
 pub plain_of : (ts : List Lexeme) (x : List Declaration) → SpellsFactored ts x → SpellsPlainly ts x
 plain_of ts x (n, s) = (twice (suc n), (read_plain n).spells ts x s)
+
+pub one_tree : (ts : List Lexeme) (x y : List Declaration) → SpellsPlainly ts x → SpellsPlainly ts y → x ≡ y
+one_tree ts x y (m, s) (n, t) =
+    one_value (g.specification (m + n)) (specification_fine (m + n)) ts x y ((plain_read m (m + n) (omega arith)).spells ts x s) ((plain_read n (m + n) (omega arith)).spells ts y t)
 
 -- ---- the first token that does not fit
 
@@ -64,3 +71,6 @@ refuses_plainly ts end (Ok x) h = plain_of ts x (most_levels, h)
 refuses_plainly ts end (Err front_end.Memory) h = tt
 refuses_plainly ts end (Err (front_end.Refused r)) (inl h) = λ e. (h.1.0, h.1.1, misfit ts h.1.0 h.1.2)
 refuses_plainly ts end (Err (front_end.Refused r)) (inr h) = λ e. absurd (let d = h.0 in cc)
+
+pub reads_plainly : (ts : List Lexeme) (r : Result (List Declaration) FrontEnd) → ReadsAll ts r → ReadsPlainly ts r
+reads_plainly ts r h x (m, s) = h (m + most_levels) (deep m).1 x ((plain_read m (m + most_levels) (deep m).0).fits ts x s)

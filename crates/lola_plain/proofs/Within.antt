@@ -29,21 +29,21 @@ pub within_either : {A : Type 0} (a a' b b' : Syntax A) → Within a a' → With
 unfolding Spells
 within_either a a' b b' h k = record { spells = λ ts x p. elim p [ inl s ↦ inl (h.spells ts x s) | inr s ↦ inr (k.spells ts x s) ] }
 
-perhaps_within : {A : Type 0} (a a' : Syntax A) → Within a a' → (ts : List Lexeme) (x : Option A) → Perhaps (Spells a) ts x → Perhaps (Spells a') ts x
-perhaps_within a a' h ts None s = s
-perhaps_within a a' h ts (Some x) s = h.spells ts x s
+pub perhaps_within : {A : Type 0} (P Q : List Lexeme → A → Type 0) → ((ts : List Lexeme) (x : A) → P ts x → Q ts x) → (ts : List Lexeme) (x : Option A) → Perhaps P ts x → Perhaps Q ts x
+perhaps_within P Q h ts None s = s
+perhaps_within P Q h ts (Some x) s = h ts x s
 
 pub within_maybe : {A : Type 0} (a a' : Syntax A) → Within a a' → Within (Maybe a) (Maybe a')
 unfolding Spells
-within_maybe a a' h = record { spells = perhaps_within a a' h }
+within_maybe a a' h = record { spells = perhaps_within (Spells a) (Spells a') h.spells }
 
-repeats_within : {A : Type 0} (a a' : Syntax A) → Within a a' → (ts : List Lexeme) (xs : List A) → Repeats (Spells a) ts xs → Repeats (Spells a') ts xs
-repeats_within a a' h ts [] s = s
-repeats_within a a' h ts (x ∷ xs) s = (s.0, s.1, s.2, h.spells s.0 x s.3, repeats_within a a' h s.1 xs s.4)
+pub repeats_within : {A : Type 0} (P Q : List Lexeme → A → Type 0) → ((ts : List Lexeme) (x : A) → P ts x → Q ts x) → (ts : List Lexeme) (xs : List A) → Repeats P ts xs → Repeats Q ts xs
+repeats_within P Q h ts [] s = s
+repeats_within P Q h ts (x ∷ xs) s = (s.0, s.1, s.2, h s.0 x s.3, repeats_within P Q h s.1 xs s.4)
 
 pub within_many : {A : Type 0} (a a' : Syntax A) → Within a a' → Within (Many a) (Many a')
 unfolding Spells
-within_many a a' h = record { spells = repeats_within a a' h }
+within_many a a' h = record { spells = repeats_within (Spells a) (Spells a') h.spells }
 
 pub within_left : {A : Type 0} (a b : Syntax A) → Within a (Either a b)
 unfolding Spells

@@ -5,9 +5,11 @@ use Rattle.lola_value.specs.declared.front.FrontEnd.{FrontEnd}
 use Rattle.lola_value.specs.declared.front.FrontEnd.TheVariants as front_end
 use Rattle.lola_tree.specs.declared.declarations.Declaration.{Declaration}
 use Rattle.lola_grammar.specs.Syntax.{Lexeme, Spells, Begins}
+use Rattle.lola_grammar.specs.Marks.{Fits}
 use Rattle.lola_parser.specs.Cursor.{place_of}
 use Rattle.lola_parser.specs.Grammar as factored
-use Rattle.lola_parser.specs.Whole.{Refuses}
+use Rattle.lola_parser.specs.Grammar.{all_marks}
+use Rattle.lola_parser.specs.Whole.{Refuses, ReadsAll, IsThat}
 use Rattle.lola_plain.specs.Plain as plain
 
 -- the tokens spell the tree by the plain grammar, however deep it is nested
@@ -21,6 +23,10 @@ SpellsFactored ts x = (n : ℕ) × Spells (factored.specification n) ts x
 -- both grammars say the same
 abbrev pub SameSentences : Type 0
 SameSentences = (ts : List Lexeme) (x : List Declaration) → SpellsPlainly ts x ↔ SpellsFactored ts x
+
+-- no tokens spell two trees
+abbrev pub HasOneTree : Type 0
+HasOneTree = (ts : List Lexeme) (x y : List Declaration) → SpellsPlainly ts x → SpellsPlainly ts y → x ≡ y
 
 -- some plain specification begins with the tokens
 abbrev pub BeginsPlainly : List Lexeme → Type 0
@@ -38,6 +44,15 @@ RefusesPlainly ts end (Ok x) = SpellsPlainly ts x
 RefusesPlainly ts end (Err front_end.Memory) = Unit {0}
 RefusesPlainly ts end (Err (front_end.Refused r)) = r.code ≡ code.Unexpected → (rest : List Lexeme) × (r.at ≡ place_of rest end) × IsFirstPlainMisfit ts rest
 
+-- the same, and no expression or formula that is directly a part of a clause has more marks than may come
+abbrev pub FitsPlainly : List Lexeme → List Declaration → Type 0
+FitsPlainly ts x = (n : ℕ) × Fits all_marks (plain.specification n) ts x
+
+-- what is spelled plainly within the limit of marks is given, unless memory ran out
+abbrev pub ReadsPlainly : List Lexeme → Result (List Declaration) FrontEnd → Type 0
+ReadsPlainly ts r = (x : List Declaration) → FitsPlainly ts x → IsThat x r
+
 -- what `parse` promises of its answer it promises by the plain grammar
 abbrev pub AnswersPlainly : Type 0
-AnswersPlainly = (ts : List Lexeme) (end : ℕ) (r : Result (List Declaration) FrontEnd) → Refuses ts end r → RefusesPlainly ts end r
+AnswersPlainly = (ts : List Lexeme) (end : ℕ) (r : Result (List Declaration) FrontEnd)
+    → (Refuses ts end r → RefusesPlainly ts end r) × (ReadsAll ts r → ReadsPlainly ts r)

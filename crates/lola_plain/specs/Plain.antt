@@ -25,7 +25,7 @@ use Rattle.lola_tree.specs.declared.clauses.Eval.{Eval}
 use Rattle.lola_tree.specs.declared.clauses.Close.{Close}
 use Rattle.lola_tree.specs.declared.declarations.Declaration.{Declaration}
 use Rattle.lola_tree.specs.declared.declarations.Declaration.TheVariants as d
-use Rattle.lola_grammar.specs.Syntax.{Syntax, Then, Map, Either, Maybe, Many}
+use Rattle.lola_grammar.specs.Syntax.{Syntax, Whole, Then, Map, Either, Maybe, Many}
 use Rattle.lola_parser.specs.Grammar.{token, word, name, other_name, integer, text, quantity, ◌*>◌, ◌<*◌, enclosed, listed, whole_number, truth_at, text_at, Sign, Joined, join, compared, Reading, or_else, with_default, Arguments, reference, both, either, clock_words, part, Body, Bracketed, bracket_of, parameters_of, parts_or_none, message_of}
 
 -- one or the other
@@ -248,6 +248,7 @@ module _ (expr : Syntax Expr) (form : Syntax Formula) where
   unfoldable pub spec : Syntax (List Declaration)
   spec = Many (input ∣ constant ∣ output ∣ trigger)
 
--- a specification in whose expressions and formulas at most so many levels are nested
+-- A specification in whose expressions and formulas at most so many levels are nested. Each expression and formula that is
+-- directly a part of a clause is a whole one, in which the marks are counted.
 abbrev pub specification : ℕ → Syntax (List Declaration)
-specification n = spec (expr_in n) (form_in n)
+specification n = spec (Whole (expr_in n)) (Whole (form_in n))
