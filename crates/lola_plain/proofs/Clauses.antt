@@ -1,10 +1,10 @@
 -- Clauses and declarations: what the plain grammar says of them, and what the parser reads by.
-use Rattle.std.proofs.Common.{ℕ, suc, List}
+use Rattle.std.proofs.Common.{ℕ}
 use Rattle.lola_lexer.specs.declared.shape.TokenShape.{TokenShape}
 use Rattle.lola_lexer.specs.declared.shape.TokenShape.TheVariants as is
 use Rattle.lola_tree.specs.declared.expressions.Expr.{Expr}
 use Rattle.lola_tree.specs.declared.pacing.Formula.{Formula}
-use Rattle.lola_grammar.specs.Syntax.{Syntax, Whole, Then, Map, Either, Maybe, Many, Spells}
+use Rattle.lola_grammar.specs.Syntax.{Syntax, Whole, Either, Spells}
 use Rattle.lola_grammar.specs.Marks.{Fits}
 use Rattle.lola_parser.specs.Grammar as g
 use Rattle.lola_parser.specs.Grammar.{token, ◌<*◌}

@@ -1,5 +1,5 @@
 -- How deep what is nested may be, by the one grammar and by the other.
-use Rattle.std.proofs.Common.{◌≡◌, ◌⊎◌, ℕ, zero, suc, ◌+◌, ◌≤◌, List, inl, inr, arith, subst}
+use Rattle.std.proofs.Common.{◌≡◌, ℕ, zero, suc, ◌≤◌, List, inl, inr, arith, subst}
 use Rattle.std.proofs.lemmas.Bool.{cases_lt}
 use Rattle.lola_lexer.specs.declared.shape.TokenShape.{TokenShape}
 use Rattle.lola_lexer.specs.declared.shape.TokenShape.TheVariants as is
@@ -10,7 +10,7 @@ use Rattle.lola_grammar.specs.Syntax.{Terminal, Syntax, Map, Known, Spells}
 use Rattle.lola_parser.specs.Grammar as g
 use Rattle.lola_parser.specs.Grammar.{token, mark, name, both, either}
 use Rattle.lola_plain.specs.Plain as plain
-use Rattle.lola_plain.proofs.Within.{Within, Same, within_self, within_chain, within_map, within_then, within_either, within_many, within_cases, within_left, within_right, same_back, same_chain, same_then}
+use Rattle.lola_plain.proofs.Within.{Within, Same, within_self, within_chain, within_map, within_either, within_many, within_cases, within_left, within_right, same_chain, same_then}
 use Rattle.lola_plain.proofs.Turns.{led_from_left, same_from_left}
 use Rattle.lola_plain.proofs.Wider.{behind, before, then_behind, alone, unary_wider, other_wider, expr_wider, form_wider, post_wider, other_in_unary, innermost_in_other, innermost_in_unary, innermost_in_expr}
 use Rattle.lola_plain.proofs.Operands.{U, any_post, other_same, unary_same}

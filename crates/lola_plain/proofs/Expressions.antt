@@ -1,15 +1,15 @@
 -- Expressions: what the plain grammar says of them, and what the parser reads by.
-use Rattle.std.proofs.Common.{◌≡◌, ◌⊎◌, inl, inr, ℕ, true, false, List, [], ◌∷◌, ◌++◌, Option, Some, None, refl, sym, ap, ◌∙◌, append_assoc}
+use Rattle.std.proofs.Common.{◌≡◌, ◌⊎◌, inl, inr, ℕ, List, ◌++◌, refl, ap, ◌∙◌, append_assoc}
 use Rattle.lola_lexer.specs.declared.shape.TokenShape.TheVariants as is
 use Rattle.lola_tree.specs.declared.expressions.Binary.TheVariants as by
 use Rattle.lola_tree.specs.declared.expressions.Expr.{Expr}
 use Rattle.lola_tree.specs.declared.expressions.Expr.TheVariants as e
-use Rattle.lola_grammar.specs.Syntax.{Lexeme, Syntax, Then, Map, Either, Maybe, Many, Spells, Repeats, Perhaps}
+use Rattle.lola_grammar.specs.Syntax.{Lexeme, Syntax, Then, Map, Spells}
 use Rattle.lola_parser.specs.Grammar as g
 use Rattle.lola_parser.specs.Grammar.{token, mark, ◌*>◌, ◌|>◌, ◌>>◌, Sign, join, compared}
 use Rattle.lola_plain.specs.Plain as plain
 use Rattle.lola_plain.specs.Plain.{from_left, ◌∣◌}
-use Rattle.lola_plain.proofs.Within.{Within, Same, same_self, same_chain, same_back, same_map, same_then, same_either}
+use Rattle.lola_plain.proofs.Within.{Same, same_chain, same_back, same_then, same_either}
 use Rattle.lola_plain.proofs.Turns.{regroup, four, led_from_left, same_from_left, level_same, once_same}
 use Rattle.lola_plain.proofs.Operands.{U, unary_same}
 

@@ -1,5 +1,5 @@
 -- Parts of which one spells what the other does, also within the limit of marks.
-use Rattle.std.proofs.Common.{◌≡◌, ◌⊎◌, inl, inr, List, refl, ap, ◌∙◌}
+use Rattle.std.proofs.Common.{inl, inr, List, refl, ap, ◌∙◌}
 use Rattle.lola_grammar.specs.Syntax.{Lexeme, Syntax, Then, Map, Either, Maybe, Many, Spells}
 use Rattle.lola_grammar.specs.Marks.{Fits}
 use Rattle.lola_parser.specs.Grammar.{all_marks, ◌*>◌, ◌<*◌}

@@ -1,12 +1,11 @@
 -- A grammar in which marks are not counted and nothing is nested too deep. It spells the same, and whatever it spells is read:
 -- so no tokens spell two values.
-use Rattle.std.proofs.Common.{◌≡◌, ◌⊎◌, ℕ, zero, suc, ◌-◌, ◌≤◌, ◌<◌, Bool, true, false, cond, not, ◌&&◌, ◌||◌, List, [], ◌∷◌, ◌++◌, Option, Some, None, Ok, inl, inr, refl, sym, ap, subst, ◌∙◌, arith}
-use Rattle.std.proofs.lemmas.List.{append-nil}
-use Rattle.lola_grammar.specs.Syntax.{Lexeme, Terminal, Syntax, Past, Token, Mark, Whole, Known, Then, Map, Either, Maybe, Many, Fork, Spells, clash, clashes, apart, within, first, nullable, more, is_fine, is_rest, read}
-use Rattle.lola_grammar.specs.Marks.{lower, none_left, least, guards, tallies, marks_in}
+use Rattle.std.proofs.Common.{◌≡◌, ℕ, ◌-◌, true, false, not, List, [], ◌∷◌, ◌++◌, Ok, inl, inr, refl, sym, ◌∙◌, arith}
+use Rattle.lola_grammar.specs.Syntax.{Lexeme, Terminal, Syntax, Past, Token, Mark, Whole, Known, Then, Map, Either, Maybe, Many, Fork, Spells, clash, clashes, apart, within, first, nullable, more, is_fine, read}
+use Rattle.lola_grammar.specs.Marks.{lower, least, guards, tallies, marks_in}
 use Rattle.lola_grammar.proofs.Tests.{and_both, not_true, or_none}
 use Rattle.lola_grammar.proofs.Laws.{done_is}
-use Rattle.lola_grammar.proofs.Complete.{and_three, choice_parts, known_parts, ForkParts, fork_is}
+use Rattle.lola_grammar.proofs.Complete.{and_three, choice_parts, known_parts, fork_is}
 use Rattle.lola_grammar.proofs.Within.{complete_within}
 use Rattle.lola_plain.proofs.Within.{perhaps_within, repeats_within}
 

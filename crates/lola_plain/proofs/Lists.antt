@@ -1,15 +1,13 @@
 -- Behind `with`, an expression or a list of them.
-use Rattle.std.proofs.Common.{◌≡◌, ◌⊎◌, inl, inr, ℕ, suc, ◌+◌, ◌≤◌, true, List, [], ◌∷◌, ◌++◌, refl, ap, ◌∙◌, arith}
-use Rattle.lola_lexer.specs.declared.shape.TokenShape.{TokenShape}
+use Rattle.std.proofs.Common.{◌≡◌, inl, inr, ℕ, suc, ◌+◌, true, List, [], ◌∷◌, ◌++◌, refl, ap, ◌∙◌, arith}
 use Rattle.lola_lexer.specs.declared.shape.TokenShape.TheVariants as is
 use Rattle.lola_tree.specs.declared.expressions.Expr.{Expr}
 use Rattle.lola_tree.specs.declared.clauses.Part.{Part}
-use Rattle.lola_grammar.specs.Syntax.{Lexeme, Of, fits, Syntax, Whole, Then, Map, Either, Maybe, Many, Spells}
+use Rattle.lola_grammar.specs.Syntax.{Lexeme, Of, fits, Syntax, Whole, Then, Map, Many, Spells}
 use Rattle.lola_grammar.specs.Marks.{Fits, marks_in}
 use Rattle.lola_grammar.proofs.Within.{marks-append}
 use Rattle.lola_parser.specs.Grammar as g
 use Rattle.lola_parser.specs.Grammar.{token, ◌<*◌, part, all_marks}
-use Rattle.lola_plain.specs.Plain as plain
 use Rattle.lola_plain.specs.Plain.{◌∣◌}
 use Rattle.lola_plain.proofs.Fitting.{Fitting}
 use Rattle.lola_plain.proofs.Turns.{regroup, four}

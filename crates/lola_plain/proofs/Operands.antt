@@ -1,7 +1,6 @@
 -- Operands: what the plain grammar says of them, and what the parser reads by.
-use Rattle.std.proofs.Common.{◌≡◌, ◌⊎◌, inl, inr, ℕ, true, false, List, [], ◌∷◌, ◌++◌, Option, Some, None, refl, sym, ap, ◌∙◌, append_assoc}
+use Rattle.std.proofs.Common.{◌≡◌, ◌⊎◌, inl, inr, ℕ, true, false, List, [], ◌∷◌, ◌++◌, Option, Some, None, refl, sym, ap, ◌∙◌}
 use Rattle.std.specs.Prelude.{fold}
-use Rattle.std.proofs.lemmas.List.{append-nil}
 use Rattle.lola_lexer.specs.declared.shape.TokenShape.TheVariants as is
 use Rattle.lola_tree.specs.declared.literals.Name.{Name}
 use Rattle.lola_tree.specs.declared.literals.Literal.{Literal}
@@ -9,12 +8,12 @@ use Rattle.lola_tree.specs.declared.expressions.Prefix.TheVariants as pre
 use Rattle.lola_tree.specs.declared.expressions.Access.TheVariants as a
 use Rattle.lola_tree.specs.declared.expressions.Expr.{Expr}
 use Rattle.lola_tree.specs.declared.expressions.Expr.TheVariants as e
-use Rattle.lola_grammar.specs.Syntax.{Lexeme, Syntax, Then, Map, Either, Maybe, Many, Spells, Repeats, Perhaps}
+use Rattle.lola_grammar.specs.Syntax.{Lexeme, Syntax, Then, Map, Either, Maybe, Many, Spells}
 use Rattle.lola_parser.specs.Grammar as g
 use Rattle.lola_parser.specs.Grammar.{token, mark, integer, name, ◌*>◌, ◌<*◌, ◌|>◌, ◌>>◌, Reading, Arguments, Suffix, with_default, folded, reference, read_by, named_by, whole_number}
 use Rattle.lola_plain.specs.Plain as plain
 use Rattle.lola_plain.specs.Plain.{from_left, read_so}
-use Rattle.lola_plain.proofs.Within.{Within, Same, within_self, within_chain, within_map, within_then, within_either, within_left, within_right, same_self, same_chain, same_back, same_map, same_then, same_either}
+use Rattle.lola_plain.proofs.Within.{Same, same_self, same_chain, same_back}
 use Rattle.lola_plain.proofs.Wider.{other_in_unary}
 use Rattle.lola_plain.proofs.Turns.{regroup, ungroup, four, led_from_left, same_from_left, split_from_left, map_twice, map_either}
 

@@ -1,11 +1,11 @@
 -- How parts may be put together otherwise.
-use Rattle.std.proofs.Common.{◌≡◌, ◌⊎◌, inl, inr, List, [], ◌∷◌, ◌++◌, Option, Some, None, refl, sym, ap, ◌∙◌, append_assoc}
+use Rattle.std.proofs.Common.{◌≡◌, inl, inr, List, ◌++◌, refl, sym, ap, ◌∙◌, append_assoc}
 use Rattle.std.specs.Prelude.{fold}
-use Rattle.lola_grammar.specs.Syntax.{Lexeme, Syntax, Then, Map, Either, Maybe, Many, Spells, Repeats, Perhaps}
+use Rattle.lola_grammar.specs.Syntax.{Lexeme, Syntax, Then, Map, Either, Maybe, Many, Spells}
 use Rattle.lola_tree.specs.declared.expressions.Expr.{Expr}
 use Rattle.lola_parser.specs.Grammar.{◌|>◌, ◌>>◌, folded, Sign, Joined, compared, joined_once}
 use Rattle.lola_plain.specs.Plain.{from_left}
-use Rattle.lola_plain.proofs.Within.{Within, Same, within_map, within_then, within_many, same_chain, same_back, same_map, same_then, same_either, same_many, same_maybe}
+use Rattle.lola_plain.proofs.Within.{Within, Same, within_map, within_then, within_many, same_chain, same_map, same_then, same_either, same_maybe}
 
 -- three lists in a row
 abbrev pub regroup : (ts u v p q : List Lexeme) → ts ≡ u ++ v → v ≡ p ++ q → ts ≡ (u ++ p) ++ q

@@ -1,10 +1,10 @@
 -- Whole specifications.
-use Rattle.std.proofs.Common.{◌≡◌, ◌⊎◌, ℕ, suc, ◌+◌, ◌≤◌, List, [], ◌∷◌, ◌++◌, Result, Ok, Err, inl, inr, refl, sym, ◌∙◌, subst, arith}
+use Rattle.std.proofs.Common.{◌≡◌, ℕ, suc, ◌+◌, ◌≤◌, List, [], ◌∷◌, ◌++◌, Result, Ok, Err, inl, inr, sym, ◌∙◌, subst, arith}
 use Rattle.std.proofs.lemmas.List.{append_cancel_right}
 use Rattle.lola_value.specs.declared.front.FrontEnd.{FrontEnd}
 use Rattle.lola_value.specs.declared.front.FrontEnd.TheVariants as front_end
 use Rattle.lola_tree.specs.declared.declarations.Declaration.{Declaration}
-use Rattle.lola_grammar.specs.Syntax.{Lexeme, Spells, Begins, IsFirstMisfit}
+use Rattle.lola_grammar.specs.Syntax.{Lexeme, Begins, IsFirstMisfit}
 use Rattle.lola_parser.specs.Grammar as g
 use Rattle.lola_parser.specs.Whole.{most_levels, Refuses, ReadsAll}
 use Rattle.lola_parser.proofs.Fine.{specification_fine}

@@ -1,5 +1,5 @@
 -- Parts of which one spells what the other does.
-use Rattle.std.proofs.Common.{◌≡◌, ◌⊎◌, inl, inr, List, [], ◌∷◌, ◌++◌, Option, Some, None, refl, sym, ap, ◌∙◌, append_assoc}
+use Rattle.std.proofs.Common.{inl, inr, List, [], ◌∷◌, Option, Some, None}
 use Rattle.lola_grammar.specs.Syntax.{Lexeme, Syntax, Then, Map, Either, Maybe, Many, Spells, Repeats, Perhaps}
 
 -- what the first spells, the second spells too

@@ -16,7 +16,6 @@ use Rattle.lola_tree.specs.declared.expressions.Expr.{Expr}
 use Rattle.lola_tree.specs.declared.expressions.Expr.TheVariants as e
 use Rattle.lola_tree.specs.declared.pacing.Formula.{Formula}
 use Rattle.lola_tree.specs.declared.pacing.Formula.TheVariants as f
-use Rattle.lola_tree.specs.declared.pacing.Rhythm.{Rhythm}
 use Rattle.lola_tree.specs.declared.pacing.Rhythm.TheVariants as r
 use Rattle.lola_tree.specs.declared.pacing.Pacing.{Pacing}
 use Rattle.lola_tree.specs.declared.clauses.Part.{Part}
@@ -26,7 +25,7 @@ use Rattle.lola_tree.specs.declared.clauses.Close.{Close}
 use Rattle.lola_tree.specs.declared.declarations.Declaration.{Declaration}
 use Rattle.lola_tree.specs.declared.declarations.Declaration.TheVariants as d
 use Rattle.lola_grammar.specs.Syntax.{Syntax, Whole, Then, Map, Either, Maybe, Many}
-use Rattle.lola_parser.specs.Grammar.{token, word, name, other_name, integer, text, quantity, ◌*>◌, ◌<*◌, enclosed, listed, whole_number, truth_at, text_at, Sign, Joined, join, compared, Reading, or_else, with_default, Arguments, reference, both, either, clock_words, part, Body, Bracketed, bracket_of, parameters_of, parts_or_none, message_of}
+use Rattle.lola_parser.specs.Grammar.{token, word, name, other_name, integer, text, quantity, ◌*>◌, ◌<*◌, enclosed, listed, whole_number, truth_at, text_at, Sign, join, compared, Reading, or_else, with_default, Arguments, reference, both, either, clock_words, part, Body, bracket_of, parameters_of, parts_or_none, message_of}
 
 -- one or the other
 infixr 10 ◌∣◌
