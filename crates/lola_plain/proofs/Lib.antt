@@ -1,0 +1,11 @@
+pub mod Within
+pub mod Turns
+pub mod Fitting
+pub mod Wider
+pub mod Operands
+pub mod Expressions
+pub mod Depths
+pub mod Lists
+pub mod Clauses
+pub mod Free
+pub mod Whole
