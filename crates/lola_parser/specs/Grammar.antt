@@ -479,8 +479,8 @@ inputs = Map (λ p. d.Inputs (record { at = p.0; inputs = p.1 })) (Then (token i
 
 unfoldable pub constant : Syntax Declaration
 constant =
-    Map (λ p. d.Constant (record { at = p.0; name = p.1.0; kind = p.1.1.0; literal = p.1.1.1 }))
-    (Then (token is.Constant) (Then name (Then (token is.Colon *> name) (token is.Define *> literal))))
+    Map (λ p. d.Constant (record { at = p.0; name = p.1.0; kind = p.1.1.0; before = p.1.1.1.0; literal = p.1.1.1.1 }))
+    (Then (token is.Constant) (Then name (Then (token is.Colon *> name) (Then (token is.Define) literal))))
 
 -- the parts that a bracket at `bracket` opens behind a `with` at `at`
 abbrev pub placed : ℕ → ℕ → Expr × Parts → List Part

@@ -125,12 +125,13 @@ fn constant(alloc: Global, parser: &mut Parser<'_>) -> Result<Declaration, Parse
     let name = parser.name(alloc)?;
     parser.take(TokenShape::Colon)?;
     let kind = parser.name(alloc)?;
-    parser.take(TokenShape::Define)?;
+    let before = parser.take(TokenShape::Define)?;
     let literal = literal(alloc, parser)?;
     Ok(Declaration::Constant(Constant {
         at,
         name,
         kind,
+        before,
         literal,
     }))
 }

@@ -180,8 +180,8 @@ input = Map (λ p. d.Inputs (record { at = p.0; inputs = p.1 })) (Then (token is
 -- Constant = "constant" name ":" name ":=" Literal
 unfoldable pub constant : Syntax Declaration
 constant =
-    Map (λ p. d.Constant (record { at = p.0; name = p.1.0; kind = p.1.1.0; literal = p.1.1.1 }))
-    (Then (token is.Constant) (Then name (Then (token is.Colon *> name) (token is.Define *> literal))))
+    Map (λ p. d.Constant (record { at = p.0; name = p.1.0; kind = p.1.1.0; before = p.1.1.1.0; literal = p.1.1.1.1 }))
+    (Then (token is.Constant) (Then name (Then (token is.Colon *> name) (Then (token is.Define) literal))))
 
 -- `expr` is an expression, and `form` a formula
 module _ (expr : Syntax Expr) (form : Syntax Formula) where

@@ -126,6 +126,7 @@ fn a_constant(rt: HostRuntime) -> Result<(), Memory> {
         at: 0,
         name: name(alloc, b"c")?,
         kind: name(alloc, b"String")?,
+        before: 0,
         literal: Literal {
             value: Value::Text(Text::from_bytes(alloc, b"a\"\n")?),
             at: 0,

@@ -174,12 +174,12 @@ inputs_spelled at (t ∷ ts) h =
 pub constant_spelled : (c : Constant) → ValueReads c.literal.value → Spells g.constant (lex is.Constant ∷ out.constant c) (erased.declaration (d.Constant c))
 unfolding g.constant
 constant_spelled c h =
-    mapped _ _ (lex is.Constant ∷ out.constant c) (0, (erased.name c.name, (erased.name c.kind, erased.literal c.literal)))
+    mapped _ _ (lex is.Constant ∷ out.constant c) (0, (erased.name c.name, (erased.name c.kind, (0, erased.literal c.literal))))
     (both (token is.Constant) _ (lex is.Constant ∷ []) (out.constant c) 0 _ (token_spelled is.Constant)
     (both g.name _ (out.name c.name ∷ []) _ (erased.name c.name) _ (name_spelled c.name)
-    (both (token is.Colon *> g.name) (token is.Define *> g.literal) (lex is.Colon ∷ out.name c.kind ∷ []) (lex is.Define ∷ out.literal c.literal.value) (erased.name c.kind) (erased.literal c.literal)
+    (both (token is.Colon *> g.name) (Then (token is.Define) g.literal) (lex is.Colon ∷ out.name c.kind ∷ []) (lex is.Define ∷ out.literal c.literal.value) (erased.name c.kind) (0, erased.literal c.literal)
     (after (token is.Colon) g.name (lex is.Colon ∷ []) (out.name c.kind ∷ []) 0 (erased.name c.kind) (token_spelled is.Colon) (name_spelled c.kind))
-    (after (token is.Define) g.literal (lex is.Define ∷ []) (out.literal c.literal.value) 0 (erased.literal c.literal) (token_spelled is.Define) (literal_spelled c.literal.value h)))))
+    (both (token is.Define) g.literal (lex is.Define ∷ []) (out.literal c.literal.value) 0 (erased.literal c.literal) (token_spelled is.Define) (literal_spelled c.literal.value h)))))
 
 pub bracket_is : (ts : List Typed) → g.bracket_of (bracketed_typed ts) ≡ erased.parameters_bracket ts
 bracket_is [] = refl

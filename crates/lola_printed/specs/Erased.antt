@@ -141,7 +141,7 @@ parameters_bracket (t ∷ ts) = Some 0
 
 abbrev pub declaration : Declaration → Declaration
 declaration (d.Inputs i) = d.Inputs (record { at = 0; inputs = map typed i.inputs })
-declaration (d.Constant c) = d.Constant (record { at = 0; name = name c.name; kind = name c.kind; literal = literal c.literal })
+declaration (d.Constant c) = d.Constant (record { at = 0; name = name c.name; kind = name c.kind; before = 0; literal = literal c.literal })
 declaration (d.Output o) =
     d.Output (record {
       at = 0;

@@ -104,13 +104,13 @@ module _ (W : Type 0) where
       (λ x y k. same_inputs x.0 y.0 x.1 y.1 k.1)
       (then_carried W Any (Some_each W SameTyped) (token is.Input) (g.listed g.typed) (token_any W is.Input) (listed_carried W SameTyped g.typed typed_carried))
 
-  same_constant : (m m' : ℕ) (n n' k k' : Name) (l l' : Literal) → SameName W n n' → SameName W k k' → SameLiteral W l l'
-      → SameDeclaration (d.Constant (record { at = m; name = n; kind = k; literal = l })) (d.Constant (record { at = m'; name = n'; kind = k'; literal = l' }))
-  same_constant m m' n n' k k' l l' h i j =
+  same_constant : (m m' : ℕ) (n n' k k' : Name) (b b' : ℕ) (l l' : Literal) → SameName W n n' → SameName W k k' → SameLiteral W l l'
+      → SameDeclaration (d.Constant (record { at = m; name = n; kind = k; before = b; literal = l })) (d.Constant (record { at = m'; name = n'; kind = k'; before = b'; literal = l' }))
+  same_constant m m' n n' k k' b b' l l' h i j =
       record {
-        erased = ap (λ (z : Name). d.Constant (record { at = 0; name = z; kind = erased.name k; literal = erased.literal l })) (erased_name W n n' h)
-            ∙ ap (λ (z : Name). d.Constant (record { at = 0; name = erased.name n'; kind = z; literal = erased.literal l })) (erased_name W k k' i)
-            ∙ ap (λ (z : Literal). d.Constant (record { at = 0; name = erased.name n'; kind = erased.name k'; literal = z })) (erased_literal W l l' j);
+        erased = ap (λ (z : Name). d.Constant (record { at = 0; name = z; kind = erased.name k; before = 0; literal = erased.literal l })) (erased_name W n n' h)
+            ∙ ap (λ (z : Name). d.Constant (record { at = 0; name = erased.name n'; kind = z; before = 0; literal = erased.literal l })) (erased_name W k k' i)
+            ∙ ap (λ (z : Literal). d.Constant (record { at = 0; name = erased.name n'; kind = erased.name k'; before = 0; literal = z })) (erased_literal W l l' j);
         known = λ w. record { fits = (0, λ n le. (j.known w).0); lexed = (refl, (h.lexed w, (refl, (i.lexed w, (refl, (j.known w).1))))) };
       }
 
@@ -119,11 +119,12 @@ module _ (W : Type 0) where
   constant_carried =
       let N = SameName W in
       let L = SameLiteral W in
-      map_carried W (Both Any (Both N (Both N L))) SameDeclaration (λ p. d.Constant (record { at = p.0; name = p.1.0; kind = p.1.1.0; literal = p.1.1.1 })) _
-      (λ x y k. same_constant x.0 y.0 x.1.0 y.1.0 x.1.1.0 y.1.1.0 x.1.1.1 y.1.1.1 k.1.0 k.1.1.0 k.1.1.1)
-      (then_carried W Any (Both N (Both N L)) (token is.Constant) _ (token_any W is.Constant)
-      (then_carried W N (Both N L) g.name _ (name_carried W)
-      (then_carried W N L (token is.Colon *> g.name) (token is.Define *> g.literal) (behind_token W N is.Colon g.name (name_carried W)) (behind_token W L is.Define g.literal (literal_carried W)))))
+      map_carried W (Both Any (Both N (Both N (Both Any L)))) SameDeclaration (λ p. d.Constant (record { at = p.0; name = p.1.0; kind = p.1.1.0; before = p.1.1.1.0; literal = p.1.1.1.1 })) _
+      (λ x y k. same_constant x.0 y.0 x.1.0 y.1.0 x.1.1.0 y.1.1.0 x.1.1.1.0 y.1.1.1.0 x.1.1.1.1 y.1.1.1.1 k.1.0 k.1.1.0 k.1.1.1.1)
+      (then_carried W Any (Both N (Both N (Both Any L))) (token is.Constant) _ (token_any W is.Constant)
+      (then_carried W N (Both N (Both Any L)) g.name _ (name_carried W)
+      (then_carried W N (Both Any L) (token is.Colon *> g.name) (Then (token is.Define) g.literal) (behind_token W N is.Colon g.name (name_carried W))
+      (then_carried W Any L (token is.Define) g.literal (token_any W is.Define) (literal_carried W)))))
 
   abbrev SameBracketed : g.Bracketed → g.Bracketed → Type 0
   SameBracketed = Both Any (Some_each W SameTyped)

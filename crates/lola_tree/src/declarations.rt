@@ -21,6 +21,8 @@ pub struct Constant {
     pub at: u32,
     pub name: Name,
     pub kind: Name,
+    /// The `:=` before the literal.
+    pub before: u32,
     pub literal: Literal,
 }
 
