@@ -1,0 +1,5 @@
+pub mod Noted
+pub mod Words
+pub mod Known
+pub mod Entries
+pub mod Refused
