@@ -1,3 +1,4 @@
 pub mod Noting
 pub mod Entering
 pub mod Trees
+pub mod Repeats

@@ -1,9 +1,10 @@
 -- Refusals that are found one after another, and loops over what is left of a list.
-use Rattle.std.proofs.Common.{◌≡◌, ℕ, ◌+◌, ◌<◌, ◌≤◌, List, [], ◌∷◌, ◌++◌, Option, Some, length, get_or, drop, refl, sym, ap, ◌∙◌}
+use Rattle.std.proofs.Common.{◌≡◌, ℕ, ◌+◌, ◌<◌, ◌≤◌, List, [], ◌∷◌, ◌++◌, Option, Some, None, Result, Ok, Err, OnOk, length, get_or, drop, refl, sym, ap, ◌∙◌}
 use Rattle.std.specs.List.{flat_map}
 use Rattle.std.proofs.lemmas.List.{at_drop_more, at_drop_all}
 use Rattle.lola_value.specs.declared.front.Refusal.{Refusal}
-use Rattle.lola_model.specs.Refusals.{earlier}
+use Rattle.lola_model.specs.Refusals.{earlier, first_of}
+use Rattle.lola_model.proofs.FirstRefusal.{grouped}
 use Rattle.lola_names.specs.Noted.{noted, Finds}
 
 pub noted-append : (o : Option Refusal) (a b : List Refusal) → noted o (a ++ b) ≡ noted (noted o a) b
@@ -36,3 +37,23 @@ find_turn f xs i x old new whole within is found so_far =
 
 pub find_end : {A : Type 0} (f : A → List Refusal) (xs : List A) (i : ℕ) (o whole : Option Refusal) → length xs ≤ i → noted o (flat_map f (drop i xs)) ≡ whole → o ≡ whole
 find_end f xs i o whole all so_far = end (found_in f) xs i o whole all so_far
+
+pub ok_then : {A B : Type 0} (r : Result A B) (P Q : Type 0) → (P → Q) → OnOk r P → OnOk r Q
+ok_then (Ok a) P Q f h = f h
+ok_then (Err b) P Q f h = h
+
+pub ok_of : {A B : Type 0} (r : Result A B) (Q : Type 0) → Q → OnOk r Q
+ok_of (Ok a) Q q = q
+ok_of (Err b) Q q = tt
+
+-- what is noted of a list is the first of it, behind what was noted
+pub noted-first : (o : Option Refusal) (rs : List Refusal) → noted o rs ≡ earlier o (first_of rs)
+noted-first None [] = refl
+noted-first (Some q) [] = refl
+noted-first o (r ∷ rs) = noted-first (earlier o (Some r)) rs ∙ grouped o (Some r) (first_of rs)
+
+pub first_noted : (rs : List Refusal) → noted None rs ≡ first_of rs
+first_noted rs = noted-first None rs ∙ none_first (first_of rs)
+  where
+  none_first : (o : Option Refusal) → earlier None o ≡ o
+  none_first o = refl

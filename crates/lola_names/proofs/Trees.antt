@@ -14,21 +14,21 @@ use Rattle.lola_tree.specs.declared.pacing.Formula.TheVariants as f
 use Rattle.lola_tree.specs.declared.pacing.Formula.TheBlock as F
 use mathlib.Core.Former.{Count}
 use Rattle.lola_names.specs.Known.{Known}
-use Rattle.lola_names.specs.Refused.{uses, argument_uses, all_uses, pair_uses, how_many, reference_use, formula_uses}
+use Rattle.lola_names.specs.Refused.{uses, argument_uses, all_uses, how_many, reference_use, formula_uses}
 
 pub uses-Prefix : (ps ns : Known) (op : Prefix) (at : ℕ) (x : Expr) → uses ps ns (e.Prefix op at x) ≡ uses ps ns x
 unfolding X.shape-the_row-Expr-1 X.hidden-the_row-Expr-1 denote.Hole.Carrier.hidden denote.Hole.Carrier.shown denote.Hole.Carrier.roll denote.Hole.Carrier.out
 uses-Prefix ps ns op at x = refl
 
-pub uses-Defaults : (ps ns : Known) (at : ℕ) (x y : Expr) → uses ps ns (e.Defaults at x y) ≡ pair_uses ps ns x y
+pub uses-Defaults : (ps ns : Known) (at : ℕ) (x y : Expr) → uses ps ns (e.Defaults at x y) ≡ uses ps ns x ++ uses ps ns y
 unfolding X.shape-the_row-Expr-1 X.hidden-the_row-Expr-1 denote.Hole.Carrier.hidden denote.Hole.Carrier.shown denote.Hole.Carrier.roll denote.Hole.Carrier.out
 uses-Defaults ps ns at x y = refl
 
-pub uses-Binary : (ps ns : Known) (op : Binary) (at : ℕ) (x y : Expr) → uses ps ns (e.Binary op at x y) ≡ pair_uses ps ns x y
+pub uses-Binary : (ps ns : Known) (op : Binary) (at : ℕ) (x y : Expr) → uses ps ns (e.Binary op at x y) ≡ uses ps ns x ++ uses ps ns y
 unfolding X.shape-the_row-Expr-1 X.hidden-the_row-Expr-1 denote.Hole.Carrier.hidden denote.Hole.Carrier.shown denote.Hole.Carrier.roll denote.Hole.Carrier.out
 uses-Binary ps ns op at x y = refl
 
-pub uses-If : (ps ns : Known) (at : ℕ) (x y z : Expr) → uses ps ns (e.If at x y z) ≡ uses ps ns x ++ pair_uses ps ns y z
+pub uses-If : (ps ns : Known) (at : ℕ) (x y z : Expr) → uses ps ns (e.If at x y z) ≡ uses ps ns x ++ (uses ps ns y ++ uses ps ns z)
 unfolding X.shape-the_row-Expr-1 X.hidden-the_row-Expr-1 denote.Hole.Carrier.hidden denote.Hole.Carrier.shown denote.Hole.Carrier.roll denote.Hole.Carrier.out
 uses-If ps ns at x y z = refl
 

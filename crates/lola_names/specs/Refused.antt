@@ -150,9 +150,6 @@ abbrev mutual
   argument_uses parameters names end_of-Expr = []
   argument_uses parameters names (more_of-Expr x rest) = uses parameters names x ++ argument_uses parameters names rest
 
-abbrev pub pair_uses : Known → Known → Expr → Expr → List Refusal
-pair_uses parameters names x y = uses parameters names x ++ uses parameters names y
-
 abbrev pub all_uses : Known → Known → List Expr → List Refusal
 all_uses parameters names xs = flat_map (uses parameters names) xs
 

@@ -76,6 +76,32 @@ fn streams_at(alloc: Global, declarations: &[Declaration]) -> Result<Places, Mem
     Ok(places)
 }
 
+/// The 65th input, if there is one.
+fn too_many_inputs(
+    alloc: Global,
+    declarations: &[Declaration],
+    found: &mut Refusals,
+) -> Result<(), Memory>
+    ensures { OnOk result (Finds (too_many 64 (flat_map input_places declarations.now)) found.old found.new) }
+{
+    let places = inputs_at(alloc, declarations)?;
+    note_beyond(64, places.as_slice(), found);
+    Ok(())
+}
+
+/// The 1,025th stream, if there is one.
+fn too_many_streams(
+    alloc: Global,
+    declarations: &[Declaration],
+    found: &mut Refusals,
+) -> Result<(), Memory>
+    ensures { OnOk result (Finds (too_many 1024 (flat_map stream_places declarations.now)) found.old found.new) }
+{
+    let places = streams_at(alloc, declarations)?;
+    note_beyond(1024, places.as_slice(), found);
+    Ok(())
+}
+
 /// The first refusal of the names of a specification, if there is one: by place, and at one place by code.
 pub fn name_refusal(alloc: Global, ast: &Ast) -> Result<Option<Refusal>, Memory>
     ensures { IfOk result (λ refusal. refusal ≡ first_of (refusals_of ast.now)) }
@@ -83,8 +109,8 @@ pub fn name_refusal(alloc: Global, ast: &Ast) -> Result<Option<Refusal>, Memory>
     let declarations = ast.as_slice();
     let mut found = Refusals::none();
     let names = names(alloc, declarations, &mut found)?;
-    note_beyond(64, inputs_at(alloc, declarations)?.as_slice(), &mut found);
-    note_beyond(1024, streams_at(alloc, declarations)?.as_slice(), &mut found);
+    too_many_inputs(alloc, declarations, &mut found)?;
+    too_many_streams(alloc, declarations, &mut found)?;
     all_uses(alloc, &names, declarations, &mut found)?;
     Ok(found.first())
 }

@@ -126,22 +126,20 @@ fn expr_uses(parameters: &Names, names: &Names, x: &Expr, found: &mut Refusals)
             argument_uses(parameters, names, arguments.as_slice(), found);
         }
         Expr::Prefix(_, _, x) => expr_uses(parameters, names, x.get(), found),
-        Expr::Defaults(_, x, y) => pair_uses(parameters, names, x.get(), y.get(), found),
-        Expr::Binary(_, _, x, y) => pair_uses(parameters, names, x.get(), y.get(), found),
+        Expr::Defaults(_, x, y) => {
+            expr_uses(parameters, names, x.get(), found);
+            expr_uses(parameters, names, y.get(), found);
+        }
+        Expr::Binary(_, _, x, y) => {
+            expr_uses(parameters, names, x.get(), found);
+            expr_uses(parameters, names, y.get(), found);
+        }
         Expr::If(_, x, y, z) => {
             expr_uses(parameters, names, x.get(), found);
-            pair_uses(parameters, names, y.get(), z.get(), found);
+            expr_uses(parameters, names, y.get(), found);
+            expr_uses(parameters, names, z.get(), found);
         }
     }
-}
-
-/// Two expressions.
-#[cycle(expression)]
-fn pair_uses(parameters: &Names, names: &Names, x: &Expr, y: &Expr, found: &mut Refusals)
-    ensures { Finds (refused.pair_uses parameters.now names.now x.now y.now) found.old found.new }
-{
-    expr_uses(parameters, names, x, found);
-    expr_uses(parameters, names, y, found);
 }
 
 /// Arguments.
@@ -335,15 +333,21 @@ fn declaration_uses(
     ensures { OnOk result (Finds (refused.declaration_uses names.now declaration.now) found.old found.new) }
 {
     match declaration {
-        Declaration::Inputs(x) => kind_uses(x.inputs.as_slice(), found),
-        Declaration::Constant(x) => kind_use(&x.kind, found),
-        Declaration::Output(x) => return output_uses(alloc, none, names, x, found),
+        Declaration::Inputs(x) => {
+            kind_uses(x.inputs.as_slice(), found);
+            Ok(())
+        }
+        Declaration::Constant(x) => {
+            kind_use(&x.kind, found);
+            Ok(())
+        }
+        Declaration::Output(x) => output_uses(alloc, none, names, x, found),
         Declaration::Trigger(x) => {
             pacing_uses(names, &x.pacing, found);
             expr_uses(none, names, &x.when.expr, found);
+            Ok(())
         }
     }
-    Ok(())
 }
 
 /// All declarations.
