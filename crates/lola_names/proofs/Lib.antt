@@ -2,3 +2,4 @@ pub mod Noting
 pub mod Entering
 pub mod Trees
 pub mod Repeats
+pub mod FirstDeclaration

@@ -3,3 +3,4 @@ pub mod Words
 pub mod Known
 pub mod Entries
 pub mod Refused
+pub mod Law

@@ -4,6 +4,7 @@
 #![tactic(auto)]
 
 mod declaring;
+pub mod law;
 mod names;
 mod refusing;
 mod uses;
