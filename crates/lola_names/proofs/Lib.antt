@@ -3,3 +3,4 @@ pub mod Entering
 pub mod Trees
 pub mod Repeats
 pub mod FirstDeclaration
+pub mod Rating

@@ -4,3 +4,4 @@ pub mod Known
 pub mod Entries
 pub mod Refused
 pub mod Law
+pub mod Quantities

@@ -6,6 +6,7 @@
 mod declaring;
 pub mod law;
 mod names;
+pub mod quantities;
 mod refusing;
 mod uses;
 mod words;
