@@ -1,11 +1,10 @@
 -- The entries of a table of names.
-use Rattle.std.proofs.Common.{◌≡◌, ℕ, Bool, true, false, List, [], ◌∷◌, ◌++◌, Option, Some, None, refl, sym, ap, ◌∙◌, inl, inr, is_some, nat_eq}
+use Rattle.std.proofs.Common.{◌≡◌, ℕ, false, List, [], ◌∷◌, ◌++◌, Option, Some, None, refl, ap, inl, inr, is_some, nat_eq}
 use Rattle.std.specs.Cmp.Lexicographic.{pointwise}
 use Rattle.std.specs.Map.{lookup}
 use Rattle.std.proofs.lemmas.Bool.{cases_Bool}
 use Rattle.lola_value.specs.Arithmetic.{bytes_equal}
-use Rattle.lola_names.specs.declared.names.Meaning.{Meaning}
-use Rattle.lola_names.specs.Known.{Known, meaning_in}
+use Rattle.lola_names.specs.Known.{meaning_in}
 use Rattle.lola_names.specs.Entries.{Entry, known_in}
 
 -- a look-up by the text gives its meaning

@@ -1,6 +1,6 @@
 -- A name means what its first declaration says.
-use Rattle.std.proofs.Common.{◌≡◌, ℕ, Bool, true, false, List, [], ◌∷◌, ◌++◌, Option, Some, None, is_some, map, refl, sym, ap, ◌∙◌, inl, inr, nat_eq, append-nil}
-use Rattle.std.specs.Prelude.{if◌then◌else◌, ◌&&◌}
+use Rattle.std.proofs.Common.{◌≡◌, ℕ, true, false, List, [], ◌∷◌, ◌++◌, Option, Some, None, is_some, refl, sym, ap, ◌∙◌, inl, inr, nat_eq}
+use Rattle.std.specs.Prelude.{if◌then◌else◌}
 use Rattle.std.specs.List.{flat_map}
 use Rattle.std.proofs.lemmas.Bool.{cases_Bool, eqb-true, false≢true}
 use Rattle.lola_value.specs.Arithmetic.{bytes_equal}
@@ -49,21 +49,21 @@ step k n q m = elim (cases_Bool (is_some (meaning_in k n.0.text))) [
     | inr miss ↦ rw miss refl
   ])
   | inr unknown ↦ rw unknown (
-    ap (λ o. hides o m) (meaning-append k ((n.0.text, n.1) ∷ []) q)
-    ∙ hides-hides (meaning_in k q) (meaning_in ((n.0.text, n.1) ∷ []) q) m
-    ∙ (elim (cases_Bool (bytes_equal q n.0.text)) [
-      | inl hit ↦ rw hit refl
-      | inr miss ↦ rw miss refl
-    ])
-  )
+      ap (λ o. hides o m) (meaning-append k ((n.0.text, n.1) ∷ []) q)
+      ∙ hides-hides (meaning_in k q) (meaning_in ((n.0.text, n.1) ∷ []) q) m
+      ∙ (elim (cases_Bool (bytes_equal q n.0.text)) [
+        | inl hit ↦ rw hit refl
+        | inr miss ↦ rw miss refl
+      ])
+      )
 ]
 
 names-meaning : (k : Known) (ns : List Declared) (q : List ℕ) → meaning_in (with_names k ns) q ≡ hides (meaning_in k q) (meaning_in (plain ns) q)
 names-meaning k [] q = sym (none (meaning_in k q))
   where
-  none : (o : Option Meaning) → hides o None ≡ o
-  none None = refl
-  none (Some x) = refl
+    none : (o : Option Meaning) → hides o None ≡ o
+    none None = refl
+    none (Some x) = refl
 names-meaning k (n ∷ ns) q = names-meaning (with_name k n) ns q ∙ step k n q (meaning_in (plain ns) q)
 
 plain-append : (a b : List Declared) → plain (a ++ b) ≡ plain a ++ plain b

@@ -55,5 +55,5 @@ noted-first o (r ∷ rs) = noted-first (earlier o (Some r)) rs ∙ grouped o (So
 pub first_noted : (rs : List Refusal) → noted None rs ≡ first_of rs
 first_noted rs = noted-first None rs ∙ none_first (first_of rs)
   where
-  none_first : (o : Option Refusal) → earlier None o ≡ o
-  none_first o = refl
+    none_first : (o : Option Refusal) → earlier None o ≡ o
+    none_first o = refl

@@ -1,9 +1,8 @@
 -- Rates in lowest terms.
-use Rattle.std.proofs.Common.{◌≡◌, ℕ, ◌*◌, ◌/◌, ◌<◌, ◌≤◌, ◌^◌, refl, sym, ap, arith, ◌∙◌}
-use Rattle.std.specs.Int.{IsGcd, ◌∣◌}
+use Rattle.std.proofs.Common.{◌≡◌, ℕ, ◌*◌, ◌/◌, ◌<◌, ◌≤◌, ◌^◌, refl, ap, arith}
 use Rattle.std.proofs.Math.Nat.{pow-le-pow_right, one-le-pow, div-mul_cancel}
 use Rattle.lola_value.specs.Ratio.{Ratio}
-use Rattle.lola_value.specs.Rate.{IsLowest, IsRateOf, IsWithinLimits}
+use Rattle.lola_value.specs.Rate.{IsLowest, IsRateOf}
 use Rattle.lola_value.proofs.Divisors.{cancel_right, lowest_by_gcd, lowest_is_one, same_ratio, part_positive}
 use Rattle.lola_value.proofs.Rates.{AreParts, by_divisor}
 use Rattle.lola_names.specs.Quantities.{IsReduced, IsInRange}

@@ -1,7 +1,5 @@
 -- The names of each form of a tree.
-use Rattle.std.proofs.Common.{◌≡◌, ℕ, suc, List, [], ◌∷◌, ◌++◌, Option, length, refl, sym, ap, ap₂, ◌∙◌}
-use Rattle.std.specs.List.{flat_map}
-use Rattle.lola_value.specs.declared.front.Refusal.{Refusal}
+use Rattle.std.proofs.Common.{◌≡◌, ℕ, suc, List, ◌++◌, Option, length, refl, ap, ap₂, ◌∙◌}
 use Rattle.lola_tree.specs.declared.literals.Name.{Name}
 use Rattle.lola_tree.specs.declared.expressions.Prefix.{Prefix}
 use Rattle.lola_tree.specs.declared.expressions.Binary.{Binary}

@@ -1,5 +1,5 @@
 -- The refusals of names: E5 Duplicate, E6 Unknown, E7 TooMany, E8 BadArity, as the table of refusals of the language has them.
-use Rattle.std.specs.Prelude.{ℕ, suc, zero, ◌+◌, List, [], ◌∷◌, ◌++◌, Option, Some, None, Bool, true, false, ◌&&◌, if◌then◌else◌, is_some, nat_eq, nat_lt, length, map, slice_get}
+use Rattle.std.specs.Prelude.{ℕ, suc, ◌+◌, List, [], ◌∷◌, ◌++◌, Option, Some, None, Bool, true, false, ◌&&◌, if◌then◌else◌, is_some, nat_eq, nat_lt, length, map, slice_get}
 use Rattle.std.specs.List.{flat_map}
 use Rattle.lola_value.specs.declared.front.Code.{Code}
 use Rattle.lola_value.specs.declared.front.Code.TheVariants as code

@@ -41,11 +41,7 @@ fn declare(
 }
 
 /// Inputs are declared.
-fn declare_inputs(
-    inputs: &[Typed],
-    names: &mut Names,
-    found: &mut Refusals,
-) -> Result<(), Memory>
+fn declare_inputs(inputs: &[Typed], names: &mut Names, found: &mut Refusals) -> Result<(), Memory>
     ensures found { OnOk result (Finds (repeated names.old (map (λ (t : TypedValue). (t.name, is.Input)) inputs.now)) found.old found.new) }
     ensures names { OnOk result (names.new ≡ with_names names.old (map (λ (t : TypedValue). (t.name, is.Input)) inputs.now)) }
 {

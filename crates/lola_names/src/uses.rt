@@ -156,10 +156,7 @@ fn argument_uses(parameters: &Names, names: &Names, xs: &[Expr], found: &mut Ref
 fn input_use(names: &Names, name: &Name, found: &mut Refusals)
     ensures { Finds (refused.input_use names.now name.now) found.old found.new }
 {
-    let is_input = matches!(
-        names.meaning(name.text.as_bytes()),
-        Some(Meaning::Input)
-    );
+    let is_input = matches!(names.meaning(name.text.as_bytes()), Some(Meaning::Input));
     note_unless(is_input, Code::Unknown, name.at, found);
 }
 

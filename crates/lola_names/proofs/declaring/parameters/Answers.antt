@@ -1,5 +1,5 @@
 use Rattle.lola_names.specs.declared.names.Meaning.TheVariants as is
-use Rattle.lola_names.proofs.Repeats.{repeated_turn, repeated_end, names_turn, names_end, parameters_turn, parameters_end, all_turn, all_end, declarations_turn, declarations_end}
+use Rattle.lola_names.proofs.Repeats.{names_turn, names_end}
 use Rattle.lola_names.proofs.declaring.parameters.Goals as goal
 
 pub loop-parameter-preserved : goal.loop-parameter-preserved

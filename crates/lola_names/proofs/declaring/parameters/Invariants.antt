@@ -1,8 +1,6 @@
 use Rattle.std.proofs.Common.{◌≡◌, drop, [], map}
 use Rattle.lola_names.specs.declared.names.Meaning.TheVariants as is
-use Rattle.lola_names.specs.Noted.{noted}
-use Rattle.lola_names.specs.Known.{parameters_of, with_names, with_declarations, names_of}
-use Rattle.lola_names.specs.Refused.{repeated, repeated_parameters, all_repeats}
+use Rattle.lola_names.specs.Known.{with_names}
 use Rattle.lola_names.proofs.Repeats.{named}
 use Rattle.lola_names.proofs.declaring.parameters.Given as goal
 

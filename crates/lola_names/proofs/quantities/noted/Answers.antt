@@ -1,4 +1,4 @@
-use Rattle.std.proofs.Common.{◌≡◌, ◌≤◌, ◌*◌, Option, Some, None, arith}
+use Rattle.std.proofs.Common.{◌≡◌, ◌≤◌, ◌*◌, arith}
 use Rattle.lola_value.specs.Ratio.{Ratio}
 use Rattle.lola_names.specs.Quantities.{IsInRange}
 use Rattle.lola_names.proofs.Rating.{own_rate}

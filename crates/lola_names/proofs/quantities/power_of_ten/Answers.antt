@@ -1,4 +1,4 @@
-use Rattle.std.proofs.Common.{◌≡◌, ◌^◌, ◌≤◌, arith}
+use Rattle.std.proofs.Common.{◌≡◌, ◌^◌, arith}
 use Rattle.lola_names.proofs.Rating.{ten_powers, ten_positive}
 use Rattle.lola_names.proofs.quantities.power_of_ten.Goals as goal
 

@@ -1,4 +1,4 @@
-use Rattle.std.proofs.Common.{◌≡◌, ℕ, subst, arith}
+use Rattle.std.proofs.Common.{subst, arith}
 use Rattle.lola_value.specs.Ratio.{Ratio}
 use Rattle.lola_value.proofs.Rates.{parts}
 use Rattle.lola_value.proofs.Divisors.{part_positive, lowest_by_gcd}

@@ -1,8 +1,5 @@
-use Rattle.std.proofs.Common.{◌≡◌, ◌++◌, [], List, None, subst, sym, ap, ap₂, ◌∙◌}
+use Rattle.std.proofs.Common.{◌≡◌, ◌++◌, [], None, ap, ap₂, ◌∙◌}
 use Rattle.std.specs.List.{flat_map}
-use Rattle.lola_value.specs.declared.front.Refusal.{Refusal}
-use Rattle.lola_tree.specs.declared.declarations.Declaration.{Declaration}
-use Rattle.lola_names.specs.Known.{names_of}
 use Rattle.lola_names.specs.Noted.{Finds, noted}
 use Rattle.lola_names.specs.Refused.{all_repeats, too_many, input_places, stream_places, declaration_uses, refusals_of}
 use Rattle.lola_names.proofs.Noting.{finds_more, first_noted}

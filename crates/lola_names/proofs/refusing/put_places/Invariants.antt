@@ -1,6 +1,5 @@
-use Rattle.std.proofs.Common.{◌≡◌, ◌++◌, drop, []}
-use Rattle.std.specs.List.{flat_map}
-use Rattle.lola_names.specs.Refused.{input_places, stream_places, places_of}
+use Rattle.std.proofs.Common.{◌≡◌, ◌++◌, drop}
+use Rattle.lola_names.specs.Refused.{places_of}
 use Rattle.lola_names.proofs.refusing.put_places.Given as goal
 
 abbrev pub invariant-loop-item : goal.invariant-loop-item

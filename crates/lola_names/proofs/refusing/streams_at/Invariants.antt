@@ -1,6 +1,6 @@
-use Rattle.std.proofs.Common.{◌≡◌, ◌++◌, drop, []}
+use Rattle.std.proofs.Common.{◌≡◌, ◌++◌, drop}
 use Rattle.std.specs.List.{flat_map}
-use Rattle.lola_names.specs.Refused.{input_places, stream_places, places_of}
+use Rattle.lola_names.specs.Refused.{stream_places}
 use Rattle.lola_names.proofs.refusing.streams_at.Given as goal
 
 abbrev pub invariant-loop-declaration : goal.invariant-loop-declaration

@@ -27,4 +27,3 @@ returns-in-Either t c =
     ap₂ (λ m n. formula_uses ns m ++ formula_uses ns n) c.get-in-Either.ensures c.get-in-Either-2.ensures ∙ sym (formula-Either ns b.field-0 b.x b.y) ∙ ap (formula_uses ns) (sym b.is) in
     subst (λ (rs : List Refusal). Finds rs c.args.found.now c.formula_uses-in-Either-2.new.found) same
     (finds_more _ _ _ (formula_uses ns x) (formula_uses ns y) c.formula_uses-in-Either.ensures c.formula_uses-in-Either-2.ensures)
-

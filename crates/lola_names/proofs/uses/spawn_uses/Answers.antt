@@ -1,10 +1,8 @@
-use Rattle.std.proofs.Common.{◌≡◌, ◌++◌, [], List, nat_eq, subst, sym, ap, ap₂, ◌∙◌}
+use Rattle.std.proofs.Common.{◌≡◌, ◌++◌, List, subst, sym, ap, ap₂, ◌∙◌}
 use Rattle.lola_value.specs.declared.front.Refusal.{Refusal}
-use Rattle.lola_value.specs.declared.front.Code.TheVariants as code
 use Rattle.lola_names.specs.Noted.{Finds}
-use Rattle.lola_names.specs.Known as known
 use Rattle.lola_names.specs.Refused as refused
-use Rattle.lola_names.proofs.Noting.{finds_more, ok_then}
+use Rattle.lola_names.proofs.Noting.{finds_more}
 use Rattle.lola_names.proofs.uses.spawn_uses.Goals as goal
 
 pub returns-in-Some : goal.returns-in-Some

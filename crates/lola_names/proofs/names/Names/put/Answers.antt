@@ -1,10 +1,10 @@
-use Rattle.std.proofs.Common.{◌≡◌, ◌++◌, ◌∷◌, [], ℕ, List, Option, None, false, is_some, nat_eq, sym, ap, ◌∙◌}
+use Rattle.std.proofs.Common.{◌≡◌, ◌++◌, ◌∷◌, [], None, false, is_some, nat_eq, sym, ap, ◌∙◌}
 use Rattle.std.specs.Cmp.Lexicographic.{pointwise}
 use Rattle.std.specs.Map.{lookup}
 use Rattle.std.specs.Bool.{if◌then◌else◌}
 use Rattle.indexmap.proofs.CallerLemmas.{insert_entry-new}
 use Rattle.lola_names.specs.Entries.{Entry, known_in}
-use Rattle.lola_names.specs.Known.{Known, meaning_in, with_name}
+use Rattle.lola_names.specs.Known.{Known, meaning_in}
 use Rattle.lola_names.proofs.Entering.{meaning-looked_up, known-pushed, none_of}
 use Rattle.lola_names.proofs.names.Names.put.Goals as goal
 
