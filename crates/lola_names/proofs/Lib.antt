@@ -4,3 +4,4 @@ pub mod Trees
 pub mod Repeats
 pub mod FirstDeclaration
 pub mod Rating
+mod Worked
