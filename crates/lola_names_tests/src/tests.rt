@@ -1,8 +1,11 @@
 //! Refusals of names at their places, and what is not refused.
 
 use lola_lexer::cut::tokens;
+use lola_model::spec::WrittenRate;
 use lola_names::name_refusal;
+use lola_names::quantities::{rate, span};
 use lola_parser::reading::parse;
+use lola_tree::literals::{Quantity, QuantityUnit};
 use lola_value::front::{FrontEnd, Refusal};
 use std::alloc::Global;
 
@@ -135,5 +138,63 @@ fn the_most_that_there_may_be(rt: HostRuntime) {
             wanted,
             "of {count} of {head}"
         );
+    }
+}
+
+/// A number of this unit, with so many of its digits behind the point.
+fn quantity(digits: u128, count: usize, decimals: usize, unit: QuantityUnit) -> Quantity {
+    Quantity {
+        digits,
+        count,
+        decimals,
+        unit,
+        at: 0,
+    }
+}
+
+#[test]
+fn durations(rt: HostRuntime) {
+    let table = [
+        (quantity(1, 1, 0, QuantityUnit::Minutes), 60_000_000_000),
+        (quantity(15, 2, 1, QuantityUnit::Microseconds), 1_500),
+        (quantity(15, 2, 1, QuantityUnit::Nanoseconds), 0),
+        (quantity(0, 1, 0, QuantityUnit::Seconds), 0),
+        (
+            quantity(4_000_000_000, 10, 0, QuantityUnit::Seconds),
+            4_000_000_000_000_000_000,
+        ),
+        (quantity(4_000_000_001, 10, 0, QuantityUnit::Seconds), 0),
+        (quantity(1, 19, 0, QuantityUnit::Seconds), 0),
+        (quantity(1, 1, 0, QuantityUnit::Hertz), 0),
+    ];
+    for (written, nanoseconds) in table {
+        assert_eq!(rt; span(&written), nanoseconds, "of {written:?}");
+    }
+}
+
+/// A rate's parts in Hz, 0 and 0 where it is out of range, 0 and 1 where it is too fast.
+fn parts(written: WrittenRate) -> (u64, u64) {
+    match written {
+        WrittenRate::OutOfRange => (0, 0),
+        WrittenRate::TooFast => (0, 1),
+        WrittenRate::Of(rate) => (rate.num(), rate.den()),
+    }
+}
+
+#[test]
+fn rates(rt: HostRuntime) {
+    let table = [
+        (quantity(1, 1, 0, QuantityUnit::Hertz), (1, 1)),
+        (quantity(500, 3, 0, QuantityUnit::Millihertz), (1, 2)),
+        (quantity(25, 2, 1, QuantityUnit::Kilohertz), (2_500, 1)),
+        (quantity(1, 1, 0, QuantityUnit::Megahertz), (1_000_000, 1)),
+        (quantity(2, 1, 0, QuantityUnit::Megahertz), (0, 1)),
+        (quantity(0, 1, 0, QuantityUnit::Hertz), (0, 0)),
+        (quantity(100, 3, 0, QuantityUnit::Milliseconds), (10, 1)),
+        (quantity(999, 3, 0, QuantityUnit::Nanoseconds), (0, 1)),
+        (quantity(3, 1, 0, QuantityUnit::Seconds), (1, 3)),
+    ];
+    for (written, wanted) in table {
+        assert_eq!(rt; parts(rate(&written)), wanted, "of {written:?}");
     }
 }
