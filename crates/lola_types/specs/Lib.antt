@@ -1,0 +1,4 @@
+pub mod Found
+pub mod LeftOut
+pub mod Refused
+pub mod Around

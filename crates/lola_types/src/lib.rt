@@ -1,0 +1,6 @@
+//! The kinds of a specification: those that are left out are found, and what the table of kinds forbids is refused.
+#![tactic(auto)]
+
+pub mod around;
+pub mod found;
+pub mod part;
