@@ -4,3 +4,4 @@
 pub mod around;
 pub mod found;
 pub mod part;
+mod refused;

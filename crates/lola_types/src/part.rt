@@ -1,8 +1,9 @@
 //! What each part of an expression is.
 
-ghost use Rattle.std.specs.Prelude.{◌≡◌, slice_get};
+ghost use Rattle.std.specs.Prelude.{◌≡◌, ◌&&◌, ◌||◌, false, slice_get};
+ghost use Rattle.lola_model.specs.Typing.{is_direct};
 ghost use Rattle.lola_types.specs.Around.{setting};
-ghost use Rattle.lola_types.specs.Found.{found as found_in, found_all, kind_found, parameters_at as parameters_of, window_parameters, window_at, some_broken, arguments_fit};
+ghost use Rattle.lola_types.specs.Found.{found as found_in, found_all, kind_found, parameters_at as parameters_of, window_parameters, window_at, some_broken, arguments_fit, is_broken, argument_fits, of_kind};
 
 use crate::around::Around;
 use crate::found::{self, Found};
@@ -63,5 +64,82 @@ pub fn fitting_window(around: &Around, window: Option<WindowSpec>) -> Found
     match window {
         None => Found::Broken,
         Some(window) => found::window(window, kind_of(around, window.target)),
+    }
+}
+
+/// What a direct access, or another, of a stream is whose arguments fit.
+pub fn fitting_read(around: &Around, stream: u32, access: Access) -> Found
+    ensures { result ≡ of_kind (kind_found (setting around.now) stream) (is_direct access) }
+{
+    found::of_kind(kind_of(around, stream), matches!(access, Access::Direct))
+}
+
+/// What arguments are together, of which the first is this and the others are those.
+pub fn with_first(first: Found, want: Kind, others: Fitting) -> Fitting
+    ensures broken { result.broken ≡ (is_broken first || others.broken) }
+    ensures fits { result.fits ≡ (argument_fits first want && others.fits) }
+{
+    Fitting {
+        broken: first.is_broken() || others.broken,
+        fits: found::fits(first, want) && others.fits,
+    }
+}
+
+/// The same, where there is no parameter for the first.
+pub fn with_more(first: Found, others: Fitting) -> Fitting
+    ensures broken { result.broken ≡ (is_broken first || others.broken) }
+    ensures fits { result.fits ≡ false }
+{
+    Fitting {
+        broken: first.is_broken() || others.broken,
+        fits: false,
+    }
+}
+
+/// What an expression is.
+#[cycle(find)]
+pub fn find(around: &Around, expr: &Expr) -> Found
+    ensures { result ≡ found_in (setting around.now) expr.now }
+{
+    match expr {
+        Expr::Literal(place, value) => found::literal(place.kind, *value),
+        Expr::Parameter(_, i) => found::parameter(around.parameters.get(*i as usize).copied()),
+        Expr::Read(_, stream, access, arguments) => {
+            let fitting = fit(around, arguments, parameters_at(around, *stream));
+            let part = fitting_read(around, *stream, *access);
+            found::reference(fitting.broken, fitting.fits, part)
+        }
+        Expr::Window(_, number, arguments) => {
+            let spec = window(around, *number);
+            let fitting = fit(around, arguments, target_parameters(around, spec));
+            found::reference(fitting.broken, fitting.fits, fitting_window(around, spec))
+        }
+        Expr::Defaults(_, a, b) => found::defaults(find(around, a), find(around, b)),
+        Expr::Unary(_, sign, a) => found::prefix(*sign, find(around, a)),
+        Expr::Both(_, sign, a, b) => found::binary(*sign, find(around, a), find(around, b)),
+        Expr::Choice(_, t, a, b) => {
+            found::choice(find(around, t), find(around, a), find(around, b))
+        }
+    }
+}
+
+/// What arguments are together, for parameters of these kinds.
+#[cycle(find)]
+fn fit(around: &Around, arguments: &Arguments, wants: &[Kind]) -> Fitting
+    ensures broken { result.broken ≡ some_broken (found_all (setting around.now) arguments.now) }
+    ensures fits { result.fits ≡ arguments_fit (found_all (setting around.now) arguments.now) wants.now }
+{
+    match arguments {
+        Arguments::End => Fitting {
+            broken: false,
+            fits: wants.is_empty(),
+        },
+        Arguments::More(first, rest) => {
+            let part = find(around, first);
+            match wants {
+                [] => with_more(part, fit(around, rest, &[])),
+                [want, others @ ..] => with_first(part, *want, fit(around, rest, others)),
+            }
+        }
     }
 }
