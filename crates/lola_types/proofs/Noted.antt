@@ -1,5 +1,5 @@
 -- One list of refusals after another.
-use Rattle.std.proofs.Common.{◌≡◌, refl, ap, sym, ◌∙◌, List, [], ◌∷◌, ◌++◌, Option, Some, None}
+use Rattle.std.proofs.Common.{◌≡◌, refl, ap, sym, ◌∙◌, List, [], ◌∷◌, ◌++◌, Option, Some, None, Bool, true, false, if◌then◌else◌}
 use Rattle.lola_value.specs.declared.front.Refusal.{Refusal}
 use Rattle.lola_model.specs.Refusals.{earlier, first_of}
 use Rattle.lola_model.proofs.FirstRefusal.{grouped, first_of_both}
@@ -24,3 +24,8 @@ more_of_both o xs ys = ap (earlier o) (first_of_both xs ys) ∙ sym (grouped o (
 pub more_of_all : (xs : List Refusal) → with_more None xs ≡ first_of xs
 unfolding with_more
 more_of_all xs = refl
+
+pub more_where : (b : Bool) (o : Option Refusal) (xs : List Refusal) → (if b then o else earlier o (with_more None xs)) ≡ with_more o (if b then [] else xs)
+unfolding with_more
+more_where true o xs = sym (earlier_none o)
+more_where false o xs = refl

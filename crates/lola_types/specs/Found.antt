@@ -154,6 +154,12 @@ argument_fits Free want = is_integer want
 argument_fits Unknown want = true
 argument_fits Broken want = false
 
+-- .. where there is a parameter for it
+abbrev pub is_fitting : Found → Option Kind → Bool
+is_fitting p None = false
+is_fitting p (Some k) = argument_fits p k
+
+-- as many arguments as parameters, and each fits its parameter's kind
 abbrev pub arguments_fit : List Found → List Kind → Bool
 arguments_fit [] [] = true
 arguments_fit (p ∷ ps) (k ∷ ks) = argument_fits p k && arguments_fit ps ks

@@ -112,8 +112,7 @@ module _ (s : Setting) where
   -- arguments, which take the kinds of the parameters
   abbrev pub argument_refusals : List Kind → Arguments → List Refusal
   argument_refusals ks End = []
-  argument_refusals [] (More' u a v rest) = []
-  argument_refusals (k ∷ ks) (More' u a v rest) = taking_refusals (Some k) (found s a) a ++ argument_refusals ks rest
+  argument_refusals ks (More' u a v rest) = taking_refusals (slice_get ks 0) (found s a) a ++ argument_refusals (drop 1 ks) rest
 
   -- .. where the row of the access holds
   abbrev pub fitting_refusals : Found → List Kind → Arguments → List Refusal

@@ -1,9 +1,9 @@
 //! What each part of an expression is.
 
-ghost use Rattle.std.specs.Prelude.{◌≡◌, ◌&&◌, ◌||◌, false, slice_get};
+ghost use Rattle.std.specs.Prelude.{◌≡◌, ◌&&◌, ◌||◌, drop, slice_get};
 ghost use Rattle.lola_model.specs.Typing.{is_direct};
 ghost use Rattle.lola_types.specs.Around.{setting};
-ghost use Rattle.lola_types.specs.Found.{found as found_in, found_all, kind_found, parameters_at as parameters_of, window_parameters, window_at, some_broken, arguments_fit, is_broken, argument_fits, of_kind};
+ghost use Rattle.lola_types.specs.Found.{found as found_in, found_all, kind_found, parameters_at as parameters_of, window_parameters, window_at, some_broken, arguments_fit, is_broken, is_fitting, of_kind};
 
 use crate::around::Around;
 use crate::found::{self, Found};
@@ -74,25 +74,28 @@ pub fn fitting_read(around: &Around, stream: u32, access: Access) -> Found
     found::of_kind(kind_of(around, stream), matches!(access, Access::Direct))
 }
 
-/// What arguments are together, of which the first is this and the others are those.
-pub fn with_first(first: Found, want: Kind, others: Fitting) -> Fitting
-    ensures broken { result.broken ≡ (is_broken first || others.broken) }
-    ensures fits { result.fits ≡ (argument_fits first want && others.fits) }
+/// The kinds behind the first.
+pub fn behind(wants: &[Kind]) -> &[Kind]
+    ensures { result.now ≡ drop 1 wants.now }
 {
-    Fitting {
-        broken: first.is_broken() || others.broken,
-        fits: found::fits(first, want) && others.fits,
+    match wants {
+        [] => wants,
+        [_, others @ ..] => others,
     }
 }
 
-/// The same, where there is no parameter for the first.
-pub fn with_more(first: Found, others: Fitting) -> Fitting
+/// What arguments are together, of which the first is this, for a parameter of this kind, and the others are those.
+pub fn with_first(first: Found, want: Option<Kind>, others: Fitting) -> Fitting
     ensures broken { result.broken ≡ (is_broken first || others.broken) }
-    ensures fits { result.fits ≡ false }
+    ensures fits { result.fits ≡ (is_fitting first want && others.fits) }
 {
+    let is_fitting = match want {
+        None => false,
+        Some(kind) => found::fits(first, kind),
+    };
     Fitting {
         broken: first.is_broken() || others.broken,
-        fits: false,
+        fits: is_fitting && others.fits,
     }
 }
 
@@ -125,6 +128,7 @@ pub fn find(around: &Around, expr: &Expr) -> Found
 
 /// What arguments are together, for parameters of these kinds.
 #[cycle(find)]
+#[tactic(auto, using(crate::proofs::Arguments::fit_first))]
 fn fit(around: &Around, arguments: &Arguments, wants: &[Kind]) -> Fitting
     ensures broken { result.broken ≡ some_broken (found_all (setting around.now) arguments.now) }
     ensures fits { result.fits ≡ arguments_fit (found_all (setting around.now) arguments.now) wants.now }
@@ -136,10 +140,8 @@ fn fit(around: &Around, arguments: &Arguments, wants: &[Kind]) -> Fitting
         },
         Arguments::More(first, rest) => {
             let part = find(around, first);
-            match wants {
-                [] => with_more(part, fit(around, rest, &[])),
-                [want, others @ ..] => with_first(part, *want, fit(around, rest, others)),
-            }
+            let others = fit(around, rest, behind(wants));
+            with_first(part, wants.first().copied(), others)
         }
     }
 }
