@@ -3,5 +3,6 @@
 
 pub mod around;
 pub mod found;
+pub mod left_out;
 pub mod part;
 mod refused;
