@@ -1,5 +1,5 @@
 -- What is refused of a specification for its kinds: E9 WrongType and E10 LiteralRange, each with its place.
-use Rattle.std.specs.Prelude.{ℕ, List, [], ◌∷◌, ◌++◌, Option, Some, None, Bool, true, false, not, ◌&&◌, ◌||◌, if◌then◌else◌, flat_map, map, drop, slice_get}
+use Rattle.std.specs.Prelude.{ℕ, List, [], ◌∷◌, ◌++◌, Option, Some, None, Bool, true, false, not, ◌&&◌, ◌||◌, if◌then◌else◌, flat_map, drop, slice_get}
 use Rattle.lola_value.specs.declared.front.Code.TheVariants as code
 use Rattle.lola_value.specs.declared.front.Refusal.{Refusal}
 use Rattle.lola_value.specs.declared.value.Kind.{Kind}
@@ -169,25 +169,36 @@ abbrev pub whole_refusals : Setting → Kind → ℕ → Expr → List Refusal
 whole_refusals s want at e =
     refusals_in s e ++ (wanted_refusals want at (found s e) ++ taking_refusals (number_kind want) (found s e) e)
 
+-- a literal, which takes this kind if there is one
+abbrev pub taken_literal : ℕ → Value → Option Kind → List Refusal
+taken_literal at v None = []
+taken_literal at v (Some k) = literal_refusals at v k
+
 -- a constant's literal
 abbrev pub constant_refusals : Constant → List Refusal
 constant_refusals c =
     wanted_refusals c.kind c.before (literal_part None c.literal)
-    ++ (if is_integer c.kind then literal_refusals c.place c.literal c.kind else [])
+    ++ taken_literal c.place c.literal (number_kind c.kind)
 
--- each whole expression with its kind, and the place before it
-abbrev pub spec_wholes : Spec → List (Option Kind) → List Whole
-spec_wholes spec kinds = wholes_from 0 spec.streams kinds
+-- where parameters of these kinds are in scope
+abbrev pub with_parameters : Setting → List Kind → Setting
+with_parameters s ks = record { streams = s.streams; windows = s.windows; kinds = s.kinds; parameters = ks }
 
-abbrev pub refusals_of_whole : Spec → List (Option Kind) → Whole → List Refusal
-refusals_of_whole spec kinds w = whole_refusals (setting_of spec kinds w.parameters) w.want w.before w.expr
+-- a whole expression of a clause, with what is asked of it there
+abbrev pub refusals_of_whole : Setting → Whole → List Refusal
+refusals_of_whole s w = whole_refusals (with_parameters s w.parameters) w.want w.before w.expr
+
+-- quantities and offsets that are out of range
+abbrev pub range_refusals : List ℕ → List Refusal
+range_refusals [] = []
+range_refusals (at ∷ ats) = record { code = code.LiteralRange; at = at } ∷ range_refusals ats
 
 -- all that is refused of a specification for its kinds, where its streams are of these
 abbrev pub refusals_by : Spec → List (Option Kind) → List Refusal
 refusals_by spec kinds =
     flat_map constant_refusals spec.constants
-    ++ (flat_map (refusals_of_whole spec kinds) (spec_wholes spec kinds)
-    ++ map (λ at. record { code = code.LiteralRange; at = at }) spec.refused)
+    ++ (flat_map (refusals_of_whole (setting_of spec kinds [])) (wholes_from 0 spec.streams kinds)
+    ++ range_refusals spec.refused)
 
 -- .. by the kinds that are declared or found
 abbrev pub kind_refusals : Spec → List Refusal

@@ -6,3 +6,4 @@ pub mod found;
 pub mod left_out;
 pub mod part;
 mod refused;
+pub mod wholes;

@@ -53,7 +53,7 @@ fn operand_kind(sign: Binary, whole: Found, operands: Found) -> Option<Kind>
 }
 
 /// A literal takes a kind: a number that the kind does not have is refused.
-fn take_literal(at: u32, value: Value, kind: Kind, refusals: &mut Refusals)
+pub fn take_literal(at: u32, value: Value, kind: Kind, refusals: &mut Refusals)
     ensures { refusals.new ≡ and_more refusals.old (literal_refusals at value kind) }
 {
     let (least, greatest) = range(kind);
@@ -92,7 +92,7 @@ fn take(expr: &Expr, kind: Kind, refusals: &mut Refusals)
 }
 
 /// An operand takes a kind, if there is one and it is free.
-fn take_if_free(kind: Option<Kind>, part: Found, expr: &Expr, refusals: &mut Refusals)
+pub fn take_if_free(kind: Option<Kind>, part: Found, expr: &Expr, refusals: &mut Refusals)
     ensures { refusals.new ≡ and_more refusals.old (taking_refusals kind part expr.now) }
 {
     match kind {
@@ -124,7 +124,7 @@ fn note_pending(whole: Found, pending: &Refusals, refusals: &mut Refusals)
 
 /// Notes what each part of an expression refuses, and says what the whole is.
 #[cycle(judge)]
-fn judge(around: &Around, expr: &Expr, refusals: &mut Refusals) -> Found
+pub fn judge(around: &Around, expr: &Expr, refusals: &mut Refusals) -> Found
     ensures found { result ≡ found_in (setting around.now) expr.now }
     ensures noted { refusals.new ≡ and_more refusals.old (refusals_in (setting around.now) expr.now) }
 {
