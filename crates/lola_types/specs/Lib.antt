@@ -2,3 +2,4 @@ pub mod Found
 pub mod LeftOut
 pub mod Refused
 pub mod Around
+pub mod Filled

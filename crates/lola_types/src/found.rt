@@ -4,7 +4,7 @@ ghost use Rattle.std.specs.Prelude.{◌≡◌};
 ghost use Rattle.lola_model.specs.Typing.{same_kind as are_same, takes as takes_kind, is_total as gives_of_none};
 ghost use Rattle.lola_value.specs.Kinds.{is_integer as has_numbers, is_signed as has_negatives};
 ghost use Rattle.lola_model.specs.Store.{gives_kind as kind_given};
-ghost use Rattle.lola_types.specs.Found.{is_broken as broken, is_unknown as unknown, with_kind as joined_to_kind, with_free as joined_to_free, joint as joined, certain_part, integer_part, signed_part, truth_part, unless_broken, made_certain as as_certain, by_row as by_the_row, by_two as by_the_two, arithmetic_part, order_part, equality_part, connected_part, binary_part, prefix_part, defaults_part, choice_part, argument_fits, of_kind as part_of_kind, reference_part, known_window as window_of_kind, early_window as window_before, window_part, literal_part, parameter_part};
+ghost use Rattle.lola_types.specs.Found.{is_broken as broken, is_unknown as unknown, with_kind as joined_to_kind, with_free as joined_to_free, joint as joined, certain_part, integer_part, signed_part, truth_part, unless_broken, made_certain as as_certain, by_row as by_the_row, by_two as by_the_two, arithmetic_part, order_part, equality_part, connected_part, binary_part, prefix_part, defaults_part, choice_part, argument_fits, of_kind as part_of_kind, reference_part, known_window as window_of_kind, early_window as window_before, window_part, literal_part};
 
 use lola_model::expr::{Binary, Prefix};
 use lola_model::spec::{Agg, WindowSpec};
@@ -373,15 +373,5 @@ pub fn literal(noted: Option<Kind>, value: Value) -> Found
             Value::Int(_) => Found::Free,
             Value::Text(_) => Found::Of(Kind::Text, true),
         },
-    }
-}
-
-/// A parameter in scope, by its kind.
-pub fn parameter(kind: Option<Kind>) -> Found
-    ensures { result ≡ parameter_part kind }
-{
-    match kind {
-        None => Found::Broken,
-        Some(kind) => Found::Of(kind, true),
     }
 }

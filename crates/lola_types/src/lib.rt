@@ -2,6 +2,8 @@
 #![tactic(auto)]
 
 pub mod around;
+mod copies;
+pub mod filled;
 pub mod found;
 pub mod left_out;
 pub mod part;

@@ -3,7 +3,7 @@
 ghost use Rattle.std.specs.Prelude.{◌≡◌, ◌&&◌, ◌||◌, drop, slice_get};
 ghost use Rattle.lola_model.specs.Typing.{is_direct};
 ghost use Rattle.lola_types.specs.Around.{setting};
-ghost use Rattle.lola_types.specs.Found.{found as found_in, found_all, kind_found, parameters_at as parameters_of, window_parameters, window_at, some_broken, arguments_fit, is_broken, is_fitting, of_kind};
+ghost use Rattle.lola_types.specs.Found.{found as found_in, found_all, kind_found, parameters_at as parameters_of, window_parameters, window_at, some_broken, arguments_fit, is_broken, is_fitting, of_kind, parameter_part};
 
 use crate::around::Around;
 use crate::found::{self, Found};
@@ -67,6 +67,16 @@ pub fn fitting_window(around: &Around, window: Option<WindowSpec>) -> Found
     }
 }
 
+/// What the parameter of a number is.
+pub fn parameter(around: &Around, number: u32) -> Found
+    ensures { result ≡ parameter_part (slice_get around.now.parameters.now number) }
+{
+    match around.parameters.get(number as usize) {
+        None => Found::Broken,
+        Some(kind) => Found::Of(*kind, true),
+    }
+}
+
 /// What a direct access, or another, of a stream is whose arguments fit.
 pub fn fitting_read(around: &Around, stream: u32, access: Access) -> Found
     ensures { result ≡ of_kind (kind_found (setting around.now) stream) (is_direct access) }
@@ -106,7 +116,7 @@ pub fn find(around: &Around, expr: &Expr) -> Found
 {
     match expr {
         Expr::Literal(place, value) => found::literal(place.kind, *value),
-        Expr::Parameter(_, i) => found::parameter(around.parameters.get(*i as usize).copied()),
+        Expr::Parameter(_, i) => parameter(around, *i),
         Expr::Read(_, stream, access, arguments) => {
             let fitting = fit(around, arguments, parameters_at(around, *stream));
             let part = fitting_read(around, *stream, *access);

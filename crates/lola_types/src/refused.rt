@@ -10,7 +10,7 @@ ghost use Rattle.lola_types.specs.Refused.{with_more as and_more, taken as kind_
 use crate::around::Around;
 use crate::found::{self, Found, is_integer, is_signed};
 use crate::part::{
-    Fitting, behind, fitting_read, fitting_window, parameters_at, target_parameters, window,
+    Fitting, behind, fitting_read, fitting_window, parameter, parameters_at, target_parameters, window,
     with_first,
 };
 use lola_model::expr::{Arguments, Binary, Expr, Prefix};
@@ -20,7 +20,7 @@ use lola_value::front::Code;
 use lola_value::value::{Kind, Value};
 
 /// The kind that the free operands of a part take where operands and the part are of one kind.
-fn taken(whole: Found) -> Option<Kind>
+pub fn taken(whole: Found) -> Option<Kind>
     ensures { result ≡ kind_taken whole }
 {
     match whole {
@@ -42,7 +42,7 @@ fn compared(whole: Found, operands: Found) -> Option<Kind>
 }
 
 /// The kind that the free operands of a binary sign take.
-fn operand_kind(sign: Binary, whole: Found, operands: Found) -> Option<Kind>
+pub fn operand_kind(sign: Binary, whole: Found, operands: Found) -> Option<Kind>
     ensures { result ≡ kind_of_operands sign whole operands }
 {
     match sign {
@@ -130,7 +130,7 @@ pub fn judge(around: &Around, expr: &Expr, refusals: &mut Refusals) -> Found
 {
     match expr {
         Expr::Literal(place, value) => found::literal(place.kind, *value),
-        Expr::Parameter(_, i) => found::parameter(around.parameters.get(*i as usize).copied()),
+        Expr::Parameter(_, i) => parameter(around, *i),
         Expr::Read(place, stream, access, arguments) => {
             let wants = parameters_at(around, *stream);
             let part = fitting_read(around, *stream, *access);
