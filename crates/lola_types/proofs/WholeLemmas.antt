@@ -19,12 +19,12 @@ pub more_of_wholes : (o : Option Refusal) (s : Setting) (xs ys : List Whole)
     → with_more o (flat_map (refusals_of_whole s) (xs ++ ys)) ≡ with_more (with_more o (flat_map (refusals_of_whole s) xs)) (flat_map (refusals_of_whole s) ys)
 more_of_wholes o s xs ys = ap (with_more o) (flat_map-append (refusals_of_whole s) xs ys) ∙ more_of_both o (flat_map (refusals_of_whole s) xs) (flat_map (refusals_of_whole s) ys)
 
-get_of_drop : {A : Type 0} (i : ℕ) (xs : List A) → slice_get (drop i xs) 0 ≡ slice_get xs i
+pub get_of_drop : {A : Type 0} (i : ℕ) (xs : List A) → slice_get (drop i xs) 0 ≡ slice_get xs i
 get_of_drop zero xs = refl
 get_of_drop (suc i) [] = refl
 get_of_drop (suc i) (x ∷ xs) = get_of_drop i xs
 
-drop_of_drop : {A : Type 0} (i : ℕ) (xs : List A) → drop 1 (drop i xs) ≡ drop (suc i) xs
+pub drop_of_drop : {A : Type 0} (i : ℕ) (xs : List A) → drop 1 (drop i xs) ≡ drop (suc i) xs
 drop_of_drop zero xs = refl
 drop_of_drop (suc i) [] = refl
 drop_of_drop (suc i) (x ∷ xs) = drop_of_drop i xs

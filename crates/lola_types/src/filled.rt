@@ -61,7 +61,7 @@ fn settle(expr: &mut Expr, kind: Kind)
 }
 
 /// Gives an operand the kind that it takes, if there is one and it is free.
-fn settle_if(kind: Option<Kind>, part: Found, expr: &mut Expr)
+pub fn settle_if(kind: Option<Kind>, part: Found, expr: &mut Expr)
     ensures { expr.new ≡ settled_if kind part expr.old }
 {
     match kind {

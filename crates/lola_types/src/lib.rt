@@ -5,6 +5,7 @@ pub mod around;
 mod copies;
 pub mod filled;
 pub mod found;
+pub mod full;
 pub mod left_out;
 pub mod part;
 mod refused;

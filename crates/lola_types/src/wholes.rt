@@ -34,7 +34,7 @@ fn note_wanted(want: Kind, at: u32, part: Found, refusals: &mut Refusals)
 }
 
 /// The kind, if it is one of numbers.
-fn number_kind(kind: Kind) -> Option<Kind>
+pub fn number_kind(kind: Kind) -> Option<Kind>
     ensures { result ≡ number_kind_of kind }
 {
     if is_integer(kind) { Some(kind) } else { None }
@@ -50,7 +50,7 @@ fn judge_whole(around: &Around, want: Kind, at: u32, expr: &Expr, refusals: &mut
 }
 
 /// The same where parameters of these kinds are in scope.
-fn within<'a>(around: &Around<'a>, parameters: &'a [Kind]) -> Around<'a>
+pub fn within<'a>(around: &Around<'a>, parameters: &'a [Kind]) -> Around<'a>
     ensures { setting result ≡ with_parameters (setting around.now) parameters.now }
 {
     Around {
@@ -78,7 +78,7 @@ fn judge_when(
 }
 
 /// The kind of this number, or `Int64`.
-fn kind_at(kinds: &[Kind], number: usize) -> Kind
+pub fn kind_at(kinds: &[Kind], number: usize) -> Kind
     ensures { result ≡ unwrap_or (slice_get kinds.now number) kind.Int64 }
 {
     match kinds.get(number) {
@@ -98,7 +98,7 @@ fn place_at(places: &[u32], number: usize) -> u32
 }
 
 /// The kind of the stream of this number, or `Int64`.
-fn stream_kind(kinds: &[Option<Kind>], number: usize) -> Kind
+pub fn stream_kind(kinds: &[Option<Kind>], number: usize) -> Kind
     ensures { result ≡ unwrap_or (unwrap_or (slice_get kinds.now number) None) kind.Int64 }
 {
     match kinds.get(number) {
