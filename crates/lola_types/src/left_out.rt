@@ -133,10 +133,11 @@ fn declared(alloc: Global, streams: &[Stream]) -> Result<Vec<Option<Kind>>, Memo
 
 /// The kinds of all streams, those that are left out too: in rounds, each stream whose kind is not found gets that of its
 /// eval clause's expression, if that has one by the kinds from before the round; where a round finds nothing, the least of
-/// them gets `Int64`.
-#[tactic(auto, using(crate::proofs::RoundLemmas::rounds_of_found, crate::proofs::RoundLemmas::round_step))]
+/// them gets `Int64`. So each of them is found.
+#[tactic(auto, using(crate::proofs::RoundLemmas::rounds_of_found, crate::proofs::RoundLemmas::round_step, crate::proofs::RoundLemmas::all_found))]
 pub fn kinds(alloc: Global, spec: &Spec) -> Result<Vec<Option<Kind>>, Memory>
-    ensures { IfOk result (λ kinds. kinds.items ≡ kinds_of spec.now) }
+    ensures kinds { IfOk result (λ kinds. kinds.items ≡ kinds_of spec.now) }
+    ensures found { missing_kinds (kinds_of spec.now) ≡ 0 }
 {
     let streams = spec.streams.as_slice();
     let mut kinds = declared(alloc, streams)?;
