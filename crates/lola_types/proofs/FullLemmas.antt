@@ -24,7 +24,7 @@ pub with_filled : (s : Setting) (wants : List Kind) (es made : List Expr) (i : �
 with_filled s wants es made i e f h g t before rest r =
     let head : SameTree (filled_whole s (unwrap_or (slice_get (drop i wants) 0) kind.Int64) e) f = subst (λ z. SameTree (filled_whole s (unwrap_or z kind.Int64) e) f) (sym (get_of_drop i wants)) t in
     let more : FilledWith s (drop 1 (drop i wants)) (drop (suc i) es) rest =
-        subst (λ z. FilledWith s z (drop (suc i) es) rest) (next_place i wants) (subst (λ z. FilledWith s (drop (i + 1) wants) (drop z es) rest) (add-one i) r) in
+    subst (λ z. FilledWith s z (drop (suc i) es) rest) (next_place i wants) (subst (λ z. FilledWith s (drop (i + 1) wants) (drop z es) rest) (add-one i) r) in
     let all : FilledWith s (drop i wants) (drop i es) (f ∷ rest) = subst (λ z. FilledWith s (drop i wants) z (f ∷ rest)) (sym (at_place es i e h g)) (head, more) in
     subst (λ z. FilledWith s wants es z) (sym (append_assoc made (f ∷ []) rest)) (before (f ∷ rest) all)
 
@@ -35,7 +35,7 @@ pub stream_filled : (s : Setting) (kinds : List (Option Kind)) (ss made : List S
 stream_filled s kinds ss made i a b h g t before rest r =
     let head : FilledStream s (unwrap_or (unwrap_or (slice_get (drop i kinds) 0) None) kind.Int64) a b = subst (λ z. FilledStream s (unwrap_or (unwrap_or z None) kind.Int64) a b) (sym (get_of_drop i kinds)) t in
     let more : FilledStreams s (drop 1 (drop i kinds)) (drop (suc i) ss) rest =
-        subst (λ z. FilledStreams s z (drop (suc i) ss) rest) (next_place i kinds) (subst (λ z. FilledStreams s (drop (i + 1) kinds) (drop z ss) rest) (add-one i) r) in
+    subst (λ z. FilledStreams s z (drop (suc i) ss) rest) (next_place i kinds) (subst (λ z. FilledStreams s (drop (i + 1) kinds) (drop z ss) rest) (add-one i) r) in
     let all : FilledStreams s (drop i kinds) (drop i ss) (b ∷ rest) = subst (λ z. FilledStreams s (drop i kinds) z (b ∷ rest)) (sym (at_place ss i a h g)) (head, more) in
     subst (λ z. FilledStreams s kinds ss z) (sym (append_assoc made (b ∷ []) rest)) (before (b ∷ rest) all)
 

@@ -37,7 +37,7 @@ module _ (o : Option Refusal) (s : Setting) where
 
   pub with_step : (n : ℕ) (p : Part) (ks wants : List Kind) (ats : List ℕ) (es : List Expr) (i : ℕ) (e : Expr) → i < length es → e ≡ get_or es i e
       → with_more o (flat_map (refusals_of_whole s) (with_wholes n p ks (drop i wants) (drop i ats) (drop i es)))
-        ≡ with_more (with_more o (whole_refusals (with_parameters s ks) (unwrap_or (slice_get wants i) kind.Int64) (unwrap_or (slice_get ats i) 0) e)) (flat_map (refusals_of_whole s) (with_wholes n p ks (drop (i + 1) wants) (drop (i + 1) ats) (drop (i + 1) es)))
+      ≡ with_more (with_more o (whole_refusals (with_parameters s ks) (unwrap_or (slice_get wants i) kind.Int64) (unwrap_or (slice_get ats i) 0) e)) (flat_map (refusals_of_whole s) (with_wholes n p ks (drop (i + 1) wants) (drop (i + 1) ats) (drop (i + 1) es)))
   unfolding with_tail
   with_step n p ks wants ats es i e h f =
       let c : drop i es ≡ e ∷ drop (suc i) es = drop-cons es i e h ∙ ap (λ z. z ∷ drop (suc i) es) (sym f) in
@@ -56,7 +56,7 @@ module _ (o : Option Refusal) (s : Setting) where
 
   pub stream_step : (kinds : List (Option Kind)) (ss : List Stream) (i : ℕ) (t : Stream) → i < length ss → t ≡ get_or ss i t
       → with_more o (flat_map (refusals_of_whole s) (wholes_from i (drop i ss) (drop i kinds)))
-        ≡ with_more (with_more o (flat_map (refusals_of_whole s) (stream_wholes i t (unwrap_or (unwrap_or (slice_get kinds i) None) kind.Int64)))) (flat_map (refusals_of_whole s) (wholes_from (i + 1) (drop (i + 1) ss) (drop (i + 1) kinds)))
+      ≡ with_more (with_more o (flat_map (refusals_of_whole s) (stream_wholes i t (unwrap_or (unwrap_or (slice_get kinds i) None) kind.Int64)))) (flat_map (refusals_of_whole s) (wholes_from (i + 1) (drop (i + 1) ss) (drop (i + 1) kinds)))
   unfolding stream_tail
   stream_step kinds ss i t h f =
       let c : drop i ss ≡ t ∷ drop (suc i) ss = drop-cons ss i t h ∙ ap (λ z. z ∷ drop (suc i) ss) (sym f) in

@@ -63,18 +63,18 @@ module _ (s : Setting) where
     filled (Window place w args) = Window (note_part place (found s (Window place w args))) w (filled_all (window_parameters s (slice_get s.windows w)) args)
     filled (Defaults' place u a v b) =
         Defaults' (note_part place (found s (Defaults' place u a v b)))
-            u (settled_if (taken (found s (Defaults' place u a v b))) (found s a) (filled a))
-            v (settled_if (taken (found s (Defaults' place u a v b))) (found s b) (filled b))
+        u (settled_if (taken (found s (Defaults' place u a v b))) (found s a) (filled a))
+        v (settled_if (taken (found s (Defaults' place u a v b))) (found s b) (filled b))
     filled (Unary' place sign u a) =
         Unary' (note_part place (found s (Unary' place sign u a))) sign u (settled_if (taken (found s (Unary' place sign u a))) (found s a) (filled a))
     filled (Both' place sign u a v b) =
         Both' (note_part place (found s (Both' place sign u a v b))) sign
-            u (settled_if (operand_kind sign (found s (Both' place sign u a v b)) (joint (found s a) (found s b))) (found s a) (filled a))
-            v (settled_if (operand_kind sign (found s (Both' place sign u a v b)) (joint (found s a) (found s b))) (found s b) (filled b))
+        u (settled_if (operand_kind sign (found s (Both' place sign u a v b)) (joint (found s a) (found s b))) (found s a) (filled a))
+        v (settled_if (operand_kind sign (found s (Both' place sign u a v b)) (joint (found s a) (found s b))) (found s b) (filled b))
     filled (Choice' place u t v a w b) =
         Choice' (note_part place (found s (Choice' place u t v a w b))) u (filled t)
-            v (settled_if (taken (found s (Choice' place u t v a w b))) (found s a) (filled a))
-            w (settled_if (taken (found s (Choice' place u t v a w b))) (found s b) (filled b))
+        v (settled_if (taken (found s (Choice' place u t v a w b))) (found s a) (filled a))
+        w (settled_if (taken (found s (Choice' place u t v a w b))) (found s b) (filled b))
 
     -- arguments, which take the kinds of the parameters
     pub filled_all : List Kind → Arguments → Arguments

@@ -145,7 +145,7 @@ defaults_part a b = by_two a b (unless_broken (certain_part b) (made_certain (jo
 abbrev pub choice_part : Found → Found → Found → Found
 choice_part t a b =
     by_row (is_broken t || (is_broken a || is_broken b)) (is_unknown t || (is_unknown a || is_unknown b))
-        (unless_broken (truth_part t) (certain_part (joint a b))) (made_certain (joint a b))
+    (unless_broken (truth_part t) (certain_part (joint a b))) (made_certain (joint a b))
 
 -- an argument fits a parameter's kind; it may be optional
 abbrev pub argument_fits : Found → Kind → Bool

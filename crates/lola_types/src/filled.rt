@@ -9,8 +9,8 @@ ghost use Rattle.lola_types.specs.Filled.{note_part, settled, settled_if, filled
 use crate::around::Around;
 use crate::found::{self, Found};
 use crate::part::{
-    Fitting, behind, fitting_read, fitting_window, parameter, parameters_at, target_parameters, window,
-    with_first,
+    Fitting, behind, fitting_read, fitting_window, parameter, parameters_at, target_parameters,
+    window, with_first,
 };
 use crate::refused::{operand_kind, taken};
 use lola_model::expr::{Arguments, Expr, Place};

@@ -13,11 +13,7 @@ use lola_value::value::Kind;
 use std::alloc::Global;
 
 /// Where the clauses of a specification stand in which parameters of these kinds are in scope.
-pub fn standing<'a>(
-    spec: &'a Spec,
-    kinds: &'a [Option<Kind>],
-    parameters: &'a [Kind],
-) -> Around<'a>
+pub fn standing<'a>(spec: &'a Spec, kinds: &'a [Option<Kind>], parameters: &'a [Kind]) -> Around<'a>
     ensures { setting result ≡ setting_of spec.now kinds.now parameters.now }
 {
     Around {

@@ -10,8 +10,8 @@ ghost use Rattle.lola_types.specs.Refused.{with_more as and_more, taken as kind_
 use crate::around::Around;
 use crate::found::{self, Found, is_integer, is_signed};
 use crate::part::{
-    Fitting, behind, fitting_read, fitting_window, parameter, parameters_at, target_parameters, window,
-    with_first,
+    Fitting, behind, fitting_read, fitting_window, parameter, parameters_at, target_parameters,
+    window, with_first,
 };
 use lola_model::expr::{Arguments, Binary, Expr, Prefix};
 use lola_model::refusals::Refusals;
@@ -146,7 +146,12 @@ pub fn judge(around: &Around, expr: &Expr, refusals: &mut Refusals) -> Found
             let first = judge(around, a, refusals);
             let second = judge(around, b, refusals);
             let whole = found::defaults(first, second);
-            note_own(place.at, first.is_broken() || second.is_broken(), whole, refusals);
+            note_own(
+                place.at,
+                first.is_broken() || second.is_broken(),
+                whole,
+                refusals,
+            );
             take_if_free(taken(whole), first, a, refusals);
             take_if_free(taken(whole), second, b, refusals);
             whole
@@ -162,7 +167,12 @@ pub fn judge(around: &Around, expr: &Expr, refusals: &mut Refusals) -> Found
             let first = judge(around, a, refusals);
             let second = judge(around, b, refusals);
             let whole = found::binary(*sign, first, second);
-            note_own(place.at, first.is_broken() || second.is_broken(), whole, refusals);
+            note_own(
+                place.at,
+                first.is_broken() || second.is_broken(),
+                whole,
+                refusals,
+            );
             let kind = operand_kind(*sign, whole, first.joint(second));
             take_if_free(kind, first, a, refusals);
             take_if_free(kind, second, b, refusals);

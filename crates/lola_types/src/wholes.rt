@@ -142,7 +142,14 @@ fn judge_clause(
         Some(clause) => {
             judge_when(around, parameters, clause.when_at, &clause.when, refusals);
             let places = clause.with_at.as_slice();
-            judge_with(around, parameters, wants, places, clause.with.as_slice(), refusals);
+            judge_with(
+                around,
+                parameters,
+                wants,
+                places,
+                clause.with.as_slice(),
+                refusals,
+            );
         }
     }
 }

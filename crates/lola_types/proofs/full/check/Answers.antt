@@ -10,6 +10,7 @@ use Rattle.lola_types.proofs.full.check.Goals as goal
 pub returns-in-Ok-full : goal.returns-in-Ok-full
 returns-in-Ok-full c =
     let k : c.deref.result.now ≡ kinds_of c.args.spec.now = c.deref.ensures.value ∙ c.in-Ok.ensures.kinds in
-    let l : c.deref-in-None.result.now ≡ kinds_of c.args.spec.now = c.deref-in-None.ensures.value ∙ c.in-Ok.ensures.kinds in
-    (none_refused (kind_refusals c.args.spec.now) (ap (λ z. first_of (refusals_by c.args.spec.now z)) (sym k) ∙ sym c.in-None.ensures),
-     subst (λ (z : List (Option Kind)). IsFilledBy c.args.spec.now z c.in-Ok-full.full) l c.in-Ok-full.ensures)
+    let l : c.deref-in-None.result.now ≡ kinds_of c.args.spec.now = c.deref-in-None.ensures.value ∙ c.in-Ok.ensures.kinds in (
+      none_refused (kind_refusals c.args.spec.now) (ap (λ z. first_of (refusals_by c.args.spec.now z)) (sym k) ∙ sym c.in-None.ensures),
+      subst (λ (z : List (Option Kind)). IsFilledBy c.args.spec.now z c.in-Ok-full.full) l c.in-Ok-full.ensures,
+    )

@@ -8,4 +8,4 @@ use Rattle.lola_types.proofs.wholes.judge_with.Given as goal
 abbrev pub invariant-loop-number : goal.invariant-loop-number
 invariant-loop-number l = (n : ℕ) (p : Part)
     → with_more l.initial.refusals (flat_map (refusals_of_whole (setting l.fn.around)) (with_wholes n p l.parameters l.wants l.places l.exprs))
-      ≡ with_more l.refusals (flat_map (refusals_of_whole (setting l.fn.around)) (with_wholes n p l.parameters (drop l.number l.wants) (drop l.number l.places) (drop l.number l.exprs)))
+    ≡ with_more l.refusals (flat_map (refusals_of_whole (setting l.fn.around)) (with_wholes n p l.parameters (drop l.number l.wants) (drop l.number l.places) (drop l.number l.exprs)))
