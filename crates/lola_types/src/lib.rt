@@ -9,4 +9,6 @@ pub mod full;
 pub mod left_out;
 pub mod part;
 mod refused;
+#[cfg(test)]
+mod tests;
 pub mod wholes;
