@@ -1,0 +1,5 @@
+pub mod Found
+pub mod LeftOut
+pub mod Refused
+pub mod Around
+pub mod Filled

@@ -1,0 +1,201 @@
+//! Expressions with their kinds filled in.
+#![tactic(auto, using(crate::proofs::SameLemmas::same_settled_if, crate::proofs::Arguments::fit_first))]
+
+ghost use Rattle.std.specs.Prelude.{◌≡◌, IfOk};
+ghost use Rattle.lola_types.specs.Around.{setting};
+ghost use Rattle.lola_types.specs.Found.{found as found_in, found_all, some_broken, arguments_fit};
+ghost use Rattle.lola_types.specs.Filled.{note_part, settled, settled_if, filled, filled_all, SameTree, SameArguments};
+
+use crate::around::Around;
+use crate::found::{self, Found};
+use crate::part::{
+    Fitting, behind, fitting_read, fitting_window, parameter, parameters_at, target_parameters,
+    window, with_first,
+};
+use crate::refused::{operand_kind, taken};
+use lola_model::expr::{Arguments, Expr, Place};
+use lola_value::text::Memory;
+use lola_value::value::Kind;
+use std::alloc::Global;
+
+/// Notes the kind of a part, if it has one of its own.
+fn noted(place: Place, part: Found) -> Place
+    ensures { result ≡ note_part place part }
+{
+    match part {
+        Found::Of(kind, _) => Place {
+            at: place.at,
+            kind: Some(kind),
+        },
+        _ => place,
+    }
+}
+
+/// Gives a free part, and the free parts in it, the kind that it takes.
+fn settle(expr: &mut Expr, kind: Kind)
+    ensures { expr.new ≡ settled kind expr.old }
+{
+    match expr {
+        Expr::Literal(place, _) => place.kind = Some(kind),
+        Expr::Parameter(_, _) | Expr::Read(_, _, _, _) | Expr::Window(_, _, _) => {}
+        Expr::Unary(place, _, a) => {
+            place.kind = Some(kind);
+            settle(a, kind);
+        }
+        Expr::Defaults(place, a, b) => {
+            place.kind = Some(kind);
+            settle(a, kind);
+            settle(b, kind);
+        }
+        Expr::Both(place, _, a, b) => {
+            place.kind = Some(kind);
+            settle(a, kind);
+            settle(b, kind);
+        }
+        Expr::Choice(place, _, a, b) => {
+            place.kind = Some(kind);
+            settle(a, kind);
+            settle(b, kind);
+        }
+    }
+}
+
+/// Gives an operand the kind that it takes, if there is one and it is free.
+pub fn settle_if(kind: Option<Kind>, part: Found, expr: &mut Expr)
+    ensures { expr.new ≡ settled_if kind part expr.old }
+{
+    match kind {
+        Some(kind) if part == Found::Free => settle(expr, kind),
+        _ => {}
+    }
+}
+
+/// An expression with its kinds filled in, and what it is.
+#[derive(Drop)]
+pub struct Filled {
+    pub expr: Expr,
+    pub part: Found,
+}
+
+/// Arguments with their kinds filled in, and what they are together.
+#[derive(Drop)]
+pub struct FilledArguments {
+    pub arguments: Arguments,
+    pub fitting: Fitting,
+}
+
+/// A box with an operand, which takes this kind if there is one and it is free.
+fn boxed(alloc: Global, kind: Option<Kind>, operand: Filled) -> Result<Box<Expr>, Memory>
+    ensures { IfOk result (λ b. b.value ≡ settled_if kind operand.part operand.expr) }
+{
+    let mut expr = operand.expr;
+    settle_if(kind, operand.part, &mut expr);
+    Ok(Box::new(alloc, expr)?)
+}
+
+/// An expression with its kinds filled in, and what it is. A free part takes its kind from what is around it.
+#[cycle(fill)]
+pub fn fill(alloc: Global, around: &Around, expr: &Expr) -> Result<Filled, Memory>
+    ensures tree { IfOk result (λ f. SameTree (filled (setting around.now) expr.now) f.expr) }
+    ensures part { IfOk result (λ f. f.part ≡ found_in (setting around.now) expr.now) }
+{
+    match expr {
+        Expr::Literal(place, value) => {
+            let part = found::literal(place.kind, *value);
+            let expr = Expr::Literal(noted(*place, part), *value);
+            Ok(Filled { expr, part })
+        }
+        Expr::Parameter(place, i) => {
+            let part = parameter(around, *i);
+            let expr = Expr::Parameter(noted(*place, part), *i);
+            Ok(Filled { expr, part })
+        }
+        Expr::Read(place, stream, access, arguments) => {
+            let wants = parameters_at(around, *stream);
+            let filled = fill_arguments(alloc, around, arguments, wants)?;
+            let read = fitting_read(around, *stream, *access);
+            let part = found::reference(filled.fitting.broken, filled.fitting.fits, read);
+            let expr = Expr::Read(noted(*place, part), *stream, *access, filled.arguments);
+            Ok(Filled { expr, part })
+        }
+        Expr::Window(place, number, arguments) => {
+            let spec = window(around, *number);
+            let wants = target_parameters(around, spec);
+            let filled = fill_arguments(alloc, around, arguments, wants)?;
+            let read = fitting_window(around, spec);
+            let part = found::reference(filled.fitting.broken, filled.fitting.fits, read);
+            let expr = Expr::Window(noted(*place, part), *number, filled.arguments);
+            Ok(Filled { expr, part })
+        }
+        Expr::Defaults(place, a, b) => {
+            let first = fill(alloc, around, a)?;
+            let second = fill(alloc, around, b)?;
+            let part = found::defaults(first.part, second.part);
+            let a = boxed(alloc, taken(part), first)?;
+            let b = boxed(alloc, taken(part), second)?;
+            let expr = Expr::Defaults(noted(*place, part), a, b);
+            Ok(Filled { expr, part })
+        }
+        Expr::Unary(place, sign, a) => {
+            let first = fill(alloc, around, a)?;
+            let part = found::prefix(*sign, first.part);
+            let a = boxed(alloc, taken(part), first)?;
+            let expr = Expr::Unary(noted(*place, part), *sign, a);
+            Ok(Filled { expr, part })
+        }
+        Expr::Both(place, sign, a, b) => {
+            let first = fill(alloc, around, a)?;
+            let second = fill(alloc, around, b)?;
+            let part = found::binary(*sign, first.part, second.part);
+            let kind = operand_kind(*sign, part, first.part.joint(second.part));
+            let a = boxed(alloc, kind, first)?;
+            let b = boxed(alloc, kind, second)?;
+            let expr = Expr::Both(noted(*place, part), *sign, a, b);
+            Ok(Filled { expr, part })
+        }
+        Expr::Choice(place, t, a, b) => {
+            let test = fill(alloc, around, t)?;
+            let first = fill(alloc, around, a)?;
+            let second = fill(alloc, around, b)?;
+            let part = found::choice(test.part, first.part, second.part);
+            let t = boxed(alloc, None, test)?;
+            let a = boxed(alloc, taken(part), first)?;
+            let b = boxed(alloc, taken(part), second)?;
+            let expr = Expr::Choice(noted(*place, part), t, a, b);
+            Ok(Filled { expr, part })
+        }
+    }
+}
+
+/// Arguments with their kinds filled in, for parameters of these kinds.
+#[cycle(fill)]
+fn fill_arguments(
+    alloc: Global,
+    around: &Around,
+    arguments: &Arguments,
+    wants: &[Kind],
+) -> Result<FilledArguments, Memory>
+    ensures tree { IfOk result (λ f. SameArguments (filled_all (setting around.now) wants.now arguments.now) f.arguments) }
+    ensures broken { IfOk result (λ f. f.fitting.broken ≡ some_broken (found_all (setting around.now) arguments.now)) }
+    ensures fits { IfOk result (λ f. f.fitting.fits ≡ arguments_fit (found_all (setting around.now) arguments.now) wants.now) }
+{
+    match arguments {
+        Arguments::End => Ok(FilledArguments {
+            arguments: Arguments::End,
+            fitting: Fitting {
+                broken: false,
+                fits: wants.is_empty(),
+            },
+        }),
+        Arguments::More(first, rest) => {
+            let want = wants.first().copied();
+            let others = fill_arguments(alloc, around, rest, behind(wants))?;
+            let argument = fill(alloc, around, first)?;
+            let fitting = with_first(argument.part, want, others.fitting);
+            let rest = Box::new(alloc, others.arguments)?;
+            let first = boxed(alloc, want, argument)?;
+            let arguments = Arguments::More(first, rest);
+            Ok(FilledArguments { arguments, fitting })
+        }
+    }
+}

@@ -1,0 +1,14 @@
+//! The kinds of a specification: those that are left out are found, and what the table of kinds forbids is refused.
+#![tactic(auto)]
+
+pub mod around;
+mod copies;
+pub mod filled;
+pub mod found;
+pub mod full;
+pub mod left_out;
+pub mod part;
+mod refused;
+#[cfg(test)]
+mod tests;
+pub mod wholes;
