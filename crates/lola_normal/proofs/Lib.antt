@@ -1,0 +1,4 @@
+pub mod BitLemmas
+pub mod OrderLemmas
+pub mod KeptLemmas
+pub mod LeastLemmas
