@@ -3,5 +3,8 @@
 
 pub mod answer;
 mod candidates;
+pub mod implies;
+pub mod law;
 mod least;
+pub mod normal;
 mod order;
