@@ -1,7 +1,7 @@
 -- Sets of inputs as numbers: what one has all of another means for each input.
-use Rattle.std.proofs.Common.{◌≡◌, refl, ap, sym, subst, ◌∙◌, ℕ, zero, suc, ◌+◌, ◌^◌, ◌<◌, ◌≤◌, min, max, ◌⊎◌, inl, inr, Bool, true, false, ◌&&◌, nat_eq, arith}
-use Rattle.std.proofs.lemmas.Bool.{cases_lt, eqb-true, eq-eqb}
-use Rattle.std.proofs.lemmas.Nat.{and_comm, and_le_r}
+use Rattle.std.proofs.Common.{◌≡◌, refl, ap, sym, ◌∙◌, ℕ, zero, suc, ◌^◌, ◌<◌, ◌≤◌, min, max, ◌⊎◌, inl, inr, Bool, true, false, ◌&&◌, nat_eq, arith}
+use Rattle.std.proofs.lemmas.Bool.{cases_lt, eq-eqb}
+use Rattle.std.proofs.lemmas.Nat.{and_le_r}
 use Rattle.std.specs.Int.Bits.{bit_and}
 use Rattle.std.specs.Int.RustNames.{bit_or}
 use Rattle.std.specs.Int.{bit_at}

@@ -1,26 +1,25 @@
 -- Normal forms of formulas, from those of their parts.
-use Rattle.std.proofs.Common.{◌≡◌, refl, ap, sym, subst, ◌∙◌, ℕ, ◌+◌, ◌*◌, ◌%◌, ◌^◌, ◌<◌, ◌⊎◌, inl, inr, List, [], ◌∷◌, ◌++◌, Bool, true, false, ◌&&◌, ◌||◌, nat_eq, Result, Ok, Err, arith}
+use Rattle.std.proofs.Common.{◌≡◌, refl, ap, sym, subst, ◌∙◌, ℕ, ◌*◌, ◌^◌, List, [], ◌∷◌, ◌++◌, Bool, true, false, ◌&&◌, ◌||◌, nat_eq, Result, Ok, Err, arith}
 use Rattle.std.proofs.lemmas.Bool.{eqb-true, eq-eqb}
 use Rattle.std.proofs.lemmas.Nat.{and_comm}
 use Rattle.std.proofs.lemmas.Nat.Bits.{and_pow, bit_at-pow_same}
 use Rattle.std.proofs.lemmas.List.Elements.{All-nil, All-cons, All-append, Contains-append_left, Contains-append_right}
 use Rattle.std.specs.Int.{bit_at}
 use Rattle.std.specs.Int.Bits.{bit_and}
-use Rattle.std.specs.List.{All, AllPairs, Any, Contains}
+use Rattle.std.specs.List.{All, Any, Contains}
 use Rattle.lola_model.proofs.Strictly.{Contains-here, Contains-there, same_by_members}
 use Rattle.lola_model.proofs.Implied.{normal_form_decides, least_sets_are_the_same}
-use Rattle.lola_model.specs.Activity.{satisfies, satisfies_some}
-use Rattle.lola_model.specs.Implication.{has_input, satisfies_formula, IsNormalFormOf, AreLeastSets, FormulaImplies}
+use Rattle.lola_model.specs.Activity.{satisfies_some}
+use Rattle.lola_model.specs.Implication.{has_input, satisfies_formula, IsNormalFormOf, AreLeastSets}
 use Rattle.lola_model.specs.declared.pacing.InputSet.{InputSet}
 use Rattle.lola_model.specs.declared.spec.Formula.{Formula}
-use Rattle.lola_model.specs.declared.spec.Formula.TheVariants.{Input, And', Or'}
-use Rattle.lola_normal.specs.Kept.{set_of}
+use Rattle.lola_model.specs.declared.spec.Formula.TheVariants.{Input}
 use Rattle.lola_normal.specs.Order.{ComesBefore}
-use Rattle.lola_normal.specs.Least.{IsTooWide, ListsLeast, AnswersLeast}
+use Rattle.lola_normal.specs.Least.{AnswersLeast}
 use Rattle.lola_normal.specs.Formulas.{parts_of, IsWide, ListsNormalForm, AnswersNormal, HasOneNormalForm}
 use Rattle.lola_normal.specs.declared.answer.NormalEnd.{NormalEnd}
 use Rattle.lola_normal.specs.declared.answer.NormalEnd.TheVariants as ends
-use Rattle.lola_normal.proofs.BitLemmas.{within_from, within_has}
+use Rattle.lola_normal.proofs.BitLemmas.{within_has}
 use Rattle.lola_normal.proofs.OrderLemmas.{strictly_before}
 use Rattle.lola_normal.proofs.LeastLemmas.{passes_some, same_bool, least_by_test, wide_by_test}
 

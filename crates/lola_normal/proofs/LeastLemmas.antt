@@ -1,17 +1,16 @@
 -- The least of candidates are the least sets that pass a test.
-use Rattle.std.proofs.Common.{◌≡◌, refl, ap, sym, subst, ◌∙◌, ℕ, ◌+◌, ◌^◌, ◌<◌, ◌≤◌, ◌⊎◌, inl, inr, List, [], ◌∷◌, ◌++◌, Bool, true, false, ◌&&◌, ◌||◌, length, map, Result, Ok, Err, arith}
+use Rattle.std.proofs.Common.{◌≡◌, refl, ap, sym, subst, ◌∙◌, ℕ, ◌^◌, ◌<◌, ◌≤◌, List, [], ◌∷◌, ◌++◌, Bool, true, false, ◌&&◌, ◌||◌, length, map, Result, Ok, Err, arith}
 use Rattle.std.proofs.lemmas.List.Elements.{All-contains, All-weaker}
 use Rattle.std.proofs.lemmas.Bool.{eqb-true, eq-eqb}
 use Rattle.std.specs.Int.Bits.{bit_and}
 use Rattle.std.specs.Int.RustNames.{bit_or}
-use Rattle.std.specs.List.{All, AllPairs, Contains, flat_map}
+use Rattle.std.specs.List.{All, Contains}
 use Rattle.std.specs.List.Sorted.{IsPermutation}
-use Rattle.lola_model.proofs.Strictly.{Contains-here, Contains-there, Contains-map, Contains-map_cases, All-from_members}
+use Rattle.lola_model.proofs.Strictly.{Contains-map, Contains-map_cases, All-from_members}
 use Rattle.lola_model.proofs.Implied.{satisfies-self, satisfies_some-by_member, satisfies_some-member, satisfies_some-through, least_sets_are_the_same}
 use Rattle.lola_model.specs.Activity.{satisfies, satisfies_some}
-use Rattle.lola_model.specs.Implication.{AreApart, AreLeastSets}
+use Rattle.lola_model.specs.Implication.{AreLeastSets}
 use Rattle.lola_model.specs.declared.pacing.InputSet.{InputSet}
-use Rattle.lola_normal.specs.Order.{ComesBefore, HasLeastOther}
 use Rattle.lola_normal.specs.Kept.{set_of, candidate_of, unions_of, AreLeastOf, AreKept, AreManyKept}
 use Rattle.lola_normal.specs.Least.{IsTooWide, ListsLeast, AnswersLeast}
 use Rattle.lola_normal.specs.declared.answer.NormalEnd.{NormalEnd}

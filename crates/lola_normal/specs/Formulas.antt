@@ -1,5 +1,5 @@
 -- What a call answers that looks for the normal form of a formula.
-use Rattle.std.specs.Prelude.{ℕ, ◌<◌, ◌≡◌, List, [], ◌∷◌, ◌++◌, All, AllPairs, Any, Contains, Result, Ok, Err}
+use Rattle.std.specs.Prelude.{ℕ, ◌<◌, ◌≡◌, List, [], ◌∷◌, ◌++◌, All, AllPairs, Any, Result, Ok, Err}
 use Rattle.lola_model.specs.Implication.{satisfies_formula, IsNormalFormOf, FormulaImplies}
 use Rattle.lola_model.specs.declared.pacing.InputSet.{InputSet}
 use Rattle.lola_model.specs.declared.spec.Formula.{Formula}

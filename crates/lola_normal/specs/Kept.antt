@@ -1,5 +1,5 @@
 -- Which of some candidates are kept: the least. A candidate is a set of inputs as a number.
-use Rattle.std.specs.Prelude.{ℕ, ◌≡◌, ◌<◌, ◌≤◌, List, ◌++◌, true, All, AllPairs, Contains, length, map, flat_map, bit_or, insert}
+use Rattle.std.specs.Prelude.{ℕ, ◌≡◌, ◌<◌, ◌≤◌, List, true, All, AllPairs, Contains, length, map, flat_map, bit_or, insert}
 use Rattle.lola_model.specs.Activity.{satisfies_some}
 use Rattle.lola_model.specs.Implication.{AreApart}
 use Rattle.lola_model.specs.declared.pacing.InputSet.{InputSet}

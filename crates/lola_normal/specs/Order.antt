@@ -1,5 +1,5 @@
 -- The order of sets of inputs: by the lists of their inputs' numbers.
-use Rattle.std.specs.Prelude.{ℕ, ◌+◌, ◌<◌, ◌≡◌, ◌⊎◌, List, [], ◌∷◌, true, false, filter}
+use Rattle.std.specs.Prelude.{ℕ, ◌<◌, ◌≡◌, ◌⊎◌, List, [], ◌∷◌, true, false, filter}
 use Rattle.std.proofs.Common.{zero, suc}
 use Rattle.lola_model.specs.Implication.{has_input}
 use Rattle.lola_model.specs.declared.pacing.InputSet.{InputSet}

@@ -8,3 +8,5 @@ pub mod law;
 mod least;
 pub mod normal;
 mod order;
+#[cfg(test)]
+mod tests;

@@ -1,9 +1,7 @@
-use Rattle.std.proofs.Common.{◌≡◌, ◌∙◌, sym, subst, ◌↔◌, IsTrue, All, true, List}
+use Rattle.std.proofs.Common.{◌≡◌, subst, ◌↔◌, IsTrue, All, true, List}
 use Rattle.lola_model.proofs.Implied.{implies_by_sets}
 use Rattle.lola_model.specs.Activity.{satisfies_some}
-use Rattle.lola_model.specs.Implication.{Implies}
 use Rattle.lola_model.specs.declared.pacing.InputSet.{InputSet}
-use Rattle.lola_model.specs.declared.pacing.Pacing.TheVariants.{Event}
 use Rattle.lola_normal.proofs.implies.implies.Goals as goal
 
 pub returns-in-Event-Event : goal.returns-in-Event-Event

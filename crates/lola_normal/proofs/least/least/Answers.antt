@@ -1,4 +1,4 @@
-use Rattle.std.proofs.Common.{◌≡◌, ◌∙◌, sym, subst, ℕ, List, ◌^◌, ◌<◌, All}
+use Rattle.std.proofs.Common.{◌∙◌, sym, subst, ℕ, List, ◌^◌, ◌<◌, All}
 use Rattle.std.proofs.lemmas.List.Sorted.{IsNonDecreasingBy-from_sort}
 use Rattle.std.specs.List.Sorted.{IsNonDecreasing}
 use Rattle.lola_model.specs.declared.pacing.InputSet.{InputSet}

@@ -1,4 +1,4 @@
-use Rattle.std.proofs.Common.{◌≡◌, ◌∙◌, sym, ap, true, false, slice_index_or, arith}
+use Rattle.std.proofs.Common.{◌∙◌, sym, ap, slice_index_or, arith}
 use Rattle.lola_model.specs.Activity.{satisfies_some}
 use Rattle.lola_normal.proofs.KeptLemmas.{kept_skip, kept_put_in, many_kept, kept_others}
 use Rattle.lola_normal.proofs.least.least_of.Goals as goal

@@ -1,4 +1,4 @@
-use Rattle.std.proofs.Common.{◌≡◌, ◌∙◌, ap, sym, subst, ℕ, List, ◌&&◌}
+use Rattle.std.proofs.Common.{◌≡◌, ◌∙◌, ap, ℕ, List, ◌&&◌}
 use Rattle.lola_model.specs.Activity.{satisfies_some}
 use Rattle.lola_model.specs.declared.pacing.InputSet.{InputSet}
 use Rattle.lola_normal.specs.Kept.{unions_of}

@@ -1,4 +1,3 @@
-use Rattle.std.proofs.Common.{arith}
 use Rattle.std.proofs.lemmas.List.Elements.{All-more}
 use Rattle.lola_model.specs.declared.pacing.InputSet.{InputSet}
 use Rattle.lola_normal.specs.Order.{HasLeastOther}
