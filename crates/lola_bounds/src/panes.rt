@@ -1,6 +1,7 @@
 //! The panes of windows.
 
-ghost use Rattle.std.specs.Prelude.{◌≡◌, ◌<◌, ℕ, IfOk, Some, length, slice_get};
+ghost use Rattle.std.specs.Prelude.{◌≡◌, ◌<◌, ℕ, All, IfOk, Some, length, slice_get};
+ghost use Rattle.std.specs.List.{AllZip};
 ghost use Rattle.lola_bounds.specs.Panes.{IsPaned, ArePaned, ArePanesOfWindow, ArePanesAt};
 ghost use Rattle.lola_model.specs.declared.spec.WindowSpec.{WindowSpec as Window};
 
@@ -48,15 +49,24 @@ pub fn pane(spec: &Spec, pacings: &Pacings, window: u32) -> u64
     size(spec, pacings, window).pane
 }
 
+/// The panes of windows, in their order.
+fn sizes_of(alloc: Global, pacings: &[ClausePacings], windows: &[WindowSpec]) -> Result<PaneSizes, Memory>
+    requires { All (IsPaned pacings.now) windows.now }
+    ensures { IfOk result (λ sizes. AllZip (λ w p. ArePanesOfWindow pacings.now w (Some p)) windows.now sizes) }
+{
+    let mut sizes = PaneSizes::create(alloc);
+    for window in windows {
+        sizes.push(size_of_window(pacings, window))?;
+    }
+    Ok(sizes)
+}
+
 /// The panes of all windows.
 pub fn pane_sizes(alloc: Global, spec: &Spec, pacings: &Pacings) -> Result<PaneSizes, Memory>
     requires { ArePaned pacings.now spec.now }
     ensures count { IfOk result (λ sizes. length sizes ≡ length spec.now.windows) }
     ensures each { IfOk result (λ sizes. (i : ℕ) (w : Window) → slice_get spec.now.windows i ≡ Some w → ArePanesOfWindow pacings.now w (slice_get sizes i)) }
 {
-    let mut sizes = PaneSizes::create(alloc);
-    for window in spec.windows.as_slice() {
-        sizes.push(size_of_window(pacings.as_slice(), window))?;
-    }
+    let sizes = sizes_of(alloc, pacings.as_slice(), spec.windows.as_slice())?;
     Ok(sizes)
 }
