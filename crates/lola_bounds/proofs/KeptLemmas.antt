@@ -1,10 +1,9 @@
 -- What is kept of streams, from the greatest offsets.
-use Rattle.std.proofs.Common.{◌≡◌, refl, ap, sym, subst, ◌∙◌, ℕ, zero, suc, ◌+◌, ◌<◌, ◌≤◌, max, List, [], ◌∷◌, Option, Some, length, map, replicate, get_or, add-zero, zero-add, arith}
+use Rattle.std.proofs.Common.{◌≡◌, refl, ap, sym, subst, ◌∙◌, ℕ, zero, suc, ◌+◌, ◌<◌, ◌≤◌, max, List, [], ◌∷◌, Some, length, map, replicate, get_or, add-zero, zero-add, arith}
 use Rattle.std.proofs.lemmas.List.{get_or_default}
 use Rattle.std.proofs.lemmas.List.Elements.{All-head, All-tail}
 use Rattle.std.specs.List.{All, slice_get, slice_index}
-use Rattle.lola_model.specs.Bounds.{greatest_offset, offsets_onto, offset_onto, IsKept}
-use Rattle.lola_model.specs.Parts.{listed_streams}
+use Rattle.lola_model.specs.Bounds.{greatest_offset, offsets_onto, IsKept}
 use Rattle.lola_model.specs.declared.spec.Spec.{Spec}
 use Rattle.lola_bounds.specs.Offsets.{HasSmallOffsets, IsRaised}
 

@@ -1,10 +1,10 @@
 -- Panes of windows.
-use Rattle.std.proofs.Common.{◌≡◌, refl, ap, sym, subst, ◌∙◌, ℕ, ◌*◌, ◌/◌, ◌%◌, ◌<◌, ◌≤◌, zero, suc, ◌+◌, List, [], ◌∷◌, ◌++◌, length, take, get_or, Option, Some, None, IsSome}
+use Rattle.std.proofs.Common.{◌≡◌, refl, ap, sym, subst, ℕ, ◌/◌, ◌<◌, ◌≤◌, zero, suc, ◌+◌, List, [], ◌∷◌, ◌++◌, length, take, get_or, Option, Some, None, IsSome}
 use Rattle.std.proofs.Math.Nat.{div-mul_cancel}
 use Rattle.std.proofs.lemmas.List.{take_more}
 use Rattle.std.specs.List.{AllZip, slice_get}
 use Rattle.std.specs.Option.{SomeIff}
-use Rattle.std.specs.Int.{◌∣◌, IsGcd}
+use Rattle.std.specs.Int.{IsGcd}
 use Rattle.lola_value.specs.Ratio.{Ratio}
 use Rattle.lola_value.specs.Rate.{period_over}
 use Rattle.lola_model.specs.Bounds.{ArePanes}

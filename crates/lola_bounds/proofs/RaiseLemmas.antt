@@ -1,5 +1,5 @@
 -- Raising the greatest offsets.
-use Rattle.std.proofs.Common.{◌≡◌, refl, ap, sym, subst, ◌∙◌, ℕ, ◌+◌, ◌<◌, ◌≤◌, max, List, [], ◌∷◌, ◌++◌, length, take, get_or, append_assoc, append-nil, arith}
+use Rattle.std.proofs.Common.{◌≡◌, ap, sym, subst, ◌∙◌, ℕ, ◌+◌, ◌<◌, max, List, [], ◌∷◌, ◌++◌, length, take, get_or, append_assoc, append-nil, arith}
 use Rattle.std.proofs.lemmas.List.{take_more}
 use Rattle.lola_model.specs.Bounds.{greatest_offset, offset_onto}
 use Rattle.lola_model.specs.Parts.{listed, listed_all, listed_with, listed_stream, listed_streams}

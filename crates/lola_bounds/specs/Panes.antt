@@ -1,5 +1,5 @@
 -- Windows that have panes.
-use Rattle.std.specs.Prelude.{ℕ, ◌≡◌, ◌/◌, ◌%◌, ◌<◌, ◌≤◌, List, Option, Some, None, All, slice_get}
+use Rattle.std.specs.Prelude.{ℕ, ◌≡◌, ◌%◌, ◌<◌, ◌≤◌, List, Option, Some, None, All, slice_get}
 use Rattle.lola_value.specs.Ratio.{Ratio}
 use Rattle.lola_value.specs.Rate.{period_over}
 use Rattle.lola_model.specs.Bounds.{ArePanes, ArePanesOf, pacing_at}

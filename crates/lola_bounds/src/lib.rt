@@ -1,6 +1,7 @@
 //! What a run has to keep of the past: values of streams, and panes of windows.
 #![tactic(auto)]
 
+pub mod bounds;
 pub mod kept;
 mod offsets;
 pub mod panes;

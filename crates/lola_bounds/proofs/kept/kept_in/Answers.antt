@@ -1,4 +1,4 @@
-use Rattle.std.proofs.Common.{◌≡◌, ◌+◌, ℕ, subst, List, Some, length, map, refl}
+use Rattle.std.proofs.Common.{◌≡◌, ◌+◌, ℕ, subst, List, Some, length, map}
 use Rattle.std.proofs.lemmas.Result.{IfOk-weaker}
 use Rattle.std.specs.List.{slice_get}
 use Rattle.lola_model.specs.Bounds.{offset_onto, offsets_onto, IsKept}

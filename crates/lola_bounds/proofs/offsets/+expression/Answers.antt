@@ -1,8 +1,8 @@
-use Rattle.std.proofs.Common.{◌≡◌, refl, sym, subst, ℕ, List, [], ◌++◌}
+use Rattle.std.proofs.Common.{sym, subst, ◌++◌}
 use Rattle.lola_model.specs.Bounds.{offset_onto}
 use Rattle.lola_model.specs.Parts.{listed, listed_all}
-use Rattle.lola_model.specs.declared.expr.Expr.{Expr, Defaults, Both, Choice}
-use Rattle.lola_model.specs.declared.expr.Arguments.{Arguments, More}
+use Rattle.lola_model.specs.declared.expr.Expr.{Expr}
+use Rattle.lola_model.specs.declared.expr.Arguments.{Arguments}
 use Rattle.lola_bounds.specs.Offsets.{IsRaised}
 use Rattle.lola_bounds.proofs.RaiseLemmas.{raised_both, raised_two, raised_more}
 use Rattle.lola_bounds.proofs.offsets.+expression.Goals as goal

@@ -1,7 +1,6 @@
-use Rattle.std.proofs.Common.{◌≡◌, ◌∙◌, subst, ap, length, List, Some}
+use Rattle.std.proofs.Common.{◌∙◌, subst, ap, length, List, Some}
 use Rattle.std.specs.List.{AllZip}
 use Rattle.lola_model.specs.declared.pacing.ClausePacings.{ClausePacings}
-use Rattle.lola_model.specs.declared.plan.PaneSize.{PaneSize}
 use Rattle.lola_model.specs.declared.spec.WindowSpec.{WindowSpec}
 use Rattle.lola_bounds.specs.Panes.{ArePanesOfWindow}
 use Rattle.lola_bounds.proofs.PaneLemmas.{zip_at, zip_length}

@@ -1,4 +1,4 @@
-use Rattle.std.proofs.Common.{◌≡◌, ◌+◌, sym, subst, List, Some, take}
+use Rattle.std.proofs.Common.{◌+◌, sym, subst, List, Some, take}
 use Rattle.std.specs.List.{AllZip}
 use Rattle.lola_model.specs.declared.plan.PaneSize.{PaneSize}
 use Rattle.lola_bounds.specs.Panes.{ArePanesOfWindow}
