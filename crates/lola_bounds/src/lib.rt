@@ -4,5 +4,6 @@
 pub mod bounds;
 pub mod kept;
 mod offsets;
+mod pacing_text;
 pub mod panes;
 mod size;
