@@ -6,4 +6,5 @@ pub mod kept;
 mod offsets;
 mod pacing_text;
 pub mod panes;
+pub mod report;
 mod size;
