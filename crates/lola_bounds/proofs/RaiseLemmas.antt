@@ -19,11 +19,13 @@ raised_none first xs = record { each = λ i lt. let e : max (get_or xs i 0) 0 �
 
 -- by one list and then by another
 pub raised_both : (first : ℕ) (f g : ℕ → List ℕ) (old mid new : List ℕ) → length mid ≡ length old → IsRaised first f old mid → IsRaised first g mid new → IsRaised first (λ n. f n ++ g n) old new
-raised_both first f g old mid new len h k = record { each = λ i lt.
-    let a : get_or mid i 0 ≡ max (get_or old i 0) (greatest_offset (f (first + i))) = h.each i lt in
-    let b : get_or new i 0 ≡ max (get_or mid i 0) (greatest_offset (g (first + i))) = k.each i (omega arith) in
-    let e : greatest_offset (f (first + i) ++ g (first + i)) ≡ max (greatest_offset (f (first + i))) (greatest_offset (g (first + i))) = greatest_offset-append (f (first + i)) (g (first + i)) in
-    omega arith }
+raised_both first f g old mid new len h k = record {
+  each = λ i lt.
+      let a : get_or mid i 0 ≡ max (get_or old i 0) (greatest_offset (f (first + i))) = h.each i lt in
+      let b : get_or new i 0 ≡ max (get_or mid i 0) (greatest_offset (g (first + i))) = k.each i (omega arith) in
+      let e : greatest_offset (f (first + i) ++ g (first + i)) ≡ max (greatest_offset (f (first + i))) (greatest_offset (g (first + i))) = greatest_offset-append (f (first + i)) (g (first + i)) in
+      omega arith;
+}
 
 -- by two expressions, one after another
 pub raised_two : (first : ℕ) (a b a' b' : Expr) (old mid new : List ℕ) → a' ≡ a → b' ≡ b → length mid ≡ length old

@@ -98,7 +98,11 @@ fn rate_text(rate: &Rate, to: &mut Text) -> Result<(), Memory>
 }
 
 /// Appends a pacing.
-pub(crate) fn pacing_text(streams: &[Stream], pacing: &Option<Pacing>, to: &mut Text) -> Result<(), Memory>
+pub(crate) fn pacing_text(
+    streams: &[Stream],
+    pacing: &Option<Pacing>,
+    to: &mut Text,
+) -> Result<(), Memory>
     requires { length (filter is_input streams.now) ≤ 64 }
     ensures { OnOk result (to.new ≡ to.old ++ pacing_text streams.now pacing.now) }
 {

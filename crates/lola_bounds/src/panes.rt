@@ -50,7 +50,11 @@ pub fn pane(spec: &Spec, pacings: &Pacings, window: u32) -> u64
 }
 
 /// The panes of windows, in their order.
-fn sizes_of(alloc: Global, pacings: &[ClausePacings], windows: &[WindowSpec]) -> Result<PaneSizes, Memory>
+fn sizes_of(
+    alloc: Global,
+    pacings: &[ClausePacings],
+    windows: &[WindowSpec],
+) -> Result<PaneSizes, Memory>
     requires { All (IsPaned pacings.now) windows.now }
     ensures { IfOk result (λ sizes. AllZip (λ w p. ArePanesOfWindow pacings.now w (Some p)) windows.now sizes) }
 {

@@ -73,7 +73,12 @@ fn eval_pacing(plan: &Plan, number: usize, to: &mut Text) -> Result<(), Memory>
 }
 
 /// Appends the pacing and the layer of a spawn clause, if there is one.
-fn spawn_text(plan: &Plan, number: usize, spawn: &Option<Clause>, to: &mut Text) -> Result<(), Memory>
+fn spawn_text(
+    plan: &Plan,
+    number: usize,
+    spawn: &Option<Clause>,
+    to: &mut Text,
+) -> Result<(), Memory>
     requires inputs { length (filter is_input plan.now.spec.streams) ≤ 64 }
     requires number { number < 1024 }
     ensures { OnOk result (to.new ≡ to.old ++ spawn_text plan.now number spawn.now) }

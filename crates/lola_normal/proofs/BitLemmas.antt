@@ -60,6 +60,7 @@ passing_below p (suc n) = go (p n) refl (passing_below p n)
   where
     last : p n ≡ false → ((k : ℕ) → k < n → p k ≡ false) → (k : ℕ) → k < suc n → p k ≡ false
     last e none k lt = elim (cases_lt k n) [ inl below ↦ none k below | inr above ↦ let same : k ≡ n = omega arith in ap p same ∙ e ]
+
     go : (b : Bool) → p n ≡ b → ((k : ℕ) × (k < n) × (p k ≡ true)) ⊎ ((k : ℕ) → k < n → p k ≡ false) → ((k : ℕ) × (k < suc n) × (p k ≡ true)) ⊎ ((k : ℕ) → k < suc n → p k ≡ false)
     go true e h = inl (n, omega arith, e)
     go false e (inl w) = inl (w.0, omega (arith, w.1), w.2)
@@ -94,6 +95,7 @@ other_input limit a x small not = go (passing_below (λ n. nat_eq (bit_at a n) 1
               one_bit (bit_at x n) low (λ z. let yes : nat_eq (bit_at x n) 0 ≡ true = eq-eqb (bit_at x n) 0 z in cc)
           | inr le ↦ let high : bit_at a n ≡ 0 = bit_at_above a limit n small le in absurd (omega arith)
         ]
+
     go : ((k : ℕ) × (k < limit) × ((nat_eq (bit_at a k) 1 && nat_eq (bit_at x k) 0) ≡ true)) ⊎ ((k : ℕ) → k < limit → (nat_eq (bit_at a k) 1 && nat_eq (bit_at x k) 0) ≡ false)
         → (n : ℕ) × (n < limit) × (nat_eq (bit_at a n) 1 ≡ true) × (nat_eq (bit_at x n) 0 ≡ true)
     go (inl w) = let p = and_parts (nat_eq (bit_at a w.0) 1) (nat_eq (bit_at x w.0) 0) w.2 in (w.0, w.1, p.0, p.1)

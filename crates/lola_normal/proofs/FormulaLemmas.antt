@@ -49,10 +49,12 @@ input_passes n inputs = same_bool (passes_some (2 ^ n ∷ []) inputs) (has_input
     last : (b : Bool) → (b || false) ≡ true → b ≡ true
     last true e = refl
     last false e = e
+
     there : passes_some (2 ^ n ∷ []) inputs ≡ true → has_input inputs n ≡ true
     there e =
         let w : bit_and (2 ^ n) inputs ≡ 2 ^ n = eqb-true (bit_and (2 ^ n) inputs) (2 ^ n) (last (nat_eq (bit_and (2 ^ n) inputs) (2 ^ n)) e) in
         eq-eqb (bit_at inputs n) 1 (within_has (2 ^ n) inputs n w (bit_at-pow_same n))
+
     back : has_input inputs n ≡ true → passes_some (2 ^ n ∷ []) inputs ≡ true
     back e =
         let has : bit_at inputs n ≡ 1 = eqb-true (bit_at inputs n) 1 e in
@@ -78,7 +80,7 @@ normal_of_parts f a b x y p (Ok sets) is ha hb e h = record {
   ordered = h.ordered;
   narrow = subst (λ fs. All (λ (part : Formula). ¬ (IsWide part)) fs) (sym is)
       (All-cons (λ (part : Formula). ¬ (IsWide part)) f (parts_of a ++ parts_of b) (λ w. h.narrow (wide_by_test (λ inputs. satisfies_formula inputs f) p (λ n. sym (e n)) w))
-        (All-append (λ (part : Formula). ¬ (IsWide part)) (parts_of a) (parts_of b) ha.narrow hb.narrow));
+      (All-append (λ (part : Formula). ¬ (IsWide part)) (parts_of a) (parts_of b) ha.narrow hb.narrow));
 }
 normal_of_parts f a b x y p (Err ends.TooWide) is ha hb e h = subst (λ fs. Any IsWide fs) (sym is) (any_first IsWide f (parts_of a ++ parts_of b) (wide_by_test p (λ inputs. satisfies_formula inputs f) e h))
 normal_of_parts f a b x y p (Err ends.Memory) is ha hb e h = tt

@@ -25,7 +25,7 @@ AllPairs-insert R (suc p) (x ∷ xs) c h before after =
     let first : All (R x) xs = AllPairs-first R x xs h in
     AllPairs-cons R x (insert xs p c)
     (All-append (R x) (take p xs) (c ∷ drop p xs) (All-take (R x) p xs first)
-      (All-cons (R x) c (drop p xs) (All-head (λ y. R y c) x (take p xs) before) (All-drop (R x) p xs first)))
+    (All-cons (R x) c (drop p xs) (All-head (λ y. R y c) x (take p xs) before) (All-drop (R x) p xs first)))
     (AllPairs-insert R p xs c (AllPairs-rest R x xs h) (All-tail (λ y. R y c) x (take p xs) before) after)
 
 pub All-insert : {X : Type 0} (P : X → Type 0) (xs : List X) (p : ℕ) (c : X) → All P xs → P c → All P (insert xs p c)
@@ -64,6 +64,7 @@ stands_apart seen kept c h e low k m = (above, below)
   where
     above : ¬ (IsWithin k (set_of c))
     above w = let f : satisfies_some c kept ≡ true = satisfies_some-by_member c kept k m w in cc
+
     below : ¬ (IsWithin (set_of c) k)
     below w =
         let le : c ≤ k.0 = within_le c k.0 (eqb-true (bit_and c k.0) c w) in
@@ -82,7 +83,7 @@ least_insert seen kept c p h e low =
           (All-weaker (λ (s : InputSet). Contains seen s.0) (λ (s : InputSet). Contains (seen ++ c ∷ []) s.0) (λ s m. Contains-append_left seen (c ∷ []) s.0 m) kept h.members) at_last;
       enough = All-push (λ d. satisfies_some d (insert kept p (set_of c)) ≡ true) seen c
           (All-weaker (λ d. satisfies_some d kept ≡ true) (λ d. satisfies_some d (insert kept p (set_of c)) ≡ true)
-            (λ d m. let w = satisfies_some-member d kept m in satisfies_some-by_member d (insert kept p (set_of c)) w.0 (Contains-insert kept p (set_of c) w.0 w.1) w.2) seen h.enough)
+          (λ d m. let w = satisfies_some-member d kept m in satisfies_some-by_member d (insert kept p (set_of c)) w.0 (Contains-insert kept p (set_of c) w.0 w.1) w.2) seen h.enough)
           (satisfies_some-by_member c (insert kept p (set_of c)) (set_of c) (Contains-inserted kept p (set_of c)) (satisfies-self (set_of c)));
       apart = AllPairs-insert AreApart p kept (set_of c) h.apart (All-take (λ (k : InputSet). AreApart k (set_of c)) p kept all) (All-drop (AreApart (set_of c)) p kept back);
     }
@@ -104,6 +105,7 @@ more_least (suc n) i xs kept e up h = go (satisfies_some (get_or xs i 0) kept) r
   where
     next : take (i + 1) xs ≡ take i xs ++ get_or xs i 0 ∷ []
     next = take_more xs i 0 (omega arith)
+
     go : (b : Bool) → satisfies_some (get_or xs i 0) kept ≡ b
         → (AreLeastOf (take (i + 1) xs) kept → (sets : List InputSet) × AreLeastOf xs sets × (length kept ≤ length sets))
         → (AreLeastOf (take (i + 1) xs) (insert kept 0 (set_of (get_or xs i 0))) → (sets : List InputSet) × AreLeastOf xs sets × (length (insert kept 0 (set_of (get_or xs i 0))) ≤ length sets))

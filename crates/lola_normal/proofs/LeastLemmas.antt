@@ -106,13 +106,16 @@ union_passes inputs s t = same_bool (satisfies inputs (set_of (bit_or s.0 t.0)))
     both : (a b : Bool) → a ≡ true → b ≡ true → (a && b) ≡ true
     both true b e f = f
     both false b e f = absurd (cc)
+
     parts : (a b : Bool) → (a && b) ≡ true → (a ≡ true) × (b ≡ true)
     parts true b e = (refl, e)
     parts false b e = absurd (cc)
+
     there : satisfies inputs (set_of (bit_or s.0 t.0)) ≡ true → (satisfies inputs s && satisfies inputs t) ≡ true
     there e =
         let w = within_by_union s.0 t.0 inputs (eqb-true (bit_and (bit_or s.0 t.0) inputs) (bit_or s.0 t.0) e) in
         both (satisfies inputs s) (satisfies inputs t) (eq-eqb (bit_and s.0 inputs) s.0 w.0) (eq-eqb (bit_and t.0 inputs) t.0 w.1)
+
     back : (satisfies inputs s && satisfies inputs t) ≡ true → satisfies inputs (set_of (bit_or s.0 t.0)) ≡ true
     back e =
         let w = parts (satisfies inputs s) (satisfies inputs t) e in
@@ -146,7 +149,7 @@ unions_pass [] b inputs = refl
 unions_pass (s ∷ a) b inputs =
     passes_some-append inputs (map (λ (t : InputSet). bit_or s.0 t.0) b) (unions_of a b)
     ∙ (ap (λ x. x || passes_some (unions_of a b) inputs) (unions_with inputs s b)
-      ∙ (ap (λ x. (satisfies inputs s && satisfies_some inputs b) || x) (unions_pass a b inputs) ∙ common (satisfies inputs s) (satisfies_some inputs a) (satisfies_some inputs b)))
+    ∙ (ap (λ x. (satisfies inputs s && satisfies_some inputs b) || x) (unions_pass a b inputs) ∙ common (satisfies inputs s) (satisfies_some inputs a) (satisfies_some inputs b)))
   where
     common : (x y z : Bool) → ((x && z) || (y && z)) ≡ ((x || y) && z)
     common true true true = refl

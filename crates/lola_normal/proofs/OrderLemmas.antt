@@ -42,8 +42,8 @@ before_later q xs low first zero later lt le within e = absurd (omega arith)
 before_later q xs low first (suc count) later lt le within e =
     low_or_later (q first) xs low first (filter q (numbers_from (suc first) count)) lt
     (λ is.
-        let differs : first ≡ later → ⊥ = λ same. let f : q first ≡ true = ap q same ∙ e in cc in
-        before_later q xs low (suc first) count later (omega arith) (omega arith) (omega arith) e)
+    let differs : first ≡ later → ⊥ = λ same. let f : q first ≡ true = ap q same ∙ e in cc in
+    before_later q xs low (suc first) count later (omega arith) (omega arith) (omega arith) e)
 
 -- both lists go on alike
 both_more : (b c : Bool) (x : ℕ) (xs ys : List ℕ) → b ≡ c → IsBefore xs ys → IsBefore (cond b (x ∷ xs) xs) (cond c (x ∷ ys) ys)
@@ -89,21 +89,21 @@ pub least_other-trans : (s t u : InputSet) → HasLeastOther s t → HasLeastOth
 least_other-trans s t u h g =
     elim (cases_lt h.input g.input) [
       | inl lt ↦ record {
-          input = h.input;
-          within = h.within;
-          has = h.has;
-          lacks = sym (g.same h.input lt) ∙ h.lacks;
-          same = λ k l. h.same k l ∙ g.same k (omega arith);
-        }
+        input = h.input;
+        within = h.within;
+        has = h.has;
+        lacks = sym (g.same h.input lt) ∙ h.lacks;
+        same = λ k l. h.same k l ∙ g.same k (omega arith);
+      }
       | inr le ↦
           elim (cases_lt g.input h.input) [
             | inl lt ↦ record {
-                input = g.input;
-                within = g.within;
-                has = h.same g.input lt ∙ g.has;
-                lacks = g.lacks;
-                same = λ k l. h.same k (omega arith) ∙ g.same k l;
-              }
+              input = g.input;
+              within = g.within;
+              has = h.same g.input lt ∙ g.has;
+              lacks = g.lacks;
+              same = λ k l. h.same k (omega arith) ∙ g.same k l;
+            }
             | inr ge ↦
                 let e : h.input ≡ g.input = omega arith in
                 let no : has_input t.0 g.input ≡ false = ap (has_input t.0) (sym e) ∙ h.lacks in
@@ -183,6 +183,7 @@ before_the_rest set xs i x within ordered h = λ k d lt. subst (HasLeastOther se
   where
     first : (d : InputSet) → HasLeastOther set (get_or xs i d)
     first d = subst (HasLeastOther set) (get_or_default xs i x d within) h
+
     go : (k : ℕ) (d : InputSet) → i + k < length xs → HasLeastOther set (get_or xs (i + k) d)
     go zero d lt = subst (λ y. HasLeastOther set (get_or xs y d)) (sym (add-zero i)) (first d)
     go (suc k) d lt = least_other-trans set (get_or xs i d) (get_or xs (i + suc k) d) (first d) (ordered i (i + suc k) d (omega arith) lt)

@@ -29,7 +29,11 @@ fn push_sets(sets: &[InputSet], to: &mut Vec<u64>) -> Result<(), Memory>
 }
 
 /// The union of each set of one list with each of another.
-pub(crate) fn unions(alloc: Global, first: &[InputSet], second: &[InputSet]) -> Result<Vec<u64>, Memory>
+pub(crate) fn unions(
+    alloc: Global,
+    first: &[InputSet],
+    second: &[InputSet],
+) -> Result<Vec<u64>, Memory>
     ensures { IfOk result (λ v. v.items ≡ unions_of first.now second.now) }
 {
     let mut candidates = Vec::new(alloc);
@@ -40,7 +44,11 @@ pub(crate) fn unions(alloc: Global, first: &[InputSet], second: &[InputSet]) -> 
 }
 
 /// The sets of two lists.
-pub(crate) fn both(alloc: Global, first: &[InputSet], second: &[InputSet]) -> Result<Vec<u64>, Memory>
+pub(crate) fn both(
+    alloc: Global,
+    first: &[InputSet],
+    second: &[InputSet],
+) -> Result<Vec<u64>, Memory>
     ensures { IfOk result (λ v. v.items ≡ map candidate_of (first.now ++ second.now)) }
 {
     let mut candidates = Vec::new(alloc);

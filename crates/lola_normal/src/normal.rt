@@ -14,7 +14,11 @@ use lola_model::spec::Formula;
 use std::alloc::Global;
 
 /// The normal form of "a and b": the least sets that have all of a set of each.
-pub fn conjunction(alloc: Global, first: &NormalForm, second: &NormalForm) -> Result<NormalForm, NormalEnd>
+pub fn conjunction(
+    alloc: Global,
+    first: &NormalForm,
+    second: &NormalForm,
+) -> Result<NormalForm, NormalEnd>
     ensures { AnswersLeast (λ inputs. satisfies_some inputs first.now && satisfies_some inputs second.now) result }
 {
     let candidates = unions(alloc, first.as_slice(), second.as_slice())?;
@@ -22,7 +26,11 @@ pub fn conjunction(alloc: Global, first: &NormalForm, second: &NormalForm) -> Re
 }
 
 /// The normal form of "a or b": the least sets of both.
-pub fn disjunction(alloc: Global, first: &NormalForm, second: &NormalForm) -> Result<NormalForm, NormalEnd>
+pub fn disjunction(
+    alloc: Global,
+    first: &NormalForm,
+    second: &NormalForm,
+) -> Result<NormalForm, NormalEnd>
     ensures { AnswersLeast (λ inputs. satisfies_some inputs first.now || satisfies_some inputs second.now) result }
 {
     let candidates = both(alloc, first.as_slice(), second.as_slice())?;

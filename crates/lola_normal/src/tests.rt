@@ -61,7 +61,10 @@ fn least_sets(rt: HostRuntime) -> Result<(), Fail> {
     let a_and_c = both(alloc, Formula::Input(0), Formula::Input(2))?;
     let formula = either(alloc, Formula::Input(1), a_and_c)?;
     let form = normal(alloc, &formula)?;
-    assert_eq!(rt; form.as_slice(), [InputSet(0b101), InputSet(0b010)].as_slice());
+    assert_eq!(rt;
+        form.as_slice(),
+        [InputSet(0b101), InputSet(0b010)].as_slice()
+    );
     let a_and_b = both(alloc, Formula::Input(0), Formula::Input(1))?;
     let formula = either(alloc, Formula::Input(0), a_and_b)?;
     let form = normal(alloc, &formula)?;

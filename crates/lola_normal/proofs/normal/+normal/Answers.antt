@@ -40,14 +40,14 @@ pub returns-in_ok-second-in-And : goal.returns-in_ok-second-in-And
 returns-in_ok-second-in-And t c =
     rw c.in-And.is
     (normal_and (And c.in-And.first c.in-And.second) c.in-And.first.value c.in-And.second.value c.in_ok-first-in-And.first c.in_ok-second-in-And.second c.conjunction.result refl (λ inputs. refl)
-      (subst (λ (f : Formula). ListsNormalForm f c.in_ok-first-in-And.first) c.deref.ensures c.in_ok-first-in-And.ensures)
-      (subst (λ (f : Formula). ListsNormalForm f c.in_ok-second-in-And.second) c.deref-in-And.ensures c.in_ok-second-in-And.ensures)
-      c.conjunction.ensures)
+    (subst (λ (f : Formula). ListsNormalForm f c.in_ok-first-in-And.first) c.deref.ensures c.in_ok-first-in-And.ensures)
+    (subst (λ (f : Formula). ListsNormalForm f c.in_ok-second-in-And.second) c.deref-in-And.ensures c.in_ok-second-in-And.ensures)
+    c.conjunction.ensures)
 
 pub returns-in_ok-second-in-Or : goal.returns-in_ok-second-in-Or
 returns-in_ok-second-in-Or t c =
     rw c.in-Or.is
     (normal_or (Or c.in-Or.first c.in-Or.second) c.in-Or.first.value c.in-Or.second.value c.in_ok-first-in-Or.first c.in_ok-second-in-Or.second c.disjunction.result refl (λ inputs. refl)
-      (subst (λ (f : Formula). ListsNormalForm f c.in_ok-first-in-Or.first) c.deref-in-Or.ensures c.in_ok-first-in-Or.ensures)
-      (subst (λ (f : Formula). ListsNormalForm f c.in_ok-second-in-Or.second) c.deref-in-Or-2.ensures c.in_ok-second-in-Or.ensures)
-      c.disjunction.ensures)
+    (subst (λ (f : Formula). ListsNormalForm f c.in_ok-first-in-Or.first) c.deref-in-Or.ensures c.in_ok-first-in-Or.ensures)
+    (subst (λ (f : Formula). ListsNormalForm f c.in_ok-second-in-Or.second) c.deref-in-Or-2.ensures c.in_ok-second-in-Or.ensures)
+    c.disjunction.ensures)
