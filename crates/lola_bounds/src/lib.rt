@@ -8,3 +8,5 @@ mod pacing_text;
 pub mod panes;
 pub mod report;
 mod size;
+#[cfg(test)]
+mod tests;
