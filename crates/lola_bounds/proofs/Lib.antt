@@ -1,0 +1,3 @@
+pub mod RaiseLemmas
+pub mod PaneLemmas
+pub mod KeptLemmas

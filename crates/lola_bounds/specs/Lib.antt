@@ -1,0 +1,4 @@
+pub mod Offsets
+pub mod Panes
+pub mod Bounds
+pub mod Report
