@@ -1,6 +1,6 @@
 //! What was found of a specification, as lines.
 
-ghost use Rattle.std.specs.Prelude.{◌≡◌, ◌++◌, ◌≤◌, ◌<◌, ◌^◌, OnOk, Some, decimal, filter, length, slice_get, unwrap_or};
+ghost use Rattle.std.specs.Prelude.{◌≡◌, ◌++◌, ◌≤◌, ◌<◌, ◌^◌, OnOk, OnErr, Some, decimal, filter, length, slice_get, unwrap_or};
 ghost use Rattle.lola_model.specs.Graph.{layer_of, eval_node, spawn_node};
 ghost use Rattle.lola_model.specs.Model.{is_input, eval_pacing, spawn_pacing};
 ghost use Rattle.lola_bounds.specs.Report.{pacing_text, kind_name, kind_text, layer_text, spawn_text, eval_text, kept_text, stream_name, stream_line, stream_lines, name_of, pane_count, window_name, window_size, window_lines, report_of};
@@ -12,6 +12,7 @@ use lola_value::numbers::number_text;
 use lola_value::text::{Memory, Text};
 use lola_value::times::time_text;
 use lola_value::value::Kind;
+use std::alloc::Global;
 
 /// A kind, as specifications spell it.
 fn kind_name(kind: Kind) -> &'static str
@@ -209,14 +210,26 @@ fn window_lines(plan: &Plan, windows: &[WindowSpec], to: &mut Text) -> Result<()
     Ok(())
 }
 
-/// Appends what was found of a specification: a line for each stream with its kind, its pacings,
-/// its layers and how many of its values are kept, and then a line for each window with its panes.
-/// Where there is no memory, the text may have a part of the lines.
-pub fn report(plan: &Plan, to: &mut Text) -> Result<(), Memory>
+// The lines of streams and of windows.
+fn all_lines(plan: &Plan, to: &mut Text) -> Result<(), Memory>
     requires inputs { length (filter is_input plan.now.spec.streams) ≤ 64 }
     requires streams { length plan.now.spec.streams ≤ 1024 }
     ensures { OnOk result (to.new ≡ to.old ++ report_of plan.now) }
 {
     stream_lines(plan, plan.spec.streams.as_slice(), to)?;
     window_lines(plan, plan.spec.windows.as_slice(), to)
+}
+
+/// Appends what was found of a specification: a line for each stream with its kind, its pacings,
+/// its layers and how many of its values are kept, and then a line for each window with its panes.
+/// Where there is no memory the text is as it was.
+pub fn report(alloc: Global, plan: &Plan, to: &mut Text) -> Result<(), Memory>
+    requires inputs { length (filter is_input plan.now.spec.streams) ≤ 64 }
+    requires streams { length plan.now.spec.streams ≤ 1024 }
+    ensures ok { OnOk result (to.new ≡ to.old ++ report_of plan.now) }
+    ensures err { OnErr result (to.new ≡ to.old) }
+{
+    let mut lines = Text::from_bytes(alloc, b"")?;
+    all_lines(plan, &mut lines)?;
+    to.append(lines.as_bytes())
 }

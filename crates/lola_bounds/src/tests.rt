@@ -94,7 +94,7 @@ fn plan(alloc: Global) -> Result<Plan, Memory>
 fn lines(rt: HostRuntime) -> Result<(), Fail> {
     let plan = plan(rt.alloc())?;
     let mut text = Text::from_bytes(rt.alloc(), b"")?;
-    report(&plan, &mut text)?;
+    report(rt.alloc(), &plan, &mut text)?;
     let lines =
         b"stream 0 dev String pacing dev layer 0 kept 1\nwindow 0 in dev onto dev over 60.000000000 panes 60\n";
     assert_eq!(rt; text.as_bytes(), lines.as_slice());
