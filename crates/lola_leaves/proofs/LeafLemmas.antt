@@ -1,12 +1,12 @@
 -- Streams that are followed, and those at which a search ends.
-use Rattle.std.proofs.Common.{◌≡◌, ◌≢◌, refl, ap, sym, ◌∙◌, ℕ, zero, suc, ◌+◌, ◌<◌, List, [], ◌∷◌, ◌++◌, Option, Some, None, Bool, true, false, if◌then◌else◌, arith, length, map, slice_get, subst, inl, inr}
-use Rattle.std.specs.List.{slice_index_or, Contains, AllPairs}
+use Rattle.std.proofs.Common.{◌≡◌, ◌≢◌, refl, ap, sym, ℕ, zero, suc, ◌+◌, ◌<◌, List, [], ◌∷◌, ◌++◌, Option, Some, None, Bool, true, false, if◌then◌else◌, arith, length, map, slice_get, subst, inl, inr}
+use Rattle.std.specs.List.{slice_index_or, Contains}
 use Rattle.std.proofs.lemmas.Bool.{cases_eq}
 use Rattle.std.proofs.lemmas.List.{get_or_default}
 use Rattle.std.proofs.lemmas.List.Elements.{Contains-append_left, Contains-append_cases, Contains-push, Contains-push_cases}
 use Rattle.std.proofs.lemmas.List.Quantifiers.{all_pairs_push}
-use Rattle.lola_model.specs.Accepted.{IsInRange, AreInRange, IsWhenInRange, IsWithInRange, IsClauseInRange, AreClausesInRange, IsSpecInRange}
-use Rattle.lola_model.specs.Parts.{listed, listed_all, listed_when, listed_with, listed_clause}
+use Rattle.lola_model.specs.Accepted.{IsInRange, AreInRange, IsWhenInRange, IsWithInRange, IsClauseInRange, AreClausesInRange}
+use Rattle.lola_model.specs.Parts.{listed, listed_all, listed_when, listed_with}
 use Rattle.lola_model.specs.declared.expr.Access.{Access}
 use Rattle.lola_model.specs.declared.expr.Access.TheVariants as access
 use Rattle.lola_model.specs.declared.expr.Arguments.{Arguments}
@@ -15,8 +15,8 @@ use Rattle.lola_model.specs.declared.expr.Expr.{Expr}
 use Rattle.lola_model.specs.declared.expr.Expr.TheVariants.{Literal, Parameter, Read, Window, Defaults', Unary', Both', Choice'}
 use Rattle.lola_model.specs.declared.spec.Clause.{Clause}
 use Rattle.lola_model.specs.declared.spec.Stream.{Stream}
-use Rattle.lola_leaves.specs.Leaves.{followed_by, followed, followed_in, is_end, is_end_of, onward, list_at, AreLeaves, IsLeaf}
-use Rattle.lola_leaves.specs.Marks.{IsMarked, MarksVisited, IsEndBelow, AreEndsBelow}
+use Rattle.lola_leaves.specs.Leaves.{followed_by, followed, followed_in, is_end, is_end_of, onward, list_at, AreLeaves}
+use Rattle.lola_leaves.specs.Marks.{MarksVisited, IsEndBelow, AreEndsBelow}
 use Rattle.lola_leaves.proofs.MarkLemmas.{no_element}
 
 -- what is followed in an expression is one of the streams

@@ -1,4 +1,3 @@
-use Rattle.std.proofs.Common.{arith}
 use Rattle.lola_leaves.proofs.MarkLemmas.{read_at}
 use Rattle.lola_leaves.proofs.search.mark_behind.Goals as goal
 

@@ -1,4 +1,4 @@
-use Rattle.lola_leaves.proofs.MarkLemmas.{marks_one, marks_none, marks_own}
+use Rattle.lola_leaves.proofs.MarkLemmas.{marks_one}
 use Rattle.lola_leaves.proofs.search.mark_one.Goals as goal
 
 pub returns : goal.returns

@@ -1,0 +1,5 @@
+pub mod Widths
+pub mod Findings
+pub mod Rates
+pub mod Verdicts
+pub mod Refused
