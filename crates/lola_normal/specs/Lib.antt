@@ -1,0 +1,4 @@
+pub mod Order
+pub mod Kept
+pub mod Least
+pub mod Formulas
