@@ -1,9 +1,9 @@
 -- What is found of the pacings of clauses.
-use Rattle.std.specs.Prelude.{ℕ, ◌≡◌, ◌≤◌, ◌+◌, ◌*◌, ◌%◌, ◌^◌, ◌⊎◌, List, [], ◌∷◌, ◌++◌, Option, Some, None, Bool, true, false, if◌then◌else◌, nat_eq, map, slice_get, All, Any, Contains, MatchBool}
+use Rattle.std.specs.Prelude.{ℕ, ◌≡◌, ◌≤◌, ◌+◌, ◌*◌, ◌%◌, ◌^◌, ◌⊎◌, List, [], ◌∷◌, ◌++◌, Option, Some, None, Bool, true, false, ◌&&◌, if◌then◌else◌, nat_eq, map, slice_get, All, Any, Contains, MatchBool}
 use Rattle.std.specs.List.{list_all, list_any}
 use Rattle.lola_value.specs.Ratio.{Ratio}
 use Rattle.lola_value.specs.declared.front.Code.TheVariants as code
-use Rattle.lola_model.specs.Implication.{IsNormalFormOf, AreLeastSets}
+use Rattle.lola_model.specs.Activity.{satisfies_some}
 use Rattle.lola_model.specs.Model.{is_input}
 use Rattle.lola_model.specs.declared.pacing.InputSet.{InputSet}
 use Rattle.lola_model.specs.declared.pacing.Pacing.TheVariants.{Event, Periodic}
@@ -14,7 +14,8 @@ use Rattle.lola_model.specs.declared.spec.Pace.TheVariants as pace
 use Rattle.lola_model.specs.declared.spec.Stream.{Stream}
 use Rattle.lola_model.specs.declared.spec.WrittenRate.{WrittenRate}
 use Rattle.lola_model.specs.declared.spec.WrittenRate.TheVariants as rate
-use Rattle.lola_findings.specs.Widths.{IsTooWide, IsWide, parts_of, satisfies_both}
+use Rattle.lola_normal.specs.Formulas.{ListsNormalForm, IsWide, parts_of}
+use Rattle.lola_normal.specs.Least.{IsTooWide, ListsLeast}
 use Rattle.lola_findings.specs.declared.finding.Finding.{Finding}
 use Rattle.lola_findings.specs.declared.finding.Finding.TheVariants.{Paced, Refused, Unpaced}
 
@@ -29,7 +30,7 @@ too_wide at = Refused (record { code = code.PacingTooWide; at = at })
 
 -- a formula at an `@`: its normal form, or E13 where that of some part is too wide
 abbrev pub IsGivenEvent : ℕ → Formula → Finding → Type 0
-IsGivenEvent at f (Paced (Event sets)) = IsNormalFormOf f sets × All (λ (part : Formula). ¬ (IsWide part)) (parts_of f)
+IsGivenEvent at f (Paced (Event sets)) = ListsNormalForm f sets
 IsGivenEvent at f (Paced (Periodic r)) = ⊥
 IsGivenEvent at f (Refused r) = (Refused r ≡ too_wide at) × Any IsWide (parts_of f)
 IsGivenEvent at f Unpaced = ⊥
@@ -131,12 +132,16 @@ abbrev pub rates_of : List Finding → List Ratio
 rates_of [] = []
 rates_of (f ∷ fs) = rate_of f ++ rates_of fs
 
+-- a set of inputs satisfies two event-based pacings
+abbrev pub satisfies_both : List InputSet → List InputSet → ℕ → Bool
+satisfies_both a b inputs = satisfies_some inputs a && satisfies_some inputs b
+
 -- the pacing of these sets, joined in order with the others: E13 where a conjunction on the way has more than 256 sets
 abbrev pub IsJoined : ℕ → List InputSet → List (List InputSet) → Finding → Type 0
 IsJoined at sets [] finding = finding ≡ Paced (Event sets)
 IsJoined at sets (form ∷ forms) finding =
     (IsTooWide (satisfies_both sets form) × (finding ≡ too_wide at))
-    ⊎ ((next : List InputSet) × AreLeastSets (satisfies_both sets form) next × ¬ (IsTooWide (satisfies_both sets form)) × IsJoined at next forms finding)
+    ⊎ ((next : List InputSet) × ListsLeast (satisfies_both sets form) next × IsJoined at next forms finding)
 
 -- the pacing that every row satisfies
 abbrev pub any_row : List InputSet

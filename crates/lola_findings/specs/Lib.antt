@@ -1,4 +1,3 @@
-pub mod Widths
 pub mod Findings
 pub mod Rates
 pub mod Verdicts
