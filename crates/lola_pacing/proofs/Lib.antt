@@ -1,0 +1,3 @@
+mod JoinLemmas
+mod OwnLemmas
+mod PhaseLemmas
