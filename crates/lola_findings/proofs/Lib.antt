@@ -1,1 +1,2 @@
-mod RateLemmas
+pub mod RateLemmas
+pub mod LawLemmas

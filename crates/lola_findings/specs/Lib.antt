@@ -2,3 +2,4 @@ pub mod Findings
 pub mod Rates
 pub mod Verdicts
 pub mod Refused
+pub mod Laws

@@ -3,6 +3,7 @@
 
 pub mod finding;
 pub mod given;
+pub mod law;
 pub mod rates;
 pub mod refused;
 pub mod sorts;

@@ -2,60 +2,24 @@
 
 ghost use Rattle.std.specs.Prelude.{◌≡◌, ◌++◌, [], ◌∷◌, OnOk, unwrap_or, slice_get, flat_map, None};
 ghost use Rattle.lola_value.specs.declared.front.Code.TheVariants as code;
-ghost use Rattle.std.specs.List.{list_all};
-ghost use Rattle.lola_model.specs.Activity.{satisfies, satisfies_some as satisfies_one};
 ghost use Rattle.lola_model.specs.Named.{has_clause, has_when as has_condition};
-ghost use Rattle.lola_model.specs.declared.pacing.InputSet.{InputSet as Set};
 ghost use Rattle.lola_findings.specs.Findings.{finding_at};
 ghost use Rattle.lola_findings.specs.Refused.{clause_refusals, does_imply, finding_refusal, is_filtered as is_filtered_stream, not_implied, refusal_where, use_refusals, verdict_refusal};
 
 use crate::finding::Finding;
-use crate::rates::is_multiple;
 use crate::uses::{Use, uses_of};
-use lola_model::pacing::{InputSet, Pacing};
+use lola_model::pacing::Pacing;
 use lola_model::spec::{Clause, Stream};
+use lola_normal::implies::implies;
 use lola_value::front::{Code, Refusal};
 use lola_value::text::Memory;
 use std::alloc::Global;
 
-/// Whether inputs have all of some set.
-fn satisfies_some(inputs: u64, sets: &[InputSet]) -> bool
-    ensures { result ≡ satisfies_one inputs sets.now }
-{
-    for set in sets {
-        if set.0 & inputs == set.0 {
-            return true;
-        }
-    }
-    false
-}
-
-/// Whether each set has all of one of others.
-fn each_satisfies_some(sets: &[InputSet], others: &[InputSet]) -> bool
-    ensures { result ≡ list_all (λ (s : Set). satisfies_one s.0 others.now) sets.now }
-{
-    for set in sets {
-        if !satisfies_some(set.0, others) {
-            return false;
-        }
-    }
-    true
-}
-
 /// Whether one pacing implies another: wherever the one is active, so is the other.
-pub fn is_implied(pacing: &Pacing, other: &Pacing) -> bool
+fn is_implied(pacing: &Pacing, other: &Pacing) -> bool
     ensures { result ≡ does_imply pacing.now other.now }
 {
-    match pacing {
-        Pacing::Event(sets) => match other {
-            Pacing::Event(others) => each_satisfies_some(sets.as_slice(), others.as_slice()),
-            Pacing::Periodic(_) => false,
-        },
-        Pacing::Periodic(rate) => match other {
-            Pacing::Event(_) => false,
-            Pacing::Periodic(other) => is_multiple(rate, other),
-        },
-    }
+    implies(pacing, other)
 }
 
 /// Puts a refusal.
