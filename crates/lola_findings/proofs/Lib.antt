@@ -1,2 +1,3 @@
 pub mod RateLemmas
 pub mod LawLemmas
+pub mod FineLemmas
