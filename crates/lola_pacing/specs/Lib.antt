@@ -2,3 +2,4 @@ pub mod Formulas
 pub mod Joins
 pub mod Phase
 pub mod Steps
+pub mod Accepted

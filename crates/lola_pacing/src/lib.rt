@@ -5,6 +5,7 @@ pub mod check;
 mod clauses;
 mod found;
 mod given;
+pub mod law;
 mod pacings;
 mod refusals;
 mod verdicts;
