@@ -20,8 +20,7 @@ use Rattle.lola_findings.specs.declared.finding.Finding.TheVariants.{Paced}
 multiple_told : (r q : Ratio) → (is_multiple r q ≡ true) ↔ IsWholeMultipleOf q r
 multiple_told r q =
     let a = q.num * r.den in
-    let b = q.den * r.num in
-    (
+    let b = q.den * r.num in (
       λ e. (let rest : a % b ≡ 0 = eqb-true (a % b) 0 e in let all : a / b * b + a % b ≡ a = div-add-mod' a b in (a / b, omega (arith, rest, all))),
       λ w. eq-eqb (a % b) 0 (ap (λ (x : ℕ). x % b) w.1 ∙ mul-mod_left w.0 b),
     )
