@@ -1,0 +1,3 @@
+pub mod RateLemmas
+pub mod LawLemmas
+pub mod FineLemmas

@@ -1,0 +1,46 @@
+-- What stands against windows.
+use Rattle.std.specs.Prelude.{ℕ, ◌≡◌, ◌<◌, ◌≤◌, ◌*◌, ◌/◌, ◌%◌, Option, Some, None}
+use Rattle.std.specs.Int.{IsGcd}
+use Rattle.lola_value.specs.Rate.{period_over}
+use Rattle.lola_value.specs.Ratio.{Ratio}
+use Rattle.lola_value.specs.declared.front.Code.{Code}
+use Rattle.lola_value.specs.declared.front.Code.TheVariants as code
+use Rattle.lola_model.specs.declared.pacing.Pacing.TheVariants.{Event, Periodic}
+use Rattle.lola_findings.specs.declared.finding.Finding.{Finding}
+use Rattle.lola_findings.specs.declared.finding.Finding.TheVariants.{Paced, Refused, Unpaced}
+
+-- the period is a whole number of nanoseconds
+abbrev pub IsWholePeriod : Ratio → Type 0
+IsWholePeriod r = period_over r % r.num ≡ 0
+
+-- a window's panes are as long as this: the greatest common divisor of its length and the period
+abbrev pub IsPaneOf : Ratio → ℕ → ℕ → Type 0
+IsPaneOf r over pane = IsGcd (period_over r / r.num) over pane
+
+-- it has more than 65,536 panes
+pub record IsTooFine (r : Ratio) (over : ℕ) : Type 0 where
+  pub whole : IsWholePeriod r
+  pub pane : ℕ
+  pub is_pane : IsPaneOf r over pane
+  pub many : 65536 * pane < over
+
+-- it has at most so many
+pub record IsFineEnough (r : Ratio) (over : ℕ) : Type 0 where
+  pub whole : IsWholePeriod r
+  pub pane : ℕ
+  pub is_pane : IsPaneOf r over pane
+  pub few : over ≤ 65536 * pane
+
+-- in a clause of this rate: E18, E16, or nothing stands against it
+abbrev pub IsRateVerdict : Ratio → ℕ → Option Code → Type 0
+IsRateVerdict r over (Some code.WindowNeedsWholePeriod) = ¬ (IsWholePeriod r)
+IsRateVerdict r over (Some code.WindowTooFine) = IsTooFine r over
+IsRateVerdict r over None = IsFineEnough r over
+IsRateVerdict r over _ = ⊥
+
+-- a window of this length in a clause of which that is found: E15 in one that goes by inputs, and nothing in one without a pacing
+abbrev pub IsVerdict : Finding → ℕ → Option Code → Type 0
+IsVerdict (Paced (Event sets)) over verdict = verdict ≡ Some code.WindowOutsidePeriodic
+IsVerdict (Paced (Periodic r)) over verdict = IsRateVerdict r over verdict
+IsVerdict (Refused r) over verdict = verdict ≡ None
+IsVerdict Unpaced over verdict = verdict ≡ None

@@ -1,0 +1,15 @@
+//! What is found of the pacing of a clause.
+
+use lola_model::pacing::Pacing;
+use lola_value::front::Refusal;
+
+/// What is found of the pacing of a clause.
+#[derive(Drop)]
+pub enum Finding {
+    /// It has this one.
+    Paced(Pacing),
+    /// It has none, and this refusal says why.
+    Refused(Refusal),
+    /// It has none, for a cause that is refused elsewhere or that needs no refusal.
+    Unpaced,
+}

@@ -1,0 +1,4 @@
+mod JoinLemmas
+mod OwnLemmas
+mod PhaseLemmas
+mod PacedLemmas

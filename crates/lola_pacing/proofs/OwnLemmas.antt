@@ -1,0 +1,33 @@
+-- Lists that grow stream by stream.
+use Rattle.std.proofs.Common.{◌≡◌, refl, ap, sym, subst, ◌∙◌, ℕ, zero, suc, ◌+◌, ◌<◌, ◌≤◌, List, [], ◌∷◌, ◌++◌, Option, Bool, true, false, ◌&&◌, if◌then◌else◌, arith, length, drop, filter}
+use Rattle.std.specs.List.{slice_index_or}
+use Rattle.std.proofs.lemmas.List.{drop_all}
+use Rattle.lola_value.specs.declared.front.Code.{Code}
+use Rattle.lola_model.specs.Model.{is_input}
+use Rattle.lola_model.specs.declared.spec.Stream.{Stream}
+use Rattle.lola_model.specs.declared.spec.WindowSpec.{WindowSpec}
+use Rattle.lola_findings.specs.Findings.{IsOwn, AreOwn, inputs_with}
+use Rattle.lola_findings.specs.Verdicts.{IsVerdict}
+use Rattle.lola_findings.specs.declared.finding.Finding.{Finding}
+use Rattle.lola_pacing.specs.Phase.{InStep, AreVerdicts, finding_of_part}
+use Rattle.lola_pacing.specs.Steps.{Grows, GrowsOwn}
+
+append_none : {X : Type 0} (xs : List X) → xs ++ [] ≡ xs
+append_none [] = refl
+append_none (x ∷ xs) = ap (λ ys. x ∷ ys) (append_none xs)
+
+-- where all streams are done
+pub grown : (R : ℕ → Stream → Finding → Type 0) (all ss : List Stream) (i n : ℕ) (made : List Finding) → i ≡ length ss → Grows R all n (drop i ss) made → InStep R 0 all made
+grown R all ss i n made e g =
+    subst (λ (fs : List Finding). InStep R 0 all fs) (append_none made) (g [] (subst (λ (ts : List Stream). InStep R n ts []) (sym (drop_all i ss (omega arith))) tt))
+
+pub grown_own : (all ss : List Stream) (i n : ℕ) (made : List Finding) → i ≡ length ss → GrowsOwn all n (drop i ss) made → AreOwn 0 all made
+grown_own all ss i n made e g =
+    subst (λ (fs : List Finding). AreOwn 0 all fs) (append_none made) (g [] (subst (λ (ts : List Stream). AreOwn n ts []) (sym (drop_all i ss (omega arith))) tt))
+
+pub verdicts_all : (spawns evals closes : List Finding) (all ws : List WindowSpec) (i : ℕ) (made : List (Option Code)) → i ≡ length ws
+    → ((rest : List (Option Code)) → AreVerdicts spawns evals closes (drop i ws) rest → AreVerdicts spawns evals closes all (made ++ rest))
+    → AreVerdicts spawns evals closes all made
+verdicts_all spawns evals closes all ws i made e g =
+    subst (λ (vs : List (Option Code)). AreVerdicts spawns evals closes all vs) (append_none made)
+    (g [] (subst (λ (vs : List WindowSpec). AreVerdicts spawns evals closes vs []) (sym (drop_all i ws (omega arith))) tt))

@@ -1,0 +1,25 @@
+-- What holds where the phase refuses nothing.
+use Rattle.std.specs.Prelude.{ℕ, ◌≡◌, List, [], Option, Some, None, true, false, slice_get}
+use Rattle.lola_model.specs.Named.{all_streams, has_clause, is_stream_paced_in_range}
+use Rattle.lola_model.specs.declared.spec.Clause.{Clause}
+use Rattle.lola_model.specs.declared.spec.Spec.{Spec}
+use Rattle.lola_model.specs.declared.spec.Stream.{Stream}
+use Rattle.lola_findings.specs.Findings.{finding_at, is_unpaced}
+use Rattle.lola_findings.specs.declared.finding.Finding.{Finding}
+use Rattle.lola_pacing.specs.Phase.{Found, refusals_of}
+
+-- a clause, if there is one, has a pacing
+abbrev pub IsPacedWhere : Option Clause → Finding → Type 0
+IsPacedWhere None finding = Unit {0}
+IsPacedWhere (Some c) finding = is_unpaced finding ≡ false
+
+-- so it is with the three clauses of stream n; a close clause stands beside an eval clause
+pub record IsStreamPaced (spawns evals closes : List Finding) (n : ℕ) (s : Stream) : Type 0 where
+  pub spawn : IsPacedWhere s.spawn (finding_at spawns n)
+  pub eval : IsPacedWhere s.eval (finding_at evals n)
+  pub close : has_clause s.eval ≡ true → IsPacedWhere s.close (finding_at closes n)
+
+-- where rates are in their ranges and nothing is refused, each clause has a pacing
+pub record PacesAll : Type 0 where
+  pub paced : (spec : Spec) (f : Found spec) → all_streams is_stream_paced_in_range spec.streams ≡ true → refusals_of spec f ≡ []
+      → (n : ℕ) (s : Stream) → slice_get spec.streams n ≡ Some s → IsStreamPaced f.spawns f.evals f.closes n s

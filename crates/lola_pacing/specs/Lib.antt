@@ -1,0 +1,5 @@
+pub mod Formulas
+pub mod Joins
+pub mod Phase
+pub mod Steps
+pub mod Accepted

@@ -1,0 +1,94 @@
+//! The pacing phase of the compiler.
+
+ghost use Rattle.std.specs.Prelude.{◌≡◌, ◌≤◌, IsTrue, IfOk, length, filter, map};
+ghost use Rattle.lola_model.specs.Accepted.{IsSpecInRange};
+ghost use Rattle.lola_model.specs.Model.{is_input};
+ghost use Rattle.lola_model.specs.Named.{all_windows, is_span, IsNamed};
+ghost use Rattle.lola_model.specs.Typed.{IsTyped};
+ghost use Rattle.lola_pacing.specs.Formulas.{AreOverInputs};
+ghost use Rattle.lola_pacing.specs.Phase.{AnswersPacing, AreFound};
+
+use crate::clauses::of_parts;
+use crate::given::owns;
+use crate::pacings::pacings;
+use crate::refusals::{first, refusals};
+use crate::verdicts::of_windows;
+use lola_findings::finding::Finding;
+use lola_leaves::leaves::lists_of;
+use lola_model::pacing::Pacings;
+use lola_model::spec::{Part, Spec};
+use lola_value::front::{Code, FrontEnd};
+use lola_value::text::Memory;
+use std::alloc::Global;
+
+/// What is found of a specification: of its streams' own pacings, of the three clauses of each stream, and of its
+/// windows.
+#[derive(Drop)]
+struct AllFindings {
+    owns: Vec<Finding>,
+    spawns: Vec<Finding>,
+    evals: Vec<Finding>,
+    closes: Vec<Finding>,
+    verdicts: Vec<Option<Code>>,
+}
+
+/// Finds it.
+fn findings(alloc: Global, spec: &Spec) -> Result<AllFindings, Memory>
+    requires numbers { IsSpecInRange spec.now }
+    requires streams { length spec.now.streams ≤ 1024 }
+    requires inputs { length (filter is_input spec.now.streams) ≤ 64 }
+    requires formulas { AreOverInputs spec.now.streams }
+    requires windows { IsTrue (all_windows is_span spec.now.windows) }
+    ensures { IfOk result (λ found. AreFound spec.now found.owns.items found.spawns.items found.evals.items found.closes.items found.verdicts.items) }
+{
+    let lists = lists_of(alloc, spec)?;
+    let owns = owns(alloc, spec.streams.as_slice())?;
+    let spawns = of_parts(alloc, spec, &lists, &owns, &[], Part::Spawn)?;
+    let evals = of_parts(alloc, spec, &lists, &owns, &[], Part::Eval)?;
+    let closes = of_parts(alloc, spec, &lists, &owns, &evals, Part::Close)?;
+    let verdicts = of_windows(alloc, &spawns, &evals, &closes, spec.windows.as_slice())?;
+    Ok(AllFindings {
+        owns,
+        spawns,
+        evals,
+        closes,
+        verdicts,
+    })
+}
+
+/// The answer, where all is found.
+fn answer(alloc: Global, spec: &Spec, found: &AllFindings) -> Result<Pacings, FrontEnd>
+    requires streams { length spec.now.streams ≤ 1024 }
+    requires found { AreFound spec.now found.now.owns.items found.now.spawns.items found.now.evals.items found.now.closes.items found.now.verdicts.items }
+    ensures { AnswersPacing spec.now result }
+{
+    let streams = spec.streams.as_slice();
+    let list = refusals(
+        alloc,
+        streams,
+        &found.spawns,
+        &found.evals,
+        &found.closes,
+        &found.verdicts,
+    )?;
+    match first(&list) {
+        Some(refusal) => Err(FrontEnd::Refused(refusal)),
+        None => {
+            let pacings = pacings(alloc, streams, &found.spawns, &found.evals, &found.closes)?;
+            Ok(pacings)
+        }
+    }
+}
+
+/// The pacing of each clause of a specification whose names are resolved and whose kinds are found, or the first refusal
+/// of this phase: E11 to E18, and E20 for what is not built. Pacings are those of the RTLola language: event-based ones
+/// imply each other over all sets of inputs, and a rate implies its whole multiples.
+pub fn check(alloc: Global, spec: &Spec) -> Result<Pacings, FrontEnd>
+    requires named { IsNamed spec.now }
+    requires typed { IsTyped spec.now }
+    requires formulas { AreOverInputs spec.now.streams }
+    ensures { AnswersPacing spec.now result }
+{
+    let found = findings(alloc, spec)?;
+    answer(alloc, spec, &found)
+}

@@ -1,0 +1,253 @@
+//! What is found of the clauses of all streams.
+
+ghost use Rattle.std.specs.Prelude.{◌≡◌, ◌≤◌, ◌<◌, IfOk, length, map};
+ghost use Rattle.lola_model.specs.Accepted.{IsClauseInRange, IsSpecInRange};
+ghost use Rattle.lola_leaves.specs.Leaves.{onward};
+ghost use Rattle.lola_findings.specs.Findings.{finding_at};
+ghost use Rattle.lola_pacing.specs.Formulas.{AreOverInputs, IsClauseOverInputs};
+ghost use Rattle.lola_pacing.specs.Phase.{InStep, IsClauseFound, IsCloseFound, IsEvalFound, IsFromLeaves, IsSpawnFound, only_pacing, place_of as place_where};
+ghost use Rattle.lola_pacing.specs.Steps.{IsPartFound};
+
+use crate::found::of_leaves;
+use crate::given::of_pace;
+use lola_findings::finding::Finding;
+use lola_findings::given::{copied, none_found};
+use lola_leaves::leaves::{is_end, leaves};
+use lola_leaves::numbers::Numbers;
+use lola_model::spec::{Clause, Part, Spec, Stream};
+use lola_value::text::Memory;
+use std::alloc::Global;
+
+/// What is found of a clause of a stream from its leaves.
+fn from_leaves(
+    alloc: Global,
+    spec: &Spec,
+    lists: &[Numbers],
+    owns: &[Finding],
+    number: u32,
+    at: u32,
+    alone: Finding,
+    clause: &Option<Clause>,
+) -> Result<Finding, Memory>
+    requires numbers { IsSpecInRange spec.now }
+    requires streams { length spec.now.streams ≤ 1024 }
+    requires clause { IsClauseInRange (length spec.now.streams) (length spec.now.windows) clause.now }
+    requires lists { lists.now ≡ map onward spec.now.streams }
+    ensures { IfOk result (λ finding. IsFromLeaves spec.now.streams owns.now number at alone clause.now finding) }
+{
+    let leaves = leaves(alloc, spec, lists, number, clause)?;
+    let finding = of_leaves(alloc, at, alone, owns, leaves.as_slice())?;
+    Ok(finding)
+}
+
+/// What is found of a clause of a stream: by its `@`, or from its leaves.
+fn of_clause(
+    alloc: Global,
+    spec: &Spec,
+    lists: &[Numbers],
+    owns: &[Finding],
+    number: u32,
+    at: u32,
+    alone: Finding,
+    clause: &Option<Clause>,
+) -> Result<Finding, Memory>
+    requires numbers { IsSpecInRange spec.now }
+    requires streams { length spec.now.streams ≤ 1024 }
+    requires clause { IsClauseInRange (length spec.now.streams) (length spec.now.windows) clause.now }
+    requires formula { IsClauseOverInputs clause.now }
+    requires lists { lists.now ≡ map onward spec.now.streams }
+    ensures { IfOk result (λ finding. IsClauseFound spec.now.streams owns.now number at alone clause.now finding) }
+{
+    match clause {
+        None => Ok(Finding::Unpaced),
+        Some(inner) => match &inner.pace {
+            Some(pace) => of_pace(alloc, pace),
+            None => from_leaves(alloc, spec, lists, owns, number, at, alone, clause),
+        },
+    }
+}
+
+/// A copy of what is found of a stream.
+fn copied_at(alloc: Global, findings: &[Finding], stream: u32) -> Result<Finding, Memory>
+    ensures { IfOk result (λ copy. copy ≡ finding_at findings.now stream) }
+{
+    match findings.get(stream as usize) {
+        Some(finding) => copied(alloc, finding),
+        None => Ok(Finding::Unpaced),
+    }
+}
+
+/// A copy of a pacing, and nothing of what is refused.
+fn only_paced(alloc: Global, finding: &Finding) -> Result<Finding, Memory>
+    ensures { IfOk result (λ copy. copy ≡ only_pacing finding.now) }
+{
+    match finding {
+        Finding::Paced(_) => copied(alloc, finding),
+        Finding::Refused(_) => Ok(Finding::Unpaced),
+        Finding::Unpaced => Ok(Finding::Unpaced),
+    }
+}
+
+/// The same of a stream.
+fn only_paced_at(alloc: Global, findings: &[Finding], stream: u32) -> Result<Finding, Memory>
+    ensures { IfOk result (λ copy. copy ≡ only_pacing (finding_at findings.now stream)) }
+{
+    match findings.get(stream as usize) {
+        Some(finding) => only_paced(alloc, finding),
+        None => Ok(Finding::Unpaced),
+    }
+}
+
+/// What is found of a stream's eval clause, or of an input.
+fn of_eval(
+    alloc: Global,
+    spec: &Spec,
+    lists: &[Numbers],
+    owns: &[Finding],
+    number: u32,
+    stream: &Stream,
+) -> Result<Finding, Memory>
+    requires numbers { IsSpecInRange spec.now }
+    requires streams { length spec.now.streams ≤ 1024 }
+    requires clause { IsClauseInRange (length spec.now.streams) (length spec.now.windows) stream.now.eval }
+    requires formula { IsClauseOverInputs stream.now.eval }
+    requires lists { lists.now ≡ map onward spec.now.streams }
+    ensures { IfOk result (λ finding. IsEvalFound spec.now.streams owns.now number stream.now finding) }
+{
+    if is_end(stream) {
+        return copied_at(alloc, owns, number);
+    }
+    let at = stream.place;
+    of_clause(
+        alloc,
+        spec,
+        lists,
+        owns,
+        number,
+        at,
+        none_found(at),
+        &stream.eval,
+    )
+}
+
+/// The place of the word that begins a clause.
+fn place_of(clause: &Option<Clause>) -> u32
+    ensures { result ≡ place_where clause.now }
+{
+    match clause {
+        None => 0,
+        Some(clause) => clause.place,
+    }
+}
+
+/// What is found of a stream's spawn clause.
+fn of_spawn(
+    alloc: Global,
+    spec: &Spec,
+    lists: &[Numbers],
+    owns: &[Finding],
+    number: u32,
+    stream: &Stream,
+) -> Result<Finding, Memory>
+    requires numbers { IsSpecInRange spec.now }
+    requires streams { length spec.now.streams ≤ 1024 }
+    requires clause { IsClauseInRange (length spec.now.streams) (length spec.now.windows) stream.now.spawn }
+    requires formula { IsClauseOverInputs stream.now.spawn }
+    requires lists { lists.now ≡ map onward spec.now.streams }
+    ensures { IfOk result (λ finding. IsSpawnFound spec.now.streams owns.now number stream.now finding) }
+{
+    let at = place_of(&stream.spawn);
+    of_clause(
+        alloc,
+        spec,
+        lists,
+        owns,
+        number,
+        at,
+        none_found(at),
+        &stream.spawn,
+    )
+}
+
+/// What is found of a stream's close clause, where that of the eval clauses is found.
+fn of_close(
+    alloc: Global,
+    spec: &Spec,
+    lists: &[Numbers],
+    owns: &[Finding],
+    evals: &[Finding],
+    number: u32,
+    stream: &Stream,
+) -> Result<Finding, Memory>
+    requires numbers { IsSpecInRange spec.now }
+    requires streams { length spec.now.streams ≤ 1024 }
+    requires clause { IsClauseInRange (length spec.now.streams) (length spec.now.windows) stream.now.close }
+    requires formula { IsClauseOverInputs stream.now.close }
+    requires lists { lists.now ≡ map onward spec.now.streams }
+    ensures { IfOk result (λ finding. IsCloseFound spec.now.streams owns.now evals.now number stream.now finding) }
+{
+    let alone = only_paced_at(alloc, evals, number)?;
+    of_clause(
+        alloc,
+        spec,
+        lists,
+        owns,
+        number,
+        stream.place,
+        alone,
+        &stream.close,
+    )
+}
+
+/// What is found of one of a stream's clauses.
+fn of_part(
+    alloc: Global,
+    spec: &Spec,
+    lists: &[Numbers],
+    owns: &[Finding],
+    evals: &[Finding],
+    part: Part,
+    number: u32,
+    stream: &Stream,
+) -> Result<Finding, Memory>
+    requires numbers { IsSpecInRange spec.now }
+    requires streams { length spec.now.streams ≤ 1024 }
+    requires spawn { IsClauseInRange (length spec.now.streams) (length spec.now.windows) stream.now.spawn }
+    requires eval { IsClauseInRange (length spec.now.streams) (length spec.now.windows) stream.now.eval }
+    requires close { IsClauseInRange (length spec.now.streams) (length spec.now.windows) stream.now.close }
+    requires spawn_formula { IsClauseOverInputs stream.now.spawn }
+    requires eval_formula { IsClauseOverInputs stream.now.eval }
+    requires close_formula { IsClauseOverInputs stream.now.close }
+    requires lists { lists.now ≡ map onward spec.now.streams }
+    ensures { IfOk result (λ finding. IsPartFound spec.now.streams owns.now evals.now part number stream.now finding) }
+{
+    match part {
+        Part::Spawn => of_spawn(alloc, spec, lists, owns, number, stream),
+        Part::Eval => of_eval(alloc, spec, lists, owns, number, stream),
+        Part::Close => of_close(alloc, spec, lists, owns, evals, number, stream),
+    }
+}
+
+/// What is found of one clause of each stream; for close clauses that of the eval clauses is found before.
+pub fn of_parts(
+    alloc: Global,
+    spec: &Spec,
+    lists: &[Numbers],
+    owns: &[Finding],
+    evals: &[Finding],
+    part: Part,
+) -> Result<Vec<Finding>, Memory>
+    requires numbers { IsSpecInRange spec.now }
+    requires streams { length spec.now.streams ≤ 1024 }
+    requires formulas { AreOverInputs spec.now.streams }
+    requires lists { lists.now ≡ map onward spec.now.streams }
+    ensures { IfOk result (λ found. InStep (IsPartFound spec.now.streams owns.now evals.now part) 0 spec.now.streams found.items) }
+{
+    let mut found = Vec::new(alloc);
+    let mut number = 0;
+    for stream in spec.streams.as_slice() {
+        found.push(of_part(alloc, spec, lists, owns, evals, part, number, stream)?)?;
+        number += 1;
+    }
+    Ok(found)
+}

@@ -1,0 +1,103 @@
+//! Pacings that are given behind `@`.
+
+ghost use Rattle.std.specs.Prelude.{◌≡◌, ◌≤◌, ◌+◌, IfOk, length, filter};
+ghost use Rattle.lola_model.specs.Model.{is_input as is_input_stream};
+ghost use Rattle.lola_normal.specs.Formulas.{HasInputsBelow};
+ghost use Rattle.lola_findings.specs.Findings.{AreOwn, IsGiven, IsGivenEvent, IsOwn, IsWrittenIn, inputs_with};
+ghost use Rattle.lola_pacing.specs.Formulas.{AreOverInputs, IsClauseOverInputs, IsOverInputs};
+
+use lola_findings::finding::Finding;
+use lola_findings::given::{of_input, of_rate, of_unbuilt_rate, one_too_wide};
+use lola_model::pacing::Pacing;
+use lola_model::spec::{Clause, Formula, Pace, Sort, Stream};
+use lola_normal::answer::NormalEnd;
+use lola_normal::normal::normal;
+use lola_value::text::Memory;
+use std::alloc::Global;
+
+/// What is found of a clause whose `@` stands at a place, with this formula.
+fn of_formula(alloc: Global, at: u32, formula: &Formula) -> Result<Finding, Memory>
+    requires { HasInputsBelow 64 formula.now }
+    ensures { IfOk result (λ finding. IsGivenEvent at formula.now finding) }
+{
+    match normal(alloc, formula) {
+        Ok(sets) => Ok(Finding::Paced(Pacing::Event(sets))),
+        Err(NormalEnd::TooWide) => Ok(one_too_wide(at)),
+        Err(NormalEnd::Memory) => Err(Memory),
+    }
+}
+
+/// What is found of a clause with this pacing behind `@`.
+pub fn of_pace(alloc: Global, pace: &Pace) -> Result<Finding, Memory>
+    requires { IsOverInputs pace.now }
+    ensures { IfOk result (λ finding. IsGiven pace.now finding) }
+{
+    match pace {
+        Pace::Event(at, formula) => of_formula(alloc, *at, formula),
+        Pace::Rate(at, rate) => Ok(of_rate(*at, rate)),
+        Pace::Global(at, rate) => Ok(of_unbuilt_rate(*at, rate)),
+        Pace::Local(at, rate) => Ok(of_unbuilt_rate(*at, rate)),
+    }
+}
+
+/// What is found of a clause as far as its pacing is written.
+fn of_written(alloc: Global, clause: &Option<Clause>) -> Result<Finding, Memory>
+    requires { IsClauseOverInputs clause.now }
+    ensures { IfOk result (λ finding. IsWrittenIn clause.now finding) }
+{
+    match clause {
+        None => Ok(Finding::Unpaced),
+        Some(clause) => match &clause.pace {
+            None => Ok(Finding::Unpaced),
+            Some(pace) => of_pace(alloc, pace),
+        },
+    }
+}
+
+/// Whether a stream is an input.
+fn is_input(stream: &Stream) -> bool
+    ensures { result ≡ is_input_stream stream.now }
+{
+    match stream.sort {
+        Sort::Input => true,
+        Sort::Output => false,
+        Sort::Trigger => false,
+    }
+}
+
+/// What is found of a stream before which so many inputs stand, as far as it is an input or the pacing of its eval
+/// clause is written.
+fn own(alloc: Global, inputs: u32, stream: &Stream) -> Result<Finding, Memory>
+    requires inputs { inputs_with inputs stream.now ≤ 64 }
+    requires formula { IsClauseOverInputs stream.now.eval }
+    ensures { IfOk result (λ finding. IsOwn inputs stream.now finding) }
+{
+    if is_input(stream) {
+        of_input(alloc, inputs)
+    } else {
+        of_written(alloc, &stream.eval)
+    }
+}
+
+/// The number of inputs up to and with a stream before which so many stand.
+fn counted(inputs: u32, stream: &Stream) -> u32
+    requires { inputs_with inputs stream.now ≤ 64 }
+    ensures { result ≡ inputs_with inputs stream.now }
+{
+    if is_input(stream) { inputs + 1 } else { inputs }
+}
+
+/// What is found of each stream, as far as it is an input or the pacing of its eval clause is written.
+pub fn owns(alloc: Global, streams: &[Stream]) -> Result<Vec<Finding>, Memory>
+    requires few { length (filter is_input_stream streams.now) ≤ 64 }
+    requires formulas { AreOverInputs streams.now }
+    ensures { IfOk result (λ owns. AreOwn 0 streams.now owns.items) }
+{
+    let mut owns = Vec::new(alloc);
+    let mut inputs = 0;
+    for stream in streams {
+        owns.push(own(alloc, inputs, stream)?)?;
+        inputs = counted(inputs, stream);
+    }
+    Ok(owns)
+}

@@ -1,0 +1,11 @@
+//! The pacing of each clause of a specification, or the first refusal.
+#![tactic(auto)]
+
+pub mod check;
+mod clauses;
+mod found;
+mod given;
+pub mod law;
+mod pacings;
+mod refusals;
+mod verdicts;

@@ -1,0 +1,60 @@
+//! What stands against the windows of a specification.
+
+ghost use Rattle.std.specs.Prelude.{◌≡◌, ◌≤◌, IsTrue, IfOk};
+ghost use Rattle.lola_model.specs.Named.{all_windows, is_span};
+ghost use Rattle.lola_findings.specs.Findings.{finding_at};
+ghost use Rattle.lola_findings.specs.Verdicts.{IsVerdict};
+ghost use Rattle.lola_pacing.specs.Phase.{AreVerdicts, finding_of_part};
+
+use lola_findings::finding::Finding;
+use lola_findings::verdict::verdict;
+use lola_model::spec::{Part, WindowSpec};
+use lola_value::front::Code;
+use lola_value::text::Memory;
+use std::alloc::Global;
+
+/// What stands against a window of so many nanoseconds in a clause of a stream.
+fn verdict_at(findings: &[Finding], stream: u32, over: u64) -> Option<Code>
+    requires { 1 ≤ over }
+    ensures { IsVerdict (finding_at findings.now stream) over result }
+{
+    match findings.get(stream as usize) {
+        Some(finding) => verdict(finding, over),
+        None => None,
+    }
+}
+
+/// What stands against a window.
+fn of_window(
+    spawns: &[Finding],
+    evals: &[Finding],
+    closes: &[Finding],
+    window: &WindowSpec,
+) -> Option<Code>
+    requires { 1 ≤ window.now.over }
+    ensures { IsVerdict (finding_of_part spawns.now evals.now closes.now window.now.stream window.now.part) window.now.over result }
+{
+    match window.part {
+        Part::Spawn => verdict_at(spawns, window.stream, window.over),
+        Part::Eval => verdict_at(evals, window.stream, window.over),
+        Part::Close => verdict_at(closes, window.stream, window.over),
+    }
+}
+
+/// What stands against each window.
+pub fn of_windows(
+    alloc: Global,
+    spawns: &[Finding],
+    evals: &[Finding],
+    closes: &[Finding],
+    windows: &[WindowSpec],
+) -> Result<Vec<Option<Code>>, Memory>
+    requires { IsTrue (all_windows is_span windows.now) }
+    ensures { IfOk result (λ verdicts. AreVerdicts spawns.now evals.now closes.now windows.now verdicts.items) }
+{
+    let mut verdicts = Vec::new(alloc);
+    for window in windows {
+        verdicts.push(of_window(spawns, evals, closes, window))?;
+    }
+    Ok(verdicts)
+}
