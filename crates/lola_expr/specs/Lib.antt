@@ -1,0 +1,3 @@
+pub mod Evaluation
+pub mod Operands
+pub mod Asking
