@@ -34,21 +34,25 @@ stays names outcome.Missing a f ne e = subst (λ x. Missing ≡ and_then x f) e 
 stays names (outcome.Fault k) a f ne e = subst (λ x. Failed k ≡ and_then x f) e refl
 stays names outcome.Poison a f ne e = subst (λ x. Poisoned ≡ and_then x f) e refl
 
+-- what is no value is an outcome of each kind
 pub stays_of_kind : (r : Outcome) (k : Kind) → ((v : Value) → r ≡ outcome.Value v → ⊥) → is_outcome_of k r ≡ true
 stays_of_kind (outcome.Value v) k ne = absurd (ne v refl)
 stays_of_kind outcome.Missing k ne = refl
 stays_of_kind (outcome.Fault f) k ne = refl
 stays_of_kind outcome.Poison k ne = refl
 
+-- a value goes on
 pub goes_on : (names : Naming) (v : Value) (a : Answer) (f : Field → Answer) (r : Answer) → Given (read names v) ≡ a → r ≡ f (read names v) → r ≡ and_then a f
 goes_on names v a f r e g = subst (λ x. r ≡ and_then x f) e g
 
+-- what is not missing is not replaced
 pub defaulted_first : (names : Naming) (r : Outcome) (a b : Answer) → (r ≡ outcome.Missing → ⊥) → read_outcome names r ≡ a → read_outcome names r ≡ defaulted a b
 defaulted_first names (outcome.Value v) a b ne e = subst (λ x. Given (read names v) ≡ defaulted x b) e refl
 defaulted_first names outcome.Missing a b ne e = absurd (ne refl)
 defaulted_first names (outcome.Fault k) a b ne e = subst (λ x. Failed k ≡ defaulted x b) e refl
 defaulted_first names outcome.Poison a b ne e = subst (λ x. Poisoned ≡ defaulted x b) e refl
 
+-- what is missing is
 pub defaulted_second : (r : Answer) (a b : Answer) → Missing ≡ a → r ≡ b → r ≡ defaulted a b
 defaulted_second r a b e f = subst (λ x. r ≡ defaulted x b) e f
 
@@ -63,6 +67,7 @@ literal_read names texts (value.Text id) h = by_text (text_at names id.0) (slice
     by_text (Some s) None h = absurd (cc)
     by_text (Some s) (Some t) h = ap (λ x. Given (field.Text x)) (bytes_equal-true s t h)
 
+-- the naming has its text
 pub literal_held : (names : Naming) (texts : List (List ℕ)) (v : Value) → literal_is_named names texts v ≡ true → IsHeld names v
 literal_held names texts (value.Bool b) h = tt
 literal_held names texts (value.Int z) h = tt
@@ -78,6 +83,7 @@ parameter_read names [] i = refl
 parameter_read names (v ∷ vs) zero = refl
 parameter_read names (v ∷ vs) (suc i) = parameter_read names vs i
 
+-- the naming has its text
 pub parameter_held : (names : Naming) (vs : List Value) (i : ℕ) → AreHeld names vs → IsHeldIn names (value_or_missing (slice_get vs i))
 parameter_held names [] i h = tt
 parameter_held names (v ∷ vs) zero h = h.0
@@ -89,12 +95,15 @@ chosen_value names (value.Bool x) a b t e h = ap (λ (x : Bool). chosen (field.B
 chosen_value names (value.Int x) a b t e h = absurd (cc)
 chosen_value names (value.Text x) a b t e h = absurd (cc)
 
+-- where the condition is true
 pub chosen_true : (names : Naming) (v : Value) (t a b r : Answer) → truth_in v ≡ true → is_truth v ≡ true → Given (read names v) ≡ t → r ≡ a → r ≡ and_then t (λ x. chosen x a b)
 chosen_true names v t a b r w h e f = goes_on names v t (λ x. chosen x a b) r e (f ∙ sym (chosen_value names v a b true w h))
 
+-- where it is false
 pub chosen_false : (names : Naming) (v : Value) (t a b r : Answer) → truth_in v ≡ false → is_truth v ≡ true → Given (read names v) ≡ t → r ≡ b → r ≡ and_then t (λ x. chosen x a b)
 chosen_false names v t a b r w h e f = goes_on names v t (λ x. chosen x a b) r e (f ∙ sym (chosen_value names v a b false w h))
 
+-- a value of the kind of truth values is one
 pub truth_of_kind : (v : Value) → is_of_kind kind.Bool v ≡ true → is_truth v ≡ true
 truth_of_kind (value.Bool x) h = refl
 truth_of_kind (value.Int x) h = absurd (cc)
@@ -111,6 +120,7 @@ conjoined_on names (value.Text id) b h = by_text (text_at names id.0)
     by_text None = refl
     by_text (Some t) = refl
 
+-- the same of `||`
 disjoined_on : (names : Naming) (x : Value) (b : Answer) → truth_in x ≡ false → disjoined (read names x) b ≡ b
 disjoined_on names (value.Bool true) b h = absurd (cc)
 disjoined_on names (value.Bool false) b h = refl
@@ -121,6 +131,7 @@ disjoined_on names (value.Text id) b h = by_text (text_at names id.0)
     by_text None = refl
     by_text (Some t) = refl
 
+-- a right operand without a value is the outcome
 right_stays : (sign : Binary) (k : Kind) (names : Naming) (x : Value) (r : Outcome) (b : Answer) → decides sign x ≡ false → ((v : Value) → r ≡ outcome.Value v → ⊥) → read_outcome names r ≡ b → read_outcome names r ≡ with_right sign k (read names x) b
 right_stays binary.And k names x r b h ne f = f ∙ sym (conjoined_on names x b h)
 right_stays binary.Or k names x r b h ne f = f ∙ sym (disjoined_on names x b h)
@@ -136,6 +147,7 @@ right_stays binary.GreaterEqual k names x r b h ne f = stays names r b (λ y. op
 right_stays binary.Equal k names x r b h ne f = stays names r b (λ y. operated binary.Equal k (read names x) y) ne f
 right_stays binary.Different k names x r b h ne f = stays names r b (λ y. operated binary.Different k (read names x) y) ne f
 
+-- and one with a value goes on
 right_value : (sign : Binary) (k : Kind) (names : Naming) (x y : Value) (b : Answer) → decides sign x ≡ false → Given (read names y) ≡ b → operated sign k (read names x) (read names y) ≡ with_right sign k (read names x) b
 right_value binary.And k names x y b h f = f ∙ sym (conjoined_on names x b h)
 right_value binary.Or k names x y b h f = f ∙ sym (disjoined_on names x b h)
@@ -165,6 +177,7 @@ layout_kind [] kept n h = absurd (omega (arith, h))
 layout_kind (s ∷ ss) kept zero h = refl
 layout_kind (s ∷ ss) kept (suc n) h = layout_kind ss (drop 1 kept) n (omega (arith, h))
 
+-- what the window of a content answers is the denotation of a window
 pub window_read : (plan : Plan) (s : Seen) (c : Content) (q : List Field) (r : Answer) (n : ℕ) → s.layout ≡ layout_of plan → target_of (slice_get s.layout.windows n) < length s.layout.streams
     → MatchOption (slice_get s.layout.windows n) ⊥ (λ w. r ≡ window_answer c w (kind_in (slice_get s.layout.streams w.target)) q)
     → r ≡ window_of plan.spec c (slice_get plan.spec.windows n) q
@@ -174,6 +187,7 @@ window_read plan s c q r n e lt m = by_window (slice_get plan.spec.windows n) (s
     by_window None lt m = absurd m
     by_window (Some w) lt m = m ∙ ap (λ k. window_answer c w k q) (layout_kind plan.spec.streams plan.kept w.target lt)
 
+-- values of the kinds of a row fit: of arithmetic
 arithmetic_fits : (k a b : Kind) (x y : Value) → (is_integer k && (same_kind a k && same_kind b k)) ≡ true → is_of_kind a x ≡ true → is_of_kind b y ≡ true → (is_integer k && (is_of_kind k x && is_of_kind k y)) ≡ true
 arithmetic_fits k a b x y row h g =
     let s = second (is_integer k) (same_kind a k && same_kind b k) row in
@@ -182,6 +196,7 @@ arithmetic_fits k a b x y row h g =
     (subst (λ (j : Kind). is_of_kind j x ≡ true) (same_kind-true a k (first (same_kind a k) (same_kind b k) s)) h)
     (subst (λ (j : Kind). is_of_kind j y ≡ true) (same_kind-true b k (second (same_kind a k) (same_kind b k) s)) g))
 
+-- of an order
 order_fits : (k a b : Kind) (x y : Value) → (same_kind k kind.Bool && (is_integer a && same_kind b a)) ≡ true → is_of_kind a x ≡ true → is_of_kind b y ≡ true → (is_bool k && (is_number x && is_number y)) ≡ true
 order_fits k a b x y row h g =
     let s = second (same_kind k kind.Bool) (is_integer a && same_kind b a) row in
@@ -190,6 +205,7 @@ order_fits k a b x y row h g =
     (both (is_number x) (is_number y) (integer_is a i x h)
     (integer_is a i y (subst (λ (j : Kind). is_of_kind j y ≡ true) (same_kind-true b a (second (is_integer a) (same_kind b a) s)) g)))
 
+-- of `&&` and `||`
 truth_fits : (k a b : Kind) (x y : Value) → (same_kind k kind.Bool && (same_kind a kind.Bool && same_kind b kind.Bool)) ≡ true → is_of_kind a x ≡ true → is_of_kind b y ≡ true → (is_bool k && (is_truth x && is_truth y)) ≡ true
 truth_fits k a b x y row h g =
     let s = second (same_kind k kind.Bool) (same_kind a kind.Bool && same_kind b kind.Bool) row in
@@ -198,9 +214,11 @@ truth_fits k a b x y row h g =
     (truth_of_kind x (subst (λ (j : Kind). is_of_kind j x ≡ true) (same_kind-true a kind.Bool (first (same_kind a kind.Bool) (same_kind b kind.Bool) s)) h))
     (truth_of_kind y (subst (λ (j : Kind). is_of_kind j y ≡ true) (same_kind-true b kind.Bool (second (same_kind a kind.Bool) (same_kind b kind.Bool) s)) g)))
 
+-- a comparison gives truth values
 bool_result : (k : Kind) (q : Bool) → (same_kind k kind.Bool && q) ≡ true → is_bool k ≡ true
 bool_result k q row = ap is_bool (same_kind-true k kind.Bool (first (same_kind k kind.Bool) q row))
 
+-- of each sign
 pub binary_fits : (sign : Binary) (k a b : Kind) (x y : Value) → binary_row sign k a b ≡ true → is_of_kind a x ≡ true → is_of_kind b y ≡ true → operands_fit sign k x y ≡ true
 binary_fits binary.Add k a b x y row h g = arithmetic_fits k a b x y row h g
 binary_fits binary.Sub k a b x y row h g = arithmetic_fits k a b x y row h g

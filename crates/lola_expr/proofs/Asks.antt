@@ -49,6 +49,7 @@ module _ (f g h : Expr → Bool) (t : (e : Expr) → f e ≡ true → g e ≡ tr
         (both (each_part h a) (each_part h b && each_part h d) (each_of_both a (first (each_part f a) (each_part f b && each_part f d) x) (first (each_part g a) (each_part g b && each_part g d) y))
         (both (each_part h b) (each_part h d) (each_of_both b (first (each_part f b) (each_part f d) xx) (first (each_part g b) (each_part g d) yy)) (each_of_both d (second (each_part f b) (each_part f d) xx) (second (each_part g b) (each_part g d) yy))))
 
+    -- the same of arguments
     pub all_of_both : (args : Arguments) → each_argument f args ≡ true → each_argument g args ≡ true → each_argument h args ≡ true
     all_of_both End p q = refl
     all_of_both (More' u a v rest) p q =
@@ -63,6 +64,7 @@ value_at (l ∷ ls) (v ∷ vs) zero k h g = subst (λ (j : Kind). is_of_kind j v
 value_at (l ∷ ls) (v ∷ vs) (suc i) k h g = value_at ls vs i k (second (is_of_kind l v) (are_of_kinds ls vs) h) g
 
 module _ (s : Seen) (p : Params) (ks : List Kind) (given : are_of_kinds ks (the_values p) ≡ true) where
+  -- a row that holds where the parameters have kinds holds where they are
   row_seen : (e : Expr) → row_holds (scope_with s.layout ks) e ≡ true → row_holds (scope_seen s p) e ≡ true
   row_seen (Literal place v) h = h
   row_seen (Parameter place i) h = value_at ks (the_values p) i (kind_of place) given h
@@ -73,6 +75,7 @@ module _ (s : Seen) (p : Params) (ks : List Kind) (given : are_of_kinds ks (the_
   row_seen (Both' place sign u a v b) h = h
   row_seen (Choice' place u a v b w d) h = h
 
+  -- a part
   part_asks : (e : Expr) → part_is_typed (scope_with s.layout ks) e ≡ true → is_ready s e ≡ true → part_can_ask s p e ≡ true
   part_asks e h g = both (row_holds (scope_seen s p) e) (is_ready s e) (row_seen e (second (is_noted (place_in e).kind) (row_holds (scope_with s.layout ks) e) h)) g
 

@@ -34,6 +34,7 @@ module _ (names : Naming) (remembers : Memories) (s : Seen) (c : Content) (n : �
     pub found : life_in (read_params names p) (slice_get c.streams n) ≡ None
 
 module _ (names : Naming) (h : IsNaming names) (remembers : Memories) (s : Seen) (c : Content) (stands : Stands names remembers s c) (n : ℕ) (p : Params) (held' : AreHeld names (the_values p)) where
+  -- it is one of the two
   pub located : Nowhere names remembers s c n p ⊎ Located names remembers s c n p
   located = by_stream (at_stream names remembers 0 s.streams c.streams n n (omega arith) stands.streams)
     where
@@ -65,6 +66,7 @@ module _ (names : Naming) (h : IsNaming names) (remembers : Memories) (s : Seen)
           })
       by_stream (inr b) = of_found b (found_or_none names h remembers n p held' 0 b.seen.instances b.content.lives b.stands.lives)
 
+  -- a stream is poisoned where it is in the content
   pub bad_same : is_bad_seen (slice_get s.streams n) ≡ bad_in (slice_get c.streams n)
   bad_same = by_stream (at_stream names remembers 0 s.streams c.streams n n (omega arith) stands.streams)
     where
@@ -78,9 +80,11 @@ module _ (names : Naming) (h : IsNaming names) (remembers : Memories) (s : Seen)
     pub value : read_outcome names r ≡ a
     pub held : IsHeldIn names r
 
+  -- the outcome that is shown of an instance
   now_shown : (w : Located names remembers s c n p) → now_at_place s n (place_of s n p) ≡ w.instance.outcome
   now_shown w = ap (now_at_place s n) w.at ∙ ap now_at w.shown
 
+  -- the outcome at a place, and the one of the life
   now_placed : Nowhere names remembers s c n p ⊎ Located names remembers s c n p
       → Answers (now_at_place s n (place_of s n p)) (accesses.now_of (life_in (read_params names p) (slice_get c.streams n)))
   now_placed (inl w) =
@@ -94,15 +98,18 @@ module _ (names : Naming) (h : IsNaming names) (remembers : Memories) (s : Seen)
         held = subst (λ (o : Outcome). IsHeldIn names o) (sym (now_shown w)) w.stands.outcome_held;
       }
 
+  -- poison of the stream, on both sides
   unless : (a b : Bool) → a ≡ b → (x : Outcome) (y : Answer) → Answers x y → Answers (if a then outcome.Poison else x) (unless_bad b y)
   unless true true e x y w = record { value = refl; held = tt }
   unless true false e x y w = absurd (cc)
   unless false true e x y w = absurd (cc)
   unless false false e x y w = w
 
+  -- the value at this step
   pub now_answers : Answers (now_of s n p) (answer_of c access.Get n (read_params names p))
   now_answers = unless (is_bad_seen (slice_get s.streams n)) (bad_in (slice_get c.streams n)) bad_same _ _ (now_placed located)
 
+  -- poison of the stream stays poison
   held_unless : (b : Bool) (a : Answer) (earlier : List (ℕ × Field)) → held (unless_bad b a) earlier ≡ unless_bad b (held a earlier)
   held_unless true a earlier = refl
   held_unless false a earlier = refl
@@ -143,12 +150,14 @@ module _ (w : WindowSpec) (k : Kind) where
       else if w.exact && nat_lt time (start + w.over) then Missing
       else aggregated w.using k values
 
+  -- what is read of a stream that is poisoned or not
   over_windowed : (s : Seen) (b : Bool) (a : Answer) (values : List (ℕ × Field))
       → window_over s (Some w) k (unless_bad b a) values ≡ windowed b (spoiled a) (time_seen s) (start_seen s) (values_within w.over (time_seen s) (values ++ one_more (time_seen s) a))
   over_windowed s true a values = refl
   over_windowed s false a values = refl
 
 module _ (names : Naming) (h : IsNaming names) (remembers : Memories) (s : Seen) (c : Content) (stands : Stands names remembers s c) (w : WindowSpec) (k : Kind) (p : Params) (held' : AreHeld names (the_values p)) where
+  -- time and start are those of the content
   time_same : (b : Bool) (l : Option Life) → windowed w k b (is_poisoned l) (time_seen s) (start_seen s) (window_values w.over (time_seen s) l) ≡ windowed w k b (is_poisoned l) c.time c.start (window_values w.over c.time l)
   time_same b l = ap (λ (t : ℕ). windowed w k b (is_poisoned l) t (start_seen s) (window_values w.over t l)) stands.time ∙ ap (λ (t : ℕ). windowed w k b (is_poisoned l) c.time t (window_values w.over c.time l)) stands.start
 

@@ -15,19 +15,23 @@ use Rattle.lola_value.specs.Naming.{Naming, IsHeldIn, read, read_outcome}
 use Rattle.lola_model.specs.Denotation.{on_numbers}
 use Rattle.lola_expr.specs.Operands.{number_in, is_number, numbers_fit}
 
+-- the first of two tests that pass
 pub first : (a b : Bool) → (a && b) ≡ true → a ≡ true
 first true b h = refl
 first false b h = absurd (cc)
 
+-- the second of them
 pub second : (a b : Bool) → (a && b) ≡ true → b ≡ true
 second true b h = h
 second false b h = absurd (cc)
 
+-- both of them
 pub both : (a b : Bool) → a ≡ true → b ≡ true → (a && b) ≡ true
 both true true h g = refl
 both true false h g = absurd (cc)
 both false b h g = absurd (cc)
 
+-- a kind of numbers is not that of texts
 pub integer_not_text : (k : Kind) → is_integer k ≡ true → is_text k ≡ false
 integer_not_text kind.Bool h = refl
 integer_not_text kind.Text h = absurd (cc)
@@ -40,6 +44,7 @@ integer_not_text kind.UInt16 h = refl
 integer_not_text kind.UInt32 h = refl
 integer_not_text kind.UInt64 h = refl
 
+-- nor that of truth values
 pub integer_not_bool : (k : Kind) → is_integer k ≡ true → is_bool k ≡ false
 integer_not_bool kind.Bool h = absurd (cc)
 integer_not_bool kind.Text h = refl
@@ -52,6 +57,7 @@ integer_not_bool kind.UInt16 h = refl
 integer_not_bool kind.UInt32 h = refl
 integer_not_bool kind.UInt64 h = refl
 
+-- a kind with a sign is one of numbers
 pub signed_integer : (k : Kind) → is_signed k ≡ true → is_integer k ≡ true
 signed_integer kind.Bool h = absurd (cc)
 signed_integer kind.Text h = absurd (cc)
@@ -86,9 +92,11 @@ within_kind k i z false w outcome.Missing e = refl
 within_kind k i z false w (outcome.Fault f) e = refl
 within_kind k i z false w outcome.Poison e = refl
 
+-- the same of a number that is tested
 pub of_within : (k : Kind) → is_integer k ≡ true → (z : ℤ) (r : Outcome) → read_outcome [] r ≡ within k z → is_outcome_of k r ≡ true
 of_within k i z r e = within_kind k i z (is_within k z) refl r e
 
+-- the same where the divisor is tested
 divided_kind : (k : Kind) → is_integer k ≡ true → (z : ℤ) (b : Bool) (r : Outcome) → read_outcome [] r ≡ (if b then Failed fault.DivZero else within k z) → is_outcome_of k r ≡ true
 divided_kind k i z true (outcome.Value v) e = absurd (cc)
 divided_kind k i z true outcome.Missing e = refl
@@ -96,6 +104,7 @@ divided_kind k i z true (outcome.Fault f) e = refl
 divided_kind k i z true outcome.Poison e = refl
 divided_kind k i z false r e = of_within k i z r e
 
+-- the same of a division
 pub of_divided : (k : Kind) → is_integer k ≡ true → (z by : ℤ) (r : Outcome) → read_outcome [] r ≡ divided k z by → is_outcome_of k r ≡ true
 of_divided k i z by r e = divided_kind k i z (is_zero by) r e
 
@@ -105,6 +114,7 @@ integer_is k i (value.Bool x) h = absurd (let q : is_bool k ≡ false = integer_
 integer_is k i (value.Int x) h = refl
 integer_is k i (value.Text x) h = absurd (let q : is_text k ≡ false = integer_not_text k i in cc)
 
+-- numbers are read as they are
 pub on_numbers_read : (f : ℤ → ℤ → Answer) (names : Naming) (a b : Value) → is_number a ≡ true → is_number b ≡ true → f (number_in a) (number_in b) ≡ on_numbers f (read names a) (read names b)
 on_numbers_read f names (value.Int x) (value.Int y) p q = refl
 on_numbers_read f names (value.Int x) (value.Bool y) p q = absurd (cc)
@@ -118,6 +128,7 @@ pub record NumbersFit (k : Kind) (a b : Value) : Type 0 where
   pub left : is_number a ≡ true
   pub right : is_number b ≡ true
 
+-- operands of arithmetic are numbers, of a kind of numbers
 pub numbers : (k : Kind) (a b : Value) → numbers_fit k a b ≡ true → NumbersFit k a b
 numbers k a b h =
     let i = first (is_integer k) (is_of_kind k a && is_of_kind k b) h in

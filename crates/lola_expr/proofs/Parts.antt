@@ -22,6 +22,7 @@ use Rattle.lola_model.specs.declared.spec.Agg.TheVariants as agg
 use Rattle.lola_expr.proofs.Sizes.{size_of, size_all}
 use Rattle.lola_expr.proofs.OperandLemmas.{first, second, integer_not_text}
 
+-- what a box has beside what it holds
 abbrev Around : Type 0
 Around = Box (Unit {0}) Global
 
@@ -38,6 +39,7 @@ kind_at (suc (suc (suc (suc (suc (suc (suc zero))))))) = kind.UInt32
 kind_at (suc (suc (suc (suc (suc (suc (suc (suc zero)))))))) = kind.UInt64
 kind_at _ = kind.Text
 
+-- and come back from them
 kind_back : (k : Kind) → kind_at (kind_number k) ≡ k
 unfolding kind_at
 kind_back kind.Bool = refl
@@ -51,9 +53,11 @@ kind_back kind.UInt32 = refl
 kind_back kind.UInt64 = refl
 kind_back kind.Text = refl
 
+-- kinds that are the same are one
 pub same_kind-true : (k l : Kind) → same_kind k l ≡ true → k ≡ l
 same_kind-true k l h = sym (kind_back k) ∙ (ap kind_at (eqb-true (kind_number k) (kind_number l) h) ∙ kind_back l)
 
+-- and so are lists of them
 pub same_kinds-true : (ks ls : List Kind) → same_kinds ks ls ≡ true → ks ≡ ls
 same_kinds-true [] [] h = refl
 same_kinds-true [] (l ∷ ls) h = absurd (cc)
@@ -63,11 +67,13 @@ same_kinds-true (k ∷ ks) (l ∷ ls) h =
     let r = same_kinds-true ks ls (second (same_kind k l) (same_kinds ks ls) h) in
     cc
 
+-- each argument notes a kind
 pub length_noted : (args : Arguments) → length (noted_all args) ≡ count_of args
 length_noted End = refl
 length_noted (More' u a v rest) = let e = length_noted rest in omega (arith, e)
 
 module _ (s : Seen) (p : Params) where
+  -- of a default
   pub record DefaultsFacts (e : Expr) (k : Kind) (a b : Expr) : Type 0 where
     pub left : can_ask s p a ≡ true
     pub right : can_ask s p b ≡ true
@@ -86,6 +92,7 @@ module _ (s : Seen) (p : Params) where
         right_kind = same_kind-true (noted b) (kind_of place) (first _ _ (second _ _ row));
       }
 
+  -- of a sign before an operand
   pub record UnaryFacts (e : Expr) (sign : Prefix) (k : Kind) (a : Expr) : Type 0 where
     pub part : can_ask s p a ≡ true
     pub row : prefix_row sign k (noted a) ≡ true
@@ -99,6 +106,7 @@ module _ (s : Seen) (p : Params) where
         row = first _ _ (first (row_holds (scope_seen s p) (Unary' place sign u a)) true here);
       }
 
+  -- of a sign between two operands
   pub record BothFacts (e : Expr) (sign : Binary) (k : Kind) (a b : Expr) : Type 0 where
     pub left : can_ask s p a ≡ true
     pub right : can_ask s p b ≡ true
@@ -115,6 +123,7 @@ module _ (s : Seen) (p : Params) where
         row = first (binary_row sign (kind_of place) (noted a) (noted b)) (is_certain s.layout.windows a && is_certain s.layout.windows b) (first (row_holds (scope_seen s p) (Both' place sign u a v b)) true here);
       }
 
+  -- of a choice
   pub record ChoiceFacts (e : Expr) (k : Kind) (a b d : Expr) : Type 0 where
     pub test : can_ask s p a ≡ true
     pub left : can_ask s p b ≡ true
@@ -146,6 +155,7 @@ module _ (s : Seen) (p : Params) where
     pub kinds : noted_all args ≡ parameters_of (slice_get s.layout.streams n)
     pub few : count_of args ≤ 4
 
+  -- it follows from the row and from what the store has
   reference_facts : (n : ℕ) (args : Arguments) → is_reference s.layout.streams n args ≡ true → has_few (slice_get s.layout.streams n) ≡ true → ReferenceFacts n args
   reference_facts n args h f =
       let e = same_kinds-true (noted_all args) (parameters_of (slice_get s.layout.streams n)) (second (nat_lt n (length s.layout.streams)) _ h) in
@@ -158,6 +168,7 @@ module _ (s : Seen) (p : Params) where
         few = omega (arith, l, m, b);
       }
 
+  -- of an access
   pub record ReadFacts (e : Expr) (n : ℕ) (how : Access) (k : Kind) (args : Arguments) : Type 0 where
     pub less : size_all args < size_of e
     pub arguments : can_ask_all s p args ≡ true
@@ -180,6 +191,7 @@ module _ (s : Seen) (p : Params) where
         kept = second (has_few (slice_get s.layout.streams n)) _ ready;
       }
 
+  -- an aggregation gives no text
   takes_no_text : (a : Agg) (k : Kind) → takes a k ≡ true → is_text (gives_kind a k) ≡ false
   takes_no_text agg.Count k h = refl
   takes_no_text agg.Sum k h = integer_not_text k h
@@ -189,6 +201,7 @@ module _ (s : Seen) (p : Params) where
   takes_no_text agg.Forall k h = refl
   takes_no_text agg.Exists k h = refl
 
+  -- of a window
   pub record WindowFacts (e : Expr) (number : ℕ) (k : Kind) (args : Arguments) : Type 0 where
     pub less : size_all args < size_of e
     pub arguments : can_ask_all s p args ≡ true
@@ -198,11 +211,13 @@ module _ (s : Seen) (p : Params) where
     pub kind : window_kind s number ≡ k
     pub no_text : is_text k ≡ false
 
+  -- what is found stands within the list
   window_there : {A : Type 0} (xs : List A) (i : ℕ) (x : A) → slice_get xs i ≡ Some x → i < length xs
   window_there [] i x e = absurd (cc)
   window_there (y ∷ ys) zero x e = omega arith
   window_there (y ∷ ys) (suc i) x e = let h = window_there ys i x e in omega (arith, h)
 
+  -- by what stands at the number of the window
   of_window : (x : Expr) (number : ℕ) (k : Kind) (args : Arguments) (o : Option WindowSpec) → slice_get s.layout.windows number ≡ o
       → window_row s.layout.streams o k args ≡ true → target_few s.layout.streams o ≡ true → can_ask_all s p args ≡ true → is_whole_pane s (pane_of (slice_get s.layout.panes number)) ≡ true → size_all args < size_of x
       → WindowFacts x number k args
@@ -236,23 +251,28 @@ module _ (s : Seen) (p : Params) where
 
 -- the parts of an expression all of whose parts pass a test
 module _ (f : Expr → Bool) where
+  -- of an access
   pub each_read : (e : Expr) (place : Place) (n : ℕ) (how : Access) (args : Arguments) → e ≡ Read place n how args → each_part f e ≡ true → each_argument f args ≡ true
   each_read e place n how args is g = second (f (Read place n how args)) (each_argument f args) (ap (each_part f) (sym is) ∙ g)
 
+  -- of a window
   pub each_window : (e : Expr) (place : Place) (n : ℕ) (args : Arguments) → e ≡ Window place n args → each_part f e ≡ true → each_argument f args ≡ true
   each_window e place n args is g = second (f (Window place n args)) (each_argument f args) (ap (each_part f) (sym is) ∙ g)
 
+  -- of a default
   pub each_defaults : (e : Expr) (place : Place) (u v : Around) (a b : Expr) → e ≡ Defaults' place u a v b → each_part f e ≡ true → (each_part f a ≡ true) × (each_part f b ≡ true)
   each_defaults e place u v a b is g =
       let h = second (f (Defaults' place u a v b)) (each_part f a && each_part f b) (ap (each_part f) (sym is) ∙ g) in
       (first (each_part f a) (each_part f b) h, second (each_part f a) (each_part f b) h)
 
+  -- of a choice
   pub each_choice : (e : Expr) (place : Place) (u v w : Around) (a b d : Expr) → e ≡ Choice' place u a v b w d → each_part f e ≡ true → (each_part f a ≡ true) × (each_part f b ≡ true) × (each_part f d ≡ true)
   each_choice e place u v w a b d is g =
       let h = second (f (Choice' place u a v b w d)) (each_part f a && (each_part f b && each_part f d)) (ap (each_part f) (sym is) ∙ g) in
       let k = second (each_part f a) (each_part f b && each_part f d) h in
       (first (each_part f a) (each_part f b && each_part f d) h, first (each_part f b) (each_part f d) k, second (each_part f b) (each_part f d) k)
 
+  -- of arguments
   pub each_more : (e : Arguments) (u v : Around) (a : Expr) (rest : Arguments) → e ≡ More' u a v rest → each_argument f e ≡ true → (each_part f a ≡ true) × (each_argument f rest ≡ true)
   each_more e u v a rest is g =
       let h : (each_part f a && each_argument f rest) ≡ true = ap (each_argument f) (sym is) ∙ g in

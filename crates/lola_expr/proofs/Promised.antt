@@ -11,6 +11,7 @@ use Rattle.lola_model.specs.Store.{Seen, Memories, Stands, place_of, now_of, tar
 use Rattle.lola_model.specs.declared.spec.WindowSpec.{WindowSpec}
 use Rattle.lola_expr.proofs.Located.{window_answers}
 
+-- within a list stands something
 pub there : {A : Type 0} (xs : List A) (i : ℕ) → i < length xs → slice_get xs i ≡ None → ⊥
 there [] i h e = omega (arith, h)
 there (x ∷ xs) zero h e = absurd (cc)
@@ -24,6 +25,7 @@ module _ (remembers : Memories) (s : Seen) (n : ℕ) (p : Params) (r : Outcome) 
       ((names : Naming) → read_outcome names r ≡ window_over s o (kind_in (slice_get s.layout.streams (target_of o))) (read_outcome names (now_of s (target_of o) p)) [])
       (λ i. (names : Naming) (values : List (ℕ × Field)) → remembers names (target_of o) i values → read_outcome names r ≡ window_over s o (kind_in (slice_get s.layout.streams (target_of o))) (read_outcome names (now_of s (target_of o) p)) values)
 
+  -- what a store promises of a window is what the window of the content answers
   pub window_told : n < length s.layout.windows → Promises (slice_get s.layout.windows n)
       → (names : Naming) (c : Content) → IsNaming names → AreHeld names (the_values p) → Stands names remembers s c
       → MatchOption (slice_get s.layout.windows n) ⊥ (λ w. read_outcome names r ≡ window_answer c w (kind_in (slice_get s.layout.streams w.target)) (read_params names p))

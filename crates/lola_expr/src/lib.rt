@@ -6,3 +6,5 @@ pub mod evaluation;
 pub mod job;
 pub mod law;
 mod operators;
+#[cfg(test)]
+mod tests;

@@ -1,3 +1,4 @@
+-- Each way of reading answers as the content does.
 use Rattle.std.proofs.Common.{◌∙◌, ap, sym, subst}
 use Rattle.lola_value.specs.declared.value.Outcome.{Outcome}
 use Rattle.lola_value.specs.Naming.{IsHeldIn, read_outcome, read_params}

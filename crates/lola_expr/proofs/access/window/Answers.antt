@@ -1,3 +1,4 @@
+-- A window answers as that of the content.
 use Rattle.lola_expr.proofs.Promised.{window_told}
 use Rattle.lola_expr.proofs.access.window.Goals as goal
 

@@ -1,3 +1,4 @@
+-- The outcome of each sort of expression, from those of its parts.
 use Rattle.std.proofs.Common.{rules, ◌+◌, arith, ◌≡◌, ap, sym, ◌∙◌, subst, true, false, slice_get, Ok, map}
 use Rattle.lola_value.specs.declared.value.Kind.{Kind}
 use Rattle.lola_value.specs.declared.value.Kind.TheVariants as kind

@@ -1,3 +1,4 @@
+-- An evaluation goes down the parts of an expression. Between an expression and its parts lie at most two calls more.
 use Rattle.std.proofs.Common.{◌*◌, ◌+◌}
 use Rattle.lola_expr.proofs.Sizes.{size_of, size_all}
 use Rattle.lola_expr.proofs.evaluation.+eval.Given as goal

@@ -1,3 +1,4 @@
+-- An access without arguments.
 use Rattle.std.proofs.Common.{◌∙◌, ap, sym, subst, map, []}
 use Rattle.lola_value.specs.Kinds.{are_of_kinds}
 use Rattle.lola_value.specs.Naming.{AreHeld, the_values, read}

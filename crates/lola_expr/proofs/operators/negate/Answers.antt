@@ -1,3 +1,4 @@
+-- A number with the other sign is of the kind, or there is a fault.
 use Rattle.std.proofs.Common.{rules, [], ◌≡◌, ◌∙◌, ap, sym, true, ◌&&◌, to_z, of_z, neg_ℤ}
 use Rattle.std.specs.Int.{w128}
 use Rattle.std.proofs.lemmas.Int.{to_z-of_z}

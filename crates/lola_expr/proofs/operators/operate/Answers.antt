@@ -1,3 +1,4 @@
+-- Arithmetic is that of the kind, and values compare as they are read.
 use Rattle.std.proofs.Common.{rules, not, [], ◌≡◌, ◌∙◌, ap, sym, true, to_z, of_z, ◌+ℤ◌, ◌-ℤ◌, ◌*ℤ◌, int_div, int_rem}
 use Rattle.std.specs.Int.{w128}
 use Rattle.std.proofs.lemmas.Int.{to_z-of_z}
