@@ -15,15 +15,17 @@ use Rattle.lola_model.specs.Content.{Content}
 use Rattle.lola_model.specs.Windows.{window_answer}
 use Rattle.lola_model.specs.Denotation.{literal, given_or_missing, and_then, defaulted, chosen, joined, with_right, conjoined, disjoined, operated, window_of}
 use Rattle.lola_model.specs.Store.{Seen, kind_in, layouts_from, layout_of, target_of}
-use Rattle.lola_model.specs.Typing.{binary_row, same_kind}
+use Rattle.lola_model.specs.Typing.{prefix_row, binary_row, same_kind}
 use Rattle.lola_model.specs.declared.expr.Binary.{Binary}
 use Rattle.lola_model.specs.declared.expr.Binary.TheVariants as binary
+use Rattle.lola_model.specs.declared.expr.Prefix.{Prefix}
+use Rattle.lola_model.specs.declared.expr.Prefix.TheVariants as prefix
 use Rattle.lola_model.specs.declared.spec.Stream.{Stream}
 use Rattle.lola_model.specs.declared.spec.WindowSpec.{WindowSpec}
 use Rattle.lola_model.specs.declared.plan.Plan.{Plan}
 use Rattle.lola_model.proofs.Lookups.{bytes_equal-true}
 use Rattle.lola_expr.specs.Evaluation.{value_or_missing, literal_is_named, same_text}
-use Rattle.lola_expr.specs.Operands.{decides, operands_fit, is_truth, is_number, truth_in}
+use Rattle.lola_expr.specs.Operands.{decides, operands_fit, operand_fits, is_truth, is_number, truth_in}
 use Rattle.lola_expr.proofs.OperandLemmas.{first, second, both, integer_is}
 use Rattle.lola_expr.proofs.Parts.{same_kind-true}
 
@@ -186,6 +188,16 @@ window_read plan s c q r n e lt m = by_window (slice_get plan.spec.windows n) (s
     by_window : (o : Option WindowSpec) → target_of o < length (layout_of plan).streams → MatchOption o ⊥ (λ w. r ≡ window_answer c w (kind_in (slice_get (layout_of plan).streams w.target)) q) → r ≡ window_of plan.spec c o q
     by_window None lt m = absurd m
     by_window (Some w) lt m = m ∙ ap (λ k. window_answer c w k q) (layout_kind plan.spec.streams plan.kept w.target lt)
+
+-- a value of the kind of a row fits: before one operand
+pub prefix_fits : (sign : Prefix) (k a : Kind) (v : Value) → prefix_row sign k a ≡ true → is_of_kind a v ≡ true → operand_fits sign k v ≡ true
+prefix_fits prefix.Not k a v row h =
+    let e = same_kind-true k kind.Bool (first (same_kind k kind.Bool) (same_kind a kind.Bool) row) in
+    let f = same_kind-true a kind.Bool (second (same_kind k kind.Bool) (same_kind a kind.Bool) row) in
+    both (is_bool k) (is_truth v) (ap is_bool e) (truth_of_kind v (subst (λ (j : Kind). is_of_kind j v ≡ true) f h))
+prefix_fits prefix.Minus k a v row h =
+    let f = same_kind-true a k (second _ (same_kind a k) row) in
+    both _ (is_of_kind k v) (first _ (same_kind a k) row) (subst (λ (j : Kind). is_of_kind j v ≡ true) f h)
 
 -- values of the kinds of a row fit: of arithmetic
 arithmetic_fits : (k a b : Kind) (x y : Value) → (is_integer k && (same_kind a k && same_kind b k)) ≡ true → is_of_kind a x ≡ true → is_of_kind b y ≡ true → (is_integer k && (is_of_kind k x && is_of_kind k y)) ≡ true

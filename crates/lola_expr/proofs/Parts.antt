@@ -265,6 +265,12 @@ module _ (f : Expr → Bool) where
       let h = second (f (Defaults' place u a v b)) (each_part f a && each_part f b) (ap (each_part f) (sym is) ∙ g) in
       (first (each_part f a) (each_part f b) h, second (each_part f a) (each_part f b) h)
 
+  -- of a sign between two operands
+  pub each_both : (e : Expr) (place : Place) (sign : Binary) (u v : Around) (a b : Expr) → e ≡ Both' place sign u a v b → each_part f e ≡ true → (each_part f a ≡ true) × (each_part f b ≡ true)
+  each_both e place sign u v a b is g =
+      let h = second (f (Both' place sign u a v b)) (each_part f a && each_part f b) (ap (each_part f) (sym is) ∙ g) in
+      (first (each_part f a) (each_part f b) h, second (each_part f a) (each_part f b) h)
+
   -- of a choice
   pub each_choice : (e : Expr) (place : Place) (u v w : Around) (a b d : Expr) → e ≡ Choice' place u a v b w d → each_part f e ≡ true → (each_part f a ≡ true) × (each_part f b ≡ true) × (each_part f d ≡ true)
   each_choice e place u v w a b d is g =

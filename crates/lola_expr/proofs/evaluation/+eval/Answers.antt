@@ -8,14 +8,14 @@ use Rattle.lola_value.specs.Kinds.{is_outcome_of, is_of_kind, is_text}
 use Rattle.lola_value.specs.Naming.{read_outcome, read_params, IsHeldIn, AreHeld, the_values, read}
 use Rattle.lola_model.specs.Store.{window_kind}
 use Rattle.lola_model.specs.Typing.{can_ask, noted, noted_all, prefix_row, binary_row}
-use Rattle.lola_model.specs.Denotation.{den, den_all, with_arguments, with_argument, window_of, kind_of, chosen, operated, defaulted, and_then}
+use Rattle.lola_model.specs.Denotation.{den, den_all, with_arguments, with_argument, window_of, kind_of, chosen, operated, defaulted, and_then, joined}
 use Rattle.lola_model.specs.Accesses.{answer_of}
 use Rattle.lola_expr.specs.Evaluation.{part_is_named, literal_is_named, is_named, are_named}
-use Rattle.lola_expr.specs.Operands.{operands_fit}
+use Rattle.lola_expr.specs.Operands.{operands_fit, operand_fits}
 use Rattle.lola_expr.proofs.Sizes.{size_of}
 use Rattle.lola_expr.proofs.OperandLemmas.{held_by_kind}
-use Rattle.lola_expr.proofs.Parts.{defaults_facts, unary_facts, both_facts, choice_facts, read_facts, window_facts, each_read, each_window, each_defaults, each_choice, each_more}
-use Rattle.lola_expr.proofs.Arms.{stays_of_kind, defaulted_first, defaulted_second, literal_read, literal_held, parameter_read, parameter_held, chosen_true, chosen_false, truth_of_kind, joined_stays, joined_both, window_read, binary_fits}
+use Rattle.lola_expr.proofs.Parts.{defaults_facts, unary_facts, both_facts, choice_facts, read_facts, window_facts, each_read, each_window, each_defaults, each_both, each_choice, each_more}
+use Rattle.lola_expr.proofs.Arms.{stays_of_kind, defaulted_first, defaulted_second, literal_read, literal_held, parameter_read, parameter_held, chosen_true, chosen_false, truth_of_kind, joined_stays, joined_both, window_read, prefix_fits, binary_fits}
 use Rattle.lola_expr.proofs.evaluation.+eval.Goals as goal
 
 pub access_of-returns-in-Ok-clause-value : goal.access_of-returns-in-Ok-clause-value
@@ -171,6 +171,17 @@ evaluate-returns-in-Defaults-clause-kind g t c =
     let f = defaults_facts (g.S.StreamStore.seen c.args.store.now) c.args.params.now c.args.expr.now _ _ _ _ _ c.in-Defaults.is c.requires.asks in
     subst (λ (k : Kind). is_outcome_of k c.or_default.result ≡ true) (ap noted (sym c.in-Defaults.is)) (c.or_default.ensures.kind _ (ap noted c.deref.ensures ∙ f.left_kind) (ap noted c.deref-in-Defaults.ensures ∙ f.right_kind))
 
+pub evaluate-returns-in-Both-clause-value : goal.evaluate-returns-in-Both-clause-value
+evaluate-returns-in-Both-clause-value g t c = λ plan names c' h n.
+    let w = each_both (part_is_named names plan.spec.texts) c.args.expr.now _ _ _ _ _ _ c.in-Both.is n in
+    let r = c.with_sign.ensures.value plan names c' h (ap (is_named names plan.spec.texts) c.deref-in-Both.ensures ∙ w.0) (ap (is_named names plan.spec.texts) c.deref-in-Both-2.ensures ∙ w.1) in (
+      r.0
+          ∙ (ap (λ e. joined c.in-Both.sign (kind_of c.in-Both.place) (den plan.spec c' (read_params names c.args.params.now) e) (den plan.spec c' (read_params names c.args.params.now) c.deref-in-Both-2.result.now)) c.deref-in-Both.ensures
+          ∙ (ap (λ e. joined c.in-Both.sign (kind_of c.in-Both.place) (den plan.spec c' (read_params names c.args.params.now) c.in-Both.a.value) (den plan.spec c' (read_params names c.args.params.now) e)) c.deref-in-Both-2.ensures
+          ∙ ap (λ e. den plan.spec c' (read_params names c.args.params.now) e) (sym c.in-Both.is))),
+      r.1,
+    )
+
 pub evaluate-returns-in-Choice-clause-value : goal.evaluate-returns-in-Choice-clause-value
 evaluate-returns-in-Choice-clause-value g t c = λ plan names c' h n.
     let w = each_choice (part_is_named names plan.spec.texts) c.args.expr.now _ _ _ _ _ _ _ c.in-Choice.is n in
@@ -210,6 +221,11 @@ gather-returns-in-Err-clause-err g t c = λ plan names c' h n.
           ∙ ap (λ y. with_argument (Given (read names c.in-Value.v)) y) (ap (λ e. den_all plan.spec c' (read_params names c.args.params.now) e) (sym c.deref-in-Value.ensures) ∙ b.0)),
       b.1,
     )
+
+pub with_prefix-negate-requires : goal.with_prefix-negate-requires
+with_prefix-negate-requires g t c =
+    ap (λ k. operand_fits c.args.sign k c.in-Value.v) c.kind_at.ensures
+    ∙ prefix_fits c.args.sign (kind_of c.args.place.now) (noted c.args.a.now) c.in-Value.v c.requires.row c.in-Value.ensures.kind
 
 pub with_sign-operate-requires : goal.with_sign-operate-requires
 with_sign-operate-requires g t c =
