@@ -1,0 +1,4 @@
+pub mod Evaluation
+pub mod Operands
+pub mod Asking
+pub mod Worked

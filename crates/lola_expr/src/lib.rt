@@ -1,0 +1,10 @@
+//! The evaluation of expressions over a store, and an evaluation as a job.
+#![tactic(auto)]
+
+mod access;
+pub mod evaluation;
+pub mod job;
+pub mod law;
+mod operators;
+#[cfg(test)]
+mod tests;
