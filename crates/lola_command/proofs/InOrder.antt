@@ -170,7 +170,7 @@ defined ss r o =
     let names = names_of r.sources o.behind o.options_behind in
     let rest = rest_of r.sources o.behind o.options_behind in
     let test : (come_once ss && are_sources (front_names z) (behind_names z)) ≡ true =
-        rw (names, rest, o.once, only_options o.behind o.options_behind) (within (length r.sources) o.some o.few) in
+    rw (names, rest, o.once, only_options o.behind o.options_behind) (within (length r.sources) o.some o.few) in
     let is : told ss r.specification (front_names z) ≡ r = rw (names, ← o.show, ← o.workers, ← o.start, ← o.in_turns) refl in
     ap (run_by ss) front ∙ ap (run_over ss r.specification) at_z
     ∙ if_true (come_once ss && are_sources (front_names z) (behind_names z)) (Some (command.Run (told ss r.specification (front_names z)))) None test

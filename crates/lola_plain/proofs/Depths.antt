@@ -79,9 +79,10 @@ innermost_other a h = record { spells = h.spells }
 
 deeper : (n : ℕ) → Deeper n
 unfolding g.level
-deeper zero =
-    (within_chain _ _ _ (innermost_expr _ (innermost_in_expr _ _ _)) (within_chain _ _ _ (expr_same (g.expr_in zero) (g.other_in zero)).back (in_known _ _ _)),
-    within_chain _ _ _ (innermost_other _ (innermost_in_other _ _ _)) (within_chain _ _ _ (other_same (g.expr_in zero) (g.other_in zero)).to (in_known _ _ _)))
+deeper zero = (
+  within_chain _ _ _ (innermost_expr _ (innermost_in_expr _ _ _)) (within_chain _ _ _ (expr_same (g.expr_in zero) (g.other_in zero)).back (in_known _ _ _)),
+  within_chain _ _ _ (innermost_other _ (innermost_in_other _ _ _)) (within_chain _ _ _ (other_same (g.expr_in zero) (g.other_in zero)).to (in_known _ _ _)),
+)
 deeper (suc n) =
     let h = deeper n in
     (known_wider _ _ _ _ _ _ (expr_factored_wider _ _ _ _ h.0 h.1), known_wider _ _ _ _ _ _ (other_factored_wider _ _ _ _ h.0 h.1))
@@ -112,10 +113,11 @@ unfolding plain.expr_in plain.unary_in plain.other_in g.level g.operand g.unary
 plain_read zero = (innermost_in_level.0, within_chain _ _ _ innermost_in_level.1 (within_right _ _), innermost_in_level.1)
 plain_read (suc n) =
     let h = plain_read n in
-    let d = deeper n in
-    (within_chain _ _ _ (expr_wider _ _ _ _ _ _ h.0 h.1 h.2) (within_chain _ _ _ (expr_same _ _).back (in_known _ _ _)),
-    within_chain _ _ _ (unary_wider _ _ _ _ _ _ h.0 h.1 h.2) (within_chain _ _ _ (unary_same _ _).to (within_either _ _ _ _ (number_wider _ _ _ _ d.0) (in_known _ _ _))),
-    within_chain _ _ _ (other_wider _ _ _ _ _ _ h.0 h.1 h.2) (within_chain _ _ _ (other_same _ _).to (in_known _ _ _)))
+    let d = deeper n in (
+      within_chain _ _ _ (expr_wider _ _ _ _ _ _ h.0 h.1 h.2) (within_chain _ _ _ (expr_same _ _).back (in_known _ _ _)),
+      within_chain _ _ _ (unary_wider _ _ _ _ _ _ h.0 h.1 h.2) (within_chain _ _ _ (unary_same _ _).to (within_either _ _ _ _ (number_wider _ _ _ _ d.0) (in_known _ _ _))),
+      within_chain _ _ _ (other_wider _ _ _ _ _ _ h.0 h.1 h.2) (within_chain _ _ _ (other_same _ _).to (in_known _ _ _)),
+    )
 
 pub expr_read : (n : ℕ) → Within (plain.expr_in n) (g.expr_in n)
 expr_read n = (plain_read n).0
@@ -163,9 +165,10 @@ read_plain (suc n) =
     let d = plain_deeper (twice n) in
     let e = within_chain _ _ _ h.0 d.0 in
     let o = within_chain _ _ _ h.1 d.2 in
-    let u = operand_plain n (twice n) h.0 h.1 in
-    (out_of_known _ _ _ _ (within_chain _ _ _ (expr_same _ _).to (expr_wider _ _ _ _ _ _ e u o)),
-    out_of_known _ _ _ _ (within_chain _ _ _ (other_same _ _).back (other_wider _ _ _ _ _ _ e u o)))
+    let u = operand_plain n (twice n) h.0 h.1 in (
+      out_of_known _ _ _ _ (within_chain _ _ _ (expr_same _ _).to (expr_wider _ _ _ _ _ _ e u o)),
+      out_of_known _ _ _ _ (within_chain _ _ _ (other_same _ _).back (other_wider _ _ _ _ _ _ e u o)),
+    )
 
 pub expr_plain : (n : ℕ) → Within (g.expr_in n) (plain.expr_in (twice n))
 expr_plain n = (read_plain n).0

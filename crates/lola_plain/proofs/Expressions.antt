@@ -106,11 +106,27 @@ module _ (E O : Syntax Expr) where
       joined : Spells (g.closed E O) b.end b.rest → Spells (g.bracketed E O |> g.disjunctions E O) ts y
       joined (q, f, (s, w, c, shut, (r, i, (t, u, d, defaults, tail)))) =
           let inside = regroup b.behind b.inner b.end s w b.cut_behind c in
-          let whole = regroup ts b.front b.behind (b.inner ++ s) w b.cut inside in
-          ((r.0 b.inside, r.1), b.value ∙ ap (λ (z : Expr → Expr). z b.inside) (f ∙ i),
-          ((b.front ++ (b.inner ++ s)) ++ t, u, regroup ts (b.front ++ (b.inner ++ s)) w t u whole d,
-          ((b.inside, r.0), refl, (b.front ++ (b.inner ++ s), t, refl,
-          ((b.bracket, b.inside), refl, (b.front, b.inner ++ s, refl, b.opens, ((b.inside, q.0), refl, (b.inner, s, refl, b.reads, shut)))), defaults)), tail))
+          let whole = regroup ts b.front b.behind (b.inner ++ s) w b.cut inside in (
+            (r.0 b.inside, r.1),
+            b.value ∙ ap (λ (z : Expr → Expr). z b.inside) (f ∙ i),
+            (
+              (b.front ++ (b.inner ++ s)) ++ t,
+              u,
+              regroup ts (b.front ++ (b.inner ++ s)) w t u whole d,
+              (
+                (b.inside, r.0),
+                refl,
+                (
+                  b.front ++ (b.inner ++ s),
+                  t,
+                  refl,
+                  ((b.bracket, b.inside), refl, (b.front, b.inner ++ s, refl, b.opens, ((b.inside, q.0), refl, (b.inner, s, refl, b.reads, shut)))),
+                  defaults,
+                ),
+              ),
+              tail,
+            ),
+          )
 
   first_back : (ts : List Lexeme) (y : Expr) → Spells (g.bracketed E O |> g.disjunctions E O) ts y → Bracketed ts y
   unfolding Spells g.bracketed g.closed mark token

@@ -48,16 +48,27 @@ module _ (n : ℕ) where
   list_read : (ts : List Lexeme) (y : Y) → Spells in_brackets ts y → Spells (g.parts n) ts y
   unfolding Spells g.parts g.forked g.more_parts g.part_behind g.whole
   list_read ts y (p, e, (q, d, (u, v, c, (w, z, i, (a, f, (k, l, j, opener, inside)), more), shut))) =
-      inl ((a.0, (a.1, λ x bracket at. part bracket x ∷ q.0.1.0 ∷ q.0.1.1)), e ∙ ap all_of d ∙ ap (led_by q.0.1) f,
-      (k, l ++ (z ++ v), c ∙ ap (λ (x : List Lexeme). x ++ v) (i ∙ ap (λ (x : List Lexeme). x ++ z) j) ∙ four k l z v, opener,
-      (l, z ++ v, refl, inside, inl (q.0.1, refl, ((q.0.1, q.1), refl, (z, v, refl, more, shut))))))
+      inl (
+        (a.0, (a.1, λ x bracket at. part bracket x ∷ q.0.1.0 ∷ q.0.1.1)),
+        e ∙ ap all_of d ∙ ap (led_by q.0.1) f,
+        (
+          k,
+          l ++ (z ++ v),
+          c ∙ ap (λ (x : List Lexeme). x ++ v) (i ∙ ap (λ (x : List Lexeme). x ++ z) j) ∙ four k l z v,
+          opener,
+          (l, z ++ v, refl, inside, inl (q.0.1, refl, ((q.0.1, q.1), refl, (z, v, refl, more, shut)))),
+        ),
+      )
 
   one_read : (ts : List Lexeme) (y : Y) → Spells one ts y → Spells (g.parts n) ts y
   unfolding Spells g.parts g.forked g.one_part g.whole_unbracketed g.unbracketed
   one_read ts y (x, e, s) = elim (apart_at_bracket E O ts x s) [
     | inl h ↦ inr (x, e, h)
-    | inr b ↦ inl ((b.bracket, (b.inside, λ x bracket at. part at (b.rest x) ∷ [])), e ∙ ap only b.value,
-        (b.front, b.behind, b.cut, b.opens, (b.inner, b.end, b.cut_behind, b.reads, inr (b.rest, refl, b.closes))))
+    | inr b ↦ inl (
+      (b.bracket, (b.inside, λ x bracket at. part at (b.rest x) ∷ [])),
+      e ∙ ap only b.value,
+      (b.front, b.behind, b.cut, b.opens, (b.inner, b.end, b.cut_behind, b.reads, inr (b.rest, refl, b.closes))),
+    )
   ]
 
   parts_to : (ts : List Lexeme) (y : Y) → Spells (one ∣ in_brackets) ts y → Spells (g.parts n) ts y
@@ -68,27 +79,41 @@ module _ (n : ℕ) where
   parts_back : (ts : List Lexeme) (y : Y) → Spells (g.parts n) ts y → Spells (one ∣ in_brackets) ts y
   unfolding Spells g.parts g.forked g.more_parts g.one_part g.part_behind g.whole g.whole_unbracketed g.unbracketed
   parts_back ts y (inl (p, e, (k, w, i, opener, (l, m, j, inside, inl (q, f, (r, d, (u, v, c, more, shut))))))) =
-      inr ((part p.0 p.1.0, q), e ∙ ap (given p.0 p.1.0) f,
-      (((part p.0 p.1.0, r.0), r.1), ap (λ (z : Part × List Part). (part p.0 p.1.0, z)) d,
-      ((k ++ l) ++ u, v, regroup ts (k ++ l) m u v (regroup ts k w l m i j) c,
-      (k ++ l, u, refl, ((p.0, p.1.0), refl, (k, l, refl, opener, inside)), more), shut)))
+      inr (
+        (part p.0 p.1.0, q),
+        e ∙ ap (given p.0 p.1.0) f,
+        (
+          ((part p.0 p.1.0, r.0), r.1),
+          ap (λ (z : Part × List Part). (part p.0 p.1.0, z)) d,
+          (
+            (k ++ l) ++ u,
+            v,
+            regroup ts (k ++ l) m u v (regroup ts k w l m i j) c,
+            (k ++ l, u, refl, ((p.0, p.1.0), refl, (k, l, refl, opener, inside)), more),
+            shut,
+          ),
+        ),
+      )
   parts_back ts y (inl (p, e, (k, w, i, opener, (l, m, j, inside, inr (h, f, closes))))) =
-      inl (h p.1.0, e ∙ ap (given p.0 p.1.0) f,
-      with_bracket E O ts (h p.1.0) (record {
-        bracket = p.0;
-        inside = p.1.0;
-        rest = h;
-        value = refl;
-        front = k;
-        behind = w;
-        inner = l;
-        end = m;
-        cut = i;
-        opens = opener;
-        cut_behind = j;
-        reads = inside;
-        closes = closes;
-      }))
+      inl (
+        h p.1.0,
+        e ∙ ap (given p.0 p.1.0) f,
+        with_bracket E O ts (h p.1.0) (record {
+          bracket = p.0;
+          inside = p.1.0;
+          rest = h;
+          value = refl;
+          front = k;
+          behind = w;
+          inner = l;
+          end = m;
+          cut = i;
+          opens = opener;
+          cut_behind = j;
+          reads = inside;
+          closes = closes;
+        }),
+      )
   parts_back ts y (inr (x, e, h)) = inl (x, e, without_bracket E O ts x h)
 
   -- ---- within the limit of marks
@@ -114,17 +139,28 @@ module _ (n : ℕ) where
   list_fits : (ts : List Lexeme) (y : Y) → Fits all_marks in_brackets ts y → Fits all_marks (g.parts n) ts y
   unfolding Spells Fits g.parts g.forked g.more_parts g.part_behind g.whole
   list_fits ts y (p, e, (q, d, (u, v, c, (w, z, i, (a, f, (k, l, j, opener, inside)), more), shut))) =
-      inl ((a.0, (a.1, λ x bracket at. part bracket x ∷ q.0.1.0 ∷ q.0.1.1)), e ∙ ap all_of d ∙ ap (led_by q.0.1) f,
-      (k, l ++ (z ++ v), c ∙ ap (λ (x : List Lexeme). x ++ v) (i ∙ ap (λ (x : List Lexeme). x ++ z) j) ∙ four k l z v, opener,
-      (l, z ++ v, refl, inside.0, inl (inside.1, (q.0.1, refl, ((q.0.1, q.1), refl, (z, v, refl, more, shut)))))))
+      inl (
+        (a.0, (a.1, λ x bracket at. part bracket x ∷ q.0.1.0 ∷ q.0.1.1)),
+        e ∙ ap all_of d ∙ ap (led_by q.0.1) f,
+        (
+          k,
+          l ++ (z ++ v),
+          c ∙ ap (λ (x : List Lexeme). x ++ v) (i ∙ ap (λ (x : List Lexeme). x ++ z) j) ∙ four k l z v,
+          opener,
+          (l, z ++ v, refl, inside.0, inl (inside.1, (q.0.1, refl, ((q.0.1, q.1), refl, (z, v, refl, more, shut))))),
+        ),
+      )
 
   one_fits : (ts : List Lexeme) (y : Y) → Fits all_marks one ts y → Fits all_marks (g.parts n) ts y
   unfolding Spells Fits g.parts g.forked g.one_part g.whole_unbracketed g.unbracketed token
   one_fits ts y (x, e, (s, le)) = elim (apart_at_bracket E O ts x s) [
     | inl h ↦ inr (x, e, (h, le))
     | inr b ↦ (let all = counted ts x b in
-        inl ((b.bracket, (b.inside, λ x bracket at. part at (b.rest x) ∷ [])), e ∙ ap only b.value,
-        (b.front, b.behind, b.cut, b.opens, (b.inner, b.end, b.cut_behind, b.reads, inr (omega (arith, all, le), (b.rest, refl, b.closes))))))
+        inl (
+          (b.bracket, (b.inside, λ x bracket at. part at (b.rest x) ∷ [])),
+          e ∙ ap only b.value,
+          (b.front, b.behind, b.cut, b.opens, (b.inner, b.end, b.cut_behind, b.reads, inr (omega (arith, all, le), (b.rest, refl, b.closes)))),
+        ))
   ]
 
   fits_to : (ts : List Lexeme) (y : Y) → Fits all_marks (one ∣ in_brackets) ts y → Fits all_marks (g.parts n) ts y
@@ -135,10 +171,21 @@ module _ (n : ℕ) where
   fits_back : (ts : List Lexeme) (y : Y) → Fits all_marks (g.parts n) ts y → Fits all_marks (one ∣ in_brackets) ts y
   unfolding Spells Fits g.parts g.forked g.more_parts g.one_part g.part_behind g.whole g.whole_unbracketed g.unbracketed token
   fits_back ts y (inl (p, e, (k, w, i, opener, (l, m, j, inside, inl (le, (q, f, (r, d, (u, v, c, more, shut)))))))) =
-      inr ((part p.0 p.1.0, q), e ∙ ap (given p.0 p.1.0) f,
-      (((part p.0 p.1.0, r.0), r.1), ap (λ (z : Part × List Part). (part p.0 p.1.0, z)) d,
-      ((k ++ l) ++ u, v, regroup ts (k ++ l) m u v (regroup ts k w l m i j) c,
-      (k ++ l, u, refl, ((p.0, p.1.0), refl, (k, l, refl, opener, (inside, le))), more), shut)))
+      inr (
+        (part p.0 p.1.0, q),
+        e ∙ ap (given p.0 p.1.0) f,
+        (
+          ((part p.0 p.1.0, r.0), r.1),
+          ap (λ (z : Part × List Part). (part p.0 p.1.0, z)) d,
+          (
+            (k ++ l) ++ u,
+            v,
+            regroup ts (k ++ l) m u v (regroup ts k w l m i j) c,
+            (k ++ l, u, refl, ((p.0, p.1.0), refl, (k, l, refl, opener, (inside, le))), more),
+            shut,
+          ),
+        ),
+      )
   fits_back ts y (inl (p, e, (k, w, i, opener, (l, m, j, inside, inr (le, (h, f, closes)))))) =
       let b : Bracketed E O ts (h p.1.0) = record {
         bracket = p.0;

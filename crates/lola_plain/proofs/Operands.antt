@@ -76,13 +76,20 @@ module _ (E O : Syntax Expr) where
       → (s : Option Suffix) × (with_all (read_so (n, how)) rs ≡ of_reference n s) × Spells (Maybe (g.suffix E O)) (t ++ v) s
   unfolding Spells g.suffix g.dotted g.defaults g.dotted_default token mark
   tail_to n None [] t v h k = (None, refl, ap (λ (w : List Lexeme). w ++ v) h ∙ k)
-  tail_to n None (r ∷ rs) t v h (u, w, c, (p, q, d, i, j), more) =
-      (Some (λ named. with_all (read_by r.0 (a.Direct, Some r.1) named) rs), refl,
-      ((read_by r.0 (a.Direct, Some r.1), λ left. with_all left rs), refl,
-      (u, w, ap (λ (w : List Lexeme). w ++ v) h ∙ c, ((r.0, λ dot. (a.Direct, Some r.1)), refl, (p, q, d, i, direct_reads q r.1 j)), (rs, refl, more))))
-  tail_to n (Some (dot, how)) rs t v (p, q, d, i, j) k =
-      (Some (λ named. with_all (read_by dot (how dot) named) rs), refl,
-      ((read_by dot (how dot), λ left. with_all left rs), refl, (t, v, refl, ((dot, how), refl, (p, q, d, i, access_to q how j)), (rs, refl, k))))
+  tail_to n None (r ∷ rs) t v h (u, w, c, (p, q, d, i, j), more) = (
+    Some (λ named. with_all (read_by r.0 (a.Direct, Some r.1) named) rs),
+    refl,
+    (
+      (read_by r.0 (a.Direct, Some r.1), λ left. with_all left rs),
+      refl,
+      (u, w, ap (λ (w : List Lexeme). w ++ v) h ∙ c, ((r.0, λ dot. (a.Direct, Some r.1)), refl, (p, q, d, i, direct_reads q r.1 j)), (rs, refl, more)),
+    ),
+  )
+  tail_to n (Some (dot, how)) rs t v (p, q, d, i, j) k = (
+    Some (λ named. with_all (read_by dot (how dot) named) rs),
+    refl,
+    ((read_by dot (how dot), λ left. with_all left rs), refl, (t, v, refl, ((dot, how), refl, (p, q, d, i, access_to q how j)), (rs, refl, k))),
+  )
 
   tail_back : (n : Name') (s : Option Suffix) (w : List Lexeme) → Spells (Maybe (g.suffix E O)) w s
       → (how : How) × (rs : List (ℕ × Expr)) × (t : List Lexeme) × (v : List Lexeme) × (w ≡ t ++ v) × (with_all (read_so (n, how)) rs ≡ of_reference n s) × Spells pointed t how × Defaulted v rs
@@ -91,7 +98,7 @@ module _ (E O : Syntax Expr) where
   tail_back n (Some z) w (p, e, (u, v, c, (q, d, (k, l, i, dot, reads)), (rs, f, more))) =
       let named = reference n.0 n.1 in
       let same : with_all (read_by q.0 (q.1 q.0) named) rs ≡ z named =
-          sym (ap (λ (y : Suffix). y named) e ∙ ap (λ (y : Expr → Expr). y (p.0 named)) f ∙ ap (λ (y : Suffix). with_all (y named) rs) d) in
+      sym (ap (λ (y : Suffix). y named) e ∙ ap (λ (y : Expr → Expr). y (p.0 named)) f ∙ ap (λ (y : Suffix). with_all (y named) rs) d) in
       elim (reading_cases l q.1 reads) [
         | inl j ↦ (Some q, rs, u, v, c, same, (k, l, i, dot, j), more)
         | inr j ↦ (None, (q.0, j.0) ∷ rs, [], u ++ v, c, sym (ap (λ (y : ℕ → Reading). with_all (read_by q.0 (y q.0) named) rs) j.1) ∙ same, refl, (u, v, refl, (k, l, i, dot, j.2), more))
@@ -103,17 +110,26 @@ module _ (E O : Syntax Expr) where
   named_to : (ts : List Lexeme) (x : Expr) → Spells (from_left with_default a_name (g.dotted_default E O)) ts x → Spells (g.named E O) ts x
   unfolding Spells g.named g.arguments plain.ref token mark
   named_to ts x (p, e, (w, v, c, (q, d, (r, t, k, (s, u, l, i, args), how)), rs)) =
-      let tail = tail_to q.0 q.1 p.1 t v how rs in
-      ((q.0.0, (q.0.1, tail.0)), e ∙ ap (λ (z : Expr). with_all z p.1) d ∙ tail.1,
-      (s, u ++ (t ++ v), c ∙ ap (λ (z : List Lexeme). z ++ v) (k ∙ ap (λ (z : List Lexeme). z ++ t) l) ∙ four s u t v, i, (u, t ++ v, refl, args, tail.2)))
+      let tail = tail_to q.0 q.1 p.1 t v how rs in (
+        (q.0.0, (q.0.1, tail.0)),
+        e ∙ ap (λ (z : Expr). with_all z p.1) d ∙ tail.1,
+        (s, u ++ (t ++ v), c ∙ ap (λ (z : List Lexeme). z ++ v) (k ∙ ap (λ (z : List Lexeme). z ++ t) l) ∙ four s u t v, i, (u, t ++ v, refl, args, tail.2)),
+      )
 
   named_back : (ts : List Lexeme) (x : Expr) → Spells (g.named E O) ts x → Spells (from_left with_default a_name (g.dotted_default E O)) ts x
   unfolding Spells g.named g.arguments plain.ref token mark
   named_back ts x (n, e, (s, w, c, i, (u, z, k, args, suffix))) =
-      let tail = tail_back (n.0, n.1.0) n.1.1 z suffix in
-      ((read_so ((n.0, n.1.0), tail.0), tail.1), e ∙ sym tail.5,
-      ((s ++ u) ++ tail.2, tail.3, c ∙ ap (λ (y : List Lexeme). s ++ y) (k ∙ ap (λ (y : List Lexeme). u ++ y) tail.4) ∙ sym (four s u tail.2 tail.3),
-      (((n.0, n.1.0), tail.0), refl, (s ++ u, tail.2, refl, (s, u, refl, i, args), tail.6)), tail.7))
+      let tail = tail_back (n.0, n.1.0) n.1.1 z suffix in (
+        (read_so ((n.0, n.1.0), tail.0), tail.1),
+        e ∙ sym tail.5,
+        (
+          (s ++ u) ++ tail.2,
+          tail.3,
+          c ∙ ap (λ (y : List Lexeme). s ++ y) (k ∙ ap (λ (y : List Lexeme). u ++ y) tail.4) ∙ sym (four s u tail.2 tail.3),
+          (((n.0, n.1.0), tail.0), refl, (s ++ u, tail.2, refl, (s, u, refl, i, args), tail.6)),
+          tail.7,
+        ),
+      )
 
   named_same : Same (from_left with_default a_name (g.dotted_default E O)) (g.named E O)
   named_same = record { to = record { spells = named_to }; back = record { spells = named_back } }
@@ -161,15 +177,20 @@ module _ (E O : Syntax Expr) where
   unfolding Spells g.minus g.negative g.defaults plain.minus_unary token mark
   minus_to ts x (p, d, (u, v, c, s, inl (q, f, (w, z, k, i, (rs, h, more))))) =
       let value = e.Literal (whole_number true q.0.0 p.0) in
-      inl ((value, rs), d ∙ ap (λ (y : ℕ → Expr). y p.0) f ∙ ap (λ (y : Expr → Expr). y value) h,
-      (u ++ w, z, regroup ts u v w z c k, (whole_number true q.0.0 p.0, refl, ((p.0, q.0), refl, (u, w, refl, s, i))), more))
+      inl (
+        (value, rs),
+        d ∙ ap (λ (y : ℕ → Expr). y p.0) f ∙ ap (λ (y : Expr → Expr). y value) h,
+        (u ++ w, z, regroup ts u v w z c k, (whole_number true q.0.0 p.0, refl, ((p.0, q.0), refl, (u, w, refl, s, i))), more),
+      )
   minus_to ts x (p, d, (u, v, c, s, inr (y, f, o))) = inr ((p.0, y), d ∙ ap (λ (y : ℕ → Expr). y p.0) f, (u, v, c, s, o))
 
   minus_back : (ts : List Lexeme) (x : Expr) → Spells (Either negative (plain.minus_unary E U O)) ts x → Spells (g.minus E O) ts x
   unfolding Spells g.minus g.negative g.defaults plain.minus_unary token mark
-  minus_back ts x (inl (p, d, (w, v, c, (l, h, (q, f, (u, z, k, s, i))), more))) =
-      ((q.0, λ at. with_all (e.Literal (whole_number true q.1.0 at)) p.1), d ∙ ap (λ (y : Expr). with_all y p.1) (h ∙ ap (λ (y : Literal). e.Literal y) f),
-      (u, z ++ v, ungroup ts w v u z c k, s, inl ((q.1, λ left. with_all left p.1), refl, (z, v, refl, i, (p.1, refl, more)))))
+  minus_back ts x (inl (p, d, (w, v, c, (l, h, (q, f, (u, z, k, s, i))), more))) = (
+    (q.0, λ at. with_all (e.Literal (whole_number true q.1.0 at)) p.1),
+    d ∙ ap (λ (y : Expr). with_all y p.1) (h ∙ ap (λ (y : Literal). e.Literal y) f),
+    (u, z ++ v, ungroup ts w v u z c k, s, inl ((q.1, λ left. with_all left p.1), refl, (z, v, refl, i, (p.1, refl, more)))),
+  )
   minus_back ts x (inr (p, d, (u, v, c, s, o))) = ((p.0, λ at. e.Prefix pre.Negate at p.1), d, (u, v, c, s, inr (p.1, refl, o)))
 
   -- ---- operands

@@ -53,9 +53,10 @@ begins_factored : (m : ℕ) (u : List Lexeme) → Begins (plain.specification m)
 begins_factored m u (v, x, s) = (v, x, (plain_read m (m + most_levels) (deep m).0).spells (u ++ v) x s)
 
 pub misfit : (ts rest : List Lexeme) → ((n : ℕ) → most_levels ≤ n → IsFirstMisfit (g.specification n) ts rest) → IsFirstPlainMisfit ts rest
-misfit ts [] h =
-    (begins_plain most_levels ts (h most_levels (omega arith)).0,
-    λ x s. (h (s.0 + most_levels) (deep s.0).1).1 x ((plain_read s.0 (s.0 + most_levels) (deep s.0).0).spells ts x s.1))
+misfit ts [] h = (
+  begins_plain most_levels ts (h most_levels (omega arith)).0,
+  λ x s. (h (s.0 + most_levels) (deep s.0).1).1 x ((plain_read s.0 (s.0 + most_levels) (deep s.0).0).spells ts x s.1),
+)
 misfit ts (t ∷ rest) h =
     let here = h most_levels (omega arith) in
     (here.0, here.1, begins_plain most_levels here.0 here.2, λ b. none here.0 here.1 b)

@@ -67,15 +67,15 @@ module _ (expr unary other : Syntax Expr) where
   unfoldable pub access : Syntax (ℕ → Reading)
   access =
       Map (λ p dot. (a.Offset dot p.0 p.1, None))
-        (word (codes "offset") *> token is.Open *> word (codes "by") *> token is.Colon *> token is.Minus *> integer <* token is.Shut)
+      (word (codes "offset") *> token is.Open *> word (codes "by") *> token is.Colon *> token is.Minus *> integer <* token is.Shut)
       ∣ Map (λ b dot. (a.Hold dot, b)) (word (codes "hold") *> stand_in)
       ∣ Map (λ b dot. (a.Get dot, b)) (word (codes "get") *> stand_in)
       ∣ Map (λ p dot. (a.Offset dot 1 p.0, p.1)) (Then (word (codes "last")) stand_in)
       ∣ Map (λ p dot. (a.Window dot p.0 p.1.0 p.1.1, None))
-        (word (codes "aggregate") *> token is.Open
-        *> Then (Map (λ at. false) (word (codes "over")) ∣ Map (λ at. true) (word (codes "over_exactly")))
-          (Then (token is.Colon *> quantity) (token is.Comma *> word (codes "using") *> token is.Colon *> name))
-        <* token is.Shut)
+      (word (codes "aggregate") *> token is.Open
+      *> Then (Map (λ at. false) (word (codes "over")) ∣ Map (λ at. true) (word (codes "over_exactly")))
+      (Then (token is.Colon *> quantity) (token is.Comma *> word (codes "using") *> token is.Colon *> name))
+      <* token is.Shut)
 
   -- Ref = name [ "(" Expr { "," Expr } ")" ]
   unfoldable pub ref : Syntax (Name × Option Arguments)
