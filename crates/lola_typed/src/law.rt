@@ -1,0 +1,10 @@
+//! The laws, about definitions alone.
+
+ghost use Rattle.lola_typed.specs.Filled.{FilledIsTyped};
+
+/// What the check of kinds gives is typed: of every named specification whose noted literals are those of its constants
+/// and of which nothing is refused, with its kinds filled in, each part has the kind that its row of the table of kinds
+/// asks for, and each literal is in the range of its kind.
+pub fn filled_is_typed()
+    ensures { FilledIsTyped }
+{}
