@@ -46,7 +46,7 @@ module _ (z : Scope) where
   ready Unknown e f h = absurd h
   ready Broken e f h = absurd h
 
-  fits_at : (k l : Kind) (c d : Bool) (e : Expr) → k ≡ l → c ≡ d → Fits k c e → Fits l d e
+  pub fits_at : (k l : Kind) (c d : Bool) (e : Expr) → k ≡ l → c ≡ d → Fits k c e → Fits l d e
   fits_at k l c d e p q h = (h.0, h.1 ∙ p, h.2 ∙ q)
 
   operand_some : (k : Kind) (p : Found) (a f : Expr) → Holds p a f → matches k p ≡ true → taking_refusals (Some k) p a ≡ [] → Fits k (is_sure p) (settled_if (Some k) p f)
@@ -60,7 +60,7 @@ module _ (z : Scope) where
   operand k p o a f h m e r = subst (λ o. taking_refusals o p a ≡ [] → Fits k (is_sure p) (settled_if o p f)) (sym e) (operand_some k p a f h m) r
 
   -- a certain operand
-  sure_operand : (k : Kind) (p : Found) (o : Option Kind) (a f : Expr) → Holds p a f → matches k p ≡ true → is_sure p ≡ true → o ≡ Some k → taking_refusals o p a ≡ [] → Fits k true (settled_if o p f)
+  pub sure_operand : (k : Kind) (p : Found) (o : Option Kind) (a f : Expr) → Holds p a f → matches k p ≡ true → is_sure p ≡ true → o ≡ Some k → taking_refusals o p a ≡ [] → Fits k true (settled_if o p f)
   sure_operand k p o a f h m s e r = fits_at k k (is_sure p) true (settled_if o p f) refl s (operand k p o a f h m e r)
 
   module _ (place : Place) (u v : Around) where

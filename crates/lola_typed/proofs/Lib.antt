@@ -1,3 +1,4 @@
 pub mod Bools
 pub mod Rows
 pub mod Holds
+pub mod Sound

@@ -270,3 +270,9 @@ module _ (p q : Found) (rp : is_ready p ≡ true) (rq : is_ready q ≡ true) whe
       let a = truth_is p rp g.0 in
       let b = truth_is q rq (subst (λ w. is_broken w ≡ false) (connected_row_is ∙ g.1) h) in
       (connected_row_is ∙ (g.1 ∙ b.0), a.1, a.2, b.1, b.2)
+
+-- a choice between free branches is free
+pub truth_where : (l : Kind) (c : Bool) → is_broken (choice_part (Of l c) Free Free) ≡ false → (choice_part (Of l c) Free Free ≡ Free) × (matches kind.Bool (Of l c) ≡ true) × (is_sure (Of l c) ≡ true)
+truth_where l c h =
+    let g = unless_is (truth_part (Of l c)) Free h in
+    let i = truth_is (Of l c) refl g.0 in (g.1, i.1, i.2)
