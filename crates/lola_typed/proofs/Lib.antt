@@ -2,3 +2,4 @@ pub mod Bools
 pub mod Rows
 pub mod Holds
 pub mod Sound
+pub mod Expressions

@@ -48,7 +48,7 @@ module _ (z : Scope) where
     unary_fits : (sign : Prefix) (k ka : Kind) (f : Expr) → Fits z ka true f → prefix_row sign k ka ≡ true → Fits z k true (Unary' (note place k) sign u f)
     unary_fits sign k ka f p r = (both _ _ (both _ _ (row_at sign k ka (noted f) p.1 r) p.2) p.0, refl, refl)
 
-    prefix_holds : (sign : Prefix) (p : Found) (a f : Expr) → Holds z p a f → is_broken (prefix_part sign p) ≡ false → taking_refusals (taken (prefix_part sign p)) p a ≡ []
+    pub prefix_holds : (sign : Prefix) (p : Found) (a f : Expr) → Holds z p a f → is_broken (prefix_part sign p) ≡ false → taking_refusals (taken (prefix_part sign p)) p a ≡ []
         → Holds z (prefix_part sign p) (Unary' place sign u a) (Unary' (note_part place (prefix_part sign p)) sign u (settled_if (taken (prefix_part sign p)) p f))
     prefix_holds prefix.Not (Of k c) a f hp h r =
         let i = truth_is (Of k c) refl h in
@@ -84,7 +84,7 @@ module _ (z : Scope) where
           subst (λ x. Holds z x (Defaults' place u a v b) (Defaults' (note_part place x) u (settled_if o p f) v (settled_if o q g))) (sym i.0)
           (defaults_fits k (is_sure p) (settled_if o p f) (settled_if o q g) (operand z k p o a f hp j.3 (ap taken i.0) ra) (sure_operand z k q o b g hq j.4 i.1 (ap taken i.0) rb))
 
-    defaults_holds : (p q : Found) (a b f g : Expr) → Holds z p a f → Holds z q b g → is_broken (defaults_part p q) ≡ false
+    pub defaults_holds : (p q : Found) (a b f g : Expr) → Holds z p a f → Holds z q b g → is_broken (defaults_part p q) ≡ false
         → taking_refusals (taken (defaults_part p q)) p a ≡ [] → taking_refusals (taken (defaults_part p q)) q b ≡ []
         → Holds z (defaults_part p q) (Defaults' place u a v b) (Defaults' (note_part place (defaults_part p q)) u (settled_if (taken (defaults_part p q)) p f) v (settled_if (taken (defaults_part p q)) q g))
     defaults_holds Free Free a b f g hp hq h ra rb = λ k i r. defaults_fits k true (settled k f) (settled k g) (hp k i (none_left (free_refusals k a) (free_refusals k b) r)) (hq k i (none_right (free_refusals k a) (free_refusals k b) r))
