@@ -3,3 +3,4 @@ pub mod Rows
 pub mod Holds
 pub mod Sound
 pub mod Expressions
+pub mod Alike
