@@ -4,3 +4,4 @@ pub mod Holds
 pub mod Sound
 pub mod Expressions
 pub mod Alike
+pub mod Typed

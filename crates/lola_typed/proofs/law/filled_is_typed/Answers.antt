@@ -1,3 +1,4 @@
+use Rattle.lola_typed.proofs.Typed.{streams_typed}
 use Rattle.lola_typed.proofs.Alike.{equal_typed}
 use Rattle.lola_typed.proofs.Expressions.{sound}
 use Rattle.lola_typed.proofs.law.filled_is_typed.Goals as goal
