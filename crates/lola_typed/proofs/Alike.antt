@@ -1,5 +1,5 @@
 -- Expressions that differ in what their parts note and in the addresses of their boxes alone.
-use Rattle.std.proofs.Common.{◌≡◌, ℕ, refl, ap, sym, ◌∙◌, subst, Bool, true, false, ◌&&◌, List, [], ◌∷◌, ◌++◌, Option, Some, None, slice_get, drop, nat_lt, length, ◌+◌}
+use Rattle.std.proofs.Common.{◌<◌, ◌≡◌, ℕ, refl, ap, sym, ◌∙◌, subst, Bool, true, false, ◌&&◌, List, [], ◌∷◌, ◌++◌, Option, Some, None, slice_get, drop, nat_lt, length, ◌+◌}
 use Rattle.lola_value.specs.declared.value.Kind.{Kind}
 use Rattle.lola_value.specs.declared.value.Kind.TheVariants as kind
 use Rattle.lola_value.specs.Kinds.{is_of_kind}
@@ -8,6 +8,7 @@ use Rattle.lola_model.specs.Typing.{Scope, same_kinds, target_in, takes, noted, 
 use Rattle.lola_model.specs.Denotation.{kind_of}
 use Rattle.lola_model.specs.Named.{is_resolved, is_read_of, is_window_onto, offset_in, window_number, literal_text, text_number}
 use Rattle.lola_model.specs.Bounds.{offset_by}
+use Rattle.lola_model.specs.Accepted.{IsInRange, AreInRange}
 use Rattle.lola_model.specs.Parts.{listed, listed_all}
 use Rattle.lola_model.specs.declared.expr.Place.{Place}
 use Rattle.lola_model.specs.declared.expr.Expr.{Expr}
@@ -45,10 +46,10 @@ module _ (R : Place → Place → Type 0) where
   and_same : (a b c d : Bool) → a ≡ c → b ≡ d → (a && b) ≡ (c && d)
   and_same a b c d p q = ap (λ x. x && b) p ∙ ap (λ x. c && x) q
 
-  module _ (t : Expr → Bool) (same : (e f : Expr) → Alike e f → t e ≡ t f) where
+  module _ (t t2 : Expr → Bool) (same : (e f : Expr) → Alike e f → t e ≡ t2 f) where
     mutual
-      -- the same parts pass a test that tells them not apart
-      pub alike_each : (e f : Expr) → Alike e f → each_part t e ≡ each_part t f
+      -- tests that agree on parts that are alike agree on the whole
+      pub alike_each : (e f : Expr) → Alike e f → each_part t e ≡ each_part t2 f
       alike_each (Literal p v) (Literal q w) h = same (Literal p v) (Literal q w) h
       alike_each (Parameter p i) (Parameter q j) h = same (Parameter p i) (Parameter q j) h
       alike_each (Read p n how args) (Read q m why brgs) h = and_same _ _ _ _ (same (Read p n how args) (Read q m why brgs) h) (alike_each_all args brgs h.3)
@@ -59,7 +60,7 @@ module _ (R : Place → Place → Type 0) where
       alike_each (Choice' p u a v b w e) (Choice' q x c y d z f) h = and_same _ _ _ _ (same (Choice' p u a v b w e) (Choice' q x c y d z f) h) (and_same _ _ _ _ (alike_each a c h.1) (and_same _ _ _ _ (alike_each b d h.2) (alike_each e f h.3)))
       alike_each _ _ h = absurd h
 
-      alike_each_all : (args brgs : Arguments) → AlikeAll args brgs → each_argument t args ≡ each_argument t brgs
+      alike_each_all : (args brgs : Arguments) → AlikeAll args brgs → each_argument t args ≡ each_argument t2 brgs
       alike_each_all End End h = refl
       alike_each_all (More' u a v rest) (More' x c y more) h = and_same _ _ _ _ (alike_each a c h.0) (alike_each_all rest more h.1)
       alike_each_all _ _ h = absurd h
@@ -93,18 +94,25 @@ module _ (R : Place → Place → Type 0) where
 
   -- what tells parts not apart whose places differ
 
-  pub alike_resolved : (spec : Spec) (ks : ℕ) (e f : Expr) → Alike e f → is_resolved spec ks e ≡ is_resolved spec ks f
-  alike_resolved spec ks (Literal p v) (Literal q w) h = refl
-  alike_resolved spec ks (Parameter p i) (Parameter q j) h = ap (λ n. nat_lt n ks) h.1
-  alike_resolved spec ks (Read p n how args) (Read q m why brgs) h =
-      ap (λ x. is_read_of (slice_get spec.streams x) (count_of args)) h.1 ∙ ap (λ x. is_read_of (slice_get spec.streams m) x) (alike_count args brgs h.3)
-  alike_resolved spec ks (Window p n args) (Window q m brgs) h =
-      ap (λ x. is_window_onto spec.streams (slice_get spec.windows x) (count_of args)) h.1 ∙ ap (λ x. is_window_onto spec.streams (slice_get spec.windows m) x) (alike_count args brgs h.2)
-  alike_resolved spec ks (Defaults' p u a v b) (Defaults' q x c y d) h = refl
-  alike_resolved spec ks (Unary' p s u a) (Unary' q r x c) h = refl
-  alike_resolved spec ks (Both' p s u a v b) (Both' q r x c y d) h = refl
-  alike_resolved spec ks (Choice' p u a v b w e) (Choice' q x c y d z f) h = refl
-  alike_resolved spec ks _ _ h = absurd h
+  pub alike_resolved : (spec full : Spec) (ks : ℕ) → ((n count : ℕ) → is_read_of (slice_get spec.streams n) count ≡ is_read_of (slice_get full.streams n) count) → spec.windows ≡ full.windows
+      → (e f : Expr) → Alike e f → is_resolved spec ks e ≡ is_resolved full ks f
+  alike_resolved spec full ks rs ws (Literal p v) (Literal q w) h = refl
+  alike_resolved spec full ks rs ws (Parameter p i) (Parameter q j) h = ap (λ n. nat_lt n ks) h.1
+  alike_resolved spec full ks rs ws (Read p n how args) (Read q m why brgs) h =
+      ap (λ x. is_read_of (slice_get spec.streams x) (count_of args)) h.1 ∙ (ap (λ x. is_read_of (slice_get spec.streams m) x) (alike_count args brgs h.3) ∙ rs m (count_of brgs))
+  alike_resolved spec full ks rs ws (Window p n args) (Window q m brgs) h =
+      ap (λ x. is_window_onto spec.streams (slice_get spec.windows x) (count_of args)) h.1
+      ∙ (ap (λ x. is_window_onto spec.streams (slice_get spec.windows m) x) (alike_count args brgs h.2)
+      ∙ (ap (λ x. is_window_onto spec.streams (slice_get x m) (count_of brgs)) ws ∙ onto_same (slice_get full.windows m) (count_of brgs)))
+    where
+      onto_same : (o : Option WindowSpec) (count : ℕ) → is_window_onto spec.streams o count ≡ is_window_onto full.streams o count
+      onto_same None count = refl
+      onto_same (Some w) count = rs w.target count
+  alike_resolved spec full ks rs ws (Defaults' p u a v b) (Defaults' q x c y d) h = refl
+  alike_resolved spec full ks rs ws (Unary' p s u a) (Unary' q r x c) h = refl
+  alike_resolved spec full ks rs ws (Both' p s u a v b) (Both' q r x c y d) h = refl
+  alike_resolved spec full ks rs ws (Choice' p u a v b w e) (Choice' q x c y d z f) h = refl
+  alike_resolved spec full ks rs ws _ _ h = absurd h
 
   pub alike_offset : (e f : Expr) → Alike e f → offset_in e ≡ offset_in f
   alike_offset (Literal p v) (Literal q w) h = refl
@@ -138,6 +146,26 @@ module _ (R : Place → Place → Type 0) where
   alike_text (Both' p s u a v b) (Both' q r x c y d) h = refl
   alike_text (Choice' p u a v b w e) (Choice' q x c y d z f) h = refl
   alike_text _ _ h = absurd h
+
+-- numbers in range stay in range
+
+module _ (R : Place → Place → Type 0) (streams windows : ℕ) where
+  mutual
+    pub alike_range : (e f : Expr) → Alike R e f → IsInRange streams windows e → IsInRange streams windows f
+    alike_range (Literal p v) (Literal q w) h r = tt
+    alike_range (Parameter p i) (Parameter q j) h r = tt
+    alike_range (Read p n how args) (Read q m why brgs) h r = (subst (λ x. x < streams) h.1 r.0, alike_range_all args brgs h.3 r.1)
+    alike_range (Window p n args) (Window q m brgs) h r = (subst (λ x. x < windows) h.1 r.0, alike_range_all args brgs h.2 r.1)
+    alike_range (Defaults' p u a v b) (Defaults' q x c y d) h r = (alike_range a c h.1 r.0, alike_range b d h.2 r.1)
+    alike_range (Unary' p s u a) (Unary' q o x c) h r = alike_range a c h.2 r
+    alike_range (Both' p s u a v b) (Both' q o x c y d) h r = (alike_range a c h.2 r.0, alike_range b d h.3 r.1)
+    alike_range (Choice' p u a v b w e) (Choice' q x c y d z f) h r = (alike_range a c h.1 r.0, alike_range b d h.2 r.1, alike_range e f h.3 r.2)
+    alike_range _ _ h r = absurd h
+
+    alike_range_all : (args brgs : Arguments) → AlikeAll R args brgs → AreInRange streams windows args → AreInRange streams windows brgs
+    alike_range_all End End h r = tt
+    alike_range_all (More' u a v rest) (More' x c y more) h r = (alike_range a c h.0 r.0, alike_range_all rest more h.1 r.1)
+    alike_range_all _ _ h r = absurd h
 
 -- trees that are the same are alike, with equal places
 
@@ -247,3 +275,63 @@ same_part_rows z _ _ h = absurd h
 
 pub equal_typed : (z : Scope) (e f : Expr) → Alike Equal e f → part_is_typed z e ≡ part_is_typed z f
 equal_typed z e f h = ap (λ p. is_noted p.kind && row_holds z e) (equal_place e f h) ∙ ap (λ b. is_noted (place_in f).kind && b) (same_part_rows z e f h)
+
+-- an expression and what it is filled in to
+
+abbrev pub Any : Place → Place → Type 0
+Any p q = Unit {0}
+
+mutual
+  alike_self : (e : Expr) → Alike Any e e
+  alike_self (Literal p v) = (tt, refl)
+  alike_self (Parameter p i) = (tt, refl)
+  alike_self (Read p n how args) = (tt, refl, refl, alike_self_all args)
+  alike_self (Window p n args) = (tt, refl, alike_self_all args)
+  alike_self (Defaults' p u a v b) = (tt, alike_self a, alike_self b)
+  alike_self (Unary' p s u a) = (tt, refl, alike_self a)
+  alike_self (Both' p s u a v b) = (tt, refl, alike_self a, alike_self b)
+  alike_self (Choice' p u a v b w e) = (tt, alike_self a, alike_self b, alike_self e)
+
+  alike_self_all : (args : Arguments) → AlikeAll Any args args
+  alike_self_all End = tt
+  alike_self_all (More' u a v rest) = (alike_self a, alike_self_all rest)
+
+alike_settled : (k : Kind) (e f : Expr) → Alike Any e f → Alike Any e (settled k f)
+alike_settled k (Literal p v) (Literal q w) h = h
+alike_settled k (Parameter p i) (Parameter q j) h = h
+alike_settled k (Read p n how args) (Read q m why brgs) h = h
+alike_settled k (Window p n args) (Window q m brgs) h = h
+alike_settled k (Defaults' p u a v b) (Defaults' q x c y d) h = (tt, alike_settled k a c h.1, alike_settled k b d h.2)
+alike_settled k (Unary' p s u a) (Unary' q r x c) h = (tt, h.1, alike_settled k a c h.2)
+alike_settled k (Both' p s u a v b) (Both' q r x c y d) h = (tt, h.1, alike_settled k a c h.2, alike_settled k b d h.3)
+alike_settled k (Choice' p u a v b w e) (Choice' q x c y d z f) h = (tt, h.1, alike_settled k b d h.2, alike_settled k e f h.3)
+alike_settled k _ _ h = absurd h
+
+pub alike_settled_if : (o : Option Kind) (p : Found) (e f : Expr) → Alike Any e f → Alike Any e (settled_if o p f)
+alike_settled_if None p e f h = h
+alike_settled_if (Some k) (Of l c) e f h = h
+alike_settled_if (Some k) Free e f h = alike_settled k e f h
+alike_settled_if (Some k) Unknown e f h = h
+alike_settled_if (Some k) Broken e f h = h
+
+module _ (s : Setting) where
+  mutual
+    pub alike_filled : (e : Expr) → Alike Any e (filled s e)
+    alike_filled (Literal p v) = (tt, refl)
+    alike_filled (Parameter p i) = (tt, refl)
+    alike_filled (Read p n how args) = (tt, refl, refl, alike_filled_all (parameters_at s n) args)
+    alike_filled (Window p n args) = (tt, refl, alike_filled_all (window_parameters s (slice_get s.windows n)) args)
+    alike_filled (Defaults' p u a v b) =
+        (tt, alike_settled_if (taken (found s (Defaults' p u a v b))) (found s a) a (filled s a) (alike_filled a),
+        alike_settled_if (taken (found s (Defaults' p u a v b))) (found s b) b (filled s b) (alike_filled b))
+    alike_filled (Unary' p sign u a) = (tt, refl, alike_settled_if (taken (found s (Unary' p sign u a))) (found s a) a (filled s a) (alike_filled a))
+    alike_filled (Both' p sign u a v b) =
+        (tt, refl, alike_settled_if (operand_kind sign (found s (Both' p sign u a v b)) (joint (found s a) (found s b))) (found s a) a (filled s a) (alike_filled a),
+        alike_settled_if (operand_kind sign (found s (Both' p sign u a v b)) (joint (found s a) (found s b))) (found s b) b (filled s b) (alike_filled b))
+    alike_filled (Choice' p u t v a w b) =
+        (tt, alike_filled t, alike_settled_if (taken (found s (Choice' p u t v a w b))) (found s a) a (filled s a) (alike_filled a),
+        alike_settled_if (taken (found s (Choice' p u t v a w b))) (found s b) b (filled s b) (alike_filled b))
+
+    alike_filled_all : (ks : List Kind) (args : Arguments) → AlikeAll Any args (filled_all s ks args)
+    alike_filled_all ks End = tt
+    alike_filled_all ks (More' u a v rest) = (alike_settled_if (slice_get ks 0) (found s a) a (filled s a) (alike_filled a), alike_filled_all (drop 1 ks) rest)

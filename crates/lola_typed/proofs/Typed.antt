@@ -178,7 +178,7 @@ module _ (z : Scope) (want : Kind) (at : ℕ) where
   fits_same : (e f : Expr) → Fits z want true e → SameTree e f → is_whole z want f ≡ true
   fits_same e f h s =
       let q = same_alike Equal (λ p q x. x) e f s in
-      both _ _ (sym (alike_each Equal (part_is_typed z) (equal_typed z) e f q) ∙ h.0)
+      both _ _ (sym (alike_each Equal (part_is_typed z) (part_is_typed z) (equal_typed z) e f q) ∙ h.0)
       (both _ _ (same_where (noted f) want (sym (equal_noted e f q) ∙ h.1)) (sym (equal_certain z.windows e f q) ∙ h.2))
 
 module _ (spec : Spec) (kinds : List (Option Kind)) (ls : List StreamLayout)

@@ -13,4 +13,4 @@ FilledIsTyped = (spec full : Spec) → IsNamed spec → NotesConstants spec → 
 
 -- names, numbers and windows stay as they are
 abbrev pub FilledIsNamed : Type 0
-FilledIsNamed = (spec full : Spec) → IsNamed spec → kind_refusals spec ≡ [] → IsFilled spec full → IsNamed full
+FilledIsNamed = (spec full : Spec) → IsNamed spec → IsFilled spec full → IsNamed full
