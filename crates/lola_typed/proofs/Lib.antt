@@ -5,3 +5,4 @@ pub mod Sound
 pub mod Expressions
 pub mod Alike
 pub mod Typed
+pub mod Kept

@@ -1,5 +1,5 @@
 use Rattle.lola_typed.proofs.Typed.{streams_typed}
-use Rattle.lola_typed.proofs.Alike.{alike_filled}
+use Rattle.lola_typed.proofs.Kept.{streams_range}
 use Rattle.lola_typed.proofs.law.filled_is_typed.Goals as goal
 
 pub returns : goal.returns
