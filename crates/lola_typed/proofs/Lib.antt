@@ -6,3 +6,4 @@ pub mod Expressions
 pub mod Alike
 pub mod Typed
 pub mod Kept
+pub mod Streams
