@@ -39,7 +39,7 @@ kept_whole s want e f h = (filled_whole s want e, alike_settled_if (number_kind 
 -- what is listed of the parts
 
 module _ (A : Type 0) (t : Expr → List A) (same : (e f : Expr) → Alike Any e f → t e ≡ t f) where
-  kept_listed : (e f : Expr) → IsKept e f → listed t e ≡ listed t f
+  pub kept_listed : (e f : Expr) → IsKept e f → listed t e ≡ listed t f
   kept_listed e f k = alike_listed Any A t same e k.0 k.1 ∙ alike_listed Any A t same k.0 f k.2
 
   join_same : (a b c d : List A) → a ≡ c → b ≡ d → (a ++ b) ≡ (c ++ d)

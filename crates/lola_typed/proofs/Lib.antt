@@ -7,3 +7,4 @@ pub mod Alike
 pub mod Typed
 pub mod Kept
 pub mod Streams
+pub mod Laws

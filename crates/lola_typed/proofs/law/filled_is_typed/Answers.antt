@@ -1,7 +1,5 @@
-use Rattle.lola_typed.proofs.Typed.{streams_typed}
-use Rattle.lola_typed.proofs.Streams.{kinds_noted}
-use Rattle.lola_typed.proofs.Kept.{streams_range}
+use Rattle.lola_typed.proofs.Laws.{is_typed_whole}
 use Rattle.lola_typed.proofs.law.filled_is_typed.Goals as goal
 
 pub returns : goal.returns
-returns = ?
+returns c spec full n k r h = is_typed_whole spec full h n k r
