@@ -1,10 +1,10 @@
 -- Expressions that differ in what their parts note and in the addresses of their boxes alone.
-use Rattle.std.proofs.Common.{◌<◌, ◌≡◌, ℕ, refl, ap, sym, ◌∙◌, subst, Bool, true, false, ◌&&◌, List, [], ◌∷◌, ◌++◌, Option, Some, None, slice_get, drop, nat_lt, length, ◌+◌}
+use Rattle.std.proofs.Common.{◌<◌, ◌≡◌, ℕ, refl, ap, ◌∙◌, subst, Bool, ◌&&◌, List, [], ◌∷◌, ◌++◌, Option, Some, None, slice_get, drop, nat_lt, length, ◌+◌}
 use Rattle.lola_value.specs.declared.value.Kind.{Kind}
 use Rattle.lola_value.specs.declared.value.Kind.TheVariants as kind
 use Rattle.lola_value.specs.Kinds.{is_of_kind}
 use Rattle.lola_model.specs.Store.{kind_in, parameters_of, gives_kind}
-use Rattle.lola_model.specs.Typing.{Scope, same_kinds, target_in, takes, noted, noted_all, place_in, is_certain, is_certain_window, is_direct, row_holds, is_kind_at, is_reference, window_row, prefix_row, binary_row, same_kind, is_noted, part_is_typed, each_part, each_argument, count_of}
+use Rattle.lola_model.specs.Typing.{Scope, same_kinds, target_in, takes, noted, noted_all, place_in, is_certain, is_certain_window, is_direct, row_holds, window_row, prefix_row, binary_row, same_kind, is_noted, part_is_typed, each_part, each_argument, count_of}
 use Rattle.lola_model.specs.Denotation.{kind_of}
 use Rattle.lola_model.specs.Named.{is_resolved, is_read_of, is_window_onto, offset_in, window_number, literal_text, text_number}
 use Rattle.lola_model.specs.Bounds.{offset_by}
@@ -22,7 +22,6 @@ use Rattle.lola_types.specs.Refused.{taken, operand_kind}
 use Rattle.lola_types.specs.Filled.{settled, settled_if, filled, filled_all, SameTree, SameArguments}
 use Rattle.lola_types.specs.declared.found.Found.{Found}
 use Rattle.lola_types.specs.declared.found.Found.TheVariants.{Of, Free, Unknown, Broken}
-use Rattle.lola_typed.proofs.Bools.{both, left_of, right_of}
 
 module _ (R : Place → Place → Type 0) where
   abbrev mutual
@@ -321,16 +320,24 @@ module _ (s : Setting) where
     alike_filled (Parameter p i) = (tt, refl)
     alike_filled (Read p n how args) = (tt, refl, refl, alike_filled_all (parameters_at s n) args)
     alike_filled (Window p n args) = (tt, refl, alike_filled_all (window_parameters s (slice_get s.windows n)) args)
-    alike_filled (Defaults' p u a v b) =
-        (tt, alike_settled_if (taken (found s (Defaults' p u a v b))) (found s a) a (filled s a) (alike_filled a),
-        alike_settled_if (taken (found s (Defaults' p u a v b))) (found s b) b (filled s b) (alike_filled b))
+    alike_filled (Defaults' p u a v b) = (
+      tt,
+      alike_settled_if (taken (found s (Defaults' p u a v b))) (found s a) a (filled s a) (alike_filled a),
+      alike_settled_if (taken (found s (Defaults' p u a v b))) (found s b) b (filled s b) (alike_filled b),
+    )
     alike_filled (Unary' p sign u a) = (tt, refl, alike_settled_if (taken (found s (Unary' p sign u a))) (found s a) a (filled s a) (alike_filled a))
-    alike_filled (Both' p sign u a v b) =
-        (tt, refl, alike_settled_if (operand_kind sign (found s (Both' p sign u a v b)) (joint (found s a) (found s b))) (found s a) a (filled s a) (alike_filled a),
-        alike_settled_if (operand_kind sign (found s (Both' p sign u a v b)) (joint (found s a) (found s b))) (found s b) b (filled s b) (alike_filled b))
-    alike_filled (Choice' p u t v a w b) =
-        (tt, alike_filled t, alike_settled_if (taken (found s (Choice' p u t v a w b))) (found s a) a (filled s a) (alike_filled a),
-        alike_settled_if (taken (found s (Choice' p u t v a w b))) (found s b) b (filled s b) (alike_filled b))
+    alike_filled (Both' p sign u a v b) = (
+      tt,
+      refl,
+      alike_settled_if (operand_kind sign (found s (Both' p sign u a v b)) (joint (found s a) (found s b))) (found s a) a (filled s a) (alike_filled a),
+      alike_settled_if (operand_kind sign (found s (Both' p sign u a v b)) (joint (found s a) (found s b))) (found s b) b (filled s b) (alike_filled b),
+    )
+    alike_filled (Choice' p u t v a w b) = (
+      tt,
+      alike_filled t,
+      alike_settled_if (taken (found s (Choice' p u t v a w b))) (found s a) a (filled s a) (alike_filled a),
+      alike_settled_if (taken (found s (Choice' p u t v a w b))) (found s b) b (filled s b) (alike_filled b),
+    )
 
     alike_filled_all : (ks : List Kind) (args : Arguments) → AlikeAll Any args (filled_all s ks args)
     alike_filled_all ks End = tt

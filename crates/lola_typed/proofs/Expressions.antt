@@ -1,38 +1,32 @@
 -- Whole expressions of which nothing is refused.
 use Rattle.std.proofs.lemmas.Bool.{ltb-true}
-use Rattle.std.proofs.Common.{◌<◌, arith, ◌≡◌, ℕ, zero, suc, refl, ap, sym, ◌∙◌, subst, Bool, true, false, not, ◌&&◌, ◌||◌, if◌then◌else◌, List, [], ◌∷◌, ◌++◌, Option, Some, None, nat_lt, length, slice_get, unwrap_or, drop}
+use Rattle.std.proofs.Common.{◌<◌, arith, ◌≡◌, ℕ, zero, suc, refl, ap, sym, ◌∙◌, subst, Bool, true, false, not, ◌&&◌, ◌||◌, if◌then◌else◌, List, [], ◌∷◌, Option, Some, None, nat_lt, length, slice_get}
 use Rattle.lola_value.specs.declared.value.Kind.{Kind}
-use Rattle.lola_value.specs.declared.value.Kind.TheVariants as kind
 use Rattle.lola_value.specs.declared.value.Value.{Value}
 use Rattle.lola_value.specs.declared.value.Value.TheVariants as value
-use Rattle.lola_value.specs.Kinds.{is_integer, is_signed, is_of_kind}
+use Rattle.lola_value.specs.Kinds.{is_of_kind}
 use Rattle.lola_value.specs.Arithmetic.{is_within}
 use Rattle.lola_model.specs.Named.{is_read_of, is_window_onto, is_resolved}
-use Rattle.lola_model.specs.Typing.{Scope, same_kind, same_kinds, noted, noted_all, is_certain, is_certain_window, is_direct, is_total, takes, is_kind_at, target_in, is_reference, window_row, row_holds, prefix_row, each_part, each_argument, part_is_typed, is_typed, count_of}
+use Rattle.lola_model.specs.Typing.{Scope, same_kinds, noted_all, is_certain_window, is_direct, is_total, takes, is_kind_at, is_reference, window_row, each_part, each_argument, part_is_typed, count_of}
 use Rattle.lola_model.specs.Store.{StreamLayout, kind_in, parameters_of, gives_kind}
 use Rattle.lola_model.specs.declared.expr.Place.{Place}
 use Rattle.lola_model.specs.declared.expr.Access.{Access}
-use Rattle.lola_model.specs.declared.expr.Prefix.{Prefix}
-use Rattle.lola_model.specs.declared.expr.Prefix.TheVariants as prefix
 use Rattle.lola_model.specs.declared.expr.Expr.{Expr}
 use Rattle.lola_model.specs.declared.expr.Expr.TheVariants.{Literal, Parameter, Read, Window, Defaults', Unary', Both', Choice'}
 use Rattle.lola_model.specs.declared.expr.Arguments.{Arguments}
 use Rattle.lola_model.specs.declared.expr.Arguments.TheVariants.{End, More'}
 use Rattle.lola_model.specs.declared.spec.Spec.{Spec}
-use Rattle.lola_model.specs.declared.spec.Stream.{Stream}
 use Rattle.lola_model.specs.declared.spec.WindowSpec.{WindowSpec}
-use Rattle.lola_model.proofs.Build.{Around}
-use Rattle.lola_types.specs.Found.{Setting, found, found_all, is_broken, some_broken, joint, argument_fits, arguments_fit, of_kind, reference_part, known_window, window_part, window_at, literal_part, parameter_part, kind_found, parameters_at, window_parameters, a_truth, binary_part, prefix_part, truth_part, signed_part, defaults_part, choice_part}
+use Rattle.lola_types.specs.Found.{Setting, found, found_all, is_broken, some_broken, joint, argument_fits, arguments_fit, of_kind, reference_part, known_window, window_part, window_at, literal_part, parameter_part, kind_found, parameters_at, window_parameters, binary_part, prefix_part, defaults_part, choice_part}
 use Rattle.lola_types.specs.LeftOut.{setting_of}
-use Rattle.lola_types.specs.Refused.{taken, operand_kind, literal_refusals, sign_refusals, free_refusals, taking_refusals, own_refusals, argument_refusals, fitting_refusals, refusals_in, refusals_in_all}
-use Rattle.lola_types.specs.Filled.{note, note_part, settled, settled_if, filled, filled_all}
+use Rattle.lola_types.specs.Refused.{taken, operand_kind, taking_refusals, own_refusals, argument_refusals, fitting_refusals, refusals_in, refusals_in_all}
+use Rattle.lola_types.specs.Filled.{note_part, filled, filled_all}
 use Rattle.lola_types.specs.declared.found.Found.{Found}
 use Rattle.lola_types.specs.declared.found.Found.TheVariants.{Of, Free, Unknown, Broken}
 use Rattle.lola_typed.specs.Constants.{is_constant, is_constant_if_noted, literal_is_known}
 use Rattle.lola_typed.proofs.Bools.{both, left_of, right_of, never, never_back, none_left, none_right, taken_where}
-use Rattle.lola_typed.proofs.Rows.{kind_is, same_self, same_where, is_ready, matches, is_sure, ready_unbroken, own_holds, neither, IsOneKind, one_kind, free_kind, defaults_joint, choice_joint, defaults_is, choice_is, signed_is, truth_is, truth_where}
-use Rattle.lola_typed.proofs.Holds.{Fits, Holds, ready, fits_at, operand, sure_operand, binary_holds}
-
+use Rattle.lola_typed.proofs.Rows.{same_self, same_where, is_ready, matches, ready_unbroken, own_holds, neither}
+use Rattle.lola_typed.proofs.Holds.{Holds, ready, operand, binary_holds}
 use Rattle.lola_typed.proofs.Sound.{prefix_holds, defaults_holds, choice_holds}
 
 -- a reference that is not broken
@@ -66,9 +60,8 @@ if_is false k c h = never h
 -- where an expression stands: its streams' layouts agree with what is found of them, and the literals of constants fit
 module _ (spec : Spec) (kinds : List (Option Kind)) (ks : List Kind) (ls : List StreamLayout)
     (agree : (n : ℕ) (count : ℕ) → is_read_of (slice_get spec.streams n) count ≡ true
-        → (nat_lt n (length ls) ≡ true) × (kind_found (setting_of spec kinds ks) n ≡ Some (kind_in (slice_get ls n))) × (parameters_of (slice_get ls n) ≡ parameters_at (setting_of spec kinds ks) n))
+    → (nat_lt n (length ls) ≡ true) × (kind_found (setting_of spec kinds ks) n ≡ Some (kind_in (slice_get ls n))) × (parameters_of (slice_get ls n) ≡ parameters_at (setting_of spec kinds ks) n))
     (constant_fits : (k : Kind) (v : Value) → is_constant spec.constants k v ≡ true → is_of_kind k v ≡ true) where
-
   abbrev scope : Scope
   scope = record { streams = ls; windows = spec.windows; has_parameter = is_kind_at ks }
 
@@ -181,7 +174,7 @@ module _ (spec : Spec) (kinds : List (Option Kind)) (ks : List Kind) (ls : List 
         let own = own_refusals place.at (is_broken (found here a) || is_broken (found here b)) w in
         let r3 = none_right own _ r2 in
         let unbroken = own_holds place.at false (is_broken (found here a) || is_broken (found here b)) w (none_left own _ r2)
-            (neither _ _ (ready_unbroken (found here a) (ready scope (found here a) a (filled here a) ha)) (ready_unbroken (found here b) (ready scope (found here b) b (filled here b) hb))) in
+        (neither _ _ (ready_unbroken (found here a) (ready scope (found here a) a (filled here a) ha)) (ready_unbroken (found here b) (ready scope (found here b) b (filled here b) hb))) in
         defaults_holds scope place u v (found here a) (found here b) a b (filled here a) (filled here b) ha hb unbroken
         (none_left (taking_refusals (taken w) (found here a) a) _ r3) (none_right (taking_refusals (taken w) (found here a) a) _ r3)
     sound (Unary' place sign u a) g r =
@@ -201,7 +194,7 @@ module _ (spec : Spec) (kinds : List (Option Kind)) (ks : List Kind) (ls : List 
         let own = own_refusals place.at (is_broken (found here a) || is_broken (found here b)) w in
         let r3 = none_right own _ r2 in
         let unbroken = own_holds place.at false (is_broken (found here a) || is_broken (found here b)) w (none_left own _ r2)
-            (neither _ _ (ready_unbroken (found here a) (ready scope (found here a) a (filled here a) ha)) (ready_unbroken (found here b) (ready scope (found here b) b (filled here b) hb))) in
+        (neither _ _ (ready_unbroken (found here a) (ready scope (found here a) a (filled here a) ha)) (ready_unbroken (found here b) (ready scope (found here b) b (filled here b) hb))) in
         binary_holds scope place u v sign (found here a) (found here b) a b (filled here a) (filled here b) ha hb unbroken
         (none_left (taking_refusals o (found here a) a) _ r3) (none_right (taking_refusals o (found here a) a) _ r3)
     sound (Choice' place u t v a w b) g r =
@@ -217,13 +210,14 @@ module _ (spec : Spec) (kinds : List (Option Kind)) (ks : List Kind) (ls : List 
         let own = own_refusals place.at broken x in
         let r3 = none_right own _ r2 in
         let unbroken = own_holds place.at false broken x (none_left own _ r2)
-            (neither _ _ (ready_unbroken (found here t) (ready scope (found here t) t (filled here t) ht))
-            (neither _ _ (ready_unbroken (found here a) (ready scope (found here a) a (filled here a) ha)) (ready_unbroken (found here b) (ready scope (found here b) b (filled here b) hb)))) in
+        (neither _ _ (ready_unbroken (found here t) (ready scope (found here t) t (filled here t) ht))
+        (neither _ _ (ready_unbroken (found here a) (ready scope (found here a) a (filled here a) ha)) (ready_unbroken (found here b) (ready scope (found here b) b (filled here b) hb)))) in
         choice_holds scope place u v w (found here t) (found here a) (found here b) t a b (filled here t) (filled here a) (filled here b) ht ha hb unbroken
         (none_left (taking_refusals (taken x) (found here a) a) _ r3) (none_right (taking_refusals (taken x) (found here a) a) _ r3)
 
     pub sound_all : (args : Arguments) → each_argument is_good args ≡ true → refusals_in_all here args ≡ [] → HoldsAll args
     sound_all End g r = tt
-    sound_all (More' u a v rest) g r =
-        (sound a (left_of (each_part is_good a) (each_argument is_good rest) g) (none_left (refusals_in here a) (refusals_in_all here rest) r),
-        sound_all rest (right_of (each_part is_good a) (each_argument is_good rest) g) (none_right (refusals_in here a) (refusals_in_all here rest) r))
+    sound_all (More' u a v rest) g r = (
+      sound a (left_of (each_part is_good a) (each_argument is_good rest) g) (none_left (refusals_in here a) (refusals_in_all here rest) r),
+      sound_all rest (right_of (each_part is_good a) (each_argument is_good rest) g) (none_right (refusals_in here a) (refusals_in_all here rest) r),
+    )

@@ -1,32 +1,22 @@
 -- Each part of an expression of which nothing is refused has its kind, by its row of the table of kinds.
-use Rattle.std.proofs.Common.{◌≡◌, ℕ, zero, suc, refl, ap, sym, ◌∙◌, subst, Bool, true, false, not, ◌&&◌, ◌||◌, if◌then◌else◌, List, [], ◌∷◌, ◌++◌, Option, Some, None, nat_lt, length, slice_get, unwrap_or, drop}
+use Rattle.std.proofs.Common.{◌≡◌, refl, ap, sym, ◌∙◌, subst, Bool, true, false, ◌&&◌, [], Option, Some}
 use Rattle.lola_value.specs.declared.value.Kind.{Kind}
 use Rattle.lola_value.specs.declared.value.Kind.TheVariants as kind
-use Rattle.lola_value.specs.declared.value.Value.{Value}
-use Rattle.lola_value.specs.declared.value.Value.TheVariants as value
-use Rattle.lola_value.specs.Kinds.{is_integer, is_signed, is_of_kind}
-use Rattle.lola_value.specs.Arithmetic.{is_within}
-use Rattle.lola_model.specs.Typing.{Scope, same_kind, same_kinds, noted, noted_all, is_certain, is_certain_window, is_direct, is_total, takes, is_kind_at, target_in, is_reference, window_row, row_holds, prefix_row, binary_row, arithmetic_row, each_part, each_argument, part_is_typed, is_typed}
-use Rattle.lola_model.specs.Store.{kind_in, parameters_of, gives_kind}
+use Rattle.lola_value.specs.Kinds.{is_integer}
+use Rattle.lola_model.specs.Typing.{Scope, same_kind, noted, is_certain, binary_row, is_typed}
 use Rattle.lola_model.specs.declared.expr.Place.{Place}
-use Rattle.lola_model.specs.declared.expr.Access.{Access}
-use Rattle.lola_model.specs.declared.expr.Prefix.{Prefix}
-use Rattle.lola_model.specs.declared.expr.Prefix.TheVariants as prefix
 use Rattle.lola_model.specs.declared.expr.Binary.{Binary}
 use Rattle.lola_model.specs.declared.expr.Binary.TheVariants as binary
 use Rattle.lola_model.specs.declared.expr.Expr.{Expr}
-use Rattle.lola_model.specs.declared.expr.Expr.TheVariants.{Literal, Parameter, Read, Window, Defaults', Unary', Both', Choice'}
-use Rattle.lola_model.specs.declared.expr.Arguments.{Arguments}
-use Rattle.lola_model.specs.declared.expr.Arguments.TheVariants.{End, More'}
-use Rattle.lola_model.specs.declared.spec.WindowSpec.{WindowSpec}
+use Rattle.lola_model.specs.declared.expr.Expr.TheVariants.{Both'}
 use Rattle.lola_model.proofs.Build.{Around}
-use Rattle.lola_types.specs.Found.{Setting, found, found_all, is_broken, some_broken, joint, argument_fits, arguments_fit, of_kind, reference_part, known_window, window_part, window_at, literal_part, parameter_part, kind_found, parameters_at, window_parameters, a_truth, arithmetic_part, order_part, equality_part, connected_part, binary_part, prefix_part, defaults_part, choice_part}
-use Rattle.lola_types.specs.Refused.{taken, compared, where_it_holds, operand_kind, literal_refusals, sign_refusals, free_refusals, taking_refusals, own_refusals, argument_refusals, fitting_refusals, refusals_in, refusals_in_all, out_of_range, wrong_type}
-use Rattle.lola_types.specs.Filled.{note, note_part, settled, settled_if, filled, filled_all}
+use Rattle.lola_types.specs.Found.{is_broken, joint, a_truth, arithmetic_part, order_part, equality_part, connected_part, binary_part}
+use Rattle.lola_types.specs.Refused.{taken, compared, where_it_holds, operand_kind, free_refusals, taking_refusals}
+use Rattle.lola_types.specs.Filled.{note, note_part, settled, settled_if}
 use Rattle.lola_types.specs.declared.found.Found.{Found}
 use Rattle.lola_types.specs.declared.found.Found.TheVariants.{Of, Free, Unknown, Broken}
-use Rattle.lola_typed.proofs.Bools.{both, left_of, right_of, never, never_back, none_left, none_right, taken_where}
-use Rattle.lola_typed.proofs.Rows.{kind_is, same_self, same_where, signed_is_integer, is_ready, matches, is_sure, ready_unbroken, own_holds, neither, IsOneKind, one_kind, free_kind, arithmetic_joint, order_joint, equality_joint, defaults_joint, choice_joint, arithmetic_is, order_is, equality_is, defaults_is, choice_is, connected_is, signed_is, truth_is}
+use Rattle.lola_typed.proofs.Bools.{both, never_back, none_left, none_right}
+use Rattle.lola_typed.proofs.Rows.{kind_is, same_self, is_ready, matches, is_sure, IsOneKind, one_kind, free_kind, arithmetic_joint, order_joint, equality_joint, arithmetic_is, order_is, equality_is, connected_is}
 
 module _ (z : Scope) where
   -- an expression with the kinds of all its parts, itself of this kind, certain or optional

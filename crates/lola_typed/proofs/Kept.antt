@@ -1,33 +1,19 @@
 -- What a specification keeps when its kinds are filled in: names, numbers, windows and shapes.
-use Rattle.std.proofs.Common.{◌≡◌, ◌<◌, ◌≤◌, ℕ, zero, suc, ◌+◌, arith, refl, ap, sym, ◌∙◌, subst, Bool, true, false, not, ◌&&◌, ◌||◌, cond, if◌then◌else◌, List, [], ◌∷◌, ◌++◌, Option, Some, None, nat_eq, nat_le, nat_lt, length, slice_get, unwrap_or, drop, map}
-use Rattle.std.specs.Prelude.{filter}
+use Rattle.std.proofs.Common.{◌≡◌, ℕ, ◌+◌, refl, ap, sym, ◌∙◌, subst, Bool, true, false, ◌&&◌, List, [], ◌∷◌, ◌++◌, Option, Some, None, slice_get, unwrap_or, drop}
 use Rattle.lola_value.specs.declared.value.Kind.{Kind}
 use Rattle.lola_value.specs.declared.value.Kind.TheVariants as kind
-use Rattle.lola_model.specs.Accepted.{IsInRange, IsWhenInRange, IsWithInRange, IsClauseInRange, AreClausesInRange, AreTargetsInRange, IsSpecInRange}
-use Rattle.lola_model.specs.Model.{is_input}
-use Rattle.lola_model.specs.Named.{IsNamed, IsRanged, has_clause, count_with, is_condition, has_when, has_kind, is_of_bool, is_input_shape, is_output_shape, is_trigger_shape, is_well_shaped, has_few_parameters, all_streams, is_trigger, declared_names, is_read_of, is_resolved, whole_is_resolved, all_numbers, offset_in, window_number, is_window_of, windows_stand_here, literal_text, is_rate_in_range, is_pace_in_range, is_clause_paced_in_range, is_stream_paced_in_range}
-use Rattle.lola_model.specs.Parts.{listed, listed_when, listed_with, listed_clause, listed_stream, listed_streams, listed_spec}
-use Rattle.lola_model.specs.Typing.{each_part}
-use Rattle.lola_model.specs.Wholes.{Whole, condition_wholes, with_wholes, clause_wholes, stream_wholes, wholes_from, noted_kinds, wholes_of, all_wholes}
-use Rattle.lola_model.specs.declared.expr.Place.{Place}
+use Rattle.lola_model.specs.Accepted.{IsInRange, IsWhenInRange, IsWithInRange, IsClauseInRange, AreClausesInRange}
+use Rattle.lola_model.specs.Parts.{listed, listed_when, listed_with, listed_clause, listed_streams}
+use Rattle.lola_model.specs.Wholes.{Whole, condition_wholes, with_wholes, clause_wholes, stream_wholes, wholes_from, all_wholes}
 use Rattle.lola_model.specs.declared.expr.Expr.{Expr}
 use Rattle.lola_model.specs.declared.spec.Clause.{Clause}
-use Rattle.lola_model.specs.declared.spec.Pace.{Pace}
-use Rattle.lola_model.specs.declared.spec.Pace.TheVariants as pace
 use Rattle.lola_model.specs.declared.spec.Part.{Part}
 use Rattle.lola_model.specs.declared.spec.Part.TheVariants as part
-use Rattle.lola_model.specs.declared.spec.Sort.{Sort}
-use Rattle.lola_model.specs.declared.spec.Sort.TheVariants as sort
-use Rattle.lola_model.specs.declared.spec.Spec.{Spec}
 use Rattle.lola_model.specs.declared.spec.Stream.{Stream}
-use Rattle.lola_model.specs.declared.spec.WindowSpec.{WindowSpec}
 use Rattle.lola_types.specs.Found.{Setting, found}
-use Rattle.lola_types.specs.LeftOut.{kind_after, round_from, with_least, after_round, round, rounds, missing_kinds, kinds_of, declared_kinds, setting_of}
 use Rattle.lola_types.specs.Refused.{number_kind, with_parameters}
-use Rattle.lola_types.specs.Filled.{filled, filled_whole, SameTree, SamePace, FilledWhen, FilledWith, FilledClause, FilledClauses, FilledStream, FilledStreams, IsFilled, IsFilledBy}
-use Rattle.lola_types.proofs.RoundLemmas.{round_length, least_length}
-use Rattle.lola_typed.proofs.Bools.{both, left_of, right_of, never, never_back}
-use Rattle.lola_typed.proofs.Alike.{Alike, Any, same_alike, alike_each, alike_listed, alike_resolved, alike_offset, alike_window, alike_text, alike_range, alike_settled_if, alike_filled}
+use Rattle.lola_types.specs.Filled.{filled, filled_whole, SameTree, FilledWhen, FilledWith, FilledClauses, FilledStream, FilledStreams}
+use Rattle.lola_typed.proofs.Alike.{Alike, Any, same_alike, alike_listed, alike_range, alike_settled_if, alike_filled}
 
 -- an expression and what it is filled in to, with other boxes
 abbrev pub IsKept : Expr → Expr → Type 0
@@ -168,10 +154,11 @@ module _ (S W : ℕ) where
 
   pub streams_range : (s : Setting) (kinds : List (Option Kind)) (as' bs : List Stream) → FilledStreams s kinds as' bs → AreClausesInRange S W as' → AreClausesInRange S W bs
   streams_range s kinds [] [] h r = tt
-  streams_range s kinds (a ∷ as') (b ∷ bs) h r =
-      (clause_range (with_parameters s []) a.parameters a.spawn b.spawn h.0.spawn r.0,
-      clause_range (with_parameters s a.parameters) (unwrap_or (unwrap_or (slice_get kinds 0) None) kind.Int64 ∷ []) a.eval b.eval h.0.eval r.1,
-      clause_range (with_parameters s a.parameters) [] a.close b.close h.0.close r.2,
-      streams_range s (drop 1 kinds) as' bs h.1 r.3)
+  streams_range s kinds (a ∷ as') (b ∷ bs) h r = (
+    clause_range (with_parameters s []) a.parameters a.spawn b.spawn h.0.spawn r.0,
+    clause_range (with_parameters s a.parameters) (unwrap_or (unwrap_or (slice_get kinds 0) None) kind.Int64 ∷ []) a.eval b.eval h.0.eval r.1,
+    clause_range (with_parameters s a.parameters) [] a.close b.close h.0.close r.2,
+    streams_range s (drop 1 kinds) as' bs h.1 r.3,
+  )
   streams_range s kinds [] (b ∷ bs) h r = absurd h
   streams_range s kinds (a ∷ as') [] h r = absurd h

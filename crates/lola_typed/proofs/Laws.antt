@@ -1,16 +1,14 @@
 -- A specification whose kinds are filled in is named, and typed where nothing of it is refused.
-use Rattle.std.proofs.Common.{◌≡◌, ◌<◌, ◌≤◌, ℕ, refl, ap, sym, ◌∙◌, subst, Bool, true, false, List, [], ◌∷◌, ◌++◌, Option, Some, None, nat_lt, nat_le, length, slice_get, flat_map}
-use Rattle.std.specs.Prelude.{filter}
+use Rattle.std.proofs.Common.{◌≡◌, ◌<◌, ◌≤◌, ℕ, refl, ap, sym, ◌∙◌, subst, true, List, [], ◌∷◌, ◌++◌, Option, nat_lt, nat_le, length, slice_get, flat_map}
 use Rattle.std.specs.List.{Contains}
 use Rattle.lola_value.specs.declared.value.Kind.{Kind}
 use Rattle.lola_model.specs.Accepted.{AreClausesInRange, AreTargetsInRange, IsSpecInRange}
-use Rattle.lola_model.specs.Model.{is_input}
 use Rattle.lola_model.specs.Named.{IsNamed, IsRanged, are_distinct, is_resolved, whole_is_resolved, all_numbers, offset_in, window_number, is_window_of, windows_stand_here, literal_text, counted, is_span, all_windows}
 use Rattle.lola_model.specs.Parts.{listed, listed_spec}
 use Rattle.lola_model.specs.Store.{layouts_from}
 use Rattle.lola_model.specs.Typed.{IsTyped, all_constants, constant_is_typed}
 use Rattle.lola_model.specs.Typing.{is_kind_at, is_whole}
-use Rattle.lola_model.specs.Wholes.{Whole, wholes_from, noted_kinds, wholes_of, all_wholes}
+use Rattle.lola_model.specs.Wholes.{wholes_from, noted_kinds, wholes_of, all_wholes}
 use Rattle.lola_model.specs.declared.expr.Expr.{Expr}
 use Rattle.lola_model.specs.declared.spec.Part.{Part}
 use Rattle.lola_model.specs.declared.spec.Spec.{Spec}
@@ -113,8 +111,8 @@ module _ (spec full : Spec) (h : IsFilled spec full) where
       let r2 : of_wholes ++ range_refusals spec.refused ≡ [] = none_right of_constants (of_wholes ++ range_refusals spec.refused) r in
       let none : spec.refused ≡ [] = none_in_range spec.refused (none_right of_wholes (range_refusals spec.refused) r2) in
       let typed = streams_typed spec kinds (layouts_from full.streams []) (agreeing base kinds spec.streams full.streams h.streams (all_found spec)) (constant_fits spec.constants constants_fit)
-          0 kinds (noted_kinds spec.streams) spec.streams full.streams h.streams (none_left of_wholes (range_refusals spec.refused) r2)
-          (wholes_both (whole_is_resolved spec) (whole_is_known spec) (wholes_of spec) n.resolved c) in
+      0 kinds (noted_kinds spec.streams) spec.streams full.streams h.streams (none_left of_wholes (range_refusals spec.refused) r2)
+      (wholes_both (whole_is_resolved spec) (whole_is_known spec) (wholes_of spec) n.resolved c) in
       record {
         kinds = kinds_noted base kinds spec.streams full.streams h.streams;
         typed = subst (λ ws. all_wholes (λ w. is_whole (record { streams = layouts_from full.streams []; windows = ws; has_parameter = is_kind_at w.parameters }) w.want w.expr) (wholes_of full) ≡ true) (sym h.windows) typed;

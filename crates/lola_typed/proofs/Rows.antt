@@ -1,16 +1,15 @@
 -- What a row gives, where its operands have kinds or are free and nothing is refused.
-use Rattle.std.proofs.Common.{◌≡◌, ℕ, zero, suc, refl, ap, sym, ◌∙◌, subst, Bool, true, false, not, ◌&&◌, ◌||◌, if◌then◌else◌, List, [], ◌∷◌, nat_eq, Option, Some, None}
+use Rattle.std.proofs.Common.{◌≡◌, ℕ, zero, suc, refl, ap, sym, ◌∙◌, subst, Bool, true, false, ◌&&◌, ◌||◌, if◌then◌else◌, []}
 use Rattle.std.proofs.lemmas.Bool.{eqb-true, eq-eqb}
-use Rattle.lola_value.specs.declared.front.Refusal.{Refusal}
 use Rattle.lola_value.specs.declared.value.Kind.{Kind}
 use Rattle.lola_value.specs.declared.value.Kind.TheVariants as kind
 use Rattle.lola_value.specs.Kinds.{is_integer, is_signed, kind_number}
 use Rattle.lola_model.specs.Typing.{same_kind}
-use Rattle.lola_types.specs.Found.{is_broken, is_unknown, joint, with_kind, with_free, certain_part, integer_part, signed_part, truth_part, unless_broken, made_certain, by_row, by_two, a_truth, arithmetic_part, order_part, equality_part, connected_part, defaults_part, choice_part}
+use Rattle.lola_types.specs.Found.{is_broken, is_unknown, joint, certain_part, integer_part, signed_part, truth_part, unless_broken, made_certain, by_row, by_two, a_truth, arithmetic_part, order_part, equality_part, connected_part, defaults_part, choice_part}
 use Rattle.lola_types.specs.Refused.{own_refusals}
 use Rattle.lola_types.specs.declared.found.Found.{Found}
 use Rattle.lola_types.specs.declared.found.Found.TheVariants.{Of, Free, Unknown, Broken}
-use Rattle.lola_typed.proofs.Bools.{both, left_of, right_of, never, never_back}
+use Rattle.lola_typed.proofs.Bools.{left_of, right_of, never, never_back}
 
 -- kinds by their numbers
 

@@ -1,36 +1,23 @@
 -- Expressions of which nothing is refused, part by part.
-use Rattle.std.proofs.Common.{◌≡◌, ℕ, zero, suc, refl, ap, sym, ◌∙◌, subst, Bool, true, false, not, ◌&&◌, ◌||◌, if◌then◌else◌, List, [], ◌∷◌, ◌++◌, Option, Some, None, nat_lt, length, slice_get, unwrap_or, drop}
+use Rattle.std.proofs.Common.{◌≡◌, refl, ap, sym, subst, Bool, true, false, []}
 use Rattle.lola_value.specs.declared.value.Kind.{Kind}
 use Rattle.lola_value.specs.declared.value.Kind.TheVariants as kind
-use Rattle.lola_value.specs.declared.value.Value.{Value}
-use Rattle.lola_value.specs.declared.value.Value.TheVariants as value
-use Rattle.lola_value.specs.Kinds.{is_integer, is_signed, is_of_kind}
-use Rattle.lola_value.specs.Arithmetic.{is_within}
-use Rattle.lola_model.specs.Named.{is_read_of, is_window_onto, is_resolved}
-use Rattle.lola_model.specs.Typing.{Scope, same_kind, same_kinds, noted, noted_all, is_certain, is_certain_window, is_direct, is_total, takes, is_kind_at, target_in, is_reference, window_row, row_holds, prefix_row, each_part, each_argument, part_is_typed, is_typed, count_of}
-use Rattle.lola_model.specs.Store.{StreamLayout, kind_in, parameters_of, gives_kind}
+use Rattle.lola_value.specs.Kinds.{is_signed}
+use Rattle.lola_model.specs.Typing.{Scope, noted, prefix_row}
 use Rattle.lola_model.specs.declared.expr.Place.{Place}
-use Rattle.lola_model.specs.declared.expr.Access.{Access}
 use Rattle.lola_model.specs.declared.expr.Prefix.{Prefix}
 use Rattle.lola_model.specs.declared.expr.Prefix.TheVariants as prefix
 use Rattle.lola_model.specs.declared.expr.Expr.{Expr}
-use Rattle.lola_model.specs.declared.expr.Expr.TheVariants.{Literal, Parameter, Read, Window, Defaults', Unary', Both', Choice'}
-use Rattle.lola_model.specs.declared.expr.Arguments.{Arguments}
-use Rattle.lola_model.specs.declared.expr.Arguments.TheVariants.{End, More'}
-use Rattle.lola_model.specs.declared.spec.Spec.{Spec}
-use Rattle.lola_model.specs.declared.spec.Stream.{Stream}
-use Rattle.lola_model.specs.declared.spec.WindowSpec.{WindowSpec}
+use Rattle.lola_model.specs.declared.expr.Expr.TheVariants.{Defaults', Unary', Choice'}
 use Rattle.lola_model.proofs.Build.{Around}
-use Rattle.lola_types.specs.Found.{Setting, found, found_all, is_broken, some_broken, joint, argument_fits, arguments_fit, of_kind, reference_part, known_window, window_part, window_at, literal_part, parameter_part, kind_found, parameters_at, window_parameters, a_truth, binary_part, prefix_part, truth_part, signed_part, defaults_part, choice_part}
-use Rattle.lola_types.specs.LeftOut.{setting_of}
-use Rattle.lola_types.specs.Refused.{taken, operand_kind, literal_refusals, sign_refusals, free_refusals, taking_refusals, own_refusals, argument_refusals, fitting_refusals, refusals_in, refusals_in_all}
-use Rattle.lola_types.specs.Filled.{note, note_part, settled, settled_if, filled, filled_all}
+use Rattle.lola_types.specs.Found.{is_broken, prefix_part, defaults_part, choice_part}
+use Rattle.lola_types.specs.Refused.{taken, sign_refusals, free_refusals, taking_refusals}
+use Rattle.lola_types.specs.Filled.{note, note_part, settled, settled_if}
 use Rattle.lola_types.specs.declared.found.Found.{Found}
 use Rattle.lola_types.specs.declared.found.Found.TheVariants.{Of, Free, Unknown, Broken}
-use Rattle.lola_typed.specs.Constants.{is_constant, is_constant_if_noted, literal_is_known}
-use Rattle.lola_typed.proofs.Bools.{both, left_of, right_of, never, never_back, none_left, none_right, taken_where}
-use Rattle.lola_typed.proofs.Rows.{kind_is, same_self, same_where, is_ready, matches, is_sure, ready_unbroken, own_holds, neither, IsOneKind, one_kind, free_kind, defaults_joint, choice_joint, defaults_is, choice_is, signed_is, truth_is, truth_where}
-use Rattle.lola_typed.proofs.Holds.{Fits, Holds, ready, fits_at, operand, sure_operand, binary_holds}
+use Rattle.lola_typed.proofs.Bools.{both, never, never_back, none_left, none_right, taken_where}
+use Rattle.lola_typed.proofs.Rows.{kind_is, same_self, same_where, matches, is_sure, IsOneKind, one_kind, free_kind, defaults_joint, choice_joint, defaults_is, choice_is, signed_is, truth_is, truth_where}
+use Rattle.lola_typed.proofs.Holds.{Fits, Holds, ready, fits_at, operand, sure_operand}
 
 module _ (z : Scope) where
   truth_fits : (x : Found) (e m : Expr) → Holds z x e m → matches kind.Bool x ≡ true → is_sure x ≡ true → Fits z kind.Bool true m

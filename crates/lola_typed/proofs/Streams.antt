@@ -1,10 +1,10 @@
 -- What each stream keeps when its kind is filled in.
-use Rattle.std.proofs.Common.{◌≡◌, ◌<◌, ◌≤◌, ℕ, zero, suc, ◌+◌, arith, refl, ap, sym, ◌∙◌, subst, Bool, true, false, not, ◌&&◌, ◌||◌, cond, if◌then◌else◌, List, [], ◌∷◌, ◌++◌, Option, Some, None, nat_eq, nat_le, nat_lt, length, slice_get, unwrap_or, drop, map}
+use Rattle.std.proofs.Common.{◌≡◌, ℕ, zero, suc, arith, refl, ap, sym, ◌∙◌, subst, Bool, true, false, not, ◌&&◌, ◌||◌, cond, if◌then◌else◌, List, [], ◌∷◌, Option, Some, None, nat_eq, nat_le, length, slice_get, unwrap_or, drop}
 use Rattle.std.specs.Prelude.{filter}
 use Rattle.lola_value.specs.declared.value.Kind.{Kind}
 use Rattle.lola_value.specs.declared.value.Kind.TheVariants as kind
 use Rattle.lola_model.specs.Model.{is_input}
-use Rattle.lola_model.specs.Named.{has_clause, count_with, is_condition, has_when, has_kind, is_of_bool, is_input_shape, is_output_shape, is_trigger_shape, is_well_shaped, has_few_parameters, all_streams, is_trigger, declared_names, is_read_of, is_rate_in_range, is_pace_in_range, is_clause_paced_in_range, is_stream_paced_in_range}
+use Rattle.lola_model.specs.Named.{has_clause, count_with, is_condition, has_when, has_kind, is_of_bool, is_well_shaped, has_few_parameters, all_streams, is_trigger, declared_names, is_read_of, is_rate_in_range, is_pace_in_range, is_clause_paced_in_range, is_stream_paced_in_range}
 use Rattle.lola_model.specs.declared.expr.Expr.{Expr}
 use Rattle.lola_model.specs.declared.spec.Clause.{Clause}
 use Rattle.lola_model.specs.declared.spec.Pace.{Pace}
@@ -14,9 +14,9 @@ use Rattle.lola_model.specs.declared.spec.Sort.TheVariants as sort
 use Rattle.lola_model.specs.declared.spec.Spec.{Spec}
 use Rattle.lola_model.specs.declared.spec.Stream.{Stream}
 use Rattle.lola_types.specs.Found.{Setting}
-use Rattle.lola_types.specs.LeftOut.{kind_after, round_from, with_least, after_round, round, rounds, missing_kinds, kinds_of, declared_kinds}
+use Rattle.lola_types.specs.LeftOut.{kind_after, round_from, with_least, rounds, missing_kinds, kinds_of, declared_kinds}
 use Rattle.lola_types.specs.Refused.{with_parameters}
-use Rattle.lola_types.specs.Filled.{SamePace, FilledWhen, FilledWith, FilledClause, FilledClauses, FilledStream, FilledStreams}
+use Rattle.lola_types.specs.Filled.{SamePace, FilledWhen, FilledWith, FilledClauses, FilledStream, FilledStreams}
 use Rattle.lola_types.proofs.RoundLemmas.{round_length, least_length}
 use Rattle.lola_typed.proofs.Bools.{both, left_of, right_of, never, never_back}
 

@@ -1,8 +1,7 @@
 -- Whole expressions, clauses and streams with their kinds filled in are typed.
-use Rattle.std.proofs.lemmas.Bool.{ltb-true, lt-ltb}
+use Rattle.std.proofs.lemmas.Bool.{lt-ltb}
 use Rattle.std.proofs.lemmas.Grind.{flat_map-append}
-use Rattle.std.proofs.Common.{◌≡◌, ◌<◌, ℕ, zero, suc, ◌+◌, arith, refl, ap, sym, ◌∙◌, subst, Bool, true, false, not, ◌&&◌, ◌||◌, if◌then◌else◌, List, [], ◌∷◌, ◌++◌, Option, Some, None, nat_lt, length, slice_get, unwrap_or, drop, flat_map}
-use Rattle.lola_value.specs.declared.front.Refusal.{Refusal}
+use Rattle.std.proofs.Common.{◌≡◌, ◌<◌, ℕ, zero, suc, ◌+◌, arith, refl, ap, sym, ◌∙◌, subst, Bool, true, false, ◌&&◌, ◌||◌, if◌then◌else◌, List, [], ◌∷◌, ◌++◌, Option, Some, None, nat_lt, length, slice_get, unwrap_or, drop, flat_map}
 use Rattle.lola_value.specs.declared.value.Kind.{Kind}
 use Rattle.lola_value.specs.declared.value.Kind.TheVariants as kind
 use Rattle.lola_value.specs.declared.value.Value.{Value}
@@ -10,11 +9,11 @@ use Rattle.lola_value.specs.declared.value.Value.TheVariants as value
 use Rattle.lola_value.specs.Kinds.{is_integer, is_bool, is_text, is_of_kind, values_same}
 use Rattle.lola_value.specs.Arithmetic.{is_within}
 use Rattle.lola_value.proofs.ParamsLemmas.{same_values}
-use Rattle.lola_model.specs.Named.{is_read_of, is_resolved, whole_is_resolved, all_streams, has_kind}
-use Rattle.lola_model.specs.Typed.{whole_is_typed, scope_in, constant_is_typed, all_constants}
-use Rattle.lola_model.specs.Typing.{Scope, same_kind, noted, is_certain, is_kind_at, each_part, each_argument, part_is_typed, is_typed, is_whole}
+use Rattle.lola_model.specs.Named.{is_read_of, is_resolved, whole_is_resolved}
+use Rattle.lola_model.specs.Typed.{constant_is_typed, all_constants}
+use Rattle.lola_model.specs.Typing.{Scope, same_kind, noted, is_kind_at, each_part, each_argument, part_is_typed, is_whole}
 use Rattle.lola_model.specs.Store.{StreamLayout, layouts_from, kind_in, parameters_of}
-use Rattle.lola_model.specs.Wholes.{Whole, condition_wholes, with_wholes, clause_wholes, stream_wholes, wholes_from, noted_kinds, wholes_of, all_wholes}
+use Rattle.lola_model.specs.Wholes.{Whole, condition_wholes, with_wholes, clause_wholes, stream_wholes, wholes_from, noted_kinds, all_wholes}
 use Rattle.lola_model.specs.declared.expr.Expr.{Expr}
 use Rattle.lola_model.specs.declared.expr.Expr.TheVariants.{Literal, Parameter, Read, Window, Defaults', Unary', Both', Choice'}
 use Rattle.lola_model.specs.declared.expr.Arguments.{Arguments}
@@ -25,19 +24,18 @@ use Rattle.lola_model.specs.declared.spec.Part.{Part}
 use Rattle.lola_model.specs.declared.spec.Part.TheVariants as part
 use Rattle.lola_model.specs.declared.spec.Spec.{Spec}
 use Rattle.lola_model.specs.declared.spec.Stream.{Stream}
-use Rattle.lola_model.specs.declared.spec.WindowSpec.{WindowSpec}
-use Rattle.lola_types.specs.Found.{Setting, found, literal_part, kind_found, parameters_at, stream_parameters}
+use Rattle.lola_types.specs.Found.{Setting, found, literal_part, stream_parameters}
 use Rattle.lola_types.specs.LeftOut.{setting_of, missing_kinds}
-use Rattle.lola_types.specs.Refused.{taking_refusals, wanted_refusals, number_kind, literal_refusals, taken_literal, whole_refusals, refusals_in, constant_refusals, with_parameters, refusals_of_whole}
-use Rattle.lola_types.specs.Filled.{settled_if, filled, filled_whole, SameTree, FilledWhen, FilledWith, FilledClause, FilledClauses, FilledStream, FilledStreams}
+use Rattle.lola_types.specs.Refused.{taking_refusals, wanted_refusals, number_kind, taken_literal, whole_refusals, refusals_in, constant_refusals, refusals_of_whole}
+use Rattle.lola_types.specs.Filled.{settled_if, filled, filled_whole, SameTree, FilledWhen, FilledWith, FilledClauses, FilledStream, FilledStreams}
 use Rattle.lola_types.specs.declared.found.Found.{Found}
 use Rattle.lola_types.specs.declared.found.Found.TheVariants.{Of, Free, Unknown, Broken}
 use Rattle.lola_typed.specs.Constants.{is_constant, literal_is_known, whole_is_known}
-use Rattle.lola_typed.proofs.Bools.{both, left_of, right_of, never, never_back, none_left, none_right, taken_where}
-use Rattle.lola_typed.proofs.Rows.{kind_is, same_self, same_where, is_sure}
+use Rattle.lola_typed.proofs.Bools.{both, left_of, right_of, never_back, none_left, none_right, taken_where}
+use Rattle.lola_typed.proofs.Rows.{kind_is, same_where}
 use Rattle.lola_typed.proofs.Holds.{Fits, Holds, fits_at, operand}
-use Rattle.lola_typed.proofs.Expressions.{is_good, sound}
-use Rattle.lola_typed.proofs.Alike.{Alike, Equal, same_alike, alike_each, equal_noted, equal_certain, equal_typed}
+use Rattle.lola_typed.proofs.Expressions.{sound}
+use Rattle.lola_typed.proofs.Alike.{Equal, same_alike, alike_each, equal_noted, equal_certain, equal_typed}
 
 -- a part that passes two tests
 
@@ -183,9 +181,8 @@ module _ (z : Scope) (want : Kind) (at : ℕ) where
 
 module _ (spec : Spec) (kinds : List (Option Kind)) (ls : List StreamLayout)
     (agree : (n : ℕ) (count : ℕ) → is_read_of (slice_get spec.streams n) count ≡ true
-        → (nat_lt n (length ls) ≡ true) × (unwrap_or (slice_get kinds n) (Some kind.Int64) ≡ Some (kind_in (slice_get ls n))) × (parameters_of (slice_get ls n) ≡ stream_parameters (slice_get spec.streams n)))
+    → (nat_lt n (length ls) ≡ true) × (unwrap_or (slice_get kinds n) (Some kind.Int64) ≡ Some (kind_in (slice_get ls n))) × (parameters_of (slice_get ls n) ≡ stream_parameters (slice_get spec.streams n)))
     (fitting : (k : Kind) (v : Value) → is_constant spec.constants k v ≡ true → is_of_kind k v ≡ true) where
-
   abbrev pub scope_of : List Kind → Scope
   scope_of ks = record { streams = ls; windows = spec.windows; has_parameter = is_kind_at ks }
 
