@@ -8,3 +8,4 @@ pub mod Typed
 pub mod Kept
 pub mod Streams
 pub mod Laws
+mod Corners
