@@ -1,5 +1,5 @@
 -- Expressions that differ in what their parts note and in the addresses of their boxes alone.
-use Rattle.std.proofs.Common.{◌<◌, ◌≡◌, ℕ, refl, ap, ◌∙◌, subst, Bool, ◌&&◌, List, [], ◌∷◌, ◌++◌, Option, Some, None, slice_get, drop, nat_lt, length, ◌+◌}
+use Rattle.std.proofs.Common.{◌<◌, ◌≡◌, ℕ, refl, ap, ◌∙◌, subst, Bool, ◌&&◌, List, [], ◌∷◌, Option, Some, None, slice_get, drop, nat_lt, length, ◌+◌}
 use Rattle.lola_value.specs.declared.value.Kind.{Kind}
 use Rattle.lola_value.specs.declared.value.Kind.TheVariants as kind
 use Rattle.lola_value.specs.Kinds.{is_of_kind}
@@ -20,6 +20,7 @@ use Rattle.lola_model.specs.declared.spec.WindowSpec.{WindowSpec}
 use Rattle.lola_types.specs.Found.{Setting, found, parameters_at, window_parameters, joint}
 use Rattle.lola_types.specs.Refused.{taken, operand_kind}
 use Rattle.lola_types.specs.Filled.{settled, settled_if, filled, filled_all, SameTree, SameArguments}
+use Rattle.lola_typed.proofs.Bools.{and_same, append_same}
 use Rattle.lola_types.specs.declared.found.Found.{Found}
 use Rattle.lola_types.specs.declared.found.Found.TheVariants.{Of, Free, Unknown, Broken}
 
@@ -42,9 +43,6 @@ module _ (R : Place → Place → Type 0) where
     AlikeAll (More' u a v rest) (More' x c y more) = Alike a c × AlikeAll rest more
     AlikeAll _ _ = ⊥
 
-  and_same : (a b c d : Bool) → a ≡ c → b ≡ d → (a && b) ≡ (c && d)
-  and_same a b c d p q = ap (λ x. x && b) p ∙ ap (λ x. c && x) q
-
   module _ (t t2 : Expr → Bool) (same : (e f : Expr) → Alike e f → t e ≡ t2 f) where
     mutual
       -- tests that agree on parts that are alike agree on the whole
@@ -65,25 +63,22 @@ module _ (R : Place → Place → Type 0) where
       alike_each_all _ _ h = absurd h
 
   module _ (A : Type 0) (t : Expr → List A) (same : (e f : Expr) → Alike e f → t e ≡ t f) where
-    lists_same : (a b c d : List A) → a ≡ c → b ≡ d → (a ++ b) ≡ (c ++ d)
-    lists_same a b c d p q = ap (λ x. x ++ b) p ∙ ap (λ x. c ++ x) q
-
     mutual
       -- .. and list the same
       pub alike_listed : (e f : Expr) → Alike e f → listed t e ≡ listed t f
       alike_listed (Literal p v) (Literal q w) h = same (Literal p v) (Literal q w) h
       alike_listed (Parameter p i) (Parameter q j) h = same (Parameter p i) (Parameter q j) h
-      alike_listed (Read p n how args) (Read q m why brgs) h = lists_same _ _ _ _ (same (Read p n how args) (Read q m why brgs) h) (alike_listed_all args brgs h.3)
-      alike_listed (Window p n args) (Window q m brgs) h = lists_same _ _ _ _ (same (Window p n args) (Window q m brgs) h) (alike_listed_all args brgs h.2)
-      alike_listed (Defaults' p u a v b) (Defaults' q x c y d) h = lists_same _ _ _ _ (same (Defaults' p u a v b) (Defaults' q x c y d) h) (lists_same _ _ _ _ (alike_listed a c h.1) (alike_listed b d h.2))
-      alike_listed (Unary' p s u a) (Unary' q r x c) h = lists_same _ _ _ _ (same (Unary' p s u a) (Unary' q r x c) h) (alike_listed a c h.2)
-      alike_listed (Both' p s u a v b) (Both' q r x c y d) h = lists_same _ _ _ _ (same (Both' p s u a v b) (Both' q r x c y d) h) (lists_same _ _ _ _ (alike_listed a c h.2) (alike_listed b d h.3))
-      alike_listed (Choice' p u a v b w e) (Choice' q x c y d z f) h = lists_same _ _ _ _ (same (Choice' p u a v b w e) (Choice' q x c y d z f) h) (lists_same _ _ _ _ (alike_listed a c h.1) (lists_same _ _ _ _ (alike_listed b d h.2) (alike_listed e f h.3)))
+      alike_listed (Read p n how args) (Read q m why brgs) h = append_same _ _ _ _ (same (Read p n how args) (Read q m why brgs) h) (alike_listed_all args brgs h.3)
+      alike_listed (Window p n args) (Window q m brgs) h = append_same _ _ _ _ (same (Window p n args) (Window q m brgs) h) (alike_listed_all args brgs h.2)
+      alike_listed (Defaults' p u a v b) (Defaults' q x c y d) h = append_same _ _ _ _ (same (Defaults' p u a v b) (Defaults' q x c y d) h) (append_same _ _ _ _ (alike_listed a c h.1) (alike_listed b d h.2))
+      alike_listed (Unary' p s u a) (Unary' q r x c) h = append_same _ _ _ _ (same (Unary' p s u a) (Unary' q r x c) h) (alike_listed a c h.2)
+      alike_listed (Both' p s u a v b) (Both' q r x c y d) h = append_same _ _ _ _ (same (Both' p s u a v b) (Both' q r x c y d) h) (append_same _ _ _ _ (alike_listed a c h.2) (alike_listed b d h.3))
+      alike_listed (Choice' p u a v b w e) (Choice' q x c y d z f) h = append_same _ _ _ _ (same (Choice' p u a v b w e) (Choice' q x c y d z f) h) (append_same _ _ _ _ (alike_listed a c h.1) (append_same _ _ _ _ (alike_listed b d h.2) (alike_listed e f h.3)))
       alike_listed _ _ h = absurd h
 
       alike_listed_all : (args brgs : Arguments) → AlikeAll args brgs → listed_all t args ≡ listed_all t brgs
       alike_listed_all End End h = refl
-      alike_listed_all (More' u a v rest) (More' x c y more) h = lists_same _ _ _ _ (alike_listed a c h.0) (alike_listed_all rest more h.1)
+      alike_listed_all (More' u a v rest) (More' x c y more) h = append_same _ _ _ _ (alike_listed a c h.0) (alike_listed_all rest more h.1)
       alike_listed_all _ _ h = absurd h
 
   alike_count : (args brgs : Arguments) → AlikeAll args brgs → count_of args ≡ count_of brgs

@@ -1,15 +1,13 @@
 -- Small specifications on which the laws' premises are tried.
-use Rattle.std.proofs.Common.{◌≡◌, ◌<◌, ◌≤◌, ℕ, List, [], ◌∷◌, Option, Some, None, pos, refl, true, false, arith}
+use Rattle.std.proofs.Common.{◌≡◌, ℕ, List, [], ◌∷◌, Option, Some, None, pos, refl, arith}
 use Rattle.lola_value.specs.declared.value.Kind.{Kind}
 use Rattle.lola_value.specs.declared.value.Kind.TheVariants as kind
 use Rattle.lola_value.specs.declared.value.Value.TheVariants as value
 use Rattle.lola_model.specs.Named.{IsNamed}
 use Rattle.lola_model.specs.Typed.{IsTyped}
-use Rattle.lola_model.specs.declared.expr.Place.{Place}
 use Rattle.lola_model.specs.declared.expr.Binary.TheVariants as binary
 use Rattle.lola_model.specs.declared.expr.Expr.{Expr}
 use Rattle.lola_model.specs.declared.expr.Expr.TheVariants.{Literal, Both'}
-use Rattle.lola_model.specs.declared.spec.Clause.{Clause}
 use Rattle.lola_model.specs.declared.spec.Constant.{Constant}
 use Rattle.lola_model.specs.declared.spec.Spec.{Spec}
 use Rattle.lola_model.specs.declared.spec.Stream.{Stream}
@@ -68,17 +66,20 @@ stray_named = record {
 
 stray_filled : IsFilled stray stray
 stray_filled = record {
-  streams = (record {
-    name = refl;
-    place = refl;
-    sort = refl;
-    message = refl;
-    kind = refl;
-    parameters = refl;
-    spawn = tt;
-    eval = record { place = refl; pacing = tt; condition = tt; condition_place = refl; expressions = ((refl, refl), tt); places = refl };
-    close = tt;
-  }, tt);
+  streams = (
+    record {
+      name = refl;
+      place = refl;
+      sort = refl;
+      message = refl;
+      kind = refl;
+      parameters = refl;
+      spawn = tt;
+      eval = record { place = refl; pacing = tt; condition = tt; condition_place = refl; expressions = ((refl, refl), tt); places = refl };
+      close = tt;
+    },
+    tt,
+  );
   constants = refl;
   windows = refl;
   texts = refl;

@@ -14,6 +14,7 @@ use Rattle.lola_types.specs.Found.{Setting, found}
 use Rattle.lola_types.specs.Refused.{number_kind, with_parameters}
 use Rattle.lola_types.specs.Filled.{filled, filled_whole, SameTree, FilledWhen, FilledWith, FilledClauses, FilledStream, FilledStreams}
 use Rattle.lola_typed.proofs.Alike.{Alike, Any, same_alike, alike_listed, alike_range, alike_settled_if, alike_filled}
+use Rattle.lola_typed.proofs.Bools.{and_same, append_same}
 
 -- an expression and what it is filled in to, with other boxes
 abbrev pub IsKept : Expr → Expr → Type 0
@@ -28,9 +29,6 @@ module _ (A : Type 0) (t : Expr → List A) (same : (e f : Expr) → Alike Any e
   pub kept_listed : (e f : Expr) → IsKept e f → listed t e ≡ listed t f
   kept_listed e f k = alike_listed Any A t same e k.0 k.1 ∙ alike_listed Any A t same k.0 f k.2
 
-  join_same : (a b c d : List A) → a ≡ c → b ≡ d → (a ++ b) ≡ (c ++ d)
-  join_same a b c d p q = ap (λ x. x ++ b) p ∙ ap (λ x. c ++ x) q
-
   listed_when_kept : (s : Setting) (o q : Option Expr) → FilledWhen s o q → listed_when t o ≡ listed_when t q
   listed_when_kept s None None h = refl
   listed_when_kept s (Some e) (Some f) h = kept_listed e f (kept_whole s kind.Bool e f h)
@@ -39,13 +37,13 @@ module _ (A : Type 0) (t : Expr → List A) (same : (e f : Expr) → Alike Any e
 
   listed_with_kept : (s : Setting) (wants : List Kind) (es fs : List Expr) → FilledWith s wants es fs → listed_with t es ≡ listed_with t fs
   listed_with_kept s wants [] [] h = refl
-  listed_with_kept s wants (e ∷ es) (f ∷ fs) h = join_same _ _ _ _ (kept_listed e f (kept_whole s (unwrap_or (slice_get wants 0) kind.Int64) e f h.0)) (listed_with_kept s (drop 1 wants) es fs h.1)
+  listed_with_kept s wants (e ∷ es) (f ∷ fs) h = append_same _ _ _ _ (kept_listed e f (kept_whole s (unwrap_or (slice_get wants 0) kind.Int64) e f h.0)) (listed_with_kept s (drop 1 wants) es fs h.1)
   listed_with_kept s wants [] (f ∷ fs) h = absurd h
   listed_with_kept s wants (e ∷ es) [] h = absurd h
 
   listed_clause_kept : (s : Setting) (wants : List Kind) (o q : Option Clause) → FilledClauses s wants o q → listed_clause t o ≡ listed_clause t q
   listed_clause_kept s wants None None h = refl
-  listed_clause_kept s wants (Some c) (Some d) h = join_same _ _ _ _ (listed_when_kept s c.when d.when h.condition) (listed_with_kept s wants c.with d.with h.expressions)
+  listed_clause_kept s wants (Some c) (Some d) h = append_same _ _ _ _ (listed_when_kept s c.when d.when h.condition) (listed_with_kept s wants c.with d.with h.expressions)
   listed_clause_kept s wants None (Some d) h = absurd h
   listed_clause_kept s wants (Some c) None h = absurd h
 
@@ -53,9 +51,9 @@ module _ (A : Type 0) (t : Expr → List A) (same : (e f : Expr) → Alike Any e
   listed_streams_kept s kinds [] [] h = refl
   listed_streams_kept s kinds (a ∷ as') (b ∷ bs) h =
       let k = unwrap_or (unwrap_or (slice_get kinds 0) None) kind.Int64 in
-      join_same _ _ _ _
-      (join_same _ _ _ _ (listed_clause_kept (with_parameters s []) a.parameters a.spawn b.spawn h.0.spawn)
-      (join_same _ _ _ _ (listed_clause_kept (with_parameters s a.parameters) (k ∷ []) a.eval b.eval h.0.eval)
+      append_same _ _ _ _
+      (append_same _ _ _ _ (listed_clause_kept (with_parameters s []) a.parameters a.spawn b.spawn h.0.spawn)
+      (append_same _ _ _ _ (listed_clause_kept (with_parameters s a.parameters) (k ∷ []) a.eval b.eval h.0.eval)
       (listed_clause_kept (with_parameters s a.parameters) [] a.close b.close h.0.close)))
       (listed_streams_kept s (drop 1 kinds) as' bs h.1)
   listed_streams_kept s kinds [] (b ∷ bs) h = absurd h
@@ -66,9 +64,6 @@ module _ (A : Type 0) (t : Expr → List A) (same : (e f : Expr) → Alike Any e
 abbrev whole : ℕ → Part → List Kind → Kind → ℕ → Expr → Whole
 whole n p ks want at e = record { stream = n; clause = p; parameters = ks; want = want; before = at; expr = e }
 
-and_same : (a b c d : Bool) → a ≡ c → b ≡ d → (a && b) ≡ (c && d)
-and_same a b c d p q = ap (λ x. x && b) p ∙ ap (λ x. c && x) q
-
 and_assoc : (a b c : Bool) → (a && b) && c ≡ (a && (b && c))
 and_assoc true b c = refl
 and_assoc false b c = refl
@@ -78,8 +73,8 @@ wholes_append f [] ys = refl
 wholes_append f (x ∷ xs) ys = ap (λ b. f x && b) (wholes_append f xs ys) ∙ sym (and_assoc (f x) (all_wholes f xs) (all_wholes f ys))
 
 module _ (f g : Whole → Bool) (same : (n : ℕ) (p : Part) (ks : List Kind) (k l : Kind) (at bt : ℕ) (e d : Expr) → IsKept e d → f (whole n p ks k at e) ≡ g (whole n p ks l bt d)) where
-  append_same : (xs ys us vs : List Whole) → all_wholes f xs ≡ all_wholes g us → all_wholes f ys ≡ all_wholes g vs → all_wholes f (xs ++ ys) ≡ all_wholes g (us ++ vs)
-  append_same xs ys us vs p q = wholes_append f xs ys ∙ (and_same _ _ _ _ p q ∙ sym (wholes_append g us vs))
+  wholes_same : (xs ys us vs : List Whole) → all_wholes f xs ≡ all_wholes g us → all_wholes f ys ≡ all_wholes g vs → all_wholes f (xs ++ ys) ≡ all_wholes g (us ++ vs)
+  wholes_same xs ys us vs p q = wholes_append f xs ys ∙ (and_same _ _ _ _ p q ∙ sym (wholes_append g us vs))
 
   module _ (n : ℕ) (p : Part) (ks : List Kind) (s : Setting) where
     wholes_when : (at bt : ℕ) (o q : Option Expr) → FilledWhen s o q → all_wholes f (condition_wholes n p ks at o) ≡ all_wholes g (condition_wholes n p ks bt q)
@@ -100,7 +95,7 @@ module _ (f g : Whole → Bool) (same : (n : ℕ) (p : Part) (ks : List Kind) (k
     wholes_clause : (wants us vs : List Kind) (o q : Option Clause) → FilledClauses s wants o q → all_wholes f (clause_wholes n p ks us o) ≡ all_wholes g (clause_wholes n p ks vs q)
     wholes_clause wants us vs None None h = refl
     wholes_clause wants us vs (Some c) (Some d) h =
-        append_same (condition_wholes n p ks c.when_at c.when) (with_wholes n p ks us c.with_at c.with) (condition_wholes n p ks d.when_at d.when) (with_wholes n p ks vs d.with_at d.with)
+        wholes_same (condition_wholes n p ks c.when_at c.when) (with_wholes n p ks us c.with_at c.with) (condition_wholes n p ks d.when_at d.when) (with_wholes n p ks vs d.with_at d.with)
         (wholes_when c.when_at d.when_at c.when d.when h.condition) (wholes_with wants us vs c.with_at d.with_at c.with d.with h.expressions)
     wholes_clause wants us vs None (Some d) h = absurd h
     wholes_clause wants us vs (Some c) None h = absurd h
@@ -109,10 +104,10 @@ module _ (f g : Whole → Bool) (same : (n : ℕ) (p : Part) (ks : List Kind) (k
       → all_wholes f (stream_wholes n a l) ≡ all_wholes g (clause_wholes n part.Spawn [] ps b.spawn ++ (clause_wholes n part.Eval ps (m ∷ []) b.eval ++ clause_wholes n part.Close ps [] b.close))
   wholes_stream s n k l m a b ps e h =
       subst (λ ps. all_wholes f (stream_wholes n a l) ≡ all_wholes g (clause_wholes n part.Spawn [] ps b.spawn ++ (clause_wholes n part.Eval ps (m ∷ []) b.eval ++ clause_wholes n part.Close ps [] b.close))) e
-      (append_same (clause_wholes n part.Spawn [] a.parameters a.spawn) (clause_wholes n part.Eval a.parameters (l ∷ []) a.eval ++ clause_wholes n part.Close a.parameters [] a.close)
+      (wholes_same (clause_wholes n part.Spawn [] a.parameters a.spawn) (clause_wholes n part.Eval a.parameters (l ∷ []) a.eval ++ clause_wholes n part.Close a.parameters [] a.close)
       (clause_wholes n part.Spawn [] a.parameters b.spawn) (clause_wholes n part.Eval a.parameters (m ∷ []) b.eval ++ clause_wholes n part.Close a.parameters [] b.close)
       (wholes_clause n part.Spawn [] (with_parameters s []) a.parameters a.parameters a.parameters a.spawn b.spawn h.spawn)
-      (append_same (clause_wholes n part.Eval a.parameters (l ∷ []) a.eval) (clause_wholes n part.Close a.parameters [] a.close)
+      (wholes_same (clause_wholes n part.Eval a.parameters (l ∷ []) a.eval) (clause_wholes n part.Close a.parameters [] a.close)
       (clause_wholes n part.Eval a.parameters (m ∷ []) b.eval) (clause_wholes n part.Close a.parameters [] b.close)
       (wholes_clause n part.Eval a.parameters (with_parameters s a.parameters) (k ∷ []) (l ∷ []) (m ∷ []) a.eval b.eval h.eval)
       (wholes_clause n part.Close a.parameters (with_parameters s a.parameters) [] [] [] a.close b.close h.close)))
@@ -122,7 +117,7 @@ module _ (f g : Whole → Bool) (same : (n : ℕ) (p : Part) (ks : List Kind) (k
   wholes_kept s n kinds us vs (a ∷ as') (b ∷ bs) h =
       let l = unwrap_or (unwrap_or (slice_get us 0) None) kind.Int64 in
       let m = unwrap_or (unwrap_or (slice_get vs 0) None) kind.Int64 in
-      append_same (stream_wholes n a l) (wholes_from (n + 1) as' (drop 1 us)) (stream_wholes n b m) (wholes_from (n + 1) bs (drop 1 vs))
+      wholes_same (stream_wholes n a l) (wholes_from (n + 1) as' (drop 1 us)) (stream_wholes n b m) (wholes_from (n + 1) bs (drop 1 vs))
       (wholes_stream s n (unwrap_or (unwrap_or (slice_get kinds 0) None) kind.Int64) l m a b b.parameters h.0.parameters h.0)
       (wholes_kept s (n + 1) (drop 1 kinds) (drop 1 us) (drop 1 vs) as' bs h.1)
   wholes_kept s n kinds us vs [] (b ∷ bs) h = absurd h

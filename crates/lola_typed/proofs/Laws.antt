@@ -84,8 +84,8 @@ module _ (spec full : Spec) (h : IsFilled spec full) where
         (subst (λ n. AreTargetsInRange n (length spec.windows) spec.windows) as_many r.targets);
   }
 
-  pub is_named : IsNamed spec → IsNamed full
-  is_named n = record {
+  pub filled_named : IsNamed spec → IsNamed full
+  filled_named n = record {
     few_streams = subst (λ x. x ≤ 1024) as_many n.few_streams;
     few_inputs = subst (λ x. x ≤ 64) (inputs_kept base kinds spec.streams full.streams h.streams) n.few_inputs;
     few_parameters = sym (few_parameters_kept base kinds spec.streams full.streams h.streams) ∙ n.few_parameters;
@@ -103,8 +103,8 @@ module _ (spec full : Spec) (h : IsFilled spec full) where
     ranges = λ e. ranged_kept (n.ranges (sym h.refused ∙ e));
   }
 
-  pub is_typed_whole : IsNamed spec → NotesConstants spec → kind_refusals spec ≡ [] → IsTyped full
-  is_typed_whole n c r =
+  pub filled_typed : IsNamed spec → NotesConstants spec → kind_refusals spec ≡ [] → IsTyped full
+  filled_typed n c r =
       let of_constants = flat_map constant_refusals spec.constants in
       let of_wholes = flat_map (refusals_of_whole base) (wholes_from 0 spec.streams kinds) in
       let constants_fit = constants_typed spec.constants (none_left of_constants (of_wholes ++ range_refusals spec.refused) r) in

@@ -1,5 +1,5 @@
 -- What each stream keeps when its kind is filled in.
-use Rattle.std.proofs.Common.{◌≡◌, ℕ, zero, suc, arith, refl, ap, sym, ◌∙◌, subst, Bool, true, false, not, ◌&&◌, ◌||◌, cond, if◌then◌else◌, List, [], ◌∷◌, Option, Some, None, nat_eq, nat_le, length, slice_get, unwrap_or, drop}
+use Rattle.std.proofs.Common.{◌≡◌, ℕ, zero, suc, arith, refl, ap, sym, ◌∙◌, subst, Bool, true, false, not, cond, if◌then◌else◌, List, [], ◌∷◌, Option, Some, None, nat_eq, nat_le, length, slice_get, unwrap_or, drop}
 use Rattle.std.specs.Prelude.{filter}
 use Rattle.lola_value.specs.declared.value.Kind.{Kind}
 use Rattle.lola_value.specs.declared.value.Kind.TheVariants as kind
@@ -18,13 +18,7 @@ use Rattle.lola_types.specs.LeftOut.{kind_after, round_from, with_least, rounds,
 use Rattle.lola_types.specs.Refused.{with_parameters}
 use Rattle.lola_types.specs.Filled.{SamePace, FilledWhen, FilledWith, FilledClauses, FilledStream, FilledStreams}
 use Rattle.lola_types.proofs.RoundLemmas.{round_length, least_length}
-use Rattle.lola_typed.proofs.Bools.{both, left_of, right_of, never, never_back}
-
-and_same : (a b c d : Bool) → a ≡ c → b ≡ d → (a && b) ≡ (c && d)
-and_same a b c d p q = ap (λ x. x && b) p ∙ ap (λ x. c && x) q
-
-or_same : (a b c d : Bool) → a ≡ c → b ≡ d → (a || b) ≡ (c || d)
-or_same a b c d p q = ap (λ x. x || b) p ∙ ap (λ x. c || x) q
+use Rattle.lola_typed.proofs.Bools.{and_same, or_same, both, left_of, right_of, never, never_back}
 
 -- a declared kind stays
 
