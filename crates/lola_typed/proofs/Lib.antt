@@ -1,0 +1,11 @@
+pub mod Bools
+pub mod Rows
+pub mod Holds
+pub mod Sound
+pub mod Expressions
+pub mod Alike
+pub mod Typed
+pub mod Kept
+pub mod Streams
+pub mod Laws
+mod Corners
