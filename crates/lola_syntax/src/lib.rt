@@ -1,0 +1,10 @@
+//! Reads the tokens of a specification into a tree, and places each refusal at the very token where it belongs.
+#![tactic(auto)]
+
+mod cursor;
+mod expressions;
+mod looking_back;
+mod pending;
+pub mod reading;
+#[cfg(test)]
+mod tests;
