@@ -1,9 +1,10 @@
 //! A cursor over tokens.
 
-ghost use Rattle.std.specs.Prelude.{◌≡◌, ◌∷◌, [], drop, length};
+ghost use Rattle.std.specs.Prelude.{◌≡◌, ◌∷◌, [], drop, length, MatchOption};
+ghost use Rattle.std.specs.Str.{bytes_eq};
 ghost use Rattle.lola_grammar.specs.Syntax.{Of, Word, starts, same_shape};
 ghost use Rattle.lola_lexer.specs.Tokens.{StandIn};
-ghost use Rattle.lola_parser.specs.Cursor.{lexemes};
+ghost use Rattle.lola_parser.specs.Cursor.{lexemes, text_of};
 ghost use Rattle.lola_syntax.specs.Turns.{Gives, behind};
 
 use lola_lexer::shape::TokenShape;
@@ -38,6 +39,12 @@ fn same(a: TokenShape, b: TokenShape) -> bool
     a == b
 }
 
+fn spells(text: &[u8], word: &[u8]) -> bool
+    ensures { result ≡ bytes_eq word.now text.now }
+{
+    word == text
+}
+
 impl<'a> Cursor<'a> {
     pub fn new(bytes: &'a [u8], tokens: &'a [Token]) -> Cursor<'a>
         requires { StandIn bytes.now tokens.now }
@@ -57,21 +64,48 @@ impl<'a> Cursor<'a> {
         self.tokens.len() - self.at
     }
 
+    fn front(&self) -> Option<Token>
+        ensures { MatchOption result (self.now ≡ []) (λ t. self.now ≡ record { shape = t.shape; text = text_of self.now; from = t.from; to = t.to } ∷ drop 1 self.now) }
+    {
+        if self.at < self.tokens.len() {
+            Some(self.tokens[self.at])
+        } else {
+            None
+        }
+    }
+
+    fn text(&self) -> &'a [u8]
+        ensures { result.now ≡ text_of self.now }
+    {
+        if self.at < self.tokens.len() {
+            let token = self.tokens[self.at];
+            &self.bytes[token.from as usize..token.to as usize]
+        } else {
+            &[]
+        }
+    }
+
     pub fn sees(&self, shape: TokenShape) -> bool
         ensures { result ≡ starts (Of shape ∷ []) self.now }
     {
-        self.at < self.tokens.len() && same(shape, self.tokens[self.at].shape)
+        match self.front() {
+            None => false,
+            Some(token) => same(shape, token.shape),
+        }
     }
 
     /// The next token is a name that is spelled so.
     pub fn sees_word(&self, word: &[u8]) -> bool
         ensures { result ≡ starts (Word word.now ∷ []) self.now }
     {
-        if !self.sees(TokenShape::Name) {
-            return false;
+        match self.front() {
+            None => false,
+            Some(token) => {
+                let is_name = same(TokenShape::Name, token.shape);
+                let is_spelled = spells(self.text(), word);
+                is_name && is_spelled
+            }
         }
-        let token = self.tokens[self.at];
-        word == &self.bytes[token.from as usize..token.to as usize]
     }
 
     /// Goes past the next token, if there is one.
