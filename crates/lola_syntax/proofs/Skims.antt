@@ -1,7 +1,7 @@
 -- What is left where no mark is counted is what reading leaves where the marks suffice.
 use Rattle.std.proofs.Common.{◌≡◌, ℕ, zero, suc, ◌+◌, ◌-◌, ◌<◌, ◌≤◌, Bool, true, false, cond, ◌||◌, List, [], ◌∷◌, ◌++◌, length, drop, Some, None, Ok, Err, refl, sym, ap, ◌∙◌, append_assoc, arith, inl, inr, ◌⊎◌, subst}
 use Rattle.std.proofs.lemmas.List.{length-append}
-use Rattle.lola_grammar.specs.Syntax.{Lexeme, Terminal, fits, any_fits, Syntax, Past, Token, Mark, Whole, Known, Then, Map, Either, Maybe, Many, Fork, Repeats, Spells, starts, first, nullable, is_fine, Unexpected, TooDeep, Outcome, Reader, counted, repeated, read, max_marks, charged, either_rest, last_mark}
+use Rattle.lola_grammar.specs.Syntax.{Lexeme, Terminal, fits, any_fits, Syntax, Past, Token, Mark, Whole, Known, Then, Map, Either, Maybe, Many, Fork, Repeats, Spells, starts, first, nullable, is_fine, Refusal, Unexpected, TooDeep, Outcome, Reader, counted, repeated, read, max_marks, charged, either_rest, last_mark}
 use Rattle.lola_grammar.proofs.Tests.{or_either}
 use Rattle.lola_grammar.proofs.Laws.{chosen, done_is, bind_ok, counted_ok}
 use Rattle.lola_grammar.proofs.Viable.{bind_err}
@@ -11,7 +11,7 @@ use Rattle.lola_syntax.specs.Skims.{again, skim}
 
 -- ---- what is left behind two parts
 
-left_some : (o : Left) (f : List Lexeme → Left) (rest : List Lexeme) → (o >-> f) ≡ Some rest → (mid : List Lexeme) × (o ≡ Some mid) × (f mid ≡ Some rest)
+pub left_some : (o : Left) (f : List Lexeme → Left) (rest : List Lexeme) → (o >-> f) ≡ Some rest → (mid : List Lexeme) × (o ≡ Some mid) × (f mid ≡ Some rest)
 left_some None f rest h = absurd cc
 left_some (Some mid) f rest h = (mid, refl, h)
 
@@ -146,6 +146,9 @@ charged_read : {B : Type 0} (r : Reader B) (deep mid : List Lexeme) (i : ℕ) (y
 charged_read r deep mid zero y k rest h = absurd cc
 charged_read r deep mid (suc j) y k rest h = (j, h)
 
+no_ok : {B : Type 0} (d : Refusal) (p : B × ℕ × List Lexeme) → ◌≡◌ {A = Outcome B} (Err d) (Ok p) → ⊥
+no_ok d p e = absurd cc
+
 -- what was read leaves the same
 pub skims_read : {A : Type 0} (s : Syntax A) → SkimsOk (read s) (skim s)
 unfolding read skim
@@ -191,7 +194,7 @@ skims_read (Fork ks a b c) m ts x i rest e =
             | inl g ↦
                 let j = charged_read (read c) deep p.2 p.1 q.0 q.1 q.2 g.1 in
                 if_false (starts (first b) p.2) _ _ (Some rest) k.0 (if_true (starts (first c) p.2) _ _ (Some rest) g.0 (skims_read c j.0 p.2 q.0 q.1 q.2 j.1 ∙ ap (λ (w : List Lexeme). Some w) d.2))
-            | inr g ↦ absurd (let w = g.1 in cc)
+            | inr g ↦ absurd (no_ok (Unexpected p.2) (q.0, q.1, q.2) g.1)
           ]
     ])
 
@@ -295,7 +298,7 @@ skims_misses (Fork ks a b c) m ts rest e =
 
 -- ---- repetitions, one turn on
 
-abbrev Shortens : (List Lexeme → Left) → Type 0
+abbrev pub Shortens : (List Lexeme → Left) → Type 0
 Shortens f = (ts rest : List Lexeme) → f ts ≡ Some rest → length rest < length ts
 
 pub shortens : {A : Type 0} (s : Syntax A) → is_fine s ≡ true → nullable s ≡ false → Shortens (skim s)
@@ -322,10 +325,28 @@ turns_enough f ks less (suc n) (suc l) ts a b =
     same_if (starts ks ts) (f ts >-> again f ks n) (f ts >-> again f ks l) (Some ts)
     (same_next (f ts) (again f ks n) (again f ks l) (λ rest e. let s = less ts rest e in turns_enough f ks less n l rest (omega (arith, a, s)) (omega (arith, b, s))))
 
-pub one_turn : {A : Type 0} (a : Syntax A) → is_fine a ≡ true → nullable a ≡ false → (ts : List Lexeme) → skim (Many a) ts ≡ cond (starts (first a) ts) (skim a ts >-> skim (Many a)) (Some ts)
+pub one_turn : {A : Type 0} (a : Syntax A) → Shortens (skim a) → (ts : List Lexeme) → skim (Many a) ts ≡ cond (starts (first a) ts) (skim a ts >-> skim (Many a)) (Some ts)
 unfolding skim
-one_turn a fine full [] = refl
-one_turn a fine full (t ∷ ts) =
+one_turn a less [] = refl
+one_turn a less (t ∷ ts) =
     same_if (starts (first a) (t ∷ ts)) _ _ (Some (t ∷ ts))
     (same_next (skim a (t ∷ ts)) (again (skim a) (first a) (length ts)) (λ rest. again (skim a) (first a) (length rest) rest)
-    (λ rest e. let s = shortens a fine full (t ∷ ts) rest e in turns_enough (skim a) (first a) (shortens a fine full) (length ts) (length rest) rest (omega (arith, s)) (omega arith)))
+    (λ rest e. let s = less (t ∷ ts) rest e in turns_enough (skim a) (first a) less (length ts) (length rest) rest (omega (arith, s)) (omega arith)))
+
+pub no_longer : {A : Type 0} (s : Syntax A) (ts rest : List Lexeme) → skim s ts ≡ Some rest → length rest ≤ length ts
+no_longer s ts rest h = let l = leaves s ts rest h in omega (arith, ap length l.2, length-append l.0 rest)
+
+-- a part that begins with a token
+pub shortens_then : {A B : Type 0} (a : Syntax A) (b : Syntax B) → Shortens (skim a) → Shortens (skim (Then a b))
+unfolding skim
+shortens_then a b less ts rest h =
+    let p = left_some (skim a ts) (skim b) rest h in
+    omega (arith, less ts p.0 p.1, no_longer b p.0 rest p.2)
+
+pub shortens_behind : (ks : List Terminal) (ts rest : List Lexeme) → behind ks ts ≡ Some rest → length rest < length ts
+shortens_behind ks [] rest h = absurd cc
+shortens_behind ks (t ∷ ts) rest h =
+    elim (chosen (any_fits ks t) _ _ _ h) [
+      | inl c ↦ let e : ts ≡ rest = (let w = c.1 in cc) in omega (arith, ap length e)
+      | inr c ↦ absurd (let w = c.1 in cc)
+    ]
