@@ -1,2 +1,4 @@
 pub mod Skims
 pub mod Deeper
+pub mod Turning
+pub mod Falling

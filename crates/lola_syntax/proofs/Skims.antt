@@ -308,7 +308,7 @@ shortens {A} s fine full ts rest h = let l = leaves s ts rest h in some l.0 l.1 
     some [] x e h = absurd (let n = spells_nil s fine x h in cc)
     some (t ∷ u) x e h = omega (arith, ap length e, length-append (t ∷ u) rest)
 
-same_next : (o : Left) (f g : List Lexeme → Left) → ((rest : List Lexeme) → o ≡ Some rest → f rest ≡ g rest) → (o >-> f) ≡ (o >-> g)
+pub same_next : (o : Left) (f g : List Lexeme → Left) → ((rest : List Lexeme) → o ≡ Some rest → f rest ≡ g rest) → (o >-> f) ≡ (o >-> g)
 same_next None f g h = refl
 same_next (Some rest) f g h = h rest refl
 

@@ -1,8 +1,9 @@
 //! Recognizes an expression, however many marks it has and however deep it is nested. No tree is built: what is still to
 //! be read stands in a list, so that nothing recurses.
 
-ghost use Rattle.std.specs.Prelude.{◌≡◌, [], drop, if◌then◌else◌, MatchOption};
+ghost use Rattle.std.specs.Prelude.{◌≡◌, [], drop, if◌then◌else◌, MatchOption, IfOk};
 ghost use Rattle.lola_grammar.specs.Syntax.{starts};
+ghost use Rattle.lola_syntax.specs.Parts.{IsRecognized};
 ghost use Rattle.lola_syntax.specs.Turns as turns;
 ghost use Rattle.lola_syntax.specs.Turns.{Gives};
 
@@ -348,7 +349,9 @@ fn turn(part: Pending, cursor: &mut Cursor<'_>) -> Option<&'static [Pending]>
 }
 
 /// Reads an expression: whether there is one. The cursor then stands behind it.
-pub fn expression_is_read(alloc: Global, cursor: &mut Cursor<'_>) -> Result<bool, Memory> {
+pub fn expression_is_read(alloc: Global, cursor: &mut Cursor<'_>) -> Result<bool, Memory>
+    ensures { IfOk result (λ is_read. IsRecognized cursor.old is_read cursor.new) }
+{
     let mut stack = Stack::new(alloc);
     stack.put(&[Pending::Expr])?;
     while let Some(part) = stack.pop() {
