@@ -1,6 +1,6 @@
 //! A cursor over tokens.
 
-ghost use Rattle.std.specs.Prelude.{◌≡◌, ◌∷◌, [], drop, length, MatchOption};
+ghost use Rattle.std.specs.Prelude.{◌≡◌, ◌≤◌, ◌∷◌, [], drop, length, MatchOption};
 ghost use Rattle.std.specs.Str.{bytes_eq};
 ghost use Rattle.lola_grammar.specs.Syntax.{Of, Word, starts, same_shape};
 ghost use Rattle.lola_lexer.specs.Tokens.{StandIn};
@@ -46,15 +46,13 @@ fn spells(text: &[u8], word: &[u8]) -> bool
 }
 
 impl<'a> Cursor<'a> {
-    pub fn new(bytes: &'a [u8], tokens: &'a [Token]) -> Cursor<'a>
-        requires { StandIn bytes.now tokens.now }
-        ensures { result ≡ lexemes bytes.now tokens.now }
+    /// A cursor that stands at this token.
+    pub fn new(bytes: &'a [u8], tokens: &'a [Token], at: usize) -> Cursor<'a>
+        requires within { StandIn bytes.now tokens.now }
+        requires start { at ≤ length tokens.now }
+        ensures { result ≡ lexemes bytes.now (drop at tokens.now) }
     {
-        Cursor {
-            bytes,
-            tokens,
-            at: 0,
-        }
+        Cursor { bytes, tokens, at }
     }
 
     /// How many tokens are left.
