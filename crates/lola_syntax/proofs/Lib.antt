@@ -2,3 +2,4 @@ pub mod Skims
 pub mod Deeper
 pub mod Turning
 pub mod Falling
+pub mod Cuts

@@ -1,13 +1,17 @@
 //! What stands before a token.
 
-ghost use Rattle.std.specs.Prelude.{◌≡◌, ◌≤◌, length, IfSome};
-ghost use Rattle.lola_grammar.specs.Syntax.{same_shape};
-ghost use Rattle.lola_syntax.specs.Looking.{is_either, is_mark_shape, IsLast};
+ghost use Rattle.std.specs.Prelude.{◌≡◌, ◌≤◌, ℕ, List, ◌∷◌, [], drop, length, IfSome, MatchOption};
+ghost use Rattle.lola_parser.specs.Cursor.{lexemes};
+ghost use Rattle.lola_lexer.specs.declared.shape.TokenShape.TheVariants as is;
+ghost use Rattle.lola_syntax.specs.Places as places;
+ghost use Rattle.lola_grammar.specs.Syntax.{Of, starts, same_shape};
+ghost use Rattle.lola_syntax.specs.Looking.{is_either, is_mark_shape, marks_among, IsLast};
 
 use lola_lexer::shape::TokenShape;
 use lola_lexer::token::Token;
 
 /// The token is one of those that are counted in an expression or formula.
+#[tactic(auto, unfolding(crate::specs::Looking::is_mark_shape))]
 fn is_mark(shape: TokenShape) -> bool
     ensures { result ≡ is_mark_shape shape }
 {
@@ -47,16 +51,31 @@ pub fn last_mark(tokens: &[Token]) -> Option<usize>
     None
 }
 
-/// How many of these tokens are marks.
-pub fn count_of_marks(tokens: &[Token]) -> usize {
-    tokens.iter().filter(|token| is_mark(token.shape)).count()
+/// How many of the tokens from `start` on are marks.
+pub fn count_of_marks(tokens: &[Token], start: usize) -> usize
+    requires { start ≤ length tokens.now }
+    ensures { result ≡ marks_among (drop start tokens.now) }
+{
+    let mut count = 0;
+    for at in start..tokens.len() {
+        if is_mark(tokens[at].shape) {
+            count += 1;
+        }
+    }
+    count
 }
 
 #[tactic(auto, unfolding(lola_grammar::specs::Syntax::same_shape))]
+fn same(a: TokenShape, b: TokenShape) -> bool
+    ensures { result ≡ same_shape a b }
+{
+    a == b
+}
+
 fn is_one(shape: TokenShape, first: TokenShape, second: TokenShape) -> bool
     ensures { result ≡ is_either first second shape }
 {
-    first == shape || second == shape
+    same(first, shape) || same(second, shape)
 }
 
 /// Where the last of these tokens that has one of two shapes stands.
@@ -74,23 +93,35 @@ fn last_of(tokens: &[Token], first: TokenShape, second: TokenShape) -> Option<us
 }
 
 /// The last of these tokens that begins a clause with a `with` begins a spawn clause.
-fn is_spawn(tokens: &[Token]) -> bool {
+fn is_spawn(tokens: &[Token]) -> bool
+    ensures { (bytes : List ℕ) → result ≡ places.is_spawn (places.cut_last places.clause_words (lexemes bytes tokens.now)) }
+{
     match last_of(tokens, TokenShape::Spawn, TokenShape::Eval) {
         None => false,
-        Some(at) => tokens[at].shape == TokenShape::Spawn,
+        Some(at) => same(TokenShape::Spawn, tokens[at].shape),
     }
+}
+
+fn is_open(tokens: &[Token], at: usize) -> bool
+    ensures { (bytes : List ℕ) → result ≡ starts (Of is.Open ∷ []) (lexemes bytes (drop at tokens.now)) }
+{
+    at < tokens.len() && same(TokenShape::Open, tokens[at].shape)
 }
 
 /// Where the tokens behind the bracket begin, if the last `with` of these tokens belongs to a spawn clause and has a
 /// bracket directly behind it.
 pub fn behind_bracket(tokens: &[Token]) -> Option<usize>
-    ensures { IfSome result (λ i. i ≤ length tokens.now) }
+    ensures within { IfSome result (λ i. i ≤ length tokens.now) }
+    ensures is { (bytes : List ℕ) → MatchOption result (places.behind_bracket (lexemes bytes tokens.now) ≡ None) (λ i. places.behind_bracket (lexemes bytes tokens.now) ≡ Some (lexemes bytes (drop i tokens.now))) }
 {
-    let with = last_of(tokens, TokenShape::With, TokenShape::With)?;
-    let has_bracket = with + 1 < tokens.len() && tokens[with + 1].shape == TokenShape::Open;
-    if has_bracket && is_spawn(&tokens[..with]) {
-        Some(with + 2)
-    } else {
-        None
+    let Some(with) = last_of(tokens, TokenShape::With, TokenShape::With) else {
+        return None;
+    };
+    if !is_spawn(&tokens[..with]) {
+        return None;
     }
+    if !is_open(tokens, with + 1) {
+        return None;
+    }
+    Some(with + 2)
 }

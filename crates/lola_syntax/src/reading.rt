@@ -1,9 +1,13 @@
 //! The entry point.
 
-ghost use Rattle.std.specs.Prelude.{◌≡◌, ◌<◌, ◌≤◌, ◌^◌, length, IfOk};
-ghost use Rattle.lola_lexer.specs.Tokens.{StandIn};
+ghost use Rattle.std.specs.Prelude.{◌≡◌, ◌≢◌, ℕ, List, ◌∷◌, ◌++◌, ◌<◌, ◌≤◌, ◌^◌, length, take, drop, slice_index_or, IfOk, MatchOption};
+ghost use Rattle.lola_grammar.specs.Syntax.{Lexeme};
+ghost use Rattle.lola_lexer.specs.Tokens.{StandIn, AreInOrder};
+ghost use Rattle.lola_lexer.specs.declared.token.Token as lexed;
 ghost use Rattle.lola_parser.specs.Cursor.{lexemes};
 ghost use Rattle.lola_parser.specs.Whole.{ReadsAll};
+ghost use Rattle.lola_syntax.specs.Places.{Answers};
+ghost use Rattle.lola_syntax.specs.Places as places;
 
 use crate::cursor::Cursor;
 use crate::expressions::expression_is_read;
@@ -28,52 +32,67 @@ fn is_enclosed(
     deep: usize,
 ) -> Result<bool, Memory>
     requires within { StandIn bytes.now tokens.now }
-    requires begins { start ≤ length tokens.now }
+    requires begins { start ≤ deep }
     requires stands { deep ≤ length tokens.now }
+    ensures { IfOk result (λ b. b ≡ places.is_enclosed (lexemes bytes.now (drop start (take deep tokens.now))) (lexemes bytes.now (drop deep tokens.now))) }
 {
     let mut cursor = Cursor::new(bytes, tokens, start);
     let is_read = expression_is_read(alloc, &mut cursor)?;
-    let goes_past = cursor.left() < tokens.len() - deep;
-    Ok(is_read && goes_past && cursor.sees(TokenShape::Shut))
+    if !is_read {
+        return Ok(false);
+    }
+    if cursor.left() >= tokens.len() - deep {
+        return Ok(false);
+    }
+    Ok(cursor.sees(TokenShape::Shut))
 }
 
-/// The mark at which the expression of the token at `deep` has one too many: that token, or the mark before it, where the
-/// bracket behind the `with` of a spawn clause is a mark after all.
-fn mark_too_many(
-    alloc: Global,
-    bytes: &[u8],
-    tokens: &[Token],
-    deep: usize,
-) -> Result<usize, Memory>
+/// The place of the mark at which the expression of the token at `deep` has one too many: that token, or the mark before
+/// it, where the bracket behind the `with` of a spawn clause is a mark after all.
+fn place_from(alloc: Global, bytes: &[u8], tokens: &[Token], deep: usize) -> Result<u32, Memory>
     requires within { StandIn bytes.now tokens.now }
     requires stands { deep < length tokens.now }
-    ensures { IfOk result (λ i. i ≤ deep) }
+    ensures { IfOk result (λ r. (d : lexed.Token) → r ≡ places.place_too_deep (lexemes bytes.now (take deep tokens.now)) (lexemes bytes.now (drop deep tokens.now)) (slice_index_or tokens.now deep d).from) }
 {
     let front = &tokens[..deep];
+    let own = tokens[deep].from;
     let Some(start) = behind_bracket(front) else {
-        return Ok(deep);
+        return Ok(own);
     };
-    if count_of_marks(&front[start..]) < MAX_MARKS {
-        return Ok(deep);
+    if count_of_marks(front, start) < MAX_MARKS {
+        return Ok(own);
     }
     if !is_enclosed(alloc, bytes, tokens, start, deep)? {
-        return Ok(deep);
+        return Ok(own);
     }
     match last_mark(front) {
-        None => Ok(deep),
-        Some(mark) => Ok(mark),
+        None => Ok(own),
+        Some(mark) => Ok(front[mark].from),
     }
+}
+
+/// The number of a token that begins there.
+fn found(tokens: &[Token], at: u32) -> Option<usize>
+    ensures { MatchOption result ((k : ℕ) (d : lexed.Token) → k < length tokens.now → (slice_index_or tokens.now k d).from ≢ at) (λ i. (i < length tokens.now) × ((d : lexed.Token) → (slice_index_or tokens.now i d).from ≡ at)) }
+{
+    for (i, token) in tokens.iter().enumerate() {
+        if token.from == at {
+            return Some(i);
+        }
+    }
+    None
 }
 
 /// The place of the mark too many, where reading was refused as too deep at the token at `at`.
 fn place(alloc: Global, bytes: &[u8], tokens: &[Token], at: u32) -> Result<u32, Memory>
-    requires { StandIn bytes.now tokens.now }
+    requires within { StandIn bytes.now tokens.now }
+    requires in_order { AreInOrder 0 tokens.now }
+    ensures { IfOk result (λ r. (u : List Lexeme) (t : Lexeme) (w : List Lexeme) → lexemes bytes.now tokens.now ≡ u ++ t ∷ w → at ≡ t.from → r ≡ places.place_too_deep u (t ∷ w) t.from) }
 {
-    let Some(deep) = tokens.iter().position(|token| token.from == at) else {
-        return Ok(at);
-    };
-    let mark = mark_too_many(alloc, bytes, tokens, deep)?;
-    Ok(tokens[mark].from)
+    match found(tokens, at) {
+        None => Ok(at),
+        Some(deep) => place_from(alloc, bytes, tokens, deep),
+    }
 }
 
 /// The specification that the tokens of these bytes spell, or the refusal with which its reading ends.
@@ -83,7 +102,9 @@ fn place(alloc: Global, bytes: &[u8], tokens: &[Token], at: u32) -> Result<u32, 
 /// `TooDeep` stands at the 513th, if it comes before such a token.
 pub fn specification(alloc: Global, bytes: &[u8], tokens: &Tokens) -> Result<Ast, FrontEnd>
     requires within { StandIn bytes.now tokens.now }
+    requires in_order { AreInOrder 0 tokens.now }
     requires short { length bytes.now < 2 ^ 32 }
+    ensures exact { Answers (lexemes bytes.now tokens.now) (length bytes.now) result }
     ensures reads { ReadsAll (lexemes bytes.now tokens.now) result }
 {
     match parse(alloc, bytes, tokens) {
