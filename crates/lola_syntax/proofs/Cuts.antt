@@ -1,5 +1,5 @@
 -- The last token of a shape, by its number and by what stands around it.
-use Rattle.std.proofs.Common.{◌≡◌, ℕ, zero, suc, ◌+◌, ◌-◌, ◌<◌, ◌≤◌, Bool, true, false, ◌||◌, ◌&&◌, cond, nat_lt, List, [], ◌∷◌, ◌++◌, length, get_or, take, drop, Option, Some, None, refl, sym, ap, ◌∙◌, arith}
+use Rattle.std.proofs.Common.{◌≡◌, ℕ, zero, suc, ◌+◌, ◌-◌, ◌<◌, ◌≤◌, Bool, true, false, ◌||◌, ◌&&◌, cond, nat_lt, List, [], ◌∷◌, ◌++◌, length, get_or, take, drop, Option, Some, None, refl, sym, ap, ◌∙◌, arith, not}
 use Rattle.lola_lexer.specs.declared.shape.TokenShape.{TokenShape}
 use Rattle.lola_lexer.specs.declared.shape.TokenShape.TheVariants as is
 use Rattle.lola_lexer.specs.declared.token.Token.{Token}
@@ -10,11 +10,12 @@ use Rattle.lola_parser.specs.Cursor.{lexeme, lexemes}
 use Rattle.lola_parser.specs.Grammar.{all_marks, expr_in}
 use Rattle.lola_syntax.specs.Looking as looking
 use Rattle.lola_syntax.specs.Looking.{is_either, is_mark_shape, marks_among, IsLast}
-use Rattle.lola_syntax.specs.Places.{Cut, cut_at, cut_last, clause_words, is_spawn, behind_with, behind_bracket, ends_within, is_enclosed}
+use Rattle.lola_syntax.specs.Places.{Cut, cut_at, cut_last, clause_words, is_spawn, behind_with, behind_bracket, ends_within, is_enclosed, mark_or, place_behind, place_too_deep}
 use Rattle.lola_syntax.specs.Turns.{Left}
 use Rattle.lola_syntax.specs.Skims.{skim}
 use Rattle.lola_syntax.specs.Parts.{IsRecognized}
 use Rattle.lola_parser.proofs.Steps.{tail_is}
+use Rattle.std.proofs.lemmas.Bool.{lt-ltb, le-ltb}
 
 -- the terminals are those that the test of shapes tells
 abbrev pub Tells : List Terminal → (TokenShape → Bool) → Type 0
@@ -90,6 +91,11 @@ around bytes (t ∷ ts) zero zero le = refl
 around bytes (t ∷ ts) zero (suc start) le = absurd (omega (arith, le))
 around bytes (t ∷ ts) (suc i) zero le = ap (λ (w : List Lexeme). lexeme bytes t ∷ w) (around bytes ts i zero (omega arith))
 around bytes (t ∷ ts) (suc i) (suc start) le = around bytes ts i start (omega (arith, le))
+
+pub any_default : (ts : List Token) (i : ℕ) (d e : Token) → i < length ts → get_or ts i d ≡ get_or ts i e
+any_default [] i d e less = absurd (omega (arith, less))
+any_default (t ∷ ts) zero d e less = refl
+any_default (t ∷ ts) (suc i) d e less = any_default ts i d e (omega (arith, less))
 
 -- ---- the bracket behind a `with`
 
@@ -204,3 +210,18 @@ some_there bytes (s ∷ ts) (x ∷ u) t w d e =
     let k : lexemes bytes ts ≡ u ++ t ∷ w = cc in
     let r = some_there bytes ts u t w d k in
     (omega (arith, r.0), r.1)
+
+-- ---- the place
+
+pub own_place : (u d : List Lexeme) (at : ℕ) → behind_bracket u ≡ None → place_too_deep u d at ≡ at
+own_place u d at e = ap (λ (h : Left). place_behind h u d at) e
+
+module _ (u d head : List Lexeme) (at : ℕ) (e : behind_bracket u ≡ Some head) where
+  pub few_marks : marks_in all_marks head < 512 → place_too_deep u d at ≡ at
+  few_marks few = ap (λ (h : Left). place_behind h u d at) e ∙ rw (lt-ltb (marks_in all_marks head) 512 few) refl
+
+  pub not_enclosed : 512 ≤ marks_in all_marks head → is_enclosed head d ≡ false → place_too_deep u d at ≡ at
+  not_enclosed many h = ap (λ (h : Left). place_behind h u d at) e ∙ rw (le-ltb (marks_in all_marks head) 512 many, h) refl
+
+  pub mark_before : 512 ≤ marks_in all_marks head → is_enclosed head d ≡ true → place_too_deep u d at ≡ mark_or (cut_last all_marks u) at
+  mark_before many h = ap (λ (h : Left). place_behind h u d at) e ∙ rw (le-ltb (marks_in all_marks head) 512 many, h) refl

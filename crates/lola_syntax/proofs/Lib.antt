@@ -3,3 +3,4 @@ pub mod Deeper
 pub mod Turning
 pub mod Falling
 pub mod Cuts
+pub mod Deep

@@ -5,7 +5,7 @@ ghost use Rattle.lola_grammar.specs.Syntax.{Lexeme};
 ghost use Rattle.lola_lexer.specs.Tokens.{StandIn, AreInOrder};
 ghost use Rattle.lola_lexer.specs.declared.token.Token as lexed;
 ghost use Rattle.lola_parser.specs.Cursor.{lexemes};
-ghost use Rattle.lola_parser.specs.Whole.{ReadsAll};
+ghost use Rattle.lola_parser.specs.Whole.{ReadsAll, Stopped};
 ghost use Rattle.lola_syntax.specs.Places.{Answers};
 ghost use Rattle.lola_syntax.specs.Places as places;
 
@@ -95,6 +95,25 @@ fn place(alloc: Global, bytes: &[u8], tokens: &[Token], at: u32) -> Result<u32, 
     }
 }
 
+/// The same refusal, at the mark too many if that is its cause; or want of memory.
+fn placed(alloc: Global, bytes: &[u8], tokens: &[Token], refusal: Refusal) -> FrontEnd
+    requires within { StandIn bytes.now tokens.now }
+    requires in_order { AreInOrder 0 tokens.now }
+    requires stopped { Stopped (lexemes bytes.now tokens.now) (length bytes.now) refusal }
+    ensures { Answers (lexemes bytes.now tokens.now) (length bytes.now) (Err result) }
+{
+    if refusal.code != Code::TooDeep {
+        return FrontEnd::Refused(refusal);
+    }
+    match place(alloc, bytes, tokens, refusal.at) {
+        Err(Memory) => FrontEnd::Memory,
+        Ok(at) => FrontEnd::Refused(Refusal {
+            code: Code::TooDeep,
+            at,
+        }),
+    }
+}
+
 /// The specification that the tokens of these bytes spell, or the refusal with which its reading ends.
 ///
 /// Tokens that are no specification are refused as `Unexpected` at the first token such that no specification begins
@@ -108,13 +127,10 @@ pub fn specification(alloc: Global, bytes: &[u8], tokens: &Tokens) -> Result<Ast
     ensures reads { ReadsAll (lexemes bytes.now tokens.now) result }
 {
     match parse(alloc, bytes, tokens) {
-        Err(FrontEnd::Refused(Refusal {
-            code: Code::TooDeep,
-            at,
-        })) => Err(FrontEnd::Refused(Refusal {
-            code: Code::TooDeep,
-            at: place(alloc, bytes, tokens.as_slice(), at)?,
-        })),
-        other => other,
+        Ok(tree) => Ok(tree),
+        Err(FrontEnd::Memory) => Err(FrontEnd::Memory),
+        Err(FrontEnd::Refused(refusal)) => {
+            Err(placed(alloc, bytes, tokens.as_slice(), refusal))
+        }
     }
 }
