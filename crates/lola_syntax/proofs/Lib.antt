@@ -4,3 +4,5 @@ pub mod Turning
 pub mod Falling
 pub mod Cuts
 pub mod Deep
+pub mod Sentences
+pub mod Refusing

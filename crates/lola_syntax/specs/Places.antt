@@ -6,12 +6,12 @@ use Rattle.lola_value.specs.declared.front.Code.TheVariants as code
 use Rattle.lola_value.specs.declared.front.FrontEnd.{FrontEnd}
 use Rattle.lola_value.specs.declared.front.FrontEnd.TheVariants as front_end
 use Rattle.lola_tree.specs.declared.declarations.Declaration.{Declaration}
-use Rattle.lola_grammar.specs.Syntax.{Lexeme, Terminal, Of, any_fits, fits, starts, max_marks, read_all}
+use Rattle.lola_grammar.specs.Syntax.{Lexeme, Terminal, Of, any_fits, fits, starts, max_marks, Spells, read_all}
 use Rattle.lola_grammar.specs.Syntax as reading
 use Rattle.lola_grammar.specs.Marks.{marks_in}
 use Rattle.lola_parser.specs.Cursor.{place_of}
 use Rattle.lola_parser.specs.Grammar.{expr_in, all_marks, specification}
-use Rattle.lola_parser.specs.Whole.{most_levels}
+use Rattle.lola_parser.specs.Whole.{most_levels, IsMisfitAt}
 use Rattle.lola_syntax.specs.Turns.{Left, shape}
 use Rattle.lola_syntax.specs.Skims.{skim}
 
@@ -78,3 +78,9 @@ Answers ts end (Err front_end.Memory) = Unit {0}
 Answers ts end (Err (front_end.Refused r)) =
     ((r.code ≡ code.Unexpected) × ((rest : List Lexeme) × (r.at ≡ place_of rest end) × (read_all (specification most_levels) ts ≡ Err (reading.Unexpected rest))))
     ⊎ ((r.code ≡ code.TooDeep) × IsPlacedAt ts r.at)
+
+-- What is returned is spelled by the tokens, and a token that does not fit is the first such.
+abbrev pub Refuses : List Lexeme → ℕ → Result (List Declaration) FrontEnd → Type 0
+Refuses ts end (Ok v) = Spells (specification most_levels) ts v
+Refuses ts end (Err front_end.Memory) = Unit {0}
+Refuses ts end (Err (front_end.Refused r)) = ((r.code ≡ code.Unexpected) × IsMisfitAt ts end r.at) ⊎ ((r.code ≡ code.TooDeep) × IsPlacedAt ts r.at)

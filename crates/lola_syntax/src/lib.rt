@@ -3,6 +3,7 @@
 
 mod cursor;
 mod expressions;
+pub mod law;
 mod looking_back;
 mod pending;
 pub mod reading;

@@ -6,7 +6,7 @@ ghost use Rattle.lola_lexer.specs.Tokens.{StandIn, AreInOrder};
 ghost use Rattle.lola_lexer.specs.declared.token.Token as lexed;
 ghost use Rattle.lola_parser.specs.Cursor.{lexemes};
 ghost use Rattle.lola_parser.specs.Whole.{ReadsAll, Stopped};
-ghost use Rattle.lola_syntax.specs.Places.{Answers};
+ghost use Rattle.lola_syntax.specs.Places.{Answers, Refuses};
 ghost use Rattle.lola_syntax.specs.Places as places;
 
 use crate::cursor::Cursor;
@@ -119,18 +119,18 @@ fn placed(alloc: Global, bytes: &[u8], tokens: &[Token], refusal: Refusal) -> Fr
 /// Tokens that are no specification are refused as `Unexpected` at the first token such that no specification begins
 /// with the tokens up to it, or at the length of the text. Where a whole expression or formula has more than 512 marks,
 /// `TooDeep` stands at the 513th, if it comes before such a token.
+#[tactic(auto, using(crate::proofs::Refusing::refuses))]
 pub fn specification(alloc: Global, bytes: &[u8], tokens: &Tokens) -> Result<Ast, FrontEnd>
     requires within { StandIn bytes.now tokens.now }
     requires in_order { AreInOrder 0 tokens.now }
     requires short { length bytes.now < 2 ^ 32 }
     ensures exact { Answers (lexemes bytes.now tokens.now) (length bytes.now) result }
     ensures reads { ReadsAll (lexemes bytes.now tokens.now) result }
+    ensures refuses { Refuses (lexemes bytes.now tokens.now) (length bytes.now) result }
 {
     match parse(alloc, bytes, tokens) {
         Ok(tree) => Ok(tree),
         Err(FrontEnd::Memory) => Err(FrontEnd::Memory),
-        Err(FrontEnd::Refused(refusal)) => {
-            Err(placed(alloc, bytes, tokens.as_slice(), refusal))
-        }
+        Err(FrontEnd::Refused(refusal)) => { Err(placed(alloc, bytes, tokens.as_slice(), refusal)) }
     }
 }
