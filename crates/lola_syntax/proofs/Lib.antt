@@ -6,3 +6,6 @@ pub mod Cuts
 pub mod Deep
 pub mod Sentences
 pub mod Refusing
+pub mod Lacks
+pub mod Forking
+pub mod Own
