@@ -15,7 +15,7 @@ use Rattle.lola_syntax.specs.Turns.{Left}
 use Rattle.lola_syntax.specs.Skims.{skim}
 use Rattle.lola_syntax.specs.Parts.{IsRecognized}
 use Rattle.lola_parser.proofs.Steps.{tail_is}
-use Rattle.std.proofs.lemmas.Bool.{lt-ltb, le-ltb}
+use Rattle.std.proofs.lemmas.Bool.{eq-eqb, ne_eqb}
 
 -- the terminals are those that the test of shapes tells
 abbrev pub Tells : List Terminal → (TokenShape → Bool) → Type 0
@@ -217,11 +217,8 @@ pub own_place : (u d : List Lexeme) (at : ℕ) → behind_bracket u ≡ None →
 own_place u d at e = ap (λ (h : Left). place_behind h u d at) e
 
 module _ (u d head : List Lexeme) (at : ℕ) (e : behind_bracket u ≡ Some head) where
-  pub few_marks : marks_in all_marks head < 512 → place_too_deep u d at ≡ at
-  few_marks few = ap (λ (h : Left). place_behind h u d at) e ∙ rw (lt-ltb (marks_in all_marks head) 512 few) refl
+  pub other_count : (marks_in all_marks head ≡ 512 → ⊥) → place_too_deep u d at ≡ at
+  other_count other = ap (λ (h : Left). place_behind h u d at) e ∙ rw (ne_eqb (marks_in all_marks head) 512 other) refl
 
-  pub not_enclosed : 512 ≤ marks_in all_marks head → is_enclosed head d ≡ false → place_too_deep u d at ≡ at
-  not_enclosed many h = ap (λ (h : Left). place_behind h u d at) e ∙ rw (le-ltb (marks_in all_marks head) 512 many, h) refl
-
-  pub mark_before : 512 ≤ marks_in all_marks head → is_enclosed head d ≡ true → place_too_deep u d at ≡ mark_or (cut_last all_marks u) at
-  mark_before many h = ap (λ (h : Left). place_behind h u d at) e ∙ rw (le-ltb (marks_in all_marks head) 512 many, h) refl
+  pub mark_before : marks_in all_marks head ≡ 512 → is_enclosed head d ≡ true → place_too_deep u d at ≡ mark_or (cut_last all_marks u) at
+  mark_before many h = ap (λ (h : Left). place_behind h u d at) e ∙ rw (eq-eqb (marks_in all_marks head) 512 many, h) refl

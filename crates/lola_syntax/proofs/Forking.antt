@@ -211,7 +211,7 @@ module _ (n : ℕ) where
       let l = c.4 in
       let o = l.4 in
       let whole : z ≡ (h.0 ++ c.0) ++ l.0 ∷ (o.0 ∷ o.1) =
-          h.2 ∙ ap (λ (w : List Lexeme). h.0 ++ w) (c.2 ∙ ap (λ (w : List Lexeme). c.0 ++ w) (l.2 ∙ ap (λ (w : List Lexeme). l.0 ∷ w) o.2)) ∙ sym (append_assoc h.0 c.0 (l.0 ∷ (o.0 ∷ o.1))) in
+      h.2 ∙ ap (λ (w : List Lexeme). h.0 ++ w) (c.2 ∙ ap (λ (w : List Lexeme). c.0 ++ w) (l.2 ∙ ap (λ (w : List Lexeme). l.0 ∷ w) o.2)) ∙ sym (append_assoc h.0 c.0 (l.0 ∷ (o.0 ∷ o.1))) in
       subst (λ (w : List Lexeme). IsBehind (sp ∷ w)) (sym whole) (spawned sp h.0 c.0 l.0 o.0 o.1 s h.3 c.3 l.3 o.3 o.4.0 o.4.1)
 
   at_then_spawn : (u : List Lexeme) (t : Lexeme) (v : List Lexeme) (x : ℕ × (Option Pacing × (Option Part × Option (List Part))))

@@ -1,5 +1,5 @@
 -- Where a refusal as too deep stands, by the tokens before the mark at which reading ended and those from it on.
-use Rattle.std.specs.Prelude.{◌≡◌, ◌<◌, ℕ, suc, Bool, true, false, not, ◌&&◌, nat_lt, if◌then◌else◌, List, [], ◌∷◌, ◌++◌, length, Option, Some, None, ◌⊎◌, Result, Ok, Err}
+use Rattle.std.specs.Prelude.{◌≡◌, ◌<◌, ℕ, suc, Bool, true, false, ◌&&◌, nat_eq, nat_lt, if◌then◌else◌, List, [], ◌∷◌, ◌++◌, length, Option, Some, None, ◌⊎◌, Result, Ok, Err}
 use Rattle.lola_lexer.specs.declared.shape.TokenShape.TheVariants as is
 use Rattle.lola_value.specs.declared.front.Refusal.{Refusal}
 use Rattle.lola_value.specs.declared.front.Code.TheVariants as code
@@ -58,10 +58,10 @@ abbrev pub mark_or : Cut → ℕ → ℕ
 mark_or None at = at
 mark_or (Some c) at = c.1.from
 
--- behind the bracket as many marks as may come stand before the mark, so that with the bracket it is the mark before
+-- where exactly as many marks as may come stand between the bracket and the mark, the bracket makes the mark before it the one too many
 abbrev pub place_behind : Left → List Lexeme → List Lexeme → ℕ → ℕ
 place_behind None u d at = at
-place_behind (Some head) u d at = if not (nat_lt (marks_in all_marks head) max_marks) && is_enclosed head d then mark_or (cut_last all_marks u) at else at
+place_behind (Some head) u d at = if nat_eq (marks_in all_marks head) max_marks && is_enclosed head d then mark_or (cut_last all_marks u) at else at
 
 -- the place of the mark too many, where reading ended between u and d, at this place
 abbrev pub place_too_deep : List Lexeme → List Lexeme → ℕ → ℕ

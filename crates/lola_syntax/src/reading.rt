@@ -6,6 +6,7 @@ ghost use Rattle.lola_lexer.specs.Tokens.{StandIn, AreInOrder};
 ghost use Rattle.lola_lexer.specs.declared.token.Token as lexed;
 ghost use Rattle.lola_parser.specs.Cursor.{lexemes};
 ghost use Rattle.lola_parser.specs.Whole.{ReadsAll, Stopped};
+ghost use Rattle.lola_syntax.specs.Exact.{PlacesExactly};
 ghost use Rattle.lola_syntax.specs.Places.{Answers, Refuses};
 ghost use Rattle.lola_syntax.specs.Places as places;
 
@@ -59,7 +60,7 @@ fn place_from(alloc: Global, bytes: &[u8], tokens: &[Token], deep: usize) -> Res
     let Some(start) = behind_bracket(front) else {
         return Ok(own);
     };
-    if count_of_marks(front, start) < MAX_MARKS {
+    if count_of_marks(front, start) != MAX_MARKS {
         return Ok(own);
     }
     if !is_enclosed(alloc, bytes, tokens, start, deep)? {
@@ -119,7 +120,7 @@ fn placed(alloc: Global, bytes: &[u8], tokens: &[Token], refusal: Refusal) -> Fr
 /// Tokens that are no specification are refused as `Unexpected` at the first token such that no specification begins
 /// with the tokens up to it, or at the length of the text. Where a whole expression or formula has more than 512 marks,
 /// `TooDeep` stands at the 513th, if it comes before such a token.
-#[tactic(auto, using(crate::proofs::Refusing::refuses))]
+#[tactic(auto, using(crate::proofs::Refusing::refuses, crate::proofs::Own::places_exactly))]
 pub fn specification(alloc: Global, bytes: &[u8], tokens: &Tokens) -> Result<Ast, FrontEnd>
     requires within { StandIn bytes.now tokens.now }
     requires in_order { AreInOrder 0 tokens.now }
@@ -127,6 +128,7 @@ pub fn specification(alloc: Global, bytes: &[u8], tokens: &Tokens) -> Result<Ast
     ensures exact { Answers (lexemes bytes.now tokens.now) (length bytes.now) result }
     ensures reads { ReadsAll (lexemes bytes.now tokens.now) result }
     ensures refuses { Refuses (lexemes bytes.now tokens.now) (length bytes.now) result }
+    ensures deep { PlacesExactly (lexemes bytes.now tokens.now) result }
 {
     match parse(alloc, bytes, tokens) {
         Ok(tree) => Ok(tree),
