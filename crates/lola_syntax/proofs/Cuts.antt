@@ -1,5 +1,5 @@
 -- The last token of a shape, by its number and by what stands around it.
-use Rattle.std.proofs.Common.{◌≡◌, ℕ, zero, suc, ◌+◌, ◌-◌, ◌<◌, ◌≤◌, Bool, true, false, ◌||◌, ◌&&◌, cond, nat_lt, List, [], ◌∷◌, ◌++◌, length, get_or, take, drop, Option, Some, None, refl, sym, ap, ◌∙◌, arith, not}
+use Rattle.std.proofs.Common.{◌≡◌, ℕ, zero, suc, ◌+◌, ◌-◌, ◌<◌, ◌≤◌, Bool, true, false, ◌||◌, ◌&&◌, nat_lt, List, [], ◌∷◌, ◌++◌, length, get_or, take, drop, Option, Some, None, refl, sym, ap, ◌∙◌, arith}
 use Rattle.lola_lexer.specs.declared.shape.TokenShape.{TokenShape}
 use Rattle.lola_lexer.specs.declared.shape.TokenShape.TheVariants as is
 use Rattle.lola_lexer.specs.declared.token.Token.{Token}
@@ -10,7 +10,7 @@ use Rattle.lola_parser.specs.Cursor.{lexeme, lexemes}
 use Rattle.lola_parser.specs.Grammar.{all_marks, expr_in}
 use Rattle.lola_syntax.specs.Looking as looking
 use Rattle.lola_syntax.specs.Looking.{is_either, is_mark_shape, marks_among, IsLast}
-use Rattle.lola_syntax.specs.Places.{Cut, cut_at, cut_last, clause_words, is_spawn, behind_with, behind_bracket, ends_within, is_enclosed, mark_or, place_behind, place_too_deep}
+use Rattle.lola_syntax.specs.Places.{cut_last, clause_words, is_spawn, behind_with, behind_bracket, ends_within, is_enclosed, mark_or, place_behind, place_too_deep}
 use Rattle.lola_syntax.specs.Turns.{Left}
 use Rattle.lola_syntax.specs.Skims.{skim}
 use Rattle.lola_syntax.specs.Parts.{IsRecognized}

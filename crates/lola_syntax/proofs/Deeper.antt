@@ -1,7 +1,7 @@
 -- More levels than there are tokens change nothing.
-use Rattle.std.proofs.Common.{◌≡◌, ℕ, zero, suc, ◌+◌, ◌<◌, ◌≤◌, Bool, true, false, List, [], ◌∷◌, ◌++◌, length, Ok, Err, refl, sym, ap, ◌∙◌, arith}
+use Rattle.std.proofs.Common.{◌≡◌, ℕ, suc, ◌<◌, ◌≤◌, Bool, true, false, List, [], ◌∷◌, length, Ok, Err, refl, sym, ap, ◌∙◌, arith}
 use Rattle.std.proofs.lemmas.List.{length-append}
-use Rattle.lola_grammar.specs.Syntax.{Lexeme, Terminal, Syntax, Unexpected, TooDeep, Outcome, read}
+use Rattle.lola_grammar.specs.Syntax.{Lexeme, Syntax, Unexpected, TooDeep, Outcome, read}
 use Rattle.lola_grammar.specs.Marks.{is_mark, one_if, marks_in}
 use Rattle.lola_grammar.proofs.Over.{over}
 use Rattle.lola_parser.specs.Grammar.{all_marks, level, expr_in, other_in}

@@ -1,11 +1,11 @@
 -- Each turn leaves less to do.
-use Rattle.std.proofs.Common.{◌≡◌, ℕ, zero, suc, ◌+◌, ◌*◌, ◌<◌, ◌≤◌, Bool, true, false, cond, List, [], ◌∷◌, ◌++◌, length, drop, Some, None, refl, sym, ap, ◌∙◌, arith, codes, subst}
+use Rattle.std.proofs.Common.{◌≡◌, ℕ, ◌+◌, ◌*◌, ◌<◌, ◌≤◌, Bool, true, false, cond, List, [], ◌∷◌, ◌++◌, length, drop, Some, None, refl, arith, codes, subst}
 use Rattle.lola_lexer.specs.declared.shape.TokenShape.{TokenShape}
 use Rattle.lola_lexer.specs.declared.shape.TokenShape.TheVariants as is
 use Rattle.lola_grammar.specs.Syntax.{Lexeme, Terminal, Of, Word, any_fits, starts}
 use Rattle.lola_syntax.specs.declared.pending.Pending.{Pending}
 use Rattle.lola_syntax.specs.declared.pending.Pending.TheVariants as p
-use Rattle.lola_syntax.specs.Turns.{Left, ◌>->◌, behind, shape, word, Turn, and_parts, and_turn, if_next, distance, frame, to, defaults_to, inner, expression_turn, operand_turn, substitute, access, defaults_turn, access_turn, further_turn, signs_turn, token_turn, turned, over_words, held_words, product_marks, product, sum_marks, sum, comparison_marks, conjunction, disjunction, conditional, prefix_signs, literals, arguments}
+use Rattle.lola_syntax.specs.Turns.{Left, ◌>->◌, behind, shape, word, Turn, and_parts, and_turn, if_next, distance, frame, to, defaults_to, inner, expression_turn, operand_turn, substitute, access, signs_turn, token_turn, turned, over_words, held_words, product_marks, product, sum_marks, sum, comparison_marks, conjunction, disjunction, conditional, prefix_signs, literals, arguments}
 use Rattle.lola_syntax.proofs.Skims.{left_some, shortens_behind}
 
 -- an expression is more than the parts that stand for it

@@ -1,10 +1,10 @@
 -- Where a bracket that is a mark after all begins an expression, it stands behind the last `with`, which a spawn clause has.
-use Rattle.std.proofs.Common.{◌≡◌, ℕ, zero, suc, Bool, true, false, not, ◌&&◌, ◌||◌, cond, List, [], ◌∷◌, ◌++◌, Option, Some, None, refl, sym, ap, ◌∙◌, append_assoc, inl, inr, subst, ◌⊎◌}
+use Rattle.std.proofs.Common.{◌≡◌, ℕ, Bool, true, false, ◌&&◌, ◌||◌, cond, List, [], ◌∷◌, ◌++◌, Option, Some, None, refl, sym, ap, ◌∙◌, append_assoc, inl, inr, subst}
 use Rattle.lola_lexer.specs.declared.shape.TokenShape.TheVariants as is
 use Rattle.lola_tree.specs.declared.expressions.Expr.{Expr}
 use Rattle.lola_tree.specs.declared.declarations.Declaration.{Declaration}
-use Rattle.lola_grammar.specs.Syntax.{Lexeme, Terminal, Of, fits, any_fits, same_shape, within, Syntax, Past, Token, Mark, Whole, Known, Then, Map, Either, Maybe, Many, Fork, Spells, starts, first, max_marks}
-use Rattle.lola_grammar.specs.Marks.{is_mark, marks_in}
+use Rattle.lola_grammar.specs.Syntax.{Lexeme, Terminal, Of, fits, any_fits, same_shape, within, Syntax, Past, Token, Mark, Whole, Known, Then, Map, Either, Maybe, Many, Fork, Spells, max_marks}
+use Rattle.lola_grammar.specs.Marks.{marks_in}
 use Rattle.lola_grammar.specs.Exceeding.{ExceedsAmong}
 use Rattle.lola_grammar.proofs.Tests.{and_both, shape_is}
 use Rattle.lola_limit.specs.Late.{IsNextBehindBracket}
@@ -13,7 +13,7 @@ use Rattle.lola_tree.specs.declared.clauses.Spawn.{Spawn}
 use Rattle.lola_tree.specs.declared.pacing.Pacing.{Pacing}
 use Rattle.lola_parser.specs.Grammar as g
 use Rattle.lola_parser.specs.Grammar.{all_marks, expr_in, specification}
-use Rattle.lola_syntax.specs.Places.{Cut, cut_last, clause_words, is_spawn, behind_with, behind_bracket}
+use Rattle.lola_syntax.specs.Places.{Cut, cut_last, clause_words, is_spawn, behind_with}
 use Rattle.lola_syntax.specs.Law.{IsBehind}
 use Rattle.lola_syntax.proofs.Lacks.{words, cut_more, cut_here, not_here, front_none, none_append, none_in, fewer, expr_lacks, pacing_lacks, when_lacks}
 

@@ -1,8 +1,8 @@
 -- Where no bracket of a spawn clause stands before it, the mark at which reading ended is the place of the rule.
-use Rattle.std.proofs.Common.{◌≡◌, ℕ, ◌+◌, ◌≤◌, ◌<◌, List, [], ◌∷◌, ◌++◌, length, Option, Some, None, Result, Ok, Err, refl, sym, ap, subst, ◌∙◌, append_assoc, arith, inl, inr, ◌⊎◌}
+use Rattle.std.proofs.Common.{◌≡◌, ℕ, ◌≤◌, List, ◌∷◌, ◌++◌, Some, None, Result, Ok, Err, refl, sym, ap, subst, ◌∙◌, append_assoc, arith, inl, inr, ◌⊎◌}
 use Rattle.lola_tree.specs.declared.declarations.Declaration.{Declaration}
 use Rattle.lola_grammar.specs.Syntax.{Lexeme, TooDeep, Spells, max_marks, read_all}
-use Rattle.lola_limit.specs.Late.{IsNextBehindBracket, IsFirstLate, IsLateInEvery, IsDeepPlace}
+use Rattle.lola_limit.specs.Late.{IsNextBehindBracket, IsFirstLate, IsDeepPlace}
 use Rattle.lola_limit.specs.Fronts.{IsLongestFront}
 use Rattle.lola_limit.proofs.Levels.{counted_at}
 use Rattle.lola_limit.proofs.Open.{specification_open}
@@ -13,7 +13,6 @@ use Rattle.lola_parser.proofs.Fine.{specification_fine}
 use Rattle.std.proofs.lemmas.List.{append_cancel_right}
 use Rattle.lola_value.specs.declared.front.FrontEnd.{FrontEnd}
 use Rattle.lola_value.specs.declared.front.FrontEnd.TheVariants as front_end
-use Rattle.lola_value.specs.declared.front.Code.TheVariants as code
 use Rattle.lola_parser.proofs.Levels.{read_alike}
 use Rattle.lola_syntax.specs.Turns.{Left}
 use Rattle.lola_syntax.specs.Places.{behind_bracket, place_too_deep, IsPlacedAt, Answers}

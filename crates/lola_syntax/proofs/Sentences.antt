@@ -1,7 +1,7 @@
 -- Each expression is recognized.
-use Rattle.std.proofs.Common.{◌≡◌, ℕ, ◌-◌, ◌<◌, true, false, List, ◌++◌, length, Some, Ok, arith}
+use Rattle.std.proofs.Common.{◌≡◌, ℕ, ◌-◌, ◌<◌, true, false, List, ◌++◌, length, Some, arith}
 use Rattle.lola_tree.specs.declared.expressions.Expr.{Expr}
-use Rattle.lola_grammar.specs.Syntax.{Lexeme, Spells, starts, more, is_fine, read}
+use Rattle.lola_grammar.specs.Syntax.{Lexeme, Spells, starts, more, is_fine}
 use Rattle.lola_grammar.specs.Marks.{tallies, guards, marks_in}
 use Rattle.lola_grammar.proofs.Within.{complete_within}
 use Rattle.lola_parser.specs.Grammar.{all_marks, expr_in, expr_goes_on, whole}

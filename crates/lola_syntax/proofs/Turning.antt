@@ -1,15 +1,15 @@
 -- A turn leaves what the part leaves.
-use Rattle.std.proofs.Common.{◌≡◌, ℕ, zero, suc, ◌+◌, ◌<◌, ◌≤◌, Bool, true, false, cond, ◌||◌, List, [], ◌∷◌, ◌++◌, length, drop, Some, None, refl, sym, ap, ◌∙◌, arith, codes}
+use Rattle.std.proofs.Common.{◌≡◌, ℕ, ◌<◌, Bool, true, false, cond, ◌||◌, List, [], ◌∷◌, ◌++◌, length, drop, Some, None, refl, sym, ap, ◌∙◌, arith, codes}
 use Rattle.lola_lexer.specs.declared.shape.TokenShape.{TokenShape}
 use Rattle.lola_lexer.specs.declared.shape.TokenShape.TheVariants as is
 use Rattle.lola_tree.specs.declared.expressions.Expr.{Expr}
-use Rattle.lola_grammar.specs.Syntax.{Lexeme, Terminal, Of, Word, fits, any_fits, same_shape, Syntax, Then, Map, Maybe, Many, starts, first, nullable, more, is_fine}
+use Rattle.lola_grammar.specs.Syntax.{Lexeme, Of, Word, fits, same_shape, Syntax, Then, Maybe, Many, starts, first, nullable, more, is_fine}
 use Rattle.lola_parser.specs.Grammar as g
 use Rattle.lola_parser.specs.Grammar.{expr_in, other_in, level, ◌*>◌, ◌<*◌}
 use Rattle.lola_syntax.specs.declared.pending.Pending.{Pending}
 use Rattle.lola_syntax.specs.declared.pending.Pending.TheVariants as p
-use Rattle.lola_syntax.specs.Turns.{Left, ◌>->◌, behind, shape, word, Turn, and_parts, and_turn, distance, frame, to, defaults_to, inner, expression_turn, operand_turn, substitute, access, defaults_turn, access_turn, further_turn, signs_turn, token_turn, turned, or_nothing, product_marks, product, sum_marks, sum, comparison_marks, conjunction, disjunction, arguments, over_words, held_words}
-use Rattle.lola_syntax.specs.Skims.{skim, again}
+use Rattle.lola_syntax.specs.Turns.{Left, ◌>->◌, behind, shape, Turn, and_parts, and_turn, distance, frame, defaults_to, inner, expression_turn, operand_turn, substitute, access, defaults_turn, access_turn, further_turn, signs_turn, token_turn, turned, or_nothing, arguments, over_words}
+use Rattle.lola_syntax.specs.Skims.{skim}
 use Rattle.lola_syntax.specs.Parts.{left_by, left_by_all, after_turn}
 use Rattle.lola_syntax.proofs.Skims.{Shortens, same_next, one_turn, shortens, shortens_then, shortens_behind}
 use Rattle.lola_parser.proofs.Joins.{product_full, sum_full, and_full, or_full}

@@ -1,6 +1,5 @@
 -- The place of a refusal as too deep, by the rule.
 use Rattle.std.specs.Prelude.{◌≡◌, ◌≤◌, ℕ, List, ◌∷◌, ◌++◌, Result, Ok, Err}
-use Rattle.lola_value.specs.declared.front.Refusal.{Refusal}
 use Rattle.lola_value.specs.declared.front.Code.TheVariants as code
 use Rattle.lola_value.specs.declared.front.FrontEnd.{FrontEnd}
 use Rattle.lola_value.specs.declared.front.FrontEnd.TheVariants as front_end

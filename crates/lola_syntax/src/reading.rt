@@ -120,6 +120,12 @@ fn placed(alloc: Global, bytes: &[u8], tokens: &[Token], refusal: Refusal) -> Fr
 /// Tokens that are no specification are refused as `Unexpected` at the first token such that no specification begins
 /// with the tokens up to it, or at the length of the text. Where a whole expression or formula has more than 512 marks,
 /// `TooDeep` stands at the 513th, if it comes before such a token.
+///
+/// A bracket directly behind the `with` of a spawn clause is a mark where the expression in it ends at a `)`, and none where
+/// a `,` follows, or neither can be seen. So where 512 marks stand between it and the mark at which reading ended, the
+/// expression is read on, however many marks it has, and where a `)` ends it, `TooDeep` stands at the mark before. Of these
+/// refusals `exact` tells the place by the tokens; of all others `deep` says that it is the first mark too many in every
+/// specification that begins with the tokens before the first that does not fit.
 #[tactic(auto, using(crate::proofs::Refusing::refuses, crate::proofs::Own::places_exactly))]
 pub fn specification(alloc: Global, bytes: &[u8], tokens: &Tokens) -> Result<Ast, FrontEnd>
     requires within { StandIn bytes.now tokens.now }

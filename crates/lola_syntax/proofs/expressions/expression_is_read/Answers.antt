@@ -1,4 +1,4 @@
-use Rattle.std.proofs.Common.{◌≡◌, ℕ, ◌+◌, ◌<◌, ◌≤◌, ◌++◌, ◌∷◌, List, length, sym, ap, ◌∙◌, arith}
+use Rattle.std.proofs.Common.{◌≡◌, ◌<◌, ◌++◌, ◌∷◌, List, length, sym, ap, ◌∙◌, arith}
 use Rattle.lola_syntax.specs.declared.pending.Pending.{Pending}
 use Rattle.lola_syntax.specs.Parts.{left_by_all}
 use Rattle.lola_syntax.proofs.Turning.{turn_keeps, turn_stops}

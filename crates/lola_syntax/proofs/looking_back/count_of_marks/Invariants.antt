@@ -1,4 +1,4 @@
-use Rattle.std.proofs.Common.{◌≡◌, ◌+◌, ◌≤◌, drop, length}
+use Rattle.std.proofs.Common.{◌≡◌, ◌+◌, ◌≤◌, drop}
 use Rattle.lola_syntax.specs.Looking.{marks_among}
 use Rattle.lola_syntax.proofs.looking_back.count_of_marks.Given as goal
 

@@ -1,4 +1,4 @@
-use Rattle.std.proofs.Common.{◌≡◌, ◌≢◌, ℕ, ◌<◌, get_or}
+use Rattle.std.proofs.Common.{◌≢◌, ℕ, ◌<◌, get_or}
 use Rattle.lola_lexer.specs.declared.token.Token.{Token}
 use Rattle.lola_syntax.proofs.reading.found.Given as goal
 

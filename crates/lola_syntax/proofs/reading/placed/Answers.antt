@@ -1,4 +1,4 @@
-use Rattle.std.proofs.Common.{◌≡◌, ℕ, List, ◌∷◌, ◌++◌, Err, refl, sym, ap, ◌∙◌, inl, inr, length, rules}
+use Rattle.std.proofs.Common.{◌≡◌, ℕ, List, ◌∷◌, ◌++◌, Err, refl, ap, ◌∙◌, inl, inr, length, rules}
 use Rattle.lola_value.specs.declared.front.Refusal.{Refusal}
 use Rattle.lola_value.specs.declared.front.Code.TheVariants as code
 use Rattle.lola_grammar.specs.Syntax.{Lexeme}

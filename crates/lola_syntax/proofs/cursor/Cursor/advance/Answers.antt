@@ -1,5 +1,4 @@
-use Rattle.std.proofs.Common.{rules, arith, sym, ap, ◌∙◌, drop}
-use Rattle.lola_grammar.specs.Syntax.{Lexeme}
+use Rattle.std.proofs.Common.{ap, ◌∙◌, drop}
 use Rattle.lola_parser.proofs.Steps.{tail_is}
 use Rattle.lola_syntax.proofs.cursor.Cursor.advance.Goals as goal
 
