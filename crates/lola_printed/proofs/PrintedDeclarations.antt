@@ -15,7 +15,7 @@ use Rattle.lola_tree.specs.declared.declarations.Output.{Output}
 use Rattle.lola_tree.specs.declared.declarations.Trigger.{Trigger}
 use Rattle.lola_tree.specs.declared.declarations.Declaration.{Declaration}
 use Rattle.lola_tree.specs.declared.declarations.Declaration.TheVariants as d
-use Rattle.lola_grammar.specs.Syntax.{Lexeme, Maybe, Many, Spells}
+use Rattle.lola_grammar.specs.Syntax.{Lexeme, Then, Maybe, Many, Spells}
 use Rattle.lola_parser.specs.Grammar as g
 use Rattle.lola_parser.specs.Grammar.{token, mark, ◌*>◌, ◌<*◌}
 use Rattle.lola_print.specs.Print as out
