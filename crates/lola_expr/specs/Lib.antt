@@ -1,4 +1,3 @@
 pub mod Evaluation
 pub mod Operands
 pub mod Asking
-pub mod Worked

@@ -6,5 +6,3 @@ pub mod evaluation;
 pub mod job;
 pub mod law;
 mod operators;
-#[cfg(test)]
-mod tests;
