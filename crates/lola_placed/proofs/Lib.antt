@@ -1,0 +1,9 @@
+pub mod Before
+pub mod Next
+pub mod Last
+pub mod Listed
+pub mod InList
+pub mod Marked
+pub mod Around
+pub mod Enclosed
+pub mod Both
