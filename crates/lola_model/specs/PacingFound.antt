@@ -14,8 +14,7 @@ use Rattle.lola_model.specs.declared.spec.Pace.TheVariants as pace
 use Rattle.lola_model.specs.declared.spec.Stream.{Stream}
 use Rattle.lola_model.specs.declared.spec.WrittenRate.{WrittenRate}
 use Rattle.lola_model.specs.declared.spec.WrittenRate.TheVariants as rate
-use Rattle.lola_model.specs.NormalForms.{ListsNormalForm, IsWide, parts_of}
-use Rattle.lola_model.specs.NormalForms.{IsTooWide, ListsLeast}
+use Rattle.lola_model.specs.NormalForms.{IsTooWide, IsWide, ListsLeast, ListsNormalForm, parts_of}
 use Rattle.lola_model.specs.declared.finding.Finding.{Finding}
 use Rattle.lola_model.specs.declared.finding.Finding.TheVariants.{Paced, Refused, Unpaced}
 
