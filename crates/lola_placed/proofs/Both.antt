@@ -25,7 +25,7 @@ use Rattle.lola_placed.proofs.Enclosed.{next_in_every}
 same_head : (a b : List Lexeme) → ◌≡◌ {A = Left} (Some a) (Some b) → a ≡ b
 same_head a b h = cc
 
-abbrev Decided : List Lexeme → List Lexeme → Type 0
+abbrev pub Decided : List Lexeme → List Lexeme → Type 0
 Decided u d = (IsEnclosedBehind u d × ((at : ℕ) → place_too_deep u d at ≡ mark_or (cut_last all_marks u) at)) ⊎ ((IsEnclosedBehind u d → ⊥) × ((at : ℕ) → place_too_deep u d at ≡ at))
 
 some_decided : (u d head : List Lexeme) → behind_bracket u ≡ Some head → (b c : Bool) → nat_eq (marks_in all_marks head) max_marks ≡ b → is_enclosed head d ≡ c → Decided u d
@@ -45,7 +45,7 @@ some_decided u d head e false c m i =
       λ at. other_count u d head at e few,
     )
 
-decided : (u d : List Lexeme) → Decided u d
+pub decided : (u d : List Lexeme) → Decided u d
 decided u d = by (behind_bracket u) refl
   where
     by : (o : Left) → behind_bracket u ≡ o → Decided u d

@@ -234,6 +234,21 @@ module _ (n : ℕ) where
               subst (λ (z : List Lexeme). IsNextBehindBracket all_marks (specification n) u t z x) back (subst (λ (z : List Lexeme). IsNextBehindBracket all_marks (specification n) z t ((w ++ k.1) ++ r.2) x) front next)
         ]
 
+-- in a sentence whose reading ended at t
+pub enclosed_is_next : (n : ℕ) (u : List Lexeme) (t : Lexeme) (v : List Lexeme) (x : List Declaration) → length (u ++ t ∷ v) < n → IsEnclosedBehind u (t ∷ v) → IsFirstOrLast all_marks (specification n) u t v x → Spells (specification n) (u ++ t ∷ v) x
+    → IsNextBehindBracket all_marks (specification n) u t v x
+enclosed_is_next n u t v x less h (inr c) g = c.0
+enclosed_is_next n u t v x less h (inl c) g =
+    let head = h.0 in
+    let b = bracket_inv u head h.1 in
+    let size = b.0 ++ b.1 ∷ (b.2 ∷ []) in
+    let parts : u ≡ size ++ head = b.3 ∙ sym (append_assoc b.0 (b.1 ∷ (b.2 ∷ [])) head) in
+    let short : length (head ++ t ∷ v) < n = omega (arith, less, length-append u (t ∷ v), ap length parts, length-append size head, length-append head (t ∷ v)) in
+    let k = ending n head t v short h.3 in
+    let mark = mark_is (specification n) max_marks u t v x c.0 in
+    subst (λ (y : List Lexeme). IsNextBehindBracket all_marks (specification n) u t y x) (sym k.4)
+    (next_so n u t head b k.0 k.1 k.3 k.5 k.6 k.2 x h.2 mark (subst (λ (y : List Lexeme). Spells (specification n) (u ++ t ∷ y) x) k.4 g))
+
 pub next_in_every : (n : ℕ) (ts p rest u : List Lexeme) (t : Lexeme) (w : List Lexeme) → length ts < n → IsLongestFront (specification n) ts p rest → p ≡ u ++ t ∷ w → IsEnclosedBehind u (t ∷ (w ++ rest))
     → ((q : List Lexeme) (x : List Declaration) → Spells (specification n) (u ++ t ∷ (w ++ q)) x → IsFirstOrLast all_marks (specification n) u t (w ++ q) x)
     → (q : List Lexeme) (x : List Declaration) → Spells (specification n) (u ++ t ∷ (w ++ q)) x → IsNextBehindBracket all_marks (specification n) u t (w ++ q) x

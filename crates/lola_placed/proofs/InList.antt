@@ -1,6 +1,6 @@
 -- Where the bracketed expression does not end at a bracket, the mark at which reading ends is the place of the rule.
 use Rattle.std.proofs.Common.{◌≡◌, ℕ, zero, suc, ◌+◌, ◌-◌, ◌<◌, ◌≤◌, Bool, true, false, cond, List, [], ◌∷◌, ◌++◌, length, Some, None, Err, refl, sym, ap, subst, ◌∙◌, append_assoc, arith, inl, inr}
-use Rattle.std.proofs.lemmas.List.{length-append}
+use Rattle.std.proofs.lemmas.List.{append-nil, length-append}
 use Rattle.std.proofs.lemmas.Bool.{lt-ltb}
 use Rattle.lola_lexer.specs.declared.shape.TokenShape.TheVariants as is
 use Rattle.lola_tree.specs.declared.expressions.Expr.{Expr}
@@ -25,6 +25,7 @@ use Rattle.lola_syntax.proofs.Sentences.{skims_sentence}
 use Rattle.lola_syntax.proofs.Lacks.{words, cut_more, cut_here, not_here, fewer}
 use Rattle.lola_syntax.proofs.Forking.{next_is_behind}
 use Rattle.lola_placed.specs.Law.{IsEnclosedBehind}
+use Rattle.lola_placed.proofs.Before.{IsBehindLast}
 use Rattle.lola_placed.proofs.Last.{IsFirstOrLast, deep_is_first}
 use Rattle.lola_placed.proofs.Next.{next_mark}
 use Rattle.lola_placed.proofs.Listed.{IsLow, Led, IsListed, walk_specification}
@@ -95,6 +96,33 @@ low_before u a m b whole none front head e many =
 with_more : (p q u w : List Lexeme) (t : Lexeme) → p ≡ u ++ t ∷ w → p ++ q ≡ u ++ t ∷ (w ++ q)
 with_more p q u w t e = ap (λ (y : List Lexeme). y ++ q) e ∙ append_assoc u (t ∷ w) q
 
+-- ---- a sentence that has an expression behind the bracket
+
+module _ (n : ℕ) (ts d rest u : List Lexeme) (t : Lexeme) (w : List Lexeme) (less : length ts < n) (text : ts ≡ u ++ d) (back : d ≡ t ∷ (w ++ rest)) (v : List Lexeme) (x : List Declaration) (next : IsNextBehindBracket all_marks (specification n) u t v x) where
+  listed_encloses : (r : IsListed n (Led n) (specification n) u t v) → (s : Lexeme) (y : List Lexeme) → w ≡ r.2 ++ s ∷ y → starts (Of is.Shut ∷ []) (s ∷ y) ≡ true → IsEnclosedBehind u d
+  listed_encloses r s y e shut =
+      let split : d ≡ t ∷ (r.2 ++ s ∷ (y ++ rest)) = back ∙ ap (λ (z : List Lexeme). t ∷ z) (ap (λ (z : List Lexeme). z ++ rest) e ∙ append_assoc r.2 (s ∷ y) rest) in
+      let parts : ts ≡ r.0 ++ (r.1 ++ d) = text ∙ ap (λ (z : List Lexeme). z ++ d) r.7 ∙ append_assoc r.0 r.1 d in
+      let short : length (r.1 ++ d) < n = omega (arith, less, ap length parts, length-append r.0 (r.1 ++ d)) in
+      let b = next_is_behind n u t v x next in
+      (r.1, bracket_there u r.0 r.1 b.0 r.7 n r.8 r.13 b.1, r.12, enclosed n r.1 t r.2 (s ∷ (y ++ rest)) d r.6 r.11 shut split short)
+
+-- in this sentence t is the next mark behind the first too many, and none before that one is
+abbrev pub NextIn : (n : ℕ) → List Lexeme → Lexeme → List Lexeme → List Declaration → Type 0
+NextIn n u t v x = IsBehindLast all_marks (λ u t v. IsNextBehindBracket all_marks (specification n) u t v x) (λ l. NoneIsLate all_marks (specification n) l (u ++ t ∷ v) x) u t v
+
+module _ (n : ℕ) (u : List Lexeme) (t : Lexeme) (v : List Lexeme) (x : List Declaration) where
+  listed_past : NextIn n u t v x → IsListed n (Led n) (specification n) u t v
+  listed_past b = walk_specification n (specification_fine n) u t v x (length b.1) b.0 b.7 (low_before u b.1 b.2 b.3 b.4 b.5)
+
+  -- a whole sentence has the bracket that ends it
+  pub next_is_enclosed : length (u ++ t ∷ v) < n → NextIn n u t v x → IsEnclosedBehind u (t ∷ v)
+  next_is_enclosed less b = let r = listed_past b in by r r.3 r.9 r.10
+    where
+      by : (r : IsListed n (Led n) (specification n) u t v) → (y : List Lexeme) → v ≡ r.2 ++ y → starts (Of is.Shut ∷ []) y ≡ true → IsEnclosedBehind u (t ∷ v)
+      by r [] e shut = absurd cc
+      by r (s ∷ y) e shut = listed_encloses n (u ++ t ∷ v) (t ∷ v) [] u t v less refl (ap (λ (z : List Lexeme). t ∷ z) (sym (append-nil v))) v x b.0 r s y e shut
+
 -- ---- the place
 
 module _ (n : ℕ) (ts d p rest u : List Lexeme) (t : Lexeme) (w : List Lexeme) (less : length ts < n) (text : ts ≡ p ++ rest) (e : p ≡ u ++ t ∷ w) (back : d ≡ t ∷ (w ++ rest))
@@ -114,18 +142,13 @@ module _ (n : ℕ) (ts d p rest u : List Lexeme) (t : Lexeme) (w : List Lexeme) 
             let new : u ++ t ∷ (r.2 ++ r.4) ≡ u ++ t ∷ (w ++ (k.0 ++ r.4)) = ap (λ (y : List Lexeme). u ++ t ∷ y) (ap (λ (y : List Lexeme). y ++ r.4) k.1 ∙ append_assoc w k.0 r.4) in
             none_keeps (k.0 ++ r.4) r.5 (subst (λ (y : List Lexeme). Spells (specification n) y r.5) new r.14) (subst (λ (y : List Lexeme). NoneIsLate all_marks (specification n) (length u) y r.5) new r.15)
         | inr k ↦
-            let y = k.0 ∷ (k.1 ++ rest) in
-            let shut : starts (Of is.Shut ∷ []) y ≡ true = sym (ap (starts (Of is.Shut ∷ [])) k.3) ∙ r.10 in
-            let split : d ≡ t ∷ (r.2 ++ y) = back ∙ ap (λ (z : List Lexeme). t ∷ z) (ap (λ (z : List Lexeme). z ++ rest) k.2 ∙ append_assoc r.2 (k.0 ∷ k.1) rest) in
-            let parts : ts ≡ r.0 ++ (r.1 ++ d) = text ∙ ap (λ (z : List Lexeme). z ++ rest) e ∙ append_assoc u (t ∷ w) rest ∙ ap (λ (z : List Lexeme). u ++ z) (sym back) ∙ ap (λ (z : List Lexeme). z ++ d) r.7 ∙ append_assoc r.0 r.1 d in
-            let short : length (r.1 ++ d) < n = omega (arith, less, ap length parts, length-append r.0 (r.1 ++ d)) in
-            let b = next_is_behind n u t (w ++ q) x next in
-            none (r.1, bracket_there u r.0 r.1 b.0 r.7 n r.8 r.13 b.1, r.12, enclosed n r.1 t r.2 y d r.6 r.11 shut split short)
+            let parts : ts ≡ u ++ d = text ∙ ap (λ (z : List Lexeme). z ++ rest) e ∙ append_assoc u (t ∷ w) rest ∙ ap (λ (z : List Lexeme). u ++ z) (sym back) in
+            none (listed_encloses n ts d rest u t w less parts back (w ++ q) x next r k.0 k.1 k.2 (sym (ap (starts (Of is.Shut ∷ [])) k.3) ∙ r.10))
       ]
 
   not_before : (q : List Lexeme) (x : List Declaration) → Spells (specification n) (u ++ t ∷ (w ++ q)) x → IsFirstOrLast all_marks (specification n) u t (w ++ q) x → ⊥
   not_before q x g (inl f) = none_keeps q x g f.1
-  not_before q x g (inr b) = not_enclosed q x b.0 (walk_specification n (specification_fine n) u t (w ++ q) x (length b.1) b.0 b.7 (low_before u b.1 b.2 b.3 b.4 b.5))
+  not_before q x g (inr b) = not_enclosed q x b.0 (listed_past n u t (w ++ q) x b)
 
 pub list_is_deep : (n : ℕ) (ts d p rest u : List Lexeme) (t : Lexeme) (w : List Lexeme) → length ts < n → IsLongestFront (specification n) ts p rest → p ≡ u ++ t ∷ w → d ≡ t ∷ (w ++ rest)
     → ((q : List Lexeme) (x : List Declaration) → Spells (specification n) (u ++ t ∷ (w ++ q)) x → IsFirstOrLast all_marks (specification n) u t (w ++ q) x) → (IsEnclosedBehind u d → ⊥) → IsDeepPlace all_marks (specification n) u t w

@@ -19,7 +19,7 @@ module _ (marks : List Terminal) where
       subst (λ (w : List Lexeme). IsFirstOrLast s u' t' w x) g (subst (λ (y : Lexeme). IsFirstOrLast s u' y v x) f (subst (λ (w : List Lexeme). IsFirstOrLast s w t v x) e h))
 
   -- in a sentence, of which reading ends there
-  ends_first : {A : Type 0} (s : Syntax A) → is_fine s ≡ true → is_counted marks s ≡ true → (u : List Lexeme) (t : Lexeme) (v : List Lexeme) (x : A) → Spells s (u ++ t ∷ v) x → read s max_marks (u ++ t ∷ v) ≡ Err (TooDeep (t ∷ v)) → IsFirstOrLast s u t v x
+  pub ends_first : {A : Type 0} (s : Syntax A) → is_fine s ≡ true → is_counted marks s ≡ true → (u : List Lexeme) (t : Lexeme) (v : List Lexeme) (x : A) → Spells s (u ++ t ∷ v) x → read s max_marks (u ++ t ∷ v) ≡ Err (TooDeep (t ∷ v)) → IsFirstOrLast s u t v x
   ends_first s fine count u t v x h e =
       let z = u ++ t ∷ v in
       let p = first_late marks s fine count max_marks z x [] (t ∷ v) h refl (ap (λ (w : List Lexeme). read s max_marks w) (append-nil z) ∙ e) in

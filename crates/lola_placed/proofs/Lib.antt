@@ -7,3 +7,4 @@ pub mod Marked
 pub mod Around
 pub mod Enclosed
 pub mod Both
+pub mod InTree

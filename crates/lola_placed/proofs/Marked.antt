@@ -112,7 +112,7 @@ module _ (n : ℕ) (p u : List Lexeme) (t : Lexeme) (w : List Lexeme) (e : p ≡
         omega (arith, low, l.1),
   )
 
-only_next : (n : ℕ) (u : List Lexeme) (t : Lexeme) (v : List Lexeme) (x : List Declaration) → IsNextBehindBracket all_marks (specification n) u t v x → IsFirstOrLast all_marks (specification n) u t v x
+pub only_next : (n : ℕ) (u : List Lexeme) (t : Lexeme) (v : List Lexeme) (x : List Declaration) → IsNextBehindBracket all_marks (specification n) u t v x → IsFirstOrLast all_marks (specification n) u t v x
     → IsBehindLast all_marks (λ u t v. IsNextBehindBracket all_marks (specification n) u t v x) (λ l. NoneIsLate all_marks (specification n) l (u ++ t ∷ v) x) u t v
 only_next n u t v x h (inr b) = b
 only_next n u t v x h (inl f) = let l = last_late (specification n) u t v x h in let less = f.1 max_marks l.0 l.1 (l.2 ++ t ∷ v) (ap (λ (y : List Lexeme). y ++ t ∷ v) l.3 ∙ append_assoc l.0 (l.1 ∷ l.2) (t ∷ v)) (omega (arith, ap length l.3, length-append l.0 (l.1 ∷ l.2))) l.6 in absurd (omega (arith, less))

@@ -1,12 +1,16 @@
--- Where a refusal as too deep stands, behind a bracket of a spawn clause.
-use Rattle.std.specs.Prelude.{◌≡◌, ℕ, ◌<◌, ◌≤◌, true, List, ◌∷◌, ◌++◌, length, Some, Err}
-use Rattle.lola_grammar.specs.Syntax.{Lexeme, TooDeep, max_marks, read_all}
+-- Where a refusal as too deep stands.
+use Rattle.std.specs.Prelude.{◌≡◌, ℕ, ◌<◌, ◌≤◌, true, List, ◌∷◌, ◌++◌, length, Some, Result, Ok, Err}
+use Rattle.lola_value.specs.declared.front.Code.TheVariants as code
+use Rattle.lola_value.specs.declared.front.FrontEnd.{FrontEnd}
+use Rattle.lola_value.specs.declared.front.FrontEnd.TheVariants as front_end
+use Rattle.lola_tree.specs.declared.declarations.Declaration.{Declaration}
+use Rattle.lola_grammar.specs.Syntax.{Lexeme, TooDeep, Spells, max_marks, read_all}
 use Rattle.lola_grammar.specs.Marks.{marks_in}
-use Rattle.lola_limit.specs.Late.{IsDeepPlace, IsNextInEvery}
+use Rattle.lola_limit.specs.Late.{IsLate, IsFirstLate, IsDeepPlace, IsNextInEvery}
 use Rattle.lola_limit.specs.Fronts.{IsLongestFront}
 use Rattle.lola_parser.specs.Grammar.{all_marks, specification}
 use Rattle.lola_parser.specs.Whole.{most_levels}
-use Rattle.lola_syntax.specs.Places.{cut_last, behind_bracket, is_enclosed, IsPlacedAt}
+use Rattle.lola_syntax.specs.Places.{cut_last, behind_bracket, is_enclosed, IsPlacedAt, Answers}
 
 -- Behind the bracket of the last `with`, which a spawn clause has, stand as many marks as may come, and the expression that
 -- begins there goes past the first token of d and ends at a closing bracket.
@@ -43,3 +47,27 @@ IsRulePlace n p at = (u : List Lexeme) × (t : Lexeme) × (w : List Lexeme) × (
 -- the tokens before the first one that does not fit, where more levels may be nested than there are tokens.
 abbrev pub PlaceIsDeep : Type 0
 PlaceIsDeep = (n : ℕ) → most_levels ≤ n → (ts : List Lexeme) (at : ℕ) → length ts < n → IsPlacedAt ts at → (p rest : List Lexeme) → IsLongestFront (specification n) ts p rest → IsRulePlace n p at
+
+-- In the specification that these tokens are, with this tree, the place is that of the first mark too many: the 513th of a whole
+-- expression or formula, and no mark before it is the 513th or a later one.
+abbrev pub IsFirstLateAt : ℕ → List Lexeme → List Declaration → ℕ → Type 0
+IsFirstLateAt n ts x at = (u : List Lexeme) × (t : Lexeme) × (v : List Lexeme) × (ts ≡ u ++ t ∷ v) × (at ≡ t.from) × IsFirstLate all_marks (specification n) u t v x
+
+-- Where the tokens are a specification, the place of its refusal as too deep is that of its first mark too many, in each tree
+-- that they spell.
+abbrev pub PlaceIsExact : Type 0
+PlaceIsExact = (n : ℕ) → most_levels ≤ n → (ts : List Lexeme) (at : ℕ) → length ts < n → IsPlacedAt ts at → (x : List Declaration) → Spells (specification n) ts x → IsFirstLateAt n ts x at
+
+-- Where the tokens are a specification and some mark of it is one too many, they are refused as too deep.
+abbrev pub LateIsPlaced : Type 0
+LateIsPlaced = (n : ℕ) → most_levels ≤ n → (u : List Lexeme) (t : Lexeme) (v : List Lexeme) (x : List Declaration) → IsLate all_marks (specification n) u t v x → (at : ℕ) × IsPlacedAt (u ++ t ∷ v) at
+
+-- what is answered is a refusal as too deep at this place, unless memory ran out
+abbrev pub IsRefusedAt : ℕ → Result (List Declaration) FrontEnd → Type 0
+IsRefusedAt at (Ok v) = ⊥
+IsRefusedAt at (Err front_end.Memory) = Unit {0}
+IsRefusedAt at (Err (front_end.Refused r)) = (r.code ≡ code.TooDeep) × (r.at ≡ at)
+
+-- Where the tokens are a specification and some mark of it is one too many, the answer is a refusal as too deep at the first such.
+abbrev pub FirstLateIsRefused : Type 0
+FirstLateIsRefused = (n : ℕ) → most_levels ≤ n → (ts : List Lexeme) (x : List Declaration) (at : ℕ) → length ts < n → IsFirstLateAt n ts x at → (end : ℕ) (r : Result (List Declaration) FrontEnd) → Answers ts end r → IsRefusedAt at r

@@ -1,4 +1,4 @@
-//! The law of the place of a refusal as too deep behind a bracket of a spawn clause.
+//! The laws of the place of a refusal as too deep: by the rule, and by the tree where the tokens are a specification.
 #![tactic(auto)]
 
 pub mod law;
