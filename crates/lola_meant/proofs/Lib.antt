@@ -1,0 +1,4 @@
+pub mod Basics
+pub mod Targets
+pub mod Expressions
+mod Laws
