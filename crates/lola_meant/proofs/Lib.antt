@@ -1,4 +1,5 @@
 pub mod Basics
 pub mod Targets
 pub mod Expressions
+pub mod Wholes
 mod Laws
