@@ -2,4 +2,7 @@ pub mod Basics
 pub mod Targets
 pub mod Expressions
 pub mod Wholes
+pub mod Shapes
+pub mod Names
+pub mod Listed
 mod Laws
