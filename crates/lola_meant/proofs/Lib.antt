@@ -5,4 +5,5 @@ pub mod Wholes
 pub mod Shapes
 pub mod Names
 pub mod Listed
+pub mod Tests
 mod Laws
