@@ -6,4 +6,5 @@ pub mod Shapes
 pub mod Names
 pub mod Listed
 pub mod Tests
+mod Spelled
 mod Laws

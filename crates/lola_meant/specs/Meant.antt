@@ -1,5 +1,7 @@
 -- A specification whose names are resolved, and of whose names nothing is refused, is named.
-use Rattle.std.specs.Prelude.{◌≡◌, List, [], ◌∷◌, Option, Some, None, IsSome}
+use Rattle.std.specs.Prelude.{◌≡◌, ℕ, List, [], ◌∷◌, Option, Some, None, IsSome}
+use Rattle.lola_grammar.specs.Syntax.{Lexeme, Spells}
+use Rattle.lola_parser.specs.Grammar.{specification}
 use Rattle.lola_tree.specs.declared.clauses.Spawn.{Spawn}
 use Rattle.lola_tree.specs.declared.clauses.Close.{Close}
 use Rattle.lola_tree.specs.declared.declarations.Declaration.{Declaration}
@@ -28,3 +30,7 @@ ResolvedIsNamed = (ds : List Declaration) (spec : Spec) → ClosesAreSpawned ds 
 -- literals have a kind noted only where they stand for constants
 abbrev pub ResolvedNotesConstants : Type 0
 ResolvedNotesConstants = (ds : List Declaration) (spec : Spec) → ClosesAreSpawned ds → refusals_of ds ≡ [] → Resolves ds spec → NotesConstants spec
+
+-- what the grammar of the language gives, of at most so many levels of nesting
+abbrev pub SpelledClosesAreSpawned : Type 0
+SpelledClosesAreSpawned = (n : ℕ) (ts : List Lexeme) (ds : List Declaration) → Spells (specification n) ts ds → ClosesAreSpawned ds

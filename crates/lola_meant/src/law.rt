@@ -1,6 +1,6 @@
 //! The laws, about definitions alone.
 
-ghost use Rattle.lola_meant.specs.Meant.{ResolvedIsNamed, ResolvedNotesConstants};
+ghost use Rattle.lola_meant.specs.Meant.{ResolvedIsNamed, ResolvedNotesConstants, SpelledClosesAreSpawned};
 
 /// What resolving gives is named: where nothing of the names of some declarations is refused, the specification that they are
 /// resolved to is within the limits of the language, its names are distinct, each number is that of a stream, a window, a
@@ -13,4 +13,10 @@ pub fn resolved_is_named()
 /// What resolving gives notes a kind of a literal only where the literal stands for a constant of that kind.
 pub fn resolved_notes_constants()
     ensures { ResolvedNotesConstants }
+{}
+
+/// What the grammar gives is what the laws above ask for: in every specification of the language each output with a close clause
+/// has a spawn clause.
+pub fn spelled_closes_are_spawned()
+    ensures { SpelledClosesAreSpawned }
 {}
