@@ -2,16 +2,18 @@
 use Rattle.std.proofs.Common.{◌≡◌, refl, ap, sym, subst, ℕ, ◌/◌, ◌<◌, ◌≤◌, zero, suc, ◌+◌, List, [], ◌∷◌, ◌++◌, length, take, get_or, Option, Some, None, IsSome}
 use Rattle.std.proofs.Math.Nat.{div-mul_cancel}
 use Rattle.std.proofs.lemmas.List.{take_more}
-use Rattle.std.specs.List.{AllZip, slice_get}
+use Rattle.std.proofs.lemmas.List.Elements.{All-head, All-tail}
+use Rattle.std.specs.List.{All, AllZip, slice_get}
 use Rattle.std.specs.Option.{SomeIff}
 use Rattle.std.specs.Int.{IsGcd}
 use Rattle.lola_value.specs.Ratio.{Ratio}
 use Rattle.lola_value.specs.Rate.{period_over}
-use Rattle.lola_model.specs.Bounds.{ArePanes}
+use Rattle.lola_model.specs.Bounds.{ArePanes, ArePanesOf}
+use Rattle.lola_model.specs.declared.pacing.Pacing.{Pacing}
 use Rattle.lola_model.specs.declared.pacing.ClausePacings.{ClausePacings}
 use Rattle.lola_model.specs.declared.spec.WindowSpec.{WindowSpec}
 use Rattle.lola_model.specs.declared.plan.PaneSize.{PaneSize}
-use Rattle.lola_bounds.specs.Panes.{HasFewPanes, ArePanesOfWindow}
+use Rattle.lola_bounds.specs.Panes.{HasFewPanes, IsPaned, ArePanesOfWindow}
 
 -- the greatest common divisor and how often it goes into the length
 pub panes_of : (r : Ratio) (over period pane : ℕ) → HasFewPanes r over → period ≡ period_over r / r.num → IsGcd period over pane → ArePanes r over (record { pane = pane; count = over / pane })
@@ -40,6 +42,17 @@ zip_at pacings [] ps h i w e = absurd (cc)
 zip_at pacings (v ∷ ws) [] h i w e = absurd h
 zip_at pacings (v ∷ ws) (p ∷ ps) h zero w e = let same : v ≡ w = cc in subst (λ (x : WindowSpec). ArePanesOfWindow pacings x (Some p)) same h.0
 zip_at pacings (v ∷ ws) (p ∷ ps) h (suc i) w e = zip_at pacings ws ps h.1 i w e
+
+-- none of a window has too many
+few_of : (pacings : List ClausePacings) (w : WindowSpec) (p : PaneSize) → IsPaned pacings w → ArePanesOfWindow pacings w (Some p) → p.count ≤ 65536
+few_of pacings w p a h = a.panes.few p (subst (λ (o : Option Pacing). ArePanesOf o w.over (Some p)) a.periodic h)
+
+pub zip_few : (pacings : List ClausePacings) (ws : List WindowSpec) (ps : List PaneSize) → All (IsPaned pacings) ws → AllZip (λ w p. ArePanesOfWindow pacings w (Some p)) ws ps → (i : ℕ) (p : PaneSize) → slice_get ps i ≡ Some p → p.count ≤ 65536
+zip_few pacings [] [] a h i p e = absurd (cc)
+zip_few pacings [] (q ∷ ps) a h i p e = absurd h
+zip_few pacings (w ∷ ws) [] a h i p e = absurd h
+zip_few pacings (w ∷ ws) (q ∷ ps) a h zero p e = let same : q ≡ p = cc in subst (λ (x : PaneSize). x.count ≤ 65536) same (few_of pacings w q (All-head (IsPaned pacings) w ws a) h.0)
+zip_few pacings (w ∷ ws) (q ∷ ps) a h (suc i) p e = zip_few pacings ws ps (All-tail (IsPaned pacings) w ws a) h.1 i p e
 
 -- so many as windows
 pub zip_length : (pacings : List ClausePacings) (ws : List WindowSpec) (ps : List PaneSize) → AllZip (λ w p. ArePanesOfWindow pacings w (Some p)) ws ps → length ps ≡ length ws

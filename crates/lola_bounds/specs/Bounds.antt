@@ -1,5 +1,5 @@
 -- The bounds of a specification.
-use Rattle.std.specs.Prelude.{ℕ, ◌≡◌, List, Some, length, slice_get}
+use Rattle.std.specs.Prelude.{ℕ, ◌≡◌, ◌≤◌, List, Some, length, slice_get}
 use Rattle.lola_model.specs.Bounds.{IsKept}
 use Rattle.lola_model.specs.declared.pacing.ClausePacings.{ClausePacings}
 use Rattle.lola_model.specs.declared.plan.PaneSize.{PaneSize}
@@ -13,3 +13,4 @@ pub record AreBounds (spec : Spec) (pacings : List ClausePacings) (kept : List �
   pub kept_each : (n k : ℕ) → slice_get kept n ≡ Some k → IsKept spec n k
   pub pane_count : length panes ≡ length spec.windows
   pub pane_each : (i : ℕ) (w : WindowSpec) → slice_get spec.windows i ≡ Some w → ArePanesOfWindow pacings w (slice_get panes i)
+  pub pane_few : (i : ℕ) (p : PaneSize) → slice_get panes i ≡ Some p → p.count ≤ 65536

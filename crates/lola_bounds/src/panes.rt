@@ -1,8 +1,9 @@
 //! The panes of windows.
 
-ghost use Rattle.std.specs.Prelude.{◌≡◌, ◌<◌, ℕ, All, IfOk, Some, length, slice_get};
+ghost use Rattle.std.specs.Prelude.{◌≡◌, ◌<◌, ◌≤◌, ℕ, All, IfOk, Some, length, slice_get};
 ghost use Rattle.std.specs.List.{AllZip};
 ghost use Rattle.lola_bounds.specs.Panes.{IsPaned, ArePaned, ArePanesOfWindow, ArePanesAt};
+ghost use Rattle.lola_model.specs.declared.plan.PaneSize.{PaneSize as Panes};
 ghost use Rattle.lola_model.specs.declared.spec.WindowSpec.{WindowSpec as Window};
 
 use crate::size::{clause_rate, size_of_panes};
@@ -70,6 +71,7 @@ pub fn pane_sizes(alloc: Global, spec: &Spec, pacings: &Pacings) -> Result<PaneS
     requires { ArePaned pacings.now spec.now }
     ensures count { IfOk result (λ sizes. length sizes ≡ length spec.now.windows) }
     ensures each { IfOk result (λ sizes. (i : ℕ) (w : Window) → slice_get spec.now.windows i ≡ Some w → ArePanesOfWindow pacings.now w (slice_get sizes i)) }
+    ensures few { IfOk result (λ sizes. (i : ℕ) (p : Panes) → slice_get sizes i ≡ Some p → p.count ≤ 65536) }
 {
     let sizes = sizes_of(alloc, pacings.as_slice(), spec.windows.as_slice())?;
     Ok(sizes)

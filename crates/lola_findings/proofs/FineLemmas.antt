@@ -9,13 +9,13 @@ use Rattle.lola_model.specs.Parts.{listed_clause}
 use Rattle.lola_model.specs.declared.pacing.Pacing.{Pacing}
 use Rattle.lola_model.specs.declared.spec.Clause.{Clause}
 use Rattle.lola_model.specs.declared.spec.Stream.{Stream}
-use Rattle.lola_findings.specs.Findings.{finding_at}
+use Rattle.lola_model.specs.PacingFound.{finding_at}
 use Rattle.lola_findings.specs.Laws.{IsFine, AcceptsFine}
-use Rattle.lola_findings.specs.Refused.{does_imply, not_implied, refusal_where, verdict_refusal, is_filtered, used, use_refusals, finding_refusal, clause_refusals}
-use Rattle.lola_findings.specs.declared.finding.Finding.{Finding}
-use Rattle.lola_findings.specs.declared.finding.Finding.TheVariants.{Paced, Refused, Unpaced}
-use Rattle.lola_findings.specs.declared.uses.Use.{Use}
-use Rattle.lola_findings.specs.declared.uses.Use.TheVariants.{OfStream, OfWindow}
+use Rattle.lola_model.specs.PacingRefused.{does_imply, not_implied, refusal_where, verdict_refusal, is_filtered, used, use_refusals, finding_refusal, clause_refusals}
+use Rattle.lola_model.specs.declared.finding.Finding.{Finding}
+use Rattle.lola_model.specs.declared.finding.Finding.TheVariants.{Paced, Refused, Unpaced}
+use Rattle.lola_model.specs.declared.uses.Use.{Use}
+use Rattle.lola_model.specs.declared.uses.Use.TheVariants.{OfStream, OfWindow}
 use Rattle.lola_findings.proofs.LawLemmas.{told}
 
 empty_left : (xs ys : List Refusal) → xs ++ ys ≡ [] → xs ≡ []

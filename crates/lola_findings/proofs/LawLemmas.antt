@@ -12,10 +12,10 @@ use Rattle.lola_model.specs.declared.pacing.InputSet.{InputSet}
 use Rattle.lola_model.specs.declared.pacing.Pacing.{Pacing}
 use Rattle.lola_model.specs.declared.pacing.Pacing.TheVariants.{Event, Periodic}
 use Rattle.lola_model.proofs.Implied.{implies_by_sets, satisfies_some-member, satisfies_some-through}
-use Rattle.lola_findings.specs.Findings.{IsJoined, any_row, is_multiple, satisfies_both}
+use Rattle.lola_model.specs.PacingFound.{IsJoined, any_row, is_multiple, satisfies_both}
 use Rattle.lola_findings.specs.Laws.{TellsImplication, MeansConjunction}
-use Rattle.lola_findings.specs.Refused.{does_imply}
-use Rattle.lola_findings.specs.declared.finding.Finding.TheVariants.{Paced}
+use Rattle.lola_model.specs.PacingRefused.{does_imply}
+use Rattle.lola_model.specs.declared.finding.Finding.TheVariants.{Paced}
 
 multiple_told : (r q : Ratio) → (is_multiple r q ≡ true) ↔ IsWholeMultipleOf q r
 multiple_told r q =

@@ -5,8 +5,8 @@ use Rattle.std.proofs.Math.Nat.{mul-le-mul_right, le_of_mul-le-mul_left}
 use Rattle.std.proofs.lemmas.List.{map-append, take_more, append_assoc}
 use Rattle.std.proofs.lemmas.List.Elements.{All-push, Contains-push, Contains-append_left}
 use Rattle.lola_value.specs.Ratio.{Ratio}
-use Rattle.lola_findings.specs.Findings.{finding_at, findings_at, rate_of, rates_of, IsAtMost, IsLeastRate}
-use Rattle.lola_findings.specs.declared.finding.Finding.{Finding}
+use Rattle.lola_model.specs.PacingFound.{finding_at, findings_at, rate_of, rates_of, IsAtMost, IsLeastRate}
+use Rattle.lola_model.specs.declared.finding.Finding.{Finding}
 
 at_most_through : (r q s : Ratio) → 0 < q.den → IsAtMost r q → IsAtMost q s → IsAtMost r s
 at_most_through r q s positive h k =

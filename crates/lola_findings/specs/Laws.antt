@@ -11,12 +11,12 @@ use Rattle.lola_model.specs.Implication.{Implies}
 use Rattle.lola_model.specs.declared.pacing.InputSet.{InputSet}
 use Rattle.lola_model.specs.declared.pacing.Pacing.{Pacing}
 use Rattle.lola_model.specs.declared.pacing.Pacing.TheVariants.{Event}
-use Rattle.lola_findings.specs.Findings.{IsJoined, any_row, finding_at}
-use Rattle.lola_findings.specs.Refused.{does_imply, is_filtered, used, clause_refusals}
-use Rattle.lola_findings.specs.declared.finding.Finding.TheVariants.{Paced, Refused}
-use Rattle.lola_findings.specs.declared.finding.Finding.{Finding}
-use Rattle.lola_findings.specs.declared.uses.Use.{Use}
-use Rattle.lola_findings.specs.declared.uses.Use.TheVariants.{OfStream, OfWindow}
+use Rattle.lola_model.specs.PacingFound.{IsJoined, any_row, finding_at}
+use Rattle.lola_model.specs.PacingRefused.{does_imply, is_filtered, used, clause_refusals}
+use Rattle.lola_model.specs.declared.finding.Finding.TheVariants.{Paced, Refused}
+use Rattle.lola_model.specs.declared.finding.Finding.{Finding}
+use Rattle.lola_model.specs.declared.uses.Use.{Use}
+use Rattle.lola_model.specs.declared.uses.Use.TheVariants.{OfStream, OfWindow}
 
 -- the test of E11 is implication
 pub record TellsImplication : Type 0 where

@@ -1,5 +1,2 @@
-pub mod Findings
 pub mod Rates
-pub mod Verdicts
-pub mod Refused
 pub mod Laws

@@ -1,7 +1,7 @@
 -- The least of some rates.
 use Rattle.std.specs.Prelude.{◌≡◌, List, [], ◌∷◌, Option, Some, None}
 use Rattle.lola_value.specs.Ratio.{Ratio}
-use Rattle.lola_findings.specs.Findings.{IsLeastRate}
+use Rattle.lola_model.specs.PacingFound.{IsLeastRate}
 
 -- an optional rate as a list
 abbrev pub list_of : Option Ratio → List Ratio

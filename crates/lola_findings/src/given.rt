@@ -1,9 +1,9 @@
 //! Pacings that are given: by rates behind `@`, and those of inputs.
 
 ghost use Rattle.std.specs.Prelude.{◌≡◌, ◌<◌, [], ◌++◌, IfOk, take};
-ghost use Rattle.lola_findings.specs.Findings.{given_rate, unbuilt_rate, input_finding, no_pacing, too_wide};
+ghost use Rattle.lola_model.specs.PacingFound.{given_rate, unbuilt_rate, input_finding, no_pacing, too_wide};
 
-use crate::finding::Finding;
+use lola_model::finding::Finding;
 use lola_model::pacing::{InputSet, NormalForm, Pacing};
 use lola_model::spec::WrittenRate;
 use lola_value::front::{Code, Refusal};

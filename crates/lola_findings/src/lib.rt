@@ -1,7 +1,6 @@
 //! What is found of the pacings of clauses, and what is refused where it is found.
 #![tactic(auto)]
 
-pub mod finding;
 pub mod given;
 pub mod law;
 pub mod rates;

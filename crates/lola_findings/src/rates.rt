@@ -4,11 +4,11 @@ ghost use Rattle.std.specs.Prelude.{List, ◌≡◌, ◌≢◌, ◌++◌, [], �
 ghost use Rattle.lola_value.specs.Rate.{IsRate};
 ghost use Rattle.lola_value.specs.Ratio.{Ratio};
 ghost use Rattle.std.specs.List.{list_all};
-ghost use Rattle.lola_findings.specs.Findings.{finding_at, findings_at, is_multiple as is_multiple_of, rate_of, rates_of, IsAtMost, IsLeastRate, IsRateFound};
+ghost use Rattle.lola_model.specs.PacingFound.{finding_at, findings_at, is_multiple as is_multiple_of, rate_of, rates_of, IsAtMost, IsLeastRate, IsRateFound};
 ghost use Rattle.lola_findings.specs.Rates.{list_of, IsLeastOf};
 
-use crate::finding::Finding;
 use crate::given::none_found;
+use lola_model::finding::Finding;
 use lola_model::pacing::Pacing;
 use lola_value::rate::Rate;
 

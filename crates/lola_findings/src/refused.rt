@@ -3,13 +3,14 @@
 ghost use Rattle.std.specs.Prelude.{◌≡◌, ◌++◌, [], ◌∷◌, OnOk, unwrap_or, slice_get, flat_map, None};
 ghost use Rattle.lola_value.specs.declared.front.Code.TheVariants as code;
 ghost use Rattle.lola_model.specs.Named.{has_clause, has_when as has_condition};
-ghost use Rattle.lola_findings.specs.Findings.{finding_at};
-ghost use Rattle.lola_findings.specs.Refused.{clause_refusals, does_imply, finding_refusal, is_filtered as is_filtered_stream, not_implied, refusal_where, use_refusals, verdict_refusal};
+ghost use Rattle.lola_model.specs.PacingFound.{finding_at};
+ghost use Rattle.lola_model.specs.PacingRefused.{clause_refusals, does_imply, finding_refusal, is_filtered as is_filtered_stream, not_implied, refusal_where, use_refusals, verdict_refusal};
 
-use crate::finding::Finding;
-use crate::uses::{Use, uses_of};
+use crate::uses::uses_of;
+use lola_model::finding::Finding;
 use lola_model::pacing::Pacing;
 use lola_model::spec::{Clause, Stream};
+use lola_model::uses::Use;
 use lola_normal::implies::implies;
 use lola_value::front::{Code, Refusal};
 use lola_value::text::Memory;

@@ -2,9 +2,9 @@
 
 ghost use Rattle.std.specs.Prelude.{◌≡◌, [], ◌∷◌, MatchOption};
 ghost use Rattle.std.specs.List.{list_all, list_any};
-ghost use Rattle.lola_findings.specs.Findings.{finding_at, findings_at, form_of, is_event, is_periodic, is_unpaced};
+ghost use Rattle.lola_model.specs.PacingFound.{finding_at, findings_at, form_of, is_event, is_periodic, is_unpaced};
 
-use crate::finding::Finding;
+use lola_model::finding::Finding;
 use lola_model::pacing::{NormalForm, Pacing};
 
 /// The sets of the pacing of a stream, if it is event-based.

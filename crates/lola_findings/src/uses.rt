@@ -2,23 +2,15 @@
 
 ghost use Rattle.std.specs.Prelude.{◌≡◌, ◌++◌, [], ◌∷◌, IfOk, OnOk};
 ghost use Rattle.lola_model.specs.Parts.{listed, listed_all, listed_when, listed_with, listed_clause};
-ghost use Rattle.lola_findings.specs.Refused.{access_use, used};
-ghost use Rattle.lola_findings.specs.declared.uses.Use.{Use as UseValue};
-ghost use Rattle.lola_findings.specs.declared.uses.Use.TheVariants.{OfStream, OfWindow};
+ghost use Rattle.lola_model.specs.PacingRefused.{access_use, used};
+ghost use Rattle.lola_model.specs.declared.uses.Use.{Use as UseValue};
+ghost use Rattle.lola_model.specs.declared.uses.Use.TheVariants.{OfStream, OfWindow};
 
 use lola_model::expr::{Access, Arguments, Expr};
 use lola_model::spec::Clause;
+use lola_model::uses::Use;
 use lola_value::text::Memory;
 use std::alloc::Global;
-
-/// A part of an expression at which something may be refused. Both name the place of the name first.
-#[derive(Clone, Copy, Debug)]
-pub enum Use {
-    /// A direct access of the stream of this number.
-    OfStream(u32, u32),
-    /// The window of this number.
-    OfWindow(u32, u32),
-}
 
 /// Puts one.
 fn put(list: &mut Vec<Use>, part: Use) -> Result<(), Memory>

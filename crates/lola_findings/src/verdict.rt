@@ -1,9 +1,9 @@
 //! What stands against windows.
 
 ghost use Rattle.std.specs.Prelude.{◌≤◌};
-ghost use Rattle.lola_findings.specs.Verdicts.{IsRateVerdict, IsVerdict};
+ghost use Rattle.lola_model.specs.WindowVerdicts.{IsRateVerdict, IsVerdict};
 
-use crate::finding::Finding;
+use lola_model::finding::Finding;
 use lola_model::pacing::Pacing;
 use lola_value::front::Code;
 use lola_value::rate::{Rate, gcd};

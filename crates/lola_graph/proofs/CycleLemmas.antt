@@ -9,7 +9,7 @@ use Rattle.lola_model.specs.Graph.{IsWalk, IsOnZeroWalk, AllWeightless, weight_a
 use Rattle.lola_model.specs.declared.graph.Edge.{Edge}
 use Rattle.lola_model.proofs.Walks.{weightless_sum}
 use Rattle.lola_graph.specs.Cycle.{IsOnCycle, IsLeastOnCycle}
-use Rattle.lola_graph.specs.Nodes.{node_count}
+use Rattle.lola_model.specs.Nodes.{node_count}
 use Rattle.lola_graph.specs.Paths.{read_by, IsPath, Reaches, AreReads, IsLeastNode}
 use Rattle.lola_graph.specs.Small.{is_small_weight, is_small_edge, is_small_graph}
 use Rattle.lola_graph.proofs.ListLemmas.{no_element}

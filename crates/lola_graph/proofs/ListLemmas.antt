@@ -5,7 +5,7 @@ use Rattle.std.proofs.lemmas.Bool.{cases_eq}
 use Rattle.std.proofs.lemmas.List.{get_or-set_same, get_or-set_other}
 use Rattle.std.proofs.lemmas.List.Elements.{Contains-append_left, Contains-push, Contains-push_cases}
 use Rattle.lola_model.specs.declared.graph.Edge.{Edge}
-use Rattle.lola_graph.specs.Nodes.{node_count}
+use Rattle.lola_model.specs.Nodes.{node_count}
 use Rattle.lola_graph.specs.Paths.{read_by, AreWithin, IsRead, AreReads}
 use Rattle.lola_graph.proofs.NodeLemmas.{node_low}
 

@@ -3,7 +3,7 @@ use Rattle.std.proofs.Common.{◌≡◌, ◌<◌, ℕ, zero, suc, List, [], ◌�
 use Rattle.std.specs.List.{slice_index_or, Contains}
 use Rattle.std.proofs.lemmas.List.{get_or_default}
 use Rattle.lola_model.specs.declared.graph.Edge.{Edge}
-use Rattle.lola_graph.specs.Nodes.{node_count}
+use Rattle.lola_model.specs.Nodes.{node_count}
 
 low_at : (edges : List Edge) (k : ℕ) (e : Edge) → k < length edges → slice_index_or edges k e ≡ e → (e.from < node_count edges) × (e.to < node_count edges)
 low_at [] k e lt h = absurd (omega arith)

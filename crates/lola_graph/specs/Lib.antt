@@ -1,6 +1,5 @@
 pub mod Small
 pub mod Readable
-pub mod Nodes
 pub mod Paths
 pub mod Marks
 pub mod Cycle

@@ -3,7 +3,7 @@
 ghost use Rattle.std.specs.Prelude.{List, ◌≡◌, ◌≤◌, ◌<◌, ◌++◌, [], ◌∷◌, IsTrue, IfOk, OnOk, length, replicate, slice_set};
 ghost use Rattle.std.specs.List.{slice_index_or};
 ghost use Rattle.lola_model.specs.declared.graph.Edge.{Edge as EdgeValue};
-ghost use Rattle.lola_graph.specs.Nodes.{node_count as node_count_of};
+ghost use Rattle.lola_model.specs.Nodes.{node_count as node_count_of};
 ghost use Rattle.lola_graph.specs.Paths.{AreReads, read_by};
 ghost use Rattle.lola_graph.specs.Small.{is_small_graph};
 

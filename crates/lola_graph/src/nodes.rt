@@ -1,7 +1,7 @@
 //! How many nodes a graph has, and which of its edges are reads within a step.
 
 ghost use Rattle.std.specs.Prelude.{◌≡◌, ◌↔◌, pos, IsTrue};
-ghost use Rattle.lola_graph.specs.Nodes.{node_count as node_count_of};
+ghost use Rattle.lola_model.specs.Nodes.{node_count as node_count_of};
 ghost use Rattle.lola_graph.specs.Small.{is_small_graph};
 
 use lola_model::graph::Edge;

@@ -4,7 +4,7 @@ use Rattle.std.specs.List.{slice_index_or, Contains}
 use Rattle.std.proofs.lemmas.Bool.{ltb-true}
 use Rattle.std.proofs.lemmas.List.{get_or_default}
 use Rattle.lola_model.specs.declared.graph.Edge.{Edge}
-use Rattle.lola_graph.specs.Nodes.{node_count}
+use Rattle.lola_model.specs.Nodes.{node_count}
 use Rattle.lola_graph.specs.Small.{is_small_weight, is_small_edge, is_small_graph}
 
 low_at : (edges : List Edge) (k : ℕ) (e : Edge) → k < length edges → slice_index_or edges k e ≡ e → (e.from < node_count edges) × (e.to < node_count edges)

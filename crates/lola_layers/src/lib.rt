@@ -4,7 +4,7 @@
 ghost use Rattle.std.specs.Prelude.{◌≡◌, ◌≤◌, ◌<◌, ◌+◌, ◌↔◌, ◌||◌, [], ◌∷◌, ℕ, List, Contains, IsTrue, IfOk, length, replicate, slice_index};
 ghost use Rattle.lola_model.specs.Graph.{IsOnZeroWalk, IsLayer, layer_of};
 ghost use Rattle.lola_model.specs.declared.graph.Edge.{Edge as EdgeValue};
-ghost use Rattle.lola_graph.specs.Nodes.{node_count as node_count_of};
+ghost use Rattle.lola_model.specs.Nodes.{node_count as node_count_of};
 ghost use Rattle.lola_graph.specs.Small.{is_small_graph};
 ghost use Rattle.lola_layers.specs.Raised.{AreReached, AreFalling, IsRaised};
 

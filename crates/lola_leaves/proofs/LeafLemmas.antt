@@ -15,7 +15,7 @@ use Rattle.lola_model.specs.declared.expr.Expr.{Expr}
 use Rattle.lola_model.specs.declared.expr.Expr.TheVariants.{Literal, Parameter, Read, Window, Defaults', Unary', Both', Choice'}
 use Rattle.lola_model.specs.declared.spec.Clause.{Clause}
 use Rattle.lola_model.specs.declared.spec.Stream.{Stream}
-use Rattle.lola_leaves.specs.Leaves.{followed_by, followed, followed_in, is_end, is_end_of, onward, list_at, AreLeaves}
+use Rattle.lola_model.specs.Leaves.{followed_by, followed, followed_in, is_end, is_end_of, onward, list_at, AreLeaves}
 use Rattle.lola_leaves.specs.Marks.{MarksVisited, IsEndBelow, AreEndsBelow}
 use Rattle.lola_leaves.proofs.MarkLemmas.{no_element}
 

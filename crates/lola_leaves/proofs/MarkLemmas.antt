@@ -6,7 +6,7 @@ use Rattle.std.proofs.lemmas.List.{get_or-set_same, get_or-set_other, get_or_def
 use Rattle.std.proofs.lemmas.Grind.{get_or_default_zero}
 use Rattle.std.proofs.lemmas.List.Elements.{Contains-append_left, Contains-append_right, Contains-append_cases, Contains-push, Contains-push_cases}
 use Rattle.lola_leaves.specs.Marks.{IsMarked, IsBlank, IsOther, unmarked, Marks, MarksVisited, Searched}
-use Rattle.lola_leaves.specs.Leaves.{IsTrail, IsVisited, list_at}
+use Rattle.lola_model.specs.Leaves.{IsTrail, IsVisited, list_at}
 
 pub no_element : {X : Type 0} (x : X) → Contains [] x → ⊥
 no_element x c = let k : c.0 < 0 = c.1 in absurd (omega arith)

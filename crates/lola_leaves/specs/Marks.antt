@@ -2,7 +2,7 @@
 use Rattle.std.specs.Prelude.{ℕ, ◌≡◌, ◌≢◌, ◌+◌, ◌<◌, ◌↔◌, suc, List, [], ◌∷◌, Bool, true, false, Contains, AllPairs, length, slice_get, ◌⊎◌}
 use Rattle.std.specs.List.{slice_index_or}
 use Rattle.lola_model.specs.declared.spec.Stream.{Stream}
-use Rattle.lola_leaves.specs.Leaves.{IsVisited, list_at, is_end_of}
+use Rattle.lola_model.specs.Leaves.{IsVisited, list_at, is_end_of}
 
 abbrev pub IsMarked : List Bool → ℕ → Type 0
 IsMarked marks n = slice_index_or marks n false ≡ true

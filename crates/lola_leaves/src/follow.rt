@@ -2,7 +2,7 @@
 
 ghost use Rattle.std.specs.Prelude.{◌≡◌, ◌++◌, IfOk, OnOk, map};
 ghost use Rattle.lola_model.specs.Parts.{listed, listed_all, listed_when, listed_with};
-ghost use Rattle.lola_leaves.specs.Leaves.{followed_by, followed, followed_in, is_end as is_end_stream, onward};
+ghost use Rattle.lola_model.specs.Leaves.{followed_by, followed, followed_in, is_end as is_end_stream, onward};
 
 use crate::numbers::Numbers;
 use lola_model::expr::{Access, Arguments, Expr};

@@ -2,7 +2,7 @@
 
 ghost use Rattle.std.specs.Prelude.{◌≡◌, ◌≤◌, ◌<◌, ◌+◌, ◌^◌, [], IfOk, OnOk, length, map};
 ghost use Rattle.lola_model.specs.Accepted.{IsClauseInRange, IsSpecInRange};
-ghost use Rattle.lola_leaves.specs.Leaves.{AreLeaves, onward};
+ghost use Rattle.lola_model.specs.Leaves.{AreLeaves, onward};
 ghost use Rattle.lola_leaves.specs.Marks.{AreEndsBelow, IsBlank};
 
 use crate::follow::followed_from;

@@ -1,7 +1,7 @@
 //! Which streams are visited from a clause.
 
 ghost use Rattle.std.specs.Prelude.{◌≡◌, ◌<◌, [], ◌∷◌, OnOk, length, Contains, ℕ};
-ghost use Rattle.lola_leaves.specs.Leaves.{list_at};
+ghost use Rattle.lola_model.specs.Leaves.{list_at};
 ghost use Rattle.lola_leaves.specs.Marks.{IsBlank, Marks, MarksVisited};
 
 use crate::numbers::Numbers;

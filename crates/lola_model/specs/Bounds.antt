@@ -1,5 +1,5 @@
 -- What a run has to keep of the past: values of each stream, and panes of each window.
-use Rattle.std.specs.Prelude.{ℕ, ◌≡◌, ◌+◌, ◌*◌, ◌/◌, ◌%◌, List, [], ◌∷◌, Option, Some, if◌then◌else◌, length, max, nat_eq, slice_get}
+use Rattle.std.specs.Prelude.{ℕ, ◌≡◌, ◌≤◌, ◌+◌, ◌*◌, ◌/◌, ◌%◌, List, [], ◌∷◌, Option, Some, if◌then◌else◌, length, max, nat_eq, slice_get}
 use Rattle.std.specs.Int.{IsGcd}
 use Rattle.lola_value.specs.Ratio.{Ratio}
 use Rattle.lola_value.specs.Rate.{period_over}
@@ -60,9 +60,10 @@ pacing_at ps n part.Spawn = spawn_pacing (slice_get ps n)
 pacing_at ps n part.Eval = eval_pacing (slice_get ps n)
 pacing_at ps n part.Close = close_pacing (slice_get ps n)
 
--- a plan's bounds are those of its streams and of its windows
+-- a plan's bounds are those of its streams and of its windows, none of which has more than 65,536 panes
 pub record HasBounds (plan : Plan) : Type 0 where
   pub kept_count : length plan.kept ≡ length plan.spec.streams
   pub kept : (n k : ℕ) → slice_get plan.kept n ≡ Some k → IsKept plan.spec n k
   pub pane_count : length plan.panes ≡ length plan.spec.windows
   pub panes : (i : ℕ) (w : WindowSpec) → slice_get plan.spec.windows i ≡ Some w → ArePanesOf (pacing_at plan.pacings w.stream w.part) w.over (slice_get plan.panes i)
+  pub few : (i : ℕ) (p : PaneSize) → slice_get plan.panes i ≡ Some p → p.count ≤ 65536

@@ -7,6 +7,7 @@ use Rattle.lola_value.specs.declared.value.Value.{Value}
 use Rattle.lola_value.specs.declared.value.Value.TheVariants as value
 use Rattle.lola_model.specs.Accepted.{IsSpecInRange}
 use Rattle.lola_model.specs.Bounds.{offset_by}
+use Rattle.lola_model.specs.Formulas.{AreOverInputs}
 use Rattle.lola_model.specs.Model.{is_input}
 use Rattle.lola_model.specs.Parts.{listed, listed_spec}
 use Rattle.lola_model.specs.Typing.{each_part, count_of}
@@ -211,3 +212,4 @@ pub record IsNamed (spec : Spec) : Type 0 where
   pub text_numbers : IsTrue (all_numbers (λ i. nat_lt i (length spec.texts)) (listed_spec literal_text spec))
   pub texts_used : (i : ℕ) → i < length spec.texts → Contains (listed_spec literal_text spec) i
   pub ranges : spec.refused ≡ [] → IsRanged spec
+  pub formulas : AreOverInputs spec.streams

@@ -14,9 +14,10 @@ use Rattle.lola_model.specs.Implication.{has_input, satisfies_formula, IsNormalF
 use Rattle.lola_model.specs.declared.pacing.InputSet.{InputSet}
 use Rattle.lola_model.specs.declared.spec.Formula.{Formula}
 use Rattle.lola_model.specs.declared.spec.Formula.TheVariants.{Input}
-use Rattle.lola_normal.specs.Order.{ComesBefore}
+use Rattle.lola_model.specs.InputOrder.{ComesBefore}
 use Rattle.lola_normal.specs.Least.{AnswersLeast}
-use Rattle.lola_normal.specs.Formulas.{parts_of, IsWide, ListsNormalForm, AnswersNormal, HasOneNormalForm}
+use Rattle.lola_model.specs.NormalForms.{parts_of, IsWide, ListsNormalForm}
+use Rattle.lola_normal.specs.Formulas.{AnswersNormal, HasOneNormalForm}
 use Rattle.lola_normal.specs.declared.answer.NormalEnd.{NormalEnd}
 use Rattle.lola_normal.specs.declared.answer.NormalEnd.TheVariants as ends
 use Rattle.lola_normal.proofs.BitLemmas.{within_has}

@@ -12,7 +12,8 @@ use Rattle.lola_model.specs.Activity.{satisfies, satisfies_some}
 use Rattle.lola_model.specs.Implication.{AreLeastSets}
 use Rattle.lola_model.specs.declared.pacing.InputSet.{InputSet}
 use Rattle.lola_normal.specs.Kept.{set_of, candidate_of, unions_of, AreLeastOf, AreKept, AreManyKept}
-use Rattle.lola_normal.specs.Least.{IsTooWide, ListsLeast, AnswersLeast}
+use Rattle.lola_model.specs.NormalForms.{IsTooWide, ListsLeast}
+use Rattle.lola_normal.specs.Least.{AnswersLeast}
 use Rattle.lola_normal.specs.declared.answer.NormalEnd.{NormalEnd}
 use Rattle.lola_normal.specs.declared.answer.NormalEnd.TheVariants as ends
 use Rattle.lola_normal.proofs.BitLemmas.{union_within, within_by_union}

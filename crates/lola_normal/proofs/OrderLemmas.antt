@@ -10,7 +10,7 @@ use Rattle.std.proofs.lemmas.List.{get_or-drop, get_or_default}
 use Rattle.std.specs.List.{filter, All, AllPairs}
 use Rattle.lola_model.specs.Implication.{has_input, AreApart}
 use Rattle.lola_model.specs.declared.pacing.InputSet.{InputSet}
-use Rattle.lola_normal.specs.Order.{numbers_from, inputs_of, IsBefore, ComesBefore, HasLeastOther}
+use Rattle.lola_model.specs.InputOrder.{numbers_from, inputs_of, IsBefore, ComesBefore, HasLeastOther}
 use Rattle.lola_normal.proofs.BitLemmas.{other_input}
 
 -- a list stands not before itself, nor both before and behind another

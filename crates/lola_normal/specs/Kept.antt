@@ -3,7 +3,7 @@ use Rattle.std.specs.Prelude.{ℕ, ◌≡◌, ◌<◌, ◌≤◌, List, true, Al
 use Rattle.lola_model.specs.Activity.{satisfies_some}
 use Rattle.lola_model.specs.Implication.{AreApart}
 use Rattle.lola_model.specs.declared.pacing.InputSet.{InputSet}
-use Rattle.lola_normal.specs.Order.{HasLeastOther}
+use Rattle.lola_model.specs.InputOrder.{HasLeastOther}
 
 -- a candidate as a set
 abbrev pub set_of : ℕ → InputSet

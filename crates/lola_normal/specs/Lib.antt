@@ -1,4 +1,3 @@
-pub mod Order
 pub mod Kept
 pub mod Least
 pub mod Formulas

@@ -3,7 +3,8 @@
 ghost use Rattle.std.specs.Prelude.{◌≡◌, ◌<◌, ◌&&◌, ◌||◌};
 ghost use Rattle.lola_model.specs.Activity.{satisfies_some};
 ghost use Rattle.lola_model.specs.Implication.{has_input};
-ghost use Rattle.lola_normal.specs.Formulas.{HasInputsBelow, AnswersNormal};
+ghost use Rattle.lola_model.specs.NormalForms.{HasInputsBelow};
+ghost use Rattle.lola_normal.specs.Formulas.{AnswersNormal};
 ghost use Rattle.lola_normal.specs.Least.{AnswersLeast};
 
 use crate::answer::NormalEnd;

@@ -2,7 +2,7 @@
 
 ghost use Rattle.std.specs.Prelude.{◌≡◌, ◌≢◌, ◌<◌, ◌≤◌, All, AllPairs, MatchBool, OnOk, length, take, drop};
 ghost use Rattle.lola_normal.specs.Kept.{IsPutIn};
-ghost use Rattle.lola_normal.specs.Order.{HasLeastOther};
+ghost use Rattle.lola_model.specs.InputOrder.{HasLeastOther};
 ghost use Rattle.lola_model.specs.declared.pacing.InputSet.{InputSet as Set};
 
 use lola_model::pacing::InputSet;

@@ -1,7 +1,7 @@
 //! Normal forms of small formulas, and implication.
 
 ghost use Rattle.std.specs.Prelude.{◌*◌, ◌+◌, ◌<◌, IfOk};
-ghost use Rattle.lola_normal.specs.Formulas.{HasInputsBelow};
+ghost use Rattle.lola_model.specs.NormalForms.{HasInputsBelow};
 
 use crate::answer::NormalEnd;
 use crate::implies::implies;

@@ -6,9 +6,9 @@ use Rattle.lola_value.specs.Ratio.{Ratio}
 use Rattle.lola_model.specs.declared.pacing.InputSet.{InputSet}
 use Rattle.lola_model.specs.declared.pacing.Pacing.TheVariants.{Event, Periodic}
 use Rattle.lola_normal.specs.declared.answer.NormalEnd.TheVariants.{TooWide}
-use Rattle.lola_findings.specs.Findings.{finding_at, findings_at, form_of, forms_of, rate_of, rates_of, is_event, is_periodic, too_wide, IsCombined, IsJoined, IsRateFound}
-use Rattle.lola_findings.specs.declared.finding.Finding.{Finding}
-use Rattle.lola_findings.specs.declared.finding.Finding.TheVariants.{Paced, Refused, Unpaced}
+use Rattle.lola_model.specs.PacingFound.{finding_at, findings_at, form_of, forms_of, rate_of, rates_of, is_event, is_periodic, too_wide, IsCombined, IsJoined, IsRateFound}
+use Rattle.lola_model.specs.declared.finding.Finding.{Finding}
+use Rattle.lola_model.specs.declared.finding.Finding.TheVariants.{Paced, Refused, Unpaced}
 use Rattle.lola_pacing.specs.Joins.{AnswersNext}
 
 module _ (at : ℕ) (rest : List (List InputSet)) (finding : Finding) where

@@ -6,10 +6,10 @@ use Rattle.lola_value.specs.declared.front.Code.{Code}
 use Rattle.lola_model.specs.Model.{is_input}
 use Rattle.lola_model.specs.declared.spec.Stream.{Stream}
 use Rattle.lola_model.specs.declared.spec.WindowSpec.{WindowSpec}
-use Rattle.lola_findings.specs.Findings.{IsOwn, AreOwn, inputs_with}
-use Rattle.lola_findings.specs.Verdicts.{IsVerdict}
-use Rattle.lola_findings.specs.declared.finding.Finding.{Finding}
-use Rattle.lola_pacing.specs.Phase.{InStep, AreVerdicts, finding_of_part}
+use Rattle.lola_model.specs.PacingFound.{IsOwn, AreOwn, inputs_with}
+use Rattle.lola_model.specs.WindowVerdicts.{IsVerdict}
+use Rattle.lola_model.specs.declared.finding.Finding.{Finding}
+use Rattle.lola_model.specs.Pacings.{InStep, AreVerdicts, finding_of_part}
 use Rattle.lola_pacing.specs.Steps.{Grows, GrowsOwn}
 
 append_none : {X : Type 0} (xs : List X) → xs ++ [] ≡ xs

@@ -17,13 +17,13 @@ use Rattle.lola_model.specs.declared.spec.Spec.{Spec}
 use Rattle.lola_model.specs.declared.spec.Stream.{Stream}
 use Rattle.lola_model.specs.declared.spec.WrittenRate.{WrittenRate}
 use Rattle.lola_model.specs.declared.spec.WrittenRate.TheVariants as rate
-use Rattle.lola_leaves.specs.Leaves.{AreLeaves, is_end, is_end_of, has_pace, is_written}
-use Rattle.lola_findings.specs.Findings.{AreOwn, IsOwn, IsGiven, IsWritten, IsWrittenIn, input_finding, inputs_with, IsFound, IsCombined, IsJoined, IsRateFound, rate_pacing, is_multiple, unbuilt_rate, no_pacing, too_wide, any_row, forms_of, rates_of, finding_at, findings_at, is_unpaced, is_event, is_periodic}
-use Rattle.lola_findings.specs.Refused.{clause_refusals, finding_refusal}
+use Rattle.lola_model.specs.Leaves.{AreLeaves, is_end, is_end_of, has_pace, is_written}
+use Rattle.lola_model.specs.PacingFound.{AreOwn, IsOwn, IsGiven, IsWritten, IsWrittenIn, input_finding, inputs_with, IsFound, IsCombined, IsJoined, IsRateFound, rate_pacing, is_multiple, unbuilt_rate, no_pacing, too_wide, any_row, forms_of, rates_of, finding_at, findings_at, is_unpaced, is_event, is_periodic}
+use Rattle.lola_model.specs.PacingRefused.{clause_refusals, finding_refusal}
 use Rattle.lola_findings.proofs.FineLemmas.{accepts_fine}
-use Rattle.lola_findings.specs.declared.finding.Finding.{Finding}
-use Rattle.lola_findings.specs.declared.finding.Finding.TheVariants.{Paced, Refused, Unpaced}
-use Rattle.lola_pacing.specs.Phase.{InStep, IsFromLeaves, IsPaceFound, IsClauseFound, IsEvalFound, IsSpawnFound, IsCloseFound, only_pacing, place_of, Found, refusals_of, refusals_from, stream_refusals}
+use Rattle.lola_model.specs.declared.finding.Finding.{Finding}
+use Rattle.lola_model.specs.declared.finding.Finding.TheVariants.{Paced, Refused, Unpaced}
+use Rattle.lola_model.specs.Pacings.{InStep, IsFromLeaves, IsPaceFound, IsClauseFound, IsEvalFound, IsSpawnFound, IsCloseFound, only_pacing, place_of, Found, refusals_of, refusals_from, stream_refusals}
 use Rattle.lola_pacing.specs.Accepted.{IsPacedWhere, IsStreamPaced, PacesAll}
 
 abbrev IsNotRefused : Finding → Type 0

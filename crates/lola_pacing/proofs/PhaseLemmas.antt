@@ -7,8 +7,8 @@ use Rattle.lola_model.proofs.FirstRefusal.{means_first}
 use Rattle.lola_model.specs.declared.pacing.ClausePacings.{ClausePacings}
 use Rattle.lola_model.specs.declared.spec.Spec.{Spec}
 use Rattle.lola_model.specs.declared.spec.Stream.{Stream}
-use Rattle.lola_findings.specs.declared.finding.Finding.{Finding}
-use Rattle.lola_pacing.specs.Phase.{AreFound, Found, refusals_from, refusals_of, pacings_from, ArePacings, IsRefused}
+use Rattle.lola_model.specs.declared.finding.Finding.{Finding}
+use Rattle.lola_model.specs.Pacings.{AreFound, Found, refusals_from, refusals_of, pacings_from, ArePacings, IsRefused}
 
 -- equal findings give equal refusals
 same_refusals : (t s : List Stream) (k a l b m c : List Finding) (u v : List (Option Code)) → t ≡ s → k ≡ a → l ≡ b → m ≡ c → u ≡ v

@@ -4,9 +4,9 @@ use Rattle.lola_model.specs.Named.{all_streams, has_clause, is_stream_paced_in_r
 use Rattle.lola_model.specs.declared.spec.Clause.{Clause}
 use Rattle.lola_model.specs.declared.spec.Spec.{Spec}
 use Rattle.lola_model.specs.declared.spec.Stream.{Stream}
-use Rattle.lola_findings.specs.Findings.{finding_at, is_unpaced}
-use Rattle.lola_findings.specs.declared.finding.Finding.{Finding}
-use Rattle.lola_pacing.specs.Phase.{Found, refusals_of}
+use Rattle.lola_model.specs.PacingFound.{finding_at, is_unpaced}
+use Rattle.lola_model.specs.declared.finding.Finding.{Finding}
+use Rattle.lola_model.specs.Pacings.{Found, refusals_of}
 
 -- a clause, if there is one, has a pacing
 abbrev pub IsPacedWhere : Option Clause → Finding → Type 0

@@ -3,7 +3,7 @@ use Rattle.std.specs.Prelude.{◌≡◌, List, [], ◌∷◌, Result, Ok}
 use Rattle.lola_model.specs.declared.pacing.InputSet.{InputSet}
 use Rattle.lola_normal.specs.Least.{AnswersLeast}
 use Rattle.lola_normal.specs.declared.answer.NormalEnd.{NormalEnd}
-use Rattle.lola_findings.specs.Findings.{satisfies_both}
+use Rattle.lola_model.specs.PacingFound.{satisfies_both}
 
 -- these sets, joined with a form if there is one
 abbrev pub AnswersNext : List InputSet → List (List InputSet) → Result (List InputSet) NormalEnd → Type 0

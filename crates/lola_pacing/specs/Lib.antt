@@ -1,4 +1,3 @@
-pub mod Formulas
 pub mod Joins
 pub mod Phase
 pub mod Steps

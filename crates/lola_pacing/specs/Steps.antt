@@ -3,9 +3,9 @@ use Rattle.std.specs.Prelude.{ℕ, ◌≡◌, List, [], ◌∷◌, ◌++◌}
 use Rattle.lola_model.specs.declared.spec.Part.{Part}
 use Rattle.lola_model.specs.declared.spec.Part.TheVariants as part
 use Rattle.lola_model.specs.declared.spec.Stream.{Stream}
-use Rattle.lola_findings.specs.Findings.{AreOwn}
-use Rattle.lola_findings.specs.declared.finding.Finding.{Finding}
-use Rattle.lola_pacing.specs.Phase.{InStep, IsSpawnFound, IsEvalFound, IsCloseFound}
+use Rattle.lola_model.specs.PacingFound.{AreOwn}
+use Rattle.lola_model.specs.declared.finding.Finding.{Finding}
+use Rattle.lola_model.specs.Pacings.{InStep, IsSpawnFound, IsEvalFound, IsCloseFound}
 
 -- of one of a stream's clauses
 abbrev pub IsPartFound : List Stream → List Finding → List Finding → Part → ℕ → Stream → Finding → Type 0

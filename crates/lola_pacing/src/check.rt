@@ -5,16 +5,17 @@ ghost use Rattle.lola_model.specs.Accepted.{IsSpecInRange};
 ghost use Rattle.lola_model.specs.Model.{is_input};
 ghost use Rattle.lola_model.specs.Named.{all_windows, is_span, IsNamed};
 ghost use Rattle.lola_model.specs.Typed.{IsTyped};
-ghost use Rattle.lola_pacing.specs.Formulas.{AreOverInputs};
-ghost use Rattle.lola_pacing.specs.Phase.{AnswersPacing, AreFound};
+ghost use Rattle.lola_model.specs.Formulas.{AreOverInputs};
+ghost use Rattle.lola_model.specs.Pacings.{AreFound};
+ghost use Rattle.lola_pacing.specs.Phase.{AnswersPacing};
 
 use crate::clauses::of_parts;
 use crate::given::owns;
 use crate::pacings::pacings;
 use crate::refusals::{first, refusals};
 use crate::verdicts::of_windows;
-use lola_findings::finding::Finding;
 use lola_leaves::leaves::lists_of;
+use lola_model::finding::Finding;
 use lola_model::pacing::Pacings;
 use lola_model::spec::{Part, Spec};
 use lola_value::front::{Code, FrontEnd};
@@ -86,7 +87,6 @@ fn answer(alloc: Global, spec: &Spec, found: &AllFindings) -> Result<Pacings, Fr
 pub fn check(alloc: Global, spec: &Spec) -> Result<Pacings, FrontEnd>
     requires named { IsNamed spec.now }
     requires typed { IsTyped spec.now }
-    requires formulas { AreOverInputs spec.now.streams }
     ensures { AnswersPacing spec.now result }
 {
     let found = findings(alloc, spec)?;

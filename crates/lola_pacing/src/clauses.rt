@@ -2,18 +2,18 @@
 
 ghost use Rattle.std.specs.Prelude.{◌≡◌, ◌≤◌, ◌<◌, IfOk, length, map};
 ghost use Rattle.lola_model.specs.Accepted.{IsClauseInRange, IsSpecInRange};
-ghost use Rattle.lola_leaves.specs.Leaves.{onward};
-ghost use Rattle.lola_findings.specs.Findings.{finding_at};
-ghost use Rattle.lola_pacing.specs.Formulas.{AreOverInputs, IsClauseOverInputs};
-ghost use Rattle.lola_pacing.specs.Phase.{InStep, IsClauseFound, IsCloseFound, IsEvalFound, IsFromLeaves, IsSpawnFound, only_pacing, place_of as place_where};
+ghost use Rattle.lola_model.specs.Leaves.{onward};
+ghost use Rattle.lola_model.specs.PacingFound.{finding_at};
+ghost use Rattle.lola_model.specs.Formulas.{AreOverInputs, IsClauseOverInputs};
+ghost use Rattle.lola_model.specs.Pacings.{InStep, IsClauseFound, IsCloseFound, IsEvalFound, IsFromLeaves, IsSpawnFound, only_pacing, place_of as place_where};
 ghost use Rattle.lola_pacing.specs.Steps.{IsPartFound};
 
 use crate::found::of_leaves;
 use crate::given::of_pace;
-use lola_findings::finding::Finding;
 use lola_findings::given::{copied, none_found};
 use lola_leaves::leaves::{is_end, leaves};
 use lola_leaves::numbers::Numbers;
+use lola_model::finding::Finding;
 use lola_model::spec::{Clause, Part, Spec, Stream};
 use lola_value::text::Memory;
 use std::alloc::Global;

@@ -2,12 +2,12 @@
 
 ghost use Rattle.std.specs.Prelude.{◌≡◌, ◌≤◌, ◌+◌, IfOk, length, filter};
 ghost use Rattle.lola_model.specs.Model.{is_input as is_input_stream};
-ghost use Rattle.lola_normal.specs.Formulas.{HasInputsBelow};
-ghost use Rattle.lola_findings.specs.Findings.{AreOwn, IsGiven, IsGivenEvent, IsOwn, IsWrittenIn, inputs_with};
-ghost use Rattle.lola_pacing.specs.Formulas.{AreOverInputs, IsClauseOverInputs, IsOverInputs};
+ghost use Rattle.lola_model.specs.NormalForms.{HasInputsBelow};
+ghost use Rattle.lola_model.specs.PacingFound.{AreOwn, IsGiven, IsGivenEvent, IsOwn, IsWrittenIn, inputs_with};
+ghost use Rattle.lola_model.specs.Formulas.{AreOverInputs, IsClauseOverInputs, IsOverInputs};
 
-use lola_findings::finding::Finding;
 use lola_findings::given::{of_input, of_rate, of_unbuilt_rate, one_too_wide};
+use lola_model::finding::Finding;
 use lola_model::pacing::Pacing;
 use lola_model::spec::{Clause, Formula, Pace, Sort, Stream};
 use lola_normal::answer::NormalEnd;

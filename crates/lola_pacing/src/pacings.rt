@@ -1,11 +1,11 @@
 //! The pacings of all clauses, as they are found.
 
 ghost use Rattle.std.specs.Prelude.{◌≡◌, ◌≤◌, IfOk, length};
-ghost use Rattle.lola_findings.specs.Findings.{finding_at};
-ghost use Rattle.lola_pacing.specs.Phase.{pacing_of, pacings_from};
+ghost use Rattle.lola_model.specs.PacingFound.{finding_at};
+ghost use Rattle.lola_model.specs.Pacings.{pacing_of, pacings_from};
 
-use lola_findings::finding::Finding;
 use lola_findings::given::copied;
+use lola_model::finding::Finding;
 use lola_model::pacing::{ClausePacings, Pacing, Pacings};
 use lola_model::spec::Stream;
 use lola_value::text::Memory;

@@ -2,12 +2,12 @@
 
 ghost use Rattle.std.specs.Prelude.{◌≡◌, ◌++◌, ◌≤◌, IfOk, OnOk, length};
 ghost use Rattle.lola_model.specs.Refusals.{first_of};
-ghost use Rattle.lola_findings.specs.Findings.{finding_at};
-ghost use Rattle.lola_findings.specs.Refused.{clause_refusals};
-ghost use Rattle.lola_pacing.specs.Phase.{refusals_from, stream_refusals};
+ghost use Rattle.lola_model.specs.PacingFound.{finding_at};
+ghost use Rattle.lola_model.specs.PacingRefused.{clause_refusals};
+ghost use Rattle.lola_model.specs.Pacings.{refusals_from, stream_refusals};
 
-use lola_findings::finding::Finding;
 use lola_findings::refused::put_clause;
+use lola_model::finding::Finding;
 use lola_model::refusals::Refusals;
 use lola_model::spec::{Clause, Stream};
 use lola_value::front::{Code, Refusal};

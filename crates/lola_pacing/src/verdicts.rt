@@ -2,12 +2,12 @@
 
 ghost use Rattle.std.specs.Prelude.{◌≡◌, ◌≤◌, IsTrue, IfOk};
 ghost use Rattle.lola_model.specs.Named.{all_windows, is_span};
-ghost use Rattle.lola_findings.specs.Findings.{finding_at};
-ghost use Rattle.lola_findings.specs.Verdicts.{IsVerdict};
-ghost use Rattle.lola_pacing.specs.Phase.{AreVerdicts, finding_of_part};
+ghost use Rattle.lola_model.specs.PacingFound.{finding_at};
+ghost use Rattle.lola_model.specs.WindowVerdicts.{IsVerdict};
+ghost use Rattle.lola_model.specs.Pacings.{AreVerdicts, finding_of_part};
 
-use lola_findings::finding::Finding;
 use lola_findings::verdict::verdict;
+use lola_model::finding::Finding;
 use lola_model::spec::{Part, WindowSpec};
 use lola_value::front::Code;
 use lola_value::text::Memory;

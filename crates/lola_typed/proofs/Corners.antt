@@ -15,7 +15,7 @@ use Rattle.lola_model.specs.declared.spec.Sort.TheVariants as sort
 use Rattle.lola_model.proofs.Build.{Around}
 use Rattle.lola_types.specs.Refused.{kind_refusals, out_of_range}
 use Rattle.lola_types.specs.Filled.{IsFilled}
-use Rattle.lola_typed.specs.Constants.{NotesConstants}
+use Rattle.lola_model.specs.Constants.{NotesConstants}
 use Rattle.lola_typed.proofs.Bools.{never_back}
 
 -- a number, whose kind is noted or not
@@ -62,6 +62,7 @@ stray_named = record {
   text_numbers = refl;
   texts_used = λ i lt. absurd (omega (arith, lt));
   ranges = λ e. record { rates = refl; offsets = refl; window_spans = refl };
+  formulas = (tt, tt, tt, tt);
 }
 
 stray_filled : IsFilled stray stray

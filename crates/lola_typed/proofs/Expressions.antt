@@ -23,7 +23,7 @@ use Rattle.lola_types.specs.Refused.{taken, operand_kind, taking_refusals, own_r
 use Rattle.lola_types.specs.Filled.{note_part, filled, filled_all}
 use Rattle.lola_types.specs.declared.found.Found.{Found}
 use Rattle.lola_types.specs.declared.found.Found.TheVariants.{Of, Free, Unknown, Broken}
-use Rattle.lola_typed.specs.Constants.{is_constant, is_constant_if_noted, literal_is_known}
+use Rattle.lola_model.specs.Constants.{is_constant, is_constant_if_noted, literal_is_known}
 use Rattle.lola_typed.proofs.Bools.{both, left_of, right_of, never, never_back, none_left, none_right, taken_where}
 use Rattle.lola_typed.proofs.Rows.{same_self, same_where, is_ready, matches, ready_unbroken, own_holds, neither}
 use Rattle.lola_typed.proofs.Holds.{Holds, ready, operand, binary_holds}

@@ -17,11 +17,11 @@ use Rattle.lola_types.specs.LeftOut.{kinds_of, setting_of}
 use Rattle.lola_types.specs.Refused.{constant_refusals, refusals_of_whole, range_refusals, kind_refusals}
 use Rattle.lola_types.specs.Filled.{IsFilled}
 use Rattle.lola_types.proofs.RoundLemmas.{all_found}
-use Rattle.lola_typed.specs.Constants.{whole_is_known, NotesConstants}
+use Rattle.lola_model.specs.Constants.{whole_is_known, NotesConstants}
 use Rattle.lola_typed.proofs.Bools.{none_left, none_right}
 use Rattle.lola_typed.proofs.Alike.{Any, alike_each, alike_resolved, alike_offset, alike_window, alike_text}
 use Rattle.lola_typed.proofs.Kept.{IsKept, kept_listed, listed_streams_kept, wholes_kept, streams_range}
-use Rattle.lola_typed.proofs.Streams.{kinds_keep, shapes_kept, few_parameters_kept, rates_kept, length_kept, inputs_kept, names_kept, reads_kept, kinds_noted}
+use Rattle.lola_typed.proofs.Streams.{kinds_keep, shapes_kept, few_parameters_kept, rates_kept, length_kept, inputs_kept, names_kept, reads_kept, over_inputs_kept, kinds_noted}
 use Rattle.lola_typed.proofs.Typed.{wholes_both, constants_typed, constant_fits, agreeing, streams_typed}
 
 none_in_range : (ats : List ℕ) → range_refusals ats ≡ [] → ats ≡ []
@@ -101,6 +101,7 @@ module _ (spec full : Spec) (h : IsFilled spec full) where
         (subst (λ x. all_numbers (λ i. nat_lt i (length spec.texts)) x ≡ true) texts_same n.text_numbers);
     texts_used = λ i lt. subst (λ x. Contains x i) texts_same (n.texts_used i (subst (λ t. i < length t) h.texts lt));
     ranges = λ e. ranged_kept (n.ranges (sym h.refused ∙ e));
+    formulas = over_inputs_kept base kinds spec.streams full.streams h.streams n.formulas;
   }
 
   pub filled_typed : IsNamed spec → NotesConstants spec → kind_refusals spec ≡ [] → IsTyped full

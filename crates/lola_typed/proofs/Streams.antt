@@ -1,12 +1,16 @@
 -- What each stream keeps when its kind is filled in.
-use Rattle.std.proofs.Common.{◌≡◌, ℕ, zero, suc, arith, refl, ap, sym, ◌∙◌, subst, Bool, true, false, not, cond, if◌then◌else◌, List, [], ◌∷◌, Option, Some, None, nat_eq, nat_le, length, slice_get, unwrap_or, drop}
+use Rattle.std.proofs.Common.{◌≡◌, ◌<◌, ℕ, zero, suc, arith, refl, ap, sym, ◌∙◌, subst, Bool, true, false, not, cond, if◌then◌else◌, List, [], ◌∷◌, Option, Some, None, nat_eq, nat_le, length, slice_get, unwrap_or, drop}
 use Rattle.std.specs.Prelude.{filter}
 use Rattle.lola_value.specs.declared.value.Kind.{Kind}
 use Rattle.lola_value.specs.declared.value.Kind.TheVariants as kind
 use Rattle.lola_model.specs.Model.{is_input}
+use Rattle.lola_model.specs.Formulas.{AreOverInputs, IsClauseOverInputs, IsPaceOverInputs}
+use Rattle.lola_model.specs.NormalForms.{HasInputsBelow}
 use Rattle.lola_model.specs.Named.{has_clause, count_with, is_condition, has_when, has_kind, is_of_bool, is_well_shaped, has_few_parameters, all_streams, is_trigger, declared_names, is_read_of, is_rate_in_range, is_pace_in_range, is_clause_paced_in_range, is_stream_paced_in_range}
 use Rattle.lola_model.specs.declared.expr.Expr.{Expr}
 use Rattle.lola_model.specs.declared.spec.Clause.{Clause}
+use Rattle.lola_model.specs.declared.spec.Formula.{Formula}
+use Rattle.lola_model.specs.declared.spec.Formula.TheVariants.{Input, And', Or'}
 use Rattle.lola_model.specs.declared.spec.Pace.{Pace}
 use Rattle.lola_model.specs.declared.spec.Pace.TheVariants as pace
 use Rattle.lola_model.specs.declared.spec.Sort.{Sort}
@@ -16,7 +20,7 @@ use Rattle.lola_model.specs.declared.spec.Stream.{Stream}
 use Rattle.lola_types.specs.Found.{Setting}
 use Rattle.lola_types.specs.LeftOut.{kind_after, round_from, with_least, rounds, missing_kinds, kinds_of, declared_kinds}
 use Rattle.lola_types.specs.Refused.{with_parameters}
-use Rattle.lola_types.specs.Filled.{SamePace, FilledWhen, FilledWith, FilledClauses, FilledStream, FilledStreams}
+use Rattle.lola_types.specs.Filled.{SameFormula, SamePace, FilledWhen, FilledWith, FilledClauses, FilledStream, FilledStreams}
 use Rattle.lola_types.proofs.RoundLemmas.{round_length, least_length}
 use Rattle.lola_typed.proofs.Bools.{and_same, or_same, both, left_of, right_of, never, never_back}
 
@@ -123,6 +127,26 @@ clause_range s wants (Some c) (Some d) h = pace_range c.pace d.pace h.pacing
 clause_range s wants None (Some d) h = absurd h
 clause_range s wants (Some c) None h = absurd h
 
+formula_below : (limit : ℕ) (f g : Formula) → SameFormula f g → HasInputsBelow limit f → HasInputsBelow limit g
+formula_below limit (Input i) (Input j) h b = subst (λ n. n < limit) h b
+formula_below limit (And' u a v b) (And' x c y d) h g = (formula_below limit a c h.0 g.0, formula_below limit b d h.1 g.1)
+formula_below limit (Or' u a v b) (Or' x c y d) h g = (formula_below limit a c h.0 g.0, formula_below limit b d h.1 g.1)
+formula_below limit _ _ h g = absurd h
+
+pace_over : (p q : Option Pace) → SamePace p q → IsPaceOverInputs p → IsPaceOverInputs q
+pace_over None None h g = tt
+pace_over (Some (pace.Event p f)) (Some (pace.Event q g)) h b = formula_below 64 f g h.1 b
+pace_over (Some (pace.Rate p r)) (Some (pace.Rate q t)) h g = tt
+pace_over (Some (pace.Global p r)) (Some (pace.Global q t)) h g = tt
+pace_over (Some (pace.Local p r)) (Some (pace.Local q t)) h g = tt
+pace_over _ _ h g = absurd h
+
+clause_over : (s : Setting) (wants : List Kind) (o q : Option Clause) → FilledClauses s wants o q → IsClauseOverInputs o → IsClauseOverInputs q
+clause_over s wants None None h g = tt
+clause_over s wants (Some c) (Some d) h g = pace_over c.pace d.pace h.pacing g
+clause_over s wants None (Some d) h g = absurd h
+clause_over s wants (Some c) None h g = absurd h
+
 -- one stream
 
 module _ (s : Setting) (k : Kind) (a b : Stream) (h : FilledStream s k a b) where
@@ -218,6 +242,13 @@ few_parameters_kept s kinds as' bs h = all_kept has_few_parameters few_kept s ki
 
 pub rates_kept : (s : Setting) (kinds : List (Option Kind)) (as' bs : List Stream) → FilledStreams s kinds as' bs → all_streams is_stream_paced_in_range as' ≡ all_streams is_stream_paced_in_range bs
 rates_kept s kinds as' bs h = all_kept is_stream_paced_in_range stream_range s kinds as' bs h
+
+pub over_inputs_kept : (s : Setting) (kinds : List (Option Kind)) (as' bs : List Stream) → FilledStreams s kinds as' bs → AreOverInputs as' → AreOverInputs bs
+over_inputs_kept s kinds [] [] h g = tt
+over_inputs_kept s kinds (a ∷ as') (b ∷ bs) h g =
+    (clause_over _ _ a.spawn b.spawn h.0.spawn g.0, clause_over _ _ a.eval b.eval h.0.eval g.1, clause_over _ _ a.close b.close h.0.close g.2, over_inputs_kept s (drop 1 kinds) as' bs h.1 g.3)
+over_inputs_kept s kinds [] (b ∷ bs) h g = absurd h
+over_inputs_kept s kinds (a ∷ as') [] h g = absurd h
 
 pub length_kept : (s : Setting) (kinds : List (Option Kind)) (as' bs : List Stream) → FilledStreams s kinds as' bs → length as' ≡ length bs
 length_kept s kinds [] [] h = refl

@@ -30,7 +30,7 @@ use Rattle.lola_types.specs.Refused.{taking_refusals, wanted_refusals, number_ki
 use Rattle.lola_types.specs.Filled.{settled_if, filled, filled_whole, SameTree, FilledWhen, FilledWith, FilledClauses, FilledStream, FilledStreams}
 use Rattle.lola_types.specs.declared.found.Found.{Found}
 use Rattle.lola_types.specs.declared.found.Found.TheVariants.{Of, Free, Unknown, Broken}
-use Rattle.lola_typed.specs.Constants.{is_constant, literal_is_known, whole_is_known}
+use Rattle.lola_model.specs.Constants.{is_constant, literal_is_known, whole_is_known}
 use Rattle.lola_typed.proofs.Bools.{both, left_of, right_of, never_back, none_left, none_right, taken_where}
 use Rattle.lola_typed.proofs.Rows.{kind_is, same_where}
 use Rattle.lola_typed.proofs.Holds.{Fits, Holds, fits_at, operand}

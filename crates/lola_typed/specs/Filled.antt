@@ -5,7 +5,7 @@ use Rattle.lola_model.specs.Typed.{IsTyped}
 use Rattle.lola_model.specs.declared.spec.Spec.{Spec}
 use Rattle.lola_types.specs.Refused.{kind_refusals}
 use Rattle.lola_types.specs.Filled.{IsFilled}
-use Rattle.lola_typed.specs.Constants.{NotesConstants}
+use Rattle.lola_model.specs.Constants.{NotesConstants}
 
 -- each part has its kind by its row of the table of kinds, and each literal is in the range of its kind
 abbrev pub FilledIsTyped : Type 0

@@ -1,6 +1,6 @@
 use Rattle.std.proofs.Common.{◌≡◌, drop}
 use Rattle.std.specs.List.{list_all}
-use Rattle.lola_findings.specs.Findings.{findings_at, is_multiple as is_multiple_of, rates_of}
+use Rattle.lola_model.specs.PacingFound.{findings_at, is_multiple as is_multiple_of, rates_of}
 use Rattle.lola_findings.proofs.rates.are_multiples.Given as goal
 
 abbrev pub invariant-loop-stream : goal.invariant-loop-stream

@@ -1,5 +1,5 @@
 use Rattle.std.proofs.Common.{◌<◌, length, take, arith}
-use Rattle.lola_findings.specs.Findings.{findings_at, rates_of}
+use Rattle.lola_model.specs.PacingFound.{findings_at, rates_of}
 use Rattle.lola_findings.proofs.RateLemmas.{rates_more}
 use Rattle.lola_findings.proofs.rates.least.Goals as goal
 

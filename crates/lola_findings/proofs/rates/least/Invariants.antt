@@ -1,5 +1,5 @@
 use Rattle.std.proofs.Common.{take}
-use Rattle.lola_findings.specs.Findings.{findings_at, rates_of}
+use Rattle.lola_model.specs.PacingFound.{findings_at, rates_of}
 use Rattle.lola_findings.specs.Rates.{IsLeastOf}
 use Rattle.lola_findings.proofs.rates.least.Given as goal
 

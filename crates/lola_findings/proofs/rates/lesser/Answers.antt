@@ -1,4 +1,4 @@
-use Rattle.lola_findings.specs.Findings.{IsLeastRate}
+use Rattle.lola_model.specs.PacingFound.{IsLeastRate}
 use Rattle.lola_findings.proofs.RateLemmas.{least_next, least_same}
 use Rattle.lola_findings.proofs.rates.lesser.Goals as goal
 

@@ -1,6 +1,6 @@
 use Rattle.std.proofs.Common.{◌≡◌, ◌++◌, drop}
 use Rattle.std.specs.List.{flat_map}
-use Rattle.lola_findings.specs.Refused.{use_refusals}
+use Rattle.lola_model.specs.PacingRefused.{use_refusals}
 use Rattle.lola_findings.proofs.refused.put_uses.Given as goal
 
 abbrev pub invariant-loop-part : goal.invariant-loop-part

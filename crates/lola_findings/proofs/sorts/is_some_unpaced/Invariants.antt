@@ -1,6 +1,6 @@
 use Rattle.std.proofs.Common.{◌≡◌, drop}
 use Rattle.std.specs.List.{list_any}
-use Rattle.lola_findings.specs.Findings.{findings_at, is_unpaced}
+use Rattle.lola_model.specs.PacingFound.{findings_at, is_unpaced}
 use Rattle.lola_findings.proofs.sorts.is_some_unpaced.Given as goal
 
 abbrev pub invariant-loop-stream : goal.invariant-loop-stream

@@ -1,6 +1,6 @@
 use Rattle.std.proofs.Common.{◌≡◌, ◌++◌, drop}
 use Rattle.lola_model.specs.Parts.{listed_with}
-use Rattle.lola_findings.specs.Refused.{used}
+use Rattle.lola_model.specs.PacingRefused.{used}
 use Rattle.lola_findings.proofs.uses.put_with.Given as goal
 
 abbrev pub invariant-loop-expr : goal.invariant-loop-expr

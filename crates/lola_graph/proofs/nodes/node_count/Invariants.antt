@@ -1,5 +1,5 @@
 use Rattle.std.proofs.Common.{◌≡◌, max, drop}
-use Rattle.lola_graph.specs.Nodes.{node_count as node_count_of}
+use Rattle.lola_model.specs.Nodes.{node_count as node_count_of}
 use Rattle.lola_graph.proofs.nodes.node_count.Given as goal
 
 abbrev pub invariant-loop-edge : goal.invariant-loop-edge

@@ -1,5 +1,5 @@
 use Rattle.std.proofs.Common.{◌≡◌, ◌++◌, drop, map}
-use Rattle.lola_leaves.specs.Leaves.{onward}
+use Rattle.lola_model.specs.Leaves.{onward}
 use Rattle.lola_leaves.proofs.follow.lists_of.Given as goal
 
 abbrev pub invariant-loop-stream : goal.invariant-loop-stream

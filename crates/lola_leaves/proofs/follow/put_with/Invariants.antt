@@ -1,6 +1,6 @@
 use Rattle.std.proofs.Common.{◌≡◌, ◌++◌, drop}
 use Rattle.lola_model.specs.Parts.{listed_with}
-use Rattle.lola_leaves.specs.Leaves.{followed}
+use Rattle.lola_model.specs.Leaves.{followed}
 use Rattle.lola_leaves.proofs.follow.put_with.Given as goal
 
 abbrev pub invariant-loop-expr : goal.invariant-loop-expr

@@ -1,5 +1,5 @@
 use Rattle.std.proofs.Common.{◌≡◌, ◌∙◌, ap, length, arith}
-use Rattle.lola_leaves.specs.Leaves.{followed_in}
+use Rattle.lola_model.specs.Leaves.{followed_in}
 use Rattle.lola_leaves.proofs.LeafLemmas.{low_clause, low_lists, length-lists, ends_are_leaves}
 use Rattle.lola_leaves.proofs.leaves.found.Goals as goal
 

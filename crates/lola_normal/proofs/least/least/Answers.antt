@@ -3,7 +3,7 @@ use Rattle.std.proofs.lemmas.List.Sorted.{IsNonDecreasingBy-from_sort}
 use Rattle.std.specs.List.Sorted.{IsNonDecreasing}
 use Rattle.lola_model.specs.declared.pacing.InputSet.{InputSet}
 use Rattle.lola_normal.specs.Kept.{AreKept, AreManyKept}
-use Rattle.lola_normal.specs.Least.{ListsLeast}
+use Rattle.lola_model.specs.NormalForms.{ListsLeast}
 use Rattle.lola_normal.proofs.LeastLemmas.{passes_some, answers_end, lists_least}
 use Rattle.lola_normal.proofs.least.least.Goals as goal
 

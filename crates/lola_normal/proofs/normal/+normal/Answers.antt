@@ -1,7 +1,8 @@
 use Rattle.std.proofs.Common.{refl, subst, sym, Err}
 use Rattle.std.proofs.lemmas.Result.{err_from_is_err_and}
 use Rattle.lola_model.specs.declared.spec.Formula.{Formula, And, Or}
-use Rattle.lola_normal.specs.Formulas.{AnswersNormal, ListsNormalForm}
+use Rattle.lola_model.specs.NormalForms.{ListsNormalForm}
+use Rattle.lola_normal.specs.Formulas.{AnswersNormal}
 use Rattle.lola_normal.proofs.FormulaLemmas.{normal_input, normal_and, normal_or, end_of_left, end_of_right}
 use Rattle.lola_normal.proofs.normal.+normal.Goals as goal
 

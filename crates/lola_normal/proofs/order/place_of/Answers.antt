@@ -1,6 +1,6 @@
 use Rattle.std.proofs.lemmas.List.Elements.{All-more}
 use Rattle.lola_model.specs.declared.pacing.InputSet.{InputSet}
-use Rattle.lola_normal.specs.Order.{HasLeastOther}
+use Rattle.lola_model.specs.InputOrder.{HasLeastOther}
 use Rattle.lola_normal.proofs.OrderLemmas.{before_the_rest}
 use Rattle.lola_normal.proofs.order.place_of.Goals as goal
 

@@ -1,5 +1,5 @@
 use Rattle.std.proofs.Common.{take, All}
-use Rattle.lola_normal.specs.Order.{HasLeastOther}
+use Rattle.lola_model.specs.InputOrder.{HasLeastOther}
 use Rattle.lola_model.specs.declared.pacing.InputSet.{InputSet}
 use Rattle.lola_normal.proofs.order.place_of.Given as goal
 

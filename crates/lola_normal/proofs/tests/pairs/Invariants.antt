@@ -1,4 +1,4 @@
-use Rattle.lola_normal.specs.Formulas.{HasInputsBelow}
+use Rattle.lola_model.specs.NormalForms.{HasInputsBelow}
 use Rattle.lola_normal.proofs.tests.pairs.Given as goal
 
 abbrev pub invariant-loop-n : goal.invariant-loop-n

@@ -1,9 +1,9 @@
 use Rattle.std.proofs.Common.{◌≡◌, List, subst}
 use Rattle.lola_model.specs.declared.spec.Stream.{Stream}
 use Rattle.lola_model.specs.declared.spec.WindowSpec.{WindowSpec}
-use Rattle.lola_findings.specs.Findings.{AreOwn}
-use Rattle.lola_findings.specs.declared.finding.Finding.{Finding}
-use Rattle.lola_pacing.specs.Phase.{InStep, IsSpawnFound, IsEvalFound, IsCloseFound, AreVerdicts}
+use Rattle.lola_model.specs.PacingFound.{AreOwn}
+use Rattle.lola_model.specs.declared.finding.Finding.{Finding}
+use Rattle.lola_model.specs.Pacings.{InStep, IsSpawnFound, IsEvalFound, IsCloseFound, AreVerdicts}
 use Rattle.lola_pacing.proofs.check.findings.Goals as goal
 
 pub returns : goal.returns

@@ -1,6 +1,6 @@
 use Rattle.std.proofs.Common.{◌≡◌, length, drop}
 use Rattle.lola_model.specs.Accepted.{AreClausesInRange}
-use Rattle.lola_pacing.specs.Formulas.{AreOverInputs}
+use Rattle.lola_model.specs.Formulas.{AreOverInputs}
 use Rattle.lola_pacing.specs.Steps.{Grows, IsPartFound}
 use Rattle.lola_pacing.proofs.clauses.of_parts.Given as goal
 

@@ -1,6 +1,6 @@
 use Rattle.std.proofs.Common.{List, drop}
-use Rattle.lola_findings.specs.Findings.{any_row, findings_at, forms_of, IsJoined}
-use Rattle.lola_findings.specs.declared.finding.Finding.{Finding}
+use Rattle.lola_model.specs.PacingFound.{any_row, findings_at, forms_of, IsJoined}
+use Rattle.lola_model.specs.declared.finding.Finding.{Finding}
 use Rattle.lola_pacing.proofs.found.joined.Given as goal
 
 abbrev pub invariant-loop-leaf : goal.invariant-loop-leaf

@@ -1,6 +1,6 @@
 use Rattle.std.proofs.Common.{◌≤◌, ◌+◌, length, drop, filter}
 use Rattle.lola_model.specs.Model.{is_input as is_input_stream}
-use Rattle.lola_pacing.specs.Formulas.{AreOverInputs}
+use Rattle.lola_model.specs.Formulas.{AreOverInputs}
 use Rattle.lola_pacing.specs.Steps.{GrowsOwn}
 use Rattle.lola_pacing.proofs.given.owns.Given as goal
 

@@ -1,5 +1,5 @@
 use Rattle.std.proofs.Common.{◌≡◌, ◌++◌, drop}
-use Rattle.lola_pacing.specs.Phase.{pacings_from}
+use Rattle.lola_model.specs.Pacings.{pacings_from}
 use Rattle.lola_pacing.proofs.pacings.pacings.Given as goal
 
 abbrev pub invariant-loop-stream : goal.invariant-loop-stream

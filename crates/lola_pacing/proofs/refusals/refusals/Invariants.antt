@@ -1,5 +1,5 @@
 use Rattle.std.proofs.Common.{◌≡◌, ◌++◌, drop}
-use Rattle.lola_pacing.specs.Phase.{refusals_from}
+use Rattle.lola_model.specs.Pacings.{refusals_from}
 use Rattle.lola_pacing.proofs.refusals.refusals.Given as goal
 
 abbrev pub invariant-loop-stream : goal.invariant-loop-stream

@@ -1,7 +1,7 @@
 use Rattle.std.proofs.Common.{◌≡◌, ◌++◌, List, Option, drop, true}
 use Rattle.lola_value.specs.declared.front.Code.{Code}
 use Rattle.lola_model.specs.Named.{all_windows, is_span}
-use Rattle.lola_pacing.specs.Phase.{AreVerdicts}
+use Rattle.lola_model.specs.Pacings.{AreVerdicts}
 use Rattle.lola_pacing.proofs.verdicts.of_windows.Given as goal
 
 abbrev pub invariant-loop-window : goal.invariant-loop-window

@@ -4,7 +4,7 @@ use Rattle.lola_model.specs.declared.spec.Clause.{Clause}
 use Rattle.lola_model.specs.declared.spec.Pace.{Pace}
 use Rattle.lola_model.specs.declared.spec.Pace.TheVariants as pace
 use Rattle.lola_model.specs.declared.spec.Stream.{Stream}
-use Rattle.lola_normal.specs.Formulas.{HasInputsBelow}
+use Rattle.lola_model.specs.NormalForms.{HasInputsBelow}
 
 -- a pacing's formula names inputs below 64
 abbrev pub IsOverInputs : Pace → Type 0

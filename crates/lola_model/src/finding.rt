@@ -1,6 +1,6 @@
 //! What is found of the pacing of a clause.
 
-use lola_model::pacing::Pacing;
+use crate::pacing::Pacing;
 use lola_value::front::Refusal;
 
 /// What is found of the pacing of a clause.

@@ -6,8 +6,8 @@ use Rattle.lola_value.specs.Ratio.{Ratio}
 use Rattle.lola_value.specs.declared.front.Code.{Code}
 use Rattle.lola_value.specs.declared.front.Code.TheVariants as code
 use Rattle.lola_model.specs.declared.pacing.Pacing.TheVariants.{Event, Periodic}
-use Rattle.lola_findings.specs.declared.finding.Finding.{Finding}
-use Rattle.lola_findings.specs.declared.finding.Finding.TheVariants.{Paced, Refused, Unpaced}
+use Rattle.lola_model.specs.declared.finding.Finding.{Finding}
+use Rattle.lola_model.specs.declared.finding.Finding.TheVariants.{Paced, Refused, Unpaced}
 
 -- the period is a whole number of nanoseconds
 abbrev pub IsWholePeriod : Ratio → Type 0

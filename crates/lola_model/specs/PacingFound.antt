@@ -14,10 +14,9 @@ use Rattle.lola_model.specs.declared.spec.Pace.TheVariants as pace
 use Rattle.lola_model.specs.declared.spec.Stream.{Stream}
 use Rattle.lola_model.specs.declared.spec.WrittenRate.{WrittenRate}
 use Rattle.lola_model.specs.declared.spec.WrittenRate.TheVariants as rate
-use Rattle.lola_normal.specs.Formulas.{ListsNormalForm, IsWide, parts_of}
-use Rattle.lola_normal.specs.Least.{IsTooWide, ListsLeast}
-use Rattle.lola_findings.specs.declared.finding.Finding.{Finding}
-use Rattle.lola_findings.specs.declared.finding.Finding.TheVariants.{Paced, Refused, Unpaced}
+use Rattle.lola_model.specs.NormalForms.{IsTooWide, IsWide, ListsLeast, ListsNormalForm, parts_of}
+use Rattle.lola_model.specs.declared.finding.Finding.{Finding}
+use Rattle.lola_model.specs.declared.finding.Finding.TheVariants.{Paced, Refused, Unpaced}
 
 -- E12 and E13 at a place
 abbrev pub no_pacing : ℕ → Finding

@@ -16,11 +16,11 @@ use Rattle.lola_model.specs.declared.expr.Expr.{Expr}
 use Rattle.lola_model.specs.declared.expr.Expr.TheVariants.{Read, Window}
 use Rattle.lola_model.specs.declared.spec.Clause.{Clause}
 use Rattle.lola_model.specs.declared.spec.Stream.{Stream}
-use Rattle.lola_findings.specs.Findings.{finding_at, is_multiple}
-use Rattle.lola_findings.specs.declared.uses.Use.{Use}
-use Rattle.lola_findings.specs.declared.uses.Use.TheVariants.{OfStream, OfWindow}
-use Rattle.lola_findings.specs.declared.finding.Finding.{Finding}
-use Rattle.lola_findings.specs.declared.finding.Finding.TheVariants.{Paced, Refused, Unpaced}
+use Rattle.lola_model.specs.PacingFound.{finding_at, is_multiple}
+use Rattle.lola_model.specs.declared.uses.Use.{Use}
+use Rattle.lola_model.specs.declared.uses.Use.TheVariants.{OfStream, OfWindow}
+use Rattle.lola_model.specs.declared.finding.Finding.{Finding}
+use Rattle.lola_model.specs.declared.finding.Finding.TheVariants.{Paced, Refused, Unpaced}
 
 -- one pacing implies another, as it is told by least sets and by rates
 abbrev pub does_imply : Pacing → Pacing → Bool
