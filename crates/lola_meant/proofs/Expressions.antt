@@ -1,10 +1,8 @@
 -- A test that passes what names and literals are resolved to passes every part of an expression that is resolved.
-use Rattle.std.proofs.Common.{Box, Global, ◌≡◌, ◌<◌, ◌+◌, ℕ, suc, arith, refl, sym, ap, ◌∙◌, subst, Bool, true, false, not, ◌&&◌, if◌then◌else◌, List, [], ◌∷◌, ◌++◌, Option, Some, None, slice_get, length, nat_eq, add-one}
+use Rattle.std.proofs.Common.{Box, Global, ◌≡◌, ◌<◌, ◌+◌, ℕ, refl, ap, ◌∙◌, Bool, true, false, ◌&&◌, List, [], ◌++◌, Option, Some, None, slice_get, length, nat_eq, add-one}
 use Rattle.lola_value.specs.declared.value.Value.{Value}
-use Rattle.lola_value.specs.declared.value.Value.TheVariants as value
 use Rattle.lola_value.specs.declared.front.Code.{Code}
 use Rattle.lola_value.specs.declared.front.Code.TheVariants as code
-use Rattle.lola_value.specs.declared.front.Refusal.{Refusal}
 use Rattle.lola_tree.specs.declared.literals.Name.{Name}
 use Rattle.lola_tree.specs.declared.literals.Value.{Value as Written}
 use Rattle.lola_tree.specs.declared.literals.Quantity.{Quantity}
@@ -40,7 +38,7 @@ use Rattle.lola_resolve.specs.Targets.{Targets, target_of}
 use Rattle.lola_resolve.specs.Resolved.{Standing, Where, is_stream, IsValue, IsLiteral, IsConstantUse, IsAccess, IsReference, IsResolved, AreArguments, arguments_in, access_of, aggregation_spelled, kind_spelled, place_at}
 use Rattle.lola_resolve.specs.Specification.{access_ranges, expr_ranges, argument_ranges}
 use Rattle.lola_meant.proofs.Basics.{both, none_left, none_right, some_none}
-use Rattle.lola_meant.proofs.Targets.{Around, StandsAt, IsConstantAt, Fits, FitsIf}
+use Rattle.lola_meant.proofs.Targets.{Around, StandsAt, IsConstantAt, FitsIf}
 
 pub unless_none : (b : Bool) (c : Code) (at : ℕ) → unless b c at ≡ [] → b ≡ true
 unless_none true c at h = refl
@@ -151,8 +149,8 @@ module _ (u : Around) (texts : List (List ℕ)) (windows : List WindowSpec) (her
             (λ g. none_left (access_ranges how) (argument_ranges row) (ranged g))
             is.0
             (λ stream.
-                let are = arguments_where (is_stream (target_of here.parameters targets n.text)) (AreArguments u.declarations targets texts windows here row (arguments_in r)) is.1 stream in
-                (arguments_count row (arguments_in r) are, arguments_pass row (arguments_in r) theirs (λ g. none_right (access_ranges how) (argument_ranges row) (ranged g)) are))
+            let are = arguments_where (is_stream (target_of here.parameters targets n.text)) (AreArguments u.declarations targets texts windows here row (arguments_in r)) is.1 stream in
+            (arguments_count row (arguments_in r) are, arguments_pass row (arguments_in r) theirs (λ g. none_right (access_ranges how) (argument_ranges row) (ranged g)) are))
         resolved_passes (e.Defaults' at h (more_of-Expr x end_of-Expr) i (more_of-Expr y end_of-Expr)) (Defaults' place v s w r) none ranged is =
             both (t (Defaults' place v s w r)) (each_part t s && each_part t r) (p.defaults place v s w r)
             (both (each_part t s) (each_part t r)

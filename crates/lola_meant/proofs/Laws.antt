@@ -1,15 +1,12 @@
 -- The laws.
-use Rattle.std.proofs.Common.{◌≡◌, ◌≤◌, ℕ, Some, refl, sym, ap, ◌∙◌, subst, Bool, true, List, [], ◌∷◌, ◌++◌, Option, slice_get, length, nat_le, nat_lt}
-use Rattle.std.specs.Prelude.{filter}
+use Rattle.std.proofs.Common.{◌≡◌, ◌≤◌, ℕ, Some, sym, ◌∙◌, subst, Bool, true, List, [], ◌++◌, Option, slice_get, length, nat_le, nat_lt}
 use Rattle.std.specs.List.{flat_map}
 use Rattle.lola_tree.specs.declared.declarations.Declaration.{Declaration}
 use Rattle.lola_value.specs.declared.front.Refusal.{Refusal}
-use Rattle.lola_model.specs.Accepted.{IsSpecInRange}
-use Rattle.lola_model.specs.Model.{is_input}
-use Rattle.lola_model.specs.Named.{IsNamed, IsRanged, is_resolved, is_well_shaped, has_few_parameters, all_streams, is_stream_paced_in_range, is_window_of, windows_stand_here, all_numbers, all_windows, is_span, offset_in, window_number, literal_text, declared_names}
-use Rattle.lola_model.specs.Parts.{listed, listed_spec}
+use Rattle.lola_model.specs.Named.{IsNamed, IsRanged, is_resolved, is_well_shaped, has_few_parameters, all_streams, is_stream_paced_in_range, is_window_of, windows_stand_here, all_numbers, all_windows, offset_in, window_number, literal_text}
+use Rattle.lola_model.specs.Parts.{listed_spec}
 use Rattle.lola_model.specs.Typing.{each_part}
-use Rattle.lola_model.specs.Wholes.{Whole, wholes_from, noted_kinds, wholes_of, all_wholes}
+use Rattle.lola_model.specs.Wholes.{noted_kinds, wholes_of, all_wholes}
 use Rattle.lola_model.specs.declared.expr.Expr.{Expr}
 use Rattle.lola_model.specs.declared.spec.Part.{Part}
 use Rattle.lola_model.specs.declared.spec.Spec.{Spec}
@@ -18,13 +15,15 @@ use Rattle.lola_model.specs.declared.spec.WindowSpec.{WindowSpec}
 use Rattle.lola_names.specs.Known.{names_of}
 use Rattle.lola_names.specs.Refused.{all_repeats, too_many, input_places, stream_places, declaration_uses, refusals_of}
 use Rattle.lola_resolve.specs.Targets.{targets_of}
-use Rattle.lola_resolve.specs.Specification.{AreStreams, Resolves, ranges_of}
-use Rattle.lola_meant.specs.Constants.{literal_is_known, NotesConstants}
+use Rattle.lola_resolve.specs.Specification.{Resolves}
+use Rattle.lola_model.specs.Constants.{literal_is_known, NotesConstants}
 use Rattle.lola_meant.specs.Meant.{ClosesAreSpawned}
 use Rattle.lola_meant.proofs.Basics.{none_left, none_right}
+use Rattle.lola_meant.proofs.Formulas.{streams_over}
 use Rattle.lola_meant.proofs.Listed.{wholes_weaker, each_listed, streams_listed, clauses_range, windows_pass, targets_range}
-use Rattle.lola_meant.proofs.Names.{AreNew, new_names}
+use Rattle.lola_meant.proofs.Names.{new_names}
 use Rattle.lola_meant.proofs.Shapes.{IsStreamTest, few_places, streams_count, inputs_count, streams_all, few_test, shape_test, rate_test}
+use Rattle.lola_meant.proofs.Targets.{fits_declared}
 use Rattle.lola_meant.proofs.Tests.{is_span_if, has_target_if, resolved_test, offset_test, place_test, target_test, text_test, constant_test, low_offset_test, span_test}
 use Rattle.lola_meant.proofs.Wholes.{IsPassingEverywhere, is_passed, streams_pass}
 
@@ -109,6 +108,10 @@ module _ (ds : List Declaration) (spec : Spec) (closes : ClosesAreSpawned ds) (n
     text_numbers = listed_pass ⊥ never_ranged (λ i. nat_lt i (length spec.texts)) literal_text (text_test ds 64 spec ⊥);
     texts_used = r.texts_used;
     ranges = in_ranges;
+    formulas =
+        streams_over ds spec.streams (targets_of ds) spec.texts spec.windows (names_of ds)
+        (fits_declared (record { declarations = ds; streams = spec.streams; inputs = 64; parameters = 0 }) (targets_of ds) spec.texts spec.windows 0 r.streams few_inputs)
+        0 0 ds spec.streams no_uses r.streams;
   }
 
   pub resolved_notes : NotesConstants spec

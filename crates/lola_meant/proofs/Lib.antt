@@ -7,4 +7,5 @@ pub mod Names
 pub mod Listed
 pub mod Tests
 mod Spelled
+pub mod Formulas
 mod Laws

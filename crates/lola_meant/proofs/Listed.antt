@@ -1,5 +1,5 @@
 -- From tests of all parts of whole expressions to what the definitions of a specification ask for.
-use Rattle.std.proofs.Common.{◌≡◌, ◌<◌, ◌+◌, ℕ, suc, arith, refl, sym, ap, ◌∙◌, subst, Bool, true, false, ◌&&◌, List, [], ◌∷◌, ◌++◌, Option, Some, None, slice_get, unwrap_or, drop, length, nat_eq, nat_lt}
+use Rattle.std.proofs.Common.{◌≡◌, ◌<◌, ◌+◌, ℕ, suc, arith, refl, ap, ◌∙◌, subst, Bool, true, ◌&&◌, List, [], ◌∷◌, ◌++◌, Option, Some, None, slice_get, unwrap_or, drop, length, nat_lt}
 use Rattle.std.proofs.lemmas.Bool.Decides.{nat_tests}
 use Rattle.lola_value.specs.declared.value.Kind.{Kind}
 use Rattle.lola_value.specs.declared.value.Kind.TheVariants as kind
@@ -175,11 +175,10 @@ module _ (spec : Spec) where
 
   clause_range : (n : ℕ) (p : Part) (ks wants : List Kind) (o : Option Clause) → all_wholes whole_resolves (clause_wholes n p ks wants o) ≡ true → IsClauseInRange (length spec.streams) (length spec.windows) o
   clause_range n p ks wants None h = tt
-  clause_range n p ks wants (Some c) h =
-      (
-        when_range n p ks c.when_at c.when (wholes_left whole_resolves (condition_wholes n p ks c.when_at c.when) (with_wholes n p ks wants c.with_at c.with) h),
-        with_range n p ks wants c.with_at c.with (wholes_right whole_resolves (condition_wholes n p ks c.when_at c.when) (with_wholes n p ks wants c.with_at c.with) h),
-      )
+  clause_range n p ks wants (Some c) h = (
+    when_range n p ks c.when_at c.when (wholes_left whole_resolves (condition_wholes n p ks c.when_at c.when) (with_wholes n p ks wants c.with_at c.with) h),
+    with_range n p ks wants c.with_at c.with (wholes_right whole_resolves (condition_wholes n p ks c.when_at c.when) (with_wholes n p ks wants c.with_at c.with) h),
+  )
 
   -- .. in all clauses
   pub clauses_range : (n : ℕ) (ss : List Stream) (kinds : List (Option Kind)) → all_wholes whole_resolves (wholes_from n ss kinds) ≡ true → AreClausesInRange (length spec.streams) (length spec.windows) ss
@@ -190,8 +189,7 @@ module _ (spec : Spec) where
       let b = clause_wholes n part.Eval s.parameters (k ∷ []) s.eval in
       let c = clause_wholes n part.Close s.parameters [] s.close in
       let mine = wholes_left whole_resolves (stream_wholes n s k) (wholes_from (n + 1) ss (drop 1 kinds)) h in
-      let rest = wholes_right whole_resolves a (b ++ c) mine in
-      (
+      let rest = wholes_right whole_resolves a (b ++ c) mine in (
         clause_range n part.Spawn [] s.parameters s.spawn (wholes_left whole_resolves a (b ++ c) mine),
         clause_range n part.Eval s.parameters (k ∷ []) s.eval (wholes_left whole_resolves b c rest),
         clause_range n part.Close s.parameters [] s.close (wholes_right whole_resolves b c rest),

@@ -1,10 +1,9 @@
 -- The streams that declarations are resolved to: how many there are, their shapes and the ranges of their rates.
-use Rattle.std.proofs.Common.{◌≡◌, ◌≤◌, ◌+◌, ℕ, suc, arith, refl, sym, ap, ◌∙◌, subst, Bool, true, false, not, ◌&&◌, ◌||◌, List, [], ◌∷◌, ◌++◌, Option, Some, None, IsSome, slice_get, length, map, drop, nat_eq, nat_le, length-append, eq-eqb}
+use Rattle.std.proofs.Common.{◌≡◌, ◌≤◌, ◌+◌, ℕ, suc, arith, refl, sym, ap, ◌∙◌, subst, Bool, true, false, not, ◌&&◌, ◌||◌, List, [], ◌∷◌, ◌++◌, Option, Some, None, IsSome, slice_get, length, map, drop, nat_eq, nat_le, length-append}
 use Rattle.std.specs.Prelude.{filter}
 use Rattle.std.specs.List.{flat_map}
 use Rattle.std.proofs.lemmas.Bool.Decides.{nat_tests}
 use Rattle.lola_value.specs.declared.value.Kind.{Kind}
-use Rattle.lola_value.specs.declared.value.Kind.TheVariants as kind
 use Rattle.lola_value.specs.declared.front.Code.TheVariants as code
 use Rattle.lola_tree.specs.declared.literals.Typed.{Typed}
 use Rattle.lola_tree.specs.declared.pacing.Rhythm.{Rhythm}
@@ -21,7 +20,6 @@ use Rattle.lola_tree.specs.declared.declarations.Declaration.TheVariants as d
 use Rattle.lola_model.specs.Model.{is_input}
 use Rattle.lola_model.specs.Named.{has_clause, count_with, is_condition, has_when, is_of_bool, is_well_shaped, is_output_shape, is_trigger_shape, has_few_parameters, all_streams, is_pace_in_range, is_clause_paced_in_range, is_stream_paced_in_range}
 use Rattle.lola_model.specs.declared.expr.Expr.{Expr}
-use Rattle.lola_model.specs.declared.spec.WrittenRate.{WrittenRate}
 use Rattle.lola_model.specs.declared.spec.WrittenRate.TheVariants as rate
 use Rattle.lola_model.specs.declared.spec.Pace.{Pace}
 use Rattle.lola_model.specs.declared.spec.Pace.TheVariants as pace
@@ -36,7 +34,7 @@ use Rattle.lola_resolve.specs.Clauses.{IsOptional, IsPart, ArePartsOf, IsPace, I
 use Rattle.lola_resolve.specs.Specification.{AreStreams, part_ranges, rhythm_ranges, pacing_ranges, pace_in, spawn_ranges, eval_ranges, close_ranges, output_ranges, trigger_ranges, ranges_of}
 use Rattle.lola_resolve.specs.Specification as specification
 use Rattle.lola_meant.specs.Meant.{ClosesSpawned, ClosesAreSpawned}
-use Rattle.lola_meant.proofs.Basics.{both, or_left, or_right, none_left, none_right, some_none, slice_short, length_mapped, drop_behind}
+use Rattle.lola_meant.proofs.Basics.{both, none_left, none_right, some_none, slice_short, length_mapped, drop_behind}
 use Rattle.lola_meant.proofs.Expressions.{unless_none}
 
 -- no more than the most that there may be
@@ -97,7 +95,7 @@ module _ (ds : List Declaration) (targets : Targets) (texts : List (List ℕ)) (
       streams_all n j [] rest none closes ranged is = subst (λ l. all_streams f l ≡ true) (sym is) refl
       streams_all n j (d.Inputs x ∷ xs) rest none closes ranged is =
           let same : drop (length x.inputs) rest ≡ is.0 =
-              ap (drop (length x.inputs)) is.1 ∙ (ap (λ m. drop m (map input_stream x.inputs ++ is.0)) (sym (length_mapped input_stream x.inputs)) ∙ drop_behind (map input_stream x.inputs) is.0) in
+          ap (drop (length x.inputs)) is.1 ∙ (ap (λ m. drop m (map input_stream x.inputs ++ is.0)) (sym (length_mapped input_stream x.inputs)) ∙ drop_behind (map input_stream x.inputs) is.0) in
           subst (λ l. all_streams f l ≡ true) (sym is.1)
           (inputs_all x.inputs is.0
           (streams_all (n + length x.inputs) j xs is.0 (none_right (declaration_uses names (d.Inputs x)) (flat_map (declaration_uses names) xs) none) closes (λ g. ap (ranges_of xs) (sym same) ∙ ranged g) is.2))
@@ -123,7 +121,7 @@ module _ (ds : List Declaration) (targets : Targets) (texts : List (List ℕ)) (
       input = λ t. refl;
       output = λ n x s none closes ranged is.
           let few = few_places 4 (places_of x.parameters) (none_left (too_many 4 (places_of x.parameters))
-              (kind_uses x.parameters ++ (of_option kind_use x.kind ++ unless (nat_eq (count_spawned x.spawn) (length x.parameters)) code.BadArity x.name.at)) none) in
+          (kind_uses x.parameters ++ (of_option kind_use x.kind ++ unless (nat_eq (count_spawned x.spawn) (length x.parameters)) code.BadArity x.name.at)) none) in
           few_numbers (length s.parameters)
           (subst (λ m. m ≤ 4) (length_mapped (λ (t : Typed). t.name.at) x.parameters ∙ sym (ap length is.parameters ∙ length_mapped (λ (t : Typed). kind_spelled t.kind) x.parameters)) few);
       trigger = λ n j x s ranged is. rw (is.parameters) refl;
@@ -190,9 +188,9 @@ module _ (ds : List Declaration) (targets : Targets) (texts : List (List ℕ)) (
             let many : length s.parameters ≡ length x.parameters = ap length is.parameters ∙ length_mapped (λ (t : Typed). kind_spelled t.kind) x.parameters in
             let arity = unless (nat_eq (count_spawned x.spawn) (length x.parameters)) code.BadArity x.name.at in
             let as_many : nat_eq (count_spawned x.spawn) (length x.parameters) ≡ true =
-                unless_none (nat_eq (count_spawned x.spawn) (length x.parameters)) code.BadArity x.name.at
-                (none_right (of_option kind_use x.kind) arity (none_right (kind_uses x.parameters) (of_option kind_use x.kind ++ arity)
-                (none_right (too_many 4 (places_of x.parameters)) (kind_uses x.parameters ++ (of_option kind_use x.kind ++ arity)) none))) in
+            unless_none (nat_eq (count_spawned x.spawn) (length x.parameters)) code.BadArity x.name.at
+            (none_right (of_option kind_use x.kind) arity (none_right (kind_uses x.parameters) (of_option kind_use x.kind ++ arity)
+            (none_right (too_many 4 (places_of x.parameters)) (kind_uses x.parameters ++ (of_option kind_use x.kind ++ arity)) none))) in
             both (nat_eq (count_with s.eval) 1) _ (ap (λ m. nat_eq m 1) (eval_count _ x.eval s.eval is.eval))
             (both (nat_eq (count_with s.spawn) (length s.parameters)) _ (rw (spawn_count _ x.spawn s.spawn is.spawn) (rw many as_many))
             (close_shape _ _ x.close s.close x.spawn s.spawn is.close is.spawn closes))

@@ -1,12 +1,11 @@
 -- What the grammar gives: each output with a close clause has a spawn clause.
-use Rattle.std.proofs.Common.{ℕ, List, [], ◌∷◌, Option, Some, None, refl, sym, subst, ◌⊎◌, inl, inr}
+use Rattle.std.proofs.Common.{ℕ, List, [], ◌∷◌, Option, Some, None, refl, sym, subst, inl, inr}
 use Rattle.lola_tree.specs.declared.clauses.Spawn.{Spawn}
-use Rattle.lola_tree.specs.declared.clauses.Eval.{Eval}
 use Rattle.lola_tree.specs.declared.clauses.Close.{Close}
 use Rattle.lola_tree.specs.declared.declarations.Declaration.{Declaration}
 use Rattle.lola_tree.specs.declared.declarations.Declaration.TheVariants as d
 use Rattle.lola_lexer.specs.declared.shape.TokenShape.TheVariants as is
-use Rattle.lola_grammar.specs.Syntax.{Lexeme, Syntax, Token, Then, Map, Either, Maybe, Many, Spells, Repeats}
+use Rattle.lola_grammar.specs.Syntax.{Lexeme, Syntax, Then, Map, Either, Maybe, Spells, Repeats}
 use Rattle.lola_parser.specs.Grammar.{Body, token, name, parameters, kind, inputs, constant, spawn, eval, close, short_eval, body, output, trigger, declaration, specification}
 use Rattle.lola_meant.specs.Meant.{ClosesSpawned, ClosesAreSpawned}
 
@@ -52,10 +51,13 @@ output_gives : (n : ℕ) → Gives IsRight (output n)
 unfolding output
 output_gives n =
     gives_map IsRight _ (Then (token is.Output) (Then name (Then (Maybe parameters) (Then (Maybe kind) (body n)))))
-    (λ ts p s. (gives_second (λ q. IsSpawned q.1.1.1) (token is.Output) (Then name (Then (Maybe parameters) (Then (Maybe kind) (body n))))
-    (gives_second (λ q. IsSpawned q.1.1) name (Then (Maybe parameters) (Then (Maybe kind) (body n)))
-    (gives_second (λ q. IsSpawned q.1) (Maybe parameters) (Then (Maybe kind) (body n))
-    (gives_second IsSpawned (Maybe kind) (body n) (body_gives n)))) ts p s, tt))
+    (λ ts p s. (
+      gives_second (λ q. IsSpawned q.1.1.1) (token is.Output) (Then name (Then (Maybe parameters) (Then (Maybe kind) (body n))))
+          (gives_second (λ q. IsSpawned q.1.1) name (Then (Maybe parameters) (Then (Maybe kind) (body n)))
+          (gives_second (λ q. IsSpawned q.1) (Maybe parameters) (Then (Maybe kind) (body n))
+          (gives_second IsSpawned (Maybe kind) (body n) (body_gives n)))) ts p s,
+      tt,
+    ))
 
 inputs_give : Gives IsRight inputs
 unfolding inputs

@@ -1,10 +1,8 @@
 -- What a name means and what it stands for go together.
-use Rattle.std.proofs.Common.{◌≡◌, ◌≤◌, ◌<◌, ◌+◌, ℕ, zero, suc, arith, refl, sym, ap, ◌∙◌, subst, length-append, Bool, true, false, List, [], ◌∷◌, ◌++◌, Option, Some, None, is_some, slice_get, length, map, inl, inr}
-use Rattle.std.specs.Prelude.{if◌then◌else◌, filter}
+use Rattle.std.proofs.Common.{◌≡◌, ◌≤◌, ◌<◌, ◌+◌, ℕ, suc, arith, refl, sym, ap, ◌∙◌, length-append, List, [], ◌∷◌, ◌++◌, Option, Some, None, slice_get, length, map, inl, inr}
 use Rattle.std.specs.List.{flat_map}
 use Rattle.std.proofs.lemmas.Bool.{cases_Bool}
 use Rattle.lola_value.specs.Arithmetic.{bytes_equal}
-use Rattle.lola_value.specs.declared.value.Kind.{Kind}
 use Rattle.lola_tree.specs.declared.literals.Typed.{Typed}
 use Rattle.lola_tree.specs.declared.declarations.Constant.{Constant}
 use Rattle.lola_tree.specs.declared.declarations.Declaration.{Declaration}
@@ -15,17 +13,17 @@ use Rattle.lola_model.specs.declared.spec.Stream.{Stream}
 use Rattle.lola_model.specs.declared.spec.WindowSpec.{WindowSpec}
 use Rattle.lola_names.specs.declared.names.Meaning.{Meaning}
 use Rattle.lola_names.specs.declared.names.Meaning.TheVariants as meaning
-use Rattle.lola_names.specs.Known.{Known, Declared, declared, parameters_of, meaning_in, meant, hides, names_of, with_names}
+use Rattle.lola_names.specs.Known.{Known, Declared, declared, parameters_of, meaning_in, hides, names_of, with_names}
 use Rattle.lola_names.specs.Law.{plain}
 use Rattle.lola_names.specs.Refused.{input_places, places_of}
-use Rattle.lola_names.proofs.FirstDeclaration.{meaning-append, names-meaning, means_first_declaration}
+use Rattle.lola_names.proofs.FirstDeclaration.{names-meaning, means_first_declaration}
 use Rattle.lola_resolve.specs.declared.targets.Target.{Target}
 use Rattle.lola_resolve.specs.declared.targets.Target.TheVariants as target
-use Rattle.lola_resolve.specs.Targets.{Targets, Count, target_in, target_of, hidden_by, input_targets, counted_with, targets_with, targets_from, targets_of, parameter_targets}
+use Rattle.lola_resolve.specs.Targets.{Targets, Count, target_in, hidden_by, input_targets, counted_with, targets_with, targets_from, targets_of, parameter_targets}
 use Rattle.lola_resolve.specs.Resolved.{kind_spelled}
-use Rattle.lola_resolve.specs.Clauses.{input_stream, IsOutput, IsTrigger}
+use Rattle.lola_resolve.specs.Clauses.{input_stream}
 use Rattle.lola_resolve.specs.Specification.{AreStreams}
-use Rattle.lola_meant.proofs.Basics.{slice_behind, length_mapped, nothing_there}
+use Rattle.lola_meant.proofs.Basics.{slice_behind, length_mapped}
 
 -- stream s of the list is of this sort, with so many parameters
 pub record StandsAt (ss : List Stream) (s : ℕ) (kind : Sort) (count : ℕ) : Type 0 where
@@ -107,8 +105,7 @@ module _ (u : Around) where
   inputs_step n i (t ∷ ts) rest at h =
       let here : i < u.inputs = omega (arith, h) in
       let more : (i + 1) + length ts ≤ u.inputs = omega (arith, h) in
-      let first : n + 0 ≡ n = omega arith in
-      (
+      let first : n + 0 ≡ n = omega arith in (
         refl,
         (record { stream = input_stream t; there = ap (slice_get u.streams) (sym first) ∙ sym (at 0); sort = refl; parameters = refl }, here),
         inputs_step (n + 1) (i + 1) ts rest (λ j. let e : n + suc j ≡ (n + 1) + j = omega arith in at (suc j) ∙ ap (slice_get u.streams) e) more,
@@ -149,7 +146,7 @@ module _ (u : Around) where
     declarations_step c k [] rest are at said few = tt
     declarations_step c k (d.Inputs x ∷ ds) rest are at said few =
         let count : length (places_of x.inputs ++ flat_map input_places ds) ≡ length x.inputs + length (flat_map input_places ds) =
-            length-append (places_of x.inputs) (flat_map input_places ds) ∙ ap (λ n. n + length (flat_map input_places ds)) (length_mapped (λ (t : Typed). t.name.at) x.inputs) in
+        length-append (places_of x.inputs) (flat_map input_places ds) ∙ ap (λ n. n + length (flat_map input_places ds)) (length_mapped (λ (t : Typed). t.name.at) x.inputs) in
         let few_here : c.inputs + length x.inputs ≤ u.inputs = omega (arith, count) in
         let few_more : (c.inputs + length x.inputs) + length (flat_map input_places ds) ≤ u.inputs = omega (arith, count) in
         let here : (j : ℕ) → slice_get (map input_stream x.inputs ++ are.0) j ≡ slice_get u.streams (c.streams + j) = λ j. ap (λ l. slice_get l j) (sym are.1) ∙ at j in
@@ -159,19 +156,18 @@ module _ (u : Around) where
         (inputs_step c.streams c.inputs x.inputs are.0 here few_here)
         (declarations_step (counted_with c (d.Inputs x)) k ds are.0 are.2
         (λ j.
-            let e : c.streams + (length x.inputs + j) ≡ (c.streams + length x.inputs) + j = omega arith in
-            sym (slice_behind (map input_stream x.inputs) are.0 j) ∙ (ap (λ n. slice_get (map input_stream x.inputs ++ are.0) (n + j)) many ∙ (here (length x.inputs + j) ∙ ap (slice_get u.streams) e)))
+        let e : c.streams + (length x.inputs + j) ≡ (c.streams + length x.inputs) + j = omega arith in
+        sym (slice_behind (map input_stream x.inputs) are.0 j) ∙ (ap (λ n. slice_get (map input_stream x.inputs ++ are.0) (n + j)) many ∙ (here (length x.inputs + j) ∙ ap (slice_get u.streams) e)))
         (later c.declarations (d.Inputs x) ds said)
         few_more))
     declarations_step c k (d.Constant x ∷ ds) rest are at said few =
         (refl, record { constant = x; there = first c.declarations (d.Constant x) ds said }, declarations_step (counted_with c (d.Constant x)) k ds rest are at (later c.declarations (d.Constant x) ds said) few)
     declarations_step c k (d.Output x ∷ ds) [] are at said few = absurd are
-    declarations_step c k (d.Output x ∷ ds) (s ∷ rest) are at said few =
-        (
-          refl,
-          record { stream = s; there = first_stream c.streams s rest at; sort = are.0.sort; parameters = ap length are.0.parameters ∙ length_mapped (λ (t : Typed). kind_spelled t.kind) x.parameters },
-          declarations_step (counted_with c (d.Output x)) k ds rest are.1 (later_stream c.streams s rest at) (later c.declarations (d.Output x) ds said) few,
-        )
+    declarations_step c k (d.Output x ∷ ds) (s ∷ rest) are at said few = (
+      refl,
+      record { stream = s; there = first_stream c.streams s rest at; sort = are.0.sort; parameters = ap length are.0.parameters ∙ length_mapped (λ (t : Typed). kind_spelled t.kind) x.parameters },
+      declarations_step (counted_with c (d.Output x)) k ds rest are.1 (later_stream c.streams s rest at) (later c.declarations (d.Output x) ds said) few,
+    )
     declarations_step c k (d.Trigger x ∷ ds) [] are at said few = absurd are
     declarations_step c k (d.Trigger x ∷ ds) (s ∷ rest) are at said few =
         declarations_step (counted_with c (d.Trigger x)) (k + 1) ds rest are.1 (later_stream c.streams s rest at) (later c.declarations (d.Trigger x) ds said) few

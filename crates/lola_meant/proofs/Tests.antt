@@ -1,8 +1,6 @@
 -- The tests that a resolved specification passes.
-use Rattle.std.proofs.Common.{◌≡◌, ◌≤◌, ◌<◌, ◌+◌, ℕ, ℤ, pos, negsuc, zero, suc, arith, append_assoc, ◌*◌, ◌/◌, ◌%◌, ◌^◌, refl, sym, ap, ◌∙◌, subst, Bool, true, false, ◌&&◌, ◌||◌, List, [], ◌∷◌, ◌++◌, Option, Some, None, slice_get, length, map, nat_eq, nat_le, nat_lt, inl, inr, int_le, eq-eqb, le-leb}
+use Rattle.std.proofs.Common.{◌≡◌, ◌≤◌, ◌<◌, ℕ, ℤ, pos, negsuc, zero, suc, arith, append_assoc, ◌*◌, ◌/◌, ◌%◌, ◌^◌, refl, sym, ap, ◌∙◌, subst, Bool, true, false, ◌&&◌, List, [], ◌∷◌, ◌++◌, Option, Some, None, slice_get, length, nat_eq, nat_le, nat_lt, int_le, eq-eqb, le-leb}
 use Rattle.std.specs.Prelude.{if◌then◌else◌, min}
-use Rattle.std.specs.List.{flat_map}
-use Rattle.std.proofs.lemmas.Bool.{cases_Bool}
 use Rattle.std.proofs.lemmas.Bool.Decides.{nat_tests}
 use Rattle.lola_value.specs.Times.{latest}
 use Rattle.lola_value.specs.Kinds.{values_same}
@@ -19,23 +17,20 @@ use Rattle.lola_tree.specs.declared.declarations.Declaration.TheVariants as d
 use Rattle.lola_tree.specs.declared.expressions.Access.{Access as TreeAccess}
 use Rattle.lola_tree.specs.declared.expressions.Access.TheVariants as a
 use Rattle.lola_model.specs.Bounds.{offset_by}
-use Rattle.lola_model.specs.Named.{is_read_of, is_resolved, all_numbers, offset_in, window_number, same_part, is_window_of, literal_text, is_span}
+use Rattle.lola_model.specs.Named.{is_resolved, all_numbers, offset_in, window_number, same_part, is_window_of, literal_text, is_span}
 use Rattle.lola_model.specs.Typing.{same_kind, count_of}
 use Rattle.lola_model.specs.declared.expr.Place.{Place}
-use Rattle.lola_model.specs.declared.expr.Expr.{Expr}
 use Rattle.lola_model.specs.declared.expr.Expr.TheVariants.{Literal}
 use Rattle.lola_model.specs.declared.spec.Constant.{Constant}
 use Rattle.lola_model.specs.declared.spec.Part.{Part}
 use Rattle.lola_model.specs.declared.spec.Part.TheVariants as part
 use Rattle.lola_model.specs.declared.spec.Spec.{Spec}
-use Rattle.lola_model.specs.declared.spec.Stream.{Stream}
 use Rattle.lola_model.specs.declared.spec.WindowSpec.{WindowSpec}
 use Rattle.lola_names.specs.Quantities.{is_short, unit_span, whole_span, span_of}
-use Rattle.lola_resolve.specs.Resolved.{IsValue, IsTextNumber, integer_of, access_of, aggregation_spelled, kind_spelled, place_at}
-use Rattle.lola_resolve.specs.Specification.{IsConstant, IsConstantValue, AreConstants, constants_in, constants_of, access_ranges}
-use Rattle.lola_meant.specs.Constants.{is_constant, literal_is_known}
+use Rattle.lola_resolve.specs.Resolved.{IsValue, integer_of, access_of, kind_spelled, place_at}
+use Rattle.lola_resolve.specs.Specification.{IsConstantValue, AreConstants, constants_in, constants_of, access_ranges}
+use Rattle.lola_model.specs.Constants.{is_constant, literal_is_known}
 use Rattle.lola_meant.proofs.Basics.{both, or_left, or_right, some_none, nothing_there, slice_there}
-use Rattle.lola_meant.proofs.Expressions.{IsPassing}
 use Rattle.lola_meant.proofs.Listed.{read_below}
 use Rattle.lola_meant.proofs.Wholes.{IsPassingEverywhere}
 

@@ -1,5 +1,5 @@
 -- A test that passes what names and literals are resolved to passes every part of a specification that is resolved.
-use Rattle.std.proofs.Common.{◌≡◌, ◌≤◌, ◌+◌, ℕ, suc, arith, refl, sym, ap, ◌∙◌, subst, Bool, true, ◌&&◌, List, [], ◌∷◌, ◌++◌, Option, Some, None, slice_get, unwrap_or, length, map, drop}
+use Rattle.std.proofs.Common.{◌≡◌, ◌≤◌, ◌+◌, ℕ, arith, refl, sym, ap, ◌∙◌, subst, Bool, true, List, [], ◌∷◌, ◌++◌, Option, Some, None, slice_get, unwrap_or, length, map, drop}
 use Rattle.std.specs.List.{flat_map}
 use Rattle.lola_value.specs.declared.value.Kind.{Kind}
 use Rattle.lola_value.specs.declared.value.Kind.TheVariants as kind
@@ -21,15 +21,15 @@ use Rattle.lola_model.specs.declared.spec.Part.{Part}
 use Rattle.lola_model.specs.declared.spec.Part.TheVariants as part
 use Rattle.lola_model.specs.declared.spec.Stream.{Stream}
 use Rattle.lola_model.specs.declared.spec.WindowSpec.{WindowSpec}
-use Rattle.lola_names.specs.Known.{Known, names_of, meant, meaning_in, parameters_of, with_names}
-use Rattle.lola_names.specs.Refused.{of_option, input_places, uses, when_uses, with_uses, pacing_uses, spawn_uses, eval_uses, close_uses, head_uses, clause_uses, output_uses, declaration_uses}
-use Rattle.lola_resolve.specs.Targets.{Targets, target_in, target_of, targets_of, parameter_targets}
+use Rattle.lola_names.specs.Known.{Known, names_of, meaning_in, parameters_of, with_names}
+use Rattle.lola_names.specs.Refused.{of_option, input_places, uses, when_uses, with_uses, pacing_uses, spawn_uses, eval_uses, close_uses, head_uses, output_uses, declaration_uses}
+use Rattle.lola_resolve.specs.Targets.{Targets, target_in, targets_of, parameter_targets}
 use Rattle.lola_resolve.specs.Resolved.{Standing, IsResolved, kind_spelled}
 use Rattle.lola_resolve.specs.Clauses.{IsOptional, IsPart, ArePartsOf, IsSpawn, IsEval, IsClose, IsTriggerClause, IsOutput, IsTrigger, input_stream}
 use Rattle.lola_resolve.specs.Specification.{AreStreams, expr_ranges, part_ranges, pacing_ranges, pace_in, spawn_ranges, eval_ranges, close_ranges, output_ranges, trigger_ranges, ranges_of}
 use Rattle.lola_resolve.specs.Specification as specification
 use Rattle.lola_meant.proofs.Basics.{both, left_of, right_of, none_left, none_right, length_mapped, drop_behind}
-use Rattle.lola_meant.proofs.Targets.{Around, FitsIf, fits_hidden, fits_parameters, fits_declared}
+use Rattle.lola_meant.proofs.Targets.{Around, fits_hidden, fits_parameters, fits_declared}
 use Rattle.lola_meant.proofs.Expressions.{IsPassing, resolved_passes}
 
 pub wholes_both : (f : Whole → Bool) (xs ys : List Whole) → all_wholes f xs ≡ true → all_wholes f ys ≡ true → all_wholes f (xs ++ ys) ≡ true
@@ -64,9 +64,9 @@ module _ (ds : List Declaration) (ss : List Stream) (inputs : ℕ) (texts : List
           let within : length ps ≤ length ks = omega (arith, many) in
           resolved_passes (around ds ss inputs (length ks)) texts windows here G (t n p (length ks)) (targets_of ds) known (names_of ds) (passing n p (length ks) (parameter_targets 0 ps))
           (λ q.
-              fits_hidden (around ds ss inputs (length ks)) (meaning_in known q) (meaning_in (names_of ds) q) (target_in (parameter_targets 0 ps) q) (target_in (targets_of ds) q)
-              (fits_parameters (around ds ss inputs (length ks)) ps q within)
-              (fits_declared (around ds ss inputs (length ks)) (targets_of ds) texts windows 0 are few q))
+          fits_hidden (around ds ss inputs (length ks)) (meaning_in known q) (meaning_in (names_of ds) q) (target_in (parameter_targets 0 ps) q) (target_in (targets_of ds) q)
+          (fits_parameters (around ds ss inputs (length ks)) ps q within)
+          (fits_declared (around ds ss inputs (length ks)) (targets_of ds) texts windows 0 are few q))
           x r none ranged is
 
       when_passes : (at : ℕ) (x : Option TreePart) (o : Option Expr) → when_uses known (names_of ds) x ≡ [] → (G → specification.of_option part_ranges x ≡ [])
@@ -180,12 +180,12 @@ module _ (ds : List Declaration) (ss : List Stream) (inputs : ℕ) (texts : List
     streams_pass n j [] rest kinds none ranged is = subst (λ ss. all_wholes is_passed (wholes_from n ss kinds) ≡ true) (sym is) refl
     streams_pass n j (d.Inputs x ∷ xs) rest kinds none ranged is =
         let same : drop (length x.inputs) rest ≡ is.0 =
-            ap (drop (length x.inputs)) is.1 ∙ (ap (λ m. drop m (map input_stream x.inputs ++ is.0)) (sym (length_mapped input_stream x.inputs)) ∙ drop_behind (map input_stream x.inputs) is.0) in
+        ap (drop (length x.inputs)) is.1 ∙ (ap (λ m. drop m (map input_stream x.inputs ++ is.0)) (sym (length_mapped input_stream x.inputs)) ∙ drop_behind (map input_stream x.inputs) is.0) in
         subst (λ ss. all_wholes is_passed (wholes_from n ss kinds) ≡ true) (sym is.1)
         (inputs_pass n x.inputs is.0 kinds
         (λ others.
-            streams_pass (n + length x.inputs) j xs is.0 others (none_right (declaration_uses (names_of ds) (d.Inputs x)) (flat_map (declaration_uses (names_of ds)) xs) none)
-            (λ g. ap (ranges_of xs) (sym same) ∙ ranged g) is.2))
+        streams_pass (n + length x.inputs) j xs is.0 others (none_right (declaration_uses (names_of ds) (d.Inputs x)) (flat_map (declaration_uses (names_of ds)) xs) none)
+        (λ g. ap (ranges_of xs) (sym same) ∙ ranged g) is.2))
     streams_pass n j (d.Constant x ∷ xs) rest kinds none ranged is =
         streams_pass n j xs rest kinds (none_right (declaration_uses (names_of ds) (d.Constant x)) (flat_map (declaration_uses (names_of ds)) xs) none) ranged is
     streams_pass n j (d.Output x ∷ xs) [] kinds none ranged is = absurd is

@@ -10,7 +10,7 @@ use Rattle.lola_model.specs.Named.{IsNamed}
 use Rattle.lola_model.specs.declared.spec.Spec.{Spec}
 use Rattle.lola_names.specs.Refused.{refusals_of}
 use Rattle.lola_resolve.specs.Specification.{Resolves}
-use Rattle.lola_meant.specs.Constants.{NotesConstants}
+use Rattle.lola_model.specs.Constants.{NotesConstants}
 
 -- a close clause stands only with a spawn clause
 abbrev pub ClosesSpawned : Option Spawn → Option Close → Type 0
