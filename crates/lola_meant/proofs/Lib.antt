@@ -9,3 +9,4 @@ pub mod Tests
 mod Spelled
 pub mod Formulas
 mod Laws
+mod Corners
