@@ -6,7 +6,7 @@ pub mod Shapes
 pub mod Names
 pub mod Listed
 pub mod Tests
-mod Spelled
+pub mod Spelled
 pub mod Formulas
-mod Laws
+pub mod Laws
 mod Corners

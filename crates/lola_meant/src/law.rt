@@ -4,8 +4,8 @@ ghost use Rattle.lola_meant.specs.Meant.{ResolvedIsNamed, ResolvedNotesConstants
 
 /// What resolving gives is named: where nothing of the names of some declarations is refused, the specification that they are
 /// resolved to is within the limits of the language, its names are distinct, each number is that of a stream, a window, a
-/// parameter or a text of it, each reference has as many arguments as its stream has parameters, and, where no place is noted
-/// as out of range, each rate, length of time and offset is in its range.
+/// parameter, an input or a text of it, each reference has as many arguments as its stream has parameters, and, where no place
+/// is noted as out of range, each rate, length of time and offset is in its range.
 pub fn resolved_is_named()
     ensures { ResolvedIsNamed }
 {}
