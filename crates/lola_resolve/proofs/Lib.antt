@@ -1,0 +1,5 @@
+pub mod Growth
+pub mod Entering
+pub mod Numbering
+pub mod TableLemmas
+pub mod TreeLemmas
