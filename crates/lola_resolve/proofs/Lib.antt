@@ -3,3 +3,4 @@ pub mod Entering
 pub mod Numbering
 pub mod TableLemmas
 pub mod TreeLemmas
+mod RangeLemmas

@@ -1,10 +1,10 @@
 -- Texts with their numbers.
-use Rattle.std.proofs.Common.{◌≡◌, ℕ, zero, suc, ◌+◌, ◌<◌, ◌≤◌, Bool, true, false, not, ◌&&◌, ◌||◌, List, [], ◌∷◌, ◌++◌, Option, Some, None, length, map, nat_eq, refl, sym, ap, subst, inl, inr, ◌∙◌, arith, length-append, length-map}
-use Rattle.std.specs.Prelude.{Vec, IsTrue, slice_get, cond}
-use Rattle.std.specs.List.{position_or_len, list_any}
+use Rattle.std.proofs.Common.{◌≡◌, ℕ, zero, suc, ◌+◌, ◌<◌, ◌≤◌, Bool, true, false, not, ◌&&◌, ◌||◌, List, [], ◌∷◌, ◌++◌, Option, Some, None, length, map, nat_eq, refl, sym, ap, subst, inl, inr, ◌∙◌, arith, length-append}
+use Rattle.std.specs.Prelude.{Vec, IsTrue, slice_get, cond, nat_lt}
+use Rattle.std.specs.List.{position, position_or_len, list_any}
 use Rattle.std.specs.Cmp.Lexicographic.{pointwise}
 use Rattle.std.specs.declared.alloc.Global.{Global}
-use Rattle.std.proofs.lemmas.Bool.{cases_Bool}
+use Rattle.std.proofs.lemmas.Bool.{cases_Bool, ltb-true, ltb-false}
 use Rattle.lola_value.specs.Arithmetic.{bytes_equal}
 use Rattle.lola_model.specs.Named.{is_listed, are_distinct}
 use Rattle.lola_model.proofs.Lookups.{bytes_equal-true, bytes_equal-same}
@@ -75,23 +75,23 @@ one_place [] t i j apart at other = absurd (cc at)
 one_place (u ∷ ts) t zero zero apart at other = refl
 one_place (u ∷ ts) t zero (suc j) apart at other =
     let same : u ≡ t = cc at in
-    let no : is_listed u ts ≡ false = not_true _ (both_true (not (is_listed u ts)) (are_distinct ts) apart).0 in
-    let yes : is_listed u ts ≡ true = ap (λ x. is_listed x ts) same ∙ listed_at ts t j other in
-    absurd (cc (no, yes))
+    let not_there : is_listed u ts ≡ false = not_true _ (both_true (not (is_listed u ts)) (are_distinct ts) apart).0 in
+    let there : is_listed u ts ≡ true = ap (λ x. is_listed x ts) same ∙ listed_at ts t j other in
+    absurd (cc (not_there, there))
 one_place (u ∷ ts) t (suc i) zero apart at other =
     let same : u ≡ t = cc other in
-    let no : is_listed u ts ≡ false = not_true _ (both_true (not (is_listed u ts)) (are_distinct ts) apart).0 in
-    let yes : is_listed u ts ≡ true = ap (λ x. is_listed x ts) same ∙ listed_at ts t i at in
-    absurd (cc (no, yes))
+    let not_there : is_listed u ts ≡ false = not_true _ (both_true (not (is_listed u ts)) (are_distinct ts) apart).0 in
+    let there : is_listed u ts ≡ true = ap (λ x. is_listed x ts) same ∙ listed_at ts t i at in
+    absurd (cc (not_there, there))
 one_place (u ∷ ts) t (suc i) (suc j) apart at other =
     ap suc (one_place ts t i j (both_true (not (is_listed u ts)) (are_distinct ts) apart).1 at other)
 
 -- a new text behind distinct ones
 unlisted-pushed : (ts : List (List ℕ)) (u t : List ℕ) → is_listed u ts ≡ false → bytes_equal u t ≡ false → is_listed u (ts ++ t ∷ []) ≡ false
-unlisted-pushed [] u t no other = rw other refl
-unlisted-pushed (v ∷ ts) u t no other = elim (cases_Bool (bytes_equal u v)) [
-  | inl hit ↦ let no' = rw hit at no in absurd (cc no')
-  | inr miss ↦ let no' = rw miss at no in rw miss (unlisted-pushed ts u t no' other)
+unlisted-pushed [] u t none other = rw other refl
+unlisted-pushed (v ∷ ts) u t none other = elim (cases_Bool (bytes_equal u v)) [
+  | inl hit ↦ let none' = rw hit at none in absurd (cc none')
+  | inr miss ↦ let none' = rw miss at none in rw miss (unlisted-pushed ts u t none' other)
 ]
 
 pub distinct-pushed : (ts : List (List ℕ)) (t : List ℕ) → IsTrue (are_distinct ts) → ((i : ℕ) → slice_get ts i ≡ Some t → ⊥) → IsTrue (are_distinct (ts ++ t ∷ []))
@@ -120,3 +120,30 @@ texts-pushed (x ∷ ks) k = ap (λ l. x.items ∷ l) (texts-pushed ks k)
 pub texts-length : (ks : List Key) → length (texts_in ks) ≡ length ks
 texts-length [] = refl
 texts-length (k ∷ ks) = ap suc (texts-length ks)
+
+-- what a look-up of the place says
+pub place_some : (text : List ℕ) (ks : List Key) (i : ℕ) → position (is_text text) ks ≡ Some i → slice_get (texts_in ks) i ≡ Some text
+place_some text ks i is = elim (cases_Bool (nat_lt (position_or_len (is_text text) ks) (length ks))) [
+  | inl hit ↦
+      let is' = rw hit at is in
+      let same : position_or_len (is_text text) ks ≡ i = cc is' in
+      ap (slice_get (texts_in ks)) (sym same) ∙ placed text ks (ltb-true (position_or_len (is_text text) ks) (length ks) hit)
+  | inr miss ↦ let is' = rw miss at is in absurd (cc is')
+]
+
+pub place_none : (text : List ℕ) (ks : List Key) → position (is_text text) ks ≡ None → (i : ℕ) → slice_get (texts_in ks) i ≡ Some text → ⊥
+place_none text ks is = elim (cases_Bool (nat_lt (position_or_len (is_text text) ks) (length ks))) [
+  | inl hit ↦ let is' = rw hit at is in absurd (cc is')
+  | inr miss ↦ unplaced text ks (ltb-false (position_or_len (is_text text) ks) (length ks) miss)
+]
+
+-- as a list of texts has it
+pub found_in : (ts : List (List ℕ)) (text : List ℕ) (ks : List Key) (i : ℕ) → texts_in ks ≡ ts → IsTrue (are_distinct (texts_in ks)) → position (is_text text) ks ≡ Some i
+    → (slice_get ts i ≡ Some text) × ((j : ℕ) → slice_get ts j ≡ Some text → j ≡ i)
+found_in ts text ks i same apart is =
+    let there : slice_get (texts_in ks) i ≡ Some text = place_some text ks i is in
+    subst (λ (l : List (List ℕ)). (slice_get l i ≡ Some text) × ((j : ℕ) → slice_get l j ≡ Some text → j ≡ i)) same
+    (there, λ j at. one_place (texts_in ks) text j i apart at there)
+
+pub not_in : (ts : List (List ℕ)) (text : List ℕ) (ks : List Key) → texts_in ks ≡ ts → position (is_text text) ks ≡ None → (j : ℕ) → slice_get ts j ≡ Some text → ⊥
+not_in ts text ks same is = subst (λ (l : List (List ℕ)). (j : ℕ) → slice_get l j ≡ Some text → ⊥) same (place_none text ks is)
