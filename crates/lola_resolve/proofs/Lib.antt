@@ -4,3 +4,4 @@ pub mod Numbering
 pub mod TableLemmas
 pub mod TreeLemmas
 mod RangeLemmas
+pub mod Scopes
