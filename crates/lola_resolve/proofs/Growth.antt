@@ -1,5 +1,5 @@
 -- Texts and windows that grow.
-use Rattle.std.proofs.Common.{◌≡◌, ℕ, zero, suc, ◌+◌, ◌<◌, ◌≤◌, ◌⊎◌, List, [], ◌∷◌, ◌++◌, Option, Some, None, length, refl, sym, ap, ap₂, subst, ◌∙◌, inl, inr, arith, lit<, append_assoc, append-nil, length-append, add-zero}
+use Rattle.std.proofs.Common.{◌≡◌, ℕ, zero, suc, ◌+◌, List, [], ◌∷◌, ◌++◌, Some, length, refl, sym, ap, ap₂, subst, ◌∙◌, inl, inr, arith, lit<, append_assoc, append-nil, length-append, add-zero}
 use Rattle.std.specs.Prelude.{slice_get, Contains}
 use Rattle.std.proofs.lemmas.Bool.{cases_lt}
 use Rattle.std.proofs.lemmas.List.Elements.{Contains-append_left, Contains-append_right}
@@ -50,9 +50,9 @@ grows_then a b c ws ts us vs g h = record {
   more_windows = g.more_windows ++ h.more_windows;
   windows = h.windows ∙ ap (λ l. l ++ h.more_windows) g.windows ∙ append_assoc a.windows g.more_windows h.more_windows;
   numbered =
-    ap₂ (λ m n. m ++ n) g.numbered
-    (h.numbered ∙ ap (λ n. counted n (length h.more_windows)) (ap length g.windows ∙ length-append a.windows g.more_windows))
-    ∙ counted-append (length a.windows) g.more_windows h.more_windows;
+      ap₂ (λ m n. m ++ n) g.numbered
+      (h.numbered ∙ ap (λ n. counted n (length h.more_windows)) (ap length g.windows ∙ length-append a.windows g.more_windows))
+      ∙ counted-append (length a.windows) g.more_windows h.more_windows;
   used = λ i low high. elim (cases_lt i (length b.texts)) [
     | inl below ↦ Contains-append_left ts vs i (g.used i low below)
     | inr above ↦ Contains-append_right ts vs i (h.used i above high)

@@ -1,6 +1,6 @@
 -- Texts with their numbers.
-use Rattle.std.proofs.Common.{◌≡◌, ℕ, zero, suc, ◌+◌, ◌<◌, ◌≤◌, Bool, true, false, not, ◌&&◌, ◌||◌, List, [], ◌∷◌, ◌++◌, Option, Some, None, length, map, nat_eq, refl, sym, ap, subst, inl, inr, ◌∙◌, arith, length-append}
-use Rattle.std.specs.Prelude.{Vec, IsTrue, slice_get, cond, nat_lt}
+use Rattle.std.proofs.Common.{◌≡◌, ℕ, zero, suc, ◌+◌, ◌<◌, ◌≤◌, Bool, true, false, not, ◌&&◌, List, [], ◌∷◌, ◌++◌, Some, None, length, nat_eq, refl, sym, ap, subst, inl, inr, ◌∙◌, arith, length-append}
+use Rattle.std.specs.Prelude.{Vec, IsTrue, slice_get, nat_lt}
 use Rattle.std.specs.List.{position, position_or_len, list_any}
 use Rattle.std.specs.Cmp.Lexicographic.{pointwise}
 use Rattle.std.specs.declared.alloc.Global.{Global}
@@ -10,7 +10,7 @@ use Rattle.lola_model.specs.Named.{is_listed, are_distinct}
 use Rattle.lola_model.proofs.Lookups.{bytes_equal-true, bytes_equal-same}
 use Rattle.lola_resolve.specs.Entries.{texts_in}
 use Rattle.lola_resolve.specs.Numbered.{NumbersText}
-use Rattle.lola_resolve.proofs.Growth.{got-append, got-seam}
+use Rattle.lola_resolve.proofs.Growth.{got-seam}
 
 abbrev Key : Type 0
 Key = Vec ℕ Global

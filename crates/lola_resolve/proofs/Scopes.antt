@@ -1,13 +1,12 @@
 -- The tables of a specification make a scope.
-use Rattle.std.proofs.Common.{◌≡◌, ℕ, ◌+◌, ◌⊎◌, Bool, true, false, List, [], ◌∷◌, ◌++◌, Option, Some, None, length, refl, sym, ap, subst, inl, inr, ◌∙◌, arith, append_assoc, length-append}
+use Rattle.std.proofs.Common.{◌≡◌, ℕ, ◌+◌, ◌⊎◌, List, [], ◌∷◌, ◌++◌, Option, Some, None, length, refl, sym, ap, subst, inl, inr, ◌∙◌, arith, append_assoc, length-append}
 use Rattle.std.specs.Prelude.{slice_get}
 use Rattle.std.proofs.lemmas.Bool.{cases_Bool}
 use Rattle.lola_value.specs.Arithmetic.{bytes_equal}
 use Rattle.lola_tree.specs.declared.literals.Typed.{Typed}
-use Rattle.lola_tree.specs.declared.declarations.Constant.{Constant}
 use Rattle.lola_tree.specs.declared.declarations.Declaration.{Declaration}
 use Rattle.lola_tree.specs.declared.declarations.Declaration.TheVariants as d
-use Rattle.lola_resolve.specs.Targets.{Targets, Count, target_in, target_of, hidden_by, input_targets, parameter_targets, targets_from, targets_with, counted_with, targets_of}
+use Rattle.lola_resolve.specs.Targets.{Targets, Count, target_in, hidden_by, input_targets, parameter_targets, targets_from, counted_with, targets_of}
 use Rattle.lola_resolve.specs.Tables.{Means}
 use Rattle.lola_resolve.specs.Made.{IsConstantDeclared, IsScope, NamesConstants}
 use Rattle.lola_resolve.specs.declared.scope.Scope.{Scope}

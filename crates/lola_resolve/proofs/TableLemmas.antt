@@ -1,12 +1,12 @@
 -- Tables of names.
-use Rattle.std.proofs.Common.{◌≡◌, ℕ, ◌+◌, ◌<◌, ◌≤◌, length, get_or, drop, append-nil, Bool, true, false, List, [], ◌∷◌, ◌++◌, Option, Some, None, refl, sym, ap, subst, inl, inr, ◌∙◌, append_assoc, is_some, if◌then◌else◌}
+use Rattle.std.proofs.Common.{◌≡◌, ℕ, ◌+◌, ◌<◌, ◌≤◌, length, get_or, drop, append-nil, true, false, List, [], ◌∷◌, ◌++◌, Option, Some, None, refl, sym, ap, subst, inl, inr, ◌∙◌, append_assoc, is_some}
 use Rattle.std.proofs.lemmas.Bool.{cases_Bool}
 use Rattle.std.proofs.lemmas.List.{at_drop_more, at_drop_all}
 use Rattle.lola_tree.specs.declared.literals.Typed.{Typed}
 use Rattle.lola_tree.specs.declared.declarations.Declaration.{Declaration}
 use Rattle.lola_model.proofs.Lookups.{bytes_equal-true}
 use Rattle.lola_value.specs.Arithmetic.{bytes_equal}
-use Rattle.lola_resolve.specs.Targets.{Targets, Count, target_in, input_targets, parameter_targets, targets_with, targets_from, counted_with, targets_of}
+use Rattle.lola_resolve.specs.Targets.{Targets, Count, target_in, input_targets, parameter_targets, targets_with, targets_from, counted_with}
 use Rattle.lola_resolve.specs.Tables.{Means, PutsBehind}
 use Rattle.lola_resolve.specs.declared.targets.Target.{Target}
 use Rattle.lola_resolve.specs.declared.targets.Target.TheVariants as target

@@ -1,9 +1,7 @@
 -- The forms of a tree, resolved.
-use Rattle.std.proofs.Common.{◌≡◌, ℕ, suc, ◌+◌, ◌<◌, ◌≤◌, Bool, true, false, List, [], ◌∷◌, ◌++◌, Option, Some, None, Result, Ok, Err, OnOk, length, get_or, drop, refl, sym, ap, ap₂, subst, ◌∙◌, append_assoc, append-nil}
-use Rattle.std.specs.List.{flat_map}
+use Rattle.std.proofs.Common.{◌≡◌, ℕ, ◌+◌, ◌<◌, ◌≤◌, Bool, true, false, List, [], ◌∷◌, ◌++◌, Option, Some, None, length, get_or, drop, refl, sym, ap, ap₂, subst, ◌∙◌, append_assoc, append-nil}
 use Rattle.std.proofs.lemmas.List.{at_drop_more, at_drop_all}
 use Rattle.lola_tree.specs.declared.literals.Name.{Name}
-use Rattle.lola_tree.specs.declared.literals.Literal.{Literal as TreeLiteral}
 use Rattle.lola_tree.specs.declared.declarations.Declaration.{Declaration}
 use Rattle.lola_tree.specs.declared.expressions.Prefix.{Prefix}
 use Rattle.lola_tree.specs.declared.expressions.Binary.{Binary}
@@ -18,30 +16,27 @@ use mathlib.Core.Former.{Count}
 use Rattle.lola_model.specs.Parts.{listed, listed_all, listed_with}
 use Rattle.lola_model.specs.Named.{window_number, literal_text}
 use Rattle.lola_model.specs.declared.expr.Place.{Place}
-use Rattle.lola_model.specs.declared.expr.Access.{Access as ModelAccess}
 use Rattle.lola_model.specs.declared.expr.Prefix.{Prefix as ModelPrefix}
 use Rattle.lola_model.specs.declared.expr.Binary.{Binary as ModelBinary}
 use Rattle.lola_model.specs.declared.expr.Expr.{Expr}
-use Rattle.lola_model.specs.declared.expr.Expr.TheVariants.{Literal, Parameter, Read, Window, Defaults', Unary', Both', Choice'}
+use Rattle.lola_model.specs.declared.expr.Expr.TheVariants.{Defaults', Unary', Both', Choice'}
 use Rattle.lola_model.specs.declared.expr.Arguments.{Arguments}
 use Rattle.lola_model.specs.declared.expr.Arguments.TheVariants.{End, More'}
 use Rattle.lola_model.specs.declared.spec.Formula.{Formula}
 use Rattle.lola_model.specs.declared.spec.Formula.TheVariants.{And', Or'}
 use Rattle.lola_model.specs.declared.spec.WindowSpec.{WindowSpec}
 use Rattle.lola_resolve.specs.Targets.{Targets, target_of, hidden_by}
-use Rattle.lola_resolve.specs.Tables.{Means}
 use Rattle.lola_resolve.specs.Resolved.{Standing, IsResolved, AreArguments, IsReference, Where, is_stream, arguments_in, place_at, prefix_of, binary_of}
 use Rattle.lola_resolve.specs.Clauses.{IsFormula}
-use Rattle.lola_resolve.specs.Made.{Grows, GrowsBy, BeginWith, FromNowOn, ResolvesTo, IsScope, IsConstantDeclared, IsFormulaBy, standing_in}
+use Rattle.lola_resolve.specs.Made.{Grows, GrowsBy, FromNowOn, ResolvesTo, IsScope, IsFormulaBy, standing_in}
 use Rattle.lola_resolve.specs.Parted.{AreResolved, AreResolvedTo, GrowsByAll, IsNamedTo, IsConstantIn, items_of, whole_of}
-use Rattle.lola_resolve.specs.Specification as range
 use Rattle.lola_resolve.specs.declared.expressions.Named.{Named}
 use Rattle.lola_resolve.specs.declared.expressions.Named.TheVariants as named
 use Rattle.lola_resolve.specs.declared.made.Made.{Made}
 use Rattle.lola_resolve.specs.declared.scope.Scope.{Scope}
 use Rattle.lola_resolve.specs.declared.targets.Target.{Target}
 use Rattle.lola_resolve.specs.declared.targets.Target.TheVariants as target
-use Rattle.lola_resolve.proofs.Growth.{grows_none, grows_then, from_then}
+use Rattle.lola_resolve.proofs.Growth.{grows_then, from_then}
 
 -- ---- one form
 
@@ -204,7 +199,7 @@ abbrev pub SoFar : Scope → Made → List TreeExpr → List TreeExpr → List E
 SoFar scope made xs others rs =
     (targets parameters : Targets) → IsScope scope targets parameters
     → FromNowOn made (λ texts windows. (rest : List Expr) → AreResolved scope.declarations.now targets texts windows (standing_in scope parameters) others rest
-      → AreResolved scope.declarations.now targets texts windows (standing_in scope parameters) xs (rs ++ rest))
+    → AreResolved scope.declarations.now targets texts windows (standing_in scope parameters) xs (rs ++ rest))
 
 pub so_far_turn : (scope : Scope) (old new : Made) (xs : List TreeExpr) (i : ℕ) (x : TreeExpr) (rs : List Expr) (r : Expr) → i < length xs → x ≡ get_or xs i x → GrowsBy old new r → ResolvesTo scope new x r
     → SoFar scope old xs (drop i xs) rs → SoFar scope new xs (drop (i + 1) xs) (rs ++ r ∷ [])

@@ -1,5 +1,5 @@
 -- What is made while expressions are resolved: texts and windows, each with its number.
-use Rattle.std.specs.Prelude.{ℕ, ◌≡◌, ◌<◌, ◌≤◌, List, [], ◌∷◌, ◌++◌, Option, Some, None, length, slice_get, Contains}
+use Rattle.std.specs.Prelude.{ℕ, ◌≡◌, ◌<◌, ◌≤◌, List, ◌++◌, Option, Some, length, slice_get, Contains}
 use Rattle.lola_tree.specs.declared.declarations.Declaration.{Declaration}
 use Rattle.lola_tree.specs.declared.declarations.Declaration.TheVariants as d
 use Rattle.lola_tree.specs.declared.expressions.Expr.{Expr as TreeExpr}
@@ -11,13 +11,11 @@ use Rattle.lola_model.specs.Named.{counted, window_number, literal_text}
 use Rattle.lola_model.specs.declared.expr.Expr.{Expr}
 use Rattle.lola_model.specs.declared.spec.Formula.{Formula}
 use Rattle.lola_model.specs.declared.spec.Pace.{Pace}
-use Rattle.lola_model.specs.declared.spec.Part.{Part}
 use Rattle.lola_model.specs.declared.spec.WindowSpec.{WindowSpec}
 use Rattle.lola_resolve.specs.Targets.{Targets, target_of}
 use Rattle.lola_resolve.specs.Tables.{Means}
 use Rattle.lola_resolve.specs.Resolved.{Standing, IsResolved}
 use Rattle.lola_resolve.specs.Clauses.{IsFormula, IsPace, IsPacing}
-use Rattle.lola_resolve.specs.declared.targets.Target.{Target}
 use Rattle.lola_resolve.specs.declared.targets.Target.TheVariants as target
 use Rattle.lola_resolve.specs.declared.made.Made.{Made}
 use Rattle.lola_resolve.specs.declared.scope.Scope.{Scope}

@@ -1,12 +1,11 @@
 -- The steps of resolving an expression.
-use Rattle.std.specs.Prelude.{ℕ, ◌≡◌, List, [], ◌∷◌, Option, Some, None, false, slice_get}
+use Rattle.std.specs.Prelude.{ℕ, ◌≡◌, List, [], ◌∷◌, Option, Some, false, slice_get}
 use Rattle.lola_tree.specs.declared.literals.Name.{Name}
 use Rattle.lola_tree.specs.declared.declarations.Declaration.{Declaration}
 use Rattle.lola_tree.specs.declared.expressions.Access.{Access as TreeAccess}
 use Rattle.lola_tree.specs.declared.expressions.Expr.{Expr as TreeExpr}
 use Rattle.lola_model.specs.Parts.{listed, listed_with}
 use Rattle.lola_model.specs.Named.{window_number, literal_text}
-use Rattle.lola_model.specs.declared.expr.Access.{Access}
 use Rattle.lola_model.specs.declared.expr.Expr.{Expr}
 use Rattle.lola_model.specs.declared.expr.Expr.TheVariants.{Read, Window}
 use Rattle.lola_model.specs.declared.expr.Arguments.{Arguments}
@@ -14,7 +13,7 @@ use Rattle.lola_model.specs.declared.expr.Arguments.TheVariants.{End, More'}
 use Rattle.lola_model.specs.declared.spec.WindowSpec.{WindowSpec}
 use Rattle.lola_resolve.specs.Targets.{Targets}
 use Rattle.lola_resolve.specs.Resolved.{Standing, IsResolved, IsReference, IsAccess, IsConstantUse, is_stream, place_at}
-use Rattle.lola_resolve.specs.Made.{FromNowOn, Grows, GrowsBy, IsConstantDeclared, IsScope, standing_in}
+use Rattle.lola_resolve.specs.Made.{FromNowOn, Grows, IsConstantDeclared, IsScope, standing_in}
 use Rattle.lola_resolve.specs.declared.expressions.Named.{Named}
 use Rattle.lola_resolve.specs.declared.expressions.Named.TheVariants as named
 use Rattle.lola_resolve.specs.declared.made.Made.{Made}
@@ -92,4 +91,4 @@ abbrev pub IsNamedTo : Scope → Option Target → Made → Name → TreeAccess 
 IsNamedTo scope t made name how n =
     IsClosed t n
     × ((args : Arguments) (targets parameters : Targets) → IsConstantIn scope.declarations.now t
-      → FromNowOn made (λ texts windows. IsReference scope.declarations.now targets texts windows (standing_in scope parameters) t name how (whole_of name.at n args)))
+    → FromNowOn made (λ texts windows. IsReference scope.declarations.now targets texts windows (standing_in scope parameters) t name how (whole_of name.at n args)))

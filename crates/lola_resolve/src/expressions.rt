@@ -132,11 +132,7 @@ pub enum Named {
 }
 
 /// A declaration's literal, in the place of a name.
-fn literal_of(
-    declaration: &Declaration,
-    name: &Name,
-    made: &mut Made,
-) -> Result<Expr, Memory>
+fn literal_of(declaration: &Declaration, name: &Name, made: &mut Made) -> Result<Expr, Memory>
     ensures constant { IfOk result (λ r. IsConstantTo (Some declaration.now) made.new name.now r) }
     ensures grown { IfOk result (λ r. GrowsBy made.old made.new r) }
 {
@@ -177,12 +173,7 @@ fn offset(k: u128) -> u32
 }
 
 /// An access of a stream. A window is numbered now, before those of its arguments.
-fn access(
-    scope: &Scope,
-    stream: u32,
-    how: &tree::Access,
-    made: &mut Made,
-) -> Result<Named, Memory>
+fn access(scope: &Scope, stream: u32, how: &tree::Access, made: &mut Made) -> Result<Named, Memory>
     ensures access { IfOk result (λ n. IsAccessTo scope.now made.new stream how.now n) }
     ensures open { IfOk result IsOpen }
     ensures grown { IfOk result (λ n. GrowsByNamed made.old made.new n) }
@@ -219,10 +210,7 @@ fn meant(
     ensures grown { IfOk result (λ n. GrowsByNamed made.old made.new n) }
 {
     match target {
-        None => Ok(Named::Whole(Expr::Literal(
-            bare(name.at),
-            Value::Bool(false),
-        ))),
+        None => Ok(Named::Whole(Expr::Literal(bare(name.at), Value::Bool(false)))),
         Some(Target::Input(stream, _)) => {
             let named = access(scope, stream, how, made)?;
             Ok(named)

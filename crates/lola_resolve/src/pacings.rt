@@ -30,11 +30,7 @@ fn boxed(alloc: Global, formula: Formula) -> Result<Box<Formula>, Memory>
 }
 
 /// A formula resolved.
-pub fn formula(
-    alloc: Global,
-    targets: &TargetTable,
-    x: &tree::Formula,
-) -> Result<Formula, Memory>
+pub fn formula(alloc: Global, targets: &TargetTable, x: &tree::Formula) -> Result<Formula, Memory>
     ensures { IfOk result (λ r. IsFormulaBy targets.now x.now r) }
 {
     match x {

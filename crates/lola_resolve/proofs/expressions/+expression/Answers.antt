@@ -1,5 +1,4 @@
-use Rattle.std.proofs.Common.{◌≡◌, ℕ, ◌++◌, ◌∷◌, [], List, Option, Result, Ok, Err, IfOk, refl, sym, ap, subst, ◌∙◌, ◌+◌, drop}
-use Rattle.lola_value.specs.declared.text.Memory.{Memory}
+use Rattle.std.proofs.Common.{◌≡◌, ◌++◌, ◌∷◌, [], List, Option, Result, Ok, Err, IfOk, refl, sym, ap, subst, ◌+◌, drop}
 use Rattle.lola_tree.specs.declared.expressions.Expr.{Expr as TreeExpr}
 use Rattle.lola_model.specs.Parts.{listed, listed_with}
 use Rattle.lola_model.specs.Named.{window_number, literal_text}
@@ -7,7 +6,6 @@ use Rattle.lola_model.specs.declared.expr.Place.{Place}
 use Rattle.lola_model.specs.declared.expr.Expr.{Expr}
 use Rattle.lola_model.specs.declared.expr.Expr.TheVariants as m
 use Rattle.lola_model.specs.declared.expr.Arguments.{Arguments}
-use Rattle.lola_model.specs.declared.spec.WindowSpec.{WindowSpec}
 use Rattle.lola_resolve.specs.Resolved.{IsLiteral}
 use Rattle.lola_resolve.specs.Made.{Grows, GrowsBy, ResolvesTo}
 use Rattle.lola_resolve.specs.Parted.{AreResolvedTo, GrowsByAll, IsNamedTo, GrowsByNamed, items_of}
@@ -40,11 +38,11 @@ arguments-loop-x-preserved t c =
     let more : c.push.new.self.items ≡ l.items.items ++ x.item ∷ [] = c.in_ok-push.ensures.items in
     record {
       resolved =
-        subst (λ (rs : List Expr). SoFar scope c.expression.new.made c.args.xs.now (drop (l.x-index + 1) c.args.xs.now) rs) (sym more)
-        (so_far_turn scope l.made c.expression.new.made c.args.xs.now l.x-index c.x-item.result l.items.items x.item c.loop-x-test.true c.x-item.is x.ensures.grown x.ensures.resolved l.invariant.resolved);
+          subst (λ (rs : List Expr). SoFar scope c.expression.new.made c.args.xs.now (drop (l.x-index + 1) c.args.xs.now) rs) (sym more)
+          (so_far_turn scope l.made c.expression.new.made c.args.xs.now l.x-index c.x-item.result l.items.items x.item c.loop-x-test.true c.x-item.is x.ensures.grown x.ensures.resolved l.invariant.resolved);
       grown =
-        subst (λ (rs : List Expr). GrowsByAll c.args.made.now c.expression.new.made rs) (sym more)
-        (grows_pushed c.args.made.now l.made c.expression.new.made l.items.items x.item l.invariant.grown x.ensures.grown);
+          subst (λ (rs : List Expr). GrowsByAll c.args.made.now c.expression.new.made rs) (sym more)
+          (grows_pushed c.args.made.now l.made c.expression.new.made l.items.items x.item l.invariant.grown x.ensures.grown);
     }
 
 if_ok : {A B : Type 0} (r : Result A B) (P Q : A → Type 0) → ((x : A) → P x → Q x) → IfOk r P → IfOk r Q

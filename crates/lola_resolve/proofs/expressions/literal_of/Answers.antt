@@ -1,7 +1,6 @@
-use Rattle.std.proofs.Common.{◌≡◌, List, ℕ, Some, sym, ap, subst}
+use Rattle.std.proofs.Common.{Some, sym, subst}
 use Rattle.lola_value.specs.declared.value.Kind.{Kind}
 use Rattle.lola_tree.specs.declared.declarations.Declaration.{Declaration}
-use Rattle.lola_model.specs.declared.spec.WindowSpec.{WindowSpec}
 use Rattle.lola_resolve.specs.Resolved.{IsConstantUse, IsLiteral}
 use Rattle.lola_resolve.proofs.expressions.literal_of.Goals as goal
 

@@ -1,4 +1,4 @@
-use Rattle.std.proofs.Common.{◌≡◌, ◌++◌, List, ℕ, sym, ap, ap₂, ◌∙◌, append_assoc}
+use Rattle.std.proofs.Common.{◌++◌, sym, ap, ap₂, ◌∙◌, append_assoc}
 use Rattle.std.specs.List.{flat_map}
 use Rattle.lola_resolve.specs.Specification as range
 use Rattle.lola_resolve.proofs.RangeLemmas.{ranges-Reference, ranges-Prefix, ranges-Defaults, ranges-Binary, ranges-If, ok_more, ok_same, more_then, places_turn, places_end}

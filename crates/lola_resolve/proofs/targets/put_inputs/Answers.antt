@@ -1,7 +1,5 @@
-use Rattle.std.proofs.Common.{refl, arith, ap, ap₂, subst, sym, ◌∙◌, ◌≡◌, ◌+◌, ◌++◌, ℕ, List, drop}
-use Rattle.lola_tree.specs.declared.literals.Typed.{Typed}
-use Rattle.lola_resolve.specs.Targets.{Targets, target_in, input_targets}
-use Rattle.lola_resolve.specs.Tables.{Means}
+use Rattle.std.proofs.Common.{refl, arith, ap₂, ◌∙◌, ◌+◌, ◌++◌, ℕ, drop}
+use Rattle.lola_resolve.specs.Targets.{target_in, input_targets}
 use Rattle.lola_resolve.proofs.TableLemmas.{inputs_turn, puts_end, puts_start}
 use Rattle.lola_resolve.proofs.targets.put_inputs.Goals as goal
 
@@ -20,10 +18,10 @@ loop-input-preserved c =
     c.loop-input-test.true c.input-item.is c.in_ok-put.ensures l.invariant.table in
     record {
       table =
-        λ rest text. ap₂
-        (λ (s : ℕ) (n : ℕ). target_in (c.put.new.self ++ (input_targets s n (drop (l.input-index + 1) c.args.inputs.now) ++ rest)) text)
-        c.in_ok-stream.ensures c.in_ok-number.ensures
-        ∙ turn rest text;
+          λ rest text. ap₂
+          (λ (s : ℕ) (n : ℕ). target_in (c.put.new.self ++ (input_targets s n (drop (l.input-index + 1) c.args.inputs.now) ++ rest)) text)
+          c.in_ok-stream.ensures c.in_ok-number.ensures
+          ∙ turn rest text;
       streams = omega (arith, c.in_ok-stream.ensures);
       numbers = omega (arith, c.in_ok-number.ensures);
     }

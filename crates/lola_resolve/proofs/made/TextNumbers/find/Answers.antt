@@ -1,4 +1,4 @@
-use Rattle.std.proofs.Common.{◌≡◌, None, Some, sym, ap, subst, ◌∙◌}
+use Rattle.std.proofs.Common.{sym, subst, ◌∙◌}
 use Rattle.lola_value.specs.declared.value.TextId.{TextId}
 use Rattle.std.specs.Prelude.{Option}
 use Rattle.lola_resolve.specs.Numbered.{IsPlaceIn}
