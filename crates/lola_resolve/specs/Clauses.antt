@@ -1,8 +1,7 @@
 -- Clauses and streams whose names are resolved.
-use Rattle.std.specs.Prelude.{ℕ, ◌≡◌, ◌+◌, List, [], ◌∷◌, ◌++◌, Option, Some, None, length, map, codes, decimal}
+use Rattle.std.specs.Prelude.{ℕ, ◌≡◌, List, [], ◌∷◌, ◌++◌, Option, Some, None, map, codes, decimal}
 use Rattle.lola_value.specs.declared.value.Kind.{Kind}
 use Rattle.lola_value.specs.declared.value.Kind.TheVariants as kind
-use Rattle.lola_value.specs.Ratio.{Ratio}
 use Rattle.lola_tree.specs.declared.literals.Name.{Name}
 use Rattle.lola_tree.specs.declared.literals.Typed.{Typed}
 use Rattle.lola_tree.specs.declared.literals.Quantity.{Quantity}

@@ -1,12 +1,11 @@
 -- Expressions whose names are resolved.
-use Rattle.std.specs.Prelude.{ℕ, ℤ, pos, neg_ℤ, ◌≡◌, List, [], ◌∷◌, Option, Some, None, Bool, true, false, if◌then◌else◌, min, slice_get, unwrap_or}
+use Rattle.std.specs.Prelude.{ℕ, ℤ, pos, neg_ℤ, ◌≡◌, List, Option, Some, None, Bool, true, false, if◌then◌else◌, min, slice_get, unwrap_or}
 use Rattle.lola_value.specs.declared.value.Kind.{Kind}
 use Rattle.lola_value.specs.declared.value.Kind.TheVariants as kind
 use Rattle.lola_value.specs.declared.value.Value.{Value}
 use Rattle.lola_value.specs.declared.value.Value.TheVariants as value
 use Rattle.lola_tree.specs.declared.literals.Value.{Value as Written}
 use Rattle.lola_tree.specs.declared.literals.Value.TheVariants as written
-use Rattle.lola_tree.specs.declared.literals.Literal.{Literal as TreeLiteral}
 use Rattle.lola_tree.specs.declared.literals.Name.{Name}
 use Rattle.lola_tree.specs.declared.declarations.Declaration.{Declaration}
 use Rattle.lola_tree.specs.declared.declarations.Declaration.TheVariants as d

@@ -7,7 +7,6 @@ use Rattle.lola_value.specs.declared.value.Value.{Value}
 use Rattle.lola_value.specs.declared.value.Value.TheVariants as value
 use Rattle.lola_tree.specs.declared.literals.Value.{Value as Written}
 use Rattle.lola_tree.specs.declared.literals.Value.TheVariants as written
-use Rattle.lola_tree.specs.declared.literals.Quantity.{Quantity}
 use Rattle.lola_tree.specs.declared.expressions.Access.{Access as TreeAccess}
 use Rattle.lola_tree.specs.declared.expressions.Access.TheVariants as a
 use Rattle.lola_tree.specs.declared.expressions.Expr.{Expr as TreeExpr, Row_of-Expr, more_of-Expr, end_of-Expr}

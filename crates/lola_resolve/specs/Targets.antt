@@ -1,6 +1,6 @@
 -- What names stand for, by numbers: streams in the order of the text, inputs counted by themselves too, constants by their places
 -- among the declarations, parameters by their places.
-use Rattle.std.specs.Prelude.{ℕ, suc, ◌+◌, List, [], ◌∷◌, ◌++◌, Option, Some, None, Bool, true, false, if◌then◌else◌, length, map}
+use Rattle.std.specs.Prelude.{ℕ, ◌+◌, List, [], ◌∷◌, ◌++◌, Option, Some, None, if◌then◌else◌, length}
 use Rattle.lola_value.specs.Arithmetic.{bytes_equal}
 use Rattle.lola_tree.specs.declared.literals.Typed.{Typed}
 use Rattle.lola_tree.specs.declared.declarations.Declaration.{Declaration}
