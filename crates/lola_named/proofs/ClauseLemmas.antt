@@ -17,14 +17,27 @@ use Rattle.lola_resolve.specs.Targets.{Targets}
 use Rattle.lola_resolve.specs.Resolved.{Standing}
 use Rattle.lola_resolve.specs.declared.made.Made.{Made}
 use Rattle.lola_resolve.specs.declared.scope.Scope.{Scope}
-use Rattle.lola_resolve.proofs.Growth.{begin_before, grows_then}
+use Rattle.lola_resolve.proofs.Growth.{begin_before, grows_none, grows_then}
 use Rattle.lola_named.specs.Making.{CloseIn, EvalIn, GrowsByWith, IsOfParts, OfPartsIn, PartsBegun, PartsIn, SpawnIn, TriggerIn, WhenIn}
 use Rattle.lola_named.proofs.Pieces.{grows_as, left_more, left_none, listed_with-push}
 
 -- ---- expressions behind `with`
 
-pub parts_begin : (scope : Scope) (made : Made) (xs : List TreePart) → PartsBegun scope made xs xs []
+-- equal lists
+pub begun_same : (scope : Scope) (made : Made) (all others : List TreePart) (rs ss : List Expr) → ss ≡ rs → PartsBegun scope made all others rs → PartsBegun scope made all others ss
+begun_same scope made all others rs ss e begun = let P : List Expr → Type 0 = λ l. PartsBegun scope made all others l in subst P (sym e) begun
+
+pub with_same : (a b : Made) (rs ss : List Expr) → ss ≡ rs → GrowsByWith a b rs → GrowsByWith a b ss
+with_same a b rs ss e g = let P : List Expr → Type 0 = λ l. GrowsByWith a b l in subst P (sym e) g
+
+parts_begin : (scope : Scope) (made : Made) (xs : List TreePart) → PartsBegun scope made xs xs []
 parts_begin scope made xs = λ targets parameters is texts windows begins rest are. are
+
+pub parts_none : (scope : Scope) (made : Made) (xs : List TreePart) (rs : List Expr) → rs ≡ [] → PartsBegun scope made xs xs rs
+parts_none scope made xs rs e = begun_same scope made xs xs [] rs e (parts_begin scope made xs)
+
+pub with_none : (made : Made) (rs : List Expr) → rs ≡ [] → GrowsByWith made made rs
+with_none made rs e = with_same made made [] rs e (grows_none made)
 
 pub parts_more : (scope : Scope) (a b : Made) (ws ts : List ℕ) (xs : List TreePart) (i : ℕ) (x : TreePart) (rs : List Expr) (r : Expr)
     → i < length xs → x ≡ get_or xs i x → Grows a b ws ts → ResolvesTo scope b x.expr r
@@ -67,10 +80,13 @@ no_condition : (R : TreePart → Expr → Type 0) (r : Option Expr) → IsOption
 no_condition R None is = refl
 no_condition R (Some r) is = absurd is
 
-pub spawn_of : (scope : Scope) (made : Made) (x : Spawn) (c : Clause) → OfPartsIn scope made x.at x.pacing x.when x.with c → SpawnIn scope made (Some x) (Some c)
-spawn_of scope made x c of = λ targets parameters scoped texts windows begins.
-    let parts = of targets parameters scoped texts windows begins in
-    record { place = parts.place; pacing = parts.pacing; condition = parts.condition; before = parts.before; parameters = parts.parts; places = parts.places }
+-- the same parts
+pub of_same : (scope : Scope) (made : Made) (at : ℕ) (x : Option Pacing) (v w : Option TreePart) (xs ys : List TreePart) (c : Clause) → v ≡ w → xs ≡ ys
+    → OfPartsIn scope made at x v xs c → OfPartsIn scope made at x w ys c
+of_same scope made at x v w xs ys c e f of =
+    let P : Option TreePart → Type 0 = λ o. OfPartsIn scope made at x o ys c in
+    let Q : List TreePart → Type 0 = λ l. OfPartsIn scope made at x v l c in
+    subst P e (subst Q f of)
 
 pub eval_of : (scope : Scope) (made : Made) (x : Eval) (c : Clause) → OfPartsIn scope made x.at x.pacing x.when (x.with ∷ []) c → EvalIn scope made x c
 eval_of scope made x c of = λ targets parameters scoped texts windows begins.
@@ -82,13 +98,16 @@ module _ (scope : Scope) (targets : Targets) (texts : List (List ℕ)) (windows 
   no_parts [] are = refl
   no_parts (r ∷ rs) are = absurd are
 
-pub close_of : (scope : Scope) (made : Made) (x : Close) (c : Clause) → OfPartsIn scope made x.at x.pacing (Some x.when) [] c → CloseIn scope made (Some x) (Some c)
-close_of scope made x c of = λ targets parameters scoped texts windows begins.
+close_some : (scope : Scope) (made : Made) (x : Close) (c : Clause) → OfPartsIn scope made x.at x.pacing (Some x.when) [] c → CloseIn scope made (Some x) (Some c)
+close_some scope made x c of = λ targets parameters scoped texts windows begins.
     let parts = of targets parameters scoped texts windows begins in
     record {
       place = parts.place; pacing = parts.pacing; condition = parts.condition; before = parts.before;
       parameters = no_parts scope targets texts windows (standing_in scope parameters) c.with parts.parts; places = parts.places
     }
+
+pub close_of : (scope : Scope) (made : Made) (o : Option Close) (x : Close) (c : Clause) → o ≡ Some x → OfPartsIn scope made x.at x.pacing (Some x.when) [] c → CloseIn scope made o (Some c)
+close_of scope made o x c e of = let P : Option Close → Type 0 = λ y. CloseIn scope made y (Some c) in subst P (sym e) (close_some scope made x c of)
 
 pub trigger_of : (scope : Scope) (made : Made) (x : Trigger) (c : Clause) → OfPartsIn scope made x.when.at x.pacing None (x.when ∷ []) c → TriggerIn scope made x c
 trigger_of scope made x c of = λ targets parameters scoped texts windows begins.

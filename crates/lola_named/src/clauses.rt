@@ -1,4 +1,5 @@
 //! Clauses whose names are resolved.
+#![tactic(auto, using(lola_resolve::proofs::Growth::grows_none))]
 
 ghost use Rattle.std.specs.Prelude.{◌≡◌, ◌++◌, [], ◌∷◌, Some, None, IfOk, map};
 ghost use Rattle.std.specs.Option.{option_copied};
@@ -163,7 +164,8 @@ pub(crate) fn eval(
     ensures grown { IfOk result (λ c. GrowsByClause made.old made.new (Some c)) }
 {
     let with = from_ref(&x.with);
-    clause(alloc, scope, x.at, &x.pacing, x.when.as_ref(), with, made)
+    let made = clause(alloc, scope, x.at, &x.pacing, x.when.as_ref(), with, made)?;
+    Ok(made)
 }
 
 /// A close clause, if there is one.
@@ -196,5 +198,6 @@ pub(crate) fn trigger(
     ensures grown { IfOk result (λ c. GrowsByClause made.old made.new (Some c)) }
 {
     let with = from_ref(&x.when);
-    clause(alloc, scope, x.when.at, &x.pacing, None, with, made)
+    let made = clause(alloc, scope, x.when.at, &x.pacing, None, with, made)?;
+    Ok(made)
 }

@@ -86,7 +86,8 @@ fn spawn_of(
         stream: n,
         clause: Part::Spawn,
     };
-    spawn(alloc, &scope, x, made)
+    let clause = spawn(alloc, &scope, x, made)?;
+    Ok(clause)
 }
 
 /// The eval clause of stream n.
@@ -110,7 +111,8 @@ fn eval_of(
         stream: n,
         clause: Part::Eval,
     };
-    eval(alloc, &scope, &x.eval, made)
+    let clause = eval(alloc, &scope, &x.eval, made)?;
+    Ok(clause)
 }
 
 /// The close clause of stream n, if it has one.
@@ -134,7 +136,8 @@ fn close_of(
         stream: n,
         clause: Part::Close,
     };
-    close(alloc, &scope, &x.close, made)
+    let clause = close(alloc, &scope, &x.close, made)?;
+    Ok(clause)
 }
 
 /// The clauses of an output.
@@ -246,7 +249,8 @@ fn trigger_clause_of(
         stream: n,
         clause: Part::Eval,
     };
-    trigger_clause(alloc, &scope, x, made)
+    let clause = trigger_clause(alloc, &scope, x, made)?;
+    Ok(clause)
 }
 
 /// The stream of the k-th trigger, which is stream n.

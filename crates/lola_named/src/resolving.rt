@@ -36,7 +36,7 @@ fn rest_of(
     ensures constants { IfOk result (λ r. AreConstants numbers.now (constants_of declarations.now) r.constants) }
     ensures refused { IfOk result (λ r. r.refused ≡ ranges_of declarations.now streams.now) }
     ensures texts { IfOk result (λ r. r.texts ≡ numbers.now) }
-    ensures distinct { IsTrue (are_distinct numbers.now) }
+    ensures distinct { IfOk result (λ r. IsTrue (are_distinct numbers.now)) }
 {
     let refused = ranges(alloc, declarations, streams.as_slice())?;
     let constants = constants(alloc, declarations, numbers)?;
@@ -100,7 +100,8 @@ fn specification(alloc: Global, declarations: &[Declaration]) -> Result<Spec, Me
 pub fn resolve(alloc: Global, ast: &Ast) -> Result<Spec, FrontEnd>
     ensures { AnswersNames ast.now result }
 {
-    match name_refusal(alloc, ast)? {
+    let first = name_refusal(alloc, ast)?;
+    match first {
         Some(refusal) => Err(FrontEnd::Refused(refusal)),
         None => {
             let spec = specification(alloc, ast.as_slice())?;

@@ -60,19 +60,24 @@ fn put_declaration(
     ensures { OnOk result (Puts declarations.now x.now triggers.old triggers.new streams.old streams.new made.old made.new) }
 {
     match x {
-        Declaration::Inputs(x) => put_inputs(alloc, x.inputs.as_slice(), streams),
+        Declaration::Inputs(x) => {
+            put_inputs(alloc, x.inputs.as_slice(), streams)?;
+            Ok(())
+        }
         Declaration::Constant(_) => Ok(()),
         Declaration::Output(x) => {
             let n = next_stream(streams)?;
             let stream = output(alloc, declarations, targets, n, x, made)?;
-            streams.push(stream)
+            streams.push(stream)?;
+            Ok(())
         }
         Declaration::Trigger(x) => {
             let n = next_stream(streams)?;
             let k = next_trigger(*triggers)?;
             *triggers = k;
             let stream = trigger(alloc, declarations, targets, n, k, x, made)?;
-            streams.push(stream)
+            streams.push(stream)?;
+            Ok(())
         }
     }
 }
