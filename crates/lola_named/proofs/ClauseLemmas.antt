@@ -68,13 +68,13 @@ pub of_parts : (scope : Scope) (made : Made) (at : ℕ) (x : Option Pacing) (w :
     → c.place ≡ at → IsPacingBy scope.targets.now x c.pace → WhenIn scope made w c.when → c.when_at ≡ place_before w
     → PartsIn scope made xs c.with → c.with_at ≡ map (λ (q : TreePart). q.at) xs → OfPartsIn scope made at x w xs c
 of_parts scope made at x w xs c place pacing condition before parts places = λ targets parameters scoped texts windows begins. record {
-    place = place;
-    pacing = pacing targets scoped.all;
-    condition = condition targets parameters scoped texts windows begins;
-    before = before;
-    parts = parts targets parameters scoped texts windows begins;
-    places = places
-  }
+  place = place;
+  pacing = pacing targets scoped.all;
+  condition = condition targets parameters scoped texts windows begins;
+  before = before;
+  parts = parts targets parameters scoped texts windows begins;
+  places = places;
+}
 
 no_condition : (R : TreePart → Expr → Type 0) (r : Option Expr) → IsOptional R None r → r ≡ None
 no_condition R None is = refl
@@ -102,8 +102,12 @@ close_some : (scope : Scope) (made : Made) (x : Close) (c : Clause) → OfPartsI
 close_some scope made x c of = λ targets parameters scoped texts windows begins.
     let parts = of targets parameters scoped texts windows begins in
     record {
-      place = parts.place; pacing = parts.pacing; condition = parts.condition; before = parts.before;
-      parameters = no_parts scope targets texts windows (standing_in scope parameters) c.with parts.parts; places = parts.places
+      place = parts.place;
+      pacing = parts.pacing;
+      condition = parts.condition;
+      before = parts.before;
+      parameters = no_parts scope targets texts windows (standing_in scope parameters) c.with parts.parts;
+      places = parts.places;
     }
 
 pub close_of : (scope : Scope) (made : Made) (o : Option Close) (x : Close) (c : Clause) → o ≡ Some x → OfPartsIn scope made x.at x.pacing (Some x.when) [] c → CloseIn scope made o (Some c)
@@ -113,7 +117,10 @@ pub trigger_of : (scope : Scope) (made : Made) (x : Trigger) (c : Clause) → Of
 trigger_of scope made x c of = λ targets parameters scoped texts windows begins.
     let parts = of targets parameters scoped texts windows begins in
     record {
-      place = parts.place; pacing = parts.pacing;
+      place = parts.place;
+      pacing = parts.pacing;
       condition = no_condition (IsPart scope.declarations.now targets texts windows (standing_in scope parameters)) c.when parts.condition;
-      before = parts.before; result = parts.parts; places = parts.places
+      before = parts.before;
+      result = parts.parts;
+      places = parts.places;
     }

@@ -50,7 +50,8 @@ module _ (ds : List Declaration) (text : List ℕ) where
   fit_parameters n [] more others = others
   fit_parameters n (x ∷ xs) more others =
       elim (bytes_equal text x.name.text) as (λ b. IsFit ds (hidden_by (if b then Some (target.Parameter n) else target_in (parameter_targets (n + 1) xs) text) more)) [
-        true ↦ tt | false ↦ fit_parameters (n + 1) xs more others
+        | true ↦ tt
+        | false ↦ fit_parameters (n + 1) xs more others
       ]
 
   -- the declaration at its place
@@ -59,7 +60,7 @@ module _ (ds : List Declaration) (text : List ℕ) where
   fit_with front (d.Inputs x) xs c rest is at others = fit_inputs c.streams c.inputs x.inputs rest others
   fit_with front (d.Constant x) xs c rest is at others =
       let there : slice_get ds c.declarations ≡ Some (d.Constant x) =
-          ap (λ n. slice_get ds n) at ∙ ap (λ (l : List Declaration). slice_get l (length front)) is ∙ got-seam front (d.Constant x) xs in
+      ap (λ n. slice_get ds n) at ∙ ap (λ (l : List Declaration). slice_get l (length front)) is ∙ got-seam front (d.Constant x) xs in
       let P : Option Declaration → Type 0 = λ o. IsConstantDeclared o in
       fit_one x.name.text (target.Constant c.declarations) rest (subst P (sym there) tt) others
   fit_with front (d.Output x) xs c rest is at others = fit_one x.name.text (target.Output c.streams) rest tt others
@@ -108,21 +109,21 @@ listed_inputs f (x ∷ xs) = listed_inputs f xs
 module _ (declarations : List Declaration) where
   pub puts_inputs : (x : Inputs) (k : ℕ) (old new : List Stream) (made : Made) → new ≡ old ++ map input_stream x.inputs → Puts declarations (d.Inputs x) k k old new made made
   puts_inputs x k old new made is = record {
-      more = map input_stream x.inputs;
-      streams = is;
-      triggers = refl;
-      resolved = λ texts windows begins. refl;
-      grown = grows_as made made _ _ _ _ (listed_inputs window_number x.inputs) (listed_inputs literal_text x.inputs) (grows_none made)
-    }
+    more = map input_stream x.inputs;
+    streams = is;
+    triggers = refl;
+    resolved = λ texts windows begins. refl;
+    grown = grows_as made made _ _ _ _ (listed_inputs window_number x.inputs) (listed_inputs literal_text x.inputs) (grows_none made);
+  }
 
   pub puts_constant : (x : TreeConstant) (k : ℕ) (old : List Stream) (made : Made) → Puts declarations (d.Constant x) k k old old made made
   puts_constant x k old made = record {
-      more = [];
-      streams = sym (append-nil old);
-      triggers = refl;
-      resolved = λ texts windows begins. refl;
-      grown = grows_none made
-    }
+    more = [];
+    streams = sym (append-nil old);
+    triggers = refl;
+    resolved = λ texts windows begins. refl;
+    grown = grows_none made;
+  }
 
   grows_one : (a b : Made) (s : Stream) → GrowsByStream a b s → GrowsByStreams a b (s ∷ [])
   grows_one a b s g = grows_as a b _ _ _ _ (listed_streams-one window_number s) (listed_streams-one literal_text s) g
@@ -130,27 +131,30 @@ module _ (declarations : List Declaration) where
   pub puts_output : (x : Output) (k n : ℕ) (old new : List Stream) (a b : Made) (s : Stream) → n ≡ length old → new ≡ old ++ s ∷ [] → OutputOf declarations b n x s → GrowsByStream a b s
       → Puts declarations (d.Output x) k k old new a b
   puts_output x k n old new a b s at is resolved g = record {
-      more = s ∷ [];
-      streams = is;
-      triggers = refl;
-      resolved = λ texts windows begins.
+    more = s ∷ [];
+    streams = is;
+    triggers = refl;
+    resolved = λ texts windows begins.
         let P : ℕ → Type 0 = λ m. IsOutput declarations (targets_of declarations) texts windows m x s in
         subst P at (resolved texts windows begins);
-      grown = grows_one a b s g
-    }
+    grown = grows_one a b s g;
+  }
 
   pub puts_trigger : (x : Trigger) (k l n : ℕ) (old new : List Stream) (a b : Made) (s : Stream) → l ≡ k + 1 → n ≡ length old → new ≡ old ++ s ∷ [] → TriggerOf declarations b n l x s
       → GrowsByStream a b s → Puts declarations (d.Trigger x) k l old new a b
   puts_trigger x k l n old new a b s next at is resolved g = record {
-      more = s ∷ [];
-      streams = is;
-      triggers = next;
-      resolved = λ texts windows begins.
+    more = s ∷ [];
+    streams = is;
+    triggers = next;
+    resolved = λ texts windows begins.
         let P : ℕ → Type 0 = λ m. IsTrigger declarations (targets_of declarations) texts windows m l x s in
         let Q : ℕ → Type 0 = λ m. IsTrigger declarations (targets_of declarations) texts windows (length old) m x s in
         subst Q next (subst P at (resolved texts windows begins));
-      grown = grows_one a b s g
-    }
+    grown = grows_one a b s g;
+  }
+
+  pub puts_same : (x y : Declaration) (k l : ℕ) (old new : List Stream) (a b : Made) → x ≡ y → Puts declarations y k l old new a b → Puts declarations x k l old new a b
+  puts_same x y k l old new a b e puts = let P : Declaration → Type 0 = λ z. Puts declarations z k l old new a b in subst P (sym e) puts
 
   -- ---- all declarations
 
@@ -210,9 +214,9 @@ module _ (declarations : List Declaration) where
       let count : length new ≡ length old + length more = ap length puts.streams ∙ length-append old more in
       let others : Q (triggers_behind k x) = subst Q puts.triggers (subst P count are) in
       let all : S (old ++ (more ++ rest)) =
-          begun texts windows (begin_before a b _ _ texts windows puts.grown begins) (more ++ rest)
-          (subst R (sym (left_more declarations i x within is))
-          (declared_then texts windows (length old) k x more rest ds (puts.resolved texts windows begins) others)) in
+      begun texts windows (begin_before a b _ _ texts windows puts.grown begins) (more ++ rest)
+      (subst R (sym (left_more declarations i x within is))
+      (declared_then texts windows (length old) k x more rest ds (puts.resolved texts windows begins) others)) in
       subst S (sym (append_assoc old more rest) ∙ ap (λ (l : List Stream). l ++ rest) (sym puts.streams)) all
 
   pub begun_end : (made : Made) (i k : ℕ) (ss : List Stream) → length declarations ≤ i → AreBegun declarations made k (drop i declarations) ss → AreStreamsOf declarations made ss
@@ -229,7 +233,7 @@ streams_none made ss e = let P : List Stream → Type 0 = λ l. GrowsByStreams m
 pub grows_streams : (a b c : Made) (old more new : List Stream) → new ≡ old ++ more → GrowsByStreams a b old → GrowsByStreams b c more → GrowsByStreams a c new
 grows_streams a b c old more new is g h =
     let e : listed_streams window_number old ++ listed_streams window_number more ≡ listed_streams window_number new =
-        listed_streams-append window_number old more ∙ ap (listed_streams window_number) (sym is) in
+    listed_streams-append window_number old more ∙ ap (listed_streams window_number) (sym is) in
     let f : listed_streams literal_text old ++ listed_streams literal_text more ≡ listed_streams literal_text new =
-        listed_streams-append literal_text old more ∙ ap (listed_streams literal_text) (sym is) in
+    listed_streams-append literal_text old more ∙ ap (listed_streams literal_text) (sym is) in
     grows_as a c _ _ _ _ e f (grows_then a b c _ _ _ _ g h)

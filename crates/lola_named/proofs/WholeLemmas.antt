@@ -1,5 +1,5 @@
 -- The whole specification.
-use Rattle.std.proofs.Common.{◌≡◌, ℕ, ◌+◌, ◌<◌, ◌≤◌, List, [], ◌∷◌, ◌++◌, Option, Some, None, length, get_or, drop, refl, sym, ap, subst, ◌∙◌, append_assoc, append-nil, arith, zero-le}
+use Rattle.std.proofs.Common.{◌≡◌, ℕ, ◌+◌, ◌<◌, ◌≤◌, List, [], ◌∷◌, ◌++◌, Option, Some, None, length, get_or, drop, refl, sym, ap, subst, ◌∙◌, append_assoc, append-nil, arith}
 use Rattle.std.specs.Prelude.{IsTrue, Contains}
 use Rattle.lola_value.specs.declared.front.Refusal.{Refusal}
 use Rattle.lola_tree.specs.declared.declarations.Declaration.{Declaration}
@@ -31,7 +31,7 @@ constants_end texts ds i cs all begun =
 -- ---- places of what is out of range
 
 dropped_none : (n : ℕ) → drop {A = Stream} n [] ≡ []
-dropped_none n = left_none [] n (zero-le n)
+dropped_none n = left_none [] n (omega arith)
 
 ranges_none : (ds : List Declaration) → ranges_of ds [] ≡ []
 ranges_none [] = refl
@@ -66,7 +66,7 @@ is_grown a b ss nothing g =
     let none : length a.texts ≡ 0 = ap length nothing.texts in
     record {
       numbers = g.numbered ∙ ap (λ (l : List WindowSpec). counted (length l) (length g.more_windows)) nothing.windows ∙ ap (λ (l : List WindowSpec). counted 0 (length l)) (sym windows);
-      used = λ i within. g.used i (omega arith) within
+      used = λ i within. g.used i (omega arith) within;
     }
 
 pub resolves : (ds : List Declaration) (made : Made) (ss : List Stream) (cs : List Constant) (texts : List (List ℕ)) (refused : List ℕ)
@@ -83,7 +83,7 @@ resolves ds made ss cs texts refused are grown constants ranged same distinct =
       refused = ranged;
       window_numbers = grown.numbers;
       texts = subst R (sym same) distinct;
-      texts_used = subst S (sym same) grown.used
+      texts_used = subst S (sym same) grown.used;
     }
 
 -- ---- refusals

@@ -53,12 +53,7 @@ fn place_before(x: Option<&Part>) -> u32
 }
 
 /// Expressions behind `with`.
-fn expressions(
-    alloc: Global,
-    scope: &Scope,
-    xs: &[Part],
-    made: &mut Made,
-) -> Result<Exprs, Memory>
+fn expressions(alloc: Global, scope: &Scope, xs: &[Part], made: &mut Made) -> Result<Exprs, Memory>
     ensures resolved { IfOk result (λ rs. PartsIn scope.now made.new xs.now rs) }
     ensures grown { IfOk result (λ rs. GrowsByWith made.old made.new rs) }
 {

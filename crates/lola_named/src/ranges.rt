@@ -14,11 +14,7 @@ use lola_value::text::Memory;
 use std::alloc::Global;
 
 /// Of a clause's pacing, as it is resolved.
-fn clause_pacing(
-    x: &Option<Pacing>,
-    clause: &Option<Clause>,
-    to: &mut Places,
-) -> Result<(), Memory>
+fn clause_pacing(x: &Option<Pacing>, clause: &Option<Clause>, to: &mut Places) -> Result<(), Memory>
     ensures { OnOk result (to.new ≡ to.old ++ range.pacing_ranges x.now (range.pace_in clause.now)) }
 {
     match clause {
@@ -47,11 +43,7 @@ fn with_ranges(xs: &[Part], to: &mut Places) -> Result<(), Memory>
     Ok(())
 }
 
-fn spawn_ranges(
-    clause: &Option<Clause>,
-    x: &Option<Spawn>,
-    to: &mut Places,
-) -> Result<(), Memory>
+fn spawn_ranges(clause: &Option<Clause>, x: &Option<Spawn>, to: &mut Places) -> Result<(), Memory>
     ensures { OnOk result (to.new ≡ to.old ++ range.of_option (range.spawn_ranges clause.now) x.now) }
 {
     match x {
@@ -72,11 +64,7 @@ fn eval_ranges(clause: &Option<Clause>, x: &Eval, to: &mut Places) -> Result<(),
     part_ranges(&x.with, to)
 }
 
-fn close_ranges(
-    clause: &Option<Clause>,
-    x: &Option<Close>,
-    to: &mut Places,
-) -> Result<(), Memory>
+fn close_ranges(clause: &Option<Clause>, x: &Option<Close>, to: &mut Places) -> Result<(), Memory>
     ensures { OnOk result (to.new ≡ to.old ++ range.of_option (range.close_ranges clause.now) x.now) }
 {
     match x {
@@ -104,11 +92,7 @@ fn trigger_ranges(x: &Trigger, stream: &Stream, to: &mut Places) -> Result<(), M
 }
 
 /// Of a declaration, with the streams from its own on.
-fn declaration_ranges(
-    x: &Declaration,
-    streams: &[Stream],
-    to: &mut Places,
-) -> Result<(), Memory>
+fn declaration_ranges(x: &Declaration, streams: &[Stream], to: &mut Places) -> Result<(), Memory>
     ensures { OnOk result (to.new ≡ to.old ++ first_ranges x.now streams.now) }
 {
     match (x, streams.first()) {

@@ -80,12 +80,7 @@ fn specification(alloc: Global, declarations: &[Declaration]) -> Result<Spec, Me
     ensures { IfOk result (λ spec. Resolves declarations.now spec) }
 {
     let resolved = streams_of(alloc, declarations)?;
-    let rest = rest_of(
-        alloc,
-        declarations,
-        &resolved.streams,
-        &resolved.made.texts,
-    )?;
+    let rest = rest_of(alloc, declarations, &resolved.streams, &resolved.made.texts)?;
     Ok(Spec {
         streams: resolved.streams,
         constants: rest.constants,

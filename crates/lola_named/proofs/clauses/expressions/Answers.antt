@@ -10,9 +10,9 @@ loop-part-init c = record {
 pub loop-part-preserved : goal.loop-part-preserved
 loop-part-preserved c = record {
   begun =
-    begun_same c.args.scope.now _ c.args.xs.now _ _ c.push.new.self c.in_ok-push.ensures.ok
-    (parts_more c.args.scope.now c.loop-part.made c.expression.new.made _ _ c.args.xs.now c.loop-part.part-index c.part-item.result c.loop-part.resolved c.in_ok-next.next
-    c.loop-part-test.true c.part-item.is c.in_ok-next.ensures.grown c.in_ok-next.ensures.resolved c.loop-part.invariant.begun);
+      begun_same c.args.scope.now _ c.args.xs.now _ _ c.push.new.self c.in_ok-push.ensures.ok
+      (parts_more c.args.scope.now c.loop-part.made c.expression.new.made _ _ c.args.xs.now c.loop-part.part-index c.part-item.result c.loop-part.resolved c.in_ok-next.next
+      c.loop-part-test.true c.part-item.is c.in_ok-next.ensures.grown c.in_ok-next.ensures.resolved c.loop-part.invariant.begun);
   grown = with_same _ _ _ c.push.new.self c.in_ok-push.ensures.ok (parts_grow _ _ _ c.loop-part.resolved c.in_ok-next.next c.loop-part.invariant.grown c.in_ok-next.ensures.grown);
 }
 

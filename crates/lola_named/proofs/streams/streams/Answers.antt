@@ -10,9 +10,9 @@ loop-declaration-init c = record {
 pub loop-declaration-preserved : goal.loop-declaration-preserved
 loop-declaration-preserved c = record {
   begun =
-    begun_more c.args.declarations.now _ _ c.loop-declaration.declaration-index _ _ c.declaration-item.result _ _ c.loop-declaration-test.true c.declaration-item.is
-    c.in_ok-put_declaration.ensures c.loop-declaration.invariant.begun;
-  grown = grows_streams _ _ _ _ _ _ c.in_ok-put_declaration.ensures.streams c.loop-declaration.invariant.grown c.in_ok-put_declaration.ensures.grown;
+      begun_more c.args.declarations.now _ _ c.loop-declaration.declaration-index _ _ c.declaration-item.result _ _ c.loop-declaration-test.true c.declaration-item.is
+      c.in_ok-put_declaration.ensures c.loop-declaration.invariant.begun;
+  grown = grows_streams _ _ _ c.loop-declaration.streams c.in_ok-put_declaration.ensures.more _ c.in_ok-put_declaration.ensures.streams c.loop-declaration.invariant.grown c.in_ok-put_declaration.ensures.grown;
 }
 
 pub returns-clause-resolved : goal.returns-clause-resolved
