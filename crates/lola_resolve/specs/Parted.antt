@@ -72,6 +72,11 @@ IsAccessTo scope made stream how n =
     (name : Name) (args : Arguments) (targets parameters : Targets)
     → FromNowOn made (λ texts windows. IsAccess scope.declarations.now targets texts windows (standing_in scope parameters) name stream how (whole_of name.at n args))
 
+-- an access lacks its arguments
+abbrev pub IsOpen : Named → Type 0
+IsOpen (named.Whole r) = ⊥
+IsOpen _ = Unit {0}
+
 -- a whole expression is no access
 abbrev pub IsClosed : Option Target → Named → Type 0
 IsClosed t (named.Whole r) = is_stream t ≡ false

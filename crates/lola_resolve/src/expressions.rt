@@ -1,11 +1,12 @@
 //! Expressions resolved.
+#![tactic(auto, using(crate::proofs::Growth::grows_none))]
 
-ghost use Rattle.std.specs.Prelude.{◌≡◌, [], IfOk, min, slice_get};
+ghost use Rattle.std.specs.Prelude.{◌≡◌, [], IfOk, Some, min, slice_get};
 ghost use Rattle.lola_model.specs.Named.{text_number};
 ghost use Rattle.lola_resolve.specs.Targets.{target_of};
 ghost use Rattle.lola_resolve.specs.Resolved.{kind_spelled, aggregation_spelled, place_at, integer_of, prefix_of, binary_of, IsValue, IsLiteral};
 ghost use Rattle.lola_resolve.specs.Made.{FromNowOn, Grows, GrowsBy, ResolvesTo};
-ghost use Rattle.lola_resolve.specs.Parted.{AreResolvedTo, GrowsByAll, IsConstantTo, IsAccessTo, IsNamedTo, GrowsByNamed, items_of, whole_of};
+ghost use Rattle.lola_resolve.specs.Parted.{AreResolvedTo, GrowsByAll, IsConstantTo, IsAccessTo, IsNamedTo, IsOpen, GrowsByNamed, items_of};
 
 use crate::made::{Made, number_window};
 use crate::scope::Scope;
@@ -130,20 +131,41 @@ pub enum Named {
     Window(u32),
 }
 
+/// A declaration's literal, in the place of a name.
+fn literal_of(
+    declaration: &Declaration,
+    name: &Name,
+    made: &mut Made,
+) -> Result<Expr, Memory>
+    ensures constant { IfOk result (λ r. IsConstantTo (Some declaration.now) made.new name.now r) }
+    ensures grown { IfOk result (λ r. GrowsBy made.old made.new r) }
+{
+    match declaration {
+        Declaration::Constant(x) => {
+            let place = Place {
+                at: name.at,
+                kind: Some(kind(&x.kind)),
+            };
+            let expr = literal(place, &x.literal.value, made)?;
+            Ok(expr)
+        }
+        Declaration::Inputs(_) | Declaration::Output(_) | Declaration::Trigger(_) => {
+            Ok(Expr::Literal(bare(name.at), Value::Bool(false)))
+        }
+    }
+}
+
 /// A constant's literal, in the place of its name.
 fn constant(scope: &Scope, name: &Name, number: u32, made: &mut Made) -> Result<Expr, Memory>
     ensures constant { IfOk result (λ r. IsConstantTo (slice_get scope.now.declarations.now number) made.new name.now r) }
     ensures grown { IfOk result (λ r. GrowsBy made.old made.new r) }
 {
     match scope.declarations.get(number as usize) {
-        Some(Declaration::Constant(x)) => {
-            let place = Place {
-                at: name.at,
-                kind: Some(kind(&x.kind)),
-            };
-            literal(place, &x.literal.value, made)
+        None => Ok(Expr::Literal(bare(name.at), Value::Bool(false))),
+        Some(declaration) => {
+            let expr = literal_of(declaration, name, made)?;
+            Ok(expr)
         }
-        _ => Ok(Expr::Literal(bare(name.at), Value::Bool(false))),
     }
 }
 
@@ -162,6 +184,7 @@ fn access(
     made: &mut Made,
 ) -> Result<Named, Memory>
     ensures access { IfOk result (λ n. IsAccessTo scope.now made.new stream how.now n) }
+    ensures open { IfOk result IsOpen }
     ensures grown { IfOk result (λ n. GrowsByNamed made.old made.new n) }
 {
     match how {
@@ -200,8 +223,14 @@ fn meant(
             bare(name.at),
             Value::Bool(false),
         ))),
-        Some(Target::Input(stream, _)) => access(scope, stream, how, made),
-        Some(Target::Output(stream)) => access(scope, stream, how, made),
+        Some(Target::Input(stream, _)) => {
+            let named = access(scope, stream, how, made)?;
+            Ok(named)
+        }
+        Some(Target::Output(stream)) => {
+            let named = access(scope, stream, how, made)?;
+            Ok(named)
+        }
         Some(Target::Constant(number)) => {
             let expr = constant(scope, name, number, made)?;
             Ok(Named::Whole(expr))
@@ -209,17 +238,6 @@ fn meant(
         Some(Target::Parameter(number)) => {
             Ok(Named::Whole(Expr::Parameter(bare(name.at), number)))
         }
-    }
-}
-
-/// An access with its arguments.
-fn whole(at: u32, named: Named, arguments: Arguments) -> Expr
-    ensures { result ≡ whole_of at named arguments }
-{
-    match named {
-        Named::Whole(expr) => expr,
-        Named::Read(stream, how) => Expr::Read(bare(at), stream, how, arguments),
-        Named::Window(number) => Expr::Window(bare(at), number, arguments),
     }
 }
 
@@ -254,13 +272,21 @@ pub fn expression(
     ensures grown { IfOk result (λ r. GrowsBy made.old made.new r) }
 {
     match x {
-        tree::Expr::Literal(l) => literal(bare(l.at), &l.value, made),
+        tree::Expr::Literal(l) => {
+            let expr = literal(bare(l.at), &l.value, made)?;
+            Ok(expr)
+        }
         tree::Expr::Reference(name, _, xs, how) => {
-            match meant(scope, target(scope, name), name, how, made)? {
+            let target = target(scope, name);
+            match meant(scope, target, name, how, made)? {
                 Named::Whole(expr) => Ok(expr),
-                open => {
+                Named::Read(stream, how) => {
                     let arguments = arguments(alloc, scope, xs.as_slice(), made)?;
-                    Ok(whole(name.at, open, arguments))
+                    Ok(Expr::Read(bare(name.at), stream, how, arguments))
+                }
+                Named::Window(number) => {
+                    let arguments = arguments(alloc, scope, xs.as_slice(), made)?;
+                    Ok(Expr::Window(bare(name.at), number, arguments))
                 }
             }
         }
