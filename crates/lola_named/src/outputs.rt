@@ -17,7 +17,6 @@ use lola_resolve::expressions::kind;
 use lola_resolve::made::Made;
 use lola_resolve::scope::Scope;
 use lola_resolve::targets::{TargetTable, parameters};
-use lola_tree::clauses::Spawn;
 use lola_tree::declarations::{Declaration, Output, Trigger};
 use lola_tree::literals::{Name, Typed};
 use lola_value::numbers::number_text;
@@ -71,22 +70,22 @@ fn spawn_of(
     declarations: &[Declaration],
     targets: &TargetTable,
     n: u32,
-    x: &Option<Spawn>,
+    x: &Output,
     made: &mut Made,
 ) -> Result<Option<Clause>, Memory>
     requires { Means targets.now (targets_of declarations.now) }
-    ensures resolved { IfOk result (λ c. SpawnOf declarations.now made.new n x.now c) }
+    ensures resolved { IfOk result (λ c. SpawnOf declarations.now made.new n x.now.spawn c) }
     ensures grown { IfOk result (λ c. GrowsByClause made.old made.new c) }
 {
-    let none = TargetTable::create(alloc);
+    let own = TargetTable::create(alloc);
     let scope = Scope {
         declarations,
         targets,
-        parameters: &none,
+        parameters: &own,
         stream: n,
         clause: Part::Spawn,
     };
-    let clause = spawn(alloc, &scope, x, made)?;
+    let clause = spawn(alloc, &scope, &x.spawn, made)?;
     Ok(clause)
 }
 
@@ -162,7 +161,7 @@ fn clauses_of(
     ensures close { IfOk result (λ c. CloseOf declarations.now made.new n x.now c.close) }
     ensures grown { IfOk result (λ c. Grows made.old made.new (listed_clause window_number c.spawn ++ (listed_clause window_number (Some c.eval) ++ listed_clause window_number c.close)) (listed_clause literal_text c.spawn ++ (listed_clause literal_text (Some c.eval) ++ listed_clause literal_text c.close))) }
 {
-    let spawn = spawn_of(alloc, declarations, targets, n, &x.spawn, made)?;
+    let spawn = spawn_of(alloc, declarations, targets, n, x, made)?;
     let eval = eval_of(alloc, declarations, targets, n, x, made)?;
     let close = close_of(alloc, declarations, targets, n, x, made)?;
     Ok(Clauses { spawn, eval, close })
