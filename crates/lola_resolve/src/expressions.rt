@@ -78,7 +78,7 @@ fn binary(sign: tree::Binary) -> expr::Binary
 }
 
 /// An integer. One that is too great for 128 bits is the greatest of its sign.
-fn integer(is_negative: bool, n: u128) -> i128
+pub fn integer(is_negative: bool, n: u128) -> i128
     ensures { result ≡ integer_of is_negative n }
 {
     if n > 170_141_183_460_469_231_731_687_303_715_884_105_727 {
