@@ -1,10 +1,11 @@
 //! Names that are resolved: numbers of streams, windows and texts, and places.
 
 use lola_lexer::cut::tokens;
-use lola_model::spec::{Agg, Clause, Part, Spec, Stream};
+use lola_model::spec::{Agg, Clause, Part, Spec};
 use lola_named::resolve;
 use lola_parser::reading::parse;
 use lola_value::front::{Code, FrontEnd, Refusal};
+use lola_value::text::Text;
 use lola_value::value::{TextId, Value};
 use std::alloc::Global;
 
@@ -31,8 +32,8 @@ fn places(clause: &Option<Clause>) -> (u32, u32, u32, u32) {
     }
 }
 
-fn name(stream: &Stream) -> &[u8] {
-    stream.name.as_bytes()
+fn same(text: &Text, bytes: &[u8]) -> bool {
+    text.as_bytes() == bytes
 }
 
 const TEXT: &[u8] = b"input a: Int64, s: String
@@ -50,25 +51,53 @@ fn numbers_and_places(rt: HostRuntime) {
     let spec = resolved(rt.alloc(), TEXT).expect(&rt, "it is resolved");
     let streams = spec.streams.as_slice();
     assert_eq!(rt; streams.len(), 4);
-    assert!(rt; name(&streams[0]) == b"a" && name(&streams[1]) == b"s");
-    assert!(rt; name(&streams[2]) == b"b" && name(&streams[3]) == b"trigger_1");
-    assert_eq!(rt; (streams[0].place, streams[1].place, streams[2].place, streams[3].place), (6, 16, 90, 242));
+    assert!(rt; same(&streams[0].name, b"a") && same(&streams[1].name, b"s"));
+    assert!(rt; same(&streams[2].name, b"b") && same(&streams[3].name, b"trigger_1"));
+    assert_eq!(rt;
+        (
+            streams[0].place,
+            streams[1].place,
+            streams[2].place,
+            streams[3].place
+        ),
+        (6, 16, 90, 242)
+    );
     assert_eq!(rt; places(&streams[2].spawn), (120, 126, 142, 144));
     assert_eq!(rt; places(&streams[2].eval), (149, 159, 173, 0));
     assert_eq!(rt; places(&streams[2].close), (222, 228, 0, 0));
     assert_eq!(rt; places(&streams[3].eval), (242, 0, 242, 0));
     let windows = spec.windows.as_slice();
     assert_eq!(rt; windows.len(), 2);
-    assert_eq!(rt; (windows[0].stream, windows[0].target, windows[0].over), (2, 2, 1_000_000_000));
+    assert_eq!(rt;
+        (windows[0].stream, windows[0].target, windows[0].over),
+        (2, 2, 1_000_000_000)
+    );
     assert_eq!(rt; (windows[0].part, windows[0].using), (Part::Eval, Agg::Sum));
-    assert_eq!(rt; (windows[1].stream, windows[1].target, windows[1].over), (3, 0, 2_000_000_000));
+    assert_eq!(rt;
+        (windows[1].stream, windows[1].target, windows[1].over),
+        (3, 0, 2_000_000_000)
+    );
     let texts = spec.texts.as_slice();
     assert_eq!(rt; texts.len(), 2);
-    assert!(rt; texts[0].as_bytes() == b"x" && texts[1].as_bytes() == b"y");
+    assert!(rt; same(&texts[0], b"x") && same(&texts[1], b"y"));
     let constants = spec.constants.as_slice();
     assert_eq!(rt; constants.len(), 2);
-    assert_eq!(rt; (constants[0].literal, constants[0].place, constants[0].before), (Value::Text(TextId(0)), 48, 45));
-    assert_eq!(rt; (constants[1].literal, constants[1].place, constants[1].before), (Value::Text(TextId(2)), 79, 76));
+    assert_eq!(rt;
+        (
+            constants[0].literal,
+            constants[0].place,
+            constants[0].before
+        ),
+        (Value::Text(TextId(0)), 48, 45)
+    );
+    assert_eq!(rt;
+        (
+            constants[1].literal,
+            constants[1].place,
+            constants[1].before
+        ),
+        (Value::Text(TextId(2)), 79, 76)
+    );
     assert_eq!(rt; spec.refused.as_slice().len(), 0);
 }
 
