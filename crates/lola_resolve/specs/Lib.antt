@@ -1,0 +1,4 @@
+pub mod Targets
+pub mod Resolved
+pub mod Clauses
+pub mod Specification
