@@ -1,0 +1,73 @@
+//! The call that compiles.
+
+ghost use Rattle.std.specs.Prelude.{IfOk};
+ghost use Rattle.lola_model.specs.Model.{HasOneModel};
+ghost use Rattle.lola_model.specs.Named.{IsNamed};
+ghost use Rattle.lola_model.specs.Typed.{IsTyped};
+ghost use Rattle.lola_front.specs.Front.{Compiles, Completes, Layers};
+
+use crate::phases::full;
+use lola_bounds::bounds::bounds;
+use lola_graph::cycle::zero_cycle;
+use lola_graph::reads::edges;
+use lola_layers::layers;
+use lola_model::pacing::Pacings;
+use lola_model::plan::{Layers, Numbers, PaneSizes, Plan};
+use lola_model::spec::Spec;
+use lola_pacing::check::check;
+use lola_value::front::FrontEnd;
+use std::alloc::Global;
+
+/// What a plan has beside its specification.
+#[derive(Drop)]
+struct Parts {
+    pacings: Pacings,
+    layers: Layers,
+    kept: Numbers,
+    panes: PaneSizes,
+}
+
+/// The layers of a specification's graph, or the refusal of the least stream that reads itself within a step.
+fn layered(alloc: Global, spec: &Spec) -> Result<Layers, FrontEnd>
+    requires named { IsNamed spec.now }
+    ensures { AnswersLayers spec.now result }
+{
+    let edges = edges(alloc, spec)?;
+    match zero_cycle(alloc, &edges)? {
+        None => Ok(layers(alloc, &edges)?),
+        Some(stream) => Err(cycle(spec, stream)),
+    }
+}
+
+/// All that a plan has beside its specification.
+fn parts(alloc: Global, spec: &Spec) -> Result<Parts, FrontEnd>
+    requires named { IsNamed spec.now }
+    requires typed { IsTyped spec.now }
+    ensures { AnswersParts spec.now result }
+{
+    let pacings = check(alloc, spec)?;
+    let layers = layered(alloc, spec)?;
+    let (kept, panes) = bounds(alloc, spec, &pacings)?;
+    Ok(Parts {
+        pacings,
+        layers,
+        kept,
+        panes,
+    })
+}
+
+/// The plan of a specification's text.
+pub fn compile(alloc: Global, bytes: &[u8]) -> Result<Plan, FrontEnd>
+    ensures compiles { Compiles bytes.now result }
+    ensures one_model { IfOk result (λ plan. HasOneModel plan) }
+{
+    let spec = full(alloc, bytes)?;
+    let parts = parts(alloc, &spec)?;
+    Ok(Plan {
+        spec,
+        pacings: parts.pacings,
+        layers: parts.layers,
+        kept: parts.kept,
+        panes: parts.panes,
+    })
+}

@@ -1,0 +1,7 @@
+//! The compiler: from the text of a specification to its plan, or to the refusal by which it has none.
+#![tactic(auto)]
+
+mod compiling;
+mod phases;
+
+pub use compiling::compile;
