@@ -2,6 +2,7 @@
 #![tactic(auto)]
 
 mod compiling;
+mod meant;
 mod phases;
 
 pub use compiling::compile;
