@@ -2,7 +2,6 @@
 #![tactic(auto)]
 
 mod compiling;
-mod meant;
 mod phases;
 
 pub use compiling::compile;

@@ -3,7 +3,7 @@
 ghost use Rattle.lola_front.specs.Front.{Fills, Reads, ResolvesText};
 
 use lola_lexer::cut::tokens;
-use crate::meant::{resolved_is_named, resolved_notes_constants, spelled_closes_are_spawned};
+use lola_meant::law::{resolved_is_named, resolved_notes_constants, spelled_closes_are_spawned};
 use lola_model::spec::Spec;
 use lola_named::resolve;
 use lola_syntax::reading::specification;
