@@ -1,5 +1,5 @@
 -- Where nothing is refused, each clause has a pacing.
-use Rattle.std.proofs.Common.{◌≡◌, ◌≢◌, refl, ap, sym, subst, ◌∙◌, ℕ, zero, suc, ◌+◌, ◌<◌, List, [], ◌∷◌, ◌++◌, Option, Some, None, Bool, true, false, ◌&&◌, ◌||◌, if◌then◌else◌, arith, length, slice_get, inl, inr}
+use Rattle.std.proofs.Common.{◌≡◌, ◌≢◌, refl, ap, subst, ◌∙◌, ℕ, zero, suc, ◌+◌, List, [], ◌∷◌, ◌++◌, Option, Some, None, Bool, true, false, ◌&&◌, ◌||◌, if◌then◌else◌, arith, slice_get, inl, inr}
 use Rattle.std.specs.Bool.{MatchBool}
 use Rattle.std.specs.List.{Contains, list_any, list_all}
 use Rattle.lola_value.specs.Ratio.{Ratio}
@@ -7,9 +7,9 @@ use Rattle.lola_value.specs.declared.front.Code.{Code}
 use Rattle.lola_value.specs.declared.front.Refusal.{Refusal}
 use Rattle.lola_model.proofs.Strictly.{Contains-here, Contains-there}
 use Rattle.lola_model.specs.Model.{is_input}
-use Rattle.lola_model.specs.Named.{all_streams, has_clause, is_stream_paced_in_range, is_clause_paced_in_range, is_pace_in_range, is_rate_in_range}
+use Rattle.lola_model.specs.Named.{all_streams, has_clause, is_stream_paced_in_range, is_clause_paced_in_range, is_pace_in_range}
 use Rattle.lola_model.specs.declared.pacing.InputSet.{InputSet}
-use Rattle.lola_model.specs.declared.pacing.Pacing.TheVariants.{Event, Periodic}
+use Rattle.lola_model.specs.declared.pacing.Pacing.TheVariants.{Periodic}
 use Rattle.lola_model.specs.declared.spec.Clause.{Clause}
 use Rattle.lola_model.specs.declared.spec.Pace.{Pace}
 use Rattle.lola_model.specs.declared.spec.Pace.TheVariants as pace
@@ -17,14 +17,14 @@ use Rattle.lola_model.specs.declared.spec.Spec.{Spec}
 use Rattle.lola_model.specs.declared.spec.Stream.{Stream}
 use Rattle.lola_model.specs.declared.spec.WrittenRate.{WrittenRate}
 use Rattle.lola_model.specs.declared.spec.WrittenRate.TheVariants as rate
-use Rattle.lola_model.specs.Leaves.{AreLeaves, is_end, is_end_of, has_pace, is_written}
-use Rattle.lola_model.specs.PacingFound.{AreOwn, IsOwn, IsGiven, IsWritten, IsWrittenIn, input_finding, inputs_with, IsFound, IsCombined, IsJoined, IsRateFound, rate_pacing, is_multiple, unbuilt_rate, no_pacing, too_wide, any_row, forms_of, rates_of, finding_at, findings_at, is_unpaced, is_event, is_periodic}
-use Rattle.lola_model.specs.PacingRefused.{clause_refusals, finding_refusal}
+use Rattle.lola_model.specs.Leaves.{is_end, is_end_of, has_pace, is_written}
+use Rattle.lola_model.specs.PacingFound.{AreOwn, IsOwn, IsGiven, IsWritten, IsWrittenIn, input_finding, inputs_with, IsFound, IsCombined, IsJoined, IsRateFound, is_multiple, unbuilt_rate, no_pacing, any_row, forms_of, rates_of, finding_at, findings_at, is_unpaced, is_event, is_periodic}
+use Rattle.lola_model.specs.PacingRefused.{clause_refusals}
 use Rattle.lola_findings.proofs.FineLemmas.{accepts_fine}
 use Rattle.lola_model.specs.declared.finding.Finding.{Finding}
 use Rattle.lola_model.specs.declared.finding.Finding.TheVariants.{Paced, Refused, Unpaced}
-use Rattle.lola_model.specs.Pacings.{InStep, IsFromLeaves, IsPaceFound, IsClauseFound, IsEvalFound, IsSpawnFound, IsCloseFound, only_pacing, place_of, Found, refusals_of, refusals_from, stream_refusals}
-use Rattle.lola_pacing.specs.Accepted.{IsPacedWhere, IsStreamPaced, PacesAll}
+use Rattle.lola_model.specs.Pacings.{InStep, IsPaceFound, IsClauseFound, IsEvalFound, IsSpawnFound, IsCloseFound, only_pacing, place_of, Found, refusals_of, refusals_from, stream_refusals}
+use Rattle.lola_pacing.specs.Accepted.{IsPacedWhere, PacesAll}
 
 abbrev IsNotRefused : Finding → Type 0
 IsNotRefused f = (r : Refusal) → f ≢ Refused r

@@ -1,18 +1,17 @@
 -- Where nothing is refused, each window stands in a periodic clause and has few panes.
-use Rattle.std.proofs.Common.{◌≡◌, refl, ap, sym, subst, ◌∙◌, ℕ, zero, suc, ◌+◌, ◌<◌, List, [], ◌∷◌, ◌++◌, Option, Some, None, Bool, true, false, ◌&&◌, not, nat_eq, arith, length, slice_get, unwrap_or, ◌⊎◌, inl, inr}
+use Rattle.std.proofs.Common.{◌≡◌, refl, ap, sym, subst, ◌∙◌, ℕ, zero, suc, ◌+◌, ◌<◌, List, [], ◌∷◌, ◌++◌, Option, Some, None, Bool, true, false, ◌&&◌, ◌||◌, not, nat_eq, arith, length, slice_get, unwrap_or, inl, inr}
 use Rattle.std.specs.List.{All, Contains}
 use Rattle.std.proofs.lemmas.Bool.{eqb-true}
 use Rattle.std.proofs.lemmas.List.Elements.{Contains-append_cases, All-cons}
 use Rattle.lola_value.specs.Ratio.{Ratio}
 use Rattle.lola_value.specs.declared.front.Code.{Code}
-use Rattle.lola_value.specs.declared.front.Refusal.{Refusal}
 use Rattle.lola_value.specs.declared.value.Kind.{Kind}
 use Rattle.lola_value.specs.declared.value.Kind.TheVariants as kind
 use Rattle.lola_model.proofs.Strictly.{Contains-here, Contains-there, Contains-none, Contains-cases}
 use Rattle.lola_model.specs.Bounds.{pacing_at}
 use Rattle.lola_model.specs.Model.{spawn_pacing, eval_pacing, close_pacing}
-use Rattle.lola_model.specs.Named.{IsNamed, all_streams, all_numbers, count_with, counted, has_clause, is_input_shape, is_output_shape, is_trigger_shape, is_well_shaped, is_stream_paced_in_range, is_window_of, same_part, window_number, windows_stand_here}
-use Rattle.lola_model.specs.Parts.{listed, listed_when, listed_with, listed_clause, listed_stream, listed_streams, listed_spec}
+use Rattle.lola_model.specs.Named.{IsNamed, all_numbers, count_with, counted, has_clause, has_kind, has_when, is_of_bool, is_input_shape, is_output_shape, is_trigger_shape, is_well_shaped, is_window_of, same_part, window_number, windows_stand_here}
+use Rattle.lola_model.specs.Parts.{listed, listed_when, listed_with, listed_clause, listed_stream}
 use Rattle.lola_model.specs.Typed.{IsTyped}
 use Rattle.lola_model.specs.WindowVerdicts.{IsFineEnough, IsVerdict}
 use Rattle.lola_model.specs.Wholes.{Whole, condition_wholes, with_wholes, clause_wholes, stream_wholes, wholes_from, noted_kinds, all_wholes}
@@ -20,7 +19,6 @@ use Rattle.lola_model.specs.declared.expr.Expr.{Expr}
 use Rattle.lola_model.specs.declared.expr.Expr.TheVariants.{Literal, Parameter, Read, Window, Defaults', Unary', Both', Choice'}
 use Rattle.lola_model.specs.declared.finding.Finding.{Finding}
 use Rattle.lola_model.specs.declared.finding.Finding.TheVariants.{Paced, Refused, Unpaced}
-use Rattle.lola_model.specs.declared.pacing.Pacing.{Pacing}
 use Rattle.lola_model.specs.declared.pacing.Pacing.TheVariants.{Event, Periodic}
 use Rattle.lola_model.specs.declared.pacing.ClausePacings.{ClausePacings}
 use Rattle.lola_model.specs.declared.spec.Clause.{Clause}
@@ -32,14 +30,14 @@ use Rattle.lola_model.specs.declared.spec.Spec.{Spec}
 use Rattle.lola_model.specs.declared.spec.Stream.{Stream}
 use Rattle.lola_model.specs.declared.spec.WindowSpec.{WindowSpec}
 use Rattle.lola_model.specs.declared.uses.Use.{Use}
-use Rattle.lola_model.specs.declared.uses.Use.TheVariants.{OfStream, OfWindow}
+use Rattle.lola_model.specs.declared.uses.Use.TheVariants.{OfWindow}
 use Rattle.lola_model.specs.PacingFound.{finding_at, is_unpaced}
 use Rattle.lola_model.specs.PacingRefused.{clause_refusals, used}
-use Rattle.lola_model.specs.Pacings.{ArePacings, AreVerdicts, Found, finding_of_part, pacing_of, pacings_from, refusals_of, stream_refusals}
+use Rattle.lola_model.specs.Pacings.{AreVerdicts, Found, finding_of_part, pacing_of, pacings_from, refusals_of}
 use Rattle.lola_findings.proofs.FineLemmas.{accepts_fine}
 use Rattle.lola_pacing.proofs.ListedLemmas.{Has, in_some_stream, maps_clause}
 use Rattle.lola_pacing.proofs.PacedLemmas.{empty_left, empty_right, first_true, here, later, paces_all, range_at, second_true}
-use Rattle.lola_pacing.specs.Accepted.{IsPacedWhere, IsStreamPaced, IsWindowPaced, PacesWindows}
+use Rattle.lola_pacing.specs.Accepted.{IsPacedWhere, IsWindowPaced, PacesWindows}
 
 -- the clause of a stream
 abbrev clause_of : Stream → Part → Option Clause
@@ -70,7 +68,7 @@ in_some_clause s i c =
 only_this : (at w i : ℕ) → Contains (w ∷ []) i → Has Use (λ u. (q : ℕ) × (u ≡ OfWindow q i)) (OfWindow at w ∷ [])
 only_this at w i c =
     elim (Contains-cases w i [] c) [
-      | inl e ↦ (OfWindow at w, Contains-here (OfWindow at w) [], at, ap (λ (j : ℕ). OfWindow at j) e)
+      | inl e ↦ (OfWindow at w, Contains-here (OfWindow at w) [], (at, ap (λ (j : ℕ). OfWindow at j) e))
       | inr d ↦ absurd (Contains-none i d)
     ]
 
@@ -190,21 +188,20 @@ counts : (c : Option Clause) → nat_eq (count_with c) 1 ≡ true → has_clause
 counts None h = absurd (cc)
 counts (Some c) h = refl
 
+-- the last of what holds together
+fifth_true : (a b c d e : Bool) → (a && (b && (c && (d && e)))) ≡ true → e ≡ true
+fifth_true a b c d e h = second_true d e (second_true c (d && e) (second_true b (c && (d && e)) (second_true a (b && (c && (d && e))) h)))
+
 eval_beside : (s : Stream) (o : Sort) → shape_by s o ≡ true → has_clause s.close ≡ true → has_clause s.eval ≡ true
 eval_beside s sort.Input h k =
-    let a = second_true _ _ h in
-    let b = second_true _ _ a in
-    let c = second_true _ _ b in
-    let d = second_true _ _ c in
-    never (has_clause s.eval ≡ true) (has_clause s.close) d k
-eval_beside s sort.Output h k = counts s.eval (first_true _ _ h)
+    let none = fifth_true (has_kind s.kind) (nat_eq (length s.parameters) 0) (not (has_clause s.spawn)) (not (has_clause s.eval)) (not (has_clause s.close)) h in
+    never (has_clause s.eval ≡ true) (has_clause s.close) none k
+eval_beside s sort.Output h k =
+    counts s.eval (first_true (nat_eq (count_with s.eval) 1) (nat_eq (count_with s.spawn) (length s.parameters)
+    && ((not (has_clause s.close) || (has_when s.close && has_clause s.spawn)) && nat_eq (count_with s.close) 0)) h)
 eval_beside s sort.Trigger h k =
-    let a = second_true _ _ h in
-    let b = second_true _ _ a in
-    let c = second_true _ _ b in
-    let d = second_true _ _ c in
-    let e = second_true _ _ d in
-    never (has_clause s.eval ≡ true) (has_clause s.close) e k
+    let last = fifth_true (is_of_bool s.kind) (nat_eq (count_with s.eval) 1) (not (has_when s.eval)) (nat_eq (length s.parameters) 0) (not (has_clause s.spawn) && not (has_clause s.close)) h in
+    never (has_clause s.eval ≡ true) (has_clause s.close) (second_true (not (has_clause s.spawn)) (not (has_clause s.close)) last) k
 
 -- what stands against a window
 
@@ -233,7 +230,7 @@ module _ (spawns evals closes : List Finding) where
   pacing_here ps n part.Close e = ap close_pacing e
 
 -- nothing stands against it
-none_against : (v o : Option Code) → o ≡ Some v → unwrap_or o None ≡ None → v ≡ None
+none_against : (v : Option Code) (o : Option (Option Code)) → o ≡ Some v → unwrap_or o None ≡ None → v ≡ None
 none_against v None e h = absurd (cc)
 none_against v (Some x) e h = cc
 
@@ -278,9 +275,9 @@ module _ (spec : Spec) (f : Found spec) (named : IsNamed spec) (typed : IsTyped 
 
     no_verdict : (n : ℕ) (s : Stream) (p : Part) → slice_get spec.streams n ≡ Some s → Contains (listed_clause window_number (clause_of s p)) i → unwrap_or (slice_get f.verdicts i) None ≡ None
     no_verdict n s p e c =
-        let use = maps_clause ℕ Use window_number used i (λ u. (q : ℕ) × (u ≡ OfWindow q i)) (is_used i) (clause_of s p) c in
-        let listed_use = subst (λ (u : Use). Contains (listed_clause used (clause_of s p)) u) use.2.1 use.1 in
-        accepts_fine.fine spec.streams f.evals f.verdicts (finding_of_part f.spawns f.evals f.closes n p) (clause_of s p) (of_part n s p e) (OfWindow use.2.0 i) listed_use
+        let used_there = maps_clause ℕ Use window_number used i (λ u. (q : ℕ) × (u ≡ OfWindow q i)) (is_used i) (clause_of s p) c in
+        let listed_use = subst (λ (u : Use). Contains (listed_clause used (clause_of s p)) u) used_there.2.1 used_there.1 in
+        accepts_fine.fine spec.streams f.evals f.verdicts (finding_of_part f.spawns f.evals f.closes n p) (clause_of s p) (of_part n s p e) (OfWindow used_there.2.0 i) listed_use
 
     -- its clause has a rate, and it is fine enough
     fine : (n : ℕ) (s : Stream) (p : Part) → slice_get spec.streams n ≡ Some s → Contains (listed_clause window_number (clause_of s p)) i
@@ -308,7 +305,7 @@ module _ (spec : Spec) (f : Found spec) (named : IsNamed spec) (typed : IsTyped 
         record {
           rate = is_fine.0;
           periodic = ap (λ (m : ℕ). pacing_at pacings m w.part) place.0 ∙ ap (λ (q : Part). pacing_at pacings n q) place.1
-            ∙ pacing_here f.spawns f.evals f.closes pacings n p found ∙ ap pacing_of is_fine.1;
+              ∙ pacing_here f.spawns f.evals f.closes pacings n p found ∙ ap pacing_of is_fine.1;
           fine = is_fine.2;
         }
 
