@@ -1,0 +1,6 @@
+mod OffsetLemmas
+mod EndLemmas
+mod PaneLemmas
+mod PlanLemmas
+mod PhaseLemmas
+mod RateLemmas
