@@ -1,6 +1,3 @@
 mod OffsetLemmas
 mod EndLemmas
 mod PaneLemmas
-mod PlanLemmas
-mod PhaseLemmas
-mod RateLemmas
