@@ -1,12 +1,10 @@
 -- How the list of steps goes on, by what a clock says: for those who run the steps.
-use Rattle.std.proofs.Common.{◌≡◌, ℕ, zero, suc, ◌+◌, ◌-◌, ◌<◌, ◌≤◌, List, [], ◌∷◌, Option, Some, None, Bool, true, false, map, nat_le, refl, ap, arith, sym, ◌∙◌, subst, option_and_then, if◌then◌else◌}
+use Rattle.std.proofs.Common.{◌≡◌, ℕ, zero, suc, ◌+◌, ◌-◌, ◌<◌, ◌≤◌, List, [], ◌∷◌, Option, Some, None, Bool, true, false, map, nat_le, refl, ap, arith, ◌∙◌, option_and_then, if◌then◌else◌}
 use Rattle.std.proofs.lemmas.Bool.{leb-false}
 use Rattle.lola_value.specs.Ratio.{Ratio}
 use Rattle.lola_value.specs.Times.{latest, up_to_latest}
-use Rattle.lola_model.specs.Table.{Step}
 use Rattle.lola_model.specs.Steps.{first_after, deadlines_between, deadlines_up_to, deadline_steps, deadline_step}
-use Rattle.lola_model.specs.StepOrder.{AreRates}
-use Rattle.lola_model.proofs.Deadlines.{first_after_above, deadlines_begin, deadlines_end}
+use Rattle.lola_model.proofs.Deadlines.{deadlines_begin, deadlines_end}
 use Rattle.lola_clock.specs.Clock.{ClockState, IsClock, first_to_come}
 
 -- the first deadline of the rates, where it is a time

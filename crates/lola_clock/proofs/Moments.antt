@@ -1,8 +1,8 @@
 -- The moment of a rate's first deadline: how it is found, and that it stays until it is passed.
-use Rattle.std.proofs.Common.{◌≡◌, ℕ, ◌+◌, ◌-◌, ◌<◌, ◌≤◌, Option, Some, None, Bool, true, false, min, nat_le, refl, ap, arith, sym, if◌then◌else◌}
-use Rattle.std.proofs.lemmas.Bool.{leb-true, leb-false}
+use Rattle.std.proofs.Common.{◌≡◌, ℕ, ◌+◌, ◌-◌, ◌<◌, ◌≤◌, Option, Some, None, Bool, true, false, min, nat_le, refl, ap, arith, if◌then◌else◌}
+use Rattle.std.proofs.lemmas.Bool.{leb-false}
 use Rattle.lola_value.specs.Ratio.{Ratio}
-use Rattle.lola_value.specs.Rate.{next_deadline, next_number, next_in_time, deadline}
+use Rattle.lola_value.specs.Rate.{next_deadline, next_number, next_in_time}
 use Rattle.lola_value.specs.Times.{latest}
 use Rattle.lola_model.specs.StepOrder.{IsRate}
 use Rattle.lola_model.proofs.Deadlines.{next_deadline_above, next_deadline_least}

@@ -1,10 +1,9 @@
 -- The loop that sets timers, one by one.
-use Rattle.std.proofs.Common.{◌≡◌, ℕ, ◌+◌, ◌<◌, ◌≤◌, List, [], ◌∷◌, length, get_or, set, map, min, suc, zero, drop, refl, ap, arith, sym, ◌∙◌, subst}
+use Rattle.std.proofs.Common.{◌≡◌, ℕ, ◌+◌, ◌<◌, ◌≤◌, List, [], ◌∷◌, length, get_or, set, map, min, suc, zero, refl, ap, arith, sym, ◌∙◌, subst}
 use Rattle.std.proofs.Math.Numerals.{add-one}
-use Rattle.lola_value.specs.Ratio.{Ratio}
 use Rattle.lola_model.specs.StepOrder.{IsRate, AreRates}
 use Rattle.lola_clock.specs.declared.timers.Timer.{Timer}
-use Rattle.lola_clock.specs.Timers.{due_of, too_late, set_timer, timer_rates, earliest, IsUsable, AreUsable}
+use Rattle.lola_clock.specs.Timers.{too_late, set_timer, timer_rates, earliest, IsUsable, AreUsable}
 
 -- the first so many of these timers set, and the others as they were
 abbrev pub set_front : ℕ → ℕ → ℕ → List Timer → List Timer

@@ -1,10 +1,10 @@
 -- How timers are set: those that stand above a moment are right for it, and all are right once each was set.
-use Rattle.std.proofs.Common.{◌≡◌, ℕ, ◌+◌, ◌-◌, ◌<◌, ◌≤◌, ◌++◌, List, [], ◌∷◌, length, map, min, suc, zero, take, drop, refl, ap, arith, sym, ◌∙◌, subst}
+use Rattle.std.proofs.Common.{◌≡◌, ℕ, ◌<◌, ◌≤◌, List, [], ◌∷◌, map, refl, ap, arith, sym, ◌∙◌, subst}
 use Rattle.lola_value.specs.Ratio.{Ratio}
 use Rattle.lola_value.specs.Times.{latest}
 use Rattle.lola_model.specs.StepOrder.{IsRate, AreRates}
 use Rattle.lola_clock.specs.declared.timers.Timer.{Timer}
-use Rattle.lola_clock.specs.Timers.{due_of, too_late, set_timer, new_timer, timer_rates, earliest, IsUsable, AreUsable, AreSet}
+use Rattle.lola_clock.specs.Timers.{due_of, set_timer, new_timer, timer_rates, earliest, IsUsable, AreUsable, AreSet}
 use Rattle.lola_clock.proofs.Moments.{due_kept}
 
 -- timers that were never set are behind every moment
@@ -16,6 +16,10 @@ new_usable start to (r ∷ rates) = ((λ above. absurd (omega arith)), new_usabl
 pub set_rates : (start to : ℕ) (timers : List Timer) → timer_rates (map (set_timer start to) timers) ≡ timer_rates timers
 set_rates start to [] = refl
 set_rates start to (k ∷ timers) = ap (λ rs. k.rate ∷ rs) (set_rates start to timers)
+
+-- a timer that was set is set
+pub one_set : (start to : ℕ) (old new : Timer) → IsRate old.rate → new ≡ set_timer start to old → IsRate new.rate × (new ≡ set_timer start to new)
+one_set start to old new rate e = subst (λ (t : Timer). IsRate t.rate × (t ≡ set_timer start to t)) (sym e) (rate, refl)
 
 -- what is set is set
 pub set_again : (start to : ℕ) (timers : List Timer) → map (set_timer start to) timers ≡ map (set_timer start to) (map (set_timer start to) timers)

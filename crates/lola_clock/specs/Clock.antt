@@ -1,5 +1,5 @@
 -- A clock: rates that count from one start, and the moment up to which their deadlines are passed.
-use Rattle.std.specs.Prelude.{ℕ, ◌≡◌, ◌+◌, ◌-◌, ◌<◌, ◌≤◌, List, Option, Some, None, Contains, max, option_and_then}
+use Rattle.std.specs.Prelude.{ℕ, ◌≡◌, ◌+◌, ◌-◌, ◌<◌, ◌≤◌, List, Option, Some, None, Contains, option_and_then}
 use Rattle.lola_value.specs.Ratio.{Ratio}
 use Rattle.lola_value.specs.Rate.{IsDeadline}
 use Rattle.lola_value.specs.Times.{latest, up_to_latest}

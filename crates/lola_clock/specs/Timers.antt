@@ -34,6 +34,11 @@ earliest (timer ∷ timers) = min timer.due (earliest timers)
 abbrev pub IsUsable : ℕ → ℕ → Timer → Type 0
 IsUsable start to timer = to < timer.due → IsRate timer.rate × (timer ≡ set_timer start to timer)
 
+-- a timer that is set for a moment, if there is one
+abbrev pub IsSetOne : ℕ → ℕ → Option Timer → Type 0
+IsSetOne start to None = Unit {0}
+IsSetOne start to (Some timer) = IsRate timer.rate × (timer ≡ set_timer start to timer)
+
 abbrev pub AreUsable : ℕ → ℕ → List Timer → Type 0
 AreUsable start to [] = Unit {0}
 AreUsable start to (timer ∷ timers) = IsUsable start to timer × AreUsable start to timers

@@ -2,7 +2,7 @@
 ghost use Rattle.std.specs.Prelude.{◌≡◌, ◌<◌, ◌≤◌, map, IfOk};
 ghost use Rattle.lola_value.specs.Times.{latest};
 ghost use Rattle.lola_model.specs.StepOrder.{IsRate, AreRates};
-ghost use Rattle.lola_clock.specs.Timers.{AreUsable, IsUsable, due_of, earliest, new_timer, set_timer, timer_rates};
+ghost use Rattle.lola_clock.specs.Timers.{AreUsable, IsSetOne, IsUsable, due_of, earliest, new_timer, set_timer, timer_rates};
 
 use lola_value::rate::Rate;
 use lola_value::text::Memory;
@@ -45,16 +45,34 @@ fn due_after(rate: &Rate, start: u64, passed: u64) -> u64
     }
 }
 
-// Sets a timer to its first deadline above a moment. One that stands above it stays.
-fn set_one(timer: &mut Timer, start: u64, to: u64)
+// The same, beside a timer that is set for that moment, if there is one: where the rates are equal, so are the moments.
+fn due_beside(rate: &Rate, set: &Option<Timer>, start: u64, to: u64) -> u64
+    requires order { start ≤ to }
+    requires in_time { to ≤ latest }
+    requires set { IsSetOne start to set.now }
+    ensures due { result ≡ due_of start to rate.now }
+    ensures rate { IsRate rate.now }
+{
+    if let Some(other) = set {
+        if other.rate == *rate {
+            return other.due;
+        }
+    }
+    due_after(rate, start, to)
+}
+
+// Sets a timer to its first deadline above a moment, beside one that is set, if there is one. A timer that stands
+// above the moment stays.
+fn set_one(timer: &mut Timer, set: &Option<Timer>, start: u64, to: u64)
     requires order { start ≤ to }
     requires in_time { to ≤ latest }
     requires usable { IsUsable start to timer.old }
+    requires set { IsSetOne start to set.now }
     ensures set { timer.new ≡ set_timer start to timer.old }
     ensures rate { IsRate timer.old.rate }
 {
     if timer.due <= to {
-        timer.due = due_after(&timer.rate, start, to);
+        timer.due = due_beside(&timer.rate, set, start, to);
     }
 }
 
@@ -81,8 +99,10 @@ fn set_all(timers: &mut [Timer], start: u64, to: u64) -> u64
     ensures least { result ≡ earliest timers.new }
 {
     let mut least = TOO_LATE;
+    let mut set = None;
     for timer in timers.iter_mut() {
-        set_one(timer, start, to);
+        set_one(timer, &set, start, to);
+        set = Some(*timer);
         least = least.min(timer.due);
     }
     least

@@ -1,6 +1,5 @@
 //! That threads are used, that the gate comes first, and that each place has the outcome of its own task.
-ghost use Rattle.std.specs.Prelude.{ℕ, ◌≡◌, ◌<◌, ◌≤◌, pos};
-ghost use Rattle.lola_value.specs.declared.value.Outcome.{Outcome};
+ghost use Rattle.std.specs.Prelude.{◌≡◌, ◌≤◌};
 
 use crate::run_layer;
 use lola_model::job::Job;
@@ -9,13 +8,12 @@ use lola_value::value::{Outcome, Value};
 use std::sync::atomic::{AtomicBool, Ordering};
 use std::test::Fail;
 use std::thread;
+use std::thread::Threads;
 
-// How often task 0 looks for task 1.
-const TURNS: u32 = 1_000_000;
-
-// Holds task 0 until task 1 has entered, and notes whether it did in time.
+// Holds task 0 until task 1 has entered, for so many turns, and notes whether it did in time.
 #[derive(Drop)]
 struct MeetingGate {
+    turns: u32,
     second_entered: AtomicBool,
     met: AtomicBool,
 }
@@ -26,7 +24,7 @@ impl Gate for MeetingGate {
             self.second_entered.store(true, Ordering::SeqCst);
             return;
         }
-        for _ in 0..TURNS {
+        for _ in 0..self.turns {
             if self.second_entered.load(Ordering::SeqCst) {
                 self.met.store(true, Ordering::SeqCst);
                 return;
@@ -88,16 +86,24 @@ impl Job for Heard {
     }
 }
 
-#[test]
-fn two_workers_meet(rt: HostRuntime) -> Result<(), Fail> {
+// Whether two tasks meet within so many turns.
+fn meet<R: Threads + Sync>(rt: &R, workers: u32, turns: u32) -> bool
+    requires { (1 ≤ workers) × (workers ≤ 64) }
+{
     let gate = MeetingGate {
+        turns,
         second_entered: AtomicBool::new(false),
         met: AtomicBool::new(false),
     };
     let mut results = [Outcome::Missing; 2];
-    run_layer(&rt, &gate, &Numbers { count: 2 }, &mut results, 2);
-    assert!(rt; gate.met.load(Ordering::SeqCst));
-    Ok(())
+    run_layer(rt, &gate, &Numbers { count: 2 }, &mut results, workers);
+    gate.met.load(Ordering::SeqCst)
+}
+
+#[test]
+fn two_workers_meet(rt: HostRuntime) {
+    assert!(rt; meet(&rt, 2, 1_000_000));
+    assert!(rt; !meet(&rt, 1, 1000));
 }
 
 #[test]

@@ -1,4 +1,4 @@
-use Rattle.std.proofs.Common.{sym, ◌∙◌}
+use Rattle.std.proofs.Common.{◌∙◌}
 use Rattle.lola_clock.proofs.Moments.{due_found, due_none}
 use Rattle.lola_clock.proofs.timers.due_after.Goals as goal
 

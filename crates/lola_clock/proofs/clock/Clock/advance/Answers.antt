@@ -1,5 +1,4 @@
-use Rattle.std.proofs.Common.{◌≡◌, ◌<◌, ◌≤◌, ◌∙◌, ap, arith, subst, sym, max, List, Option, Some, ℕ}
-use Rattle.lola_value.specs.Ratio.{Ratio}
+use Rattle.std.proofs.Common.{◌≡◌, ◌∙◌, ap, arith, subst, sym, max, Option, ℕ}
 use Rattle.lola_clock.specs.Clock.{ClockState}
 use Rattle.lola_clock.specs.Timers.{AreSet, AreTimers, timer_rates}
 use Rattle.lola_clock.proofs.Setting.{now_set, same_rates, set_usable, still_set}

@@ -1,5 +1,4 @@
-use Rattle.std.proofs.Common.{refl, ap, ◌∙◌, Option, None, ℕ}
-use Rattle.lola_clock.specs.Clock.{ClockState}
+use Rattle.std.proofs.Common.{refl, ap, ◌∙◌, None}
 use Rattle.lola_clock.specs.Timers.{timer_rates}
 use Rattle.lola_clock.proofs.Setting.{new_rates, are_new}
 use Rattle.lola_clock.proofs.clock.Clock.create.Goals as goal
