@@ -9,8 +9,7 @@ use Rattle.lola_report.specs.declared.end.EndLine.TheVariants.{Done, Usage, Refu
 use Rattle.lola_command.specs.Command.{command_of}
 use Rattle.lola_command.specs.declared.command.Command.{Command}
 use Rattle.lola_command.specs.declared.command.Command.TheVariants.{Run, Analyse}
-use Rattle.lola_front.specs.Front.{IsPlanOf, IsRefusalOf}
-use Rattle.lola_monitor.specs.Command.{Names, analysed_named, analysed_of, run_named, run_of, run_specification, served, served_source, specification_named, specification_of, with_source, word_at}
+use Rattle.lola_monitor.specs.Command.{Names, analysed_named, analysed_of, run_named, run_of, served, served_source, specification_named, specification_of, with_source, word_at}
 use Rattle.lola_monitor.specs.Monitor.{CanRun, IsAnalysed, IsBroken, IsClean, IsCleanAnalysis, IsCutAnalysis, IsCutShort, IsDone, IsFault, IsMalformed, IsRefused, IsRefusedBy, IsSpoiled, IsUnbuilt, IsUnread, IsUsage, Outside, Plans, source_rows}
 use Rattle.lola_monitor.specs.Outcomes.{Concluded, Works}
 use Rattle.lola_monitor.specs.declared.outcome.Outcome.{Outcome}

@@ -11,6 +11,7 @@ use Rattle.lola_model.specs.Runs.{first_fault, settled_fault}
 use Rattle.lola_model.specs.declared.plan.Plan.{Plan}
 use Rattle.lola_model.specs.declared.journal.Entry.{Entry}
 use Rattle.lola_model.specs.declared.source.MalformedKind.{MalformedKind}
+use Rattle.lola_model.specs.Acceptance.{IsAccepted}
 use Rattle.lola_front.specs.Front.{IsPlanOf, IsRefusalOf}
 use Rattle.lola_command.specs.Command.{command_of}
 use Rattle.lola_rows.specs.Rows.{SourceEnd, Whole, MalformedAt}
@@ -140,6 +141,7 @@ RunsSource Memory plan name before after = StoppedRun plan name before after
 -- a specification was read, and its plan made
 pub record ReadPlan (plan : Plan) (name : List ℕ) (before after : ShelfState) : Type 0 where
   pub is_plan : Plans (before.told name) plan
+  pub accepted : IsAccepted plan
   pub shelf : after ≡ noted before name
 
 -- a specification was read, and is refused

@@ -1,4 +1,4 @@
-use Rattle.std.proofs.Common.{Err, List, ℕ, ap, sym, subst, ◌∙◌}
+use Rattle.std.proofs.Common.{List, ℕ, sym, subst}
 use Rattle.lola_monitor.specs.Outcomes.{IsReadFront}
 use Rattle.lola_monitor.proofs.Specifications.{planned}
 use Rattle.lola_monitor.proofs.planning.read_plan.Goals as goal

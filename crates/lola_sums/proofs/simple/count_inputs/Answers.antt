@@ -1,5 +1,5 @@
 -- One stream more is counted.
-use Rattle.std.proofs.Common.{sym, ap, ◌∙◌, arith}
+use Rattle.std.proofs.Common.{sym, ◌∙◌, arith}
 use Rattle.lola_sums.proofs.Answering.{count_input, count_other, input_number, input_count_most}
 use Rattle.lola_sums.proofs.simple.count_inputs.Goals as goal
 use Rattle.lola_sums.proofs.simple.count_inputs.Goals.{then-is_input, else-is_input}
