@@ -18,14 +18,20 @@ use Rattle.lola_resolve.specs.Specification.{Resolves}
 use Rattle.lola_types.specs.Refused.{kind_refusals}
 use Rattle.lola_types.specs.Filled.{IsFilled}
 use Rattle.lola_graph.specs.Cycle.{IsLeastOnCycle}
+use Rattle.lola_bounds.specs.Bounds.{AreBounds}
 use Rattle.lola_model.specs.Acceptance.{IsAccepted}
-use Rattle.lola_model.specs.Graph.{edges_of}
+use Rattle.lola_model.specs.Accepted.{IsAcyclic}
+use Rattle.lola_model.specs.Graph.{IsLayer, edges_of, layer_of}
+use Rattle.lola_model.specs.Named.{IsNamed}
+use Rattle.lola_model.specs.Nodes.{node_count}
+use Rattle.lola_model.specs.Typed.{IsTyped}
 use Rattle.lola_model.specs.Pacings.{ArePacings, IsRefused}
 use Rattle.lola_model.specs.Refusals.{IsFirstIn, first_of}
 use Rattle.lola_model.specs.declared.pacing.ClausePacings.{ClausePacings}
 use Rattle.lola_model.specs.declared.plan.Plan.{Plan}
 use Rattle.lola_model.specs.declared.spec.Spec.{Spec}
 use Rattle.lola_model.specs.declared.spec.Stream.{Stream}
+use Rattle.lola_front.specs.declared.compiling.Parts.{Parts}
 
 -- the tokens of a text
 pub record IsCut (bytes : List ℕ) (tokens : List Token) : Type 0 where
@@ -90,16 +96,24 @@ pub record IsPacingRefusal (bytes : List ℕ) (r : Refusal) : Type 0 where
 abbrev pub IsPlaceOf : Option Stream → ℕ → Type 0
 IsPlaceOf s at = (stream : Stream) × (s ≡ Some stream) × (at ≡ stream.place)
 
--- a closed walk has weight 0: the least stream on such a walk is refused
-pub record IsCycleRefusal (bytes : List ℕ) (r : Refusal) : Type 0 where
-  pub full : Spec
-  pub is_full : IsFull bytes full
-  pub pacings : List ClausePacings
-  pub paced : ArePacings full pacings
+-- the least stream with a node on a closed walk of weight 0, refused at its place
+pub record IsOnCycleAt (full : Spec) (r : Refusal) : Type 0 where
   pub stream : ℕ
   pub least : IsLeastOnCycle (edges_of full) (Some stream)
   pub is_cycle : r.code ≡ code.ZeroCycle
   pub place : IsPlaceOf (slice_get full.streams stream) r.at
+
+-- nothing is refused of the pacings, and a closed walk has weight 0
+pub record IsPacedCycle (full : Spec) (r : Refusal) : Type 0 where
+  pub pacings : List ClausePacings
+  pub paced : ArePacings full pacings
+  pub cycle : IsOnCycleAt full r
+
+-- a closed walk has weight 0: the least stream on such a walk is refused
+pub record IsCycleRefusal (bytes : List ℕ) (r : Refusal) : Type 0 where
+  pub full : Spec
+  pub is_full : IsFull bytes full
+  pub cycle : IsPacedCycle full r
 
 -- the refusal of a text
 abbrev pub IsRefusalOf : List ℕ → Refusal → Type 0
@@ -133,9 +147,26 @@ Fills bytes (Ok full) = IsFull bytes full × IsNamed full × IsTyped full
 Fills bytes (Err (front_end.Refused r)) = IsRefusalOf bytes r
 Fills bytes (Err front_end.Memory) = Unit {0}
 
+-- no closed walk has weight 0, and these are the layers
+pub record AreLayers (full : Spec) (layers : List ℕ) : Type 0 where
+  pub acyclic : IsAcyclic full
+  pub each : (n : ℕ) → IsLayer (edges_of full) n (layer_of layers n)
+  pub count : length layers ≡ node_count (edges_of full)
+
 -- the layers of a specification, or the refusal of the least stream on a closed walk of weight 0
-pub record IsOnCycleAt (full : Spec) (r : Refusal) : Type 0 where
-  pub stream : ℕ
-  pub least : IsLeastOnCycle (edges_of full) (Some stream)
-  pub is_cycle : r.code ≡ code.ZeroCycle
-  pub place : IsPlaceOf (slice_get full.streams stream) r.at
+abbrev pub AnswersLayers : Spec → Result (List ℕ) FrontEnd → Type 0
+AnswersLayers full (Ok layers) = AreLayers full layers
+AnswersLayers full (Err (front_end.Refused r)) = IsOnCycleAt full r
+AnswersLayers full (Err front_end.Memory) = Unit {0}
+
+-- what a plan has beside its specification
+pub record AreParts (full : Spec) (parts : Parts) : Type 0 where
+  pub paced : ArePacings full parts.pacings
+  pub layers : AreLayers full parts.layers
+  pub bounds : AreBounds full parts.pacings parts.kept parts.panes
+
+-- all that, or the first refusal of pacings, or the refusal of a cycle
+abbrev pub AnswersParts : Spec → Result Parts FrontEnd → Type 0
+AnswersParts full (Ok parts) = AreParts full parts
+AnswersParts full (Err (front_end.Refused r)) = IsRefused full r ⊎ IsPacedCycle full r
+AnswersParts full (Err front_end.Memory) = Unit {0}

@@ -3,5 +3,6 @@
 
 mod compiling;
 mod phases;
+mod rates;
 
 pub use compiling::compile;

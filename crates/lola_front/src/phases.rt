@@ -1,12 +1,14 @@
 //! The phases that read: tokens, declarations, names, kinds.
 
-ghost use Rattle.lola_front.specs.Front.{Reads, ResolvesText, Fills};
+ghost use Rattle.lola_front.specs.Front.{Fills, Reads, ResolvesText};
 
 use lola_lexer::cut::tokens;
+use lola_meant::law::{resolved_is_named, resolved_notes_constants, spelled_closes_are_spawned};
 use lola_model::spec::Spec;
 use lola_named::resolve;
 use lola_syntax::reading::specification;
 use lola_tree::declarations::Ast;
+use lola_typed::law::{filled_is_named, filled_is_typed};
 use lola_types::full::check;
 use lola_value::front::FrontEnd;
 use std::alloc::Global;
@@ -28,9 +30,14 @@ fn resolved(alloc: Global, bytes: &[u8]) -> Result<Spec, FrontEnd>
 }
 
 /// The specification with its kinds filled in.
-pub fn full(alloc: Global, bytes: &[u8]) -> Result<Spec, FrontEnd>
+pub(crate) fn full(alloc: Global, bytes: &[u8]) -> Result<Spec, FrontEnd>
     ensures { Fills bytes.now result }
 {
+    spelled_closes_are_spawned();
+    resolved_is_named();
+    resolved_notes_constants();
+    filled_is_named();
+    filled_is_typed();
     let spec = resolved(alloc, bytes)?;
     check(alloc, &spec)
 }

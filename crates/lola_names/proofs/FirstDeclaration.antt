@@ -9,7 +9,7 @@ use Rattle.lola_names.specs.declared.names.Meaning.{Meaning}
 use Rattle.lola_names.specs.Known.{Known, Declared, declared, meaning_in, hides, with_name, with_names, with_declarations}
 use Rattle.lola_names.specs.Law.{plain, MeansFirstDeclaration}
 
-meaning-append : (a b : Known) (q : List ℕ) → meaning_in (a ++ b) q ≡ hides (meaning_in a q) (meaning_in b q)
+pub meaning-append : (a b : Known) (q : List ℕ) → meaning_in (a ++ b) q ≡ hides (meaning_in a q) (meaning_in b q)
 meaning-append [] b q = refl
 meaning-append (e ∷ a) b q = elim (cases_Bool (bytes_equal q e.0)) [
   | inl hit ↦ rw hit refl
@@ -21,7 +21,7 @@ hides-hides None b c = refl
 hides-hides (Some x) b c = refl
 
 -- texts that are equal are the same
-same_bytes : (a b : List ℕ) → bytes_equal a b ≡ true → a ≡ b
+pub same_bytes : (a b : List ℕ) → bytes_equal a b ≡ true → a ≡ b
 same_bytes [] [] e = refl
 same_bytes [] (y ∷ b) e = absurd (false≢true e)
 same_bytes (x ∷ a) [] e = absurd (false≢true e)
@@ -58,7 +58,7 @@ step k n q m = elim (cases_Bool (is_some (meaning_in k n.0.text))) [
       )
 ]
 
-names-meaning : (k : Known) (ns : List Declared) (q : List ℕ) → meaning_in (with_names k ns) q ≡ hides (meaning_in k q) (meaning_in (plain ns) q)
+pub names-meaning : (k : Known) (ns : List Declared) (q : List ℕ) → meaning_in (with_names k ns) q ≡ hides (meaning_in k q) (meaning_in (plain ns) q)
 names-meaning k [] q = sym (none (meaning_in k q))
   where
     none : (o : Option Meaning) → hides o None ≡ o

@@ -9,6 +9,6 @@ mod names;
 pub mod quantities;
 mod refusing;
 mod uses;
-mod words;
+pub mod words;
 
 pub use refusing::name_refusal;

@@ -14,7 +14,7 @@ fn is(word: &[u8], other: &[u8]) -> bool
 }
 
 /// The kind that a word names.
-pub(crate) fn kind_named(word: &[u8]) -> Option<Kind>
+pub fn kind_named(word: &[u8]) -> Option<Kind>
     ensures { result ≡ kind_of_word word.now }
 {
     if is(word, b"Bool") {
@@ -51,7 +51,7 @@ pub(crate) fn kind_named(word: &[u8]) -> Option<Kind>
 }
 
 /// The aggregation that a word names.
-pub(crate) fn aggregation_named(word: &[u8]) -> Option<Agg>
+pub fn aggregation_named(word: &[u8]) -> Option<Agg>
     ensures { result ≡ aggregation_of_word word.now }
 {
     if is(word, b"count") {

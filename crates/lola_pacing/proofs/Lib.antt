@@ -2,3 +2,5 @@ mod JoinLemmas
 mod OwnLemmas
 mod PhaseLemmas
 mod PacedLemmas
+pub mod ListedLemmas
+mod WindowLemmas

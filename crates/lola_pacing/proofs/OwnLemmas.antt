@@ -1,15 +1,12 @@
 -- Lists that grow stream by stream.
-use Rattle.std.proofs.Common.{◌≡◌, refl, ap, sym, subst, ◌∙◌, ℕ, zero, suc, ◌+◌, ◌<◌, ◌≤◌, List, [], ◌∷◌, ◌++◌, Option, Bool, true, false, ◌&&◌, if◌then◌else◌, arith, length, drop, filter}
-use Rattle.std.specs.List.{slice_index_or}
+use Rattle.std.proofs.Common.{◌≡◌, refl, ap, sym, subst, ℕ, List, [], ◌∷◌, ◌++◌, Option, arith, length, drop}
 use Rattle.std.proofs.lemmas.List.{drop_all}
 use Rattle.lola_value.specs.declared.front.Code.{Code}
-use Rattle.lola_model.specs.Model.{is_input}
 use Rattle.lola_model.specs.declared.spec.Stream.{Stream}
 use Rattle.lola_model.specs.declared.spec.WindowSpec.{WindowSpec}
-use Rattle.lola_model.specs.PacingFound.{IsOwn, AreOwn, inputs_with}
-use Rattle.lola_model.specs.WindowVerdicts.{IsVerdict}
+use Rattle.lola_model.specs.PacingFound.{AreOwn}
 use Rattle.lola_model.specs.declared.finding.Finding.{Finding}
-use Rattle.lola_model.specs.Pacings.{InStep, AreVerdicts, finding_of_part}
+use Rattle.lola_model.specs.Pacings.{InStep, AreVerdicts}
 use Rattle.lola_pacing.specs.Steps.{Grows, GrowsOwn}
 
 append_none : {X : Type 0} (xs : List X) → xs ++ [] ≡ xs

@@ -1,5 +1,5 @@
 -- Where nothing is refused, each clause has a pacing.
-use Rattle.std.proofs.Common.{◌≡◌, ◌≢◌, refl, ap, sym, subst, ◌∙◌, ℕ, zero, suc, ◌+◌, ◌<◌, List, [], ◌∷◌, ◌++◌, Option, Some, None, Bool, true, false, ◌&&◌, ◌||◌, if◌then◌else◌, arith, length, slice_get, inl, inr}
+use Rattle.std.proofs.Common.{◌≡◌, ◌≢◌, refl, ap, subst, ◌∙◌, ℕ, zero, suc, ◌+◌, List, [], ◌∷◌, ◌++◌, Option, Some, None, Bool, true, false, ◌&&◌, ◌||◌, if◌then◌else◌, arith, slice_get, inl, inr}
 use Rattle.std.specs.Bool.{MatchBool}
 use Rattle.std.specs.List.{Contains, list_any, list_all}
 use Rattle.lola_value.specs.Ratio.{Ratio}
@@ -7,9 +7,9 @@ use Rattle.lola_value.specs.declared.front.Code.{Code}
 use Rattle.lola_value.specs.declared.front.Refusal.{Refusal}
 use Rattle.lola_model.proofs.Strictly.{Contains-here, Contains-there}
 use Rattle.lola_model.specs.Model.{is_input}
-use Rattle.lola_model.specs.Named.{all_streams, has_clause, is_stream_paced_in_range, is_clause_paced_in_range, is_pace_in_range, is_rate_in_range}
+use Rattle.lola_model.specs.Named.{all_streams, has_clause, is_stream_paced_in_range, is_clause_paced_in_range, is_pace_in_range}
 use Rattle.lola_model.specs.declared.pacing.InputSet.{InputSet}
-use Rattle.lola_model.specs.declared.pacing.Pacing.TheVariants.{Event, Periodic}
+use Rattle.lola_model.specs.declared.pacing.Pacing.TheVariants.{Periodic}
 use Rattle.lola_model.specs.declared.spec.Clause.{Clause}
 use Rattle.lola_model.specs.declared.spec.Pace.{Pace}
 use Rattle.lola_model.specs.declared.spec.Pace.TheVariants as pace
@@ -17,31 +17,31 @@ use Rattle.lola_model.specs.declared.spec.Spec.{Spec}
 use Rattle.lola_model.specs.declared.spec.Stream.{Stream}
 use Rattle.lola_model.specs.declared.spec.WrittenRate.{WrittenRate}
 use Rattle.lola_model.specs.declared.spec.WrittenRate.TheVariants as rate
-use Rattle.lola_model.specs.Leaves.{AreLeaves, is_end, is_end_of, has_pace, is_written}
-use Rattle.lola_model.specs.PacingFound.{AreOwn, IsOwn, IsGiven, IsWritten, IsWrittenIn, input_finding, inputs_with, IsFound, IsCombined, IsJoined, IsRateFound, rate_pacing, is_multiple, unbuilt_rate, no_pacing, too_wide, any_row, forms_of, rates_of, finding_at, findings_at, is_unpaced, is_event, is_periodic}
-use Rattle.lola_model.specs.PacingRefused.{clause_refusals, finding_refusal}
+use Rattle.lola_model.specs.Leaves.{is_end, is_end_of, has_pace, is_written}
+use Rattle.lola_model.specs.PacingFound.{AreOwn, IsOwn, IsGiven, IsWritten, IsWrittenIn, input_finding, inputs_with, IsFound, IsCombined, IsJoined, IsRateFound, is_multiple, unbuilt_rate, no_pacing, any_row, forms_of, rates_of, finding_at, findings_at, is_unpaced, is_event, is_periodic}
+use Rattle.lola_model.specs.PacingRefused.{clause_refusals}
 use Rattle.lola_findings.proofs.FineLemmas.{accepts_fine}
 use Rattle.lola_model.specs.declared.finding.Finding.{Finding}
 use Rattle.lola_model.specs.declared.finding.Finding.TheVariants.{Paced, Refused, Unpaced}
-use Rattle.lola_model.specs.Pacings.{InStep, IsFromLeaves, IsPaceFound, IsClauseFound, IsEvalFound, IsSpawnFound, IsCloseFound, only_pacing, place_of, Found, refusals_of, refusals_from, stream_refusals}
-use Rattle.lola_pacing.specs.Accepted.{IsPacedWhere, IsStreamPaced, PacesAll}
+use Rattle.lola_model.specs.Pacings.{InStep, IsPaceFound, IsClauseFound, IsEvalFound, IsSpawnFound, IsCloseFound, only_pacing, place_of, Found, refusals_of, refusals_from, stream_refusals}
+use Rattle.lola_pacing.specs.Accepted.{IsPacedWhere, PacesAll}
 
 abbrev IsNotRefused : Finding → Type 0
 IsNotRefused f = (r : Refusal) → f ≢ Refused r
 
-empty_left : (xs ys : List Refusal) → xs ++ ys ≡ [] → xs ≡ []
+pub empty_left : (xs ys : List Refusal) → xs ++ ys ≡ [] → xs ≡ []
 empty_left [] ys h = refl
 empty_left (x ∷ xs) ys h = absurd (cc)
 
-empty_right : (xs ys : List Refusal) → xs ++ ys ≡ [] → ys ≡ []
+pub empty_right : (xs ys : List Refusal) → xs ++ ys ≡ [] → ys ≡ []
 empty_right [] ys h = h
 empty_right (x ∷ xs) ys h = absurd (cc)
 
-first_true : (a b : Bool) → (a && b) ≡ true → a ≡ true
+pub first_true : (a b : Bool) → (a && b) ≡ true → a ≡ true
 first_true true b h = refl
 first_true false b h = absurd (cc)
 
-second_true : (a b : Bool) → (a && b) ≡ true → b ≡ true
+pub second_true : (a b : Bool) → (a && b) ≡ true → b ≡ true
 second_true true b h = h
 second_true false b h = absurd (cc)
 
@@ -130,7 +130,7 @@ own_at i (t ∷ ts) (f ∷ fs) zero s a e =
     (i, subst (λ (x : Stream). IsOwn i x f) same a.0)
 own_at i (t ∷ ts) (f ∷ fs) (suc k) s a e = own_at (inputs_with i t) ts fs k s a.1 e
 
-range_at : (p : Stream → Bool) (ss : List Stream) (k : ℕ) (s : Stream) → all_streams p ss ≡ true → slice_get ss k ≡ Some s → p s ≡ true
+pub range_at : (p : Stream → Bool) (ss : List Stream) (k : ℕ) (s : Stream) → all_streams p ss ≡ true → slice_get ss k ≡ Some s → p s ≡ true
 range_at p [] k s h e = absurd (cc)
 range_at p (t ∷ ts) zero s h e =
     let here : Some t ≡ Some s = e in
@@ -158,7 +158,7 @@ module _ (spec : Spec) (f : Found spec) (range : all_streams is_stream_paced_in_
   abbrev of_clause : Finding → Option Clause → List Refusal
   of_clause own c = clause_refusals spec.streams f.evals f.verdicts own c
 
-  here : (n : ℕ) (s : Stream) → slice_get spec.streams n ≡ Some s → stream_refusals spec.streams f.spawns f.evals f.closes f.verdicts n s ≡ []
+  pub here : (n : ℕ) (s : Stream) → slice_get spec.streams n ≡ Some s → stream_refusals spec.streams f.spawns f.evals f.closes f.verdicts n s ≡ []
   here n s e = refusals_at spec.streams f.spawns f.evals f.closes f.verdicts 0 spec.streams n s n (omega arith) accepted e
 
   spawn_kept : (n : ℕ) (s : Stream) → slice_get spec.streams n ≡ Some s → IsNotRefused (finding_at f.spawns n)
@@ -166,7 +166,7 @@ module _ (spec : Spec) (f : Found spec) (range : all_streams is_stream_paced_in_
       accepts_fine.found spec.streams f.evals f.verdicts (finding_at f.spawns n) s.spawn
       (empty_left (of_clause (finding_at f.spawns n) s.spawn) (of_clause (finding_at f.evals n) s.eval ++ of_clause (finding_at f.closes n) s.close) (here n s e))
 
-  later : (n : ℕ) (s : Stream) → slice_get spec.streams n ≡ Some s → (of_clause (finding_at f.evals n) s.eval ++ of_clause (finding_at f.closes n) s.close) ≡ []
+  pub later : (n : ℕ) (s : Stream) → slice_get spec.streams n ≡ Some s → (of_clause (finding_at f.evals n) s.eval ++ of_clause (finding_at f.closes n) s.close) ≡ []
   later n s e = empty_right (of_clause (finding_at f.spawns n) s.spawn) (of_clause (finding_at f.evals n) s.eval ++ of_clause (finding_at f.closes n) s.close) (here n s e)
 
   eval_kept : (n : ℕ) (s : Stream) → slice_get spec.streams n ≡ Some s → IsNotRefused (finding_at f.evals n)

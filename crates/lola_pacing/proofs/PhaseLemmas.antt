@@ -1,5 +1,5 @@
 -- What the phase answers, where all is found.
-use Rattle.std.proofs.Common.{◌≡◌, refl, ap, sym, subst, ◌∙◌, ℕ, List, [], Option, Some, None}
+use Rattle.std.proofs.Common.{◌≡◌, ap, sym, subst, ◌∙◌, List, [], Option, Some, None}
 use Rattle.lola_value.specs.declared.front.Code.{Code}
 use Rattle.lola_value.specs.declared.front.Refusal.{Refusal}
 use Rattle.lola_model.specs.Refusals.{first_of, IsFirstIn, IsFirstOf}
@@ -8,7 +8,7 @@ use Rattle.lola_model.specs.declared.pacing.ClausePacings.{ClausePacings}
 use Rattle.lola_model.specs.declared.spec.Spec.{Spec}
 use Rattle.lola_model.specs.declared.spec.Stream.{Stream}
 use Rattle.lola_model.specs.declared.finding.Finding.{Finding}
-use Rattle.lola_model.specs.Pacings.{AreFound, Found, refusals_from, refusals_of, pacings_from, ArePacings, IsRefused}
+use Rattle.lola_model.specs.Pacings.{AreFound, Found, refusals_from, pacings_from, ArePacings, IsRefused}
 
 -- equal findings give equal refusals
 same_refusals : (t s : List Stream) (k a l b m c : List Finding) (u v : List (Option Code)) → t ≡ s → k ≡ a → l ≡ b → m ≡ c → u ≡ v

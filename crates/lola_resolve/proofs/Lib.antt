@@ -1,0 +1,7 @@
+pub mod Growth
+pub mod Entering
+pub mod Numbering
+pub mod TableLemmas
+pub mod TreeLemmas
+mod RangeLemmas
+pub mod Scopes

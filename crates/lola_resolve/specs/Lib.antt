@@ -1,4 +1,9 @@
 pub mod Targets
+pub mod Entries
+pub mod Tables
+pub mod Numbered
 pub mod Resolved
 pub mod Clauses
 pub mod Specification
+pub mod Made
+pub mod Parted

@@ -1,4 +1,4 @@
-use Rattle.std.proofs.Common.{◌≡◌, ap, sym, ◌∙◌, Some, None}
+use Rattle.std.proofs.Common.{ap, sym, ◌∙◌}
 use Rattle.lola_model.specs.Refusals.{first_of}
 use Rattle.lola_pacing.proofs.PhaseLemmas.{is_refused, are_pacings}
 use Rattle.lola_pacing.proofs.check.answer.Goals as goal

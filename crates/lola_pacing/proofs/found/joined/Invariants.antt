@@ -1,4 +1,4 @@
-use Rattle.std.proofs.Common.{List, drop}
+use Rattle.std.proofs.Common.{drop}
 use Rattle.lola_model.specs.PacingFound.{any_row, findings_at, forms_of, IsJoined}
 use Rattle.lola_model.specs.declared.finding.Finding.{Finding}
 use Rattle.lola_pacing.proofs.found.joined.Given as goal

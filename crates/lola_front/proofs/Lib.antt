@@ -1,0 +1,3 @@
+mod OffsetLemmas
+mod EndLemmas
+mod PaneLemmas

@@ -1,0 +1,4 @@
+pub mod Pieces
+pub mod ClauseLemmas
+pub mod StreamLemmas
+pub mod WholeLemmas
