@@ -1,5 +1,5 @@
 -- What a shelf was asked for in a call.
-use Rattle.std.proofs.Common.{◌≡◌, ◌⊎◌, ℕ, subst, List, [], ◌∷◌, ◌++◌, map, length, take, drop, inl, inr, Some, refl, sym, ap, ◌∙◌, append_assoc}
+use Rattle.std.proofs.Common.{◌≡◌, ◌⊎◌, ℕ, subst, List, [], ◌∷◌, ◌++◌, map, length, take, drop, inl, inr, Err, refl, sym, ap, ◌∙◌, append_assoc}
 use Rattle.std.proofs.lemmas.List.{append-nil}
 use Rattle.std.proofs.Math.Seq.{take-append_seam, drop-append_seam}
 use Rattle.lola_port.specs.Asks.{given_ask}
@@ -7,11 +7,13 @@ use Rattle.lola_port.specs.States.{ShelfState}
 use Rattle.lola_port.specs.declared.traits.Ask.{Ask}
 use Rattle.lola_model.specs.declared.plan.Plan.{Plan}
 use Rattle.lola_report.specs.declared.end.EndLine.TheVariants.{Done, Usage, Refused, Malformed, Fault, UnreadableSpecification, UnreadableSource, Analysed}
-use Rattle.lola_monitor.specs.Command.{Names, command_of, names_of, names_asked}
+use Rattle.lola_monitor.specs.Command.{names_asked}
 use Rattle.lola_monitor.specs.Monitor.{Asked, IsFrontOf, Outside, asks_between}
-use Rattle.lola_monitor.specs.Outcomes.{Marred, RunsSource, Stopped, noted}
+use Rattle.lola_monitor.specs.Outcomes.{Marred, PlansName, RunsSource, Stopped, noted}
 use Rattle.lola_monitor.specs.declared.outcome.Outcome.{Outcome}
-use Rattle.lola_monitor.specs.declared.outcome.Outcome.TheVariants.{Line, Put, Memory}
+use Rattle.lola_monitor.specs.declared.outcome.Outcome.TheVariants.{Line, Report, Put, Memory}
+use Rattle.lola_monitor.specs.declared.outcome.Unplanned.{Unplanned}
+use Rattle.lola_monitor.specs.declared.outcome.Unplanned.TheVariants as unplanned
 
 -- the asks of a call, as one list
 pub record Grew (names : List (List ℕ)) (before after : ShelfState) : Type 0 where
@@ -58,6 +60,7 @@ grew_source (Line Usage) plan name before after ran = absurd ran
 grew_source (Line (Refused r)) plan name before after ran = absurd ran
 grew_source (Line UnreadableSpecification) plan name before after ran = absurd ran
 grew_source (Line (Analysed n w)) plan name before after ran = absurd ran
+grew_source (Report text) plan name before after ran = absurd ran
 grew_source Put plan name before after ran = grew_stopped name [] before.shelf after.shelf ran.shelf
 grew_source Memory plan name before after ran = grew_stopped name [] before.shelf after.shelf ran.shelf
 
@@ -69,6 +72,12 @@ grew_twice name names before mid after is grew = record {
   home = grew.home ∙ ap (λ s. s.out) is;
 }
 
+-- a specification that has no plan
+pub grew_unplanned : (end : Unplanned) (name : List ℕ) (names : List (List ℕ)) (before after : ShelfState) → PlansName (Err end) name before after → Grew (name ∷ names) before after
+grew_unplanned unplanned.Unreadable name names before after planned = grew_marred name names before after planned
+grew_unplanned (unplanned.Refused r) name names before after planned = grew_noted name names before after planned.shelf
+grew_unplanned unplanned.Memory name names before after planned = grew_stopped name names before after planned
+
 -- a command's asks
-pub asked_for : (words : List (List ℕ)) (names : Names) (before after : ShelfState) → command_of words ≡ Some names → Grew (names_of names) before after → Asked (names_asked (command_of words)) before after
-asked_for words names before after is grew = subst (λ command. Asked (names_asked command) before after) (sym is) (asked (names_of names) before after grew)
+pub asked_for : (words names : List (List ℕ)) (before after : ShelfState) → names_asked words ≡ names → Grew names before after → Asked (names_asked words) before after
+asked_for words names before after is grew = subst (λ all. Asked all before after) (sym is) (asked names before after grew)

@@ -6,14 +6,15 @@ use Rattle.lola_port.specs.Asks.{given_ask}
 use Rattle.lola_port.specs.declared.traits.Ask.{Ask}
 use Rattle.lola_port.specs.States.{PutBroke, Rose, SinkState, grown}
 use Rattle.lola_model.specs.Runs.{settled_fault}
+use Rattle.lola_value.specs.declared.front.Refusal.{Refusal}
 use Rattle.lola_report.specs.Ends.{end_text}
 use Rattle.lola_report.specs.declared.end.EndLine.{EndLine}
 use Rattle.lola_model.specs.declared.source.MalformedKind.{MalformedKind}
 use Rattle.lola_report.specs.declared.end.EndLine.TheVariants.{Done, Usage, Refused, Malformed, Fault, UnreadableSpecification, UnreadableSource, Analysed}
-use Rattle.lola_monitor.specs.Monitor.{BrokeOff, IsBroken, IsCutShort, Ran, IsDone, IsEarly, IsFault, IsMalformed, IsRefused, IsUnread, IsUsage, Outside, Wrote, HasFrontOf, first_faulty, is_faulty, verdicts}
-use Rattle.lola_monitor.specs.Outcomes.{Concluded, NoCommand, NoPlan, NotRead, Stood, StoodCut, StoodDone, StoodFault, StoodMalformed, Works}
+use Rattle.lola_monitor.specs.Monitor.{Analysis, BrokeOff, IsAnalysed, IsBroken, IsCutAnalysis, IsCutShort, Ran, IsDone, IsEarly, IsFault, IsMalformed, IsRefused, IsUnread, IsUsage, Outside, Wrote, HasFrontOf, first_faulty, is_faulty, verdicts}
+use Rattle.lola_monitor.specs.Outcomes.{Concluded, NoCommand, NoPlan, NotRead, Stood, StoodAnalysed, StoodCut, StoodDone, StoodFault, StoodMalformed, Works}
 use Rattle.lola_monitor.specs.declared.outcome.Outcome.{Outcome}
-use Rattle.lola_monitor.specs.declared.outcome.Outcome.TheVariants.{Line, Put, Memory}
+use Rattle.lola_monitor.specs.declared.outcome.Outcome.TheVariants.{Line, Report, Put, Memory}
 use Rattle.lola_monitor.proofs.Runs.{grown_twice, known_append, no_part, some_line}
 use Rattle.lola_monitor.proofs.Sources.{an_entry}
 
@@ -90,19 +91,33 @@ module _ (words : List (List ℕ)) (before after : Outside) (last : SinkState) w
   ends_usage : NoCommand words before after → Wrote after.out last (end_text Usage) → IsUsage words before (record after { out = last })
   ends_usage s wrote = record { no_command = s.no_command; shelf = s.shelf; trace = s.early.trace; out = wrote_same before.out after.out last _ s.early.out wrote }
 
-  ends_refused : (line : EndLine) (s : NoPlan line words before after) → Wrote after.out last (end_text line) → IsRefused words before (record after { out = last })
-  ends_refused line s wrote = record {
-    names = s.names;
+  ends_refused : (r : Refusal) (s : NoPlan r words before after) → Wrote after.out last (end_text (Refused r)) → IsRefused words before (record after { out = last })
+  ends_refused r s wrote = record {
+    name = s.name;
     is_command = s.is_command;
-    no_plan = s.no_plan;
+    refusal = r;
+    cause = s.cause;
     asks = s.asks;
     count = s.count;
     trace = s.early.trace;
-    out = subst (λ e. Wrote before.out last (end_text e)) s.line_is (wrote_same before.out after.out last _ s.early.out wrote);
+    out = wrote_same before.out after.out last _ s.early.out wrote;
   }
 
   ends_unread : NotRead words before after → Wrote after.out last (end_text UnreadableSpecification) → IsUnread words before (record after { out = last })
-  ends_unread s wrote = record { names = s.names; is_command = s.is_command; faulty = s.faulty; rose = s.rose; trace = s.early.trace; out = wrote_same before.out after.out last _ s.early.out wrote }
+  ends_unread s wrote = record { name = s.name; is_command = s.is_command; faulty = s.faulty; rose = s.rose; trace = s.early.trace; out = wrote_same before.out after.out last _ s.early.out wrote }
+
+  -- the same analysis, whatever was put of it
+  abbrev analysis_with : Analysis words before after → Analysis words before (record after { out = last })
+  analysis_with a = record { name = a.name; is_command = a.is_command; plan = a.plan; is_plan = a.is_plan; asks = a.asks; count = a.count; trace = a.trace }
+
+  ends_analysed : (text : List ℕ) (s : StoodAnalysed text words before after) → last ≡ grown after.out text → IsAnalysed words before (record after { out = last })
+  ends_analysed text s is = record { analysis = analysis_with s.analysis; out = is ∙ ap (λ o. grown o text) s.out ∙ ap (grown before.out) s.text_is }
+
+  ends_cut_analysis : (text : List ℕ) (s : StoodAnalysed text words before after) → PutBroke after.out last text → IsCutAnalysis words before (record after { out = last })
+  ends_cut_analysis text s broke = record { analysis = analysis_with s.analysis; out = subst (λ t. PutBroke before.out last t) s.text_is (subst (λ o. PutBroke o last text) s.out broke) }
+
+  early_analysis : (text : List ℕ) → StoodAnalysed text words before after → last ≡ after.out → IsEarly before (record after { out = last })
+  early_analysis text s same = record { trace = s.analysis.trace; out = same ∙ s.out }
 
   -- the last line broke
   broke_end : (line : EndLine) (s : Stood words before after) → settled_fault s.run.plan None s.run.journal ≡ None → PutBroke after.out last (end_text line) → IsBroken words before (record after { out = last })
@@ -144,8 +159,8 @@ module _ (words : List (List ℕ)) (before after : Outside) (last : SinkState) w
   early_end early same = record { trace = early.trace; out = same ∙ early.out }
 
 -- all rows were taken, and the last line was put
-pub done_of : (status : ℕ) (outcome : Outcome) (words : List (List ℕ)) (before after : Outside) (last : SinkState) → Works outcome words before after → Concluded status outcome after.out last → status ≡ 0 → IsDone words before (record after { out = last })
-done_of status (Line (Done a l n v)) words before after last works (inl done) is = ends_done words before after last (Done a l n v) works done.1
+pub done_of : (status : ℕ) (outcome : Outcome) (words : List (List ℕ)) (before after : Outside) (last : SinkState) → Works outcome words before after → Concluded status outcome after.out last → status ≡ 0 → IsDone words before (record after { out = last }) ⊎ IsAnalysed words before (record after { out = last })
+done_of status (Line (Done a l n v)) words before after last works (inl done) is = inl (ends_done words before after last (Done a l n v) works done.1)
 done_of status (Line (Done a l n v)) words before after last works (inr (inl broke)) is = absurd (omega (arith, broke.0))
 done_of status (Line (Done a l n v)) words before after last works (inr (inr same)) is = absurd (omega (arith, same.0))
 done_of status (Line Usage) words before after last works (inl done) is = absurd (omega (arith, done.0))
@@ -167,6 +182,9 @@ done_of status (Line (UnreadableSource m)) words before after last works (inl do
 done_of status (Line (UnreadableSource m)) words before after last works (inr (inl broke)) is = absurd (omega (arith, broke.0))
 done_of status (Line (UnreadableSource m)) words before after last works (inr (inr same)) is = absurd (omega (arith, same.0))
 done_of status (Line (Analysed n w)) words before after last works done is = absurd works
+done_of status (Report text) words before after last works (inl done) is = inr (ends_analysed words before after last text works done.1)
+done_of status (Report text) words before after last works (inr (inl broke)) is = absurd (omega (arith, broke.0))
+done_of status (Report text) words before after last works (inr (inr same)) is = absurd (omega (arith, same.0))
 done_of status Put words before after last works done is = absurd (omega (arith, done.0))
 done_of status Memory words before after last works done is = absurd (omega (arith, done.0))
 
@@ -194,6 +212,9 @@ usage_of status (Line (UnreadableSource m)) words before after last works (inl d
 usage_of status (Line (UnreadableSource m)) words before after last works (inr (inl broke)) is = absurd (omega (arith, broke.0))
 usage_of status (Line (UnreadableSource m)) words before after last works (inr (inr same)) is = absurd (omega (arith, same.0))
 usage_of status (Line (Analysed n w)) words before after last works done is = absurd works
+usage_of status (Report text) words before after last works (inl done) is = absurd (omega (arith, done.0))
+usage_of status (Report text) words before after last works (inr (inl broke)) is = absurd (omega (arith, broke.0))
+usage_of status (Report text) words before after last works (inr (inr same)) is = absurd (omega (arith, same.0))
 usage_of status Put words before after last works done is = absurd (omega (arith, done.0))
 usage_of status Memory words before after last works done is = absurd (omega (arith, done.0))
 
@@ -205,8 +226,8 @@ refused_of status (Line (Done a l n v)) words before after last works (inr (inr 
 refused_of status (Line Usage) words before after last works (inl done) is = absurd (omega (arith, done.0))
 refused_of status (Line Usage) words before after last works (inr (inl broke)) is = absurd (omega (arith, broke.0))
 refused_of status (Line Usage) words before after last works (inr (inr same)) is = absurd (omega (arith, same.0))
-refused_of status (Line (Refused r)) words before after last works (inl done) is = ends_refused words before after last (Refused r) works (inl done.1)
-refused_of status (Line (Refused r)) words before after last works (inr (inl broke)) is = ends_refused words before after last (Refused r) works (inr broke.1)
+refused_of status (Line (Refused r)) words before after last works (inl done) is = ends_refused words before after last r works (inl done.1)
+refused_of status (Line (Refused r)) words before after last works (inr (inl broke)) is = ends_refused words before after last r works (inr broke.1)
 refused_of status (Line (Refused r)) words before after last works (inr (inr same)) is = absurd (omega (arith, same.0))
 refused_of status (Line (Malformed m row kind)) words before after last works (inl done) is = absurd (omega (arith, done.0))
 refused_of status (Line (Malformed m row kind)) words before after last works (inr (inl broke)) is = absurd (omega (arith, broke.0))
@@ -221,6 +242,9 @@ refused_of status (Line (UnreadableSource m)) words before after last works (inl
 refused_of status (Line (UnreadableSource m)) words before after last works (inr (inl broke)) is = absurd (omega (arith, broke.0))
 refused_of status (Line (UnreadableSource m)) words before after last works (inr (inr same)) is = absurd (omega (arith, same.0))
 refused_of status (Line (Analysed n w)) words before after last works done is = absurd works
+refused_of status (Report text) words before after last works (inl done) is = absurd (omega (arith, done.0))
+refused_of status (Report text) words before after last works (inr (inl broke)) is = absurd (omega (arith, broke.0))
+refused_of status (Report text) words before after last works (inr (inr same)) is = absurd (omega (arith, same.0))
 refused_of status Put words before after last works done is = absurd (omega (arith, done.0))
 refused_of status Memory words before after last works done is = absurd (omega (arith, done.0))
 
@@ -248,6 +272,9 @@ malformed_of status (Line (UnreadableSource m)) words before after last works (i
 malformed_of status (Line (UnreadableSource m)) words before after last works (inr (inl broke)) is = absurd (omega (arith, broke.0))
 malformed_of status (Line (UnreadableSource m)) words before after last works (inr (inr same)) is = absurd (omega (arith, same.0))
 malformed_of status (Line (Analysed n w)) words before after last works done is = absurd works
+malformed_of status (Report text) words before after last works (inl done) is = absurd (omega (arith, done.0))
+malformed_of status (Report text) words before after last works (inr (inl broke)) is = absurd (omega (arith, broke.0))
+malformed_of status (Report text) words before after last works (inr (inr same)) is = absurd (omega (arith, same.0))
 malformed_of status Put words before after last works done is = absurd (omega (arith, done.0))
 malformed_of status Memory words before after last works done is = absurd (omega (arith, done.0))
 
@@ -275,6 +302,9 @@ fault_of status (Line (UnreadableSource m)) words before after last works (inl d
 fault_of status (Line (UnreadableSource m)) words before after last works (inr (inl broke)) is = absurd (omega (arith, broke.0))
 fault_of status (Line (UnreadableSource m)) words before after last works (inr (inr same)) is = absurd (omega (arith, same.0))
 fault_of status (Line (Analysed n w)) words before after last works done is = absurd works
+fault_of status (Report text) words before after last works (inl done) is = absurd (omega (arith, done.0))
+fault_of status (Report text) words before after last works (inr (inl broke)) is = absurd (omega (arith, broke.0))
+fault_of status (Report text) words before after last works (inr (inr same)) is = absurd (omega (arith, same.0))
 fault_of status Put words before after last works done is = absurd (omega (arith, done.0))
 fault_of status Memory words before after last works done is = absurd (omega (arith, done.0))
 
@@ -302,13 +332,16 @@ unreadable_of status (Line (UnreadableSource m)) words before after last works (
 unreadable_of status (Line (UnreadableSource m)) words before after last works (inr (inl broke)) is = inr (ends_cut_short words before after last (UnreadableSource m) works (inr broke.1))
 unreadable_of status (Line (UnreadableSource m)) words before after last works (inr (inr same)) is = absurd (omega (arith, same.0))
 unreadable_of status (Line (Analysed n w)) words before after last works done is = absurd works
+unreadable_of status (Report text) words before after last works (inl done) is = absurd (omega (arith, done.0))
+unreadable_of status (Report text) words before after last works (inr (inl broke)) is = absurd (omega (arith, broke.0))
+unreadable_of status (Report text) words before after last works (inr (inr same)) is = absurd (omega (arith, same.0))
 unreadable_of status Put words before after last works done is = absurd (omega (arith, done.0))
 unreadable_of status Memory words before after last works done is = absurd (omega (arith, done.0))
 
 -- a put failed
-pub broken_of : (status : ℕ) (outcome : Outcome) (words : List (List ℕ)) (before after : Outside) (last : SinkState) → Works outcome words before after → Concluded status outcome after.out last → status ≡ 7 → IsBroken words before (record after { out = last })
+pub broken_of : (status : ℕ) (outcome : Outcome) (words : List (List ℕ)) (before after : Outside) (last : SinkState) → Works outcome words before after → Concluded status outcome after.out last → status ≡ 7 → IsBroken words before (record after { out = last }) ⊎ IsCutAnalysis words before (record after { out = last })
 broken_of status (Line (Done a l n v)) words before after last works (inl done) is = absurd (omega (arith, done.0))
-broken_of status (Line (Done a l n v)) words before after last works (inr (inl broke)) is = broke_end words before after last (Done a l n v) works.ended.stood works.ended.settled broke.1
+broken_of status (Line (Done a l n v)) words before after last works (inr (inl broke)) is = inl (broke_end words before after last (Done a l n v) works.ended.stood works.ended.settled broke.1)
 broken_of status (Line (Done a l n v)) words before after last works (inr (inr same)) is = absurd (omega (arith, same.0))
 broken_of status (Line Usage) words before after last works (inl done) is = absurd (omega (arith, done.0))
 broken_of status (Line Usage) words before after last works (inr (inl broke)) is = absurd (omega (arith, broke.0))
@@ -317,7 +350,7 @@ broken_of status (Line (Refused r)) words before after last works (inl done) is 
 broken_of status (Line (Refused r)) words before after last works (inr (inl broke)) is = absurd (omega (arith, broke.0))
 broken_of status (Line (Refused r)) words before after last works (inr (inr same)) is = absurd (omega (arith, same.0))
 broken_of status (Line (Malformed m row kind)) words before after last works (inl done) is = absurd (omega (arith, done.0))
-broken_of status (Line (Malformed m row kind)) words before after last works (inr (inl broke)) is = broke_end words before after last (Malformed m row kind) works.ended.stood works.ended.settled broke.1
+broken_of status (Line (Malformed m row kind)) words before after last works (inr (inl broke)) is = inl (broke_end words before after last (Malformed m row kind) works.ended.stood works.ended.settled broke.1)
 broken_of status (Line (Malformed m row kind)) words before after last works (inr (inr same)) is = absurd (omega (arith, same.0))
 broken_of status (Line (Fault nm kind time)) words before after last works (inl done) is = absurd (omega (arith, done.0))
 broken_of status (Line (Fault nm kind time)) words before after last works (inr (inl broke)) is = absurd (omega (arith, broke.0))
@@ -329,7 +362,10 @@ broken_of status (Line (UnreadableSource m)) words before after last works (inl 
 broken_of status (Line (UnreadableSource m)) words before after last works (inr (inl broke)) is = absurd (omega (arith, broke.0))
 broken_of status (Line (UnreadableSource m)) words before after last works (inr (inr same)) is = absurd (omega (arith, same.0))
 broken_of status (Line (Analysed n w)) words before after last works done is = absurd works
-broken_of status Put words before after last works done is = subst (λ s. IsBroken words before (record after { out = s })) (sym done.1) works
+broken_of status (Report text) words before after last works (inl done) is = absurd (omega (arith, done.0))
+broken_of status (Report text) words before after last works (inr (inl broke)) is = inr (ends_cut_analysis words before after last text works broke.1)
+broken_of status (Report text) words before after last works (inr (inr same)) is = absurd (omega (arith, same.0))
+broken_of status Put words before after last works done is = inl (subst (λ s. IsBroken words before (record after { out = s })) (sym done.1) works)
 broken_of status Memory words before after last works done is = absurd (omega (arith, done.0))
 
 -- no memory
@@ -356,5 +392,8 @@ memory_of status (Line (UnreadableSource m)) words before after last works (inl 
 memory_of status (Line (UnreadableSource m)) words before after last works (inr (inl broke)) is = absurd (omega (arith, broke.0))
 memory_of status (Line (UnreadableSource m)) words before after last works (inr (inr same)) is = inr (off_end words before after last (UnreadableSource m) works.stood same.1)
 memory_of status (Line (Analysed n w)) words before after last works done is = absurd works
+memory_of status (Report text) words before after last works (inl done) is = absurd (omega (arith, done.0))
+memory_of status (Report text) words before after last works (inr (inl broke)) is = absurd (omega (arith, broke.0))
+memory_of status (Report text) words before after last works (inr (inr same)) is = inl (early_analysis words before after last text works same.1)
 memory_of status Put words before after last works done is = absurd (omega (arith, done.0))
 memory_of status Memory words before after last works done is = subst (λ s. IsEarly before (record after { out = s }) ⊎ BrokeOff words before (record after { out = s })) (sym done.1) works

@@ -11,3 +11,4 @@ pub mod Settling
 pub mod Views
 pub mod Stepping
 pub mod Specifications
+pub mod Asking

@@ -9,7 +9,7 @@ use Rattle.lola_model.specs.Runs.{run_start, settled_fault, settled_model}
 use Rattle.lola_model.specs.declared.plan.Plan.{Plan}
 use Rattle.lola_model.specs.declared.journal.Entry.{Entry}
 use Rattle.lola_model.specs.declared.journal.Show.TheVariants.{Triggers}
-use Rattle.lola_form.specs.Simple.{IsSimple}
+use Rattle.lola_sums.specs.Simple.{IsSimple}
 use Rattle.lola_sums.proofs.Growing.{ended_by_fault, is_ended, slice_get_some}
 use Rattle.lola_sums.proofs.Moments.{all_steps_are_settled, final_is_settled, first_is_settled}
 use Rattle.lola_monitor.proofs.Sources.{IsSettled}

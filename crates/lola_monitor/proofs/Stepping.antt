@@ -5,7 +5,7 @@ use Rattle.lola_model.specs.Trace.{trace_line}
 use Rattle.lola_model.specs.declared.plan.Plan.{Plan}
 use Rattle.lola_model.specs.declared.journal.Row.{Row}
 use Rattle.lola_model.specs.declared.journal.Entry.{Entry}
-use Rattle.lola_form.specs.Simple.{are_number_inputs}
+use Rattle.lola_sums.specs.Simple.{are_number_inputs}
 use Rattle.lola_rows.specs.Rows.{Whole, MalformedAt}
 use Rattle.lola_rows.specs.Reading as reader
 use Rattle.lola_monitor.specs.Monitor.{most_rows}

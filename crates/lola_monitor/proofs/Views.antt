@@ -14,8 +14,8 @@ use Rattle.lola_model.specs.declared.spec.Sort.TheVariants as sort
 use Rattle.lola_model.specs.declared.spec.Stream.{Stream}
 use Rattle.lola_model.specs.declared.plan.Plan.{Plan}
 use Rattle.lola_model.specs.declared.journal.Row.{Row}
-use Rattle.lola_form.specs.Simple.{HasNumbers, input_count}
-use Rattle.lola_form.specs.Simple as simple
+use Rattle.lola_sums.specs.Simple.{HasNumbers, input_count}
+use Rattle.lola_sums.specs.Simple as simple
 use Rattle.lola_rows.specs.Columns.{inputs_of}
 use Rattle.lola_rows.specs.Rows.{SourceEnd, SourceRows}
 use Rattle.lola_rows.specs.Reading as reader

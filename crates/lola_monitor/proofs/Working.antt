@@ -1,33 +1,30 @@
 -- A command's run, after its specification was read.
-use Rattle.std.proofs.Common.{◌≡◌, ℕ, ◌≤◌, List, [], ◌∷◌, ◌++◌, map, Option, Some, inl, inr, ⊎_elim, sym, ap, ◌∙◌, subst, append_assoc}
+use Rattle.std.proofs.Common.{◌≡◌, ◌⊎◌, ℕ, ◌+◌, List, [], ◌∷◌, ◌++◌, map, Option, None, Some, Err, Bool, inl, inr, ⊎_elim, refl, sym, ap, if◌then◌else◌, ◌∙◌, subst, append_assoc}
 use Rattle.std.proofs.lemmas.List.{append-nil}
+use Rattle.std.specs.Option.{option_map}
 use Rattle.lola_port.specs.Asks.{given_ask}
 use Rattle.lola_port.specs.States.{Rose, ShelfState}
 use Rattle.lola_port.specs.declared.traits.Ask.{Ask}
 use Rattle.lola_model.specs.Journal.{rows_of}
 use Rattle.lola_model.specs.declared.plan.Plan.{Plan}
 use Rattle.lola_model.specs.declared.journal.Row.{Row}
-use Rattle.lola_form.specs.Planned.{IsPlanOfBytes}
 use Rattle.lola_rows.specs.Rows.{SourceEnd, SourceRows, Whole, MalformedAt}
 use Rattle.lola_report.specs.Ends.{end_text}
 use Rattle.lola_report.specs.declared.end.EndLine.TheVariants.{Done, Usage, Refused, Malformed, Fault, UnreadableSpecification, UnreadableSource, Analysed}
-use Rattle.lola_monitor.specs.Command.{Names, command_of, names_of}
-use Rattle.lola_monitor.specs.Monitor.{Begins, BrokeOff, Ends, IsEarly, Outside, Ran, asks_between}
-use Rattle.lola_monitor.specs.Outcomes.{CutFacts, EndedRun, IsReadFront, RunsSource, SourceRun, Stood, StoodEnded, Works, noted, without_plan}
+use Rattle.lola_monitor.specs.Command.{Names, analysed_of, names_of, run_of, run_specification, specification_of}
+use Rattle.lola_monitor.specs.Monitor.{Begins, BrokeOff, CanRun, Ends, IsEarly, Outside, Plans, Ran, analysis_text, asks_between, first_faulty, unbuilt}
+use Rattle.lola_monitor.specs.Outcomes.{CutFacts, EndedRun, Marred, PlansName, ReadPlan, RunsSource, SourceRun, Stood, StoodEnded, Works, noted, without_plan}
 use Rattle.lola_monitor.specs.declared.outcome.Outcome.{Outcome}
-use Rattle.lola_monitor.specs.declared.outcome.Outcome.TheVariants.{Line, Put, Memory}
-use Rattle.lola_form.specs.Answers.{Refuses}
-use Rattle.lola_form.specs.Form.{form_of}
-use Rattle.lola_value.specs.declared.front.FrontEnd.{FrontEnd}
-use Rattle.lola_value.specs.declared.front.FrontEnd.TheVariants as front_end
+use Rattle.lola_monitor.specs.declared.outcome.Outcome.TheVariants.{Line, Report, Put, Memory}
+use Rattle.lola_monitor.specs.declared.outcome.Unplanned.{Unplanned}
+use Rattle.lola_monitor.specs.declared.outcome.Unplanned.TheVariants as unplanned
 use Rattle.lola_monitor.proofs.Calls.{between}
-use Rattle.lola_monitor.proofs.Specifications.{no_plan_of_all}
 
 ends_begin : (told : Option (List ℕ)) (plan : Plan) (rows : List Row) (end : SourceEnd) → Ends told plan rows end → Begins told plan rows
 ends_begin told plan rows end ends bytes is = ([], ap (λ (r : SourceRows). r.rows) (ends bytes is) ∙ sym (append-nil rows))
 
 module _ (words : List (List ℕ)) (names : Names) (plan : Plan) (before after : Outside) (shelf : ShelfState) where
-  module _ (is_command : command_of words ≡ Some names) (is_plan : (bytes : List ℕ) → before.shelf.told names.specification ≡ Some bytes → IsPlanOfBytes bytes plan) (read : shelf ≡ noted before.shelf names.specification) where
+  module _ (is_command : run_of words ≡ Some names) (is_plan : Plans (before.shelf.told names.specification) plan) (read : shelf ≡ noted before.shelf names.specification) where
     told : (name : List ℕ) → shelf.told name ≡ before.shelf.told name
     told name = ap (λ s. s.told name) read
 
@@ -105,19 +102,56 @@ module _ (words : List (List ℕ)) (names : Names) (plan : Plan) (before after :
     works_after (Line (Refused q)) r = absurd r
     works_after (Line UnreadableSpecification) r = absurd r
     works_after (Line (Analysed s w)) r = absurd r
+    works_after (Report text) r = absurd r
     works_after Put r = record { off = off r.cut; no_fault = r.no_fault; rose = r.rose }
     works_after Memory r = ⊎_elim (λ cut. inr (off cut)) (λ early. inl (record { trace = early.trace; out = early.out })) r.cut
 
--- a specification that was read and spells no plan, or no memory to tell
-pub works_without_plan : (words : List (List ℕ)) (names : Names) (before after : Outside) (most : ℕ) (bytes : List ℕ) (end : FrontEnd) → command_of words ≡ Some names → 512 ≤ most
-    → ((all : List ℕ) → before.shelf.told names.specification ≡ Some all → IsReadFront most bytes all) → after.shelf ≡ noted before.shelf names.specification → IsEarly before after → Refuses (form_of bytes) end → Works (without_plan end) words before after
-works_without_plan words names before after most bytes (front_end.Refused r) is_command wide front read early refused = record {
-  names = names;
-  is_command = is_command;
-  no_plan = λ all told plan is. no_plan_of_all most bytes all wide (front all told) refused.0 plan is;
-  asks = between before.shelf after.shelf (given_ask names.specification ∷ []) (ap (λ s. s.asks) read);
-  count = ap (λ s. s.count) read;
-  early = early;
-  line_is = ap Refused refused.1;
-}
-works_without_plan words names before after most bytes front_end.Memory is_command wide front read early refused = inl early
+asks_noted : (name : List ℕ) (before after : ShelfState) → after ≡ noted before name → asks_between before after ≡ given_ask name ∷ []
+asks_noted name before after is = between before after (given_ask name ∷ []) (ap (λ s. s.asks) is)
+
+-- the first ask is the first faulty one
+first_is_faulty : (name : List ℕ) (before after : ShelfState) → Marred name before after → first_faulty (asks_between before after) ≡ Some 0
+first_is_faulty name before after m =
+    ap first_faulty (between before after (m.ask ∷ []) m.asks) ∙ ap (λ (b : Bool). if b then Some 0 else option_map (λ n. n + 1) None) m.faulty
+
+module _ (words : List (List ℕ)) (name : List ℕ) (before after : Outside) (early : IsEarly before after) (is_command : specification_of words ≡ Some name) where
+  -- a specification that has no plan, or no memory to tell
+  pub works_unplanned : (end : Unplanned) → PlansName (Err end) name before.shelf after.shelf → Works (without_plan end) words before after
+  works_unplanned unplanned.Unreadable p = record { name = name; is_command = is_command; faulty = first_is_faulty name before.shelf after.shelf p; rose = p.rose; early = early }
+  works_unplanned (unplanned.Refused r) p = record {
+    name = name;
+    is_command = is_command;
+    cause = inl p.refused;
+    asks = asks_noted name before.shelf after.shelf p.shelf;
+    count = ap (λ s. s.count) p.shelf;
+    early = early;
+  }
+  works_unplanned unplanned.Memory p = inl early
+
+  module _ (plan : Plan) (p : ReadPlan plan name before.shelf after.shelf) where
+    -- a plan that is not run yet
+    pub works_unbuilt : run_specification words ≡ Some name → (run_of words ≡ None) ⊎ (CanRun plan → ⊥) → Works (Line (Refused unbuilt)) words before after
+    works_unbuilt is_run not_yet = record {
+      name = name;
+      is_command = is_command;
+      cause = inr (record { name = name; is_run = is_run; plan = plan; is_plan = p.is_plan; not_yet = not_yet; refusal = refl });
+      asks = asks_noted name before.shelf after.shelf p.shelf;
+      count = ap (λ s. s.count) p.shelf;
+      early = early;
+    }
+
+    -- a plan that was analysed
+    pub works_analysed : (text : List ℕ) → analysed_of words ≡ Some name → text ≡ analysis_text plan → Works (Report text) words before after
+    works_analysed text is_analysis is = record {
+      analysis = record {
+        name = name;
+        is_command = is_analysis;
+        plan = plan;
+        is_plan = p.is_plan;
+        asks = asks_noted name before.shelf after.shelf p.shelf;
+        count = ap (λ s. s.count) p.shelf;
+        trace = early.trace;
+      };
+      text_is = is;
+      out = early.out;
+    }

@@ -1,34 +1,90 @@
--- The words of a command.
-use Rattle.std.specs.Prelude.{ℕ, List, [], ◌∷◌, Option, Some, None, Bool, false, not, ◌&&◌, if◌then◌else◌, nat_eq, codes}
-use Rattle.std.specs.Str.{bytes_eq}
+-- What the words of a command ask for.
+use Rattle.std.specs.Prelude.{ℕ, List, [], ◌∷◌, Option, Some, None, map, slice_get, unwrap_or}
+use Rattle.lola_model.specs.declared.journal.Show.{Show}
+use Rattle.lola_model.specs.declared.journal.Show.TheVariants.{Triggers, Outputs}
+use Rattle.lola_command.specs.Said.{Word}
+use Rattle.lola_command.specs.Command.{command_of}
+use Rattle.lola_command.specs.declared.command.Command.{Command}
+use Rattle.lola_command.specs.declared.command.Command.TheVariants.{Run, Analyse}
+use Rattle.lola_command.specs.declared.command.RunCommand.{RunCommand}
 
 -- what a run is of: a specification and a source
 pub record Names : Type 0 where
   pub specification : List ℕ
   pub source : List ℕ
 
--- a word that begins with a minus and is longer than that
-abbrev pub is_option : List ℕ → Bool
-is_option [] = false
-is_option (b ∷ []) = false
-is_option (b ∷ c ∷ rest) = nat_eq b 45
-
--- `run`, and two words that are no options
-abbrev pub is_run : List ℕ → List ℕ → List ℕ → Bool
-is_run run specification source = bytes_eq run (codes "run") && (not (is_option specification) && not (is_option source))
-
--- four words: any, `run`, and two that are no options
-abbrev pub command_of : List (List ℕ) → Option Names
-command_of (program ∷ run ∷ specification ∷ source ∷ []) =
-    if is_run run specification source
-    then Some (record { specification = specification; source = source })
-    else None
-command_of words = None
-
 -- in the order of fetching
 abbrev pub names_of : Names → List (List ℕ)
 names_of names = names.specification ∷ names.source ∷ []
 
-abbrev pub names_asked : Option Names → List (List ℕ)
-names_asked None = []
-names_asked (Some names) = names_of names
+-- the word of this number
+abbrev pub word_at : List Word → ℕ → Word
+word_at words n = unwrap_or (slice_get words n) []
+
+-- where there is one source, its name
+abbrev pub only_source : List Word → List ℕ → Option Word
+only_source words [] = None
+only_source words (n ∷ []) = Some (word_at words n)
+only_source words (n ∷ m ∷ ns) = None
+
+abbrev pub source_from : Option ℕ → Option Word → Option Word
+source_from None source = source
+source_from (Some start) source = None
+
+abbrev pub source_shown : Show → Option Word → Option Word
+source_shown Triggers source = source
+source_shown Outputs source = None
+
+-- the source of a run that can be served: it has one, shows triggers, and is told no start; how many workers it has and whether they
+-- go in turns changes nothing
+abbrev pub served_source : List Word → RunCommand → Option Word
+served_source words r = source_from r.start (source_shown r.show (only_source words r.sources))
+
+abbrev pub with_source : Word → Option Word → Option Names
+with_source specification None = None
+with_source specification (Some source) = Some (record { specification = specification; source = source })
+
+abbrev pub served : List Word → Option Command → Option Names
+served words None = None
+served words (Some (Run r)) = with_source (word_at words r.specification) (served_source words r)
+served words (Some (Analyse n)) = None
+
+-- the served run that the words are
+abbrev pub run_of : List Word → Option Names
+run_of words = served words (command_of words)
+
+abbrev pub specification_named : List Word → Option Command → Option Word
+specification_named words None = None
+specification_named words (Some (Run r)) = Some (word_at words r.specification)
+specification_named words (Some (Analyse n)) = Some (word_at words n)
+
+-- the specification of a command, which is asked for first
+abbrev pub specification_of : List Word → Option Word
+specification_of words = specification_named words (command_of words)
+
+abbrev pub run_named : List Word → Option Command → Option Word
+run_named words None = None
+run_named words (Some (Run r)) = Some (word_at words r.specification)
+run_named words (Some (Analyse n)) = None
+
+-- the specification of a run, served or not
+abbrev pub run_specification : List Word → Option Word
+run_specification words = run_named words (command_of words)
+
+abbrev pub analysed_named : List Word → Option Command → Option Word
+analysed_named words None = None
+analysed_named words (Some (Run r)) = None
+analysed_named words (Some (Analyse n)) = Some (word_at words n)
+
+-- the specification that is to be analysed
+abbrev pub analysed_of : List Word → Option Word
+analysed_of words = analysed_named words (command_of words)
+
+abbrev pub all_names : List Word → Option Command → List Word
+all_names words None = []
+all_names words (Some (Run r)) = word_at words r.specification ∷ map (word_at words) r.sources
+all_names words (Some (Analyse n)) = word_at words n ∷ []
+
+-- a command's names in the order of fetching: of a run the specification and then each source, of an analysis the specification
+abbrev pub names_asked : List Word → List Word
+names_asked words = all_names words (command_of words)

@@ -1,10 +1,11 @@
 -- What the top call leaves, by its status.
-use Rattle.std.specs.Prelude.{ℕ, ◌≡◌, ◌⊎◌, ◌+◌, ◌<◌, List, [], ◌∷◌, ◌++◌, Option, Some, None, option_map, Bool, true, false, not, ◌||◌, if◌then◌else◌, nat_lt, length, take, drop, map, slice_get, All}
+use Rattle.std.specs.Prelude.{ℕ, ◌≡◌, ◌⊎◌, ◌+◌, ◌<◌, List, [], ◌∷◌, ◌++◌, Option, Some, None, option_map, Bool, true, false, not, ◌||◌, if◌then◌else◌, nat_lt, length, take, drop, map, slice_get, All, IsTrue}
 use Rattle.std.specs.Io.KnownBytes.{append_known}
 use Rattle.lola_port.specs.Asks.{given_ask}
 use Rattle.lola_port.specs.States.{PutBroke, Rose, ShelfState, SinkState, IsProperPart, grown}
 use Rattle.lola_port.specs.declared.traits.Ask.{Ask}
 use Rattle.lola_value.specs.declared.front.Code.TheVariants as code
+use Rattle.lola_value.specs.declared.front.Refusal.{Refusal}
 use Rattle.lola_model.specs.Journal.{IsLegal, accepted, rows_of}
 use Rattle.lola_model.specs.Faults.{RunFault}
 use Rattle.lola_model.specs.Steps.{all_steps}
@@ -18,13 +19,16 @@ use Rattle.lola_model.specs.declared.journal.Entry.{Entry}
 use Rattle.lola_model.specs.declared.journal.Mark.TheVariants as mark
 use Rattle.lola_model.specs.declared.journal.Show.TheVariants.{Triggers}
 use Rattle.lola_model.specs.declared.source.MalformedKind.{MalformedKind}
-use Rattle.lola_form.specs.Planned.{IsPlanOfBytes}
+use Rattle.lola_front.specs.Front.{IsPlanOf, IsRefusalOf}
+use Rattle.lola_bounds.specs.Report.{report_of}
+use Rattle.lola_command.specs.Command.{command_of}
+use Rattle.lola_sums.specs.Simple.{IsSimple, are_number_inputs}
 use Rattle.lola_rows.specs.Rows.{SourceRows, SourceEnd, Whole, MalformedAt, rows_of_source}
 use Rattle.lola_rows.specs.Columns.{inputs_of}
 use Rattle.lola_report.specs.Ends.{end_text}
 use Rattle.lola_report.specs.declared.end.EndLine.{EndLine}
-use Rattle.lola_report.specs.declared.end.EndLine.TheVariants.{Done, Usage, Refused, Malformed, Fault, UnreadableSpecification, UnreadableSource}
-use Rattle.lola_monitor.specs.Command.{Names, command_of, names_of}
+use Rattle.lola_report.specs.declared.end.EndLine.TheVariants.{Done, Usage, Refused, Malformed, Fault, UnreadableSpecification, UnreadableSource, Analysed}
+use Rattle.lola_monitor.specs.Command.{Names, analysed_of, names_of, run_of, run_specification, specification_of}
 
 -- all that a call of the monitor is lent
 pub record Outside : Type 0 where
@@ -65,6 +69,14 @@ Wrote old new text = (new ≡ grown old text) ⊎ PutBroke old new text
 -- the most rows of a source
 abbrev pub most_rows : ℕ
 most_rows = 1099511627776
+
+-- where the specification tells its bytes, this is a plan of it
+abbrev pub Plans : Option (List ℕ) → Plan → Type 0
+Plans told plan = (bytes : List ℕ) → told ≡ Some bytes → IsPlanOf bytes plan
+
+-- where the specification tells its bytes, it is refused so
+abbrev pub IsRefusedBy : Option (List ℕ) → Refusal → Type 0
+IsRefusedBy told r = (bytes : List ℕ) → told ≡ Some bytes → IsRefusalOf bytes r
 
 -- the rows and the end of a source with these bytes
 abbrev pub source_rows : Plan → List ℕ → SourceRows
@@ -109,9 +121,9 @@ AreOfSources count journal = All (λ (e : Entry). e.row.source < count) journal
 -- rows were taken under a specification: they stand in one legal journal, which is the trace
 pub record Ran (words : List (List ℕ)) (before after : Outside) : Type 0 where
   pub names : Names
-  pub is_command : command_of words ≡ Some names
+  pub is_command : run_of words ≡ Some names
   pub plan : Plan
-  pub is_plan : (bytes : List ℕ) → before.shelf.told names.specification ≡ Some bytes → IsPlanOfBytes bytes plan
+  pub is_plan : Plans (before.shelf.told names.specification) plan
   pub journal : List Entry
   pub legal : IsLegal None journal
   pub sources : AreOfSources 1 journal
@@ -133,15 +145,56 @@ pub record IsUsage (words : List (List ℕ)) (before after : Outside) : Type 0 w
   pub trace : after.trace ≡ before.trace
   pub out : Wrote before.out after.out (end_text Usage)
 
--- the specification was read, and spells no plan
+-- a plan that a run can be made of
+abbrev pub CanRun : Plan → Type 0
+CanRun plan = IsSimple plan × IsTrue (are_number_inputs plan.spec.streams)
+
+abbrev pub unbuilt : Refusal
+unbuilt = record { code = code.Unbuilt; at = 0 }
+
+-- a run over a plan, where the run is not served yet or the plan cannot be run yet
+pub record IsUnbuilt (words : List (List ℕ)) (told : Option (List ℕ)) (r : Refusal) : Type 0 where
+  pub name : List ℕ
+  pub is_run : run_specification words ≡ Some name
+  pub plan : Plan
+  pub is_plan : Plans told plan
+  pub not_yet : (run_of words ≡ None) ⊎ (CanRun plan → ⊥)
+  pub refusal : r ≡ unbuilt
+
+-- the specification was read, and is refused, or is of a run that is not built yet
 pub record IsRefused (words : List (List ℕ)) (before after : Outside) : Type 0 where
-  pub names : Names
-  pub is_command : command_of words ≡ Some names
-  pub no_plan : (bytes : List ℕ) → before.shelf.told names.specification ≡ Some bytes → (plan : Plan) → IsPlanOfBytes bytes plan → ⊥
-  pub asks : asks_between before.shelf after.shelf ≡ given_ask names.specification ∷ []
+  pub name : List ℕ
+  pub is_command : specification_of words ≡ Some name
+  pub refusal : Refusal
+  pub cause : IsRefusedBy (before.shelf.told name) refusal ⊎ IsUnbuilt words (before.shelf.told name) refusal
+  pub asks : asks_between before.shelf after.shelf ≡ given_ask name ∷ []
   pub count : after.shelf.count ≡ before.shelf.count
   pub trace : after.trace ≡ before.trace
-  pub out : Wrote before.out after.out (end_text (Refused (record { code = code.Unbuilt; at = 0 })))
+  pub out : Wrote before.out after.out (end_text (Refused refusal))
+
+-- the specification was read and has a plan, to be analysed: nothing is traced
+pub record Analysis (words : List (List ℕ)) (before after : Outside) : Type 0 where
+  pub name : List ℕ
+  pub is_command : analysed_of words ≡ Some name
+  pub plan : Plan
+  pub is_plan : Plans (before.shelf.told name) plan
+  pub asks : asks_between before.shelf after.shelf ≡ given_ask name ∷ []
+  pub count : after.shelf.count ≡ before.shelf.count
+  pub trace : after.trace ≡ before.trace
+
+-- what was found of a specification, and how many streams and windows it has
+abbrev pub analysis_text : Plan → List ℕ
+analysis_text plan = report_of plan ++ end_text (Analysed (length plan.spec.streams) (length plan.spec.windows))
+
+-- the whole report was put
+pub record IsAnalysed (words : List (List ℕ)) (before after : Outside) : Type 0 where
+  pub analysis : Analysis words before after
+  pub out : after.out ≡ grown before.out (analysis_text analysis.plan)
+
+-- the put of the report failed
+pub record IsCutAnalysis (words : List (List ℕ)) (before after : Outside) : Type 0 where
+  pub analysis : Analysis words before after
+  pub out : PutBroke before.out after.out (analysis_text analysis.plan)
 
 -- all rows of the source before a malformed line were taken
 pub record IsMalformed (words : List (List ℕ)) (before after : Outside) : Type 0 where
@@ -181,8 +234,8 @@ pub record IsFault (words : List (List ℕ)) (before after : Outside) : Type 0 w
 
 -- the specification was not given, or could not be read
 pub record IsUnread (words : List (List ℕ)) (before after : Outside) : Type 0 where
-  pub names : Names
-  pub is_command : command_of words ≡ Some names
+  pub name : List ℕ
+  pub is_command : specification_of words ≡ Some name
   pub faulty : first_faulty (asks_between before.shelf after.shelf) ≡ Some 0
   pub rose : Rose before.shelf.count after.shelf.count
   pub trace : after.trace ≡ before.trace
@@ -218,9 +271,9 @@ pub record HasFrontOf (old new : SinkState) (text : List ℕ) : Type 0 where
 -- what belongs to these lines
 pub record BrokeOff (words : List (List ℕ)) (before after : Outside) : Type 0 where
   pub names : Names
-  pub is_command : command_of words ≡ Some names
+  pub is_command : run_of words ≡ Some names
   pub plan : Plan
-  pub is_plan : (bytes : List ℕ) → before.shelf.told names.specification ≡ Some bytes → IsPlanOfBytes bytes plan
+  pub is_plan : Plans (before.shelf.told names.specification) plan
   pub journal : List Entry
   pub legal : IsLegal None journal
   pub sources : AreOfSources 1 journal
@@ -244,28 +297,38 @@ pub record IsEarly (before after : Outside) : Type 0 where
 abbrev pub IsStatus : ℕ → Type 0
 IsStatus n = (n ≡ 0) ⊎ ((n < 9) × (1 < n))
 
--- a command whose specification and source are told and right, whose rows have no fault, and whose
+-- a run whose specification and source are told and right, whose plan can be run, whose rows have no fault, and whose
 -- objects have not failed
 pub record IsClean (words : List (List ℕ)) (before after : Outside) : Type 0 where
   pub names : Names
-  pub is_command : command_of words ≡ Some names
+  pub is_command : run_of words ≡ Some names
   pub specification : List ℕ
   pub specification_is : before.shelf.told names.specification ≡ Some specification
-  pub plan : Plan
-  pub is_plan : IsPlanOfBytes specification plan
+  pub not_refused : (r : Refusal) → IsRefusalOf specification r → ⊥
+  pub can_run : (plan : Plan) → IsPlanOf specification plan → CanRun plan
   pub source : List ℕ
   pub source_is : before.shelf.told names.source ≡ Some source
-  pub ends : (other : Plan) → IsPlanOfBytes specification other → (source_rows other source).end ≡ Whole
-  pub no_fault : (other : Plan) (journal : List Entry) → IsPlanOfBytes specification other → after.trace ≡ grown before.trace (trace_text journal) → first_fault other None journal ≡ None
+  pub ends : (plan : Plan) → IsPlanOf specification plan → (source_rows plan source).end ≡ Whole
+  pub no_fault : (plan : Plan) (journal : List Entry) → IsPlanOf specification plan → after.trace ≡ grown before.trace (trace_text journal) → first_fault plan None journal ≡ None
   pub shelf : Rose before.shelf.count after.shelf.count → ⊥
   pub out : Rose before.out.count after.out.count → ⊥
   pub trace : Rose before.trace.count after.trace.count → ⊥
 
--- a command whose specification is told and spells no plan, on a shelf that has not failed
-pub record IsSpoiled (words : List (List ℕ)) (before after : Outside) : Type 0 where
-  pub names : Names
-  pub is_command : command_of words ≡ Some names
+-- an analysis whose specification is told and not refused, and whose objects have not failed
+pub record IsCleanAnalysis (words : List (List ℕ)) (before after : Outside) : Type 0 where
+  pub name : List ℕ
+  pub is_command : analysed_of words ≡ Some name
   pub specification : List ℕ
-  pub specification_is : before.shelf.told names.specification ≡ Some specification
-  pub no_plan : (plan : Plan) → IsPlanOfBytes specification plan → ⊥
+  pub specification_is : before.shelf.told name ≡ Some specification
+  pub not_refused : (r : Refusal) → IsRefusalOf specification r → ⊥
+  pub shelf : Rose before.shelf.count after.shelf.count → ⊥
+  pub out : Rose before.out.count after.out.count → ⊥
+
+-- a command whose specification is told and has no plan, on a shelf that has not failed
+pub record IsSpoiled (words : List (List ℕ)) (before after : Outside) : Type 0 where
+  pub name : List ℕ
+  pub is_command : specification_of words ≡ Some name
+  pub specification : List ℕ
+  pub specification_is : before.shelf.told name ≡ Some specification
+  pub no_plan : (plan : Plan) → IsPlanOf specification plan → ⊥
   pub shelf : Rose before.shelf.count after.shelf.count → ⊥

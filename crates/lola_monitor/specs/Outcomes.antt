@@ -1,11 +1,9 @@
 -- What the parts of the top call leave, before its last line.
-use Rattle.std.specs.Prelude.{◌≡◌, ◌⊎◌, ℕ, ◌<◌, List, [], ◌∷◌, ◌++◌, length, map, true, false, None, Some}
+use Rattle.std.specs.Prelude.{◌≡◌, ◌⊎◌, ℕ, ◌<◌, List, [], ◌∷◌, ◌++◌, length, map, true, false, None, Some, Result, Ok, Err}
 use Rattle.lola_port.specs.Asks.{given_ask}
 use Rattle.lola_port.specs.States.{Moved, PutBroke, Rose, ShelfState, SinkState, SourceState, grown}
 use Rattle.lola_port.specs.declared.traits.Ask.{Ask}
-use Rattle.lola_value.specs.declared.front.Code.TheVariants as code
-use Rattle.lola_value.specs.declared.front.FrontEnd.{FrontEnd}
-use Rattle.lola_value.specs.declared.front.FrontEnd.TheVariants as front_end
+use Rattle.lola_value.specs.declared.front.Refusal.{Refusal}
 use Rattle.lola_model.specs.Journal.{IsLegal, rows_of}
 use Rattle.lola_model.specs.Faults.{RunFault}
 use Rattle.lola_model.specs.Trace.{trace_text}
@@ -13,18 +11,22 @@ use Rattle.lola_model.specs.Runs.{first_fault, settled_fault}
 use Rattle.lola_model.specs.declared.plan.Plan.{Plan}
 use Rattle.lola_model.specs.declared.journal.Entry.{Entry}
 use Rattle.lola_model.specs.declared.source.MalformedKind.{MalformedKind}
-use Rattle.lola_form.specs.Planned.{IsPlanOfBytes}
+use Rattle.lola_model.specs.Acceptance.{IsAccepted}
+use Rattle.lola_front.specs.Front.{IsPlanOf, IsRefusalOf}
+use Rattle.lola_command.specs.Command.{command_of}
 use Rattle.lola_rows.specs.Rows.{SourceEnd, Whole, MalformedAt}
 use Rattle.lola_report.specs.Ends.{end_text}
 use Rattle.lola_report.specs.declared.end.EndLine.{EndLine}
 use Rattle.lola_report.specs.declared.end.EndLine.TheVariants.{Done, Usage, Refused, Malformed, Fault, UnreadableSpecification, UnreadableSource, Analysed}
-use Rattle.lola_monitor.specs.Command.{Names, command_of, names_of}
-use Rattle.lola_monitor.specs.Monitor.{AreOfSources, Begins, BrokeOff, Ends, HasFrontOf, HasLines, IsBroken, IsEarly, IsRowFault, Outside, Ran, asks_between, done_line, fault_line, first_faulty, is_faulty, verdicts}
+use Rattle.lola_monitor.specs.Command.{names_of, specification_of}
+use Rattle.lola_monitor.specs.Monitor.{Analysis, AreOfSources, Begins, BrokeOff, Ends, HasFrontOf, HasLines, IsBroken, IsEarly, IsRefusedBy, IsRowFault, IsUnbuilt, Outside, Plans, Ran, analysis_text, asks_between, done_line, fault_line, first_faulty, is_faulty, verdicts}
 use Rattle.lola_monitor.specs.Parts.{Keeping}
 use Rattle.lola_monitor.specs.declared.outcome.Stop.{Stop}
 use Rattle.lola_monitor.specs.declared.outcome.Stop.TheVariants as stop
 use Rattle.lola_monitor.specs.declared.outcome.Outcome.{Outcome}
-use Rattle.lola_monitor.specs.declared.outcome.Outcome.TheVariants.{Line, Put, Memory}
+use Rattle.lola_monitor.specs.declared.outcome.Outcome.TheVariants.{Line, Report, Put, Memory}
+use Rattle.lola_monitor.specs.declared.outcome.Unplanned.{Unplanned}
+use Rattle.lola_monitor.specs.declared.outcome.Unplanned.TheVariants as unplanned
 
 -- what was read of all bytes: all of them, or more than so many
 abbrev pub IsReadFront : ℕ → List ℕ → List ℕ → Type 0
@@ -132,13 +134,40 @@ RunsSource (Line Usage) plan name before after = ⊥
 RunsSource (Line (Refused r)) plan name before after = ⊥
 RunsSource (Line UnreadableSpecification) plan name before after = ⊥
 RunsSource (Line (Analysed s w)) plan name before after = ⊥
+RunsSource (Report text) plan name before after = ⊥
 RunsSource Put plan name before after = BrokenRun plan name before after
 RunsSource Memory plan name before after = StoppedRun plan name before after
 
--- what a refusal makes of a call
-abbrev pub without_plan : FrontEnd → Outcome
-without_plan (front_end.Refused r) = Line (Refused r)
-without_plan front_end.Memory = Memory
+-- a specification was read, and its plan made
+pub record ReadPlan (plan : Plan) (name : List ℕ) (before after : ShelfState) : Type 0 where
+  pub is_plan : Plans (before.told name) plan
+  pub accepted : IsAccepted plan
+  pub shelf : after ≡ noted before name
+
+-- a specification was read, and is refused
+pub record ReadRefusal (r : Refusal) (name : List ℕ) (before after : ShelfState) : Type 0 where
+  pub refused : IsRefusedBy (before.told name) r
+  pub shelf : after ≡ noted before name
+
+-- a text's plan, or why it has none
+abbrev pub PlansText : Result Plan Unplanned → List ℕ → Type 0
+PlansText (Ok plan) bytes = IsPlanOf bytes plan
+PlansText (Err unplanned.Unreadable) bytes = ⊥
+PlansText (Err (unplanned.Refused r)) bytes = IsRefusalOf bytes r
+PlansText (Err unplanned.Memory) bytes = Unit {0}
+
+-- a name's plan, or why there is none
+abbrev pub PlansName : Result Plan Unplanned → List ℕ → ShelfState → ShelfState → Type 0
+PlansName (Ok plan) name before after = ReadPlan plan name before after
+PlansName (Err unplanned.Unreadable) name before after = Marred name before after
+PlansName (Err (unplanned.Refused r)) name before after = ReadRefusal r name before after
+PlansName (Err unplanned.Memory) name before after = Stopped name before after
+
+-- how a call ends without a plan
+abbrev pub without_plan : Unplanned → Outcome
+without_plan unplanned.Unreadable = Line UnreadableSpecification
+without_plan (unplanned.Refused r) = Line (Refused r)
+without_plan unplanned.Memory = Memory
 
 -- what a run's end makes of a call
 abbrev pub OutcomeAfter : Stop → Plan → Keeping → Outcome → Type 0
@@ -199,23 +228,28 @@ pub record NoCommand (words : List (List ℕ)) (before after : Outside) : Type 0
   pub shelf : after.shelf ≡ before.shelf
   pub early : IsEarly before after
 
--- all but the last line: the specification spells no plan
-pub record NoPlan (line : EndLine) (words : List (List ℕ)) (before after : Outside) : Type 0 where
-  pub names : Names
-  pub is_command : command_of words ≡ Some names
-  pub no_plan : (bytes : List ℕ) → before.shelf.told names.specification ≡ Some bytes → (plan : Plan) → IsPlanOfBytes bytes plan → ⊥
-  pub asks : asks_between before.shelf after.shelf ≡ given_ask names.specification ∷ []
+-- all but the last line: the specification is refused, or is of a run that is not built yet
+pub record NoPlan (r : Refusal) (words : List (List ℕ)) (before after : Outside) : Type 0 where
+  pub name : List ℕ
+  pub is_command : specification_of words ≡ Some name
+  pub cause : IsRefusedBy (before.shelf.told name) r ⊎ IsUnbuilt words (before.shelf.told name) r
+  pub asks : asks_between before.shelf after.shelf ≡ given_ask name ∷ []
   pub count : after.shelf.count ≡ before.shelf.count
   pub early : IsEarly before after
-  pub line_is : line ≡ Refused (record { code = code.Unbuilt; at = 0 })
 
 -- all but the last line: the specification was not read
 pub record NotRead (words : List (List ℕ)) (before after : Outside) : Type 0 where
-  pub names : Names
-  pub is_command : command_of words ≡ Some names
+  pub name : List ℕ
+  pub is_command : specification_of words ≡ Some name
   pub faulty : first_faulty (asks_between before.shelf after.shelf) ≡ Some 0
   pub rose : Rose before.shelf.count after.shelf.count
   pub early : IsEarly before after
+
+-- all but the report: the specification was analysed
+pub record StoodAnalysed (text : List ℕ) (words : List (List ℕ)) (before after : Outside) : Type 0 where
+  pub analysis : Analysis words before after
+  pub text_is : text ≡ analysis_text analysis.plan
+  pub out : after.out ≡ before.out
 
 -- all but the last line
 abbrev pub Works : Outcome → List (List ℕ) → Outside → Outside → Type 0
@@ -224,9 +258,10 @@ Works (Line (Malformed n row kind)) words before after = StoodMalformed (Malform
 Works (Line (Fault stream kind time)) words before after = StoodFault (Fault stream kind time) words before after
 Works (Line (UnreadableSource n)) words before after = StoodCut (UnreadableSource n) words before after
 Works (Line Usage) words before after = NoCommand words before after
-Works (Line (Refused r)) words before after = NoPlan (Refused r) words before after
+Works (Line (Refused r)) words before after = NoPlan r words before after
 Works (Line UnreadableSpecification) words before after = NotRead words before after
 Works (Line (Analysed s w)) words before after = ⊥
+Works (Report text) words before after = StoodAnalysed text words before after
 Works Put words before after = IsBroken words before after
 Works Memory words before after = IsEarly before after ⊎ BrokeOff words before after
 
@@ -251,9 +286,10 @@ status_without UnreadableSpecification = 6
 status_without (UnreadableSource n) = 6
 status_without (Analysed s w) = 7
 
--- the last line was put, or a part of it, or there was no memory
+-- the last line or the report was put, or a part of it, or there was no memory
 abbrev pub Concluded : ℕ → Outcome → SinkState → SinkState → Type 0
 Concluded status (Line line) old new =
     ((status ≡ status_with line) × (new ≡ grown old (end_text line))) ⊎ (((status ≡ status_without line) × PutBroke old new (end_text line)) ⊎ ((status ≡ 8) × (new ≡ old)))
+Concluded status (Report text) old new = ((status ≡ 0) × (new ≡ grown old text)) ⊎ (((status ≡ 7) × PutBroke old new text) ⊎ ((status ≡ 8) × (new ≡ old)))
 Concluded status Put old new = (status ≡ 7) × (new ≡ old)
 Concluded status Memory old new = (status ≡ 8) × (new ≡ old)

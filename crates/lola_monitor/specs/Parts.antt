@@ -14,7 +14,7 @@ use Rattle.lola_model.specs.declared.journal.Row.{Row}
 use Rattle.lola_model.specs.declared.journal.Entry.{Entry}
 use Rattle.lola_model.specs.declared.journal.Mark.TheVariants as mark
 use Rattle.lola_model.specs.declared.journal.Show.TheVariants.{Triggers}
-use Rattle.lola_form.specs.Simple.{HasNumbers}
+use Rattle.lola_sums.specs.Simple.{HasNumbers}
 use Rattle.lola_rows.specs.Rows.{SourceRows, SourceEnd, Whole, MalformedAt}
 use Rattle.lola_rows.specs.Reading as Rows
 use Rattle.lola_sums.specs.Standing.{Evaluating, StandsFor, Brings, Accepts}

@@ -1,9 +1,10 @@
 //! The monitor's one call: all that the program does.
 #![tactic(auto)]
 
-mod command;
+mod analysing;
 mod monitor;
 mod outcome;
+mod planning;
 mod putting;
 mod reading;
 mod rows;
@@ -11,5 +12,6 @@ mod run;
 mod source;
 #[cfg(test)]
 mod tests;
+mod words;
 
 pub use monitor::run_monitor;

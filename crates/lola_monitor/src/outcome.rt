@@ -2,6 +2,8 @@
 
 use lola_model::source::MalformedKind;
 use lola_report::end::EndLine;
+use lola_value::front::Refusal;
+use lola_value::text::Text;
 use lola_value::value::FaultKind;
 
 /// Why a run takes no further row.
@@ -28,10 +30,21 @@ pub enum Stop {
     Memory,
 }
 
-/// A call ends with a line, or with a failed put, or for want of memory.
+/// Why there is no plan.
+#[derive(Clone, Copy, Debug, PartialEq, Eq)]
+pub enum Unplanned {
+    /// The specification was not given, or could not be read.
+    Unreadable,
+    Refused(Refusal),
+    /// There is no memory.
+    Memory,
+}
+
+/// A call ends with a line, or with a report and its last line, or with a failed put, or for want of memory.
 #[derive(Drop)]
 pub enum Outcome {
     Line(EndLine),
+    Report(Text),
     Put,
     Memory,
 }

@@ -91,12 +91,28 @@ fn status_without_line(line: &EndLine) -> u8
     }
 }
 
-/// Puts the last line of a call, and answers its status.
+// Puts a report with its last line, and answers the status.
+fn put_report<K: Sink>(text: &Text, out: &mut K) -> u8
+    ensures { Concluded result (Outcome.Report text.now) (K.state out.old) (K.state out.new) }
+{
+    let bytes = text.as_bytes();
+    if bytes.is_empty() {
+        return 0;
+    }
+    match out.put(bytes) {
+        Ok(()) => 0,
+        Err(PutEnd::Failed) => 7,
+        Err(PutEnd::Memory) => 8,
+    }
+}
+
+/// Puts the last line of a call, or its report, and answers its status.
 pub fn conclude<K: Sink>(alloc: Global, outcome: Outcome, out: &mut K) -> u8
     ensures { Concluded result outcome (K.state out.old) (K.state out.new) }
 {
     let line = match outcome {
         Outcome::Line(line) => line,
+        Outcome::Report(text) => return put_report(&text, out),
         Outcome::Put => return 7,
         Outcome::Memory => return 8,
     };

@@ -1,6 +1,6 @@
 //! The rows of a source, one after another.
 ghost use Rattle.std.specs.Prelude.{◌≡◌, ◌≤◌, ◌<◌, ◌^◌, [], None, OnOk, IsTrue};
-ghost use Rattle.lola_form.specs.Simple.{are_number_inputs};
+ghost use Rattle.lola_sums.specs.Simple.{are_number_inputs};
 ghost use Rattle.lola_rows.specs.Reading.{Keeps, shape_of};
 ghost use Rattle.lola_monitor.specs.Monitor.{most_rows};
 ghost use Rattle.lola_monitor.specs.Parts.{HasRoom, Reads, Runs, Stands, Steps, view_of, world};

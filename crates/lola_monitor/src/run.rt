@@ -1,6 +1,6 @@
 //! A run: rows are marked, accepted ones are run, and their verdicts put.
 ghost use Rattle.std.specs.Prelude.{◌≡◌, ◌+◌, ◌<◌, ◌≤◌, ◌^◌, ◌++◌, [], ◌∷◌, None, Some, IfOk, OnOk, OnErr, length};
-ghost use Rattle.lola_form.specs.Simple.{HasNumbers, IsSimple};
+ghost use Rattle.lola_sums.specs.Simple.{HasNumbers, IsSimple};
 ghost use Rattle.lola_model.specs.Trace.{trace_line};
 ghost use Rattle.lola_monitor.specs.Monitor.{fault_line};
 ghost use Rattle.lola_monitor.specs.Outcomes.{OutcomeAfter};

@@ -1,6 +1,6 @@
 //! A source: fetched, run, and given back.
 ghost use Rattle.std.specs.Prelude.{IsTrue, ◌≡◌, ◌<◌, ◌≤◌, ◌^◌, [], None, IfOk};
-ghost use Rattle.lola_form.specs.Simple.{IsSimple, are_number_inputs};
+ghost use Rattle.lola_sums.specs.Simple.{IsSimple, are_number_inputs};
 ghost use Rattle.lola_rows.specs.Reading.{shape_of};
 ghost use Rattle.lola_monitor.specs.Monitor.{most_rows, outside};
 ghost use Rattle.lola_monitor.specs.Outcomes.{RunsSource};
@@ -44,8 +44,9 @@ fn run_file<F: Shelf, K: Sink, T: Sink>(
     run.outcome(alloc, stop)
 }
 
-/// Fetches a source, runs its rows by a plan, and gives it back. The engine and the reader's room are
-/// made before the source is fetched.
+/// Fetches a source, runs its rows by a plan, and gives it back. The room that the plan alone decides is
+/// made before the source is fetched; the heading's columns and the room for a line's fields are made when
+/// its first lines are read.
 pub fn run_source<F: Shelf, K: Sink, T: Sink>(
     alloc: Global,
     plan: Plan,

@@ -32,10 +32,13 @@ const MOST: usize = 1000;
 
 const SUM: &str = "input a: Int64\noutput b: Int64 := a + 1\ntrigger b > 2 \"high\"";
 
-fn words(alloc: Global, command: &str) -> Result<Vec<String>, Memory> {
+/// The words of a run of the one source.
+const RUN: &[&str] = &["lolamon", "run", "spec", "rows"];
+
+fn words(alloc: Global, texts: &[&str]) -> Result<Vec<String>, Memory> {
     let mut words = Vec::new(alloc);
-    for word in ["lolamon", command, "spec", "rows"] {
-        words.push(String::from_str(alloc, word)?)?;
+    for text in texts {
+        words.push(String::from_str(alloc, text)?)?;
     }
     Ok(words)
 }
@@ -62,15 +65,20 @@ fn shelf_of(alloc: Global, case: &Case<'_>) -> Result<MemoryShelf, Memory>
     Ok(shelf)
 }
 
-/// Whether a run leaves what the case says.
-fn holds<R: Threads + Wait + Sync>(rt: &R, alloc: Global, case: &Case<'_>) -> Result<bool, Memory> {
+/// Whether a command leaves what the case says.
+fn leaves<R: Threads + Wait + Sync>(
+    rt: &R,
+    alloc: Global,
+    texts: &[&str],
+    case: &Case<'_>,
+) -> Result<bool, Memory> {
     if case.piece == 0 || case.specification.len() > MOST || case.source.len() > MOST {
         return Ok(false);
     }
     let mut shelf = shelf_of(alloc, case)?;
     let mut out = MemorySink::create(alloc, case.failing_puts)?;
     let mut trace = MemorySink::create(alloc, case.failing_trace_puts)?;
-    let words = words(alloc, "run")?;
+    let words = words(alloc, texts)?;
     let status = run_monitor(
         rt, alloc, &words, &mut shelf, &mut out, &mut trace, &IdleGate,
     );
@@ -79,6 +87,11 @@ fn holds<R: Threads + Wait + Sync>(rt: &R, alloc: Global, case: &Case<'_>) -> Re
             && out.written() == case.out.as_bytes()
             && trace.written() == case.trace.as_bytes(),
     )
+}
+
+/// Whether a run leaves what the case says.
+fn holds<R: Threads + Wait + Sync>(rt: &R, alloc: Global, case: &Case<'_>) -> Result<bool, Memory> {
+    leaves(rt, alloc, RUN, case)
 }
 
 /// The worked run, to be changed in one part.
@@ -236,22 +249,12 @@ fn sources_and_sinks_that_fail(rt: HostRuntime) -> Result<(), Memory> {
 }
 
 #[test]
-fn words_and_names_that_are_none(rt: HostRuntime) -> Result<(), Memory> {
+fn names_that_are_none(rt: HostRuntime) -> Result<(), Memory> {
     let alloc = rt.alloc();
-    let case = worked();
-    let mut shelf = shelf_of(alloc, &case)?;
-    let mut out = MemorySink::create(alloc, &[])?;
     let mut trace = MemorySink::create(alloc, &[])?;
-    let judge = words(alloc, "judge")?;
-    let status = run_monitor(
-        &rt, alloc, &judge, &mut shelf, &mut out, &mut trace, &IdleGate,
-    );
-    assert!(rt;
-        status == 2 && out.written() == "= usage\n".as_bytes() && trace.written().is_empty()
-    );
     let mut bare = MemoryShelf::create(alloc);
     let mut unread = MemorySink::create(alloc, &[])?;
-    let run = words(alloc, "run")?;
+    let run = words(alloc, RUN)?;
     let status = run_monitor(
         &rt,
         alloc,
@@ -352,6 +355,154 @@ fn usage_line_that_is_not_put(rt: HostRuntime) -> Result<(), Memory> {
     Ok(())
 }
 
+/// Words that are no command.
+#[test]
+fn words_that_are_none(rt: HostRuntime) -> Result<(), Memory> {
+    let usage = Case {
+        status: 2,
+        out: "= usage\n",
+        trace: "",
+        ..worked()
+    };
+    let table: [&[&str]; 14] = [
+        &["lolamon"],
+        &["lolamon", "judge", "spec", "rows"],
+        &["lolamon", "--", "run", "spec", "rows"],
+        &["lolamon", "run", "spec"],
+        &["lolamon", "run", "spec", "rows", "--workers", "0"],
+        &["lolamon", "run", "spec", "rows", "--workers=65"],
+        &["lolamon", "run", "spec", "rows", "--workers"],
+        &["lolamon", "run", "--in-turns", "--in-turns", "spec", "rows"],
+        &["lolamon", "run", "spec", "rows", "--in-turns", "rows"],
+        &["lolamon", "run", "--show", "all", "spec", "rows"],
+        &["lolamon", "run", "--verbose", "spec", "rows"],
+        &["lolamon", "analyse"],
+        &["lolamon", "analyse", "spec", "rows"],
+        &["lolamon", "analyse", "--show", "outputs", "spec"],
+    ];
+    for texts in table {
+        assert!(rt; leaves(&rt, rt.alloc(), texts, &usage)?);
+    }
+    Ok(())
+}
+
+/// Runs that can be served, and those that cannot yet.
+#[test]
+fn options_of_runs(rt: HostRuntime) -> Result<(), Memory> {
+    let unbuilt = Case {
+        status: 3,
+        out: "= refused E20 Unbuilt at 0\n",
+        trace: "",
+        ..worked()
+    };
+    let table: [(&[&str], bool); 6] = [
+        (&["lolamon", "run", "--workers=04", "spec", "rows"], true),
+        (
+            &[
+                "lolamon",
+                "run",
+                "--show",
+                "triggers",
+                "--in-turns",
+                "spec",
+                "rows",
+            ],
+            true,
+        ),
+        (&["lolamon", "run", "--", "spec", "rows"], true),
+        (&["lolamon", "run", "spec", "rows", "rows"], false),
+        (&["lolamon", "run", "spec", "rows", "--show=outputs"], false),
+        (&["lolamon", "run", "spec", "--start", "0", "rows"], false),
+    ];
+    for (texts, is_served) in table {
+        let case = if is_served { worked() } else { unbuilt };
+        assert!(rt; leaves(&rt, rt.alloc(), texts, &case)?);
+    }
+    Ok(())
+}
+
+/// A refusal of each phase, in a run and in an analysis.
+#[test]
+fn refusals_of_each_phase(rt: HostRuntime) -> Result<(), Memory> {
+    let table = [
+        ("input a: Int64 $", "= refused E2 BadToken at 15\n"),
+        (
+            "input a: Int64\noutput b",
+            "= refused E3 Unexpected at 23\n",
+        ),
+        (
+            "input a: Int64\ninput a: Int64",
+            "= refused E5 Duplicate at 21\n",
+        ),
+        (
+            "input a: Int64\noutput b: Bool := a",
+            "= refused E9 WrongType at 30\n",
+        ),
+        ("output b: Int64 := 1", "= refused E12 NoPacing at 7\n"),
+        (
+            "input a: Int64\noutput b: Int64 @a := b",
+            "= refused E19 ZeroCycle at 22\n",
+        ),
+        (
+            "input a: Int64\noutput b: Int64 @Local(1Hz) := 1",
+            "= refused E20 Unbuilt at 31\n",
+        ),
+    ];
+    for (specification, out) in table {
+        let case = Case {
+            specification,
+            status: 3,
+            out,
+            trace: "",
+            ..worked()
+        };
+        assert!(rt; holds(&rt, rt.alloc(), &case)?, "{specification}");
+        assert!(rt; leaves(&rt, rt.alloc(), ANALYSE, &case)?, "{specification}");
+    }
+    Ok(())
+}
+
+/// The words of an analysis.
+const ANALYSE: &[&str] = &["lolamon", "analyse", "spec"];
+
+/// The analysis of streams of each sort, to be changed in one part.
+fn analysed() -> Case<'static> {
+    Case {
+        specification: "input dev: String\ninput temp: Int64\ninput hum: Int64\noutput mean: Int64 @1Hz := temp.aggregate(over: 1min, using: avg).defaults(to: 0)\noutput last_hum: Int64 @1Hz := hum.hold(or: 0)\noutput seen(d: String): Int64\n  spawn with dev\n  eval @dev when dev == d with seen(d).last(or: 0) + 1\ntrigger mean >= 224 && last_hum > 90 \"warm and damp\"\n",
+        out: "stream 0 dev String pacing dev layer 0 kept 1\nstream 1 temp Int64 pacing temp layer 0 kept 1\nstream 2 hum Int64 pacing hum layer 0 kept 1\nstream 3 mean Int64 pacing 1Hz layer 1 kept 1\nstream 4 last_hum Int64 pacing 1Hz layer 1 kept 1\nstream 5 seen Int64 spawn dev layer 1 pacing dev layer 2 kept 2\nstream 6 trigger_1 Bool pacing 1Hz layer 2 kept 1\nwindow 0 in mean onto temp over 60.000000000 panes 60\n= done streams 7 windows 1\n",
+        trace: "",
+        ..worked()
+    }
+}
+
+/// An analysis, and what keeps it from its end.
+#[test]
+fn analyses(rt: HostRuntime) -> Result<(), Memory> {
+    let alloc = rt.alloc();
+    assert!(rt; leaves(&rt, alloc, ANALYSE, &analysed())?);
+    let unread = Case {
+        failing_specification_reads: &[0],
+        status: 6,
+        out: "= unreadable specification\n",
+        ..analysed()
+    };
+    assert!(rt; leaves(&rt, alloc, ANALYSE, &unread)?);
+    let not_put = Case {
+        failing_puts: &[0],
+        status: 7,
+        out: "",
+        ..analysed()
+    };
+    assert!(rt; leaves(&rt, alloc, ANALYSE, &not_put)?);
+    let in_a_run = Case {
+        status: 3,
+        out: "= refused E20 Unbuilt at 0\n",
+        ..analysed()
+    };
+    assert!(rt; holds(&rt, alloc, &in_a_run)?);
+    Ok(())
+}
+
 /// A file that is printed to, as standard error is.
 #[derive(Drop)]
 struct PrintedFile {
@@ -380,7 +531,7 @@ fn trace_to_a_full_device(rt: HostRuntime) -> Result<(), Fail> {
     let mut trace = OutSink::create(PrintedFile { file });
     let mut shelf = shelf_of(alloc, &worked())?;
     let mut out = MemorySink::create(alloc, &[])?;
-    let words = words(alloc, "run")?;
+    let words = words(alloc, RUN)?;
     let status = run_monitor(
         &rt, alloc, &words, &mut shelf, &mut out, &mut trace, &IdleGate,
     );

@@ -16,7 +16,7 @@ use Rattle.lola_model.specs.declared.plan.Plan.{Plan}
 use Rattle.lola_model.specs.declared.spec.Stream.{Stream}
 use Rattle.lola_model.proofs.Growth.{last_row-append}
 use Rattle.lola_model.proofs.Journals.{table_lines-append_one}
-use Rattle.lola_form.specs.Simple.{IsSimple}
+use Rattle.lola_sums.specs.Simple.{IsSimple}
 use Rattle.lola_sums.specs.declared.end.EngineEnd.{EngineEnd}
 use Rattle.lola_sums.specs.declared.end.EngineEnd.TheVariants.{Fault, Memory}
 use Rattle.lola_sums.specs.Evaluation.{AreOutcomes, failed_with, first_failed, outcome_lines, all_lines, RowComes}

@@ -24,7 +24,7 @@ use Rattle.lola_model.specs.declared.spec.Spec.{Spec}
 use Rattle.lola_model.specs.declared.spec.Clause.{Clause}
 use Rattle.lola_model.specs.declared.spec.Sort.TheVariants as sort
 use Rattle.lola_model.specs.declared.spec.Sort.{Sort}
-use Rattle.lola_form.specs.Simple.{is_trigger, is_number_before, is_noted_number, is_addition, is_sum, is_comparison, is_plain_clause, is_simple_stream, are_simple_from, input_count, has_none, are_numbers}
+use Rattle.lola_sums.specs.Simple.{is_trigger, is_number_before, is_noted_number, is_addition, is_sum, is_comparison, is_plain_clause, is_simple_stream, are_simple_from, input_count, has_none, are_numbers}
 use Rattle.lola_model.specs.Activity.{present}
 use Rattle.lola_sums.specs.Evaluation.{answer_where, is_run_at, is_number_in, is_sum_over, is_comparison_over, Shows, stream_answer, AreAnswered, is_sorted, are_sorted, AreOutcomes, is_answerable}
 

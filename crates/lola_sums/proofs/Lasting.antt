@@ -11,7 +11,7 @@ use Rattle.lola_model.specs.declared.journal.Mark.{Mark}
 use Rattle.lola_model.specs.declared.journal.Mark.TheVariants as mark
 use Rattle.lola_model.specs.declared.plan.Plan.{Plan}
 use Rattle.lola_model.proofs.Journals.{settled_model-append_late}
-use Rattle.lola_form.specs.Simple.{IsSimple}
+use Rattle.lola_sums.specs.Simple.{IsSimple}
 use Rattle.lola_sums.proofs.Growing.{grown, is_ended, ended_by_fault}
 use Rattle.lola_sums.proofs.Moments.{settled_more}
 

@@ -7,3 +7,4 @@ pub mod LineLemmas
 pub mod Accepting
 pub mod Lasting
 pub mod Worked
+pub mod Acyclic

@@ -17,7 +17,7 @@ use Rattle.lola_model.specs.declared.journal.Entry.{Entry}
 use Rattle.lola_model.specs.declared.journal.Mark.TheVariants as mark
 use Rattle.lola_model.specs.declared.plan.Plan.{Plan}
 use Rattle.lola_model.proofs.Journals.{accepted-append_accepted}
-use Rattle.lola_form.specs.Simple.{is_paced_by, has_no_pacing, are_paced_by, input_count, IsSimple}
+use Rattle.lola_sums.specs.Simple.{is_paced_by, has_no_pacing, are_paced_by, input_count, IsSimple}
 use Rattle.lola_sums.proofs.Answering.{both_true}
 use Rattle.lola_sums.proofs.Growing.{grown, is_ended, model_more, model_none}
 

@@ -7,7 +7,7 @@ use Rattle.lola_model.specs.Model.{close_pacing}
 use Rattle.lola_model.specs.declared.pacing.Pacing.{Pacing}
 use Rattle.lola_model.specs.declared.pacing.Pacing.TheVariants.{Event, Periodic}
 use Rattle.lola_model.specs.declared.pacing.ClausePacings.{ClausePacings}
-use Rattle.lola_form.specs.Simple.{is_paced_by, has_no_pacing, are_paced_by}
+use Rattle.lola_sums.specs.Simple.{is_paced_by, has_no_pacing, are_paced_by}
 use Rattle.lola_sums.specs.Evaluation.{is_active_at_row}
 use Rattle.lola_sums.proofs.Answering.{both_true}
 

@@ -21,8 +21,8 @@ use Rattle.lola_model.proofs.Walks.{depth_of, layer_exists}
 use Rattle.lola_model.proofs.Targets.{lead_to_nodes, among, from_among, among_acyclic}
 use Rattle.lola_model.proofs.Layers.{has_one_row}
 use Rattle.lola_model.proofs.OneModel.{HasOneRow}
-use Rattle.lola_form.specs.Simple.{has_none, is_simple_stream, are_simple_from, input_count, IsSimple}
-use Rattle.lola_form.proofs.Acyclic.{simple_is_acyclic}
+use Rattle.lola_sums.specs.Simple.{has_none, is_simple_stream, are_simple_from, input_count, IsSimple}
+use Rattle.lola_sums.proofs.Acyclic.{simple_is_acyclic}
 use Rattle.lola_sums.specs.Evaluation.{Shows, answer_where, stream_answer, AreAnswered, AreOutcomes}
 use Rattle.lola_sums.proofs.Answering.{both_true}
 use Rattle.lola_sums.proofs.Pacings.{active_at_row, none_closing}

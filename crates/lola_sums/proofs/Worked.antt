@@ -10,7 +10,7 @@ use Rattle.lola_model.specs.declared.spec.Sort.{Sort}
 use Rattle.lola_model.specs.declared.spec.Sort.TheVariants as sort
 use Rattle.lola_model.specs.declared.spec.Stream.{Stream}
 use Rattle.lola_model.specs.declared.pacing.ClausePacings.{ClausePacings}
-use Rattle.lola_form.specs.Simple.{is_trigger, is_number_before, is_sum, is_comparison, is_plain_clause, has_none, has_no_pacing, is_paced_by, is_simple_stream, are_simple_from, are_paced_by, input_count, are_numbers, HasNumbers}
+use Rattle.lola_sums.specs.Simple.{is_trigger, is_number_before, is_sum, is_comparison, is_plain_clause, has_none, has_no_pacing, is_paced_by, is_simple_stream, are_simple_from, are_paced_by, input_count, are_numbers, HasNumbers}
 use Rattle.lola_sums.specs.Worked.{IsPlain, IsStream, IsOnInput}
 use Rattle.lola_sums.proofs.Answering.{both}
 

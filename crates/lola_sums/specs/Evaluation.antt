@@ -33,7 +33,7 @@ use Rattle.lola_model.specs.declared.spec.Stream.{Stream}
 use Rattle.lola_model.specs.declared.spec.Spec.{Spec}
 use Rattle.lola_model.specs.declared.spec.Clause.{Clause}
 use Rattle.lola_model.specs.declared.spec.Sort.TheVariants as sort
-use Rattle.lola_form.specs.Simple.{is_trigger, is_noted_number, is_addition, is_plain_clause}
+use Rattle.lola_sums.specs.Simple.{is_trigger, is_noted_number, is_addition, is_plain_clause}
 
 -- a number of 64 bits, or no value
 abbrev pub is_number : Outcome → Bool

@@ -3,7 +3,7 @@ use Rattle.std.specs.Prelude.{ℕ, ◌≡◌, ◌*◌, ◌^◌, ◌<◌, ◌≤�
 use Rattle.lola_value.specs.declared.text.Field.{Field}
 use Rattle.lola_value.specs.declared.value.Outcome.{Outcome}
 use Rattle.lola_model.specs.declared.plan.Plan.{Plan}
-use Rattle.lola_form.specs.Simple.{IsSimple}
+use Rattle.lola_sums.specs.Simple.{IsSimple}
 
 -- a plan of sums with room for an outcome of each stream, and no more lines than streams in each step
 pub record IsReady (plan : Plan) (steps lines : ℕ) (outcomes : List Outcome) (none : List Field) : Type 0 where

@@ -1,7 +1,7 @@
 //! The engine: a plan of sums, run row by row.
 
 ghost use Rattle.std.specs.Prelude.{◌≡◌, ◌<◌, ◌≤◌, ◌+◌, ◌^◌, [], length, OnOk, OnErr, IfOk, IfErr, Some, None};
-ghost use Rattle.lola_form.specs.Simple.{IsSimple, HasNumbers};
+ghost use Rattle.lola_sums.specs.Simple.{IsSimple, HasNumbers};
 ghost use Rattle.lola_sums.specs.Evaluation.{AreOutcomes, RowComes};
 ghost use Rattle.lola_sums.specs.Standing.{StandsFor, Accepts, StaysEnded};
 ghost use Rattle.lola_sums.specs.declared.end.EngineEnd.{EngineEnd};

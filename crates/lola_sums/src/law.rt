@@ -6,7 +6,7 @@ ghost use Rattle.lola_model.specs.Model.{HasOneModel};
 ghost use Rattle.lola_model.specs.Runs.{settled_model, settled_lines, settled_fault, whole_model, final_lines, first_fault};
 ghost use Rattle.lola_model.specs.declared.journal.Show.{Show};
 ghost use Rattle.lola_model.specs.declared.journal.Mark.TheVariants as mark;
-ghost use Rattle.lola_form.specs.Simple.{IsSimple};
+ghost use Rattle.lola_sums.specs.Simple.{IsSimple};
 
 use lola_model::journal::{Journal, Row};
 use lola_model::plan::Plan;

@@ -6,6 +6,7 @@ pub mod engine;
 pub mod law;
 mod lines;
 mod row;
+pub mod simple;
 mod sum;
 #[cfg(test)]
 mod tests;

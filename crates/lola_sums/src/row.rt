@@ -7,7 +7,7 @@ ghost use Rattle.lola_model.specs.Content.{Content};
 ghost use Rattle.lola_model.specs.Activity.{present, satisfies_some as satisfies_some_of};
 ghost use Rattle.lola_model.specs.Model.{is_input as is_input_stream, input_outcome};
 ghost use Rattle.lola_model.specs.declared.spec.Spec.{Spec};
-ghost use Rattle.lola_form.specs.Simple.{are_numbers, are_simple_from, input_count};
+ghost use Rattle.lola_sums.specs.Simple.{are_numbers, are_simple_from, input_count};
 ghost use Rattle.lola_sums.specs.Evaluation.{is_number, Shows, answer_where, is_run_at, is_sorted, AreOutcomes, is_answerable, expression_of, first_failed, IsFirst};
 
 use crate::sum::{comparison, sum};
@@ -17,7 +17,8 @@ use lola_model::spec::{Clause, Sort, Stream};
 use lola_value::text::Field;
 use lola_value::value::{FaultKind, Outcome, Value};
 
-fn is_input(stream: &Stream) -> bool
+/// Whether a stream is an input.
+pub fn is_input(stream: &Stream) -> bool
     ensures { result ≡ is_input_stream stream.now }
 {
     match stream.sort {

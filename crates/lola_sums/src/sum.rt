@@ -8,7 +8,7 @@ ghost use Rattle.lola_model.specs.Denotation.{den, joined as joined_of, operated
 ghost use Rattle.lola_value.specs.declared.text.Field.TheVariants as field;
 ghost use Rattle.lola_model.specs.declared.spec.Spec.{Spec};
 ghost use Rattle.lola_model.specs.declared.expr.Binary.TheVariants as binary;
-ghost use Rattle.lola_form.specs.Simple.{is_addition};
+ghost use Rattle.lola_sums.specs.Simple.{is_addition};
 ghost use Rattle.lola_value.specs.Kinds.{IsOperand};
 ghost use Rattle.lola_sums.specs.Evaluation.{is_number, is_truth, seen_outcome, is_sum_over, is_comparison_over, Shows};
 

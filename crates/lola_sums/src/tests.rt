@@ -4,7 +4,7 @@ ghost use Rattle.std.specs.Prelude.{◌≡◌, ◌∷◌, ◌&&◌, [], ℕ, Lis
 ghost use Rattle.lola_value.specs.declared.value.Kind.TheVariants as kind;
 ghost use Rattle.lola_value.specs.Arithmetic.{is_within};
 ghost use Rattle.lola_model.specs.declared.spec.Stream.{Stream as StreamValue};
-ghost use Rattle.lola_form.specs.Simple.{is_sum, is_comparison, is_number_before, are_simple_from, are_paced_by, input_count, are_numbers, IsSimple};
+ghost use Rattle.lola_sums.specs.Simple.{is_sum, is_comparison, is_number_before, are_simple_from, are_paced_by, input_count, are_numbers, IsSimple};
 ghost use Rattle.lola_sums.specs.Worked.{IsPlain, IsStream, IsOnInput};
 
 use crate::end::EngineEnd;

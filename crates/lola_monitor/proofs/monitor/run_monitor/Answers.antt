@@ -1,7 +1,7 @@
 use Rattle.std.proofs.Common.{map, string_bytes, Global}
 use Rattle.lola_monitor.specs.Monitor.{outside}
 use Rattle.lola_monitor.proofs.Ends.{broken_of, done_of, fault_of, malformed_of, memory_of, refused_of, unreadable_of, usage_of}
-use Rattle.lola_monitor.proofs.Statuses.{complete_of, refused_only_of, usage_only_of}
+use Rattle.lola_monitor.proofs.Statuses.{complete_analysis_of, complete_of, refused_only_of, usage_only_of}
 use Rattle.lola_monitor.proofs.monitor.run_monitor.Goals as goal
 
 pub returns-clause-done : goal.returns-clause-done
@@ -63,6 +63,13 @@ returns-clause-memory g c =
 pub returns-clause-complete : goal.returns-clause-complete
 returns-clause-complete g c =
     complete_of c.conclude.result c.work-outcome.result (map (string_bytes {Z = Global}) c.args.words.now)
+    (outside (g.F.Shelf.state c.args.shelf.now) (g.K.Sink.state c.args.out.now) (g.T.Sink.state c.args.trace.now))
+    (outside (g.F.Shelf.state c.work-outcome.new.shelf) (g.K.Sink.state c.work-outcome.new.out) (g.T.Sink.state c.work-outcome.new.trace))
+    (g.K.Sink.state c.conclude.new.out) c.work-outcome.ensures.works c.conclude.ensures
+
+pub returns-clause-complete_analysis : goal.returns-clause-complete_analysis
+returns-clause-complete_analysis g c =
+    complete_analysis_of c.conclude.result c.work-outcome.result (map (string_bytes {Z = Global}) c.args.words.now)
     (outside (g.F.Shelf.state c.args.shelf.now) (g.K.Sink.state c.args.out.now) (g.T.Sink.state c.args.trace.now))
     (outside (g.F.Shelf.state c.work-outcome.new.shelf) (g.K.Sink.state c.work-outcome.new.out) (g.T.Sink.state c.work-outcome.new.trace))
     (g.K.Sink.state c.conclude.new.out) c.work-outcome.ensures.works c.conclude.ensures

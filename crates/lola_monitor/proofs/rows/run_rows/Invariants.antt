@@ -1,5 +1,5 @@
 use Rattle.std.proofs.Common.{◌≡◌, None, IsTrue}
-use Rattle.lola_form.specs.Simple.{are_number_inputs}
+use Rattle.lola_sums.specs.Simple.{are_number_inputs}
 use Rattle.lola_rows.specs.Reading.{Keeps, shape_of}
 use Rattle.lola_monitor.specs.Monitor.{most_rows}
 use Rattle.lola_monitor.specs.Parts.{SoFar, view_of, world}

@@ -1,5 +1,5 @@
 use Rattle.std.proofs.Common.{sym, subst, Err}
-use Rattle.lola_form.specs.Simple.{HasNumbers}
+use Rattle.lola_sums.specs.Simple.{HasNumbers}
 use Rattle.lola_monitor.specs.Parts.{Keeping, Steps, Takes, view_of, world}
 use Rattle.lola_monitor.proofs.Stepping.{no_row, not_traced, stepped, took_entry}
 use Rattle.lola_monitor.proofs.rows.step.Goals as goal

@@ -1,5 +1,5 @@
 -- The law, at this plan.
-use Rattle.lola_form.proofs.Acyclic.{simple_is_acyclic, simple_has_one_model}
+use Rattle.lola_sums.proofs.Acyclic.{simple_is_acyclic, simple_has_one_model}
 use Rattle.lola_sums.proofs.law.one_model.Goals as goal
 
 pub returns : goal.returns

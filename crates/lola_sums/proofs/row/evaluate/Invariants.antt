@@ -1,6 +1,6 @@
 -- So many streams have their outcomes, and so many of them are inputs.
 use Rattle.std.proofs.Common.{◌≡◌, take}
-use Rattle.lola_form.specs.Simple.{input_count}
+use Rattle.lola_sums.specs.Simple.{input_count}
 use Rattle.lola_sums.specs.Evaluation.{AreOutcomes}
 use Rattle.lola_sums.proofs.row.evaluate.Given as goal
 

@@ -1,6 +1,6 @@
 -- Each of the three is active with the input.
 use Rattle.std.proofs.Common.{ap, ◌∙◌, length, refl}
-use Rattle.lola_form.specs.Simple.{are_paced_by}
+use Rattle.lola_sums.specs.Simple.{are_paced_by}
 use Rattle.lola_sums.proofs.Worked.{three_paced, pushed}
 use Rattle.lola_sums.proofs.tests.three_pacings.Goals as goal
 

@@ -1,6 +1,6 @@
 -- An input, a sum of it, and a comparison of that.
 use Rattle.std.proofs.Common.{List, ap, ◌∙◌, length}
-use Rattle.lola_form.specs.Simple.{are_simple_from, input_count}
+use Rattle.lola_sums.specs.Simple.{are_simple_from, input_count}
 use Rattle.lola_model.specs.declared.spec.Stream.{Stream}
 use Rattle.lola_sums.proofs.Worked.{three_simple, three_inputs, pushed}
 use Rattle.lola_sums.proofs.tests.three_streams.Goals as goal

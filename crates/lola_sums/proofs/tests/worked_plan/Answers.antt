@@ -1,6 +1,6 @@
 -- The parts are those of a plan of sums.
 use Rattle.std.proofs.Common.{ap, sym, ◌∙◌, arith}
-use Rattle.lola_form.specs.Simple.{are_paced_by}
+use Rattle.lola_sums.specs.Simple.{are_paced_by}
 use Rattle.lola_sums.proofs.tests.worked_plan.Goals as goal
 
 pub returns-clause-simple : goal.returns-clause-simple

@@ -1,0 +1,86 @@
+use Rattle.std.proofs.Common.{Global, List, ℕ, ◌≡◌, [], ◌∷◌, Some, true, map, string_bytes, ap, sym, subst, refl, ◌∙◌, inl, inr}
+use Rattle.lola_monitor.specs.Command.{Names, word_at}
+use Rattle.lola_monitor.specs.Monitor.{CanRun, outside}
+use Rattle.lola_monitor.specs.Outcomes.{Works}
+use Rattle.lola_monitor.proofs.Asking.{is_served, names_are, not_served, run_is, served_names, specification_is}
+use Rattle.lola_monitor.proofs.Calls.{asked_for, grew_noted, grew_source, grew_twice, grew_unplanned}
+use Rattle.lola_monitor.proofs.Working.{works_after, works_unbuilt, works_unplanned}
+use Rattle.lola_monitor.proofs.monitor.run.Goals as goal
+
+pub returns-in-Err-clause-works : goal.returns-in-Err-clause-works
+returns-in-Err-clause-works g c =
+    let words = map (string_bytes {Z = Global}) c.args.words.now in
+    let before = outside (g.F.Shelf.state c.args.shelf.now) (g.K.Sink.state c.args.out.now) (g.T.Sink.state c.args.trace.now) in
+    let after = outside (g.F.Shelf.state c.read_plan.new.shelf) (g.K.Sink.state c.args.out.now) (g.T.Sink.state c.args.trace.now) in
+    let is = specification_is words c.args.command.now c.requires.is_run ∙ ap Some (sym c.word_at.ensures) in
+    subst (λ outcome. Works outcome words before after) (sym c.without_plan.ensures)
+    (works_unplanned words c.word_at.result.now before after (record { trace = refl; out = refl }) is c.in-Err.end c.in-Err.ensures)
+
+pub returns-in-Err-clause-asked : goal.returns-in-Err-clause-asked
+returns-in-Err-clause-asked g c =
+    let words = map (string_bytes {Z = Global}) c.args.words.now in
+    let rest = map (word_at words) c.args.command.now.sources in
+    asked_for words (c.word_at.result.now ∷ rest) (g.F.Shelf.state c.args.shelf.now) (g.F.Shelf.state c.read_plan.new.shelf)
+    (names_are words c.args.command.now c.requires.is_run ∙ ap (λ (n : List ℕ). n ∷ rest) (sym c.word_at.ensures))
+    (grew_unplanned c.in-Err.end c.word_at.result.now rest _ _ c.in-Err.ensures)
+
+pub returns-in_default-clause-works : goal.returns-in_default-clause-works
+returns-in_default-clause-works g c =
+    let words = map (string_bytes {Z = Global}) c.args.words.now in
+    let command = c.args.command.now in
+    let before = outside (g.F.Shelf.state c.args.shelf.now) (g.K.Sink.state c.args.out.now) (g.T.Sink.state c.args.trace.now) in
+    let after = outside (g.F.Shelf.state c.read_plan.new.shelf) (g.K.Sink.state c.args.out.now) (g.T.Sink.state c.args.trace.now) in
+    let name = ap Some (sym c.word_at.ensures) in
+    works_unbuilt words c.word_at.result.now before after (record { trace = refl; out = refl }) (specification_is words command c.requires.is_run ∙ name) c.in-Ok.plan c.in-Ok.ensures
+    (run_is words command c.requires.is_run ∙ name) (inl (not_served words command c.requires.is_run (sym c.in_default.ensures)))
+
+pub returns-in_default-clause-asked : goal.returns-in_default-clause-asked
+returns-in_default-clause-asked g c =
+    let words = map (string_bytes {Z = Global}) c.args.words.now in
+    let rest = map (word_at words) c.args.command.now.sources in
+    asked_for words (c.word_at.result.now ∷ rest) (g.F.Shelf.state c.args.shelf.now) (g.F.Shelf.state c.read_plan.new.shelf)
+    (names_are words c.args.command.now c.requires.is_run ∙ ap (λ (n : List ℕ). n ∷ rest) (sym c.word_at.ensures))
+    (grew_noted c.word_at.result.now rest _ _ c.in-Ok.ensures.shelf)
+
+pub returns-then-not-is_simple-clause-works : goal.returns-then-not-is_simple-clause-works
+returns-then-not-is_simple-clause-works g c =
+    let words = map (string_bytes {Z = Global}) c.args.words.now in
+    let command = c.args.command.now in
+    let before = outside (g.F.Shelf.state c.args.shelf.now) (g.K.Sink.state c.args.out.now) (g.T.Sink.state c.args.trace.now) in
+    let after = outside (g.F.Shelf.state c.read_plan.new.shelf) (g.K.Sink.state c.args.out.now) (g.T.Sink.state c.args.trace.now) in
+    let name = ap Some (sym c.word_at.ensures) in
+    works_unbuilt words c.word_at.result.now before after (record { trace = refl; out = refl }) (specification_is words command c.requires.is_run ∙ name) c.in-Ok.plan c.in-Ok.ensures
+    (run_is words command c.requires.is_run ∙ name)
+    (inr (λ (can : CanRun c.in-Ok.plan). let yes : c.is_simple.result ≡ true = c.is_simple.ensures.1 can in let no = c.if-not-is_simple.true in absurd (cc)))
+
+pub returns-then-not-is_simple-clause-asked : goal.returns-then-not-is_simple-clause-asked
+returns-then-not-is_simple-clause-asked g c =
+    let words = map (string_bytes {Z = Global}) c.args.words.now in
+    let rest = map (word_at words) c.args.command.now.sources in
+    asked_for words (c.word_at.result.now ∷ rest) (g.F.Shelf.state c.args.shelf.now) (g.F.Shelf.state c.read_plan.new.shelf)
+    (names_are words c.args.command.now c.requires.is_run ∙ ap (λ (n : List ℕ). n ∷ rest) (sym c.word_at.ensures))
+    (grew_noted c.word_at.result.now rest _ _ c.in-Ok.ensures.shelf)
+
+pub returns-clause-works : goal.returns-clause-works
+returns-clause-works g c =
+    let words = map (string_bytes {Z = Global}) c.args.words.now in
+    let command = c.args.command.now in
+    let with_name : List ℕ → Names = λ n. record { specification = n; source = c.in-Some.source.now } in
+    let before = outside (g.F.Shelf.state c.args.shelf.now) (g.K.Sink.state c.args.out.now) (g.T.Sink.state c.args.trace.now) in
+    let after = outside (g.F.Shelf.state c.run_source.new.shelf) (g.K.Sink.state c.run_source.new.out) (g.T.Sink.state c.run_source.new.trace) in
+    works_after words (with_name c.word_at.result.now) c.in-Ok.plan before after (g.F.Shelf.state c.read_plan.new.shelf)
+    (is_served words command c.requires.is_run c.in-Some.source.now (sym c.in-Some.ensures) ∙ ap (λ (n : List ℕ). Some (with_name n)) (sym c.word_at.ensures))
+    c.in-Ok.ensures.is_plan c.in-Ok.ensures.shelf c.run_source.result c.run_source.ensures
+
+pub returns-clause-asked : goal.returns-clause-asked
+returns-clause-asked g c =
+    let words = map (string_bytes {Z = Global}) c.args.words.now in
+    let source = c.in-Some.source.now in
+    let before = g.F.Shelf.state c.args.shelf.now in
+    let mid = g.F.Shelf.state c.read_plan.new.shelf in
+    let after = g.F.Shelf.state c.run_source.new.shelf in
+    let mid_all = outside mid (g.K.Sink.state c.args.out.now) (g.T.Sink.state c.args.trace.now) in
+    let after_all = outside after (g.K.Sink.state c.run_source.new.out) (g.T.Sink.state c.run_source.new.trace) in
+    asked_for words (c.word_at.result.now ∷ source ∷ []) before after
+    (served_names words c.args.command.now c.requires.is_run source (sym c.in-Some.ensures) ∙ ap (λ (n : List ℕ). n ∷ source ∷ []) (sym c.word_at.ensures))
+    (grew_twice c.word_at.result.now (source ∷ []) before mid after c.in-Ok.ensures.shelf (grew_source c.run_source.result c.in-Ok.plan source mid_all after_all c.run_source.ensures))
