@@ -405,7 +405,7 @@ fn leaves_that_are_too_wide(rt: HostRuntime) -> Result<(), Memory> {
 fn the_most_streams(rt: HostRuntime) -> Result<(), Memory> {
     let mut text = String::from_str(rt.alloc(), "input o0: Int64\n")?;
     for number in 1..1024 {
-        let before = number - 1;
+        let before = u32::saturating_sub(number, 1);
         let line = format!(in rt.alloc(); "output o{number} := o{before} + o0.last(or: 0)\n")?;
         text.push_str(line.as_str())?;
     }
