@@ -1,9 +1,9 @@
 -- A stream with a node on a closed walk is a stream of the specification.
-use Rattle.std.proofs.Common.{◌≡◌, refl, ap, sym, subst, ◌∙◌, ℕ, zero, suc, ◌+◌, ◌*◌, ◌<◌, List, [], ◌∷◌, ◌++◌, Option, Some, None, ℤ, pos, arith, length, slice_get, ◌⊎◌, inl, inr}
+use Rattle.std.proofs.Common.{◌≡◌, subst, ℕ, ◌+◌, ◌*◌, ◌<◌, List, [], ◌∷◌, ◌++◌, Option, Some, None, ℤ, pos, arith, length, slice_get, inl, inr}
 use Rattle.std.specs.List.{Contains}
 use Rattle.std.proofs.lemmas.List.Elements.{Contains-append_cases}
 use Rattle.lola_model.proofs.Strictly.{Contains-cases, Contains-none}
-use Rattle.lola_model.specs.Graph.{IsLayer, IsWalk, IsOnZeroWalk, layer_of, weight_along, weight_of, edge_to, window_edge, reads, reads_all, when_reads, with_reads, clause_reads, to_spawn, edges_from, edges_of, eval_node, spawn_node}
+use Rattle.lola_model.specs.Graph.{IsLayer, IsWalk, IsOnZeroWalk, layer_of, weight_of, edge_to, window_edge, reads, reads_all, when_reads, with_reads, clause_reads, to_spawn, edges_from, edges_of, eval_node, spawn_node}
 use Rattle.lola_model.specs.declared.expr.Expr.{Expr}
 use Rattle.lola_model.specs.declared.expr.Expr.TheVariants.{Literal, Parameter, Read, Window, Defaults', Unary', Both', Choice'}
 use Rattle.lola_model.specs.declared.expr.Arguments.{Arguments}

@@ -1,13 +1,11 @@
 -- Offsets of a named specification are small.
-use Rattle.std.proofs.Common.{◌≡◌, refl, ap, sym, subst, ◌∙◌, ℕ, zero, suc, ◌+◌, ◌≤◌, List, [], ◌∷◌, ◌++◌, Bool, true, false, ◌&&◌, nat_eq, nat_le, if◌then◌else◌, arith, ◌⊎◌, inl, inr}
-use Rattle.std.specs.List.{All, Contains, list_all}
+use Rattle.std.proofs.Common.{◌≡◌, refl, subst, ℕ, ◌≤◌, List, [], ◌∷◌, Bool, true, false, nat_eq, nat_le, if◌then◌else◌, inl, inr}
+use Rattle.std.specs.List.{Contains, list_all}
 use Rattle.std.proofs.lemmas.Bool.{leb-true}
-use Rattle.std.proofs.lemmas.List.Folds.{list_all-append}
 use Rattle.lola_model.proofs.Strictly.{All-from_members, Contains-cases, Contains-none}
 use Rattle.lola_model.specs.Bounds.{offset_by, offset_onto, offsets_onto}
 use Rattle.lola_model.specs.Named.{IsNamed, all_numbers, offset_in}
 use Rattle.lola_model.specs.Parts.{listed_spec}
-use Rattle.lola_model.specs.declared.expr.Access.{Access}
 use Rattle.lola_model.specs.declared.expr.Expr.{Expr}
 use Rattle.lola_model.specs.declared.expr.Expr.TheVariants.{Literal, Parameter, Read, Window, Defaults', Unary', Both', Choice'}
 use Rattle.lola_model.specs.declared.spec.Spec.{Spec}

@@ -8,9 +8,6 @@ use Rattle.lola_value.specs.declared.front.FrontEnd.TheVariants as front_end
 use Rattle.lola_lexer.specs.Tokens.{tokens_of}
 use Rattle.lola_lexer.specs.declared.token.Token.{Token}
 use Rattle.lola_parser.specs.Cursor.{lexemes}
-use Rattle.lola_parser.specs.Grammar.{specification}
-use Rattle.lola_parser.specs.Whole.{most_levels, IsMisfitAt}
-use Rattle.lola_grammar.specs.Syntax.{Spells}
 use Rattle.lola_syntax.specs.Places.{Refuses}
 use Rattle.lola_tree.specs.declared.declarations.Declaration.{Declaration}
 use Rattle.lola_names.specs.Refused as names
