@@ -1,0 +1,9 @@
+pub mod Each
+pub mod Instances
+pub mod Opening
+pub mod Populations
+pub mod Renaming
+pub mod Rooms
+pub mod Stages
+pub mod Stores
+pub mod Tallies

@@ -1,0 +1,14 @@
+//! The plain store: all values of every instance, and windows that are folds over them.
+#![tactic(auto)]
+
+mod begin;
+mod changes;
+mod instance;
+mod opening;
+mod population;
+mod prepare;
+mod reading;
+mod stage;
+pub mod store;
+mod tally;
+mod whole;

@@ -1,0 +1,79 @@
+//! The plain store as a store.
+
+use crate::store::WholeStore;
+use crate::{begin, changes, prepare, reading};
+use lola_model::store::{SpawnEnd, StreamStore};
+use lola_value::text::Memory;
+use lola_value::value::{Outcome, Params, Value};
+
+impl StreamStore for WholeStore {
+    const BOUNDED: bool = false;
+
+    ghost use Rattle.std.specs.Prelude.{false};
+    ghost use Rattle.lola_store.specs.Stores.{whole_seen, whole_remembers};
+    ghost use Rattle.lola_store.specs.Renaming.{whole_renamed};
+
+    ghost BOUNDED = { false };
+
+    ghost seen = { whole_seen };
+
+    ghost remembers = { whole_remembers };
+
+    fn start_at(&mut self, start: u64) {
+        begin::start_at(self, start)
+    }
+
+    fn prepare(&mut self) -> Result<(), Memory> {
+        prepare::prepare(self)
+    }
+
+    fn begin(&mut self, time: u64) {
+        begin::begin(self, time)
+    }
+
+    fn now(&self, stream: u32, params: &Params) -> Outcome {
+        reading::now(self, stream, params)
+    }
+
+    fn newest(&self, stream: u32, params: &Params) -> Outcome {
+        reading::newest(self, stream, params)
+    }
+
+    fn back(&self, stream: u32, params: &Params, k: u32) -> Outcome {
+        reading::back(self, stream, params, k)
+    }
+
+    fn window(&self, window: u32, params: &Params) -> Outcome {
+        reading::window(self, window, params)
+    }
+
+    fn instances(&self, stream: u32) -> u32 {
+        reading::instances(self, stream)
+    }
+
+    fn params_of(&self, stream: u32, index: u32) -> Params {
+        reading::params_of(self, stream, index)
+    }
+
+    fn push(&mut self, stream: u32, index: u32, value: Value) {
+        changes::push(self, stream, index, value)
+    }
+
+    fn poison(&mut self, stream: u32, index: u32) {
+        changes::poison(self, stream, index)
+    }
+
+    fn poison_stream(&mut self, stream: u32) {
+        changes::poison_stream(self, stream)
+    }
+
+    fn spawn(&mut self, stream: u32, params: Params) -> SpawnEnd {
+        changes::spawn(self, stream, params)
+    }
+
+    fn close(&mut self, stream: u32, index: u32) {
+        changes::close(self, stream, index)
+    }
+
+    ghost renamed = { whole_renamed };
+}
