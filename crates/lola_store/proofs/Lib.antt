@@ -9,3 +9,4 @@ mod Preparing
 mod Ranges
 mod Recalling
 mod Tallying
+mod Taken

@@ -4,6 +4,7 @@
 mod begin;
 mod changes;
 mod instance;
+pub mod law;
 mod opening;
 mod population;
 mod prepare;
