@@ -292,6 +292,7 @@ fn specifications_that_are_accepted(rt: HostRuntime) -> Result<(), Memory> {
         "input u: UInt8\noutput b: UInt8 := u + -0 + 255",
         "output b: Int64 @a := 9223372036854775807\ntrigger @a b > -9223372036854775808 \"fine\"",
         "output b @(a || a) := 1 < 2\ntrigger b",
+        "output h: Int64 @30Hz := a.hold(or: 0)",
         "output b: UInt64 @1Hz := a.aggregate(over: 65536s, using: count)\noutput c: Int64 @1us := a.offset(by: -4096).defaults(to: 0)\noutput d: UInt64 @4000000000s := a.aggregate(over: 4000000000s, using: count)",
     ];
     for text in table {
@@ -410,5 +411,78 @@ fn the_most_streams(rt: HostRuntime) -> Result<(), Memory> {
         text.push_str(line.as_str())?;
     }
     assert_eq!(rt; outcome(rt.alloc(), text.as_bytes()), (0, 0));
+    Ok(())
+}
+
+/// What is refused before there is a tree.
+#[test]
+fn refusals_of_tokens_and_grammar(rt: HostRuntime) -> Result<(), Memory> {
+    let table = [
+        ("output b: Int64 := 1.5", (2, 34)),
+        ("output b: Int64 := \"a", (2, 34)),
+        ("output b: Int64 :=", (3, 33)),
+        ("output b: Int64 := a b", (3, 36)),
+    ];
+    for (text, wanted) in table {
+        assert!(rt; has(rt.alloc(), text, wanted)?, "of {text}");
+    }
+    Ok(())
+}
+
+/// A text with so many repetitions of a piece in it.
+fn repeated(
+    alloc: Global,
+    head: &str,
+    piece: &str,
+    count: usize,
+    tail: &str,
+) -> Result<String, Memory> {
+    let mut text = format!(in alloc; "{I}{head}")?;
+    for _ in 0..count {
+        text.push_str(piece)?;
+    }
+    text.push_str(tail)?;
+    Ok(text)
+}
+
+/// The 513th mark, also behind a bracket that only its end shows to be a mark.
+#[test]
+fn expressions_that_are_too_deep(rt: HostRuntime) -> Result<(), Memory> {
+    let table = [
+        ("output b: Int64 := a", " + a", 512, "", (0, 0)),
+        ("output b: Int64 := a", " + a", 513, "", (4, 2084)),
+        (
+            "output b(p: Int64): Int64 spawn with (a",
+            "+a",
+            511,
+            ") eval with a",
+            (0, 0),
+        ),
+        (
+            "output b(p: Int64): Int64 spawn with (a",
+            "+a",
+            512,
+            ") eval with a",
+            (4, 1076),
+        ),
+    ];
+    for (head, piece, count, tail, wanted) in table {
+        let text = repeated(rt.alloc(), head, piece, count, tail)?;
+        assert_eq!(rt;
+            outcome(rt.alloc(), text.as_bytes()),
+            wanted,
+            "of {count} times {piece}"
+        );
+    }
+    Ok(())
+}
+
+#[test]
+fn a_text_that_is_too_long(rt: HostRuntime) -> Result<(), Memory> {
+    let table = [(1_048_576, (0, 0)), (1_048_577, (1, 1_048_576))];
+    for (count, wanted) in table {
+        let text = vec![in rt.alloc(); b' '; count]?;
+        assert_eq!(rt; outcome(rt.alloc(), text.as_slice()), wanted);
+    }
     Ok(())
 }
