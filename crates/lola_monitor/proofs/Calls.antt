@@ -5,11 +5,12 @@ use Rattle.std.proofs.Math.Seq.{take-append_seam, drop-append_seam}
 use Rattle.lola_port.specs.Asks.{given_ask}
 use Rattle.lola_port.specs.States.{ShelfState}
 use Rattle.lola_port.specs.declared.traits.Ask.{Ask}
-use Rattle.lola_model.specs.declared.plan.Plan.{Plan}
+use Rattle.lola_model.specs.Faults.{RunFault}
+use Rattle.lola_model.specs.declared.journal.Entry.{Entry}
 use Rattle.lola_report.specs.declared.end.EndLine.TheVariants.{Done, Usage, Refused, Malformed, Fault, UnreadableSpecification, UnreadableSource, Analysed}
 use Rattle.lola_monitor.specs.Command.{names_asked}
-use Rattle.lola_monitor.specs.Monitor.{Asked, IsFrontOf, Outside, asks_between}
-use Rattle.lola_monitor.specs.Outcomes.{Marred, PlansName, RunsSource, Stopped, noted}
+use Rattle.lola_monitor.specs.Monitor.{Asked, IsFrontOf, Outside, Setting, asks_between}
+use Rattle.lola_monitor.specs.Outcomes.{AtCutDeadline, AtDeadline, AtRow, Marred, PlansName, RunsSource, Stopped, noted}
 use Rattle.lola_monitor.specs.declared.outcome.Outcome.{Outcome}
 use Rattle.lola_monitor.specs.declared.outcome.Outcome.TheVariants.{Line, Report, Put, Memory}
 use Rattle.lola_monitor.specs.declared.outcome.Unplanned.{Unplanned}
@@ -51,18 +52,25 @@ grew_stopped_by name names before after (inr one) out = grew_one name names befo
 pub grew_stopped : (name : List ℕ) (names : List (List ℕ)) (before after : ShelfState) → Stopped name before after → Grew (name ∷ names) before after
 grew_stopped name names before after s = grew_stopped_by name names before after s.asks s.out
 
-pub grew_source : (outcome : Outcome) (plan : Plan) (name : List ℕ) (before after : Outside) → RunsSource outcome plan name before after → Grew (name ∷ []) before.shelf after.shelf
-grew_source (Line (Done a l n v)) plan name before after ran = grew_noted name [] before.shelf after.shelf ran.ended.shelf
-grew_source (Line (Malformed n row kind)) plan name before after ran = grew_noted name [] before.shelf after.shelf ran.ended.shelf
-grew_source (Line (Fault stream kind time)) plan name before after ran = grew_noted name [] before.shelf after.shelf ran.shelf
-grew_source (Line (UnreadableSource n)) plan name before after ran = grew_marred name [] before.shelf after.shelf ran.shelf
-grew_source (Line Usage) plan name before after ran = absurd ran
-grew_source (Line (Refused r)) plan name before after ran = absurd ran
-grew_source (Line UnreadableSpecification) plan name before after ran = absurd ran
-grew_source (Line (Analysed n w)) plan name before after ran = absurd ran
-grew_source (Report text) plan name before after ran = absurd ran
-grew_source Put plan name before after ran = grew_stopped name [] before.shelf after.shelf ran.shelf
-grew_source Memory plan name before after ran = grew_stopped name [] before.shelf after.shelf ran.shelf
+-- at a fault the source came back, failed or not
+grew_fault : (fault : RunFault) (s : Setting) (name : List ℕ) (journal : List Entry) (before after : ShelfState)
+    → AtRow fault s name journal before after ⊎ (AtDeadline s name journal before after ⊎ AtCutDeadline s name journal before after) → Grew (name ∷ []) before after
+grew_fault fault s name journal before after (inl at) = grew_noted name [] before after at.shelf
+grew_fault fault s name journal before after (inr (inl at)) = grew_noted name [] before after at.shelf
+grew_fault fault s name journal before after (inr (inr at)) = grew_marred name [] before after at.shelf
+
+pub grew_source : (outcome : Outcome) (s : Setting) (name : List ℕ) (before after : Outside) → RunsSource outcome s name before after → Grew (name ∷ []) before.shelf after.shelf
+grew_source (Line (Done a l n v)) s name before after ran = grew_noted name [] before.shelf after.shelf ran.ended.shelf
+grew_source (Line (Malformed n row kind)) s name before after ran = grew_noted name [] before.shelf after.shelf ran.ended.shelf
+grew_source (Line (Fault stream kind time)) s name before after ran = grew_fault ran.fault s name _ before.shelf after.shelf ran.place
+grew_source (Line (UnreadableSource n)) s name before after ran = grew_marred name [] before.shelf after.shelf ran.shelf
+grew_source (Line Usage) s name before after ran = absurd ran
+grew_source (Line (Refused r)) s name before after ran = absurd ran
+grew_source (Line UnreadableSpecification) s name before after ran = absurd ran
+grew_source (Line (Analysed n w)) s name before after ran = absurd ran
+grew_source (Report text) s name before after ran = absurd ran
+grew_source Put s name before after ran = grew_stopped name [] before.shelf after.shelf ran.shelf
+grew_source Memory s name before after ran = grew_stopped name [] before.shelf after.shelf ran.shelf
 
 pub grew_twice : (name : List ℕ) (names : List (List ℕ)) (before mid after : ShelfState) → mid ≡ noted before name → Grew names mid after → Grew (name ∷ names) before after
 grew_twice name names before mid after is grew = record {

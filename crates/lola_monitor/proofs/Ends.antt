@@ -5,18 +5,17 @@ use Rattle.std.specs.Option.{option_map}
 use Rattle.lola_port.specs.Asks.{given_ask}
 use Rattle.lola_port.specs.declared.traits.Ask.{Ask}
 use Rattle.lola_port.specs.States.{PutBroke, Rose, SinkState, grown}
-use Rattle.lola_model.specs.Runs.{settled_fault}
 use Rattle.lola_value.specs.declared.front.Refusal.{Refusal}
 use Rattle.lola_report.specs.Ends.{end_text}
 use Rattle.lola_report.specs.declared.end.EndLine.{EndLine}
 use Rattle.lola_model.specs.declared.source.MalformedKind.{MalformedKind}
 use Rattle.lola_report.specs.declared.end.EndLine.TheVariants.{Done, Usage, Refused, Malformed, Fault, UnreadableSpecification, UnreadableSource, Analysed}
-use Rattle.lola_monitor.specs.Monitor.{Analysis, BrokeOff, IsAnalysed, IsBroken, IsCutAnalysis, IsCutShort, Ran, IsDone, IsEarly, IsFault, IsMalformed, IsRefused, IsUnread, IsUsage, Outside, Wrote, HasFrontOf, first_faulty, is_faulty, verdicts}
+use Rattle.lola_monitor.specs.Monitor.{Analysis, BrokeOff, IsAnalysed, IsBroken, IsCutAnalysis, IsCutShort, Ran, IsDone, IsEarly, IsFault, IsMalformed, IsRefused, IsUnread, IsUsage, Outside, Wrote, HasFrontOf, first_faulty, is_faulty, setting_of, settled_fault_in, verdicts}
 use Rattle.lola_monitor.specs.Outcomes.{Concluded, NoCommand, NoPlan, NotRead, Stood, StoodAnalysed, StoodCut, StoodDone, StoodFault, StoodMalformed, Works}
 use Rattle.lola_monitor.specs.declared.outcome.Outcome.{Outcome}
 use Rattle.lola_monitor.specs.declared.outcome.Outcome.TheVariants.{Line, Report, Put, Memory}
-use Rattle.lola_monitor.proofs.Runs.{grown_twice, known_append, no_part, some_line}
-use Rattle.lola_monitor.proofs.Sources.{an_entry}
+use Rattle.lola_monitor.proofs.Runs.{no_part}
+use Rattle.lola_monitor.proofs.Sinks.{an_entry, grown_twice, known_append, some_line}
 
 -- from the same state
 wrote_same : (s0 s1 s2 : SinkState) (ys : List ℕ) → s1 ≡ s0 → Wrote s1 s2 ys → Wrote s0 s2 ys
@@ -38,7 +37,7 @@ second_faulty asks name ask is faulty = ap first_faulty is ∙ ap (λ (b : Bool)
 module _ (words : List (List ℕ)) (before after : Outside) (last : SinkState) where
   -- the same run, whatever the last line is
   abbrev ran_with : Ran words before after → Ran words before (record after { out = last })
-  ran_with r = record { names = r.names; is_command = r.is_command; plan = r.plan; is_plan = r.is_plan; journal = r.journal; legal = r.legal; sources = r.sources; trace = r.trace }
+  ran_with r = record { names = r.names; is_command = r.is_command; plan = r.plan; is_plan = r.is_plan; accepted = r.accepted; one_model = r.one_model; journal = r.journal; legal = r.legal; sources = r.sources; trace = r.trace }
 
   -- the end line of a run that ends well
   ends_done : (line : EndLine) (s : StoodDone line words before after) → last ≡ grown after.out (end_text line) → IsDone words before (record after { out = last })
@@ -46,9 +45,8 @@ module _ (words : List (List ℕ)) (before after : Outside) (last : SinkState) w
     run = ran_with s.ended.stood.run;
     rows = s.ended.rows;
     no_fault = s.ended.no_fault;
-    out = is ∙ ap (λ o. grown o (end_text line)) s.ended.stood.out ∙ grown_twice before.out _ _ ∙ ap (λ e. grown before.out (verdicts s.ended.stood.run.plan s.ended.stood.run.journal ++ end_text e)) s.line_is;
-    asks = s.ended.asks;
-    count = s.ended.count;
+    out = is ∙ ap (λ o. grown o (end_text line)) s.ended.stood.out ∙ grown_twice before.out _ _ ∙ ap (λ e. grown before.out (verdicts (setting_of s.ended.stood.run.plan s.ended.stood.run.names) s.ended.stood.run.journal ++ end_text e)) s.line_is;
+    given = s.ended.given;
   }
 
   ends_malformed : (line : EndLine) (kind : MalformedKind) (row : ℕ) (s : StoodMalformed line kind row words before after) → last ≡ grown after.out (end_text line) → IsMalformed words before (record after { out = last })
@@ -58,9 +56,8 @@ module _ (words : List (List ℕ)) (before after : Outside) (last : SinkState) w
     row = row;
     rows = s.ended.rows;
     no_fault = s.ended.no_fault;
-    out = is ∙ ap (λ o. grown o (end_text line)) s.ended.stood.out ∙ grown_twice before.out _ _ ∙ ap (λ e. grown before.out (verdicts s.ended.stood.run.plan s.ended.stood.run.journal ++ end_text e)) s.line_is;
-    asks = s.ended.asks;
-    count = s.ended.count;
+    out = is ∙ ap (λ o. grown o (end_text line)) s.ended.stood.out ∙ grown_twice before.out _ _ ∙ ap (λ e. grown before.out (verdicts (setting_of s.ended.stood.run.plan s.ended.stood.run.names) s.ended.stood.run.journal ++ end_text e)) s.line_is;
+    given = s.ended.given;
   }
 
   ends_fault : (line : EndLine) (s : StoodFault line words before after) → Wrote after.out last (end_text line) → IsFault words before (record after { out = last })
@@ -69,10 +66,8 @@ module _ (words : List (List ℕ)) (before after : Outside) (last : SinkState) w
     fault = s.fault;
     rows = s.stood.rows;
     is_fault = s.is_fault;
-    stands = inl s.stands;
-    out = subst (λ e. Wrote (grown before.out (verdicts s.stood.run.plan s.stood.run.journal)) last (end_text e)) s.line_is (wrote_same (grown before.out (verdicts s.stood.run.plan s.stood.run.journal)) after.out last _ s.stood.out wrote);
-    asks = s.asks;
-    count = s.count;
+    stands = s.stands;
+    out = subst (λ e. Wrote (grown before.out (verdicts (setting_of s.stood.run.plan s.stood.run.names) s.stood.run.journal)) last (end_text e)) s.line_is (wrote_same (grown before.out (verdicts (setting_of s.stood.run.plan s.stood.run.names) s.stood.run.journal)) after.out last _ s.stood.out wrote);
   }
 
   ends_cut_short : (line : EndLine) (s : StoodCut line words before after) → Wrote after.out last (end_text line) → IsCutShort words before (record after { out = last })
@@ -80,12 +75,9 @@ module _ (words : List (List ℕ)) (before after : Outside) (last : SinkState) w
     run = ran_with s.stood.run;
     rows = s.stood.rows;
     no_fault = s.no_fault;
-    ask = s.ask;
-    asks = s.asks;
-    faulty = s.faulty;
+    failed = s.failed;
     unless_given = s.unless_given;
-    rose = s.rose;
-    out = subst (λ e. Wrote (grown before.out (verdicts s.stood.run.plan s.stood.run.journal)) last (end_text e)) s.line_is (wrote_same (grown before.out (verdicts s.stood.run.plan s.stood.run.journal)) after.out last _ s.stood.out wrote);
+    out = subst (λ e. Wrote (grown before.out (verdicts (setting_of s.stood.run.plan s.stood.run.names) s.stood.run.journal)) last (end_text e)) s.line_is (wrote_same (grown before.out (verdicts (setting_of s.stood.run.plan s.stood.run.names) s.stood.run.journal)) after.out last _ s.stood.out wrote);
   }
 
   ends_usage : NoCommand words before after → Wrote after.out last (end_text Usage) → IsUsage words before (record after { out = last })
@@ -120,13 +112,15 @@ module _ (words : List (List ℕ)) (before after : Outside) (last : SinkState) w
   early_analysis text s same = record { trace = s.analysis.trace; out = same ∙ s.out }
 
   -- the last line broke
-  broke_end : (line : EndLine) (s : Stood words before after) → settled_fault s.run.plan None s.run.journal ≡ None → PutBroke after.out last (end_text line) → IsBroken words before (record after { out = last })
+  broke_end : (line : EndLine) (s : Stood words before after) → settled_fault_in (setting_of s.run.plan s.run.names) s.run.journal ≡ None → PutBroke after.out last (end_text line) → IsBroken words before (record after { out = last })
   broke_end line s none broke = record {
     off = record {
       names = s.run.names;
       is_command = s.run.is_command;
       plan = s.run.plan;
       is_plan = s.run.is_plan;
+      accepted = s.run.accepted;
+      one_model = s.run.one_model;
       journal = s.run.journal;
       legal = s.run.legal;
       sources = s.run.sources;
@@ -135,7 +129,7 @@ module _ (words : List (List ℕ)) (before after : Outside) (last : SinkState) w
       line = line;
       out = broken_front before.out after.out last _ (end_text line) s.out broke;
     };
-    no_fault = none;
+    no_fault = inl none;
     rose = inl (subst (λ n. Rose n last.count) (ap (λ o. o.count) s.out) broke.rose);
   }
 
@@ -146,13 +140,15 @@ module _ (words : List (List ℕ)) (before after : Outside) (last : SinkState) w
     is_command = s.run.is_command;
     plan = s.run.plan;
     is_plan = s.run.is_plan;
+    accepted = s.run.accepted;
+    one_model = s.run.one_model;
     journal = s.run.journal;
     legal = s.run.legal;
     sources = s.run.sources;
     rows = s.rows;
     trace = no_part before.trace after.trace s.run.journal an_entry (some_line an_entry) s.run.trace;
     line = line;
-    out = record { part = verdicts s.run.plan s.run.journal; rest = end_text line; joined = refl; written = ap (λ o. o.written) (same ∙ s.out) };
+    out = record { part = verdicts (setting_of s.run.plan s.run.names) s.run.journal; rest = end_text line; joined = refl; written = ap (λ o. o.written) (same ∙ s.out) };
   }
 
   early_end : IsEarly before after → last ≡ after.out → IsEarly before (record after { out = last })

@@ -51,7 +51,7 @@ refusal_of_all bytes all r (inr cut) is = refusal_of_long bytes all cut.1 r cut.
 -- what was read was compiled
 pub planned : (bytes name : List ℕ) (before after : ShelfState) (result : Result Plan Unplanned) → ((all : List ℕ) → before.told name ≡ Some all → IsReadFront 1048576 bytes all)
     → after ≡ noted before name → PlansText result bytes → PlansName result name before after
-planned bytes name before after (Ok plan) front read is = record { is_plan = λ all told. plan_of_all bytes all plan (front all told) is; accepted = is.accepted; shelf = read }
+planned bytes name before after (Ok plan) front read is = record { is_plan = λ all told. plan_of_all bytes all plan (front all told) is.0; accepted = is.0.accepted; one_model = is.1; shelf = read }
 planned bytes name before after (Err unplanned.Unreadable) front read is = absurd is
 planned bytes name before after (Err (unplanned.Refused r)) front read is = record { refused = λ all told. refusal_of_all bytes all r (front all told) is; shelf = read }
 planned bytes name before after (Err unplanned.Memory) front read is = record { asks = inr (given_ask name, refl, ap (λ s. s.asks) read); out = ap (λ s. s.out) read }

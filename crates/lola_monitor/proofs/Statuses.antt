@@ -9,8 +9,9 @@ use Rattle.lola_report.specs.declared.end.EndLine.TheVariants.{Done, Usage, Refu
 use Rattle.lola_command.specs.Command.{command_of}
 use Rattle.lola_command.specs.declared.command.Command.{Command}
 use Rattle.lola_command.specs.declared.command.Command.TheVariants.{Run, Analyse}
+use Rattle.lola_command.specs.declared.command.RunCommand.{RunCommand}
 use Rattle.lola_monitor.specs.Command.{Names, analysed_named, analysed_of, run_named, run_of, served, served_source, specification_named, specification_of, with_source, word_at}
-use Rattle.lola_monitor.specs.Monitor.{CanRun, IsAnalysed, IsBroken, IsClean, IsCleanAnalysis, IsCutAnalysis, IsCutShort, IsDone, IsFault, IsMalformed, IsRefused, IsRefusedBy, IsSpoiled, IsUnbuilt, IsUnread, IsUsage, Outside, Plans, source_rows}
+use Rattle.lola_monitor.specs.Monitor.{IsAnalysed, IsBroken, IsClean, IsCleanAnalysis, IsCutAnalysis, IsCutShort, IsDone, IsFault, IsMalformed, IsRefused, IsRefusedBy, IsSpoiled, IsUnbuilt, IsUnread, IsUsage, Outside, Plans, fault_in, setting_of, source_rows}
 use Rattle.lola_monitor.specs.Outcomes.{Concluded, Works}
 use Rattle.lola_monitor.specs.declared.outcome.Outcome.{Outcome}
 use Rattle.lola_monitor.specs.declared.outcome.Outcome.TheVariants.{Line, Report, Put, Memory}
@@ -27,14 +28,14 @@ abbrev specification_in : Option Names → List ℕ
 specification_in None = []
 specification_in (Some names) = names.specification
 
-with_specification : (specification : List ℕ) (source : Option (List ℕ)) (names : Names) → with_source specification source ≡ Some names → specification ≡ names.specification
-with_specification specification None names is = absurd (cc)
-with_specification specification (Some source) names is = ap specification_in is
+with_specification : (words : List (List ℕ)) (r : RunCommand) (source : Option (List ℕ)) (names : Names) → with_source words r source ≡ Some names → word_at words r.specification ≡ names.specification
+with_specification words r None names is = absurd (cc)
+with_specification words r (Some source) names is = ap specification_in is
 
 -- the specification of a served run is that of the command
 served_specification : (words : List (List ℕ)) (c : Option Command) (names : Names) → served words c ≡ Some names → specification_named words c ≡ Some names.specification
 served_specification words None names is = absurd (cc)
-served_specification words (Some (Run r)) names is = ap Some (with_specification (word_at words r.specification) (served_source words r) names is)
+served_specification words (Some (Run r)) names is = ap Some (with_specification words r (served_source words r) names is)
 served_specification words (Some (Analyse n)) names is = absurd (cc)
 
 analysed_specification : (words : List (List ℕ)) (c : Option Command) (name : List ℕ) → analysed_named words c ≡ Some name → specification_named words c ≡ Some name
@@ -75,14 +76,15 @@ module _ (words : List (List ℕ)) (before after : Outside) (last : SinkState) w
 
     clean_fault : IsFault words before (record after { out = last }) → ⊥
     clean_fault bad =
-        let none = clean.no_fault bad.run.plan bad.run.journal (bad.run.is_plan clean.specification (told_specification bad.run.names bad.run.is_command)) bad.run.trace in
+        let same = same_names words bad.run.names clean.names bad.run.is_command clean.is_command in
+        let none : fault_in (setting_of bad.run.plan bad.run.names) bad.run.journal ≡ None =
+        ap (λ (n : Names). fault_in (setting_of bad.run.plan n) bad.run.journal) same
+        ∙ clean.no_fault bad.run.plan bad.run.journal (bad.run.is_plan clean.specification (told_specification bad.run.names bad.run.is_command)) bad.run.trace in
         let some = bad.is_fault in
         absurd (cc)
 
     clean_unbuilt : (name : List ℕ) (r : Refusal) → specification_of words ≡ Some name → IsUnbuilt words (before.shelf.told name) r → ⊥
-    clean_unbuilt name r is bad =
-        ⊎_elim (λ (none : run_of words ≡ None). let known = clean.is_command in absurd (cc))
-        (λ (cannot : CanRun bad.plan → ⊥). cannot (clean.can_run bad.plan (bad.is_plan clean.specification (told_name name is)))) bad.not_yet
+    clean_unbuilt name r is bad = let none = bad.not_yet in let known = clean.is_command in absurd (cc)
 
     clean_refused : IsRefused words before (record after { out = last }) → ⊥
     clean_refused bad = ⊎_elim (λ (refused : IsRefusedBy (before.shelf.told bad.name) bad.refusal). clean.not_refused bad.refusal (refused clean.specification (told_name bad.name bad.is_command))) (clean_unbuilt bad.name bad.refusal bad.is_command) bad.cause
@@ -92,7 +94,7 @@ module _ (words : List (List ℕ)) (before after : Outside) (last : SinkState) w
 
     clean_unreadable : IsUnread words before (record after { out = last }) ⊎ IsCutShort words before (record after { out = last }) → ⊥
     clean_unreadable (inl bad) = clean.shelf bad.rose
-    clean_unreadable (inr bad) = clean.shelf bad.rose
+    clean_unreadable (inr bad) = clean.shelf bad.failed.rose
 
     clean_broken : IsBroken words before (record after { out = last }) ⊎ IsCutAnalysis words before (record after { out = last }) → ⊥
     clean_broken (inl bad) = ⊎_elim clean.out clean.trace bad.rose
@@ -122,7 +124,7 @@ module _ (words : List (List ℕ)) (before after : Outside) (last : SinkState) w
 
     whole_unreadable : IsUnread words before (record after { out = last }) ⊎ IsCutShort words before (record after { out = last }) → ⊥
     whole_unreadable (inl bad) = whole.shelf bad.rose
-    whole_unreadable (inr bad) = whole.shelf bad.rose
+    whole_unreadable (inr bad) = whole.shelf bad.failed.rose
 
     whole_broken : IsBroken words before (record after { out = last }) ⊎ IsCutAnalysis words before (record after { out = last }) → ⊥
     whole_broken (inl bad) = other bad.off.names bad.off.is_command

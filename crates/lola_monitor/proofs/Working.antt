@@ -1,19 +1,23 @@
 -- A command's run, after its specification was read.
-use Rattle.std.proofs.Common.{◌≡◌, ◌⊎◌, ℕ, ◌+◌, List, [], ◌∷◌, ◌++◌, map, Option, None, Some, Err, Bool, inl, inr, ⊎_elim, refl, sym, ap, if◌then◌else◌, ◌∙◌, subst, append_assoc}
+use Rattle.std.proofs.Common.{◌≡◌, ◌⊎◌, ℕ, ◌+◌, List, [], ◌∷◌, ◌++◌, Option, None, Some, Err, Bool, inl, inr, ⊎_elim, refl, sym, ap, if◌then◌else◌, ◌∙◌, subst, append_assoc}
 use Rattle.std.proofs.lemmas.List.{append-nil}
 use Rattle.std.specs.Option.{option_map}
 use Rattle.lola_port.specs.Asks.{given_ask}
 use Rattle.lola_port.specs.States.{Rose, ShelfState}
 use Rattle.lola_port.specs.declared.traits.Ask.{Ask}
 use Rattle.lola_model.specs.Journal.{rows_of}
+use Rattle.lola_model.specs.Acceptance.{IsAccepted}
+use Rattle.lola_model.specs.Faults.{RunFault}
+use Rattle.lola_model.specs.Model.{HasOneModel}
 use Rattle.lola_model.specs.declared.plan.Plan.{Plan}
+use Rattle.lola_model.specs.declared.journal.Entry.{Entry}
 use Rattle.lola_model.specs.declared.journal.Row.{Row}
 use Rattle.lola_rows.specs.Rows.{SourceEnd, SourceRows, Whole, MalformedAt}
 use Rattle.lola_report.specs.Ends.{end_text}
 use Rattle.lola_report.specs.declared.end.EndLine.TheVariants.{Done, Usage, Refused, Malformed, Fault, UnreadableSpecification, UnreadableSource, Analysed}
-use Rattle.lola_monitor.specs.Command.{Names, analysed_of, names_of, run_of, run_specification, specification_of}
-use Rattle.lola_monitor.specs.Monitor.{Begins, BrokeOff, CanRun, Ends, IsEarly, Outside, Plans, Ran, analysis_text, asks_between, first_faulty, unbuilt}
-use Rattle.lola_monitor.specs.Outcomes.{CutFacts, EndedRun, Marred, PlansName, ReadPlan, RunsSource, SourceRun, Stood, StoodEnded, Works, noted, without_plan}
+use Rattle.lola_monitor.specs.Command.{Names, analysed_of, run_of, run_specification, specification_of}
+use Rattle.lola_monitor.specs.Monitor.{AllGiven, Begins, BrokeOff, Ends, IsDeadlineFault, IsEarly, Outside, Plans, Ran, Setting, SourceFailed, StandsAt, analysis_text, asks_between, first_faulty, setting_of, unbuilt}
+use Rattle.lola_monitor.specs.Outcomes.{AtCutDeadline, AtDeadline, AtRow, CutFacts, EndedRun, Marred, PlansName, ReadPlan, RunsSource, SourceRun, Stood, StoodEnded, Works, noted, without_plan}
 use Rattle.lola_monitor.specs.declared.outcome.Outcome.{Outcome}
 use Rattle.lola_monitor.specs.declared.outcome.Outcome.TheVariants.{Line, Report, Put, Memory}
 use Rattle.lola_monitor.specs.declared.outcome.Unplanned.{Unplanned}
@@ -24,44 +28,48 @@ ends_begin : (told : Option (List ℕ)) (plan : Plan) (rows : List Row) (end : S
 ends_begin told plan rows end ends bytes is = ([], ap (λ (r : SourceRows). r.rows) (ends bytes is) ∙ sym (append-nil rows))
 
 module _ (words : List (List ℕ)) (names : Names) (plan : Plan) (before after : Outside) (shelf : ShelfState) where
-  module _ (is_command : run_of words ≡ Some names) (is_plan : Plans (before.shelf.told names.specification) plan) (read : shelf ≡ noted before.shelf names.specification) where
+  abbrev s : Setting
+  s = setting_of plan names
+
+  module _ (is_command : run_of words ≡ Some names) (is_plan : Plans (before.shelf.told names.specification) plan) (accepted : IsAccepted plan) (one_model : HasOneModel plan) (read : shelf ≡ noted before.shelf names.specification) where
     told : (name : List ℕ) → shelf.told name ≡ before.shelf.told name
     told name = ap (λ s. s.told name) read
 
     asks_after : (asks : List Ask) → after.shelf.asks ≡ shelf.asks ++ asks → asks_between before.shelf after.shelf ≡ given_ask names.specification ∷ asks
     asks_after asks is = between before.shelf after.shelf (given_ask names.specification ∷ asks) (is ∙ ap (λ (s : ShelfState). s.asks ++ asks) read ∙ append_assoc before.shelf.asks (given_ask names.specification ∷ []) asks)
 
-    all_given : after.shelf ≡ noted shelf names.source → asks_between before.shelf after.shelf ≡ map given_ask (names_of names)
-    all_given is = asks_after (given_ask names.source ∷ []) (ap (λ s. s.asks) is)
+    given : after.shelf ≡ noted shelf names.source → AllGiven names before.shelf after.shelf
+    given is = record { asks = asks_after (given_ask names.source ∷ []) (ap (λ s. s.asks) is); count = ap (λ s. s.count) is ∙ ap (λ s. s.count) read }
 
-    count_kept : after.shelf ≡ noted shelf names.source → after.shelf.count ≡ before.shelf.count
-    count_kept is = ap (λ s. s.count) is ∙ ap (λ s. s.count) read
+    abbrev source_failed : Marred names.source shelf after.shelf → SourceFailed names before.shelf after.shelf
+    source_failed m = record { ask = m.ask; asks = asks_after (m.ask ∷ []) m.asks; faulty = m.faulty; rose = subst (λ n. Rose n after.shelf.count) (ap (λ s. s.count) read) m.rose }
 
-    abbrev ran : SourceRun plan (record before { shelf = shelf }) after → Ran words before after
-    ran run = record { names = names; is_command = is_command; plan = plan; is_plan = is_plan; journal = run.journal; legal = run.legal; sources = run.sources; trace = run.trace }
+    abbrev ran : SourceRun s (record before { shelf = shelf }) after → Ran words before after
+    ran run = record { names = names; is_command = is_command; plan = plan; is_plan = is_plan; accepted = accepted; one_model = one_model; journal = run.journal; legal = run.legal; sources = run.sources; trace = run.trace }
 
     begins : (rows : List Row) → Begins (shelf.told names.source) plan rows → Begins (before.shelf.told names.source) plan rows
     begins rows b = subst (λ t. Begins t plan rows) (told names.source) b
 
-    abbrev stood : (run : SourceRun plan (record before { shelf = shelf }) after) → Begins (shelf.told names.source) plan (rows_of 0 run.journal) → Stood words before after
+    abbrev stood : (run : SourceRun s (record before { shelf = shelf }) after) → Begins (shelf.told names.source) plan (rows_of 0 run.journal) → Stood words before after
     stood run rows = record { run = ran run; out = run.out; rows = begins _ rows }
 
-    abbrev ended : (end : SourceEnd) → EndedRun end plan names.source (record before { shelf = shelf }) after → StoodEnded end words before after
+    abbrev ended : (end : SourceEnd) → EndedRun end s names.source (record before { shelf = shelf }) after → StoodEnded end words before after
     ended end e = record {
       stood = stood e.run (ends_begin (shelf.told names.source) plan (rows_of 0 e.run.journal) end e.rows);
       rows = subst (λ t. Ends t plan (rows_of 0 e.run.journal) end) (told names.source) e.rows;
       no_fault = e.no_fault;
       settled = e.settled;
-      asks = all_given e.shelf;
-      count = count_kept e.shelf;
+      given = given e.shelf;
     }
 
-    abbrev off : CutFacts plan names.source (record before { shelf = shelf }) after → BrokeOff words before after
+    abbrev off : CutFacts s names.source (record before { shelf = shelf }) after → BrokeOff words before after
     off cut = record {
       names = names;
       is_command = is_command;
       plan = plan;
       is_plan = is_plan;
+      accepted = accepted;
+      one_model = one_model;
       journal = cut.journal;
       legal = cut.legal;
       sources = cut.sources;
@@ -76,26 +84,28 @@ module _ (words : List (List ℕ)) (names : Names) (plan : Plan) (before after :
       };
     }
 
-    pub works_after : (outcome : Outcome) → RunsSource outcome plan names.source (record before { shelf = shelf }) after → Works outcome words before after
+    stands_at : (fault : RunFault) (journal : List Entry)
+        → AtRow fault s names.source journal shelf after.shelf ⊎ (AtDeadline s names.source journal shelf after.shelf ⊎ AtCutDeadline s names.source journal shelf after.shelf)
+        → StandsAt names s journal fault before.shelf after.shelf
+    stands_at fault journal (inl at) = inl (at.is, given at.shelf)
+    stands_at fault journal (inr (inl at)) = inr (inl (subst (λ t. IsDeadlineFault t s journal) (told names.source) at.is, given at.shelf))
+    stands_at fault journal (inr (inr at)) = inr (inr (record { settled = at.settled; failed = source_failed at.shelf }))
+
+    pub works_after : (outcome : Outcome) → RunsSource outcome s names.source (record before { shelf = shelf }) after → Works outcome words before after
     works_after (Line (Done a l s v)) r = record { ended = ended Whole r.ended; line_is = r.line_is }
     works_after (Line (Malformed n row kind)) r = record { ended = ended (MalformedAt kind row) r.ended; line_is = r.line_is }
     works_after (Line (Fault stream kind time)) r = record {
       stood = stood r.run r.rows;
       fault = r.fault;
       is_fault = r.is_fault;
-      stands = r.stands;
-      asks = all_given r.shelf;
-      count = count_kept r.shelf;
+      stands = stands_at r.fault r.run.journal r.place;
       line_is = r.line_is;
     }
     works_after (Line (UnreadableSource n)) r = record {
       stood = stood r.run r.rows;
       no_fault = r.no_fault;
-      ask = r.shelf.ask;
-      asks = asks_after (r.shelf.ask ∷ []) r.shelf.asks;
-      faulty = r.shelf.faulty;
+      failed = source_failed r.shelf;
       unless_given = r.unless_given;
-      rose = subst (λ n. Rose n after.shelf.count) (ap (λ s. s.count) read) r.shelf.rose;
       line_is = r.line_is;
     }
     works_after (Line Usage) r = absurd r
@@ -129,8 +139,8 @@ module _ (words : List (List ℕ)) (name : List ℕ) (before after : Outside) (e
   works_unplanned unplanned.Memory p = inl early
 
   module _ (plan : Plan) (p : ReadPlan plan name before.shelf after.shelf) where
-    -- a plan that is not run yet
-    pub works_unbuilt : run_specification words ≡ Some name → (run_of words ≡ None) ⊎ (CanRun plan → ⊥) → Works (Line (Refused unbuilt)) words before after
+    -- a run that is not served yet
+    pub works_unbuilt : run_specification words ≡ Some name → run_of words ≡ None → Works (Line (Refused unbuilt)) words before after
     works_unbuilt is_run not_yet = record {
       name = name;
       is_command = is_command;

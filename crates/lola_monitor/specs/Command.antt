@@ -1,17 +1,19 @@
 -- What the words of a command ask for.
 use Rattle.std.specs.Prelude.{ℕ, List, [], ◌∷◌, Option, Some, None, map, slice_get, unwrap_or}
 use Rattle.lola_model.specs.declared.journal.Show.{Show}
-use Rattle.lola_model.specs.declared.journal.Show.TheVariants.{Triggers, Outputs}
 use Rattle.lola_command.specs.Said.{Word}
 use Rattle.lola_command.specs.Command.{command_of}
 use Rattle.lola_command.specs.declared.command.Command.{Command}
 use Rattle.lola_command.specs.declared.command.Command.TheVariants.{Run, Analyse}
 use Rattle.lola_command.specs.declared.command.RunCommand.{RunCommand}
 
--- what a run is of: a specification and a source
+-- what a run is of: a specification and a source, where time begins if that is told, what is shown, and how many workers there are
 pub record Names : Type 0 where
   pub specification : List ℕ
   pub source : List ℕ
+  pub start : Option ℕ
+  pub show : Show
+  pub workers : ℕ
 
 -- in the order of fetching
 abbrev pub names_of : Names → List (List ℕ)
@@ -27,26 +29,21 @@ only_source words [] = None
 only_source words (n ∷ []) = Some (word_at words n)
 only_source words (n ∷ m ∷ ns) = None
 
-abbrev pub source_from : Option ℕ → Option Word → Option Word
-source_from None source = source
-source_from (Some start) source = None
-
-abbrev pub source_shown : Show → Option Word → Option Word
-source_shown Triggers source = source
-source_shown Outputs source = None
-
--- the source of a run that can be served: it has one, shows triggers, and is told no start; how many workers it has and whether they
--- go in turns changes nothing
+-- the source of a run that can be served: it has one; whether its sources go in turns changes nothing
 abbrev pub served_source : List Word → RunCommand → Option Word
-served_source words r = source_from r.start (source_shown r.show (only_source words r.sources))
+served_source words r = only_source words r.sources
 
-abbrev pub with_source : Word → Option Word → Option Names
-with_source specification None = None
-with_source specification (Some source) = Some (record { specification = specification; source = source })
+abbrev pub names_with : List Word → RunCommand → Word → Names
+names_with words r source =
+    record { specification = word_at words r.specification; source = source; start = r.start; show = r.show; workers = r.workers }
+
+abbrev pub with_source : List Word → RunCommand → Option Word → Option Names
+with_source words r None = None
+with_source words r (Some source) = Some (names_with words r source)
 
 abbrev pub served : List Word → Option Command → Option Names
 served words None = None
-served words (Some (Run r)) = with_source (word_at words r.specification) (served_source words r)
+served words (Some (Run r)) = with_source words r (served_source words r)
 served words (Some (Analyse n)) = None
 
 -- the served run that the words are

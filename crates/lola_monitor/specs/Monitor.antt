@@ -1,28 +1,29 @@
 -- What the top call leaves, by its status.
-use Rattle.std.specs.Prelude.{ℕ, ◌≡◌, ◌⊎◌, ◌+◌, ◌<◌, List, [], ◌∷◌, ◌++◌, Option, Some, None, option_map, Bool, true, false, not, ◌||◌, if◌then◌else◌, nat_lt, length, take, drop, map, slice_get, All, IsTrue}
+use Rattle.std.specs.Prelude.{ℕ, ◌≡◌, ◌⊎◌, ◌+◌, ◌<◌, List, [], ◌∷◌, ◌++◌, Option, Some, None, option_map, Bool, true, false, not, ◌||◌, if◌then◌else◌, nat_lt, length, take, drop, map, slice_get, All}
 use Rattle.std.specs.Io.KnownBytes.{append_known}
 use Rattle.lola_port.specs.Asks.{given_ask}
 use Rattle.lola_port.specs.States.{PutBroke, Rose, ShelfState, SinkState, IsProperPart, grown}
 use Rattle.lola_port.specs.declared.traits.Ask.{Ask}
 use Rattle.lola_value.specs.declared.front.Code.TheVariants as code
 use Rattle.lola_value.specs.declared.front.Refusal.{Refusal}
+use Rattle.lola_model.specs.Acceptance.{IsAccepted}
 use Rattle.lola_model.specs.Journal.{IsLegal, accepted, rows_of}
 use Rattle.lola_model.specs.Faults.{RunFault}
 use Rattle.lola_model.specs.Steps.{all_steps}
 use Rattle.lola_model.specs.Texts.{text_of}
 use Rattle.lola_model.specs.Trace.{trace_line, trace_text}
+use Rattle.lola_model.specs.Model.{HasOneModel}
 use Rattle.lola_model.specs.Runs.{settled_fault, final_lines, first_fault}
 use Rattle.lola_model.specs.declared.plan.Plan.{Plan}
 use Rattle.lola_model.specs.declared.spec.Stream.{Stream}
 use Rattle.lola_model.specs.declared.journal.Row.{Row}
 use Rattle.lola_model.specs.declared.journal.Entry.{Entry}
 use Rattle.lola_model.specs.declared.journal.Mark.TheVariants as mark
-use Rattle.lola_model.specs.declared.journal.Show.TheVariants.{Triggers}
+use Rattle.lola_model.specs.declared.journal.Show.{Show}
 use Rattle.lola_model.specs.declared.source.MalformedKind.{MalformedKind}
 use Rattle.lola_front.specs.Front.{IsPlanOf, IsRefusalOf}
 use Rattle.lola_bounds.specs.Report.{report_of}
 use Rattle.lola_command.specs.Command.{command_of}
-use Rattle.lola_sums.specs.Simple.{IsSimple, are_number_inputs}
 use Rattle.lola_rows.specs.Rows.{SourceRows, SourceEnd, Whole, MalformedAt, rows_of_source}
 use Rattle.lola_rows.specs.Columns.{inputs_of}
 use Rattle.lola_report.specs.Ends.{end_text}
@@ -98,14 +99,32 @@ abbrev pub late_count : List Entry → ℕ
 late_count [] = 0
 late_count (e ∷ es) = add_late e (late_count es)
 
+-- what decides the model of a journal's rows and its lines: the plan, where time begins if that is told, and what is shown
+pub record Setting : Type 0 where
+  pub plan : Plan
+  pub start : Option ℕ
+  pub show : Show
+
+-- of a command's run
+abbrev pub setting_of : Plan → Names → Setting
+setting_of plan names = record { plan = plan; start = names.start; show = names.show }
+
 -- the last line of a run that ends well: how many rows were accepted and late, steps run and lines written
-abbrev pub done_line : Plan → List Entry → EndLine
-done_line plan journal =
-    Done (length (accepted journal)) (late_count journal) (length (all_steps plan.pacings None (accepted journal))) (length (final_lines plan None journal Triggers))
+abbrev pub done_line : Setting → List Entry → EndLine
+done_line s journal =
+    Done (length (accepted journal)) (late_count journal) (length (all_steps s.plan.pacings s.start (accepted journal))) (length (final_lines s.plan s.start journal s.show))
 
 -- all verdicts of a journal's rows
-abbrev pub verdicts : Plan → List Entry → List ℕ
-verdicts plan journal = text_of (final_lines plan None journal Triggers)
+abbrev pub verdicts : Setting → List Entry → List ℕ
+verdicts s journal = text_of (final_lines s.plan s.start journal s.show)
+
+-- the first fault, if there is one
+abbrev pub fault_in : Setting → List Entry → Option RunFault
+fault_in s journal = first_fault s.plan s.start journal
+
+-- the fault of the settled steps, those before the deadline of the last stamp
+abbrev pub settled_fault_in : Setting → List Entry → Option RunFault
+settled_fault_in s journal = settled_fault s.plan s.start journal
 
 abbrev pub name_in : Option Stream → List ℕ
 name_in None = []
@@ -118,25 +137,38 @@ fault_line plan fault = Fault (name_in (slice_get plan.spec.streams fault.stream
 abbrev pub AreOfSources : ℕ → List Entry → Type 0
 AreOfSources count journal = All (λ (e : Entry). e.row.source < count) journal
 
--- rows were taken under a specification: they stand in one legal journal, which is the trace
+-- rows were taken under a specification that was accepted, so that it has one model: they stand in one legal journal, which is the trace
 pub record Ran (words : List (List ℕ)) (before after : Outside) : Type 0 where
   pub names : Names
   pub is_command : run_of words ≡ Some names
   pub plan : Plan
   pub is_plan : Plans (before.shelf.told names.specification) plan
+  pub accepted : IsAccepted plan
+  pub one_model : HasOneModel plan
   pub journal : List Entry
-  pub legal : IsLegal None journal
+  pub legal : IsLegal names.start journal
   pub sources : AreOfSources 1 journal
   pub trace : after.trace ≡ grown before.trace (trace_text journal)
+
+-- the specification and the source were given, and nothing has failed
+pub record AllGiven (names : Names) (before after : ShelfState) : Type 0 where
+  pub asks : asks_between before after ≡ map given_ask (names_of names)
+  pub count : after.count ≡ before.count
+
+-- the specification was given, and the source was not, or it has failed
+pub record SourceFailed (names : Names) (before after : ShelfState) : Type 0 where
+  pub ask : Ask
+  pub asks : asks_between before after ≡ given_ask names.specification ∷ ask ∷ []
+  pub faulty : is_faulty ask ≡ true
+  pub rose : Rose before.count after.count
 
 -- all rows of the source were taken, and it ends well
 pub record IsDone (words : List (List ℕ)) (before after : Outside) : Type 0 where
   pub run : Ran words before after
   pub rows : Ends (before.shelf.told run.names.source) run.plan (rows_of 0 run.journal) Whole
-  pub no_fault : first_fault run.plan None run.journal ≡ None
-  pub out : after.out ≡ grown before.out (verdicts run.plan run.journal ++ end_text (done_line run.plan run.journal))
-  pub asks : asks_between before.shelf after.shelf ≡ map given_ask (names_of run.names)
-  pub count : after.shelf.count ≡ before.shelf.count
+  pub no_fault : fault_in (setting_of run.plan run.names) run.journal ≡ None
+  pub out : after.out ≡ grown before.out (verdicts (setting_of run.plan run.names) run.journal ++ end_text (done_line (setting_of run.plan run.names) run.journal))
+  pub given : AllGiven run.names before.shelf after.shelf
 
 -- the words are no command: nothing is asked, and nothing is traced
 pub record IsUsage (words : List (List ℕ)) (before after : Outside) : Type 0 where
@@ -145,20 +177,16 @@ pub record IsUsage (words : List (List ℕ)) (before after : Outside) : Type 0 w
   pub trace : after.trace ≡ before.trace
   pub out : Wrote before.out after.out (end_text Usage)
 
--- a plan that a run can be made of
-abbrev pub CanRun : Plan → Type 0
-CanRun plan = IsSimple plan × IsTrue (are_number_inputs plan.spec.streams)
-
 abbrev pub unbuilt : Refusal
 unbuilt = record { code = code.Unbuilt; at = 0 }
 
--- a run over a plan, where the run is not served yet or the plan cannot be run yet
+-- a run over a plan, where the run is not served yet
 pub record IsUnbuilt (words : List (List ℕ)) (told : Option (List ℕ)) (r : Refusal) : Type 0 where
   pub name : List ℕ
   pub is_run : run_specification words ≡ Some name
   pub plan : Plan
   pub is_plan : Plans told plan
-  pub not_yet : (run_of words ≡ None) ⊎ (CanRun plan → ⊥)
+  pub not_yet : run_of words ≡ None
   pub refusal : r ≡ unbuilt
 
 -- the specification was read, and is refused, or is of a run that is not built yet
@@ -202,35 +230,43 @@ pub record IsMalformed (words : List (List ℕ)) (before after : Outside) : Type
   pub kind : MalformedKind
   pub row : ℕ
   pub rows : Ends (before.shelf.told run.names.source) run.plan (rows_of 0 run.journal) (MalformedAt kind row)
-  pub no_fault : first_fault run.plan None run.journal ≡ None
-  pub out : after.out ≡ grown before.out (verdicts run.plan run.journal ++ end_text (Malformed 0 row kind))
-  pub asks : asks_between before.shelf after.shelf ≡ map given_ask (names_of run.names)
-  pub count : after.shelf.count ≡ before.shelf.count
+  pub no_fault : fault_in (setting_of run.plan run.names) run.journal ≡ None
+  pub out : after.out ≡ grown before.out (verdicts (setting_of run.plan run.names) run.journal ++ end_text (Malformed 0 row kind))
+  pub given : AllGiven run.names before.shelf after.shelf
 
--- the journal ends with the row at whose step the settled steps first have this fault
-pub record IsRowFault (plan : Plan) (journal : List Entry) (fault : RunFault) : Type 0 where
+-- the journal ends with the row at whose step, or at a deadline before it, the settled steps first have this fault
+pub record IsRowFault (s : Setting) (journal : List Entry) (fault : RunFault) : Type 0 where
   pub front : List Entry
   pub row : Row
   pub whole : journal ≡ front ++ record { row = row; mark = mark.Accepted } ∷ []
-  pub none_before : settled_fault plan None front ≡ None
-  pub settled : settled_fault plan None journal ≡ Some fault
+  pub none_before : settled_fault_in s front ≡ None
+  pub settled : settled_fault_in s journal ≡ Some fault
 
--- no row's step has a fault: it stands at the deadline of the last stamp, and the whole source was read
-pub record IsDeadlineFault (told : Option (List ℕ)) (plan : Plan) (journal : List Entry) : Type 0 where
-  pub settled : settled_fault plan None journal ≡ None
+-- no settled step has a fault: it stands at the deadline of the last stamp, and the whole source was read
+pub record IsDeadlineFault (told : Option (List ℕ)) (s : Setting) (journal : List Entry) : Type 0 where
+  pub settled : settled_fault_in s journal ≡ None
   pub end : SourceEnd
-  pub rows : Ends told plan (rows_of 0 journal) end
+  pub rows : Ends told s.plan (rows_of 0 journal) end
+
+-- no settled step has a fault: it stands at the deadline of the last stamp before which the source could be read
+pub record IsCutDeadlineFault (names : Names) (s : Setting) (journal : List Entry) (before after : ShelfState) : Type 0 where
+  pub settled : settled_fault_in s journal ≡ None
+  pub failed : SourceFailed names before after
+
+-- where the first fault stands: at the last row, or at the deadline of its stamp, once the source was read to its end or has failed
+abbrev pub StandsAt : Names → Setting → List Entry → RunFault → ShelfState → ShelfState → Type 0
+StandsAt names s journal fault before after =
+    (IsRowFault s journal fault × AllGiven names before after)
+    ⊎ ((IsDeadlineFault (before.told names.source) s journal × AllGiven names before after) ⊎ IsCutDeadlineFault names s journal before after)
 
 -- the first rows of the source were taken, up to the first fault
 pub record IsFault (words : List (List ℕ)) (before after : Outside) : Type 0 where
   pub run : Ran words before after
   pub fault : RunFault
   pub rows : Begins (before.shelf.told run.names.source) run.plan (rows_of 0 run.journal)
-  pub is_fault : first_fault run.plan None run.journal ≡ Some fault
-  pub stands : IsRowFault run.plan run.journal fault ⊎ IsDeadlineFault (before.shelf.told run.names.source) run.plan run.journal
-  pub out : Wrote (grown before.out (verdicts run.plan run.journal)) after.out (end_text (fault_line run.plan fault))
-  pub asks : asks_between before.shelf after.shelf ≡ map given_ask (names_of run.names)
-  pub count : after.shelf.count ≡ before.shelf.count
+  pub is_fault : fault_in (setting_of run.plan run.names) run.journal ≡ Some fault
+  pub stands : StandsAt run.names (setting_of run.plan run.names) run.journal fault before.shelf after.shelf
+  pub out : Wrote (grown before.out (verdicts (setting_of run.plan run.names) run.journal)) after.out (end_text (fault_line run.plan fault))
 
 -- the specification was not given, or could not be read
 pub record IsUnread (words : List (List ℕ)) (before after : Outside) : Type 0 where
@@ -245,13 +281,10 @@ pub record IsUnread (words : List (List ℕ)) (before after : Outside) : Type 0 
 pub record IsCutShort (words : List (List ℕ)) (before after : Outside) : Type 0 where
   pub run : Ran words before after
   pub rows : Begins (before.shelf.told run.names.source) run.plan (rows_of 0 run.journal)
-  pub no_fault : first_fault run.plan None run.journal ≡ None
-  pub ask : Ask
-  pub asks : asks_between before.shelf after.shelf ≡ given_ask run.names.specification ∷ ask ∷ []
-  pub faulty : is_faulty ask ≡ true
-  pub unless_given : ask.given ≡ false → run.journal ≡ []
-  pub rose : Rose before.shelf.count after.shelf.count
-  pub out : Wrote (grown before.out (verdicts run.plan run.journal)) after.out (end_text (UnreadableSource 0))
+  pub no_fault : fault_in (setting_of run.plan run.names) run.journal ≡ None
+  pub failed : SourceFailed run.names before.shelf after.shelf
+  pub unless_given : failed.ask.given ≡ false → run.journal ≡ []
+  pub out : Wrote (grown before.out (verdicts (setting_of run.plan run.names) run.journal)) after.out (end_text (UnreadableSource 0))
 
 -- the sink received the lines of a journal, and a proper part of one more
 pub record HasLines (old new : SinkState) (journal : List Entry) : Type 0 where
@@ -274,18 +307,24 @@ pub record BrokeOff (words : List (List ℕ)) (before after : Outside) : Type 0 
   pub is_command : run_of words ≡ Some names
   pub plan : Plan
   pub is_plan : Plans (before.shelf.told names.specification) plan
+  pub accepted : IsAccepted plan
+  pub one_model : HasOneModel plan
   pub journal : List Entry
-  pub legal : IsLegal None journal
+  pub legal : IsLegal names.start journal
   pub sources : AreOfSources 1 journal
   pub rows : Begins (before.shelf.told names.source) plan (rows_of 0 journal)
   pub trace : HasLines before.trace after.trace journal
   pub line : EndLine
-  pub out : HasFrontOf before.out after.out (verdicts plan journal ++ end_text line)
+  pub out : HasFrontOf before.out after.out (verdicts (setting_of plan names) journal ++ end_text line)
 
--- a put failed, and no row before it had a fault
+-- no settled step has a fault, or only one that stands at the last row
+abbrev pub IsFineBefore : Setting → List Entry → Type 0
+IsFineBefore s journal = (settled_fault_in s journal ≡ None) ⊎ ((fault : RunFault) × IsRowFault s journal fault)
+
+-- a put failed, and no row before the last had a fault
 pub record IsBroken (words : List (List ℕ)) (before after : Outside) : Type 0 where
   pub off : BrokeOff words before after
-  pub no_fault : settled_fault off.plan None off.journal ≡ None
+  pub no_fault : IsFineBefore (setting_of off.plan off.names) off.journal
   pub rose : Rose before.out.count after.out.count ⊎ Rose before.trace.count after.trace.count
 
 -- no memory before any row
@@ -297,19 +336,17 @@ pub record IsEarly (before after : Outside) : Type 0 where
 abbrev pub IsStatus : ℕ → Type 0
 IsStatus n = (n ≡ 0) ⊎ ((n < 9) × (1 < n))
 
--- a run whose specification and source are told and right, whose plan can be run, whose rows have no fault, and whose
--- objects have not failed
+-- a run whose specification and source are told and right, whose rows have no fault, and whose objects have not failed
 pub record IsClean (words : List (List ℕ)) (before after : Outside) : Type 0 where
   pub names : Names
   pub is_command : run_of words ≡ Some names
   pub specification : List ℕ
   pub specification_is : before.shelf.told names.specification ≡ Some specification
   pub not_refused : (r : Refusal) → IsRefusalOf specification r → ⊥
-  pub can_run : (plan : Plan) → IsPlanOf specification plan → CanRun plan
   pub source : List ℕ
   pub source_is : before.shelf.told names.source ≡ Some source
   pub ends : (plan : Plan) → IsPlanOf specification plan → (source_rows plan source).end ≡ Whole
-  pub no_fault : (plan : Plan) (journal : List Entry) → IsPlanOf specification plan → after.trace ≡ grown before.trace (trace_text journal) → first_fault plan None journal ≡ None
+  pub no_fault : (plan : Plan) (journal : List Entry) → IsPlanOf specification plan → after.trace ≡ grown before.trace (trace_text journal) → fault_in (setting_of plan names) journal ≡ None
   pub shelf : Rose before.shelf.count after.shelf.count → ⊥
   pub out : Rose before.out.count after.out.count → ⊥
   pub trace : Rose before.trace.count after.trace.count → ⊥

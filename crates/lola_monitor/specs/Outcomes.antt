@@ -1,13 +1,13 @@
 -- What the parts of the top call leave, before its last line.
-use Rattle.std.specs.Prelude.{◌≡◌, ◌⊎◌, ℕ, ◌<◌, List, [], ◌∷◌, ◌++◌, length, map, true, false, None, Some, Result, Ok, Err}
+use Rattle.std.specs.Prelude.{◌≡◌, ◌⊎◌, ℕ, ◌<◌, List, [], ◌∷◌, ◌++◌, length, true, false, None, Some, Result, Ok, Err}
 use Rattle.lola_port.specs.Asks.{given_ask}
 use Rattle.lola_port.specs.States.{Moved, PutBroke, Rose, ShelfState, SinkState, SourceState, grown}
 use Rattle.lola_port.specs.declared.traits.Ask.{Ask}
 use Rattle.lola_value.specs.declared.front.Refusal.{Refusal}
 use Rattle.lola_model.specs.Journal.{IsLegal, rows_of}
 use Rattle.lola_model.specs.Faults.{RunFault}
+use Rattle.lola_model.specs.Model.{HasOneModel}
 use Rattle.lola_model.specs.Trace.{trace_text}
-use Rattle.lola_model.specs.Runs.{first_fault, settled_fault}
 use Rattle.lola_model.specs.declared.plan.Plan.{Plan}
 use Rattle.lola_model.specs.declared.journal.Entry.{Entry}
 use Rattle.lola_model.specs.declared.source.MalformedKind.{MalformedKind}
@@ -18,8 +18,8 @@ use Rattle.lola_rows.specs.Rows.{SourceEnd, Whole, MalformedAt}
 use Rattle.lola_report.specs.Ends.{end_text}
 use Rattle.lola_report.specs.declared.end.EndLine.{EndLine}
 use Rattle.lola_report.specs.declared.end.EndLine.TheVariants.{Done, Usage, Refused, Malformed, Fault, UnreadableSpecification, UnreadableSource, Analysed}
-use Rattle.lola_monitor.specs.Command.{names_of, specification_of}
-use Rattle.lola_monitor.specs.Monitor.{Analysis, AreOfSources, Begins, BrokeOff, Ends, HasFrontOf, HasLines, IsBroken, IsEarly, IsRefusedBy, IsRowFault, IsUnbuilt, Outside, Plans, Ran, analysis_text, asks_between, done_line, fault_line, first_faulty, is_faulty, verdicts}
+use Rattle.lola_monitor.specs.Command.{specification_of}
+use Rattle.lola_monitor.specs.Monitor.{AllGiven, Analysis, AreOfSources, Begins, BrokeOff, Ends, HasFrontOf, HasLines, IsBroken, IsDeadlineFault, IsEarly, IsFineBefore, IsRefusedBy, IsRowFault, IsUnbuilt, Outside, Plans, Ran, Setting, SourceFailed, StandsAt, analysis_text, asks_between, done_line, fault_in, fault_line, first_faulty, is_faulty, setting_of, settled_fault_in, verdicts}
 use Rattle.lola_monitor.specs.Parts.{Keeping}
 use Rattle.lola_monitor.specs.declared.outcome.Stop.{Stop}
 use Rattle.lola_monitor.specs.declared.outcome.Stop.TheVariants as stop
@@ -59,89 +59,104 @@ pub record Stopped (name : List ℕ) (before after : ShelfState) : Type 0 where
   pub out : after.out ≡ before.out
 
 -- the rows that were taken of a source, with their trace and their verdicts
-pub record SourceRun (plan : Plan) (before after : Outside) : Type 0 where
+pub record SourceRun (s : Setting) (before after : Outside) : Type 0 where
   pub journal : List Entry
-  pub legal : IsLegal None journal
+  pub legal : IsLegal s.start journal
   pub sources : AreOfSources 1 journal
   pub trace : after.trace ≡ grown before.trace (trace_text journal)
-  pub out : after.out ≡ grown before.out (verdicts plan journal)
+  pub out : after.out ≡ grown before.out (verdicts s journal)
 
 -- a source was run to its end
-pub record EndedRun (end : SourceEnd) (plan : Plan) (name : List ℕ) (before after : Outside) : Type 0 where
-  pub run : SourceRun plan before after
+pub record EndedRun (end : SourceEnd) (s : Setting) (name : List ℕ) (before after : Outside) : Type 0 where
+  pub run : SourceRun s before after
   pub shelf : after.shelf ≡ noted before.shelf name
-  pub rows : Ends (before.shelf.told name) plan (rows_of 0 run.journal) end
-  pub no_fault : first_fault plan None run.journal ≡ None
-  pub settled : settled_fault plan None run.journal ≡ None
+  pub rows : Ends (before.shelf.told name) s.plan (rows_of 0 run.journal) end
+  pub no_fault : fault_in s run.journal ≡ None
+  pub settled : settled_fault_in s run.journal ≡ None
 
 -- a source was run to its end, and ends well
-pub record DoneRun (line : EndLine) (plan : Plan) (name : List ℕ) (before after : Outside) : Type 0 where
-  pub ended : EndedRun Whole plan name before after
-  pub line_is : line ≡ done_line plan ended.run.journal
+pub record DoneRun (line : EndLine) (s : Setting) (name : List ℕ) (before after : Outside) : Type 0 where
+  pub ended : EndedRun Whole s name before after
+  pub line_is : line ≡ done_line s ended.run.journal
 
 -- a source was run to a malformed line
-pub record MalformedRun (line : EndLine) (kind : MalformedKind) (row : ℕ) (plan : Plan) (name : List ℕ) (before after : Outside) : Type 0 where
-  pub ended : EndedRun (MalformedAt kind row) plan name before after
+pub record MalformedRun (line : EndLine) (kind : MalformedKind) (row : ℕ) (s : Setting) (name : List ℕ) (before after : Outside) : Type 0 where
+  pub ended : EndedRun (MalformedAt kind row) s name before after
   pub line_is : line ≡ Malformed 0 row kind
 
+-- the last row has the fault
+pub record AtRow (fault : RunFault) (s : Setting) (name : List ℕ) (journal : List Entry) (before after : ShelfState) : Type 0 where
+  pub is : IsRowFault s journal fault
+  pub shelf : after ≡ noted before name
+
+-- the deadline of the last stamp has the fault, and the whole source was read
+pub record AtDeadline (s : Setting) (name : List ℕ) (journal : List Entry) (before after : ShelfState) : Type 0 where
+  pub is : IsDeadlineFault (before.told name) s journal
+  pub shelf : after ≡ noted before name
+
+-- the deadline of the last stamp has the fault, and the source has failed
+pub record AtCutDeadline (s : Setting) (name : List ℕ) (journal : List Entry) (before after : ShelfState) : Type 0 where
+  pub settled : settled_fault_in s journal ≡ None
+  pub shelf : Marred name before after
+
 -- a source was run to the first fault
-pub record FaultRun (line : EndLine) (plan : Plan) (name : List ℕ) (before after : Outside) : Type 0 where
-  pub run : SourceRun plan before after
-  pub shelf : after.shelf ≡ noted before.shelf name
+pub record FaultRun (line : EndLine) (s : Setting) (name : List ℕ) (before after : Outside) : Type 0 where
+  pub run : SourceRun s before after
   pub fault : RunFault
-  pub rows : Begins (before.shelf.told name) plan (rows_of 0 run.journal)
-  pub is_fault : first_fault plan None run.journal ≡ Some fault
-  pub stands : IsRowFault plan run.journal fault
-  pub line_is : line ≡ fault_line plan fault
+  pub rows : Begins (before.shelf.told name) s.plan (rows_of 0 run.journal)
+  pub is_fault : fault_in s run.journal ≡ Some fault
+  pub place : AtRow fault s name run.journal before.shelf after.shelf ⊎ (AtDeadline s name run.journal before.shelf after.shelf ⊎ AtCutDeadline s name run.journal before.shelf after.shelf)
+  pub line_is : line ≡ fault_line s.plan fault
 
 -- a source was run until it could not be read, or was not given
-pub record CutRun (line : EndLine) (plan : Plan) (name : List ℕ) (before after : Outside) : Type 0 where
-  pub run : SourceRun plan before after
+pub record CutRun (line : EndLine) (s : Setting) (name : List ℕ) (before after : Outside) : Type 0 where
+  pub run : SourceRun s before after
   pub shelf : Marred name before.shelf after.shelf
-  pub rows : Begins (before.shelf.told name) plan (rows_of 0 run.journal)
-  pub no_fault : first_fault plan None run.journal ≡ None
+  pub rows : Begins (before.shelf.told name) s.plan (rows_of 0 run.journal)
+  pub no_fault : fault_in s run.journal ≡ None
   pub unless_given : shelf.ask.given ≡ false → run.journal ≡ []
   pub line_is : line ≡ UnreadableSource 0
 
 -- what stands of a run that was cut short
-pub record CutFacts (plan : Plan) (name : List ℕ) (before after : Outside) : Type 0 where
+pub record CutFacts (s : Setting) (name : List ℕ) (before after : Outside) : Type 0 where
   pub journal : List Entry
-  pub legal : IsLegal None journal
+  pub legal : IsLegal s.start journal
   pub sources : AreOfSources 1 journal
-  pub rows : Begins (before.shelf.told name) plan (rows_of 0 journal)
+  pub rows : Begins (before.shelf.told name) s.plan (rows_of 0 journal)
   pub trace : HasLines before.trace after.trace journal
-  pub out : HasFrontOf before.out after.out (verdicts plan journal)
+  pub out : HasFrontOf before.out after.out (verdicts s journal)
 
 -- a source was run until a put failed
-pub record BrokenRun (plan : Plan) (name : List ℕ) (before after : Outside) : Type 0 where
+pub record BrokenRun (s : Setting) (name : List ℕ) (before after : Outside) : Type 0 where
   pub shelf : Stopped name before.shelf after.shelf
-  pub cut : CutFacts plan name before after
-  pub no_fault : settled_fault plan None cut.journal ≡ None
+  pub cut : CutFacts s name before after
+  pub no_fault : IsFineBefore s cut.journal
   pub rose : Rose before.out.count after.out.count ⊎ Rose before.trace.count after.trace.count
 
 -- a source was run, or asked for, until there was no memory
-pub record StoppedRun (plan : Plan) (name : List ℕ) (before after : Outside) : Type 0 where
+pub record StoppedRun (s : Setting) (name : List ℕ) (before after : Outside) : Type 0 where
   pub shelf : Stopped name before.shelf after.shelf
-  pub cut : CutFacts plan name before after ⊎ IsEarly before after
+  pub cut : CutFacts s name before after ⊎ IsEarly before after
 
 -- a run of a source
-abbrev pub RunsSource : Outcome → Plan → List ℕ → Outside → Outside → Type 0
-RunsSource (Line (Done a l s v)) plan name before after = DoneRun (Done a l s v) plan name before after
-RunsSource (Line (Malformed n row kind)) plan name before after = MalformedRun (Malformed n row kind) kind row plan name before after
-RunsSource (Line (Fault stream kind time)) plan name before after = FaultRun (Fault stream kind time) plan name before after
-RunsSource (Line (UnreadableSource n)) plan name before after = CutRun (UnreadableSource n) plan name before after
-RunsSource (Line Usage) plan name before after = ⊥
-RunsSource (Line (Refused r)) plan name before after = ⊥
-RunsSource (Line UnreadableSpecification) plan name before after = ⊥
-RunsSource (Line (Analysed s w)) plan name before after = ⊥
-RunsSource (Report text) plan name before after = ⊥
-RunsSource Put plan name before after = BrokenRun plan name before after
-RunsSource Memory plan name before after = StoppedRun plan name before after
+abbrev pub RunsSource : Outcome → Setting → List ℕ → Outside → Outside → Type 0
+RunsSource (Line (Done a l n v)) s name before after = DoneRun (Done a l n v) s name before after
+RunsSource (Line (Malformed n row kind)) s name before after = MalformedRun (Malformed n row kind) kind row s name before after
+RunsSource (Line (Fault stream kind time)) s name before after = FaultRun (Fault stream kind time) s name before after
+RunsSource (Line (UnreadableSource n)) s name before after = CutRun (UnreadableSource n) s name before after
+RunsSource (Line Usage) s name before after = ⊥
+RunsSource (Line (Refused r)) s name before after = ⊥
+RunsSource (Line UnreadableSpecification) s name before after = ⊥
+RunsSource (Line (Analysed n w)) s name before after = ⊥
+RunsSource (Report text) s name before after = ⊥
+RunsSource Put s name before after = BrokenRun s name before after
+RunsSource Memory s name before after = StoppedRun s name before after
 
 -- a specification was read, and its plan made
 pub record ReadPlan (plan : Plan) (name : List ℕ) (before after : ShelfState) : Type 0 where
   pub is_plan : Plans (before.told name) plan
   pub accepted : IsAccepted plan
+  pub one_model : HasOneModel plan
   pub shelf : after ≡ noted before name
 
 -- a specification was read, and is refused
@@ -151,7 +166,7 @@ pub record ReadRefusal (r : Refusal) (name : List ℕ) (before after : ShelfStat
 
 -- a text's plan, or why it has none
 abbrev pub PlansText : Result Plan Unplanned → List ℕ → Type 0
-PlansText (Ok plan) bytes = IsPlanOf bytes plan
+PlansText (Ok plan) bytes = IsPlanOf bytes plan × HasOneModel plan
 PlansText (Err unplanned.Unreadable) bytes = ⊥
 PlansText (Err (unplanned.Refused r)) bytes = IsRefusalOf bytes r
 PlansText (Err unplanned.Memory) bytes = Unit {0}
@@ -171,7 +186,7 @@ without_plan unplanned.Memory = Memory
 
 -- what a run's end makes of a call
 abbrev pub OutcomeAfter : Stop → Plan → Keeping → Outcome → Type 0
-OutcomeAfter stop.Ended plan kept outcome = outcome ≡ Line (Done kept.accepted kept.late kept.engine.steps kept.engine.lines)
+OutcomeAfter stop.Ended plan kept outcome = outcome ≡ Line (Done kept.accepted kept.late kept.desk.steps kept.desk.lines)
 OutcomeAfter (stop.Malformed kind row) plan kept outcome = outcome ≡ Line (Malformed 0 row kind)
 OutcomeAfter stop.ReadFault plan kept outcome = outcome ≡ Line (UnreadableSource 0)
 OutcomeAfter (stop.Fault stream kind time) plan kept outcome = (outcome ≡ Line (fault_line plan (record { stream = stream; kind = kind; time = time }))) ⊎ (outcome ≡ Memory)
@@ -181,21 +196,20 @@ OutcomeAfter stop.Memory plan kept outcome = outcome ≡ Memory
 -- all but the last line: rows were taken
 pub record Stood (words : List (List ℕ)) (before after : Outside) : Type 0 where
   pub run : Ran words before after
-  pub out : after.out ≡ grown before.out (verdicts run.plan run.journal)
+  pub out : after.out ≡ grown before.out (verdicts (setting_of run.plan run.names) run.journal)
   pub rows : Begins (before.shelf.told run.names.source) run.plan (rows_of 0 run.journal)
 
 -- all but the last line: a source was run to its end
 pub record StoodEnded (end : SourceEnd) (words : List (List ℕ)) (before after : Outside) : Type 0 where
   pub stood : Stood words before after
   pub rows : Ends (before.shelf.told stood.run.names.source) stood.run.plan (rows_of 0 stood.run.journal) end
-  pub no_fault : first_fault stood.run.plan None stood.run.journal ≡ None
-  pub settled : settled_fault stood.run.plan None stood.run.journal ≡ None
-  pub asks : asks_between before.shelf after.shelf ≡ map given_ask (names_of stood.run.names)
-  pub count : after.shelf.count ≡ before.shelf.count
+  pub no_fault : fault_in (setting_of stood.run.plan stood.run.names) stood.run.journal ≡ None
+  pub settled : settled_fault_in (setting_of stood.run.plan stood.run.names) stood.run.journal ≡ None
+  pub given : AllGiven stood.run.names before.shelf after.shelf
 
 pub record StoodDone (line : EndLine) (words : List (List ℕ)) (before after : Outside) : Type 0 where
   pub ended : StoodEnded Whole words before after
-  pub line_is : line ≡ done_line ended.stood.run.plan ended.stood.run.journal
+  pub line_is : line ≡ done_line (setting_of ended.stood.run.plan ended.stood.run.names) ended.stood.run.journal
 
 pub record StoodMalformed (line : EndLine) (kind : MalformedKind) (row : ℕ) (words : List (List ℕ)) (before after : Outside) : Type 0 where
   pub ended : StoodEnded (MalformedAt kind row) words before after
@@ -205,21 +219,16 @@ pub record StoodMalformed (line : EndLine) (kind : MalformedKind) (row : ℕ) (w
 pub record StoodFault (line : EndLine) (words : List (List ℕ)) (before after : Outside) : Type 0 where
   pub stood : Stood words before after
   pub fault : RunFault
-  pub is_fault : first_fault stood.run.plan None stood.run.journal ≡ Some fault
-  pub stands : IsRowFault stood.run.plan stood.run.journal fault
-  pub asks : asks_between before.shelf after.shelf ≡ map given_ask (names_of stood.run.names)
-  pub count : after.shelf.count ≡ before.shelf.count
+  pub is_fault : fault_in (setting_of stood.run.plan stood.run.names) stood.run.journal ≡ Some fault
+  pub stands : StandsAt stood.run.names (setting_of stood.run.plan stood.run.names) stood.run.journal fault before.shelf after.shelf
   pub line_is : line ≡ fault_line stood.run.plan fault
 
 -- all but the last line: a source was not given, or could not be read to its end
 pub record StoodCut (line : EndLine) (words : List (List ℕ)) (before after : Outside) : Type 0 where
   pub stood : Stood words before after
-  pub no_fault : first_fault stood.run.plan None stood.run.journal ≡ None
-  pub ask : Ask
-  pub asks : asks_between before.shelf after.shelf ≡ given_ask stood.run.names.specification ∷ ask ∷ []
-  pub faulty : is_faulty ask ≡ true
-  pub unless_given : ask.given ≡ false → stood.run.journal ≡ []
-  pub rose : Rose before.shelf.count after.shelf.count
+  pub no_fault : fault_in (setting_of stood.run.plan stood.run.names) stood.run.journal ≡ None
+  pub failed : SourceFailed stood.run.names before.shelf after.shelf
+  pub unless_given : failed.ask.given ≡ false → stood.run.journal ≡ []
   pub line_is : line ≡ UnreadableSource 0
 
 -- all but the last line: the words are no command

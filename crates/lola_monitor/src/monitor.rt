@@ -15,7 +15,6 @@ use crate::words::{served_source, word_at};
 use lola_command::command::{Command, RunCommand, read_command};
 use lola_port::{Gate, Shelf, Sink};
 use lola_report::end::EndLine;
-use lola_sums::simple::is_simple;
 use lola_value::front::{Code, Refusal};
 use std::alloc::Global;
 use std::sync::Wait;
@@ -28,13 +27,15 @@ const UNBUILT: Refusal = Refusal {
 };
 
 // All but the last line of a run.
-fn run<F: Shelf, K: Sink, T: Sink>(
+fn run<R: Threads + Sync, F: Shelf, K: Sink, T: Sink, G: Gate + Sync>(
+    rt: &R,
     alloc: Global,
     words: &[String],
     command: &RunCommand,
     shelf: &mut F,
     out: &mut K,
     trace: &mut T,
+    gate: &G,
 ) -> Outcome
     requires out { (F.state shelf.old).out ≡ 0 }
     requires is_run { command_of (map string_bytes words.now) ≡ Some (Command.Run command.now) }
@@ -49,10 +50,7 @@ fn run<F: Shelf, K: Sink, T: Sink>(
     let Some(source) = served_source(words, command) else {
         return Outcome::Line(EndLine::Refused(UNBUILT));
     };
-    if !is_simple(&plan) {
-        return Outcome::Line(EndLine::Refused(UNBUILT));
-    }
-    run_source(alloc, plan, source, shelf, out, trace)
+    run_source(rt, alloc, plan, command, source, shelf, out, trace, gate)
 }
 
 // All but the report of an analysis, which puts nothing to the trace.
@@ -78,12 +76,14 @@ fn analyse<F: Shelf>(
 }
 
 // All but the last line.
-fn work<F: Shelf, K: Sink, T: Sink>(
+fn work<R: Threads + Sync, F: Shelf, K: Sink, T: Sink, G: Gate + Sync>(
+    rt: &R,
     alloc: Global,
     words: &[String],
     shelf: &mut F,
     out: &mut K,
     trace: &mut T,
+    gate: &G,
 ) -> Outcome
     requires { (F.state shelf.old).out ≡ 0 }
     ensures works { Works result (map string_bytes words.now) (outside (F.state shelf.old) (K.state out.old) (T.state trace.old))
@@ -91,7 +91,9 @@ fn work<F: Shelf, K: Sink, T: Sink>(
     ensures asked { Asked (names_asked (map string_bytes words.now)) (F.state shelf.old) (F.state shelf.new) }
 {
     match read_command(alloc, words) {
-        Ok(Some(Command::Run(command))) => run(alloc, words, &command, shelf, out, trace),
+        Ok(Some(Command::Run(command))) => {
+            run(rt, alloc, words, &command, shelf, out, trace, gate)
+        }
         Ok(Some(Command::Analyse(specification))) => analyse(alloc, words, specification, shelf),
         Ok(None) => Outcome::Line(EndLine::Usage),
         Err(_) => Outcome::Memory,
@@ -107,8 +109,9 @@ fn work<F: Shelf, K: Sink, T: Sink>(
 ///
 /// `words` are the words of a command line, as `lola_command` reads them. Specification and source are
 /// fetched from `shelf`. Verdicts and the end line are put to `out`, the trace to `trace`. An analysis puts
-/// its report and end line to `out`, and nothing to `trace`. The gate is not called, and no thread is
-/// started.
+/// its report and end line to `out`, and nothing to `trace`. Where more than one worker is asked for, the instances of a
+/// layer are evaluated by as many threads, started through `rt`, which call the gate; how many there are changes nothing
+/// that is written.
 ///
 /// | Status | Comes |
 /// |---|---|
@@ -116,22 +119,21 @@ fn work<F: Shelf, K: Sink, T: Sink>(
 /// | 2 | the words are no command |
 /// | 3 | the specification was read, and is refused, or is of a run that is not built yet |
 /// | 4 | all rows were taken up to a malformed line |
-/// | 5 | a row has a fault |
+/// | 5 | a row, a deadline before it, or the deadline at the last stamp has a fault |
 /// | 6 | the specification or the source was not given, or could not be read |
 /// | 7 | a put failed |
 /// | 8 | there is no memory |
 ///
-/// A run can be served where it names one source, shows triggers and is told no start, and its plan is one
-/// of sums over inputs of `Int64`. How many workers it has and whether its sources go in turns changes
-/// nothing.
+/// A run is served where it names one source, for every specification that is accepted and with all options. Whether its
+/// sources go in turns changes nothing, since there is one. A run of several sources is refused, as not built yet.
 pub fn run_monitor<R: Threads + Wait + Sync, F: Shelf, K: Sink, T: Sink, G: Gate + Sync>(
-    _rt: &R,
+    rt: &R,
     alloc: Global,
     words: &[String],
     shelf: &mut F,
     out: &mut K,
     trace: &mut T,
-    _gate: &G,
+    gate: &G,
 ) -> u8
     requires { (F.state shelf.old).out ≡ 0 }
     // The names asked for are the command's, in order; no other is. Each source is given back.
@@ -156,6 +158,6 @@ pub fn run_monitor<R: Threads + Wait + Sync, F: Shelf, K: Sink, T: Sink, G: Gate
     ensures usage_only { command_of (map string_bytes words.now) ≡ None → (result ≡ 2) ⊎ (result ≡ 8) }
     ensures refused_only { IsSpoiled (map string_bytes words.now) (outside (F.state shelf.old) (K.state out.old) (T.state trace.old)) (outside (F.state shelf.new) (K.state out.new) (T.state trace.new)) → (result ≡ 3) ⊎ (result ≡ 8) }
 {
-    let outcome = work(alloc, words, shelf, out, trace);
+    let outcome = work(rt, alloc, words, shelf, out, trace, gate);
     conclude(alloc, outcome, out)
 }

@@ -3,7 +3,6 @@ ghost use Rattle.std.specs.Prelude.{◌≡◌, map, option_map, string_bytes};
 ghost use Rattle.lola_monitor.specs.Command.{only_source as only_source_of, served_source as served_source_of, word_at as word_at_of};
 
 use lola_command::command::RunCommand;
-use lola_model::journal::Show;
 
 /// The word of this number.
 pub fn word_at(words: &[String], at: usize) -> &str
@@ -25,15 +24,9 @@ fn only_source<'a>(words: &'a [String], sources: &[usize]) -> Option<&'a str>
     }
 }
 
-/// The source of a run that can be served: it has one, shows triggers, and is told no start.
+/// The source of a run that can be served, which has one.
 pub fn served_source<'a>(words: &'a [String], command: &RunCommand) -> Option<&'a str>
     ensures { option_map (λ w. w.now) result ≡ served_source_of (map string_bytes words.now) command.now }
 {
-    if command.start.is_some() {
-        return None;
-    }
-    match command.show {
-        Show::Triggers => only_source(words, command.sources.as_slice()),
-        Show::Outputs => None,
-    }
+    only_source(words, command.sources.as_slice())
 }

@@ -1,0 +1,12 @@
+pub mod Interned
+pub mod LinesPut
+pub mod Numbered
+pub mod RowsRead
+pub mod Growing
+pub mod Tables
+pub mod Rows
+pub mod Steps
+pub mod Loop
+pub mod Joining
+pub mod Ranges
+pub mod Opening

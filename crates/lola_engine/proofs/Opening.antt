@@ -1,0 +1,101 @@
+-- An engine that has run nothing.
+use Rattle.std.proofs.Common.{◌≡◌, refl, ap, sym, subst, ◌∙◌, ℕ, ◌<◌, ◌≤◌, inl, inr, [], Option, Some, None, is_some, length, arith}
+use Rattle.lola_value.specs.Naming.{Naming}
+use Rattle.lola_value.specs.Times.{latest}
+use Rattle.lola_clock.specs.Clock.{ClockState}
+use Rattle.lola_model.specs.Faults.{fault_of_last}
+use Rattle.lola_model.specs.Journal.{opening_time}
+use Rattle.lola_model.specs.Model.{last_row}
+use Rattle.lola_model.specs.Runs.{content_after, settled_fault, settled_lines, settled_model}
+use Rattle.lola_model.specs.Standing.{StandsBetween}
+use Rattle.lola_model.specs.Steps.{start_of}
+use Rattle.lola_model.specs.Store.{Memories, Seen, after_start, instances_seen, layout_of, new_seen, time_seen}
+use Rattle.lola_model.specs.Texts.{table_lines}
+use Rattle.lola_model.specs.declared.journal.Show.{Show}
+use Rattle.lola_model.specs.declared.plan.Plan.{Plan}
+use Rattle.lola_model.proofs.Orderly.{of_no_rows}
+use Rattle.lola_step.specs.Progress.{IsRun}
+use Rattle.lola_engine.specs.Engines.{IsEngine, IsUnderWay, StandsFor}
+use Rattle.lola_engine.specs.Going.{IsMade}
+use Rattle.lola_engine.specs.declared.engine.Desk.{Desk}
+use Rattle.lola_engine.proofs.Growing.{model_none}
+use Rattle.lola_engine.proofs.Joining.{settled_at_none}
+use Rattle.lola_engine.proofs.Ranges.{sound_rows, sound_started}
+
+-- of an empty journal there is nothing
+module _ (plan : Plan) (option : Option ℕ) where
+  none_settled : settled_model plan option [] ≡ []
+  unfolding settled_model
+  none_settled = model_none plan (start_of option [])
+
+  none_fails : settled_fault plan option [] ≡ None
+  unfolding settled_fault
+  none_fails = ap (λ t. fault_of_last (last_row t)) none_settled
+
+  none_told : (show : Show) → settled_lines plan option [] show ≡ []
+  unfolding settled_lines
+  none_told show = ap (table_lines show plan.spec.streams) none_settled
+
+module _ (e : Desk) (plan : Plan) (option : Option ℕ) (show : Show) (workers : ℕ) (made : IsMade plan option show workers e) (s : Seen) (new : s ≡ new_seen (layout_of plan)) where
+  pub new_of : s ≡ new_seen (layout_of e.plan)
+  new_of = new ∙ ap (λ p. new_seen (layout_of p)) (sym made.plan_is)
+
+  -- one that waits for its first row
+  pub waits : (m : Memories) → option ≡ None → ((names : Naming) (n i : ℕ) → i < length (instances_seen s n) → m names n i []) → StandsFor e s m []
+  waits m without past = record {
+    going = made.nothing.4;
+    fine = none_fails e.plan e.option;
+    merged = made.nothing.1 ∙ sym (ap opening_time (made.option_is ∙ without));
+    steps = made.nothing.2 ∙ ap length (sym (none_settled e.plan e.option));
+    lines = made.nothing.3 ∙ ap length (sym (none_told e.plan e.option e.show));
+    rows = made.nothing.0;
+    state = inl (record { without = made.option_is ∙ without; none = refl; new = new_of; past = past; clock = made.clock.0 });
+  }
+
+  module _ (start : ℕ) (le : start ≤ latest) (s2 : Seen) (k : ClockState) (at : k ≡ record e.clock { start = Some start; passed = start }) (shows : s2 ≡ after_start s start) where
+    abbrev opened : Desk
+    opened = record e { clock = k; merged = start }
+
+    shown : s2 ≡ after_start (new_seen (layout_of plan)) start
+    shown = shows ∙ ap (λ z. after_start z start) new
+
+    -- one that was given a start
+    pub opened_engine : IsEngine opened s2
+    opened_engine =
+        let passed_is : k.passed ≡ start = ap (λ (z : ClockState). z.passed) at in
+        let time_is : time_seen s2 ≡ start = ap time_seen shown in
+        let steps_are : s2.steps ≡ 0 = ap (λ (z : Seen). z.steps) shown in
+        record {
+          sound = sound_rows (record e { clock = k }) s2 e.rows start (sound_started e (new_seen (layout_of plan)) s2 k start le at shown made.sound);
+          time = omega (arith, time_is);
+          passed = omega (arith, passed_is);
+          merged = le;
+          few_rows = omega (arith, made.nothing.0);
+          few_steps = omega (arith, steps_are);
+          few_texts = omega (arith, made.few_texts);
+        }
+
+    -- and stands for what nothing has come to
+    pub opened_stands : (m : Memories) → option ≡ Some start → StandsBetween e.texts.held m s2 (content_after e.plan start []) → StandsFor opened s2 m []
+    opened_stands m given stands =
+        let option_is : e.option ≡ Some start = made.option_is ∙ given in
+        let start_is : start_of e.option [] ≡ start = ap (λ o. start_of o []) option_is in
+        let passed_is : k.passed ≡ start = ap (λ (z : ClockState). z.passed) at in
+        let none = sym (none_settled e.plan e.option) in
+        let under_way : IsUnderWay opened s2 m [] = record {
+          begun = λ q. ap is_some option_is;
+          run = subst (λ t. IsRun e.plan e.texts.held t) none (record { naming = made.sound.table.naming; texts = made.sound.texts; of_rows = of_no_rows; settled = settled_at_none e.plan });
+          stands = subst (λ t. StandsBetween e.texts.held m s2 (content_after e.plan (start_of e.option []) t)) none
+              (subst (λ z. StandsBetween e.texts.held m s2 (content_after e.plan z [])) (sym start_is) stands);
+          clock = ap (λ (z : ClockState). z.start) at ∙ ap (λ z. Some z) (sym start_is);
+          passed = omega (arith, passed_is, start_is);
+        } in
+        record {
+          going = made.nothing.4;
+          fine = none_fails e.plan e.option;
+          merged = sym (ap opening_time option_is);
+          steps = made.nothing.2 ∙ ap length none;
+          lines = made.nothing.3 ∙ ap length (sym (none_told e.plan e.option e.show));
+          rows = made.nothing.0;
+          state = inr under_way;
+        }

@@ -1,0 +1,197 @@
+-- What holds of an engine goes on to hold, and numbers stay in their ranges.
+use Rattle.std.proofs.Common.{◌≡◌, refl, ap, sym, subst, ◌∙◌, ℕ, zero, suc, ◌+◌, ◌^◌, ◌<◌, ◌≤◌, List, [], ◌∷◌, Option, Some, None, Bool, true, false, length, map, drop, slice_get, unwrap_or, if◌then◌else◌, cond, lit≤, arith}
+use Rattle.std.proofs.lemmas.Slice.Zip.{AllZip-long}
+use Rattle.std.specs.List.{AllZip, filter}
+use Rattle.lola_value.specs.declared.text.Field.{Field}
+use Rattle.lola_value.specs.declared.value.Kind.TheVariants as kind
+use Rattle.lola_value.specs.Naming.{Naming}
+use Rattle.lola_value.specs.Times.{latest}
+use Rattle.lola_clock.specs.Clock.{ClockState}
+use Rattle.lola_model.specs.Acceptance.{IsAccepted}
+use Rattle.lola_model.specs.Model.{is_input, most_instances}
+use Rattle.lola_model.specs.Reading.{IsHeldBy}
+use Rattle.lola_model.specs.Store.{Seen, SeenInstance, after_start, instances_of, layout_of, layouts_from, new_seen, newborn_seen, no_params, opened, time_seen}
+use Rattle.lola_model.specs.Trace.{IsFieldOf, input_kinds}
+use Rattle.lola_model.specs.declared.plan.Plan.{Plan}
+use Rattle.lola_model.specs.declared.spec.Clause.{Clause}
+use Rattle.lola_model.specs.declared.spec.Stream.{Stream}
+use Rattle.lola_ready.specs.Ready.{HasTexts}
+use Rattle.lola_text.specs.Texts.{IsTable, Texts}
+use Rattle.lola_step.specs.Progress.{IsOf}
+use Rattle.lola_engine.specs.Engines.{AreStarted, IsEngine, IsSound}
+use Rattle.lola_engine.specs.Going.{HasKept, HasTaken, IsBelow}
+use Rattle.lola_engine.specs.declared.engine.Desk.{Desk}
+use Rattle.lola_engine.proofs.Growing.{slice_get_some}
+use Rattle.lola_engine.proofs.Loop.{sound_clock}
+
+-- a row has at most 64 fields
+
+kinds_are_inputs : (ss : List Stream) → length (input_kinds ss) ≡ length (filter is_input ss)
+kinds_are_inputs [] = refl
+kinds_are_inputs (s ∷ ss) = go (is_input s) (kinds_are_inputs ss)
+  where
+    go : (b : Bool) → length (input_kinds ss) ≡ length (filter is_input ss)
+        → length (if b then unwrap_or s.kind kind.Int64 ∷ input_kinds ss else input_kinds ss) ≡ length (cond b (s ∷ filter is_input ss) (filter is_input ss))
+    go true e = ap suc e
+    go false e = e
+
+pub few_fields : (plan : Plan) (fields : List Field) → IsAccepted plan → AllZip IsFieldOf (input_kinds plan.spec.streams) fields → length fields ≤ 64
+few_fields plan fields accepted h =
+    let long : length fields ≡ length (input_kinds plan.spec.streams) = AllZip-long IsFieldOf (input_kinds plan.spec.streams) fields h in
+    omega (arith, long, kinds_are_inputs plan.spec.streams, accepted.named.few_inputs)
+
+-- so their texts get numbers
+pub few_numbers : (e : Desk) (s : Seen) (fields : List Field) → IsEngine e s → e.rows < 2 ^ 47 → AllZip IsFieldOf (input_kinds e.plan.spec.streams) fields → e.texts.given + length fields < 2 ^ 63
+few_numbers e s fields h more zip = omega (arith, few_fields e.plan fields h.sound.accepted zip, h.few_texts, more)
+
+-- a longer table has the texts of a plan too
+pub has_more_texts : (names more : Naming) (texts : List (List ℕ)) → IsHeldBy names more → HasTexts names texts → HasTexts more texts
+has_more_texts names more texts held h i lt =
+    let w = slice_get_some texts i lt in
+    held i w.0 (h i lt ∙ w.1) ∙ sym w.1
+
+-- a desk with a longer table
+pub sound_texts : (e : Desk) (s : Seen) (t : Texts) → IsTable t → IsHeldBy e.texts.held t.held → IsSound e s → IsSound (record e { texts = t }) s
+sound_texts e s t table held h = record {
+  accepted = h.accepted;
+  workers = h.workers;
+  rates = h.rates;
+  of = h.of;
+  started = h.started;
+  scratch = h.scratch;
+  table = table;
+  texts = has_more_texts e.texts.held t.held e.plan.spec.texts held h.texts;
+  counted = h.counted;
+  few_lines = h.few_lines;
+}
+
+-- and with a row more
+pub sound_rows : (e : Desk) (s : Seen) (rows merged : ℕ) → IsSound e s → IsSound (record e { rows = rows; merged = merged }) s
+sound_rows e s rows merged h = record {
+  accepted = h.accepted;
+  workers = h.workers;
+  rates = h.rates;
+  of = h.of;
+  started = h.started;
+  scratch = h.scratch;
+  table = h.table;
+  texts = h.texts;
+  counted = h.counted;
+  few_lines = h.few_lines;
+}
+
+-- a store that has started
+of_started : (plan : Plan) (s : Seen) (start : ℕ) → start ≤ latest → IsOf plan s → IsOf plan (after_start s start)
+of_started plan s start le h = record { layout = h.layout; streams = h.streams; few = h.few; single = h.single; order = omega arith; in_time = le }
+
+-- store and clock start together
+pub sound_started : (e : Desk) (s s2 : Seen) (k : ClockState) (start : ℕ) → start ≤ latest → k ≡ record e.clock { start = Some start; passed = start } → s2 ≡ after_start s start → IsSound e s
+    → IsSound (record e { clock = k }) s2
+sound_started e s s2 k start le at shows h =
+    subst (λ z. IsSound (record e { clock = k }) z) (sym shows) (record {
+      accepted = h.accepted;
+      workers = h.workers;
+      rates = ap (λ (z : ClockState). z.rates) at ∙ h.rates;
+      of = of_started e.plan s start le h.of;
+      started = subst (λ o. AreStarted (after_start s start) o) (sym (ap (λ (z : ClockState). z.start) at)) (refl, refl);
+      scratch = h.scratch;
+      table = h.table;
+      texts = h.texts;
+      counted = h.counted;
+      few_lines = h.few_lines;
+    })
+
+module _ (e : Desk) (s s2 : Seen) (k : ClockState) (t : Texts) (start stamp : ℕ) (engine : IsEngine e s) (le : stamp ≤ latest) (order : e.merged ≤ stamp) (table : IsTable t) (held : IsHeldBy e.texts.held t.held) where
+  abbrev read : Desk
+  read = record e { texts = t }
+
+  abbrev ready : Desk
+  ready = record e { texts = t; clock = k }
+
+  ready_going : e.clock.start ≡ Some start → k ≡ e.clock → s2 ≡ s → IsBelow ready s2 start stamp
+  ready_going at same shows =
+      let passed_is : k.passed ≡ e.clock.passed = ap (λ (z : ClockState). z.passed) same in
+      subst (λ z. IsBelow ready z start stamp) (sym shows) (record {
+        sound = sound_clock read s k (ap (λ (z : ClockState). z.rates) same) (ap (λ (z : ClockState). z.start) same) (sound_texts e s t table held engine.sound);
+        start_is = ap (λ (z : ClockState). z.start) same ∙ at;
+        time = omega (arith, passed_is, engine.time, engine.passed);
+        below = omega (arith, engine.time, order);
+        few_rows = engine.few_rows;
+        few_steps = omega (arith, passed_is, engine.few_steps);
+      })
+
+  ready_first : e.clock.start ≡ None → start ≡ stamp → k ≡ record e.clock { start = Some stamp; passed = stamp } → s2 ≡ after_start s stamp → IsBelow ready s2 start stamp
+  ready_first none first at shows =
+      let passed_is : k.passed ≡ stamp = ap (λ (z : ClockState). z.passed) at in
+      let no_steps : s.steps ≡ 0 = (subst (λ o. AreStarted s o) none engine.sound.started).1 in
+      let time_is : time_seen s2 ≡ stamp = ap time_seen shows in
+      let steps_are : s2.steps ≡ s.steps = ap (λ (z : Seen). z.steps) shows in
+      record {
+        sound = sound_started read s s2 k stamp le at shows (sound_texts e s t table held engine.sound);
+        start_is = ap (λ (z : ClockState). z.start) at ∙ ap (λ z. Some z) (sym first);
+        time = omega (arith, passed_is, time_is);
+        below = omega (arith, time_is);
+        few_rows = engine.few_rows;
+        few_steps = omega (arith, no_steps, steps_are);
+      }
+
+  -- an engine that has read a row and started may run the deadlines before it
+  pub ready_below : ((a : ℕ) → e.clock.start ≡ Some a → (start ≡ a) × (k ≡ e.clock) × (s2 ≡ s))
+      → (e.clock.start ≡ None → (start ≡ stamp) × (k ≡ record e.clock { start = Some stamp; passed = stamp }) × (s2 ≡ after_start s stamp)) → IsBelow ready s2 start stamp
+  ready_below going first = go e.clock.start refl
+    where
+      go : (o : Option ℕ) → e.clock.start ≡ o → IsBelow ready s2 start stamp
+      go None q = let f = first q in ready_first q f.0 f.1 f.2
+      go (Some a) q = let f = going a q in ready_going (q ∙ ap (λ z. Some z) (sym f.0)) f.1 f.2
+
+  -- and holds again once the row is run
+  pub engine_again : (d : Desk) (s' : Seen) (fields : List Field) → HasTaken ready d s' start stamp → HasKept ready d → e.rows < 2 ^ 47 → AllZip IsFieldOf (input_kinds e.plan.spec.streams) fields
+      → t.given ≤ e.texts.given + length fields → IsEngine (record d { rows = d.rows + 1; merged = stamp }) s'
+  engine_again d s' fields taken kept more zip given =
+      let same_given : d.texts.given ≡ t.given = ap (λ (z : Texts). z.given) kept.texts in
+      record {
+        sound = sound_rows d s' (d.rows + 1) stamp taken.sound;
+        time = omega (arith, taken.time);
+        passed = omega (arith, taken.passed);
+        merged = le;
+        few_rows = omega (arith, kept.rows, more);
+        few_steps = omega (arith, kept.rows, taken.few_steps);
+        few_texts = omega (arith, same_given, kept.rows, given, engine.few_texts, few_fields e.plan fields engine.sound.accepted zip);
+      }
+
+-- a new store is that of its plan
+
+abbrev instances_for : Option Clause → List SeenInstance
+instances_for o = if (elim o [ None ↦ false | Some k ↦ true ]) then [] else newborn_seen no_params ∷ []
+
+few_for : (o : Option Clause) → length (instances_for o) ≤ most_instances
+few_for None = lit≤ tt
+few_for (Some k) = lit≤ tt
+
+one_for : (o : Option Clause) → o ≡ None → length (instances_for o) ≡ 1
+one_for None e = refl
+one_for (Some k) e = absurd (cc)
+
+few_opened : (ss : List Stream) (kept : List ℕ) (n : ℕ) → length (instances_of (slice_get (map opened (layouts_from ss kept)) n)) ≤ most_instances
+few_opened [] kept n = lit≤ tt
+few_opened (s ∷ ss) kept zero = few_for s.spawn
+few_opened (s ∷ ss) kept (suc n) = few_opened ss (drop 1 kept) n
+
+one_opened : (ss : List Stream) (kept : List ℕ) (n : ℕ) (s : Stream) → slice_get ss n ≡ Some s → s.spawn ≡ None → length (instances_of (slice_get (map opened (layouts_from ss kept)) n)) ≡ 1
+one_opened [] kept n s e none = absurd (cc)
+one_opened (r ∷ ss) kept zero s e none = let k : r ≡ s = cc in one_for r.spawn (ap (λ (z : Stream). z.spawn) k ∙ none)
+one_opened (r ∷ ss) kept (suc n) s e none = one_opened ss (drop 1 kept) n s e none
+
+length_opened : (ss : List Stream) (kept : List ℕ) → length (map opened (layouts_from ss kept)) ≡ length ss
+length_opened [] kept = refl
+length_opened (s ∷ ss) kept = ap suc (length_opened ss (drop 1 kept))
+
+pub of_new : (plan : Plan) → IsOf plan (new_seen (layout_of plan))
+of_new plan = record {
+  layout = refl;
+  streams = length_opened plan.spec.streams plan.kept;
+  few = few_opened plan.spec.streams plan.kept;
+  single = one_opened plan.spec.streams plan.kept;
+  order = lit≤ tt;
+  in_time = lit≤ tt;
+}

@@ -1,0 +1,32 @@
+-- What holds of the desk of a new engine.
+use Rattle.std.proofs.Common.{refl, ap, sym, subst, ◌∙◌, arith}
+use Rattle.lola_clock.specs.Clock.{ClockState}
+use Rattle.lola_model.specs.Steps.{rates_of}
+use Rattle.lola_model.specs.Store.{layout_of, new_seen}
+use Rattle.lola_engine.specs.Engines.{AreStarted}
+use Rattle.lola_engine.proofs.Ranges.{of_new}
+use Rattle.lola_engine.proofs.engine.new_desk.Goals as goal
+
+pub returns : goal.returns
+returns c =
+    let started_is = ap (λ (z : ClockState). z.start) c.in_ok-clock.ensures in
+    record {
+      sound = record {
+        accepted = c.requires.accepted;
+        workers = c.requires.workers;
+        rates = ap (λ (z : ClockState). z.rates) c.in_ok-clock.ensures ∙ (c.as_slice-2.ensures.value ∙ (c.in_ok-rates.ensures ∙ ap rates_of c.as_slice.ensures));
+        of = of_new c.args.plan;
+        started = subst (λ o. AreStarted (new_seen (layout_of c.args.plan)) o) (sym started_is) (refl, refl);
+        scratch = c.in_ok-scratch.ensures;
+        table = c.in_ok-texts.ensures.table;
+        texts = c.in_ok-texts.ensures.texts;
+        counted = omega arith;
+        few_lines = omega arith;
+      };
+      plan_is = refl;
+      option_is = refl;
+      show_is = refl;
+      clock = (started_is, ap (λ (z : ClockState). z.passed) c.in_ok-clock.ensures);
+      few_texts = c.in_ok-texts.ensures.few;
+      nothing = (refl, refl, refl, refl, refl);
+    }

@@ -1,0 +1,67 @@
+-- A row, read and run.
+use Rattle.std.proofs.Common.{◌+◌, refl, sym, subst, ap}
+use Rattle.lola_clock.specs.Clock.{ClockState}
+use Rattle.lola_model.specs.Standing.{StandsBetween}
+use Rattle.lola_step.specs.Moments.{ReadAs}
+use Rattle.lola_engine.specs.Going.{tally_of}
+use Rattle.lola_engine.proofs.Joining.{accepts_all, accepts_no_more, accepts_unread, begins}
+use Rattle.lola_engine.proofs.Ranges.{engine_again, few_numbers, has_more_texts, ready_below}
+use Rattle.lola_engine.proofs.engine.run_row.Goals as goal
+
+pub read_row-requires-clause-few : goal.read_row-requires-clause-few
+read_row-requires-clause-few g c =
+    few_numbers c.args.desk.now (g.S.StreamStore.seen c.args.store.now) c.args.row.now.fields c.requires.engine c.requires.row.more c.requires.row.fields
+
+pub returns-in-Err-clause-accepts : goal.returns-in-Err-clause-accepts
+returns-in-Err-clause-accepts g c =
+    let s = g.S.StreamStore.seen c.args.store.now in
+    let m = g.S.StreamStore.remembers c.args.store.now in
+    accepts_unread c.args.desk.now s m c.args.row.now c.args.lines.now c.args.desk.now s m
+
+pub run_taken-requires-clause-below : goal.run_taken-requires-clause-below
+run_taken-requires-clause-below g c κs within =
+    ready_below c.args.desk.now (g.S.StreamStore.seen c.args.store.now) (g.S.StreamStore.seen c.started-start.new.store) c.started-start.new.clock c.read_row.new.texts c.started-start.result c.args.row.now.stamp
+    c.requires.engine c.requires.row.in_time c.requires.row.order c.in_default.ensures.table c.in_default.ensures.held
+    (λ a q. let k = c.started-start.ensures.going a q in (k.0, k.1, ap g.S.StreamStore.seen k.2)) c.started-start.ensures.first
+
+pub returns-in-Ok-clause-engine : goal.returns-in-Ok-clause-engine
+returns-in-Ok-clause-engine g c =
+    engine_again c.args.desk.now (g.S.StreamStore.seen c.args.store.now) (g.S.StreamStore.seen c.started-start.new.store) c.started-start.new.clock c.read_row.new.texts c.started-start.result c.args.row.now.stamp
+    c.requires.engine c.requires.row.in_time c.requires.row.order c.in_default.ensures.table c.in_default.ensures.held
+    c.run_taken.new.desk (g.S.StreamStore.seen c.run_taken.new.store) c.args.row.now.fields c.in-Ok.ensures.taken c.in-Ok.ensures.kept c.requires.row.more c.requires.row.fields c.in_default.ensures.given
+
+pub returns-in-Ok-clause-accepts : goal.returns-in-Ok-clause-accepts
+returns-in-Ok-clause-accepts g c =
+    let seen = g.S.StreamStore.seen in
+    let remembers = g.S.StreamStore.remembers in
+    let e = c.args.desk.now in
+    let names = c.read_row.new.texts.held in
+    let clock : ClockState = c.started-start.new.clock in
+    let new = record c.run_taken.new.desk { rows = c.run_taken.new.desk.rows + 1; merged = c.args.row.now.stamp } in
+    accepts_all e (seen c.args.store.now) (remembers c.args.store.now) c.args.row.now names clock c.started-start.result (remembers c.started-start.new.store) (seen c.started-start.new.store)
+    (begins e (seen c.args.store.now) (remembers c.args.store.now) c.args.row.now names clock c.started-start.result (remembers c.started-start.new.store) (seen c.started-start.new.store)
+    c.requires.engine c.requires.row.order c.in_default.ensures.table.naming (has_more_texts e.texts.held names e.plan.spec.texts c.in_default.ensures.held c.requires.engine.sound.texts)
+    (λ a q. let k = c.started-start.ensures.going a q in (k.0, k.1, λ content stands. subst (λ z. StandsBetween names (remembers z) (seen z) content) (sym k.2) (c.in_default.ensures.stands content stands)))
+    (λ q. let f = c.started-start.ensures.first q in (f.0, f.1))
+    (λ q shows past. c.started-start.ensures.stands q shows past names))
+    c.args.lines.now c.run_taken.new.lines new (seen c.run_taken.new.store) (remembers c.run_taken.new.store)
+    (c.in-Ok.ensures.goes c.args.row.now.fields (subst (λ os. ReadAs names os c.args.row.now.fields) (sym c.as_slice.ensures.value) c.in_default.ensures.ok))
+    c.in-Ok.ensures.kept.plan c.in-Ok.ensures.kept.option c.in-Ok.ensures.kept.show c.in-Ok.ensures.kept.ended
+    (ap (λ n. n + 1) c.in-Ok.ensures.kept.rows) refl c.in-Ok.ensures.taken.start_is c.in-Ok.ensures.taken.passed
+
+pub returns-in-Err-run_taken-clause-accepts : goal.returns-in-Err-run_taken-clause-accepts
+returns-in-Err-run_taken-clause-accepts g c =
+    let seen = g.S.StreamStore.seen in
+    let remembers = g.S.StreamStore.remembers in
+    let e = c.args.desk.now in
+    let names = c.read_row.new.texts.held in
+    let clock : ClockState = c.started-start.new.clock in
+    accepts_no_more e (seen c.args.store.now) (remembers c.args.store.now) c.args.row.now names clock c.started-start.result (remembers c.started-start.new.store) (seen c.started-start.new.store)
+    (begins e (seen c.args.store.now) (remembers c.args.store.now) c.args.row.now names clock c.started-start.result (remembers c.started-start.new.store) (seen c.started-start.new.store)
+    c.requires.engine c.requires.row.order c.in_default.ensures.table.naming (has_more_texts e.texts.held names e.plan.spec.texts c.in_default.ensures.held c.requires.engine.sound.texts)
+    (λ a q. let k = c.started-start.ensures.going a q in (k.0, k.1, λ content stands. subst (λ z. StandsBetween names (remembers z) (seen z) content) (sym k.2) (c.in_default.ensures.stands content stands)))
+    (λ q. let f = c.started-start.ensures.first q in (f.0, f.1))
+    (λ q shows past. c.started-start.ensures.stands q shows past names))
+    c.args.lines.now c.run_taken.new.lines c.in-Err-run_taken.end (tally_of c.run_taken.new.desk) (remembers c.run_taken.new.store) (seen c.run_taken.new.store)
+    (c.in-Err-run_taken.ensures.goes c.args.row.now.fields (subst (λ os. ReadAs names os c.args.row.now.fields) (sym c.as_slice.ensures.value) c.in_default.ensures.ok))
+    c.run_taken.new.desk (seen c.run_taken.new.store) (remembers c.run_taken.new.store)

@@ -1,0 +1,12 @@
+-- A text is held under its number.
+use Rattle.lola_engine.proofs.Interned.{asked}
+use Rattle.lola_engine.proofs.RowsRead.{text-outcome}
+use Rattle.lola_engine.proofs.fields.outcome_of.Goals as goal
+
+pub returns-in_ok-id-in-Text-clause-ok : goal.returns-in_ok-id-in-Text-clause-ok
+returns-in_ok-id-in-Text-clause-ok c =
+    let is = asked c.as_bytes.result.now c.in_ok-id-in-Text.id.0 c.args.texts.now c.intern.new.self c.requires.table c.in_ok-id-in-Text.ensures.ok in
+    text-outcome c.intern.new.self.held c.args.field.now c.in-Text.t c.as_bytes.result.now c.in_ok-id-in-Text.id c.in-Text.is c.as_bytes.ensures is.there
+
+pub returns-in_ok-id-in-Text-clause-held : goal.returns-in_ok-id-in-Text-clause-held
+returns-in_ok-id-in-Text-clause-held c = (asked c.as_bytes.result.now c.in_ok-id-in-Text.id.0 c.args.texts.now c.intern.new.self c.requires.table c.in_ok-id-in-Text.ensures.ok).held

@@ -1,0 +1,4 @@
+pub mod Engines
+pub mod Read
+pub mod Shown
+pub mod Going

@@ -1,0 +1,516 @@
+//! The engine: deadlines before a row, the row, and the lines of each step.
+
+ghost use Rattle.std.specs.Prelude.{◌≡◌, ◌+◌, ◌<◌, ◌≤◌, ◌^◌, ◌++◌, ℕ, List, [], ◌∷◌, length, IsTrue, OnOk, OnErr, IfOk, IfErr, Some, None};
+ghost use Rattle.std.specs.List.{AllZip};
+ghost use Rattle.lola_value.specs.declared.text.Field.{Field};
+ghost use Rattle.lola_value.specs.Naming.{Naming};
+ghost use Rattle.lola_value.specs.Times.{latest};
+ghost use Rattle.lola_model.specs.Acceptance.{IsAccepted};
+ghost use Rattle.lola_model.specs.Content.{Content};
+ghost use Rattle.lola_model.specs.Named.{are_distinct};
+ghost use Rattle.lola_model.specs.Reading.{IsHeldBy};
+ghost use Rattle.lola_model.specs.Runs.{content_after};
+ghost use Rattle.lola_model.specs.Standing.{StandsBetween};
+ghost use Rattle.lola_model.specs.Steps.{rate_of, rates_of};
+ghost use Rattle.lola_model.specs.Store.{after_start, instances_seen, layout_of, new_seen, time_seen};
+ghost use Rattle.lola_model.specs.Table.{Step};
+ghost use Rattle.lola_model.specs.Trace.{IsFieldOf, input_kinds};
+ghost use Rattle.lola_ready.specs.Ready.{HasTexts};
+ghost use Rattle.lola_text.specs.Texts.{IsTable};
+ghost use Rattle.lola_step.specs.Moments.{ReadAs};
+ghost use Rattle.lola_step.specs.Steps.{AreInputs, AreOfInputs, IsStepped, ReadFields};
+ghost use Rattle.lola_engine.specs.Engines.{Accepts, AreStarted, Finishes, IsEngine, IsOptionInTime, IsSound, IsTakeable, StandsFor};
+ghost use Rattle.lola_engine.specs.Going.{Goes, HasKept, HasPassed, HasStayed, HasTaken, IsBelow, IsMade, due_steps, tally_of};
+ghost use Rattle.lola_engine.specs.declared.end.EngineEnd.{EngineEnd};
+
+use crate::end::{Counts, EngineEnd};
+use crate::fields::{name_literals, read_fields};
+use crate::lines::put_lines;
+use lola_clock::clock::Clock;
+use lola_contents::law::{new_stands, renamed_stands};
+use lola_model::journal::{Row, Show};
+use lola_model::pacing::{ClausePacings, Pacing};
+use lola_model::plan::Plan;
+use lola_model::store::StreamStore;
+use lola_port::Gate;
+use lola_step::end::StepEnd;
+use lola_step::scratch::Scratch;
+use lola_step::step::step;
+use lola_text::TextTable;
+use lola_value::rate::Rate;
+use lola_value::text::{Memory, Text};
+use lola_value::value::Outcome;
+use std::alloc::Global;
+use std::thread::Threads;
+
+/// All of an engine but its store: the plan, the start if one was given, what is shown, how many workers evaluate instances, the clock of
+/// the deadlines, the texts, the notes of steps, and what was counted.
+#[derive(Drop)]
+pub struct Desk {
+    pub(crate) alloc: Global,
+    pub(crate) plan: Plan,
+    pub(crate) option: Option<u64>,
+    pub(crate) show: Show,
+    pub(crate) workers: u32,
+    pub(crate) clock: Clock,
+    pub(crate) texts: TextTable,
+    pub(crate) scratch: Scratch,
+    pub(crate) rows: u64,
+    pub(crate) merged: u64,
+    pub(crate) steps: u64,
+    pub(crate) lines: u128,
+    pub(crate) ended: Option<EngineEnd>,
+}
+
+/// An engine over a store, with the inputs of its row.
+#[derive(Drop)]
+pub struct Engine<S: StreamStore> {
+    pub(crate) store: S,
+    pub(crate) desk: Desk,
+    pub(crate) inputs: Vec<Outcome>,
+}
+
+/// Appends the rate of a pacing, if it has one.
+fn add_rate(pacing: &Option<Pacing>, rates: &mut Vec<Rate>) -> Result<(), Memory>
+    ensures { OnOk result (rates.new.items ≡ rates.old.items ++ rate_of pacing.now) }
+{
+    if let Some(Pacing::Periodic(rate)) = pacing {
+        rates.push(*rate)?;
+    }
+    Ok(())
+}
+
+/// The rates of all periodic clauses.
+fn rates_in(alloc: Global, pacings: &[ClausePacings]) -> Result<Vec<Rate>, Memory>
+    ensures { IfOk result (λ rates. rates.items ≡ rates_of pacings.now) }
+{
+    let mut rates = Vec::new(alloc);
+    for clauses in pacings {
+        add_rate(&clauses.spawn, &mut rates)?;
+        add_rate(&clauses.eval, &mut rates)?;
+        add_rate(&clauses.close, &mut rates)?;
+    }
+    Ok(rates)
+}
+
+/// A table with the texts of a plan's literals, each with the number of its place. Numbers of literals have 32 bits: a plan with more
+/// texts is answered with `Memory`.
+fn new_texts(alloc: Global, plan: &Plan) -> Result<TextTable, Memory>
+    requires { IsTrue (are_distinct plan.now.spec.texts) }
+    ensures texts { IfOk result (λ texts. HasTexts texts.held plan.now.spec.texts) }
+    ensures table { IfOk result IsTable }
+    ensures few { IfOk result (λ texts. texts.given ≤ 2 ^ 32) }
+{
+    if plan.spec.texts.as_slice().len() > u32::MAX as usize {
+        return Err(Memory);
+    }
+    let mut texts = TextTable::create(alloc);
+    name_literals(plan, &mut texts)?;
+    Ok(texts)
+}
+
+/// All of a new engine but its store, which is new too.
+fn new_desk(
+    alloc: Global,
+    plan: Plan,
+    option: Option<u64>,
+    show: Show,
+    workers: u32,
+) -> Result<Desk, Memory>
+    requires accepted { IsAccepted plan }
+    requires workers { (1 ≤ workers) × (workers ≤ 64) }
+    ensures { IfOk result (IsMade plan option show workers) }
+{
+    let rates = rates_in(alloc, plan.pacings.as_slice())?;
+    let clock = Clock::create(alloc, rates.as_slice())?;
+    let scratch = Scratch::create(alloc, &plan)?;
+    let texts = new_texts(alloc, &plan)?;
+    Ok(Desk {
+        alloc,
+        plan,
+        option,
+        show,
+        workers,
+        clock,
+        texts,
+        scratch,
+        rows: 0,
+        merged: 0,
+        steps: 0,
+        lines: 0,
+        ended: None,
+    })
+}
+
+/// Runs a step and appends its lines.
+fn run_step<R: Threads + Sync, S: StreamStore + Sync, G: Gate + Sync>(
+    rt: &R,
+    gate: &G,
+    store: &mut S,
+    desk: &mut Desk,
+    start: u64,
+    time: u64,
+    is_row: bool,
+    inputs: &[Outcome],
+    lines: &mut Text,
+) -> Result<(), EngineEnd>
+    requires sound { IsSound desk.old (S.seen store.old) }
+    requires start { desk.old.clock.start ≡ Some start }
+    requires order { time_seen (S.seen store.old) ≤ time }
+    requires in_time { time ≤ latest }
+    requires steps { (S.seen store.old).steps < 2 ^ 63 }
+    requires inputs { AreInputs is_row desk.old.plan.spec.streams inputs.now }
+    ensures sound { OnOk result (IsSound desk.new (S.seen store.new)) }
+    ensures kept { HasKept desk.old desk.new }
+    ensures clock { desk.new.clock ≡ desk.old.clock }
+    ensures seen { OnOk result (IsStepped desk.old.plan time (S.seen store.old) (S.seen store.new)) }
+    ensures goes { (of : Step) → of.time ≡ time → ReadFields desk.old.texts.held inputs.now is_row of.fields
+        → Goes result start (of ∷ []) (tally_of desk.old) (S.remembers store.old) (S.seen store.old)
+        (tally_of desk.new) (S.remembers store.new) (S.seen store.new) lines.old lines.new }
+{
+    match step(
+        rt,
+        gate,
+        &desk.plan,
+        store,
+        &mut desk.scratch,
+        start,
+        time,
+        is_row,
+        inputs,
+        desk.workers,
+    ) {
+        StepEnd::Memory => return Err(EngineEnd::Memory),
+        StepEnd::Fault { stream, kind } => return Err(EngineEnd::Fault { stream, kind, time }),
+        StepEnd::Done => {}
+    }
+    match put_lines(
+        desk.alloc,
+        &desk.plan,
+        desk.show,
+        time,
+        desk.scratch.verdicts(),
+        &desk.texts,
+        lines,
+    ) {
+        Ok(count) => {
+            desk.steps += 1;
+            desk.lines += count as u128;
+        }
+        Err(_) => return Err(EngineEnd::Memory),
+    }
+    gate.step_done(S::BOUNDED);
+    Ok(())
+}
+
+/// Runs the deadlines that are not passed and lie below a moment.
+fn run_deadlines<R: Threads + Sync, S: StreamStore + Sync, G: Gate + Sync>(
+    rt: &R,
+    gate: &G,
+    store: &mut S,
+    desk: &mut Desk,
+    start: u64,
+    limit: u64,
+    lines: &mut Text,
+) -> Result<(), EngineEnd>
+    requires below { IsBelow desk.old (S.seen store.old) start limit }
+    requires in_time { limit ≤ latest }
+    ensures passed { OnOk result (HasPassed desk.old desk.new (S.seen store.new) start limit) }
+    ensures kept { HasKept desk.old desk.new }
+    ensures goes { Goes result start (due_steps desk.old.clock start limit) (tally_of desk.old) (S.remembers store.old) (S.seen store.old)
+        (tally_of desk.new) (S.remembers store.new) (S.seen store.new) lines.old lines.new }
+{
+    while let Some(due) = desk.clock.next_due() {
+        if due >= limit {
+            return Ok(());
+        }
+        match run_step(rt, gate, store, desk, start, due, false, &[], lines) {
+            Ok(()) => desk.clock.advance(due),
+            Err(end) => return Err(end),
+        }
+    }
+    Ok(())
+}
+
+/// Runs the deadlines before a row's stamp, and the row.
+fn run_taken<R: Threads + Sync, S: StreamStore + Sync, G: Gate + Sync>(
+    rt: &R,
+    gate: &G,
+    store: &mut S,
+    desk: &mut Desk,
+    start: u64,
+    stamp: u64,
+    inputs: &[Outcome],
+    lines: &mut Text,
+) -> Result<(), EngineEnd>
+    requires below { IsBelow desk.old (S.seen store.old) start stamp }
+    requires in_time { stamp ≤ latest }
+    requires inputs { AreOfInputs desk.old.plan.spec.streams inputs.now }
+    ensures taken { OnOk result (HasTaken desk.old desk.new (S.seen store.new) start stamp) }
+    ensures kept { HasKept desk.old desk.new }
+    ensures goes { (fields : List Field) → ReadAs desk.old.texts.held inputs.now fields
+        → Goes result start (due_steps desk.old.clock start stamp ++ record { time = stamp; fields = Some fields } ∷ [])
+        (tally_of desk.old) (S.remembers store.old) (S.seen store.old)
+        (tally_of desk.new) (S.remembers store.new) (S.seen store.new) lines.old lines.new }
+{
+    match run_deadlines(rt, gate, store, desk, start, stamp, lines) {
+        Ok(()) => {}
+        Err(end) => return Err(end),
+    }
+    desk.clock.advance(stamp.saturating_sub(1));
+    match run_step(rt, gate, store, desk, start, stamp, true, inputs, lines) {
+        Ok(()) => Ok(()),
+        Err(end) => Err(end),
+    }
+}
+
+/// Where time counts from: what it was, or this first stamp.
+fn started<S: StreamStore>(plan: &Plan, store: &mut S, clock: &mut Clock, stamp: u64) -> u64
+    requires together { AreStarted (S.seen store.old) clock.old.start }
+    requires in_time { stamp ≤ latest }
+    ensures going { (start : ℕ) → clock.old.start ≡ Some start → (result ≡ start) × (clock.new ≡ clock.old) × (store.new ≡ store.old) }
+    ensures first { clock.old.start ≡ None → (result ≡ stamp) × (clock.new ≡ record clock.old { start = Some stamp; passed = stamp })
+        × (S.seen store.new ≡ after_start (S.seen store.old) stamp) }
+    ensures stands { clock.old.start ≡ None → S.seen store.old ≡ new_seen (layout_of plan.now)
+        → ((names : Naming) (n i : ℕ) → i < length (instances_seen (S.seen store.old) n) → S.remembers store.old names n i [])
+        → (names : Naming) → StandsBetween names (S.remembers store.new) (S.seen store.new) (content_after plan.now stamp []) }
+{
+    match clock.start() {
+        Some(start) => start,
+        None => {
+            store.start_at(stamp);
+            clock.start_at(stamp);
+            new_stands(plan, store);
+            stamp
+        }
+    }
+}
+
+/// Reads the fields of a row, for a store that stands for as much through the longer table.
+fn read_row<S: StreamStore>(
+    plan: &Plan,
+    store: &S,
+    row: &Row,
+    texts: &mut TextTable,
+    inputs: &mut Vec<Outcome>,
+) -> Result<(), Memory>
+    requires kinds { AllZip IsFieldOf (input_kinds plan.now.spec.streams) row.now.fields }
+    requires few { texts.old.given + length row.now.fields < 2 ^ 63 }
+    ensures ok { OnOk result (ReadAs texts.new.held inputs.new.items row.now.fields) }
+    ensures kinds { OnOk result (AreOfInputs plan.now.spec.streams inputs.new.items) }
+    ensures table { IsTable texts.new }
+    ensures held { IsHeldBy texts.old.held texts.new.held }
+    ensures given { texts.new.given ≤ texts.old.given + length row.now.fields }
+    ensures stands { (c : Content) → StandsBetween texts.old.held (S.remembers store.now) (S.seen store.now) c
+        → StandsBetween texts.new.held (S.remembers store.now) (S.seen store.now) c }
+{
+    renamed_stands(store);
+    read_fields(plan, row.fields.as_slice(), texts, inputs)?;
+    Ok(())
+}
+
+/// Runs the deadlines before a row, and the row.
+fn run_row<R: Threads + Sync, S: StreamStore + Sync, G: Gate + Sync>(
+    rt: &R,
+    gate: &G,
+    store: &mut S,
+    desk: &mut Desk,
+    inputs: &mut Vec<Outcome>,
+    row: &Row,
+    lines: &mut Text,
+) -> Result<(), EngineEnd>
+    requires engine { IsEngine desk.old (S.seen store.old) }
+    requires row { IsTakeable desk.old row.now }
+    ensures engine { OnOk result (IsEngine desk.new (S.seen store.new)) }
+    ensures kept { HasStayed desk.old desk.new }
+    ensures merged { OnOk result (desk.new.merged ≡ row.now.stamp) }
+    ensures rows { OnOk result (desk.new.rows ≡ desk.old.rows + 1) }
+    ensures accepts { Accepts result row.now desk.old (S.seen store.old) (S.remembers store.old)
+        desk.new (S.seen store.new) (S.remembers store.new) lines.old lines.new }
+{
+    if let Err(Memory) = read_row(&desk.plan, store, row, &mut desk.texts, inputs) {
+        return Err(EngineEnd::Memory);
+    }
+    let start = started(&desk.plan, store, &mut desk.clock, row.stamp);
+    match run_taken(
+        rt,
+        gate,
+        store,
+        desk,
+        start,
+        row.stamp,
+        inputs.as_slice(),
+        lines,
+    ) {
+        Ok(()) => {
+            desk.rows += 1;
+            desk.merged = row.stamp;
+            Ok(())
+        }
+        Err(end) => Err(end),
+    }
+}
+
+/// Runs the deadlines at the last stamp, of which there is at most one moment.
+fn run_last<R: Threads + Sync, S: StreamStore + Sync, G: Gate + Sync>(
+    rt: &R,
+    gate: &G,
+    store: &mut S,
+    desk: &mut Desk,
+    lines: &mut Text,
+) -> Result<(), EngineEnd>
+    requires { IsEngine desk.old (S.seen store.old) }
+    ensures kept { HasKept desk.old desk.new }
+    ensures finishes { Finishes result desk.old (S.seen store.old) (S.remembers store.old) desk.new lines.old lines.new }
+{
+    if desk.rows == 0 {
+        return Ok(());
+    }
+    let Some(start) = desk.clock.start() else {
+        return Ok(());
+    };
+    let Some(due) = desk.clock.next_due() else {
+        return Ok(());
+    };
+    if due > desk.merged {
+        return Ok(());
+    }
+    match run_step(rt, gate, store, desk, start, due, false, &[], lines) {
+        Ok(()) => Ok(()),
+        Err(end) => Err(end),
+    }
+}
+
+impl<S: StreamStore + Sync> Engine<S> {
+    /// An engine for a plan, over a new store of it, that has run nothing. Where a start is given, time counts from it; else from the
+    /// first row's stamp. The texts of the plan's literals get their numbers.
+    pub fn create(
+        alloc: Global,
+        plan: Plan,
+        store: S,
+        start: Option<u64>,
+        show: Show,
+        workers: u32,
+    ) -> Result<Engine<S>, Memory>
+        requires accepted { IsAccepted plan }
+        requires new { S.seen store ≡ new_seen (layout_of plan) }
+        requires past { (names : Naming) (n i : ℕ) → i < length (instances_seen (S.seen store) n) → S.remembers store names n i [] }
+        requires workers { (1 ≤ workers) × (workers ≤ 64) }
+        requires start { IsOptionInTime start }
+        ensures engine { IfOk result (λ engine. IsEngine engine.desk (S.seen engine.store)) }
+        ensures plan { IfOk result (λ engine. engine.desk.plan ≡ plan) }
+        ensures option { IfOk result (λ engine. engine.desk.option ≡ start) }
+        ensures show { IfOk result (λ engine. engine.desk.show ≡ show) }
+        ensures counts { IfOk result (λ engine. (engine.desk.steps ≡ 0) × (engine.desk.lines ≡ 0)) }
+        ensures stands { IfOk result (λ engine. StandsFor engine.desk (S.seen engine.store) (S.remembers engine.store) []) }
+    {
+        let desk = new_desk(alloc, plan, start, show, workers)?;
+        let mut engine = Engine {
+            store,
+            desk,
+            inputs: Vec::new(alloc),
+        };
+        match start {
+            Some(start) => {
+                let opened = &mut engine;
+                started(
+                    &opened.desk.plan,
+                    &mut opened.store,
+                    &mut opened.desk.clock,
+                    start,
+                );
+                opened.desk.merged = start;
+                Ok(engine)
+            }
+            None => Ok(engine),
+        }
+    }
+
+    /// Runs the deadlines before a row's stamp and then the row, and appends the lines of each step. A step with a fault has no line.
+    /// After `Memory` a front of the lines may be appended. After an error each later call answers the same and changes nothing.
+    pub fn accept<R: Threads + Sync, G: Gate + Sync>(
+        &mut self,
+        rt: &R,
+        gate: &G,
+        row: &Row,
+        lines: &mut Text,
+    ) -> Result<(), EngineEnd>
+        requires engine { self.old.desk.ended ≡ None → IsEngine self.old.desk (S.seen self.old.store) }
+        requires row { IsTakeable self.old.desk row.now }
+        ensures engine { OnOk result (IsEngine self.new.desk (S.seen self.new.store)) }
+        ensures plan { self.new.desk.plan ≡ self.old.desk.plan }
+        ensures option { self.new.desk.option ≡ self.old.desk.option }
+        ensures show { self.new.desk.show ≡ self.old.desk.show }
+        ensures merged { OnOk result (self.new.desk.merged ≡ row.now.stamp) }
+        ensures rows { OnOk result (self.new.desk.rows ≡ self.old.desk.rows + 1) }
+        ensures accepts { Accepts result row.now self.old.desk (S.seen self.old.store) (S.remembers self.old.store)
+            self.new.desk (S.seen self.new.store) (S.remembers self.new.store) lines.old lines.new }
+        ensures ok { OnOk result ((self.old.desk.ended ≡ None) × (self.new.desk.ended ≡ None)) }
+        ensures err { IfErr result (λ end. self.new.desk.ended ≡ Some end) }
+        ensures ended { (end : EngineEnd) → self.old.desk.ended ≡ Some end → IfErr result (λ e. e ≡ end) × (self.new ≡ self.old) × (lines.new ≡ lines.old) }
+    {
+        if let Some(end) = self.desk.ended {
+            return Err(end);
+        }
+        match run_row(
+            rt,
+            gate,
+            &mut self.store,
+            &mut self.desk,
+            &mut self.inputs,
+            row,
+            lines,
+        ) {
+            Ok(()) => Ok(()),
+            Err(end) => {
+                self.desk.ended = Some(end);
+                Err(end)
+            }
+        }
+    }
+
+    /// Runs the deadlines at the last accepted stamp, once no more rows come, and appends their lines. Where no row was accepted there
+    /// are none. After an error each later call answers the same and changes nothing; after `Ok` no other call may come.
+    pub fn finish<R: Threads + Sync, G: Gate + Sync>(
+        &mut self,
+        rt: &R,
+        gate: &G,
+        lines: &mut Text,
+    ) -> Result<(), EngineEnd>
+        requires engine { self.old.desk.ended ≡ None → IsEngine self.old.desk (S.seen self.old.store) }
+        ensures plan { self.new.desk.plan ≡ self.old.desk.plan }
+        ensures finishes { Finishes result self.old.desk (S.seen self.old.store) (S.remembers self.old.store) self.new.desk lines.old lines.new }
+        ensures ok { OnOk result (self.old.desk.ended ≡ None) }
+        ensures err { IfErr result (λ end. self.new.desk.ended ≡ Some end) }
+        ensures ended { (end : EngineEnd) → self.old.desk.ended ≡ Some end → IfErr result (λ e. e ≡ end) × (self.new ≡ self.old) × (lines.new ≡ lines.old) }
+    {
+        if let Some(end) = self.desk.ended {
+            return Err(end);
+        }
+        match run_last(rt, gate, &mut self.store, &mut self.desk, lines) {
+            Ok(()) => Ok(()),
+            Err(end) => {
+                self.desk.ended = Some(end);
+                Err(end)
+            }
+        }
+    }
+
+    /// What it has counted.
+    pub fn counts(&self) -> Counts
+        ensures steps { result.steps ≡ self.now.desk.steps }
+        ensures lines { result.lines ≡ self.now.desk.lines }
+    {
+        Counts {
+            steps: self.desk.steps,
+            lines: self.desk.lines,
+        }
+    }
+
+    /// The plan that it was made with.
+    pub fn plan(&self) -> &Plan
+        ensures { result.now ≡ self.now.desk.plan }
+    {
+        &self.desk.plan
+    }
+}

@@ -1,0 +1,78 @@
+//! Rows and literals, with texts by their numbers.
+
+ghost use Rattle.std.specs.Prelude.{◌≡◌, ◌+◌, ◌<◌, ◌≤◌, ◌^◌, IsTrue, length, IfOk, OnOk};
+ghost use Rattle.std.specs.List.{AllZip};
+ghost use Rattle.lola_model.specs.Named.{are_distinct};
+ghost use Rattle.lola_model.specs.Reading.{IsHeldBy};
+ghost use Rattle.lola_model.specs.Trace.{IsFieldOf, input_kinds};
+ghost use Rattle.lola_ready.specs.Ready.{HasTexts};
+ghost use Rattle.lola_step.specs.Moments.{ReadAs};
+ghost use Rattle.lola_step.specs.Steps.{AreOfInputs};
+ghost use Rattle.lola_text.specs.Texts.{IsTable, no_texts};
+ghost use Rattle.lola_engine.specs.Read.{IsOutcomeOf};
+
+use lola_model::plan::Plan;
+use lola_text::TextTable;
+use lola_value::text::{Field, Memory};
+use lola_value::value::{Outcome, Value};
+
+/// A field as an input's outcome: missing where it is absent.
+fn outcome_of(field: &Field, texts: &mut TextTable) -> Result<Outcome, Memory>
+    requires table { IsTable texts.old }
+    requires few { texts.old.given < 2 ^ 63 }
+    ensures ok { IfOk result (λ o. IsOutcomeOf texts.new.held o field.now) }
+    ensures table { IsTable texts.new }
+    ensures held { IsHeldBy texts.old.held texts.new.held }
+    ensures given { texts.new.given ≤ texts.old.given + 1 }
+{
+    match field {
+        Field::Absent => Ok(Outcome::Missing),
+        Field::Bool(b) => Ok(Outcome::Value(Value::Bool(*b))),
+        Field::Int(z) => Ok(Outcome::Value(Value::Int(*z))),
+        Field::Text(t) => {
+            let id = texts.intern(t.as_bytes())?;
+            Ok(Outcome::Value(Value::Text(id)))
+        }
+    }
+}
+
+/// Reads the fields of a row as outcomes of the inputs, in place of those that stood in the list. Texts get numbers in the table; those
+/// that have one keep it, also where there is no memory.
+pub(crate) fn read_fields(
+    plan: &Plan,
+    fields: &[Field],
+    texts: &mut TextTable,
+    inputs: &mut Vec<Outcome>,
+) -> Result<(), Memory>
+    requires kinds { AllZip IsFieldOf (input_kinds plan.now.spec.streams) fields.now }
+    requires few { texts.old.given + length fields.now < 2 ^ 63 }
+    ensures ok { OnOk result (ReadAs texts.new.held inputs.new.items fields.now) }
+    ensures kinds { OnOk result (AreOfInputs plan.now.spec.streams inputs.new.items) }
+    ensures table { IsTable texts.new }
+    ensures held { IsHeldBy texts.old.held texts.new.held }
+    ensures given { texts.new.given ≤ texts.old.given + length fields.now }
+{
+    // A row may have no text to ask for: this call alone tells that the table is one.
+    let _held = texts.len();
+    inputs.clear();
+    for field in fields {
+        let outcome = outcome_of(field, texts)?;
+        inputs.push(outcome)?;
+    }
+    Ok(())
+}
+
+/// Gives the texts of a specification's literals their numbers, each the number of its place.
+pub(crate) fn name_literals(plan: &Plan, texts: &mut TextTable) -> Result<(), Memory>
+    requires none { texts.old ≡ no_texts }
+    requires distinct { IsTrue (are_distinct plan.now.spec.texts) }
+    requires few { length plan.now.spec.texts ≤ 2 ^ 32 }
+    ensures ok { OnOk result (HasTexts texts.new.held plan.now.spec.texts) }
+    ensures table { IsTable texts.new }
+    ensures given { texts.new.given ≤ length plan.now.spec.texts }
+{
+    for text in plan.spec.texts.as_slice() {
+        texts.intern(text.as_bytes())?;
+    }
+    Ok(())
+}

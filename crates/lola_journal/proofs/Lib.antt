@@ -1,0 +1,7 @@
+pub mod Bytes
+pub mod Decimals
+pub mod FieldLines
+pub mod Parts
+pub mod ReadBack
+pub mod Lines
+pub mod Texts

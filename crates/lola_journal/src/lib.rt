@@ -1,0 +1,11 @@
+//! Reading a trace back: the journal that a trace text tells.
+#![tactic(auto)]
+
+mod candidate;
+pub mod law;
+mod line;
+mod read;
+#[cfg(test)]
+mod tests;
+
+pub use read::{JournalEnd, journal};

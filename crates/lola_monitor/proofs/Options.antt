@@ -1,0 +1,201 @@
+-- What a run is told is in its bounds: how many workers there are, and where time begins.
+use Rattle.std.proofs.Common.{◌≡◌, ◌≤◌, ℕ, ◌+◌, List, [], ◌∷◌, Option, None, Some, Bool, true, false, ◌&&◌, if◌then◌else◌, nat_le, refl, subst, arith, codes, length, take, drop, slice_get, option_map}
+use Rattle.std.proofs.lemmas.Bool.Decides.{nat_tests}
+use Rattle.std.specs.List.{after_first, before_first, list_all}
+use Rattle.std.specs.Str.{bytes_eq}
+use Rattle.lola_value.specs.Times.{is_digit, is_point, is_time, latest, nanoseconds, number_of, up_to_latest}
+use Rattle.lola_model.specs.declared.journal.Show.TheVariants as show
+use Rattle.lola_command.specs.Command.{are_sources, behind_names, behind_options, come_once, command_of, front_names, in_turns_said, of_said, run_by, run_over, show_said, start_said, workers_said}
+use Rattle.lola_command.specs.Command as said_command
+use Rattle.lola_command.specs.Said.{Word, after, begins_with_minus, is_worker_count, names_from, option_by, option_with, said_from, says, show_by, start_by, thing_of, valued, with_front, workers_by}
+use Rattle.lola_command.specs.declared.said.Said.{Said}
+use Rattle.lola_command.specs.declared.said.Said.TheVariants as said
+use Rattle.lola_command.specs.declared.said.Thing.{Thing}
+use Rattle.lola_command.specs.declared.said.Thing.TheVariants as thing
+use Rattle.lola_command.specs.declared.command.Command.{Command}
+use Rattle.lola_command.specs.declared.command.Command.TheVariants.{Run, Analyse}
+use Rattle.lola_command.specs.declared.command.RunCommand.{RunCommand}
+use Rattle.lola_engine.specs.Engines.{IsOptionInTime}
+
+-- an option in its bounds
+abbrev IsRight : Said → Type 0
+IsRight (said.Name n) = Unit {0}
+IsRight (said.Show s) = Unit {0}
+IsRight (said.Workers n) = (1 ≤ n) × (n ≤ 64)
+IsRight (said.Start t) = t ≤ latest
+IsRight said.InTurns = Unit {0}
+
+abbrev AllRight : List Said → Type 0
+AllRight [] = Unit {0}
+AllRight (s ∷ ss) = IsRight s × AllRight ss
+
+abbrev IfRight : Option Said → Type 0
+IfRight None = Unit {0}
+IfRight (Some s) = IsRight s
+
+abbrev SaysRight : Thing → Type 0
+SaysRight thing.Dashes = Unit {0}
+SaysRight (thing.Says s b) = IsRight s
+SaysRight thing.Wrong = Unit {0}
+
+if_option : (b : Bool) (x y : Option Said) → IfRight x → IfRight y → IfRight (if b then x else y)
+if_option true x y h k = h
+if_option false x y h k = k
+
+if_thing : (b : Bool) (x y : Thing) → SaysRight x → SaysRight y → SaysRight (if b then x else y)
+if_thing true x y h k = h
+if_thing false x y h k = k
+
+both : (a b : Bool) → (a && b) ≡ true → (a ≡ true) × (b ≡ true)
+both true b h = (refl, h)
+both false b h = absurd (cc)
+
+workers_right : (v : Word) → IfRight (workers_by v)
+workers_right v = go (is_worker_count v) refl
+  where
+    go : (b : Bool) → is_worker_count v ≡ b → IfRight (if b then Some (said.Workers (number_of v)) else None)
+    go true is =
+        let first = both (nat_le 1 (length v)) _ is in
+        let second = both (nat_le (length v) 2) _ first.1 in
+        let third = both (list_all is_digit v) _ second.1 in
+        let last = both (nat_le 1 (number_of v)) (nat_le (number_of v) 64) third.1 in
+        (grind (arith, nat_tests, last.0), grind (arith, nat_tests, last.1))
+    go false is = tt
+
+start_in : (t : ℕ) → IfRight (option_map (λ (x : ℕ). said.Start x) (up_to_latest t))
+start_in t = go (nat_le t latest) refl
+  where
+    go : (b : Bool) → nat_le t latest ≡ b → IfRight (option_map (λ (x : ℕ). said.Start x) (if b then Some t else None))
+    go true is = grind (arith, nat_tests, is)
+    go false is = tt
+
+start_right : (v : Word) → IfRight (start_by v)
+start_right v = go (is_time (before_first is_point v) (after_first is_point v)) (nanoseconds (before_first is_point v) (after_first is_point v))
+  where
+    go : (b : Bool) (t : ℕ) → IfRight (option_map (λ (x : ℕ). said.Start x) (if b then up_to_latest t else None))
+    go true t = start_in t
+    go false t = tt
+
+option_right : (name v : Word) → IfRight (option_by name v)
+option_right name v =
+    if_option (bytes_eq name (codes "--show")) (show_by v) _ (if_option (bytes_eq v (codes "triggers")) (Some (said.Show show.Triggers)) _ tt (if_option (bytes_eq v (codes "outputs")) (Some (said.Show show.Outputs)) None tt tt))
+    (if_option (bytes_eq name (codes "--workers")) (workers_by v) _ (workers_right v) (if_option (bytes_eq name (codes "--start")) (start_by v) None (start_right v) tt))
+
+with_right : (name : Word) (next : Option Word) → IfRight (option_with name next)
+with_right name None = tt
+with_right name (Some v) = if_option (begins_with_minus v) None (option_by name v) tt (option_right name v)
+
+says_right : (b : Bool) (o : Option Said) → IfRight o → SaysRight (says b o)
+says_right b None h = tt
+says_right b (Some s) h = h
+
+valued_right : (w : Word) (next : Option Word) (at : Option ℕ) → SaysRight (valued w next at)
+valued_right w next None = says_right true (option_with w next) (with_right w next)
+valued_right w next (Some at) = says_right false (option_by (take at w) (drop (at + 1) w)) (option_right (take at w) (drop (at + 1) w))
+
+thing_right : (at : ℕ) (w : Word) (next : Option Word) → SaysRight (thing_of at w next)
+thing_right at w next = if_thing (bytes_eq w (codes "--")) thing.Dashes _ tt (if_thing _ (thing.Says (said.Name at) false) _ tt (if_thing (bytes_eq w (codes "--in-turns")) (thing.Says said.InTurns false) _ tt (valued_right w next _)))
+
+names_right : (at : ℕ) (ws : List Word) → AllRight (names_from at ws)
+names_right at [] = tt
+names_right at (w ∷ ws) = (tt, names_right (at + 1) ws)
+
+same_some : (xs ys : List Said) → Some xs ≡ Some ys → xs ≡ ys
+same_some xs ys is = cc
+
+front_right : (s : Said) (o : Option (List Said)) (ss : List Said) → IsRight s → ((ts : List Said) → o ≡ Some ts → AllRight ts) → with_front (s ∷ []) o ≡ Some ss → AllRight ss
+front_right s None ss h rest is = absurd (cc)
+front_right s (Some ts) ss h rest is = subst AllRight (same_some (s ∷ ts) ss is) (h, rest ts refl)
+
+after_right : (at : ℕ) (ws : List Word) (t : Thing) (rest : Bool → Option (List Said)) (ss : List Said) → SaysRight t → ((b : Bool) (ts : List Said) → rest b ≡ Some ts → AllRight ts) → after at ws t rest ≡ Some ss → AllRight ss
+after_right at ws thing.Dashes rest ss h r is = subst AllRight (same_some (names_from (at + 1) ws) ss is) (names_right (at + 1) ws)
+after_right at ws (thing.Says s b) rest ss h r is = front_right s (rest b) ss h (r b) is
+after_right at ws thing.Wrong rest ss h r is = absurd (cc)
+
+said_right : (skip : Bool) (at : ℕ) (ws : List Word) (ss : List Said) → said_from skip at ws ≡ Some ss → AllRight ss
+said_right skip at [] ss is = subst AllRight (same_some [] ss is) tt
+said_right true at (w ∷ ws) ss is = said_right false (at + 1) ws ss is
+said_right false at (w ∷ ws) ss is =
+    after_right at ws (thing_of at w (slice_get ws 0)) (λ skip. said_from skip (at + 1) ws) ss (thing_right at w (slice_get ws 0)) (λ b ts. said_right b (at + 1) ws ts) is
+
+-- what the options say
+
+workers_bound : (ss : List Said) → AllRight ss → (1 ≤ workers_said ss) × (workers_said ss ≤ 64)
+workers_bound [] h = (omega arith, omega arith)
+workers_bound (said.Name n ∷ ss) h = workers_bound ss h.1
+workers_bound (said.Show s ∷ ss) h = workers_bound ss h.1
+workers_bound (said.Workers n ∷ ss) h = h.0
+workers_bound (said.Start t ∷ ss) h = workers_bound ss h.1
+workers_bound (said.InTurns ∷ ss) h = workers_bound ss h.1
+
+start_bound : (ss : List Said) → AllRight ss → IsOptionInTime (start_said ss)
+start_bound [] h = tt
+start_bound (said.Name n ∷ ss) h = start_bound ss h.1
+start_bound (said.Show s ∷ ss) h = start_bound ss h.1
+start_bound (said.Workers n ∷ ss) h = start_bound ss h.1
+start_bound (said.Start t ∷ ss) h = h.0
+start_bound (said.InTurns ∷ ss) h = start_bound ss h.1
+
+-- a run in its bounds
+abbrev InBounds : Option Command → Type 0
+InBounds None = Unit {0}
+InBounds (Some (Run r)) = ((1 ≤ r.workers) × (r.workers ≤ 64)) × IsOptionInTime r.start
+InBounds (Some (Analyse n)) = Unit {0}
+
+over_bound : (ss : List Said) (n : ℕ) (rest : List Said) → AllRight ss → InBounds (run_over ss n rest)
+over_bound ss n rest h = go _
+  where
+    go : (b : Bool)
+        → InBounds (if b
+        then Some (Run (record { specification = n; sources = front_names rest; show = show_said ss; workers = workers_said ss; start = start_said ss; in_turns = in_turns_said ss }))
+        else None)
+    go true = (workers_bound ss h, start_bound ss h)
+    go false = tt
+
+by_bound : (ss rest : List Said) → AllRight ss → InBounds (run_by ss rest)
+by_bound ss [] h = tt
+by_bound ss (said.Name n ∷ rest) h = over_bound ss n (behind_options rest) h
+by_bound ss (said.Show s ∷ rest) h = tt
+by_bound ss (said.Workers n ∷ rest) h = tt
+by_bound ss (said.Start t ∷ rest) h = tt
+by_bound ss (said.InTurns ∷ rest) h = tt
+
+of_bound : (o : Option (List Said)) → ((ss : List Said) → o ≡ Some ss → AllRight ss) → InBounds (of_said said_command.run_of o)
+of_bound None h = tt
+of_bound (Some ss) h = by_bound ss (behind_options ss) (h ss refl)
+
+analyse_bound : (ss : List Said) → InBounds (said_command.analyse_of ss)
+analyse_bound [] = tt
+analyse_bound (said.Name n ∷ []) = tt
+analyse_bound (said.Name n ∷ s ∷ ss) = tt
+analyse_bound (said.Show s ∷ ss) = tt
+analyse_bound (said.Workers n ∷ ss) = tt
+analyse_bound (said.Start t ∷ ss) = tt
+analyse_bound (said.InTurns ∷ ss) = tt
+
+analysed_bound : (o : Option (List Said)) → InBounds (of_said said_command.analyse_of o)
+analysed_bound None = tt
+analysed_bound (Some ss) = analyse_bound ss
+
+if_bound : (b : Bool) (x y : Option Command) → InBounds x → InBounds y → InBounds (if b then x else y)
+if_bound true x y h k = h
+if_bound false x y h k = k
+
+bounds : (words : List Word) → InBounds (command_of words)
+bounds [] = tt
+bounds (program ∷ []) = tt
+bounds (program ∷ word ∷ words) =
+    if_bound (bytes_eq word (codes "run")) _ _ (of_bound (said_from false 2 words) (λ ss is. said_right false 2 words ss is))
+    (if_bound (bytes_eq word (codes "analyse")) _ None (analysed_bound (said_from false 2 words)) tt)
+
+module _ (words : List Word) (r : RunCommand) (is : command_of words ≡ Some (Run r)) where
+  in_bounds : ((1 ≤ r.workers) × (r.workers ≤ 64)) × IsOptionInTime r.start
+  in_bounds = subst InBounds is (bounds words)
+
+  -- from 1 to 64 workers
+  pub workers_are : (1 ≤ r.workers) × (r.workers ≤ 64)
+  workers_are = in_bounds.0
+
+  -- a start that is a time
+  pub start_is : IsOptionInTime r.start
+  start_is = in_bounds.1

@@ -1,0 +1,38 @@
+-- What a sink received, one text after another.
+use Rattle.std.proofs.Common.{◌≡◌, ℕ, ◌<◌, List, [], ◌++◌, Option, None, Some, refl, sym, ap, ◌∙◌, arith, append_assoc, length, decimal, length-append}
+use Rattle.std.proofs.lemmas.List.{append-nil}
+use Rattle.std.specs.Io.KnownBytes.{append_known}
+use Rattle.lola_port.specs.States.{SinkState, grown}
+use Rattle.lola_model.specs.Trace.{trace_line}
+use Rattle.lola_model.specs.declared.journal.Entry.{Entry}
+use Rattle.lola_model.specs.declared.journal.Mark.TheVariants as mark
+
+pub known_append : (known : Option (List ℕ)) (xs ys : List ℕ) → append_known (append_known known xs) ys ≡ append_known known (xs ++ ys)
+known_append None xs ys = refl
+known_append (Some zs) xs ys = ap Some (append_assoc zs xs ys)
+
+pub known_nil : (known : Option (List ℕ)) → append_known known [] ≡ known
+known_nil None = refl
+known_nil (Some zs) = ap Some (append-nil zs)
+
+pub grown_twice : (s : SinkState) (xs ys : List ℕ) → grown (grown s xs) ys ≡ grown s (xs ++ ys)
+grown_twice s xs ys = ap (λ (o : Option (List ℕ)). record { written = o; count = s.count }) (known_append s.written xs ys)
+
+-- a trace line is never empty
+pub some_line : (entry : Entry) → 0 < length (trace_line entry)
+some_line entry = rw (length-append (decimal entry.row.source) _) (omega arith)
+
+pub grown_nil : (s : SinkState) → grown s [] ≡ s
+grown_nil s = ap (λ (o : Option (List ℕ)). record { written = o; count = s.count }) (known_nil s.written)
+
+-- a sink after one text more
+pub more_text : (s0 s1 s2 : SinkState) (xs ys zs : List ℕ) → s1 ≡ grown s0 xs → s2 ≡ grown s1 ys → zs ≡ xs ++ ys → s2 ≡ grown s0 zs
+more_text s0 s1 s2 xs ys zs first second is = second ∙ ap (λ s. grown s ys) first ∙ grown_twice s0 xs ys ∙ ap (grown s0) (sym is)
+
+-- a text grown by a part
+pub grown_part : (s0 s1 s2 : SinkState) (xs part : List ℕ) → s1 ≡ grown s0 xs → s2.written ≡ append_known s1.written part → s2.written ≡ append_known s0.written (xs ++ part)
+grown_part s0 s1 s2 xs part first second = second ∙ ap (λ s. append_known s.written part) first ∙ known_append s0.written xs part
+
+-- some entry, of whose line nothing was put
+abbrev pub an_entry : Entry
+an_entry = record { row = record { source = 0; number = 0; stamp = 0; fields = [] }; mark = mark.Accepted }

@@ -1,0 +1,6 @@
+pub mod Among
+pub mod Askable
+pub mod Clauses
+mod EachPart
+mod Listings
+mod Moments

@@ -1,0 +1,4 @@
+//! What the clauses of an accepted plan may ask of a store.
+#![tactic(auto)]
+
+pub mod law;

@@ -1,0 +1,77 @@
+-- Rows stay settled: what has no spawn clause is never born again, nor closed.
+use Rattle.std.proofs.Common.{◌≡◌, refl, ap, ◌∙◌, ℕ, zero, suc, ◌+◌, List, [], ◌∷◌, ◌++◌, Some, None, Bool, true, false, slice_get, arith, length, if◌then◌else◌}
+use Rattle.lola_value.specs.Answer.{Answer}
+use Rattle.lola_model.specs.Acceptance.{IsAccepted}
+use Rattle.lola_model.specs.Content.{Content, content}
+use Rattle.lola_model.specs.Model.{answered, closing, closes_from, with_closes, is_closing, closed_among, close_faults_among, has_evaluation_fault, last_row, outcome_of, spawned_in, survivors, survivors_in, newborn, the_instance}
+use Rattle.lola_model.specs.Table.{Step, Instance, Spawned, Idle, Living, StreamRow, TableRow}
+use Rattle.lola_model.specs.declared.plan.Plan.{Plan}
+use Rattle.lola_model.specs.declared.spec.Stream.{Stream}
+use Rattle.lola_model.proofs.Growth.{last_row-append}
+use Rattle.lola_model.proofs.Rounds.{row_of}
+use Rattle.lola_stages.specs.Nexts.{StaySettled, inputs_before}
+use Rattle.lola_stages.proofs.Agree.{living_with, idle_without}
+use Rattle.lola_stages.proofs.Fixed.{full, full_is, full_at, at_full}
+use Rattle.lola_stages.proofs.Shapes.{passes_at, never_closes}
+
+-- the one instance of a stream with an outcome
+abbrev pub one_living : Answer → List Living
+one_living a = record { instance = the_instance; outcome = a } ∷ []
+
+module _ (plan : Plan) (accepted : IsAccepted plan) (start : ℕ) (rows : List TableRow) (step : Step) (n : ℕ) (s : Stream) (at : slice_get plan.spec.streams n ≡ Some s) (none : s.spawn ≡ None) where
+  -- the spawn clause that a stream does not have does nothing
+  pub full_is_idle : spawned_in (slice_get (full plan start rows step) n) ≡ Idle
+  full_is_idle = ap spawned_in (at_full plan start rows step accepted.acyclic n s at) ∙ idle_without plan start rows step _ _ s.spawn _ none
+
+  one_of : (o : Spawned → Instance → Answer) (sp : Spawned) (alive : List Instance) → sp ≡ Idle → alive ≡ the_instance ∷ []
+      → living_with (λ x. o sp x) (alive ++ newborn sp alive (length rows)) ≡ one_living (o sp the_instance)
+  one_of o sp alive e f = rw (e, f) refl
+
+  -- and its one instance lives
+  pub full_is_one : survivors n s (last_row rows) ≡ the_instance ∷ []
+      → (full_at plan start rows step n s).living
+      ≡ one_living (outcome_of plan start rows step (content start rows (row_of step (full plan start rows step))) n (inputs_before plan.spec.streams n) s (spawned_in (slice_get (full plan start rows step) n)) the_instance)
+  full_is_one e =
+      one_of (λ sp x. outcome_of plan start rows step (content start rows (row_of step (full plan start rows step))) n (inputs_before plan.spec.streams n) s sp x)
+      (spawned_in (slice_get (full plan start rows step) n)) (survivors n s (last_row rows)) full_is_idle e
+
+  no_close : s.close ≡ None
+  no_close = never_closes s (passes_at _ plan.spec.streams n s accepted.named.shapes at) none
+
+  closes_there : (row : TableRow) (j m k : ℕ) (ss : List Stream) (ys : List StreamRow) (y : StreamRow) → k ≡ j + m → slice_get ss m ≡ Some s → slice_get ys m ≡ Some y
+      → slice_get (closes_from plan start rows row j ss ys) m ≡ Some (with_closes plan start rows row k s y)
+  closes_there row j m k [] ys y e a b = absurd (cc)
+  closes_there row j m k (r ∷ ss) [] y e a b = absurd (cc)
+  closes_there row j zero k (r ∷ ss) (z ∷ ys) y e a b =
+      let c : k ≡ j = omega arith in
+      let d : r ≡ s = cc in
+      let f : z ≡ y = cc in
+      rw (c, ← d, ← f) refl
+  closes_there row j (suc m) k (r ∷ ss) (z ∷ ys) y e a b = closes_there row (j + 1) m k ss ys y (omega arith) a b
+
+  -- no instance is closed where the close clause is left out
+  keeps_one : (c : Content) (b : Bool) (y : StreamRow) (a : Answer) → y.closed ≡ [] → y.living ≡ one_living a
+      → survivors_in (Some (if b then record y { closed = closed_among plan.spec c s.close y.living; close_faults = close_faults_among plan.spec c s.close y.living } else y)) ≡ the_instance ∷ []
+  keeps_one c true y a e f = rw (f, no_close) refl
+  keeps_one c false y a e f = rw (f, e) refl
+
+  stays : survivors n s (last_row rows) ≡ the_instance ∷ [] → survivors n s (last_row (rows ++ answered plan start rows step ∷ [])) ≡ the_instance ∷ []
+  stays e =
+      ap (survivors n s) (last_row-append rows (answered plan start rows step))
+      ∙ (ap (λ (r : TableRow). survivors_in (slice_get (closing plan start rows r).streams n)) (full_is plan start rows step)
+      ∙ by_fault (has_evaluation_fault (full plan start rows step)))
+    where
+      there : slice_get (full plan start rows step) n ≡ Some (full_at plan start rows step n s)
+      there = at_full plan start rows step accepted.acyclic n s at
+
+      by_fault : (b : Bool)
+          → survivors_in (slice_get (if b then row_of step (full plan start rows step) else row_of step (closes_from plan start rows (row_of step (full plan start rows step)) 0 plan.spec.streams (full plan start rows step))).streams n)
+          ≡ the_instance ∷ []
+      by_fault true = ap survivors_in there ∙ keeps_one (content start rows (row_of step (full plan start rows step))) false (full_at plan start rows step n s) _ refl (full_is_one e)
+      by_fault false =
+          ap survivors_in (closes_there (row_of step (full plan start rows step)) 0 n n plan.spec.streams (full plan start rows step) (full_at plan start rows step n s) (omega arith) at there)
+          ∙ keeps_one (content start rows (row_of step (full plan start rows step))) (is_closing plan start rows step n) (full_at plan start rows step n s) _ refl (full_is_one e)
+
+-- the law, at this plan
+pub stay_settled : (plan : Plan) → IsAccepted plan → StaySettled plan
+stay_settled plan accepted start rows step h n s at none = stays plan accepted start rows step n s at none (h n s at none)

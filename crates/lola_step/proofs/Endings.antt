@@ -1,0 +1,85 @@
+-- How an evaluated step ends: by its fault, or done.
+use Rattle.std.proofs.Common.{◌≡◌, refl, ap, ◌∙◌, sym, subst, ℕ, List, Some, None, Option, reverse}
+use Rattle.lola_value.specs.declared.value.FaultKind.{FaultKind}
+use Rattle.lola_value.specs.declared.value.Outcome.{Outcome}
+use Rattle.lola_value.specs.Naming.{Naming}
+use Rattle.lola_model.specs.Content.{Content, content}
+use Rattle.lola_model.specs.Standing.{IsFaulty, content_left}
+use Rattle.lola_model.specs.Model.{answered}
+use Rattle.lola_model.specs.Store.{Memories, Seen, Stands}
+use Rattle.lola_model.specs.Table.{Step, TableRow}
+use Rattle.lola_model.specs.declared.plan.Plan.{Plan}
+use Rattle.lola_stages.specs.Ends.{IsFine, closed_each, closings, evaluation_fault, full_content, lines_of}
+use Rattle.lola_stages.specs.Stages.{full_row}
+use Rattle.lola_stages.proofs.Ending.{each_step_ends}
+use Rattle.lola_step.specs.Ends.{CollectsVerdicts, FindsClosings, FindsFault}
+use Rattle.lola_step.specs.Moments.{IsMoment}
+use Rattle.lola_step.specs.Notes.{AreNoted, AreSpans, places_of}
+use Rattle.lola_step.specs.Progress.{IsRun}
+use Rattle.lola_step.specs.Steps.{IsDoneStep}
+use Rattle.lola_step.specs.declared.mark.Mark.{Mark}
+use Rattle.lola_step.specs.declared.moment.Moment.{Moment}
+use Rattle.lola_step.specs.declared.scratch.Span.{Span}
+use Rattle.lola_step.specs.declared.tasks.Task.{Task}
+use Rattle.lola_step.specs.declared.verdict.Verdict.{Verdict}
+
+-- what was found of lists holds of equal ones
+
+pub same_spans : (s : Seen) (results others : List Outcome) (spans more : List Span) → others ≡ results → more ≡ spans → AreSpans s results spans → AreSpans s others more
+same_spans s results others spans more e f h = subst (λ os. AreSpans s os more) (sym e) (subst (λ ps. AreSpans s results ps) (sym f) h)
+
+pub same_fault : (plan : Plan) (marks marks' : List Mark) (spans spans' : List Span) (results results' : List Outcome) (found : Option (ℕ × FaultKind))
+    → marks' ≡ marks → spans' ≡ spans → results' ≡ results → FindsFault plan marks' spans' results' found → FindsFault plan marks spans results found
+same_fault plan marks marks' spans spans' results results' found e f g h =
+    subst (λ ms. FindsFault plan ms spans results found) e
+    (subst (λ ps. FindsFault plan marks' ps results found) f
+    (subst (λ os. FindsFault plan marks' spans' os found) g h))
+
+pub same_verdicts : (plan : Plan) (spans spans' : List Span) (results results' : List Outcome) (remembers : Memories) (s : Seen) (verdicts : List Verdict)
+    → spans' ≡ spans → results' ≡ results → CollectsVerdicts plan spans' results' remembers s verdicts → CollectsVerdicts plan spans results remembers s verdicts
+same_verdicts plan spans spans' results results' remembers s verdicts f g h =
+    subst (λ ps. CollectsVerdicts plan ps results remembers s verdicts) f (subst (λ os. CollectsVerdicts plan spans' os remembers s verdicts) g h)
+
+module _ (plan : Plan) (m : Moment) (marks : List Mark) (spans : List Span) (results : List Outcome) where
+  -- by the fault of a spawn clause or of an instance
+  pub fails_by_evaluation : (stream : ℕ) (kind : FaultKind) → FindsFault plan marks spans results (Some (stream, kind))
+      → (names : Naming) (rows : List TableRow) (step : Step) → IsRun plan names rows
+      → AreNoted plan (full_row plan m.start rows step).streams names marks spans results
+      → IsFaulty plan m.start rows step stream kind
+  fails_by_evaluation stream kind finds names rows step run noted =
+      (each_step_ends plan m.start rows step).evaluation (record { stream = stream; kind = kind }) (sym (finds names m.start rows step run noted))
+
+  module _ (remembers : Memories) (s : Seen) (none : FindsFault plan marks spans results None) where
+    -- by that of a close clause
+    pub fails_by_closing : (stream : ℕ) (kind : FaultKind) (closing : List Task) → FindsClosings plan m remembers s (Some (stream, kind)) closing
+        → (names : Naming) (rows : List TableRow) (step : Step) → IsRun plan names rows → IsMoment m.start step m
+        → AreNoted plan (full_row plan m.start rows step).streams names marks spans results
+        → Stands names remembers s (content m.start rows (full_row plan m.start rows step))
+        → IsFaulty plan m.start rows step stream kind
+    fails_by_closing stream kind closing finds names rows step run moment noted stands =
+        (each_step_ends plan m.start rows step).closing (record { stream = stream; kind = kind })
+        (sym (none names m.start rows step run noted)) (sym (finds names rows step run moment stands).0)
+
+    -- or done: its lines are those of the values, and instances are closed
+    pub is_done : (remembers' : Memories) (s' : Seen) (closing closed : List Task) (verdicts : List Verdict)
+        → FindsClosings plan m remembers s None closing → closed ≡ closing
+        → CollectsVerdicts plan spans results remembers s verdicts
+        → ((names : Naming) (c : Content) → Stands names remembers s c → Stands names remembers' s' (closed_each c (reverse (places_of closed))))
+        → (names : Naming) (rows : List TableRow) (step : Step) → IsRun plan names rows → IsMoment m.start step m
+        → AreNoted plan (full_row plan m.start rows step).streams names marks spans results
+        → Stands names remembers s (content m.start rows (full_row plan m.start rows step))
+        → IsDoneStep plan m.start rows step names remembers' s' verdicts
+    is_done remembers' s' closing closed verdicts finds same collects closes names rows step run moment noted stands =
+        let no_fault : evaluation_fault plan m.start rows step ≡ None = sym (none names m.start rows step run noted) in
+        let found = finds names rows step run moment stands in
+        let fine : IsFine plan m.start rows step = (each_step_ends plan m.start rows step).none no_fault (sym found.0) in
+        let values = collects names m.start rows step marks run noted stands in
+        let places : places_of closed ≡ closings plan m.start rows step = ap places_of same ∙ found.1 refl in
+        let left : closed_each (full_content plan m.start rows step) (reverse (places_of closed)) ≡ content_left m.start rows (answered plan m.start rows step) =
+        ap (λ ps. closed_each (full_content plan m.start rows step) (reverse ps)) places ∙ sym fine.left in
+        record {
+          fine = fine.fine;
+          lines = λ show. fine.lines show ∙ ap (lines_of show step.time plan.spec.streams) (sym values.0);
+          held = values.1;
+          stands = subst (λ c. Stands names remembers' s' c) left (closes names (full_content plan m.start rows step) stands);
+        }

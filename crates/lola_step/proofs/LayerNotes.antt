@@ -1,0 +1,127 @@
+-- What is noted once a layer is evaluated.
+use Rattle.std.proofs.Common.{◌≡◌, refl, ap, ◌∙◌, sym, subst, ℕ, zero, suc, ◌+◌, ◌<◌, ◌≤◌, ◌⊎◌, inl, inr, List, [], ◌∷◌, ◌++◌, Some, None, Bool, true, false, length, slice_get, take, drop, arith, vec_len, length-append, length-drop}
+use Rattle.std.specs.Global.{Vec}
+use Rattle.std.specs.Vec.{vec_capacity}
+use Rattle.std.proofs.lemmas.List.{drop-append-le, take-append-le}
+use Rattle.std.proofs.lemmas.Option.{slice_get_within}
+use Rattle.lola_value.specs.declared.value.Outcome.{Outcome}
+use Rattle.lola_model.specs.Model.{is_input}
+use Rattle.lola_model.specs.Store.{Memories, Seen, instances_seen, kind_in}
+use Rattle.lola_model.specs.declared.plan.Plan.{Plan}
+use Rattle.lola_model.specs.declared.spec.Stream.{Stream}
+use Rattle.lola_stages.specs.Stages.{Stage, eval_stage, is_evaluated, layer_stage}
+use Rattle.lola_stages.proofs.Places.{stream_or_none}
+use Rattle.lola_step.specs.Evals.{HasRooms, IsReadyFor}
+use Rattle.lola_step.specs.Given.{AreResults, after_all}
+use Rattle.lola_step.specs.Notes.{AreOutcomesOf, IsSpan, in_span, layer_spans, layer_tasks}
+use Rattle.lola_step.specs.Progress.{IsAt}
+use Rattle.lola_step.specs.Rooms.{rooms, to_come, total}
+use Rattle.lola_step.specs.declared.mark.Mark.{Mark}
+use Rattle.lola_step.specs.declared.moment.Moment.{Moment}
+use Rattle.lola_step.specs.declared.scratch.Span.{Span}
+use Rattle.lola_step.specs.declared.tasks.Task.{Task}
+use Rattle.lola_step.proofs.Gathering.{all_rooms, done_stays, layer_fits, length_spans, run_is_done, runs_so}
+use Rattle.lola_step.proofs.Keeping.{Keeps, keeps_given}
+use Rattle.lola_step.proofs.Results.{SpanOf, each_span, kinds_of_stream}
+
+-- a span within the earlier results has the outcomes that it had
+pub same_in_span : (first more : List Outcome) (p : Span) → p.from + p.count ≤ length first → in_span (first ++ more) (Some p) ≡ in_span first (Some p)
+same_in_span first more p h =
+    ap (take p.count) (drop-append-le p.from first more (omega (arith, h)))
+    ∙ take-append-le p.count (drop p.from first) more (omega (arith, h, length-drop p.from first))
+
+module _ (plan : Plan) (m : Moment) (marks : List Mark) (remembers : Memories) (s : Seen) (layer : ℕ) (first fresh : List Outcome) (spans : List Span) where
+  abbrev count : ℕ
+  count = length plan.spec.streams
+
+  abbrev now : Stage
+  now = eval_stage count layer
+
+  abbrev next : Stage
+  next = layer_stage count (layer + 1)
+
+  abbrev tasks : List Task
+  tasks = layer_tasks plan m marks s layer 0 plan.spec.streams
+
+  abbrev after : Seen
+  after = after_all s tasks fresh
+
+  abbrev pub spans_after : List Span
+  spans_after = layer_spans plan m marks s layer (length first) 0 plan.spec.streams spans
+
+  module _ (results : AreResults plan remembers s tasks fresh) where
+    pub span_of : (n : ℕ) (x : Stream) (p : Span) → slice_get plan.spec.streams n ≡ Some x → slice_get spans_after n ≡ Some p
+        → SpanOf plan remembers s m marks layer n x (slice_get spans n) p (first ++ fresh)
+    span_of n x p e f = each_span plan remembers s m marks layer 0 plan.spec.streams spans (length first) first fresh (first ++ fresh) refl refl results n n x p (omega arith) e f
+
+    module _ (ready : IsReadyFor plan now s first spans) where
+      keeps : Keeps s after
+      keeps = keeps_given tasks fresh s
+
+      abbrev IsSpanAfter : ℕ → Span → Type 0
+      IsSpanAfter n p = IsSpan after (first ++ fresh) n p
+
+      of_kind : (n : ℕ) (os : List Outcome) → AreOutcomesOf (kind_in (slice_get s.layout.streams n)) os → AreOutcomesOf (kind_in (slice_get after.layout.streams n)) os
+      of_kind n os h = subst (λ l. AreOutcomesOf (kind_in (slice_get l.streams n)) os) (sym keeps.layout) h
+
+      span_is : (n : ℕ) (x : Stream) (p : Span) → SpanOf plan remembers s m marks layer n x (slice_get spans n) p (first ++ fresh) → IsSpanAfter n p
+      span_is n x p (inl h) = record {
+        within = h.within;
+        few = omega (arith, h.count_is, keeps.counts n);
+        kinds = of_kind n _ (kinds_of_stream plan remembers s n 0 (length (instances_seen s n)) (in_span (first ++ fresh) (Some p)) h.results_are);
+      }
+      span_is n x p (inr h) =
+          let old = ready.within n p h.same in
+          record {
+            within = omega (arith, old.within, length-append first fresh);
+            few = omega (arith, old.few, keeps.counts n);
+            kinds = of_kind n _ (subst (λ os. AreOutcomesOf (kind_in (slice_get s.layout.streams n)) os) (sym (same_in_span first fresh p old.within)) old.kinds);
+          }
+
+      pub as_many_spans : length spans_after ≡ count
+      as_many_spans = length_spans plan m marks s layer 0 plan.spec.streams spans (length first) ∙ ready.each
+
+      within_after : (n : ℕ) (p : Span) → slice_get spans_after n ≡ Some p → ((x : Stream) × (slice_get plan.spec.streams n ≡ Some x)) ⊎ (slice_get plan.spec.streams n ≡ None) → IsSpanAfter n p
+      within_after n p e (inl h) = span_is n h.0 p (span_of n h.0 p h.1 e)
+      within_after n p e (inr h) = absurd (no_stream plan.spec.streams n h (omega (arith, slice_get_within spans_after n p e, as_many_spans)))
+        where
+          no_stream : (xs : List Stream) (i : ℕ) → slice_get xs i ≡ None → i < length xs → ⊥
+          no_stream [] i g l = omega (arith, l)
+          no_stream (x ∷ xs) zero g l = absurd (cc)
+          no_stream (x ∷ xs) (suc i) g l = no_stream xs i g (omega (arith, l))
+
+      to_come_still : (n : ℕ) (x : Stream) → slice_get plan.spec.streams n ≡ Some x → is_evaluated plan.layers next n x ≡ false → (b : Bool) → is_evaluated plan.layers now n x ≡ b → is_evaluated plan.layers now n x ≡ false
+      to_come_still n x e f false g = g
+      to_come_still n x e f true g = absurd (let h = done_stays plan m marks s layer n x (slice_get_within plan.spec.streams n x e) g in cc)
+
+      empty_after : (n : ℕ) (x : Stream) (p : Span) → slice_get plan.spec.streams n ≡ Some x → is_evaluated plan.layers next n x ≡ false
+          → SpanOf plan remembers s m marks layer n x (slice_get spans n) p (first ++ fresh) → p.count ≡ 0
+      empty_after n x p e f (inl h) =
+          absurd (let g = run_is_done plan m marks s layer n x (runs_so plan m marks s layer n x h.runs) (slice_get_within plan.spec.streams n x e) in cc)
+      empty_after n x p e f (inr h) = ready.empty n x p e (to_come_still n x e f (is_evaluated plan.layers now n x) refl) h.same
+
+      inputs_after : (n : ℕ) (x : Stream) (p : Span) → slice_get plan.spec.streams n ≡ Some x → is_input x ≡ true
+          → SpanOf plan remembers s m marks layer n x (slice_get spans n) p (first ++ fresh) → p.count ≡ 0
+      inputs_after n x p e f (inl h) = absurd (let g = (runs_so plan m marks s layer n x h.runs).no_input in cc)
+      inputs_after n x p e f (inr h) = ready.inputs n x p e f h.same
+
+      pub ready_after : IsReadyFor plan next after (first ++ fresh) spans_after
+      ready_after = record {
+        each = as_many_spans;
+        within = λ n p e. within_after n p e (stream_or_none plan.spec.streams n);
+        empty = λ n x p e f g. empty_after n x p e f (span_of n x p e g);
+        inputs = λ n x p e f g. inputs_after n x p e f (span_of n x p e g);
+      }
+
+-- the room that is left
+pub rooms_after : (plan : Plan) (m : Moment) (marks : List Mark) (s t : Seen) (layer : ℕ) (old_tasks new_tasks : Vec Task) (old new : Vec Outcome)
+    → IsAt plan (eval_stage (length plan.spec.streams) layer) s → HasRooms plan (eval_stage (length plan.spec.streams) layer) s old_tasks old → rooms t ≡ rooms s
+    → vec_capacity new_tasks ≡ vec_capacity old_tasks → vec_capacity new ≡ vec_capacity old
+    → vec_len new ≡ vec_len old + length (layer_tasks plan m marks s layer 0 plan.spec.streams)
+    → HasRooms plan (layer_stage (length plan.spec.streams) (layer + 1)) t new_tasks new
+rooms_after plan m marks s t layer old_tasks new_tasks old new at h same a b c =
+    let fits = layer_fits plan m marks s layer 0 plan.spec.streams (rooms s) (omega arith) (all_rooms plan m marks s layer at.of.streams) in
+    record {
+      tasks_room = omega (arith, h.tasks_room, a, ap total same);
+      results_room = omega (arith, h.results_room, b, c, fits, ap (to_come plan.layers (layer_stage (length plan.spec.streams) (layer + 1)) 0 plan.spec.streams) same);
+    }

@@ -1,0 +1,374 @@
+-- What a layer's outcomes are in each run: those of the model.
+use Rattle.std.proofs.Common.{◌≡◌, refl, ap, ◌∙◌, sym, subst, ℕ, zero, suc, ◌+◌, ◌<◌, ◌≤◌, ◌⊎◌, inl, inr, List, [], ◌∷◌, ◌++◌, Option, Some, None, Bool, true, false, not, ◌&&◌, nat_eq, nat_lt, if◌then◌else◌, length, map, slice_get, take, drop, arith, length-append, get_or, add-zero, zero-add}
+use Rattle.std.proofs.lemmas.Bool.{cases_eq, eqb-true, not-true, eq-eqb}
+use Rattle.std.proofs.lemmas.List.{length-map}
+use Rattle.std.proofs.lemmas.Option.{slice_get-get_or, slice_get_within}
+use Rattle.lola_value.specs.Answer.{Answer, Missing}
+use Rattle.lola_value.specs.Naming.{Naming, read_outcome, read_params}
+use Rattle.lola_value.specs.declared.text.Field.{Field}
+use Rattle.lola_value.specs.declared.value.Outcome.{Outcome}
+use Rattle.lola_value.specs.declared.value.Params.{Params}
+use Rattle.lola_model.specs.Acceptance.{IsAccepted}
+use Rattle.lola_model.specs.Activity.{is_active}
+use Rattle.lola_model.specs.Content.{Content, Life, StreamContent, is_bad, seen}
+use Rattle.lola_model.specs.Graph.{eval_node, layer_of}
+use Rattle.lola_model.specs.Model.{eval_outcome, eval_pacing, is_input, spawned_in}
+use Rattle.lola_model.specs.Store.{Memories, Seen, SeenInstance, SeenStream, StandForLives, StandForStreams, instances_of, instances_seen}
+use Rattle.lola_model.specs.Table.{Idle, Instance, Living, Named, SpawnFailed, SpawnPoisoned, Spawned, Step, StreamRow, TableRow}
+use Rattle.lola_model.specs.declared.plan.Plan.{Plan}
+use Rattle.lola_model.specs.declared.spec.Clause.{Clause}
+use Rattle.lola_model.specs.declared.spec.Spec.{Spec}
+use Rattle.lola_model.specs.declared.spec.Stream.{Stream}
+use Rattle.lola_contents.specs.Changed.{lives_in, told}
+use Rattle.lola_expr.specs.Evaluation.{Sees}
+use Rattle.lola_stages.specs.Nexts.{EvalIs, EvalsGo, Told, is_run_in, living_in, told_each, told_from, told_in_layer}
+use Rattle.lola_stages.specs.Stages.{Stage, content_so_far, eval_stage, full_row, is_behind, is_evaluated, layer_stage}
+use Rattle.lola_stages.proofs.Behind.{same_behind}
+use Rattle.lola_stages.proofs.Evals.{evals_go}
+use Rattle.lola_step.specs.Clauses.{IsAnswer, eval_answer}
+use Rattle.lola_step.specs.Evals.{IsReadyFor}
+use Rattle.lola_step.specs.Given.{AreHeldIn, AreResults, stream_tasks, told_outcomes}
+use Rattle.lola_step.specs.Notes.{AreMarks, AreSilent, ReadEach, ShowLiving, ShowResults, done_of, in_span, is_fine, layer_tasks, mark_of, runs_in, tasks_from}
+use Rattle.lola_step.specs.Progress.{IsAt, IsRunAt}
+use Rattle.lola_step.specs.Tasks.{params_at}
+use Rattle.lola_step.specs.declared.mark.Mark.{Mark}
+use Rattle.lola_step.specs.declared.moment.Moment.{Moment}
+use Rattle.lola_step.specs.declared.scratch.Span.{Span}
+use Rattle.lola_step.specs.declared.tasks.Task.{Task}
+use Rattle.lola_step.proofs.LayerNotes.{as_many_spans, same_in_span, span_of, spans_after}
+use Rattle.lola_step.proofs.LayerTasks.{same_active}
+use Rattle.lola_step.proofs.Results.{SpanOf, count_results, split_results}
+
+-- what stands for lives
+
+module _ (names : Naming) (remembers : Memories) where
+  as_many_lives : (n i : ℕ) (xs : List SeenInstance) (vs : List Life) → StandForLives names remembers n i xs vs → length xs ≡ length vs
+  as_many_lives n i [] [] h = refl
+  as_many_lives n i [] (v ∷ vs) h = absurd h
+  as_many_lives n i (x ∷ xs) [] h = absurd h
+  as_many_lives n i (x ∷ xs) (v ∷ vs) h = ap suc (as_many_lives n (i + 1) xs vs h.1)
+
+  lives_stand : (k j n : ℕ) → n ≡ k + j → (ss : List SeenStream) (cs : List StreamContent) → StandForStreams names remembers k ss cs
+      → StandForLives names remembers n 0 (instances_of (slice_get ss j)) (lives_in (slice_get cs j))
+  lives_stand k j n e [] [] h = tt
+  lives_stand k j n e [] (c ∷ cs) h = absurd h
+  lives_stand k j n e (x ∷ ss) [] h = absurd h
+  lives_stand k zero n e (x ∷ ss) (c ∷ cs) h = let q : k ≡ n = omega (arith, e) in subst (λ l. StandForLives names remembers l 0 x.instances c.lives) q h.0.lives
+  lives_stand k (suc j) n e (x ∷ ss) (c ∷ cs) h = lives_stand (k + 1) j n (omega (arith, e)) ss cs h.1
+
+-- outcomes as a function of instances
+
+abbrev AreOutcomes : (Instance → Answer) → List Living → Type 0
+AreOutcomes f [] = Unit {0}
+AreOutcomes f (l ∷ ls) = (l.outcome ≡ f l.instance) × AreOutcomes f ls
+
+all_outcomes : (f : Instance → Answer) (xs : List Instance) → AreOutcomes f (map (λ x. record { instance = x; outcome = f x }) xs)
+all_outcomes f [] = tt
+all_outcomes f (x ∷ xs) = (refl, all_outcomes f xs)
+
+other_outcomes : (f g : Instance → Answer) → ((x : Instance) → f x ≡ g x) → (ls : List Living) → AreOutcomes f ls → AreOutcomes g ls
+other_outcomes f g e [] h = tt
+other_outcomes f g e (l ∷ ls) h = (h.0 ∙ e l.instance, other_outcomes f g e ls h.1)
+
+none_given : (ls : List Living) → AreOutcomes (λ x. Missing) ls → AreSilent ls
+none_given [] h = tt
+none_given (l ∷ ls) h = (h.0, none_given ls h.1)
+
+missing_where : (spec : Spec) (c : Content) (b a : Bool) (k : Option Clause) (p : List Field) → (a && not b) ≡ false → eval_outcome spec c b a k p ≡ Missing
+missing_where spec c b a None p e = refl
+missing_where spec c true a (Some k) p e = refl
+missing_where spec c false false (Some k) p e = refl
+missing_where spec c false true (Some k) p e = absurd (cc)
+
+-- what is fine is not bad
+fine_is : (d : Spawned) → is_fine (Some (mark_of d)) ≡ not (is_bad d)
+fine_is Idle = refl
+fine_is (Named p) = refl
+fine_is (SpawnFailed k) = refl
+fine_is SpawnPoisoned = refl
+
+and_same : (a p q : Bool) → (a ≡ true → p ≡ q) → (a && p) ≡ (a && q)
+and_same true p q h = h refl
+and_same false p q h = refl
+
+both_true : (a b : Bool) → (a && b) ≡ true → (a ≡ true) × (b ≡ true)
+both_true true true e = (refl, refl)
+both_true true false e = absurd (cc)
+both_true false b e = absurd (cc)
+
+-- telling in parts
+
+told_in_parts : (c : Content) (xs ys : List Told) → told_each c (xs ++ ys) ≡ told_each (told_each c xs) ys
+told_in_parts c [] ys = refl
+told_in_parts c (t ∷ xs) ys = told_in_parts (told c t.stream t.index (seen t.answer)) xs ys
+
+module _ (names : Naming) where
+  outcomes_in_parts : (c : Content) (ts us : List Task) (rs : List Outcome) → length ts ≤ length rs
+      → told_outcomes names c (ts ++ us) rs ≡ told_outcomes names (told_outcomes names c ts (take (length ts) rs)) us (drop (length ts) rs)
+  outcomes_in_parts c [] us rs h = refl
+  outcomes_in_parts c (t ∷ ts) us [] h = absurd (omega (arith, h))
+  outcomes_in_parts c (t ∷ ts) us (r ∷ rs) h = outcomes_in_parts (told c t.stream t.index (seen (read_outcome names r))) ts us rs (omega (arith, h))
+
+  held_in_parts : (k : ℕ) (rs : List Outcome) → AreHeldIn names (take k rs) → AreHeldIn names (drop k rs) → AreHeldIn names rs
+  held_in_parts zero rs h g = g
+  held_in_parts (suc k) [] h g = tt
+  held_in_parts (suc k) (r ∷ rs) h g = (h.0, held_in_parts k rs h.1 g)
+
+  -- outcomes that read as those of instances
+  told_stream : (n i : ℕ) (rs : List Outcome) (ls : List Living) (c : Content) → ReadEach names rs ls
+      → told_outcomes names c (tasks_from n i (length ls)) rs ≡ told_each c (told_from n i ls)
+  told_stream n i [] [] c h = refl
+  told_stream n i [] (l ∷ ls) c h = absurd h
+  told_stream n i (r ∷ rs) [] c h = absurd h
+  told_stream n i (r ∷ rs) (l ∷ ls) c h =
+      told_stream n (i + 1) rs ls (told c n i (seen (read_outcome names r))) h.2
+      ∙ ap (λ a. told_each (told c n i (seen a)) (told_from n (i + 1) ls)) h.0
+
+  held_of_stream : (rs : List Outcome) (ls : List Living) → ReadEach names rs ls → AreHeldIn names rs
+  held_of_stream [] [] h = tt
+  held_of_stream [] (l ∷ ls) h = absurd h
+  held_of_stream (r ∷ rs) [] h = absurd h
+  held_of_stream (r ∷ rs) (l ∷ ls) h = (h.1, held_of_stream rs ls h.2)
+
+module _ (plan : Plan) (m : Moment) (marks : List Mark) (remembers : Memories) (s : Seen) (layer : ℕ) (accepted : IsAccepted plan)
+    (names : Naming) (rows : List TableRow) (step : Step) where
+  abbrev count : ℕ
+  count = length plan.spec.streams
+
+  abbrev now : Stage
+  now = eval_stage count layer
+
+  abbrev next : Stage
+  next = layer_stage count (layer + 1)
+
+  abbrev full : List StreamRow
+  full = (full_row plan m.start rows step).streams
+
+  abbrev living : ℕ → List Living
+  living n = living_in (slice_get full n)
+
+  abbrev content_now : Content
+  content_now = content_so_far plan m.start rows step now
+
+  go : EvalsGo plan m.start rows step layer
+  go = evals_go plan accepted m.start rows step layer
+
+  module _ (layout_at : IsAt plan now s) (run : IsRunAt plan m now remembers s names rows step) (marked : AreMarks plan full now marks) where
+    module _ (n : ℕ) (x : Stream) (at : slice_get plan.spec.streams n ≡ Some x) where
+      abbrev did : Spawned
+      did = spawned_in (slice_get full n)
+
+      abbrev active : Bool
+      active = is_active m.start step (eval_pacing (slice_get plan.pacings n))
+
+      fine_here : EvalIs plan m.start rows step layer n x → is_fine (slice_get marks n) ≡ not (is_bad did)
+      fine_here here =
+          ap is_fine (marked n (slice_get_within plan.spec.streams n x at) ∙ ap (λ b. Some (mark_of (done_of b did))) here.spawned)
+          ∙ fine_is did
+
+      here_is : not (is_input x) ≡ true → nat_eq (layer_of plan.layers (eval_node n)) layer ≡ true → EvalIs plan m.start rows step layer n x
+      here_is i e = go.here n x at (not-true (is_input x) i) (eqb-true (layer_of plan.layers (eval_node n)) layer e)
+
+      -- the code runs a stream where the model does
+      pub same_runs : runs_in plan m marks layer n x ≡ is_run_in plan m.start step full layer n x
+      same_runs =
+          and_same (not (is_input x)) _ _ (λ i.
+          and_same (nat_eq (layer_of plan.layers (eval_node n)) layer) _ _ (λ e.
+          ap (λ b. b && is_fine (slice_get marks n)) (same_active m step run.moment (eval_pacing (slice_get plan.pacings n)))
+          ∙ ap (λ b. active && b) (fine_here (here_is i e))))
+
+      -- where it runs, the outcomes read as the model's
+
+      module _ (here : EvalIs plan m.start rows step layer n x) where
+        stands_here : StandForLives names remembers n 0 (instances_seen s n) (lives_in (slice_get content_now.streams n))
+        stands_here = lives_stand names remembers 0 n n (omega arith) s.streams content_now.streams run.stands.streams
+
+        pub as_many_living : length (instances_seen s n) ≡ length (living n)
+        as_many_living =
+            as_many_lives names remembers n 0 (instances_seen s n) (lives_in (slice_get content_now.streams n)) stands_here
+            ∙ (sym (length-map (lives_in (slice_get content_now.streams n)) (λ l. l.params))
+            ∙ (ap length here.lives ∙ length-map (living n) (λ l. l.instance.params)))
+
+        outcomes_here : AreOutcomes (λ y. eval_outcome plan.spec content_now (is_bad did) active x.eval y.params) (living n)
+        outcomes_here =
+            let P : List Living → Type 0 = λ ls. AreOutcomes (λ y. eval_outcome plan.spec content_now (is_bad did) active x.eval y.params) ls in
+            subst P (sym here.living) (all_outcomes (λ y. eval_outcome plan.spec content_now (is_bad did) active x.eval y.params) _)
+
+        silent_here : (active && not (is_bad did)) ≡ false → AreSilent (living n)
+        silent_here e = none_given (living n) (other_outcomes _ (λ y. Missing) (λ y. missing_where plan.spec content_now (is_bad did) active x.eval y.params e) (living n) outcomes_here)
+
+        answers_here : active ≡ true → is_bad did ≡ false → AreOutcomes (λ y. eval_outcome plan.spec content_now false true x.eval y.params) (living n)
+        answers_here a b =
+            other_outcomes _ (λ y. eval_outcome plan.spec content_now false true x.eval y.params)
+            (λ y. ap (λ t. eval_outcome plan.spec content_now t active x.eval y.params) b ∙ ap (λ t. eval_outcome plan.spec content_now false t x.eval y.params) a)
+            (living n) outcomes_here
+
+        answer_of : Params → Answer
+        answer_of p = eval_outcome plan.spec content_now false true x.eval (read_params names p)
+
+        read_each : (i : ℕ) (xs : List SeenInstance) (vs : List Life) (ls : List Living) (rs : List Outcome)
+            → ((j : ℕ) → slice_get (instances_seen s n) (i + j) ≡ slice_get xs j)
+            → StandForLives names remembers n i xs vs → map (λ l. l.params) vs ≡ map (λ l. l.instance.params) ls
+            → AreOutcomes (λ y. eval_outcome plan.spec content_now false true x.eval y.params) ls
+            → AreResults plan remembers s (tasks_from n i (length xs)) rs → ReadEach names rs ls
+        read_each i [] [] [] [] shown stand same are results = tt
+        read_each i [] [] [] (r ∷ rs) shown stand same are results = absurd results
+        read_each i [] [] (l ∷ ls) rs shown stand same are results = absurd (cc)
+        read_each i [] (v ∷ vs) ls rs shown stand same are results = absurd stand
+        read_each i (y ∷ xs) [] ls rs shown stand same are results = absurd stand
+        read_each i (y ∷ xs) (v ∷ vs) [] rs shown stand same are results = absurd (cc)
+        read_each i (y ∷ xs) (v ∷ vs) (l ∷ ls) [] shown stand same are results = absurd results
+        read_each i (y ∷ xs) (v ∷ vs) (l ∷ ls) (r ∷ rs) shown stand same are results =
+            let there : slice_get (instances_seen s n) i ≡ Some y = ap (λ k. slice_get (instances_seen s n) k) (sym (add-zero i)) ∙ shown 0 in
+            let P : Params → Type 0 = λ p. IsAnswer plan remembers s p (eval_answer plan.spec (slice_get plan.spec.streams n)) r in
+            let answer : P y.params = subst P (ap params_at there) results.0.answer in
+            let sees : Sees plan names content_now remembers s y.params = record { naming = run.run.naming; layout = layout_at.of.layout; held = stand.0.params_held; stands = run.stands } in
+            let given = answer names content_now sees run.run.texts in
+            let params : v.params ≡ l.instance.params = cc in
+            let rest : map (λ (z : Life). z.params) vs ≡ map (λ (z : Living). z.instance.params) ls = cc in (
+              given.0
+                  ∙ (ap (λ o. eval_answer plan.spec o content_now (read_params names y.params)) at
+                  ∙ (ap (λ p. eval_outcome plan.spec content_now false true x.eval p) (stand.0.params ∙ params)
+                  ∙ sym are.0)),
+              given.1,
+              read_each (i + 1) xs vs ls rs (λ j. ap (λ k. slice_get (instances_seen s n) k) (same_place i j) ∙ shown (suc j)) stand.1 rest are.1 results.1,
+            )
+          where
+            same_place : (a b : ℕ) → (a + 1) + b ≡ a + suc b
+            same_place a b = omega arith
+
+        read_here : active ≡ true → is_bad did ≡ false → (rs : List Outcome) → AreResults plan remembers s (tasks_from n 0 (length (instances_seen s n))) rs → ReadEach names rs (living n)
+        read_here a b rs h =
+            read_each 0 (instances_seen s n) (lives_in (slice_get content_now.streams n)) (living n) rs
+            (λ j. ap (λ k. slice_get (instances_seen s n) k) (zero-add j)) stands_here here.lives (answers_here a b) h
+
+      -- all that is known of a stream that runs
+      record Reads : Type 0 where
+        pub here : EvalIs plan m.start rows step layer n x
+        pub is_active_here : active ≡ true
+        pub is_good : is_bad did ≡ false
+
+      reads : runs_in plan m marks layer n x ≡ true → Reads
+      reads e =
+          let run_there : is_run_in plan m.start step full layer n x ≡ true = sym same_runs ∙ e in
+          let a = both_true (not (is_input x)) _ run_there in
+          let b = both_true (nat_eq (layer_of plan.layers (eval_node n)) layer) _ a.1 in
+          let d = both_true active (not (is_bad did)) b.1 in
+          record { here = here_is a.0 b.0; is_active_here = d.0; is_good = not-true (is_bad did) d.1 }
+
+      pub read_stream : runs_in plan m marks layer n x ≡ true → (rs : List Outcome) → AreResults plan remembers s (tasks_from n 0 (length (instances_seen s n))) rs → ReadEach names rs (living n)
+      read_stream e rs h = let k = reads e in read_here k.here k.is_active_here k.is_good rs h
+
+      -- one that does not run, though it belongs to the layer, is silent
+      pub silent_stream : runs_in plan m marks layer n x ≡ false → is_input x ≡ false → layer_of plan.layers (eval_node n) ≡ layer → AreSilent (living n)
+      silent_stream e i l =
+          silent_here (go.here n x at i l)
+          (sym (ap (λ b. not b && (nat_eq (layer_of plan.layers (eval_node n)) layer && (active && not (is_bad did)))) i
+          ∙ ap (λ b. b && (active && not (is_bad did))) (eq-eqb (layer_of plan.layers (eval_node n)) layer l))
+          ∙ (sym same_runs ∙ e))
+
+    -- all outcomes of the layer are told as the model tells them
+
+    -- what the outcomes of these tasks come to, beside what the model tells
+    pub record TellsSame (d : Content) (ts : List Task) (rs : List Outcome) (told_so : List Told) : Type 0 where
+      pub same : told_outcomes names d ts rs ≡ told_each d told_so
+      pub held : AreHeldIn names rs
+
+    tells_stream : (n : ℕ) (x : Stream) → slice_get plan.spec.streams n ≡ Some x → (d : Content) (rs : List Outcome) (b e : Bool) → runs_in plan m marks layer n x ≡ b → e ≡ b
+        → AreResults plan remembers s (if b then tasks_from n 0 (length (instances_seen s n)) else []) rs
+        → TellsSame d (if b then tasks_from n 0 (length (instances_seen s n)) else []) rs (if e then told_from n 0 (living n) else [])
+    tells_stream n x at d [] false false r q h = record { same = refl; held = tt }
+    tells_stream n x at d (o ∷ rs) false false r q h = absurd h
+    tells_stream n x at d rs false true r q h = absurd (cc)
+    tells_stream n x at d rs true false r q h = absurd (cc)
+    tells_stream n x at d rs true true r q h =
+        let each = read_stream n x at r rs h in
+        record {
+          same = ap (λ k. told_outcomes names d (tasks_from n 0 k) rs) (as_many_living n x at (reads n x at r).here) ∙ told_stream names n 0 rs (living n) d each;
+          held = held_of_stream names rs (living n) each;
+        }
+
+    tells_streams : (n : ℕ) (xs : List Stream) → ((i : ℕ) → slice_get plan.spec.streams (n + i) ≡ slice_get xs i) → (d : Content) (rs : List Outcome)
+        → AreResults plan remembers s (layer_tasks plan m marks s layer n xs) rs
+        → TellsSame d (layer_tasks plan m marks s layer n xs) rs (told_in_layer plan m.start step full layer n xs)
+    tells_streams n [] at d [] h = record { same = refl; held = tt }
+    tells_streams n [] at d (r ∷ rs) h = absurd h
+    tells_streams n (x ∷ xs) at d rs h =
+        let ts = stream_tasks plan m marks s layer n x in
+        let us = layer_tasks plan m marks s layer (n + 1) xs in
+        let size = length ts in
+        let here : slice_get plan.spec.streams n ≡ Some x = ap (λ k. slice_get plan.spec.streams k) (sym (add-zero n)) ∙ at 0 in
+        let told_here = if is_run_in plan m.start step full layer n x then told_from n 0 (living n) else [] in
+        let parts = split_results plan remembers s ts us rs h in
+        let one : TellsSame d ts (take size rs) told_here =
+        tells_stream n x here d (take size rs) (runs_in plan m marks layer n x) (is_run_in plan m.start step full layer n x) refl (sym (same_runs n x here)) parts.0 in
+        let rest = tells_streams (n + 1) xs (λ i. ap (λ k. slice_get plan.spec.streams k) (same_place n i) ∙ at (suc i)) (told_outcomes names d ts (take size rs)) (drop size rs) parts.1 in
+        record {
+          same =
+              outcomes_in_parts names d ts us rs (omega (arith, count_results plan remembers s (ts ++ us) rs h, length-append ts us))
+              ∙ (rest.same
+              ∙ (ap (λ c. told_each c (told_in_layer plan m.start step full layer (n + 1) xs)) one.same
+              ∙ sym (told_in_parts d told_here (told_in_layer plan m.start step full layer (n + 1) xs))));
+          held = held_in_parts names size rs one.held rest.held;
+        }
+      where
+        same_place : (a b : ℕ) → (a + 1) + b ≡ a + suc b
+        same_place a b = omega arith
+
+    module _ (fresh : List Outcome) (results : AreResults plan remembers s (layer_tasks plan m marks s layer 0 plan.spec.streams) fresh) where
+      tells_all : TellsSame content_now (layer_tasks plan m marks s layer 0 plan.spec.streams) fresh (told_in_layer plan m.start step full layer 0 plan.spec.streams)
+      tells_all = tells_streams 0 plan.spec.streams (λ i. ap (λ k. slice_get plan.spec.streams k) (zero-add i)) content_now fresh results
+
+      -- the naming has their texts, and the content is that of the next stage
+      pub held_all : AreHeldIn names fresh
+      held_all = tells_all.held
+
+      pub next_content : told_outcomes names content_now (layer_tasks plan m marks s layer 0 plan.spec.streams) fresh ≡ content_so_far plan m.start rows step next
+      next_content = tells_all.same ∙ sym go.next
+
+      -- the spans show them
+
+      module _ (first : List Outcome) (spans : List Span) (ready : IsReadyFor plan now s first spans) (shown : ShowResults plan full now names spans first) where
+        abbrev all : List Outcome
+        all = first ++ fresh
+
+        abbrev later : List Span
+        later = spans_after plan m marks remembers s layer first fresh spans
+
+        -- an earlier layer's
+        shown_before : (n : ℕ) (x : Stream) (p : Span) → slice_get plan.spec.streams n ≡ Some x → is_input x ≡ false → slice_get spans n ≡ Some p → is_evaluated plan.layers now n x ≡ true
+            → ShowLiving names (in_span all (Some p)) (living n)
+        shown_before n x p e i g d =
+            let P : List Outcome → Type 0 = λ os. ShowLiving names os (living n) in
+            let Q : Option Span → Type 0 = λ o. ShowLiving names (in_span first o) (living n) in
+            subst P (sym (same_in_span first fresh p (ready.within n p g).within)) (subst Q g (shown n x e i d))
+
+        -- nothing of a silent one
+        shown_silent : (n : ℕ) (x : Stream) (p : Span) → slice_get plan.spec.streams n ≡ Some x → slice_get spans n ≡ Some p → is_evaluated plan.layers now n x ≡ false
+            → AreSilent (living n) → ShowLiving names (in_span all (Some p)) (living n)
+        shown_silent n x p e g d silent = inr (ap (λ k. take k (drop p.from all)) (ready.empty n x p e d g), silent)
+
+        evaluated_by : (g : Stage) (x : Stream) (n : ℕ) → is_input x ≡ false → is_evaluated plan.layers g n x ≡ is_behind (layer_of plan.layers (eval_node n)) n g.layer g.evals
+        evaluated_by g x n i = ap (λ t. if t then nat_lt n g.inputs else is_behind (layer_of plan.layers (eval_node n)) n g.layer g.evals) i
+
+        shown_at_rest : (n : ℕ) (x : Stream) (p : Span) → slice_get plan.spec.streams n ≡ Some x → is_input x ≡ false → is_evaluated plan.layers next n x ≡ true
+            → runs_in plan m marks layer n x ≡ false → slice_get spans n ≡ Some p
+            → (b : Bool) → is_evaluated plan.layers now n x ≡ b → (layer_of plan.layers (eval_node n) ≡ layer) ⊎ (layer_of plan.layers (eval_node n) ≡ layer → ⊥)
+            → ShowLiving names (in_span all (Some p)) (living n)
+        shown_at_rest n x p e i d r g true b l = shown_before n x p e i g b
+        shown_at_rest n x p e i d r g false b (inl l) = shown_silent n x p e g b (silent_stream n x e r i l)
+        shown_at_rest n x p e i d r g false b (inr l) =
+            absurd (let f : is_evaluated plan.layers now n x ≡ true = evaluated_by now x n i ∙ (same_behind (layer_of plan.layers (eval_node n)) n layer l ∙ (sym (evaluated_by next x n i) ∙ d)) in cc)
+
+        shown_by : (n : ℕ) (x : Stream) (p : Span) → slice_get plan.spec.streams n ≡ Some x → is_input x ≡ false → is_evaluated plan.layers next n x ≡ true
+            → SpanOf plan remembers s m marks layer n x (slice_get spans n) p all → ShowLiving names (in_span all (Some p)) (living n)
+        shown_by n x p e i d (inl h) = inl (read_stream n x e h.runs (in_span all (Some p)) h.results_are)
+        shown_by n x p e i d (inr h) = shown_at_rest n x p e i d h.rests h.same (is_evaluated plan.layers now n x) refl (cases_eq (layer_of plan.layers (eval_node n)) layer)
+
+        pub shows_more : ShowResults plan full next names later all
+        shows_more n x e i d =
+            let within : n < length later = omega (arith, slice_get_within plan.spec.streams n x e, as_many_spans plan m marks remembers s layer first fresh spans results ready) in
+            let p = get_or later n (record { from = 0; count = 0 }) in
+            let there : slice_get later n ≡ Some p = slice_get-get_or later n (record { from = 0; count = 0 }) within in
+            let P : Option Span → Type 0 = λ o. ShowLiving names (in_span all o) (living n) in
+            subst P (sym there) (shown_by n x p e i d (span_of plan m marks remembers s layer first fresh spans results n x p e there))

@@ -1,0 +1,48 @@
+-- What a plan has of each stream.
+use Rattle.std.proofs.Common.{◌≡◌, refl, ap, ◌∙◌, ℕ, zero, suc, List, [], ◌∷◌, Option, Some, None, true, false, drop, length, slice_get, unwrap_or, sym, get_or, ◌+◌, ◌<◌}
+use Rattle.std.proofs.lemmas.Option.{slice_get_read}
+use Rattle.lola_value.specs.declared.value.Kind.TheVariants as kind
+use Rattle.lola_model.specs.Acceptance.{IsAccepted}
+use Rattle.lola_model.specs.Pacings.{pacings_from}
+use Rattle.lola_model.specs.Store.{kind_in, layouts_from, parameters_of, spawns_in}
+use Rattle.lola_model.specs.declared.finding.Finding.{Finding}
+use Rattle.lola_model.specs.declared.plan.Plan.{Plan}
+use Rattle.lola_model.specs.declared.spec.Clause.{Clause}
+use Rattle.lola_model.specs.declared.spec.Stream.{Stream}
+
+-- as many streams
+pub layouts_length : (ss : List Stream) (kept : List ℕ) → length (layouts_from ss kept) ≡ length ss
+layouts_length [] kept = refl
+layouts_length (s ∷ ss) kept = ap suc (layouts_length ss (drop 1 kept))
+
+-- the kind of its values
+pub kind_there : (ss : List Stream) (kept : List ℕ) (n : ℕ) (s : Stream) → slice_get ss n ≡ Some s → kind_in (slice_get (layouts_from ss kept) n) ≡ unwrap_or s.kind kind.Int64
+kind_there [] kept n s e = absurd (cc)
+kind_there (r ∷ ss) kept zero s e = let p : r ≡ s = cc in ap (λ (x : Stream). unwrap_or x.kind kind.Int64) p
+kind_there (r ∷ ss) kept (suc n) s e = kind_there ss (drop 1 kept) n s e
+
+-- the kinds of its parameters
+pub parameters_there : (ss : List Stream) (kept : List ℕ) (n : ℕ) (s : Stream) → slice_get ss n ≡ Some s → parameters_of (slice_get (layouts_from ss kept) n) ≡ s.parameters
+parameters_there [] kept n s e = absurd (cc)
+parameters_there (r ∷ ss) kept zero s e = let p : r ≡ s = cc in ap (λ (x : Stream). x.parameters) p
+parameters_there (r ∷ ss) kept (suc n) s e = parameters_there ss (drop 1 kept) n s e
+
+-- that it has a spawn clause
+pub spawns_there : (ss : List Stream) (kept : List ℕ) (n : ℕ) (s : Stream) (k : Clause) → slice_get ss n ≡ Some s → s.spawn ≡ Some k → spawns_in (slice_get (layouts_from ss kept) n) ≡ true
+spawns_there [] kept n s k e f = absurd (cc)
+spawns_there (r ∷ ss) kept zero s k e f =
+    let p : r ≡ s = cc in
+    ap (λ (x : Stream). spawns_in (slice_get (layouts_from (x ∷ ss) kept) zero)) p ∙ ap (λ (o : Option Clause). elim o [ None ↦ false | Some c ↦ true ]) f
+spawns_there (r ∷ ss) kept (suc n) s k e f = spawns_there ss (drop 1 kept) n s k e f
+
+-- the stream of a turn of a loop
+pub stream_of_turn : (xs ss : List Stream) (n : ℕ) (s : Stream) → xs ≡ ss → n < length xs → s ≡ get_or xs n s → slice_get ss n ≡ Some s
+stream_of_turn xs ss n s e lt is = ap (λ ys. slice_get ys n) (sym e) ∙ slice_get_read xs (length xs) n s refl lt is
+
+-- as many pacings as streams
+paced_length : (spawns evals closes : List Finding) (n : ℕ) (ss : List Stream) → length (pacings_from spawns evals closes n ss) ≡ length ss
+paced_length spawns evals closes n [] = refl
+paced_length spawns evals closes n (s ∷ ss) = ap suc (paced_length spawns evals closes (n + 1) ss)
+
+pub pacings_length : (plan : Plan) → IsAccepted plan → length plan.pacings ≡ length plan.spec.streams
+pacings_length plan accepted = let p = accepted.paced in ap length p.are ∙ paced_length p.found.spawns p.found.evals p.found.closes 0 plan.spec.streams

@@ -1,0 +1,75 @@
+use Rattle.std.proofs.Common.{◌≡◌, ◌+◌, ◌++◌, refl, ap, sym, subst, ◌∙◌, List, length, take, drop, arith}
+use Rattle.std.proofs.lemmas.List.{take_at}
+use Rattle.lola_stages.specs.Stages.{eval_stage}
+use Rattle.lola_step.specs.Evals.{EvalsTake, IsReadyFor, ShowsMore}
+use Rattle.lola_step.specs.declared.mark.Mark.{Mark}
+use Rattle.lola_step.specs.declared.scratch.Span.{Span}
+use Rattle.lola_step.proofs.Evaluation.{IsSoFar, all_layers, first_layer, next_layer, spans_then}
+use Rattle.lola_step.proofs.step.evaluate.Goals as goal
+
+pub loop-layer-init : goal.loop-layer-init
+loop-layer-init g c = record {
+  so_far =
+      first_layer c.args.plan.now c.args.moment.now (g.S.StreamStore.remembers c.args.store.now) (g.S.StreamStore.seen c.args.store.now)
+      c.args.scratch.now.marks.items c.args.scratch.now.spans.items c.args.scratch.now.tasks c.args.scratch.now.results
+      c.requires.at c.requires.made.marks c.requires.fresh.marks c.requires.made.spans c.requires.fresh.spans
+      c.requires.fresh.results c.requires.fresh.tasks_room c.requires.fresh.results_room;
+  marks = refl;
+  layers = refl;
+  closing = refl;
+  verdicts = refl;
+}
+
+pub eval_layer-requires-clause-spans : goal.eval_layer-requires-clause-spans
+eval_layer-requires-clause-spans g c κs within =
+    subst
+    (λ ps. IsReadyFor c.args.plan.now (eval_stage (length c.args.plan.now.spec.streams) c.loop-layer.layer) (g.S.StreamStore.seen c.spawn_layer.new.store) c.loop-layer.scratch.results.items ps)
+    (sym c.deref_mut-in-loop-layer.ensures.value)
+    (spans_then c.args.plan.now c.loop-layer.layer (g.S.StreamStore.seen c.loop-layer.store) (g.S.StreamStore.seen c.spawn_layer.new.store)
+    c.loop-layer.scratch.results.items c.loop-layer.scratch.spans.items c.spawn_layer.ensures.goes_on c.loop-layer.invariant.so_far.ready)
+
+pub loop-layer-preserved : goal.loop-layer-preserved
+loop-layer-preserved g c =
+    let plan = c.args.plan.now in
+    let m = c.args.moment.now in
+    let now = c.loop-layer.scratch in
+    let seen = g.S.StreamStore.seen in
+    let remembers = g.S.StreamStore.remembers in
+    let length_marks : length c.spawn_layer.new.marks ≡ now.marks.len = c.spawn_layer.auto.marks ∙ c.deref_mut.ensures.len in
+    let length_spans : length c.eval_layer.new.spans ≡ now.spans.len = c.eval_layer.auto.spans ∙ c.deref_mut-in-loop-layer.ensures.len in
+    let marks_back : take now.marks.len (c.spawn_layer.new.marks ++ drop (length c.spawn_layer.new.marks) now.marks.items) ≡ c.spawn_layer.new.marks =
+    take_at c.spawn_layer.new.marks (drop (length c.spawn_layer.new.marks) now.marks.items) now.marks.len length_marks in
+    let spans_back : take now.spans.len (c.eval_layer.new.spans ++ drop (length c.eval_layer.new.spans) now.spans.items) ≡ c.eval_layer.new.spans =
+    take_at c.eval_layer.new.spans (drop (length c.eval_layer.new.spans) now.spans.items) now.spans.len length_spans in
+    let lent : c.deref.result.now ≡ c.spawn_layer.new.marks = c.deref.ensures.value ∙ marks_back in
+    let at : List Mark → List Span → Type 0 =
+    λ ms ps. IsSoFar plan m (c.loop-layer.layer + 1) (remembers c.args.store.now) (seen c.args.store.now) (remembers c.eval_layer.new.store) (seen c.eval_layer.new.store) ms ps c.eval_layer.new.tasks c.eval_layer.new.results in
+    let before : List Mark → List Span → Type 0 =
+    λ ms ps. IsSoFar plan m c.loop-layer.layer (remembers c.args.store.now) (seen c.args.store.now) (remembers c.loop-layer.store) (seen c.loop-layer.store) ms ps now.tasks now.results in
+    record {
+      so_far =
+          subst (λ ms. at ms (take now.spans.len (c.eval_layer.new.spans ++ drop (length c.eval_layer.new.spans) now.spans.items))) (sym marks_back)
+          (subst (λ ps. at c.spawn_layer.new.marks ps) (sym spans_back)
+          (next_layer plan m c.loop-layer.layer (remembers c.args.store.now) (seen c.args.store.now)
+          (remembers c.loop-layer.store) (seen c.loop-layer.store) (remembers c.spawn_layer.new.store) (seen c.spawn_layer.new.store) (remembers c.eval_layer.new.store) (seen c.eval_layer.new.store)
+          c.deref_mut.result.now c.spawn_layer.new.marks c.deref_mut-in-loop-layer.result.now c.eval_layer.new.spans now.tasks c.eval_layer.new.tasks now.results c.eval_layer.new.results
+          (subst (λ ms. before ms c.deref_mut-in-loop-layer.result.now) (sym c.deref_mut.ensures.value)
+          (subst (λ ps. before now.marks.items ps) (sym c.deref_mut-in-loop-layer.ensures.value) c.loop-layer.invariant.so_far))
+          c.spawn_layer.ensures.goes_on c.spawn_layer.ensures.takes c.spawn_layer.ensures.marked
+          c.eval_layer.ensures.at c.eval_layer.ensures.goes_on c.eval_layer.ensures.rooms c.eval_layer.ensures.spans
+          (subst (λ ms. EvalsTake plan m c.loop-layer.layer ms (remembers c.spawn_layer.new.store) (seen c.spawn_layer.new.store) (remembers c.eval_layer.new.store) (seen c.eval_layer.new.store)) lent c.eval_layer.ensures.takes)
+          (subst
+          (λ ms. ShowsMore plan m c.loop-layer.layer ms (remembers c.spawn_layer.new.store) (seen c.spawn_layer.new.store) c.deref_mut-in-loop-layer.result.now now.results.items c.eval_layer.new.spans c.eval_layer.new.results.items)
+          lent c.eval_layer.ensures.shows)));
+      marks = ap length marks_back ∙ (length_marks ∙ (now.marks.ok.0 ∙ c.loop-layer.invariant.marks));
+      layers = c.loop-layer.invariant.layers;
+      closing = c.loop-layer.invariant.closing;
+      verdicts = c.loop-layer.invariant.verdicts;
+    }
+
+pub returns-clause-evaluates : goal.returns-clause-evaluates
+returns-clause-evaluates g c =
+    all_layers c.args.plan.now c.args.moment.now c.loop-layer.layer
+    (g.S.StreamStore.remembers c.args.store.now) (g.S.StreamStore.seen c.args.store.now) (g.S.StreamStore.remembers c.loop-layer.store) (g.S.StreamStore.seen c.loop-layer.store)
+    c.loop-layer.scratch.marks.items c.loop-layer.scratch.spans.items c.loop-layer.scratch.tasks c.loop-layer.scratch.results
+    c.requires.accepted (λ node. omega (arith, c.requires.made.layers node, c.loop-layer-test.false)) c.loop-layer.invariant.so_far

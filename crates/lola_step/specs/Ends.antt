@@ -1,0 +1,41 @@
+-- What is found once the streams of a step are evaluated.
+use Rattle.std.specs.Prelude.{ℕ, ◌≡◌, List, Option, map, None}
+use Rattle.lola_value.specs.declared.value.FaultKind.{FaultKind}
+use Rattle.lola_value.specs.declared.value.Outcome.{Outcome}
+use Rattle.lola_value.specs.Naming.{Naming}
+use Rattle.lola_model.specs.Content.{content}
+use Rattle.lola_model.specs.Store.{Memories, Seen, Stands}
+use Rattle.lola_model.specs.Table.{Step, TableRow}
+use Rattle.lola_model.specs.declared.plan.Plan.{Plan}
+use Rattle.lola_stages.specs.Ends.{closing_fault, closings, evaluation_fault, row_values}
+use Rattle.lola_stages.specs.Stages.{full_row}
+use Rattle.lola_step.specs.Moments.{IsMoment}
+use Rattle.lola_step.specs.Notes.{AreNoted, AreVerdictsHeld, places_of, read_fault, read_verdict}
+use Rattle.lola_step.specs.Progress.{IsRun}
+use Rattle.lola_step.specs.declared.mark.Mark.{Mark}
+use Rattle.lola_step.specs.declared.moment.Moment.{Moment}
+use Rattle.lola_step.specs.declared.scratch.Span.{Span}
+use Rattle.lola_step.specs.declared.tasks.Task.{Task}
+use Rattle.lola_step.specs.declared.verdict.Verdict.{Verdict}
+
+-- in each run of which all is noted so, that is the fault of spawn clauses and instances
+abbrev pub FindsFault : Plan → List Mark → List Span → List Outcome → Option (ℕ × FaultKind) → Type 0
+FindsFault plan marks spans results found =
+    (names : Naming) (start : ℕ) (rows : List TableRow) (step : Step) → IsRun plan names rows
+    → AreNoted plan (full_row plan start rows step).streams names marks spans results
+    → read_fault found ≡ evaluation_fault plan start rows step
+
+-- in each run of which all is noted so, and for whose row the store stands, these are its values, and their texts are held
+abbrev pub CollectsVerdicts : Plan → List Span → List Outcome → Memories → Seen → List Verdict → Type 0
+CollectsVerdicts plan spans results remembers s verdicts =
+    (names : Naming) (start : ℕ) (rows : List TableRow) (step : Step) (marks : List Mark) → IsRun plan names rows
+    → AreNoted plan (full_row plan start rows step).streams names marks spans results
+    → Stands names remembers s (content start rows (full_row plan start rows step))
+    → (map (read_verdict names) verdicts ≡ row_values 0 plan.spec.streams (full_row plan start rows step).streams) × AreVerdictsHeld names verdicts
+
+-- in each run for whose row the store stands, that is the fault of close clauses; and without one these instances are to be closed
+abbrev pub FindsClosings : Plan → Moment → Memories → Seen → Option (ℕ × FaultKind) → List Task → Type 0
+FindsClosings plan m remembers s found closing =
+    (names : Naming) (rows : List TableRow) (step : Step) → IsRun plan names rows → IsMoment m.start step m
+    → Stands names remembers s (content m.start rows (full_row plan m.start rows step))
+    → (read_fault found ≡ closing_fault plan m.start rows step) × (found ≡ None → places_of closing ≡ closings plan m.start rows step)

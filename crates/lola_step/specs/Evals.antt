@@ -1,0 +1,46 @@
+-- How the instances of a layer are evaluated.
+use Rattle.std.specs.Prelude.{ℕ, ◌≡◌, ◌+◌, ◌≤◌, List, length, slice_get, Some, true, vec_len}
+use Rattle.std.specs.Global.{Vec}
+use Rattle.std.specs.Vec.{vec_capacity}
+use Rattle.lola_value.specs.declared.value.Outcome.{Outcome}
+use Rattle.lola_value.specs.Naming.{Naming}
+use Rattle.lola_model.specs.Model.{is_input}
+use Rattle.lola_model.specs.Store.{Memories, Seen}
+use Rattle.lola_model.specs.Table.{Step, TableRow}
+use Rattle.lola_model.specs.declared.plan.Plan.{Plan}
+use Rattle.lola_model.specs.declared.spec.Stream.{Stream}
+use Rattle.lola_stages.specs.Stages.{Stage, eval_stage, full_row, layer_stage}
+use Rattle.lola_step.specs.Notes.{AreEmpty, AreMarks, AreSpans, ShowResults}
+use Rattle.lola_step.specs.Progress.{IsRunAt}
+use Rattle.lola_step.specs.Rooms.{rooms, to_come, total}
+use Rattle.lola_step.specs.declared.mark.Mark.{Mark}
+use Rattle.lola_step.specs.declared.moment.Moment.{Moment}
+use Rattle.lola_step.specs.declared.scratch.Span.{Span}
+use Rattle.lola_step.specs.declared.tasks.Task.{Task}
+
+-- there is room for the tasks of any layer, and for the outcomes of all instances that are still to be evaluated
+pub record HasRooms (plan : Plan) (g : Stage) (s : Seen) (tasks : Vec Task) (results : Vec Outcome) : Type 0 where
+  pub tasks_room : total (rooms s) ≤ vec_capacity tasks
+  pub results_room : vec_len results + to_come plan.layers g 0 plan.spec.streams (rooms s) ≤ vec_capacity results
+
+-- a span for each stream: of those that are evaluated within the results, of the others empty
+pub record IsReadyFor (plan : Plan) (g : Stage) (s : Seen) (results : List Outcome) (spans : List Span) : Type 0 where
+  pub each : length spans ≡ length plan.spec.streams
+  pub within : AreSpans s results spans
+  pub empty : AreEmpty plan g spans
+  pub inputs : (n : ℕ) (stream : Stream) (p : Span) → slice_get plan.spec.streams n ≡ Some stream → is_input stream ≡ true → slice_get spans n ≡ Some p → p.count ≡ 0
+
+-- in each run whose marks these are: a store that stood before the instances of a layer stands before the next layer
+abbrev pub EvalsTake : Plan → Moment → ℕ → List Mark → Memories → Seen → Memories → Seen → Type 0
+EvalsTake plan m layer marks remembers s remembers' s' =
+    (names : Naming) (rows : List TableRow) (step : Step) → IsRunAt plan m (eval_stage (length plan.spec.streams) layer) remembers s names rows step
+    → AreMarks plan (full_row plan m.start rows step).streams (eval_stage (length plan.spec.streams) layer) marks
+    → IsRunAt plan m (layer_stage (length plan.spec.streams) (layer + 1)) remembers' s' names rows step
+
+-- and what showed the outcomes so far shows those of the layer too
+abbrev pub ShowsMore : Plan → Moment → ℕ → List Mark → Memories → Seen → List Span → List Outcome → List Span → List Outcome → Type 0
+ShowsMore plan m layer marks remembers s spans results spans' results' =
+    (names : Naming) (rows : List TableRow) (step : Step) → IsRunAt plan m (eval_stage (length plan.spec.streams) layer) remembers s names rows step
+    → AreMarks plan (full_row plan m.start rows step).streams (eval_stage (length plan.spec.streams) layer) marks
+    → ShowResults plan (full_row plan m.start rows step).streams (eval_stage (length plan.spec.streams) layer) names spans results
+    → ShowResults plan (full_row plan m.start rows step).streams (layer_stage (length plan.spec.streams) (layer + 1)) names spans' results'

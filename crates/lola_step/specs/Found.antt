@@ -1,0 +1,77 @@
+-- What is found among the outcomes that are noted: faults and values.
+use Rattle.std.specs.Prelude.{ℕ, ◌≡◌, ◌+◌, List, [], ◌∷◌, ◌++◌, Option, Some, None, true, if◌then◌else◌, slice_get}
+use Rattle.lola_value.specs.declared.value.FaultKind.{FaultKind}
+use Rattle.lola_value.specs.declared.value.Outcome.{Outcome}
+use Rattle.lola_value.specs.declared.value.Outcome.TheVariants as outcome
+use Rattle.lola_value.specs.declared.value.Params.{Params}
+use Rattle.lola_value.specs.Kinds.{are_of_kinds, is_well_formed}
+use Rattle.lola_value.specs.Naming.{the_values}
+use Rattle.lola_model.specs.Faults.{lesser_kind}
+use Rattle.lola_model.specs.Model.{is_input}
+use Rattle.lola_model.specs.Store.{Layout, Seen, SeenInstance, instances_seen, parameters_of}
+use Rattle.lola_model.specs.declared.spec.Stream.{Stream}
+use Rattle.lola_step.specs.Notes.{in_span}
+use Rattle.lola_step.specs.declared.mark.Mark.{Mark}
+use Rattle.lola_step.specs.declared.mark.Mark.TheVariants as mark
+use Rattle.lola_step.specs.declared.scratch.Span.{Span}
+use Rattle.lola_step.specs.declared.verdict.Verdict.{Verdict}
+
+-- faults
+
+-- the lesser of two kinds, either of which may be none
+abbrev pub least_of : Option FaultKind → Option FaultKind → Option FaultKind
+least_of None rest = rest
+least_of (Some k) rest = lesser_kind k rest
+
+-- adds the kind of an outcome that is a fault
+abbrev pub add_fault : Outcome → Option FaultKind → Option FaultKind
+add_fault (outcome.Fault k) rest = lesser_kind k rest
+add_fault _ rest = rest
+
+-- the least kind among outcomes
+abbrev pub least_among : List Outcome → Option FaultKind
+least_among [] = None
+least_among (o ∷ os) = add_fault o (least_among os)
+
+-- of a stream: its spawn clause's, or else the least of its instances
+abbrev pub fault_of : Mark → List Outcome → Option FaultKind
+fault_of (mark.Failed k) os = Some k
+fault_of _ os = least_among os
+
+-- the fault of stream n, or else that of later streams
+abbrev pub fault_or : ℕ → Option FaultKind → Option (ℕ × FaultKind) → Option (ℕ × FaultKind)
+fault_or n None rest = rest
+fault_or n (Some k) rest = Some (n, k)
+
+-- the first of the streams from number n on that has one
+abbrev pub first_among : List Outcome → ℕ → List Mark → List Span → Option (ℕ × FaultKind)
+first_among results n (m ∷ ms) (p ∷ ps) = fault_or n (fault_of m (in_span results (Some p))) (first_among results (n + 1) ms ps)
+first_among results n _ _ = None
+
+-- values
+
+-- adds the value of an instance of stream n with these parameters
+abbrev pub add_verdict : ℕ → Params → Outcome → List Verdict → List Verdict
+add_verdict n p (outcome.Value v) rest = record { stream = n; params = p; value = v } ∷ rest
+add_verdict n p _ rest = rest
+
+-- the values of instances of stream n that have these outcomes
+abbrev pub verdicts_among : ℕ → List SeenInstance → List Outcome → List Verdict
+verdicts_among n (x ∷ xs) (o ∷ os) = add_verdict n x.params o (verdicts_among n xs os)
+verdicts_among n _ _ = []
+
+-- of the streams from number n on, but inputs
+abbrev pub all_verdicts : Seen → List Outcome → ℕ → List Stream → List Span → List Verdict
+all_verdicts s results n (x ∷ xs) (p ∷ ps) =
+    (if is_input x then [] else verdicts_among n (instances_seen s n) (in_span results (Some p))) ++ all_verdicts s results (n + 1) xs ps
+all_verdicts s results n _ _ = []
+
+-- parameters of the kinds that a layout has for the stream
+pub record FitsLayout (l : Layout) (v : Verdict) : Type 0 where
+  pub params : are_of_kinds (parameters_of (slice_get l.streams v.stream)) (the_values v.params) ≡ true
+  pub well_formed : is_well_formed v.params ≡ true
+
+-- each of these has such
+abbrev pub FitLayout : Layout → List Verdict → Type 0
+FitLayout l [] = Unit {0}
+FitLayout l (v ∷ vs) = FitsLayout l v × FitLayout l vs

@@ -1,0 +1,61 @@
+-- How instances are given their outcomes, one after another.
+use Rattle.std.specs.Prelude.{ℕ, ◌<◌, List, [], ◌∷◌, if◌then◌else◌, length, slice_get, IsTrue}
+use Rattle.lola_value.specs.declared.value.Outcome.{Outcome}
+use Rattle.lola_value.specs.declared.value.Outcome.TheVariants as outcome
+use Rattle.lola_value.specs.Kinds.{is_outcome_of}
+use Rattle.lola_value.specs.Naming.{Naming, IsHeldIn, read_outcome}
+use Rattle.lola_model.specs.Content.{Content, seen}
+use Rattle.lola_model.specs.Store.{IsRunning, Memories, Seen, after_outcome, instances_seen, is_silent, kind_in, now_seen}
+use Rattle.lola_model.specs.declared.plan.Plan.{Plan}
+use Rattle.lola_model.specs.declared.spec.Stream.{Stream}
+use Rattle.lola_contents.specs.Changed.{told}
+use Rattle.lola_step.specs.Notes.{runs_in, tasks_from}
+use Rattle.lola_step.specs.Tasks.{IsResult}
+use Rattle.lola_step.specs.declared.mark.Mark.{Mark}
+use Rattle.lola_step.specs.declared.moment.Moment.{Moment}
+use Rattle.lola_step.specs.declared.tasks.Task.{Task}
+
+-- the tasks of stream n in a layer
+abbrev pub stream_tasks : Plan → Moment → List Mark → Seen → ℕ → ℕ → Stream → List Task
+stream_tasks plan m marks s layer n x = if runs_in plan m marks layer n x then tasks_from n 0 (length (instances_seen s n)) else []
+
+-- an outcome for each task, in order
+abbrev pub AreResults : Plan → Memories → Seen → List Task → List Outcome → Type 0
+AreResults plan remembers s [] [] = Unit {0}
+AreResults plan remembers s (t ∷ ts) (r ∷ rs) = IsResult plan remembers s t r × AreResults plan remembers s ts rs
+AreResults plan remembers s _ _ = ⊥
+
+-- an instance has its outcome: others see a fault as poison
+abbrev pub after_giving : Seen → Task → Outcome → Seen
+after_giving s t (outcome.Value v) = after_outcome s t.stream t.index (outcome.Value v)
+after_giving s t outcome.Missing = s
+after_giving s t (outcome.Fault k) = after_outcome s t.stream t.index outcome.Poison
+after_giving s t outcome.Poison = after_outcome s t.stream t.index outcome.Poison
+
+-- the instance of each task has its outcome
+abbrev pub after_all : Seen → List Task → List Outcome → Seen
+after_all s (t ∷ ts) (r ∷ rs) = after_all (after_giving s t r) ts rs
+after_all s _ _ = s
+
+-- an instance that is silent in this step, and an outcome of its stream's kind
+pub record CanGive (s : Seen) (t : Task) (r : Outcome) : Type 0 where
+  pub running : IsRunning s
+  pub lives : t.index < length (instances_seen s t.stream)
+  pub silent : IsTrue (is_silent (now_seen s t.stream t.index))
+  pub kind : IsTrue (is_outcome_of (kind_in (slice_get s.layout.streams t.stream)) r)
+
+-- each is such when its turn comes
+abbrev pub CanGiveAll : Seen → List Task → List Outcome → Type 0
+CanGiveAll s [] [] = Unit {0}
+CanGiveAll s (t ∷ ts) (r ∷ rs) = CanGive s t r × CanGiveAll (after_giving s t r) ts rs
+CanGiveAll s _ _ = ⊥
+
+-- the naming has the texts of all these outcomes
+abbrev pub AreHeldIn : Naming → List Outcome → Type 0
+AreHeldIn names [] = Unit {0}
+AreHeldIn names (r ∷ rs) = IsHeldIn names r × AreHeldIn names rs
+
+-- the content once the instance of each task has its outcome, as others see it
+abbrev pub told_outcomes : Naming → Content → List Task → List Outcome → Content
+told_outcomes names c (t ∷ ts) (r ∷ rs) = told_outcomes names (told c t.stream t.index (seen (read_outcome names r))) ts rs
+told_outcomes names c _ _ = c

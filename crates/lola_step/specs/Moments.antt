@@ -1,0 +1,45 @@
+-- The moment of a step, as the code has it.
+use Rattle.std.specs.Prelude.{ℕ, ◌≡◌, ◌+◌, ◌-◌, ◌*◌, List, [], ◌∷◌, Option, Some, None, Bool, false, option_map}
+use Rattle.lola_value.specs.declared.text.Field.{Field}
+use Rattle.lola_value.specs.declared.value.Outcome.{Outcome}
+use Rattle.lola_value.specs.declared.value.Outcome.TheVariants as outcome
+use Rattle.lola_value.specs.Naming.{Naming, read_outcome, IsHeldIn}
+use Rattle.lola_model.specs.Activity.{is_deadline, present, satisfies_some}
+use Rattle.lola_model.specs.Model.{field_outcome}
+use Rattle.lola_model.specs.Table.{Step}
+use Rattle.lola_model.specs.declared.pacing.Pacing.{Pacing}
+use Rattle.lola_model.specs.declared.pacing.Pacing.TheVariants.{Event, Periodic}
+use Rattle.lola_step.specs.declared.moment.Moment.{Moment}
+
+-- a pacing at a moment: inputs at a row's, a rate at one of deadlines
+abbrev pub active_at : ℕ → ℕ → Option ℕ → Pacing → Bool
+active_at start time (Some inputs) (Event sets) = satisfies_some inputs sets
+active_at start time None (Periodic r) = is_deadline r (time - start)
+active_at start time _ _ = false
+
+-- without a pacing nothing is active
+abbrev pub active_in : Moment → Option Pacing → Bool
+active_in m None = false
+active_in m (Some p) = active_at m.start m.time m.present p
+
+-- the moment of a step of a run from this start
+pub record IsMoment (start : ℕ) (step : Step) (m : Moment) : Type 0 where
+  pub start_is : m.start ≡ start
+  pub time_is : m.time ≡ step.time
+  pub present_is : m.present ≡ option_map present step.fields
+
+-- 1 for a value
+abbrev pub bit_of_outcome : Outcome → ℕ
+bit_of_outcome (outcome.Value v) = 1
+bit_of_outcome _ = 0
+
+-- the set of the inputs that have a value, input i as bit i
+abbrev pub present_in : List Outcome → ℕ
+present_in [] = 0
+present_in (o ∷ os) = bit_of_outcome o + 2 * present_in os
+
+-- each input reads as its field
+abbrev pub ReadAs : Naming → List Outcome → List Field → Type 0
+ReadAs names [] [] = Unit {0}
+ReadAs names (o ∷ os) (f ∷ fs) = (read_outcome names o ≡ field_outcome (Some f)) × IsHeldIn names o × ReadAs names os fs
+ReadAs names _ _ = ⊥

@@ -1,0 +1,180 @@
+-- What is noted of a step: what spawn clauses did, and the outcomes of instances.
+use Rattle.std.specs.Prelude.{ℕ, ◌≡◌, ◌+◌, ◌≤◌, ◌<◌, ◌⊎◌, List, [], ◌∷◌, ◌++◌, Option, Some, None, Bool, true, false, not, ◌&&◌, if◌then◌else◌, length, slice_get, map, take, drop, nat_eq, zero, suc, IsTrue}
+use Rattle.lola_value.specs.declared.value.FaultKind.{FaultKind}
+use Rattle.lola_value.specs.declared.value.Outcome.{Outcome}
+use Rattle.lola_value.specs.Answer.{Missing}
+use Rattle.lola_value.specs.declared.value.Kind.{Kind}
+use Rattle.lola_value.specs.Kinds.{are_of_kinds, is_of_kind, is_outcome_of, is_well_formed}
+use Rattle.lola_value.specs.Naming.{Naming, AreHeld, IsHeld, IsHeldIn, read, read_outcome, read_params, the_values}
+use Rattle.lola_model.specs.Faults.{RowFault}
+use Rattle.lola_model.specs.Graph.{eval_node, layer_of}
+use Rattle.lola_model.specs.Model.{is_input, eval_pacing, spawned_in}
+use Rattle.lola_model.specs.Store.{Seen, instances_seen, kind_in, layout_of, spawns_in}
+use Rattle.lola_model.specs.Table.{Spawned, Idle, Named, SpawnFailed, SpawnPoisoned, Living, StreamRow}
+use Rattle.lola_model.specs.declared.plan.Plan.{Plan}
+use Rattle.lola_model.specs.declared.spec.Stream.{Stream}
+use Rattle.lola_stages.specs.Ends.{RowValue, Place}
+use Rattle.lola_stages.specs.Nexts.{living_in}
+use Rattle.lola_stages.specs.Stages.{Stage, is_evaluated, is_spawned}
+use Rattle.lola_step.specs.Moments.{active_in}
+use Rattle.lola_step.specs.declared.mark.Mark.{Mark}
+use Rattle.lola_step.specs.declared.mark.Mark.TheVariants as mark
+use Rattle.lola_step.specs.declared.moment.Moment.{Moment}
+use Rattle.lola_step.specs.declared.scratch.Span.{Span}
+use Rattle.lola_step.specs.declared.tasks.Task.{Task}
+use Rattle.lola_step.specs.declared.verdict.Verdict.{Verdict}
+
+-- marks
+
+-- what a spawn clause did, as far as faults go
+abbrev pub mark_of : Spawned → Mark
+mark_of Idle = mark.Fine
+mark_of (Named p) = mark.Fine
+mark_of (SpawnFailed k) = mark.Failed k
+mark_of SpawnPoisoned = mark.Poisoned
+
+-- as far as it is done
+abbrev pub done_of : Bool → Spawned → Spawned
+done_of true s = s
+done_of false s = Idle
+
+-- the marks of all streams at a stage
+abbrev pub AreMarks : Plan → List StreamRow → Stage → List Mark → Type 0
+AreMarks plan full g marks =
+    (n : ℕ) → n < length plan.spec.streams → slice_get marks n ≡ Some (mark_of (done_of (is_spawned plan.layers g n) (spawned_in (slice_get full n))))
+
+-- spans
+
+-- the outcomes of a span
+abbrev pub in_span : List Outcome → Option Span → List Outcome
+in_span results None = []
+in_span results (Some p) = take p.count (drop p.from results)
+
+-- all of these are of a kind
+abbrev pub AreOutcomesOf : Kind → List Outcome → Type 0
+AreOutcomesOf k [] = Unit {0}
+AreOutcomesOf k (o ∷ os) = IsTrue (is_outcome_of k o) × AreOutcomesOf k os
+
+-- the span is within the results, and has no more outcomes than the stream has instances, each of the stream's kind
+pub record IsSpan (s : Seen) (results : List Outcome) (n : ℕ) (p : Span) : Type 0 where
+  pub within : p.from + p.count ≤ length results
+  pub few : p.count ≤ length (instances_seen s n)
+  pub kinds : AreOutcomesOf (kind_in (slice_get s.layout.streams n)) (in_span results (Some p))
+
+abbrev pub AreSpans : Seen → List Outcome → List Span → Type 0
+AreSpans s results spans = (n : ℕ) (p : Span) → slice_get spans n ≡ Some p → IsSpan s results n p
+
+-- outcomes that read as those of instances, each as its own
+abbrev pub ReadEach : Naming → List Outcome → List Living → Type 0
+ReadEach names [] [] = Unit {0}
+ReadEach names (o ∷ os) (l ∷ ls) = (read_outcome names o ≡ l.outcome) × IsHeldIn names o × ReadEach names os ls
+ReadEach names _ _ = ⊥
+
+-- no instance has an outcome
+abbrev pub AreSilent : List Living → Type 0
+AreSilent [] = Unit {0}
+AreSilent (l ∷ ls) = (l.outcome ≡ Missing) × AreSilent ls
+
+-- the outcomes of a stream's instances, or none where all are silent
+abbrev pub ShowLiving : Naming → List Outcome → List Living → Type 0
+ShowLiving names os ls = ReadEach names os ls ⊎ ((os ≡ []) × AreSilent ls)
+
+-- the outcomes of all streams at a stage, but of inputs
+abbrev pub ShowResults : Plan → List StreamRow → Stage → Naming → List Span → List Outcome → Type 0
+ShowResults plan full g names spans results =
+    (n : ℕ) (s : Stream) → slice_get plan.spec.streams n ≡ Some s → is_input s ≡ false → is_evaluated plan.layers g n s ≡ true
+    → ShowLiving names (in_span results (slice_get spans n)) (living_in (slice_get full n))
+
+-- and of those whose instances are still to come there is nothing
+abbrev pub AreEmpty : Plan → Stage → List Span → Type 0
+AreEmpty plan g spans =
+    (n : ℕ) (s : Stream) (p : Span) → slice_get plan.spec.streams n ≡ Some s → is_evaluated plan.layers g n s ≡ false → slice_get spans n ≡ Some p → p.count ≡ 0
+
+-- all that is noted once the streams are evaluated: the marks, the outcomes of instances, and of inputs nothing
+pub record AreNoted (plan : Plan) (full : List StreamRow) (names : Naming) (marks : List Mark) (spans : List Span) (results : List Outcome) : Type 0 where
+  pub marks_are : (n : ℕ) → n < length plan.spec.streams → slice_get marks n ≡ Some (mark_of (spawned_in (slice_get full n)))
+  pub results_show : (n : ℕ) (s : Stream) → slice_get plan.spec.streams n ≡ Some s → is_input s ≡ false → ShowLiving names (in_span results (slice_get spans n)) (living_in (slice_get full n))
+  pub inputs_empty : (n : ℕ) (s : Stream) (p : Span) → slice_get plan.spec.streams n ≡ Some s → is_input s ≡ true → slice_get spans n ≡ Some p → p.count ≡ 0
+
+-- the tasks of a layer
+
+abbrev pub is_fine : Option Mark → Bool
+is_fine (Some mark.Fine) = true
+is_fine _ = false
+
+-- a stream runs in a layer: it is no input, its node is of the layer, its clause is active, and its spawn clause did not fail
+abbrev pub runs_in : Plan → Moment → List Mark → ℕ → ℕ → Stream → Bool
+runs_in plan m marks layer n s =
+    not (is_input s) && (nat_eq (layer_of plan.layers (eval_node n)) layer && (active_in m (eval_pacing (slice_get plan.pacings n)) && is_fine (slice_get marks n)))
+
+-- so many instances of stream n, from a place on
+abbrev pub tasks_from : ℕ → ℕ → ℕ → List Task
+tasks_from n i zero = []
+tasks_from n i (suc k) = record { stream = n; index = i } ∷ tasks_from n (i + 1) k
+
+-- of the streams from number n on
+abbrev pub layer_tasks : Plan → Moment → List Mark → Seen → ℕ → ℕ → List Stream → List Task
+layer_tasks plan m marks s layer n [] = []
+layer_tasks plan m marks s layer n (x ∷ xs) =
+    (if runs_in plan m marks layer n x then tasks_from n 0 (length (instances_seen s n)) else []) ++ layer_tasks plan m marks s layer (n + 1) xs
+
+-- the spans after the tasks of a layer, whose outcomes begin at a place of the results
+abbrev pub layer_spans : Plan → Moment → List Mark → Seen → ℕ → ℕ → ℕ → List Stream → List Span → List Span
+layer_spans plan m marks s layer from n (x ∷ xs) (p ∷ ps) =
+    if runs_in plan m marks layer n x
+    then record { from = from; count = length (instances_seen s n) } ∷ layer_spans plan m marks s layer (from + length (instances_seen s n)) (n + 1) xs ps
+    else p ∷ layer_spans plan m marks s layer from (n + 1) xs ps
+layer_spans plan m marks s layer from n _ ps = ps
+
+-- verdicts
+
+-- a verdict with its texts
+abbrev pub read_verdict : Naming → Verdict → RowValue
+read_verdict names v = record { stream = v.stream; params = read_params names v.params; value = read names v.value }
+
+-- the naming has the texts of a verdict
+abbrev pub IsVerdictHeld : Naming → Verdict → Type 0
+IsVerdictHeld names v = AreHeld names (the_values v.params) × IsHeld names v.value
+
+abbrev pub AreVerdictsHeld : Naming → List Verdict → Type 0
+AreVerdictsHeld names [] = Unit {0}
+AreVerdictsHeld names (v ∷ vs) = IsVerdictHeld names v × AreVerdictsHeld names vs
+
+-- a value of a stream that is no input, of its kind, with parameters of their kinds
+pub record IsVerdict (plan : Plan) (v : Verdict) : Type 0 where
+  pub stream : Stream
+  pub stream_is : slice_get plan.spec.streams v.stream ≡ Some stream
+  pub no_input : is_input stream ≡ false
+  pub kind : is_of_kind (kind_in (slice_get (layout_of plan).streams v.stream)) v.value ≡ true
+  pub params : are_of_kinds stream.parameters (the_values v.params) ≡ true
+  pub well_formed : is_well_formed v.params ≡ true
+
+abbrev pub AreVerdicts : Plan → List Verdict → Type 0
+AreVerdicts plan [] = Unit {0}
+AreVerdicts plan (v ∷ vs) = IsVerdict plan v × AreVerdicts plan vs
+
+-- faults and places
+
+-- a fault that was found, as the row has it
+abbrev pub read_fault : Option (ℕ × FaultKind) → Option RowFault
+read_fault None = None
+read_fault (Some f) = Some (record { stream = f.0; kind = f.1 })
+
+abbrev pub place_of_task : Task → Place
+place_of_task t = record { stream = t.stream; index = t.index }
+
+abbrev pub places_of : List Task → List Place
+places_of ts = map place_of_task ts
+
+-- instances of streams with a spawn clause, each before the next, by stream and place
+abbrev pub IsBefore : Task → Task → Type 0
+IsBefore a b = (a.stream < b.stream) ⊎ ((a.stream ≡ b.stream) × (a.index < b.index))
+
+pub record IsClosable (s : Seen) (t : Task) : Type 0 where
+  pub spawns : IsTrue (spawns_in (slice_get s.layout.streams t.stream))
+  pub lives : t.index < length (instances_seen s t.stream)
+
+-- they can be closed from the last to the first
+pub record AreClosable (s : Seen) (ts : List Task) : Type 0 where
+  pub each : (i : ℕ) (t : Task) → slice_get ts i ≡ Some t → IsClosable s t
+  pub ordered : (i : ℕ) (t u : Task) → slice_get ts i ≡ Some t → slice_get ts (i + 1) ≡ Some u → IsBefore t u

@@ -1,0 +1,55 @@
+-- What steps note, from one to the next.
+use Rattle.std.specs.Prelude.{ℕ, ◌≡◌, ◌+◌, ◌<◌, ◌≤◌, ◌^◌, List, [], length, map, replicate}
+use Rattle.std.specs.Vec.{vec_capacity}
+use Rattle.lola_model.specs.Content.{content}
+use Rattle.lola_model.specs.Graph.{layer_of}
+use Rattle.lola_model.specs.Store.{Memories, Seen, SeenStream, Stands}
+use Rattle.lola_model.specs.Table.{Step, TableRow}
+use Rattle.lola_model.specs.declared.plan.Plan.{Plan}
+use Rattle.lola_value.specs.Naming.{Naming}
+use Rattle.lola_stages.specs.Stages.{full_row, layer_stage}
+use Rattle.lola_step.specs.Notes.{AreNoted}
+use Rattle.lola_step.specs.Progress.{IsRunAt}
+use Rattle.lola_step.specs.Rooms.{total}
+use Rattle.lola_step.specs.declared.mark.Mark.TheVariants as mark
+use Rattle.lola_step.specs.declared.moment.Moment.{Moment}
+use Rattle.lola_step.specs.declared.scratch.Scratch.{Scratch}
+use Rattle.lola_step.specs.declared.scratch.Span.{Span}
+
+-- notes of a plan: a mark and a span for each stream, and more layers than that of any node
+pub record IsScratchOf (plan : Plan) (n : Scratch) : Type 0 where
+  pub marks : length n.marks.items ≡ length plan.spec.streams
+  pub spans : length n.spans.items ≡ length plan.spec.streams
+  pub layers : (node : ℕ) → layer_of plan.layers node < n.layers
+  pub few_layers : n.layers ≤ 2 ^ 32
+
+-- as many instances as a step may have of these streams
+abbrev pub of_streams : List SeenStream → ℕ
+of_streams ss = total (map (λ x. length x.instances + 1) ss)
+
+-- of all streams
+abbrev pub instances_to_come : Seen → ℕ
+instances_to_come s = of_streams s.streams
+
+-- of no outcomes
+abbrev pub no_span : Span
+no_span = record { from = 0; count = 0 }
+
+-- nothing is noted, and there is room for what a step notes
+pub record IsFresh (n : Scratch) (room : ℕ) : Type 0 where
+  pub marks : n.marks.items ≡ replicate (length n.marks.items) mark.Fine
+  pub spans : n.spans.items ≡ replicate (length n.spans.items) no_span
+  pub results : n.results.items ≡ []
+  pub closing : n.closing.items ≡ []
+  pub verdicts : n.verdicts.items ≡ []
+  pub tasks_room : room ≤ vec_capacity n.tasks
+  pub results_room : room ≤ vec_capacity n.results
+  pub closing_room : room ≤ vec_capacity n.closing
+  pub verdicts_room : room ≤ vec_capacity n.verdicts
+
+-- in each run: where the store stood once the inputs were told, all is noted now and it stands for the whole row
+abbrev pub EvaluatesAll : Plan → Moment → Memories → Seen → Memories → Seen → Scratch → Type 0
+EvaluatesAll plan m remembers s remembers' s' n =
+    (names : Naming) (rows : List TableRow) (step : Step) → IsRunAt plan m (layer_stage (length plan.spec.streams) 0) remembers s names rows step
+    → AreNoted plan (full_row plan m.start rows step).streams names n.marks.items n.spans.items n.results.items
+    × Stands names remembers' s' (content m.start rows (full_row plan m.start rows step))

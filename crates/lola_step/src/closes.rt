@@ -1,0 +1,185 @@
+//! The close clauses of a step.
+
+ghost use Rattle.std.specs.Prelude.{◌≡◌, ◌+◌, ◌<◌, ◌≤◌, [], ◌++◌, IsTrue, Some, length, reverse, slice_get, vec_len};
+ghost use Rattle.std.specs.Vec.{vec_capacity};
+ghost use Rattle.lola_value.specs.declared.value.Params.{Params};
+ghost use Rattle.lola_value.specs.Kinds.{are_of_kinds};
+ghost use Rattle.lola_value.specs.Naming.{Naming, the_values};
+ghost use Rattle.lola_model.specs.Acceptance.{IsAccepted};
+ghost use Rattle.lola_model.specs.Content.{Content};
+ghost use Rattle.lola_model.specs.Model.{close_pacing, when_answer};
+ghost use Rattle.lola_model.specs.Store.{IsRunning, Stands, instances_seen, layout_of, parameters_of, spawns_in};
+ghost use Rattle.lola_ready.specs.Ready.{IsClauseAskable};
+ghost use Rattle.lola_stages.specs.Ends.{closed_each};
+ghost use Rattle.lola_step.specs.Clauses.{IsAnswer};
+ghost use Rattle.lola_step.specs.Closings.{AreUpTo, FindsAmong, FindsIn, closed_by};
+ghost use Rattle.lola_step.specs.Ends.{FindsClosings};
+ghost use Rattle.lola_step.specs.Found.{add_fault};
+ghost use Rattle.lola_step.specs.Notes.{AreClosable, places_of};
+ghost use Rattle.lola_step.specs.Progress.{IsMomentOf, IsOf};
+ghost use Rattle.lola_step.specs.Rooms.{rooms, total};
+ghost use Rattle.lola_step.specs.Tasks.{params_seen};
+
+use crate::clauses::close_outcome;
+use crate::ends::with_fault;
+use crate::moment::{Moment, is_active};
+use crate::tasks::Task;
+use lola_contents::calls::close;
+use lola_model::pacing::{ClausePacings, Pacing};
+use lola_model::plan::Plan;
+use lola_model::spec::{Clause, Stream};
+use lola_model::store::StreamStore;
+use lola_value::value::{FaultKind, Outcome, Value};
+
+/// The pacing of the close clause of stream `n`.
+fn close_pacing_at(pacings: &[ClausePacings], n: usize) -> &Option<Pacing>
+    requires { n < length pacings.now }
+    ensures { result.now ≡ close_pacing (slice_get pacings.now n) }
+{
+    &pacings[n].close
+}
+
+/// What the close condition of an instance comes to.
+fn close_condition<S: StreamStore>(
+    plan: &Plan,
+    clause: &Clause,
+    store: &S,
+    stream: u32,
+    index: u32,
+) -> Outcome
+    requires running { IsRunning (S.seen store.now) }
+    requires asks { (p : Params) → IsTrue (are_of_kinds (parameters_of (slice_get (S.seen store.now).layout.streams stream)) (the_values p))
+        → IsClauseAskable (S.seen store.now) p plan.now.spec.texts [] clause.now }
+    requires lives { index < length (instances_seen (S.seen store.now) stream) }
+    ensures { IsAnswer plan.now (S.remembers store.now) (S.seen store.now) (params_seen (S.seen store.now) stream index)
+        (λ c p. when_answer plan.now.spec c p clause.now.when) result }
+{
+    let params = store.params_of(stream, index);
+    close_outcome(plan, clause, &params, store)
+}
+
+/// Notes what the close condition of an instance comes to: the instance, where it is true, and the least kind of a fault so far.
+fn note_condition(
+    condition: Outcome,
+    task: Task,
+    least: Option<FaultKind>,
+    closing: &mut Vec<Task>,
+) -> Option<FaultKind>
+    requires room { vec_len closing.old < vec_capacity closing.old }
+    ensures least { result ≡ add_fault condition least }
+    ensures closing { closing.new.items ≡ closing.old.items ++ closed_by condition task }
+    ensures count { vec_len closing.new ≤ vec_len closing.old + 1 }
+    ensures capacity { vec_capacity closing.new ≡ vec_capacity closing.old }
+{
+    if let Outcome::Value(Value::Bool(true)) = condition {
+        closing.push_reserved(task);
+    }
+    with_fault(condition, least)
+}
+
+/// Lists the instances of a stream whose close condition is true, and answers the least kind of a fault among the conditions.
+fn find_among<S: StreamStore>(
+    plan: &Plan,
+    clause: &Clause,
+    store: &S,
+    stream: u32,
+    closing: &mut Vec<Task>,
+) -> Option<FaultKind>
+    requires running { IsRunning (S.seen store.now) }
+    requires layout { (S.seen store.now).layout ≡ layout_of plan.now }
+    requires asks { (p : Params) → IsTrue (are_of_kinds (parameters_of (slice_get (S.seen store.now).layout.streams stream)) (the_values p))
+        → IsClauseAskable (S.seen store.now) p plan.now.spec.texts [] clause.now }
+    requires stream { stream < length (S.seen store.now).layout.streams }
+    requires spawns { IsTrue (spawns_in (slice_get (S.seen store.now).layout.streams stream)) }
+    requires closable { AreUpTo (S.seen store.now) (record { stream = stream; index = 0 }) closing.old.items }
+    requires room { vec_len closing.old + length (instances_seen (S.seen store.now) stream) ≤ vec_capacity closing.old }
+    ensures closable { AreUpTo (S.seen store.now) (record { stream = stream + 1; index = 0 }) closing.new.items }
+    ensures finds { FindsAmong plan.now (S.remembers store.now) (S.seen store.now) clause.now stream result closing.old.items closing.new.items }
+    ensures count { vec_len closing.new ≤ vec_len closing.old + length (instances_seen (S.seen store.now) stream) }
+    ensures capacity { vec_capacity closing.new ≡ vec_capacity closing.old }
+{
+    let mut least = None;
+    for index in 0..store.instances(stream) {
+        let condition = close_condition(plan, clause, store, stream, index);
+        least = note_condition(condition, Task { stream, index }, least, closing);
+    }
+    least
+}
+
+/// The same of a stream, where its close clause is active; where it is not, nothing is listed and there is no fault.
+fn find_in_stream<S: StreamStore>(
+    plan: &Plan,
+    moment: &Moment,
+    stream: &Stream,
+    number: u32,
+    store: &S,
+    closing: &mut Vec<Task>,
+) -> Option<FaultKind>
+    requires accepted { IsAccepted plan.now }
+    requires of { IsOf plan.now (S.seen store.now) }
+    requires running { IsRunning (S.seen store.now) }
+    requires moment { IsMomentOf moment.now (S.seen store.now) }
+    requires there { slice_get plan.now.spec.streams number ≡ Some stream.now }
+    requires closable { AreUpTo (S.seen store.now) (record { stream = number; index = 0 }) closing.old.items }
+    requires room { vec_len closing.old + length (instances_seen (S.seen store.now) number) ≤ vec_capacity closing.old }
+    ensures closable { AreUpTo (S.seen store.now) (record { stream = number + 1; index = 0 }) closing.new.items }
+    ensures finds { FindsIn plan.now moment.now (S.remembers store.now) (S.seen store.now) number stream.now result closing.old.items closing.new.items }
+    ensures count { vec_len closing.new ≤ vec_len closing.old + length (instances_seen (S.seen store.now) number) }
+    ensures capacity { vec_capacity closing.new ≡ vec_capacity closing.old }
+{
+    let Some(clause) = &stream.close else {
+        return None;
+    };
+    if !is_active(
+        moment,
+        close_pacing_at(plan.pacings.as_slice(), number as usize),
+    ) {
+        return None;
+    }
+    find_among(plan, clause, store, number, closing)
+}
+
+/// Lists the instances whose close condition is true, by the streams' numbers and in the order of birth; or answers the first stream of
+/// which a condition has a fault, with the least kind.
+pub(crate) fn find_closings<S: StreamStore>(
+    plan: &Plan,
+    moment: &Moment,
+    store: &S,
+    closing: &mut Vec<Task>,
+) -> Option<(u32, FaultKind)>
+    requires accepted { IsAccepted plan.now }
+    requires of { IsOf plan.now (S.seen store.now) }
+    requires running { IsRunning (S.seen store.now) }
+    requires moment { IsMomentOf moment.now (S.seen store.now) }
+    requires none { closing.old.items ≡ [] }
+    requires room { total (rooms (S.seen store.now)) ≤ vec_capacity closing.old }
+    ensures closable { AreClosable (S.seen store.now) closing.new.items }
+    ensures finds { FindsClosings plan.now moment.now (S.remembers store.now) (S.seen store.now) result closing.new.items }
+    ensures capacity { vec_capacity closing.new ≡ vec_capacity closing.old }
+{
+    for (n, stream) in plan.spec.streams.as_slice().iter().enumerate() {
+        if let Some(kind) = find_in_stream(plan, moment, stream, n as u32, store, closing) {
+            return Some((n as u32, kind));
+        }
+    }
+    None
+}
+
+/// Takes these instances away, the last first, so that the others stay where they are.
+pub(crate) fn close_all<S: StreamStore>(plan: &Plan, store: &mut S, closing: &[Task])
+    requires of { IsOf plan.now (S.seen store.old) }
+    requires running { IsRunning (S.seen store.old) }
+    requires closable { AreClosable (S.seen store.old) closing.now }
+    ensures of { IsOf plan.now (S.seen store.new) }
+    ensures phase { (S.seen store.new).phase ≡ (S.seen store.old).phase }
+    ensures steps { (S.seen store.new).steps ≡ (S.seen store.old).steps }
+    ensures stands { (names : Naming) (c : Content) → Stands names (S.remembers store.old) (S.seen store.old) c
+        → Stands names (S.remembers store.new) (S.seen store.new) (closed_each c (reverse (places_of closing.now))) }
+{
+    let mut left = closing.len();
+    while left > 0 {
+        left -= 1;
+        let task = closing[left];
+        close(store, task.stream, task.index);
+    }
+}

@@ -1,0 +1,191 @@
+//! What a step comes to once its streams are evaluated: its fault, or its values.
+
+ghost use Rattle.std.specs.Prelude.{◌≡◌, ◌+◌, ◌<◌, ◌≤◌, [], ◌++◌, if◌then◌else◌, length, vec_len, Some};
+ghost use Rattle.std.specs.Vec.{vec_capacity};
+ghost use Rattle.lola_model.specs.Acceptance.{IsAccepted};
+ghost use Rattle.lola_model.specs.Faults.{lesser_kind};
+ghost use Rattle.lola_model.specs.Model.{is_input as is_input_of, most_instances};
+ghost use Rattle.lola_model.specs.Store.{IsRunning, instances_seen};
+ghost use Rattle.lola_step.specs.Ends.{CollectsVerdicts, FindsFault};
+ghost use Rattle.lola_step.specs.Found.{FitLayout, add_fault, add_verdict, fault_of, least_among, verdicts_among};
+ghost use Rattle.lola_step.specs.Notes.{AreSpans, AreVerdicts, in_span};
+ghost use Rattle.lola_step.specs.Progress.{IsOf};
+ghost use Rattle.lola_step.specs.Rooms.{rooms, total};
+ghost use Rattle.lola_step.specs.Tasks.{params_seen};
+
+use crate::inputs::is_input;
+use crate::mark::Mark;
+use crate::scratch::Span;
+use crate::verdict::Verdict;
+use lola_model::plan::Plan;
+use lola_model::spec::Stream;
+use lola_model::store::StreamStore;
+use lola_value::value::{FaultKind, Outcome};
+
+/// The lesser of two kinds, by their numbers.
+fn lesser(kind: FaultKind, other: Option<FaultKind>) -> FaultKind
+    ensures { lesser_kind kind other ≡ Some result }
+{
+    match other {
+        Some(other) if (other as u8) < kind as u8 => other,
+        _ => kind,
+    }
+}
+
+/// The least kind so far, and that of an outcome, if it is a fault.
+pub(crate) fn with_fault(outcome: Outcome, least: Option<FaultKind>) -> Option<FaultKind>
+    ensures { result ≡ add_fault outcome least }
+{
+    match outcome {
+        Outcome::Fault(kind) => Some(lesser(kind, least)),
+        _ => least,
+    }
+}
+
+/// The least kind of a fault among outcomes.
+fn least_fault(results: &[Outcome]) -> Option<FaultKind>
+    ensures { result ≡ least_among results.now }
+{
+    let mut least = None;
+    for outcome in results {
+        least = with_fault(*outcome, least);
+    }
+    least
+}
+
+/// The fault of a stream: that of its spawn clause, or else the least of its instances'.
+fn stream_fault(mark: Mark, results: &[Outcome]) -> Option<FaultKind>
+    ensures { result ≡ fault_of mark results.now }
+{
+    match mark {
+        Mark::Failed(kind) => Some(kind),
+        _ => least_fault(results),
+    }
+}
+
+/// The outcomes of a span.
+fn outcomes_of(results: &[Outcome], span: Span) -> &[Outcome]
+    requires { span.from + span.count ≤ length results.now }
+    ensures value { result.now ≡ in_span results.now (Some span) }
+    ensures count { length result.now ≡ span.count }
+{
+    &results[span.from..span.from + span.count]
+}
+
+/// The first stream of which a spawn clause or an instance has a fault, with the fault's kind.
+pub(crate) fn first_fault<S: StreamStore>(
+    plan: &Plan,
+    store: &S,
+    marks: &[Mark],
+    spans: &[Span],
+    results: &[Outcome],
+) -> Option<(u32, FaultKind)>
+    requires accepted { IsAccepted plan.now }
+    requires marks { length marks.now ≡ length plan.now.spec.streams }
+    requires spans { length spans.now ≡ length plan.now.spec.streams }
+    requires within { AreSpans (S.seen store.now) results.now spans.now }
+    ensures { FindsFault plan.now marks.now spans.now results.now result }
+{
+    for (n, mark) in marks.iter().enumerate() {
+        if let Some(kind) = stream_fault(*mark, outcomes_of(results, spans[n])) {
+            return Some((n as u32, kind));
+        }
+    }
+    None
+}
+
+/// The value of an instance, if it has one.
+fn add_value<S: StreamStore>(
+    store: &S,
+    stream: u32,
+    index: u32,
+    outcome: Outcome,
+    verdicts: &mut Vec<Verdict>,
+)
+    requires lives { index < length (instances_seen (S.seen store.now) stream) }
+    requires room { vec_len verdicts.old < vec_capacity verdicts.old }
+    ensures items { verdicts.new.items ≡ verdicts.old.items ++ add_verdict stream (params_seen (S.seen store.now) stream index) outcome [] }
+    ensures fit { FitLayout (S.seen store.now).layout verdicts.old.items → FitLayout (S.seen store.now).layout verdicts.new.items }
+    ensures count { vec_len verdicts.new ≤ vec_len verdicts.old + 1 }
+    ensures capacity { vec_capacity verdicts.new ≡ vec_capacity verdicts.old }
+{
+    if let Outcome::Value(value) = outcome {
+        verdicts.push_reserved(Verdict {
+            stream,
+            params: store.params_of(stream, index),
+            value,
+        });
+    }
+}
+
+/// The values of a stream's instances, of which these are the outcomes.
+fn add_values<S: StreamStore>(
+    store: &S,
+    stream: u32,
+    results: &[Outcome],
+    verdicts: &mut Vec<Verdict>,
+)
+    requires few { length results.now ≤ length (instances_seen (S.seen store.now) stream) }
+    requires numbered { length results.now ≤ most_instances }
+    requires room { vec_len verdicts.old + length results.now ≤ vec_capacity verdicts.old }
+    ensures items { verdicts.new.items ≡ verdicts.old.items ++ verdicts_among stream (instances_seen (S.seen store.now) stream) results.now }
+    ensures fit { FitLayout (S.seen store.now).layout verdicts.old.items → FitLayout (S.seen store.now).layout verdicts.new.items }
+    ensures count { vec_len verdicts.new ≤ vec_len verdicts.old + length results.now }
+    ensures capacity { vec_capacity verdicts.new ≡ vec_capacity verdicts.old }
+{
+    for (index, outcome) in results.iter().enumerate() {
+        add_value(store, stream, index as u32, *outcome, verdicts);
+    }
+}
+
+/// The values of a stream, if it is no input.
+fn add_outputs<S: StreamStore>(
+    store: &S,
+    stream: &Stream,
+    number: u32,
+    results: &[Outcome],
+    verdicts: &mut Vec<Verdict>,
+)
+    requires few { length results.now ≤ length (instances_seen (S.seen store.now) number) }
+    requires numbered { length results.now ≤ most_instances }
+    requires room { vec_len verdicts.old + length results.now ≤ vec_capacity verdicts.old }
+    ensures items { verdicts.new.items ≡ verdicts.old.items
+        ++ (if is_input_of stream.now then [] else verdicts_among number (instances_seen (S.seen store.now) number) results.now) }
+    ensures fit { FitLayout (S.seen store.now).layout verdicts.old.items → FitLayout (S.seen store.now).layout verdicts.new.items }
+    ensures count { vec_len verdicts.new ≤ vec_len verdicts.old + length results.now }
+    ensures capacity { vec_capacity verdicts.new ≡ vec_capacity verdicts.old }
+{
+    if !is_input(stream) {
+        add_values(store, number, results, verdicts);
+    }
+}
+
+/// The values of all streams but inputs, by the streams' numbers and in the order of birth.
+pub(crate) fn collect<S: StreamStore>(
+    plan: &Plan,
+    store: &S,
+    spans: &[Span],
+    results: &[Outcome],
+    verdicts: &mut Vec<Verdict>,
+)
+    requires accepted { IsAccepted plan.now }
+    requires of { IsOf plan.now (S.seen store.now) }
+    requires running { IsRunning (S.seen store.now) }
+    requires spans { length spans.now ≡ length plan.now.spec.streams }
+    requires within { AreSpans (S.seen store.now) results.now spans.now }
+    requires none { verdicts.old.items ≡ [] }
+    requires room { total (rooms (S.seen store.now)) ≤ vec_capacity verdicts.old }
+    ensures verdicts { AreVerdicts plan.now verdicts.new.items }
+    ensures values { CollectsVerdicts plan.now spans.now results.now (S.remembers store.now) (S.seen store.now) verdicts.new.items }
+    ensures capacity { vec_capacity verdicts.new ≡ vec_capacity verdicts.old }
+{
+    for (n, stream) in plan.spec.streams.as_slice().iter().enumerate() {
+        add_outputs(
+            store,
+            stream,
+            n as u32,
+            outcomes_of(results, spans[n]),
+            verdicts,
+        );
+    }
+}

@@ -1,0 +1,247 @@
+//! The instances of a layer.
+
+ghost use Rattle.std.specs.Prelude.{◌≡◌, ◌+◌, ◌<◌, ◌≤◌, ◌^◌, ◌++◌, [], drop, if◌then◌else◌, length, replicate, slice_get, slice_set, take, vec_len, Some};
+ghost use Rattle.std.specs.Vec.{vec_capacity};
+ghost use Rattle.lola_value.specs.Naming.{Naming, IsHeldIn, read_outcome};
+ghost use Rattle.lola_value.specs.Times.{latest};
+ghost use Rattle.lola_value.specs.declared.value.Outcome.TheVariants as outcome;
+ghost use Rattle.lola_model.specs.Acceptance.{IsAccepted};
+ghost use Rattle.lola_model.specs.Content.{Content, seen};
+ghost use Rattle.lola_model.specs.Model.{eval_pacing};
+ghost use Rattle.lola_model.specs.Store.{IsRunning, Stands, instances_seen, layout_of};
+ghost use Rattle.lola_contents.specs.Changed.{told};
+ghost use Rattle.lola_stages.specs.Stages.{eval_stage, layer_stage};
+ghost use Rattle.lola_step.specs.Evals.{EvalsTake, HasRooms, IsReadyFor, ShowsMore};
+ghost use Rattle.lola_step.specs.Given.{AreHeldIn, AreResults, CanGive, CanGiveAll, after_all, after_giving, stream_tasks, told_outcomes};
+ghost use Rattle.lola_step.specs.Notes.{is_fine as is_fine_mark, layer_spans, layer_tasks, runs_in, tasks_from};
+ghost use Rattle.lola_step.specs.Progress.{GoesOn, IsAt, IsMomentOf, IsOf};
+ghost use Rattle.lola_step.specs.Tasks.{AreTasks};
+
+use crate::inputs::is_input;
+use crate::mark::Mark;
+use crate::moment::{Moment, is_active};
+use crate::scratch::Span;
+use crate::spawns::layer_at;
+use crate::tasks::{Task, run_tasks};
+use lola_contents::calls::{poison, push};
+use lola_model::pacing::{ClausePacings, Pacing};
+use lola_model::plan::Plan;
+use lola_model::spec::Stream;
+use lola_model::store::StreamStore;
+use lola_port::Gate;
+use lola_value::value::Outcome;
+use std::thread::Threads;
+
+/// The pacing of the eval clause of stream `n`.
+fn eval_pacing_at(pacings: &[ClausePacings], n: usize) -> &Option<Pacing>
+    requires { n < length pacings.now }
+    ensures { result.now ≡ eval_pacing (slice_get pacings.now n) }
+{
+    &pacings[n].eval
+}
+
+/// Whether a spawn clause did not fail.
+fn is_fine(mark: Mark) -> bool
+    ensures { result ≡ is_fine_mark (Some mark) }
+{
+    match mark {
+        Mark::Fine => true,
+        _ => false,
+    }
+}
+
+/// Whether a stream runs in a layer: it is no input, its instances belong to the layer, its clause is active and its spawn clause did
+/// not fail.
+fn runs(plan: &Plan, moment: &Moment, marks: &[Mark], layer: u32, n: usize, stream: &Stream) -> bool
+    requires few { n ≤ 1024 }
+    requires pacings { n < length plan.now.pacings }
+    requires marks { n < length marks.now }
+    requires in_time { moment.now.time ≤ latest }
+    requires order { moment.now.start ≤ moment.now.time }
+    ensures { result ≡ runs_in plan.now moment.now marks.now layer n stream.now }
+{
+    if is_input(stream) || layer_at(plan.layers.as_slice(), 2 * n) != layer {
+        return false;
+    }
+    is_active(moment, eval_pacing_at(plan.pacings.as_slice(), n)) && is_fine(marks[n])
+}
+
+/// So many tasks of a stream, each with a place for its outcome.
+fn add_tasks(stream: u32, count: u32, tasks: &mut Vec<Task>, results: &mut Vec<Outcome>)
+    requires tasks_room { vec_len tasks.old + count ≤ vec_capacity tasks.old }
+    requires results_room { vec_len results.old + count ≤ vec_capacity results.old }
+    ensures tasks { tasks.new.items ≡ tasks.old.items ++ tasks_from stream 0 count }
+    ensures results { results.new.items ≡ results.old.items ++ replicate count outcome.Missing }
+    ensures capacities { (vec_capacity tasks.new ≡ vec_capacity tasks.old) × (vec_capacity results.new ≡ vec_capacity results.old) }
+{
+    for index in 0..count {
+        tasks.push_reserved(Task { stream, index });
+        results.push_reserved(Outcome::Missing);
+    }
+}
+
+/// Lists the tasks of stream `n` in a layer, if it runs there, one for each instance in order of birth, and notes where their
+/// outcomes will stand.
+fn gather_stream<S: StreamStore>(
+    plan: &Plan,
+    moment: &Moment,
+    store: &S,
+    layer: u32,
+    marks: &[Mark],
+    n: usize,
+    stream: &Stream,
+    tasks: &mut Vec<Task>,
+    results: &mut Vec<Outcome>,
+    spans: &mut [Span],
+)
+    requires few { n ≤ 1024 }
+    requires pacings { n < length plan.now.pacings }
+    requires marks { n < length marks.now }
+    requires in_time { moment.now.time ≤ latest }
+    requires order { moment.now.start ≤ moment.now.time }
+    requires spans { n < length spans.old }
+    requires store { n < length (S.seen store.now).layout.streams }
+    requires tasks_room { vec_len tasks.old + length (stream_tasks plan.now moment.now marks.now (S.seen store.now) layer n stream.now) ≤ vec_capacity tasks.old }
+    requires results_room { vec_len results.old + length (stream_tasks plan.now moment.now marks.now (S.seen store.now) layer n stream.now) ≤ vec_capacity results.old }
+    ensures tasks { tasks.new.items ≡ tasks.old.items ++ stream_tasks plan.now moment.now marks.now (S.seen store.now) layer n stream.now }
+    ensures results { results.new.items ≡ results.old.items ++ replicate (length (stream_tasks plan.now moment.now marks.now (S.seen store.now) layer n stream.now)) outcome.Missing }
+    ensures spans { spans.new ≡ (if runs_in plan.now moment.now marks.now layer n stream.now
+        then slice_set spans.old n (record { from = vec_len results.old; count = length (instances_seen (S.seen store.now) n) }) else spans.old) }
+    ensures capacities { (vec_capacity tasks.new ≡ vec_capacity tasks.old) × (vec_capacity results.new ≡ vec_capacity results.old) }
+{
+    if runs(plan, moment, marks, layer, n, stream) {
+        let count = store.instances(n as u32);
+        spans[n] = Span {
+            from: results.len(),
+            count: count as usize,
+        };
+        add_tasks(n as u32, count, tasks, results);
+    }
+}
+
+/// Lists the tasks of a layer: for each stream that runs in it, by the streams' numbers, one for each instance in order of birth. Each
+/// gets a place for its outcome.
+fn gather<S: StreamStore>(
+    plan: &Plan,
+    moment: &Moment,
+    store: &S,
+    layer: u32,
+    marks: &[Mark],
+    tasks: &mut Vec<Task>,
+    results: &mut Vec<Outcome>,
+    spans: &mut [Span],
+)
+    requires accepted { IsAccepted plan.now }
+    requires of { IsOf plan.now (S.seen store.now) }
+    requires moment { IsMomentOf moment.now (S.seen store.now) }
+    requires marks { length marks.now ≡ length plan.now.spec.streams }
+    requires spans { length spans.old ≡ length plan.now.spec.streams }
+    requires rooms { HasRooms plan.now (eval_stage (length plan.now.spec.streams) layer) (S.seen store.now) tasks.old results.old }
+    requires none { tasks.old.items ≡ [] }
+    ensures tasks { tasks.new.items ≡ layer_tasks plan.now moment.now marks.now (S.seen store.now) layer 0 plan.now.spec.streams }
+    ensures results { results.new.items ≡ results.old.items ++ replicate (length tasks.new.items) outcome.Missing }
+    ensures spans { spans.new ≡ layer_spans plan.now moment.now marks.now (S.seen store.now) layer (length results.old.items) 0 plan.now.spec.streams spans.old }
+    ensures capacities { (vec_capacity tasks.new ≡ vec_capacity tasks.old) × (vec_capacity results.new ≡ vec_capacity results.old) }
+{
+    for (n, stream) in plan.spec.streams.as_slice().iter().enumerate() {
+        gather_stream(
+            plan, moment, store, layer, marks, n, stream, tasks, results, spans,
+        );
+    }
+}
+
+/// Evaluates each task, split among so many threads, and leaves its outcome behind the first `from` results.
+fn answer_tasks<R: Threads + Sync, S: StreamStore + Sync, G: Gate + Sync>(
+    rt: &R,
+    gate: &G,
+    plan: &Plan,
+    store: &S,
+    tasks: &[Task],
+    results: &mut [Outcome],
+    from: usize,
+    workers: u32,
+)
+    requires workers { (1 ≤ workers) × (workers ≤ 64) }
+    requires places { length results.old ≡ from + length tasks.now }
+    requires numbered { length tasks.now < 2 ^ 32 }
+    requires running { IsRunning (S.seen store.now) }
+    requires layout { (S.seen store.now).layout ≡ layout_of plan.now }
+    requires ready { AreTasks plan.now (S.seen store.now) tasks.now }
+    ensures before { take from results.new ≡ take from results.old }
+    ensures results { AreResults plan.now (S.remembers store.now) (S.seen store.now) tasks.now (drop from results.new) }
+{
+    let (_, places) = results.split_at_mut(from);
+    run_tasks(rt, gate, plan, store, tasks, places, workers);
+}
+
+/// Gives an instance its outcome: others see a fault as poison.
+fn give<S: StreamStore>(store: &mut S, task: Task, outcome: Outcome)
+    requires { CanGive (S.seen store.old) task outcome }
+    ensures seen { S.seen store.new ≡ after_giving (S.seen store.old) task outcome }
+    ensures stands { (names : Naming) (c : Content) → IsHeldIn names outcome → Stands names (S.remembers store.old) (S.seen store.old) c
+        → Stands names (S.remembers store.new) (S.seen store.new) (told c task.stream task.index (seen (read_outcome names outcome))) }
+{
+    match outcome {
+        Outcome::Value(value) => push(store, task.stream, task.index, value),
+        Outcome::Missing => {}
+        _ => poison(store, task.stream, task.index),
+    }
+}
+
+/// Gives each task's instance its outcome.
+fn give_all<S: StreamStore>(store: &mut S, tasks: &[Task], results: &[Outcome])
+    requires places { length tasks.now ≡ length results.now }
+    requires can { CanGiveAll (S.seen store.old) tasks.now results.now }
+    ensures seen { S.seen store.new ≡ after_all (S.seen store.old) tasks.now results.now }
+    ensures stands { (names : Naming) (c : Content) → AreHeldIn names results.now → Stands names (S.remembers store.old) (S.seen store.old) c
+        → Stands names (S.remembers store.new) (S.seen store.new) (told_outcomes names c tasks.now results.now) }
+{
+    for (i, task) in tasks.iter().enumerate() {
+        give(store, *task, results[i]);
+    }
+}
+
+/// Evaluates the instances of a layer, split among so many threads, and then gives each its outcome. The outcomes are kept in `results`,
+/// those of a stream where its span says.
+pub(crate) fn eval_layer<R: Threads + Sync, S: StreamStore + Sync, G: Gate + Sync>(
+    rt: &R,
+    gate: &G,
+    plan: &Plan,
+    moment: &Moment,
+    store: &mut S,
+    layer: u32,
+    marks: &[Mark],
+    tasks: &mut Vec<Task>,
+    results: &mut Vec<Outcome>,
+    spans: &mut [Span],
+    workers: u32,
+)
+    requires workers { (1 ≤ workers) × (workers ≤ 64) }
+    requires accepted { IsAccepted plan.now }
+    requires at { IsAt plan.now (eval_stage (length plan.now.spec.streams) layer) (S.seen store.old) }
+    requires moment { IsMomentOf moment.now (S.seen store.old) }
+    requires marks { length marks.now ≡ length plan.now.spec.streams }
+    requires rooms { HasRooms plan.now (eval_stage (length plan.now.spec.streams) layer) (S.seen store.old) tasks.old results.old }
+    requires spans { IsReadyFor plan.now (eval_stage (length plan.now.spec.streams) layer) (S.seen store.old) results.old.items spans.old }
+    ensures at { IsAt plan.now (layer_stage (length plan.now.spec.streams) (layer + 1)) (S.seen store.new) }
+    ensures goes_on { GoesOn (S.seen store.old) (S.seen store.new) }
+    ensures rooms { HasRooms plan.now (layer_stage (length plan.now.spec.streams) (layer + 1)) (S.seen store.new) tasks.new results.new }
+    ensures spans { IsReadyFor plan.now (layer_stage (length plan.now.spec.streams) (layer + 1)) (S.seen store.new) results.new.items spans.new }
+    ensures takes { EvalsTake plan.now moment.now layer marks.now (S.remembers store.old) (S.seen store.old) (S.remembers store.new) (S.seen store.new) }
+    ensures shows { ShowsMore plan.now moment.now layer marks.now (S.remembers store.old) (S.seen store.old) spans.old results.old.items spans.new results.new.items }
+{
+    let from = results.len();
+    tasks.clear();
+    gather(plan, moment, store, layer, marks, tasks, results, spans);
+    answer_tasks(
+        rt,
+        gate,
+        plan,
+        store,
+        tasks.as_slice(),
+        results.as_mut_slice(),
+        from,
+        workers,
+    );
+    give_all(store, tasks.as_slice(), &results[from..]);
+}

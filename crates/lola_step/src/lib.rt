@@ -1,0 +1,16 @@
+//! One step of a run.
+#![tactic(auto)]
+
+pub mod clauses;
+mod closes;
+pub mod end;
+mod ends;
+mod evals;
+mod inputs;
+pub mod mark;
+pub mod moment;
+pub mod scratch;
+mod spawns;
+pub mod step;
+pub mod tasks;
+pub mod verdict;

@@ -1,0 +1,82 @@
+//! When clauses are active.
+
+ghost use Rattle.std.specs.Prelude.{◌≡◌, ◌≤◌, ◌<◌, ◌^◌, length};
+ghost use Rattle.lola_value.specs.Times.{latest};
+ghost use Rattle.lola_model.specs.Activity.{is_deadline as is_deadline_of, satisfies_some as satisfies_some_of};
+ghost use Rattle.lola_step.specs.Moments.{active_in, present_in};
+
+use lola_model::pacing::{InputSet, Pacing};
+use lola_value::rate::Rate;
+use lola_value::value::Outcome;
+
+/// The moment of a step: where time counts from and its time, in nanoseconds, and at a row's step the set of the inputs that
+/// have a value, input `i` as bit `i`. At a deadline's step there is no such set.
+#[derive(Clone, Copy, Debug)]
+pub struct Moment {
+    pub start: u64,
+    pub time: u64,
+    pub present: Option<u64>,
+}
+
+/// The set of the inputs that have a value.
+pub(crate) fn present_inputs(inputs: &[Outcome]) -> u64
+    requires { length inputs.now ≤ 64 }
+    ensures value { result ≡ present_in inputs.now }
+    ensures small { result < 2 ^ length inputs.now }
+{
+    match inputs.split_first() {
+        Some((first, others)) => {
+            let bit = match first {
+                Outcome::Value(_) => 1,
+                _ => 0,
+            };
+            bit + 2 * present_inputs(others)
+        }
+        None => 0,
+    }
+}
+
+/// Whether some of these sets has present inputs alone.
+fn satisfies_some(sets: &[InputSet], present: u64) -> bool
+    ensures { result ≡ satisfies_some_of present sets.now }
+{
+    for set in sets {
+        if set.0 & present == set.0 {
+            return true;
+        }
+    }
+    false
+}
+
+/// Whether a moment, so long after where the rate counts from, is one of its deadlines.
+fn is_deadline(rate: &Rate, after: u64) -> bool
+    requires { after ≤ latest }
+    ensures { result ≡ is_deadline_of rate.now after }
+{
+    if after == 0 {
+        return false;
+    }
+    match rate.next_after(after - 1) {
+        Some((_, deadline)) => deadline == after,
+        None => false,
+    }
+}
+
+/// Whether a pacing is active: one by inputs at rows that have all of one of its sets, a rate at its deadlines.
+pub(crate) fn is_active(moment: &Moment, pacing: &Option<Pacing>) -> bool
+    requires in_time { moment.now.time ≤ latest }
+    requires order { moment.now.start ≤ moment.now.time }
+    ensures { result ≡ active_in moment.now pacing.now }
+{
+    match pacing {
+        None => false,
+        Some(Pacing::Event(sets)) => match moment.present {
+            Some(present) => satisfies_some(sets.as_slice(), present),
+            None => false,
+        },
+        Some(Pacing::Periodic(rate)) => match moment.present {
+            Some(_) => false,
+            None => is_deadline(rate, moment.time - moment.start),
+        },
+    }
+}

@@ -1,0 +1,142 @@
+//! What steps note, kept from one to the next so that a step takes no memory where there is room.
+
+ghost use Rattle.std.specs.Prelude.{◌≡◌, ◌<◌, ◌≤◌, ◌^◌, ℕ, [], length, replicate, OnOk, IfOk};
+ghost use Rattle.std.specs.Vec.{vec_capacity};
+ghost use Rattle.lola_model.specs.Acceptance.{IsAccepted};
+ghost use Rattle.lola_model.specs.Graph.{layer_of};
+ghost use Rattle.lola_step.specs.Progress.{IsOf};
+ghost use Rattle.lola_step.specs.Scratches.{IsFresh, IsScratchOf, instances_to_come, no_span};
+ghost use Rattle.lola_step.specs.declared.mark.Mark.TheVariants as mark;
+
+use crate::mark::Mark;
+use crate::tasks::Task;
+use crate::verdict::Verdict;
+use lola_model::plan::Plan;
+use lola_model::store::StreamStore;
+use lola_value::text::Memory;
+use lola_value::value::Outcome;
+use std::alloc::Global;
+
+/// Where the outcomes of a stream's instances stand among the results.
+#[derive(Clone, Copy, Debug)]
+pub struct Span {
+    pub from: usize,
+    pub count: usize,
+}
+
+/// What steps of a plan note: what spawn clauses did, the outcomes of instances, which instances are closed, and the values.
+#[derive(Drop)]
+pub struct Scratch {
+    pub(crate) marks: Vec<Mark>,
+    pub(crate) spans: Vec<Span>,
+    pub(crate) tasks: Vec<Task>,
+    pub(crate) results: Vec<Outcome>,
+    pub(crate) closing: Vec<Task>,
+    pub(crate) verdicts: Vec<Verdict>,
+    pub(crate) layers: u64,
+}
+
+/// How many layers there are, at least one.
+fn layer_count(layers: &[u32]) -> u64
+    ensures above { (node : ℕ) → layer_of layers.now node < result }
+    ensures few { result ≤ 2 ^ 32 }
+{
+    let mut count = 1;
+    for layer in layers {
+        if u64::from(*layer) >= count {
+            count = u64::from(*layer) + 1;
+        }
+    }
+    count
+}
+
+/// How many instances a step may have: those that live, and one more of each stream.
+fn instances_in_step<S: StreamStore>(plan: &Plan, store: &S) -> usize
+    requires accepted { IsAccepted plan.now }
+    requires of { IsOf plan.now (S.seen store.now) }
+    ensures { result ≡ instances_to_come (S.seen store.now) }
+{
+    let mut count = 0;
+    for n in 0..plan.spec.streams.as_slice().len() {
+        count += store.instances(n as u32) as usize + 1;
+    }
+    count
+}
+
+impl Scratch {
+    /// Nothing noted yet, for a plan.
+    pub fn create(alloc: Global, plan: &Plan) -> Result<Scratch, Memory>
+        requires { IsAccepted plan.now }
+        ensures { IfOk result (IsScratchOf plan.now) }
+    {
+        let count = plan.spec.streams.as_slice().len();
+        let marks = vec![in alloc; Mark::Fine; count]?;
+        let spans = vec![in alloc; Span { from: 0, count: 0 }; count]?;
+        Ok(Scratch {
+            marks,
+            spans,
+            tasks: Vec::new(alloc),
+            results: Vec::new(alloc),
+            closing: Vec::new(alloc),
+            verdicts: Vec::new(alloc),
+            layers: layer_count(plan.layers.as_slice()),
+        })
+    }
+
+    /// The values of the last step that was done, of all streams but inputs, by the streams' numbers and in the order of birth.
+    pub fn verdicts(&self) -> &[Verdict]
+        ensures { result.now ≡ self.now.verdicts.items }
+    {
+        self.verdicts.as_slice()
+    }
+}
+
+/// Notes nothing, and makes room for all that a step may note.
+pub(crate) fn make_room<S: StreamStore>(
+    plan: &Plan,
+    store: &S,
+    scratch: &mut Scratch,
+) -> Result<(), Memory>
+    requires accepted { IsAccepted plan.now }
+    requires of { IsOf plan.now (S.seen store.now) }
+    requires made { IsScratchOf plan.now scratch.old }
+    ensures made { IsScratchOf plan.now scratch.new }
+    ensures fresh { OnOk result (IsFresh scratch.new (instances_to_come (S.seen store.now))) }
+{
+    let room = instances_in_step(plan, store);
+    forget_marks(&mut scratch.marks);
+    forget_spans(&mut scratch.spans);
+    clear_for(&mut scratch.tasks, room)?;
+    clear_for(&mut scratch.results, room)?;
+    clear_for(&mut scratch.closing, room)?;
+    clear_for(&mut scratch.verdicts, room)?;
+    Ok(())
+}
+
+/// An empty list with room.
+fn clear_for<T: Drop>(list: &mut Vec<T>, room: usize) -> Result<(), Memory>
+    ensures items { list.new.items ≡ [] }
+    ensures room { OnOk result (room ≤ vec_capacity list.new) }
+{
+    list.clear();
+    match list.reserve(room) {
+        Ok(()) => Ok(()),
+        Err(_) => Err(Memory),
+    }
+}
+
+fn forget_marks(marks: &mut [Mark])
+    ensures { marks.new ≡ replicate (length marks.old) mark.Fine }
+{
+    for mark in marks.iter_mut() {
+        *mark = Mark::Fine;
+    }
+}
+
+fn forget_spans(spans: &mut [Span])
+    ensures { spans.new ≡ replicate (length spans.old) no_span }
+{
+    for span in spans.iter_mut() {
+        *span = Span { from: 0, count: 0 };
+    }
+}

@@ -1,0 +1,137 @@
+//! The spawn clauses of a layer.
+
+ghost use Rattle.std.specs.Prelude.{◌≡◌, ◌<◌, List, length, slice_get, Some};
+ghost use Rattle.lola_value.specs.Naming.{Naming};
+ghost use Rattle.lola_model.specs.Acceptance.{IsAccepted};
+ghost use Rattle.lola_model.specs.Graph.{layer_of};
+ghost use Rattle.lola_model.specs.Model.{spawn_pacing};
+ghost use Rattle.lola_model.specs.Table.{Step, TableRow};
+ghost use Rattle.lola_stages.specs.Stages.{eval_stage, full_row, layer_stage, spawn_stage};
+ghost use Rattle.lola_step.specs.Notes.{AreMarks};
+ghost use Rattle.lola_step.specs.Progress.{GoesOn, IsAt, IsMomentOf, IsRunAt, TakesTo};
+ghost use Rattle.lola_step.specs.Spawns.{IsAfterClause, IsFor, IsNextSpawn, IsTaken, MaySpawn};
+ghost use Rattle.lola_step.specs.declared.clauses.Spawning.TheVariants as spawning;
+
+use crate::clauses::{Spawning, spawning_of};
+use crate::mark::Mark;
+use crate::moment::{Moment, is_active};
+use lola_contents::calls::{poison_stream, spawn};
+use lola_model::pacing::{ClausePacings, Pacing};
+use lola_model::plan::Plan;
+use lola_model::spec::Stream;
+use lola_model::store::{SpawnEnd, StreamStore};
+use lola_value::value::{FaultKind, Params};
+
+/// The layer of a node; 0 past the end of the list.
+pub(crate) fn layer_at(layers: &[u32], node: usize) -> u32
+    ensures { result ≡ layer_of layers.now node }
+{
+    match layers.get(node) {
+        Some(layer) => *layer,
+        None => 0,
+    }
+}
+
+/// The pacing of the spawn clause of stream `n`.
+fn spawn_pacing_at(pacings: &[ClausePacings], n: usize) -> &Option<Pacing>
+    requires { n < length pacings.now }
+    ensures { result.now ≡ spawn_pacing (slice_get pacings.now n) }
+{
+    &pacings[n].spawn
+}
+
+/// Spawns the instance that a spawn clause asks for. Where there is no room for it, the stream is poisoned.
+fn take_named<S: StreamStore>(store: &mut S, stream: u32, params: Params) -> Mark
+    requires may { MaySpawn (S.seen store.old) stream }
+    requires fits { IsFor (S.seen store.old) stream (spawning.Named params) }
+    ensures seen { IsAfterClause (S.seen store.old) stream (S.seen store.new) }
+    ensures taken { IsTaken (spawning.Named params) stream result (S.remembers store.old) (S.seen store.old) (S.remembers store.new) (S.seen store.new) }
+{
+    match spawn(store, stream, params) {
+        SpawnEnd::Born => Mark::Fine,
+        SpawnEnd::Living => Mark::Fine,
+        SpawnEnd::TooMany => {
+            poison_stream(store, stream);
+            Mark::Failed(FaultKind::TooManyInstances)
+        }
+    }
+}
+
+/// What becomes of what a spawn clause asks for.
+fn take<S: StreamStore>(store: &mut S, stream: u32, asked: Spawning) -> Mark
+    requires may { MaySpawn (S.seen store.old) stream }
+    requires fits { IsFor (S.seen store.old) stream asked }
+    ensures seen { IsAfterClause (S.seen store.old) stream (S.seen store.new) }
+    ensures taken { IsTaken asked stream result (S.remembers store.old) (S.seen store.old) (S.remembers store.new) (S.seen store.new) }
+{
+    match asked {
+        Spawning::Idle => Mark::Fine,
+        Spawning::Named(params) => take_named(store, stream, params),
+        Spawning::Fault(kind) => {
+            poison_stream(store, stream);
+            Mark::Failed(kind)
+        }
+        Spawning::Poison => {
+            poison_stream(store, stream);
+            Mark::Poisoned
+        }
+    }
+}
+
+/// Runs the spawn clause of stream `n` where it is of this layer and active; what it did is the stream's mark then.
+fn spawn_stream<S: StreamStore>(
+    plan: &Plan,
+    moment: &Moment,
+    store: &mut S,
+    layer: u32,
+    n: usize,
+    stream: &Stream,
+    mark: Mark,
+) -> Mark
+    requires accepted { IsAccepted plan.now }
+    requires at { IsAt plan.now (spawn_stage (length plan.now.spec.streams) layer n) (S.seen store.old) }
+    requires moment { IsMomentOf moment.now (S.seen store.old) }
+    requires stream { slice_get plan.now.spec.streams n ≡ Some stream.now }
+    ensures { IsNextSpawn plan.now moment.now layer n mark result (S.remembers store.old) (S.seen store.old) (S.remembers store.new) (S.seen store.new) }
+{
+    if layer_at(plan.layers.as_slice(), 2 * n + 1) != layer {
+        return mark;
+    }
+    match &stream.spawn {
+        None => mark,
+        Some(clause) => {
+            if is_active(moment, spawn_pacing_at(plan.pacings.as_slice(), n)) {
+                let asked = spawning_of(plan, stream, clause, store);
+                take(store, n as u32, asked)
+            } else {
+                mark
+            }
+        }
+    }
+}
+
+/// Runs the spawn clauses of a layer that are active, by the streams' numbers, and marks what they did.
+pub(crate) fn spawn_layer<S: StreamStore>(
+    plan: &Plan,
+    moment: &Moment,
+    store: &mut S,
+    layer: u32,
+    marks: &mut [Mark],
+)
+    requires accepted { IsAccepted plan.now }
+    requires at { IsAt plan.now (layer_stage (length plan.now.spec.streams) layer) (S.seen store.old) }
+    requires moment { IsMomentOf moment.now (S.seen store.old) }
+    requires marks { length marks.old ≡ length plan.now.spec.streams }
+    ensures at { IsAt plan.now (eval_stage (length plan.now.spec.streams) layer) (S.seen store.new) }
+    ensures goes_on { GoesOn (S.seen store.old) (S.seen store.new) }
+    ensures takes { TakesTo plan.now moment.now (layer_stage (length plan.now.spec.streams) layer) (eval_stage (length plan.now.spec.streams) layer)
+        (S.remembers store.old) (S.seen store.old) (S.remembers store.new) (S.seen store.new) }
+    ensures marked { (names : Naming) (rows : List TableRow) (step : Step)
+        → IsRunAt plan.now moment.now (layer_stage (length plan.now.spec.streams) layer) (S.remembers store.old) (S.seen store.old) names rows step
+        → AreMarks plan.now (full_row plan.now moment.now.start rows step).streams (layer_stage (length plan.now.spec.streams) layer) marks.old
+        → AreMarks plan.now (full_row plan.now moment.now.start rows step).streams (eval_stage (length plan.now.spec.streams) layer) marks.new }
+{
+    for (n, stream) in plan.spec.streams.as_slice().iter().enumerate() {
+        marks[n] = spawn_stream(plan, moment, store, layer, n, stream, marks[n]);
+    }
+}

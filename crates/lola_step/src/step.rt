@@ -1,0 +1,207 @@
+//! A step: the inputs, then layer by layer the spawn clauses and the instances, and then the close clauses.
+
+ghost use Rattle.std.specs.Prelude.{◌≡◌, ◌<◌, ◌≤◌, ◌^◌, [], List, length, OnOk, OnErr};
+ghost use Rattle.std.specs.Vec.{vec_capacity};
+ghost use Rattle.lola_value.specs.Naming.{Naming};
+ghost use Rattle.lola_value.specs.Times.{latest};
+ghost use Rattle.lola_model.specs.Acceptance.{IsAccepted};
+ghost use Rattle.lola_model.specs.Content.{Content};
+ghost use Rattle.lola_model.specs.Runs.{content_after};
+ghost use Rattle.lola_model.specs.Standing.{StandsBetween};
+ghost use Rattle.lola_model.specs.Store.{IsRunning, IsStarted, Stands, after_prepare, start_seen, time_seen};
+ghost use Rattle.lola_model.specs.Table.{Step, TableRow};
+ghost use Rattle.lola_stages.specs.Stages.{layer_stage};
+ghost use Rattle.lola_step.specs.Beginnings.{moment_at};
+ghost use Rattle.lola_step.specs.Conclusions.{Concludes, ShowsConcluded};
+ghost use Rattle.lola_step.specs.Evals.{IsReadyFor};
+ghost use Rattle.lola_step.specs.Notes.{AreSpans, AreVerdicts};
+ghost use Rattle.lola_step.specs.Progress.{GoesOn, IsAt, IsMomentOf, IsOf, IsRun};
+ghost use Rattle.lola_step.specs.Scratches.{EvaluatesAll, IsFresh, IsScratchOf, instances_to_come};
+ghost use Rattle.lola_step.specs.Rooms.{rooms, total};
+ghost use Rattle.lola_step.specs.Steps.{AreInputs, ReadFields, ShowsEnd, StepEnds};
+ghost use Rattle.lola_step.specs.declared.end.StepEnd.TheVariants as end;
+
+use crate::closes::{close_all, find_closings};
+use crate::end::StepEnd;
+use crate::ends::{collect, first_fault};
+use crate::evals::eval_layer;
+use crate::inputs::tell_inputs;
+use crate::moment::{Moment, present_inputs};
+use crate::scratch::{Scratch, make_room};
+use crate::spawns::spawn_layer;
+use lola_contents::calls::{begin, prepare};
+use lola_model::plan::Plan;
+use lola_model::store::StreamStore;
+use lola_port::Gate;
+use lola_value::text::Memory;
+use lola_value::value::Outcome;
+use std::thread::Threads;
+
+/// The moment of a step.
+fn moment_of(start: u64, time: u64, is_row: bool, inputs: &[Outcome]) -> Moment
+    requires { length inputs.now ≤ 64 }
+    ensures { result ≡ moment_at start time is_row inputs.now }
+{
+    let present = if is_row {
+        Some(present_inputs(inputs))
+    } else {
+        None
+    };
+    Moment {
+        start,
+        time,
+        present,
+    }
+}
+
+/// Evaluates all streams, layer by layer.
+fn evaluate<R: Threads + Sync, S: StreamStore + Sync, G: Gate + Sync>(
+    rt: &R,
+    gate: &G,
+    plan: &Plan,
+    moment: &Moment,
+    store: &mut S,
+    scratch: &mut Scratch,
+    workers: u32,
+)
+    requires workers { (1 ≤ workers) × (workers ≤ 64) }
+    requires accepted { IsAccepted plan.now }
+    requires at { IsAt plan.now (layer_stage (length plan.now.spec.streams) 0) (S.seen store.old) }
+    requires moment { IsMomentOf moment.now (S.seen store.old) }
+    requires made { IsScratchOf plan.now scratch.old }
+    requires fresh { IsFresh scratch.old (total (rooms (S.seen store.old))) }
+    ensures of { IsOf plan.now (S.seen store.new) }
+    ensures running { IsRunning (S.seen store.new) }
+    ensures goes_on { GoesOn (S.seen store.old) (S.seen store.new) }
+    ensures made { IsScratchOf plan.now scratch.new }
+    ensures spans { IsReadyFor plan.now (layer_stage (length plan.now.spec.streams) scratch.new.layers) (S.seen store.new) scratch.new.results.items scratch.new.spans.items }
+    ensures kept { (scratch.new.closing ≡ scratch.old.closing) × (scratch.new.verdicts ≡ scratch.old.verdicts) }
+    ensures evaluates { EvaluatesAll plan.now moment.now (S.remembers store.old) (S.seen store.old) (S.remembers store.new) (S.seen store.new) scratch.new }
+{
+    for layer in 0..scratch.layers {
+        spawn_layer(plan, moment, store, layer as u32, &mut scratch.marks);
+        eval_layer(
+            rt,
+            gate,
+            plan,
+            moment,
+            store,
+            layer as u32,
+            &scratch.marks,
+            &mut scratch.tasks,
+            &mut scratch.results,
+            &mut scratch.spans,
+            workers,
+        );
+    }
+}
+
+/// Ends a step whose streams are evaluated: its fault, or its values and its close clauses.
+fn conclude<S: StreamStore>(
+    plan: &Plan,
+    moment: &Moment,
+    store: &mut S,
+    scratch: &mut Scratch,
+) -> StepEnd
+    requires accepted { IsAccepted plan.now }
+    requires of { IsOf plan.now (S.seen store.old) }
+    requires running { IsRunning (S.seen store.old) }
+    requires moment { IsMomentOf moment.now (S.seen store.old) }
+    requires made { IsScratchOf plan.now scratch.old }
+    requires within { AreSpans (S.seen store.old) scratch.old.results.items scratch.old.spans.items }
+    requires none { (scratch.old.closing.items ≡ []) × (scratch.old.verdicts.items ≡ []) }
+    requires closing_room { total (rooms (S.seen store.old)) ≤ vec_capacity scratch.old.closing }
+    requires verdicts_room { total (rooms (S.seen store.old)) ≤ vec_capacity scratch.old.verdicts }
+    ensures made { IsScratchOf plan.now scratch.new }
+    ensures verdicts { result ≡ end.Done → AreVerdicts plan.now scratch.new.verdicts.items }
+    ensures seen { ShowsConcluded result plan.now (S.seen store.old) (S.seen store.new) }
+    ensures concludes { Concludes plan.now moment.now scratch.old.marks.items scratch.old.spans.items scratch.old.results.items (S.remembers store.old) (S.seen store.old)
+        result (S.remembers store.new) (S.seen store.new) scratch.new.verdicts.items }
+{
+    if let Some((stream, kind)) = first_fault(
+        plan,
+        store,
+        &scratch.marks,
+        &scratch.spans,
+        &scratch.results,
+    ) {
+        return StepEnd::Fault { stream, kind };
+    }
+    if let Some((stream, kind)) = find_closings(plan, moment, store, &mut scratch.closing) {
+        return StepEnd::Fault { stream, kind };
+    }
+    collect(
+        plan,
+        store,
+        &scratch.spans,
+        &scratch.results,
+        &mut scratch.verdicts,
+    );
+    close_all(plan, store, &scratch.closing);
+    StepEnd::Done
+}
+
+/// Makes the room of a step, in the store and for the notes. The store stands for what it stood for, also where there is no memory.
+fn make_all_room<S: StreamStore>(
+    plan: &Plan,
+    store: &mut S,
+    scratch: &mut Scratch,
+) -> Result<(), Memory>
+    requires accepted { IsAccepted plan.now }
+    requires of { IsOf plan.now (S.seen store.old) }
+    requires made { IsScratchOf plan.now scratch.old }
+    ensures made { IsScratchOf plan.now scratch.new }
+    ensures fresh { OnOk result (IsFresh scratch.new (instances_to_come (S.seen store.old))) }
+    ensures ok { OnOk result (S.seen store.new ≡ after_prepare (S.seen store.old)) }
+    ensures err { OnErr result (S.seen store.new ≡ S.seen store.old) }
+    ensures stands { (names : Naming) (c : Content) → Stands names (S.remembers store.old) (S.seen store.old) c
+        → Stands names (S.remembers store.new) (S.seen store.new) c }
+{
+    make_room(plan, store, scratch)?;
+    prepare(store)
+}
+
+/// Runs one step: of a row, with an outcome for each input, missing where the field is absent; or of the deadlines of a moment, with no
+/// inputs. Times are in nanoseconds. Instances are evaluated by so many workers, from 1 to 64. Others see a fault as poison; the step's
+/// fault is that of the first stream that has one, of its spawn clause or else the least kind among its instances, and if there is none,
+/// of the first stream whose close condition has one. Where it is done, the values stand in the notes; an instance that is closed has its
+/// value there, and is gone from the store. All room is made before anything changes.
+pub fn step<R: Threads + Sync, S: StreamStore + Sync, G: Gate + Sync>(
+    rt: &R,
+    gate: &G,
+    plan: &Plan,
+    store: &mut S,
+    scratch: &mut Scratch,
+    start: u64,
+    time: u64,
+    is_row: bool,
+    inputs: &[Outcome],
+    workers: u32,
+) -> StepEnd
+    requires accepted { IsAccepted plan.now }
+    requires made { IsScratchOf plan.now scratch.old }
+    requires of { IsOf plan.now (S.seen store.old) }
+    requires started { IsStarted (S.seen store.old) }
+    requires start { start ≡ start_seen (S.seen store.old) }
+    requires order { time_seen (S.seen store.old) ≤ time }
+    requires in_time { time ≤ latest }
+    requires steps { (S.seen store.old).steps < 2 ^ 63 }
+    requires inputs { AreInputs is_row plan.now.spec.streams inputs.now }
+    requires workers { (1 ≤ workers) × (workers ≤ 64) }
+    ensures made { IsScratchOf plan.now scratch.new }
+    ensures verdicts { result ≡ end.Done → AreVerdicts plan.now scratch.new.verdicts.items }
+    ensures seen { ShowsEnd result plan.now time (S.seen store.old) (S.seen store.new) }
+    ensures ends { (names : Naming) (rows : List TableRow) (of : Step) → IsRun plan.now names rows → of.time ≡ time
+        → ReadFields names inputs.now is_row of.fields
+        → StandsBetween names (S.remembers store.old) (S.seen store.old) (content_after plan.now start rows)
+        → StepEnds result plan.now start rows of names (S.remembers store.new) (S.seen store.new) scratch.new.verdicts.items }
+{
+    if let Err(Memory) = make_all_room(plan, store, scratch) {
+        return StepEnd::Memory;
+    }
+    begin(store, time);
+    let moment = moment_of(start, time, is_row, inputs);
+    tell_inputs(plan, store, is_row, inputs);
+    evaluate(rt, gate, plan, &moment, store, scratch, workers);
+    conclude(plan, &moment, store, scratch)
+}

@@ -1,0 +1,84 @@
+//! The tasks of a layer.
+
+ghost use Rattle.std.specs.Prelude.{◌≡◌, ◌≤◌, ◌<◌, ◌^◌, ℕ, IsSomeAnd, length, slice_get};
+ghost use Rattle.lola_model.specs.Store.{IsRunning, layout_of};
+ghost use Rattle.lola_step.specs.Once.{AreReady-prop};
+ghost use Rattle.lola_step.specs.Tasks.{AreReady, AreTasks, IsTask, IsResult, IsResultAt};
+
+use crate::clauses::instance_outcome;
+use lola_model::job::Job;
+use lola_model::plan::Plan;
+use lola_model::store::StreamStore;
+use lola_port::Gate;
+use lola_value::value::Outcome;
+use lola_workers::run_layer;
+use std::thread::Threads;
+
+/// An instance to evaluate: its stream, and its place among the stream's instances.
+#[derive(Clone, Copy, Debug, PartialEq, Eq)]
+pub struct Task {
+    pub stream: u32,
+    pub index: u32,
+}
+
+/// Instances to evaluate over a lent store, each a task whose outcome is that of its stream's eval clause.
+#[derive(Drop)]
+pub(crate) struct LayerJob<'a, S: StreamStore> {
+    plan: &'a Plan,
+    store: &'a S,
+    tasks: &'a [Task],
+    ghost running: { IsRunning (S.seen store.now) },
+    ghost layout: { (S.seen store.now).layout ≡ layout_of plan.now },
+    ghost ready: { AreReady plan.now (S.seen store.now) tasks.now } by { AreReady-prop plan.now (S.seen store.now) tasks.now },
+}
+
+impl<'a, S: StreamStore> Job for LayerJob<'a, S> {
+    ghost tasks = { λ job. length job.tasks.now };
+
+    ghost gives = { λ job i r. IsResultAt job.plan.now (S.remembers job.store.now) (S.seen job.store.now) (slice_get job.tasks.now i) r };
+
+    fn answer(&self, task: u32) -> Outcome {
+        task_outcome(self.plan, self.store, self.tasks[task as usize])
+    }
+}
+
+/// What the eval clause of a task's stream comes to, for its instance.
+fn task_outcome<S: StreamStore>(plan: &Plan, store: &S, task: Task) -> Outcome
+    requires running { IsRunning (S.seen store.now) }
+    requires layout { (S.seen store.now).layout ≡ layout_of plan.now }
+    requires ready { IsTask plan.now (S.seen store.now) task }
+    ensures { IsResult plan.now (S.remembers store.now) (S.seen store.now) task result }
+{
+    let stream = &plan.spec.streams.as_slice()[task.stream as usize];
+    match &stream.eval {
+        Some(clause) => {
+            let params = store.params_of(task.stream, task.index);
+            instance_outcome(plan, stream, clause, &params, store)
+        }
+        None => Outcome::Missing,
+    }
+}
+
+/// Evaluates each task, split among so many threads, and leaves the outcome of task `i` in `results[i]`. Of each task the gate
+/// hears before it is done.
+pub(crate) fn run_tasks<R: Threads + Sync, S: StreamStore + Sync, G: Gate + Sync>(
+    rt: &R,
+    gate: &G,
+    plan: &Plan,
+    store: &S,
+    tasks: &[Task],
+    results: &mut [Outcome],
+    workers: u32,
+)
+    requires workers { (1 ≤ workers) × (workers ≤ 64) }
+    requires places { length results.old ≡ length tasks.now }
+    requires numbered { length tasks.now < 2 ^ 32 }
+    requires running { IsRunning (S.seen store.now) }
+    requires layout { (S.seen store.now).layout ≡ layout_of plan.now }
+    requires ready { AreTasks plan.now (S.seen store.now) tasks.now }
+    ensures { (i : ℕ) → i < length tasks.now → IsSomeAnd (slice_get results.new i)
+        (λ r. IsResultAt plan.now (S.remembers store.now) (S.seen store.now) (slice_get tasks.now i) r) }
+{
+    let job = LayerJob { plan, store, tasks };
+    run_layer(rt, gate, &job, results, workers);
+}

@@ -1,6 +1,0 @@
--- One field fewer each time.
-use Rattle.std.proofs.Common.{length}
-use Rattle.lola_sums.proofs.row.+present_inputs.Given as goal
-
-abbrev pub decreases-present_inputs : goal.decreases-present_inputs
-decreases-present_inputs l = length l.fields.now
