@@ -6,21 +6,10 @@ ghost use Rattle.lola_model.specs.Model.{is_input};
 ghost use Rattle.lola_bounds.specs.Report.{set_text, sets_text, rate_text, pacing_text};
 
 use lola_model::pacing::{InputSet, Pacing};
-use lola_model::spec::{Sort, Stream};
+use lola_model::spec::Stream;
 use lola_value::numbers::number_text;
 use lola_value::rate::Rate;
 use lola_value::text::{Memory, Text};
-
-/// Whether a stream is an input.
-fn is_input(stream: &Stream) -> bool
-    ensures { result ≡ is_input stream.now }
-{
-    match stream.sort {
-        Sort::Input => true,
-        Sort::Output => false,
-        Sort::Trigger => false,
-    }
-}
 
 /// Whether an input is in a set.
 fn has_input(set: &InputSet, input: u32) -> bool
@@ -48,7 +37,7 @@ fn set_text(streams: &[Stream], set: &InputSet, to: &mut Text) -> Result<(), Mem
     let mut input = 0;
     let mut first = true;
     for stream in streams {
-        if !is_input(stream) {
+        if !stream.is_input() {
             continue;
         }
         let number = input;

@@ -17,12 +17,6 @@ abbrev pub told_at : List Life → ℕ → Answer → List Life
 told_at [] i a = []
 told_at (l ∷ ls) i a = elim i [ zero ↦ with_outcome a l ∷ ls | suc j ↦ l ∷ told_at ls j a ]
 
--- lives get these outcomes, in order; those beyond the last outcome stay as they are
-abbrev pub told_all : List Life → List Answer → List Life
-told_all [] answers = []
-told_all (l ∷ ls) [] = l ∷ ls
-told_all (l ∷ ls) (a ∷ answers) = with_outcome a l ∷ told_all ls answers
-
 -- the stream of a number changes
 abbrev pub changed : List StreamContent → ℕ → (StreamContent → StreamContent) → List StreamContent
 changed [] n f = []
@@ -35,10 +29,6 @@ with_stream c n f = record { start = c.start; time = c.time; streams = changed c
 -- the instance at a place of stream n gets its outcome
 abbrev pub told : Content → ℕ → ℕ → Answer → Content
 told c n i a = with_stream c n (λ s. record { bad = s.bad; lives = told_at s.lives i a })
-
--- all instances of stream n get these outcomes
-abbrev pub answered : Content → ℕ → List Answer → Content
-answered c n answers = with_stream c n (λ s. record { bad = s.bad; lives = told_all s.lives answers })
 
 -- stream n is bad in this step
 abbrev pub spoiled : Content → ℕ → Content

@@ -26,7 +26,7 @@ use Rattle.lola_engine.specs.Going.{Add, CutsOn, FailsOn, Goes, HasKept, HasRun,
 use Rattle.lola_engine.specs.declared.engine.Desk.{Desk}
 use Rattle.lola_engine.specs.declared.end.EngineEnd.{EngineEnd}
 use Rattle.lola_engine.specs.declared.end.EngineEnd.TheVariants.{Fault, Memory}
-use Rattle.lola_engine.proofs.Growing.{model_none, rows_are_steps}
+use Rattle.lola_model.proofs.Growing.{model_none, rows_are_steps}
 use Rattle.lola_engine.proofs.Loop.{due_goes_on}
 use Rattle.lola_engine.proofs.Rows.{at_last, first_row, no_last, no_second, one_row_more, start_stays}
 use Rattle.lola_engine.proofs.Tables.{faulty_lines, fine_goes_on, lines_stay}

@@ -2,7 +2,6 @@ pub mod Interned
 pub mod LinesPut
 pub mod Numbered
 pub mod RowsRead
-pub mod Growing
 pub mod Tables
 pub mod Rows
 pub mod Steps

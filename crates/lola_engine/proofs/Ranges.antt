@@ -21,7 +21,7 @@ use Rattle.lola_step.specs.Progress.{IsOf}
 use Rattle.lola_engine.specs.Engines.{AreStarted, IsEngine, IsSound}
 use Rattle.lola_engine.specs.Going.{HasKept, HasTaken, IsBelow}
 use Rattle.lola_engine.specs.declared.engine.Desk.{Desk}
-use Rattle.lola_engine.proofs.Growing.{slice_get_some}
+use Rattle.lola_model.proofs.Growing.{slice_get_some}
 use Rattle.lola_engine.proofs.Loop.{sound_clock}
 
 -- a row has at most 64 fields

@@ -23,7 +23,7 @@ use Rattle.lola_step.specs.declared.verdict.Verdict.{Verdict}
 use Rattle.lola_engine.specs.declared.end.EngineEnd.{EngineEnd}
 use Rattle.lola_engine.specs.declared.end.EngineEnd.TheVariants.{Fault, Memory}
 use Rattle.lola_engine.specs.Going.{Add, CutsOn, FailsOn, Goes, HasRun, Tally, lines_after}
-use Rattle.lola_engine.proofs.Growing.{is_ended}
+use Rattle.lola_model.proofs.Growing.{is_ended}
 use Rattle.lola_engine.proofs.Tables.{answered_step, faulty_ends, faulty_lines, faulty_row, fine_goes_on, fine_row, lines_stay, one_by_one, one_row_more, rows_end}
 
 -- nothing was run

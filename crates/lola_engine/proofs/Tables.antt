@@ -11,7 +11,7 @@ use Rattle.lola_model.specs.declared.spec.Stream.{Stream}
 use Rattle.lola_model.proofs.Growth.{last_row-append}
 use Rattle.lola_model.proofs.Journals.{table_lines-append}
 use Rattle.lola_stages.proofs.Quiet.{asked_at}
-use Rattle.lola_engine.proofs.Growing.{ended_by_fault, grown, is_ended, model_more, row_fault_some}
+use Rattle.lola_model.proofs.Growing.{ended_by_fault, grown, is_ended, model_more, row_fault_some}
 
 -- one more step, and those after it
 pub one_by_one : {A : Type 0} (xs : List A) (x : A) (ys : List A) → xs ++ x ∷ ys ≡ (xs ++ x ∷ []) ++ ys

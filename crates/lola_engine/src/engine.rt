@@ -436,7 +436,7 @@ impl<S: StreamStore + Sync> Engine<S> {
         lines: &mut Text,
     ) -> Result<(), EngineEnd>
         requires engine { self.old.desk.ended ≡ None → IsEngine self.old.desk (S.seen self.old.store) }
-        requires row { IsTakeable self.old.desk row.now }
+        requires row { self.old.desk.ended ≡ None → IsTakeable self.old.desk row.now }
         ensures engine { OnOk result (IsEngine self.new.desk (S.seen self.new.store)) }
         ensures plan { self.new.desk.plan ≡ self.old.desk.plan }
         ensures option { self.new.desk.option ≡ self.old.desk.option }

@@ -5,23 +5,15 @@ use Rattle.std.proofs.Math.Seq.{take-append_seam, drop-append_seam}
 use Rattle.lola_port.specs.Asks.{given_ask}
 use Rattle.lola_port.specs.States.{ShelfState}
 use Rattle.lola_port.specs.declared.traits.Ask.{Ask}
-use Rattle.lola_model.specs.Faults.{RunFault}
-use Rattle.lola_model.specs.declared.journal.Entry.{Entry}
 use Rattle.lola_report.specs.declared.end.EndLine.TheVariants.{Done, Usage, Refused, Malformed, Fault, UnreadableSpecification, UnreadableSource, Analysed}
+use Rattle.lola_run.specs.Verdicts.{Setting}
 use Rattle.lola_monitor.specs.Command.{names_asked}
-use Rattle.lola_monitor.specs.Monitor.{Asked, IsFrontOf, Outside, Setting, asks_between}
-use Rattle.lola_monitor.specs.Outcomes.{AtCutDeadline, AtDeadline, AtRow, Marred, PlansName, RunsSource, Stopped, noted}
+use Rattle.lola_monitor.specs.Monitor.{Asked, Outside, asks_between}
+use Rattle.lola_monitor.specs.Outcomes.{AllHome, Grew, Marred, PlansName, RunsSources, Stopped, noted}
 use Rattle.lola_monitor.specs.declared.outcome.Outcome.{Outcome}
 use Rattle.lola_monitor.specs.declared.outcome.Outcome.TheVariants.{Line, Report, Put, Memory}
 use Rattle.lola_monitor.specs.declared.outcome.Unplanned.{Unplanned}
 use Rattle.lola_monitor.specs.declared.outcome.Unplanned.TheVariants as unplanned
-
--- the asks of a call, as one list
-pub record Grew (names : List (List ℕ)) (before after : ShelfState) : Type 0 where
-  pub asks : List Ask
-  pub appended : after.asks ≡ before.asks ++ asks
-  pub front : IsFrontOf (map (λ ask. ask.name) asks) names
-  pub home : after.out ≡ before.out
 
 pub between : (before after : ShelfState) (asks : List Ask) → after.asks ≡ before.asks ++ asks → asks_between before after ≡ asks
 between before after asks is = ap (drop (length before.asks)) is ∙ drop-append_seam before.asks asks
@@ -52,25 +44,30 @@ grew_stopped_by name names before after (inr one) out = grew_one name names befo
 pub grew_stopped : (name : List ℕ) (names : List (List ℕ)) (before after : ShelfState) → Stopped name before after → Grew (name ∷ names) before after
 grew_stopped name names before after s = grew_stopped_by name names before after s.asks s.out
 
--- at a fault the source came back, failed or not
-grew_fault : (fault : RunFault) (s : Setting) (name : List ℕ) (journal : List Entry) (before after : ShelfState)
-    → AtRow fault s name journal before after ⊎ (AtDeadline s name journal before after ⊎ AtCutDeadline s name journal before after) → Grew (name ∷ []) before after
-grew_fault fault s name journal before after (inl at) = grew_noted name [] before after at.shelf
-grew_fault fault s name journal before after (inr (inl at)) = grew_noted name [] before after at.shelf
-grew_fault fault s name journal before after (inr (inr at)) = grew_marred name [] before after at.shelf
+-- the names of asks that were given
+pub names_given : (names : List (List ℕ)) → map (λ ask. ask.name) (map given_ask names) ≡ names
+names_given [] = refl
+names_given (name ∷ names) = ap (λ (l : List (List ℕ)). name ∷ l) (names_given names)
 
-pub grew_source : (outcome : Outcome) (s : Setting) (name : List ℕ) (before after : Outside) → RunsSource outcome s name before after → Grew (name ∷ []) before.shelf after.shelf
-grew_source (Line (Done a l n v)) s name before after ran = grew_noted name [] before.shelf after.shelf ran.ended.shelf
-grew_source (Line (Malformed n row kind)) s name before after ran = grew_noted name [] before.shelf after.shelf ran.ended.shelf
-grew_source (Line (Fault stream kind time)) s name before after ran = grew_fault ran.fault s name _ before.shelf after.shelf ran.place
-grew_source (Line (UnreadableSource n)) s name before after ran = grew_marred name [] before.shelf after.shelf ran.shelf
-grew_source (Line Usage) s name before after ran = absurd ran
-grew_source (Line (Refused r)) s name before after ran = absurd ran
-grew_source (Line UnreadableSpecification) s name before after ran = absurd ran
-grew_source (Line (Analysed n w)) s name before after ran = absurd ran
-grew_source (Report text) s name before after ran = absurd ran
-grew_source Put s name before after ran = grew_stopped name [] before.shelf after.shelf ran.shelf
-grew_source Memory s name before after ran = grew_stopped name [] before.shelf after.shelf ran.shelf
+-- all names were asked for
+abbrev pub grew_all : (names : List (List ℕ)) (before after : ShelfState) (asks : List Ask) → after.asks ≡ before.asks ++ asks → map (λ ask. ask.name) asks ≡ names → after.out ≡ before.out → Grew names before after
+grew_all names before after asks is named home = record { asks = asks; appended = is; front = ([], sym (append-nil (map (λ ask. ask.name) asks) ∙ named)); home = home }
+
+grew_home : (names : List (List ℕ)) (before after : ShelfState) → AllHome names before after → Grew names before after
+grew_home names before after home = grew_all names before after (map given_ask names) home.asks (names_given names) home.out
+
+pub grew_sources : (outcome : Outcome) (s : Setting) (names : List (List ℕ)) (before after : Outside) → RunsSources outcome s names before after → Grew names before.shelf after.shelf
+grew_sources (Line (Done a l n v)) s names before after ran = grew_home names before.shelf after.shelf ran.ended.home
+grew_sources (Line (Malformed n row kind)) s names before after ran = grew_home names before.shelf after.shelf ran.ended.home
+grew_sources (Line (Fault stream kind time)) s names before after ran = grew_all names before.shelf after.shelf ran.asks ran.home.appended ran.home.named ran.home.out
+grew_sources (Line (UnreadableSource n)) s names before after ran = ran.asked
+grew_sources (Line Usage) s names before after ran = absurd ran
+grew_sources (Line (Refused r)) s names before after ran = absurd ran
+grew_sources (Line UnreadableSpecification) s names before after ran = absurd ran
+grew_sources (Line (Analysed n w)) s names before after ran = absurd ran
+grew_sources (Report text) s names before after ran = absurd ran
+grew_sources Put s names before after ran = ran.shelf
+grew_sources Memory s names before after ran = ran.shelf
 
 pub grew_twice : (name : List ℕ) (names : List (List ℕ)) (before mid after : ShelfState) → mid ≡ noted before name → Grew names mid after → Grew (name ∷ names) before after
 grew_twice name names before mid after is grew = record {

@@ -1,21 +1,18 @@
 -- The last line of a call, and its status.
-use Rattle.std.proofs.Common.{◌≡◌, ◌⊎◌, ℕ, ◌+◌, List, [], ◌∷◌, ◌++◌, true, Bool, inl, inr, None, Some, refl, sym, ap, ◌∙◌, subst, append_assoc, if◌then◌else◌, arith}
+use Rattle.std.proofs.Common.{◌≡◌, ◌⊎◌, ℕ, List, ◌++◌, inl, inr, None, refl, sym, ap, ◌∙◌, subst, append_assoc, arith}
 use Rattle.std.specs.Io.KnownBytes.{append_known}
-use Rattle.std.specs.Option.{option_map}
-use Rattle.lola_port.specs.Asks.{given_ask}
-use Rattle.lola_port.specs.declared.traits.Ask.{Ask}
 use Rattle.lola_port.specs.States.{PutBroke, Rose, SinkState, grown}
 use Rattle.lola_value.specs.declared.front.Refusal.{Refusal}
 use Rattle.lola_report.specs.Ends.{end_text}
 use Rattle.lola_report.specs.declared.end.EndLine.{EndLine}
-use Rattle.lola_model.specs.declared.source.MalformedKind.{MalformedKind}
 use Rattle.lola_report.specs.declared.end.EndLine.TheVariants.{Done, Usage, Refused, Malformed, Fault, UnreadableSpecification, UnreadableSource, Analysed}
-use Rattle.lola_monitor.specs.Monitor.{Analysis, BrokeOff, IsAnalysed, IsBroken, IsCutAnalysis, IsCutShort, Ran, IsDone, IsEarly, IsFault, IsMalformed, IsRefused, IsUnread, IsUsage, Outside, Wrote, HasFrontOf, first_faulty, is_faulty, setting_of, settled_fault_in, verdicts}
+use Rattle.lola_run.specs.Verdicts.{HasFrontOf, settled_fault_in, verdicts}
+use Rattle.lola_run.proofs.Sinks.{an_entry, grown_twice, known_append, some_line}
+use Rattle.lola_rounds.proofs.Runs.{no_part}
+use Rattle.lola_monitor.specs.Monitor.{Analysis, BrokeOff, IsAnalysed, IsBroken, IsCutAnalysis, IsCutShort, IsDone, IsEarly, IsFault, IsMalformed, IsRefused, IsUnread, IsUsage, Outside, Ran, Wrote, setting_of}
 use Rattle.lola_monitor.specs.Outcomes.{Concluded, NoCommand, NoPlan, NotRead, Stood, StoodAnalysed, StoodCut, StoodDone, StoodFault, StoodMalformed, Works}
 use Rattle.lola_monitor.specs.declared.outcome.Outcome.{Outcome}
 use Rattle.lola_monitor.specs.declared.outcome.Outcome.TheVariants.{Line, Report, Put, Memory}
-use Rattle.lola_monitor.proofs.Runs.{no_part}
-use Rattle.lola_monitor.proofs.Sinks.{an_entry, grown_twice, known_append, some_line}
 
 -- from the same state
 wrote_same : (s0 s1 s2 : SinkState) (ys : List ℕ) → s1 ≡ s0 → Wrote s1 s2 ys → Wrote s0 s2 ys
@@ -30,31 +27,28 @@ broken_front s0 s1 s2 text more first broke = record {
   written = broke.written ∙ ap (λ s. append_known s.written broke.part) first ∙ known_append s0.written text broke.part;
 }
 
--- the second ask is the first faulty one
-second_faulty : (asks : List Ask) (name : List ℕ) (ask : Ask) → asks ≡ given_ask name ∷ ask ∷ [] → is_faulty ask ≡ true → first_faulty asks ≡ Some 1
-second_faulty asks name ask is faulty = ap first_faulty is ∙ ap (λ (b : Bool). option_map (λ n. n + 1) (if b then Some 0 else option_map (λ n. n + 1) None)) faulty
-
 module _ (words : List (List ℕ)) (before after : Outside) (last : SinkState) where
   -- the same run, whatever the last line is
   abbrev ran_with : Ran words before after → Ran words before (record after { out = last })
-  ran_with r = record { names = r.names; is_command = r.is_command; plan = r.plan; is_plan = r.is_plan; accepted = r.accepted; one_model = r.one_model; journal = r.journal; legal = r.legal; sources = r.sources; trace = r.trace }
+  ran_with r = record { names = r.names; is_command = r.is_command; plan = r.plan; is_plan = r.is_plan; accepted = r.accepted; one_model = r.one_model; journal = r.journal; legal = r.legal; sources = r.sources; turns = r.turns; trace = r.trace }
 
   -- the end line of a run that ends well
   ends_done : (line : EndLine) (s : StoodDone line words before after) → last ≡ grown after.out (end_text line) → IsDone words before (record after { out = last })
   ends_done line s is = record {
     run = ran_with s.ended.stood.run;
-    rows = s.ended.rows;
+    rows = s.rows;
     no_fault = s.ended.no_fault;
     out = is ∙ ap (λ o. grown o (end_text line)) s.ended.stood.out ∙ grown_twice before.out _ _ ∙ ap (λ e. grown before.out (verdicts (setting_of s.ended.stood.run.plan s.ended.stood.run.names) s.ended.stood.run.journal ++ end_text e)) s.line_is;
     given = s.ended.given;
   }
 
-  ends_malformed : (line : EndLine) (kind : MalformedKind) (row : ℕ) (s : StoodMalformed line kind row words before after) → last ≡ grown after.out (end_text line) → IsMalformed words before (record after { out = last })
-  ends_malformed line kind row s is = record {
+  ends_malformed : (line : EndLine) (s : StoodMalformed line words before after) → last ≡ grown after.out (end_text line) → IsMalformed words before (record after { out = last })
+  ends_malformed line s is = record {
     run = ran_with s.ended.stood.run;
-    kind = kind;
-    row = row;
-    rows = s.ended.rows;
+    ends = s.ends;
+    rows = s.rows;
+    at = s.at;
+    least = s.least;
     no_fault = s.ended.no_fault;
     out = is ∙ ap (λ o. grown o (end_text line)) s.ended.stood.out ∙ grown_twice before.out _ _ ∙ ap (λ e. grown before.out (verdicts (setting_of s.ended.stood.run.plan s.ended.stood.run.names) s.ended.stood.run.journal ++ end_text e)) s.line_is;
     given = s.ended.given;
@@ -66,6 +60,8 @@ module _ (words : List (List ℕ)) (before after : Outside) (last : SinkState) w
     fault = s.fault;
     rows = s.stood.rows;
     is_fault = s.is_fault;
+    asks = s.asks;
+    given = s.given;
     stands = s.stands;
     out = subst (λ e. Wrote (grown before.out (verdicts (setting_of s.stood.run.plan s.stood.run.names) s.stood.run.journal)) last (end_text e)) s.line_is (wrote_same (grown before.out (verdicts (setting_of s.stood.run.plan s.stood.run.names) s.stood.run.journal)) after.out last _ s.stood.out wrote);
   }
@@ -75,8 +71,13 @@ module _ (words : List (List ℕ)) (before after : Outside) (last : SinkState) w
     run = ran_with s.stood.run;
     rows = s.stood.rows;
     no_fault = s.no_fault;
-    failed = s.failed;
+    asks = s.asks;
+    between = s.between;
+    at = s.at;
+    least = s.least;
+    rose = s.rose;
     unless_given = s.unless_given;
+    read = s.read;
     out = subst (λ e. Wrote (grown before.out (verdicts (setting_of s.stood.run.plan s.stood.run.names) s.stood.run.journal)) last (end_text e)) s.line_is (wrote_same (grown before.out (verdicts (setting_of s.stood.run.plan s.stood.run.names) s.stood.run.journal)) after.out last _ s.stood.out wrote);
   }
 
@@ -125,6 +126,7 @@ module _ (words : List (List ℕ)) (before after : Outside) (last : SinkState) w
       legal = s.run.legal;
       sources = s.run.sources;
       rows = s.rows;
+      turns = s.run.turns;
       trace = no_part before.trace after.trace s.run.journal an_entry (some_line an_entry) s.run.trace;
       line = line;
       out = broken_front before.out after.out last _ (end_text line) s.out broke;
@@ -146,6 +148,7 @@ module _ (words : List (List ℕ)) (before after : Outside) (last : SinkState) w
     legal = s.run.legal;
     sources = s.run.sources;
     rows = s.rows;
+    turns = s.run.turns;
     trace = no_part before.trace after.trace s.run.journal an_entry (some_line an_entry) s.run.trace;
     line = line;
     out = record { part = verdicts (setting_of s.run.plan s.run.names) s.run.journal; rest = end_text line; joined = refl; written = ap (λ o. o.written) (same ∙ s.out) };
@@ -255,7 +258,7 @@ malformed_of status (Line Usage) words before after last works (inr (inr same)) 
 malformed_of status (Line (Refused r)) words before after last works (inl done) is = absurd (omega (arith, done.0))
 malformed_of status (Line (Refused r)) words before after last works (inr (inl broke)) is = absurd (omega (arith, broke.0))
 malformed_of status (Line (Refused r)) words before after last works (inr (inr same)) is = absurd (omega (arith, same.0))
-malformed_of status (Line (Malformed m row kind)) words before after last works (inl done) is = ends_malformed words before after last (Malformed m row kind) kind row works done.1
+malformed_of status (Line (Malformed m row kind)) words before after last works (inl done) is = ends_malformed words before after last (Malformed m row kind) works done.1
 malformed_of status (Line (Malformed m row kind)) words before after last works (inr (inl broke)) is = absurd (omega (arith, broke.0))
 malformed_of status (Line (Malformed m row kind)) words before after last works (inr (inr same)) is = absurd (omega (arith, same.0))
 malformed_of status (Line (Fault nm kind time)) words before after last works (inl done) is = absurd (omega (arith, done.0))

@@ -1,4 +1,4 @@
--- What a run is told is in its bounds: how many workers there are, and where time begins.
+-- What a run is told is in its bounds: how many workers and sources there are, and where time begins.
 use Rattle.std.proofs.Common.{◌≡◌, ◌≤◌, ℕ, ◌+◌, List, [], ◌∷◌, Option, None, Some, Bool, true, false, ◌&&◌, if◌then◌else◌, nat_le, refl, subst, arith, codes, length, take, drop, slice_get, option_map}
 use Rattle.std.proofs.lemmas.Bool.Decides.{nat_tests}
 use Rattle.std.specs.List.{after_first, before_first, list_all}
@@ -139,18 +139,25 @@ start_bound (said.InTurns ∷ ss) h = start_bound ss h.1
 -- a run in its bounds
 abbrev InBounds : Option Command → Type 0
 InBounds None = Unit {0}
-InBounds (Some (Run r)) = ((1 ≤ r.workers) × (r.workers ≤ 64)) × IsOptionInTime r.start
+InBounds (Some (Run r)) = ((1 ≤ r.workers) × (r.workers ≤ 64)) × IsOptionInTime r.start × ((1 ≤ length r.sources) × (length r.sources ≤ 64))
 InBounds (Some (Analyse n)) = Unit {0}
 
+sources_bound : (ss rest : List Said) → (come_once ss && are_sources (front_names rest) (behind_names rest)) ≡ true → (1 ≤ length (front_names rest)) × (length (front_names rest) ≤ 64)
+sources_bound ss rest is =
+    let are = both (come_once ss) (are_sources (front_names rest) (behind_names rest)) is in
+    let first = both (nat_le 1 (length (front_names rest))) _ are.1 in
+    let second = both (nat_le (length (front_names rest)) 64) _ first.1 in
+    (grind (arith, nat_tests, first.0), grind (arith, nat_tests, second.0))
+
 over_bound : (ss : List Said) (n : ℕ) (rest : List Said) → AllRight ss → InBounds (run_over ss n rest)
-over_bound ss n rest h = go _
+over_bound ss n rest h = go (come_once ss && are_sources (front_names rest) (behind_names rest)) refl
   where
-    go : (b : Bool)
+    go : (b : Bool) → (come_once ss && are_sources (front_names rest) (behind_names rest)) ≡ b
         → InBounds (if b
         then Some (Run (record { specification = n; sources = front_names rest; show = show_said ss; workers = workers_said ss; start = start_said ss; in_turns = in_turns_said ss }))
         else None)
-    go true = (workers_bound ss h, start_bound ss h)
-    go false = tt
+    go true is = (workers_bound ss h, start_bound ss h, sources_bound ss rest is)
+    go false is = tt
 
 by_bound : (ss rest : List Said) → AllRight ss → InBounds (run_by ss rest)
 by_bound ss [] h = tt
@@ -189,7 +196,7 @@ bounds (program ∷ word ∷ words) =
     (if_bound (bytes_eq word (codes "analyse")) _ None (analysed_bound (said_from false 2 words)) tt)
 
 module _ (words : List Word) (r : RunCommand) (is : command_of words ≡ Some (Run r)) where
-  in_bounds : ((1 ≤ r.workers) × (r.workers ≤ 64)) × IsOptionInTime r.start
+  in_bounds : ((1 ≤ r.workers) × (r.workers ≤ 64)) × IsOptionInTime r.start × ((1 ≤ length r.sources) × (length r.sources ≤ 64))
   in_bounds = subst InBounds is (bounds words)
 
   -- from 1 to 64 workers
@@ -199,3 +206,7 @@ module _ (words : List Word) (r : RunCommand) (is : command_of words ≡ Some (R
   -- a start that is a time
   pub start_is : IsOptionInTime r.start
   start_is = in_bounds.1
+
+  -- from 1 to 64 sources
+  pub sources_are : (1 ≤ length r.sources) × (length r.sources ≤ 64)
+  sources_are = in_bounds.2

@@ -1,21 +1,23 @@
 -- Which status a call has, from what holds of it.
-use Rattle.std.proofs.Common.{◌≡◌, ◌⊎◌, ℕ, List, [], Option, inl, inr, ⊎_elim, None, Some, sym, ap, ◌∙◌}
+use Rattle.std.proofs.Common.{◌≡◌, ◌⊎◌, ℕ, suc, ◌+◌, List, [], ◌∷◌, Option, inl, inr, ⊎_elim, None, Some, slice_get, refl, sym, ap, ◌∙◌}
+use Rattle.std.specs.Option.{option_map}
 use Rattle.lola_port.specs.States.{SinkState}
-use Rattle.lola_rows.specs.Rows.{SourceRows, Whole, MalformedAt}
+use Rattle.lola_rows.specs.Rows.{SourceEnd, SourceRows, Whole, MalformedAt}
+use Rattle.lola_model.specs.Journal.{rows_of}
+use Rattle.lola_model.specs.declared.journal.Row.{Row}
 use Rattle.lola_model.specs.declared.plan.Plan.{Plan}
-use Rattle.lola_model.specs.declared.source.MalformedKind.{MalformedKind}
-use Rattle.lola_value.specs.declared.front.Refusal.{Refusal}
 use Rattle.lola_report.specs.declared.end.EndLine.TheVariants.{Done, Usage, Refused, Malformed, Fault, UnreadableSpecification, UnreadableSource, Analysed}
 use Rattle.lola_command.specs.Command.{command_of}
 use Rattle.lola_command.specs.declared.command.Command.{Command}
 use Rattle.lola_command.specs.declared.command.Command.TheVariants.{Run, Analyse}
-use Rattle.lola_command.specs.declared.command.RunCommand.{RunCommand}
-use Rattle.lola_monitor.specs.Command.{Names, analysed_named, analysed_of, run_named, run_of, served, served_source, specification_named, specification_of, with_source, word_at}
-use Rattle.lola_monitor.specs.Monitor.{IsAnalysed, IsBroken, IsClean, IsCleanAnalysis, IsCutAnalysis, IsCutShort, IsDone, IsFault, IsMalformed, IsRefused, IsRefusedBy, IsSpoiled, IsUnbuilt, IsUnread, IsUsage, Outside, Plans, fault_in, setting_of, source_rows}
+use Rattle.lola_run.specs.Verdicts.{fault_in}
+use Rattle.lola_monitor.specs.Command.{Names, analysed_named, analysed_of, names_with, run_by, run_of, specification_named, specification_of}
+use Rattle.lola_monitor.specs.Monitor.{IsAnalysed, IsBroken, IsClean, IsCleanAnalysis, IsCutAnalysis, IsCutShort, IsDone, IsFault, IsMalformed, IsRefused, IsSpoiled, IsUnread, IsUsage, Outside, Plans, first_malformed, one_further, setting_of, source_rows}
 use Rattle.lola_monitor.specs.Outcomes.{Concluded, Works}
 use Rattle.lola_monitor.specs.declared.outcome.Outcome.{Outcome}
 use Rattle.lola_monitor.specs.declared.outcome.Outcome.TheVariants.{Line, Report, Put, Memory}
 use Rattle.lola_monitor.proofs.Ends.{broken_of, done_of, fault_of, malformed_of, refused_of, unreadable_of, usage_of}
+use Rattle.lola_monitor.proofs.Listed.{get_beside}
 
 -- two ways to name a command
 same_names : (words : List (List ℕ)) (a b : Names) → run_of words ≡ Some a → run_of words ≡ Some b → a ≡ b
@@ -24,19 +26,11 @@ same_names words a b first second = cc
 same_name : (words : List (List ℕ)) (a b : List ℕ) → specification_of words ≡ Some a → specification_of words ≡ Some b → a ≡ b
 same_name words a b first second = cc
 
-abbrev specification_in : Option Names → List ℕ
-specification_in None = []
-specification_in (Some names) = names.specification
-
-with_specification : (words : List (List ℕ)) (r : RunCommand) (source : Option (List ℕ)) (names : Names) → with_source words r source ≡ Some names → word_at words r.specification ≡ names.specification
-with_specification words r None names is = absurd (cc)
-with_specification words r (Some source) names is = ap specification_in is
-
--- the specification of a served run is that of the command
-served_specification : (words : List (List ℕ)) (c : Option Command) (names : Names) → served words c ≡ Some names → specification_named words c ≡ Some names.specification
-served_specification words None names is = absurd (cc)
-served_specification words (Some (Run r)) names is = ap Some (with_specification words r (served_source words r) names is)
-served_specification words (Some (Analyse n)) names is = absurd (cc)
+-- the specification of a run is that of the command
+run_specification : (words : List (List ℕ)) (c : Option Command) (names : Names) → run_by words c ≡ Some names → specification_named words c ≡ Some names.specification
+run_specification words None names is = absurd (cc)
+run_specification words (Some (Run r)) names is = let same : names_with words r ≡ names = cc in ap (λ (n : Names). Some n.specification) same
+run_specification words (Some (Analyse n)) names is = absurd (cc)
 
 analysed_specification : (words : List (List ℕ)) (c : Option Command) (name : List ℕ) → analysed_named words c ≡ Some name → specification_named words c ≡ Some name
 analysed_specification words None name is = absurd (cc)
@@ -44,18 +38,19 @@ analysed_specification words (Some (Run r)) name is = absurd (cc)
 analysed_specification words (Some (Analyse n)) name is = is
 
 -- an analysis is no run
-no_served : (words : List (List ℕ)) (c : Option Command) (names : Names) (name : List ℕ) → served words c ≡ Some names → analysed_named words c ≡ Some name → ⊥
-no_served words None names name first second = absurd (cc)
-no_served words (Some (Run r)) names name first second = absurd (cc)
-no_served words (Some (Analyse n)) names name first second = absurd (cc)
+no_run : (words : List (List ℕ)) (c : Option Command) (names : Names) (name : List ℕ) → run_by words c ≡ Some names → analysed_named words c ≡ Some name → ⊥
+no_run words None names name first second = absurd (cc)
+no_run words (Some (Run r)) names name first second = absurd (cc)
+no_run words (Some (Analyse n)) names name first second = absurd (cc)
 
-no_run : (words : List (List ℕ)) (c : Option Command) (a b : List ℕ) → run_named words c ≡ Some a → analysed_named words c ≡ Some b → ⊥
-no_run words None a b first second = absurd (cc)
-no_run words (Some (Run r)) a b first second = absurd (cc)
-no_run words (Some (Analyse n)) a b first second = absurd (cc)
+is_whole : (end : SourceEnd) (r : SourceRows) (rows : List Row) → r.end ≡ Whole → r ≡ record { rows = rows; end = end } → end ≡ Whole
+is_whole end r rows first second = sym (ap (λ (x : SourceRows). x.end) second) ∙ first
 
-two_ends : (r : SourceRows) (kind : MalformedKind) (row : ℕ) → r.end ≡ Whole → r.end ≡ MalformedAt kind row → ⊥
-two_ends r kind row first second = let both : Whole ≡ MalformedAt kind row = sym first ∙ second in absurd (cc)
+-- where all ends are well, none is malformed
+none_malformed : (ends : List SourceEnd) → ((s : ℕ) (end : SourceEnd) → slice_get ends s ≡ Some end → end ≡ Whole) → first_malformed ends ≡ None
+none_malformed [] all = refl
+none_malformed (Whole ∷ ends) all = ap (option_map one_further) (none_malformed ends (λ s end is. all (suc s) end is))
+none_malformed (MalformedAt kind row ∷ ends) all = let bad : MalformedAt kind row ≡ Whole = all 0 (MalformedAt kind row) refl in absurd (cc)
 
 module _ (words : List (List ℕ)) (before after : Outside) (last : SinkState) where
   module _ (clean : IsClean words before (record after { out = last })) where
@@ -64,15 +59,20 @@ module _ (words : List (List ℕ)) (before after : Outside) (last : SinkState) w
 
     told_name : (name : List ℕ) → specification_of words ≡ Some name → before.shelf.told name ≡ Some clean.specification
     told_name name is =
-        ap (λ (n : List ℕ). before.shelf.told n) (same_name words name clean.names.specification is (served_specification words (command_of words) clean.names clean.is_command)) ∙ clean.specification_is
+        ap (λ (n : List ℕ). before.shelf.told n) (same_name words name clean.names.specification is (run_specification words (command_of words) clean.names clean.is_command)) ∙ clean.specification_is
 
-    told_source : (names : Names) → run_of words ≡ Some names → before.shelf.told names.source ≡ Some clean.source
-    told_source names is = ap (λ (n : Names). before.shelf.told n.source) (same_names words names clean.names is clean.is_command) ∙ clean.source_is
+    whole_at : (bad : IsMalformed words before (record after { out = last })) (s : ℕ) (end : SourceEnd) → slice_get bad.ends s ≡ Some end → end ≡ Whole
+    whole_at bad s end is =
+        let same = same_names words bad.run.names clean.names bad.run.is_command clean.is_command in
+        let name = get_beside bad.ends bad.run.names.sources s end (sym bad.rows.many) is in
+        let there : slice_get clean.names.sources s ≡ Some name.0 = ap (λ (n : Names). slice_get n.sources s) (sym same) ∙ name.1 in
+        let told = clean.told s name.0 there in
+        is_whole end (source_rows bad.run.plan s told.0) (rows_of s bad.run.journal)
+        (clean.ends s name.0 told.0 bad.run.plan there told.1 (bad.run.is_plan clean.specification (told_specification bad.run.names bad.run.is_command)))
+        (bad.rows.each s name.0 end name.1 is told.0 told.1)
 
     clean_malformed : IsMalformed words before (record after { out = last }) → ⊥
-    clean_malformed bad =
-        two_ends (source_rows bad.run.plan clean.source) bad.kind bad.row (clean.ends bad.run.plan (bad.run.is_plan clean.specification (told_specification bad.run.names bad.run.is_command)))
-        (ap (λ (r : SourceRows). r.end) (bad.rows clean.source (told_source bad.run.names bad.run.is_command)))
+    clean_malformed bad = let none = none_malformed bad.ends (whole_at bad) in let some = bad.least in absurd (cc)
 
     clean_fault : IsFault words before (record after { out = last }) → ⊥
     clean_fault bad =
@@ -83,18 +83,15 @@ module _ (words : List (List ℕ)) (before after : Outside) (last : SinkState) w
         let some = bad.is_fault in
         absurd (cc)
 
-    clean_unbuilt : (name : List ℕ) (r : Refusal) → specification_of words ≡ Some name → IsUnbuilt words (before.shelf.told name) r → ⊥
-    clean_unbuilt name r is bad = let none = bad.not_yet in let known = clean.is_command in absurd (cc)
-
     clean_refused : IsRefused words before (record after { out = last }) → ⊥
-    clean_refused bad = ⊎_elim (λ (refused : IsRefusedBy (before.shelf.told bad.name) bad.refusal). clean.not_refused bad.refusal (refused clean.specification (told_name bad.name bad.is_command))) (clean_unbuilt bad.name bad.refusal bad.is_command) bad.cause
+    clean_refused bad = clean.not_refused bad.refusal (bad.cause clean.specification (told_name bad.name bad.is_command))
 
     clean_usage : IsUsage words before (record after { out = last }) → ⊥
-    clean_usage bad = let known = clean.is_command in let none : run_of words ≡ None = ap (served words) bad.no_command in absurd (cc)
+    clean_usage bad = let known = clean.is_command in let none : run_of words ≡ None = ap (run_by words) bad.no_command in absurd (cc)
 
     clean_unreadable : IsUnread words before (record after { out = last }) ⊎ IsCutShort words before (record after { out = last }) → ⊥
     clean_unreadable (inl bad) = clean.shelf bad.rose
-    clean_unreadable (inr bad) = clean.shelf bad.failed.rose
+    clean_unreadable (inr bad) = clean.shelf bad.rose
 
     clean_broken : IsBroken words before (record after { out = last }) ⊎ IsCutAnalysis words before (record after { out = last }) → ⊥
     clean_broken (inl bad) = ⊎_elim clean.out clean.trace bad.rose
@@ -102,7 +99,7 @@ module _ (words : List (List ℕ)) (before after : Outside) (last : SinkState) w
 
   module _ (whole : IsCleanAnalysis words before (record after { out = last })) where
     other : (names : Names) → run_of words ≡ Some names → ⊥
-    other names is = no_served words (command_of words) names whole.name is whole.is_command
+    other names is = no_run words (command_of words) names whole.name is whole.is_command
 
     told_whole : (name : List ℕ) → specification_of words ≡ Some name → before.shelf.told name ≡ Some whole.specification
     told_whole name is =
@@ -115,16 +112,14 @@ module _ (words : List (List ℕ)) (before after : Outside) (last : SinkState) w
     whole_fault bad = other bad.run.names bad.run.is_command
 
     whole_refused : IsRefused words before (record after { out = last }) → ⊥
-    whole_refused bad =
-        ⊎_elim (λ (refused : IsRefusedBy (before.shelf.told bad.name) bad.refusal). whole.not_refused bad.refusal (refused whole.specification (told_whole bad.name bad.is_command)))
-        (λ (unbuilt : IsUnbuilt words (before.shelf.told bad.name) bad.refusal). no_run words (command_of words) unbuilt.name whole.name unbuilt.is_run whole.is_command) bad.cause
+    whole_refused bad = whole.not_refused bad.refusal (bad.cause whole.specification (told_whole bad.name bad.is_command))
 
     whole_usage : IsUsage words before (record after { out = last }) → ⊥
     whole_usage bad = let known = whole.is_command in let none : analysed_of words ≡ None = ap (analysed_named words) bad.no_command in absurd (cc)
 
     whole_unreadable : IsUnread words before (record after { out = last }) ⊎ IsCutShort words before (record after { out = last }) → ⊥
     whole_unreadable (inl bad) = whole.shelf bad.rose
-    whole_unreadable (inr bad) = whole.shelf bad.failed.rose
+    whole_unreadable (inr bad) = whole.shelf bad.rose
 
     whole_broken : IsBroken words before (record after { out = last }) ⊎ IsCutAnalysis words before (record after { out = last }) → ⊥
     whole_broken (inl bad) = other bad.off.names bad.off.is_command
@@ -132,7 +127,7 @@ module _ (words : List (List ℕ)) (before after : Outside) (last : SinkState) w
 
   module _ (none : command_of words ≡ None) where
     lost : (names : Names) → run_of words ≡ Some names → ⊥
-    lost names is = let nothing : run_of words ≡ None = ap (served words) none in absurd (cc)
+    lost names is = let nothing : run_of words ≡ None = ap (run_by words) none in absurd (cc)
 
     lost_specification : (name : List ℕ) → specification_of words ≡ Some name → ⊥
     lost_specification name is = let nothing : specification_of words ≡ None = ap (specification_named words) none in absurd (cc)
@@ -167,7 +162,7 @@ module _ (words : List (List ℕ)) (before after : Outside) (last : SinkState) w
         spoiled.no_plan plan (planned spoiled.specification (ap (λ (n : List ℕ). before.shelf.told n) (same_name words name spoiled.name is spoiled.is_command) ∙ spoiled.specification_is))
 
     no_run_of : (names : Names) → run_of words ≡ Some names → (plan : Plan) → Plans (before.shelf.told names.specification) plan → ⊥
-    no_run_of names is plan planned = no_plan_of names.specification (served_specification words (command_of words) names is) plan planned
+    no_run_of names is plan planned = no_plan_of names.specification (run_specification words (command_of words) names is) plan planned
 
     no_analysis_of : (name : List ℕ) → analysed_of words ≡ Some name → (plan : Plan) → Plans (before.shelf.told name) plan → ⊥
     no_analysis_of name is plan planned = no_plan_of name (analysed_specification words (command_of words) name is) plan planned

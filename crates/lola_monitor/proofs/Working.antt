@@ -1,6 +1,5 @@
 -- A command's run, after its specification was read.
-use Rattle.std.proofs.Common.{◌≡◌, ◌⊎◌, ℕ, ◌+◌, List, [], ◌∷◌, ◌++◌, Option, None, Some, Err, Bool, inl, inr, ⊎_elim, refl, sym, ap, if◌then◌else◌, ◌∙◌, subst, append_assoc}
-use Rattle.std.proofs.lemmas.List.{append-nil}
+use Rattle.std.proofs.Common.{◌≡◌, ◌⊎◌, ℕ, ◌+◌, List, [], ◌∷◌, ◌++◌, Option, None, Some, Err, Bool, map, inl, inr, ⊎_elim, refl, sym, ap, if◌then◌else◌, ◌∙◌, subst, append_assoc}
 use Rattle.std.specs.Option.{option_map}
 use Rattle.lola_port.specs.Asks.{given_ask}
 use Rattle.lola_port.specs.States.{Rose, ShelfState}
@@ -11,59 +10,96 @@ use Rattle.lola_model.specs.Faults.{RunFault}
 use Rattle.lola_model.specs.Model.{HasOneModel}
 use Rattle.lola_model.specs.declared.plan.Plan.{Plan}
 use Rattle.lola_model.specs.declared.journal.Entry.{Entry}
-use Rattle.lola_model.specs.declared.journal.Row.{Row}
-use Rattle.lola_rows.specs.Rows.{SourceEnd, SourceRows, Whole, MalformedAt}
+use Rattle.lola_rows.specs.Rows.{Whole}
 use Rattle.lola_report.specs.Ends.{end_text}
 use Rattle.lola_report.specs.declared.end.EndLine.TheVariants.{Done, Usage, Refused, Malformed, Fault, UnreadableSpecification, UnreadableSource, Analysed}
-use Rattle.lola_monitor.specs.Command.{Names, analysed_of, run_of, run_specification, specification_of}
-use Rattle.lola_monitor.specs.Monitor.{AllGiven, Begins, BrokeOff, Ends, IsDeadlineFault, IsEarly, Outside, Plans, Ran, Setting, SourceFailed, StandsAt, analysis_text, asks_between, first_faulty, setting_of, unbuilt}
-use Rattle.lola_monitor.specs.Outcomes.{AtCutDeadline, AtDeadline, AtRow, CutFacts, EndedRun, Marred, PlansName, ReadPlan, RunsSource, SourceRun, Stood, StoodEnded, Works, noted, without_plan}
+use Rattle.lola_run.specs.Verdicts.{Setting}
+use Rattle.lola_monitor.specs.Command.{Names, analysed_of, run_of, specification_of}
+use Rattle.lola_monitor.specs.Monitor.{AllBegin, AllGiven, AllRead, Begins, BrokeOff, Ends, GoInTurns, HasRows, IsAtDeadline, IsAtRow, IsEarly, Outside, Plans, Ran, WereGiven, analysis_text, asks_between, first_faulty, setting_of}
+use Rattle.lola_monitor.specs.Outcomes.{AllHome, CameHome, CutFacts, EndedRun, Marred, PlansName, ReadPlan, RunsSources, SourcesRun, Stood, StoodEnded, Works, noted, without_plan}
 use Rattle.lola_monitor.specs.declared.outcome.Outcome.{Outcome}
 use Rattle.lola_monitor.specs.declared.outcome.Outcome.TheVariants.{Line, Report, Put, Memory}
 use Rattle.lola_monitor.specs.declared.outcome.Unplanned.{Unplanned}
 use Rattle.lola_monitor.specs.declared.outcome.Unplanned.TheVariants as unplanned
 use Rattle.lola_monitor.proofs.Calls.{between}
 
-ends_begin : (told : Option (List ℕ)) (plan : Plan) (rows : List Row) (end : SourceEnd) → Ends told plan rows end → Begins told plan rows
-ends_begin told plan rows end ends bytes is = ([], ap (λ (r : SourceRows). r.rows) (ends bytes is) ∙ sym (append-nil rows))
+-- no ask is faulty behind one that is not
+none_behind : (o : Option ℕ) → option_map (λ n. n + 1) o ≡ None → o ≡ None
+none_behind None is = refl
+none_behind (Some n) is = absurd (cc)
 
 module _ (words : List (List ℕ)) (names : Names) (plan : Plan) (before after : Outside) (shelf : ShelfState) where
   abbrev s : Setting
   s = setting_of plan names
 
+  abbrev mid : Outside
+  mid = record before { shelf = shelf }
+
   module _ (is_command : run_of words ≡ Some names) (is_plan : Plans (before.shelf.told names.specification) plan) (accepted : IsAccepted plan) (one_model : HasOneModel plan) (read : shelf ≡ noted before.shelf names.specification) where
     told : (name : List ℕ) → shelf.told name ≡ before.shelf.told name
     told name = ap (λ s. s.told name) read
 
+    count_is : shelf.count ≡ before.shelf.count
+    count_is = ap (λ s. s.count) read
+
     asks_after : (asks : List Ask) → after.shelf.asks ≡ shelf.asks ++ asks → asks_between before.shelf after.shelf ≡ given_ask names.specification ∷ asks
     asks_after asks is = between before.shelf after.shelf (given_ask names.specification ∷ asks) (is ∙ ap (λ (s : ShelfState). s.asks ++ asks) read ∙ append_assoc before.shelf.asks (given_ask names.specification ∷ []) asks)
 
-    given : after.shelf ≡ noted shelf names.source → AllGiven names before.shelf after.shelf
-    given is = record { asks = asks_after (given_ask names.source ∷ []) (ap (λ s. s.asks) is); count = ap (λ s. s.count) is ∙ ap (λ s. s.count) read }
+    given : AllHome names.sources shelf after.shelf → AllGiven names before.shelf after.shelf
+    given home = record { asks = asks_after (map given_ask names.sources) home.asks; count = home.count ∙ count_is }
 
-    abbrev source_failed : Marred names.source shelf after.shelf → SourceFailed names before.shelf after.shelf
-    source_failed m = record { ask = m.ask; asks = asks_after (m.ask ∷ []) m.asks; faulty = m.faulty; rose = subst (λ n. Rose n after.shelf.count) (ap (λ s. s.count) read) m.rose }
+    rose_by : Rose shelf.count after.shelf.count → Rose before.shelf.count after.shelf.count
+    rose_by rose = subst (λ n. Rose n after.shelf.count) count_is rose
 
-    abbrev ran : SourceRun s (record before { shelf = shelf }) after → Ran words before after
-    ran run = record { names = names; is_command = is_command; plan = plan; is_plan = is_plan; accepted = accepted; one_model = one_model; journal = run.journal; legal = run.legal; sources = run.sources; trace = run.trace }
-
-    begins : (rows : List Row) → Begins (shelf.told names.source) plan rows → Begins (before.shelf.told names.source) plan rows
-    begins rows b = subst (λ t. Begins t plan rows) (told names.source) b
-
-    abbrev stood : (run : SourceRun s (record before { shelf = shelf }) after) → Begins (shelf.told names.source) plan (rows_of 0 run.journal) → Stood words before after
-    stood run rows = record { run = ran run; out = run.out; rows = begins _ rows }
-
-    abbrev ended : (end : SourceEnd) → EndedRun end s names.source (record before { shelf = shelf }) after → StoodEnded end words before after
-    ended end e = record {
-      stood = stood e.run (ends_begin (shelf.told names.source) plan (rows_of 0 e.run.journal) end e.rows);
-      rows = subst (λ t. Ends t plan (rows_of 0 e.run.journal) end) (told names.source) e.rows;
-      no_fault = e.no_fault;
-      settled = e.settled;
-      given = given e.shelf;
+    were_given : (asks : List Ask) → CameHome names.sources asks shelf after.shelf → WereGiven names asks before.shelf after.shelf
+    were_given asks home = record {
+      between = asks_after asks home.appended;
+      named = home.named;
+      given = home.given;
+      unfailed = λ none. home.unfailed none ∙ count_is;
+      failed = λ at some. rose_by (home.failed at some);
     }
 
-    abbrev off : CutFacts s names.source (record before { shelf = shelf }) after → BrokeOff words before after
-    off cut = record {
+    all_begin : (journal : List Entry) → AllBegin shelf plan names.sources journal → AllBegin before.shelf plan names.sources journal
+    all_begin journal begin n name is = subst (λ t. Begins t plan n (rows_of n journal)) (told name) (begin n name is)
+
+    all_read : (asks : List Ask) (journal : List Entry) → AllRead shelf plan names.sources asks journal → AllRead before.shelf plan names.sources asks journal
+    all_read asks journal all n name ask is there sound = let r = all n name ask is there sound in (r.0, subst (λ t. Ends t plan n (rows_of n journal) r.0) (told name) r.1)
+
+    in_turns : (asks : List Ask) (journal : List Entry) → after.shelf.asks ≡ shelf.asks ++ asks → GoInTurns names.sources plan shelf after.shelf journal → GoInTurns names.sources plan before.shelf after.shelf journal
+    in_turns asks journal is turns = record {
+      lists = turns.lists;
+      many = turns.many;
+      fronts = λ n name rows named at. subst (λ t. Begins t plan n rows) (told name) (turns.fronts n name rows named at);
+      whole = λ none n name rows named at.
+          subst (λ t. HasRows t plan n rows) (told name)
+          (turns.whole (ap first_faulty (between shelf after.shelf asks is) ∙ none_behind (first_faulty asks) (sym (ap first_faulty (asks_after asks is)) ∙ none)) n name rows named at);
+      first = turns.first;
+    }
+
+    abbrev ran : (asks : List Ask) → after.shelf.asks ≡ shelf.asks ++ asks → SourcesRun s names.sources mid after → Ran words before after
+    ran asks is run = record {
+      names = names;
+      is_command = is_command;
+      plan = plan;
+      is_plan = is_plan;
+      accepted = accepted;
+      one_model = one_model;
+      journal = run.journal;
+      legal = run.legal;
+      sources = run.sources;
+      turns = λ asked. in_turns asks run.journal is run.turns;
+      trace = run.trace;
+    }
+
+    abbrev stood : (asks : List Ask) → after.shelf.asks ≡ shelf.asks ++ asks → SourcesRun s names.sources mid after → Stood words before after
+    stood asks is run = record { run = ran asks is run; out = run.out; rows = all_begin run.journal run.rows }
+
+    abbrev stood_ended : EndedRun s names.sources mid after → StoodEnded words before after
+    stood_ended e = record { stood = stood (map given_ask names.sources) e.home.asks e.run; no_fault = e.no_fault; settled = e.settled; given = given e.home }
+
+    abbrev off : (asks : List Ask) → after.shelf.asks ≡ shelf.asks ++ asks → CutFacts s names.sources mid after → BrokeOff words before after
+    off asks is cut = record {
       names = names;
       is_command = is_command;
       plan = plan;
@@ -73,7 +109,8 @@ module _ (words : List (List ℕ)) (names : Names) (plan : Plan) (before after :
       journal = cut.journal;
       legal = cut.legal;
       sources = cut.sources;
-      rows = begins _ cut.rows;
+      rows = all_begin cut.journal cut.rows;
+      turns = λ asked. in_turns asks cut.journal is cut.turns;
       trace = cut.trace;
       line = Usage;
       out = record {
@@ -84,28 +121,44 @@ module _ (words : List (List ℕ)) (names : Names) (plan : Plan) (before after :
       };
     }
 
-    stands_at : (fault : RunFault) (journal : List Entry)
-        → AtRow fault s names.source journal shelf after.shelf ⊎ (AtDeadline s names.source journal shelf after.shelf ⊎ AtCutDeadline s names.source journal shelf after.shelf)
-        → StandsAt names s journal fault before.shelf after.shelf
-    stands_at fault journal (inl at) = inl (at.is, given at.shelf)
-    stands_at fault journal (inr (inl at)) = inr (inl (subst (λ t. IsDeadlineFault t s journal) (told names.source) at.is, given at.shelf))
-    stands_at fault journal (inr (inr at)) = inr (inr (record { settled = at.settled; failed = source_failed at.shelf }))
+    stands_at : (fault : RunFault) (asks : List Ask) (journal : List Entry) → IsAtRow s journal fault asks ⊎ IsAtDeadline shelf s names.sources asks journal
+        → IsAtRow s journal fault asks ⊎ IsAtDeadline before.shelf s names.sources asks journal
+    stands_at fault asks journal (inl at) = inl at
+    stands_at fault asks journal (inr at) = inr (record { settled = at.settled; read = all_read asks journal at.read })
 
-    pub works_after : (outcome : Outcome) → RunsSource outcome s names.source (record before { shelf = shelf }) after → Works outcome words before after
-    works_after (Line (Done a l s v)) r = record { ended = ended Whole r.ended; line_is = r.line_is }
-    works_after (Line (Malformed n row kind)) r = record { ended = ended (MalformedAt kind row) r.ended; line_is = r.line_is }
+    pub works_after : (outcome : Outcome) → RunsSources outcome s names.sources mid after → Works outcome words before after
+    works_after (Line (Done a l s v)) r = record {
+      ended = stood_ended r.ended;
+      rows = λ n name is. subst (λ t. Ends t plan n (rows_of n r.ended.run.journal) Whole) (told name) (r.rows n name is);
+      line_is = r.line_is;
+    }
+    works_after (Line (Malformed n row kind)) r = record {
+      ended = stood_ended r.ended;
+      ends = r.ends;
+      rows = record { many = r.rows.many; each = λ n name end is at. subst (λ t. Ends t plan n (rows_of n r.ended.run.journal) end) (told name) (r.rows.each n name end is at) };
+      at = r.at;
+      least = r.least;
+      line_is = r.line_is;
+    }
     works_after (Line (Fault stream kind time)) r = record {
-      stood = stood r.run r.rows;
+      stood = stood r.asks r.home.appended r.run;
       fault = r.fault;
       is_fault = r.is_fault;
-      stands = stands_at r.fault r.run.journal r.place;
+      asks = r.asks;
+      given = were_given r.asks r.home;
+      stands = stands_at r.fault r.asks r.run.journal r.stands;
       line_is = r.line_is;
     }
     works_after (Line (UnreadableSource n)) r = record {
-      stood = stood r.run r.rows;
+      stood = stood r.asked.asks r.asked.appended r.run;
       no_fault = r.no_fault;
-      failed = source_failed r.shelf;
+      asks = r.asked.asks;
+      between = asks_after r.asked.asks r.asked.appended;
+      at = r.at;
+      least = r.least;
+      rose = rose_by r.rose;
       unless_given = r.unless_given;
+      read = λ were. let all = r.read were in (all.0, all_read r.asked.asks r.run.journal all.1);
       line_is = r.line_is;
     }
     works_after (Line Usage) r = absurd r
@@ -113,8 +166,8 @@ module _ (words : List (List ℕ)) (names : Names) (plan : Plan) (before after :
     works_after (Line UnreadableSpecification) r = absurd r
     works_after (Line (Analysed s w)) r = absurd r
     works_after (Report text) r = absurd r
-    works_after Put r = record { off = off r.cut; no_fault = r.no_fault; rose = r.rose }
-    works_after Memory r = ⊎_elim (λ cut. inr (off cut)) (λ early. inl (record { trace = early.trace; out = early.out })) r.cut
+    works_after Put r = record { off = off r.shelf.asks r.shelf.appended r.cut; no_fault = r.no_fault; rose = r.rose }
+    works_after Memory r = ⊎_elim (λ cut. inr (off r.shelf.asks r.shelf.appended cut)) (λ early. inl (record { trace = early.trace; out = early.out })) r.cut
 
 asks_noted : (name : List ℕ) (before after : ShelfState) → after ≡ noted before name → asks_between before after ≡ given_ask name ∷ []
 asks_noted name before after is = between before after (given_ask name ∷ []) (ap (λ s. s.asks) is)
@@ -131,7 +184,7 @@ module _ (words : List (List ℕ)) (name : List ℕ) (before after : Outside) (e
   works_unplanned (unplanned.Refused r) p = record {
     name = name;
     is_command = is_command;
-    cause = inl p.refused;
+    cause = p.refused;
     asks = asks_noted name before.shelf after.shelf p.shelf;
     count = ap (λ s. s.count) p.shelf;
     early = early;
@@ -139,17 +192,6 @@ module _ (words : List (List ℕ)) (name : List ℕ) (before after : Outside) (e
   works_unplanned unplanned.Memory p = inl early
 
   module _ (plan : Plan) (p : ReadPlan plan name before.shelf after.shelf) where
-    -- a run that is not served yet
-    pub works_unbuilt : run_specification words ≡ Some name → run_of words ≡ None → Works (Line (Refused unbuilt)) words before after
-    works_unbuilt is_run not_yet = record {
-      name = name;
-      is_command = is_command;
-      cause = inr (record { name = name; is_run = is_run; plan = plan; is_plan = p.is_plan; not_yet = not_yet; refusal = refl });
-      asks = asks_noted name before.shelf after.shelf p.shelf;
-      count = ap (λ s. s.count) p.shelf;
-      early = early;
-    }
-
     -- a plan that was analysed
     pub works_analysed : (text : List ℕ) → analysed_of words ≡ Some name → text ≡ analysis_text plan → Works (Report text) words before after
     works_analysed text is_analysis is = record {

@@ -1,5 +1,5 @@
 -- What the words of a command ask for.
-use Rattle.std.specs.Prelude.{ℕ, List, [], ◌∷◌, Option, Some, None, map, slice_get, unwrap_or}
+use Rattle.std.specs.Prelude.{ℕ, Bool, List, [], ◌∷◌, Option, Some, None, map, slice_get, unwrap_or}
 use Rattle.lola_model.specs.declared.journal.Show.{Show}
 use Rattle.lola_command.specs.Said.{Word}
 use Rattle.lola_command.specs.Command.{command_of}
@@ -7,48 +7,42 @@ use Rattle.lola_command.specs.declared.command.Command.{Command}
 use Rattle.lola_command.specs.declared.command.Command.TheVariants.{Run, Analyse}
 use Rattle.lola_command.specs.declared.command.RunCommand.{RunCommand}
 
--- what a run is of: a specification and a source, where time begins if that is told, what is shown, and how many workers there are
+-- what a run is of: a specification and sources, where time begins if that is told, what is shown, how many workers there are, and
+-- whether its sources are to be read in turns
 pub record Names : Type 0 where
   pub specification : List ℕ
-  pub source : List ℕ
+  pub sources : List (List ℕ)
   pub start : Option ℕ
   pub show : Show
   pub workers : ℕ
+  pub in_turns : Bool
 
 -- in the order of fetching
 abbrev pub names_of : Names → List (List ℕ)
-names_of names = names.specification ∷ names.source ∷ []
+names_of names = names.specification ∷ names.sources
 
 -- the word of this number
 abbrev pub word_at : List Word → ℕ → Word
 word_at words n = unwrap_or (slice_get words n) []
 
--- where there is one source, its name
-abbrev pub only_source : List Word → List ℕ → Option Word
-only_source words [] = None
-only_source words (n ∷ []) = Some (word_at words n)
-only_source words (n ∷ m ∷ ns) = None
+abbrev pub names_with : List Word → RunCommand → Names
+names_with words r = record {
+  specification = word_at words r.specification;
+  sources = map (word_at words) r.sources;
+  start = r.start;
+  show = r.show;
+  workers = r.workers;
+  in_turns = r.in_turns;
+}
 
--- the source of a run that can be served: it has one; whether its sources go in turns changes nothing
-abbrev pub served_source : List Word → RunCommand → Option Word
-served_source words r = only_source words r.sources
+abbrev pub run_by : List Word → Option Command → Option Names
+run_by words None = None
+run_by words (Some (Run r)) = Some (names_with words r)
+run_by words (Some (Analyse n)) = None
 
-abbrev pub names_with : List Word → RunCommand → Word → Names
-names_with words r source =
-    record { specification = word_at words r.specification; source = source; start = r.start; show = r.show; workers = r.workers }
-
-abbrev pub with_source : List Word → RunCommand → Option Word → Option Names
-with_source words r None = None
-with_source words r (Some source) = Some (names_with words r source)
-
-abbrev pub served : List Word → Option Command → Option Names
-served words None = None
-served words (Some (Run r)) = with_source words r (served_source words r)
-served words (Some (Analyse n)) = None
-
--- the served run that the words are
+-- the run that the words are
 abbrev pub run_of : List Word → Option Names
-run_of words = served words (command_of words)
+run_of words = run_by words (command_of words)
 
 abbrev pub specification_named : List Word → Option Command → Option Word
 specification_named words None = None
@@ -58,15 +52,6 @@ specification_named words (Some (Analyse n)) = Some (word_at words n)
 -- the specification of a command, which is asked for first
 abbrev pub specification_of : List Word → Option Word
 specification_of words = specification_named words (command_of words)
-
-abbrev pub run_named : List Word → Option Command → Option Word
-run_named words None = None
-run_named words (Some (Run r)) = Some (word_at words r.specification)
-run_named words (Some (Analyse n)) = None
-
--- the specification of a run, served or not
-abbrev pub run_specification : List Word → Option Word
-run_specification words = run_named words (command_of words)
 
 abbrev pub analysed_named : List Word → Option Command → Option Word
 analysed_named words None = None

@@ -1,4 +1,3 @@
 pub mod Command
 pub mod Monitor
-pub mod Parts
 pub mod Outcomes

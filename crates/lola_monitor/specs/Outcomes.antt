@@ -1,5 +1,5 @@
 -- What the parts of the top call leave, before its last line.
-use Rattle.std.specs.Prelude.{◌≡◌, ◌⊎◌, ℕ, ◌<◌, List, [], ◌∷◌, ◌++◌, length, true, false, None, Some, Result, Ok, Err}
+use Rattle.std.specs.Prelude.{◌≡◌, ◌⊎◌, ℕ, ◌+◌, ◌<◌, List, [], ◌∷◌, ◌++◌, length, map, slice_get, Bool, true, false, if◌then◌else◌, Option, None, Some, option_map, Result, Ok, Err}
 use Rattle.lola_port.specs.Asks.{given_ask}
 use Rattle.lola_port.specs.States.{Moved, PutBroke, Rose, ShelfState, SinkState, SourceState, grown}
 use Rattle.lola_port.specs.declared.traits.Ask.{Ask}
@@ -10,7 +10,6 @@ use Rattle.lola_model.specs.Model.{HasOneModel}
 use Rattle.lola_model.specs.Trace.{trace_text}
 use Rattle.lola_model.specs.declared.plan.Plan.{Plan}
 use Rattle.lola_model.specs.declared.journal.Entry.{Entry}
-use Rattle.lola_model.specs.declared.source.MalformedKind.{MalformedKind}
 use Rattle.lola_model.specs.Acceptance.{IsAccepted}
 use Rattle.lola_front.specs.Front.{IsPlanOf, IsRefusalOf}
 use Rattle.lola_command.specs.Command.{command_of}
@@ -18,11 +17,19 @@ use Rattle.lola_rows.specs.Rows.{SourceEnd, Whole, MalformedAt}
 use Rattle.lola_report.specs.Ends.{end_text}
 use Rattle.lola_report.specs.declared.end.EndLine.{EndLine}
 use Rattle.lola_report.specs.declared.end.EndLine.TheVariants.{Done, Usage, Refused, Malformed, Fault, UnreadableSpecification, UnreadableSource, Analysed}
+use Rattle.lola_feed.specs.Feeding.{Working}
+use Rattle.lola_feed.specs.declared.worker.SourceEnd as worker
+use Rattle.lola_feed.specs.declared.worker.SourceEnd.TheVariants as finish
+use Rattle.lola_run.specs.Verdicts.{AreOfSources, HasFrontOf, HasLines, IsFineBefore, Setting, fault_in, settled_fault_in, verdicts}
+use Rattle.lola_run.specs.Running.{Keeping}
+use Rattle.lola_run.specs.declared.stop.Stop.{Stop}
+use Rattle.lola_run.specs.declared.stop.Stop.TheVariants as stop
+use Rattle.lola_shelves.specs.declared.sources.FetchStop.{FetchStop}
+use Rattle.lola_shelves.specs.declared.sources.FetchStop.TheVariants as fetch
 use Rattle.lola_monitor.specs.Command.{specification_of}
-use Rattle.lola_monitor.specs.Monitor.{AllGiven, Analysis, AreOfSources, Begins, BrokeOff, Ends, HasFrontOf, HasLines, IsBroken, IsDeadlineFault, IsEarly, IsFineBefore, IsRefusedBy, IsRowFault, IsUnbuilt, Outside, Plans, Ran, Setting, SourceFailed, StandsAt, analysis_text, asks_between, done_line, fault_in, fault_line, first_faulty, is_faulty, setting_of, settled_fault_in, verdicts}
-use Rattle.lola_monitor.specs.Parts.{Keeping}
-use Rattle.lola_monitor.specs.declared.outcome.Stop.{Stop}
-use Rattle.lola_monitor.specs.declared.outcome.Stop.TheVariants as stop
+use Rattle.lola_monitor.specs.Monitor.{AllBegin, AllEnd, AllGiven, AllRead, Analysis, AreGiven, BrokeOff, Ends, GoInTurns, IsAtDeadline, IsAtRow, IsBroken, IsEarly, IsFrontOf, IsRefusedBy, MalformedSource, Outside, Plans, Ran, WereGiven, analysis_text, asks_between, done_line, fault_line, first_faulty, first_malformed, is_faulty, setting_of}
+use Rattle.lola_monitor.specs.declared.ending.SourcesEnd.{SourcesEnd}
+use Rattle.lola_monitor.specs.declared.ending.SourcesEnd.TheVariants as sources_end
 use Rattle.lola_monitor.specs.declared.outcome.Outcome.{Outcome}
 use Rattle.lola_monitor.specs.declared.outcome.Outcome.TheVariants.{Line, Report, Put, Memory}
 use Rattle.lola_monitor.specs.declared.outcome.Unplanned.{Unplanned}
@@ -58,99 +65,117 @@ pub record Stopped (name : List ℕ) (before after : ShelfState) : Type 0 where
   pub asks : (after.asks ≡ before.asks) ⊎ ((ask : Ask) × (ask.name ≡ name) × (after.asks ≡ before.asks ++ ask ∷ []))
   pub out : after.out ≡ before.out
 
--- the rows that were taken of a source, with their trace and their verdicts
-pub record SourceRun (s : Setting) (before after : Outside) : Type 0 where
+-- some of these names were asked for, in their order, and each source is back
+pub record Grew (names : List (List ℕ)) (before after : ShelfState) : Type 0 where
+  pub asks : List Ask
+  pub appended : after.asks ≡ before.asks ++ asks
+  pub front : IsFrontOf (map (λ ask. ask.name) asks) names
+  pub home : after.out ≡ before.out
+
+-- all names were given and all sources are back, none of which has failed
+pub record AllHome (names : List (List ℕ)) (before after : ShelfState) : Type 0 where
+  pub asks : after.asks ≡ before.asks ++ map given_ask names
+  pub count : after.count ≡ before.count
+  pub out : after.out ≡ before.out
+
+-- all names were given and all sources are back, of which some may have failed: these are their asks
+pub record CameHome (names : List (List ℕ)) (asks : List Ask) (before after : ShelfState) : Type 0 where
+  pub appended : after.asks ≡ before.asks ++ asks
+  pub named : map (λ ask. ask.name) asks ≡ names
+  pub given : AreGiven asks
+  pub unfailed : first_faulty asks ≡ None → after.count ≡ before.count
+  pub failed : (at : ℕ) → first_faulty asks ≡ Some at → Rose before.count after.count
+  pub out : after.out ≡ before.out
+
+-- the rows that were taken of sources, with their trace and their verdicts
+pub record SourcesRun (s : Setting) (names : List (List ℕ)) (before after : Outside) : Type 0 where
   pub journal : List Entry
   pub legal : IsLegal s.start journal
-  pub sources : AreOfSources 1 journal
+  pub sources : AreOfSources (length names) journal
+  pub rows : AllBegin before.shelf s.plan names journal
+  pub turns : GoInTurns names s.plan before.shelf after.shelf journal
   pub trace : after.trace ≡ grown before.trace (trace_text journal)
   pub out : after.out ≡ grown before.out (verdicts s journal)
 
--- a source was run to its end
-pub record EndedRun (end : SourceEnd) (s : Setting) (name : List ℕ) (before after : Outside) : Type 0 where
-  pub run : SourceRun s before after
-  pub shelf : after.shelf ≡ noted before.shelf name
-  pub rows : Ends (before.shelf.told name) s.plan (rows_of 0 run.journal) end
+-- all sources were run to their ends
+pub record EndedRun (s : Setting) (names : List (List ℕ)) (before after : Outside) : Type 0 where
+  pub run : SourcesRun s names before after
+  pub home : AllHome names before.shelf after.shelf
   pub no_fault : fault_in s run.journal ≡ None
   pub settled : settled_fault_in s run.journal ≡ None
 
--- a source was run to its end, and ends well
-pub record DoneRun (line : EndLine) (s : Setting) (name : List ℕ) (before after : Outside) : Type 0 where
-  pub ended : EndedRun Whole s name before after
+-- each of them ends well
+pub record DoneRun (line : EndLine) (s : Setting) (names : List (List ℕ)) (before after : Outside) : Type 0 where
+  pub ended : EndedRun s names before after
+  pub rows : (n : ℕ) (name : List ℕ) → slice_get names n ≡ Some name → Ends (before.shelf.told name) s.plan n (rows_of n ended.run.journal) Whole
   pub line_is : line ≡ done_line s ended.run.journal
 
--- a source was run to a malformed line
-pub record MalformedRun (line : EndLine) (kind : MalformedKind) (row : ℕ) (s : Setting) (name : List ℕ) (before after : Outside) : Type 0 where
-  pub ended : EndedRun (MalformedAt kind row) s name before after
-  pub line_is : line ≡ Malformed 0 row kind
+-- the least that is malformed is named
+pub record MalformedRun (line : EndLine) (s : Setting) (names : List (List ℕ)) (before after : Outside) : Type 0 where
+  pub ended : EndedRun s names before after
+  pub ends : List SourceEnd
+  pub rows : AllEnd before.shelf s.plan names ended.run.journal ends
+  pub at : MalformedSource
+  pub least : first_malformed ends ≡ Some at
+  pub line_is : line ≡ Malformed at.source at.row at.kind
 
--- the last row has the fault
-pub record AtRow (fault : RunFault) (s : Setting) (name : List ℕ) (journal : List Entry) (before after : ShelfState) : Type 0 where
-  pub is : IsRowFault s journal fault
-  pub shelf : after ≡ noted before name
-
--- the deadline of the last stamp has the fault, and the whole source was read
-pub record AtDeadline (s : Setting) (name : List ℕ) (journal : List Entry) (before after : ShelfState) : Type 0 where
-  pub is : IsDeadlineFault (before.told name) s journal
-  pub shelf : after ≡ noted before name
-
--- the deadline of the last stamp has the fault, and the source has failed
-pub record AtCutDeadline (s : Setting) (name : List ℕ) (journal : List Entry) (before after : ShelfState) : Type 0 where
-  pub settled : settled_fault_in s journal ≡ None
-  pub shelf : Marred name before after
-
--- a source was run to the first fault
-pub record FaultRun (line : EndLine) (s : Setting) (name : List ℕ) (before after : Outside) : Type 0 where
-  pub run : SourceRun s before after
+-- sources were run to the first fault
+pub record FaultRun (line : EndLine) (s : Setting) (names : List (List ℕ)) (before after : Outside) : Type 0 where
+  pub run : SourcesRun s names before after
   pub fault : RunFault
-  pub rows : Begins (before.shelf.told name) s.plan (rows_of 0 run.journal)
   pub is_fault : fault_in s run.journal ≡ Some fault
-  pub place : AtRow fault s name run.journal before.shelf after.shelf ⊎ (AtDeadline s name run.journal before.shelf after.shelf ⊎ AtCutDeadline s name run.journal before.shelf after.shelf)
+  pub asks : List Ask
+  pub home : CameHome names asks before.shelf after.shelf
+  pub stands : IsAtRow s run.journal fault asks ⊎ IsAtDeadline before.shelf s names asks run.journal
   pub line_is : line ≡ fault_line s.plan fault
 
--- a source was run until it could not be read, or was not given
-pub record CutRun (line : EndLine) (s : Setting) (name : List ℕ) (before after : Outside) : Type 0 where
-  pub run : SourceRun s before after
-  pub shelf : Marred name before.shelf after.shelf
-  pub rows : Begins (before.shelf.told name) s.plan (rows_of 0 run.journal)
+-- a source was not given, and nothing was run; or sources were run, and some could not be read to their ends
+pub record CutRun (line : EndLine) (s : Setting) (names : List (List ℕ)) (before after : Outside) : Type 0 where
+  pub run : SourcesRun s names before after
   pub no_fault : fault_in s run.journal ≡ None
-  pub unless_given : shelf.ask.given ≡ false → run.journal ≡ []
-  pub line_is : line ≡ UnreadableSource 0
+  pub asked : Grew names before.shelf after.shelf
+  pub at : ℕ
+  pub least : first_faulty asked.asks ≡ Some at
+  pub rose : Rose before.shelf.count after.shelf.count
+  pub unless_given : (n : ℕ) (ask : Ask) → slice_get asked.asks n ≡ Some ask → ask.given ≡ false → run.journal ≡ []
+  pub read : AreGiven asked.asks → (map (λ ask. ask.name) asked.asks ≡ names) × AllRead before.shelf s.plan names asked.asks run.journal
+  pub line_is : line ≡ UnreadableSource at
 
 -- what stands of a run that was cut short
-pub record CutFacts (s : Setting) (name : List ℕ) (before after : Outside) : Type 0 where
+pub record CutFacts (s : Setting) (names : List (List ℕ)) (before after : Outside) : Type 0 where
   pub journal : List Entry
   pub legal : IsLegal s.start journal
-  pub sources : AreOfSources 1 journal
-  pub rows : Begins (before.shelf.told name) s.plan (rows_of 0 journal)
+  pub sources : AreOfSources (length names) journal
+  pub rows : AllBegin before.shelf s.plan names journal
+  pub turns : GoInTurns names s.plan before.shelf after.shelf journal
   pub trace : HasLines before.trace after.trace journal
   pub out : HasFrontOf before.out after.out (verdicts s journal)
 
--- a source was run until a put failed
-pub record BrokenRun (s : Setting) (name : List ℕ) (before after : Outside) : Type 0 where
-  pub shelf : Stopped name before.shelf after.shelf
-  pub cut : CutFacts s name before after
+-- sources were run until a put failed
+pub record BrokenRun (s : Setting) (names : List (List ℕ)) (before after : Outside) : Type 0 where
+  pub shelf : Grew names before.shelf after.shelf
+  pub cut : CutFacts s names before after
   pub no_fault : IsFineBefore s cut.journal
   pub rose : Rose before.out.count after.out.count ⊎ Rose before.trace.count after.trace.count
 
--- a source was run, or asked for, until there was no memory
-pub record StoppedRun (s : Setting) (name : List ℕ) (before after : Outside) : Type 0 where
-  pub shelf : Stopped name before.shelf after.shelf
-  pub cut : CutFacts s name before after ⊎ IsEarly before after
+-- sources were run, or asked for, until there was no memory
+pub record StoppedRun (s : Setting) (names : List (List ℕ)) (before after : Outside) : Type 0 where
+  pub shelf : Grew names before.shelf after.shelf
+  pub cut : CutFacts s names before after ⊎ IsEarly before after
 
--- a run of a source
-abbrev pub RunsSource : Outcome → Setting → List ℕ → Outside → Outside → Type 0
-RunsSource (Line (Done a l n v)) s name before after = DoneRun (Done a l n v) s name before after
-RunsSource (Line (Malformed n row kind)) s name before after = MalformedRun (Malformed n row kind) kind row s name before after
-RunsSource (Line (Fault stream kind time)) s name before after = FaultRun (Fault stream kind time) s name before after
-RunsSource (Line (UnreadableSource n)) s name before after = CutRun (UnreadableSource n) s name before after
-RunsSource (Line Usage) s name before after = ⊥
-RunsSource (Line (Refused r)) s name before after = ⊥
-RunsSource (Line UnreadableSpecification) s name before after = ⊥
-RunsSource (Line (Analysed n w)) s name before after = ⊥
-RunsSource (Report text) s name before after = ⊥
-RunsSource Put s name before after = BrokenRun s name before after
-RunsSource Memory s name before after = StoppedRun s name before after
+-- a run of sources
+abbrev pub RunsSources : Outcome → Setting → List (List ℕ) → Outside → Outside → Type 0
+RunsSources (Line (Done a l n v)) s names before after = DoneRun (Done a l n v) s names before after
+RunsSources (Line (Malformed n row kind)) s names before after = MalformedRun (Malformed n row kind) s names before after
+RunsSources (Line (Fault stream kind time)) s names before after = FaultRun (Fault stream kind time) s names before after
+RunsSources (Line (UnreadableSource n)) s names before after = CutRun (UnreadableSource n) s names before after
+RunsSources (Line Usage) s names before after = ⊥
+RunsSources (Line (Refused r)) s names before after = ⊥
+RunsSources (Line UnreadableSpecification) s names before after = ⊥
+RunsSources (Line (Analysed n w)) s names before after = ⊥
+RunsSources (Report text) s names before after = ⊥
+RunsSources Put s names before after = BrokenRun s names before after
+RunsSources Memory s names before after = StoppedRun s names before after
 
 -- a specification was read, and its plan made
 pub record ReadPlan (plan : Plan) (name : List ℕ) (before after : ShelfState) : Type 0 where
@@ -184,52 +209,118 @@ without_plan unplanned.Unreadable = Line UnreadableSpecification
 without_plan (unplanned.Refused r) = Line (Refused r)
 without_plan unplanned.Memory = Memory
 
+-- how a call ends where not all sources were fetched
+abbrev pub unfetched : FetchStop → Outcome
+unfetched (fetch.Failed at) = Line (UnreadableSource at)
+unfetched fetch.Memory = Memory
+
+-- how each worker ended
+abbrev pub ends_of : List Working → List (Option worker.SourceEnd)
+ends_of workers = map (λ w. w.end) workers
+
+-- whether a read failed
+abbrev pub is_read_fault : Option worker.SourceEnd → Bool
+is_read_fault None = false
+is_read_fault (Some finish.End) = false
+is_read_fault (Some (finish.Malformed kind row)) = false
+is_read_fault (Some finish.ReadFault) = true
+is_read_fault (Some finish.Closed) = false
+is_read_fault (Some finish.Memory) = false
+
+-- the least source whose read failed
+abbrev pub first_failed : List (Option worker.SourceEnd) → Option ℕ
+first_failed [] = None
+first_failed (end ∷ ends) = if is_read_fault end then Some 0 else option_map (λ n. n + 1) (first_failed ends)
+
+-- the end of a source whose worker ended so, where its reads did not fail
+abbrev pub source_end : Option worker.SourceEnd → SourceEnd
+source_end None = Whole
+source_end (Some finish.End) = Whole
+source_end (Some (finish.Malformed kind row)) = MalformedAt kind row
+source_end (Some finish.ReadFault) = Whole
+source_end (Some finish.Closed) = Whole
+source_end (Some finish.Memory) = Whole
+
+-- how sources end together where this one ends malformed
+abbrev pub malformed_at : ℕ → SourceEnd → Option SourcesEnd
+malformed_at source Whole = None
+malformed_at source (MalformedAt kind row) = Some (sources_end.Malformed source row kind)
+
+-- the least malformed source
+abbrev pub malformed_by : Option MalformedSource → SourcesEnd
+malformed_by None = sources_end.Whole
+malformed_by (Some m) = sources_end.Malformed m.source m.row m.kind
+
+-- how sources ended together: a failed read comes before a malformed line
+abbrev pub end_by : Option ℕ → Option MalformedSource → SourcesEnd
+end_by (Some at) m = sources_end.Failed at
+end_by None m = malformed_by m
+
+abbrev pub end_of : List (Option worker.SourceEnd) → SourcesEnd
+end_of ends = end_by (first_failed ends) (first_malformed (map source_end ends))
+
+-- the last line of a run that no fault ended
+abbrev pub line_of : SourcesEnd → Keeping → EndLine
+line_of sources_end.Whole kept = Done kept.accepted kept.late kept.desk.steps kept.desk.lines
+line_of (sources_end.Failed at) kept = UnreadableSource at
+line_of (sources_end.Malformed source row kind) kept = Malformed source row kind
+
 -- what a run's end makes of a call
-abbrev pub OutcomeAfter : Stop → Plan → Keeping → Outcome → Type 0
-OutcomeAfter stop.Ended plan kept outcome = outcome ≡ Line (Done kept.accepted kept.late kept.desk.steps kept.desk.lines)
-OutcomeAfter (stop.Malformed kind row) plan kept outcome = outcome ≡ Line (Malformed 0 row kind)
-OutcomeAfter stop.ReadFault plan kept outcome = outcome ≡ Line (UnreadableSource 0)
-OutcomeAfter (stop.Fault stream kind time) plan kept outcome = (outcome ≡ Line (fault_line plan (record { stream = stream; kind = kind; time = time }))) ⊎ (outcome ≡ Memory)
-OutcomeAfter stop.Put plan kept outcome = outcome ≡ Put
-OutcomeAfter stop.Memory plan kept outcome = outcome ≡ Memory
+abbrev pub OutcomeAfter : Result (Unit {0}) Stop → SourcesEnd → Plan → Keeping → Outcome → Type 0
+OutcomeAfter (Ok done) end plan kept outcome = outcome ≡ Line (line_of end kept)
+OutcomeAfter (Err (stop.Fault stream kind time)) end plan kept outcome = (outcome ≡ Line (fault_line plan (record { stream = stream; kind = kind; time = time }))) ⊎ (outcome ≡ Memory)
+OutcomeAfter (Err stop.Put) end plan kept outcome = outcome ≡ Put
+OutcomeAfter (Err stop.Memory) end plan kept outcome = outcome ≡ Memory
 
 -- all but the last line: rows were taken
 pub record Stood (words : List (List ℕ)) (before after : Outside) : Type 0 where
   pub run : Ran words before after
   pub out : after.out ≡ grown before.out (verdicts (setting_of run.plan run.names) run.journal)
-  pub rows : Begins (before.shelf.told run.names.source) run.plan (rows_of 0 run.journal)
+  pub rows : AllBegin before.shelf run.plan run.names.sources run.journal
 
--- all but the last line: a source was run to its end
-pub record StoodEnded (end : SourceEnd) (words : List (List ℕ)) (before after : Outside) : Type 0 where
+-- all but the last line: all sources were run to their ends
+pub record StoodEnded (words : List (List ℕ)) (before after : Outside) : Type 0 where
   pub stood : Stood words before after
-  pub rows : Ends (before.shelf.told stood.run.names.source) stood.run.plan (rows_of 0 stood.run.journal) end
   pub no_fault : fault_in (setting_of stood.run.plan stood.run.names) stood.run.journal ≡ None
   pub settled : settled_fault_in (setting_of stood.run.plan stood.run.names) stood.run.journal ≡ None
   pub given : AllGiven stood.run.names before.shelf after.shelf
 
 pub record StoodDone (line : EndLine) (words : List (List ℕ)) (before after : Outside) : Type 0 where
-  pub ended : StoodEnded Whole words before after
+  pub ended : StoodEnded words before after
+  pub rows : (s : ℕ) (name : List ℕ) → slice_get ended.stood.run.names.sources s ≡ Some name → Ends (before.shelf.told name) ended.stood.run.plan s (rows_of s ended.stood.run.journal) Whole
   pub line_is : line ≡ done_line (setting_of ended.stood.run.plan ended.stood.run.names) ended.stood.run.journal
 
-pub record StoodMalformed (line : EndLine) (kind : MalformedKind) (row : ℕ) (words : List (List ℕ)) (before after : Outside) : Type 0 where
-  pub ended : StoodEnded (MalformedAt kind row) words before after
-  pub line_is : line ≡ Malformed 0 row kind
+pub record StoodMalformed (line : EndLine) (words : List (List ℕ)) (before after : Outside) : Type 0 where
+  pub ended : StoodEnded words before after
+  pub ends : List SourceEnd
+  pub rows : AllEnd before.shelf ended.stood.run.plan ended.stood.run.names.sources ended.stood.run.journal ends
+  pub at : MalformedSource
+  pub least : first_malformed ends ≡ Some at
+  pub line_is : line ≡ Malformed at.source at.row at.kind
 
--- all but the last line: a source was run to the first fault
+-- all but the last line: sources were run to the first fault
 pub record StoodFault (line : EndLine) (words : List (List ℕ)) (before after : Outside) : Type 0 where
   pub stood : Stood words before after
   pub fault : RunFault
   pub is_fault : fault_in (setting_of stood.run.plan stood.run.names) stood.run.journal ≡ Some fault
-  pub stands : StandsAt stood.run.names (setting_of stood.run.plan stood.run.names) stood.run.journal fault before.shelf after.shelf
+  pub asks : List Ask
+  pub given : WereGiven stood.run.names asks before.shelf after.shelf
+  pub stands : IsAtRow (setting_of stood.run.plan stood.run.names) stood.run.journal fault asks
+      ⊎ IsAtDeadline before.shelf (setting_of stood.run.plan stood.run.names) stood.run.names.sources asks stood.run.journal
   pub line_is : line ≡ fault_line stood.run.plan fault
 
--- all but the last line: a source was not given, or could not be read to its end
+-- all but the last line: a source was not given, or some could not be read to their ends
 pub record StoodCut (line : EndLine) (words : List (List ℕ)) (before after : Outside) : Type 0 where
   pub stood : Stood words before after
   pub no_fault : fault_in (setting_of stood.run.plan stood.run.names) stood.run.journal ≡ None
-  pub failed : SourceFailed stood.run.names before.shelf after.shelf
-  pub unless_given : failed.ask.given ≡ false → stood.run.journal ≡ []
-  pub line_is : line ≡ UnreadableSource 0
+  pub asks : List Ask
+  pub between : asks_between before.shelf after.shelf ≡ given_ask stood.run.names.specification ∷ asks
+  pub at : ℕ
+  pub least : first_faulty asks ≡ Some at
+  pub rose : Rose before.shelf.count after.shelf.count
+  pub unless_given : (s : ℕ) (ask : Ask) → slice_get asks s ≡ Some ask → ask.given ≡ false → stood.run.journal ≡ []
+  pub read : AreGiven asks → (map (λ ask. ask.name) asks ≡ stood.run.names.sources) × AllRead before.shelf stood.run.plan stood.run.names.sources asks stood.run.journal
+  pub line_is : line ≡ UnreadableSource at
 
 -- all but the last line: the words are no command
 pub record NoCommand (words : List (List ℕ)) (before after : Outside) : Type 0 where
@@ -237,11 +328,11 @@ pub record NoCommand (words : List (List ℕ)) (before after : Outside) : Type 0
   pub shelf : after.shelf ≡ before.shelf
   pub early : IsEarly before after
 
--- all but the last line: the specification is refused, or is of a run that is not built yet
+-- all but the last line: the specification is refused
 pub record NoPlan (r : Refusal) (words : List (List ℕ)) (before after : Outside) : Type 0 where
   pub name : List ℕ
   pub is_command : specification_of words ≡ Some name
-  pub cause : IsRefusedBy (before.shelf.told name) r ⊎ IsUnbuilt words (before.shelf.told name) r
+  pub cause : IsRefusedBy (before.shelf.told name) r
   pub asks : asks_between before.shelf after.shelf ≡ given_ask name ∷ []
   pub count : after.shelf.count ≡ before.shelf.count
   pub early : IsEarly before after
@@ -263,7 +354,7 @@ pub record StoodAnalysed (text : List ℕ) (words : List (List ℕ)) (before aft
 -- all but the last line
 abbrev pub Works : Outcome → List (List ℕ) → Outside → Outside → Type 0
 Works (Line (Done a l s v)) words before after = StoodDone (Done a l s v) words before after
-Works (Line (Malformed n row kind)) words before after = StoodMalformed (Malformed n row kind) kind row words before after
+Works (Line (Malformed n row kind)) words before after = StoodMalformed (Malformed n row kind) words before after
 Works (Line (Fault stream kind time)) words before after = StoodFault (Fault stream kind time) words before after
 Works (Line (UnreadableSource n)) words before after = StoodCut (UnreadableSource n) words before after
 Works (Line Usage) words before after = NoCommand words before after

@@ -2,16 +2,13 @@
 #![tactic(auto)]
 
 mod analysing;
+mod ending;
 mod monitor;
 mod outcome;
 mod planning;
 mod putting;
 mod reading;
-mod rows;
-mod run;
-mod source;
-#[cfg(test)]
-mod tests;
+mod sources;
 mod words;
 
 pub use monitor::run_monitor;

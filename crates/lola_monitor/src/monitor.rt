@@ -10,21 +10,14 @@ use crate::analysing::analysis;
 use crate::outcome::Outcome;
 use crate::planning::{read_plan, without_plan};
 use crate::putting::conclude;
-use crate::source::run_source;
-use crate::words::{served_source, word_at};
+use crate::sources::run_sources;
+use crate::words::word_at;
 use lola_command::command::{Command, RunCommand, read_command};
 use lola_port::{Gate, Shelf, Sink};
 use lola_report::end::EndLine;
-use lola_value::front::{Code, Refusal};
 use std::alloc::Global;
 use std::sync::Wait;
 use std::thread::Threads;
-
-/// What a run is refused by that is not built yet.
-const UNBUILT: Refusal = Refusal {
-    code: Code::Unbuilt,
-    at: 0,
-};
 
 // All but the last line of a run.
 fn run<R: Threads + Sync, F: Shelf, K: Sink, T: Sink, G: Gate + Sync>(
@@ -47,10 +40,7 @@ fn run<R: Threads + Sync, F: Shelf, K: Sink, T: Sink, G: Gate + Sync>(
         Ok(plan) => plan,
         Err(end) => return without_plan(end),
     };
-    let Some(source) = served_source(words, command) else {
-        return Outcome::Line(EndLine::Refused(UNBUILT));
-    };
-    run_source(rt, alloc, plan, command, source, shelf, out, trace, gate)
+    run_sources(rt, alloc, plan, command, words, shelf, out, trace, gate)
 }
 
 // All but the report of an analysis, which puts nothing to the trace.
@@ -102,30 +92,35 @@ fn work<R: Threads + Sync, F: Shelf, K: Sink, T: Sink, G: Gate + Sync>(
 
 /// Does all that the program does, and answers its status.
 ///
-/// For every specification that is accepted, the trace that is written holds the source's rows once
-/// and in their order, each marked late exactly where it is stamped before the merged time, and the
+/// For every specification that is accepted, the trace that is written holds the rows of all sources once, those of each source
+/// in their order, each marked late exactly where it is stamped before the merged time, and the
 /// verdicts that are written are those of the evaluation model of the accepted rows, up to its first
 /// fault, at the same stream and step.
 ///
-/// `words` are the words of a command line, as `lola_command` reads them. Specification and source are
-/// fetched from `shelf`. Verdicts and the end line are put to `out`, the trace to `trace`. An analysis puts
-/// its report and end line to `out`, and nothing to `trace`. Where more than one worker is asked for, the instances of a
-/// layer are evaluated by as many threads, started through `rt`, which call the gate; how many there are changes nothing
+/// `words` are the words of a command line, as `lola_command` reads them. The specification, and then each source in the order of
+/// the words, is fetched from `shelf`; all are given back. Verdicts and the end line are put to `out`, the trace to `trace`. An
+/// analysis puts its report and end line to `out`, and nothing to `trace`. Where more than one worker is asked for, the instances
+/// of a layer are evaluated by as many threads, started through `rt`, which call the gate; how many there are changes nothing
 /// that is written.
+///
+/// A run has 1 to 64 sources, numbered from 0. They are read in turns: one row of source 0, one of source 1, and so on, and then
+/// the next round, in which a source that has ended has no turn. With `--in-turns` this order is promised; without it the rows
+/// may come in any order that keeps that of each source. A source that ends at a malformed line, or whose read fails, ends alone:
+/// the others are read to their ends.
 ///
 /// | Status | Comes |
 /// |---|---|
-/// | 0 | all rows were taken, and the source ends well; or the specification was analysed |
+/// | 0 | all rows of all sources were taken, and each source ends well; or the specification was analysed |
 /// | 2 | the words are no command |
-/// | 3 | the specification was read, and is refused, or is of a run that is not built yet |
-/// | 4 | all rows were taken up to a malformed line |
+/// | 3 | the specification was read, and is refused |
+/// | 4 | all rows of all sources were taken up to their malformed lines; the least source that has one is named |
 /// | 5 | a row, a deadline before it, or the deadline at the last stamp has a fault |
-/// | 6 | the specification or the source was not given, or could not be read |
+/// | 6 | the specification or a source was not given, and no row was taken; or it could not be read, and all rows of the other sources were taken; the least of them is named |
 /// | 7 | a put failed |
 /// | 8 | there is no memory |
 ///
-/// A run is served where it names one source, for every specification that is accepted and with all options. Whether its
-/// sources go in turns changes nothing, since there is one. A run of several sources is refused, as not built yet.
+/// Of several the status tells the first of these: what stopped the run (5, 7 or 8), a source that could not be read (6), a
+/// malformed line (4).
 pub fn run_monitor<R: Threads + Wait + Sync, F: Shelf, K: Sink, T: Sink, G: Gate + Sync>(
     rt: &R,
     alloc: Global,
@@ -138,7 +133,7 @@ pub fn run_monitor<R: Threads + Wait + Sync, F: Shelf, K: Sink, T: Sink, G: Gate
     requires { (F.state shelf.old).out ≡ 0 }
     // The names asked for are the command's, in order; no other is. Each source is given back.
     ensures asked { Asked (names_asked (map string_bytes words.now)) (F.state shelf.old) (F.state shelf.new) }
-    // A journal that is legal and is the trace; its rows are those of the source; the verdicts are the model's.
+    // A journal that is legal and is the trace; its rows are those of the sources; the verdicts are the model's.
     ensures done { result ≡ 0 → IsDone (map string_bytes words.now) (outside (F.state shelf.old) (K.state out.old) (T.state trace.old)) (outside (F.state shelf.new) (K.state out.new) (T.state trace.new))
         ⊎ IsAnalysed (map string_bytes words.now) (outside (F.state shelf.old) (K.state out.old) (T.state trace.old)) (outside (F.state shelf.new) (K.state out.new) (T.state trace.new)) }
     ensures usage { result ≡ 2 → IsUsage (map string_bytes words.now) (outside (F.state shelf.old) (K.state out.old) (T.state trace.old)) (outside (F.state shelf.new) (K.state out.new) (T.state trace.new)) }

@@ -1,62 +1,13 @@
-//! Lines that are put to a sink.
+//! The last line of a call, put to a sink.
 ghost use Rattle.std.specs.Prelude.{◌≡◌, ◌<◌, IfOk, length};
-ghost use Rattle.lola_model.specs.Trace.{trace_line};
 ghost use Rattle.lola_report.specs.Ends.{end_text};
 ghost use Rattle.lola_monitor.specs.Outcomes.{Concluded, status_with, status_without};
-ghost use Rattle.lola_monitor.specs.Parts.{Puts};
 
-use crate::outcome::{Outcome, Stop};
-use lola_model::journal::Entry;
+use crate::outcome::Outcome;
 use lola_port::{PutEnd, Sink};
 use lola_report::end::{EndLine, end_line};
-use lola_report::trace::trace_line;
 use lola_value::text::{Memory, Text};
 use std::alloc::Global;
-
-impl From<PutEnd> for Stop {
-    ghost use Rattle.std.specs.Prelude.{◌≡◌};
-    ghost use Rattle.lola_monitor.specs.Parts.{stop_of};
-
-    ghost from_gives = { λ end stop. stop ≡ stop_of end };
-
-    fn from(end: PutEnd) -> Self {
-        match end {
-            PutEnd::Failed => Stop::Put,
-            PutEnd::Memory => Stop::Memory,
-        }
-    }
-}
-
-impl From<Memory> for Stop {
-    ghost use Rattle.std.specs.Prelude.{◌≡◌};
-    ghost use Rattle.lola_monitor.specs.declared.outcome.Stop.TheVariants as stop;
-
-    ghost from_gives = { λ _ end. end ≡ stop.Memory };
-
-    fn from(_: Memory) -> Self {
-        Stop::Memory
-    }
-}
-
-/// Puts a text, unless it is empty.
-pub fn put_text<K: Sink>(text: &[u8], out: &mut K) -> Result<(), Stop>
-    ensures { Puts result text.now (K.state out.old) (K.state out.new) }
-{
-    if text.is_empty() {
-        return Ok(());
-    }
-    out.put(text)?;
-    Ok(())
-}
-
-/// Puts the line of an entry to the trace, made in a text that is kept.
-pub fn put_entry<T: Sink>(entry: &Entry, line: &mut Text, trace: &mut T) -> Result<(), Stop>
-    ensures { Puts result (trace_line entry.now) (T.state trace.old) (T.state trace.new) }
-{
-    line.clear();
-    trace_line(entry, line)?;
-    put_text(line.as_bytes(), trace)
-}
 
 // The text of a last line.
 fn line_text(alloc: Global, line: &EndLine) -> Result<Text, Memory>

@@ -9,7 +9,7 @@ ghost use Rattle.lola_model.specs.Formulas.{AreOverInputs, IsClauseOverInputs, I
 use lola_findings::given::{of_input, of_rate, of_unbuilt_rate, one_too_wide};
 use lola_model::finding::Finding;
 use lola_model::pacing::Pacing;
-use lola_model::spec::{Clause, Formula, Pace, Sort, Stream};
+use lola_model::spec::{Clause, Formula, Pace, Stream};
 use lola_normal::answer::NormalEnd;
 use lola_normal::normal::normal;
 use lola_value::text::Memory;
@@ -54,17 +54,6 @@ fn of_written(alloc: Global, clause: &Option<Clause>) -> Result<Finding, Memory>
     }
 }
 
-/// Whether a stream is an input.
-fn is_input(stream: &Stream) -> bool
-    ensures { result ≡ is_input_stream stream.now }
-{
-    match stream.sort {
-        Sort::Input => true,
-        Sort::Output => false,
-        Sort::Trigger => false,
-    }
-}
-
 /// What is found of a stream before which so many inputs stand, as far as it is an input or the pacing of its eval
 /// clause is written.
 fn own(alloc: Global, inputs: u32, stream: &Stream) -> Result<Finding, Memory>
@@ -72,7 +61,7 @@ fn own(alloc: Global, inputs: u32, stream: &Stream) -> Result<Finding, Memory>
     requires formula { IsClauseOverInputs stream.now.eval }
     ensures { IfOk result (λ finding. IsOwn inputs stream.now finding) }
 {
-    if is_input(stream) {
+    if stream.is_input() {
         of_input(alloc, inputs)
     } else {
         of_written(alloc, &stream.eval)
@@ -84,7 +73,11 @@ fn counted(inputs: u32, stream: &Stream) -> u32
     requires { inputs_with inputs stream.now ≤ 64 }
     ensures { result ≡ inputs_with inputs stream.now }
 {
-    if is_input(stream) { inputs + 1 } else { inputs }
+    if stream.is_input() {
+        inputs + 1
+    } else {
+        inputs
+    }
 }
 
 /// What is found of each stream, as far as it is an input or the pacing of its eval clause is written.

@@ -15,7 +15,8 @@ use Rattle.lola_model.specs.declared.spec.Spec.{Spec}
 use Rattle.lola_model.specs.declared.spec.Stream.{Stream}
 use Rattle.lola_contents.specs.Changed.{changed, closed}
 use Rattle.lola_stages.specs.Ends.{Place, add_place, places_closed, closings_from, closed_each}
-use Rattle.lola_stages.proofs.Instances.{instance_params, instance_self}
+use Rattle.lola_model.proofs.Orderly.{instance_self}
+use Rattle.lola_stages.proofs.Instances.{instance_params}
 use Rattle.lola_stages.proofs.Quiet.{AreQuiet, closing_if}
 
 -- whether a condition is true

@@ -23,10 +23,10 @@ use Rattle.lola_model.proofs.Orderly.{AreOfRows}
 use Rattle.lola_stages.specs.Stages.{Stage, AreSettled, is_spawned, full_row, content_so_far, first_stage, layer_stage, spawn_stage, eval_stage}
 
 -- what a spawn clause asks for, before it is known who lives: an instance, nothing, or it fails
-
 abbrev pub asked_of : Result (List Field) Answer → Spawned
 asked_of (Ok p) = Named p
 asked_of (Err (Failed k)) = SpawnFailed k
+asked_of (Err Missing) = Idle
 asked_of (Err a) = SpawnPoisoned
 
 -- its condition decides first

@@ -8,7 +8,7 @@ use Rattle.lola_value.specs.Answer.{Answer, Missing}
 use Rattle.lola_value.specs.Kinds.{are_of_kinds, is_well_formed}
 use Rattle.lola_value.specs.Naming.{Naming, AreHeld, IsHeldIn, read_outcome, read_params, the_values}
 use Rattle.lola_model.specs.Content.{Content}
-use Rattle.lola_model.specs.Model.{eval_outcome, close_answer, named_params}
+use Rattle.lola_model.specs.Model.{eval_outcome, named_params}
 use Rattle.lola_model.specs.Store.{Memories, Seen, no_params}
 use Rattle.lola_model.specs.Typing.{noted}
 use Rattle.lola_model.specs.Table.{Spawned, Idle, Named, SpawnFailed, SpawnPoisoned}
@@ -67,8 +67,3 @@ AreNamed plan remembers s es r =
 abbrev pub eval_answer : Spec → Option Stream → Content → List Field → Answer
 eval_answer spec None c p = Missing
 eval_answer spec (Some s) c p = eval_outcome spec c false true s.eval p
-
--- of its close clause
-abbrev pub close_answer_of : Spec → Option Stream → Content → List Field → Answer
-close_answer_of spec None c p = Missing
-close_answer_of spec (Some s) c p = close_answer spec c s.close p

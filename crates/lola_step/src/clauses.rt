@@ -23,13 +23,13 @@ use lola_value::value::{FaultKind, Outcome, Params, Value};
 /// What a spawn clause asks for.
 #[derive(Clone, Copy, Debug, PartialEq, Eq)]
 pub enum Spawning {
-    /// Its condition is not true.
+    /// Its condition is not true, or a parameter has no value.
     Idle,
     /// An instance with these parameters.
     Named(Params),
     /// Its condition or a parameter has a fault.
     Fault(FaultKind),
-    /// Its condition or a parameter is poisoned, or a parameter has no value.
+    /// Its condition or a parameter is poisoned.
     Poison,
 }
 
@@ -162,6 +162,7 @@ fn named<S: StreamStore>(plan: &Plan, exprs: &[Expr], none: &Params, store: &S) 
     match gather(plan, exprs, none, store) {
         Ok(params) => Spawning::Named(params),
         Err(Outcome::Fault(kind)) => Spawning::Fault(kind),
+        Err(Outcome::Missing) => Spawning::Idle,
         Err(_) => Spawning::Poison,
     }
 }

@@ -13,7 +13,6 @@ ghost use Rattle.lola_step.specs.Progress.{IsOf};
 ghost use Rattle.lola_step.specs.Rooms.{rooms, total};
 ghost use Rattle.lola_step.specs.Tasks.{params_seen};
 
-use crate::inputs::is_input;
 use crate::mark::Mark;
 use crate::scratch::Span;
 use crate::verdict::Verdict;
@@ -155,7 +154,7 @@ fn add_outputs<S: StreamStore>(
     ensures count { vec_len verdicts.new ≤ vec_len verdicts.old + length results.now }
     ensures capacity { vec_capacity verdicts.new ≡ vec_capacity verdicts.old }
 {
-    if !is_input(stream) {
+    if !stream.is_input() {
         add_values(store, number, results, verdicts);
     }
 }

@@ -17,7 +17,6 @@ ghost use Rattle.lola_step.specs.Notes.{is_fine as is_fine_mark, layer_spans, la
 ghost use Rattle.lola_step.specs.Progress.{GoesOn, IsAt, IsMomentOf, IsOf};
 ghost use Rattle.lola_step.specs.Tasks.{AreTasks};
 
-use crate::inputs::is_input;
 use crate::mark::Mark;
 use crate::moment::{Moment, is_active};
 use crate::scratch::Span;
@@ -60,7 +59,7 @@ fn runs(plan: &Plan, moment: &Moment, marks: &[Mark], layer: u32, n: usize, stre
     requires order { moment.now.start ≤ moment.now.time }
     ensures { result ≡ runs_in plan.now moment.now marks.now layer n stream.now }
 {
-    if is_input(stream) || layer_at(plan.layers.as_slice(), 2 * n) != layer {
+    if stream.is_input() || layer_at(plan.layers.as_slice(), 2 * n) != layer {
         return false;
     }
     is_active(moment, eval_pacing_at(plan.pacings.as_slice(), n)) && is_fine(marks[n])

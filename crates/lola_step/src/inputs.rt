@@ -4,7 +4,6 @@ ghost use Rattle.std.specs.Prelude.{◌≡◌, ◌<◌, IsTrue, length, slice_ge
 ghost use Rattle.lola_value.specs.Naming.{Naming, IsHeldIn, read_outcome};
 ghost use Rattle.lola_model.specs.Acceptance.{IsAccepted};
 ghost use Rattle.lola_model.specs.Content.{Content};
-ghost use Rattle.lola_model.specs.Model.{is_input as is_input_stream};
 ghost use Rattle.lola_model.specs.Store.{IsRunning, Stands, after_outcome, instances_seen, is_silent, kind_in, now_seen};
 ghost use Rattle.lola_contents.specs.Changed.{told};
 ghost use Rattle.lola_stages.specs.Stages.{first_stage, layer_stage};
@@ -14,19 +13,8 @@ ghost use Rattle.lola_step.specs.Steps.{AreInputs, is_input_outcome};
 
 use lola_contents::calls::push;
 use lola_model::plan::Plan;
-use lola_model::spec::{Sort, Stream};
 use lola_model::store::StreamStore;
 use lola_value::value::Outcome;
-
-/// Whether a stream is an input.
-pub(crate) fn is_input(stream: &Stream) -> bool
-    ensures { result ≡ is_input_stream stream.now }
-{
-    match stream.sort {
-        Sort::Input => true,
-        _ => false,
-    }
-}
 
 /// The outcome of the input of a number; missing where there is none.
 fn outcome_at(inputs: &[Outcome], input: usize) -> Outcome
@@ -70,7 +58,7 @@ pub(crate) fn tell_inputs<S: StreamStore>(
 {
     let mut input = 0;
     for (n, stream) in plan.spec.streams.as_slice().iter().enumerate() {
-        if is_input(stream) {
+        if stream.is_input() {
             tell(store, n as u32, outcome_at(inputs, input));
             input += 1;
         }

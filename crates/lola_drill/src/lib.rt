@@ -1,0 +1,11 @@
+//! Two made-up sources, whose rows are told by a few numbers, and a specification that has inputs for both.
+#![tactic(auto)]
+
+mod drill;
+mod rows;
+mod specification;
+#[cfg(test)]
+mod tests;
+
+pub use drill::Drill;
+pub use specification::SPECIFICATION;

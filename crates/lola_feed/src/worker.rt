@@ -1,0 +1,160 @@
+//! A source's worker: it reads rows and hands them in.
+
+ghost use Rattle.std.specs.Prelude.{◌≡◌, ◌-◌};
+ghost use Rattle.lola_rows.specs.Reading.{IsRowOf, Keeps};
+ghost use Rattle.lola_feed.specs.Feeding.{NextRow, Offers, Turns, beginning, row_or_end};
+
+use crate::desk::Desk;
+use lola_merge::state::Offer;
+use lola_model::journal::Row;
+use lola_model::source::MalformedKind;
+use lola_port::Source;
+use lola_rows::{RowAnswer, RowReader};
+use std::marker::Model;
+
+/// How a source's worker ended.
+#[derive(Clone, Copy, Debug, PartialEq, Eq)]
+pub enum SourceEnd {
+    /// All rows were let in.
+    End,
+    /// The line of this row, or the heading for row 0, has another form.
+    Malformed { kind: MalformedKind, row: u64 },
+    /// A read failed.
+    ReadFault,
+    /// Its desk was closed, and its last row was not let in.
+    Closed,
+    /// There was no memory for a row.
+    Memory,
+}
+
+/// What a turn did.
+#[derive(Clone, Copy, Debug, PartialEq, Eq)]
+pub enum Turn {
+    /// A row was let in.
+    Moved,
+    /// There was no room for a row, which is offered again by the next turn.
+    Full,
+    /// The worker has ended.
+    Done(SourceEnd),
+}
+
+/// The reader of a source, the row that found no room, and how it ended. Contracts see these three.
+#[derive(Drop)]
+pub struct SourceWorker<S: Source> {
+    reader: RowReader<S>,
+    kept: Option<Row>,
+    end: Option<SourceEnd>,
+}
+
+impl<S: Source> Model for SourceWorker<S> {
+    ghost use Rattle.lola_feed.specs.Feeding.{IsWorking, Working};
+
+    ghost Value = { Working };
+
+    ghost view = { λ w. record { reader = w.reader; kept = w.kept; end = w.end } };
+
+    ghost invariant = { λ w. IsWorking (record { reader = w.reader; kept = w.kept; end = w.end }) };
+}
+
+impl<S: Source> SourceWorker<S> {
+    /// A worker that has had no turn, over a reader that has not ended.
+    pub fn create(reader: RowReader<S>) -> SourceWorker<S>
+        requires { reader.ended ≡ None }
+        ensures { result ≡ beginning reader }
+    {
+        SourceWorker {
+            reader,
+            kept: None,
+            end: None,
+        }
+    }
+
+    /// How it ended, if it has.
+    pub fn end(&self) -> Option<SourceEnd>
+        ensures { result ≡ self.now.end }
+    {
+        self.end
+    }
+
+    /// Reads a row, or takes the one that found no room, and offers it; where there is none, tells the desk so. It calls the
+    /// desk once at most, and not at all once it has ended.
+    pub fn turn<D: Desk>(&mut self, desk: &mut D) -> Turn
+        requires { self.old.reader.shape.index ≡ D.source desk.old }
+        ensures turns { Turns D.offers D.finishes desk.old desk.new result self.old self.new }
+        ensures kept { Keeps self.old.reader self.new.reader }
+        ensures source { D.source desk.new ≡ D.source desk.old }
+    {
+        if let Some(end) = self.end {
+            return Turn::Done(end);
+        }
+        match self.next_row() {
+            Ok(row) => self.offer(row, desk),
+            Err(end) => {
+                desk.finish();
+                Turn::Done(end)
+            }
+        }
+    }
+
+    /// The reader, as these turns left it.
+    pub fn into_reader(self) -> RowReader<S>
+        ensures { result ≡ self.reader }
+    {
+        self.reader
+    }
+
+    // Offers a row; where there is no room it waits.
+    fn offer<D: Desk>(&mut self, row: Row, desk: &mut D) -> Turn
+        requires source { row.source ≡ D.source desk.old }
+        requires kept { self.old.kept ≡ None }
+        requires end { self.old.end ≡ None }
+        requires given { self.old.reader.given ≡ row.number }
+        requires is_row { IsRowOf self.old.reader.shape (self.old.reader.given - 1) row }
+        ensures reader { self.new.reader ≡ self.old.reader }
+        ensures answers { Offers D.offers row desk.old desk.new result self.new }
+        ensures source { D.source desk.new ≡ D.source desk.old }
+    {
+        match desk.offer(row) {
+            Offer::Accepted | Offer::Late(_) => Turn::Moved,
+            Offer::Full(row) => {
+                self.kept = Some(row);
+                Turn::Full
+            }
+            Offer::Closed(_) => {
+                self.end = Some(SourceEnd::Closed);
+                Turn::Done(SourceEnd::Closed)
+            }
+        }
+    }
+
+    // The row that waits, or the next of the reader. Where it has none, the worker has ended.
+    fn next_row(&mut self) -> Result<Row, SourceEnd>
+        requires { self.old.end ≡ None }
+        ensures next { NextRow result self.old self.new }
+        ensures kept { Keeps self.old.reader self.new.reader }
+    {
+        if let Some(row) = self.kept.take() {
+            return Ok(row);
+        }
+        match row_or_end(self.reader.next()) {
+            Ok(row) => Ok(row),
+            Err(end) => {
+                self.end = Some(end);
+                Err(end)
+            }
+        }
+    }
+}
+
+// A row, or what a reader that has none is to a worker.
+fn row_or_end(answer: RowAnswer) -> Result<Row, SourceEnd>
+    ensures { result ≡ row_or_end answer }
+{
+    match answer {
+        RowAnswer::Row(row) => Ok(row),
+        RowAnswer::End => Err(SourceEnd::End),
+        RowAnswer::Malformed { kind, row } => Err(SourceEnd::Malformed { kind, row }),
+        RowAnswer::ReadFault => Err(SourceEnd::ReadFault),
+        RowAnswer::Memory => Err(SourceEnd::Memory),
+    }
+}

@@ -1,0 +1,499 @@
+-- A run of sources that were fetched and came back.
+use Rattle.std.proofs.Common.{◌≡◌, ℕ, ◌<◌, ◌≤◌, ◌⊎◌, List, [], ◌∷◌, ◌++◌, Option, None, Some, Result, Ok, Err, IsSome, All, nat_lt, slice_get, map, take, drop, option_map, refl, sym, ap, ◌∙◌, inl, inr, subst, length, true, false, arith}
+use Rattle.std.proofs.lemmas.Bool.Decides.{nat_tests}
+use Rattle.std.proofs.lemmas.List.{append-nil, length-map, length-replicate, take-append-drop}
+use Rattle.std.proofs.lemmas.List.Elements.{All-nil}
+use Rattle.std.proofs.lemmas.Option.{slice_get_within}
+use Rattle.lola_port.specs.States.{Rose, ShelfState, SinkState, SourceState, grown}
+use Rattle.lola_port.specs.Asks.{failed_ask, given_ask}
+use Rattle.lola_port.specs.declared.traits.Ask.{Ask}
+use Rattle.lola_model.specs.Journal.{accepted, opening_time, rows_of}
+use Rattle.lola_model.specs.Faults.{RunFault}
+use Rattle.lola_model.specs.Steps.{all_steps}
+use Rattle.lola_model.specs.declared.plan.Plan.{Plan}
+use Rattle.lola_model.specs.declared.journal.Entry.{Entry}
+use Rattle.lola_model.specs.declared.journal.Row.{Row}
+use Rattle.lola_rows.specs.Rows.{SourceEnd, SourceRows, Whole, MalformedAt, rows_of_source}
+use Rattle.lola_rows.specs.Reading.{Shape, fresh, shape_of}
+use Rattle.lola_feed.specs.Feeding.{Working, beginning, handed_in, to_come}
+use Rattle.lola_feed.specs.declared.worker.SourceEnd as worker
+use Rattle.lola_feed.specs.declared.worker.SourceEnd.TheVariants as finish
+use Rattle.lola_merge.specs.Merging.{Merging, opening, sources_of}
+use Rattle.lola_report.specs.declared.end.EndLine.TheVariants.{Done, UnreadableSource}
+use Rattle.lola_run.specs.Verdicts.{AreOfSources, Setting, late_count, most_rows, verdicts}
+use Rattle.lola_run.specs.Running.{Keeping, setting_in}
+use Rattle.lola_run.specs.declared.stop.Stop.{Stop}
+use Rattle.lola_run.specs.declared.stop.Stop.TheVariants as stop
+use Rattle.lola_run.proofs.Fronts.{nothing_fails, nothing_final}
+use Rattle.lola_run.proofs.Sinks.{an_entry, grown_nil, some_line}
+use Rattle.lola_rounds.proofs.Runs.{no_part}
+use Rattle.lola_rounds.specs.Feeds as feeds
+use Rattle.lola_rounds.specs.Feeds.{AreFed, BeganWith, EndedByFault, EndedWith, EndsRun, GoInRounds, HasEnded, HaveBegun, HaveEnded, IsFed, IsFresh, IsIdle, RanToCut, Supply, Through, ThroughWell, World, supply_of, world}
+use Rattle.lola_shelves.specs.Lending as shelves
+use Rattle.lola_shelves.specs.Lending.{AreRooms, Fetches, HasReturned, IsLent, IsNotGiven, IsStopped, asks_of, counts_of, places_of}
+use Rattle.lola_shelves.specs.declared.sources.FetchStop.{FetchStop}
+use Rattle.lola_shelves.specs.declared.sources.FetchStop.TheVariants as fetch
+use Rattle.lola_monitor.specs.Monitor.{AllBegin, AllEnd, AllRead, AreGiven, Begins, Ends, GoInTurns, IsAtDeadline, IsAtRow, MalformedSource, Outside, asks_between, done_line, fault_line, first_faulty, first_malformed, is_faulty, outside, source_rows}
+use Rattle.lola_monitor.specs.Outcomes.{AllHome, CameHome, CutFacts, CutRun, DoneRun, EndedRun, FaultRun, Grew, MalformedRun, OutcomeAfter, RunsSources, SourcesRun, StoppedRun, end_by, end_of, ends_of, first_failed, line_of, source_end, unfetched}
+use Rattle.lola_monitor.specs.declared.ending.SourcesEnd.{SourcesEnd}
+use Rattle.lola_monitor.specs.declared.outcome.Outcome.{Outcome}
+use Rattle.lola_monitor.specs.declared.outcome.Outcome.TheVariants.{Line}
+use Rattle.lola_monitor.proofs.Calls.{between, grew_all, grew_none, names_given}
+use Rattle.lola_monitor.proofs.Faulty.{Fits, all_counted, counted, first_is, first_not_given, front_asked, get_counted, given_counted, last_given, length_counted, names_counted, none_counted, none_failed, none_faulty, none_malformed, plainly_given, some_counted}
+use Rattle.lola_monitor.proofs.Listed.{get_beside, get_image, image_get}
+
+-- the rows of a told source are those to come
+abbrev pub IsOfSource : Plan → Option (List ℕ) → ℕ → Option SourceRows → Type 0
+IsOfSource plan told n rest = (bytes : List ℕ) → told ≡ Some bytes → rest ≡ Some (source_rows plan n bytes)
+
+-- sources of names before their first turn
+pub record AreFresh (plan : Plan) (told : List ℕ → Option (List ℕ)) (names : List (List ℕ)) (lent : List Working) : Type 0 where
+  pub many : length lent ≡ length names
+  pub count : (n : ℕ) (name : List ℕ) (w : Working) → slice_get names n ≡ Some name → slice_get lent n ≡ Some w → w.reader.source.count ≡ 0
+  pub rest : (n : ℕ) (name : List ℕ) (w : Working) → slice_get names n ≡ Some name → slice_get lent n ≡ Some w → IsOfSource plan (told name) n (to_come w)
+
+-- how a source's count goes with its end
+fits : (end : Option worker.SourceEnd) (old new : Supply) (rows : List Row) → old.count ≡ 0 → HasEnded end old new rows → Fits end new.count
+fits None old new rows none ended = ended.2 ∙ none
+fits (Some finish.End) old new rows none ended = ended.1 ∙ none
+fits (Some (finish.Malformed kind row)) old new rows none ended = ended.1 ∙ none
+fits (Some finish.ReadFault) old new rows none ended = omega (arith, none, ended)
+fits (Some finish.Closed) old new rows none ended = ended
+fits (Some finish.Memory) old new rows none ended = ended
+
+-- a source that has ended and not failed was read to its end
+read_end : (end : Option worker.SourceEnd) (old new : Supply) (rows : List Row) → IsSome end → Fits end new.count → new.count ≡ 0 → HasEnded end old new rows → EndedWith (source_end end) old.rest rows
+read_end None old new rows some fit none ended = let bad : false ≡ true = some in absurd (cc)
+read_end (Some finish.End) old new rows some fit none ended = ended.0
+read_end (Some (finish.Malformed kind row)) old new rows some fit none ended = ended.0
+read_end (Some finish.ReadFault) old new rows some fit none ended = absurd (omega (arith, fit, none))
+read_end (Some finish.Closed) old new rows some fit none ended = absurd ended
+read_end (Some finish.Memory) old new rows some fit none ended = absurd ended
+
+-- one that has not ended has not failed
+still_none : (end : Option worker.SourceEnd) (count : ℕ) → end ≡ None → Fits end count → count ≡ 0
+still_none None count is fit = fit
+still_none (Some end) count is fit = absurd (cc)
+
+not_failed : (end : Option worker.SourceEnd) (count : ℕ) → (end ≡ Some finish.ReadFault → ⊥) → Fits end count → count ≡ 0
+not_failed None count none fit = fit
+not_failed (Some finish.End) count none fit = fit
+not_failed (Some (finish.Malformed kind row)) count none fit = fit
+not_failed (Some finish.ReadFault) count none fit = absurd (none refl)
+not_failed (Some finish.Closed) count none fit = absurd fit
+not_failed (Some finish.Memory) count none fit = absurd fit
+
+none_lt : (count : ℕ) → count ≡ 0 → nat_lt 0 count ≡ false
+none_lt count none = grind (arith, nat_tests)
+
+zero_of : (count : ℕ) → nat_lt 0 count ≡ false → count ≡ 0
+zero_of count is = grind (arith, nat_tests)
+
+module _ (names : List (List ℕ)) (before after : Outside) (kept0 kept1 : Keeping) (lent last : List Working) where
+  abbrev olds : List Supply
+  olds = map supply_of lent
+
+  abbrev news : List Supply
+  news = map supply_of last
+
+  abbrev first : World
+  first = world kept0 olds before.out before.trace
+
+  abbrev final : World
+  final = world kept1 news after.out after.trace
+
+  abbrev s : Setting
+  s = setting_in kept0
+
+  abbrev counts : List ℕ
+  counts = counts_of last
+
+  abbrev asks : List Ask
+  asks = asks_of names counts
+
+  module _ (fresh : AreFresh s.plan before.shelf.told names lent) (many : length last ≡ length lent) (returned : HasReturned names counts before.shelf after.shelf) where
+    -- ---- source by source
+
+    many_old : length olds ≡ length names
+    many_old = length-map lent supply_of ∙ fresh.many
+
+    many_last : length last ≡ length names
+    many_last = many ∙ fresh.many
+
+    many_counts : length counts ≡ length names
+    many_counts = length-map last (λ (w : Working). w.reader.source.count) ∙ many_last
+
+    old_of : (n : ℕ) (name : List ℕ) → slice_get names n ≡ Some name → (w : Working) × (slice_get lent n ≡ Some w)
+    old_of n name is = get_beside names lent n name fresh.many is
+
+    new_of : (n : ℕ) (name : List ℕ) → slice_get names n ≡ Some name → (w : Working) × (slice_get last n ≡ Some w)
+    new_of n name is = get_beside names last n name many_last is
+
+    name_of : (n : ℕ) (w : Working) → slice_get last n ≡ Some w → (name : List ℕ) × (slice_get names n ≡ Some name)
+    name_of n w is = get_beside last names n w (sym many_last) is
+
+    begins_are : (n : ℕ) (name : List ℕ) (w : Working) (rows : List Row) → slice_get names n ≡ Some name → slice_get lent n ≡ Some w → BeganWith (to_come w) rows → Begins (before.shelf.told name) s.plan n rows
+    begins_are n name w rows named is begins bytes told = begins (source_rows s.plan n bytes) (fresh.rest n name w named is bytes told)
+
+    ends_are : (end : SourceEnd) (n : ℕ) (name : List ℕ) (w : Working) (rows : List Row) → slice_get names n ≡ Some name → slice_get lent n ≡ Some w → EndedWith end (to_come w) rows → Ends (before.shelf.told name) s.plan n rows end
+    ends_are end n name w rows named is ended bytes told = ended (source_rows s.plan n bytes) (fresh.rest n name w named is bytes told)
+
+    of_sources : (journal : List Entry) → AreOfSources (length olds) journal → AreOfSources (length names) journal
+    of_sources journal are = subst (λ n. AreOfSources n journal) many_old are
+
+    all_begun : (journal : List Entry) → HaveBegun olds journal → AllBegin before.shelf s.plan names journal
+    all_begun journal begun n name named = let w = old_of n name named in begins_are n name w.0 (rows_of n journal) named w.1 (begun n (supply_of w.0) (image_get supply_of lent n w.0 w.1))
+
+    -- ---- the asks
+
+    ask_at : (n : ℕ) (name : List ℕ) (w : Working) → slice_get names n ≡ Some name → slice_get last n ≡ Some w → slice_get asks n ≡ Some (counted name w.reader.source.count)
+    ask_at n name w named is = get_counted names counts n name w.reader.source.count named (image_get (λ (v : Working). v.reader.source.count) last n w is)
+
+    ask_is : (n : ℕ) (name : List ℕ) (w : Working) (ask : Ask) → slice_get names n ≡ Some name → slice_get last n ≡ Some w → slice_get asks n ≡ Some ask → is_faulty ask ≡ nat_lt 0 w.reader.source.count
+    ask_is n name w ask named is there = let at = ask_at n name w named is in let same : ask ≡ counted name w.reader.source.count = cc in ap is_faulty same
+
+    between_is : asks_between before.shelf after.shelf ≡ asks
+    between_is = between before.shelf after.shelf asks returned.asks
+
+    pub came_home : CameHome names asks before.shelf after.shelf
+    came_home = record {
+      appended = returned.asks;
+      named = names_counted names counts many_counts;
+      given = all_counted names counts;
+      unfailed = λ none. returned.unfailed (none_counted names counts many_counts none);
+      failed = λ at some. let r = some_counted names counts at some in returned.failed r.0 r.1 r.2 r.3;
+      out = returned.out;
+    }
+
+    abbrev grew : Grew names before.shelf after.shelf
+    grew = grew_all names before.shelf after.shelf asks returned.asks (names_counted names counts many_counts) returned.out
+
+    all_home : first_faulty asks ≡ None → AllHome names before.shelf after.shelf
+    all_home none =
+        let zeros = none_counted names counts many_counts none in
+        record { asks = returned.asks ∙ ap (λ (a : List Ask). before.shelf.asks ++ a) (plainly_given names counts many_counts zeros); count = returned.unfailed zeros; out = returned.out }
+
+    -- ---- rows in turns
+
+    sound : first_faulty asks ≡ None → (n : ℕ) (name : List ℕ) (w : Working) → slice_get names n ≡ Some name → slice_get last n ≡ Some w → w.reader.source.count ≡ 0
+    sound none n name w named is = zero_of w.reader.source.count (none_faulty asks none n (counted name w.reader.source.count) (ask_at n name w named is))
+
+    pub in_turns : (journal : List Entry) → GoInRounds olds news journal → GoInTurns names s.plan before.shelf after.shelf journal
+    in_turns journal rounds = record {
+      lists = rounds.lists;
+      many = rounds.many ∙ many_old;
+      fronts = λ n name rows named at.
+          let w = old_of n name named in
+          let v = new_of n name named in
+          begins_are n name w.0 rows named w.1 (λ all is. (rounds.are n (supply_of w.0) (supply_of v.0) rows (image_get supply_of lent n w.0 w.1) (image_get supply_of last n v.0 v.1) at all is).0);
+      whole = λ none n name rows named at bytes told.
+          let w = old_of n name named in
+          let v = new_of n name named in
+          let old = image_get supply_of lent n w.0 w.1 in
+          let new = image_get supply_of last n v.0 v.1 in
+          (rounds.are n (supply_of w.0) (supply_of v.0) rows old new at (source_rows s.plan n bytes) (fresh.rest n name w.0 named w.1 bytes told)).1
+          (λ bad. not_risen w.0 v.0 (fresh.count n name w.0 named w.1) (sound (sym (ap first_faulty between_is) ∙ none) n name v.0 named v.1) (rounds.failed n (supply_of w.0) (supply_of v.0) old new bad));
+      first = rounds.first;
+    }
+      where
+        not_risen : (w v : Working) → w.reader.source.count ≡ 0 → v.reader.source.count ≡ 0 → Rose w.reader.source.count v.reader.source.count → ⊥
+        not_risen w v none still rose = absurd (omega (arith, none, still, rose))
+
+    module _ (journal : List Entry) (fed : AreFed olds news journal) where
+      fed_at : (n : ℕ) (w v : Working) → slice_get lent n ≡ Some w → slice_get last n ≡ Some v → IsFed (supply_of w) (supply_of v) (rows_of n journal)
+      fed_at n w v old new = fed.each n (supply_of w) (supply_of v) (image_get supply_of lent n w old) (image_get supply_of last n v new)
+
+      all_fed : AllBegin before.shelf s.plan names journal
+      all_fed n name named =
+          let w = old_of n name named in
+          let v = new_of n name named in
+          begins_are n name w.0 (rows_of n journal) named w.1 (fed_at n w.0 v.0 w.1 v.1).began
+
+      fit_at : (n : ℕ) (v : Working) → slice_get last n ≡ Some v → Fits v.end v.reader.source.count
+      fit_at n v new =
+          let name = name_of n v new in
+          let w = old_of n name.0 name.1 in
+          fits v.end (supply_of w.0) (supply_of v) (rows_of n journal) (fresh.count n name.0 w.0 name.1 w.1) (fed_at n w.0 v w.1 new).end
+
+      first_is_failed : first_faulty asks ≡ first_failed (ends_of last)
+      first_is_failed = first_is names last many_last fit_at
+
+      module _ (ended : HaveEnded news) where
+        -- a source that has not failed was read to its end
+        ended_at : (n : ℕ) (name : List ℕ) (v : Working) → slice_get names n ≡ Some name → slice_get last n ≡ Some v → v.reader.source.count ≡ 0 → Ends (before.shelf.told name) s.plan n (rows_of n journal) (source_end v.end)
+        ended_at n name v named new none =
+            let w = old_of n name named in
+            ends_are (source_end v.end) n name w.0 (rows_of n journal) named w.1
+            (read_end v.end (supply_of w.0) (supply_of v) (rows_of n journal) (ended n (supply_of v) (image_get supply_of last n v new)) (fit_at n v new) none (fed_at n w.0 v w.1 new).end)
+
+        all_read : AllRead before.shelf s.plan names asks journal
+        all_read n name ask named there not_faulty =
+            let v = new_of n name named in
+            (source_end v.0.end, ended_at n name v.0 named v.1 (zero_of v.0.reader.source.count (sym (ask_is n name v.0 ask named v.1 there) ∙ not_faulty)))
+
+        -- where none has failed, all were
+        all_end : first_failed (ends_of last) ≡ None → AllEnd before.shelf s.plan names journal (map source_end (ends_of last))
+        all_end none = record {
+          many = length-map (ends_of last) source_end ∙ length-map last (λ (w : Working). w.end) ∙ many_last;
+          each = λ n name end named at.
+              let e = get_image source_end (ends_of last) n end at in
+              let v = get_image (λ (w : Working). w.end) last n e.0 e.1 in
+              let same : source_end v.0.end ≡ end = sym (e.2 ∙ ap source_end v.2) in
+              subst (λ x. Ends (before.shelf.told name) s.plan n (rows_of n journal) x) same
+              (ended_at n name v.0 named v.1 (not_failed v.0.end v.0.reader.source.count (λ bad. none_failed (ends_of last) none n e.0 e.1 (v.2 ∙ bad)) (fit_at n v.0 v.1)));
+        }
+
+        all_whole : first_failed (ends_of last) ≡ None → first_malformed (map source_end (ends_of last)) ≡ None
+            → (n : ℕ) (name : List ℕ) → slice_get names n ≡ Some name → Ends (before.shelf.told name) s.plan n (rows_of n journal) Whole
+        all_whole none well n name named =
+            let v = new_of n name named in
+            let at = image_get source_end (ends_of last) n v.0.end (image_get (λ (w : Working). w.end) last n v.0 v.1) in
+            subst (λ x. Ends (before.shelf.told name) s.plan n (rows_of n journal) x) (none_malformed (map source_end (ends_of last)) well n (source_end v.0.end) at) ((all_end none).each n name (source_end v.0.end) named at)
+
+    -- ---- how a run ends
+
+    abbrev run_is : Through first final → SourcesRun s names before after
+    run_is through = record {
+      journal = through.came.journal;
+      legal = through.came.legal;
+      sources = of_sources through.came.journal through.came.sources;
+      rows = all_fed through.came.journal through.fed;
+      turns = in_turns through.came.journal through.came.rounds;
+      trace = through.came.trace;
+      out = through.out;
+    }
+
+    abbrev cut_is : RanToCut first final → CutFacts s names before after
+    cut_is ran = record {
+      journal = ran.journal;
+      legal = ran.legal;
+      sources = of_sources ran.journal ran.sources;
+      rows = all_begun ran.journal ran.begun;
+      turns = in_turns ran.journal ran.rounds;
+      trace = ran.trace;
+      out = ran.out;
+    }
+
+    -- the facts of a run that was not cut, as those of one that was
+    cut_none : SourcesRun s names before after → CutFacts s names before after
+    cut_none run = record {
+      journal = run.journal;
+      legal = run.legal;
+      sources = run.sources;
+      rows = run.rows;
+      turns = run.turns;
+      trace = no_part before.trace after.trace run.journal an_entry (some_line an_entry) run.trace;
+      out = record { part = verdicts s run.journal; rest = []; joined = sym (append-nil _); written = ap (λ x. x.written) run.out };
+    }
+
+    -- the counts of the last line
+    done_is : (w : ThroughWell first final) → Done kept1.accepted kept1.late kept1.desk.steps kept1.desk.lines ≡ done_line s w.through.came.journal
+    done_is w =
+        let journal = w.through.came.journal in
+        ap (λ a. Done a kept1.late kept1.desk.steps kept1.desk.lines) w.accepted
+        ∙ (ap (λ l. Done (length (accepted journal)) l kept1.desk.steps kept1.desk.lines) w.late
+        ∙ (ap (λ n. Done (length (accepted journal)) (late_count journal) n kept1.desk.lines) w.steps
+        ∙ ap (λ v. Done (length (accepted journal)) (late_count journal) (length (all_steps s.plan.pacings s.start (accepted journal))) v) w.lines))
+
+    none_first : (w : ThroughWell first final) → first_failed (ends_of last) ≡ None → first_faulty asks ≡ None
+    none_first w none = first_is_failed w.through.came.journal w.through.fed ∙ none
+
+    abbrev ended_run : (w : ThroughWell first final) → first_failed (ends_of last) ≡ None → EndedRun s names before after
+    ended_run w none = record { run = run_is w.through; home = all_home (none_first w none); no_fault = w.no_fault; settled = w.settled }
+
+    cut_run : (w : ThroughWell first final) (at : ℕ) → first_failed (ends_of last) ≡ Some at → CutRun (UnreadableSource at) s names before after
+    cut_run w at failed =
+        let least : first_faulty asks ≡ Some at = first_is_failed w.through.came.journal w.through.fed ∙ failed in
+        record {
+          run = run_is w.through;
+          no_fault = w.no_fault;
+          asked = grew;
+          at = at;
+          least = least;
+          rose = came_home.failed at least;
+          unless_given = λ n ask there none. let given = given_counted names counts n ask there in absurd (cc);
+          read = λ were. (names_counted names counts many_counts, all_read w.through.came.journal w.through.fed w.ended);
+          line_is = refl;
+        }
+
+    -- a run without a fault, by its sources' ends
+    pub by_ends : (failed : Option ℕ) (m : Option MalformedSource) → first_failed (ends_of last) ≡ failed → first_malformed (map source_end (ends_of last)) ≡ m → ThroughWell first final
+        → RunsSources (Line (line_of (end_by failed m) kept1)) s names before after
+    by_ends (Some at) m failed least w = cut_run w at failed
+    by_ends None (Some m) failed least w = record {
+      ended = ended_run w failed;
+      ends = map source_end (ends_of last);
+      rows = all_end w.through.came.journal w.through.fed w.ended failed;
+      at = m;
+      least = least;
+      line_is = refl;
+    }
+    by_ends None None failed least w = record {
+      ended = ended_run w failed;
+      rows = all_whole w.through.came.journal w.through.fed w.ended failed least;
+      line_is = done_is w;
+    }
+
+    placed : (fault : RunFault) (through : Through first final) → feeds.IsAtRow fault through.came.journal first final ⊎ feeds.IsAtDeadline through.came.journal first final
+        → IsAtRow s through.came.journal fault asks ⊎ IsAtDeadline before.shelf s names asks through.came.journal
+    placed fault through (inl at) = inl (record {
+      is = at.is;
+      sound = λ ask there.
+          let named = get_beside asks names at.is.row.source ask (sym (length_counted names counts many_counts)) there in
+          let v = new_of at.is.row.source named.0 named.1 in
+          let open_still = at.goes_on (supply_of v.0) (image_get supply_of last at.is.row.source v.0 v.1) in
+          let none = still_none v.0.end v.0.reader.source.count open_still (fit_at through.came.journal through.fed at.is.row.source v.0 v.1) in
+          ask_is at.is.row.source named.0 v.0 ask named.1 v.1 there ∙ none_lt v.0.reader.source.count none;
+    })
+    placed fault through (inr at) = inr (record { settled = at.settled; read = all_read through.came.journal through.fed at.ended })
+
+    fault_run : (fault : RunFault) → EndedByFault fault first final → FaultRun (fault_line s.plan fault) s names before after
+    fault_run fault e = record {
+      run = run_is e.through;
+      fault = fault;
+      is_fault = e.is_fault;
+      asks = asks;
+      home = came_home;
+      stands = placed fault e.through e.place;
+      line_is = refl;
+    }
+
+    pub ran_sources : (how : Result (Unit {0}) Stop) (outcome : Outcome) → OutcomeAfter how (end_of (ends_of last)) s.plan kept1 outcome → EndsRun how first final → RunsSources outcome s names before after
+    ran_sources (Ok done) outcome is ran =
+        subst (λ o. RunsSources o s names before after) (sym is) (by_ends (first_failed (ends_of last)) (first_malformed (map source_end (ends_of last))) refl refl ran)
+    ran_sources (Err (stop.Fault stream kind time)) outcome (inl is) ran =
+        subst (λ o. RunsSources o s names before after) (sym is) (fault_run (record { stream = stream; kind = kind; time = time }) ran)
+    ran_sources (Err (stop.Fault stream kind time)) outcome (inr is) ran = subst (λ o. RunsSources o s names before after) (sym is) (record { shelf = grew; cut = inl (cut_none (run_is ran.through)) })
+    ran_sources (Err stop.Put) outcome is ran = subst (λ o. RunsSources o s names before after) (sym is) (record { shelf = grew; cut = cut_is ran.cut; no_fault = ran.no_fault; rose = ran.rose })
+    ran_sources (Err stop.Memory) outcome is ran = subst (λ o. RunsSources o s names before after) (sym is) (record { shelf = grew; cut = inl (cut_is ran) })
+
+-- ---- sources that were lent
+
+-- a fresh reader of a told source has all its rows to come
+fresh_rows : (plan : Plan) (n : ℕ) (told : Option (List ℕ)) (file : SourceState) → file.left ≡ told → IsOfSource plan told n (to_come (beginning (fresh (shape_of plan.spec.streams n most_rows) file)))
+unfolding rows_of_source
+fresh_rows plan n told file is bytes known =
+    ap (λ (o : Option (List ℕ)). to_come (beginning (fresh (shape_of plan.spec.streams n most_rows) (record file { left = o })))) (is ∙ known)
+
+pub lent_fresh : (plan : Plan) (names : List (List ℕ)) (rooms : List Shape) (before mid : ShelfState) (lent : List Working) → IsLent names rooms before mid lent → AreRooms plan (length names) most_rows rooms → AreFresh plan before.told names lent
+lent_fresh plan names rooms before mid lent is are = record {
+  many = is.many;
+  count = λ n name w named there.
+      let l = is.each n name (shape_of plan.spec.streams n most_rows) w named (are.each n (slice_get_within names n name named)) there in
+      ap (λ (v : Working). v.reader.source.count) l.is ∙ l.count;
+  rest = λ n name w named there bytes told.
+      let l = is.each n name (shape_of plan.spec.streams n most_rows) w named (are.each n (slice_get_within names n name named)) there in
+      ap to_come l.is ∙ fresh_rows plan n (before.told name) l.file l.left bytes told;
+}
+
+-- ---- sources that were not
+
+-- no row
+abbrev no_rows : List ℕ → List Row
+no_rows name = []
+
+named_empty : (names : List (List ℕ)) (n : ℕ) (rows : List Row) → slice_get (map no_rows names) n ≡ Some rows → rows ≡ []
+named_empty names n rows is = let r = get_image no_rows names n rows is in r.2
+
+-- a source was not given: nothing was taken
+pub not_given : (at : ℕ) (s : Setting) (names : List (List ℕ)) (before after : ShelfState) (out trace : SinkState) → IsNotGiven at names before after
+    → CutRun (UnreadableSource at) s names (outside before out trace) (outside after out trace)
+not_given at s names before after out trace broke =
+    let asks : List Ask = map given_ask (take at names) ++ failed_ask broke.name ∷ [] in
+    let least : first_faulty asks ≡ Some at = first_not_given names at broke.name broke.is in
+    let front = front_asked names at broke.name broke.is in
+    record {
+      run = record {
+        journal = [];
+        legal = tt;
+        sources = All-nil (λ (e : Entry). e.row.source < length names);
+        rows = λ n name named bytes told. ((source_rows s.plan n bytes).rows, refl);
+        turns = record {
+          lists = map no_rows names;
+          many = length-map names no_rows;
+          fronts = λ n name rows named there bytes told.
+              ((source_rows s.plan n bytes).rows, ap (λ (r : List Row). r ++ (source_rows s.plan n bytes).rows) (sym (named_empty names n rows there)));
+          whole = λ none. let some : first_faulty (asks_between before after) ≡ Some at = ap first_faulty (between before after asks broke.asks) ∙ least in absurd (cc);
+          first = record { rounds = 0; rest = []; joined = refl };
+        };
+        trace = sym (grown_nil trace);
+        out = sym (grown_nil out) ∙ ap (grown out) (sym (nothing_final s));
+      };
+      no_fault = nothing_fails s;
+      asked = record { asks = asks; appended = broke.asks; front = front; home = broke.out };
+      at = at;
+      least = least;
+      rose = broke.rose;
+      unless_given = λ n ask there none. refl;
+      read = λ were. let given : (failed_ask broke.name).given ≡ true = last_given (map given_ask (take at names)) (failed_ask broke.name) were in absurd (cc);
+      line_is = refl;
+    }
+
+-- no memory for all sources: nothing was taken
+pub not_fetched : (s : Setting) (names : List (List ℕ)) (before after : ShelfState) (out trace : SinkState) → IsStopped names before after
+    → StoppedRun s names (outside before out trace) (outside after out trace)
+not_fetched s names before after out trace stopped = record {
+  shelf = record {
+    asks = map given_ask (take stopped.asked names);
+    appended = stopped.asks;
+    front = (drop stopped.asked names, sym (ap (λ (l : List (List ℕ)). l ++ drop stopped.asked names) (names_given (take stopped.asked names)) ∙ take-append-drop stopped.asked names));
+    home = stopped.out;
+  };
+  cut = inr (record { trace = refl; out = refl });
+}
+
+-- no memory before any source was asked for
+pub not_asked : (s : Setting) (names : List (List ℕ)) (shelf : ShelfState) (out trace : SinkState) → StoppedRun s names (outside shelf out trace) (outside shelf out trace)
+not_asked s names shelf out trace = record { shelf = grew_none names shelf; cut = inr (record { trace = refl; out = refl }) }
+
+-- not all sources were fetched
+pub unfetched_run : (end : FetchStop) (s : Setting) (names : List (List ℕ)) (rooms : List Shape) (before after : ShelfState) (out trace : SinkState) (workers : List Working) → Fetches (Err end) names rooms before after workers
+    → RunsSources (unfetched end) s names (outside before out trace) (outside after out trace)
+unfetched_run (fetch.Failed at) s names rooms before after out trace workers fetches = not_given at s names before after out trace fetches
+unfetched_run fetch.Memory s names rooms before after out trace workers fetches = not_fetched s names before after out trace fetches
+
+-- ---- sources that were lent, run and given back
+
+pub as_many : (lent last : List Working) → places_of last ≡ places_of lent → length last ≡ length lent
+as_many lent last same = sym (length-map last (λ (w : Working). w.reader.source.place)) ∙ ap length same ∙ length-map lent (λ (w : Working). w.reader.source.place)
+
+pub ran_lent : (names : List (List ℕ)) (rooms : List Shape) (before mid after : ShelfState) (out0 trace0 out1 trace1 : SinkState) (kept0 kept1 : Keeping) (lent last : List Working) (how : Result (Unit {0}) Stop) (outcome : Outcome)
+    → IsLent names rooms before mid lent → AreRooms kept0.desk.plan (length names) most_rows rooms → places_of last ≡ places_of lent → HasReturned names (counts_of last) before after
+    → kept1.desk.plan ≡ kept0.desk.plan → OutcomeAfter how (end_of (ends_of last)) kept1.desk.plan kept1 outcome
+    → EndsRun how (world kept0 (map supply_of lent) out0 trace0) (world kept1 (map supply_of last) out1 trace1)
+    → RunsSources outcome (setting_in kept0) names (outside before out0 trace0) (outside after out1 trace1)
+ran_lent names rooms before mid after out0 trace0 out1 trace1 kept0 kept1 lent last how outcome is are places returned same ends ran =
+    ran_sources names (outside before out0 trace0) (outside after out1 trace1) kept0 kept1 lent last (lent_fresh kept0.desk.plan names rooms before mid lent is are) (as_many lent last places) returned
+    how outcome (subst (λ (p : Plan). OutcomeAfter how (end_of (ends_of last)) p kept1 outcome) same ends) ran
+
+-- they can be given back
+pub still_given : (shelf : List Ask) (lent last : List Working) → places_of last ≡ places_of lent → shelves.AreGiven shelf (places_of lent) → shelves.AreGiven shelf (places_of last)
+still_given shelf lent last same given = subst (λ (p : List ℕ). shelves.AreGiven shelf p) (sym same) given
+
+-- ---- a feed of sources that were lent
+
+module _ (plan : Plan) (names : List (List ℕ)) (rooms : List Shape) (before mid : ShelfState) (lent : List Working) (is : IsLent names rooms before mid lent) (are : AreRooms plan (length names) most_rows rooms) where
+  lent_at : (n : ℕ) (w : Working) → slice_get lent n ≡ Some w → (file : SourceState) × (w ≡ beginning (fresh (shape_of plan.spec.streams n most_rows) file))
+  lent_at n w there =
+      let name = get_beside lent names n w (sym is.many) there in
+      let l = is.each n name.0 (shape_of plan.spec.streams n most_rows) w name.1 (are.each n (slice_get_within names n name.0 name.1)) there in
+      (l.file, l.is)
+
+  pub lent_idle : (merging : Merging) (batch : List Entry) (kept : Keeping) → merging ≡ opening (length names) kept.desk.option → batch ≡ [] → kept.desk.plan ≡ plan → kept.desk.merged ≡ opening_time kept.desk.option
+      → IsIdle (record { workers = lent; merging = merging; batch = batch }) kept
+  lent_idle merging batch kept opened none same merged = record {
+    pending = ap (λ (m : Merging). m.pending) opened;
+    batch = none;
+    lets_in = ap (λ (m : Merging). m.closed) opened;
+    merged = ap (λ (m : Merging). m.merged) opened ∙ sym merged;
+    many = ap sources_of opened ∙ length-replicate (length names) false ∙ sym is.many;
+    workers = λ n w there.
+        let l = lent_at n w there in
+        ap (λ (v : Working). v.reader.shape) l.1 ∙ ap (λ (p : Plan). shape_of p.spec.streams n most_rows) (sym same);
+  }
+
+  pub lent_new : (merging : Merging) (batch : List Entry) → 1 ≤ length names → length names ≤ 64 → IsFresh (record { workers = lent; merging = merging; batch = batch })
+  lent_new merging batch some few = record {
+    many = (omega (arith, some, is.many), omega (arith, few, is.many));
+    none = λ n w there. let l = lent_at n w there in (ap (λ (v : Working). v.end) l.1, ap handed_in l.1);
+  }

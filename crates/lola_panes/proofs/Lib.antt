@@ -1,0 +1,9 @@
+pub mod Offsets
+pub mod Folds
+pub mod Noting
+pub mod Rising
+pub mod Grouping
+pub mod Adding
+pub mod Reading
+pub mod Ranges
+pub mod Order

@@ -1,0 +1,5 @@
+pub mod Weights
+pub mod Answers
+pub mod Rings
+pub mod Holding
+pub mod Standing

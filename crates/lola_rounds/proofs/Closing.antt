@@ -1,0 +1,119 @@
+-- The deadlines at the last stamp, behind the rows of a run.
+use Rattle.std.proofs.Common.{◌≡◌, ℕ, List, [], ◌++◌, length, None, Result, Ok, Err, inl, inr, sym, ap, ◌∙◌, subst, append_assoc}
+use Rattle.std.proofs.lemmas.List.{append-nil}
+use Rattle.lola_port.specs.States.{Rose, SinkState, grown}
+use Rattle.lola_model.specs.Faults.{RunFault}
+use Rattle.lola_model.specs.Journal.{accepted}
+use Rattle.lola_model.specs.Runs.{final_lines, settled_lines}
+use Rattle.lola_model.specs.Steps.{all_steps}
+use Rattle.lola_model.specs.Texts.{text_of}
+use Rattle.lola_model.specs.declared.journal.Entry.{Entry}
+use Rattle.lola_model.proofs.Journals.{text_of-append}
+use Rattle.lola_engine.specs.Engines.{Completes}
+use Rattle.lola_run.specs.Verdicts.{HasFrontOf, Setting, fault_in, settled_fault_in, settled_text, verdicts}
+use Rattle.lola_run.specs.Running.{Closed, ClosedByFault, Closes, CutClose, Keeping, setting_in}
+use Rattle.lola_run.specs.declared.stop.Stop.{Stop}
+use Rattle.lola_run.specs.declared.stop.Stop.TheVariants as stop
+use Rattle.lola_run.proofs.Fronts.{fault_stays, text_stays}
+use Rattle.lola_run.proofs.Sinks.{an_entry, grown_part, more_text, some_line}
+use Rattle.lola_rounds.specs.Feeds.{CameTo, EndedByFault, EndsRun, RanToCut, RanToEnd, RanToFault, Runs, Supply, ThroughWell, World, world}
+use Rattle.lola_rounds.proofs.Going.{begun}
+use Rattle.lola_rounds.proofs.Runs.{front_of_all, no_part}
+
+-- the lines of the whole model, in a setting
+abbrev CompletesIn : Setting → List Entry → List (List ℕ) → Type 0
+CompletesIn s journal lines = final_lines s.plan s.start journal s.show ≡ settled_lines s.plan s.start journal s.show ++ lines
+
+all_text : (s : Setting) (journal : List Entry) (lines : List (List ℕ)) → CompletesIn s journal lines → verdicts s journal ≡ settled_text s journal ++ text_of lines
+all_text s journal lines completes = ap text_of completes ∙ text_of-append (settled_lines s.plan s.start journal s.show) lines
+
+module _ (first : World) (k1 k2 : Keeping) (sources : List Supply) (o1 o2 t1 : SinkState) (ran : RanToEnd first (world k1 sources o1 t1)) where
+  abbrev last : World
+  last = world k2 sources o2 t1
+
+  abbrev journal : List Entry
+  journal = ran.came.journal
+
+  fine : settled_fault_in (setting_in first.kept) journal ≡ None
+  fine = ap (λ (s : Setting). settled_fault_in s journal) (sym ran.setting) ∙ ran.stands.engine.fine
+
+  text_all : (lines : List (List ℕ)) → Completes k1.desk journal lines → verdicts (setting_in first.kept) journal ≡ settled_text (setting_in first.kept) journal ++ text_of lines
+  text_all lines completes = all_text (setting_in first.kept) journal lines (subst (λ (s : Setting). CompletesIn s journal lines) ran.setting completes)
+
+  abbrev came_last : CameTo first last
+  came_last = record { journal = journal; legal = ran.came.legal; sources = ran.came.sources; rounds = ran.came.rounds; trace = ran.came.trace }
+
+  well : Closed journal k1 k2 o1 o2 → ThroughWell first last
+  well c = record {
+    through = record {
+      came = came_last;
+      fed = ran.fed;
+      out = more_text _ _ _ _ _ _ ran.out c.out (text_all c.lines c.completes);
+    };
+    ended = ran.ended;
+    no_fault = ap (λ (s : Setting). fault_in s journal) (sym ran.setting) ∙ c.fine;
+    settled = fine;
+    accepted = c.accepted ∙ ran.stands.accepted;
+    late = c.late ∙ ran.stands.late;
+    steps = c.steps ∙ ap (λ (s : Setting). length (all_steps s.plan.pacings s.start (accepted journal))) ran.setting;
+    lines = c.counted ∙ ap (λ (s : Setting). length (final_lines s.plan s.start journal s.show)) ran.setting;
+  }
+
+  -- at the deadline's fault
+  by_fault : (fault : RunFault) → ClosedByFault fault journal k1 o1 o2 → EndedByFault fault first last
+  by_fault fault c = record {
+    through = record {
+      came = came_last;
+      fed = ran.fed;
+      out = c.out ∙ (ran.out ∙ ap (grown first.out) (sym (text_all [] c.completes ∙ append-nil _)));
+    };
+    is_fault = ap (λ (s : Setting). fault_in s journal) (sym ran.setting) ∙ c.is_fault;
+    place = inr (record { settled = fine; ended = ran.ended });
+  }
+
+  -- a front of the verdicts was put
+  abbrev cut_here : HasFrontOf first.out o2 (verdicts (setting_in first.kept) journal) → RanToCut first last
+  cut_here out = record {
+    journal = journal;
+    legal = ran.came.legal;
+    sources = ran.came.sources;
+    begun = begun first.sources sources journal ran.fed;
+    rounds = ran.came.rounds;
+    trace = no_part first.trace t1 journal an_entry (some_line an_entry) ran.came.trace;
+    out = out;
+  }
+
+  by_put : CutClose journal k1 o1 o2 → HasFrontOf first.out o2 (verdicts (setting_in first.kept) journal)
+  by_put c = record {
+    part = settled_text (setting_in first.kept) journal ++ c.out.part;
+    rest = c.out.is_part.rest;
+    joined = text_all c.lines c.completes ∙ (ap (λ (l : List ℕ). settled_text (setting_in first.kept) journal ++ l) c.out.is_part.joined ∙ sym (append_assoc _ c.out.part c.out.is_part.rest));
+    written = grown_part first.out o1 o2 _ c.out.part ran.out c.out.written;
+  }
+
+  by_memory : o2 ≡ o1 → HasFrontOf first.out o2 (verdicts (setting_in first.kept) journal)
+  by_memory same = front_of_all (setting_in first.kept) journal first.out o2 (settled_text (setting_in first.kept) journal) [] (sym (append-nil _)) (ap (λ s. s.written) (same ∙ ran.out))
+
+  pub closes : (result : Result (Unit {0}) Stop) → Closes result k1 k2 o1 o2 → EndsRun result first last
+  closes (Ok done) did = well (did journal ran.stands)
+  closes (Err (stop.Fault stream kind time)) did = by_fault (record { stream = stream; kind = kind; time = time }) (did journal ran.stands)
+  closes (Err stop.Put) did = record {
+    cut = cut_here (by_put (did.0 journal ran.stands));
+    no_fault = inl fine;
+    rose = inl (subst (λ n. Rose n o2.count) (ap (λ s. s.count) ran.out) did.1);
+  }
+  closes (Err stop.Memory) did = cut_here (by_memory did)
+
+-- at the fault of a row
+row_fault_ends : (fault : RunFault) (first final : World) → RanToFault fault first final → EndedByFault fault first final
+row_fault_ends fault first final r = record {
+  through = record { came = r.came; fed = r.fed; out = r.out ∙ ap (grown first.out) (sym (text_stays (setting_in first.kept) r.came.journal fault r.stands.settled)) };
+  is_fault = fault_stays (setting_in first.kept) r.came.journal fault r.stands.settled;
+  place = inl (record { is = r.stands; goes_on = r.goes_on });
+}
+
+-- no deadlines are run where a row has a fault or the run was cut short
+pub stays_ended : (how : Stop) (first final : World) → Runs (Err how) first final → EndsRun (Err how) first final
+stays_ended (stop.Fault stream kind time) first final r = row_fault_ends (record { stream = stream; kind = kind; time = time }) first final r
+stays_ended stop.Put first final r = r
+stays_ended stop.Memory first final r = r

@@ -1,0 +1,5 @@
+//! Sources read in turns by one thread: their rows, round after round, and the run of them.
+#![tactic(auto)]
+
+pub mod feed;
+pub mod rows;

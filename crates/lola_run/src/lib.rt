@@ -1,0 +1,6 @@
+//! A run: rows that are marked, traced and evaluated by an engine, whose verdicts are put.
+#![tactic(auto)]
+
+mod putting;
+pub mod run;
+pub mod stop;

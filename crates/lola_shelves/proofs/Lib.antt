@@ -1,0 +1,4 @@
+mod Asking
+mod Made
+mod Shelves
+mod Turning

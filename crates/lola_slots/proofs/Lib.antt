@@ -1,0 +1,5 @@
+pub mod Ends
+pub mod Remembering
+pub mod Passing
+pub mod Births
+pub mod Giving

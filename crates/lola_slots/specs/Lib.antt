@@ -1,0 +1,5 @@
+pub mod Holdings
+pub mod Memories
+pub mod Telling
+pub mod WindowAnswers
+pub mod Unborn
