@@ -1,5 +1,5 @@
 -- The order of what a run is told, both ways.
-use Rattle.std.proofs.Common.{◌≡◌, refl, ap, sym, subst, ◌∙◌, ℕ, ◌≤◌, ◌↔◌, List, [], ◌∷◌, ◌++◌, Option, Some, None, Bool, true, false, ◌&&◌, if◌then◌else◌, nat_le, length, map, arith}
+use Rattle.std.proofs.Common.{◌≡◌, refl, ap, subst, ◌∙◌, ℕ, ◌≤◌, List, [], ◌∷◌, ◌++◌, Option, Some, None, Bool, true, false, ◌&&◌, if◌then◌else◌, nat_le, length, map, arith}
 use Rattle.std.specs.List.{list_all}
 use Rattle.lola_command.specs.Command.{come_once, show_said, workers_said, start_said, in_turns_said, front_names, behind_names, behind_options, is_empty, are_sources, run_over, run_by, run_of}
 use Rattle.lola_command.specs.Order.{is_setting, IsRunOf, RunsAreInOrder}

@@ -1,6 +1,8 @@
 -- The commands, by what their words say.
-use Rattle.std.specs.Prelude.{ℕ, List, [], ◌∷◌, Option, Some, None, Bool, true, false, ◌&&◌, if◌then◌else◌, nat_le, length, filter, codes}
+use Rattle.std.specs.Prelude.{ℕ, List, [], ◌∷◌, Option, Some, None, Bool, true, false, ◌&&◌, if◌then◌else◌, nat_le, length, filter, slice_get, unwrap_or, codes}
+use Rattle.std.specs.List.{list_all}
 use Rattle.std.specs.Str.{bytes_eq}
+use Rattle.lola_value.specs.Times.{is_digit, number_of}
 use Rattle.lola_model.specs.declared.journal.Show.{Show}
 use Rattle.lola_model.specs.declared.journal.Show.TheVariants as show
 use Rattle.lola_command.specs.Said.{Word, said_from}
@@ -8,7 +10,6 @@ use Rattle.lola_command.specs.declared.said.Said.{Said}
 use Rattle.lola_command.specs.declared.said.Said.TheVariants as said
 use Rattle.lola_command.specs.declared.command.Command.{Command}
 use Rattle.lola_command.specs.declared.command.Command.TheVariants as command
-use Rattle.lola_command.specs.declared.command.RunCommand.{RunCommand}
 
 -- which option is said
 
@@ -108,6 +109,26 @@ abbrev pub analyse_of : List Said → Option Command
 analyse_of (said.Name specification ∷ []) = Some (command.Analyse specification)
 analyse_of _ = None
 
+-- a number of 1 to so many digits, between two others
+abbrev pub is_number : ℕ → ℕ → ℕ → Word → Bool
+is_number digits least most w = nat_le 1 (length w) && (nat_le (length w) digits && (list_all is_digit w && (nat_le least (number_of w) && nat_le (number_of w) most)))
+
+-- a drill: its number, how many rows each source has, and how many workers there are
+abbrev pub drill_with : Word → Word → Word → Option Command
+drill_with number rows workers =
+    if is_number 10 0 2147483646 number && (is_number 7 1 1000000 rows && is_number 2 1 64 workers)
+    then Some (command.Drill (record { number = number_of number; rows = number_of rows; workers = number_of workers }))
+    else None
+
+-- the word of this number
+abbrev pub word_of : List Word → ℕ → Word
+word_of words n = unwrap_or (slice_get words n) []
+
+-- three words and no option
+abbrev pub drill_of : List Word → List Said → Option Command
+drill_of words (said.Name number ∷ said.Name rows ∷ said.Name workers ∷ []) = drill_with (word_of words number) (word_of words rows) (word_of words workers)
+drill_of words _ = None
+
 -- where no word is wrong
 abbrev pub of_said : (List Said → Option Command) → Option (List Said) → Option Command
 of_said f None = None
@@ -117,5 +138,6 @@ of_said f (Some ss) = f ss
 abbrev pub command_of : List Word → Option Command
 command_of (program ∷ word ∷ words) =
     if bytes_eq word (codes "run") then of_said run_of (said_from false 2 words)
-    else if bytes_eq word (codes "analyse") then of_said analyse_of (said_from false 2 words) else None
+    else if bytes_eq word (codes "analyse") then of_said analyse_of (said_from false 2 words)
+    else if bytes_eq word (codes "drill") then of_said (drill_of (program ∷ word ∷ words)) (said_from false 2 words) else None
 command_of _ = None

@@ -1,5 +1,5 @@
 -- The order in which a run is told what it is told.
-use Rattle.std.specs.Prelude.{ℕ, ◌≡◌, ◌≤◌, ◌↔◌, List, [], ◌∷◌, ◌++◌, Some, Bool, true, false, length, map, IsTrue}
+use Rattle.std.specs.Prelude.{◌≡◌, ◌≤◌, ◌↔◌, List, ◌∷◌, ◌++◌, Some, Bool, true, false, length, map}
 use Rattle.std.specs.List.{list_all}
 use Rattle.lola_command.specs.Command.{come_once, show_said, workers_said, start_said, in_turns_said, run_of}
 use Rattle.lola_command.specs.declared.said.Said.{Said}

@@ -1,9 +1,8 @@
 -- What the words behind a command say, one after another: names, and options with their values.
-use Rattle.std.specs.Prelude.{ℕ, ◌+◌, List, [], ◌∷◌, ◌++◌, Option, Some, None, Bool, true, false, not, ◌&&◌, ◌||◌, if◌then◌else◌, nat_eq, nat_le, nat_lt, length, take, drop, slice_get, option_map, codes}
+use Rattle.std.specs.Prelude.{ℕ, ◌+◌, List, [], ◌∷◌, ◌++◌, Option, Some, None, Bool, true, false, not, ◌&&◌, if◌then◌else◌, nat_eq, nat_le, nat_lt, length, take, drop, slice_get, option_map, codes}
 use Rattle.std.specs.List.{list_all, position}
 use Rattle.std.specs.Str.{bytes_eq}
 use Rattle.lola_value.specs.Times.{is_digit, number_of, read_time}
-use Rattle.lola_model.specs.declared.journal.Show.{Show}
 use Rattle.lola_model.specs.declared.journal.Show.TheVariants as show
 use Rattle.lola_command.specs.declared.said.Said.{Said}
 use Rattle.lola_command.specs.declared.said.Said.TheVariants as said

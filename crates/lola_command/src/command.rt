@@ -1,8 +1,12 @@
 //! Commands.
 
-ghost use Rattle.std.specs.Prelude.{◌≡◌, ◌≤◌, ◌++◌, [], ◌∷◌, IfOk, OnOk, OnErr, drop, filter, length, map, string_bytes};
-ghost use Rattle.lola_command.specs.Command.{is_show, is_workers, is_start, is_in_turns, come_once, show_said, workers_said, start_said, in_turns_said, front_names, behind_names, behind_options, is_empty, are_sources, run_over, run_by, run_of, analyse_of, command_of};
+ghost use Rattle.std.specs.Prelude.{◌≡◌, ◌≤◌, ◌++◌, [], ◌∷◌, true, false, if◌then◌else◌, IfOk, OnOk, OnErr, drop, filter, length, map, string_bytes};
+ghost use Rattle.std.specs.List.{list_all};
+ghost use Rattle.lola_value.specs.Times.{is_digit, number_of};
+ghost use Rattle.lola_command.specs.Said.{said_from};
+ghost use Rattle.lola_command.specs.Command.{is_show, is_workers, is_start, is_in_turns, come_once, show_said, workers_said, start_said, in_turns_said, front_names, behind_names, behind_options, is_empty, are_sources, run_over, run_by, run_of, analyse_of, is_number, drill_with, word_of, drill_of, of_said, command_of};
 
+use crate::options::all_digits;
 use crate::said::{Said, SaidList};
 use crate::words::all_said;
 use lola_model::journal::Show;
@@ -68,6 +72,17 @@ pub struct RunCommand {
     pub in_turns: bool,
 }
 
+/// What a drill is told.
+#[derive(Clone, Copy, Debug, PartialEq, Eq)]
+pub struct DrillCommand {
+    /// The number that all rows come from, at most 2147483646.
+    pub number: u64,
+    /// How many rows each of the two sources has, from 1 to 1,000,000.
+    pub rows: u32,
+    /// How many workers there are, from 1 to 64.
+    pub workers: u32,
+}
+
 /// A command.
 #[derive(Drop)]
 pub enum Command {
@@ -75,6 +90,8 @@ pub enum Command {
     Run(RunCommand),
     /// `analyse SPEC`, by the word that names the specification.
     Analyse(usize),
+    /// `drill NUMBER ROWS WORKERS`
+    Drill(DrillCommand),
 }
 
 // How often an option comes.
@@ -221,7 +238,8 @@ fn run_over_specification(
     })))
 }
 
-fn read_run(alloc: Global, said: &[Said]) -> Result<Option<Command>, Memory>
+// The run that this says.
+fn run_said(alloc: Global, said: &[Said]) -> Result<Option<Command>, Memory>
     ensures { IfOk result (λ command. command ≡ run_of said.now) }
 {
     let front = past_options(said);
@@ -233,7 +251,8 @@ fn read_run(alloc: Global, said: &[Said]) -> Result<Option<Command>, Memory>
     }
 }
 
-fn read_analyse(said: &[Said]) -> Option<Command>
+// The analysis that this says.
+fn analysis_said(said: &[Said]) -> Option<Command>
     ensures { result ≡ analyse_of said.now }
 {
     match said {
@@ -242,28 +261,122 @@ fn read_analyse(said: &[Said]) -> Option<Command>
     }
 }
 
+// The number that at most ten digits spell.
+fn number_spelled(digits: &[u8]) -> u64
+    requires short { length digits.now ≤ 10 }
+    requires digits { list_all is_digit digits.now ≡ true }
+    ensures { result ≡ number_of digits.now }
+{
+    let mut number = 0;
+    for digit in digits {
+        number = number * 10 + (*digit - b'0') as u64;
+    }
+    number
+}
+
+// The number that a word of 1 to so many digits spells, if it is between two others.
+fn number_between(word: &[u8], digits: usize, least: u64, most: u64) -> Option<u64>
+    requires { digits ≤ 10 }
+    ensures { result ≡ (if is_number digits least most word.now then Some (number_of word.now) else None) }
+{
+    if word.is_empty() || word.len() > digits || !all_digits(word) {
+        return None;
+    }
+    let number = number_spelled(word);
+    if number < least || number > most {
+        None
+    } else {
+        Some(number)
+    }
+}
+
+// A drill of these words.
+fn drill_of_words(number: &[u8], rows: &[u8], workers: &[u8]) -> Option<Command>
+    ensures { result ≡ drill_with number.now rows.now workers.now }
+{
+    let number = number_between(number, 10, 0, 2_147_483_646)?;
+    let rows = number_between(rows, 7, 1, 1_000_000)?;
+    let workers = number_between(workers, 2, 1, 64)?;
+    Some(Command::Drill(DrillCommand {
+        number,
+        rows: rows as u32,
+        workers: workers as u32,
+    }))
+}
+
+// The bytes of the word of this number, or none where there is no such word.
+fn word_at(words: &[String], at: usize) -> &[u8]
+    ensures { result.now ≡ word_of (map string_bytes words.now) at }
+{
+    match words.get(at) {
+        Some(word) => word.as_bytes(),
+        None => b"",
+    }
+}
+
+// The drill that this says.
+fn drill_said(words: &[String], said: &[Said]) -> Option<Command>
+    ensures { result ≡ drill_of (map string_bytes words.now) said.now }
+{
+    match said {
+        [Said::Name(number), Said::Name(rows), Said::Name(workers)] => drill_of_words(
+            word_at(words, *number),
+            word_at(words, *rows),
+            word_at(words, *workers),
+        ),
+        _ => None,
+    }
+}
+
+// The run that the words behind `run` are.
+fn read_run(alloc: Global, words: &[String]) -> Result<Option<Command>, Memory>
+    requires { 2 ≤ length words.now }
+    ensures { IfOk result (λ command. command ≡ of_said run_of (said_from false 2 (drop 2 (map string_bytes words.now)))) }
+{
+    match all_said(alloc, words, 2)? {
+        Some(said) => run_said(alloc, said.as_slice()),
+        None => Ok(None),
+    }
+}
+
+// The analysis that the words behind `analyse` are.
+fn read_analysis(alloc: Global, words: &[String]) -> Result<Option<Command>, Memory>
+    requires { 2 ≤ length words.now }
+    ensures { IfOk result (λ command. command ≡ of_said analyse_of (said_from false 2 (drop 2 (map string_bytes words.now)))) }
+{
+    match all_said(alloc, words, 2)? {
+        Some(said) => Ok(analysis_said(said.as_slice())),
+        None => Ok(None),
+    }
+}
+
+// The drill that the words behind `drill` are.
+fn read_drill(alloc: Global, words: &[String]) -> Result<Option<Command>, Memory>
+    requires { 2 ≤ length words.now }
+    ensures { IfOk result (λ command. command ≡ of_said (drill_of (map string_bytes words.now)) (said_from false 2 (drop 2 (map string_bytes words.now)))) }
+{
+    match all_said(alloc, words, 2)? {
+        Some(said) => Ok(drill_said(words, said.as_slice())),
+        None => Ok(None),
+    }
+}
+
 /// The command that the words of a command line are, or none where they are no command. The first word is the
-/// program's name, the second `run` or `analyse`.
+/// program's name, the second `run`, `analyse` or `drill`.
 ///
 /// Options stand before the specification, between it and the first source, or behind the last source, and each comes at
-/// most once, as `--name value` or `--name=value`. A word `--` makes all words behind it names.
+/// most once, as `--name value` or `--name=value`. A word `--` makes all words behind it names. A drill has no option and
+/// three numbers, each of digits alone.
 pub fn read_command(alloc: Global, words: &[String]) -> Result<Option<Command>, Memory>
     ensures { IfOk result (λ command. command ≡ command_of (map string_bytes words.now)) }
 {
     if words.len() < 2 {
         return Ok(None);
     }
-    let is_run = words[1].as_str() == "run";
-    if !is_run && words[1].as_str() != "analyse" {
-        return Ok(None);
-    }
-    let said = match all_said(alloc, words, 2)? {
-        None => return Ok(None),
-        Some(said) => said,
-    };
-    if is_run {
-        read_run(alloc, said.as_slice())
-    } else {
-        Ok(read_analyse(said.as_slice()))
+    match words[1].as_str() {
+        "run" => read_run(alloc, words),
+        "analyse" => read_analysis(alloc, words),
+        "drill" => read_drill(alloc, words),
+        _ => Ok(None),
     }
 }

@@ -36,7 +36,8 @@ fn show_value(value: &[u8]) -> Option<Said>
     }
 }
 
-fn all_digits(value: &[u8]) -> bool
+/// Whether there are digits alone.
+pub fn all_digits(value: &[u8]) -> bool
     ensures { result ≡ list_all is_digit value.now }
 {
     value.iter().all(|byte| *byte >= b'0' && *byte <= b'9')

@@ -14,7 +14,7 @@ fn words_of(alloc: Global, line: &str) -> Result<Vec<String>, Memory> {
     Ok(words)
 }
 
-/// What a run is told: the words of the specification and of the sources, whether outputs are shown, the
+/// What a command is told; of a run the words of the specification and of the sources, whether outputs are shown, the
 /// workers, the start and whether in turns.
 fn told(alloc: Global, command: &Command) -> Result<String, Memory> {
     match command {
@@ -27,6 +27,10 @@ fn told(alloc: Global, command: &Command) -> Result<String, Memory> {
                 run.specification, run.workers, run.start, run.in_turns
             )?)
         }
+        Command::Drill(drill) => Ok(format!(in alloc;
+            "drill {} {} {}",
+            drill.number, drill.rows, drill.workers
+        )?),
     }
 }
 
@@ -69,6 +73,15 @@ fn commands(rt: HostRuntime) {
         ("lolamon analyse s", "analyse 2"),
         ("lolamon analyse -- s", "analyse 3"),
         ("lolamon analyse -- --show", "analyse 3"),
+        ("lolamon drill 1 1 1", "drill 1 1 1"),
+        ("lolamon drill 007 01 1", "drill 7 1 1"),
+        ("lolamon drill -- 1 1 1", "drill 1 1 1"),
+        ("lolamon drill 1 2 3 --", "drill 1 2 3"),
+        (
+            "lolamon drill 2147483646 1000000 64",
+            "drill 2147483646 1000000 64",
+        ),
+        ("lolamon drill 0 1 1", "drill 0 1 1"),
     ];
     for (line, want) in table {
         let read = read(rt.alloc(), line).expect(&rt, "memory");
@@ -109,6 +122,22 @@ fn no_commands(rt: HostRuntime) {
         "lolamon analyse s t",
         "lolamon analyse --in-turns s",
         "lolamon drive s f",
+        "lolamon drill",
+        "lolamon drill 1 1",
+        "lolamon drill 1 1 1 1",
+        "lolamon drill 2147483647 1 1",
+        "lolamon drill 12345678901 1 1",
+        "lolamon drill 1 0 1",
+        "lolamon drill 1 1000001 1",
+        "lolamon drill 1 00000001 1",
+        "lolamon drill 1 1 0",
+        "lolamon drill 1 1 65",
+        "lolamon drill 1 1 001",
+        "lolamon drill 1 1 +1",
+        "lolamon drill 1 -1 1",
+        "lolamon drill \"\" 1 1",
+        "lolamon drill --workers 2 1 1 1",
+        "lolamon drill --in-turns 1 1 1",
     ];
     for line in table {
         let read = read(rt.alloc(), line).expect(&rt, "memory");

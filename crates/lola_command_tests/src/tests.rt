@@ -1,7 +1,7 @@
-//! One command line, read by `lola_command` and by a command of the crate `clap` with the same options.
+//! Command lines, read by `lola_command` and by a command of the crate `clap` with the same options.
 
 use clap::{Arg, ArgAction, Command as ClapCommand, Error};
-use lola_command::command::{Command, RunCommand, read_command};
+use lola_command::command::{Command, DrillCommand, RunCommand, read_command};
 use lola_model::journal::Show;
 use lola_value::text::Memory;
 use std::alloc::Global;
@@ -56,9 +56,9 @@ fn is_read_by_clap(alloc: Global) -> Result<bool, Error> {
 }
 
 /// The words of a command line.
-fn words(alloc: Global) -> Result<Vec<String>, Memory> {
+fn words(alloc: Global, line: &[&str]) -> Result<Vec<String>, Memory> {
     let mut words = Vec::new(alloc);
-    for word in WORDS {
+    for word in line {
         words.push(String::from_str(alloc, word)?)?;
     }
     Ok(words)
@@ -75,7 +75,7 @@ fn is_same(run: &RunCommand) -> bool {
 }
 
 fn is_read(alloc: Global) -> Result<bool, Memory> {
-    let words = words(alloc)?;
+    let words = words(alloc, WORDS.as_slice())?;
     match read_command(alloc, words.as_slice())? {
         Some(Command::Run(run)) => Ok(is_same(&run)),
         _ => Ok(false),
@@ -86,5 +86,47 @@ fn is_read(alloc: Global) -> Result<bool, Memory> {
 fn a_run_with_options(rt: HostRuntime) -> Result<(), Memory> {
     assert!(rt; is_read(rt.alloc())?);
     assert!(rt; matches!(is_read_by_clap(rt.alloc()), Ok(true)));
+    Ok(())
+}
+
+const DRILL_WORDS: [&str; 5] = ["lolamon", "drill", "7", "1000", "2"];
+
+/// `drill` with its three numbers, as `clap` has it.
+fn drill_of_clap(alloc: Global) -> Result<ClapCommand<'static>, Error> {
+    let command = ClapCommand::new(alloc, "drill")
+        .arg(name(alloc, "number"))?
+        .arg(name(alloc, "rows"))?
+        .arg(name(alloc, "workers"))?;
+    Ok(command)
+}
+
+/// Whether `clap` reads the words behind the program's name as a drill with these numbers.
+fn is_drill_of_clap(alloc: Global) -> Result<bool, Error> {
+    let command = drill_of_clap(alloc)?;
+    let matches = command.try_get_matches_from(&DRILL_WORDS[1..])?;
+    Ok(
+        matches.get_str("number") == Some("7")
+            && matches.get_str("rows") == Some("1000")
+            && matches.get_str("workers") == Some("2"),
+    )
+}
+
+fn is_drill_read(alloc: Global) -> Result<bool, Memory> {
+    let words = words(alloc, DRILL_WORDS.as_slice())?;
+    let want = DrillCommand {
+        number: 7,
+        rows: 1000,
+        workers: 2,
+    };
+    match read_command(alloc, words.as_slice())? {
+        Some(Command::Drill(drill)) => Ok(drill == want),
+        _ => Ok(false),
+    }
+}
+
+#[test]
+fn a_drill(rt: HostRuntime) -> Result<(), Memory> {
+    assert!(rt; is_drill_read(rt.alloc())?);
+    assert!(rt; matches!(is_drill_of_clap(rt.alloc()), Ok(true)));
     Ok(())
 }

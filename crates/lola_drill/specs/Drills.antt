@@ -4,6 +4,10 @@ use Rattle.std.specs.Fmt.{signed_decimal}
 use Rattle.std.specs.List.{concat}
 use Rattle.lola_port.specs.States.{SourceState}
 
+-- the bytes of the specification
+unfoldable pub drill_text : List ℕ
+drill_text = codes "input dev: String\ninput v: Int64\ninput w: Int64\noutput total: Int64 @v := total.last(or: 0) + v\noutput mean: Int64 @1Hz := v.aggregate(over: 10s, using: avg).defaults(to: 0)\noutput both: Int64 @(v || w) := v.hold(or: 0) + w.hold(or: 0)\noutput seen(d: String): Int64\n  spawn with dev\n  eval @dev when dev == d with seen(d).last(or: 0) + 1\n  close when seen(d).hold(or: 0) >= 100\ntrigger v > 490 \"high\"\ntrigger mean > 20 \"mean\"\ntrigger both > 500 \"both\"\n"
+
 -- the number after a number
 unfoldable pub stepped : ℕ → ℕ
 stepped x = (1103515245 * x + 12345) % 2 ^ 31

@@ -3,9 +3,9 @@
 
 mod drill;
 mod rows;
-mod specification;
 #[cfg(test)]
 mod tests;
+mod text;
 
 pub use drill::Drill;
-pub use specification::SPECIFICATION;
+pub use text::specification;

@@ -107,16 +107,16 @@ pub of_own : (s : ℕ) (h : List (Turn Event)) (m n : Merging) → Runs Changes 
 of_own s [] m n r = refl
 of_own s (e ∷ es) m n (z, does, r) = step_source s e.by e.event m z (events es) (calls_by (s + 1) es) does (of_own s es z n r)
 
-own_front : (c : ℕ) (e : Turn Event) (es : List (Turn Event)) → e.by ≡ c → calls_by c (e ∷ es) ≡ e.event ∷ calls_by c es
+pub own_front : (c : ℕ) (e : Turn Event) (es : List (Turn Event)) → e.by ≡ c → calls_by c (e ∷ es) ≡ e.event ∷ calls_by c es
 own_front c e es is = ap (λ b. cond b (e.event ∷ calls_by c es) (calls_by c es)) (eq-eqb e.by c is)
 
-other_front : (c : ℕ) (e : Turn Event) (es : List (Turn Event)) → e.by ≢ c → calls_by c (e ∷ es) ≡ calls_by c es
+pub other_front : (c : ℕ) (e : Turn Event) (es : List (Turn Event)) → e.by ≢ c → calls_by c (e ∷ es) ≡ calls_by c es
 other_front c e es ne = ap (λ b. cond b (e.event ∷ calls_by c es) (calls_by c es)) (ne_eqb e.by c ne)
 
-not_its : (c : ℕ) (e : Turn Event) (es : List (Turn Event)) → calls_by c (e ∷ es) ≡ [] → e.by ≢ c
+pub not_its : (c : ℕ) (e : Turn Event) (es : List (Turn Event)) → calls_by c (e ∷ es) ≡ [] → e.by ≢ c
 not_its c e es none is = let no : e.event ∷ calls_by c es ≡ [] = sym (own_front c e es is) ∙ none in cc
 
-none_after : (c : ℕ) (e : Turn Event) (es : List (Turn Event)) → calls_by c (e ∷ es) ≡ [] → calls_by c es ≡ []
+pub none_after : (c : ℕ) (e : Turn Event) (es : List (Turn Event)) → calls_by c (e ∷ es) ≡ [] → calls_by c es ≡ []
 none_after c e es none = sym (other_front c e es (not_its c e es none)) ∙ none
 
 step_quiet : (by : ℕ) (e : Event) (m z : Merging) → by ≡ 0 → Does by e m z → m.pending ≡ [] → z.pending ≡ []
@@ -134,7 +134,7 @@ quiet (e ∷ es) m n (z, does, r) none only = quiet es z n r (step_quiet e.by e.
     zero_if zero n = refl
     zero_if (suc b) n = absurd (n (omega arith))
 
-done_is : (m : Merging) → AllDone ≡ take_reply m → (m.pending ≡ []) × ((s : ℕ) → s < sources_of m → has_finished m s ≡ true)
+pub done_is : (m : Merging) → AllDone ≡ take_reply m → (m.pending ≡ []) × ((s : ℕ) → s < sources_of m → has_finished m s ≡ true)
 done_is m e = let due = subst (TakeIsDue (length m.pending) (sources_of m) (has_finished m)) (sym e) (take_is_due m) in (none_left m.pending due.0, due.1)
 
 abbrev Source : Merging → List (Turn Event) → ℕ → Type 0
@@ -277,19 +277,19 @@ step_finished s by (Finished q) m z es d l = ap (λ (k : Merging). cond (get_or 
 step_finished s by (Took t rows) m z es d l = ap (λ (k : Merging). cond (get_or k.finished s false) true (has_finish es s)) d.3
 step_finished s by Closed m z es d l = ap (λ (k : Merging). cond (get_or k.finished s false) true (has_finish es s)) d.1
 
-step_sources : (by : ℕ) (e : Event) (m z : Merging) → Does by e m z → sources_of z ≡ sources_of m
+pub step_sources : (by : ℕ) (e : Event) (m z : Merging) → Does by e m z → sources_of z ≡ sources_of m
 step_sources by (Offered row r) m z d = ap length (offer_way by row r m z d).finished
 step_sources by (Finished q) m z d = ap sources_of d.1 ∙ length-set m.finished q true
 step_sources by (Took t rows) m z d = ap sources_of d.3
 step_sources by Closed m z d = ap sources_of d.1
 
 -- no call changes the number of sources
-sources_after : (h : List (Turn Event)) (m n : Merging) → Runs Changes m h n → sources_of n ≡ sources_of m
+pub sources_after : (h : List (Turn Event)) (m n : Merging) → Runs Changes m h n → sources_of n ≡ sources_of m
 sources_after [] m n r = ap sources_of (sym r)
 sources_after (e ∷ es) m n (z, does, r) = sources_after es z n r ∙ step_sources e.by e.event m z does
 
 -- a source has finished where it had, or where it finished
-finished_after : (s : ℕ) (h : List (Turn Event)) (m n : Merging) → Runs Changes m h n → s < sources_of m → has_finished n s ≡ cond (has_finished m s) true (has_finish (events h) s)
+pub finished_after : (s : ℕ) (h : List (Turn Event)) (m n : Merging) → Runs Changes m h n → s < sources_of m → has_finished n s ≡ cond (has_finished m s) true (has_finish (events h) s)
 finished_after s [] m n r l = ap (λ (k : Merging). has_finished k s) (sym r) ∙ sym (itself (has_finished m s))
 finished_after s (e ∷ es) m n (z, does, r) l = finished_after s es z n r (let k = step_sources e.by e.event m z does in omega arith) ∙ step_finished s e.by e.event m z (events es) does l
 

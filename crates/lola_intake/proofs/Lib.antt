@@ -1,3 +1,4 @@
 pub mod Laws
+pub mod Ending
 pub mod Seating
 pub mod Telling

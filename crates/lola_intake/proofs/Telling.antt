@@ -1,5 +1,7 @@
 -- What seats show.
-use Rattle.std.proofs.Common.{◌≡◌, ◌<◌, ◌+◌, ℕ, zero, suc, false, List, [], ◌∷◌, ◌++◌, map, length, slice_get, get_or, inl, inr, ⊎_elim, Some, sym, refl, ap, ◌∙◌, subst, arith}
+use Rattle.std.proofs.Common.{◌≡◌, ◌<◌, ◌≤◌, ◌+◌, ℕ, zero, suc, false, List, [], ◌∷◌, ◌++◌, map, length, slice_get, get_or, inl, inr, ⊎_elim, Some, sym, refl, ap, ◌∙◌, subst, arith}
+use Rattle.std.specs.List.{All}
+use Rattle.std.proofs.lemmas.List.{length-map}
 use mathlib.Core.Option.{some, some-injective, some-ne-none}
 use lib.ListN.{get_elem?}
 use Rattle.atomic_table.specs.Seated.{TableId}
@@ -11,8 +13,9 @@ use Rattle.lola_model.specs.declared.journal.Entry.{Entry}
 use Rattle.lola_intake.specs.declared.event.Event.{Event}
 use Rattle.lola_merge.specs.Merging.{Merging}
 use Rattle.lola_model.specs.Journal.{opening_time, IsLegalFrom}
-use Rattle.lola_intake.specs.Histories.{Begins, Changes, events, entries, taken, entries_of, times, Rises, EndsDone, FinishesLast}
+use Rattle.lola_intake.specs.Histories.{Begins, Changes, events, entries, taken, entries_of, has_finish, times, Rises, EndsDone, FinishesLast}
 use Rattle.lola_intake.proofs.Laws.{flows, marks, first_took, of_own, all_in, times_rise, all_false, long_as}
+use Rattle.lola_intake.proofs.Ending.{all_theirs, each_finished, IsAmong, none_past}
 use Rattle.lola_intake.specs.Intakes.{Shown, shown, setting_or, setting_of, new_seat, Told, Whole}
 use mathlib.Core.Logic.{dite}
 use native.Mathlib.Decide.{ℕ_discrete}
@@ -56,17 +59,35 @@ pub none_left : (xs : List Shown) → length xs ≡ 0 → xs ≡ []
 none_left [] e = refl
 none_left (x ∷ xs) e = absurd (omega arith)
 
+-- who the callers of seats are
+abbrev pub callers : List Shown → List ℕ
+callers seats = map (λ (p : Shown). p.caller) seats
+
+pub among : (xs : List Shown) (s : ℕ) (p : Shown) → slice_get xs s ≡ Some p → IsAmong p.caller (callers xs)
+among [] s p e = absurd (cc)
+among (x ∷ xs) zero p e = let same : x ≡ p = cc in inl (ap (λ (q : Shown). q.caller) same)
+among (x ∷ xs) (suc s) p e = inr (among xs s p e)
+
 -- the engine took the seats back, and then the rows that were left
 pub whole : (id : TableId) (v v0 : View Setting Event) (seats : List Shown) (m : Merging) (k : Setting) → Ended Begins Changes m v → v0.setting ≡ Some k → v.setting ≡ v0.setting → v0.caller ≡ 0
     → v.caller ≡ v0.caller → v0.made ≡ (setting_of v0).sources → v.made ≡ v0.made → v.seen ≡ v0.seen → v.mine ≡ v0.mine → v.known ≡ map knows seats
-    → ((s : ℕ) (p : Shown) → slice_get seats s ≡ Some p → p.caller ≡ p.source + 1) → Whole (shown id 0 v0) seats m.pending
-whole id v v0 seats m k (h, e) is setting zero_ caller number made seen mine known right =
+    → length seats ≡ (setting_of v0).sources → ((s : ℕ) (p : Shown) → slice_get seats s ≡ Some p → p.caller ≡ p.source + 1) → Whole (shown id 0 v0) seats m.pending
+whole id v v0 seats m k (h, e) is setting zero_ caller number made seen mine known long right =
     let here : setting_of v0 ≡ k = ap setting_or is in
     let r = e.reached (setting_of v0) (setting ∙ (is ∙ ap Some (sym here))) in
     let engine_own : calls_by 0 h ≡ v0.mine = ap (λ c. calls_by c h) (sym zero_ ∙ sym caller) ∙ (e.own ∙ mine) in
     let seats_own : (s : ℕ) (p : Shown) → slice_get seats s ≡ Some p → calls_by p.caller h ≡ p.mine = λ s p at. (e.others s (knows p) (ap (λ l. get_elem? l s) known ∙ get_there seats s p at)).1 in
     let nobody : (c : ℕ) → (setting_of v0).sources < c → calls_by c h ≡ [] = λ c l. e.nobody c (subst (λ z. z < c) (sym (made ∙ number)) l) in
     let finished : length r.0.finished ≡ (setting_of v0).sources = ap (λ (y : Merging). length y.finished) r.1 ∙ long_as (setting_of v0).sources in
+    let few : (s : ℕ) (p : Shown) → slice_get seats s ≡ Some p → p.source < (setting_of v0).sources = λ s p at.
+    let top : p.caller ≤ (setting_of v0).sources = none_past (setting_of v0).sources (callers seats) (length-map seats (λ (q : Shown). q.caller) ∙ long)
+    (λ c l le. ⊎_elim
+    (λ (t : v.caller ≡ c). absurd (let z : v.caller ≡ 0 = caller ∙ zero_ in omega arith))
+    (λ (t : (j : ℕ) × (u : Known Event) × (get_elem? v.known j ≡ some u) × (u.caller ≡ c)).
+    let b = get_back seats t.0 t.1 (ap (λ l. get_elem? l t.0) (sym known) ∙ t.2) in
+    subst (λ d. IsAmong d (callers seats)) (ap (λ (y : Known Event). y.caller) b.2 ∙ t.3) (among seats t.0 b.0 b.1))
+    (e.all c (let z : v.made ≡ (setting_of v0).sources = made ∙ number in omega arith)))
+    p.caller (among seats s p at) in let its : p.caller ≡ p.source + 1 = right s p at in omega arith in
     let all_rows : taken v0.mine ++ m.pending ≡ entries (events h) =
     ap (λ l. l ++ m.pending) (sym (first_took h r.0 m r.2 ∙ ap taken engine_own)) ∙ (sym (flows h r.0 m r.2) ∙ ap (λ (y : Merging). y.pending ++ entries (events h)) r.1) in
     record {
@@ -84,6 +105,10 @@ whole id v v0 seats m k (h, e) is setting zero_ caller number made seen mine kno
       let_in = all_rows;
       marked = subst (λ (l : List Entry). IsLegalFrom (opening_time (setting_of v0).start) l) (sym all_rows) (subst (λ (y : Merging). IsLegalFrom y.merged (entries (events h))) r.1 (marks h r.0 m r.2));
       sources = λ s p at. ap (entries_of p.source) all_rows ∙ (of_own p.source h r.0 m r.2 ∙ ap entries (ap (λ c. calls_by c h) (sym (right s p at)) ∙ seats_own s p at));
+      theirs = subst (All (λ (e : Entry). e.row.source < (setting_of v0).sources)) (sym all_rows) (all_theirs (setting_of v0).sources h r.0 m r.2 nobody);
+      finished = λ ends s p at. ap (λ l. has_finish l p.source) (sym (seats_own s p at) ∙ ap (λ c. calls_by c h) (right s p at))
+          ∙ each_finished h r.0 m r.2 (λ s. ap (λ (y : Merging). get_or y.finished s false) r.1 ∙ all_false (setting_of v0).sources s) (subst (λ l. EndsDone l false) (sym engine_own) ends)
+          p.source (let l : p.source < (setting_of v0).sources = few s p at in let n : length r.0.finished ≡ (setting_of v0).sources = finished in omega arith);
       done = λ ends last. all_in h r.0 m r.2 (subst (λ l. EndsDone l false) (sym engine_own) ends)
           (λ s l. inr (
             ap (λ (y : Merging). get_or y.finished s false) r.1 ∙ all_false (setting_of v0).sources s,

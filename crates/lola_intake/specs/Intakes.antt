@@ -1,5 +1,5 @@
 -- What seats show, what a call tells its caller, and what is known at the end.
-use Rattle.std.specs.Prelude.{◌≡◌, ◌<◌, ◌⊎◌, ℕ, false, List, [], ◌∷◌, ◌++◌, Option, Some, None, slice_get}
+use Rattle.std.specs.Prelude.{◌≡◌, ◌<◌, ◌⊎◌, ℕ, false, List, [], ◌∷◌, ◌++◌, Option, Some, None, slice_get, All, true}
 use Rattle.atomic_table.specs.Seated.{TableId}
 use Rattle.lola_turns.specs.declared.view.Turn.{Turn}
 use Rattle.lola_turns.specs.declared.view.View.{View}
@@ -8,7 +8,7 @@ use Rattle.lola_model.specs.Journal.{opening_time, IsLegalFrom}
 use Rattle.lola_model.specs.declared.journal.Entry.{Entry}
 use Rattle.lola_intake.specs.declared.event.Setting.{Setting}
 use Rattle.lola_intake.specs.declared.event.Event.{Event}
-use Rattle.lola_intake.specs.Histories.{IsLegal, events, entries, taken, entries_of, times, Rises, EndsDone, FinishesLast}
+use Rattle.lola_intake.specs.Histories.{IsLegal, events, entries, taken, entries_of, has_finish, times, Rises, EndsDone, FinishesLast}
 
 -- A seat shows of which intake it is, how many sources that has and from when on, which caller it is and of which
 -- source, the history that it has seen, and its own calls. The engine is caller 0, and source s is caller s + 1.
@@ -63,7 +63,8 @@ Before event old new P = (before : List (Turn Event)) → new.seen ≡ before ++
 -- What is known at the end. There is one legal history, the longest that a seat has seen. It begins with what each
 -- seat has seen, and has just the seats' own calls. The rows that were taken, and then those that are left, are those
 -- that were let in, rightly marked, and of each source those that its own calls let in, in their order and with their
--- marks. Where the last take was answered that all is done, and each source's last call was its only finish, none is left.
+-- marks, and no others. Where the last take was answered that all is done, each source has finished, and where each
+-- source's last call was its only finish, none is left.
 pub record Whole (engine : Shown) (seats : List Shown) (left : List Entry) : Type 0 where
   pub history : List (Turn Event)
   pub legal : IsLegal engine.setting history
@@ -76,4 +77,6 @@ pub record Whole (engine : Shown) (seats : List Shown) (left : List Entry) : Typ
   pub let_in : taken engine.mine ++ left ≡ entries (events history)
   pub marked : IsLegalFrom (opening_time engine.setting.start) (taken engine.mine ++ left)
   pub sources : (s : ℕ) (p : Shown) → slice_get seats s ≡ Some p → entries_of p.source (taken engine.mine ++ left) ≡ entries p.mine
+  pub theirs : All (λ (e : Entry). e.row.source < engine.setting.sources) (taken engine.mine ++ left)
+  pub finished : EndsDone engine.mine false → (s : ℕ) (p : Shown) → slice_get seats s ≡ Some p → has_finish p.mine p.source ≡ true
   pub done : EndsDone engine.mine false → ((s : ℕ) (p : Shown) → slice_get seats s ≡ Some p → FinishesLast p.mine) → left ≡ []

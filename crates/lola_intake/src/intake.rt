@@ -2,7 +2,8 @@
 
 ghost use Rattle.std.specs.Prelude.{◌≡◌, ◌<◌, ◌≤◌, ◌+◌, ℕ, [], length, IfOk, Some, slice_get};
 ghost use Rattle.lola_intake.specs.declared.event.Event.TheVariants.{Offered, Finished, Took, Closed};
-ghost use Rattle.lola_intake.specs.Histories.{IsBack, OfferIsCaused, TakeIsCaused};
+ghost use Rattle.lola_model.specs.Journal.{IsLegalFrom, opening_time};
+ghost use Rattle.lola_intake.specs.Histories.{IsBack, OfferIsCaused, TakeIsCaused, taken};
 ghost use Rattle.lola_intake.specs.Intakes.{AreSeatsOf, Told, Before, Whole, setting, new_seat};
 
 use crate::event::Setting;
@@ -83,6 +84,7 @@ impl Intake {
         requires empty { into.old ≡ [] }
         ensures told { Told (Took result into.new) seat.old seat.new }
         ensures cause { Before (Took result into.new) seat.old seat.new (λ before. TakeIsCaused seat.old.setting before result) }
+        ensures marked { IsLegalFrom (opening_time seat.old.setting.start) (taken seat.new.mine) }
     {
         let at = &mut seat.seat;
         self.lock.enter(rt, at);

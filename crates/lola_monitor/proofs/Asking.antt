@@ -1,9 +1,10 @@
 -- What the words of a command name.
 use Rattle.std.proofs.Common.{◌≡◌, ℕ, List, [], ◌∷◌, Some, map, ap}
 use Rattle.lola_command.specs.Command.{command_of}
-use Rattle.lola_command.specs.declared.command.Command.TheVariants.{Run, Analyse}
+use Rattle.lola_command.specs.declared.command.Command.TheVariants.{Run, Analyse, Drill}
+use Rattle.lola_command.specs.declared.command.DrillCommand.{DrillCommand}
 use Rattle.lola_command.specs.declared.command.RunCommand.{RunCommand}
-use Rattle.lola_monitor.specs.Command.{all_names, analysed_named, analysed_of, names_asked, names_with, run_by, run_of, specification_named, specification_of, word_at}
+use Rattle.lola_monitor.specs.Command.{all_names, analysed_named, analysed_of, drill_named, drill_of, names_asked, names_with, run_by, run_of, specification_named, specification_of, word_at}
 
 module _ (words : List (List ℕ)) (r : RunCommand) (is : command_of words ≡ Some (Run r)) where
   pub specification_is : specification_of words ≡ Some (word_at words r.specification)
@@ -24,3 +25,10 @@ module _ (words : List (List ℕ)) (n : ℕ) (is : command_of words ≡ Some (An
 
   pub analysed_names : names_asked words ≡ word_at words n ∷ []
   analysed_names = ap (all_names words) is
+
+module _ (words : List (List ℕ)) (d : DrillCommand) (is : command_of words ≡ Some (Drill d)) where
+  pub drill_is : drill_of words ≡ Some d
+  drill_is = ap drill_named is
+
+  pub drill_names : names_asked words ≡ []
+  drill_names = ap (all_names words) is

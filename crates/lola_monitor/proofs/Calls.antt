@@ -1,5 +1,5 @@
 -- What a shelf was asked for in a call.
-use Rattle.std.proofs.Common.{◌≡◌, ◌⊎◌, ℕ, subst, List, [], ◌∷◌, ◌++◌, map, length, take, drop, inl, inr, Err, refl, sym, ap, ◌∙◌, append_assoc}
+use Rattle.std.proofs.Common.{◌≡◌, ◌⊎◌, ℕ, Bool, subst, List, [], ◌∷◌, ◌++◌, map, length, take, drop, inl, inr, Err, refl, sym, ap, ◌∙◌, append_assoc}
 use Rattle.std.proofs.lemmas.List.{append-nil}
 use Rattle.std.proofs.Math.Seq.{take-append_seam, drop-append_seam}
 use Rattle.lola_port.specs.Asks.{given_ask}
@@ -11,7 +11,7 @@ use Rattle.lola_monitor.specs.Command.{names_asked}
 use Rattle.lola_monitor.specs.Monitor.{Asked, Outside, asks_between}
 use Rattle.lola_monitor.specs.Outcomes.{AllHome, Grew, Marred, PlansName, RunsSources, Stopped, noted}
 use Rattle.lola_monitor.specs.declared.outcome.Outcome.{Outcome}
-use Rattle.lola_monitor.specs.declared.outcome.Outcome.TheVariants.{Line, Report, Put, Memory}
+use Rattle.lola_monitor.specs.declared.outcome.Outcome.TheVariants.{Line, Drilled, Report, Put, Memory}
 use Rattle.lola_monitor.specs.declared.outcome.Unplanned.{Unplanned}
 use Rattle.lola_monitor.specs.declared.outcome.Unplanned.TheVariants as unplanned
 
@@ -56,18 +56,19 @@ grew_all names before after asks is named home = record { asks = asks; appended 
 grew_home : (names : List (List ℕ)) (before after : ShelfState) → AllHome names before after → Grew names before after
 grew_home names before after home = grew_all names before after (map given_ask names) home.asks (names_given names) home.out
 
-pub grew_sources : (outcome : Outcome) (s : Setting) (names : List (List ℕ)) (before after : Outside) → RunsSources outcome s names before after → Grew names before.shelf after.shelf
-grew_sources (Line (Done a l n v)) s names before after ran = grew_home names before.shelf after.shelf ran.ended.home
-grew_sources (Line (Malformed n row kind)) s names before after ran = grew_home names before.shelf after.shelf ran.ended.home
-grew_sources (Line (Fault stream kind time)) s names before after ran = grew_all names before.shelf after.shelf ran.asks ran.home.appended ran.home.named ran.home.out
-grew_sources (Line (UnreadableSource n)) s names before after ran = ran.asked
-grew_sources (Line Usage) s names before after ran = absurd ran
-grew_sources (Line (Refused r)) s names before after ran = absurd ran
-grew_sources (Line UnreadableSpecification) s names before after ran = absurd ran
-grew_sources (Line (Analysed n w)) s names before after ran = absurd ran
-grew_sources (Report text) s names before after ran = absurd ran
-grew_sources Put s names before after ran = ran.shelf
-grew_sources Memory s names before after ran = ran.shelf
+pub grew_sources : (in_turns : Bool) (outcome : Outcome) (s : Setting) (names : List (List ℕ)) (before after : Outside) → RunsSources in_turns outcome s names before after → Grew names before.shelf after.shelf
+grew_sources in_turns (Line (Done a l n v)) s names before after ran = grew_home names before.shelf after.shelf ran.ended.home
+grew_sources in_turns (Line (Malformed n row kind)) s names before after ran = grew_home names before.shelf after.shelf ran.ended.home
+grew_sources in_turns (Line (Fault stream kind time)) s names before after ran = grew_all names before.shelf after.shelf ran.asks ran.home.appended ran.home.named ran.home.out
+grew_sources in_turns (Line (UnreadableSource n)) s names before after ran = ran.asked
+grew_sources in_turns (Line Usage) s names before after ran = absurd ran
+grew_sources in_turns (Line (Refused r)) s names before after ran = absurd ran
+grew_sources in_turns (Line UnreadableSpecification) s names before after ran = absurd ran
+grew_sources in_turns (Line (Analysed n w)) s names before after ran = absurd ran
+grew_sources in_turns (Drilled line) s names before after ran = absurd ran
+grew_sources in_turns (Report text) s names before after ran = absurd ran
+grew_sources in_turns Put s names before after ran = ran.shelf
+grew_sources in_turns Memory s names before after ran = ran.shelf
 
 pub grew_twice : (name : List ℕ) (names : List (List ℕ)) (before mid after : ShelfState) → mid ≡ noted before name → Grew names mid after → Grew (name ∷ names) before after
 grew_twice name names before mid after is grew = record {

@@ -7,24 +7,25 @@ use Rattle.lola_report.specs.Ends.{end_text}
 use Rattle.lola_report.specs.declared.end.EndLine.{EndLine}
 use Rattle.lola_report.specs.declared.end.EndLine.TheVariants.{Done, Usage, Refused, Malformed, Fault, UnreadableSpecification, UnreadableSource, Analysed}
 use Rattle.lola_run.specs.Verdicts.{HasFrontOf, settled_fault_in, verdicts}
-use Rattle.lola_run.proofs.Sinks.{an_entry, grown_twice, known_append, some_line}
-use Rattle.lola_rounds.proofs.Runs.{no_part}
+use Rattle.lola_monitor.specs.Drilling.{IsCutDrill, IsDrilled, IsFaultyDrill, IsMalformedDrill, IsRefusedDrill}
 use Rattle.lola_monitor.specs.Monitor.{Analysis, BrokeOff, IsAnalysed, IsBroken, IsCutAnalysis, IsCutShort, IsDone, IsEarly, IsFault, IsMalformed, IsRefused, IsUnread, IsUsage, Outside, Ran, Wrote, setting_of}
 use Rattle.lola_monitor.specs.Outcomes.{Concluded, NoCommand, NoPlan, NotRead, Stood, StoodAnalysed, StoodCut, StoodDone, StoodFault, StoodMalformed, Works}
 use Rattle.lola_monitor.specs.declared.outcome.Outcome.{Outcome}
-use Rattle.lola_monitor.specs.declared.outcome.Outcome.TheVariants.{Line, Report, Put, Memory}
+use Rattle.lola_monitor.specs.declared.outcome.Outcome.TheVariants.{Line, Drilled, Report, Put, Memory}
+use Rattle.lola_monitor.proofs.DrillEnds.{drill_cut_of, drill_done_of, drill_early_of, drill_fault_of, drill_malformed_of, drill_refused_of, drill_unread_of, drill_usage_of}
+use Rattle.lola_monitor.proofs.Laws.{PutLaws, PutsAddUp, WholeLines}
 
 -- from the same state
 wrote_same : (s0 s1 s2 : SinkState) (ys : List ℕ) → s1 ≡ s0 → Wrote s1 s2 ys → Wrote s0 s2 ys
 wrote_same s0 s1 s2 ys same wrote = subst (λ s. Wrote s s2 ys) same wrote
 
 -- a front that ends inside the last part
-broken_front : (s0 s1 s2 : SinkState) (text more : List ℕ) → s1 ≡ grown s0 text → PutBroke s1 s2 more → HasFrontOf s0 s2 (text ++ more)
-broken_front s0 s1 s2 text more first broke = record {
+broken_front : PutsAddUp → (s0 s1 s2 : SinkState) (text more : List ℕ) → s1 ≡ grown s0 text → PutBroke s1 s2 more → HasFrontOf s0 s2 (text ++ more)
+broken_front parts s0 s1 s2 text more first broke = record {
   part = text ++ broke.part;
   rest = broke.is_part.rest;
   joined = ap (λ (l : List ℕ). text ++ l) broke.is_part.joined ∙ sym (append_assoc text broke.part broke.is_part.rest);
-  written = broke.written ∙ ap (λ s. append_known s.written broke.part) first ∙ known_append s0.written text broke.part;
+  written = broke.written ∙ ap (λ s. append_known s.written broke.part) first ∙ ap (λ (k : SinkState). k.written) (parts s0 text broke.part);
 }
 
 module _ (words : List (List ℕ)) (before after : Outside) (last : SinkState) where
@@ -33,24 +34,24 @@ module _ (words : List (List ℕ)) (before after : Outside) (last : SinkState) w
   ran_with r = record { names = r.names; is_command = r.is_command; plan = r.plan; is_plan = r.is_plan; accepted = r.accepted; one_model = r.one_model; journal = r.journal; legal = r.legal; sources = r.sources; turns = r.turns; trace = r.trace }
 
   -- the end line of a run that ends well
-  ends_done : (line : EndLine) (s : StoodDone line words before after) → last ≡ grown after.out (end_text line) → IsDone words before (record after { out = last })
-  ends_done line s is = record {
+  ends_done : PutsAddUp → (line : EndLine) (s : StoodDone line words before after) → last ≡ grown after.out (end_text line) → IsDone words before (record after { out = last })
+  ends_done parts line s is = record {
     run = ran_with s.ended.stood.run;
     rows = s.rows;
     no_fault = s.ended.no_fault;
-    out = is ∙ ap (λ o. grown o (end_text line)) s.ended.stood.out ∙ grown_twice before.out _ _ ∙ ap (λ e. grown before.out (verdicts (setting_of s.ended.stood.run.plan s.ended.stood.run.names) s.ended.stood.run.journal ++ end_text e)) s.line_is;
+    out = is ∙ ap (λ o. grown o (end_text line)) s.ended.stood.out ∙ parts before.out _ _ ∙ ap (λ e. grown before.out (verdicts (setting_of s.ended.stood.run.plan s.ended.stood.run.names) s.ended.stood.run.journal ++ end_text e)) s.line_is;
     given = s.ended.given;
   }
 
-  ends_malformed : (line : EndLine) (s : StoodMalformed line words before after) → last ≡ grown after.out (end_text line) → IsMalformed words before (record after { out = last })
-  ends_malformed line s is = record {
+  ends_malformed : PutsAddUp → (line : EndLine) (s : StoodMalformed line words before after) → last ≡ grown after.out (end_text line) → IsMalformed words before (record after { out = last })
+  ends_malformed parts line s is = record {
     run = ran_with s.ended.stood.run;
     ends = s.ends;
     rows = s.rows;
     at = s.at;
     least = s.least;
     no_fault = s.ended.no_fault;
-    out = is ∙ ap (λ o. grown o (end_text line)) s.ended.stood.out ∙ grown_twice before.out _ _ ∙ ap (λ e. grown before.out (verdicts (setting_of s.ended.stood.run.plan s.ended.stood.run.names) s.ended.stood.run.journal ++ end_text e)) s.line_is;
+    out = is ∙ ap (λ o. grown o (end_text line)) s.ended.stood.out ∙ parts before.out _ _ ∙ ap (λ e. grown before.out (verdicts (setting_of s.ended.stood.run.plan s.ended.stood.run.names) s.ended.stood.run.journal ++ end_text e)) s.line_is;
     given = s.ended.given;
   }
 
@@ -113,8 +114,8 @@ module _ (words : List (List ℕ)) (before after : Outside) (last : SinkState) w
   early_analysis text s same = record { trace = s.analysis.trace; out = same ∙ s.out }
 
   -- the last line broke
-  broke_end : (line : EndLine) (s : Stood words before after) → settled_fault_in (setting_of s.run.plan s.run.names) s.run.journal ≡ None → PutBroke after.out last (end_text line) → IsBroken words before (record after { out = last })
-  broke_end line s none broke = record {
+  broke_end : PutLaws → (line : EndLine) (s : Stood words before after) → settled_fault_in (setting_of s.run.plan s.run.names) s.run.journal ≡ None → PutBroke after.out last (end_text line) → IsBroken words before (record after { out = last })
+  broke_end laws line s none broke = record {
     off = record {
       names = s.run.names;
       is_command = s.run.is_command;
@@ -127,17 +128,17 @@ module _ (words : List (List ℕ)) (before after : Outside) (last : SinkState) w
       sources = s.run.sources;
       rows = s.rows;
       turns = s.run.turns;
-      trace = no_part before.trace after.trace s.run.journal an_entry (some_line an_entry) s.run.trace;
+      trace = laws.lines before.trace after.trace s.run.journal s.run.trace;
       line = line;
-      out = broken_front before.out after.out last _ (end_text line) s.out broke;
+      out = broken_front laws.parts before.out after.out last _ (end_text line) s.out broke;
     };
     no_fault = inl none;
     rose = inl (subst (λ n. Rose n last.count) (ap (λ o. o.count) s.out) broke.rose);
   }
 
   -- no memory for the last line
-  off_end : (line : EndLine) → Stood words before after → last ≡ after.out → BrokeOff words before (record after { out = last })
-  off_end line s same = record {
+  off_end : WholeLines → (line : EndLine) → Stood words before after → last ≡ after.out → BrokeOff words before (record after { out = last })
+  off_end lines line s same = record {
     names = s.run.names;
     is_command = s.run.is_command;
     plan = s.run.plan;
@@ -149,7 +150,7 @@ module _ (words : List (List ℕ)) (before after : Outside) (last : SinkState) w
     sources = s.run.sources;
     rows = s.rows;
     turns = s.run.turns;
-    trace = no_part before.trace after.trace s.run.journal an_entry (some_line an_entry) s.run.trace;
+    trace = lines before.trace after.trace s.run.journal s.run.trace;
     line = line;
     out = record { part = verdicts (setting_of s.run.plan s.run.names) s.run.journal; rest = end_text line; joined = refl; written = ap (λ o. o.written) (same ∙ s.out) };
   }
@@ -158,34 +159,35 @@ module _ (words : List (List ℕ)) (before after : Outside) (last : SinkState) w
   early_end early same = record { trace = early.trace; out = same ∙ early.out }
 
 -- all rows were taken, and the last line was put
-pub done_of : (status : ℕ) (outcome : Outcome) (words : List (List ℕ)) (before after : Outside) (last : SinkState) → Works outcome words before after → Concluded status outcome after.out last → status ≡ 0 → IsDone words before (record after { out = last }) ⊎ IsAnalysed words before (record after { out = last })
-done_of status (Line (Done a l n v)) words before after last works (inl done) is = inl (ends_done words before after last (Done a l n v) works done.1)
-done_of status (Line (Done a l n v)) words before after last works (inr (inl broke)) is = absurd (omega (arith, broke.0))
-done_of status (Line (Done a l n v)) words before after last works (inr (inr same)) is = absurd (omega (arith, same.0))
-done_of status (Line Usage) words before after last works (inl done) is = absurd (omega (arith, done.0))
-done_of status (Line Usage) words before after last works (inr (inl broke)) is = absurd (omega (arith, broke.0))
-done_of status (Line Usage) words before after last works (inr (inr same)) is = absurd (omega (arith, same.0))
-done_of status (Line (Refused r)) words before after last works (inl done) is = absurd (omega (arith, done.0))
-done_of status (Line (Refused r)) words before after last works (inr (inl broke)) is = absurd (omega (arith, broke.0))
-done_of status (Line (Refused r)) words before after last works (inr (inr same)) is = absurd (omega (arith, same.0))
-done_of status (Line (Malformed m row kind)) words before after last works (inl done) is = absurd (omega (arith, done.0))
-done_of status (Line (Malformed m row kind)) words before after last works (inr (inl broke)) is = absurd (omega (arith, broke.0))
-done_of status (Line (Malformed m row kind)) words before after last works (inr (inr same)) is = absurd (omega (arith, same.0))
-done_of status (Line (Fault nm kind time)) words before after last works (inl done) is = absurd (omega (arith, done.0))
-done_of status (Line (Fault nm kind time)) words before after last works (inr (inl broke)) is = absurd (omega (arith, broke.0))
-done_of status (Line (Fault nm kind time)) words before after last works (inr (inr same)) is = absurd (omega (arith, same.0))
-done_of status (Line UnreadableSpecification) words before after last works (inl done) is = absurd (omega (arith, done.0))
-done_of status (Line UnreadableSpecification) words before after last works (inr (inl broke)) is = absurd (omega (arith, broke.0))
-done_of status (Line UnreadableSpecification) words before after last works (inr (inr same)) is = absurd (omega (arith, same.0))
-done_of status (Line (UnreadableSource m)) words before after last works (inl done) is = absurd (omega (arith, done.0))
-done_of status (Line (UnreadableSource m)) words before after last works (inr (inl broke)) is = absurd (omega (arith, broke.0))
-done_of status (Line (UnreadableSource m)) words before after last works (inr (inr same)) is = absurd (omega (arith, same.0))
-done_of status (Line (Analysed n w)) words before after last works done is = absurd works
-done_of status (Report text) words before after last works (inl done) is = inr (ends_analysed words before after last text works done.1)
-done_of status (Report text) words before after last works (inr (inl broke)) is = absurd (omega (arith, broke.0))
-done_of status (Report text) words before after last works (inr (inr same)) is = absurd (omega (arith, same.0))
-done_of status Put words before after last works done is = absurd (omega (arith, done.0))
-done_of status Memory words before after last works done is = absurd (omega (arith, done.0))
+pub done_of : PutsAddUp → (status : ℕ) (outcome : Outcome) (words : List (List ℕ)) (before after : Outside) (last : SinkState) → Works outcome words before after → Concluded status outcome after.out last → status ≡ 0 → IsDone words before (record after { out = last }) ⊎ (IsAnalysed words before (record after { out = last }) ⊎ IsDrilled words before (record after { out = last }))
+done_of parts status (Line (Done a l n v)) words before after last works (inl done) is = inl (ends_done words before after last parts (Done a l n v) works done.1)
+done_of parts status (Line (Done a l n v)) words before after last works (inr (inl broke)) is = absurd (omega (arith, broke.0))
+done_of parts status (Line (Done a l n v)) words before after last works (inr (inr same)) is = absurd (omega (arith, same.0))
+done_of parts status (Line Usage) words before after last works (inl done) is = absurd (omega (arith, done.0))
+done_of parts status (Line Usage) words before after last works (inr (inl broke)) is = absurd (omega (arith, broke.0))
+done_of parts status (Line Usage) words before after last works (inr (inr same)) is = absurd (omega (arith, same.0))
+done_of parts status (Line (Refused r)) words before after last works (inl done) is = absurd (omega (arith, done.0))
+done_of parts status (Line (Refused r)) words before after last works (inr (inl broke)) is = absurd (omega (arith, broke.0))
+done_of parts status (Line (Refused r)) words before after last works (inr (inr same)) is = absurd (omega (arith, same.0))
+done_of parts status (Line (Malformed m row kind)) words before after last works (inl done) is = absurd (omega (arith, done.0))
+done_of parts status (Line (Malformed m row kind)) words before after last works (inr (inl broke)) is = absurd (omega (arith, broke.0))
+done_of parts status (Line (Malformed m row kind)) words before after last works (inr (inr same)) is = absurd (omega (arith, same.0))
+done_of parts status (Line (Fault nm kind time)) words before after last works (inl done) is = absurd (omega (arith, done.0))
+done_of parts status (Line (Fault nm kind time)) words before after last works (inr (inl broke)) is = absurd (omega (arith, broke.0))
+done_of parts status (Line (Fault nm kind time)) words before after last works (inr (inr same)) is = absurd (omega (arith, same.0))
+done_of parts status (Line UnreadableSpecification) words before after last works (inl done) is = absurd (omega (arith, done.0))
+done_of parts status (Line UnreadableSpecification) words before after last works (inr (inl broke)) is = absurd (omega (arith, broke.0))
+done_of parts status (Line UnreadableSpecification) words before after last works (inr (inr same)) is = absurd (omega (arith, same.0))
+done_of parts status (Line (UnreadableSource m)) words before after last works (inl done) is = absurd (omega (arith, done.0))
+done_of parts status (Line (UnreadableSource m)) words before after last works (inr (inl broke)) is = absurd (omega (arith, broke.0))
+done_of parts status (Line (UnreadableSource m)) words before after last works (inr (inr same)) is = absurd (omega (arith, same.0))
+done_of parts status (Line (Analysed n w)) words before after last works done is = absurd works
+done_of parts status (Drilled line) words before after last works ended is = inr (inr (drill_done_of status line words before after last works ended is))
+done_of parts status (Report text) words before after last works (inl done) is = inr (inl (ends_analysed words before after last text works done.1))
+done_of parts status (Report text) words before after last works (inr (inl broke)) is = absurd (omega (arith, broke.0))
+done_of parts status (Report text) words before after last works (inr (inr same)) is = absurd (omega (arith, same.0))
+done_of parts status Put words before after last works done is = absurd (omega (arith, done.0))
+done_of parts status Memory words before after last works done is = absurd (omega (arith, done.0))
 
 -- no command
 pub usage_of : (status : ℕ) (outcome : Outcome) (words : List (List ℕ)) (before after : Outside) (last : SinkState) → Works outcome words before after → Concluded status outcome after.out last → status ≡ 2 → IsUsage words before (record after { out = last })
@@ -211,6 +213,7 @@ usage_of status (Line (UnreadableSource m)) words before after last works (inl d
 usage_of status (Line (UnreadableSource m)) words before after last works (inr (inl broke)) is = absurd (omega (arith, broke.0))
 usage_of status (Line (UnreadableSource m)) words before after last works (inr (inr same)) is = absurd (omega (arith, same.0))
 usage_of status (Line (Analysed n w)) words before after last works done is = absurd works
+usage_of status (Drilled line) words before after last works ended is = absurd (drill_usage_of status line words before after last works ended is)
 usage_of status (Report text) words before after last works (inl done) is = absurd (omega (arith, done.0))
 usage_of status (Report text) words before after last works (inr (inl broke)) is = absurd (omega (arith, broke.0))
 usage_of status (Report text) words before after last works (inr (inr same)) is = absurd (omega (arith, same.0))
@@ -218,15 +221,15 @@ usage_of status Put words before after last works done is = absurd (omega (arith
 usage_of status Memory words before after last works done is = absurd (omega (arith, done.0))
 
 -- no plan
-pub refused_of : (status : ℕ) (outcome : Outcome) (words : List (List ℕ)) (before after : Outside) (last : SinkState) → Works outcome words before after → Concluded status outcome after.out last → status ≡ 3 → IsRefused words before (record after { out = last })
+pub refused_of : (status : ℕ) (outcome : Outcome) (words : List (List ℕ)) (before after : Outside) (last : SinkState) → Works outcome words before after → Concluded status outcome after.out last → status ≡ 3 → IsRefused words before (record after { out = last }) ⊎ IsRefusedDrill words before (record after { out = last })
 refused_of status (Line (Done a l n v)) words before after last works (inl done) is = absurd (omega (arith, done.0))
 refused_of status (Line (Done a l n v)) words before after last works (inr (inl broke)) is = absurd (omega (arith, broke.0))
 refused_of status (Line (Done a l n v)) words before after last works (inr (inr same)) is = absurd (omega (arith, same.0))
 refused_of status (Line Usage) words before after last works (inl done) is = absurd (omega (arith, done.0))
 refused_of status (Line Usage) words before after last works (inr (inl broke)) is = absurd (omega (arith, broke.0))
 refused_of status (Line Usage) words before after last works (inr (inr same)) is = absurd (omega (arith, same.0))
-refused_of status (Line (Refused r)) words before after last works (inl done) is = ends_refused words before after last r works (inl done.1)
-refused_of status (Line (Refused r)) words before after last works (inr (inl broke)) is = ends_refused words before after last r works (inr broke.1)
+refused_of status (Line (Refused r)) words before after last works (inl done) is = inl (ends_refused words before after last r works (inl done.1))
+refused_of status (Line (Refused r)) words before after last works (inr (inl broke)) is = inl (ends_refused words before after last r works (inr broke.1))
 refused_of status (Line (Refused r)) words before after last works (inr (inr same)) is = absurd (omega (arith, same.0))
 refused_of status (Line (Malformed m row kind)) words before after last works (inl done) is = absurd (omega (arith, done.0))
 refused_of status (Line (Malformed m row kind)) words before after last works (inr (inl broke)) is = absurd (omega (arith, broke.0))
@@ -241,6 +244,7 @@ refused_of status (Line (UnreadableSource m)) words before after last works (inl
 refused_of status (Line (UnreadableSource m)) words before after last works (inr (inl broke)) is = absurd (omega (arith, broke.0))
 refused_of status (Line (UnreadableSource m)) words before after last works (inr (inr same)) is = absurd (omega (arith, same.0))
 refused_of status (Line (Analysed n w)) words before after last works done is = absurd works
+refused_of status (Drilled line) words before after last works ended is = inr (drill_refused_of status line words before after last works ended is)
 refused_of status (Report text) words before after last works (inl done) is = absurd (omega (arith, done.0))
 refused_of status (Report text) words before after last works (inr (inl broke)) is = absurd (omega (arith, broke.0))
 refused_of status (Report text) words before after last works (inr (inr same)) is = absurd (omega (arith, same.0))
@@ -248,37 +252,38 @@ refused_of status Put words before after last works done is = absurd (omega (ari
 refused_of status Memory words before after last works done is = absurd (omega (arith, done.0))
 
 -- a malformed line
-pub malformed_of : (status : ℕ) (outcome : Outcome) (words : List (List ℕ)) (before after : Outside) (last : SinkState) → Works outcome words before after → Concluded status outcome after.out last → status ≡ 4 → IsMalformed words before (record after { out = last })
-malformed_of status (Line (Done a l n v)) words before after last works (inl done) is = absurd (omega (arith, done.0))
-malformed_of status (Line (Done a l n v)) words before after last works (inr (inl broke)) is = absurd (omega (arith, broke.0))
-malformed_of status (Line (Done a l n v)) words before after last works (inr (inr same)) is = absurd (omega (arith, same.0))
-malformed_of status (Line Usage) words before after last works (inl done) is = absurd (omega (arith, done.0))
-malformed_of status (Line Usage) words before after last works (inr (inl broke)) is = absurd (omega (arith, broke.0))
-malformed_of status (Line Usage) words before after last works (inr (inr same)) is = absurd (omega (arith, same.0))
-malformed_of status (Line (Refused r)) words before after last works (inl done) is = absurd (omega (arith, done.0))
-malformed_of status (Line (Refused r)) words before after last works (inr (inl broke)) is = absurd (omega (arith, broke.0))
-malformed_of status (Line (Refused r)) words before after last works (inr (inr same)) is = absurd (omega (arith, same.0))
-malformed_of status (Line (Malformed m row kind)) words before after last works (inl done) is = ends_malformed words before after last (Malformed m row kind) works done.1
-malformed_of status (Line (Malformed m row kind)) words before after last works (inr (inl broke)) is = absurd (omega (arith, broke.0))
-malformed_of status (Line (Malformed m row kind)) words before after last works (inr (inr same)) is = absurd (omega (arith, same.0))
-malformed_of status (Line (Fault nm kind time)) words before after last works (inl done) is = absurd (omega (arith, done.0))
-malformed_of status (Line (Fault nm kind time)) words before after last works (inr (inl broke)) is = absurd (omega (arith, broke.0))
-malformed_of status (Line (Fault nm kind time)) words before after last works (inr (inr same)) is = absurd (omega (arith, same.0))
-malformed_of status (Line UnreadableSpecification) words before after last works (inl done) is = absurd (omega (arith, done.0))
-malformed_of status (Line UnreadableSpecification) words before after last works (inr (inl broke)) is = absurd (omega (arith, broke.0))
-malformed_of status (Line UnreadableSpecification) words before after last works (inr (inr same)) is = absurd (omega (arith, same.0))
-malformed_of status (Line (UnreadableSource m)) words before after last works (inl done) is = absurd (omega (arith, done.0))
-malformed_of status (Line (UnreadableSource m)) words before after last works (inr (inl broke)) is = absurd (omega (arith, broke.0))
-malformed_of status (Line (UnreadableSource m)) words before after last works (inr (inr same)) is = absurd (omega (arith, same.0))
-malformed_of status (Line (Analysed n w)) words before after last works done is = absurd works
-malformed_of status (Report text) words before after last works (inl done) is = absurd (omega (arith, done.0))
-malformed_of status (Report text) words before after last works (inr (inl broke)) is = absurd (omega (arith, broke.0))
-malformed_of status (Report text) words before after last works (inr (inr same)) is = absurd (omega (arith, same.0))
-malformed_of status Put words before after last works done is = absurd (omega (arith, done.0))
-malformed_of status Memory words before after last works done is = absurd (omega (arith, done.0))
+pub malformed_of : PutsAddUp → (status : ℕ) (outcome : Outcome) (words : List (List ℕ)) (before after : Outside) (last : SinkState) → Works outcome words before after → Concluded status outcome after.out last → status ≡ 4 → IsMalformed words before (record after { out = last }) ⊎ IsMalformedDrill words before (record after { out = last })
+malformed_of parts status (Line (Done a l n v)) words before after last works (inl done) is = absurd (omega (arith, done.0))
+malformed_of parts status (Line (Done a l n v)) words before after last works (inr (inl broke)) is = absurd (omega (arith, broke.0))
+malformed_of parts status (Line (Done a l n v)) words before after last works (inr (inr same)) is = absurd (omega (arith, same.0))
+malformed_of parts status (Line Usage) words before after last works (inl done) is = absurd (omega (arith, done.0))
+malformed_of parts status (Line Usage) words before after last works (inr (inl broke)) is = absurd (omega (arith, broke.0))
+malformed_of parts status (Line Usage) words before after last works (inr (inr same)) is = absurd (omega (arith, same.0))
+malformed_of parts status (Line (Refused r)) words before after last works (inl done) is = absurd (omega (arith, done.0))
+malformed_of parts status (Line (Refused r)) words before after last works (inr (inl broke)) is = absurd (omega (arith, broke.0))
+malformed_of parts status (Line (Refused r)) words before after last works (inr (inr same)) is = absurd (omega (arith, same.0))
+malformed_of parts status (Line (Malformed m row kind)) words before after last works (inl done) is = inl (ends_malformed words before after last parts (Malformed m row kind) works done.1)
+malformed_of parts status (Line (Malformed m row kind)) words before after last works (inr (inl broke)) is = absurd (omega (arith, broke.0))
+malformed_of parts status (Line (Malformed m row kind)) words before after last works (inr (inr same)) is = absurd (omega (arith, same.0))
+malformed_of parts status (Line (Fault nm kind time)) words before after last works (inl done) is = absurd (omega (arith, done.0))
+malformed_of parts status (Line (Fault nm kind time)) words before after last works (inr (inl broke)) is = absurd (omega (arith, broke.0))
+malformed_of parts status (Line (Fault nm kind time)) words before after last works (inr (inr same)) is = absurd (omega (arith, same.0))
+malformed_of parts status (Line UnreadableSpecification) words before after last works (inl done) is = absurd (omega (arith, done.0))
+malformed_of parts status (Line UnreadableSpecification) words before after last works (inr (inl broke)) is = absurd (omega (arith, broke.0))
+malformed_of parts status (Line UnreadableSpecification) words before after last works (inr (inr same)) is = absurd (omega (arith, same.0))
+malformed_of parts status (Line (UnreadableSource m)) words before after last works (inl done) is = absurd (omega (arith, done.0))
+malformed_of parts status (Line (UnreadableSource m)) words before after last works (inr (inl broke)) is = absurd (omega (arith, broke.0))
+malformed_of parts status (Line (UnreadableSource m)) words before after last works (inr (inr same)) is = absurd (omega (arith, same.0))
+malformed_of parts status (Line (Analysed n w)) words before after last works done is = absurd works
+malformed_of parts status (Drilled line) words before after last works ended is = inr (drill_malformed_of status line words before after last works ended is)
+malformed_of parts status (Report text) words before after last works (inl done) is = absurd (omega (arith, done.0))
+malformed_of parts status (Report text) words before after last works (inr (inl broke)) is = absurd (omega (arith, broke.0))
+malformed_of parts status (Report text) words before after last works (inr (inr same)) is = absurd (omega (arith, same.0))
+malformed_of parts status Put words before after last works done is = absurd (omega (arith, done.0))
+malformed_of parts status Memory words before after last works done is = absurd (omega (arith, done.0))
 
 -- a fault
-pub fault_of : (status : ℕ) (outcome : Outcome) (words : List (List ℕ)) (before after : Outside) (last : SinkState) → Works outcome words before after → Concluded status outcome after.out last → status ≡ 5 → IsFault words before (record after { out = last })
+pub fault_of : (status : ℕ) (outcome : Outcome) (words : List (List ℕ)) (before after : Outside) (last : SinkState) → Works outcome words before after → Concluded status outcome after.out last → status ≡ 5 → IsFault words before (record after { out = last }) ⊎ IsFaultyDrill words before (record after { out = last })
 fault_of status (Line (Done a l n v)) words before after last works (inl done) is = absurd (omega (arith, done.0))
 fault_of status (Line (Done a l n v)) words before after last works (inr (inl broke)) is = absurd (omega (arith, broke.0))
 fault_of status (Line (Done a l n v)) words before after last works (inr (inr same)) is = absurd (omega (arith, same.0))
@@ -291,8 +296,8 @@ fault_of status (Line (Refused r)) words before after last works (inr (inr same)
 fault_of status (Line (Malformed m row kind)) words before after last works (inl done) is = absurd (omega (arith, done.0))
 fault_of status (Line (Malformed m row kind)) words before after last works (inr (inl broke)) is = absurd (omega (arith, broke.0))
 fault_of status (Line (Malformed m row kind)) words before after last works (inr (inr same)) is = absurd (omega (arith, same.0))
-fault_of status (Line (Fault nm kind time)) words before after last works (inl done) is = ends_fault words before after last (Fault nm kind time) works (inl done.1)
-fault_of status (Line (Fault nm kind time)) words before after last works (inr (inl broke)) is = ends_fault words before after last (Fault nm kind time) works (inr broke.1)
+fault_of status (Line (Fault nm kind time)) words before after last works (inl done) is = inl (ends_fault words before after last (Fault nm kind time) works (inl done.1))
+fault_of status (Line (Fault nm kind time)) words before after last works (inr (inl broke)) is = inl (ends_fault words before after last (Fault nm kind time) works (inr broke.1))
 fault_of status (Line (Fault nm kind time)) words before after last works (inr (inr same)) is = absurd (omega (arith, same.0))
 fault_of status (Line UnreadableSpecification) words before after last works (inl done) is = absurd (omega (arith, done.0))
 fault_of status (Line UnreadableSpecification) words before after last works (inr (inl broke)) is = absurd (omega (arith, broke.0))
@@ -301,6 +306,7 @@ fault_of status (Line (UnreadableSource m)) words before after last works (inl d
 fault_of status (Line (UnreadableSource m)) words before after last works (inr (inl broke)) is = absurd (omega (arith, broke.0))
 fault_of status (Line (UnreadableSource m)) words before after last works (inr (inr same)) is = absurd (omega (arith, same.0))
 fault_of status (Line (Analysed n w)) words before after last works done is = absurd works
+fault_of status (Drilled line) words before after last works ended is = inr (drill_fault_of status line words before after last works ended is)
 fault_of status (Report text) words before after last works (inl done) is = absurd (omega (arith, done.0))
 fault_of status (Report text) words before after last works (inr (inl broke)) is = absurd (omega (arith, broke.0))
 fault_of status (Report text) words before after last works (inr (inr same)) is = absurd (omega (arith, same.0))
@@ -331,6 +337,7 @@ unreadable_of status (Line (UnreadableSource m)) words before after last works (
 unreadable_of status (Line (UnreadableSource m)) words before after last works (inr (inl broke)) is = inr (ends_cut_short words before after last (UnreadableSource m) works (inr broke.1))
 unreadable_of status (Line (UnreadableSource m)) words before after last works (inr (inr same)) is = absurd (omega (arith, same.0))
 unreadable_of status (Line (Analysed n w)) words before after last works done is = absurd works
+unreadable_of status (Drilled line) words before after last works ended is = absurd (drill_unread_of status line words before after last works ended is)
 unreadable_of status (Report text) words before after last works (inl done) is = absurd (omega (arith, done.0))
 unreadable_of status (Report text) words before after last works (inr (inl broke)) is = absurd (omega (arith, broke.0))
 unreadable_of status (Report text) words before after last works (inr (inr same)) is = absurd (omega (arith, same.0))
@@ -338,61 +345,63 @@ unreadable_of status Put words before after last works done is = absurd (omega (
 unreadable_of status Memory words before after last works done is = absurd (omega (arith, done.0))
 
 -- a put failed
-pub broken_of : (status : ℕ) (outcome : Outcome) (words : List (List ℕ)) (before after : Outside) (last : SinkState) → Works outcome words before after → Concluded status outcome after.out last → status ≡ 7 → IsBroken words before (record after { out = last }) ⊎ IsCutAnalysis words before (record after { out = last })
-broken_of status (Line (Done a l n v)) words before after last works (inl done) is = absurd (omega (arith, done.0))
-broken_of status (Line (Done a l n v)) words before after last works (inr (inl broke)) is = inl (broke_end words before after last (Done a l n v) works.ended.stood works.ended.settled broke.1)
-broken_of status (Line (Done a l n v)) words before after last works (inr (inr same)) is = absurd (omega (arith, same.0))
-broken_of status (Line Usage) words before after last works (inl done) is = absurd (omega (arith, done.0))
-broken_of status (Line Usage) words before after last works (inr (inl broke)) is = absurd (omega (arith, broke.0))
-broken_of status (Line Usage) words before after last works (inr (inr same)) is = absurd (omega (arith, same.0))
-broken_of status (Line (Refused r)) words before after last works (inl done) is = absurd (omega (arith, done.0))
-broken_of status (Line (Refused r)) words before after last works (inr (inl broke)) is = absurd (omega (arith, broke.0))
-broken_of status (Line (Refused r)) words before after last works (inr (inr same)) is = absurd (omega (arith, same.0))
-broken_of status (Line (Malformed m row kind)) words before after last works (inl done) is = absurd (omega (arith, done.0))
-broken_of status (Line (Malformed m row kind)) words before after last works (inr (inl broke)) is = inl (broke_end words before after last (Malformed m row kind) works.ended.stood works.ended.settled broke.1)
-broken_of status (Line (Malformed m row kind)) words before after last works (inr (inr same)) is = absurd (omega (arith, same.0))
-broken_of status (Line (Fault nm kind time)) words before after last works (inl done) is = absurd (omega (arith, done.0))
-broken_of status (Line (Fault nm kind time)) words before after last works (inr (inl broke)) is = absurd (omega (arith, broke.0))
-broken_of status (Line (Fault nm kind time)) words before after last works (inr (inr same)) is = absurd (omega (arith, same.0))
-broken_of status (Line UnreadableSpecification) words before after last works (inl done) is = absurd (omega (arith, done.0))
-broken_of status (Line UnreadableSpecification) words before after last works (inr (inl broke)) is = absurd (omega (arith, broke.0))
-broken_of status (Line UnreadableSpecification) words before after last works (inr (inr same)) is = absurd (omega (arith, same.0))
-broken_of status (Line (UnreadableSource m)) words before after last works (inl done) is = absurd (omega (arith, done.0))
-broken_of status (Line (UnreadableSource m)) words before after last works (inr (inl broke)) is = absurd (omega (arith, broke.0))
-broken_of status (Line (UnreadableSource m)) words before after last works (inr (inr same)) is = absurd (omega (arith, same.0))
-broken_of status (Line (Analysed n w)) words before after last works done is = absurd works
-broken_of status (Report text) words before after last works (inl done) is = absurd (omega (arith, done.0))
-broken_of status (Report text) words before after last works (inr (inl broke)) is = inr (ends_cut_analysis words before after last text works broke.1)
-broken_of status (Report text) words before after last works (inr (inr same)) is = absurd (omega (arith, same.0))
-broken_of status Put words before after last works done is = inl (subst (λ s. IsBroken words before (record after { out = s })) (sym done.1) works)
-broken_of status Memory words before after last works done is = absurd (omega (arith, done.0))
+pub broken_of : PutLaws → (status : ℕ) (outcome : Outcome) (words : List (List ℕ)) (before after : Outside) (last : SinkState) → Works outcome words before after → Concluded status outcome after.out last → status ≡ 7 → IsBroken words before (record after { out = last }) ⊎ (IsCutAnalysis words before (record after { out = last }) ⊎ IsCutDrill words before (record after { out = last }))
+broken_of laws status (Line (Done a l n v)) words before after last works (inl done) is = absurd (omega (arith, done.0))
+broken_of laws status (Line (Done a l n v)) words before after last works (inr (inl broke)) is = inl (broke_end words before after last laws (Done a l n v) works.ended.stood works.ended.settled broke.1)
+broken_of laws status (Line (Done a l n v)) words before after last works (inr (inr same)) is = absurd (omega (arith, same.0))
+broken_of laws status (Line Usage) words before after last works (inl done) is = absurd (omega (arith, done.0))
+broken_of laws status (Line Usage) words before after last works (inr (inl broke)) is = absurd (omega (arith, broke.0))
+broken_of laws status (Line Usage) words before after last works (inr (inr same)) is = absurd (omega (arith, same.0))
+broken_of laws status (Line (Refused r)) words before after last works (inl done) is = absurd (omega (arith, done.0))
+broken_of laws status (Line (Refused r)) words before after last works (inr (inl broke)) is = absurd (omega (arith, broke.0))
+broken_of laws status (Line (Refused r)) words before after last works (inr (inr same)) is = absurd (omega (arith, same.0))
+broken_of laws status (Line (Malformed m row kind)) words before after last works (inl done) is = absurd (omega (arith, done.0))
+broken_of laws status (Line (Malformed m row kind)) words before after last works (inr (inl broke)) is = inl (broke_end words before after last laws (Malformed m row kind) works.ended.stood works.ended.settled broke.1)
+broken_of laws status (Line (Malformed m row kind)) words before after last works (inr (inr same)) is = absurd (omega (arith, same.0))
+broken_of laws status (Line (Fault nm kind time)) words before after last works (inl done) is = absurd (omega (arith, done.0))
+broken_of laws status (Line (Fault nm kind time)) words before after last works (inr (inl broke)) is = absurd (omega (arith, broke.0))
+broken_of laws status (Line (Fault nm kind time)) words before after last works (inr (inr same)) is = absurd (omega (arith, same.0))
+broken_of laws status (Line UnreadableSpecification) words before after last works (inl done) is = absurd (omega (arith, done.0))
+broken_of laws status (Line UnreadableSpecification) words before after last works (inr (inl broke)) is = absurd (omega (arith, broke.0))
+broken_of laws status (Line UnreadableSpecification) words before after last works (inr (inr same)) is = absurd (omega (arith, same.0))
+broken_of laws status (Line (UnreadableSource m)) words before after last works (inl done) is = absurd (omega (arith, done.0))
+broken_of laws status (Line (UnreadableSource m)) words before after last works (inr (inl broke)) is = absurd (omega (arith, broke.0))
+broken_of laws status (Line (UnreadableSource m)) words before after last works (inr (inr same)) is = absurd (omega (arith, same.0))
+broken_of laws status (Line (Analysed n w)) words before after last works done is = absurd works
+broken_of laws status (Drilled line) words before after last works ended is = inr (inr (drill_cut_of status line words before after last works ended is))
+broken_of laws status (Report text) words before after last works (inl done) is = absurd (omega (arith, done.0))
+broken_of laws status (Report text) words before after last works (inr (inl broke)) is = inr (inl (ends_cut_analysis words before after last text works broke.1))
+broken_of laws status (Report text) words before after last works (inr (inr same)) is = absurd (omega (arith, same.0))
+broken_of laws status Put words before after last works done is = inl (subst (λ s. IsBroken words before (record after { out = s })) (sym done.1) works)
+broken_of laws status Memory words before after last works done is = absurd (omega (arith, done.0))
 
 -- no memory
-pub memory_of : (status : ℕ) (outcome : Outcome) (words : List (List ℕ)) (before after : Outside) (last : SinkState) → Works outcome words before after → Concluded status outcome after.out last → status ≡ 8 → IsEarly before (record after { out = last }) ⊎ BrokeOff words before (record after { out = last })
-memory_of status (Line (Done a l n v)) words before after last works (inl done) is = absurd (omega (arith, done.0))
-memory_of status (Line (Done a l n v)) words before after last works (inr (inl broke)) is = absurd (omega (arith, broke.0))
-memory_of status (Line (Done a l n v)) words before after last works (inr (inr same)) is = inr (off_end words before after last (Done a l n v) works.ended.stood same.1)
-memory_of status (Line Usage) words before after last works (inl done) is = absurd (omega (arith, done.0))
-memory_of status (Line Usage) words before after last works (inr (inl broke)) is = absurd (omega (arith, broke.0))
-memory_of status (Line Usage) words before after last works (inr (inr same)) is = inl (early_end words before after last works.early same.1)
-memory_of status (Line (Refused r)) words before after last works (inl done) is = absurd (omega (arith, done.0))
-memory_of status (Line (Refused r)) words before after last works (inr (inl broke)) is = absurd (omega (arith, broke.0))
-memory_of status (Line (Refused r)) words before after last works (inr (inr same)) is = inl (early_end words before after last works.early same.1)
-memory_of status (Line (Malformed m row kind)) words before after last works (inl done) is = absurd (omega (arith, done.0))
-memory_of status (Line (Malformed m row kind)) words before after last works (inr (inl broke)) is = absurd (omega (arith, broke.0))
-memory_of status (Line (Malformed m row kind)) words before after last works (inr (inr same)) is = inr (off_end words before after last (Malformed m row kind) works.ended.stood same.1)
-memory_of status (Line (Fault nm kind time)) words before after last works (inl done) is = absurd (omega (arith, done.0))
-memory_of status (Line (Fault nm kind time)) words before after last works (inr (inl broke)) is = absurd (omega (arith, broke.0))
-memory_of status (Line (Fault nm kind time)) words before after last works (inr (inr same)) is = inr (off_end words before after last (Fault nm kind time) works.stood same.1)
-memory_of status (Line UnreadableSpecification) words before after last works (inl done) is = absurd (omega (arith, done.0))
-memory_of status (Line UnreadableSpecification) words before after last works (inr (inl broke)) is = absurd (omega (arith, broke.0))
-memory_of status (Line UnreadableSpecification) words before after last works (inr (inr same)) is = inl (early_end words before after last works.early same.1)
-memory_of status (Line (UnreadableSource m)) words before after last works (inl done) is = absurd (omega (arith, done.0))
-memory_of status (Line (UnreadableSource m)) words before after last works (inr (inl broke)) is = absurd (omega (arith, broke.0))
-memory_of status (Line (UnreadableSource m)) words before after last works (inr (inr same)) is = inr (off_end words before after last (UnreadableSource m) works.stood same.1)
-memory_of status (Line (Analysed n w)) words before after last works done is = absurd works
-memory_of status (Report text) words before after last works (inl done) is = absurd (omega (arith, done.0))
-memory_of status (Report text) words before after last works (inr (inl broke)) is = absurd (omega (arith, broke.0))
-memory_of status (Report text) words before after last works (inr (inr same)) is = inl (early_analysis words before after last text works same.1)
-memory_of status Put words before after last works done is = absurd (omega (arith, done.0))
-memory_of status Memory words before after last works done is = subst (λ s. IsEarly before (record after { out = s }) ⊎ BrokeOff words before (record after { out = s })) (sym done.1) works
+pub memory_of : WholeLines → (status : ℕ) (outcome : Outcome) (words : List (List ℕ)) (before after : Outside) (last : SinkState) → Works outcome words before after → Concluded status outcome after.out last → status ≡ 8 → IsEarly before (record after { out = last }) ⊎ BrokeOff words before (record after { out = last })
+memory_of lines status (Line (Done a l n v)) words before after last works (inl done) is = absurd (omega (arith, done.0))
+memory_of lines status (Line (Done a l n v)) words before after last works (inr (inl broke)) is = absurd (omega (arith, broke.0))
+memory_of lines status (Line (Done a l n v)) words before after last works (inr (inr same)) is = inr (off_end words before after last lines (Done a l n v) works.ended.stood same.1)
+memory_of lines status (Line Usage) words before after last works (inl done) is = absurd (omega (arith, done.0))
+memory_of lines status (Line Usage) words before after last works (inr (inl broke)) is = absurd (omega (arith, broke.0))
+memory_of lines status (Line Usage) words before after last works (inr (inr same)) is = inl (early_end words before after last works.early same.1)
+memory_of lines status (Line (Refused r)) words before after last works (inl done) is = absurd (omega (arith, done.0))
+memory_of lines status (Line (Refused r)) words before after last works (inr (inl broke)) is = absurd (omega (arith, broke.0))
+memory_of lines status (Line (Refused r)) words before after last works (inr (inr same)) is = inl (early_end words before after last works.early same.1)
+memory_of lines status (Line (Malformed m row kind)) words before after last works (inl done) is = absurd (omega (arith, done.0))
+memory_of lines status (Line (Malformed m row kind)) words before after last works (inr (inl broke)) is = absurd (omega (arith, broke.0))
+memory_of lines status (Line (Malformed m row kind)) words before after last works (inr (inr same)) is = inr (off_end words before after last lines (Malformed m row kind) works.ended.stood same.1)
+memory_of lines status (Line (Fault nm kind time)) words before after last works (inl done) is = absurd (omega (arith, done.0))
+memory_of lines status (Line (Fault nm kind time)) words before after last works (inr (inl broke)) is = absurd (omega (arith, broke.0))
+memory_of lines status (Line (Fault nm kind time)) words before after last works (inr (inr same)) is = inr (off_end words before after last lines (Fault nm kind time) works.stood same.1)
+memory_of lines status (Line UnreadableSpecification) words before after last works (inl done) is = absurd (omega (arith, done.0))
+memory_of lines status (Line UnreadableSpecification) words before after last works (inr (inl broke)) is = absurd (omega (arith, broke.0))
+memory_of lines status (Line UnreadableSpecification) words before after last works (inr (inr same)) is = inl (early_end words before after last works.early same.1)
+memory_of lines status (Line (UnreadableSource m)) words before after last works (inl done) is = absurd (omega (arith, done.0))
+memory_of lines status (Line (UnreadableSource m)) words before after last works (inr (inl broke)) is = absurd (omega (arith, broke.0))
+memory_of lines status (Line (UnreadableSource m)) words before after last works (inr (inr same)) is = inr (off_end words before after last lines (UnreadableSource m) works.stood same.1)
+memory_of lines status (Line (Analysed n w)) words before after last works done is = absurd works
+memory_of lines status (Drilled line) words before after last works ended is = inl (drill_early_of status line words before after last works ended is)
+memory_of lines status (Report text) words before after last works (inl done) is = absurd (omega (arith, done.0))
+memory_of lines status (Report text) words before after last works (inr (inl broke)) is = absurd (omega (arith, broke.0))
+memory_of lines status (Report text) words before after last works (inr (inr same)) is = inl (early_analysis words before after last text works same.1)
+memory_of lines status Put words before after last works done is = absurd (omega (arith, done.0))
+memory_of lines status Memory words before after last works done is = subst (λ s. IsEarly before (record after { out = s }) ⊎ BrokeOff words before (record after { out = s })) (sym done.1) works

@@ -1,8 +1,7 @@
 -- The first of several ends that says something.
-use Rattle.std.proofs.Common.{◌≡◌, ℕ, zero, suc, ◌+◌, ◌<◌, List, [], ◌∷◌, Option, None, Some, Bool, true, false, if◌then◌else◌, length, map, slice_get, drop, refl, sym, ap, ◌∙◌, arith}
+use Rattle.std.proofs.Common.{◌≡◌, ℕ, zero, suc, ◌+◌, List, [], ◌∷◌, Option, None, Some, Bool, true, false, if◌then◌else◌, map, slice_get, drop, refl, ap, ◌∙◌, arith}
 use Rattle.std.specs.Option.{option_map}
 use Rattle.lola_feed.specs.Feeding.{Working}
-use Rattle.lola_feed.specs.declared.worker.SourceEnd as worker
 use Rattle.lola_rows.specs.Rows.{SourceEnd, Whole, MalformedAt}
 use Rattle.lola_monitor.specs.Monitor.{MalformedSource, first_malformed, one_further}
 use Rattle.lola_monitor.specs.Outcomes.{ends_of, first_failed, is_read_fault, malformed_at, malformed_by, source_end}

@@ -1,45 +1,41 @@
 -- A run of sources that were fetched and came back.
-use Rattle.std.proofs.Common.{◌≡◌, ℕ, ◌<◌, ◌≤◌, ◌⊎◌, List, [], ◌∷◌, ◌++◌, Option, None, Some, Result, Ok, Err, IsSome, All, nat_lt, slice_get, map, take, drop, option_map, refl, sym, ap, ◌∙◌, inl, inr, subst, length, true, false, arith}
+use Rattle.std.proofs.Common.{◌≡◌, ℕ, ◌<◌, ◌≤◌, ◌⊎◌, List, [], ◌∷◌, ◌++◌, Option, None, Some, Result, Ok, Err, IsSome, Bool, nat_lt, slice_get, map, take, drop, refl, sym, ap, ◌∙◌, inl, inr, subst, length, true, false, arith}
 use Rattle.std.proofs.lemmas.Bool.Decides.{nat_tests}
-use Rattle.std.proofs.lemmas.List.{append-nil, length-map, length-replicate, take-append-drop}
+use Rattle.std.proofs.lemmas.List.{append-nil, length-map, take-append-drop}
 use Rattle.std.proofs.lemmas.List.Elements.{All-nil}
 use Rattle.std.proofs.lemmas.Option.{slice_get_within}
 use Rattle.lola_port.specs.States.{Rose, ShelfState, SinkState, SourceState, grown}
 use Rattle.lola_port.specs.Asks.{failed_ask, given_ask}
 use Rattle.lola_port.specs.declared.traits.Ask.{Ask}
-use Rattle.lola_model.specs.Journal.{accepted, opening_time, rows_of}
+use Rattle.lola_model.specs.Journal.{accepted, rows_of}
 use Rattle.lola_model.specs.Faults.{RunFault}
 use Rattle.lola_model.specs.Steps.{all_steps}
 use Rattle.lola_model.specs.declared.plan.Plan.{Plan}
 use Rattle.lola_model.specs.declared.journal.Entry.{Entry}
 use Rattle.lola_model.specs.declared.journal.Row.{Row}
-use Rattle.lola_rows.specs.Rows.{SourceEnd, SourceRows, Whole, MalformedAt, rows_of_source}
+use Rattle.lola_rows.specs.Rows.{SourceEnd, SourceRows, Whole, rows_of_source}
 use Rattle.lola_rows.specs.Reading.{Shape, fresh, shape_of}
-use Rattle.lola_feed.specs.Feeding.{Working, beginning, handed_in, to_come}
+use Rattle.lola_feed.specs.Feeding.{Working, beginning, to_come}
 use Rattle.lola_feed.specs.declared.worker.SourceEnd as worker
 use Rattle.lola_feed.specs.declared.worker.SourceEnd.TheVariants as finish
-use Rattle.lola_merge.specs.Merging.{Merging, opening, sources_of}
 use Rattle.lola_report.specs.declared.end.EndLine.TheVariants.{Done, UnreadableSource}
-use Rattle.lola_run.specs.Verdicts.{AreOfSources, Setting, late_count, most_rows, verdicts}
+use Rattle.lola_run.specs.Verdicts.{AreOfSources, Setting, fault_in, late_count, most_rows, verdicts}
 use Rattle.lola_run.specs.Running.{Keeping, setting_in}
 use Rattle.lola_run.specs.declared.stop.Stop.{Stop}
 use Rattle.lola_run.specs.declared.stop.Stop.TheVariants as stop
-use Rattle.lola_run.proofs.Fronts.{nothing_fails, nothing_final}
-use Rattle.lola_run.proofs.Sinks.{an_entry, grown_nil, some_line}
-use Rattle.lola_rounds.proofs.Runs.{no_part}
 use Rattle.lola_rounds.specs.Feeds as feeds
-use Rattle.lola_rounds.specs.Feeds.{AreFed, BeganWith, EndedByFault, EndedWith, EndsRun, GoInRounds, HasEnded, HaveBegun, HaveEnded, IsFed, IsFresh, IsIdle, RanToCut, Supply, Through, ThroughWell, World, supply_of, world}
+use Rattle.lola_rounds.specs.Feeds.{AreFed, AreReady, BeganWith, EndedByFault, EndedWith, EndsRun, GoInRounds, HasEnded, HaveBegun, HaveEnded, IsFed, IsSoundAt, RanToCut, Supply, Through, ThroughWell, World, supply_of, world}
 use Rattle.lola_shelves.specs.Lending as shelves
 use Rattle.lola_shelves.specs.Lending.{AreRooms, Fetches, HasReturned, IsLent, IsNotGiven, IsStopped, asks_of, counts_of, places_of}
 use Rattle.lola_shelves.specs.declared.sources.FetchStop.{FetchStop}
 use Rattle.lola_shelves.specs.declared.sources.FetchStop.TheVariants as fetch
-use Rattle.lola_monitor.specs.Monitor.{AllBegin, AllEnd, AllRead, AreGiven, Begins, Ends, GoInTurns, IsAtDeadline, IsAtRow, MalformedSource, Outside, asks_between, done_line, fault_line, first_faulty, first_malformed, is_faulty, outside, source_rows}
-use Rattle.lola_monitor.specs.Outcomes.{AllHome, CameHome, CutFacts, CutRun, DoneRun, EndedRun, FaultRun, Grew, MalformedRun, OutcomeAfter, RunsSources, SourcesRun, StoppedRun, end_by, end_of, ends_of, first_failed, line_of, source_end, unfetched}
-use Rattle.lola_monitor.specs.declared.ending.SourcesEnd.{SourcesEnd}
+use Rattle.lola_monitor.specs.Monitor.{AllBegin, AllEnd, AllRead, Begins, Ends, GoInTurns, IsAtDeadline, IsAtRow, MalformedSource, Outside, asks_between, done_line, fault_line, first_faulty, first_malformed, is_faulty, outside, source_rows}
+use Rattle.lola_monitor.specs.Outcomes.{AllHome, CameHome, CutFacts, CutRun, EndedRun, FaultRun, Grew, OutcomeAfter, RunsSources, SourcesRun, StoppedRun, end_by, end_of, ends_of, first_failed, line_of, source_end, unfetched}
 use Rattle.lola_monitor.specs.declared.outcome.Outcome.{Outcome}
 use Rattle.lola_monitor.specs.declared.outcome.Outcome.TheVariants.{Line}
 use Rattle.lola_monitor.proofs.Calls.{between, grew_all, grew_none, names_given}
 use Rattle.lola_monitor.proofs.Faulty.{Fits, all_counted, counted, first_is, first_not_given, front_asked, get_counted, given_counted, last_given, length_counted, names_counted, none_counted, none_failed, none_faulty, none_malformed, plainly_given, some_counted}
+use Rattle.lola_monitor.proofs.Laws.{WholeLines}
 use Rattle.lola_monitor.proofs.Listed.{get_beside, get_image, image_get}
 
 -- the rows of a told source are those to come
@@ -70,11 +66,7 @@ read_end (Some finish.ReadFault) old new rows some fit none ended = absurd (omeg
 read_end (Some finish.Closed) old new rows some fit none ended = absurd ended
 read_end (Some finish.Memory) old new rows some fit none ended = absurd ended
 
--- one that has not ended has not failed
-still_none : (end : Option worker.SourceEnd) (count : ℕ) → end ≡ None → Fits end count → count ≡ 0
-still_none None count is fit = fit
-still_none (Some end) count is fit = absurd (cc)
-
+-- one that has no failed read has not failed
 not_failed : (end : Option worker.SourceEnd) (count : ℕ) → (end ≡ Some finish.ReadFault → ⊥) → Fits end count → count ≡ 0
 not_failed None count none fit = fit
 not_failed (Some finish.End) count none fit = fit
@@ -89,7 +81,7 @@ none_lt count none = grind (arith, nat_tests)
 zero_of : (count : ℕ) → nat_lt 0 count ≡ false → count ≡ 0
 zero_of count is = grind (arith, nat_tests)
 
-module _ (names : List (List ℕ)) (before after : Outside) (kept0 kept1 : Keeping) (lent last : List Working) where
+module _ (in_turns : Bool) (names : List (List ℕ)) (before after : Outside) (kept0 kept1 : Keeping) (lent last : List Working) where
   abbrev olds : List Supply
   olds = map supply_of lent
 
@@ -178,8 +170,8 @@ module _ (names : List (List ℕ)) (before after : Outside) (kept0 kept1 : Keepi
     sound : first_faulty asks ≡ None → (n : ℕ) (name : List ℕ) (w : Working) → slice_get names n ≡ Some name → slice_get last n ≡ Some w → w.reader.source.count ≡ 0
     sound none n name w named is = zero_of w.reader.source.count (none_faulty asks none n (counted name w.reader.source.count) (ask_at n name w named is))
 
-    pub in_turns : (journal : List Entry) → GoInRounds olds news journal → GoInTurns names s.plan before.shelf after.shelf journal
-    in_turns journal rounds = record {
+    pub go_in_turns : (journal : List Entry) → GoInRounds olds news journal → GoInTurns names s.plan before.shelf after.shelf journal
+    go_in_turns journal rounds = record {
       lists = rounds.lists;
       many = rounds.many ∙ many_old;
       fronts = λ n name rows named at.
@@ -202,12 +194,6 @@ module _ (names : List (List ℕ)) (before after : Outside) (kept0 kept1 : Keepi
     module _ (journal : List Entry) (fed : AreFed olds news journal) where
       fed_at : (n : ℕ) (w v : Working) → slice_get lent n ≡ Some w → slice_get last n ≡ Some v → IsFed (supply_of w) (supply_of v) (rows_of n journal)
       fed_at n w v old new = fed.each n (supply_of w) (supply_of v) (image_get supply_of lent n w old) (image_get supply_of last n v new)
-
-      all_fed : AllBegin before.shelf s.plan names journal
-      all_fed n name named =
-          let w = old_of n name named in
-          let v = new_of n name named in
-          begins_are n name w.0 (rows_of n journal) named w.1 (fed_at n w.0 v.0 w.1 v.1).began
 
       fit_at : (n : ℕ) (v : Working) → slice_get last n ≡ Some v → Fits v.end v.reader.source.count
       fit_at n v new =
@@ -252,42 +238,42 @@ module _ (names : List (List ℕ)) (before after : Outside) (kept0 kept1 : Keepi
 
     -- ---- how a run ends
 
-    abbrev run_is : Through first final → SourcesRun s names before after
+    abbrev run_is : Through in_turns first final → SourcesRun in_turns s names before after
     run_is through = record {
       journal = through.came.journal;
       legal = through.came.legal;
       sources = of_sources through.came.journal through.came.sources;
-      rows = all_fed through.came.journal through.fed;
-      turns = in_turns through.came.journal through.came.rounds;
+      rows = all_begun through.came.journal through.begun;
+      turns = λ asked. go_in_turns through.came.journal (through.came.rounds asked);
       trace = through.came.trace;
       out = through.out;
     }
 
-    abbrev cut_is : RanToCut first final → CutFacts s names before after
+    abbrev cut_is : RanToCut in_turns first final → CutFacts in_turns s names before after
     cut_is ran = record {
       journal = ran.journal;
       legal = ran.legal;
       sources = of_sources ran.journal ran.sources;
       rows = all_begun ran.journal ran.begun;
-      turns = in_turns ran.journal ran.rounds;
+      turns = λ asked. go_in_turns ran.journal (ran.rounds asked);
       trace = ran.trace;
       out = ran.out;
     }
 
     -- the facts of a run that was not cut, as those of one that was
-    cut_none : SourcesRun s names before after → CutFacts s names before after
-    cut_none run = record {
+    cut_none : WholeLines → SourcesRun in_turns s names before after → CutFacts in_turns s names before after
+    cut_none lines run = record {
       journal = run.journal;
       legal = run.legal;
       sources = run.sources;
       rows = run.rows;
       turns = run.turns;
-      trace = no_part before.trace after.trace run.journal an_entry (some_line an_entry) run.trace;
+      trace = lines before.trace after.trace run.journal run.trace;
       out = record { part = verdicts s run.journal; rest = []; joined = sym (append-nil _); written = ap (λ x. x.written) run.out };
     }
 
     -- the counts of the last line
-    done_is : (w : ThroughWell first final) → Done kept1.accepted kept1.late kept1.desk.steps kept1.desk.lines ≡ done_line s w.through.came.journal
+    done_is : (w : ThroughWell in_turns first final) → Done kept1.accepted kept1.late kept1.desk.steps kept1.desk.lines ≡ done_line s w.through.came.journal
     done_is w =
         let journal = w.through.came.journal in
         ap (λ a. Done a kept1.late kept1.desk.steps kept1.desk.lines) w.accepted
@@ -295,15 +281,15 @@ module _ (names : List (List ℕ)) (before after : Outside) (kept0 kept1 : Keepi
         ∙ (ap (λ n. Done (length (accepted journal)) (late_count journal) n kept1.desk.lines) w.steps
         ∙ ap (λ v. Done (length (accepted journal)) (late_count journal) (length (all_steps s.plan.pacings s.start (accepted journal))) v) w.lines))
 
-    none_first : (w : ThroughWell first final) → first_failed (ends_of last) ≡ None → first_faulty asks ≡ None
-    none_first w none = first_is_failed w.through.came.journal w.through.fed ∙ none
+    none_first : (w : ThroughWell in_turns first final) → first_failed (ends_of last) ≡ None → first_faulty asks ≡ None
+    none_first w none = first_is_failed w.through.came.journal w.fed ∙ none
 
-    abbrev ended_run : (w : ThroughWell first final) → first_failed (ends_of last) ≡ None → EndedRun s names before after
+    abbrev ended_run : (w : ThroughWell in_turns first final) → first_failed (ends_of last) ≡ None → EndedRun in_turns s names before after
     ended_run w none = record { run = run_is w.through; home = all_home (none_first w none); no_fault = w.no_fault; settled = w.settled }
 
-    cut_run : (w : ThroughWell first final) (at : ℕ) → first_failed (ends_of last) ≡ Some at → CutRun (UnreadableSource at) s names before after
+    cut_run : (w : ThroughWell in_turns first final) (at : ℕ) → first_failed (ends_of last) ≡ Some at → CutRun in_turns (UnreadableSource at) s names before after
     cut_run w at failed =
-        let least : first_faulty asks ≡ Some at = first_is_failed w.through.came.journal w.through.fed ∙ failed in
+        let least : first_faulty asks ≡ Some at = first_is_failed w.through.came.journal w.fed ∙ failed in
         record {
           run = run_is w.through;
           no_fault = w.no_fault;
@@ -312,60 +298,61 @@ module _ (names : List (List ℕ)) (before after : Outside) (kept0 kept1 : Keepi
           least = least;
           rose = came_home.failed at least;
           unless_given = λ n ask there none. let given = given_counted names counts n ask there in absurd (cc);
-          read = λ were. (names_counted names counts many_counts, all_read w.through.came.journal w.through.fed w.ended);
+          read = λ were. (names_counted names counts many_counts, all_read w.through.came.journal w.fed w.ended);
           line_is = refl;
         }
 
     -- a run without a fault, by its sources' ends
-    pub by_ends : (failed : Option ℕ) (m : Option MalformedSource) → first_failed (ends_of last) ≡ failed → first_malformed (map source_end (ends_of last)) ≡ m → ThroughWell first final
-        → RunsSources (Line (line_of (end_by failed m) kept1)) s names before after
+    pub by_ends : (failed : Option ℕ) (m : Option MalformedSource) → first_failed (ends_of last) ≡ failed → first_malformed (map source_end (ends_of last)) ≡ m → ThroughWell in_turns first final
+        → RunsSources in_turns (Line (line_of (end_by failed m) kept1)) s names before after
     by_ends (Some at) m failed least w = cut_run w at failed
     by_ends None (Some m) failed least w = record {
       ended = ended_run w failed;
       ends = map source_end (ends_of last);
-      rows = all_end w.through.came.journal w.through.fed w.ended failed;
+      rows = all_end w.through.came.journal w.fed w.ended failed;
       at = m;
       least = least;
       line_is = refl;
     }
     by_ends None None failed least w = record {
       ended = ended_run w failed;
-      rows = all_whole w.through.came.journal w.through.fed w.ended failed least;
+      rows = all_whole w.through.came.journal w.fed w.ended failed least;
       line_is = done_is w;
     }
 
-    placed : (fault : RunFault) (through : Through first final) → feeds.IsAtRow fault through.came.journal first final ⊎ feeds.IsAtDeadline through.came.journal first final
-        → IsAtRow s through.came.journal fault asks ⊎ IsAtDeadline before.shelf s names asks through.came.journal
-    placed fault through (inl at) = inl (record {
-      is = at.is;
-      sound = λ ask there.
-          let named = get_beside asks names at.is.row.source ask (sym (length_counted names counts many_counts)) there in
-          let v = new_of at.is.row.source named.0 named.1 in
-          let open_still = at.goes_on (supply_of v.0) (image_get supply_of last at.is.row.source v.0 v.1) in
-          let none = still_none v.0.end v.0.reader.source.count open_still (fit_at through.came.journal through.fed at.is.row.source v.0 v.1) in
-          ask_is at.is.row.source named.0 v.0 ask named.1 v.1 there ∙ none_lt v.0.reader.source.count none;
-    })
-    placed fault through (inr at) = inr (record { settled = at.settled; read = all_read through.came.journal through.fed at.ended })
+    -- the source of the row at the fault has not failed where sources are read in turns
+    sound_at : (row : Row) → IsSoundAt row olds news → (ask : Ask) → slice_get asks row.source ≡ Some ask → is_faulty ask ≡ false
+    sound_at row sound ask there =
+        let named = get_beside asks names row.source ask (sym (length_counted names counts many_counts)) there in
+        let w = old_of row.source named.0 named.1 in
+        let v = new_of row.source named.0 named.1 in
+        let same = sound (supply_of w.0) (supply_of v.0) (image_get supply_of lent row.source w.0 w.1) (image_get supply_of last row.source v.0 v.1) in
+        ask_is row.source named.0 v.0 ask named.1 v.1 there ∙ none_lt v.0.reader.source.count (same ∙ fresh.count row.source named.0 w.0 named.1 w.1)
 
-    fault_run : (fault : RunFault) → EndedByFault fault first final → FaultRun (fault_line s.plan fault) s names before after
+    placed : (fault : RunFault) (journal : List Entry) → feeds.IsAtRow in_turns fault journal first final ⊎ feeds.IsAtDeadline journal first final
+        → IsAtRow in_turns s journal fault asks ⊎ IsAtDeadline before.shelf s names asks journal
+    placed fault journal (inl at) = inl (record { is = at.is; sound = λ asked. sound_at at.is.row (at.sound asked) })
+    placed fault journal (inr at) = inr (record { settled = at.settled; read = all_read journal at.fed at.ended })
+
+    fault_run : (fault : RunFault) → EndedByFault in_turns fault first final → FaultRun in_turns (fault_line s.plan fault) s names before after
     fault_run fault e = record {
       run = run_is e.through;
       fault = fault;
       is_fault = e.is_fault;
       asks = asks;
       home = came_home;
-      stands = placed fault e.through e.place;
+      stands = placed fault e.through.came.journal e.place;
       line_is = refl;
     }
 
-    pub ran_sources : (how : Result (Unit {0}) Stop) (outcome : Outcome) → OutcomeAfter how (end_of (ends_of last)) s.plan kept1 outcome → EndsRun how first final → RunsSources outcome s names before after
-    ran_sources (Ok done) outcome is ran =
-        subst (λ o. RunsSources o s names before after) (sym is) (by_ends (first_failed (ends_of last)) (first_malformed (map source_end (ends_of last))) refl refl ran)
-    ran_sources (Err (stop.Fault stream kind time)) outcome (inl is) ran =
-        subst (λ o. RunsSources o s names before after) (sym is) (fault_run (record { stream = stream; kind = kind; time = time }) ran)
-    ran_sources (Err (stop.Fault stream kind time)) outcome (inr is) ran = subst (λ o. RunsSources o s names before after) (sym is) (record { shelf = grew; cut = inl (cut_none (run_is ran.through)) })
-    ran_sources (Err stop.Put) outcome is ran = subst (λ o. RunsSources o s names before after) (sym is) (record { shelf = grew; cut = cut_is ran.cut; no_fault = ran.no_fault; rose = ran.rose })
-    ran_sources (Err stop.Memory) outcome is ran = subst (λ o. RunsSources o s names before after) (sym is) (record { shelf = grew; cut = inl (cut_is ran) })
+    pub ran_sources : WholeLines → (how : Result (Unit {0}) Stop) (outcome : Outcome) → OutcomeAfter how (end_of (ends_of last)) s.plan kept1 outcome → EndsRun in_turns how first final → RunsSources in_turns outcome s names before after
+    ran_sources lines (Ok done) outcome is ran =
+        subst (λ o. RunsSources in_turns o s names before after) (sym is) (by_ends (first_failed (ends_of last)) (first_malformed (map source_end (ends_of last))) refl refl ran)
+    ran_sources lines (Err (stop.Fault stream kind time)) outcome (inl is) ran =
+        subst (λ o. RunsSources in_turns o s names before after) (sym is) (fault_run (record { stream = stream; kind = kind; time = time }) ran)
+    ran_sources lines (Err (stop.Fault stream kind time)) outcome (inr is) ran = subst (λ o. RunsSources in_turns o s names before after) (sym is) (record { shelf = grew; cut = inl (cut_none lines (run_is ran.through)) })
+    ran_sources lines (Err stop.Put) outcome is ran = subst (λ o. RunsSources in_turns o s names before after) (sym is) (record { shelf = grew; cut = cut_is ran.cut; no_fault = ran.no_fault; rose = ran.rose })
+    ran_sources lines (Err stop.Memory) outcome is ran = subst (λ o. RunsSources in_turns o s names before after) (sym is) (record { shelf = grew; cut = inl (cut_is ran) })
 
 -- ---- sources that were lent
 
@@ -395,10 +382,16 @@ no_rows name = []
 named_empty : (names : List (List ℕ)) (n : ℕ) (rows : List Row) → slice_get (map no_rows names) n ≡ Some rows → rows ≡ []
 named_empty names n rows is = let r = get_image no_rows names n rows is in r.2
 
+-- where no row was taken nothing is traced or put, and nothing fails
+pub record NoRows (s : Setting) (out trace : SinkState) : Type 0 where
+  pub traced : trace ≡ grown trace []
+  pub put : out ≡ grown out (verdicts s [])
+  pub no_fault : fault_in s [] ≡ None
+
 -- a source was not given: nothing was taken
-pub not_given : (at : ℕ) (s : Setting) (names : List (List ℕ)) (before after : ShelfState) (out trace : SinkState) → IsNotGiven at names before after
-    → CutRun (UnreadableSource at) s names (outside before out trace) (outside after out trace)
-not_given at s names before after out trace broke =
+pub not_given : (in_turns : Bool) (at : ℕ) (s : Setting) (names : List (List ℕ)) (before after : ShelfState) (out trace : SinkState) → NoRows s out trace → IsNotGiven at names before after
+    → CutRun in_turns (UnreadableSource at) s names (outside before out trace) (outside after out trace)
+not_given in_turns at s names before after out trace none_of broke =
     let asks : List Ask = map given_ask (take at names) ++ failed_ask broke.name ∷ [] in
     let least : first_faulty asks ≡ Some at = first_not_given names at broke.name broke.is in
     let front = front_asked names at broke.name broke.is in
@@ -408,7 +401,7 @@ not_given at s names before after out trace broke =
         legal = tt;
         sources = All-nil (λ (e : Entry). e.row.source < length names);
         rows = λ n name named bytes told. ((source_rows s.plan n bytes).rows, refl);
-        turns = record {
+        turns = λ asked. record {
           lists = map no_rows names;
           many = length-map names no_rows;
           fronts = λ n name rows named there bytes told.
@@ -416,10 +409,10 @@ not_given at s names before after out trace broke =
           whole = λ none. let some : first_faulty (asks_between before after) ≡ Some at = ap first_faulty (between before after asks broke.asks) ∙ least in absurd (cc);
           first = record { rounds = 0; rest = []; joined = refl };
         };
-        trace = sym (grown_nil trace);
-        out = sym (grown_nil out) ∙ ap (grown out) (sym (nothing_final s));
+        trace = none_of.traced;
+        out = none_of.put;
       };
-      no_fault = nothing_fails s;
+      no_fault = none_of.no_fault;
       asked = record { asks = asks; appended = broke.asks; front = front; home = broke.out };
       at = at;
       least = least;
@@ -430,9 +423,9 @@ not_given at s names before after out trace broke =
     }
 
 -- no memory for all sources: nothing was taken
-pub not_fetched : (s : Setting) (names : List (List ℕ)) (before after : ShelfState) (out trace : SinkState) → IsStopped names before after
-    → StoppedRun s names (outside before out trace) (outside after out trace)
-not_fetched s names before after out trace stopped = record {
+pub not_fetched : (in_turns : Bool) (s : Setting) (names : List (List ℕ)) (before after : ShelfState) (out trace : SinkState) → IsStopped names before after
+    → StoppedRun in_turns s names (outside before out trace) (outside after out trace)
+not_fetched in_turns s names before after out trace stopped = record {
   shelf = record {
     asks = map given_ask (take stopped.asked names);
     appended = stopped.asks;
@@ -443,57 +436,45 @@ not_fetched s names before after out trace stopped = record {
 }
 
 -- no memory before any source was asked for
-pub not_asked : (s : Setting) (names : List (List ℕ)) (shelf : ShelfState) (out trace : SinkState) → StoppedRun s names (outside shelf out trace) (outside shelf out trace)
-not_asked s names shelf out trace = record { shelf = grew_none names shelf; cut = inr (record { trace = refl; out = refl }) }
+pub not_asked : (in_turns : Bool) (s : Setting) (names : List (List ℕ)) (shelf : ShelfState) (out trace : SinkState) → StoppedRun in_turns s names (outside shelf out trace) (outside shelf out trace)
+not_asked in_turns s names shelf out trace = record { shelf = grew_none names shelf; cut = inr (record { trace = refl; out = refl }) }
 
 -- not all sources were fetched
-pub unfetched_run : (end : FetchStop) (s : Setting) (names : List (List ℕ)) (rooms : List Shape) (before after : ShelfState) (out trace : SinkState) (workers : List Working) → Fetches (Err end) names rooms before after workers
-    → RunsSources (unfetched end) s names (outside before out trace) (outside after out trace)
-unfetched_run (fetch.Failed at) s names rooms before after out trace workers fetches = not_given at s names before after out trace fetches
-unfetched_run fetch.Memory s names rooms before after out trace workers fetches = not_fetched s names before after out trace fetches
+pub unfetched_run : (in_turns : Bool) (end : FetchStop) (s : Setting) (names : List (List ℕ)) (rooms : List Shape) (before after : ShelfState) (out trace : SinkState) (workers : List Working) → NoRows s out trace → Fetches (Err end) names rooms before after workers
+    → RunsSources in_turns (unfetched end) s names (outside before out trace) (outside after out trace)
+unfetched_run in_turns (fetch.Failed at) s names rooms before after out trace workers none_of fetches = not_given in_turns at s names before after out trace none_of fetches
+unfetched_run in_turns fetch.Memory s names rooms before after out trace workers none_of fetches = not_fetched in_turns s names before after out trace fetches
 
 -- ---- sources that were lent, run and given back
 
 pub as_many : (lent last : List Working) → places_of last ≡ places_of lent → length last ≡ length lent
 as_many lent last same = sym (length-map last (λ (w : Working). w.reader.source.place)) ∙ ap length same ∙ length-map lent (λ (w : Working). w.reader.source.place)
 
-pub ran_lent : (names : List (List ℕ)) (rooms : List Shape) (before mid after : ShelfState) (out0 trace0 out1 trace1 : SinkState) (kept0 kept1 : Keeping) (lent last : List Working) (how : Result (Unit {0}) Stop) (outcome : Outcome)
+pub ran_lent : (in_turns : Bool) → WholeLines → (names : List (List ℕ)) (rooms : List Shape) (before mid after : ShelfState) (out0 trace0 out1 trace1 : SinkState) (kept0 kept1 : Keeping) (lent last : List Working) (how : Result (Unit {0}) Stop) (outcome : Outcome)
     → IsLent names rooms before mid lent → AreRooms kept0.desk.plan (length names) most_rows rooms → places_of last ≡ places_of lent → HasReturned names (counts_of last) before after
     → kept1.desk.plan ≡ kept0.desk.plan → OutcomeAfter how (end_of (ends_of last)) kept1.desk.plan kept1 outcome
-    → EndsRun how (world kept0 (map supply_of lent) out0 trace0) (world kept1 (map supply_of last) out1 trace1)
-    → RunsSources outcome (setting_in kept0) names (outside before out0 trace0) (outside after out1 trace1)
-ran_lent names rooms before mid after out0 trace0 out1 trace1 kept0 kept1 lent last how outcome is are places returned same ends ran =
-    ran_sources names (outside before out0 trace0) (outside after out1 trace1) kept0 kept1 lent last (lent_fresh kept0.desk.plan names rooms before mid lent is are) (as_many lent last places) returned
-    how outcome (subst (λ (p : Plan). OutcomeAfter how (end_of (ends_of last)) p kept1 outcome) same ends) ran
+    → EndsRun in_turns how (world kept0 (map supply_of lent) out0 trace0) (world kept1 (map supply_of last) out1 trace1)
+    → RunsSources in_turns outcome (setting_in kept0) names (outside before out0 trace0) (outside after out1 trace1)
+ran_lent in_turns lines names rooms before mid after out0 trace0 out1 trace1 kept0 kept1 lent last how outcome is are places returned same ends ran =
+    ran_sources in_turns names (outside before out0 trace0) (outside after out1 trace1) kept0 kept1 lent last (lent_fresh kept0.desk.plan names rooms before mid lent is are) (as_many lent last places) returned
+    lines how outcome (subst (λ (p : Plan). OutcomeAfter how (end_of (ends_of last)) p kept1 outcome) same ends) ran
 
 -- they can be given back
 pub still_given : (shelf : List Ask) (lent last : List Working) → places_of last ≡ places_of lent → shelves.AreGiven shelf (places_of lent) → shelves.AreGiven shelf (places_of last)
 still_given shelf lent last same given = subst (λ (p : List ℕ). shelves.AreGiven shelf p) (sym same) given
 
--- ---- a feed of sources that were lent
+-- ---- sources that were lent, before their first turn
 
-module _ (plan : Plan) (names : List (List ℕ)) (rooms : List Shape) (before mid : ShelfState) (lent : List Working) (is : IsLent names rooms before mid lent) (are : AreRooms plan (length names) most_rows rooms) where
-  lent_at : (n : ℕ) (w : Working) → slice_get lent n ≡ Some w → (file : SourceState) × (w ≡ beginning (fresh (shape_of plan.spec.streams n most_rows) file))
-  lent_at n w there =
+-- a worker that has had no turn is at the beginning of its reader
+at_beginning : (w : Working) (shape : Shape) (file : SourceState) → w ≡ beginning (fresh shape file) → (w ≡ beginning w.reader) × (w.reader.given ≡ 0) × (w.reader.shape ≡ shape)
+at_beginning w shape file is = (is ∙ ap (λ (v : Working). beginning v.reader) (sym is), ap (λ (v : Working). v.reader.given) is, ap (λ (v : Working). v.reader.shape) is)
+
+pub lent_ready : (plan : Plan) (names : List (List ℕ)) (rooms : List Shape) (before mid : ShelfState) (lent : List Working) → IsLent names rooms before mid lent → AreRooms plan (length names) most_rows rooms
+    → 1 ≤ length names → length names ≤ 64 → AreReady plan lent
+lent_ready plan names rooms before mid lent is are some few = record {
+  many = (omega (arith, some, is.many), omega (arith, few, is.many));
+  new = λ n w there.
       let name = get_beside lent names n w (sym is.many) there in
       let l = is.each n name.0 (shape_of plan.spec.streams n most_rows) w name.1 (are.each n (slice_get_within names n name.0 name.1)) there in
-      (l.file, l.is)
-
-  pub lent_idle : (merging : Merging) (batch : List Entry) (kept : Keeping) → merging ≡ opening (length names) kept.desk.option → batch ≡ [] → kept.desk.plan ≡ plan → kept.desk.merged ≡ opening_time kept.desk.option
-      → IsIdle (record { workers = lent; merging = merging; batch = batch }) kept
-  lent_idle merging batch kept opened none same merged = record {
-    pending = ap (λ (m : Merging). m.pending) opened;
-    batch = none;
-    lets_in = ap (λ (m : Merging). m.closed) opened;
-    merged = ap (λ (m : Merging). m.merged) opened ∙ sym merged;
-    many = ap sources_of opened ∙ length-replicate (length names) false ∙ sym is.many;
-    workers = λ n w there.
-        let l = lent_at n w there in
-        ap (λ (v : Working). v.reader.shape) l.1 ∙ ap (λ (p : Plan). shape_of p.spec.streams n most_rows) (sym same);
-  }
-
-  pub lent_new : (merging : Merging) (batch : List Entry) → 1 ≤ length names → length names ≤ 64 → IsFresh (record { workers = lent; merging = merging; batch = batch })
-  lent_new merging batch some few = record {
-    many = (omega (arith, some, is.many), omega (arith, few, is.many));
-    none = λ n w there. let l = lent_at n w there in (ap (λ (v : Working). v.end) l.1, ap handed_in l.1);
-  }
+      at_beginning w (shape_of plan.spec.streams n most_rows) l.file l.is;
+}

@@ -6,8 +6,11 @@ pub mod BytesRead
 pub mod Specifications
 pub mod Asking
 pub mod Calls
+pub mod Laws
 pub mod Lent
 pub mod Options
 pub mod Working
+pub mod DrillEnds
 pub mod Ends
 pub mod Statuses
+pub mod Drilled

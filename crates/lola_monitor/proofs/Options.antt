@@ -1,11 +1,11 @@
 -- What a run is told is in its bounds: how many workers and sources there are, and where time begins.
-use Rattle.std.proofs.Common.{◌≡◌, ◌≤◌, ℕ, ◌+◌, List, [], ◌∷◌, Option, None, Some, Bool, true, false, ◌&&◌, if◌then◌else◌, nat_le, refl, subst, arith, codes, length, take, drop, slice_get, option_map}
+use Rattle.std.proofs.Common.{◌≡◌, ◌≤◌, ◌<◌, ℕ, ◌+◌, List, [], ◌∷◌, Option, None, Some, Bool, true, false, ◌&&◌, if◌then◌else◌, nat_le, refl, subst, arith, codes, length, take, drop, slice_get, option_map}
 use Rattle.std.proofs.lemmas.Bool.Decides.{nat_tests}
 use Rattle.std.specs.List.{after_first, before_first, list_all}
 use Rattle.std.specs.Str.{bytes_eq}
 use Rattle.lola_value.specs.Times.{is_digit, is_point, is_time, latest, nanoseconds, number_of, up_to_latest}
 use Rattle.lola_model.specs.declared.journal.Show.TheVariants as show
-use Rattle.lola_command.specs.Command.{are_sources, behind_names, behind_options, come_once, command_of, front_names, in_turns_said, of_said, run_by, run_over, show_said, start_said, workers_said}
+use Rattle.lola_command.specs.Command.{are_sources, behind_names, behind_options, come_once, command_of, drill_with, front_names, in_turns_said, is_number, of_said, run_by, run_over, show_said, start_said, workers_said}
 use Rattle.lola_command.specs.Command as said_command
 use Rattle.lola_command.specs.Said.{Word, after, begins_with_minus, is_worker_count, names_from, option_by, option_with, said_from, says, show_by, start_by, thing_of, valued, with_front, workers_by}
 use Rattle.lola_command.specs.declared.said.Said.{Said}
@@ -13,7 +13,8 @@ use Rattle.lola_command.specs.declared.said.Said.TheVariants as said
 use Rattle.lola_command.specs.declared.said.Thing.{Thing}
 use Rattle.lola_command.specs.declared.said.Thing.TheVariants as thing
 use Rattle.lola_command.specs.declared.command.Command.{Command}
-use Rattle.lola_command.specs.declared.command.Command.TheVariants.{Run, Analyse}
+use Rattle.lola_command.specs.declared.command.Command.TheVariants.{Run, Analyse, Drill}
+use Rattle.lola_command.specs.declared.command.DrillCommand.{DrillCommand}
 use Rattle.lola_command.specs.declared.command.RunCommand.{RunCommand}
 use Rattle.lola_engine.specs.Engines.{IsOptionInTime}
 
@@ -141,6 +142,7 @@ abbrev InBounds : Option Command → Type 0
 InBounds None = Unit {0}
 InBounds (Some (Run r)) = ((1 ≤ r.workers) × (r.workers ≤ 64)) × IsOptionInTime r.start × ((1 ≤ length r.sources) × (length r.sources ≤ 64))
 InBounds (Some (Analyse n)) = Unit {0}
+InBounds (Some (Drill d)) = (d.number < 2147483647) × ((1 ≤ d.workers) × (d.workers ≤ 64))
 
 sources_bound : (ss rest : List Said) → (come_once ss && are_sources (front_names rest) (behind_names rest)) ≡ true → (1 ≤ length (front_names rest)) × (length (front_names rest) ≤ 64)
 sources_bound ss rest is =
@@ -184,6 +186,50 @@ analysed_bound : (o : Option (List Said)) → InBounds (of_said said_command.ana
 analysed_bound None = tt
 analysed_bound (Some ss) = analyse_bound ss
 
+-- a number of a drill in its bounds
+number_right : (digits least most : ℕ) (w : Word) → is_number digits least most w ≡ true → (least ≤ number_of w) × (number_of w ≤ most)
+number_right digits least most w is =
+    let first = both (nat_le 1 (length w)) _ is in
+    let second = both (nat_le (length w) digits) _ first.1 in
+    let third = both (list_all is_digit w) _ second.1 in
+    let last = both (nat_le least (number_of w)) (nat_le (number_of w) most) third.1 in
+    (grind (arith, nat_tests, last.0), grind (arith, nat_tests, last.1))
+
+drill_bound : (number rows workers : Word) → InBounds (drill_with number rows workers)
+drill_bound number rows workers = go (is_number 10 0 2147483646 number && (is_number 7 1 1000000 rows && is_number 2 1 64 workers)) refl
+  where
+    go : (b : Bool) → (is_number 10 0 2147483646 number && (is_number 7 1 1000000 rows && is_number 2 1 64 workers)) ≡ b
+        → InBounds (if b then Some (Drill (record { number = number_of number; rows = number_of rows; workers = number_of workers })) else None)
+    go true is =
+        let first = both (is_number 10 0 2147483646 number) _ is in
+        let second = both (is_number 7 1 1000000 rows) (is_number 2 1 64 workers) first.1 in
+        let small = number_right 10 0 2147483646 number first.0 in
+        (omega (arith, small.1), number_right 2 1 64 workers second.1)
+    go false is = tt
+
+drill_said : (words : List Word) (ss : List Said) → InBounds (said_command.drill_of words ss)
+drill_said words [] = tt
+drill_said words ((said.Show x) ∷ ss) = tt
+drill_said words ((said.Workers n) ∷ ss) = tt
+drill_said words ((said.Start t) ∷ ss) = tt
+drill_said words (said.InTurns ∷ ss) = tt
+drill_said words (said.Name a ∷ []) = tt
+drill_said words (said.Name a ∷ (said.Show x) ∷ ss) = tt
+drill_said words (said.Name a ∷ (said.Workers n) ∷ ss) = tt
+drill_said words (said.Name a ∷ (said.Start t) ∷ ss) = tt
+drill_said words (said.Name a ∷ said.InTurns ∷ ss) = tt
+drill_said words (said.Name a ∷ said.Name b ∷ []) = tt
+drill_said words (said.Name a ∷ said.Name b ∷ (said.Show x) ∷ ss) = tt
+drill_said words (said.Name a ∷ said.Name b ∷ (said.Workers n) ∷ ss) = tt
+drill_said words (said.Name a ∷ said.Name b ∷ (said.Start t) ∷ ss) = tt
+drill_said words (said.Name a ∷ said.Name b ∷ said.InTurns ∷ ss) = tt
+drill_said words (said.Name a ∷ said.Name b ∷ said.Name c ∷ []) = drill_bound (said_command.word_of words a) (said_command.word_of words b) (said_command.word_of words c)
+drill_said words (said.Name a ∷ said.Name b ∷ said.Name c ∷ x ∷ ss) = tt
+
+drilled_bound : (words : List Word) (o : Option (List Said)) → InBounds (of_said (said_command.drill_of words) o)
+drilled_bound words None = tt
+drilled_bound words (Some ss) = drill_said words ss
+
 if_bound : (b : Bool) (x y : Option Command) → InBounds x → InBounds y → InBounds (if b then x else y)
 if_bound true x y h k = h
 if_bound false x y h k = k
@@ -193,7 +239,8 @@ bounds [] = tt
 bounds (program ∷ []) = tt
 bounds (program ∷ word ∷ words) =
     if_bound (bytes_eq word (codes "run")) _ _ (of_bound (said_from false 2 words) (λ ss is. said_right false 2 words ss is))
-    (if_bound (bytes_eq word (codes "analyse")) _ None (analysed_bound (said_from false 2 words)) tt)
+    (if_bound (bytes_eq word (codes "analyse")) _ _ (analysed_bound (said_from false 2 words))
+    (if_bound (bytes_eq word (codes "drill")) _ None (drilled_bound (program ∷ word ∷ words) (said_from false 2 words)) tt))
 
 module _ (words : List Word) (r : RunCommand) (is : command_of words ≡ Some (Run r)) where
   in_bounds : ((1 ≤ r.workers) × (r.workers ≤ 64)) × IsOptionInTime r.start × ((1 ≤ length r.sources) × (length r.sources ≤ 64))
@@ -210,3 +257,15 @@ module _ (words : List Word) (r : RunCommand) (is : command_of words ≡ Some (R
   -- from 1 to 64 sources
   pub sources_are : (1 ≤ length r.sources) × (length r.sources ≤ 64)
   sources_are = in_bounds.2
+
+module _ (words : List Word) (d : DrillCommand) (is : command_of words ≡ Some (Drill d)) where
+  drill_in_bounds : (d.number < 2147483647) × ((1 ≤ d.workers) × (d.workers ≤ 64))
+  drill_in_bounds = subst InBounds is (bounds words)
+
+  -- a number that both sources can begin with
+  pub number_is : d.number < 2147483647
+  number_is = drill_in_bounds.0
+
+  -- from 1 to 64 workers
+  pub drill_workers_are : (1 ≤ d.workers) × (d.workers ≤ 64)
+  drill_workers_are = drill_in_bounds.1

@@ -14,11 +14,13 @@ use Rattle.lola_rows.specs.Rows.{Whole}
 use Rattle.lola_report.specs.Ends.{end_text}
 use Rattle.lola_report.specs.declared.end.EndLine.TheVariants.{Done, Usage, Refused, Malformed, Fault, UnreadableSpecification, UnreadableSource, Analysed}
 use Rattle.lola_run.specs.Verdicts.{Setting}
-use Rattle.lola_monitor.specs.Command.{Names, analysed_of, run_of, specification_of}
+use Rattle.lola_command.specs.declared.command.DrillCommand.{DrillCommand}
+use Rattle.lola_monitor.specs.Command.{Names, analysed_of, drill_of, run_of, specification_of}
+use Rattle.lola_monitor.specs.Drilling.{DrillsBy}
 use Rattle.lola_monitor.specs.Monitor.{AllBegin, AllGiven, AllRead, Begins, BrokeOff, Ends, GoInTurns, HasRows, IsAtDeadline, IsAtRow, IsEarly, Outside, Plans, Ran, WereGiven, analysis_text, asks_between, first_faulty, setting_of}
 use Rattle.lola_monitor.specs.Outcomes.{AllHome, CameHome, CutFacts, EndedRun, Marred, PlansName, ReadPlan, RunsSources, SourcesRun, Stood, StoodEnded, Works, noted, without_plan}
 use Rattle.lola_monitor.specs.declared.outcome.Outcome.{Outcome}
-use Rattle.lola_monitor.specs.declared.outcome.Outcome.TheVariants.{Line, Report, Put, Memory}
+use Rattle.lola_monitor.specs.declared.outcome.Outcome.TheVariants.{Line, Drilled, Report, Put, Memory}
 use Rattle.lola_monitor.specs.declared.outcome.Unplanned.{Unplanned}
 use Rattle.lola_monitor.specs.declared.outcome.Unplanned.TheVariants as unplanned
 use Rattle.lola_monitor.proofs.Calls.{between}
@@ -77,7 +79,7 @@ module _ (words : List (List ℕ)) (names : Names) (plan : Plan) (before after :
       first = turns.first;
     }
 
-    abbrev ran : (asks : List Ask) → after.shelf.asks ≡ shelf.asks ++ asks → SourcesRun s names.sources mid after → Ran words before after
+    abbrev ran : (asks : List Ask) → after.shelf.asks ≡ shelf.asks ++ asks → SourcesRun names.in_turns s names.sources mid after → Ran words before after
     ran asks is run = record {
       names = names;
       is_command = is_command;
@@ -88,17 +90,17 @@ module _ (words : List (List ℕ)) (names : Names) (plan : Plan) (before after :
       journal = run.journal;
       legal = run.legal;
       sources = run.sources;
-      turns = λ asked. in_turns asks run.journal is run.turns;
+      turns = λ asked. in_turns asks run.journal is (run.turns asked);
       trace = run.trace;
     }
 
-    abbrev stood : (asks : List Ask) → after.shelf.asks ≡ shelf.asks ++ asks → SourcesRun s names.sources mid after → Stood words before after
+    abbrev stood : (asks : List Ask) → after.shelf.asks ≡ shelf.asks ++ asks → SourcesRun names.in_turns s names.sources mid after → Stood words before after
     stood asks is run = record { run = ran asks is run; out = run.out; rows = all_begin run.journal run.rows }
 
-    abbrev stood_ended : EndedRun s names.sources mid after → StoodEnded words before after
+    abbrev stood_ended : EndedRun names.in_turns s names.sources mid after → StoodEnded words before after
     stood_ended e = record { stood = stood (map given_ask names.sources) e.home.asks e.run; no_fault = e.no_fault; settled = e.settled; given = given e.home }
 
-    abbrev off : (asks : List Ask) → after.shelf.asks ≡ shelf.asks ++ asks → CutFacts s names.sources mid after → BrokeOff words before after
+    abbrev off : (asks : List Ask) → after.shelf.asks ≡ shelf.asks ++ asks → CutFacts names.in_turns s names.sources mid after → BrokeOff words before after
     off asks is cut = record {
       names = names;
       is_command = is_command;
@@ -110,7 +112,7 @@ module _ (words : List (List ℕ)) (names : Names) (plan : Plan) (before after :
       legal = cut.legal;
       sources = cut.sources;
       rows = all_begin cut.journal cut.rows;
-      turns = λ asked. in_turns asks cut.journal is cut.turns;
+      turns = λ asked. in_turns asks cut.journal is (cut.turns asked);
       trace = cut.trace;
       line = Usage;
       out = record {
@@ -121,12 +123,12 @@ module _ (words : List (List ℕ)) (names : Names) (plan : Plan) (before after :
       };
     }
 
-    stands_at : (fault : RunFault) (asks : List Ask) (journal : List Entry) → IsAtRow s journal fault asks ⊎ IsAtDeadline shelf s names.sources asks journal
-        → IsAtRow s journal fault asks ⊎ IsAtDeadline before.shelf s names.sources asks journal
+    stands_at : (fault : RunFault) (asks : List Ask) (journal : List Entry) → IsAtRow names.in_turns s journal fault asks ⊎ IsAtDeadline shelf s names.sources asks journal
+        → IsAtRow names.in_turns s journal fault asks ⊎ IsAtDeadline before.shelf s names.sources asks journal
     stands_at fault asks journal (inl at) = inl at
     stands_at fault asks journal (inr at) = inr (record { settled = at.settled; read = all_read asks journal at.read })
 
-    pub works_after : (outcome : Outcome) → RunsSources outcome s names.sources mid after → Works outcome words before after
+    pub works_after : (outcome : Outcome) → RunsSources names.in_turns outcome s names.sources mid after → Works outcome words before after
     works_after (Line (Done a l s v)) r = record {
       ended = stood_ended r.ended;
       rows = λ n name is. subst (λ t. Ends t plan n (rows_of n r.ended.run.journal) Whole) (told name) (r.rows n name is);
@@ -165,6 +167,7 @@ module _ (words : List (List ℕ)) (names : Names) (plan : Plan) (before after :
     works_after (Line (Refused q)) r = absurd r
     works_after (Line UnreadableSpecification) r = absurd r
     works_after (Line (Analysed s w)) r = absurd r
+    works_after (Drilled line) r = absurd r
     works_after (Report text) r = absurd r
     works_after Put r = record { off = off r.shelf.asks r.shelf.appended r.cut; no_fault = r.no_fault; rose = r.rose }
     works_after Memory r = ⊎_elim (λ cut. inr (off r.shelf.asks r.shelf.appended cut)) (λ early. inl (record { trace = early.trace; out = early.out })) r.cut
@@ -207,3 +210,11 @@ module _ (words : List (List ℕ)) (name : List ℕ) (before after : Outside) (e
       text_is = is;
       out = early.out;
     }
+
+-- a drill, which asks for nothing and traces nothing
+pub works_drilled : (words : List (List ℕ)) (here : Outside) (d : DrillCommand) (outcome : Outcome) → drill_of words ≡ Some d → DrillsBy outcome d → Works outcome words here here
+works_drilled words here d (Line line) is drills = absurd drills
+works_drilled words here d (Drilled line) is drills = record { of = record { drill = d; is_command = is; shelf = refl; trace = refl }; drills = drills; out = refl }
+works_drilled words here d (Report text) is drills = absurd drills
+works_drilled words here d Put is drills = absurd drills
+works_drilled words here d Memory is drills = inl (record { trace = refl; out = refl })

@@ -4,7 +4,8 @@ use Rattle.lola_model.specs.declared.journal.Show.{Show}
 use Rattle.lola_command.specs.Said.{Word}
 use Rattle.lola_command.specs.Command.{command_of}
 use Rattle.lola_command.specs.declared.command.Command.{Command}
-use Rattle.lola_command.specs.declared.command.Command.TheVariants.{Run, Analyse}
+use Rattle.lola_command.specs.declared.command.Command.TheVariants.{Run, Analyse, Drill}
+use Rattle.lola_command.specs.declared.command.DrillCommand.{DrillCommand}
 use Rattle.lola_command.specs.declared.command.RunCommand.{RunCommand}
 
 -- what a run is of: a specification and sources, where time begins if that is told, what is shown, how many workers there are, and
@@ -39,6 +40,7 @@ abbrev pub run_by : List Word → Option Command → Option Names
 run_by words None = None
 run_by words (Some (Run r)) = Some (names_with words r)
 run_by words (Some (Analyse n)) = None
+run_by words (Some (Drill d)) = None
 
 -- the run that the words are
 abbrev pub run_of : List Word → Option Names
@@ -48,6 +50,7 @@ abbrev pub specification_named : List Word → Option Command → Option Word
 specification_named words None = None
 specification_named words (Some (Run r)) = Some (word_at words r.specification)
 specification_named words (Some (Analyse n)) = Some (word_at words n)
+specification_named words (Some (Drill d)) = None
 
 -- the specification of a command, which is asked for first
 abbrev pub specification_of : List Word → Option Word
@@ -57,16 +60,29 @@ abbrev pub analysed_named : List Word → Option Command → Option Word
 analysed_named words None = None
 analysed_named words (Some (Run r)) = None
 analysed_named words (Some (Analyse n)) = Some (word_at words n)
+analysed_named words (Some (Drill d)) = None
 
 -- the specification that is to be analysed
 abbrev pub analysed_of : List Word → Option Word
 analysed_of words = analysed_named words (command_of words)
 
+abbrev pub drill_named : Option Command → Option DrillCommand
+drill_named None = None
+drill_named (Some (Run r)) = None
+drill_named (Some (Analyse n)) = None
+drill_named (Some (Drill d)) = Some d
+
+-- the drill that the words are
+abbrev pub drill_of : List Word → Option DrillCommand
+drill_of words = drill_named (command_of words)
+
 abbrev pub all_names : List Word → Option Command → List Word
 all_names words None = []
 all_names words (Some (Run r)) = word_at words r.specification ∷ map (word_at words) r.sources
 all_names words (Some (Analyse n)) = word_at words n ∷ []
+all_names words (Some (Drill d)) = []
 
--- a command's names in the order of fetching: of a run the specification and then each source, of an analysis the specification
+-- a command's names in the order of fetching: of a run the specification and then each source, of an analysis the specification, of
+-- a drill none
 abbrev pub names_asked : List Word → List Word
 names_asked words = all_names words (command_of words)

@@ -1,3 +1,4 @@
 pub mod Command
 pub mod Monitor
+pub mod Drilling
 pub mod Outcomes

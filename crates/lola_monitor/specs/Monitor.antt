@@ -1,7 +1,7 @@
 -- What the top call leaves, by its status.
 use Rattle.std.specs.Prelude.{ℕ, ◌≡◌, ◌⊎◌, ◌+◌, ◌<◌, List, [], ◌∷◌, ◌++◌, Option, Some, None, option_map, Bool, true, false, not, ◌||◌, if◌then◌else◌, nat_lt, length, take, drop, map, slice_get, All}
 use Rattle.lola_port.specs.Asks.{given_ask}
-use Rattle.lola_port.specs.States.{PutBroke, Rose, ShelfState, SinkState, IsProperPart, grown}
+use Rattle.lola_port.specs.States.{PutBroke, Rose, ShelfState, SinkState, grown}
 use Rattle.lola_port.specs.declared.traits.Ask.{Ask}
 use Rattle.lola_value.specs.declared.front.Refusal.{Refusal}
 use Rattle.lola_model.specs.Acceptance.{IsAccepted}
@@ -236,10 +236,10 @@ pub record IsMalformed (words : List (List ℕ)) (before after : Outside) : Type
   pub out : after.out ≡ grown before.out (verdicts (setting_of run.plan run.names) run.journal ++ end_text (Malformed at.source at.row at.kind))
   pub given : AllGiven run.names before.shelf after.shelf
 
--- the last row has the fault, whose source has not failed
-pub record IsAtRow (s : Setting) (journal : List Entry) (fault : RunFault) (asks : List Ask) : Type 0 where
+-- the last row has the fault, whose source has not failed where sources are read in turns
+pub record IsAtRow (in_turns : Bool) (s : Setting) (journal : List Entry) (fault : RunFault) (asks : List Ask) : Type 0 where
   pub is : IsRowFault s journal fault
-  pub sound : (ask : Ask) → slice_get asks is.row.source ≡ Some ask → is_faulty ask ≡ false
+  pub sound : in_turns ≡ true → (ask : Ask) → slice_get asks is.row.source ≡ Some ask → is_faulty ask ≡ false
 
 -- no settled step has a fault: it stands at the deadline of the last stamp, once each source was read to its end or has failed
 pub record IsAtDeadline (shelf : ShelfState) (s : Setting) (sources : List (List ℕ)) (asks : List Ask) (journal : List Entry) : Type 0 where
@@ -254,7 +254,7 @@ pub record IsFault (words : List (List ℕ)) (before after : Outside) : Type 0 w
   pub is_fault : fault_in (setting_of run.plan run.names) run.journal ≡ Some fault
   pub asks : List Ask
   pub given : WereGiven run.names asks before.shelf after.shelf
-  pub stands : IsAtRow (setting_of run.plan run.names) run.journal fault asks
+  pub stands : IsAtRow run.names.in_turns (setting_of run.plan run.names) run.journal fault asks
       ⊎ IsAtDeadline before.shelf (setting_of run.plan run.names) run.names.sources asks run.journal
   pub out : Wrote (grown before.out (verdicts (setting_of run.plan run.names) run.journal)) after.out (end_text (fault_line run.plan fault))
 

@@ -27,11 +27,12 @@ use Rattle.lola_run.specs.declared.stop.Stop.TheVariants as stop
 use Rattle.lola_shelves.specs.declared.sources.FetchStop.{FetchStop}
 use Rattle.lola_shelves.specs.declared.sources.FetchStop.TheVariants as fetch
 use Rattle.lola_monitor.specs.Command.{specification_of}
+use Rattle.lola_monitor.specs.Drilling.{DrillsTo, OfDrill}
 use Rattle.lola_monitor.specs.Monitor.{AllBegin, AllEnd, AllGiven, AllRead, Analysis, AreGiven, BrokeOff, Ends, GoInTurns, IsAtDeadline, IsAtRow, IsBroken, IsEarly, IsFrontOf, IsRefusedBy, MalformedSource, Outside, Plans, Ran, WereGiven, analysis_text, asks_between, done_line, fault_line, first_faulty, first_malformed, is_faulty, setting_of}
 use Rattle.lola_monitor.specs.declared.ending.SourcesEnd.{SourcesEnd}
 use Rattle.lola_monitor.specs.declared.ending.SourcesEnd.TheVariants as sources_end
 use Rattle.lola_monitor.specs.declared.outcome.Outcome.{Outcome}
-use Rattle.lola_monitor.specs.declared.outcome.Outcome.TheVariants.{Line, Report, Put, Memory}
+use Rattle.lola_monitor.specs.declared.outcome.Outcome.TheVariants.{Line, Drilled, Report, Put, Memory}
 use Rattle.lola_monitor.specs.declared.outcome.Unplanned.{Unplanned}
 use Rattle.lola_monitor.specs.declared.outcome.Unplanned.TheVariants as unplanned
 
@@ -88,31 +89,31 @@ pub record CameHome (names : List (List ℕ)) (asks : List Ask) (before after : 
   pub out : after.out ≡ before.out
 
 -- the rows that were taken of sources, with their trace and their verdicts
-pub record SourcesRun (s : Setting) (names : List (List ℕ)) (before after : Outside) : Type 0 where
+pub record SourcesRun (in_turns : Bool) (s : Setting) (names : List (List ℕ)) (before after : Outside) : Type 0 where
   pub journal : List Entry
   pub legal : IsLegal s.start journal
   pub sources : AreOfSources (length names) journal
   pub rows : AllBegin before.shelf s.plan names journal
-  pub turns : GoInTurns names s.plan before.shelf after.shelf journal
+  pub turns : in_turns ≡ true → GoInTurns names s.plan before.shelf after.shelf journal
   pub trace : after.trace ≡ grown before.trace (trace_text journal)
   pub out : after.out ≡ grown before.out (verdicts s journal)
 
 -- all sources were run to their ends
-pub record EndedRun (s : Setting) (names : List (List ℕ)) (before after : Outside) : Type 0 where
-  pub run : SourcesRun s names before after
+pub record EndedRun (in_turns : Bool) (s : Setting) (names : List (List ℕ)) (before after : Outside) : Type 0 where
+  pub run : SourcesRun in_turns s names before after
   pub home : AllHome names before.shelf after.shelf
   pub no_fault : fault_in s run.journal ≡ None
   pub settled : settled_fault_in s run.journal ≡ None
 
 -- each of them ends well
-pub record DoneRun (line : EndLine) (s : Setting) (names : List (List ℕ)) (before after : Outside) : Type 0 where
-  pub ended : EndedRun s names before after
+pub record DoneRun (in_turns : Bool) (line : EndLine) (s : Setting) (names : List (List ℕ)) (before after : Outside) : Type 0 where
+  pub ended : EndedRun in_turns s names before after
   pub rows : (n : ℕ) (name : List ℕ) → slice_get names n ≡ Some name → Ends (before.shelf.told name) s.plan n (rows_of n ended.run.journal) Whole
   pub line_is : line ≡ done_line s ended.run.journal
 
 -- the least that is malformed is named
-pub record MalformedRun (line : EndLine) (s : Setting) (names : List (List ℕ)) (before after : Outside) : Type 0 where
-  pub ended : EndedRun s names before after
+pub record MalformedRun (in_turns : Bool) (line : EndLine) (s : Setting) (names : List (List ℕ)) (before after : Outside) : Type 0 where
+  pub ended : EndedRun in_turns s names before after
   pub ends : List SourceEnd
   pub rows : AllEnd before.shelf s.plan names ended.run.journal ends
   pub at : MalformedSource
@@ -120,18 +121,18 @@ pub record MalformedRun (line : EndLine) (s : Setting) (names : List (List ℕ))
   pub line_is : line ≡ Malformed at.source at.row at.kind
 
 -- sources were run to the first fault
-pub record FaultRun (line : EndLine) (s : Setting) (names : List (List ℕ)) (before after : Outside) : Type 0 where
-  pub run : SourcesRun s names before after
+pub record FaultRun (in_turns : Bool) (line : EndLine) (s : Setting) (names : List (List ℕ)) (before after : Outside) : Type 0 where
+  pub run : SourcesRun in_turns s names before after
   pub fault : RunFault
   pub is_fault : fault_in s run.journal ≡ Some fault
   pub asks : List Ask
   pub home : CameHome names asks before.shelf after.shelf
-  pub stands : IsAtRow s run.journal fault asks ⊎ IsAtDeadline before.shelf s names asks run.journal
+  pub stands : IsAtRow in_turns s run.journal fault asks ⊎ IsAtDeadline before.shelf s names asks run.journal
   pub line_is : line ≡ fault_line s.plan fault
 
 -- a source was not given, and nothing was run; or sources were run, and some could not be read to their ends
-pub record CutRun (line : EndLine) (s : Setting) (names : List (List ℕ)) (before after : Outside) : Type 0 where
-  pub run : SourcesRun s names before after
+pub record CutRun (in_turns : Bool) (line : EndLine) (s : Setting) (names : List (List ℕ)) (before after : Outside) : Type 0 where
+  pub run : SourcesRun in_turns s names before after
   pub no_fault : fault_in s run.journal ≡ None
   pub asked : Grew names before.shelf after.shelf
   pub at : ℕ
@@ -142,40 +143,41 @@ pub record CutRun (line : EndLine) (s : Setting) (names : List (List ℕ)) (befo
   pub line_is : line ≡ UnreadableSource at
 
 -- what stands of a run that was cut short
-pub record CutFacts (s : Setting) (names : List (List ℕ)) (before after : Outside) : Type 0 where
+pub record CutFacts (in_turns : Bool) (s : Setting) (names : List (List ℕ)) (before after : Outside) : Type 0 where
   pub journal : List Entry
   pub legal : IsLegal s.start journal
   pub sources : AreOfSources (length names) journal
   pub rows : AllBegin before.shelf s.plan names journal
-  pub turns : GoInTurns names s.plan before.shelf after.shelf journal
+  pub turns : in_turns ≡ true → GoInTurns names s.plan before.shelf after.shelf journal
   pub trace : HasLines before.trace after.trace journal
   pub out : HasFrontOf before.out after.out (verdicts s journal)
 
 -- sources were run until a put failed
-pub record BrokenRun (s : Setting) (names : List (List ℕ)) (before after : Outside) : Type 0 where
+pub record BrokenRun (in_turns : Bool) (s : Setting) (names : List (List ℕ)) (before after : Outside) : Type 0 where
   pub shelf : Grew names before.shelf after.shelf
-  pub cut : CutFacts s names before after
+  pub cut : CutFacts in_turns s names before after
   pub no_fault : IsFineBefore s cut.journal
   pub rose : Rose before.out.count after.out.count ⊎ Rose before.trace.count after.trace.count
 
 -- sources were run, or asked for, until there was no memory
-pub record StoppedRun (s : Setting) (names : List (List ℕ)) (before after : Outside) : Type 0 where
+pub record StoppedRun (in_turns : Bool) (s : Setting) (names : List (List ℕ)) (before after : Outside) : Type 0 where
   pub shelf : Grew names before.shelf after.shelf
-  pub cut : CutFacts s names before after ⊎ IsEarly before after
+  pub cut : CutFacts in_turns s names before after ⊎ IsEarly before after
 
--- a run of sources
-abbrev pub RunsSources : Outcome → Setting → List (List ℕ) → Outside → Outside → Type 0
-RunsSources (Line (Done a l n v)) s names before after = DoneRun (Done a l n v) s names before after
-RunsSources (Line (Malformed n row kind)) s names before after = MalformedRun (Malformed n row kind) s names before after
-RunsSources (Line (Fault stream kind time)) s names before after = FaultRun (Fault stream kind time) s names before after
-RunsSources (Line (UnreadableSource n)) s names before after = CutRun (UnreadableSource n) s names before after
-RunsSources (Line Usage) s names before after = ⊥
-RunsSources (Line (Refused r)) s names before after = ⊥
-RunsSources (Line UnreadableSpecification) s names before after = ⊥
-RunsSources (Line (Analysed n w)) s names before after = ⊥
-RunsSources (Report text) s names before after = ⊥
-RunsSources Put s names before after = BrokenRun s names before after
-RunsSources Memory s names before after = StoppedRun s names before after
+-- a run of sources, in turns or not
+abbrev pub RunsSources : Bool → Outcome → Setting → List (List ℕ) → Outside → Outside → Type 0
+RunsSources in_turns (Line (Done a l n v)) s names before after = DoneRun in_turns (Done a l n v) s names before after
+RunsSources in_turns (Line (Malformed n row kind)) s names before after = MalformedRun in_turns (Malformed n row kind) s names before after
+RunsSources in_turns (Line (Fault stream kind time)) s names before after = FaultRun in_turns (Fault stream kind time) s names before after
+RunsSources in_turns (Line (UnreadableSource n)) s names before after = CutRun in_turns (UnreadableSource n) s names before after
+RunsSources in_turns (Line Usage) s names before after = ⊥
+RunsSources in_turns (Line (Refused r)) s names before after = ⊥
+RunsSources in_turns (Line UnreadableSpecification) s names before after = ⊥
+RunsSources in_turns (Line (Analysed n w)) s names before after = ⊥
+RunsSources in_turns (Drilled line) s names before after = ⊥
+RunsSources in_turns (Report text) s names before after = ⊥
+RunsSources in_turns Put s names before after = BrokenRun in_turns s names before after
+RunsSources in_turns Memory s names before after = StoppedRun in_turns s names before after
 
 -- a specification was read, and its plan made
 pub record ReadPlan (plan : Plan) (name : List ℕ) (before after : ShelfState) : Type 0 where
@@ -305,7 +307,7 @@ pub record StoodFault (line : EndLine) (words : List (List ℕ)) (before after :
   pub is_fault : fault_in (setting_of stood.run.plan stood.run.names) stood.run.journal ≡ Some fault
   pub asks : List Ask
   pub given : WereGiven stood.run.names asks before.shelf after.shelf
-  pub stands : IsAtRow (setting_of stood.run.plan stood.run.names) stood.run.journal fault asks
+  pub stands : IsAtRow stood.run.names.in_turns (setting_of stood.run.plan stood.run.names) stood.run.journal fault asks
       ⊎ IsAtDeadline before.shelf (setting_of stood.run.plan stood.run.names) stood.run.names.sources asks stood.run.journal
   pub line_is : line ≡ fault_line stood.run.plan fault
 
@@ -351,6 +353,12 @@ pub record StoodAnalysed (text : List ℕ) (words : List (List ℕ)) (before aft
   pub text_is : text ≡ analysis_text analysis.plan
   pub out : after.out ≡ before.out
 
+-- all but the last line: a drill was run
+pub record StoodDrilled (line : EndLine) (words : List (List ℕ)) (before after : Outside) : Type 0 where
+  pub of : OfDrill words before after
+  pub drills : DrillsTo line of.drill
+  pub out : after.out ≡ before.out
+
 -- all but the last line
 abbrev pub Works : Outcome → List (List ℕ) → Outside → Outside → Type 0
 Works (Line (Done a l s v)) words before after = StoodDone (Done a l s v) words before after
@@ -361,6 +369,7 @@ Works (Line Usage) words before after = NoCommand words before after
 Works (Line (Refused r)) words before after = NoPlan r words before after
 Works (Line UnreadableSpecification) words before after = NotRead words before after
 Works (Line (Analysed s w)) words before after = ⊥
+Works (Drilled line) words before after = StoodDrilled line words before after
 Works (Report text) words before after = StoodAnalysed text words before after
 Works Put words before after = IsBroken words before after
 Works Memory words before after = IsEarly before after ⊎ BrokeOff words before after
@@ -389,6 +398,8 @@ status_without (Analysed s w) = 7
 -- the last line or the report was put, or a part of it, or there was no memory
 abbrev pub Concluded : ℕ → Outcome → SinkState → SinkState → Type 0
 Concluded status (Line line) old new =
+    ((status ≡ status_with line) × (new ≡ grown old (end_text line))) ⊎ (((status ≡ status_without line) × PutBroke old new (end_text line)) ⊎ ((status ≡ 8) × (new ≡ old)))
+Concluded status (Drilled line) old new =
     ((status ≡ status_with line) × (new ≡ grown old (end_text line))) ⊎ (((status ≡ status_without line) × PutBroke old new (end_text line)) ⊎ ((status ≡ 8) × (new ≡ old)))
 Concluded status (Report text) old new = ((status ≡ 0) × (new ≡ grown old text)) ⊎ (((status ≡ 7) × PutBroke old new text) ⊎ ((status ≡ 8) × (new ≡ old)))
 Concluded status Put old new = (status ≡ 7) × (new ≡ old)

@@ -2,6 +2,7 @@
 #![tactic(auto)]
 
 mod analysing;
+mod drilling;
 mod ending;
 mod monitor;
 mod outcome;

@@ -3,10 +3,12 @@ ghost use Rattle.std.specs.Prelude.{◌≡◌, ◌⊎◌, ◌<◌, ℕ, [], ◌�
 ghost use Rattle.lola_port.specs.States.{SinkState};
 ghost use Rattle.lola_command.specs.Command.{command_of};
 ghost use Rattle.lola_monitor.specs.Command.{names_asked};
+ghost use Rattle.lola_monitor.specs.Drilling.{IsCleanDrill, IsCutDrill, IsDrilled, IsFaultyDrill, IsMalformedDrill, IsRefusedDrill};
 ghost use Rattle.lola_monitor.specs.Monitor.{Asked, BrokeOff, IsAnalysed, IsBroken, IsClean, IsCleanAnalysis, IsCutAnalysis, IsCutShort, IsDone, IsEarly, IsFault, IsMalformed, IsRefused, IsSpoiled, IsStatus, IsUnread, IsUsage, outside};
 ghost use Rattle.lola_monitor.specs.Outcomes.{Works};
 
 use crate::analysing::analysis;
+use crate::drilling::drill;
 use crate::outcome::Outcome;
 use crate::planning::{read_plan, without_plan};
 use crate::putting::conclude;
@@ -15,12 +17,13 @@ use crate::words::word_at;
 use lola_command::command::{Command, RunCommand, read_command};
 use lola_port::{Gate, Shelf, Sink};
 use lola_report::end::EndLine;
+use lola_run::law::{puts_add_up, whole_lines_are_lines};
 use std::alloc::Global;
 use std::sync::Wait;
 use std::thread::Threads;
 
 // All but the last line of a run.
-fn run<R: Threads + Sync, F: Shelf, K: Sink, T: Sink, G: Gate + Sync>(
+fn run<R: Threads + Wait + Sync, F: Shelf, K: Sink, T: Sink, G: Gate + Sync>(
     rt: &R,
     alloc: Global,
     words: &[String],
@@ -66,7 +69,7 @@ fn analyse<F: Shelf>(
 }
 
 // All but the last line.
-fn work<R: Threads + Sync, F: Shelf, K: Sink, T: Sink, G: Gate + Sync>(
+fn work<R: Threads + Wait + Sync, F: Shelf, K: Sink, T: Sink, G: Gate + Sync>(
     rt: &R,
     alloc: Global,
     words: &[String],
@@ -85,6 +88,7 @@ fn work<R: Threads + Sync, F: Shelf, K: Sink, T: Sink, G: Gate + Sync>(
             run(rt, alloc, words, &command, shelf, out, trace, gate)
         }
         Ok(Some(Command::Analyse(specification))) => analyse(alloc, words, specification, shelf),
+        Ok(Some(Command::Drill(command))) => drill(rt, alloc, &command, gate),
         Ok(None) => Outcome::Line(EndLine::Usage),
         Err(_) => Outcome::Memory,
     }
@@ -101,16 +105,17 @@ fn work<R: Threads + Sync, F: Shelf, K: Sink, T: Sink, G: Gate + Sync>(
 /// the words, is fetched from `shelf`; all are given back. Verdicts and the end line are put to `out`, the trace to `trace`. An
 /// analysis puts its report and end line to `out`, and nothing to `trace`. Where more than one worker is asked for, the instances
 /// of a layer are evaluated by as many threads, started through `rt`, which call the gate; how many there are changes nothing
-/// that is written.
+/// that is written. A drill runs two made-up sources in turns under a specification of its own; it asks the shelf for nothing, and
+/// puts its end line to `out` and nothing else.
 ///
-/// A run has 1 to 64 sources, numbered from 0. They are read in turns: one row of source 0, one of source 1, and so on, and then
-/// the next round, in which a source that has ended has no turn. With `--in-turns` this order is promised; without it the rows
-/// may come in any order that keeps that of each source. A source that ends at a malformed line, or whose read fails, ends alone:
-/// the others are read to their ends.
+/// A run has 1 to 64 sources, numbered from 0. With `--in-turns` they are read in turns: one row of source 0, one of source 1, and
+/// so on, and then the next round, in which a source that has ended has no turn. Without it each is read on a thread of its own,
+/// started through `rt`, which calls the gate before each turn, and the rows may come in any order that keeps that of each source.
+/// A source that ends at a malformed line, or whose read fails, ends alone: the others are read to their ends.
 ///
 /// | Status | Comes |
 /// |---|---|
-/// | 0 | all rows of all sources were taken, and each source ends well; or the specification was analysed |
+/// | 0 | all rows of all sources were taken, and each source ends well; or the specification was analysed; or the drill was run |
 /// | 2 | the words are no command |
 /// | 3 | the specification was read, and is refused |
 /// | 4 | all rows of all sources were taken up to their malformed lines; the least source that has one is named |
@@ -135,24 +140,32 @@ pub fn run_monitor<R: Threads + Wait + Sync, F: Shelf, K: Sink, T: Sink, G: Gate
     ensures asked { Asked (names_asked (map string_bytes words.now)) (F.state shelf.old) (F.state shelf.new) }
     // A journal that is legal and is the trace; its rows are those of the sources; the verdicts are the model's.
     ensures done { result ≡ 0 → IsDone (map string_bytes words.now) (outside (F.state shelf.old) (K.state out.old) (T.state trace.old)) (outside (F.state shelf.new) (K.state out.new) (T.state trace.new))
-        ⊎ IsAnalysed (map string_bytes words.now) (outside (F.state shelf.old) (K.state out.old) (T.state trace.old)) (outside (F.state shelf.new) (K.state out.new) (T.state trace.new)) }
+        ⊎ (IsAnalysed (map string_bytes words.now) (outside (F.state shelf.old) (K.state out.old) (T.state trace.old)) (outside (F.state shelf.new) (K.state out.new) (T.state trace.new))
+        ⊎ IsDrilled (map string_bytes words.now) (outside (F.state shelf.old) (K.state out.old) (T.state trace.old)) (outside (F.state shelf.new) (K.state out.new) (T.state trace.new))) }
     ensures usage { result ≡ 2 → IsUsage (map string_bytes words.now) (outside (F.state shelf.old) (K.state out.old) (T.state trace.old)) (outside (F.state shelf.new) (K.state out.new) (T.state trace.new)) }
-    ensures refused { result ≡ 3 → IsRefused (map string_bytes words.now) (outside (F.state shelf.old) (K.state out.old) (T.state trace.old)) (outside (F.state shelf.new) (K.state out.new) (T.state trace.new)) }
-    ensures malformed { result ≡ 4 → IsMalformed (map string_bytes words.now) (outside (F.state shelf.old) (K.state out.old) (T.state trace.old)) (outside (F.state shelf.new) (K.state out.new) (T.state trace.new)) }
-    ensures fault { result ≡ 5 → IsFault (map string_bytes words.now) (outside (F.state shelf.old) (K.state out.old) (T.state trace.old)) (outside (F.state shelf.new) (K.state out.new) (T.state trace.new)) }
+    ensures refused { result ≡ 3 → IsRefused (map string_bytes words.now) (outside (F.state shelf.old) (K.state out.old) (T.state trace.old)) (outside (F.state shelf.new) (K.state out.new) (T.state trace.new))
+        ⊎ IsRefusedDrill (map string_bytes words.now) (outside (F.state shelf.old) (K.state out.old) (T.state trace.old)) (outside (F.state shelf.new) (K.state out.new) (T.state trace.new)) }
+    ensures malformed { result ≡ 4 → IsMalformed (map string_bytes words.now) (outside (F.state shelf.old) (K.state out.old) (T.state trace.old)) (outside (F.state shelf.new) (K.state out.new) (T.state trace.new))
+        ⊎ IsMalformedDrill (map string_bytes words.now) (outside (F.state shelf.old) (K.state out.old) (T.state trace.old)) (outside (F.state shelf.new) (K.state out.new) (T.state trace.new)) }
+    ensures fault { result ≡ 5 → IsFault (map string_bytes words.now) (outside (F.state shelf.old) (K.state out.old) (T.state trace.old)) (outside (F.state shelf.new) (K.state out.new) (T.state trace.new))
+        ⊎ IsFaultyDrill (map string_bytes words.now) (outside (F.state shelf.old) (K.state out.old) (T.state trace.old)) (outside (F.state shelf.new) (K.state out.new) (T.state trace.new)) }
     ensures unreadable { result ≡ 6 → IsUnread (map string_bytes words.now) (outside (F.state shelf.old) (K.state out.old) (T.state trace.old)) (outside (F.state shelf.new) (K.state out.new) (T.state trace.new))
         ⊎ IsCutShort (map string_bytes words.now) (outside (F.state shelf.old) (K.state out.old) (T.state trace.old)) (outside (F.state shelf.new) (K.state out.new) (T.state trace.new)) }
     ensures broken { result ≡ 7 → IsBroken (map string_bytes words.now) (outside (F.state shelf.old) (K.state out.old) (T.state trace.old)) (outside (F.state shelf.new) (K.state out.new) (T.state trace.new))
-        ⊎ IsCutAnalysis (map string_bytes words.now) (outside (F.state shelf.old) (K.state out.old) (T.state trace.old)) (outside (F.state shelf.new) (K.state out.new) (T.state trace.new)) }
+        ⊎ (IsCutAnalysis (map string_bytes words.now) (outside (F.state shelf.old) (K.state out.old) (T.state trace.old)) (outside (F.state shelf.new) (K.state out.new) (T.state trace.new))
+        ⊎ IsCutDrill (map string_bytes words.now) (outside (F.state shelf.old) (K.state out.old) (T.state trace.old)) (outside (F.state shelf.new) (K.state out.new) (T.state trace.new))) }
     ensures memory { result ≡ 8 → IsEarly (outside (F.state shelf.old) (K.state out.old) (T.state trace.old)) (outside (F.state shelf.new) (K.state out.new) (T.state trace.new))
         ⊎ BrokeOff (map string_bytes words.now) (outside (F.state shelf.old) (K.state out.old) (T.state trace.old)) (outside (F.state shelf.new) (K.state out.new) (T.state trace.new)) }
     ensures others { IsStatus result }
     // Nothing but want of memory keeps a command from its answer.
     ensures complete { IsClean (map string_bytes words.now) (outside (F.state shelf.old) (K.state out.old) (T.state trace.old)) (outside (F.state shelf.new) (K.state out.new) (T.state trace.new)) → (result ≡ 0) ⊎ (result ≡ 8) }
     ensures complete_analysis { IsCleanAnalysis (map string_bytes words.now) (outside (F.state shelf.old) (K.state out.old) (T.state trace.old)) (outside (F.state shelf.new) (K.state out.new) (T.state trace.new)) → (result ≡ 0) ⊎ (result ≡ 8) }
+    ensures complete_drill { IsCleanDrill (map string_bytes words.now) (outside (F.state shelf.old) (K.state out.old) (T.state trace.old)) (outside (F.state shelf.new) (K.state out.new) (T.state trace.new)) → (result ≡ 0) ⊎ (result ≡ 8) }
     ensures usage_only { command_of (map string_bytes words.now) ≡ None → (result ≡ 2) ⊎ (result ≡ 8) }
     ensures refused_only { IsSpoiled (map string_bytes words.now) (outside (F.state shelf.old) (K.state out.old) (T.state trace.old)) (outside (F.state shelf.new) (K.state out.new) (T.state trace.new)) → (result ≡ 3) ⊎ (result ≡ 8) }
 {
+    puts_add_up();
+    whole_lines_are_lines();
     let outcome = work(rt, alloc, words, shelf, out, trace, gate);
     conclude(alloc, outcome, out)
 }

@@ -16,7 +16,7 @@ use std::alloc::Global;
 const MOST_BYTES: usize = 1048576;
 
 // The plan of a text.
-fn plan_of(alloc: Global, bytes: &[u8]) -> Result<Plan, Unplanned>
+pub(crate) fn plan_of(alloc: Global, bytes: &[u8]) -> Result<Plan, Unplanned>
     ensures { PlansText result bytes.now }
 {
     match compile(alloc, bytes) {

@@ -62,7 +62,7 @@ pub fn conclude<K: Sink>(alloc: Global, outcome: Outcome, out: &mut K) -> u8
     ensures { Concluded result outcome (K.state out.old) (K.state out.new) }
 {
     let line = match outcome {
-        Outcome::Line(line) => line,
+        Outcome::Line(line) | Outcome::Drilled(line) => line,
         Outcome::Report(text) => return put_report(&text, out),
         Outcome::Put => return 7,
         Outcome::Memory => return 8,

@@ -1,14 +1,13 @@
-//! The sources of a run: fetched, run in turns, and given back.
+//! The sources of a run: fetched, run in turns or on threads of their own, and given back.
 ghost use Rattle.std.specs.Prelude.{◌≡◌, ◌≤◌, ℕ, List, [], IfOk, length, map, string_bytes};
 ghost use Rattle.std.specs.Vec.{vec_capacity};
 ghost use Rattle.lola_port.specs.States.{ShelfState};
 ghost use Rattle.lola_model.specs.Acceptance.{IsAccepted};
 ghost use Rattle.lola_engine.specs.Engines.{IsOptionInTime};
 ghost use Rattle.lola_rows.specs.Reading.{Shape};
-ghost use Rattle.lola_merge.specs.Merging.{opening};
 ghost use Rattle.lola_run.specs.Running.{Stands, keeping, setting_in};
 ghost use Rattle.lola_run.specs.Verdicts.{most_rows};
-ghost use Rattle.lola_rounds.specs.Feeds.{IsFresh, IsIdle};
+ghost use Rattle.lola_rounds.specs.Feeds.{AreInPlace, AreReady, EndsRun, supply_of, world};
 ghost use Rattle.lola_shelves.specs.Lending.{AreGiven, AreRooms, IsLent, names_at, places_of};
 ghost use Rattle.lola_monitor.specs.Monitor.{outside};
 ghost use Rattle.lola_monitor.specs.Outcomes.{RunsSources, unfetched};
@@ -17,30 +16,28 @@ use crate::ending::{end_of, outcome_after};
 use crate::outcome::Outcome;
 use lola_command::command::RunCommand;
 use lola_feed::worker::SourceWorker;
-use lola_merge::batch::Batch;
-use lola_merge::state::MergeState;
 use lola_model::plan::Plan;
 use lola_port::{Gate, Shelf, Sink, Source};
 use lola_report::end::EndLine;
-use lola_rounds::feed::Feed;
-use lola_rounds::rows::{MOST_ROWS, run_whole};
+use lola_rounds::rows::{MOST_ROWS, run_in_turns};
 use lola_rows::EmptyReader;
+use lola_run::law::{no_rows_have_no_verdicts, puts_add_up, whole_lines_are_lines};
 use lola_run::run::Run;
+use lola_run::stop::Stop;
 use lola_shelves::rooms::reserve_all;
 use lola_shelves::sources::{FetchStop, fetch_all, give_all_back};
+use lola_threads::run::run_in_threads;
 use lola_value::text::Memory;
 use std::alloc::Global;
+use std::sync::Wait;
 use std::thread::Threads;
 
-/// The room that a run takes before its sources are fetched: the run, room for each reader and for the workers, the merge object,
-/// and what is taken out of it.
+/// The room that a run takes before its sources are fetched: the run, room for each reader, and for the workers.
 #[derive(Drop)]
 struct Room<S: Source> {
     run: Run,
     readers: Vec<EmptyReader>,
     workers: Vec<SourceWorker<S>>,
-    state: MergeState,
-    batch: Batch,
 }
 
 // The room for a run of a plan, as a command says.
@@ -54,21 +51,15 @@ fn reserve<S: Source>(alloc: Global, plan: Plan, command: &RunCommand) -> Result
     ensures readers { IfOk result (λ room. AreRooms plan (length command.now.sources) most_rows room.readers.items) }
     ensures none { IfOk result (λ room. room.workers.items ≡ []) }
     ensures places { IfOk result (λ room. length command.now.sources ≤ vec_capacity room.workers) }
-    ensures state { IfOk result (λ room. room.state ≡ opening (length command.now.sources) command.now.start) }
-    ensures batch { IfOk result (λ room. room.batch ≡ []) }
 {
     let sources = command.sources.as_slice().len();
     let readers = reserve_all::<S>(alloc, &plan, sources as u32, MOST_ROWS)?;
     let workers = Vec::with_capacity(alloc, sources)?;
-    let state = MergeState::create(alloc, sources as u32, command.start)?;
-    let batch = Batch::create(alloc)?;
     let run = Run::create(alloc, plan, command.start, command.show, command.workers)?;
     Ok(Room {
         run,
         readers,
         workers,
-        state,
-        batch,
     })
 }
 
@@ -82,56 +73,85 @@ fn not_fetched(stop: FetchStop) -> Outcome
     }
 }
 
-// Runs sources that are lent, whatever names they have, by a run that is new, and gives them back.
-fn run_lent<R: Threads + Sync, F: Shelf, K: Sink, T: Sink, G: Gate + Sync>(
+// Runs sources, in turns or on threads of their own.
+fn run_workers<R: Threads + Wait + Sync, S: Source + Send, K: Sink, T: Sink, G: Gate + Sync>(
     rt: &R,
     alloc: Global,
     run: &mut Run,
-    feed: Feed<F::File>,
+    workers: Vec<SourceWorker<S>>,
+    start: Option<u64>,
+    in_turns: bool,
+    out: &mut K,
+    trace: &mut T,
+    gate: &G,
+) -> (Vec<SourceWorker<S>>, Result<(), Stop>)
+    requires stands { Stands [] (keeping run.old) }
+    requires ready { AreReady (keeping run.old).desk.plan workers.items }
+    requires start { start ≡ (keeping run.old).desk.option }
+    ensures run { EndsRun in_turns result.1 (world (keeping run.old) (map supply_of workers.items) (K.state out.old) (T.state trace.old))
+        (world (keeping run.new) (map supply_of result.0.items) (K.state out.new) (T.state trace.new)) }
+    ensures places { AreInPlace workers.items result.0.items }
+    ensures plan { (keeping run.new).desk.plan ≡ (keeping run.old).desk.plan }
+{
+    if in_turns {
+        run_in_turns(rt, alloc, run, workers, start, out, trace, gate)
+    } else {
+        run_in_threads(rt, alloc, run, workers, start, out, trace, gate)
+    }
+}
+
+// Runs sources that are lent, whatever names they have, by a run that is new, and gives them back.
+fn run_lent<R: Threads + Wait + Sync, F: Shelf, K: Sink, T: Sink, G: Gate + Sync>(
+    rt: &R,
+    alloc: Global,
+    run: &mut Run,
+    workers: Vec<SourceWorker<F::File>>,
+    start: Option<u64>,
+    in_turns: bool,
     shelf: &mut F,
     out: &mut K,
     trace: &mut T,
     gate: &G,
 ) -> Outcome
     requires stands { Stands [] (keeping run.old) }
-    requires idle { IsIdle feed (keeping run.old) }
-    requires fresh { IsFresh feed }
-    requires given { AreGiven (F.state shelf.old).asks (places_of feed.workers) }
-    requires out { length feed.workers ≤ (F.state shelf.old).out }
+    requires ready { AreReady (keeping run.old).desk.plan workers.items }
+    requires start { start ≡ (keeping run.old).desk.option }
+    requires given { AreGiven (F.state shelf.old).asks (places_of workers.items) }
+    requires out { length workers.items ≤ (F.state shelf.old).out }
     ensures { (names : List (List ℕ)) (rooms : List Shape) (before : ShelfState)
-        → IsLent names rooms before (F.state shelf.old) feed.workers → AreRooms (keeping run.old).desk.plan (length names) most_rows rooms
-        → RunsSources result (setting_in (keeping run.old)) names (outside before (K.state out.old) (T.state trace.old))
+        → IsLent names rooms before (F.state shelf.old) workers.items → AreRooms (keeping run.old).desk.plan (length names) most_rows rooms
+        → RunsSources in_turns result (setting_in (keeping run.old)) names (outside before (K.state out.old) (T.state trace.old))
         (outside (F.state shelf.new) (K.state out.new) (T.state trace.new)) }
 {
-    let mut feed = feed;
-    let stopped = run_whole(rt, run, &mut feed, out, trace, gate);
-    let workers = feed.into_workers();
+    let (workers, stopped) = run_workers(
+        rt, alloc, run, workers, start, in_turns, out, trace, gate,
+    );
     let end = end_of(workers.as_slice());
     give_all_back(shelf, workers);
+    whole_lines_are_lines();
     outcome_after(alloc, run, stopped, end)
 }
 
 // Fetches sources, runs their rows, and gives them back.
-fn run_room<R: Threads + Sync, F: Shelf, K: Sink, T: Sink, G: Gate + Sync>(
+fn run_room<R: Threads + Wait + Sync, F: Shelf, K: Sink, T: Sink, G: Gate + Sync>(
     rt: &R,
     alloc: Global,
     room: Room<F::File>,
     words: &[String],
-    names: &[usize],
+    command: &RunCommand,
     shelf: &mut F,
     out: &mut K,
     trace: &mut T,
     gate: &G,
 ) -> Outcome
     requires out { (F.state shelf.old).out ≡ 0 }
-    requires sources { (1 ≤ length names.now) × (length names.now ≤ 64) }
+    requires sources { (1 ≤ length command.now.sources) × (length command.now.sources ≤ 64) }
     requires run { Stands [] (keeping room.run) }
-    requires readers { AreRooms (keeping room.run).desk.plan (length names.now) most_rows room.readers.items }
+    requires start { command.now.start ≡ (keeping room.run).desk.option }
+    requires readers { AreRooms (keeping room.run).desk.plan (length command.now.sources) most_rows room.readers.items }
     requires none { room.workers.items ≡ [] }
-    requires places { length names.now ≤ vec_capacity room.workers }
-    requires state { room.state ≡ opening (length names.now) (keeping room.run).desk.option }
-    requires batch { room.batch ≡ [] }
-    ensures { RunsSources result (setting_in (keeping room.run)) (names_at (map string_bytes words.now) names.now)
+    requires places { length command.now.sources ≤ vec_capacity room.workers }
+    ensures { RunsSources command.now.in_turns result (setting_in (keeping room.run)) (names_at (map string_bytes words.now) command.now.sources)
         (outside (F.state shelf.old) (K.state out.old) (T.state trace.old))
         (outside (F.state shelf.new) (K.state out.new) (T.state trace.new)) }
 {
@@ -139,20 +159,32 @@ fn run_room<R: Threads + Sync, F: Shelf, K: Sink, T: Sink, G: Gate + Sync>(
         mut run,
         readers,
         mut workers,
-        state,
-        batch,
     } = room;
+    let names = command.sources.as_slice();
     if let Err(stop) = fetch_all(shelf, words, names, readers, &mut workers) {
+        puts_add_up();
+        no_rows_have_no_verdicts();
         return not_fetched(stop);
     }
-    let feed = Feed::create(workers, state, batch);
-    run_lent(rt, alloc, &mut run, feed, shelf, out, trace, gate)
+    run_lent(
+        rt,
+        alloc,
+        &mut run,
+        workers,
+        command.start,
+        command.in_turns,
+        shelf,
+        out,
+        trace,
+        gate,
+    )
 }
 
-/// Fetches the sources of a command, runs their rows by a plan, and gives them back. The room that the plan alone decides is
-/// made before the first source is fetched; the heading's columns and the room for a line's fields are made when
-/// the first lines of each are read.
-pub fn run_sources<R: Threads + Sync, F: Shelf, K: Sink, T: Sink, G: Gate + Sync>(
+/// Fetches the sources of a command, runs their rows by a plan, in turns where the command says so and else on threads of their own,
+/// and gives them back. The room that the plan alone decides is made before the first source is fetched, and that for what the
+/// sources share before the first row is read; the heading's columns and the room for a line's fields are made when the first
+/// lines of each are read.
+pub fn run_sources<R: Threads + Wait + Sync, F: Shelf, K: Sink, T: Sink, G: Gate + Sync>(
     rt: &R,
     alloc: Global,
     plan: Plan,
@@ -168,22 +200,12 @@ pub fn run_sources<R: Threads + Sync, F: Shelf, K: Sink, T: Sink, G: Gate + Sync
     requires workers { (1 ≤ command.now.workers) × (command.now.workers ≤ 64) }
     requires start { IsOptionInTime command.now.start }
     requires sources { (1 ≤ length command.now.sources) × (length command.now.sources ≤ 64) }
-    ensures { RunsSources result (record { plan = plan; start = command.now.start; show = command.now.show }) (names_at (map string_bytes words.now) command.now.sources)
+    ensures { RunsSources command.now.in_turns result (record { plan = plan; start = command.now.start; show = command.now.show }) (names_at (map string_bytes words.now) command.now.sources)
         (outside (F.state shelf.old) (K.state out.old) (T.state trace.old))
         (outside (F.state shelf.new) (K.state out.new) (T.state trace.new)) }
 {
     let Ok(room) = reserve(alloc, plan, command) else {
         return Outcome::Memory;
     };
-    run_room(
-        rt,
-        alloc,
-        room,
-        words,
-        command.sources.as_slice(),
-        shelf,
-        out,
-        trace,
-        gate,
-    )
+    run_room(rt, alloc, room, words, command, shelf, out, trace, gate)
 }

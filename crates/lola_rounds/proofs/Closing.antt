@@ -1,5 +1,5 @@
 -- The deadlines at the last stamp, behind the rows of a run.
-use Rattle.std.proofs.Common.{◌≡◌, ℕ, List, [], ◌++◌, length, None, Result, Ok, Err, inl, inr, sym, ap, ◌∙◌, subst, append_assoc}
+use Rattle.std.proofs.Common.{◌≡◌, Bool, ℕ, List, [], ◌++◌, length, None, Result, Ok, Err, inl, inr, sym, ap, ◌∙◌, subst, append_assoc}
 use Rattle.std.proofs.lemmas.List.{append-nil}
 use Rattle.lola_port.specs.States.{Rose, SinkState, grown}
 use Rattle.lola_model.specs.Faults.{RunFault}
@@ -27,7 +27,7 @@ CompletesIn s journal lines = final_lines s.plan s.start journal s.show ≡ sett
 all_text : (s : Setting) (journal : List Entry) (lines : List (List ℕ)) → CompletesIn s journal lines → verdicts s journal ≡ settled_text s journal ++ text_of lines
 all_text s journal lines completes = ap text_of completes ∙ text_of-append (settled_lines s.plan s.start journal s.show) lines
 
-module _ (first : World) (k1 k2 : Keeping) (sources : List Supply) (o1 o2 t1 : SinkState) (ran : RanToEnd first (world k1 sources o1 t1)) where
+module _ (in_turns : Bool) (first : World) (k1 k2 : Keeping) (sources : List Supply) (o1 o2 t1 : SinkState) (ran : RanToEnd in_turns first (world k1 sources o1 t1)) where
   abbrev last : World
   last = world k2 sources o2 t1
 
@@ -40,16 +40,17 @@ module _ (first : World) (k1 k2 : Keeping) (sources : List Supply) (o1 o2 t1 : S
   text_all : (lines : List (List ℕ)) → Completes k1.desk journal lines → verdicts (setting_in first.kept) journal ≡ settled_text (setting_in first.kept) journal ++ text_of lines
   text_all lines completes = all_text (setting_in first.kept) journal lines (subst (λ (s : Setting). CompletesIn s journal lines) ran.setting completes)
 
-  abbrev came_last : CameTo first last
+  abbrev came_last : CameTo in_turns first last
   came_last = record { journal = journal; legal = ran.came.legal; sources = ran.came.sources; rounds = ran.came.rounds; trace = ran.came.trace }
 
-  well : Closed journal k1 k2 o1 o2 → ThroughWell first last
+  well : Closed journal k1 k2 o1 o2 → ThroughWell in_turns first last
   well c = record {
     through = record {
       came = came_last;
-      fed = ran.fed;
+      begun = begun first.sources sources journal ran.fed;
       out = more_text _ _ _ _ _ _ ran.out c.out (text_all c.lines c.completes);
     };
+    fed = ran.fed;
     ended = ran.ended;
     no_fault = ap (λ (s : Setting). fault_in s journal) (sym ran.setting) ∙ c.fine;
     settled = fine;
@@ -60,19 +61,19 @@ module _ (first : World) (k1 k2 : Keeping) (sources : List Supply) (o1 o2 t1 : S
   }
 
   -- at the deadline's fault
-  by_fault : (fault : RunFault) → ClosedByFault fault journal k1 o1 o2 → EndedByFault fault first last
+  by_fault : (fault : RunFault) → ClosedByFault fault journal k1 o1 o2 → EndedByFault in_turns fault first last
   by_fault fault c = record {
     through = record {
       came = came_last;
-      fed = ran.fed;
+      begun = begun first.sources sources journal ran.fed;
       out = c.out ∙ (ran.out ∙ ap (grown first.out) (sym (text_all [] c.completes ∙ append-nil _)));
     };
     is_fault = ap (λ (s : Setting). fault_in s journal) (sym ran.setting) ∙ c.is_fault;
-    place = inr (record { settled = fine; ended = ran.ended });
+    place = inr (record { settled = fine; fed = ran.fed; ended = ran.ended });
   }
 
   -- a front of the verdicts was put
-  abbrev cut_here : HasFrontOf first.out o2 (verdicts (setting_in first.kept) journal) → RanToCut first last
+  abbrev cut_here : HasFrontOf first.out o2 (verdicts (setting_in first.kept) journal) → RanToCut in_turns first last
   cut_here out = record {
     journal = journal;
     legal = ran.came.legal;
@@ -94,7 +95,7 @@ module _ (first : World) (k1 k2 : Keeping) (sources : List Supply) (o1 o2 t1 : S
   by_memory : o2 ≡ o1 → HasFrontOf first.out o2 (verdicts (setting_in first.kept) journal)
   by_memory same = front_of_all (setting_in first.kept) journal first.out o2 (settled_text (setting_in first.kept) journal) [] (sym (append-nil _)) (ap (λ s. s.written) (same ∙ ran.out))
 
-  pub closes : (result : Result (Unit {0}) Stop) → Closes result k1 k2 o1 o2 → EndsRun result first last
+  pub closes : (result : Result (Unit {0}) Stop) → Closes result k1 k2 o1 o2 → EndsRun in_turns result first last
   closes (Ok done) did = well (did journal ran.stands)
   closes (Err (stop.Fault stream kind time)) did = by_fault (record { stream = stream; kind = kind; time = time }) (did journal ran.stands)
   closes (Err stop.Put) did = record {
@@ -105,15 +106,15 @@ module _ (first : World) (k1 k2 : Keeping) (sources : List Supply) (o1 o2 t1 : S
   closes (Err stop.Memory) did = cut_here (by_memory did)
 
 -- at the fault of a row
-row_fault_ends : (fault : RunFault) (first final : World) → RanToFault fault first final → EndedByFault fault first final
-row_fault_ends fault first final r = record {
-  through = record { came = r.came; fed = r.fed; out = r.out ∙ ap (grown first.out) (sym (text_stays (setting_in first.kept) r.came.journal fault r.stands.settled)) };
+row_fault_ends : (in_turns : Bool) (fault : RunFault) (first final : World) → RanToFault in_turns fault first final → EndedByFault in_turns fault first final
+row_fault_ends in_turns fault first final r = record {
+  through = record { came = r.came; begun = r.begun; out = r.out ∙ ap (grown first.out) (sym (text_stays (setting_in first.kept) r.came.journal fault r.stands.settled)) };
   is_fault = fault_stays (setting_in first.kept) r.came.journal fault r.stands.settled;
-  place = inl (record { is = r.stands; goes_on = r.goes_on });
+  place = inl (record { is = r.stands; sound = r.sound });
 }
 
 -- no deadlines are run where a row has a fault or the run was cut short
-pub stays_ended : (how : Stop) (first final : World) → Runs (Err how) first final → EndsRun (Err how) first final
-stays_ended (stop.Fault stream kind time) first final r = row_fault_ends (record { stream = stream; kind = kind; time = time }) first final r
-stays_ended stop.Put first final r = r
-stays_ended stop.Memory first final r = r
+pub stays_ended : (in_turns : Bool) (how : Stop) (first final : World) → Runs in_turns (Err how) first final → EndsRun in_turns (Err how) first final
+stays_ended in_turns (stop.Fault stream kind time) first final r = row_fault_ends in_turns (record { stream = stream; kind = kind; time = time }) first final r
+stays_ended in_turns stop.Put first final r = r
+stays_ended in_turns stop.Memory first final r = r

@@ -8,3 +8,4 @@ pub mod Stepping
 pub mod Runs
 pub mod Closing
 pub mod Rounding
+pub mod Beginning

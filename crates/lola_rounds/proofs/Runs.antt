@@ -25,7 +25,7 @@ use Rattle.lola_run.proofs.Taking.{legal_more}
 use Rattle.lola_rounds.specs.Feeds.{CameTo, GoInRounds, HaveEnded, IsSound, RanToCut, RanToEnd, RanToFault, RanToPutFault, Runs, Supply, World}
 use Rattle.lola_rounds.specs.Turning.{Drawn, OutCut, OutKept, Passed, SawFault, SoFar, Stepped, Steps, Touched, TraceCut, Traced}
 use Rattle.lola_rounds.proofs.Drawing.{drawn_none, draws, round_drawn, sits}
-use Rattle.lola_rounds.proofs.Going.{begun, goes_on_there, in_rounds, touched_in_rounds}
+use Rattle.lola_rounds.proofs.Going.{begun, in_rounds, sound_there, touched_in_rounds}
 
 -- whole lines, and no part of another
 pub no_part : (s0 s1 : SinkState) (journal : List Entry) (entry : Entry) → 0 < length (trace_line entry) → s1 ≡ grown s0 (trace_text journal) → HasLines s0 s1 journal
@@ -77,8 +77,8 @@ module _ (first : World) (n k : ℕ) (now next : World) (within : k < length fir
   pub text_is : (lines : List (List ℕ)) → Brings now.kept.desk so.journal entry lines → settled_text (setting_in first.kept) (so.journal ++ entry ∷ []) ≡ settled_text (setting_in first.kept) so.journal ++ text_of lines
   text_is lines brings = text_more (setting_in first.kept) so.journal entry lines (subst (λ (s : Setting). BringsIn s so.journal entry lines) so.setting brings)
 
-  abbrev came_on : CameTo first next
-  came_on = record { journal = so.journal ++ entry ∷ []; legal = legal_is; sources = drawn_is.of_sources; rounds = rounds_are; trace = trace_is }
+  abbrev came_on : CameTo true first next
+  came_on = record { journal = so.journal ++ entry ∷ []; legal = legal_is; sources = drawn_is.of_sources; rounds = λ turns. rounds_are; trace = trace_is }
 
 module _ (first : World) (n k : ℕ) (now next : World) (within : k < length first.sources) (so : SoFar first n k now) where
   steps_on : Stepped k now next → SoFar first n (suc k) next
@@ -122,13 +122,13 @@ next_begins first n now so = record {
 }
 
 -- all sources have ended
-pub ran_to_end : (first : World) (n : ℕ) (last : World) → SoFar first n 0 last → HaveEnded last.sources → RanToEnd first last
+pub ran_to_end : (first : World) (n : ℕ) (last : World) → SoFar first n 0 last → HaveEnded last.sources → RanToEnd true first last
 ran_to_end first n last so ended = record {
   came = record {
     journal = so.journal;
     legal = legal_first first last so.journal so.setting so.stands.legal;
     sources = so.drawn.of_sources;
-    rounds = in_rounds first n 0 last.sources so.journal (omega arith) so.drawn;
+    rounds = λ turns. in_rounds first n 0 last.sources so.journal (omega arith) so.drawn;
     trace = so.trace;
   };
   setting = so.setting;
@@ -165,15 +165,16 @@ module _ (first : World) (n k : ℕ) (now last : World) (within : k < length fir
     settled = ap (λ (s : Setting). settled_fault_in s (so.journal ++ entry ∷ [])) (sym so.setting) ∙ is;
   }
 
-  fails : (fault : RunFault) → SawFault fault k now last → RanToFault fault first last
+  fails : (fault : RunFault) → SawFault fault k now last → RanToFault true fault first last
   fails fault saw =
       let bad = saw.runs so.journal so.stands in
       record {
         came = came_on first n k now last within so saw.entry saw.traced;
-        fed = (drawn_is first n k now last within so saw.entry saw.traced).fed;
+        begun = begun first.sources last.sources (so.journal ++ saw.entry ∷ []) (drawn_is first n k now last within so saw.entry saw.traced).fed;
         out = more_text _ _ _ _ _ _ so.out bad.out (text_is first n k now last within so saw.entry saw.traced bad.lines bad.brings);
         stands = row_fault saw.entry fault saw.accepted bad.is_fault;
-        goes_on = goes_on_there now.kept.desk.plan k saw.entry.row now.sources last.sources saw.traced.took;
+        sound = λ turns. sound_there now.kept.desk.plan k saw.entry.row first.sources now.sources last.sources (so.journal ++ saw.entry ∷ []) saw.traced.took
+            (drawn_is first n k now last within so saw.entry saw.traced).fed;
       }
 
   rose_since : Rose now.out.count last.out.count ⊎ Rose now.trace.count last.trace.count → Rose first.out.count last.out.count ⊎ Rose first.trace.count last.trace.count
@@ -188,33 +189,33 @@ module _ (first : World) (n k : ℕ) (now last : World) (within : k < length fir
   rounds_cut (inr at) = touched_in_rounds first.sources now.sources last.sources k so.journal at.0 at.1 now_in_rounds
 
   -- a run that broke off in a trace line
-  abbrev trace_cut : TraceCut k now last → RanToCut first last
+  abbrev trace_cut : TraceCut k now last → RanToCut true first last
   trace_cut cut = record {
     journal = so.journal;
     legal = legal_first first now so.journal so.setting so.stands.legal;
     sources = so.drawn.of_sources;
     begun = begun first.sources now.sources so.journal so.drawn.fed;
-    rounds = rounds_cut cut.touched;
+    rounds = λ turns. rounds_cut cut.touched;
     trace = record { entry = cut.entry; part = cut.part; is_part = cut.is_part; written = grown_part first.trace now.trace last.trace _ cut.part so.trace cut.trace };
     out = front_of_all (setting_in first.kept) so.journal first.out last.out (settled_text (setting_in first.kept) so.journal) [] (sym (append-nil _)) (ap (λ s. s.written) (cut.out ∙ so.out));
   }
 
   -- a run that broke off behind a trace line, where this much of the lines was put
   abbrev out_cut : (entry : Entry) (traced : Traced k entry now last) (lines : List (List ℕ)) (part rest : List ℕ)
-      → Brings now.kept.desk so.journal entry lines → text_of lines ≡ part ++ rest → last.out.written ≡ append_known now.out.written part → RanToCut first last
+      → Brings now.kept.desk so.journal entry lines → text_of lines ≡ part ++ rest → last.out.written ≡ append_known now.out.written part → RanToCut true first last
   out_cut entry traced lines part rest brings joined written = record {
     journal = so.journal ++ entry ∷ [];
     legal = legal_is first n k now last within so entry traced;
     sources = (drawn_is first n k now last within so entry traced).of_sources;
     begun = begun first.sources last.sources (so.journal ++ entry ∷ []) (drawn_is first n k now last within so entry traced).fed;
-    rounds = rounds_are first n k now last within so entry traced;
+    rounds = λ turns. rounds_are first n k now last within so entry traced;
     trace = no_part first.trace last.trace (so.journal ++ entry ∷ []) entry (some_line entry) (trace_is first n k now last within so entry traced);
     out = front_of_all (setting_in first.kept) (so.journal ++ entry ∷ []) first.out last.out (settled_text (setting_in first.kept) so.journal ++ part) rest
         (text_is first n k now last within so entry traced lines brings ∙ ap (λ (l : List ℕ). settled_text (setting_in first.kept) so.journal ++ l) joined ∙ sym (append_assoc _ part rest))
         (grown_part first.out now.out last.out _ part so.out written);
   }
 
-  cuts : TraceCut k now last ⊎ OutKept k now last → RanToCut first last
+  cuts : TraceCut k now last ⊎ OutKept k now last → RanToCut true first last
   cuts (inl cut) = trace_cut cut
   cuts (inr kept) =
       let c = kept.runs so.journal so.stands in
@@ -225,7 +226,7 @@ module _ (first : World) (n k : ℕ) (now last : World) (within : k < length fir
   fine_before entry (inl fine) = inl (ap (λ (s : Setting). settled_fault_in s (so.journal ++ entry ∷ [])) (sym so.setting) ∙ fine)
   fine_before entry (inr bad) = inr (bad.1.0, row_fault entry bad.1.0 bad.0 bad.1.1)
 
-  put_fault : TraceCut k now last ⊎ OutCut k now last → (Rose now.out.count last.out.count ⊎ Rose now.trace.count last.trace.count) → RanToPutFault first last
+  put_fault : TraceCut k now last ⊎ OutCut k now last → (Rose now.out.count last.out.count ⊎ Rose now.trace.count last.trace.count) → RanToPutFault true first last
   put_fault (inl cut) rose = record {
     cut = trace_cut cut;
     no_fault = inl fine_so_far;
@@ -239,7 +240,7 @@ module _ (first : World) (n k : ℕ) (now last : World) (within : k < length fir
         rose = rose_since rose;
       }
 
-  pub stops : (how : Stop) → Steps (Err how) k now last → Runs (Err how) first last
+  pub stops : (how : Stop) → Steps (Err how) k now last → Runs true (Err how) first last
   stops (stop.Fault stream kind time) saw = fails (record { stream = stream; kind = kind; time = time }) saw
   stops stop.Put saw = put_fault saw.cut saw.rose
   stops stop.Memory saw = cuts saw

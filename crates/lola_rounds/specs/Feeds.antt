@@ -1,5 +1,5 @@
 -- Sources that are read in turns: what is taken of each, and how a run of their rows ends.
-use Rattle.std.specs.Prelude.{ℕ, ◌≡◌, ◌⊎◌, ◌≤◌, List, [], ◌++◌, Option, Some, None, IsSome, Result, Ok, Err, false, length, map, slice_get}
+use Rattle.std.specs.Prelude.{Bool, true, ℕ, ◌≡◌, ◌⊎◌, ◌≤◌, List, [], ◌++◌, Option, Some, None, IsSome, Result, Ok, Err, false, length, map, slice_get}
 use Rattle.lola_port.specs.States.{Rose, SinkState, grown}
 use Rattle.lola_model.specs.Journal.{IsLegal, accepted, rows_of}
 use Rattle.lola_model.specs.Faults.{RunFault}
@@ -12,7 +12,7 @@ use Rattle.lola_model.specs.declared.journal.Entry.{Entry}
 use Rattle.lola_rows.specs.Rows.{SourceEnd, SourceRows, Whole, MalformedAt}
 use Rattle.lola_rows.specs.Reading.{shape_of}
 use Rattle.lola_merge.specs.Merging.{Merging, sources_of}
-use Rattle.lola_feed.specs.Feeding.{Working, bound_of, handed_in, to_come}
+use Rattle.lola_feed.specs.Feeding.{Working, beginning, bound_of, handed_in, to_come}
 use Rattle.lola_feed.specs.declared.worker.SourceEnd as worker
 use Rattle.lola_feed.specs.declared.worker.SourceEnd.TheVariants.{End, Malformed, ReadFault, Closed, Memory}
 use Rattle.lola_run.specs.Verdicts.{AreOfSources, HasFrontOf, HasLines, IsFineBefore, IsRowFault, fault_in, late_count, most_rows, settled_fault_in, settled_text, verdicts}
@@ -107,67 +107,68 @@ pub record World : Type 0 where
 abbrev pub world : Keeping → List Supply → SinkState → SinkState → World
 world kept sources out trace = record { kept = kept; sources = sources; out = out; trace = trace }
 
--- where a run came to, and what was put to the trace
-pub record CameTo (first last : World) : Type 0 where
+-- where a run came to, and what was put to the trace: where its sources are read in turns, their rows came in rounds
+pub record CameTo (in_turns : Bool) (first last : World) : Type 0 where
   pub journal : List Entry
   pub legal : IsLegal first.kept.desk.option journal
   pub sources : AreOfSources (length first.sources) journal
-  pub rounds : GoInRounds first.sources last.sources journal
+  pub rounds : in_turns ≡ true → GoInRounds first.sources last.sources journal
   pub trace : last.trace ≡ grown first.trace (trace_text journal)
 
 -- a run to the end of its sources, each of which may have failed
-pub record RanToEnd (first last : World) : Type 0 where
-  pub came : CameTo first last
+pub record RanToEnd (in_turns : Bool) (first last : World) : Type 0 where
+  pub came : CameTo in_turns first last
   pub setting : IsSetAs first.kept last.kept
   pub fed : AreFed first.sources last.sources came.journal
   pub ended : HaveEnded last.sources
   pub out : last.out ≡ grown first.out (settled_text (setting_in first.kept) came.journal)
   pub stands : Stands came.journal last.kept
 
--- the source of a row has not ended
-abbrev pub GoesOn : Row → List Supply → Type 0
-GoesOn row sources = (source : Supply) → slice_get sources row.source ≡ Some source → source.end ≡ None
+-- the source of a row has not failed
+abbrev pub IsSoundAt : Row → List Supply → List Supply → Type 0
+IsSoundAt row olds news = (old new : Supply) → slice_get olds row.source ≡ Some old → slice_get news row.source ≡ Some new → new.count ≡ old.count
 
--- a run to the first fault of a row
-pub record RanToFault (fault : RunFault) (first last : World) : Type 0 where
-  pub came : CameTo first last
-  pub fed : AreFed first.sources last.sources came.journal
+-- a run to the first fault of a row. Where sources are read on threads of their own, that of the row may have failed since
+pub record RanToFault (in_turns : Bool) (fault : RunFault) (first last : World) : Type 0 where
+  pub came : CameTo in_turns first last
+  pub begun : HaveBegun first.sources came.journal
   pub out : last.out ≡ grown first.out (settled_text (setting_in first.kept) came.journal)
   pub stands : IsRowFault (setting_in first.kept) came.journal fault
-  pub goes_on : GoesOn stands.row last.sources
+  pub sound : in_turns ≡ true → IsSoundAt stands.row first.sources last.sources
 
 -- a run that was cut short: a front of the verdicts was put
-pub record RanToCut (first last : World) : Type 0 where
+pub record RanToCut (in_turns : Bool) (first last : World) : Type 0 where
   pub journal : List Entry
   pub legal : IsLegal first.kept.desk.option journal
   pub sources : AreOfSources (length first.sources) journal
   pub begun : HaveBegun first.sources journal
-  pub rounds : GoInRounds first.sources last.sources journal
+  pub rounds : in_turns ≡ true → GoInRounds first.sources last.sources journal
   pub trace : HasLines first.trace last.trace journal
   pub out : HasFrontOf first.out last.out (verdicts (setting_in first.kept) journal)
 
 -- a run that a failed put cut short
-pub record RanToPutFault (first last : World) : Type 0 where
-  pub cut : RanToCut first last
+pub record RanToPutFault (in_turns : Bool) (first last : World) : Type 0 where
+  pub cut : RanToCut in_turns first last
   pub no_fault : IsFineBefore (setting_in first.kept) cut.journal
   pub rose : Rose first.out.count last.out.count ⊎ Rose first.trace.count last.trace.count
 
 -- all rows of a run
-abbrev pub Runs : Result (Unit {0}) Stop → World → World → Type 0
-Runs (Ok done) first last = RanToEnd first last
-Runs (Err (stop.Fault stream kind time)) first last = RanToFault (record { stream = stream; kind = kind; time = time }) first last
-Runs (Err stop.Put) first last = RanToPutFault first last
-Runs (Err stop.Memory) first last = RanToCut first last
+abbrev pub Runs : Bool → Result (Unit {0}) Stop → World → World → Type 0
+Runs in_turns (Ok done) first last = RanToEnd in_turns first last
+Runs in_turns (Err (stop.Fault stream kind time)) first last = RanToFault in_turns (record { stream = stream; kind = kind; time = time }) first last
+Runs in_turns (Err stop.Put) first last = RanToPutFault in_turns first last
+Runs in_turns (Err stop.Memory) first last = RanToCut in_turns first last
 
 -- a whole run, with the deadlines at its last stamp: all verdicts were put
-pub record Through (first last : World) : Type 0 where
-  pub came : CameTo first last
-  pub fed : AreFed first.sources last.sources came.journal
+pub record Through (in_turns : Bool) (first last : World) : Type 0 where
+  pub came : CameTo in_turns first last
+  pub begun : HaveBegun first.sources came.journal
   pub out : last.out ≡ grown first.out (verdicts (setting_in first.kept) came.journal)
 
 -- a whole run without a fault, to the end of its sources
-pub record ThroughWell (first last : World) : Type 0 where
-  pub through : Through first last
+pub record ThroughWell (in_turns : Bool) (first last : World) : Type 0 where
+  pub through : Through in_turns first last
+  pub fed : AreFed first.sources last.sources through.came.journal
   pub ended : HaveEnded last.sources
   pub no_fault : fault_in (setting_in first.kept) through.came.journal ≡ None
   pub settled : settled_fault_in (setting_in first.kept) through.came.journal ≡ None
@@ -177,27 +178,33 @@ pub record ThroughWell (first last : World) : Type 0 where
   pub lines : last.kept.desk.lines ≡ length (final_lines first.kept.desk.plan first.kept.desk.option through.came.journal first.kept.desk.show)
 
 -- the last row has the fault
-pub record IsAtRow (fault : RunFault) (journal : List Entry) (first last : World) : Type 0 where
+pub record IsAtRow (in_turns : Bool) (fault : RunFault) (journal : List Entry) (first last : World) : Type 0 where
   pub is : IsRowFault (setting_in first.kept) journal fault
-  pub goes_on : GoesOn is.row last.sources
+  pub sound : in_turns ≡ true → IsSoundAt is.row first.sources last.sources
 
 -- the deadline at the last stamp has the fault, and all sources have ended
 pub record IsAtDeadline (journal : List Entry) (first last : World) : Type 0 where
   pub settled : settled_fault_in (setting_in first.kept) journal ≡ None
+  pub fed : AreFed first.sources last.sources journal
   pub ended : HaveEnded last.sources
 
 -- a whole run, to its first fault
-pub record EndedByFault (fault : RunFault) (first last : World) : Type 0 where
-  pub through : Through first last
+pub record EndedByFault (in_turns : Bool) (fault : RunFault) (first last : World) : Type 0 where
+  pub through : Through in_turns first last
   pub is_fault : fault_in (setting_in first.kept) through.came.journal ≡ Some fault
-  pub place : IsAtRow fault through.came.journal first last ⊎ IsAtDeadline through.came.journal first last
+  pub place : IsAtRow in_turns fault through.came.journal first last ⊎ IsAtDeadline through.came.journal first last
 
--- how a whole run ends
-abbrev pub EndsRun : Result (Unit {0}) Stop → World → World → Type 0
-EndsRun (Ok done) first last = ThroughWell first last
-EndsRun (Err (stop.Fault stream kind time)) first last = EndedByFault (record { stream = stream; kind = kind; time = time }) first last
-EndsRun (Err stop.Put) first last = RanToPutFault first last
-EndsRun (Err stop.Memory) first last = RanToCut first last
+-- how a whole run ends, whose sources are read in turns or not
+abbrev pub EndsRun : Bool → Result (Unit {0}) Stop → World → World → Type 0
+EndsRun in_turns (Ok done) first last = ThroughWell in_turns first last
+EndsRun in_turns (Err (stop.Fault stream kind time)) first last = EndedByFault in_turns (record { stream = stream; kind = kind; time = time }) first last
+EndsRun in_turns (Err stop.Put) first last = RanToPutFault in_turns first last
+EndsRun in_turns (Err stop.Memory) first last = RanToCut in_turns first last
+
+-- workers of some sources before their first turn, of which that of source s reads the rows of source s of a plan
+pub record AreReady (plan : Plan) (workers : List Working) : Type 0 where
+  pub many : (1 ≤ length workers) × (length workers ≤ 64)
+  pub new : (s : ℕ) (w : Working) → slice_get workers s ≡ Some w → (w ≡ beginning w.reader) × (w.reader.given ≡ 0) × (w.reader.shape ≡ shape_of plan.spec.streams s most_rows)
 
 -- sources that are read by one thread: their workers, the merge object that they share, and what was taken out of it and is not
 -- yet run

@@ -217,4 +217,4 @@ pub record InRound (turn : ℕ) (moved : Bool) (old now : World) : Type 0 where
 abbrev pub GoesRound : Result Bool Stop → World → World → Type 0
 GoesRound (Ok true) old new = ((first : World) (round : ℕ) → SoFar first round 0 old → SoFar first (suc round) 0 new) × (left_of new.sources < left_of old.sources)
 GoesRound (Ok false) old new = ((first : World) (round : ℕ) → SoFar first round 0 old → SoFar first (suc round) 0 new) × HaveEnded new.sources
-GoesRound (Err end) old new = (first : World) (round : ℕ) → SoFar first round 0 old → Runs (Err end) first new
+GoesRound (Err end) old new = (first : World) (round : ℕ) → SoFar first round 0 old → Runs true (Err end) first new

@@ -1,7 +1,7 @@
 //! Sources that are read by one thread.
 
 ghost use Rattle.std.specs.Prelude.{◌≡◌, ◌<◌, ◌≤◌, [], length};
-ghost use Rattle.lola_merge.specs.Merging.{close_after, sources_of};
+ghost use Rattle.lola_merge.specs.Merging.{sources_of};
 ghost use Rattle.lola_rounds.specs.Turning.{IsAtIndex, TookEntry, TookTurn};
 
 use lola_feed::desk::StateDesk;
@@ -71,15 +71,8 @@ impl<S: Source> Feed<S> {
         self.batch.pop_front()
     }
 
-    // From now on no row is let in.
-    pub(crate) fn close(&mut self)
-        ensures { self.new ≡ record self.old { merging = close_after self.old.merging } }
-    {
-        self.desk.close();
-    }
-
-    /// The workers, as these turns left them.
-    pub fn into_workers(self) -> Vec<SourceWorker<S>>
+    // The workers, as these turns left them.
+    pub(crate) fn into_workers(self) -> Vec<SourceWorker<S>>
         ensures { result.items ≡ self.workers }
     {
         self.workers

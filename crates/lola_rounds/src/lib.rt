@@ -1,5 +1,6 @@
 //! Sources read in turns by one thread: their rows, round after round, and the run of them.
 #![tactic(auto)]
 
-pub mod feed;
+mod feed;
+pub mod law;
 pub mod rows;

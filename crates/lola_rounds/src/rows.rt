@@ -1,16 +1,22 @@
 //! The rows of sources, in turns.
-ghost use Rattle.std.specs.Prelude.{◌≡◌, ◌<◌, ◌≤◌, ◌↔◌, ◌||◌, [], IsTrue, OnOk, length};
+ghost use Rattle.std.specs.Prelude.{◌≡◌, ◌<◌, ◌≤◌, ◌↔◌, ◌||◌, Bool, true, List, [], IfOk, IsTrue, OnOk, length, map};
+ghost use Rattle.lola_port.specs.States.{SinkState};
+ghost use Rattle.lola_merge.specs.Merging.{opening};
 ghost use Rattle.lola_model.specs.Journal.{time_after};
 ghost use Rattle.lola_run.specs.Running.{HasRoom, IsGoing, IsNext, IsRowFor, IsSetAs, Stands, keeping};
-ghost use Rattle.lola_rounds.specs.Feeds.{AreInPlace, EndsRun, IsFresh, IsIdle, Runs, supplies_of, world};
+ghost use Rattle.lola_rounds.specs.Feeds.{AreInPlace, AreReady, EndsRun, IsFresh, IsIdle, RanToEnd, Runs, Supply, World, supplies_of, supply_of, world};
 ghost use Rattle.lola_rounds.specs.Turning.{GoesRound, IsOutOfMemory, IsStanding, IsUnderWay, RunsEntry, Steps};
 
 use crate::feed::Feed;
-use lola_feed::worker::{SourceEnd, Turn};
+use lola_feed::worker::{SourceEnd, SourceWorker, Turn};
+use lola_merge::batch::Batch;
+use lola_merge::state::MergeState;
 use lola_model::journal::Entry;
 use lola_port::{Gate, Sink, Source};
 use lola_run::run::Run;
 use lola_run::stop::Stop;
+use lola_value::text::Memory;
+use std::alloc::Global;
 use std::thread::Threads;
 
 /// The most rows of a source.
@@ -130,7 +136,7 @@ fn run_rows<R: Threads + Sync, S: Source, K: Sink, T: Sink, G: Gate + Sync>(
     requires stands { Stands [] (keeping run.old) }
     requires idle { IsIdle feed.old (keeping run.old) }
     requires fresh { IsFresh feed.old }
-    ensures run { Runs result (world (keeping run.old) (supplies_of feed.old) (K.state out.old) (T.state trace.old))
+    ensures run { Runs true result (world (keeping run.old) (supplies_of feed.old) (K.state out.old) (T.state trace.old))
         (world (keeping run.new) (supplies_of feed.new) (K.state out.new) (T.state trace.new)) }
     ensures places { AreInPlace feed.old.workers feed.new.workers }
     ensures setting { IsSetAs (keeping run.old) (keeping run.new) }
@@ -145,9 +151,24 @@ fn run_rows<R: Threads + Sync, S: Source, K: Sink, T: Sink, G: Gate + Sync>(
     }
 }
 
-/// Runs all rows of the sources, which are read in turns, and then the deadlines at the last stamp, unless a row has a fault
-/// or the run was cut short.
-pub fn run_whole<R: Threads + Sync, S: Source, K: Sink, T: Sink, G: Gate + Sync>(
+/// Runs the deadlines at the last stamp and puts their lines, once all rows were run, whatever sources they are of.
+pub fn run_out<R: Threads + Sync, K: Sink, G: Gate + Sync>(
+    rt: &R,
+    run: &mut Run,
+    out: &mut K,
+    gate: &G,
+) -> Result<(), Stop>
+    requires going { IsGoing (keeping run.old) }
+    ensures run { (in_turns : Bool) (first : World) (sources : List Supply) (trace : SinkState) → RanToEnd in_turns first (world (keeping run.old) sources (K.state out.old) trace)
+        → EndsRun in_turns result first (world (keeping run.new) sources (K.state out.new) trace) }
+    ensures plan { (keeping run.new).desk.plan ≡ (keeping run.old).desk.plan }
+{
+    run.close(rt, out, gate)
+}
+
+// Runs all rows of the sources of a feed, and then the deadlines at the last stamp, unless a row has a fault or the run was cut
+// short.
+fn run_whole<R: Threads + Sync, S: Source, K: Sink, T: Sink, G: Gate + Sync>(
     rt: &R,
     run: &mut Run,
     feed: &mut Feed<S>,
@@ -158,14 +179,54 @@ pub fn run_whole<R: Threads + Sync, S: Source, K: Sink, T: Sink, G: Gate + Sync>
     requires stands { Stands [] (keeping run.old) }
     requires idle { IsIdle feed.old (keeping run.old) }
     requires fresh { IsFresh feed.old }
-    ensures run { EndsRun result (world (keeping run.old) (supplies_of feed.old) (K.state out.old) (T.state trace.old))
+    ensures run { EndsRun true result (world (keeping run.old) (supplies_of feed.old) (K.state out.old) (T.state trace.old))
         (world (keeping run.new) (supplies_of feed.new) (K.state out.new) (T.state trace.new)) }
     ensures places { AreInPlace feed.old.workers feed.new.workers }
     ensures plan { (keeping run.new).desk.plan ≡ (keeping run.old).desk.plan }
 {
-    if let Err(stop) = run_rows(rt, run, feed, out, trace, gate) {
-        feed.close();
-        return Err(stop);
+    match run_rows(rt, run, feed, out, trace, gate) {
+        Ok(()) => run_out(rt, run, out, gate),
+        Err(stop) => Err(stop),
     }
-    run.close(rt, out, gate)
+}
+
+/// Runs all rows of sources, which are read in turns, and then the deadlines at the last stamp, unless a row has a fault
+/// or the run was cut short. The workers come back as their turns left them.
+pub fn run_in_turns<R: Threads + Sync, S: Source, K: Sink, T: Sink, G: Gate + Sync>(
+    rt: &R,
+    alloc: Global,
+    run: &mut Run,
+    workers: Vec<SourceWorker<S>>,
+    start: Option<u64>,
+    out: &mut K,
+    trace: &mut T,
+    gate: &G,
+) -> (Vec<SourceWorker<S>>, Result<(), Stop>)
+    requires stands { Stands [] (keeping run.old) }
+    requires ready { AreReady (keeping run.old).desk.plan workers.items }
+    requires start { start ≡ (keeping run.old).desk.option }
+    ensures run { EndsRun true result.1 (world (keeping run.old) (map supply_of workers.items) (K.state out.old) (T.state trace.old))
+        (world (keeping run.new) (map supply_of result.0.items) (K.state out.new) (T.state trace.new)) }
+    ensures places { AreInPlace workers.items result.0.items }
+    ensures plan { (keeping run.new).desk.plan ≡ (keeping run.old).desk.plan }
+{
+    let sources = workers.len() as u32;
+    let (state, batch) = match make_room(alloc, sources, start) {
+        Ok(room) => room,
+        Err(_) => return (workers, Err(Stop::Memory)),
+    };
+    let mut feed = Feed::create(workers, state, batch);
+    let stopped = run_whole(rt, run, &mut feed, out, trace, gate);
+    (feed.into_workers(), stopped)
+}
+
+// A merge object for so many sources, and room for what is taken out of it.
+fn make_room(alloc: Global, sources: u32, start: Option<u64>) -> Result<(MergeState, Batch), Memory>
+    requires { (1 ≤ sources) × (sources ≤ 64) }
+    ensures state { IfOk result (λ room. room.0 ≡ opening sources start) }
+    ensures batch { IfOk result (λ room. room.1 ≡ []) }
+{
+    let state = MergeState::create(alloc, sources, start)?;
+    let batch = Batch::create(alloc)?;
+    Ok((state, batch))
 }

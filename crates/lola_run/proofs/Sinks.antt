@@ -3,9 +3,10 @@ use Rattle.std.proofs.Common.{◌≡◌, ℕ, ◌<◌, List, [], ◌++◌, Optio
 use Rattle.std.proofs.lemmas.List.{append-nil}
 use Rattle.std.specs.Io.KnownBytes.{append_known}
 use Rattle.lola_port.specs.States.{SinkState, grown}
-use Rattle.lola_model.specs.Trace.{trace_line}
+use Rattle.lola_model.specs.Trace.{trace_line, trace_text}
 use Rattle.lola_model.specs.declared.journal.Entry.{Entry}
 use Rattle.lola_model.specs.declared.journal.Mark.TheVariants as mark
+use Rattle.lola_run.specs.Verdicts.{HasLines}
 
 pub known_append : (known : Option (List ℕ)) (xs ys : List ℕ) → append_known (append_known known xs) ys ≡ append_known known (xs ++ ys)
 known_append None xs ys = refl
@@ -36,3 +37,12 @@ grown_part s0 s1 s2 xs part first second = second ∙ ap (λ s. append_known s.w
 -- some entry, of whose line nothing was put
 abbrev pub an_entry : Entry
 an_entry = record { row = record { source = 0; number = 0; stamp = 0; fields = [] }; mark = mark.Accepted }
+
+-- whole lines, and no part of one more
+pub whole_lines : (old new : SinkState) (journal : List Entry) → new ≡ grown old (trace_text journal) → HasLines old new journal
+whole_lines old new journal is = record {
+  entry = an_entry;
+  part = [];
+  is_part = record { rest = trace_line an_entry; joined = refl; not_whole = some_line an_entry };
+  written = ap (λ s. s.written) is ∙ ap (append_known old.written) (sym (append-nil (trace_text journal)));
+}

@@ -1,4 +1,4 @@
-use Rattle.std.proofs.Common.{◌≡◌, refl, sym, ap, ◌∙◌, ◌+◌, drop, map, false, Bool, ℕ, string_bytes, if◌then◌else◌}
+use Rattle.std.proofs.Common.{◌≡◌, sym, ap, ◌∙◌, ◌+◌, drop, map, false, Bool, ℕ, string_bytes, if◌then◌else◌}
 use Rattle.std.specs.List.{slice_get}
 use Rattle.lola_command.specs.Said.{with_front, thing_of, said_from}
 use Rattle.lola_command.specs.declared.said.Thing.TheVariants as thing

@@ -1,4 +1,4 @@
-use Rattle.std.proofs.Common.{◌≡◌, refl, ◌∙◌, map, string_bytes}
+use Rattle.std.proofs.Common.{◌∙◌, map, string_bytes}
 use Rattle.lola_command.proofs.Goes.{some_in_front, name_goes}
 use Rattle.lola_command.proofs.words.push_names.Goals as goal
 

@@ -57,7 +57,7 @@ returns-clause-asked g c =
     let after_all = outside after (g.K.Sink.state c.run_sources.new.out) (g.T.Sink.state c.run_sources.new.trace) in
     asked_for words (c.word_at.result.now ∷ sources) before after
     (names_are words command c.requires.is_run ∙ ap (λ (n : List ℕ). n ∷ sources) (sym c.word_at.ensures))
-    (grew_twice c.word_at.result.now sources before mid after c.in-Ok.ensures.shelf (grew_sources c.run_sources.result setting sources mid_all after_all c.run_sources.ensures))
+    (grew_twice c.word_at.result.now sources before mid after c.in-Ok.ensures.shelf (grew_sources command.in_turns c.run_sources.result setting sources mid_all after_all c.run_sources.ensures))
 
 pub run_sources-requires-clause-workers : goal.run_sources-requires-clause-workers
 run_sources-requires-clause-workers g c κs lives = workers_are (map (string_bytes {Z = Global}) c.args.words.now) c.args.command.now c.requires.is_run

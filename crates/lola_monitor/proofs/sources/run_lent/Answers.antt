@@ -1,8 +1,6 @@
-use Rattle.std.proofs.Common.{◌≤◌, List, length, map, ap, sym, subst, ◌∙◌}
+use Rattle.std.proofs.Common.{◌≤◌, List, length, ap, sym, subst, ◌∙◌}
 use Rattle.lola_feed.specs.Feeding.{Working}
 use Rattle.lola_run.specs.Running.{keeping}
-use Rattle.lola_rounds.specs.Feeds.{EndsRun, supply_of, world}
-use Rattle.lola_shelves.specs.Lending.{places_of}
 use Rattle.lola_monitor.specs.Outcomes.{OutcomeAfter, end_of, ends_of}
 use Rattle.lola_monitor.specs.declared.ending.SourcesEnd.{SourcesEnd}
 use Rattle.lola_monitor.proofs.Lent.{as_many, ran_lent, still_given}
@@ -10,33 +8,33 @@ use Rattle.lola_monitor.proofs.sources.run_lent.Goals as goal
 
 pub end_of-end-requires : goal.end_of-end-requires
 end_of-end-requires g c =
-    let few : length c.args.feed.workers ≤ 64 = c.requires.fresh.many.1 in
-    let many = as_many c.args.feed.workers c.into_workers-workers.result.items (ap places_of c.into_workers-workers.ensures ∙ c.run_whole-stopped.ensures.places) in
+    let few : length c.args.workers.items ≤ 64 = c.requires.ready.many.1 in
+    let many = as_many c.args.workers.items c.run_workers-workers.result.0.items c.run_workers-workers.ensures.places in
     subst (λ n. n ≤ 64) (sym (ap length c.as_slice.ensures.value ∙ many)) few
 
 pub give_all_back-requires-clause-out : goal.give_all_back-requires-clause-out
 give_all_back-requires-clause-out g c κs within =
     let out = (g.F.Shelf.state c.args.shelf.now).out in
-    let many = as_many c.args.feed.workers c.into_workers-workers.result.items (ap places_of c.into_workers-workers.ensures ∙ c.run_whole-stopped.ensures.places) in
+    let many = as_many c.args.workers.items c.run_workers-workers.result.0.items c.run_workers-workers.ensures.places in
     subst (λ n. n ≤ out) (sym many) c.requires.out
 
 pub give_all_back-requires-clause-given : goal.give_all_back-requires-clause-given
 give_all_back-requires-clause-given g c κs within =
-    still_given (g.F.Shelf.state c.args.shelf.now).asks c.args.feed.workers c.into_workers-workers.result.items (ap places_of c.into_workers-workers.ensures ∙ c.run_whole-stopped.ensures.places) c.requires.given
+    still_given (g.F.Shelf.state c.args.shelf.now).asks c.args.workers.items c.run_workers-workers.result.0.items c.run_workers-workers.ensures.places c.requires.given
 
 pub returns : goal.returns
 returns g c names rooms before is are =
-    let last = c.into_workers-workers.result.items in
+    let lent = c.args.workers.items in
+    let last = c.run_workers-workers.result.0.items in
     let kept0 = keeping c.args.run.now in
-    let kept1 = keeping c.run_whole-stopped.new.run in
+    let kept1 = keeping c.run_workers-workers.new.run in
     let out0 = g.K.Sink.state c.args.out.now in
-    let out1 = g.K.Sink.state c.run_whole-stopped.new.out in
+    let out1 = g.K.Sink.state c.run_workers-workers.new.out in
     let trace0 = g.T.Sink.state c.args.trace.now in
-    let trace1 = g.T.Sink.state c.run_whole-stopped.new.trace in
-    let places = ap places_of c.into_workers-workers.ensures ∙ c.run_whole-stopped.ensures.places in
-    ran_lent names rooms before (g.F.Shelf.state c.args.shelf.now) (g.F.Shelf.state c.give_all_back.new.shelf) out0 trace0 out1 trace1 kept0 kept1 c.args.feed.workers last c.run_whole-stopped.result c.outcome_after.result
-    is are places (c.give_all_back.ensures.returned names rooms before c.args.feed.workers is places) c.run_whole-stopped.ensures.plan
-    (subst (λ (e : SourcesEnd). OutcomeAfter c.run_whole-stopped.result e kept1.desk.plan kept1 c.outcome_after.result)
+    let trace1 = g.T.Sink.state c.run_workers-workers.new.trace in
+    let places = c.run_workers-workers.ensures.places in
+    ran_lent c.args.in_turns c.whole_lines_are_lines.ensures names rooms before (g.F.Shelf.state c.args.shelf.now) (g.F.Shelf.state c.give_all_back.new.shelf) out0 trace0 out1 trace1 kept0 kept1 lent last
+    c.run_workers-workers.result.1 c.outcome_after.result is are places (c.give_all_back.ensures.returned names rooms before lent is places) c.run_workers-workers.ensures.plan
+    (subst (λ (e : SourcesEnd). OutcomeAfter c.run_workers-workers.result.1 e kept1.desk.plan kept1 c.outcome_after.result)
     (c.end_of-end.ensures ∙ ap (λ (ws : List Working). end_of (ends_of ws)) c.as_slice.ensures.value) c.outcome_after.ensures)
-    (subst (λ (ws : List Working). EndsRun c.run_whole-stopped.result (world kept0 (map supply_of c.args.feed.workers) out0 trace0) (world kept1 (map supply_of ws) out1 trace1))
-    (sym c.into_workers-workers.ensures) c.run_whole-stopped.ensures.run)
+    c.run_workers-workers.ensures.run

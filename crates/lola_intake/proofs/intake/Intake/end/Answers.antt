@@ -29,4 +29,5 @@ returns c = let inv = c.loop-seat.invariant in let p = c.engine.inside.seat in l
     let all : c.loop-seat.yielded ≡ c.args.seats.items = sym (append-nil c.loop-seat.yielded) ∙ (ap (λ l. c.loop-seat.yielded ++ l) (sym (none_left left.items (sym left.ok.0 ∙ c.in-None.ensures.steps.0))) ∙ (inv.split ∙ c.into_iter-seat-iterator.ensures.into_iter_gives.0)) in
     let right : (s : ℕ) (q : Shown) → slice_get c.args.seats.items s ≡ Some q → q.caller ≡ q.source + 1 = subst (λ l. (s : ℕ) (q : Shown) → slice_get l s ≡ Some q → q.caller ≡ q.source + 1) all inv.right in
     subst (λ z. Whole z c.args.seats.items c.take.new.into) c.engine.view_is (subst (λ (l : List Entry). Whole (shown p.table_id 0 p.me.0) c.args.seats.items l) (sym c.take.ensures.moved)
-    (whole p.table_id c.loop-seat.first.me.0 p.me.0 c.args.seats.items c.end-merging.result k.0.0.1.0 c.end-merging.ensures k.0.0.1.1 inv.same.0 k.2 inv.same.1 k.3 inv.same.2 inv.same.3 inv.same.4 (inv.known ∙ ap (map knows) all) right))
+    (whole p.table_id c.loop-seat.first.me.0 p.me.0 c.args.seats.items c.end-merging.result k.0.0.1.0 c.end-merging.ensures k.0.0.1.1 inv.same.0 k.2 inv.same.1 k.3 inv.same.2 inv.same.3 inv.same.4 (inv.known ∙ ap (map knows) all)
+    (c.requires.all ∙ ap (λ (z : Shown). z.setting.sources) (sym c.engine.view_is)) right))

@@ -1,10 +1,13 @@
-use Rattle.std.proofs.Common.{◌∙◌, refl, ap, sym, subst}
-use Rattle.lola_turns.specs.Turns.{turn_by}
+use Rattle.std.proofs.Common.{◌∙◌, List, refl, ap, sym, subst}
+use Rattle.lola_turns.specs.Turns.{turn_by, calls_by}
 use Rattle.lola_turns.proofs.Keeps.{may_tell, turned, idle_again, changed}
 use Rattle.lola_intake.specs.declared.event.Event.TheVariants.{Took}
-use Rattle.lola_intake.specs.Histories.{Begins, Changes, IsLegal}
+use Rattle.lola_intake.specs.Histories.{Begins, Changes, IsLegal, taken}
+use Rattle.lola_intake.specs.declared.event.Event.{Event}
+use Rattle.lola_model.specs.Journal.{IsLegalFrom, opening_time}
 use Rattle.lola_intake.proofs.Laws.{take_caused}
-use Rattle.lola_intake.specs.Intakes.{Told, shown, setting_or}
+use Rattle.lola_intake.proofs.Ending.{taken_is_marked}
+use Rattle.lola_intake.specs.Intakes.{Shown, Told, shown, setting_or}
 use Rattle.lola_intake.proofs.Telling.{tells}
 use Rattle.lola_intake.proofs.intake.Intake.try_take.Goals as goal
 
@@ -35,3 +38,7 @@ returns-clause-told g c = let t = c.enter.ensures.turn in let m = c.seat.inside.
 
 pub returns-clause-cause : goal.returns-clause-cause
 returns-clause-cause g c = λ before is. take_caused c.args.seat.now.setting before c.args.seat.now.caller c.take-take.result c.take-take.new.into (subst (IsLegal c.args.seat.now.setting) is (returns-clause-told g c).legal)
+
+pub returns-clause-marked : goal.returns-clause-marked
+returns-clause-marked g c = let told = returns-clause-told g c in let k = c.args.seat.now.setting in
+    subst (λ (l : List Event). IsLegalFrom (opening_time k.start) (taken l)) told.own (subst (λ n. IsLegalFrom (opening_time k.start) (taken (calls_by n c.leave.new.seat.me.0.seen))) (sym (ap (λ (z : Shown). z.caller) (sym c.seat.view_is) ∙ c.seat.invariant.2)) (taken_is_marked k c.leave.new.seat.me.0.seen told.legal))

@@ -1,7 +1,13 @@
 //! The specification that the two sources are read by.
 
+ghost use Rattle.std.specs.Prelude.{◌≡◌};
+ghost use Rattle.lola_drill.specs.Drills.{drill_text};
+
 /// Inputs of both sources, streams with a window, a hold and a parameter over them, and triggers.
-pub const SPECIFICATION: &str = "input dev: String
+pub fn specification() -> &'static str
+    ensures { result.now ≡ drill_text }
+{
+    "input dev: String
 input v: Int64
 input w: Int64
 output total: Int64 @v := total.last(or: 0) + v
@@ -14,4 +20,5 @@ output seen(d: String): Int64
 trigger v > 490 \"high\"
 trigger mean > 20 \"mean\"
 trigger both > 500 \"both\"
-";
+"
+}

@@ -1,0 +1,6 @@
+mod Accepted
+mod Asking
+mod Changing
+mod Births
+mod Opened
+mod Preparing

@@ -1,0 +1,24 @@
+-- What a store shows, and which earlier values it remembers.
+use Rattle.std.specs.Prelude.{ℕ, ◌-◌, List, map}
+use Rattle.lola_value.specs.declared.text.Field.{Field}
+use Rattle.lola_value.specs.Naming.{Naming}
+use Rattle.lola_model.specs.Store.{Seen}
+use Rattle.lola_lives.specs.Crowds.{crowd_seen, RemembersAt}
+use Rattle.lola_bounded.specs.declared.store.BoundedStore.{BoundedStore}
+use Rattle.lola_bounded.specs.Stages.{phase_in, start_in, time_in}
+use Rattle.lola_bounded.specs.Streams.{crowd_layout, slot_at}
+
+-- what it shows
+abbrev pub bounded_seen : BoundedStore → Seen
+bounded_seen s =
+    record {
+      layout = record { streams = map crowd_layout s.streams.items; windows = s.windows; panes = s.sizes };
+      phase = phase_in s.stage;
+      prepared = s.prepared;
+      steps = s.step - 1;
+      streams = map (crowd_seen s.step) s.streams.items;
+    }
+
+-- the lists of values that an instance may have had: they end as its last values do, and its panes stand for them
+abbrev pub bounded_remembers : BoundedStore → Naming → ℕ → ℕ → List (ℕ × Field) → Type 0
+bounded_remembers s names n i values = RemembersAt (start_in s.stage) (time_in s.stage) s.step names (slot_at s.streams.items n i) values

@@ -1,0 +1,79 @@
+//! The bounded store as a store.
+
+use crate::store::BoundedStore;
+use crate::{begin, changes, prepare, reading};
+use lola_model::store::{SpawnEnd, StreamStore};
+use lola_value::text::Memory;
+use lola_value::value::{Outcome, Params, Value};
+
+impl StreamStore for BoundedStore {
+    const BOUNDED: bool = true;
+
+    ghost use Rattle.std.specs.Prelude.{true};
+    ghost use Rattle.lola_bounded.specs.Stores.{bounded_seen, bounded_remembers};
+    ghost use Rattle.lola_bounded.specs.Renaming.{bounded_renamed};
+
+    ghost BOUNDED = { true };
+
+    ghost seen = { bounded_seen };
+
+    ghost remembers = { bounded_remembers };
+
+    fn start_at(&mut self, start: u64) {
+        begin::start_at(self, start)
+    }
+
+    fn prepare(&mut self) -> Result<(), Memory> {
+        prepare::prepare(self)
+    }
+
+    fn begin(&mut self, time: u64) {
+        begin::begin(self, time)
+    }
+
+    fn now(&self, stream: u32, params: &Params) -> Outcome {
+        reading::now(self, stream, params)
+    }
+
+    fn newest(&self, stream: u32, params: &Params) -> Outcome {
+        reading::newest(self, stream, params)
+    }
+
+    fn back(&self, stream: u32, params: &Params, k: u32) -> Outcome {
+        reading::back(self, stream, params, k)
+    }
+
+    fn window(&self, window: u32, params: &Params) -> Outcome {
+        reading::window(self, window, params)
+    }
+
+    fn instances(&self, stream: u32) -> u32 {
+        reading::instances(self, stream)
+    }
+
+    fn params_of(&self, stream: u32, index: u32) -> Params {
+        reading::params_of(self, stream, index)
+    }
+
+    fn push(&mut self, stream: u32, index: u32, value: Value) {
+        changes::push(self, stream, index, value)
+    }
+
+    fn poison(&mut self, stream: u32, index: u32) {
+        changes::poison(self, stream, index)
+    }
+
+    fn poison_stream(&mut self, stream: u32) {
+        changes::poison_stream(self, stream)
+    }
+
+    fn spawn(&mut self, stream: u32, params: Params) -> SpawnEnd {
+        changes::spawn(self, stream, params)
+    }
+
+    fn close(&mut self, stream: u32, index: u32) {
+        changes::close(self, stream, index)
+    }
+
+    ghost renamed = { bounded_renamed };
+}

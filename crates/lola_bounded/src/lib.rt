@@ -1,0 +1,12 @@
+//! The bounded store: of each instance only the last values that accesses need, and the panes of each window onto it.
+#![tactic(auto)]
+
+mod begin;
+mod bounded;
+mod changes;
+pub mod law;
+mod opening;
+mod prepare;
+mod reading;
+mod stage;
+pub mod store;

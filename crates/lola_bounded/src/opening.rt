@@ -1,0 +1,225 @@
+//! A new store.
+
+ghost use Rattle.std.specs.Prelude.{◌≡◌, ◌≤◌, ◌<◌, ◌++◌, ◌∷◌, ◌+◌, ◌^◌, nat_eq, if◌then◌else◌, [], ℕ, List, Some, IfOk, OnOk, drop, length, map, slice_get, unwrap_or};
+ghost use Rattle.lola_value.specs.Naming.{Naming};
+ghost use Rattle.lola_value.specs.declared.value.Kind.TheVariants as kinds;
+ghost use Rattle.lola_model.specs.Store.{StreamLayout, instances_seen, layout_of, layouts_from, new_seen};
+ghost use Rattle.lola_slots.specs.Unborn.{AllSound};
+ghost use Rattle.lola_lives.specs.Crowds.{Crowd};
+ghost use Rattle.lola_bounded.specs.Opening.{ArePlaces, IsOpened, IsStorable, count_onto, first_kept, one_onto, onto, stream_layout};
+ghost use Rattle.lola_bounded.specs.Stores.{bounded_seen, bounded_remembers};
+ghost use Rattle.lola_bounded.specs.Streams.{crowd_layout};
+
+use crate::stage::Stage;
+use crate::store::BoundedStore;
+use lola_lives::lives::Lives;
+use lola_model::plan::{PaneSize, PaneSizes, Plan};
+use lola_model::spec::{Kinds, Stream, WindowSpec, Windows};
+use lola_slots::window::WindowPanes;
+use lola_value::text::Memory;
+use lola_value::value::Kind;
+use std::alloc::Global;
+
+/// The same windows.
+fn copy_windows(alloc: Global, windows: &Windows) -> Result<Windows, Memory>
+    ensures { IfOk result (λ copy. copy ≡ windows.now) }
+{
+    let mut copy = Windows::create(alloc);
+    for w in windows.as_slice() {
+        copy.push(*w)?;
+    }
+    Ok(copy)
+}
+
+/// The same sizes.
+fn copy_sizes(alloc: Global, sizes: &PaneSizes) -> Result<PaneSizes, Memory>
+    ensures { IfOk result (λ copy. copy ≡ sizes.now) }
+{
+    let mut copy = PaneSizes::create(alloc);
+    for p in sizes.as_slice() {
+        copy.push(*p)?;
+    }
+    Ok(copy)
+}
+
+/// The same kinds.
+fn copy_kinds(alloc: Global, kinds: &Kinds) -> Result<Kinds, Memory>
+    ensures { IfOk result (λ copy. copy ≡ kinds.now) }
+{
+    let mut copy = Kinds::create(alloc);
+    for k in kinds.as_slice() {
+        copy.push(*k)?;
+    }
+    Ok(copy)
+}
+
+/// The kind that is found, or a kind where none is.
+fn kind_of(kind: Option<Kind>) -> Kind
+    ensures { result ≡ unwrap_or kind kinds.Int64 }
+{
+    match kind {
+        None => Kind::Int64,
+        Some(kind) => kind,
+    }
+}
+
+/// Whether a stream has a spawn clause.
+fn has_spawn(stream: &Stream) -> bool
+    ensures { result ≡ (stream_layout stream.now 0).spawns }
+{
+    match &stream.spawn {
+        None => false,
+        Some(_) => true,
+    }
+}
+
+/// How many values a stream keeps.
+fn kept_at(kept: &[u32], i: usize) -> u32
+    ensures { result ≡ first_kept (drop i kept.now) }
+{
+    if i < kept.len() { kept[i] } else { 1 }
+}
+
+/// The panes of a window, behind the others, if it is onto the stream.
+fn add_onto(
+    made: &mut Vec<WindowPanes>,
+    stream: usize,
+    kind: Kind,
+    w: &WindowSpec,
+    size: &PaneSize,
+) -> Result<(), Memory>
+    ensures { OnOk result (made.new.items ≡ made.old.items ++ one_onto stream kind w.now size.now) }
+{
+    if w.target as usize != stream {
+        return Ok(());
+    }
+    made.push(WindowPanes {
+        aggregation: w.using,
+        kind,
+        pane: size.pane,
+        count: size.count,
+        exact: w.exact,
+    })?;
+    Ok(())
+}
+
+/// The panes of the windows onto a stream, in the order of the windows.
+fn windows_onto(
+    alloc: Global,
+    stream: usize,
+    kind: Kind,
+    windows: &[WindowSpec],
+    sizes: &[PaneSize],
+) -> Result<Vec<WindowPanes>, Memory>
+    requires { length sizes.now ≡ length windows.now }
+    ensures { IfOk result (λ made. made.items ≡ onto stream kind windows.now sizes.now) }
+{
+    let mut made = Vec::new(alloc);
+    for (i, w) in windows.iter().enumerate() {
+        add_onto(&mut made, stream, kind, w, &sizes[i])?;
+    }
+    Ok(made)
+}
+
+/// One more, where the window is onto the stream.
+fn counted(count: usize, w: &WindowSpec, target: u32) -> usize
+    requires { count < 2 ^ 63 }
+    ensures { result ≡ (if nat_eq w.now.target target then 1 else 0) + count }
+{
+    if w.target == target { 1 + count } else { count }
+}
+
+/// How many of these windows are onto a stream.
+fn count_of(windows: &[WindowSpec], target: u32) -> usize
+    ensures { result ≡ count_onto target windows.now }
+{
+    let mut count = 0;
+    for w in windows {
+        count = counted(count, w, target);
+    }
+    count
+}
+
+/// The place of each window among those onto its target.
+fn places_of(alloc: Global, windows: &[WindowSpec]) -> Result<Vec<usize>, Memory>
+    ensures { IfOk result (λ places. ArePlaces windows.now places.items) }
+{
+    let mut made = Vec::new(alloc);
+    for (i, w) in windows.iter().enumerate() {
+        made.push(count_of(&windows[..i], w.target))?;
+    }
+    Ok(made)
+}
+
+/// A stream of a new store.
+fn open(
+    alloc: Global,
+    number: usize,
+    stream: &Stream,
+    kept: u32,
+    windows: &[WindowSpec],
+    sizes: &[PaneSize],
+) -> Result<Lives, Memory>
+    requires kept { 1 ≤ kept }
+    requires sizes { length sizes.now ≡ length windows.now }
+    requires sound { AllSound (onto number (stream_layout stream.now kept).kind windows.now sizes.now) }
+    ensures layout { IfOk result (λ l. l.layout ≡ stream_layout stream.now kept) }
+    ensures opened { IfOk result (λ l. IsOpened windows.now sizes.now number l) }
+{
+    let kind = kind_of(stream.kind);
+    let parameters = copy_kinds(alloc, &stream.parameters)?;
+    let onto = windows_onto(alloc, number, kind, windows, sizes)?;
+    Lives::create(alloc, kind, parameters, has_spawn(stream), kept, onto)
+}
+
+/// The streams of a new store.
+fn open_all(
+    alloc: Global,
+    streams: &[Stream],
+    kept: &[u32],
+    windows: &[WindowSpec],
+    sizes: &[PaneSize],
+) -> Result<Vec<Lives>, Memory>
+    requires sizes { length sizes.now ≡ length windows.now }
+    requires kept { (n : ℕ) (l : StreamLayout) → slice_get (layouts_from streams.now kept.now) n ≡ Some l → 1 ≤ l.kept }
+    requires sound { (n : ℕ) (l : StreamLayout) → slice_get (layouts_from streams.now kept.now) n ≡ Some l → AllSound (onto n l.kind windows.now sizes.now) }
+    ensures layouts { IfOk result (λ ls. map crowd_layout ls.items ≡ layouts_from streams.now kept.now) }
+    ensures opened { IfOk result (λ ls. (n : ℕ) (c : Crowd) → slice_get ls.items n ≡ Some c → IsOpened windows.now sizes.now n c) }
+{
+    let mut made = Vec::new(alloc);
+    for (i, stream) in streams.iter().enumerate() {
+        let lives = open(alloc, i, stream, kept_at(kept, i), windows, sizes)?;
+        made.push(lives)?;
+    }
+    Ok(made)
+}
+
+impl BoundedStore {
+    /// A new store for the streams and windows of a plan, with all the memory that instances without a spawn clause will
+    /// ever take. It remembers that no instance has a value yet.
+    pub fn create(alloc: Global, plan: &Plan) -> Result<BoundedStore, Memory>
+        requires { IsStorable plan.now }
+        ensures seen { IfOk result (λ s. bounded_seen s ≡ new_seen (layout_of plan.now)) }
+        ensures past { IfOk result (λ s. (names : Naming) (n i : ℕ) → i < length (instances_seen (bounded_seen s) n) → bounded_remembers s names n i []) }
+    {
+        let windows = copy_windows(alloc, &plan.spec.windows)?;
+        let sizes = copy_sizes(alloc, &plan.panes)?;
+        let places = places_of(alloc, plan.spec.windows.as_slice())?;
+        let streams = open_all(
+            alloc,
+            plan.spec.streams.as_slice(),
+            plan.kept.as_slice(),
+            plan.spec.windows.as_slice(),
+            plan.panes.as_slice(),
+        )?;
+        Ok(BoundedStore {
+            windows,
+            sizes,
+            stage: Stage::New,
+            prepared: false,
+            step: 1,
+            streams,
+            places,
+        })
+    }
+}

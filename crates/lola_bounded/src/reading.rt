@@ -1,0 +1,136 @@
+//! The calls that read.
+
+ghost use Rattle.std.specs.Prelude.{◌≡◌, ◌<◌, ◌≤◌, ◌+◌, ◌*◌, ℕ, List, [], Some, length, slice_get, MatchOption, IsTrue};
+ghost use Rattle.lola_value.specs.declared.text.Field.{Field};
+ghost use Rattle.lola_value.specs.declared.value.Outcome.TheVariants as outcome;
+ghost use Rattle.lola_value.specs.Naming.{Naming, read_outcome, the_values, IsHeldIn};
+ghost use Rattle.lola_model.specs.Store.{Fits, IsRunning, instances_seen, place_of, now_of, max_offset, target_of, pane_of, kept_in, start_seen, time_seen, kind_in, window_kind, is_outcome_of, are_of_kinds, is_well_formed, parameters_of};
+ghost use Rattle.lola_model.specs.Accesses.{from_end};
+ghost use Rattle.lola_model.specs.Reading.{held_answer, window_reading};
+ghost use Rattle.lola_bounded.specs.Stores.{bounded_seen, bounded_remembers};
+
+use crate::stage::offset_of;
+use crate::store::BoundedStore;
+use lola_lives::lives::Lives;
+use lola_model::spec::WindowSpec;
+use lola_value::value::{Outcome, Params};
+
+/// The instances of a stream.
+fn lives_of(s: &BoundedStore, stream: u32) -> &Lives
+    requires { stream < length (bounded_seen s.now).layout.streams }
+    ensures { slice_get s.now.streams.items stream ≡ Some result.now }
+{
+    &s.streams[stream as usize]
+}
+
+/// The value at this step.
+pub fn now(s: &BoundedStore, stream: u32, params: &Params) -> Outcome
+    requires running { IsRunning (bounded_seen s.now) }
+    requires fits { Fits (bounded_seen s.now) stream params.now }
+    ensures value { result ≡ now_of (bounded_seen s.now) stream params.now }
+    ensures kind { IsTrue (is_outcome_of (kind_in (slice_get (bounded_seen s.now).layout.streams stream)) result) }
+{
+    lives_of(s, stream).now(s.step, params)
+}
+
+/// The newest value at this step or before.
+pub fn newest(s: &BoundedStore, stream: u32, params: &Params) -> Outcome
+    requires running { IsRunning (bounded_seen s.now) }
+    requires fits { Fits (bounded_seen s.now) stream params.now }
+    ensures living { MatchOption (place_of (bounded_seen s.now) stream params.now)
+        (result ≡ now_of (bounded_seen s.now) stream params.now)
+        (λ i. (names : Naming) (values : List (ℕ × Field)) → bounded_remembers s.now names stream i values
+        → IsHeldIn names (now_of (bounded_seen s.now) stream params.now)
+        → (read_outcome names result ≡ held_answer (read_outcome names (now_of (bounded_seen s.now) stream params.now)) values) × IsHeldIn names result) }
+    ensures kind { IsTrue (is_outcome_of (kind_in (slice_get (bounded_seen s.now).layout.streams stream)) result) }
+{
+    lives_of(s, stream).newest(s.step, params)
+}
+
+/// The k-th value before this step from the newest, from 1.
+pub fn back(s: &BoundedStore, stream: u32, params: &Params, k: u32) -> Outcome
+    requires running { IsRunning (bounded_seen s.now) }
+    requires fits { Fits (bounded_seen s.now) stream params.now }
+    requires k_low { 1 ≤ k }
+    requires k_high { k ≤ max_offset (bounded_seen s.now) stream }
+    ensures living { MatchOption (place_of (bounded_seen s.now) stream params.now)
+        (result ≡ outcome.Missing)
+        (λ i. (names : Naming) (values : List (ℕ × Field)) → bounded_remembers s.now names stream i values
+        → (read_outcome names result ≡ from_end values k) × IsHeldIn names result) }
+    ensures kind { IsTrue (is_outcome_of (kind_in (slice_get (bounded_seen s.now).layout.streams stream)) result) }
+{
+    lives_of(s, stream).back(s.step, params, k)
+}
+
+/// How many instances of a stream live.
+pub fn instances(s: &BoundedStore, stream: u32) -> u32
+    requires { stream < length (bounded_seen s.now).layout.streams }
+    ensures { result ≡ length (instances_seen (bounded_seen s.now) stream) }
+{
+    lives_of(s, stream).instances() as u32
+}
+
+/// The parameters of an instance, by its place.
+pub fn params_of(s: &BoundedStore, stream: u32, index: u32) -> Params
+    requires { index < length (instances_seen (bounded_seen s.now) stream) }
+    ensures value { MatchOption (slice_get (instances_seen (bounded_seen s.now) stream) index) ⊥ (λ x. result ≡ x.params) }
+    ensures kinds { IsTrue (are_of_kinds (parameters_of (slice_get (bounded_seen s.now).layout.streams stream)) (the_values result)) }
+    ensures places { IsTrue (is_well_formed result) }
+{
+    lives_of(s, stream).params_of(index as usize)
+}
+
+/// What a window is.
+fn spec_of(s: &BoundedStore, window: u32) -> &WindowSpec
+    requires { window < length (bounded_seen s.now).layout.windows }
+    ensures { slice_get (bounded_seen s.now).layout.windows window ≡ Some result.now }
+{
+    let windows = s.windows.as_slice();
+    &windows[window as usize]
+}
+
+/// The place of a window's panes among those of its target.
+fn place_of_panes(s: &BoundedStore, window: u32) -> usize
+    requires { window < length (bounded_seen s.now).layout.windows }
+    ensures { slice_get s.now.places.items window ≡ Some result }
+{
+    s.places[window as usize]
+}
+
+/// The answer of a window at this step.
+pub fn window(s: &BoundedStore, window: u32, params: &Params) -> Outcome
+    requires running { IsRunning (bounded_seen s.now) }
+    requires window { window < length (bounded_seen s.now).layout.windows }
+    requires fits { Fits (bounded_seen s.now) (target_of (slice_get (bounded_seen s.now).layout.windows window)) params.now }
+    requires whole { (k : ℕ) × (time_seen (bounded_seen s.now) ≡ start_seen (bounded_seen s.now) + k * pane_of (slice_get (bounded_seen s.now).layout.panes window)) }
+    ensures living { MatchOption (place_of (bounded_seen s.now) (target_of (slice_get (bounded_seen s.now).layout.windows window)) params.now)
+        ((names : Naming) → read_outcome names result ≡ window_reading (bounded_seen s.now) window names (now_of (bounded_seen s.now) (target_of (slice_get (bounded_seen s.now).layout.windows window)) params.now) [])
+        (λ i. (names : Naming) (values : List (ℕ × Field)) → bounded_remembers s.now names (target_of (slice_get (bounded_seen s.now).layout.windows window)) i values
+        → read_outcome names result ≡ window_reading (bounded_seen s.now) window names (now_of (bounded_seen s.now) (target_of (slice_get (bounded_seen s.now).layout.windows window)) params.now) values) }
+    ensures kind { IsTrue (is_outcome_of (window_kind (bounded_seen s.now) window) result) }
+{
+    let target = spec_of(s, window).target;
+    let place = place_of_panes(s, window);
+    lives_of(s, target).window(s.step, params, place, offset_of(s.stage))
+}
+
+impl BoundedStore {
+    /// How many values are kept now of an instance: never more than the plan has for its stream.
+    pub fn kept(&self, stream: u32, index: u32) -> u32
+        requires { index < length (instances_seen (bounded_seen self.now) stream) }
+        ensures { result ≤ kept_in (slice_get (bounded_seen self.now).layout.streams stream) }
+    {
+        lives_of(self, stream).kept(index as usize)
+    }
+
+    /// How many panes are kept now of a window onto an instance: never more than the plan has for the window.
+    pub fn panes(&self, window: u32, index: u32) -> u32
+        requires window { window < length (bounded_seen self.now).layout.windows }
+        requires index { index < length (instances_seen (bounded_seen self.now) (target_of (slice_get (bounded_seen self.now).layout.windows window))) }
+        ensures { MatchOption (slice_get (bounded_seen self.now).layout.panes window) ⊥ (λ p. result ≤ p.count) }
+    {
+        let target = spec_of(self, window).target;
+        let place = place_of_panes(self, window);
+        lives_of(self, target).panes(place, index as usize)
+    }
+}

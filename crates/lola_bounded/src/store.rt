@@ -1,0 +1,34 @@
+//! The store that keeps of each instance only what accesses need.
+
+ghost use Rattle.std.specs.Prelude.{◌≡◌, ◌≤◌, ◌+◌, ◌-◌, ◌^◌, true};
+ghost use Rattle.std.proofs.Props.{props};
+ghost use Rattle.lola_lives.specs.Each.{Each};
+ghost use Rattle.lola_lives.specs.Props.{AllOf-prop, AllGiven-prop, AllPanesOf-prop};
+ghost use Rattle.lola_lives.specs.Rights.{CrowdRight};
+ghost use Rattle.lola_bounded.specs.Placed.{ArePlaced};
+ghost use Rattle.lola_bounded.specs.Stages.{is_on, start_in, time_in};
+
+use crate::stage::Stage;
+use lola_lives::lives::Lives;
+use lola_model::plan::PaneSizes;
+use lola_model::spec::Windows;
+
+/// The store that keeps of each instance its last values, as many as accesses need, and the panes of each window onto it.
+#[derive(Drop)]
+pub struct BoundedStore {
+    pub(crate) windows: Windows,
+    pub(crate) sizes: PaneSizes,
+    pub(crate) stage: Stage,
+    pub(crate) prepared: bool,
+    /// One more than the number of steps that began, so that no step has number 0.
+    pub(crate) step: u64,
+    pub(crate) streams: Vec<Lives>,
+    /// For each window, the place of its panes among those of its target.
+    pub(crate) places: Vec<usize>,
+    ghost step_ge: { 1 ≤ step },
+    ghost step_le: { step ≤ 2 ^ 63 + 1 },
+    ghost begun: { is_on stage ≡ true → 2 ≤ step },
+    ghost time_ge: { start_in stage ≤ time_in stage },
+    ghost right: { Each (CrowdRight (is_on stage) prepared step (time_in stage - start_in stage)) streams.items } by { Prim.hlevel (props, AllOf-prop, AllGiven-prop, AllPanesOf-prop) },
+    ghost placed: { ArePlaced windows sizes places.items streams.items },
+}

@@ -1,0 +1,11 @@
+use Rattle.std.proofs.Common.{◌<◌, length, refl, sym, subst}
+use Rattle.std.proofs.lemmas.Option.{slice_get_read}
+use Rattle.lola_lives.specs.Crowds.{Crowd}
+use Rattle.lola_lives.proofs.Answering.{sound_at}
+use Rattle.lola_lives.proofs.lives.Lives.window_at.Goals as goal
+
+pub returns-clause-takes : goal.returns-clause-takes
+returns-clause-takes c =
+    let ws = c.self.inside.windows.items in
+    let l = subst (λ (k : Crowd). c.args.place < length k.windows) (sym c.self.view_is) c.requires in
+    (sound_at ws c.args.place c.index.result.now c.self.invariant.sound (slice_get_read ws (length ws) c.args.place c.index.result.now refl l c.index.ensures)).kind

@@ -1,0 +1,9 @@
+//! The instances of one stream in little memory: of each the last of its values, and the panes of each window onto the
+//! stream.
+#![tactic(auto)]
+
+pub mod lives;
+mod nothing;
+mod slots;
+#[cfg(test)]
+mod tests;

@@ -1,0 +1,151 @@
+-- What a drill comes to: made-up sources are read in turns, and its end line alone is put.
+use Rattle.std.specs.Prelude.{◌≡◌, ◌⊎◌, ◌<◌, ℕ, List, [], ◌∷◌, None, Some, length, slice_get}
+use Rattle.lola_port.specs.States.{PutBroke, Rose, SourceState, grown}
+use Rattle.lola_value.specs.declared.front.Refusal.{Refusal}
+use Rattle.lola_model.specs.Acceptance.{IsAccepted}
+use Rattle.lola_model.specs.Faults.{RunFault}
+use Rattle.lola_model.specs.Journal.{IsLegal, rows_of}
+use Rattle.lola_model.specs.Model.{HasOneModel}
+use Rattle.lola_model.specs.declared.journal.Entry.{Entry}
+use Rattle.lola_model.specs.declared.journal.Row.{Row}
+use Rattle.lola_model.specs.declared.journal.Show.TheVariants as show
+use Rattle.lola_model.specs.declared.plan.Plan.{Plan}
+use Rattle.lola_front.specs.Front.{IsPlanOf, IsRefusalOf}
+use Rattle.lola_command.specs.declared.command.DrillCommand.{DrillCommand}
+use Rattle.lola_rows.specs.Reading.{fresh, shape_of}
+use Rattle.lola_rows.specs.Rows.{SourceRows, Whole}
+use Rattle.lola_feed.specs.Feeding.{Working, beginning}
+use Rattle.lola_report.specs.Ends.{end_text}
+use Rattle.lola_report.specs.declared.end.EndLine.{EndLine}
+use Rattle.lola_report.specs.declared.end.EndLine.TheVariants.{Done, Usage, Refused, Malformed, Fault, UnreadableSpecification, UnreadableSource, Analysed}
+use Rattle.lola_drill.specs.Drills.{drill_bytes, drill_text}
+use Rattle.lola_run.specs.Verdicts.{AreOfSources, Setting, fault_in, most_rows}
+use Rattle.lola_rounds.specs.Rounds.{AreFirst}
+use Rattle.lola_monitor.specs.declared.outcome.Outcome.{Outcome}
+use Rattle.lola_monitor.specs.declared.outcome.Outcome.TheVariants.{Line, Drilled, Report, Put, Memory}
+use Rattle.lola_monitor.specs.Command.{drill_of}
+use Rattle.lola_monitor.specs.Monitor.{MalformedSource, Outside, Wrote, done_line, fault_line, first_malformed, source_rows}
+
+-- the rows and the end of the made-up source 0 or 1
+abbrev pub drill_rows : Plan → DrillCommand → ℕ → SourceRows
+drill_rows plan d s = source_rows plan s (drill_bytes d.number s d.rows)
+
+-- time begins with the first row, and triggers are shown
+abbrev pub drill_setting : Plan → Setting
+drill_setting plan = record { plan = plan; start = None; show = show.Triggers }
+
+-- rows of both made-up sources were taken in turns, under the drill's specification
+pub record DrillRun (d : DrillCommand) : Type 0 where
+  pub plan : Plan
+  pub is_plan : IsPlanOf drill_text plan
+  pub accepted : IsAccepted plan
+  pub one_model : HasOneModel plan
+  pub journal : List Entry
+  pub legal : IsLegal None journal
+  pub sources : AreOfSources 2 journal
+  pub turns : AreFirst ((drill_rows plan d 0).rows ∷ (drill_rows plan d 1).rows ∷ []) journal
+
+-- all rows of both were taken, each ends well, and no step has a fault
+pub record IsDrillDone (d : DrillCommand) (line : EndLine) : Type 0 where
+  pub run : DrillRun d
+  pub rows : (s : ℕ) → s < 2 → drill_rows run.plan d s ≡ record { rows = rows_of s run.journal; end = Whole }
+  pub no_fault : fault_in (drill_setting run.plan) run.journal ≡ None
+  pub line_is : line ≡ done_line (drill_setting run.plan) run.journal
+
+-- all rows of both were taken up to their malformed lines, and the least source that has one is named
+pub record IsDrillMalformed (d : DrillCommand) (line : EndLine) : Type 0 where
+  pub run : DrillRun d
+  pub rows : (s : ℕ) → s < 2 → (drill_rows run.plan d s).rows ≡ rows_of s run.journal
+  pub at : MalformedSource
+  pub least : first_malformed ((drill_rows run.plan d 0).end ∷ (drill_rows run.plan d 1).end ∷ []) ≡ Some at
+  pub no_fault : fault_in (drill_setting run.plan) run.journal ≡ None
+  pub line_is : line ≡ Malformed at.source at.row at.kind
+
+-- rows were taken up to the first fault
+pub record IsDrillFault (d : DrillCommand) (line : EndLine) : Type 0 where
+  pub run : DrillRun d
+  pub fault : RunFault
+  pub is_fault : fault_in (drill_setting run.plan) run.journal ≡ Some fault
+  pub line_is : line ≡ fault_line run.plan fault
+
+-- a drill, by its end line
+abbrev pub DrillsTo : EndLine → DrillCommand → Type 0
+DrillsTo (Done a l s v) d = IsDrillDone d (Done a l s v)
+DrillsTo (Refused r) d = IsRefusalOf drill_text r
+DrillsTo (Malformed n row kind) d = IsDrillMalformed d (Malformed n row kind)
+DrillsTo (Fault stream kind time) d = IsDrillFault d (Fault stream kind time)
+DrillsTo Usage d = ⊥
+DrillsTo UnreadableSpecification d = ⊥
+DrillsTo (UnreadableSource n) d = ⊥
+DrillsTo (Analysed s w) d = ⊥
+
+-- the words are a drill, and nothing is asked for or traced
+pub record OfDrill (words : List (List ℕ)) (before after : Outside) : Type 0 where
+  pub drill : DrillCommand
+  pub is_command : drill_of words ≡ Some drill
+  pub shelf : after.shelf ≡ before.shelf
+  pub trace : after.trace ≡ before.trace
+
+-- the end line of a drill that ends well, alone
+pub record IsDrilled (words : List (List ℕ)) (before after : Outside) : Type 0 where
+  pub of : OfDrill words before after
+  pub line : EndLine
+  pub done : IsDrillDone of.drill line
+  pub out : after.out ≡ grown before.out (end_text line)
+
+-- that of one whose specification is refused
+pub record IsRefusedDrill (words : List (List ℕ)) (before after : Outside) : Type 0 where
+  pub of : OfDrill words before after
+  pub refusal : Refusal
+  pub cause : IsRefusalOf drill_text refusal
+  pub out : Wrote before.out after.out (end_text (Refused refusal))
+
+-- that of one with a malformed source
+pub record IsMalformedDrill (words : List (List ℕ)) (before after : Outside) : Type 0 where
+  pub of : OfDrill words before after
+  pub line : EndLine
+  pub malformed : IsDrillMalformed of.drill line
+  pub out : after.out ≡ grown before.out (end_text line)
+
+-- that of one whose rows have a fault
+pub record IsFaultyDrill (words : List (List ℕ)) (before after : Outside) : Type 0 where
+  pub of : OfDrill words before after
+  pub line : EndLine
+  pub fault : IsDrillFault of.drill line
+  pub out : Wrote before.out after.out (end_text line)
+
+-- the put of the end line failed, of a drill that ends well or with a malformed source
+pub record IsCutDrill (words : List (List ℕ)) (before after : Outside) : Type 0 where
+  pub of : OfDrill words before after
+  pub line : EndLine
+  pub is : IsDrillDone of.drill line ⊎ IsDrillMalformed of.drill line
+  pub out : PutBroke before.out after.out (end_text line)
+
+-- how a drill ends before its line is put
+abbrev pub DrillsBy : Outcome → DrillCommand → Type 0
+DrillsBy (Line line) d = ⊥
+DrillsBy (Drilled line) d = DrillsTo line d
+DrillsBy (Report text) d = ⊥
+DrillsBy Put d = ⊥
+DrillsBy Memory d = Unit {0}
+
+-- the worker of source 0 or 1 of a drill before its first turn, over all bytes of that source
+pub record IsDrillWorker (plan : Plan) (d : DrillCommand) (source : ℕ) (worker : Working) : Type 0 where
+  pub file : SourceState
+  pub is : worker ≡ beginning (fresh (shape_of plan.spec.streams source most_rows) file)
+  pub left : file.left ≡ Some (drill_bytes d.number source d.rows)
+  pub count : file.count ≡ 0
+
+-- the workers of both
+pub record AreDrillWorkers (plan : Plan) (d : DrillCommand) (workers : List Working) : Type 0 where
+  pub many : length workers ≡ 2
+  pub each : (s : ℕ) (w : Working) → slice_get workers s ≡ Some w → IsDrillWorker plan d s w
+
+-- a drill whose specification is not refused, whose sources end well and whose rows have no fault, and no put of which failed
+pub record IsCleanDrill (words : List (List ℕ)) (before after : Outside) : Type 0 where
+  pub drill : DrillCommand
+  pub is_command : drill_of words ≡ Some drill
+  pub not_refused : (r : Refusal) → IsRefusalOf drill_text r → ⊥
+  pub ends : (plan : Plan) (s : ℕ) → IsPlanOf drill_text plan → s < 2 → (drill_rows plan drill s).end ≡ Whole
+  pub no_fault : (run : DrillRun drill) → fault_in (drill_setting run.plan) run.journal ≡ None
+  pub out : Rose before.out.count after.out.count → ⊥

@@ -1,0 +1,134 @@
+//! A drill: two made-up sources, run in turns.
+ghost use Rattle.std.specs.Prelude.{◌≡◌, ◌<◌, ◌≤◌, [], All, IfOk};
+ghost use Rattle.lola_drill.specs.Drills.{drill_text};
+ghost use Rattle.lola_front.specs.Front.{IsPlanOf};
+ghost use Rattle.lola_model.specs.Acceptance.{IsAccepted};
+ghost use Rattle.lola_model.specs.Model.{HasOneModel};
+ghost use Rattle.lola_run.specs.Running.{Stands, keeping, setting_in};
+ghost use Rattle.lola_monitor.specs.Drilling.{AreDrillWorkers, DrillsBy, IsDrillWorker, drill_setting};
+
+use crate::ending::{end_of, outcome_after};
+use crate::outcome::{Outcome, Unplanned};
+use crate::planning::plan_of;
+use lola_command::command::DrillCommand;
+use lola_drill::{Drill, specification};
+use lola_feed::worker::SourceWorker;
+use lola_model::journal::Show;
+use lola_model::plan::Plan;
+use lola_port::{Gate, PutEnd, Sink};
+use lola_report::end::EndLine;
+use lola_rounds::rows::{MOST_ROWS, run_in_turns};
+use lola_rows::RowReader;
+use lola_run::run::Run;
+use lola_value::text::Memory;
+use std::alloc::Global;
+use std::thread::Threads;
+
+/// Where the lines of a drill go: nowhere. No put fails.
+#[derive(Drop)]
+struct Nowhere;
+
+impl Sink for Nowhere {
+    ghost use Rattle.std.specs.Prelude.{None};
+
+    ghost state = { λ _. record { written = None; count = 0 } };
+
+    fn put(&mut self, _bytes: &[u8]) -> Result<(), PutEnd> {
+        Ok(())
+    }
+}
+
+// The worker of source 0 or 1 of a drill.
+fn drill_worker(
+    alloc: Global,
+    plan: &Plan,
+    command: &DrillCommand,
+    source: u32,
+) -> Result<SourceWorker<Drill>, Memory>
+    requires source { source < 2 }
+    requires number { command.now.number < 2147483647 }
+    ensures { IfOk result (λ worker. IsDrillWorker plan.now command.now source worker) }
+{
+    let file = Drill::create(command.number, source, command.rows);
+    let reader = RowReader::create(alloc, plan, source, MOST_ROWS, file)?;
+    Ok(SourceWorker::create(reader))
+}
+
+// The workers of both sources, and a run of the plan.
+fn drill_room(
+    alloc: Global,
+    plan: Plan,
+    command: &DrillCommand,
+) -> Result<(Run, Vec<SourceWorker<Drill>>), Memory>
+    requires accepted { IsAccepted plan }
+    requires number { command.now.number < 2147483647 }
+    requires workers { (1 ≤ command.now.workers) × (command.now.workers ≤ 64) }
+    ensures run { IfOk result (λ room. Stands [] (keeping room.0)) }
+    ensures setting { IfOk result (λ room. setting_in (keeping room.0) ≡ drill_setting plan) }
+    ensures workers { IfOk result (λ room. AreDrillWorkers plan command.now room.1.items) }
+{
+    let mut workers = Vec::with_capacity(alloc, 2)?;
+    workers.push_reserved(drill_worker(alloc, &plan, command, 0)?);
+    workers.push_reserved(drill_worker(alloc, &plan, command, 1)?);
+    let run = Run::create(alloc, plan, None, Show::Triggers, command.workers)?;
+    Ok((run, workers))
+}
+
+// Lets workers go, none of whose sources has failed.
+fn let_go(workers: Vec<SourceWorker<Drill>>)
+    ensures { All (λ worker. worker.reader.source.count ≡ 0) workers.items }
+{
+    let mut workers = workers;
+    while let Some(worker) = workers.pop() {
+        let _source = worker.into_reader().into_source();
+    }
+}
+
+// Runs the made-up sources of a plan.
+fn run_drill<R: Threads + Sync, G: Gate + Sync>(
+    rt: &R,
+    alloc: Global,
+    plan: Plan,
+    command: &DrillCommand,
+    gate: &G,
+) -> Outcome
+    requires accepted { IsAccepted plan }
+    requires number { command.now.number < 2147483647 }
+    requires workers { (1 ≤ command.now.workers) × (command.now.workers ≤ 64) }
+    ensures { IsPlanOf drill_text plan → HasOneModel plan → DrillsBy result command.now }
+{
+    let (mut run, workers) = match drill_room(alloc, plan, command) {
+        Ok(room) => room,
+        Err(_) => return Outcome::Memory,
+    };
+    let mut out = Nowhere;
+    let mut trace = Nowhere;
+    let (workers, stopped) = run_in_turns(
+        rt, alloc, &mut run, workers, None, &mut out, &mut trace, gate,
+    );
+    let end = end_of(workers.as_slice());
+    let_go(workers);
+    match outcome_after(alloc, &run, stopped, end) {
+        Outcome::Line(line) => Outcome::Drilled(line),
+        _ => Outcome::Memory,
+    }
+}
+
+/// Compiles the drill's specification and runs its two made-up sources under it, in turns. It fetches nothing, puts nothing, and
+/// keeps one row of each source at most.
+pub fn drill<R: Threads + Sync, G: Gate + Sync>(
+    rt: &R,
+    alloc: Global,
+    command: &DrillCommand,
+    gate: &G,
+) -> Outcome
+    requires number { command.now.number < 2147483647 }
+    requires workers { (1 ≤ command.now.workers) × (command.now.workers ≤ 64) }
+    ensures { DrillsBy result command.now }
+{
+    match plan_of(alloc, specification().as_bytes()) {
+        Ok(plan) => run_drill(rt, alloc, plan, command, gate),
+        Err(Unplanned::Refused(refusal)) => Outcome::Drilled(EndLine::Refused(refusal)),
+        Err(_) => Outcome::Memory,
+    }
+}

@@ -1,0 +1,255 @@
+-- An entry behind a journal is traced and run, and what becomes of one after another.
+use Rattle.std.proofs.Common.{◌≡◌, ℕ, ◌+◌, ◌<◌, List, [], ◌∷◌, ◌++◌, Option, None, Some, Result, Ok, Err, refl, sym, ap, ◌∙◌, inl, inr, ⊎_elim, arith, append_assoc, subst, length}
+use Rattle.std.proofs.lemmas.List.{append-nil}
+use Rattle.std.proofs.lemmas.List.Elements.{All-append, All-push}
+use Rattle.std.specs.Io.KnownBytes.{append_known}
+use Rattle.lola_port.specs.States.{IsProperPart, Rose, SinkState, grown}
+use Rattle.lola_model.specs.Journal.{IsLegal, IsLegalFrom, IsRightlyMarked, opening_time}
+use Rattle.lola_model.specs.Faults.{RunFault}
+use Rattle.lola_model.specs.Texts.{text_of}
+use Rattle.lola_model.specs.Trace.{trace_line, trace_text}
+use Rattle.lola_model.specs.Runs.{settled_lines}
+use Rattle.lola_model.specs.declared.journal.Row.{Row}
+use Rattle.lola_model.specs.declared.journal.Entry.{Entry}
+use Rattle.lola_model.specs.declared.journal.Mark.{Mark}
+use Rattle.lola_model.specs.declared.journal.Mark.TheVariants as mark
+use Rattle.lola_model.proofs.Journals.{IsLegalFrom-append_left, IsLegalFrom-append_right, text_of-append, trace_text-append_one}
+use Rattle.lola_engine.specs.Engines.{Brings}
+use Rattle.lola_run.specs.Verdicts.{AreOfSources, HasFrontOf, HasLines, IsFineBefore, IsRowFault, Setting, settled_fault_in, settled_text, verdicts}
+use Rattle.lola_run.specs.Running.{CutNext, FaultNext, HasRoom, IsAccepted, IsNext, IsSetAs, Keeping, KeptNext, MayFail, Puts, StandsNext, Takes, setting_in}
+use Rattle.lola_run.specs.declared.stop.Stop.{Stop}
+use Rattle.lola_run.specs.declared.stop.Stop.TheVariants as stop
+use Rattle.lola_run.proofs.Fronts.{text_front}
+use Rattle.lola_run.proofs.Sinks.{grown_part, known_nil, more_text, some_line}
+use Rattle.lola_run.proofs.Taking.{merged_is}
+use Rattle.lola_threads.specs.Takings.{HasFailed, HasRun, Halts, IsBroken, IsCut, IsFit, IsStopped, IsUnderWay, Place, RunsOne, most_taken, place}
+use Rattle.lola_threads.specs.declared.halt.Halt.{Halt}
+use Rattle.lola_threads.specs.declared.halt.Halt.TheVariants as halt
+
+-- whole lines, and no part of another
+no_part : (s0 s1 : SinkState) (journal : List Entry) (entry : Entry) → 0 < length (trace_line entry) → s1 ≡ grown s0 (trace_text journal) → HasLines s0 s1 journal
+no_part s0 s1 journal entry some is = record {
+  entry = entry;
+  part = [];
+  is_part = record { rest = trace_line entry; joined = refl; not_whole = some };
+  written = ap (λ s. s.written) is ∙ ap (append_known s0.written) (sym (append-nil (trace_text journal)));
+}
+
+-- the lines that an entry brings, in a setting
+abbrev BringsIn : Setting → List Entry → Entry → List (List ℕ) → Type 0
+BringsIn s journal entry lines = settled_lines s.plan s.start (journal ++ entry ∷ []) s.show ≡ settled_lines s.plan s.start journal s.show ++ lines
+
+text_more : (s : Setting) (journal : List Entry) (entry : Entry) (lines : List (List ℕ)) → BringsIn s journal entry lines → settled_text s (journal ++ entry ∷ []) ≡ settled_text s journal ++ text_of lines
+text_more s journal entry lines brings = ap text_of brings ∙ text_of-append (settled_lines s.plan s.start journal s.show) lines
+
+marked_so : (row : Row) (m : Mark) → IsAccepted (record { row = row; mark = m }) → ◌≡◌ {A = Entry} (record { row = row; mark = m }) (record { row = row; mark = mark.Accepted })
+marked_so row mark.Accepted is = refl
+marked_so row (mark.Late t) is = absurd is
+
+accepted_is : (entry : Entry) → IsAccepted entry → entry ≡ record { row = entry.row; mark = mark.Accepted }
+accepted_is entry is = marked_so entry.row entry.mark is
+
+-- a front of the settled text is one of all verdicts
+front_of_all : (s : Setting) (journal : List Entry) (old new : SinkState) (part rest : List ℕ) → settled_text s journal ≡ part ++ rest → new.written ≡ append_known old.written part → HasFrontOf old new (verdicts s journal)
+front_of_all s journal old new part rest joined written =
+    let more = text_front s journal in
+    record { part = part; rest = rest ++ more.0; joined = more.1 ∙ (ap (λ (l : List ℕ). l ++ more.0) joined ∙ append_assoc part rest more.0); written = written }
+
+module _ (first : Place) (journal : List Entry) (k0 : Keeping) (o0 t0 : SinkState) (so : HasRun first journal (place k0 o0 t0)) (entry : Entry) where
+  fine_so_far : settled_fault_in (setting_in first.kept) journal ≡ None
+  fine_so_far = ap (λ (s : Setting). settled_fault_in s journal) (sym so.setting) ∙ so.stands.engine.fine
+
+  -- an entry's line was not put whole
+  cut_in_line : (t1 : SinkState) (part : List ℕ) → IsProperPart part (trace_line entry) → t1.written ≡ append_known t0.written part → IsCut first journal (place k0 o0 t1)
+  cut_in_line t1 part is written = record {
+    trace = record { entry = entry; part = part; is_part = is; written = grown_part first.trace t0 t1 (trace_text journal) part so.trace written };
+    out = front_of_all (setting_in first.kept) journal first.out o0 (settled_text (setting_in first.kept) journal) [] (sym (append-nil _)) (ap (λ s. s.written) so.out);
+  }
+
+  pub not_traced : (t1 : SinkState) (how : Stop) → Puts (Err how) (trace_line entry) t0 t1 → RunsOne (Err how) first journal entry (place k0 o0 t1)
+  not_traced t1 (stop.Fault stream kind time) puts = absurd puts
+  not_traced t1 stop.Put puts = (
+    journal,
+    inl refl,
+    record { cut = cut_in_line t1 puts.part puts.is_part puts.written; no_fault = inl fine_so_far; rose = inr (subst (λ n. Rose n t1.count) (ap (λ s. s.count) so.trace) puts.rose) },
+  )
+  not_traced t1 stop.Memory puts =
+      (journal, inl refl, cut_in_line t1 [] (record { rest = trace_line entry; joined = refl; not_whole = some_line entry }) (ap (λ s. s.written) puts ∙ sym (known_nil t0.written)))
+
+  -- an entry's line was put, and it was given to the run
+  module _ (k1 : Keeping) (o1 t1 : SinkState) (traced : t1 ≡ grown t0 (trace_line entry)) where
+    trace_is : t1 ≡ grown first.trace (trace_text (journal ++ entry ∷ []))
+    trace_is = more_text _ _ _ _ _ _ so.trace traced (trace_text-append_one journal entry)
+
+    text_is : (lines : List (List ℕ)) → Brings k0.desk journal entry lines → settled_text (setting_in first.kept) (journal ++ entry ∷ []) ≡ settled_text (setting_in first.kept) journal ++ text_of lines
+    text_is lines brings = text_more (setting_in first.kept) journal entry lines (subst (λ (s : Setting). BringsIn s journal entry lines) so.setting brings)
+
+    row_fault : (fault : RunFault) → IsAccepted entry → settled_fault_in (setting_in k0) (journal ++ entry ∷ []) ≡ Some fault → IsRowFault (setting_in first.kept) (journal ++ entry ∷ []) fault
+    row_fault fault accepted is = record {
+      front = journal;
+      row = entry.row;
+      whole = ap (λ (e : Entry). journal ++ e ∷ []) (accepted_is entry accepted);
+      none_before = fine_so_far;
+      settled = ap (λ (s : Setting). settled_fault_in s (journal ++ entry ∷ [])) (sym so.setting) ∙ is;
+    }
+
+    -- an entry that may have a fault is the last of the journal
+    fine_before : MayFail (setting_in k0) journal entry → IsFineBefore (setting_in first.kept) (journal ++ entry ∷ [])
+    fine_before (inl fine) = inl (ap (λ (s : Setting). settled_fault_in s (journal ++ entry ∷ [])) (sym so.setting) ∙ fine)
+    fine_before (inr bad) = inr (bad.1.0, row_fault bad.1.0 bad.0 bad.1.1)
+
+    -- this much of an entry's verdicts was put
+    cut_behind : (lines : List (List ℕ)) (part rest : List ℕ) → Brings k0.desk journal entry lines → text_of lines ≡ part ++ rest → o1.written ≡ append_known o0.written part
+        → IsCut first (journal ++ entry ∷ []) (place k1 o1 t1)
+    cut_behind lines part rest brings joined written = record {
+      trace = no_part first.trace t1 (journal ++ entry ∷ []) entry (some_line entry) trace_is;
+      out = front_of_all (setting_in first.kept) (journal ++ entry ∷ []) first.out o1 (settled_text (setting_in first.kept) journal ++ part) rest
+          (text_is lines brings ∙ ap (λ (l : List ℕ). settled_text (setting_in first.kept) journal ++ l) joined ∙ sym (append_assoc _ part rest))
+          (grown_part first.out o0 o1 _ part so.out written);
+    }
+
+    ran : StandsNext journal entry k0 k1 o0 o1 → IsSetAs k0 k1 → HasRun first (journal ++ entry ∷ []) (place k1 o1 t1)
+    ran next setting = record { stands = next.stands; setting = setting ∙ so.setting; trace = trace_is; out = more_text _ _ _ _ _ _ so.out next.out (text_is next.lines next.brings) }
+
+    failed : (fault : RunFault) → FaultNext fault journal entry k0 o0 o1 → IsAccepted entry → HasFailed fault first (journal ++ entry ∷ []) (place k1 o1 t1)
+    failed fault bad accepted = record { stands = row_fault fault accepted bad.is_fault; trace = trace_is; out = more_text _ _ _ _ _ _ so.out bad.out (text_is bad.lines bad.brings) }
+
+    broken : CutNext journal entry k0 o0 o1 → Rose o0.count o1.count → IsBroken first (journal ++ entry ∷ []) (place k1 o1 t1)
+    broken c rose = record {
+      cut = cut_behind c.lines c.out.part c.out.is_part.rest c.brings c.out.is_part.joined c.out.written;
+      no_fault = fine_before c.fails;
+      rose = inl (subst (λ n. Rose n o1.count) (ap (λ s. s.count) so.out) rose);
+    }
+
+    unput : KeptNext journal entry k0 o0 o1 → IsCut first (journal ++ entry ∷ []) (place k1 o1 t1)
+    unput c = cut_behind c.lines [] (text_of c.lines) c.brings refl (ap (λ s. s.written) c.out ∙ sym (known_nil o0.written))
+
+    pub ran_one : (result : Result (Unit {0}) Stop) → Takes result entry k0 k1 o0 o1 → RunsOne result first journal entry (place k1 o1 t1)
+    ran_one (Ok done) takes = ran (takes.0 journal so.stands) takes.1
+    ran_one (Err (stop.Fault stream kind time)) takes = (journal ++ entry ∷ [], inr refl, failed (record { stream = stream; kind = kind; time = time }) (takes.0 journal so.stands) takes.1)
+    ran_one (Err stop.Put) takes = (journal ++ entry ∷ [], inr refl, broken (takes.0 journal so.stands) takes.1)
+    ran_one (Err stop.Memory) takes = (journal ++ entry ∷ [], inr refl, unput (takes.0 journal so.stands))
+
+-- one entry more, of one of so many sources
+of_sources_more : (count : ℕ) (journal : List Entry) (entry : Entry) → AreOfSources count journal → entry.row.source < count → AreOfSources count (journal ++ entry ∷ [])
+of_sources_more count journal entry all less = All-push (λ (e : Entry). e.row.source < count) journal entry all less
+
+-- an entry stopped the run
+pub one_stopped : (how : Stop) (count : ℕ) (first : Place) (journal : List Entry) (entry : Entry) (now : Place) → AreOfSources count journal → entry.row.source < count
+    → RunsOne (Err how) first journal entry now → Halts (Err (halt.Stopped how)) count first (journal ++ entry ∷ []) now
+one_stopped how count first journal entry now all less (front, at, stops) = ⊎_elim
+    (λ (is : front ≡ journal). before is)
+    (λ (is : front ≡ journal ++ entry ∷ []). behind is)
+    at
+  where
+    before : front ≡ journal → IsStopped how count first (journal ++ entry ∷ []) now
+    before is = record { front = front; behind = entry ∷ []; joined = ap (λ l. l ++ entry ∷ []) (sym is); sources = subst (AreOfSources count) (sym is) all; stops = stops }
+
+    behind : front ≡ journal ++ entry ∷ [] → IsStopped how count first (journal ++ entry ∷ []) now
+    behind is = record { front = front; behind = []; joined = sym is ∙ sym (append-nil front); sources = subst (AreOfSources count) (sym is) (of_sources_more count journal entry all less); stops = stops }
+
+-- an entry that no run takes
+pub one_unfit : (count : ℕ) (first : Place) (journal : List Entry) (entry : Entry) (now : Place) → AreOfSources count journal → HasRun first journal now → (IsFit count now.kept entry → ⊥)
+    → Halts (Err halt.Unfit) count first (journal ++ entry ∷ []) now
+one_unfit count first journal entry now all run unfit = record { front = journal; entry = entry; behind = []; joined = refl; sources = all; run = run; unfit = unfit }
+
+-- an entry was run
+pub one_run : (count : ℕ) (first : Place) (journal : List Entry) (entry : Entry) (now : Place) → AreOfSources count journal → entry.row.source < count → HasRun first (journal ++ entry ∷ []) now
+    → Halts (Ok tt) count first (journal ++ entry ∷ []) now
+one_run count first journal entry now all less run = (run, of_sources_more count journal entry all less)
+
+-- what stands behind an end changes nothing of it
+pub more_behind : (how : Halt) (count : ℕ) (first : Place) (front behind whole : List Entry) (now : Place) → whole ≡ front ++ behind → Halts (Err how) count first front now → Halts (Err how) count first whole now
+more_behind (halt.Stopped how) count first front behind whole now is h = record {
+  front = h.front;
+  behind = h.behind ++ behind;
+  joined = is ∙ (ap (λ l. l ++ behind) h.joined ∙ append_assoc h.front h.behind behind);
+  sources = h.sources;
+  stops = h.stops;
+}
+more_behind halt.Unfit count first front behind whole now is h = record {
+  front = h.front;
+  entry = h.entry;
+  behind = h.behind ++ behind;
+  joined = is ∙ (ap (λ l. l ++ behind) h.joined ∙ append_assoc h.front (h.entry ∷ h.behind) behind);
+  sources = h.sources;
+  run = h.run;
+  unfit = h.unfit;
+}
+
+-- the next entry is rightly marked
+pub next_marked : (now : Place) (entry : Entry) (more : List Entry) → IsUnderWay now (entry ∷ more) → IsNext now.kept entry
+next_marked now entry more way =
+    let legal = IsLegalFrom-append_right (opening_time now.kept.desk.option) way.journal (entry ∷ more) way.marked in
+    subst (λ t. IsRightlyMarked t entry) (sym (merged_is way.journal now.kept way.run.stands)) legal.0
+
+-- the next entry alone
+pub way_to_next : (now : Place) (entry : Entry) (more : List Entry) → IsUnderWay now (entry ∷ more) → IsUnderWay now (entry ∷ [])
+way_to_next now entry more way = record {
+  first = way.first;
+  journal = way.journal;
+  run = way.run;
+  marked = IsLegalFrom-append_left (opening_time now.kept.desk.option) (way.journal ++ entry ∷ []) more
+      (subst (IsLegalFrom (opening_time now.kept.desk.option)) (sym (append_assoc way.journal (entry ∷ []) more)) way.marked);
+}
+
+-- the way goes on behind an entry
+pub way_on : (now next : Place) (entry : Entry) (more : List Entry) → IsUnderWay now (entry ∷ more) → ((first : Place) (journal : List Entry) → HasRun first journal now → HasRun first (journal ++ entry ∷ []) next)
+    → IsSetAs now.kept next.kept → IsUnderWay next more
+way_on now next entry more way goes setting = record {
+  first = way.first;
+  journal = way.journal ++ entry ∷ [];
+  run = goes way.first way.journal way.run;
+  marked = subst (λ (o : Option ℕ). IsLegal o ((way.journal ++ entry ∷ []) ++ more)) (sym (ap (λ (s : Setting). s.start) setting))
+      (subst (IsLegalFrom (opening_time now.kept.desk.option)) (sym (append_assoc way.journal (entry ∷ []) more)) way.marked);
+}
+
+-- a run that may count one row more has room for it
+pub has_room : (now : Place) (more : List Entry) → IsUnderWay now more → now.kept.accepted + now.kept.late < most_taken → HasRoom now.kept
+has_room now more way few =
+    let rows : now.kept.desk.rows ≡ now.kept.accepted = way.run.stands.engine.rows ∙ sym way.run.stands.accepted in
+    record { engine = omega arith; rows = omega arith }
+
+-- some entries were run one after another, and these are left
+pub record RanSome (count : ℕ) (old new : Place) (all left : List Entry) : Type 0 where
+  pub done : List Entry
+  pub split : all ≡ done ++ left
+  pub sources : AreOfSources count done
+  pub runs : (first : Place) (journal : List Entry) → HasRun first journal old → HasRun first (journal ++ done) new
+
+pub ran_none : (count : ℕ) (old : Place) (all : List Entry) → RanSome count old old all all
+ran_none count old all = record {
+  done = [];
+  split = refl;
+  sources = λ k d l. absurd (omega arith);
+  runs = λ first journal run. subst (λ l. HasRun first l old) (sym (append-nil journal)) run;
+}
+
+pub ran_more : (count : ℕ) (old mid new : Place) (all : List Entry) (entry : Entry) (left : List Entry) → RanSome count old mid all (entry ∷ left) → entry.row.source < count
+    → ((first : Place) (journal : List Entry) → HasRun first journal mid → HasRun first (journal ++ entry ∷ []) new) → RanSome count old new all left
+ran_more count old mid new all entry left some less goes = record {
+  done = some.done ++ entry ∷ [];
+  split = some.split ∙ sym (append_assoc some.done (entry ∷ []) left);
+  sources = of_sources_more count some.done entry some.sources less;
+  runs = λ first journal run. subst (λ l. HasRun first l new) (append_assoc journal some.done (entry ∷ [])) (goes first (journal ++ some.done) (some.runs first journal run));
+}
+
+-- all of them were run
+pub all_run : (count : ℕ) (old new : Place) (all : List Entry) → RanSome count old new all [] → (first : Place) (journal : List Entry) → HasRun first journal old → HasRun first (journal ++ all) new
+all_run count old new all some first journal run = subst (λ l. HasRun first (journal ++ l) new) (sym (some.split ∙ append-nil some.done)) (some.runs first journal run)
+
+pub all_halts : (count : ℕ) (old new : Place) (all : List Entry) → RanSome count old new all [] → (first : Place) (journal : List Entry) → HasRun first journal old → AreOfSources count journal
+    → Halts (Ok tt) count first (journal ++ all) new
+all_halts count old new all some first journal run sources = (
+  all_run count old new all some first journal run,
+  subst (λ l. AreOfSources count (journal ++ l)) (sym (some.split ∙ append-nil some.done)) (All-append (λ (e : Entry). e.row.source < count) journal some.done sources some.sources),
+)
+
+-- the next of them ended it
+pub next_halts : (how : Halt) (count : ℕ) (old mid new : Place) (all : List Entry) (entry : Entry) (left : List Entry) → RanSome count old mid all (entry ∷ left)
+    → ((first : Place) (journal : List Entry) → HasRun first journal mid → AreOfSources count journal → Halts (Err how) count first (journal ++ entry ∷ []) new)
+    → (first : Place) (journal : List Entry) → HasRun first journal old → AreOfSources count journal → Halts (Err how) count first (journal ++ all) new
+next_halts how count old mid new all entry left some ends first journal run sources =
+    more_behind how count first ((journal ++ some.done) ++ entry ∷ []) left (journal ++ all) new
+    (ap (λ l. journal ++ l) some.split ∙ (sym (append_assoc journal some.done (entry ∷ left)) ∙ sym (append_assoc (journal ++ some.done) (entry ∷ []) left)))
+    (ends first (journal ++ some.done) (some.runs first journal run) (All-append (λ (e : Entry). e.row.source < count) journal some.done sources some.sources))

@@ -1,0 +1,13 @@
+pub mod SentPosts
+pub mod Fitting
+pub mod Entries
+pub mod Passing
+pub mod Took
+pub mod Offering
+pub mod Places
+pub mod Pairing
+pub mod Settling
+pub mod Many
+pub mod Joined
+pub mod Posting
+pub mod Threading

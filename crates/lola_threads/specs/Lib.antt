@@ -1,0 +1,3 @@
+pub mod Posts
+pub mod Takings
+pub mod Joining

@@ -1,0 +1,254 @@
+//! A run whose sources are read on threads of their own.
+ghost use Rattle.std.specs.Prelude.{◌≡◌, ◌≤◌, ◌↔◌, [], Err, Some, IfOk, IsTrue, OnOk, false, length, map, reverse, vec_capacity};
+ghost use Rattle.std.specs.List.{AllZip};
+ghost use Rattle.lola_port.specs.States.{SinkState};
+ghost use Rattle.lola_model.specs.Trace.{input_kinds};
+ghost use Rattle.lola_feed.specs.Feeding.{Working};
+ghost use Rattle.lola_intake.specs.Intakes.{Shown, new_seat, setting};
+ghost use Rattle.lola_run.specs.Running.{IsGoing, Stands, keeping};
+ghost use Rattle.lola_rounds.specs.Feeds.{AreInPlace, AreReady, EndsRun, World, supply_of, world};
+ghost use Rattle.lola_threads.specs.Joining.{Joins};
+ghost use Rattle.lola_threads.specs.Posts.{AreNewSeats, SomeOutOfMemory, posts_of};
+ghost use Rattle.lola_threads.specs.declared.halt.Halt.TheVariants as halt;
+
+use crate::fit::Inputs;
+use crate::halt::Halt;
+use crate::posts::Post;
+use crate::sending::send_all;
+use crate::taking::Taker;
+use lola_feed::worker::{SourceEnd, SourceWorker};
+use lola_intake::intake::Intake;
+use lola_intake::seats::SourceSeat;
+use lola_merge::batch::Batch;
+use lola_model::plan::Plan;
+use lola_port::{Gate, Sink, Source};
+use lola_rounds::law::stopped_runs_end;
+use lola_rounds::rows::run_out;
+use lola_run::run::Run;
+use lola_run::stop::Stop;
+use lola_value::text::Memory;
+use std::alloc::Global;
+use std::sync::Wait;
+use std::sync::atomic::AtomicBool;
+use std::thread::Threads;
+
+/// The room that a run with threads takes before the first is started: the intake with its seats, a flag for each source, room for
+/// the posts that wait, for those that no thread could be started for and for those that came back, and for what the intake has left
+/// at its end.
+#[derive(Drop)]
+struct Room<S: Source> {
+    intake: Intake,
+    seats: Vec<SourceSeat>,
+    taker: Taker,
+    flags: Vec<AtomicBool>,
+    waiting: Vec<Post<S>>,
+    here: Vec<Post<S>>,
+    back: Vec<Post<S>>,
+    left: Batch,
+}
+
+impl<S: Source> Room<S> {
+    // Room for so many sources of a plan.
+    fn create(alloc: Global, plan: &Plan, count: u32, start: Option<u64>) -> Result<Room<S>, Memory>
+        requires { (1 ≤ count) × (count ≤ 64) }
+        ensures taker { IfOk result (λ room. room.taker ≡ record { seat = new_seat room.intake (setting count start) 0 0; inputs = record { count = count; kinds = input_kinds plan.now.spec.streams }; batch = [] }) }
+        ensures seats { IfOk result (λ room. AreNewSeats room.intake (setting count start) count room.seats.items) }
+        ensures flags { IfOk result (λ room. length room.flags.items ≡ count) }
+        ensures waiting { IfOk result (λ room. (room.waiting.items ≡ []) × (count ≤ vec_capacity room.waiting)) }
+        ensures here { IfOk result (λ room. (room.here.items ≡ []) × (count ≤ vec_capacity room.here)) }
+        ensures back { IfOk result (λ room. (room.back.items ≡ []) × (count ≤ vec_capacity room.back)) }
+        ensures left { IfOk result (λ room. room.left ≡ []) }
+    {
+        let places = count as usize;
+        let waiting = Vec::with_capacity(alloc, places)?;
+        let here = Vec::with_capacity(alloc, places)?;
+        let back = Vec::with_capacity(alloc, places)?;
+        let flags = new_flags(alloc, count)?;
+        let left = Batch::create(alloc)?;
+        let batch = Batch::create(alloc)?;
+        let inputs = Inputs::create(alloc, plan, count)?;
+        let (intake, seats, seat) = Intake::create(alloc, count, start)?;
+        Ok(Room {
+            intake,
+            seats,
+            taker: Taker::create(seat, inputs, batch),
+            flags,
+            waiting,
+            here,
+            back,
+            left,
+        })
+    }
+}
+
+// So many flags that are not set.
+fn new_flags(alloc: Global, count: u32) -> Result<Vec<AtomicBool>, Memory>
+    ensures { IfOk result (λ flags. length flags.items ≡ count) }
+{
+    let mut flags = Vec::with_capacity(alloc, count as usize)?;
+    for _ in 0..count {
+        flags.push_reserved(AtomicBool::new(false));
+    }
+    Ok(flags)
+}
+
+// Joins each worker with the seat of its source, the last first.
+fn make_posts<S: Source>(
+    workers: &mut Vec<SourceWorker<S>>,
+    seats: &mut Vec<SourceSeat>,
+    waiting: &mut Vec<Post<S>>,
+)
+    requires pairs { AllZip (λ (w : Working) (p : Shown). w.reader.shape.index ≡ p.source) workers.old.items seats.old.items }
+    requires none { waiting.old.items ≡ [] }
+    requires room { length workers.old.items ≤ vec_capacity waiting.old }
+    ensures posts { reverse waiting.new.items ≡ posts_of workers.old.items seats.old.items }
+    ensures workers { (workers.new.items ≡ []) × (vec_capacity workers.new ≡ vec_capacity workers.old) }
+    ensures seats { (seats.new.items ≡ []) × (vec_capacity seats.new ≡ vec_capacity seats.old) }
+{
+    while let Some(worker) = workers.pop() {
+        if let Some(seat) = seats.pop() {
+            waiting.push_reserved(Post::create(worker, seat));
+        }
+    }
+}
+
+// Takes posts apart, the last first.
+fn take_apart<S: Source>(
+    back: Vec<Post<S>>,
+    workers: &mut Vec<SourceWorker<S>>,
+    seats: &mut Vec<SourceSeat>,
+)
+    requires none { (workers.old.items ≡ []) × (seats.old.items ≡ []) }
+    requires room { (length back.items ≤ vec_capacity workers.old) × (length back.items ≤ vec_capacity seats.old) }
+    ensures posts { posts_of workers.new.items seats.new.items ≡ reverse back.items }
+    ensures many { (length workers.new.items ≡ length back.items) × (length seats.new.items ≡ length back.items) }
+{
+    let mut back = back;
+    while let Some(post) = back.pop() {
+        let (worker, seat) = post.into_parts();
+        workers.push_reserved(worker);
+        seats.push_reserved(seat);
+    }
+}
+
+// Whether a worker has ended for want of memory.
+fn is_out_of_memory(end: Option<SourceEnd>) -> bool
+    ensures { IsTrue result ↔ (end ≡ Some SourceEnd.Memory) }
+{
+    matches!(end, Some(SourceEnd::Memory))
+}
+
+// Whether one of these workers has.
+fn any_out_of_memory<S: Source>(workers: &[SourceWorker<S>]) -> bool
+    ensures { IsTrue result ↔ SomeOutOfMemory workers.now }
+{
+    for worker in workers {
+        if is_out_of_memory(worker.end()) {
+            return true;
+        }
+    }
+    false
+}
+
+// What a run ends with, once all rows of its sources came or it was stopped, and all threads were joined.
+fn settle<R: Threads + Sync, S: Source, K: Sink, G: Gate + Sync>(
+    rt: &R,
+    run: &mut Run,
+    workers: &[SourceWorker<S>],
+    halted: Result<(), Halt>,
+    out: &mut K,
+    gate: &G,
+) -> Result<(), Stop>
+    requires going { OnOk halted (IsGoing (keeping run.old)) }
+    requires fit { halted ≡ Err halt.Unfit → ⊥ }
+    ensures run { (first : World) (trace : SinkState) → Joins halted first (world (keeping run.old) (map supply_of workers.now) (K.state out.old) trace)
+        → EndsRun false result first (world (keeping run.new) (map supply_of workers.now) (K.state out.new) trace) }
+    ensures plan { (keeping run.new).desk.plan ≡ (keeping run.old).desk.plan }
+{
+    match halted {
+        Ok(()) => {
+            if any_out_of_memory(workers) {
+                return Err(Stop::Memory);
+            }
+            run_out(rt, run, out, gate)
+        }
+        Err(Halt::Stopped(stop)) => {
+            stopped_runs_end();
+            Err(stop)
+        }
+        Err(Halt::Unfit) => unreachable!(),
+    }
+}
+
+// Runs sources on threads of their own, with this room.
+fn run_room<R: Threads + Wait + Sync, S: Source + Send, K: Sink, T: Sink, G: Gate + Sync>(
+    rt: &R,
+    room: Room<S>,
+    run: &mut Run,
+    workers: Vec<SourceWorker<S>>,
+    out: &mut K,
+    trace: &mut T,
+    gate: &G,
+) -> (Vec<SourceWorker<S>>, Result<(), Stop>)
+    requires stands { Stands [] (keeping run.old) }
+    requires ready { AreReady (keeping run.old).desk.plan workers.items }
+    requires taker { room.taker ≡ record { seat = new_seat room.intake (setting (length workers.items) (keeping run.old).desk.option) 0 0; inputs = record { count = length workers.items; kinds = input_kinds (keeping run.old).desk.plan.spec.streams }; batch = [] } }
+    requires seats { AreNewSeats room.intake (setting (length workers.items) (keeping run.old).desk.option) (length workers.items) room.seats.items }
+    requires flags { length room.flags.items ≡ length workers.items }
+    requires waiting { (room.waiting.items ≡ []) × (length workers.items ≤ vec_capacity room.waiting) }
+    requires here { (room.here.items ≡ []) × (length workers.items ≤ vec_capacity room.here) }
+    requires back { (room.back.items ≡ []) × (length workers.items ≤ vec_capacity room.back) }
+    requires left { room.left ≡ [] }
+    ensures run { EndsRun false result.1 (world (keeping run.old) (map supply_of workers.items) (K.state out.old) (T.state trace.old))
+        (world (keeping run.new) (map supply_of result.0.items) (K.state out.new) (T.state trace.new)) }
+    ensures places { AreInPlace workers.items result.0.items }
+    ensures plan { (keeping run.new).desk.plan ≡ (keeping run.old).desk.plan }
+{
+    let Room {
+        intake,
+        mut seats,
+        mut taker,
+        flags,
+        mut waiting,
+        here,
+        back,
+        mut left,
+    } = room;
+    let mut workers = workers;
+    make_posts(&mut workers, &mut seats, &mut waiting);
+    let (back, halted) = send_all(
+        rt, &intake, gate, &flags, waiting, here, back, &mut taker, run, out, trace,
+    );
+    take_apart(back, &mut workers, &mut seats);
+    taker.end(intake, seats, &mut left);
+    let stopped = settle(rt, run, workers.as_slice(), halted, out, gate);
+    (workers, stopped)
+}
+
+/// Runs all rows of sources, each of which is read on a thread of its own, and then the deadlines at the last stamp, unless a row
+/// has a fault or the run was cut short. Rows are run in the order in which the threads hand them in, which may be any that keeps the
+/// order of each source. Where no thread can be started for a source it is read by the calling thread, one row between two
+/// takes. The workers come back as their turns left them.
+pub fn run_in_threads<R: Threads + Wait + Sync, S: Source + Send, K: Sink, T: Sink, G: Gate + Sync>(
+    rt: &R,
+    alloc: Global,
+    run: &mut Run,
+    workers: Vec<SourceWorker<S>>,
+    start: Option<u64>,
+    out: &mut K,
+    trace: &mut T,
+    gate: &G,
+) -> (Vec<SourceWorker<S>>, Result<(), Stop>)
+    requires stands { Stands [] (keeping run.old) }
+    requires ready { AreReady (keeping run.old).desk.plan workers.items }
+    requires start { start ≡ (keeping run.old).desk.option }
+    ensures run { EndsRun false result.1 (world (keeping run.old) (map supply_of workers.items) (K.state out.old) (T.state trace.old))
+        (world (keeping run.new) (map supply_of result.0.items) (K.state out.new) (T.state trace.new)) }
+    ensures places { AreInPlace workers.items result.0.items }
+    ensures plan { (keeping run.new).desk.plan ≡ (keeping run.old).desk.plan }
+{
+    match Room::create(alloc, run.plan(), workers.len() as u32, start) {
+        Ok(room) => run_room(rt, room, run, workers, out, trace, gate),
+        Err(_) => (workers, Err(Stop::Memory)),
+    }
+}

@@ -1,0 +1,259 @@
+//! The threads of the sources: each is started by a call that then goes on to the next source, and joined when that has come back.
+ghost use Rattle.std.specs.Prelude.{◌≡◌, ◌+◌, ◌≤◌, ◌<◌, ◌++◌, ◌∷◌, [], IfErr, IfOk, List, OnOk, false, length, vec_capacity};
+ghost use Rattle.std.specs.List.{AllZip};
+ghost use Rattle.lola_model.specs.Journal.{IsLegalFrom, opening_time};
+ghost use Rattle.lola_intake.specs.Histories.{EndsDone, taken};
+ghost use Rattle.lola_seats.specs.Seating.{IsSameSeat};
+ghost use Rattle.lola_run.specs.Verdicts.{AreOfSources};
+ghost use Rattle.lola_run.specs.Running.{keeping};
+ghost use Rattle.lola_threads.specs.Joining.{HaveFlags};
+ghost use Rattle.lola_threads.specs.Posts.{AreAt, Post as PostState, WentOn};
+ghost use Rattle.lola_threads.specs.Takings.{Halts, HasRun, IsReady, Place, place};
+
+use crate::halt::Halt;
+use crate::posts::Post;
+use crate::taking::Taker;
+use lola_intake::intake::Intake;
+use lola_port::{Gate, Sink, Source};
+use lola_run::run::Run;
+use std::snapshot::Snapshot;
+use std::sync::Wait;
+use std::sync::atomic::{AtomicBool, Ordering};
+use std::thread;
+use std::thread::{Promise, PromisedHandle, Scope, Threads};
+
+/// That a post that comes back from a thread is the one that was sent there, and went on.
+#[derive(Drop)]
+pub struct Sent<S: Source>(Snapshot<Post<S>>);
+
+impl<S: Source> Promise<Post<S>> for Sent<S> {
+    ghost use Rattle.lola_threads.specs.Posts.{WentOn};
+
+    ghost kept_by = { λ p r. WentOn p.0.value r };
+}
+
+/// What all threads of a run share: the intake, the gate, and a flag for each source. A flag that is set says that no thread
+/// could be started for its source.
+#[derive(Drop)]
+pub struct Hall<'s, R, G> {
+    pub rt: &'s R,
+    pub intake: &'s Intake,
+    pub gate: &'s G,
+    pub flags: &'s [AtomicBool],
+}
+
+// The work of a source's thread: all turns of the source, or none where no thread could be started.
+fn work<S: Source, R: Wait + Sync, G: Gate>(
+    rt: &R,
+    intake: &Intake,
+    gate: &G,
+    flag: &AtomicBool,
+    post: Post<S>,
+) -> Post<S>
+    requires { post.seat.intake ≡ intake.now }
+    ensures { WentOn post result }
+{
+    if flag.load(Ordering::SeqCst) {
+        return post;
+    }
+    post.run(rt, intake, gate)
+}
+
+// Starts a thread for a post. Where none can be made, the flag of its source is set, and the post comes back.
+fn start<'s, E, S: Source + Send + 's, R: Threads + Wait + Sync, G: Gate + Sync>(
+    hall: &Hall<'s, R, G>,
+    scope: &Scope<'s, E>,
+    post: Post<S>,
+) -> Result<PromisedHandle<Post<S>, Sent<S>>, Post<S>>
+    requires intake { post.seat.intake ≡ hall.now.intake.now }
+    requires flag { post.seat.source < length hall.now.flags.now }
+    ensures sent { IfOk result (λ handle. handle.promise.0.value ≡ post) }
+    ensures kept { IfErr result (λ kept. WentOn post kept) }
+{
+    let Hall {
+        rt,
+        intake,
+        gate,
+        flags,
+    } = *hall;
+    let flag = &flags[post.source() as usize];
+    let promise = Sent(Snapshot::of(&post));
+    match scope.spawn_with(
+        promise,
+        move || -> Post<S>
+            requires { post.seat.intake ≡ intake.now }
+            ensures { WentOn post result }
+        { work(rt, intake, gate, flag, post) },
+    ) {
+        Ok(handle) => Ok(handle),
+        Err(refused) => {
+            flag.store(true, Ordering::SeqCst);
+            let work = refused.value;
+            Err(work())
+        }
+    }
+}
+
+// Moves the last of the posts here behind those that came back.
+fn move_last<S: Source>(here: &mut Vec<Post<S>>, back: &mut Vec<Post<S>>)
+    requires some { 0 < length here.old.items }
+    requires room { length back.old.items < vec_capacity back.old }
+    ensures moved { (last : PostState) × (here.old.items ≡ here.new.items ++ last ∷ []) × (back.new.items ≡ back.old.items ++ last ∷ []) }
+    ensures room_here { vec_capacity here.new ≡ vec_capacity here.old }
+    ensures room_back { vec_capacity back.new ≡ vec_capacity back.old }
+{
+    if let Some(post) = here.pop() {
+        back.push_reserved(post);
+    }
+}
+
+// Starts a thread for each of the posts that wait, the last first, and takes rows until all is done or the run is stopped. A post
+// that no thread could be started for stays here meanwhile. All come back, in the order in which they waited.
+fn send_each<
+    's,
+    E,
+    S: Source + Send + 's,
+    R: Threads + Wait + Sync,
+    K: Sink,
+    T: Sink,
+    G: Gate + Sync,
+>(
+    hall: &Hall<'s, R, G>,
+    scope: &Scope<'s, E>,
+    waiting: Vec<Post<S>>,
+    here: Vec<Post<S>>,
+    back: Vec<Post<S>>,
+    taker: &mut Taker,
+    run: &mut Run,
+    out: &mut K,
+    trace: &mut T,
+) -> (Vec<Post<S>>, Vec<Post<S>>, Result<(), Halt>)
+    requires ready { IsReady taker.old hall.now.intake.now (keeping run.old) }
+    requires waiting { AreAt hall.now.intake.now waiting.items }
+    requires here { AreAt hall.now.intake.now here.items }
+    requires flags { HaveFlags (length hall.now.flags.now) waiting.items }
+    requires room_here { length waiting.items + length here.items ≤ vec_capacity here }
+    requires room_back { length waiting.items + length back.items ≤ vec_capacity back }
+    requires run { (first : Place) × HasRun first (taken taker.old.seat.mine) (place (keeping run.old) (K.state out.old) (T.state trace.old)) }
+    ensures halts { (first : Place) → HasRun first (taken taker.old.seat.mine) (place (keeping run.old) (K.state out.old) (T.state trace.old)) → AreOfSources taker.old.inputs.count (taken taker.old.seat.mine)
+        → Halts result.2 taker.old.inputs.count first (taken taker.new.seat.mine) (place (keeping run.new) (K.state out.new) (T.state trace.new)) }
+    ensures done { OnOk result.2 (EndsDone taker.new.seat.mine false) }
+    ensures marked { IsLegalFrom (opening_time taker.old.seat.setting.start) (taken taker.new.seat.mine) }
+    ensures seat { IsSameSeat taker.old.seat taker.new.seat }
+    ensures plan { (keeping run.new).desk.plan ≡ (keeping run.old).desk.plan }
+    ensures here { AllZip WentOn here.items result.0.items }
+    ensures back { (sent : List PostState) × (result.1.items ≡ back.items ++ sent) × AllZip WentOn waiting.items sent }
+    ensures room_here { vec_capacity result.0 ≡ vec_capacity here }
+    ensures room_back { vec_capacity result.1 ≡ vec_capacity back }
+{
+    let mut waiting = waiting;
+    let Some(post) = waiting.pop() else {
+        let (here, halted) = taker.take_all(hall.rt, hall.intake, here, run, out, trace, hall.gate);
+        return (here, back, halted);
+    };
+    match start(hall, scope, post) {
+        Ok(handle) => {
+            let (here, mut back, halted) = send_each(
+                hall, scope, waiting, here, back, taker, run, out, trace,
+            );
+            back.push_reserved(handle.join(hall.rt));
+            (here, back, halted)
+        }
+        Err(post) => {
+            let mut here = here;
+            here.push_reserved(post);
+            let (mut here, mut back, halted) = send_each(
+                hall, scope, waiting, here, back, taker, run, out, trace,
+            );
+            move_last(&mut here, &mut back);
+            (here, back, halted)
+        }
+    }
+}
+
+// Does nothing: this use of what a call gave back ties it to what it was lent.
+fn take_back<V>(_lent: &mut V)
+    ensures { _lent.new ≡ _lent.old }
+{}
+
+/// Starts a thread for each of the posts that wait, the last first, takes rows until all is done or the run is stopped, and joins
+/// all threads. The posts come back in the order in which they waited.
+pub fn send_all<S: Source + Send, R: Threads + Wait + Sync, K: Sink, T: Sink, G: Gate + Sync>(
+    rt: &R,
+    intake: &Intake,
+    gate: &G,
+    flags: &[AtomicBool],
+    waiting: Vec<Post<S>>,
+    here: Vec<Post<S>>,
+    back: Vec<Post<S>>,
+    taker: &mut Taker,
+    run: &mut Run,
+    out: &mut K,
+    trace: &mut T,
+) -> (Vec<Post<S>>, Result<(), Halt>)
+    requires ready { IsReady taker.old intake.now (keeping run.old) }
+    requires waiting { AreAt intake.now waiting.items }
+    requires here { here.items ≡ [] }
+    requires back { back.items ≡ [] }
+    requires flags { HaveFlags (length flags.now) waiting.items }
+    requires room_here { length waiting.items ≤ vec_capacity here }
+    requires room_back { length waiting.items ≤ vec_capacity back }
+    requires run { (first : Place) × HasRun first (taken taker.old.seat.mine) (place (keeping run.old) (K.state out.old) (T.state trace.old)) }
+    ensures halts { (first : Place) → HasRun first (taken taker.old.seat.mine) (place (keeping run.old) (K.state out.old) (T.state trace.old)) → AreOfSources taker.old.inputs.count (taken taker.old.seat.mine)
+        → Halts result.1 taker.old.inputs.count first (taken taker.new.seat.mine) (place (keeping run.new) (K.state out.new) (T.state trace.new)) }
+    ensures done { OnOk result.1 (EndsDone taker.new.seat.mine false) }
+    ensures marked { IsLegalFrom (opening_time taker.old.seat.setting.start) (taken taker.new.seat.mine) }
+    ensures seat { IsSameSeat taker.old.seat taker.new.seat }
+    ensures plan { (keeping run.new).desk.plan ≡ (keeping run.old).desk.plan }
+    ensures back { AllZip WentOn waiting.items result.0.items }
+{
+    let hall = Hall {
+        rt,
+        intake,
+        gate,
+        flags,
+    };
+    let (taker, run, out, trace, back, halted) = thread::scope(
+        thread::scope_env(),
+        rt,
+        move |scope| -> (
+            &mut Taker,
+            &mut Run,
+            &mut K,
+            &mut T,
+            Vec<Post<S>>,
+            Result<(), Halt>,
+        )
+            requires ready { IsReady taker.now hall.intake.now (keeping run.now) }
+            requires waiting { AreAt hall.intake.now waiting.items }
+            requires here { here.items ≡ [] }
+            requires back { back.items ≡ [] }
+            requires flags { HaveFlags (length hall.flags.now) waiting.items }
+            requires room_here { length waiting.items ≤ vec_capacity here }
+            requires room_back { length waiting.items ≤ vec_capacity back }
+            requires run { (first : Place) × HasRun first (taken taker.now.seat.mine) (place (keeping run.now) (K.state out.now) (T.state trace.now)) }
+            ensures same_taker { result.0.ghost_name ≡ taker.entry.ghost_name }
+            ensures same_run { result.1.ghost_name ≡ run.entry.ghost_name }
+            ensures same_out { result.2.ghost_name ≡ out.entry.ghost_name }
+            ensures same_trace { result.3.ghost_name ≡ trace.entry.ghost_name }
+            ensures halts { (first : Place) → HasRun first (taken taker.entry.now.seat.mine) (place (keeping run.entry.now) (K.state out.entry.now) (T.state trace.entry.now))
+                → AreOfSources taker.entry.now.inputs.count (taken taker.entry.now.seat.mine)
+                → Halts result.5 taker.entry.now.inputs.count first (taken result.0.now.seat.mine) (place (keeping result.1.now) (K.state result.2.now) (T.state result.3.now)) }
+            ensures done { OnOk result.5 (EndsDone result.0.now.seat.mine false) }
+            ensures marked { IsLegalFrom (opening_time taker.entry.now.seat.setting.start) (taken result.0.now.seat.mine) }
+            ensures seat { IsSameSeat taker.entry.now.seat result.0.now.seat }
+            ensures plan { (keeping result.1.now).desk.plan ≡ (keeping run.entry.now).desk.plan }
+            ensures back { AllZip WentOn waiting.items result.4.items }
+        {
+            let (_, back, halted) = send_each(
+                &hall, scope, waiting, here, back, taker, run, out, trace,
+            );
+            (taker, run, out, trace, back, halted)
+        },
+    );
+    take_back(taker);
+    take_back(run);
+    take_back(out);
+    take_back(trace);
+    (back, halted)
+}

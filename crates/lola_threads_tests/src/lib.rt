@@ -1,0 +1,9 @@
+//! Tests of whole commands over objects in memory: runs on threads, drills, and streams that fail.
+#![tactic(auto)]
+
+#[cfg(test)]
+mod drills;
+#[cfg(test)]
+mod poison;
+#[cfg(test)]
+mod threads;
