@@ -1,15 +1,13 @@
 -- What of a plan's bounds makes it storable.
-use Rattle.std.proofs.Common.{◌≡◌, ℕ, zero, suc, ◌+◌, ◌*◌, ◌≤◌, List, [], ◌∷◌, drop, length, refl, ap, sym, ◌∙◌, subst, arith, Option, Some, None, slice_get, Bool, true, false, ◌&&◌, IsTrue, nat_le}
-use Rattle.std.specs.Prelude.{unwrap_or}
+use Rattle.std.proofs.Common.{◌≡◌, ℕ, zero, suc, ◌*◌, ◌≤◌, List, [], ◌∷◌, drop, refl, subst, arith, Option, Some, None, slice_get, Bool, true, false, ◌&&◌, IsTrue}
 use Rattle.std.proofs.lemmas.Bool.{leb-true}
-use Rattle.lola_model.specs.Bounds.{ArePanes, ArePanesOf, HasBounds, IsKept, pacing_at}
-use Rattle.lola_model.specs.Named.{IsRanged, all_windows, is_span}
+use Rattle.lola_model.specs.Bounds.{ArePanesOf, HasBounds, pacing_at}
+use Rattle.lola_model.specs.Named.{all_windows, is_span}
 use Rattle.lola_model.specs.Store.{StreamLayout, layouts_from}
 use Rattle.lola_model.specs.declared.pacing.Pacing.{Pacing}
 use Rattle.lola_model.specs.declared.pacing.Pacing.TheVariants.{Event, Periodic}
 use Rattle.lola_model.specs.declared.plan.PaneSize.{PaneSize}
 use Rattle.lola_model.specs.declared.plan.Plan.{Plan}
-use Rattle.lola_model.specs.declared.spec.Spec.{Spec}
 use Rattle.lola_model.specs.declared.spec.Stream.{Stream}
 use Rattle.lola_model.specs.declared.spec.WindowSpec.{WindowSpec}
 use Rattle.lola_bounded.specs.Opening.{IsCut, first_kept}

@@ -1,10 +1,9 @@
 -- What is asked of a stream of a store.
-use Rattle.std.proofs.Common.{◌≡◌, ℕ, zero, suc, ◌+◌, ◌-◌, ◌*◌, ◌≤◌, ◌<◌, List, [], ◌∷◌, ◌++◌, length, map, refl, ap, sym, ◌∙◌, subst, arith, Option, Some, None, slice_get, nat_eq, nat_lt, if◌then◌else◌, Bool, true, false, ◌&&◌, IsTrue, MatchOption, get_or}
+use Rattle.std.proofs.Common.{◌≡◌, ℕ, zero, suc, ◌+◌, ◌-◌, ◌*◌, ◌≤◌, ◌<◌, List, [], ◌∷◌, ◌++◌, length, map, refl, ap, sym, ◌∙◌, subst, arith, Option, Some, None, slice_get, nat_eq, nat_lt, if◌then◌else◌, Bool, ◌&&◌, MatchOption, get_or}
 use Rattle.std.specs.Option.{option_map}
 use Rattle.std.proofs.lemmas.List.{length-map}
 use Rattle.std.proofs.lemmas.Option.{slice_get_read, slice_get-map}
 use Rattle.lola_value.specs.declared.text.Field.{Field}
-use Rattle.lola_value.specs.declared.value.Kind.{Kind}
 use Rattle.lola_value.specs.declared.value.Params.{Params}
 use Rattle.lola_value.specs.declared.value.Outcome.{Outcome}
 use Rattle.lola_value.specs.declared.value.Outcome.TheVariants as outcome
@@ -12,7 +11,7 @@ use Rattle.lola_value.specs.Answer.{Missing, Poisoned}
 use Rattle.lola_value.specs.Naming.{Naming, read_outcome, IsHeldIn}
 use Rattle.lola_model.specs.Accesses.{from_end, one_more}
 use Rattle.lola_model.specs.Reading.{held_answer, spoiled, window_over, window_reading}
-use Rattle.lola_model.specs.Store.{New, Started, Running, SeenStream, instances_of, instances_seen, is_bad_seen, now_at, now_at_place, now_of, now_seen, place_among, place_of, kind_in, pane_of, target_of, start_seen, time_seen}
+use Rattle.lola_model.specs.Store.{New, Started, Running, instances_of, is_bad_seen, now_at, now_at_place, now_of, place_among, place_of, kind_in, pane_of, target_of, start_seen, time_seen}
 use Rattle.lola_model.specs.Windows.{aggregated, values_within}
 use Rattle.lola_model.specs.declared.plan.PaneSize.{PaneSize}
 use Rattle.lola_model.specs.declared.spec.WindowSpec.{WindowSpec}

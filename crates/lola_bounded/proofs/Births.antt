@@ -1,11 +1,11 @@
 -- An instance that is born.
-use Rattle.std.proofs.Common.{◌≡◌, ℕ, zero, suc, ◌+◌, ◌≤◌, ◌<◌, List, [], ◌∷◌, ◌++◌, length, map, refl, ap, sym, ◌∙◌, subst, arith, Option, Some, None, slice_get, slice_set, nat_eq, nat_lt, if◌then◌else◌, Bool, true, false, not, ◌&&◌, IsTrue, eq-eqb, length-append}
+use Rattle.std.proofs.Common.{◌≡◌, ℕ, zero, suc, ◌+◌, ◌≤◌, ◌<◌, List, [], ◌∷◌, ◌++◌, length, map, refl, ap, sym, ◌∙◌, subst, arith, Option, Some, None, slice_get, slice_set, nat_eq, if◌then◌else◌, Bool, true, false, not, ◌&&◌, IsTrue, eq-eqb, length-append}
 use Rattle.std.proofs.lemmas.Bool.{ne_eqb, ltb-true}
 use Rattle.std.proofs.lemmas.List.{map-append}
 use Rattle.lola_value.specs.declared.value.Params.{Params}
 use Rattle.lola_model.specs.Spawning.{has_room}
 use Rattle.lola_model.specs.Store.{SeenStream, StreamLayout, changed_at, has_spawned, newborn_seen, spawns_in}
-use Rattle.lola_slots.specs.Holdings.{Holdings, slot_seen}
+use Rattle.lola_slots.specs.Holdings.{slot_seen}
 use Rattle.lola_lives.specs.Births.{newborn}
 use Rattle.lola_lives.specs.Crowds.{Crowd, crowd_seen}
 use Rattle.lola_lives.specs.Rights.{AreRight, CrowdRight, owed}

@@ -1,9 +1,8 @@
 -- One stream of a store is changed.
-use Rattle.std.proofs.Common.{◌≡◌, ℕ, zero, suc, ◌+◌, ◌-◌, ◌≤◌, ◌<◌, List, [], ◌∷◌, ◌++◌, length, map, refl, ap, sym, ◌∙◌, subst, arith, Option, Some, None, slice_get, slice_set, nat_eq, nat_le, if◌then◌else◌, Bool, true, false, not, ◌&&◌, IsTrue, eq-eqb, length-set}
-use Rattle.std.proofs.lemmas.Bool.{ne_eqb, eqb-true, eqb-false, leb-true, leb-false}
-use Rattle.lola_value.specs.declared.value.Outcome.{Outcome}
+use Rattle.std.proofs.Common.{◌≡◌, ℕ, zero, suc, ◌+◌, ◌-◌, ◌≤◌, ◌<◌, List, [], ◌∷◌, length, map, refl, ap, sym, ◌∙◌, subst, arith, Option, Some, slice_get, slice_set, nat_eq, nat_le, if◌then◌else◌, Bool, true, false, ◌&&◌, IsTrue}
+use Rattle.std.proofs.lemmas.Bool.{eqb-true, eqb-false, leb-true, leb-false}
 use Rattle.lola_model.specs.Reading.{moved_up}
-use Rattle.lola_model.specs.Store.{SeenStream, SeenInstance, changed_at, told_at, instances_of, is_new, is_running, is_silent, now_at, quiet, StreamLayout}
+use Rattle.lola_model.specs.Store.{SeenStream, SeenInstance, changed_at, instances_of, is_new, is_running, is_silent, now_at, quiet, StreamLayout}
 use Rattle.lola_model.specs.declared.plan.PaneSize.{PaneSize}
 use Rattle.lola_model.specs.declared.spec.WindowSpec.{WindowSpec}
 use Rattle.lola_slots.specs.declared.window.WindowPanes.{WindowPanes}

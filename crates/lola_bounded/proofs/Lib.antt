@@ -1,6 +1,9 @@
 mod Accepted
+mod Plain
+mod Taken
 mod Asking
 mod Changing
 mod Births
 mod Opened
 mod Preparing
+mod Keeping

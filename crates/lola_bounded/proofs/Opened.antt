@@ -1,21 +1,19 @@
 -- What is true of a new store.
-use Rattle.std.proofs.Common.{◌≡◌, ℕ, zero, suc, ◌+◌, ◌*◌, ◌≤◌, ◌<◌, List, [], ◌∷◌, ◌++◌, length, map, drop, take, refl, ap, sym, ◌∙◌, subst, arith, Option, Some, None, slice_get, Bool, true, false, if◌then◌else◌, IsTrue, get_or, drop-cons, drop-drop, add-one, nat_eq, eq-eqb}
+use Rattle.std.proofs.Common.{◌≡◌, ℕ, zero, suc, ◌+◌, ◌<◌, List, [], ◌∷◌, ◌++◌, length, map, drop, take, refl, ap, sym, ◌∙◌, subst, arith, Some, slice_get, true, false, if◌then◌else◌, IsTrue, get_or, drop-cons, drop-drop, add-one, nat_eq, eq-eqb}
 use Rattle.std.specs.Prelude.{unwrap_or}
 use Rattle.std.proofs.lemmas.Bool.{eqb-true}
 use Rattle.lola_value.specs.Naming.{Naming}
 use Rattle.lola_value.specs.declared.value.Kind.{Kind}
-use Rattle.lola_model.specs.Store.{StreamLayout, kind_in, layouts_from, opened}
+use Rattle.lola_model.specs.Store.{layouts_from, opened}
 use Rattle.lola_model.specs.Typing.{takes}
 use Rattle.lola_model.specs.declared.plan.PaneSize.{PaneSize}
 use Rattle.lola_model.specs.declared.spec.Stream.{Stream}
 use Rattle.lola_model.specs.declared.spec.WindowSpec.{WindowSpec}
-use Rattle.lola_slots.specs.declared.window.WindowPanes.{WindowPanes}
 use Rattle.lola_slots.specs.Unborn.{AllOnto, AllSound}
 use Rattle.lola_lives.specs.Crowds.{Crowd, crowd_seen, RemembersAt}
 use Rattle.lola_bounded.specs.Opening.{ArePlaces, IsCut, IsOpened, count_onto, first_kept, first_size, one_onto, onto, panes_for, stream_layout}
-use Rattle.lola_bounded.specs.Placed.{IsPaneOf, IsPlaced, ArePlaced}
+use Rattle.lola_bounded.specs.Placed.{IsPaneOf, ArePlaced}
 use Rattle.lola_bounded.specs.Streams.{crowd_layout, slots_in, slot_at}
-use Rattle.lola_bounded.proofs.Asking.{layout_at}
 
 -- the first of what is left is the one at the place
 

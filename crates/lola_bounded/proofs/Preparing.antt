@@ -1,17 +1,17 @@
 -- Room is made, and all else stays.
-use Rattle.std.proofs.Common.{◌≡◌, ℕ, zero, suc, ◌+◌, ◌≤◌, ◌<◌, List, [], ◌∷◌, length, map, refl, ap, sym, ◌∙◌, subst, arith, Option, Some, None, slice_get, slice_set, nat_eq, Bool, true, false, not, ◌&&◌, IsTrue}
+use Rattle.std.proofs.Common.{◌≡◌, ℕ, zero, suc, ◌+◌, ◌≤◌, ◌<◌, List, [], ◌∷◌, length, map, refl, ap, sym, ◌∙◌, subst, arith, Option, Some, slice_get, slice_set, nat_eq, Bool, true, false, not, ◌&&◌, IsTrue}
 use Rattle.std.proofs.lemmas.Bool.{eqb-true, eqb-false}
-use Rattle.lola_model.specs.Store.{StreamLayout, never_spawns}
+use Rattle.lola_model.specs.Store.{never_spawns}
 use Rattle.lola_model.specs.declared.plan.PaneSize.{PaneSize}
 use Rattle.lola_model.specs.declared.spec.WindowSpec.{WindowSpec}
 use Rattle.lola_slots.specs.Holdings.{Holdings}
 use Rattle.lola_lives.specs.Crowds.{Crowd, crowd_seen}
-use Rattle.lola_lives.specs.Rights.{AreRight, CrowdRight, owed}
+use Rattle.lola_lives.specs.Rights.{CrowdRight}
 use Rattle.lola_lives.proofs.Beginnings.{owed_two}
 use Rattle.lola_lives.proofs.Lists.{same_set, other_set}
 use Rattle.lola_bounded.specs.Placed.{ArePlaced}
 use Rattle.lola_bounded.specs.Rooms.{IsKept, AreKept, IsReady}
-use Rattle.lola_bounded.specs.Streams.{crowd_layout, slots_in, slot_at}
+use Rattle.lola_bounded.specs.Streams.{crowd_layout, slot_at}
 use Rattle.lola_bounded.proofs.Changing.{placed_as}
 
 kept_refl : (c : Crowd) → IsKept c c

@@ -5,3 +5,5 @@ pub mod Rooms
 pub mod Stages
 pub mod Stores
 pub mod Streams
+pub mod Texts
+pub mod Needing

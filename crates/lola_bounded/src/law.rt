@@ -7,9 +7,7 @@ ghost use Rattle.lola_bounded.specs.Opening.{IsStorable};
 use lola_model::plan::Plan;
 
 /// A bounded store can be made for an accepted plan.
-pub fn accepted_is_storable(plan: &Plan)
-    requires { IsAccepted plan.now }
-    ensures { IsStorable plan.now }
-{
-    lola_store::law::accepted_is_storable(plan);
-}
+pub fn accepted_is_storable(_plan: &Plan)
+    requires { IsAccepted _plan.now }
+    ensures { IsStorable _plan.now }
+{}

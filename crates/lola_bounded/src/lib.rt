@@ -8,5 +8,7 @@ pub mod law;
 mod opening;
 mod prepare;
 mod reading;
+pub mod shared;
 mod stage;
 pub mod store;
+mod texts;

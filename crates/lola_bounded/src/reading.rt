@@ -7,7 +7,7 @@ ghost use Rattle.lola_value.specs.Naming.{Naming, read_outcome, the_values, IsHe
 ghost use Rattle.lola_model.specs.Store.{Fits, IsRunning, instances_seen, place_of, now_of, max_offset, target_of, pane_of, kept_in, start_seen, time_seen, kind_in, window_kind, is_outcome_of, are_of_kinds, is_well_formed, parameters_of};
 ghost use Rattle.lola_model.specs.Accesses.{from_end};
 ghost use Rattle.lola_model.specs.Reading.{held_answer, window_reading};
-ghost use Rattle.lola_bounded.specs.Stores.{bounded_seen, bounded_remembers};
+ghost use Rattle.lola_bounded.specs.Stores.{bounded_seen, bounded_remembers, panes_kept, values_kept};
 
 use crate::stage::offset_of;
 use crate::store::BoundedStore;
@@ -118,7 +118,8 @@ impl BoundedStore {
     /// How many values are kept now of an instance: never more than the plan has for its stream.
     pub fn kept(&self, stream: u32, index: u32) -> u32
         requires { index < length (instances_seen (bounded_seen self.now) stream) }
-        ensures { result ≤ kept_in (slice_get (bounded_seen self.now).layout.streams stream) }
+        ensures length { result ≡ length (values_kept self.now stream index) }
+        ensures within { result ≤ kept_in (slice_get (bounded_seen self.now).layout.streams stream) }
     {
         lives_of(self, stream).kept(index as usize)
     }
@@ -127,7 +128,8 @@ impl BoundedStore {
     pub fn panes(&self, window: u32, index: u32) -> u32
         requires window { window < length (bounded_seen self.now).layout.windows }
         requires index { index < length (instances_seen (bounded_seen self.now) (target_of (slice_get (bounded_seen self.now).layout.windows window))) }
-        ensures { MatchOption (slice_get (bounded_seen self.now).layout.panes window) ⊥ (λ p. result ≤ p.count) }
+        ensures length { result ≡ length (panes_kept self.now window index) }
+        ensures within { MatchOption (slice_get (bounded_seen self.now).layout.panes window) ⊥ (λ p. result ≤ p.count) }
     {
         let target = spec_of(self, window).target;
         let place = place_of_panes(self, window);

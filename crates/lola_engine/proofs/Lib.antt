@@ -9,3 +9,4 @@ pub mod Loop
 pub mod Joining
 pub mod Ranges
 pub mod Opening
+pub mod Sweeping

@@ -21,6 +21,8 @@ kept_then a b c h k = record {
   option = k.option ∙ h.option;
   show = k.show ∙ h.show;
   texts = k.texts ∙ h.texts;
+  ids = k.ids ∙ h.ids;
+  swept = k.swept ∙ h.swept;
   rows = k.rows ∙ h.rows;
   merged = k.merged ∙ h.merged;
   ended = k.ended ∙ h.ended;
@@ -28,7 +30,7 @@ kept_then a b c h k = record {
 
 -- and where nothing is done
 pub kept_all : (a : Desk) → HasKept a a
-kept_all a = record { plan = refl; option = refl; show = refl; texts = refl; rows = refl; merged = refl; ended = refl }
+kept_all a = record { plan = refl; option = refl; show = refl; texts = refl; ids = refl; swept = refl; rows = refl; merged = refl; ended = refl }
 
 -- a desk whose clock has passed more
 pub sound_clock : (e : Desk) (s : Seen) (k : ClockState) → k.rates ≡ e.clock.rates → k.start ≡ e.clock.start → IsSound e s → IsSound (record e { clock = k }) s
@@ -145,6 +147,8 @@ module _ (start limit : ℕ) (d0 : Desk) (m0 : Memories) (s0 : Seen) (x0 : List 
             option = both.option;
             show = both.show;
             texts = both.texts;
+            ids = both.ids;
+            swept = both.swept;
             rows = both.rows;
             merged = both.merged;
             ended = both.ended;

@@ -92,6 +92,10 @@ all-numbered ts i now all was j within =
     ∙ (let same : j ≡ 0 + j = omega arith in ap (text_at (numbered 0 ts)) same)
     ∙ numbered-at 0 ts j
 
+-- and there is no other
+pub as-numbered : (ts : List (List ℕ)) (i : ℕ) (now : Texts) → length ts ≤ i → now ≡ table-at i ts → now.held ≡ numbered 0 ts
+as-numbered ts i now all was = ap (λ (x : Texts). x.held) was ∙ ap (λ l. numbered 0 l) (take_all i ts all)
+
 -- a table that holds nothing
 pub none-is-table : IsTable no_texts
 none-is-table = record { naming = record { one_text = λ id id' t first second. absurd (cc first) }; numbers = omega arith }

@@ -73,6 +73,7 @@ module _ (e : Desk) (plan : Plan) (option : Option ℕ) (show : Show) (workers :
           few_rows = omega (arith, made.nothing.0);
           few_steps = omega (arith, steps_are);
           few_texts = omega (arith, made.few_texts);
+          few_swept = omega (arith, made.few_swept);
         }
 
     -- and stands for what nothing has come to

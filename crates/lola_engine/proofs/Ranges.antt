@@ -1,15 +1,14 @@
 -- What holds of an engine goes on to hold, and numbers stay in their ranges.
-use Rattle.std.proofs.Common.{◌≡◌, refl, ap, sym, subst, ◌∙◌, ℕ, zero, suc, ◌+◌, ◌^◌, ◌<◌, ◌≤◌, List, [], ◌∷◌, Option, Some, None, Bool, true, false, length, map, drop, slice_get, unwrap_or, if◌then◌else◌, cond, lit≤, arith}
+use Rattle.std.proofs.Common.{◌≡◌, refl, ap, sym, subst, ◌∙◌, ℕ, zero, suc, ◌+◌, ◌*◌, ◌^◌, ◌<◌, ◌≤◌, List, [], ◌∷◌, Option, Some, None, Bool, true, false, length, map, drop, slice_get, unwrap_or, if◌then◌else◌, cond, lit≤, arith}
 use Rattle.std.proofs.lemmas.Slice.Zip.{AllZip-long}
 use Rattle.std.specs.List.{AllZip, filter}
 use Rattle.lola_value.specs.declared.text.Field.{Field}
 use Rattle.lola_value.specs.declared.value.Kind.TheVariants as kind
-use Rattle.lola_value.specs.Naming.{Naming}
+use Rattle.lola_value.specs.declared.value.TextId.{TextId}
 use Rattle.lola_value.specs.Times.{latest}
 use Rattle.lola_clock.specs.Clock.{ClockState}
 use Rattle.lola_model.specs.Acceptance.{IsAccepted}
 use Rattle.lola_model.specs.Model.{is_input, most_instances}
-use Rattle.lola_model.specs.Reading.{IsHeldBy}
 use Rattle.lola_model.specs.Store.{Seen, SeenInstance, after_start, instances_of, layout_of, layouts_from, new_seen, newborn_seen, no_params, opened, time_seen}
 use Rattle.lola_model.specs.Trace.{IsFieldOf, input_kinds}
 use Rattle.lola_model.specs.declared.plan.Plan.{Plan}
@@ -20,9 +19,10 @@ use Rattle.lola_text.specs.Texts.{IsTable, Texts}
 use Rattle.lola_step.specs.Progress.{IsOf}
 use Rattle.lola_engine.specs.Engines.{AreStarted, IsEngine, IsSound}
 use Rattle.lola_engine.specs.Going.{HasKept, HasTaken, IsBelow}
+use Rattle.lola_engine.specs.Sweeps.{LetsGo}
 use Rattle.lola_engine.specs.declared.engine.Desk.{Desk}
-use Rattle.lola_model.proofs.Growing.{slice_get_some}
 use Rattle.lola_engine.proofs.Loop.{sound_clock}
+use Rattle.lola_engine.proofs.Sweeping.{few_left}
 
 -- a row has at most 64 fields
 
@@ -41,18 +41,19 @@ few_fields plan fields accepted h =
     omega (arith, long, kinds_are_inputs plan.spec.streams, accepted.named.few_inputs)
 
 -- so their texts get numbers
-pub few_numbers : (e : Desk) (s : Seen) (fields : List Field) → IsEngine e s → e.rows < 2 ^ 47 → AllZip IsFieldOf (input_kinds e.plan.spec.streams) fields → e.texts.given + length fields < 2 ^ 63
+pub few_numbers : (e : Desk) (s : Seen) (fields : List Field) → IsEngine e s → e.rows < 2 ^ 47 → AllZip IsFieldOf (input_kinds e.plan.spec.streams) fields → e.texts.given + length fields ≤ 2 ^ 62
 few_numbers e s fields h more zip = omega (arith, few_fields e.plan fields h.sound.accepted zip, h.few_texts, more)
 
--- a longer table has the texts of a plan too
-pub has_more_texts : (names more : Naming) (texts : List (List ℕ)) → IsHeldBy names more → HasTexts names texts → HasTexts more texts
-has_more_texts names more texts held h i lt =
-    let w = slice_get_some texts i lt in
-    held i w.0 (h i lt ∙ w.1) ∙ sym w.1
+-- and so is what a sweep leaves
+pub few_swept : (e : Desk) (s : Seen) → IsEngine e s → (bounded : Bool) (holds : List TextId) (between : Texts) (left : ℕ) → LetsGo bounded holds e.plan.spec.texts e.texts e.swept between left
+    → left ≤ 2 ^ 32 + 64 * e.rows
+few_swept e s h bounded holds between left goes =
+    few_left bounded holds e.plan.spec.texts e.texts e.swept between left goes (2 ^ 32 + 64 * e.rows) h.sound.table h.few_swept h.few_texts
 
--- a desk with a longer table
-pub sound_texts : (e : Desk) (s : Seen) (t : Texts) → IsTable t → IsHeldBy e.texts.held t.held → IsSound e s → IsSound (record e { texts = t }) s
-sound_texts e s t table held h = record {
+-- a desk with another table that has the texts of its plan
+pub sound_texts : (e : Desk) (s : Seen) (t : Texts) (ids : List TextId) (left : ℕ) → IsTable t → HasTexts t.held e.plan.spec.texts → IsSound e s
+    → IsSound (record e { texts = t; ids = ids; swept = left }) s
+sound_texts e s t ids left table texts h = record {
   accepted = h.accepted;
   workers = h.workers;
   rates = h.rates;
@@ -60,7 +61,7 @@ sound_texts e s t table held h = record {
   started = h.started;
   scratch = h.scratch;
   table = table;
-  texts = has_more_texts e.texts.held t.held e.plan.spec.texts held h.texts;
+  texts = texts;
   counted = h.counted;
   few_lines = h.few_lines;
 }
@@ -101,18 +102,19 @@ sound_started e s s2 k start le at shows h =
       few_lines = h.few_lines;
     })
 
-module _ (e : Desk) (s s2 : Seen) (k : ClockState) (t : Texts) (start stamp : ℕ) (engine : IsEngine e s) (le : stamp ≤ latest) (order : e.merged ≤ stamp) (table : IsTable t) (held : IsHeldBy e.texts.held t.held) where
+module _ (e : Desk) (s s2 : Seen) (k : ClockState) (t : Texts) (ids : List TextId) (left : ℕ) (start stamp : ℕ)
+    (engine : IsEngine e s) (le : stamp ≤ latest) (order : e.merged ≤ stamp) (table : IsTable t) (texts : HasTexts t.held e.plan.spec.texts) where
   abbrev read : Desk
-  read = record e { texts = t }
+  read = record e { texts = t; ids = ids; swept = left }
 
   abbrev ready : Desk
-  ready = record e { texts = t; clock = k }
+  ready = record e { texts = t; ids = ids; swept = left; clock = k }
 
   ready_going : e.clock.start ≡ Some start → k ≡ e.clock → s2 ≡ s → IsBelow ready s2 start stamp
   ready_going at same shows =
       let passed_is : k.passed ≡ e.clock.passed = ap (λ (z : ClockState). z.passed) same in
       subst (λ z. IsBelow ready z start stamp) (sym shows) (record {
-        sound = sound_clock read s k (ap (λ (z : ClockState). z.rates) same) (ap (λ (z : ClockState). z.start) same) (sound_texts e s t table held engine.sound);
+        sound = sound_clock read s k (ap (λ (z : ClockState). z.rates) same) (ap (λ (z : ClockState). z.start) same) (sound_texts e s t ids left table texts engine.sound);
         start_is = ap (λ (z : ClockState). z.start) same ∙ at;
         time = omega (arith, passed_is, engine.time, engine.passed);
         below = omega (arith, engine.time, order);
@@ -127,7 +129,7 @@ module _ (e : Desk) (s s2 : Seen) (k : ClockState) (t : Texts) (start stamp : �
       let time_is : time_seen s2 ≡ stamp = ap time_seen shows in
       let steps_are : s2.steps ≡ s.steps = ap (λ (z : Seen). z.steps) shows in
       record {
-        sound = sound_started read s s2 k stamp le at shows (sound_texts e s t table held engine.sound);
+        sound = sound_started read s s2 k stamp le at shows (sound_texts e s t ids left table texts engine.sound);
         start_is = ap (λ (z : ClockState). z.start) at ∙ ap (λ z. Some z) (sym first);
         time = omega (arith, passed_is, time_is);
         below = omega (arith, time_is);
@@ -146,8 +148,8 @@ module _ (e : Desk) (s s2 : Seen) (k : ClockState) (t : Texts) (start stamp : �
 
   -- and holds again once the row is run
   pub engine_again : (d : Desk) (s' : Seen) (fields : List Field) → HasTaken ready d s' start stamp → HasKept ready d → e.rows < 2 ^ 47 → AllZip IsFieldOf (input_kinds e.plan.spec.streams) fields
-      → t.given ≤ e.texts.given + length fields → IsEngine (record d { rows = d.rows + 1; merged = stamp }) s'
-  engine_again d s' fields taken kept more zip given =
+      → t.given ≤ e.texts.given + length fields → left ≤ 2 ^ 32 + 64 * e.rows → IsEngine (record d { rows = d.rows + 1; merged = stamp }) s'
+  engine_again d s' fields taken kept more zip given few =
       let same_given : d.texts.given ≡ t.given = ap (λ (z : Texts). z.given) kept.texts in
       record {
         sound = sound_rows d s' (d.rows + 1) stamp taken.sound;
@@ -157,6 +159,7 @@ module _ (e : Desk) (s s2 : Seen) (k : ClockState) (t : Texts) (start stamp : �
         few_rows = omega (arith, kept.rows, more);
         few_steps = omega (arith, kept.rows, taken.few_steps);
         few_texts = omega (arith, same_given, kept.rows, given, engine.few_texts, few_fields e.plan fields engine.sound.accepted zip);
+        few_swept = omega (arith, kept.swept, kept.rows, few);
       }
 
 -- a new store is that of its plan

@@ -52,6 +52,7 @@ pub record IsEngine (e : Desk) (s : Seen) : Type 0 where
   pub few_rows : e.rows ≤ 2 ^ 47
   pub few_steps : s.steps ≤ e.rows + e.clock.passed
   pub few_texts : e.texts.given ≤ 2 ^ 32 + 64 * e.rows
+  pub few_swept : e.swept ≤ 2 ^ 32 + 64 * e.rows
 
 -- a row, accepted
 abbrev pub accepted_entry : Row → Entry

@@ -14,6 +14,7 @@ use Rattle.lola_model.specs.declared.journal.Show.{Show}
 use Rattle.lola_model.specs.declared.plan.Plan.{Plan}
 use Rattle.lola_step.specs.Progress.{IsRun}
 use Rattle.lola_engine.specs.Engines.{IsSound}
+use Rattle.lola_engine.specs.Read.{numbered}
 use Rattle.lola_engine.specs.declared.engine.Desk.{Desk}
 use Rattle.lola_engine.specs.declared.end.EngineEnd.{EngineEnd}
 use Rattle.lola_engine.specs.declared.end.EngineEnd.TheVariants.{Fault, Memory}
@@ -88,6 +89,8 @@ pub record HasKept (old new : Desk) : Type 0 where
   pub option : new.option ≡ old.option
   pub show : new.show ≡ old.show
   pub texts : new.texts ≡ old.texts
+  pub ids : new.ids ≡ old.ids
+  pub swept : new.swept ≡ old.swept
   pub rows : new.rows ≡ old.rows
   pub merged : new.merged ≡ old.merged
   pub ended : new.ended ≡ old.ended
@@ -130,4 +133,7 @@ pub record IsMade (plan : Plan) (option : Option ℕ) (show : Show) (workers : �
   pub show_is : e.show ≡ show
   pub clock : (e.clock.start ≡ None) × (e.clock.passed ≡ 0)
   pub few_texts : e.texts.given ≤ 2 ^ 32
+  pub literals_are : e.texts.held ≡ numbered 0 plan.spec.texts
+  pub swept_is : e.swept ≡ length e.texts.held
+  pub few_swept : e.swept ≤ 2 ^ 32
   pub nothing : (e.rows ≡ 0) × (e.merged ≡ 0) × (e.steps ≡ 0) × (e.lines ≡ 0) × (e.ended ≡ None)

@@ -2,3 +2,4 @@ pub mod Engines
 pub mod Read
 pub mod Shown
 pub mod Going
+pub mod Sweeps

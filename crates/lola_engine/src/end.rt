@@ -23,3 +23,12 @@ pub struct Counts {
     /// The lines that they brought.
     pub lines: u128,
 }
+
+/// The texts of an engine.
+#[derive(Clone, Copy, Debug, PartialEq, Eq)]
+pub struct TextCounts {
+    /// The texts that it holds.
+    pub held: u64,
+    /// The texts that the newest sweep left, or that were held at creation.
+    pub swept: u64,
+}

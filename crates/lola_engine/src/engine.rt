@@ -1,6 +1,6 @@
 //! The engine: deadlines before a row, the row, and the lines of each step.
 
-ghost use Rattle.std.specs.Prelude.{◌≡◌, ◌+◌, ◌<◌, ◌≤◌, ◌^◌, ◌++◌, ℕ, List, [], ◌∷◌, length, IsTrue, OnOk, OnErr, IfOk, IfErr, Some, None};
+ghost use Rattle.std.specs.Prelude.{◌≡◌, ◌+◌, ◌*◌, ◌<◌, ◌≤◌, ◌^◌, ◌++◌, ℕ, List, [], ◌∷◌, length, IsTrue, OnOk, OnErr, IfOk, IfErr, Some, None};
 ghost use Rattle.std.specs.List.{AllZip};
 ghost use Rattle.lola_value.specs.declared.text.Field.{Field};
 ghost use Rattle.lola_value.specs.Naming.{Naming};
@@ -8,7 +8,6 @@ ghost use Rattle.lola_value.specs.Times.{latest};
 ghost use Rattle.lola_model.specs.Acceptance.{IsAccepted};
 ghost use Rattle.lola_model.specs.Content.{Content};
 ghost use Rattle.lola_model.specs.Named.{are_distinct};
-ghost use Rattle.lola_model.specs.Reading.{IsHeldBy};
 ghost use Rattle.lola_model.specs.Runs.{content_after};
 ghost use Rattle.lola_model.specs.Standing.{StandsBetween};
 ghost use Rattle.lola_model.specs.Steps.{rate_of, rates_of};
@@ -21,11 +20,14 @@ ghost use Rattle.lola_step.specs.Moments.{ReadAs};
 ghost use Rattle.lola_step.specs.Steps.{AreInputs, AreOfInputs, IsStepped, ReadFields};
 ghost use Rattle.lola_engine.specs.Engines.{Accepts, AreStarted, Finishes, IsEngine, IsOptionInTime, IsSound, IsTakeable, StandsFor};
 ghost use Rattle.lola_engine.specs.Going.{Goes, HasKept, HasPassed, HasStayed, HasTaken, IsBelow, IsMade, due_steps, tally_of};
+ghost use Rattle.lola_engine.specs.Read.{numbered};
+ghost use Rattle.lola_engine.specs.Sweeps.{RenewsTexts, TakesTexts};
 ghost use Rattle.lola_engine.specs.declared.end.EngineEnd.{EngineEnd};
 
-use crate::end::{Counts, EngineEnd};
+use crate::end::{Counts, EngineEnd, TextCounts};
 use crate::fields::{name_literals, read_fields};
 use crate::lines::put_lines;
+use crate::sweep::let_go;
 use lola_clock::clock::Clock;
 use lola_contents::law::{new_stands, renamed_stands};
 use lola_model::journal::{Row, Show};
@@ -36,6 +38,9 @@ use lola_port::Gate;
 use lola_step::end::StepEnd;
 use lola_step::scratch::Scratch;
 use lola_step::step::step;
+use lola_sweep::ids::Ids;
+use lola_sweep::law::kept_stands;
+use lola_sweep::store::TextStore;
 use lola_text::TextTable;
 use lola_value::rate::Rate;
 use lola_value::text::{Memory, Text};
@@ -44,7 +49,7 @@ use std::alloc::Global;
 use std::thread::Threads;
 
 /// All of an engine but its store: the plan, the start if one was given, what is shown, how many workers evaluate instances, the clock of
-/// the deadlines, the texts, the notes of steps, and what was counted.
+/// the deadlines, the texts, the list for those that are needed, how many the newest sweep left, the notes of steps, and what was counted.
 #[derive(Drop)]
 pub struct Desk {
     pub(crate) alloc: Global,
@@ -54,6 +59,8 @@ pub struct Desk {
     pub(crate) workers: u32,
     pub(crate) clock: Clock,
     pub(crate) texts: TextTable,
+    pub(crate) ids: Ids,
+    pub(crate) swept: u64,
     pub(crate) scratch: Scratch,
     pub(crate) rows: u64,
     pub(crate) merged: u64,
@@ -98,6 +105,7 @@ fn rates_in(alloc: Global, pacings: &[ClausePacings]) -> Result<Vec<Rate>, Memor
 fn new_texts(alloc: Global, plan: &Plan) -> Result<TextTable, Memory>
     requires { IsTrue (are_distinct plan.now.spec.texts) }
     ensures texts { IfOk result (λ texts. HasTexts texts.held plan.now.spec.texts) }
+    ensures exact { IfOk result (λ texts. texts.held ≡ numbered 0 plan.now.spec.texts) }
     ensures table { IfOk result IsTable }
     ensures few { IfOk result (λ texts. texts.given ≤ 2 ^ 32) }
 {
@@ -125,6 +133,7 @@ fn new_desk(
     let clock = Clock::create(alloc, rates.as_slice())?;
     let scratch = Scratch::create(alloc, &plan)?;
     let texts = new_texts(alloc, &plan)?;
+    let swept = texts.len();
     Ok(Desk {
         alloc,
         plan,
@@ -133,6 +142,8 @@ fn new_desk(
         workers,
         clock,
         texts,
+        ids: Ids::create(alloc),
+        swept,
         scratch,
         rows: 0,
         merged: 0,
@@ -286,31 +297,39 @@ fn started<S: StreamStore>(plan: &Plan, store: &mut S, clock: &mut Clock, stamp:
     }
 }
 
-/// Reads the fields of a row, for a store that stands for as much through the longer table.
-fn read_row<S: StreamStore>(
+/// Lets go of texts where too many are held, and reads the fields of a row, for a store that stands for as much through the table as it
+/// is then.
+fn read_row<S: TextStore>(
     plan: &Plan,
     store: &S,
     row: &Row,
     texts: &mut TextTable,
+    ids: &mut Ids,
+    left: &mut u64,
     inputs: &mut Vec<Outcome>,
 ) -> Result<(), Memory>
     requires kinds { AllZip IsFieldOf (input_kinds plan.now.spec.streams) row.now.fields }
-    requires few { texts.old.given + length row.now.fields < 2 ^ 63 }
+    requires few { texts.old.given + length row.now.fields ≤ 2 ^ 62 }
+    requires left { left.old ≤ 2 ^ 62 }
+    requires literals { HasTexts texts.old.held plan.now.spec.texts }
     ensures ok { OnOk result (ReadAs texts.new.held inputs.new.items row.now.fields) }
     ensures kinds { OnOk result (AreOfInputs plan.now.spec.streams inputs.new.items) }
-    ensures table { IsTable texts.new }
-    ensures held { IsHeldBy texts.old.held texts.new.held }
-    ensures given { texts.new.given ≤ texts.old.given + length row.now.fields }
-    ensures stands { (c : Content) → StandsBetween texts.old.held (S.remembers store.now) (S.seen store.now) c
-        → StandsBetween texts.new.held (S.remembers store.now) (S.seen store.now) c }
+    ensures table { OnOk result (IsTable texts.new) }
+    ensures literals { OnOk result (HasTexts texts.new.held plan.now.spec.texts) }
+    ensures given { OnOk result (texts.new.given ≤ texts.old.given + length row.now.fields) }
+    ensures takes { OnOk result (TakesTexts S.BOUNDED (S.holds store.now) plan.now.spec.texts row.now.fields texts.old left.old texts.new left.new) }
+    ensures stands { OnOk result ((c : Content) → StandsBetween texts.old.held (S.remembers store.now) (S.seen store.now) c
+        → StandsBetween texts.new.held (S.remembers store.now) (S.seen store.now) c) }
 {
+    kept_stands(store);
     renamed_stands(store);
+    let_go(plan, store, texts, ids, left)?;
     read_fields(plan, row.fields.as_slice(), texts, inputs)?;
     Ok(())
 }
 
 /// Runs the deadlines before a row, and the row.
-fn run_row<R: Threads + Sync, S: StreamStore + Sync, G: Gate + Sync>(
+fn run_row<R: Threads + Sync, S: TextStore + Sync, G: Gate + Sync>(
     rt: &R,
     gate: &G,
     store: &mut S,
@@ -325,10 +344,20 @@ fn run_row<R: Threads + Sync, S: StreamStore + Sync, G: Gate + Sync>(
     ensures kept { HasStayed desk.old desk.new }
     ensures merged { OnOk result (desk.new.merged ≡ row.now.stamp) }
     ensures rows { OnOk result (desk.new.rows ≡ desk.old.rows + 1) }
+    ensures texts { OnOk result (RenewsTexts S.BOUNDED (S.holds store.old) row.now.fields desk.old desk.new) }
+    ensures few { OnOk result (IsTrue S.BOUNDED → length desk.new.texts.held ≤ 2 * desk.new.swept + 1024) }
     ensures accepts { Accepts result row.now desk.old (S.seen store.old) (S.remembers store.old)
         desk.new (S.seen store.new) (S.remembers store.new) lines.old lines.new }
 {
-    if let Err(Memory) = read_row(&desk.plan, store, row, &mut desk.texts, inputs) {
+    if let Err(Memory) = read_row(
+        &desk.plan,
+        store,
+        row,
+        &mut desk.texts,
+        &mut desk.ids,
+        &mut desk.swept,
+        inputs,
+    ) {
         return Err(EngineEnd::Memory);
     }
     let start = started(&desk.plan, store, &mut desk.clock, row.stamp);
@@ -381,7 +410,7 @@ fn run_last<R: Threads + Sync, S: StreamStore + Sync, G: Gate + Sync>(
     }
 }
 
-impl<S: StreamStore + Sync> Engine<S> {
+impl<S: TextStore + Sync> Engine<S> {
     /// An engine for a plan, over a new store of it, that has run nothing. Where a start is given, time counts from it; else from the
     /// first row's stamp. The texts of the plan's literals get their numbers.
     pub fn create(
@@ -402,6 +431,8 @@ impl<S: StreamStore + Sync> Engine<S> {
         ensures option { IfOk result (λ engine. engine.desk.option ≡ start) }
         ensures show { IfOk result (λ engine. engine.desk.show ≡ show) }
         ensures counts { IfOk result (λ engine. (engine.desk.steps ≡ 0) × (engine.desk.lines ≡ 0)) }
+        ensures literals { IfOk result (λ engine. engine.desk.texts.held ≡ numbered 0 plan.spec.texts) }
+        ensures swept { IfOk result (λ engine. engine.desk.swept ≡ length engine.desk.texts.held) }
         ensures stands { IfOk result (λ engine. StandsFor engine.desk (S.seen engine.store) (S.remembers engine.store) []) }
     {
         let desk = new_desk(alloc, plan, start, show, workers)?;
@@ -427,6 +458,8 @@ impl<S: StreamStore + Sync> Engine<S> {
     }
 
     /// Runs the deadlines before a row's stamp and then the row, and appends the lines of each step. A step with a fault has no line.
+    /// Before the row is read, an engine over a store that keeps only what accesses need lets go of the texts that neither the store nor
+    /// a literal needs, where many more are held than the newest sweep left.
     /// After `Memory` a front of the lines may be appended. After an error each later call answers the same and changes nothing.
     pub fn accept<R: Threads + Sync, G: Gate + Sync>(
         &mut self,
@@ -443,6 +476,8 @@ impl<S: StreamStore + Sync> Engine<S> {
         ensures show { self.new.desk.show ≡ self.old.desk.show }
         ensures merged { OnOk result (self.new.desk.merged ≡ row.now.stamp) }
         ensures rows { OnOk result (self.new.desk.rows ≡ self.old.desk.rows + 1) }
+        ensures texts { OnOk result (RenewsTexts S.BOUNDED (S.holds self.old.store) row.now.fields self.old.desk self.new.desk) }
+        ensures few { OnOk result (IsTrue S.BOUNDED → length self.new.desk.texts.held ≤ 2 * self.new.desk.swept + 1024) }
         ensures accepts { Accepts result row.now self.old.desk (S.seen self.old.store) (S.remembers self.old.store)
             self.new.desk (S.seen self.new.store) (S.remembers self.new.store) lines.old lines.new }
         ensures ok { OnOk result ((self.old.desk.ended ≡ None) × (self.new.desk.ended ≡ None)) }
@@ -507,10 +542,28 @@ impl<S: StreamStore + Sync> Engine<S> {
         }
     }
 
+    /// How many texts it holds, and how many the newest sweep left.
+    pub fn text_counts(&self) -> TextCounts
+        ensures held { result.held ≡ length self.now.desk.texts.held }
+        ensures swept { result.swept ≡ self.now.desk.swept }
+    {
+        TextCounts {
+            held: self.desk.texts.len(),
+            swept: self.desk.swept,
+        }
+    }
+
     /// The plan that it was made with.
     pub fn plan(&self) -> &Plan
         ensures { result.now ≡ self.now.desk.plan }
     {
         &self.desk.plan
+    }
+
+    /// Its store.
+    pub fn store(&self) -> &S
+        ensures { result.now ≡ self.now.store }
+    {
+        &self.store
     }
 }

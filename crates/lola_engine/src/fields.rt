@@ -1,6 +1,6 @@
 //! Rows and literals, with texts by their numbers.
 
-ghost use Rattle.std.specs.Prelude.{◌≡◌, ◌+◌, ◌<◌, ◌≤◌, ◌^◌, IsTrue, length, IfOk, OnOk};
+ghost use Rattle.std.specs.Prelude.{◌≡◌, ◌+◌, ◌<◌, ◌≤◌, ◌^◌, [], ◌∷◌, IsTrue, length, IfOk, OnOk};
 ghost use Rattle.std.specs.List.{AllZip};
 ghost use Rattle.lola_model.specs.Named.{are_distinct};
 ghost use Rattle.lola_model.specs.Reading.{IsHeldBy};
@@ -9,7 +9,8 @@ ghost use Rattle.lola_ready.specs.Ready.{HasTexts};
 ghost use Rattle.lola_step.specs.Moments.{ReadAs};
 ghost use Rattle.lola_step.specs.Steps.{AreOfInputs};
 ghost use Rattle.lola_text.specs.Texts.{IsTable, no_texts};
-ghost use Rattle.lola_engine.specs.Read.{IsOutcomeOf};
+ghost use Rattle.lola_engine.specs.Read.{IsOutcomeOf, numbered};
+ghost use Rattle.lola_engine.specs.Sweeps.{AddsTexts};
 
 use lola_model::plan::Plan;
 use lola_text::TextTable;
@@ -24,6 +25,7 @@ fn outcome_of(field: &Field, texts: &mut TextTable) -> Result<Outcome, Memory>
     ensures table { IsTable texts.new }
     ensures held { IsHeldBy texts.old.held texts.new.held }
     ensures given { texts.new.given ≤ texts.old.given + 1 }
+    ensures adds { OnOk result (AddsTexts (field.now ∷ []) texts.old.held texts.new.held) }
 {
     match field {
         Field::Absent => Ok(Outcome::Missing),
@@ -51,6 +53,7 @@ pub(crate) fn read_fields(
     ensures table { IsTable texts.new }
     ensures held { IsHeldBy texts.old.held texts.new.held }
     ensures given { texts.new.given ≤ texts.old.given + length fields.now }
+    ensures adds { OnOk result (AddsTexts fields.now texts.old.held texts.new.held) }
 {
     // A row may have no text to ask for: this call alone tells that the table is one.
     let _held = texts.len();
@@ -68,6 +71,7 @@ pub(crate) fn name_literals(plan: &Plan, texts: &mut TextTable) -> Result<(), Me
     requires distinct { IsTrue (are_distinct plan.now.spec.texts) }
     requires few { length plan.now.spec.texts ≤ 2 ^ 32 }
     ensures ok { OnOk result (HasTexts texts.new.held plan.now.spec.texts) }
+    ensures exact { OnOk result (texts.new.held ≡ numbered 0 plan.now.spec.texts) }
     ensures table { IsTable texts.new }
     ensures given { texts.new.given ≤ length plan.now.spec.texts }
 {

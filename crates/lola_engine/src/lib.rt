@@ -5,3 +5,4 @@ pub mod end;
 pub mod engine;
 mod fields;
 mod lines;
+mod sweep;

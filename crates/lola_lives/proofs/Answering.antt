@@ -194,3 +194,8 @@ kind_found ws ps i r a h =
 
 pub kind_poison : (ws : List WindowPanes) (i : ℕ) → i < length ws → MatchOption (slice_get ws i) ⊥ (λ w. IsTrue (is_outcome_of (gives_kind w.aggregation w.kind) outcome.Poison))
 kind_poison ws i l = let w = item_at ws i l in subst (λ o. MatchOption o ⊥ (λ w. IsTrue (is_outcome_of (gives_kind w.aggregation w.kind) outcome.Poison))) (sym w.1) refl
+
+-- how many panes there are, of what is said of them
+pub panes_count : (o : Option Partials) (r : ℕ) → MatchOption o ⊥ (λ p. (r ≡ length p.panes) × (r ≤ p.count)) → MatchOption o ⊥ (λ p. r ≡ length p.panes)
+panes_count None r h = h
+panes_count (Some p) r h = h.0

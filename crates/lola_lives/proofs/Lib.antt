@@ -4,3 +4,6 @@ pub mod Outcomes
 pub mod Newborns
 pub mod Beginnings
 pub mod Answering
+pub mod Keys
+pub mod Directories
+pub mod Needing

@@ -2,6 +2,9 @@ pub mod Births
 pub mod Changes
 pub mod Crowds
 pub mod Each
+pub mod Keys
+pub mod Listings
 pub mod Props
 pub mod Rights
 pub mod Windowed
+pub mod Texts

@@ -2,7 +2,11 @@
 //! stream.
 #![tactic(auto)]
 
+mod directory;
+mod key;
 pub mod lives;
+#[cfg(test)]
+mod named_tests;
 mod nothing;
 mod slots;
 #[cfg(test)]

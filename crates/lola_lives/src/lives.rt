@@ -15,14 +15,17 @@ ghost use Rattle.lola_slots.specs.Unborn.{AllOnto, AllSound};
 ghost use Rattle.lola_lives.specs.Births.{firsts, newborn};
 ghost use Rattle.lola_lives.specs.Crowds.{RemembersAt, crowd, crowd_seen, now_in, place_in, shown_at};
 ghost use Rattle.lola_lives.specs.Rights.{AreRight, AreSteady, AreTimely, CrowdRight};
+ghost use Rattle.lola_lives.specs.Texts.{crowd_texts};
 ghost use Rattle.lola_lives.specs.Windowed.{IsWhole, windowed};
 
+use crate::directory::Directory;
 use crate::nothing::without_values;
 use crate::slots::{bear, fill_spares, first_slots, make_room, place, poison, tell};
 use lola_model::spec::Kinds;
 use lola_model::store::SpawnEnd;
 use lola_slots::slot::Slot;
 use lola_slots::window::WindowPanes;
+use lola_sweep::ids::Ids;
 use lola_value::text::Memory;
 use lola_value::value::{Kind, Outcome, Params, Value};
 use std::alloc::Global;
@@ -41,6 +44,8 @@ pub struct Lives {
     bad_at: u64,
     spawned_at: u64,
     slots: Vec<Slot>,
+    // the places of instances with parameters
+    directory: Directory,
     // made ahead, for instances that are still to be born
     spares: Vec<Slot>,
 }
@@ -49,13 +54,21 @@ impl Model for Lives {
     ghost use Rattle.std.specs.Prelude.{length};
     ghost use Rattle.std.specs.Vec.{vec_capacity};
     ghost use Rattle.lola_lives.specs.Crowds.{Crowd, crowd};
+    ghost use Rattle.lola_lives.specs.Listings.{IsListed};
     ghost use Rattle.lola_lives.specs.Rights.{IsSettled};
 
     ghost Value = { Crowd };
 
     ghost view = { λ l. crowd (record { kind = l.kind; parameters = l.parameters; spawns = l.spawns; kept = l.kept }) l.windows.items l.bad_at l.spawned_at l.slots.items (vec_capacity l.slots) (length l.spares.items) };
 
-    ghost invariant = { λ l. IsSettled l.kind l.kept l.windows.items l.spares.items };
+    ghost invariant = { λ l. IsSettled l.kind l.kept l.windows.items l.spares.items × IsListed l.slots.items l.spares.items l.directory };
+}
+
+// Whether the instances have parameters: a stream with no spawn clause has one instance with none.
+fn has_parameters(spawns: bool, parameters: &Kinds) -> bool
+    ensures { result ≡ true → spawns ≡ true }
+{
+    spawns && !parameters.as_slice().is_empty()
 }
 
 impl Lives {
@@ -78,6 +91,7 @@ impl Lives {
         ensures past { IfOk result (λ l. (start time : ℕ) (names : Naming) (i : ℕ) → i < length l.slots → RemembersAt start time 1 names (slice_get l.slots i) []) }
     {
         let slots = first_slots(alloc, spawns, kept, windows.as_slice())?;
+        let directory = Directory::create(alloc, has_parameters(spawns, &parameters));
         Ok(Lives {
             alloc,
             kind,
@@ -88,6 +102,7 @@ impl Lives {
             bad_at: 0,
             spawned_at: 0,
             slots,
+            directory,
             spares: Vec::new(alloc),
         })
     }
@@ -107,12 +122,16 @@ impl Lives {
         &self.slots[index]
     }
 
-    // The place of the instance with these parameters.
+    // The place of the instance with these parameters: one instance is looked at, and among many it is looked up.
     fn found(&self, params: &Params) -> Option<usize>
         requires { IsTrue (is_well_formed params.now) }
         ensures { result ≡ place_in params.now self.now.slots 0 }
     {
-        place(self.slots.as_slice(), params)
+        if self.directory.is_kept() {
+            self.directory.find(params)
+        } else {
+            place(self.slots.as_slice(), params)
+        }
     }
 
     /// The parameters of the instance at a place.
@@ -235,9 +254,21 @@ impl Lives {
         requires index { index < length self.now.slots }
         requires place { place < length self.now.windows }
         requires steady { AreSteady self.now }
-        ensures { MatchOption (slice_get self.now.windows place) ⊥ (λ w. result ≤ w.count) }
+        ensures length { MatchOption (slice_get self.now.slots index) ⊥ (λ s. MatchOption (slice_get s.panes place) ⊥ (λ p. result ≡ length p.panes)) }
+        ensures within { MatchOption (slice_get self.now.windows place) ⊥ (λ w. result ≤ w.count) }
     {
         self.slot(index).panes(place)
+    }
+
+    /// Adds the numbers of the texts that the instances hold in the step of this number, one instance after another. Where
+    /// there is no memory some of them may have been added.
+    pub fn texts(&self, step: u64, into: &mut Ids) -> Result<(), Memory>
+        ensures { OnOk result (into.new ≡ into.old ++ crowd_texts step self.now) }
+    {
+        for i in 0..self.instances() {
+            self.slot(i).texts(step, into)?;
+        }
+        Ok(())
     }
 
     /// Makes room for the births of one whole step, so that none of its calls takes memory: none is wanted where there
@@ -254,6 +285,18 @@ impl Lives {
             return Ok(());
         }
         match make_room(&mut self.slots) {
+            Err(memory) => Err(memory),
+            Ok(()) => self.make_spares(),
+        }
+    }
+
+    // Two instances at least that are made ahead, and room for their parameters.
+    fn make_spares(&mut self) -> Result<(), Memory>
+        ensures rest { self.new ≡ record self.old { spares = self.new.spares } }
+        ensures spares { self.old.spares ≤ self.new.spares }
+        ensures ready { OnOk result (2 ≤ self.new.spares) }
+    {
+        match self.directory.make_room(self.spares.len() + 2) {
             Err(memory) => Err(memory),
             Ok(()) => fill_spares(
                 &mut self.spares,
@@ -309,6 +352,7 @@ impl Lives {
         requires places { IsTrue (is_well_formed params) }
         requires room { length self.old.slots < self.old.capacity }
         requires spare { 1 ≤ self.old.spares }
+        requires absent { place_in params self.old.slots 0 ≡ None }
         ensures kept { 1 ≤ self.old.layout.kept }
         ensures born { self.new ≡ record self.old { spawned_at = step; slots = self.old.slots ++ newborn self.old.layout.kept self.old.windows params ∷ []; spares = self.new.spares } }
         ensures spares { self.new.spares + 1 ≡ self.old.spares }
@@ -322,6 +366,7 @@ impl Lives {
             self.kept,
             self.windows.as_slice(),
         );
+        self.directory.add(params);
     }
 
     /// A new instance with no values, if it does not live and fewer than 65,536 do. There is room for it, and one was
@@ -360,5 +405,6 @@ impl Lives {
         ensures { self.new ≡ record self.old { slots = remove self.old.slots index } }
     {
         let _gone = self.slots.remove(index);
+        self.directory.remove(index);
     }
 }

@@ -95,6 +95,7 @@ fn add_spare(
     requires kept { 1 ≤ kept }
     requires windows { AllSound windows.now }
     ensures more { length spares.old.items ≤ length spares.new.items }
+    ensures few { length spares.new.items ≤ length spares.old.items + 1 }
     ensures ok { OnOk result (length spares.old.items + 1 ≤ length spares.new.items) }
     ensures blank { Each (λ s. s ≡ unborn kept windows.now) spares.old.items → Each (λ s. s ≡ unborn kept windows.now) spares.new.items }
 {
@@ -120,6 +121,7 @@ pub fn fill_spares(
     requires kept { 1 ≤ kept }
     requires windows { AllSound windows.now }
     ensures more { length spares.old.items ≤ length spares.new.items }
+    ensures few { length spares.new.items ≤ length spares.old.items + 2 }
     ensures ok { OnOk result (2 ≤ length spares.new.items) }
     ensures blank { Each (λ s. s ≡ unborn kept windows.now) spares.old.items → Each (λ s. s ≡ unborn kept windows.now) spares.new.items }
 {

@@ -14,8 +14,8 @@ use Rattle.lola_model.specs.declared.journal.Entry.{Entry}
 use Rattle.lola_model.specs.declared.journal.Mark.{Mark}
 use Rattle.lola_model.specs.declared.journal.Mark.TheVariants as mark
 use Rattle.lola_model.proofs.Journals.{IsLegalFrom-append_one, accepted-append_accepted, accepted-append_late, merged_from-append_late, run_start-append_late, settled_fault-append_late, settled_lines-append_late, settled_model-append_late}
-use Rattle.lola_store.specs.Stores.{whole_remembers, whole_seen}
-use Rattle.lola_store.specs.declared.store.WholeStore.{WholeStore}
+use Rattle.lola_bounded.specs.Stores.{bounded_remembers, bounded_seen}
+use Rattle.lola_bounded.specs.declared.store.BoundedStore.{BoundedStore}
 use Rattle.lola_engine.specs.Engines.{Accepts, Finishes, IsUnderWay, IsWaiting, StandsFor, accepted_entry}
 use Rattle.lola_engine.specs.declared.engine.Desk.{Desk}
 use Rattle.lola_engine.specs.declared.end.EngineEnd.{EngineEnd}
@@ -61,7 +61,7 @@ pub legal_more : (journal : List Entry) (entry : Entry) (kept : Keeping) → Sta
 legal_more journal entry kept stands next = IsLegalFrom-append_one (opening_time kept.desk.option) journal entry stands.legal (subst (λ m. IsRightlyMarked m entry) (merged_is journal kept stands) next)
 
 stands_more : (row : Row) (old new : Keeping) (text : List ℕ) (journal : List Entry) (stands : Stands journal old) (next : IsNext old (accepted_entry row)) (ran : RanRow row old new text)
-    → StandsFor new.desk (whole_seen new.store) (whole_remembers new.store) (journal ++ accepted_entry row ∷ []) → Stands (journal ++ accepted_entry row ∷ []) new
+    → StandsFor new.desk (bounded_seen new.store) (bounded_remembers new.store) (journal ++ accepted_entry row ∷ []) → Stands (journal ++ accepted_entry row ∷ []) new
 stands_more row old new text journal stands next ran engine = record {
   legal = subst (λ o. IsLegal o (journal ++ accepted_entry row ∷ [])) (sym (ap (λ (s : Setting). s.start) ran.setting)) (legal_more journal (accepted_entry row) old stands next);
   accepted = ran.accepted ∙ ap (λ n. n + 1) stands.accepted ∙ sym (accepted_length journal row);
@@ -155,7 +155,7 @@ takes_late row t old new out next is =
           legal = legal_more journal entry old stands next;
           accepted = stands.accepted ∙ ap length (sym (accepted-append_late journal entry t refl));
           late = ap (λ n. n + 1) stands.late ∙ sym (late_more_late journal row t);
-          engine = late_stands old.desk (whole_seen old.store) (whole_remembers old.store) journal entry t refl stands.engine;
+          engine = late_stands old.desk (bounded_seen old.store) (bounded_remembers old.store) journal entry t refl stands.engine;
           going = stands.going;
         };
         lines = [];
@@ -203,7 +203,7 @@ takes_entry_late entry t old new out is next same = takes_as (Ok tt) entry (mark
 
 -- an engine's answer at the end, over an empty text
 abbrev pub FinishesWith : Result (Unit {0}) EngineEnd → Keeping → Keeping → List ℕ → Type 0
-FinishesWith result old new text = Finishes result old.desk (whole_seen old.store) (whole_remembers old.store) new.desk [] text
+FinishesWith result old new text = Finishes result old.desk (bounded_seen old.store) (bounded_remembers old.store) new.desk [] text
 
 pub stopped_close : (end : EngineEnd) (how : Stop) (old new : Keeping) (out0 out1 : SinkState) (text : List ℕ) → FinishesWith (Err end) old new text → StopsAt end how text out0 out1 → Closes (Err how) old new out0 out1
 stopped_close (engine_end.Fault stream kind time) how old new out0 out1 text finishes (inl at) =
@@ -236,15 +236,15 @@ closed_and_put (Err stop.Put) old new out0 out1 text finishes count late puts = 
 closed_and_put (Err stop.Memory) old new out0 out1 text finishes count late puts = puts
 
 -- the same from an empty text
-pub accepts_as : (result : Result (Unit {0}) EngineEnd) (row : Row) (desk0 desk1 : Desk) (store0 store1 : WholeStore) (text0 text1 : List ℕ) → text0 ≡ []
-    → Accepts result row desk0 (whole_seen store0) (whole_remembers store0) desk1 (whole_seen store1) (whole_remembers store1) text0 text1
-    → Accepts result row desk0 (whole_seen store0) (whole_remembers store0) desk1 (whole_seen store1) (whole_remembers store1) [] text1
+pub accepts_as : (result : Result (Unit {0}) EngineEnd) (row : Row) (desk0 desk1 : Desk) (store0 store1 : BoundedStore) (text0 text1 : List ℕ) → text0 ≡ []
+    → Accepts result row desk0 (bounded_seen store0) (bounded_remembers store0) desk1 (bounded_seen store1) (bounded_remembers store1) text0 text1
+    → Accepts result row desk0 (bounded_seen store0) (bounded_remembers store0) desk1 (bounded_seen store1) (bounded_remembers store1) [] text1
 accepts_as result row desk0 desk1 store0 store1 text0 text1 empty accepts =
-    subst (λ (t : List ℕ). Accepts result row desk0 (whole_seen store0) (whole_remembers store0) desk1 (whole_seen store1) (whole_remembers store1) t text1) empty accepts
+    subst (λ (t : List ℕ). Accepts result row desk0 (bounded_seen store0) (bounded_remembers store0) desk1 (bounded_seen store1) (bounded_remembers store1) t text1) empty accepts
 
-pub finishes_as : (result : Result (Unit {0}) EngineEnd) (desk0 desk1 : Desk) (store0 : WholeStore) (text0 text1 : List ℕ) → text0 ≡ []
-    → Finishes result desk0 (whole_seen store0) (whole_remembers store0) desk1 text0 text1 → Finishes result desk0 (whole_seen store0) (whole_remembers store0) desk1 [] text1
-finishes_as result desk0 desk1 store0 text0 text1 empty finishes = subst (λ (t : List ℕ). Finishes result desk0 (whole_seen store0) (whole_remembers store0) desk1 t text1) empty finishes
+pub finishes_as : (result : Result (Unit {0}) EngineEnd) (desk0 desk1 : Desk) (store0 : BoundedStore) (text0 text1 : List ℕ) → text0 ≡ []
+    → Finishes result desk0 (bounded_seen store0) (bounded_remembers store0) desk1 text0 text1 → Finishes result desk0 (bounded_seen store0) (bounded_remembers store0) desk1 [] text1
+finishes_as result desk0 desk1 store0 text0 text1 empty finishes = subst (λ (t : List ℕ). Finishes result desk0 (bounded_seen store0) (bounded_remembers store0) desk1 t text1) empty finishes
 
 -- an engine that is for the same plan, start and lines
 pub set_as : (desk0 desk1 : Desk) → desk1.plan ≡ desk0.plan → desk1.option ≡ desk0.option → desk1.show ≡ desk0.show → setting_at desk1 ≡ setting_at desk0

@@ -15,8 +15,8 @@ use Rattle.lola_model.specs.declared.plan.Plan.{Plan}
 use Rattle.lola_model.specs.declared.journal.Row.{Row}
 use Rattle.lola_model.specs.declared.journal.Entry.{Entry}
 use Rattle.lola_model.specs.declared.journal.Mark.TheVariants as mark
-use Rattle.lola_store.specs.declared.store.WholeStore.{WholeStore}
-use Rattle.lola_store.specs.Stores.{whole_remembers, whole_seen}
+use Rattle.lola_bounded.specs.declared.store.BoundedStore.{BoundedStore}
+use Rattle.lola_bounded.specs.Stores.{bounded_remembers, bounded_seen}
 use Rattle.lola_engine.specs.Engines.{Accepts, Brings, Completes, IsEngine, StandsFor}
 use Rattle.lola_engine.specs.declared.engine.Desk.{Desk}
 use Rattle.lola_engine.specs.declared.end.EngineEnd.{EngineEnd}
@@ -34,7 +34,7 @@ pub record IsRowFor (plan : Plan) (row : Row) : Type 0 where
 -- what a run keeps: its engine with the store, and how many rows were accepted and late
 pub record Keeping : Type 0 where
   pub desk : Desk
-  pub store : WholeStore
+  pub store : BoundedStore
   pub accepted : ℕ
   pub late : ℕ
 
@@ -52,14 +52,14 @@ setting_in kept = setting_at kept.desk
 
 -- a run that goes on
 abbrev pub IsGoing : Keeping → Type 0
-IsGoing kept = IsEngine kept.desk (whole_seen kept.store)
+IsGoing kept = IsEngine kept.desk (bounded_seen kept.store)
 
 -- the run has taken the entries of a journal, and no step so far has a fault
 pub record Stands (journal : List Entry) (kept : Keeping) : Type 0 where
   pub legal : IsLegal kept.desk.option journal
   pub accepted : kept.accepted ≡ length (accepted journal)
   pub late : kept.late ≡ late_count journal
-  pub engine : StandsFor kept.desk (whole_seen kept.store) (whole_remembers kept.store) journal
+  pub engine : StandsFor kept.desk (bounded_seen kept.store) (bounded_remembers kept.store) journal
   pub going : IsGoing kept
 
 -- one row more can be counted
@@ -122,7 +122,7 @@ Takes (Err stop.Memory) entry old new out0 out1 = ((journal : List Entry) → St
 -- what an engine of a run does with a row that is given an empty text
 abbrev pub AcceptsRow : Result (Unit {0}) EngineEnd → Row → Keeping → Keeping → List ℕ → Type 0
 AcceptsRow result row old new text =
-    Accepts result row old.desk (whole_seen old.store) (whole_remembers old.store) new.desk (whole_seen new.store) (whole_remembers new.store) [] text
+    Accepts result row old.desk (bounded_seen old.store) (bounded_remembers old.store) new.desk (bounded_seen new.store) (bounded_remembers new.store) [] text
 
 -- the engine has run a row, and appended this text; what the run keeps goes with it
 pub record RanRow (row : Row) (old new : Keeping) (text : List ℕ) : Type 0 where

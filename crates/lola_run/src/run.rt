@@ -3,18 +3,18 @@ ghost use Rattle.std.specs.Prelude.{◌≡◌, ◌+◌, ◌<◌, ◌≤◌, ◌^
 ghost use Rattle.lola_model.specs.Acceptance.{IsAccepted};
 ghost use Rattle.lola_model.specs.Trace.{trace_line};
 ghost use Rattle.lola_engine.specs.Engines.{IsEngine, IsOptionInTime, StandsFor};
-ghost use Rattle.lola_store.specs.Stores.{whole_remembers, whole_seen};
+ghost use Rattle.lola_bounded.specs.Stores.{bounded_remembers, bounded_seen};
 ghost use Rattle.lola_run.specs.Running.{Closes, HasRoom, IsGoing, IsNext, IsRowFor, IsSetAs, Puts, RunsAccepted, Stands, StopsAt, Takes, keeping, setting_at, setting_in};
 
 use crate::putting::{put_entry, put_text};
 use crate::stop::Stop;
+use lola_bounded::law::accepted_is_storable;
+use lola_bounded::store::BoundedStore;
 use lola_engine::end::{Counts, EngineEnd};
 use lola_engine::engine::Engine;
 use lola_model::journal::{Entry, Mark, Row, Show};
 use lola_model::plan::Plan;
 use lola_port::{Gate, Sink};
-use lola_store::law::accepted_is_storable;
-use lola_store::store::WholeStore;
 use lola_value::text::{Memory, Text};
 use std::alloc::Global;
 use std::thread::Threads;
@@ -22,7 +22,7 @@ use std::thread::Threads;
 /// What is kept from row to row: the engine, how many rows were accepted and how many late, and the room for lines.
 #[derive(Drop)]
 pub struct Run {
-    engine: Engine<WholeStore>,
+    engine: Engine<BoundedStore>,
     accepted: u64,
     late: u64,
     line: Text,
@@ -49,16 +49,16 @@ fn new_engine(
     start: Option<u64>,
     show: Show,
     workers: u32,
-) -> Result<Engine<WholeStore>, Memory>
+) -> Result<Engine<BoundedStore>, Memory>
     requires accepted { IsAccepted plan }
     requires workers { (1 ≤ workers) × (workers ≤ 64) }
     requires start { IsOptionInTime start }
-    ensures engine { IfOk result (λ engine. IsEngine engine.desk (whole_seen engine.store)) }
+    ensures engine { IfOk result (λ engine. IsEngine engine.desk (bounded_seen engine.store)) }
     ensures setting { IfOk result (λ engine. setting_at engine.desk ≡ record { plan = plan; start = start; show = show }) }
-    ensures stands { IfOk result (λ engine. StandsFor engine.desk (whole_seen engine.store) (whole_remembers engine.store) []) }
+    ensures stands { IfOk result (λ engine. StandsFor engine.desk (bounded_seen engine.store) (bounded_remembers engine.store) []) }
 {
     accepted_is_storable(&plan);
-    let store = WholeStore::create(alloc, &plan)?;
+    let store = BoundedStore::create(alloc, &plan)?;
     Engine::create(alloc, plan, store, start, show, workers)
 }
 

@@ -3,3 +3,4 @@ pub mod Remembering
 pub mod Passing
 pub mod Births
 pub mod Giving
+pub mod Needing

@@ -1,5 +1,6 @@
 pub mod Holdings
 pub mod Memories
 pub mod Telling
+pub mod Texts
 pub mod WindowAnswers
 pub mod Unborn

@@ -4,4 +4,5 @@
 pub mod slot;
 #[cfg(test)]
 mod tests;
+mod texts;
 pub mod window;

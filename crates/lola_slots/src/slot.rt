@@ -1,6 +1,6 @@
 //! An instance of a stream that keeps what accesses need of its values: the last ones, and the panes of each window.
 
-ghost use Rattle.std.specs.Prelude.{◌≡◌, ℕ, ◌≤◌, ◌<◌, ◌-◌, ◌*◌, List, ◌++◌, ◌∷◌, [], length, slice_get, IfOk, IsTrue, MatchOption, map};
+ghost use Rattle.std.specs.Prelude.{◌≡◌, ℕ, ◌≤◌, ◌<◌, ◌-◌, ◌*◌, List, ◌++◌, ◌∷◌, [], length, slice_get, IfOk, IsTrue, MatchOption, OnOk, map};
 ghost use Rattle.circular_buffer.specs.Buffer.{keep_last};
 ghost use Rattle.lola_value.specs.declared.text.Field.{Field};
 ghost use Rattle.lola_value.specs.declared.value.Kind.{Kind};
@@ -14,12 +14,16 @@ ghost use Rattle.lola_buffer.specs.Kept.{kept};
 ghost use Rattle.lola_slots.specs.Holdings.{shown, value_or_missing, AllOf};
 ghost use Rattle.lola_slots.specs.Memories.{Remembers, RemembersNothing};
 ghost use Rattle.lola_slots.specs.Telling.{IsReady, AllReady, Told, ToldAll};
+ghost use Rattle.lola_slots.specs.Texts.{slot_texts};
 ghost use Rattle.lola_slots.specs.Unborn.{AllSound, empty_panes, unborn};
 ghost use Rattle.lola_slots.specs.WindowAnswers.{IsFold, IsWindowAnswer};
 
+use crate::texts::add_ring;
 use crate::window::WindowPanes;
 use lola_buffer::buffer::Buffer;
 use lola_panes::panes::Panes;
+use lola_sweep::adding::{add_outcome, add_params};
+use lola_sweep::ids::Ids;
 use lola_value::text::Memory;
 use lola_value::value::{Outcome, Params, Value};
 use std::alloc::Global;
@@ -49,7 +53,7 @@ impl Model for Slot {
 }
 
 // The value, if there is one.
-fn or_missing(value: Option<Value>) -> Outcome
+pub(crate) fn or_missing(value: Option<Value>) -> Outcome
     ensures { result ≡ value_or_missing value }
 {
     match value {
@@ -248,5 +252,15 @@ impl Slot {
         ensures { MatchOption (slice_get self.now.panes place) ⊥ (λ p. (result ≡ length p.panes) × (result ≤ p.count)) }
     {
         self.panes[place].len()
+    }
+
+    /// Adds the numbers of the texts that it holds: of its parameters, of its last values, and of its outcome in the step
+    /// of this number. Where there is no memory some of them may have been added.
+    pub fn texts(&self, step: u64, into: &mut Ids) -> Result<(), Memory>
+        ensures { OnOk result (into.new ≡ into.old ++ slot_texts step self.now) }
+    {
+        add_params(&self.params, into)?;
+        add_ring(&self.values, into)?;
+        add_outcome(self.now(step), into)
     }
 }

@@ -1,13 +1,16 @@
 -- How many instances a step may have.
-use Rattle.std.proofs.Common.{◌≡◌, refl, ap, ◌∙◌, sym, ℕ, suc, ◌+◌, ◌*◌, ◌<◌, ◌≤◌, ◌^◌, List, [], ◌∷◌, false, length, drop, slice_get, arith}
+use Rattle.std.proofs.Common.{◌≡◌, refl, ap, ◌∙◌, sym, subst, ℕ, zero, suc, ◌+◌, ◌*◌, ◌<◌, ◌≤◌, ◌^◌, ◌⊎◌, inl, inr, List, [], ◌∷◌, Some, None, IsTrue, true, false, length, drop, slice_get, arith}
 use Rattle.std.proofs.lemmas.List.{at_drop_more}
 use Rattle.std.proofs.lemmas.Option.{slice_get-get_or}
 use Rattle.lola_model.specs.Model.{most_instances}
-use Rattle.lola_model.specs.Store.{Seen, SeenStream, instances_of, layouts_from}
+use Rattle.lola_model.specs.Store.{Layout, Seen, SeenStream, instances_of, instances_seen, layouts_from, never_spawns}
 use Rattle.lola_model.specs.declared.plan.Plan.{Plan}
 use Rattle.lola_model.specs.declared.spec.Stream.{Stream}
+use Rattle.lola_stages.proofs.Places.{stream_or_none}
 use Rattle.lola_step.specs.Progress.{IsOf}
-use Rattle.lola_step.specs.Scratches.{instances_to_come, of_streams}
+use Rattle.lola_step.specs.Scratches.{HasRoom, IsScratchOf, instances_to_come, least_room, of_streams}
+use Rattle.lola_step.specs.declared.scratch.Scratch.{Scratch}
+use Rattle.lola_step.proofs.Layouts.{never_there}
 
 -- each stream has a layout
 pub length_layouts : (ss : List Stream) (kept : List ℕ) → length (layouts_from ss kept) ≡ length ss
@@ -43,3 +46,43 @@ few_to_come plan s of few =
     let a : of_streams s.streams ≤ length s.streams * 65537 = few_in_each s.streams of.few in
     let e : length s.streams ≡ length plan.spec.streams = of.streams in
     omega arith
+
+-- where no stream has a spawn clause
+
+-- each has its one
+one_of : (plan : Plan) (s : Seen) (n : ℕ) → IsOf plan s → never_spawns (layouts_from plan.spec.streams plan.kept) ≡ true
+    → ((x : Stream) × (slice_get plan.spec.streams n ≡ Some x)) ⊎ (slice_get plan.spec.streams n ≡ None) → n < length plan.spec.streams
+    → length (instances_seen s n) ≤ 1
+one_of plan s n of never (inl h) lt = omega (arith, of.single n h.0 h.1 (never_there plan.spec.streams plan.kept n h.0 never h.1))
+one_of plan s n of never (inr h) lt = absurd (none_past plan.spec.streams n h lt)
+  where
+    none_past : (xs : List Stream) (i : ℕ) → slice_get xs i ≡ None → i < length xs → ⊥
+    none_past [] i g l = omega (arith, l)
+    none_past (x ∷ xs) zero g l = absurd (cc)
+    none_past (x ∷ xs) (suc i) g l = none_past xs i g (omega (arith, l))
+
+two_of_each : (ss : List SeenStream) → ((n : ℕ) → n < length ss → length (instances_of (slice_get ss n)) ≤ 1) → of_streams ss ≤ 2 * length ss
+two_of_each [] one = omega arith
+two_of_each (s ∷ ss) one =
+    let a : of_streams ss ≤ 2 * length ss = two_of_each ss (λ n lt. one (suc n) (omega (arith, lt))) in
+    let b : length s.instances ≤ 1 = one 0 (omega arith) in
+    omega arith
+
+-- so the least room is enough
+pub few_single : (plan : Plan) (s : Seen) → IsOf plan s → IsTrue (never_spawns s.layout.streams) → instances_to_come s ≤ least_room plan
+few_single plan s of never =
+    let none : never_spawns (layouts_from plan.spec.streams plan.kept) ≡ true = subst (λ (l : Layout). never_spawns l.streams ≡ true) of.layout never in
+    let e : length s.streams ≡ length plan.spec.streams = of.streams in
+    let a : of_streams s.streams ≤ 2 * length s.streams =
+    two_of_each s.streams (λ n lt. one_of plan s n of none (stream_or_none plan.spec.streams n) (omega (arith, lt, e))) in
+    omega arith
+
+pub room_is_there : (plan : Plan) (s : Seen) (n : Scratch) → IsOf plan s → IsTrue (never_spawns s.layout.streams) → IsScratchOf plan n → HasRoom n (instances_to_come s)
+room_is_there plan s n of never made =
+    let few : instances_to_come s ≤ least_room plan = few_single plan s of never in
+    record {
+      tasks = omega (arith, few, made.room.tasks);
+      results = omega (arith, few, made.room.results);
+      closing = omega (arith, few, made.room.closing);
+      verdicts = omega (arith, few, made.room.verdicts);
+    }

@@ -1,10 +1,11 @@
 -- What a plan has of each stream.
-use Rattle.std.proofs.Common.{◌≡◌, refl, ap, ◌∙◌, ℕ, zero, suc, List, [], ◌∷◌, Option, Some, None, true, false, drop, length, slice_get, unwrap_or, sym, get_or, ◌+◌, ◌<◌}
+use Rattle.std.proofs.Common.{◌≡◌, refl, ap, ◌∙◌, ℕ, zero, suc, List, [], ◌∷◌, Option, Some, None, true, false, not, drop, length, slice_get, subst, unwrap_or, sym, get_or, ◌+◌, ◌<◌}
+use Rattle.std.proofs.lemmas.Bool.{and_parts}
 use Rattle.std.proofs.lemmas.Option.{slice_get_read}
 use Rattle.lola_value.specs.declared.value.Kind.TheVariants as kind
 use Rattle.lola_model.specs.Acceptance.{IsAccepted}
 use Rattle.lola_model.specs.Pacings.{pacings_from}
-use Rattle.lola_model.specs.Store.{kind_in, layouts_from, parameters_of, spawns_in}
+use Rattle.lola_model.specs.Store.{kind_in, layouts_from, never_spawns, parameters_of, spawns_in}
 use Rattle.lola_model.specs.declared.finding.Finding.{Finding}
 use Rattle.lola_model.specs.declared.plan.Plan.{Plan}
 use Rattle.lola_model.specs.declared.spec.Clause.{Clause}
@@ -34,6 +35,18 @@ spawns_there (r ∷ ss) kept zero s k e f =
     let p : r ≡ s = cc in
     ap (λ (x : Stream). spawns_in (slice_get (layouts_from (x ∷ ss) kept) zero)) p ∙ ap (λ (o : Option Clause). elim o [ None ↦ false | Some c ↦ true ]) f
 spawns_there (r ∷ ss) kept (suc n) s k e f = spawns_there ss (drop 1 kept) n s k e f
+
+no_clause : (o : Option Clause) → not (elim o [ None ↦ false | Some k ↦ true ]) ≡ true → o ≡ None
+no_clause None e = refl
+no_clause (Some k) e = absurd (cc)
+
+-- where none has a spawn clause, that it has none
+pub never_there : (ss : List Stream) (kept : List ℕ) (n : ℕ) (s : Stream) → never_spawns (layouts_from ss kept) ≡ true → slice_get ss n ≡ Some s → s.spawn ≡ None
+never_there [] kept n s h e = absurd (cc)
+never_there (r ∷ ss) kept zero s h e =
+    let p : r ≡ s = cc in
+    subst (λ (x : Stream). x.spawn ≡ None) p (no_clause r.spawn (and_parts _ _ h).0)
+never_there (r ∷ ss) kept (suc n) s h e = never_there ss (drop 1 kept) n s (and_parts _ _ h).1 e
 
 -- the stream of a turn of a loop
 pub stream_of_turn : (xs ss : List Stream) (n : ℕ) (s : Stream) → xs ≡ ss → n < length xs → s ≡ get_or xs n s → slice_get ss n ≡ Some s

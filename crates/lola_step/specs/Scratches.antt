@@ -1,5 +1,5 @@
 -- What steps note, from one to the next.
-use Rattle.std.specs.Prelude.{ℕ, ◌≡◌, ◌+◌, ◌<◌, ◌≤◌, ◌^◌, List, [], length, map, replicate}
+use Rattle.std.specs.Prelude.{ℕ, ◌≡◌, ◌+◌, ◌*◌, ◌<◌, ◌≤◌, ◌^◌, List, [], length, map, replicate}
 use Rattle.std.specs.Vec.{vec_capacity}
 use Rattle.lola_model.specs.Content.{content}
 use Rattle.lola_model.specs.Graph.{layer_of}
@@ -16,12 +16,24 @@ use Rattle.lola_step.specs.declared.moment.Moment.{Moment}
 use Rattle.lola_step.specs.declared.scratch.Scratch.{Scratch}
 use Rattle.lola_step.specs.declared.scratch.Span.{Span}
 
--- notes of a plan: a mark and a span for each stream, and more layers than that of any node
+-- each list has room for so many instances
+pub record HasRoom (n : Scratch) (room : ℕ) : Type 0 where
+  pub tasks : room ≤ vec_capacity n.tasks
+  pub results : room ≤ vec_capacity n.results
+  pub closing : room ≤ vec_capacity n.closing
+  pub verdicts : room ≤ vec_capacity n.verdicts
+
+-- what a step needs where each stream has one instance: of each that one, and one that might be born
+abbrev pub least_room : Plan → ℕ
+least_room plan = 2 * length plan.spec.streams
+
+-- notes of a plan: a mark and a span for each stream, more layers than that of any node, and at least the least room
 pub record IsScratchOf (plan : Plan) (n : Scratch) : Type 0 where
   pub marks : length n.marks.items ≡ length plan.spec.streams
   pub spans : length n.spans.items ≡ length plan.spec.streams
   pub layers : (node : ℕ) → layer_of plan.layers node < n.layers
   pub few_layers : n.layers ≤ 2 ^ 32
+  pub room : HasRoom n (least_room plan)
 
 -- as many instances as a step may have of these streams
 abbrev pub of_streams : List SeenStream → ℕ

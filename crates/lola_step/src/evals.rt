@@ -226,6 +226,7 @@ pub(crate) fn eval_layer<R: Threads + Sync, S: StreamStore + Sync, G: Gate + Syn
     ensures goes_on { GoesOn (S.seen store.old) (S.seen store.new) }
     ensures rooms { HasRooms plan.now (layer_stage (length plan.now.spec.streams) (layer + 1)) (S.seen store.new) tasks.new results.new }
     ensures spans { IsReadyFor plan.now (layer_stage (length plan.now.spec.streams) (layer + 1)) (S.seen store.new) results.new.items spans.new }
+    ensures capacities { (vec_capacity tasks.new ≡ vec_capacity tasks.old) × (vec_capacity results.new ≡ vec_capacity results.old) }
     ensures takes { EvalsTake plan.now moment.now layer marks.now (S.remembers store.old) (S.seen store.old) (S.remembers store.new) (S.seen store.new) }
     ensures shows { ShowsMore plan.now moment.now layer marks.now (S.remembers store.old) (S.seen store.old) spans.old results.old.items spans.new results.new.items }
 {

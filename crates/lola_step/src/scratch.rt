@@ -1,11 +1,11 @@
 //! What steps note, kept from one to the next so that a step takes no memory where there is room.
 
-ghost use Rattle.std.specs.Prelude.{◌≡◌, ◌<◌, ◌≤◌, ◌^◌, ℕ, [], length, replicate, OnOk, IfOk};
+ghost use Rattle.std.specs.Prelude.{◌≡◌, ◌<◌, ◌≤◌, ◌^◌, ℕ, [], length, replicate, OnOk, IfOk, IsOk};
 ghost use Rattle.std.specs.Vec.{vec_capacity};
 ghost use Rattle.lola_model.specs.Acceptance.{IsAccepted};
 ghost use Rattle.lola_model.specs.Graph.{layer_of};
 ghost use Rattle.lola_step.specs.Progress.{IsOf};
-ghost use Rattle.lola_step.specs.Scratches.{IsFresh, IsScratchOf, instances_to_come, no_span};
+ghost use Rattle.lola_step.specs.Scratches.{HasRoom, IsFresh, IsScratchOf, instances_to_come, no_span};
 ghost use Rattle.lola_step.specs.declared.mark.Mark.TheVariants as mark;
 
 use crate::mark::Mark;
@@ -64,21 +64,22 @@ fn instances_in_step<S: StreamStore>(plan: &Plan, store: &S) -> usize
 }
 
 impl Scratch {
-    /// Nothing noted yet, for a plan.
+    /// Nothing noted yet, for a plan, with all the room that its steps need where no stream has a spawn clause.
     pub fn create(alloc: Global, plan: &Plan) -> Result<Scratch, Memory>
         requires { IsAccepted plan.now }
         ensures { IfOk result (IsScratchOf plan.now) }
     {
         let count = plan.spec.streams.as_slice().len();
+        let room = 2 * count;
         let marks = vec![in alloc; Mark::Fine; count]?;
         let spans = vec![in alloc; Span { from: 0, count: 0 }; count]?;
         Ok(Scratch {
             marks,
             spans,
-            tasks: Vec::new(alloc),
-            results: Vec::new(alloc),
-            closing: Vec::new(alloc),
-            verdicts: Vec::new(alloc),
+            tasks: Vec::with_capacity(alloc, room)?,
+            results: Vec::with_capacity(alloc, room)?,
+            closing: Vec::with_capacity(alloc, room)?,
+            verdicts: Vec::with_capacity(alloc, room)?,
             layers: layer_count(plan.layers.as_slice()),
         })
     }
@@ -91,7 +92,7 @@ impl Scratch {
     }
 }
 
-/// Notes nothing, and makes room for all that a step may note.
+/// Notes nothing, and makes room for all that a step may note. Where that room is there already, it takes no memory.
 pub(crate) fn make_room<S: StreamStore>(
     plan: &Plan,
     store: &S,
@@ -102,6 +103,7 @@ pub(crate) fn make_room<S: StreamStore>(
     requires made { IsScratchOf plan.now scratch.old }
     ensures made { IsScratchOf plan.now scratch.new }
     ensures fresh { OnOk result (IsFresh scratch.new (instances_to_come (S.seen store.now))) }
+    ensures enough { HasRoom scratch.old (instances_to_come (S.seen store.now)) → IsOk result }
 {
     let room = instances_in_step(plan, store);
     forget_marks(&mut scratch.marks);
@@ -113,10 +115,12 @@ pub(crate) fn make_room<S: StreamStore>(
     Ok(())
 }
 
-/// An empty list with room.
+/// An empty list with room, which is never less than it was. Where that was enough, it takes no memory.
 fn clear_for<T: Drop>(list: &mut Vec<T>, room: usize) -> Result<(), Memory>
     ensures items { list.new.items ≡ [] }
     ensures room { OnOk result (room ≤ vec_capacity list.new) }
+    ensures capacity { vec_capacity list.old ≤ vec_capacity list.new }
+    ensures enough { room ≤ vec_capacity list.old → IsOk result }
 {
     list.clear();
     match list.reserve(room) {

@@ -1,6 +1,6 @@
 //! A step: the inputs, then layer by layer the spawn clauses and the instances, and then the close clauses.
 
-ghost use Rattle.std.specs.Prelude.{◌≡◌, ◌<◌, ◌≤◌, ◌^◌, [], List, length, OnOk, OnErr};
+ghost use Rattle.std.specs.Prelude.{◌≡◌, ◌<◌, ◌≤◌, ◌^◌, [], List, length, IsOk, IsTrue, OnOk, OnErr};
 ghost use Rattle.std.specs.Vec.{vec_capacity};
 ghost use Rattle.lola_value.specs.Naming.{Naming};
 ghost use Rattle.lola_value.specs.Times.{latest};
@@ -8,7 +8,7 @@ ghost use Rattle.lola_model.specs.Acceptance.{IsAccepted};
 ghost use Rattle.lola_model.specs.Content.{Content};
 ghost use Rattle.lola_model.specs.Runs.{content_after};
 ghost use Rattle.lola_model.specs.Standing.{StandsBetween};
-ghost use Rattle.lola_model.specs.Store.{IsRunning, IsStarted, Stands, after_prepare, start_seen, time_seen};
+ghost use Rattle.lola_model.specs.Store.{IsRunning, IsStarted, Stands, after_prepare, never_spawns, start_seen, time_seen};
 ghost use Rattle.lola_model.specs.Table.{Step, TableRow};
 ghost use Rattle.lola_stages.specs.Stages.{layer_stage};
 ghost use Rattle.lola_step.specs.Beginnings.{moment_at};
@@ -154,6 +154,7 @@ fn make_all_room<S: StreamStore>(
     ensures fresh { OnOk result (IsFresh scratch.new (instances_to_come (S.seen store.old))) }
     ensures ok { OnOk result (S.seen store.new ≡ after_prepare (S.seen store.old)) }
     ensures err { OnErr result (S.seen store.new ≡ S.seen store.old) }
+    ensures never { IsTrue S.BOUNDED → IsTrue (never_spawns (S.seen store.old).layout.streams) → IsOk result }
     ensures stands { (names : Naming) (c : Content) → Stands names (S.remembers store.old) (S.seen store.old) c
         → Stands names (S.remembers store.new) (S.seen store.new) c }
 {
@@ -165,7 +166,8 @@ fn make_all_room<S: StreamStore>(
 /// inputs. Times are in nanoseconds. Instances are evaluated by so many workers, from 1 to 64. Others see a fault as poison; the step's
 /// fault is that of the first stream that has one, of its spawn clause or else the least kind among its instances, and if there is none,
 /// of the first stream whose close condition has one. Where it is done, the values stand in the notes; an instance that is closed has its
-/// value there, and is gone from the store. All room is made before anything changes.
+/// value there, and is gone from the store. All room is made before anything changes. Over a bounded store a step never lacks memory
+/// where no stream has a spawn clause.
 pub fn step<R: Threads + Sync, S: StreamStore + Sync, G: Gate + Sync>(
     rt: &R,
     gate: &G,
@@ -191,6 +193,7 @@ pub fn step<R: Threads + Sync, S: StreamStore + Sync, G: Gate + Sync>(
     ensures made { IsScratchOf plan.now scratch.new }
     ensures verdicts { result ≡ end.Done → AreVerdicts plan.now scratch.new.verdicts.items }
     ensures seen { ShowsEnd result plan.now time (S.seen store.old) (S.seen store.new) }
+    ensures never { IsTrue S.BOUNDED → IsTrue (never_spawns (S.seen store.old).layout.streams) → result ≡ end.Memory → ⊥ }
     ensures ends { (names : Naming) (rows : List TableRow) (of : Step) → IsRun plan.now names rows → of.time ≡ time
         → ReadFields names inputs.now is_row of.fields
         → StandsBetween names (S.remembers store.old) (S.seen store.old) (content_after plan.now start rows)

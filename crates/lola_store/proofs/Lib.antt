@@ -1,4 +1,3 @@
-pub mod Accepted
 mod Asking
 mod Beginning
 mod Changing
@@ -9,4 +8,3 @@ mod Preparing
 mod Ranges
 mod Recalling
 mod Tallying
-mod Taken

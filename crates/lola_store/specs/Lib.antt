@@ -7,3 +7,5 @@ pub mod Rooms
 pub mod Stages
 pub mod Stores
 pub mod Tallies
+pub mod Texts
+pub mod Needing

@@ -7,7 +7,9 @@ ghost use Rattle.lola_store.specs.Opening.{IsStorable};
 use lola_model::plan::Plan;
 
 /// A store can be made for an accepted plan.
-pub fn accepted_is_storable(_plan: &Plan)
-    requires { IsAccepted _plan.now }
-    ensures { IsStorable _plan.now }
-{}
+pub fn accepted_is_storable(plan: &Plan)
+    requires { IsAccepted plan.now }
+    ensures { IsStorable plan.now }
+{
+    lola_bounded::law::accepted_is_storable(plan);
+}

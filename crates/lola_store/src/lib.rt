@@ -12,4 +12,5 @@ mod reading;
 mod stage;
 pub mod store;
 mod tally;
+mod texts;
 mod whole;

@@ -70,6 +70,19 @@ fn drills_of_one_number(rt: HostRuntime) -> Result<(), Memory> {
     Ok(())
 }
 
+/// However many rows come, the memory of a run is bounded.
+#[test]
+fn drill_of_many_rows(rt: HostRuntime) -> Result<(), Memory> {
+    let left = drill(&rt, rt.alloc(), ["7", "100000", "1"], &[])?;
+    assert!(rt; left.status == 0 && left.trace.written().is_empty());
+    assert!(rt;
+        left.out
+            .written()
+            .starts_with(b"= done accepted ".as_slice())
+    );
+    Ok(())
+}
+
 #[test]
 fn drill_whose_line_is_not_put(rt: HostRuntime) -> Result<(), Memory> {
     let left = drill(&rt, rt.alloc(), ["1", "1", "1"], &[0])?;

@@ -2,6 +2,8 @@
 #![tactic(auto)]
 
 #[cfg(test)]
+mod bounded;
+#[cfg(test)]
 mod drills;
 #[cfg(test)]
 mod poison;

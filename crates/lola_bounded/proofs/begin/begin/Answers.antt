@@ -1,9 +1,9 @@
-use Rattle.std.proofs.Common.{◌≡◌, ℕ, ◌+◌, ◌-◌, ◌≤◌, ◌++◌, Bool, true, false, List, map, ap, sym, ◌∙◌, subst, arith}
+use Rattle.std.proofs.Common.{◌≡◌, ℕ, ◌+◌, ◌-◌, ◌≤◌, ◌++◌, Bool, true, false, List, map, sym, ◌∙◌, subst, arith}
 use Rattle.lola_value.specs.declared.text.Field.{Field}
 use Rattle.lola_value.specs.Naming.{read_outcome}
 use Rattle.lola_model.specs.Accesses.{one_more}
-use Rattle.lola_model.specs.Store.{SeenStream, quiet, time_seen, start_seen, now_seen, Running}
-use Rattle.lola_lives.specs.Crowds.{Crowd, crowd_seen, RemembersAt, shown_at}
+use Rattle.lola_model.specs.Store.{time_seen, start_seen, now_seen, Running}
+use Rattle.lola_lives.specs.Crowds.{RemembersAt, shown_at}
 use Rattle.lola_lives.specs.Each.{Each}
 use Rattle.lola_lives.specs.Rights.{CrowdRight}
 use Rattle.lola_lives.proofs.Beginnings.{crowd_later, begun_at}

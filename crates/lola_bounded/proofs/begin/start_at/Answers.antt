@@ -1,4 +1,4 @@
-use Rattle.std.proofs.Common.{◌≡◌, ◌-◌, ◌≤◌, ℕ, Bool, false, refl, sym, ◌∙◌, subst, arith}
+use Rattle.std.proofs.Common.{◌≡◌, ◌-◌, ℕ, Bool, subst, arith}
 use Rattle.lola_lives.specs.Rights.{CrowdRight}
 use Rattle.lola_lives.proofs.Beginnings.{started_at}
 use Rattle.lola_bounded.specs.Stages.{start_in, time_in, is_on}

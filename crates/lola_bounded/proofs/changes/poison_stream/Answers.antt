@@ -1,4 +1,4 @@
-use Rattle.std.proofs.Common.{◌≡◌, ◌-◌, List, map, slice_get, true, refl, sym, arith, nat_eq, eq-eqb}
+use Rattle.std.proofs.Common.{◌≡◌, ◌-◌, map, slice_get, true, refl, sym, arith, nat_eq, eq-eqb}
 use Rattle.lola_model.specs.Store.{SeenStream}
 use Rattle.lola_slots.specs.Holdings.{slot_seen}
 use Rattle.lola_lives.specs.Crowds.{Crowd, crowd_seen, RemembersAt}

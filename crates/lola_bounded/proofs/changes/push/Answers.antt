@@ -1,4 +1,4 @@
-use Rattle.std.proofs.Common.{◌≡◌, ◌∙◌, ℕ, ◌-◌, ◌≤◌, ◌+◌, ◌^◌, List, Option, Bool, true, length, map, slice_get, IsTrue, ap, sym, subst, arith}
+use Rattle.std.proofs.Common.{◌≡◌, ℕ, ◌-◌, Option, Bool, true, IsTrue, ap, sym, subst, arith}
 use Rattle.lola_value.specs.declared.value.Outcome.TheVariants as outcome
 use Rattle.lola_value.specs.Kinds.{is_of_kind}
 use Rattle.lola_model.specs.Store.{SeenStream, StreamLayout, told_at, kind_in}

@@ -1,12 +1,12 @@
-use Rattle.std.proofs.Common.{◌≡◌, ◌∙◌, ℕ, ◌-◌, ◌+◌, ◌≤◌, ◌<◌, ◌++◌, ◌∷◌, [], List, Option, Some, Bool, true, false, not, IsTrue, length, map, slice_get, slice_set, refl, ap, sym, subst, arith, if◌then◌else◌}
+use Rattle.std.proofs.Common.{◌≡◌, ◌∙◌, ℕ, ◌-◌, ◌++◌, ◌∷◌, [], Option, Bool, true, false, IsTrue, length, slice_get, slice_set, refl, ap, sym, subst, arith, if◌then◌else◌}
 use Rattle.lola_value.specs.declared.value.Params.{Params}
 use Rattle.lola_value.specs.Kinds.{are_of_kinds}
 use Rattle.lola_value.specs.Naming.{the_values}
 use Rattle.lola_model.specs.Spawning.{has_room, spawn_end}
-use Rattle.lola_model.specs.Store.{Seen, SeenStream, StreamLayout, after_spawn, changed_at, instances_of, instances_seen, newborn_seen, parameters_of, place_of}
-use Rattle.lola_slots.specs.Holdings.{Holdings, slot_seen}
-use Rattle.lola_lives.specs.Crowds.{Crowd, crowd_seen, RemembersAt, place_in}
-use Rattle.lola_lives.specs.Rights.{AreRight, CrowdRight, owed}
+use Rattle.lola_model.specs.Store.{Seen, StreamLayout, after_spawn, changed_at, instances_seen, newborn_seen, parameters_of, place_of}
+use Rattle.lola_slots.specs.Holdings.{Holdings}
+use Rattle.lola_lives.specs.Crowds.{RemembersAt, place_in}
+use Rattle.lola_lives.specs.Rights.{AreRight, CrowdRight}
 use Rattle.lola_lives.proofs.Lists.{each-set, same_set}
 use Rattle.lola_bounded.specs.Stages.{phase_in, start_in, time_in, is_on}
 use Rattle.lola_bounded.specs.Stores.{bounded_seen}

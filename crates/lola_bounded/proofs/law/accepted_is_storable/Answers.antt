@@ -1,12 +1,14 @@
 -- The law, at this plan.
 use Rattle.lola_bounded.proofs.Accepted.{cut_of, kept_from, kept_of}
+use Rattle.lola_bounded.proofs.Plain.{plain_of}
+use Rattle.lola_bounded.proofs.Taken.{taken_of}
 use Rattle.lola_bounded.proofs.law.accepted_is_storable.Goals as goal
 
 pub returns : goal.returns
 returns c = record {
-  taken = c.accepted_is_storable.ensures.taken;
-  plain = c.accepted_is_storable.ensures.plain;
-  kept = kept_from c.args.plan.now.spec.streams c.args.plan.now.kept (kept_of c.args.plan.now c.requires.bounds);
+  taken = taken_of c.args._plan.now.spec c.args._plan.now.kept c.requires.named c.requires.typed;
+  plain = plain_of c.args._plan.now.spec.streams c.args._plan.now.kept c.requires.named.shapes;
+  kept = kept_from c.args._plan.now.spec.streams c.args._plan.now.kept (kept_of c.args._plan.now c.requires.bounds);
   sizes = c.requires.bounds.pane_count;
-  cut = cut_of c.args.plan.now c.requires.bounds c.requires.typed.ranged.window_spans;
+  cut = cut_of c.args._plan.now c.requires.bounds c.requires.typed.ranged.window_spans;
 }

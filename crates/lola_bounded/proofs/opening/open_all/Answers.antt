@@ -1,8 +1,7 @@
-use Rattle.std.proofs.Common.{◌≡◌, ◌∙◌, ◌++◌, ◌∷◌, [], ℕ, ◌+◌, ◌<◌, ◌≤◌, Some, length, map, drop, slice_get, refl, ap, sym, subst, arith, append_assoc, length-append}
+use Rattle.std.proofs.Common.{◌≡◌, ◌∙◌, ◌++◌, ◌∷◌, [], ℕ, ◌+◌, ◌<◌, ◌≤◌, length, map, drop, slice_get, refl, ap, sym, subst, arith, append_assoc, length-append}
 use Rattle.std.proofs.lemmas.List.{map-append}
 use Rattle.std.proofs.lemmas.Option.{slice_get_read}
 use Rattle.lola_model.specs.Store.{layouts_from}
-use Rattle.lola_lives.specs.Crowds.{Crowd}
 use Rattle.lola_bounded.specs.Opening.{IsOpened, stream_layout, first_kept}
 use Rattle.lola_bounded.specs.Streams.{crowd_layout}
 use Rattle.lola_bounded.proofs.Opened.{layouts_at, layouts_more, opened_more}

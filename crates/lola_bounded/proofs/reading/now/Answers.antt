@@ -1,10 +1,8 @@
-use Rattle.std.proofs.Common.{◌≡◌, ◌∙◌, ℕ, ◌-◌, ◌+◌, ◌*◌, ◌≤◌, ◌<◌, Option, Some, IsTrue, MatchOption, length, map, slice_get, ap, sym, subst, arith}
+use Rattle.std.proofs.Common.{◌∙◌, IsTrue, ap, sym, subst}
 use Rattle.lola_value.specs.declared.value.Kind.{Kind}
-use Rattle.lola_value.specs.declared.value.Outcome.{Outcome}
 use Rattle.lola_value.specs.Kinds.{is_outcome_of}
 use Rattle.lola_model.specs.Store.{kind_in}
-use Rattle.lola_lives.specs.Crowds.{Crowd}
-use Rattle.lola_bounded.proofs.Asking.{layout_at, now_is, place_is, newest_told, back_told}
+use Rattle.lola_bounded.proofs.Asking.{layout_at, now_is}
 use Rattle.lola_bounded.proofs.reading.now.Goals as goal
 
 pub now-requires-clause-steady : goal.now-requires-clause-steady

@@ -1,4 +1,4 @@
-use Rattle.std.proofs.Common.{ℕ, ◌≡◌, ◌∙◌, ◌<◌, Option, Some, None, List, IsTrue, MatchOption, length, map, slice_get, ap, sym, subst}
+use Rattle.std.proofs.Common.{ℕ, ◌≡◌, ◌∙◌, Option, Some, None, List, IsTrue, MatchOption, slice_get, ap, sym, subst}
 use Rattle.std.specs.Option.{option_map}
 use Rattle.std.proofs.lemmas.Option.{slice_get-map}
 use Rattle.lola_value.specs.declared.value.Kind.{Kind}
@@ -7,7 +7,6 @@ use Rattle.lola_value.specs.Kinds.{are_of_kinds}
 use Rattle.lola_value.specs.Naming.{the_values}
 use Rattle.lola_model.specs.Store.{SeenInstance, instances_of, parameters_of}
 use Rattle.lola_slots.specs.Holdings.{Holdings, slot_seen}
-use Rattle.lola_lives.specs.Crowds.{Crowd}
 use Rattle.lola_bounded.proofs.Asking.{layout_at, stream_at, stream_within, index_is}
 use Rattle.lola_bounded.proofs.reading.params_of.Goals as goal
 

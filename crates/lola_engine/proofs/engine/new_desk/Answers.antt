@@ -5,6 +5,7 @@ use Rattle.lola_model.specs.Steps.{rates_of}
 use Rattle.lola_model.specs.Store.{layout_of, new_seen}
 use Rattle.lola_engine.specs.Engines.{AreStarted}
 use Rattle.lola_engine.proofs.Ranges.{of_new}
+use Rattle.lola_engine.proofs.Sweeping.{count_between}
 use Rattle.lola_engine.proofs.engine.new_desk.Goals as goal
 
 pub returns : goal.returns
@@ -28,5 +29,8 @@ returns c =
       show_is = refl;
       clock = (started_is, ap (λ (z : ClockState). z.passed) c.in_ok-clock.ensures);
       few_texts = c.in_ok-texts.ensures.few;
+      literals_are = c.in_ok-texts.ensures.exact;
+      swept_is = c.len-swept.ensures.count;
+      few_swept = (let most = count_between 0 c.in_ok-texts.texts.given c.in_ok-texts.texts.held c.in_ok-texts.ensures.table.numbers in omega (arith, most, c.len-swept.ensures.count, c.in_ok-texts.ensures.few));
       nothing = (refl, refl, refl, refl, refl);
     }

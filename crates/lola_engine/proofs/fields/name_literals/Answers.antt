@@ -1,6 +1,6 @@
 -- One text more, and then all.
 use Rattle.std.proofs.Common.{arith, ap, length}
-use Rattle.lola_engine.proofs.Numbered.{all-numbered, one-numbered, text-here}
+use Rattle.lola_engine.proofs.Numbered.{all-numbered, as-numbered, one-numbered, text-here}
 use Rattle.lola_engine.proofs.fields.name_literals.Goals as goal
 
 pub loop-text-preserved : goal.loop-text-preserved
@@ -15,3 +15,7 @@ loop-text-preserved c =
 pub returns-clause-ok : goal.returns-clause-ok
 returns-clause-ok c =
     all-numbered c.args.plan.now.spec.texts c.loop-text.text-index c.loop-text.texts (omega (arith, ap length c.as_slice-text-items.ensures)) c.loop-text.invariant.numbered
+
+pub returns-clause-exact : goal.returns-clause-exact
+returns-clause-exact c =
+    as-numbered c.args.plan.now.spec.texts c.loop-text.text-index c.loop-text.texts (omega (arith, ap length c.as_slice-text-items.ensures)) c.loop-text.invariant.numbered

@@ -112,6 +112,9 @@ returns-clause-rooms g c =
     (returns-clause-goes_on g c).rooms (c.gather.ensures.capacities.0 ∙ c.clear.ensures.capacity) c.gather.ensures.capacities.1
     (omega (arith, counted, ap length (tasks_are g c), c.gather.new.results.ok.0, c.args.results.now.ok.0))
 
+pub returns-clause-capacities : goal.returns-clause-capacities
+returns-clause-capacities g c = (c.gather.ensures.capacities.0 ∙ c.clear.ensures.capacity, c.gather.ensures.capacities.1)
+
 pub returns-clause-spans : goal.returns-clause-spans
 returns-clause-spans g c =
     let next = layer_stage (length c.args.plan.now.spec.streams) (c.args.layer + 1) in

@@ -18,6 +18,8 @@ loop-layer-init g c = record {
   layers = refl;
   closing = refl;
   verdicts = refl;
+  tasks_room = refl;
+  results_room = refl;
 }
 
 pub eval_layer-requires-clause-spans : goal.eval_layer-requires-clause-spans
@@ -65,6 +67,8 @@ loop-layer-preserved g c =
       layers = c.loop-layer.invariant.layers;
       closing = c.loop-layer.invariant.closing;
       verdicts = c.loop-layer.invariant.verdicts;
+      tasks_room = c.eval_layer.ensures.capacities.0 ∙ c.loop-layer.invariant.tasks_room;
+      results_room = c.eval_layer.ensures.capacities.1 ∙ c.loop-layer.invariant.results_room;
     }
 
 pub returns-clause-evaluates : goal.returns-clause-evaluates

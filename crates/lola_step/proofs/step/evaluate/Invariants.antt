@@ -1,4 +1,5 @@
 use Rattle.std.proofs.Common.{◌≡◌, length}
+use Rattle.std.specs.Vec.{vec_capacity}
 use Rattle.lola_step.proofs.Evaluation.{IsSoFar}
 use Rattle.lola_step.proofs.step.evaluate.Given as goal
 
@@ -10,4 +11,6 @@ invariant-loop-layer g l = record {
   layers : l.scratch.layers ≡ l.layer-end;
   closing : l.scratch.closing ≡ l.initial.scratch.closing;
   verdicts : l.scratch.verdicts ≡ l.initial.scratch.verdicts;
+  tasks_room : vec_capacity l.scratch.tasks ≡ vec_capacity l.initial.scratch.tasks;
+  results_room : vec_capacity l.scratch.results ≡ vec_capacity l.initial.scratch.results;
 }

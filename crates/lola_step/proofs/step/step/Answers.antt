@@ -3,6 +3,7 @@ use Rattle.std.specs.Vec.{vec_capacity}
 use Rattle.lola_model.specs.Store.{Seen, after_begin, after_prepare, start_seen}
 use Rattle.lola_stages.specs.Stages.{first_stage}
 use Rattle.lola_step.specs.Beginnings.{moment_at}
+use Rattle.lola_step.specs.Conclusions.{ShowsConcluded}
 use Rattle.lola_step.specs.Progress.{IsAt, IsMomentOf}
 use Rattle.lola_step.specs.Rooms.{rooms, total}
 use Rattle.lola_step.specs.Scratches.{IsFresh, instances_to_come}
@@ -75,6 +76,12 @@ conclude-requires-clause-verdicts_room g c =
     let all : total (rooms (g.S.StreamStore.seen c.evaluate.new.store)) ≡ instances_to_come s = ap total c.evaluate.ensures.goes_on.rooms ∙ told in
     let kept : vec_capacity c.evaluate.new.scratch.verdicts ≡ vec_capacity c.make_all_room.new.scratch.verdicts = ap vec_capacity c.evaluate.ensures.kept.1 in
     omega (arith, all, kept, c.in_default.ensures.fresh.verdicts_room)
+
+pub returns-clause-never : goal.returns-clause-never
+returns-clause-never g c bounded plain is =
+    subst
+    (λ end. ShowsConcluded end c.args.plan.now (g.S.StreamStore.seen c.evaluate.new.store) (g.S.StreamStore.seen c.conclude.new.store))
+    is c.conclude.ensures.seen
 
 pub returns-clause-ends : goal.returns-clause-ends
 returns-clause-ends g c =

@@ -1,6 +1,6 @@
-use Rattle.std.proofs.Common.{◌≡◌, ◌∙◌, rules}
+use Rattle.std.proofs.Common.{◌≡◌, ◌∙◌, OnOk, false, rules}
 use Rattle.lola_model.specs.Journal.{IsLegalFrom, opening_time}
-use Rattle.lola_intake.specs.Histories.{taken}
+use Rattle.lola_intake.specs.Histories.{EndsDone, taken}
 use Rattle.lola_intake.specs.Intakes.{Shown}
 use Rattle.lola_run.specs.declared.run.Run.{Run}
 use Rattle.lola_run.specs.Running.{keeping}
@@ -55,6 +55,12 @@ returns-clause-halts g c =
     → Halts c.scoped-taker.result.5 c.args.taker.now.inputs.count first (taken taker.seat.mine) (place (keeping run) (g.K.Sink.state out) (g.T.Sink.state trace)))
     c.scoped-taker.result.0.now c.taker-1.given.0 c.scoped-taker.result.1.now c.run-1.given.0 c.scoped-taker.result.2.now c.out-1.given.0 c.scoped-taker.result.3.now c.trace-1.given.0
     taker_back run_back out_back trace_back c.scoped-taker.ensures.1.1.1.1.1.0
+
+pub returns-clause-done : goal.returns-clause-done
+returns-clause-done g c =
+    let taker_back : c.taker-1.given.0 ≡ c.scoped-taker.result.0.now = search rules in
+    of_equal (λ (taker : Taking). OnOk c.scoped-taker.result.5 (EndsDone taker.seat.mine false)) c.scoped-taker.result.0.now c.taker-1.given.0 taker_back
+    c.scoped-taker.ensures.1.1.1.1.1.1.0
 
 pub returns-clause-marked : goal.returns-clause-marked
 returns-clause-marked g c =

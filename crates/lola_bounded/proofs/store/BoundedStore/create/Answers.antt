@@ -1,8 +1,7 @@
-use Rattle.std.proofs.Common.{◌≡◌, ◌∙◌, ℕ, ◌<◌, ◌-◌, [], Some, false, length, map, slice_get, refl, ap, sym, subst, arith, IsTrue}
+use Rattle.std.proofs.Common.{◌≡◌, ◌∙◌, ℕ, Some, false, map, slice_get, ap, sym, subst, arith, IsTrue}
 use Rattle.lola_value.specs.declared.value.Kind.{Kind}
-use Rattle.lola_model.specs.Store.{New, StreamLayout, kind_in, layouts_from, opened}
+use Rattle.lola_model.specs.Store.{New, kind_in, layouts_from, opened}
 use Rattle.lola_model.specs.Typing.{takes}
-use Rattle.lola_model.specs.declared.spec.WindowSpec.{WindowSpec}
 use Rattle.lola_slots.specs.Unborn.{AllSound}
 use Rattle.lola_lives.specs.Crowds.{Crowd}
 use Rattle.lola_bounded.specs.Opening.{ArePlaces, IsOpened, onto}

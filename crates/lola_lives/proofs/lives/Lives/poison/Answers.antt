@@ -1,11 +1,12 @@
 use Rattle.std.proofs.Common.{◌∙◌, map, slice_get, ap, sym, subst, true, IsTrue}
 use Rattle.lola_value.specs.declared.value.Outcome.TheVariants as outcome
 use Rattle.lola_model.specs.Store.{StreamLayout, is_silent, told_at}
-use Rattle.lola_slots.specs.Holdings.{shown, slot_seen}
+use Rattle.lola_slots.specs.Holdings.{Holdings, shown, slot_seen}
 use Rattle.lola_lives.specs.Changes.{HasFailed}
 use Rattle.lola_lives.specs.Crowds.{Crowd, RemembersAt, shown_at}
 use Rattle.lola_lives.specs.Rights.{AreRight, SlotRight}
 use Rattle.lola_lives.proofs.Outcomes.{changed_each, changed_seen, changed_past, changed_silent, is_missing, failed_right, failed_seen}
+use Rattle.lola_lives.proofs.Directories.{changed_names}
 use Rattle.lola_lives.proofs.lives.Lives.poison.Goals as goal
 
 pub returns-clause-right : goal.returns-clause-right
@@ -38,3 +39,14 @@ returns-clause-past c = λ start time names i values m.
     let none = is_missing (shown c.args.step h.x) silent in
     changed_past (HasFailed c.args.step) c.args.index xs ys h (λ o. RemembersAt start time c.args.step names o values) i (λ q. h.related.past start time names values q none)
     (subst (λ (k : Crowd). RemembersAt start time c.args.step names (slice_get k.slots i) values) (sym w) m)
+
+pub invariant_of-self : goal.invariant_of-self
+invariant_of-self c =
+    let h = c.poison.ensures.changed in
+    let listed = c.self.invariant.1 in (
+      c.self.invariant.0,
+      record {
+        names = λ kept. listed.names kept ∙ sym (changed_names (HasFailed c.args.step) c.args.index c.self.inside.slots.items c.poison.new.slots.items h (ap (λ (s : Holdings). s.params) h.related.slot));
+        room = listed.room;
+      },
+    )

@@ -7,6 +7,7 @@ use Rattle.lola_lives.specs.Changes.{HasTold}
 use Rattle.lola_lives.specs.Crowds.{Crowd, RemembersAt, shown_at}
 use Rattle.lola_lives.specs.Rights.{AreRight, SlotRight}
 use Rattle.lola_lives.proofs.Outcomes.{changed_each, changed_seen, changed_past, changed_silent, is_missing, told_right, told_seen, ready_at}
+use Rattle.lola_lives.proofs.Directories.{changed_names}
 use Rattle.lola_lives.proofs.lives.Lives.push.Goals as goal
 
 pub returns-clause-right : goal.returns-clause-right
@@ -51,3 +52,14 @@ tell-requires-clause-ready c =
     (subst (λ (k : Crowd). IsTrue (is_silent (shown_at c.args.step (slice_get k.slots c.args.index)))) (sym w) c.requires.silent)
     (subst (λ (k : Crowd). IsTrue (is_of_kind k.layout.kind c.args.value)) (sym w) c.requires.kind)
     c.requires.step_le
+
+pub invariant_of-self : goal.invariant_of-self
+invariant_of-self c =
+    let h = c.tell.ensures.changed in
+    let listed = c.self.invariant.1 in (
+      c.self.invariant.0,
+      record {
+        names = λ kept. listed.names kept ∙ sym (changed_names (HasTold c.args.step c.args.offset c.args.value) c.args.index c.self.inside.slots.items c.tell.new.slots.items h (h.related.params));
+        room = listed.room;
+      },
+    )

@@ -8,4 +8,4 @@ pub returns-clause-takes : goal.returns-clause-takes
 returns-clause-takes c =
     let ws = c.self.inside.windows.items in
     let l = subst (λ (k : Crowd). c.args.place < length k.windows) (sym c.self.view_is) c.requires in
-    (sound_at ws c.args.place c.index.result.now c.self.invariant.sound (slice_get_read ws (length ws) c.args.place c.index.result.now refl l c.index.ensures)).kind
+    (sound_at ws c.args.place c.index.result.now c.self.invariant.0.sound (slice_get_read ws (length ws) c.args.place c.index.result.now refl l c.index.ensures)).kind

@@ -1,0 +1,175 @@
+//! Random traces: an engine that keeps no more than is needed says what one says that keeps all values.
+ghost use Rattle.std.specs.Prelude.{◌≤◌};
+
+use crate::driving::{bounded_engine, reader, run_over, whole_engine};
+use lola_engine::end::EngineEnd;
+use lola_front::compile;
+use lola_value::text::Text;
+use std::alloc::Global;
+use std::fmt::Write;
+use std::test::Fail;
+use std::thread::Threads;
+
+/// Offsets, holds and windows of each aggregation, over numbers and texts.
+const VALUES: &str =
+    "input a: Int64\ninput s: String\noutput x: Int64 := x.offset(by: -1).defaults(to: 0) + a\noutput y: Int64 := a.offset(by: -3).defaults(to: 0)\noutput back: String := s.offset(by: -2).defaults(to: \"none\")\noutput same: Bool := s == s.last(or: \"\")\noutput odd: Bool := a % 2 == 1\noutput held: String @2Hz := s.hold(or: \"nothing\")\noutput n: UInt64 @2Hz := a.aggregate(over: 2s, using: count)\noutput sum: Int64 @1Hz := x.aggregate(over: 3s, using: sum)\noutput least: Int64 @2Hz := a.aggregate(over: 1500ms, using: min).defaults(to: 77)\noutput most: Int64 @1Hz := a.aggregate(over: 3s, using: max).defaults(to: 77)\noutput mean: Int64 @2Hz := a.aggregate(over_exactly: 2s, using: avg).defaults(to: 99)\noutput all: Bool @1Hz := odd.aggregate(over: 2s, using: forall)\noutput any: Bool @1Hz := odd.aggregate(over_exactly: 4s, using: exists).defaults(to: false)\noutput texts: UInt64 @1Hz := s.aggregate(over: 2s, using: count)\n";
+
+/// Instances that are born, closed and born again, by numbers and by texts, with windows onto them.
+const INSTANCES: &str =
+    "input a: Int64\ninput s: String\noutput z(p: Int64): Int64\n  spawn with a\n  eval @a when a == p with z(p).last(or: 0) + 1\n  close when a == 0\noutput count(name: String): Int64\n  spawn with s\n  eval @s when s == name with count(name).offset(by: -2).defaults(to: 0) + 1\n  close @a when a == 3\noutput seen: UInt64 @1Hz := z(1).aggregate(over: 3s, using: count)\noutput best: Int64 @2Hz := count(\"p\").aggregate(over: 2s, using: max).defaults(to: 55)\noutput now: Int64 @2Hz := z(2).hold(or: 66)\noutput q: Int64 @1Hz := count(\"q\").hold(or: 44)\n";
+
+/// Sums that leave their kind after a while.
+const FAULTS: &str =
+    "input a: Int64\ninput s: String\noutput total: Int8 := total.offset(by: -1).defaults(to: 0) + small\noutput small: Int8 := if a > 0 then 3 else 0 - 1\noutput least: Int64 @1Hz := a.aggregate(over: 2s, using: min).defaults(to: 1)\noutput part: Int64 @1Hz := 12 / least\n";
+
+/// Numbers that follow from a seed.
+#[derive(Drop)]
+struct Dice(u64);
+
+impl Dice {
+    fn roll(&mut self, sides: u64) -> u64
+        requires { 1 ≤ sides }
+    {
+        self.0 = self
+            .0
+            .wrapping_mul(6364136223846793005)
+            .wrapping_add(1442695040888963407);
+        (self.0 / 4294967296) % sides
+    }
+}
+
+/// Appends a field of a number between -1 and 4, or an absent one.
+fn put_number(dice: &mut Dice, text: &mut String) -> Result<(), Fail> {
+    let n = dice.roll(8);
+    match n {
+        0 => text.push_str("#")?,
+        1 => text.push_str("-1")?,
+        _ => write!(text, "{}", n.saturating_sub(2))?,
+    }
+    Ok(())
+}
+
+/// Appends a field of one of four texts, or an absent one.
+fn put_text(dice: &mut Dice, text: &mut String) -> Result<(), Fail> {
+    let field = match dice.roll(6) {
+        0 => "#",
+        1 => "p",
+        2 => "q",
+        3 => "r",
+        4 => "a longer text",
+        _ => "p",
+    };
+    text.push_str(field)?;
+    Ok(())
+}
+
+/// A source of sixty rows, at stamps that mostly rise, by tenths of a second.
+fn source(alloc: Global, seed: u64) -> Result<String, Fail> {
+    let mut dice = Dice(seed);
+    let mut text = String::from_str(alloc, "time,a,s\n")?;
+    let mut tenths: u64 = 10;
+    for _ in 0..60 {
+        tenths = tenths.saturating_add(dice.roll(8));
+        let shown = if dice.roll(9) == 0 {
+            tenths.saturating_sub(5)
+        } else {
+            tenths
+        };
+        let (second, tenth) = (shown / 10, shown % 10);
+        write!(text, "{second}.{tenth},")?;
+        put_number(&mut dice, &mut text)?;
+        text.push_str(",")?;
+        put_text(&mut dice, &mut text)?;
+        text.push_str("\n")?;
+    }
+    Ok(text)
+}
+
+/// What an engine leaves.
+#[derive(Drop)]
+struct Left {
+    end: Result<(), EngineEnd>,
+    lines: Text,
+}
+
+/// Runs these rows over the bounded store.
+fn bounded<R: Threads + Sync>(
+    rt: &R,
+    alloc: Global,
+    specification: &str,
+    rows: &str,
+) -> Result<Option<Left>, Fail> {
+    let mut lines = Text::from_bytes(alloc, b"")?;
+    let Ok(plan) = compile(alloc, specification.as_bytes()) else {
+        return Ok(None);
+    };
+    let Some(mut reader) = reader(alloc, &plan, rows)? else {
+        return Ok(None);
+    };
+    let mut engine = bounded_engine(alloc, plan)?;
+    let end = run_over(rt, &mut engine, &mut reader, &mut lines);
+    Ok(Some(Left { end, lines }))
+}
+
+/// Runs these rows over whole lists.
+fn whole<R: Threads + Sync>(
+    rt: &R,
+    alloc: Global,
+    specification: &str,
+    rows: &str,
+) -> Result<Option<Left>, Fail> {
+    let mut lines = Text::from_bytes(alloc, b"")?;
+    let Ok(plan) = compile(alloc, specification.as_bytes()) else {
+        return Ok(None);
+    };
+    let Some(mut reader) = reader(alloc, &plan, rows)? else {
+        return Ok(None);
+    };
+    let mut engine = whole_engine(alloc, plan)?;
+    let end = run_over(rt, &mut engine, &mut reader, &mut lines);
+    Ok(Some(Left { end, lines }))
+}
+
+/// How both end these rows, where they say the same of them, and say something.
+fn agreed<R: Threads + Sync>(
+    rt: &R,
+    alloc: Global,
+    specification: &str,
+    seed: u64,
+) -> Result<Option<Result<(), EngineEnd>>, Fail> {
+    let rows = source(alloc, seed)?;
+    let (Some(one), Some(other)) = (
+        bounded(rt, alloc, specification, &rows)?,
+        whole(rt, alloc, specification, &rows)?,
+    ) else {
+        return Ok(None);
+    };
+    let (lines, others) = (one.lines.as_bytes(), other.lines.as_bytes());
+    if one.end == other.end && lines == others && !lines.is_empty() {
+        Ok(Some(one.end))
+    } else {
+        Ok(None)
+    }
+}
+
+#[test]
+fn both_stores_agree(rt: HostRuntime) -> Result<(), Fail> {
+    let alloc = rt.alloc();
+    for specification in [VALUES, INSTANCES] {
+        for seed in 1..9 {
+            let end = agreed(&rt, alloc, specification, seed)?;
+            assert!(rt; end == Some(Ok(())), "{specification}{seed}");
+        }
+    }
+    Ok(())
+}
+
+#[test]
+fn both_stores_fail_at_the_same_step(rt: HostRuntime) -> Result<(), Fail> {
+    let alloc = rt.alloc();
+    for seed in 1..9 {
+        let end = agreed(&rt, alloc, FAULTS, seed)?;
+        assert!(rt; matches!(end, Some(Err(EngineEnd::Fault { .. }))), "{seed}");
+    }
+    Ok(())
+}
