@@ -4,6 +4,6 @@ use Rattle.lola_value.specs.declared.value.TextId.{TextId}
 use Rattle.lola_lives.specs.Texts.{crowd_texts}
 use Rattle.lola_bounded.specs.declared.store.BoundedStore.{BoundedStore}
 
--- the numbers of the texts that its streams hold in this step, one stream after another
+-- the numbers of the texts that its streams hold, one stream after another
 abbrev pub bounded_texts : BoundedStore → List TextId
-bounded_texts s = flat_map (crowd_texts s.step) s.streams.items
+bounded_texts s = flat_map crowd_texts s.streams.items

@@ -10,11 +10,11 @@ use lola_sweep::store::TextStore;
 use lola_value::text::Memory;
 
 // The numbers of the texts of each stream.
-fn add_all(streams: &[Lives], step: u64, into: &mut Ids) -> Result<(), Memory>
-    ensures { OnOk result (into.new ≡ into.old ++ flat_map (crowd_texts step) streams.now) }
+fn add_all(streams: &[Lives], into: &mut Ids) -> Result<(), Memory>
+    ensures { OnOk result (into.new ≡ into.old ++ flat_map crowd_texts streams.now) }
 {
     for lives in streams {
-        lives.texts(step, into)?;
+        lives.texts(into)?;
     }
     Ok(())
 }
@@ -26,7 +26,7 @@ impl TextStore for BoundedStore {
     ghost holds = { bounded_texts };
 
     fn texts(&self, into: &mut Ids) -> Result<(), Memory> {
-        add_all(self.streams.as_slice(), self.step, into)
+        add_all(self.streams.as_slice(), into)
     }
 
     ghost shows = { bounded_shows };

@@ -22,7 +22,7 @@ pub newborn_right : (layout : StreamLayout) (windows : List WindowPanes) (runnin
     → IsTrue (are_of_kinds layout.parameters (the_values p)) → IsTrue (is_well_formed p) → SlotRight layout windows running step offset (newborn layout.kept windows p)
 newborn_right layout windows running step offset p l o k f =
     record {
-      steady = record { outcome = refl; capacity = refl; values = tt; kinds = k; formed = f; panes = panes_none windows };
+      steady = record { outcome = refl; capacity = refl; values = tt; newest = λ v e. cc; kinds = k; formed = f; panes = panes_none windows };
       timely = record {
         stamp_le = omega arith;
         told = λ e. absurd (omega arith);

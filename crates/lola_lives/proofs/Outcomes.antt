@@ -8,12 +8,14 @@ use Rattle.lola_value.specs.declared.value.Outcome.TheVariants as outcome
 use Rattle.lola_value.specs.Kinds.{are_of_kinds, is_of_kind, is_outcome_of, is_well_formed}
 use Rattle.lola_value.specs.Naming.{the_values}
 use Rattle.lola_model.specs.Store.{SeenInstance, StreamLayout, is_silent, told_at}
-use Rattle.lola_buffer.specs.Kept.{Kept}
+use Rattle.lola_buffer.specs.Kept.{Kept, before_newest}
 use Rattle.lola_panes.specs.Standing.{Partials}
 use Rattle.lola_slots.specs.declared.window.WindowPanes.{WindowPanes}
 use Rattle.lola_slots.specs.Holdings.{Holdings, shown, slot_seen, AllOf}
 use Rattle.lola_slots.specs.Telling.{AllGiven, AllReady}
+use Rattle.lola_slots.specs.Texts.{KeepsOutcome}
 use Rattle.lola_slots.proofs.Giving.{given_ready, given_told, panes_told}
+use Rattle.lola_slots.proofs.Needing.{told_kept}
 use Rattle.lola_lives.specs.Changes.{HasTold, HasFailed, IsChangedAt}
 use Rattle.lola_lives.specs.Crowds.{shown_at}
 use Rattle.lola_lives.specs.Each.{Each}
@@ -70,11 +72,18 @@ ready layout windows step offset v x h s k l =
     let e = earlier layout.kind step offset x h.timely s in
     given_ready offset offset (x.stamp - 1) layout.kind v x.panes h.timely.given (omega arith) (omega arith) k
 
+-- a value that was told is the newest
+told_newest : (kept step offset : ℕ) (v : Value) (x y : Holdings) → x.ring.capacity ≡ kept → 1 ≤ kept → HasTold step offset v x y → KeepsOutcome y
+told_newest kept step offset v x y c l t w e =
+    let same : outcome.Value v ≡ outcome.Value w = sym t.outcome ∙ e in
+    let own : v ≡ w = cc in
+    ap (λ (r : Kept). before_newest 0 r.values) t.ring ∙ (told_kept x.ring.capacity x.ring.values v (omega arith) ∙ ap Some own)
+
 -- what is right stays so
 
 pub told_right : (layout : StreamLayout) (windows : List WindowPanes) (step offset : ℕ) (v : Value) (x y : Holdings) → SlotRight layout windows true step offset x → HasTold step offset v x y
-    → IsTrue (is_silent (shown step x)) → IsTrue (is_of_kind layout.kind v) → 2 ≤ step → SlotRight layout windows true step offset y
-told_right layout windows step offset v x y h t s k l =
+    → IsTrue (is_silent (shown step x)) → IsTrue (is_of_kind layout.kind v) → 2 ≤ step → 1 ≤ layout.kept → SlotRight layout windows true step offset y
+told_right layout windows step offset v x y h t s k l m =
     let b = earlier layout.kind step offset x h.timely s in
     let n = t.stamp in
     record {
@@ -83,6 +92,7 @@ told_right layout windows step offset v x y h t s k l =
         capacity = ap (λ (r : Kept). r.capacity) t.ring ∙ h.steady.capacity;
         values = subst (λ (r : Kept). AllOf layout.kind r.values) (sym t.ring)
             (kind_dropped layout.kind (length (x.ring.values ++ v ∷ []) - x.ring.capacity) (x.ring.values ++ v ∷ []) (kind_more layout.kind x.ring.values v h.steady.values k));
+        newest = told_newest layout.kept step offset v x y h.steady.capacity m t;
         kinds = subst (λ p. IsTrue (are_of_kinds layout.parameters (the_values p))) (sym t.params) h.steady.kinds;
         formed = subst (λ p. IsTrue (is_well_formed p)) (sym t.params) h.steady.formed;
         panes = panes_told offset v windows x.panes y.panes h.steady.panes t.panes;
@@ -104,6 +114,7 @@ failed_is layout windows step offset x h =
         outcome = refl;
         capacity = h.steady.capacity;
         values = h.steady.values;
+        newest = λ v e. cc;
         kinds = h.steady.kinds;
         formed = h.steady.formed;
         panes = h.steady.panes;

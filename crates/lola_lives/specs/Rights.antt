@@ -7,15 +7,18 @@ use Rattle.lola_model.specs.Store.{StreamLayout, is_silent}
 use Rattle.lola_slots.specs.declared.window.WindowPanes.{WindowPanes}
 use Rattle.lola_slots.specs.Holdings.{Holdings, AllOf}
 use Rattle.lola_slots.specs.Telling.{AllGiven}
+use Rattle.lola_slots.specs.Texts.{KeepsOutcome}
 use Rattle.lola_slots.specs.Unborn.{AllOnto, AllPanesOf, AllSound, unborn}
 use Rattle.lola_lives.specs.Crowds.{Crowd}
 use Rattle.lola_lives.specs.Each.{Each}
 
--- whatever the step: the kinds are those of the stream, it keeps so many values, and its panes are those of the windows
+-- whatever the step: the kinds are those of the stream, it keeps so many values, the newest of which is the one that it was
+-- given last, and its panes are those of the windows
 pub record IsSteady (layout : StreamLayout) (windows : List WindowPanes) (s : Holdings) : Type 0 where
   pub outcome : IsTrue (is_outcome_of layout.kind s.outcome)
   pub capacity : s.ring.capacity ≡ layout.kept
   pub values : AllOf layout.kind s.ring.values
+  pub newest : KeepsOutcome s
   pub kinds : IsTrue (are_of_kinds layout.parameters (the_values s.params))
   pub formed : IsTrue (is_well_formed s.params)
   pub panes : AllPanesOf windows s.panes

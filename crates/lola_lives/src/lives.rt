@@ -260,13 +260,13 @@ impl Lives {
         self.slot(index).panes(place)
     }
 
-    /// Adds the numbers of the texts that the instances hold in the step of this number, one instance after another. Where
-    /// there is no memory some of them may have been added.
-    pub fn texts(&self, step: u64, into: &mut Ids) -> Result<(), Memory>
-        ensures { OnOk result (into.new ≡ into.old ++ crowd_texts step self.now) }
+    /// Adds the numbers of the texts that the instances hold, one instance after another. Where there is no memory some of
+    /// them may have been added.
+    pub fn texts(&self, into: &mut Ids) -> Result<(), Memory>
+        ensures { OnOk result (into.new ≡ into.old ++ crowd_texts self.now) }
     {
         for i in 0..self.instances() {
-            self.slot(i).texts(step, into)?;
+            self.slot(i).texts(into)?;
         }
         Ok(())
     }

@@ -22,7 +22,7 @@ use crate::texts::add_ring;
 use crate::window::WindowPanes;
 use lola_buffer::buffer::Buffer;
 use lola_panes::panes::Panes;
-use lola_sweep::adding::{add_outcome, add_params};
+use lola_sweep::adding::add_params;
 use lola_sweep::ids::Ids;
 use lola_value::text::Memory;
 use lola_value::value::{Outcome, Params, Value};
@@ -254,13 +254,12 @@ impl Slot {
         self.panes[place].len()
     }
 
-    /// Adds the numbers of the texts that it holds: of its parameters, of its last values, and of its outcome in the step
-    /// of this number. Where there is no memory some of them may have been added.
-    pub fn texts(&self, step: u64, into: &mut Ids) -> Result<(), Memory>
-        ensures { OnOk result (into.new ≡ into.old ++ slot_texts step self.now) }
+    /// Adds the numbers of the texts that it holds: of its parameters and of its last values, this step's among them.
+    /// Where there is no memory some of them may have been added.
+    pub fn texts(&self, into: &mut Ids) -> Result<(), Memory>
+        ensures { OnOk result (into.new ≡ into.old ++ slot_texts self.now) }
     {
         add_params(&self.params, into)?;
-        add_ring(&self.values, into)?;
-        add_outcome(self.now(step), into)
+        add_ring(&self.values, into)
     }
 }

@@ -14,7 +14,7 @@ use lola_value::text::Memory;
 /// A store that tells the numbers of the texts that it holds. All others can go: what it stands for through a table of texts it
 /// stands for through one that has no more than these.
 pub trait TextStore: StreamStore {
-    /// The numbers of the texts that it holds: those of parameters, of the values that it keeps, and of this step's outcomes.
+    /// The numbers of the texts that it holds: those of parameters and of the values that it keeps, this step's among them.
     ghost holds: { Self → List TextId };
 
     /// Appends the numbers of the texts that it holds. Where there is no memory some of them may have been appended.

@@ -4,4 +4,4 @@ use Rattle.lola_lives.specs.Texts.{crowd_texts}
 use Rattle.lola_bounded.proofs.texts.add_all.Given as goal
 
 abbrev pub invariant-loop-lives : goal.invariant-loop-lives
-invariant-loop-lives l = l.into ++ flat_map (crowd_texts l.step) (drop l.lives-index l.streams) ≡ l.fn.into ++ flat_map (crowd_texts l.step) l.streams
+invariant-loop-lives l = l.into ++ flat_map crowd_texts (drop l.lives-index l.streams) ≡ l.fn.into ++ flat_map crowd_texts l.streams

@@ -22,7 +22,7 @@ returns-clause-right c =
     let silent = changed_silent (HasTold c.args.step c.args.offset c.args.value) c.args.index xs ys h c.args.step (subst (λ (k : Crowd). IsTrue (is_silent (shown_at c.args.step (slice_get k.slots c.args.index)))) (sym w) c.requires.silent) in
     let kind = subst (λ (k : Crowd). IsTrue (is_of_kind k.layout.kind c.args.value)) (sym w) c.requires.kind in
     changed_each (HasTold c.args.step c.args.offset c.args.value) c.args.index xs ys h (SlotRight layout windows true c.args.step off) (subst (AreRight true c.args.step off) (sym w) c.requires.right)
-    (λ p. told_right layout windows c.args.step off c.args.value h.x h.y p h.related silent kind c.requires.step_ge)
+    (λ p. told_right layout windows c.args.step off c.args.value h.x h.y p h.related silent kind c.requires.step_ge c.self.invariant.0.kept_ge)
 
 pub returns-clause-seen : goal.returns-clause-seen
 returns-clause-seen c =

@@ -8,10 +8,10 @@ use Rattle.lola_lives.proofs.lives.Lives.texts.Goals as goal
 
 pub loop-i-preserved : goal.loop-i-preserved
 loop-i-preserved c =
-    let f = slot_texts c.args.step in
+    let f = slot_texts in
     let ss = c.args.self.now.slots in
     let i = c.loop-i.i in
     let s = c.slot.result.now in
     ap (λ (ids : List TextId). ids ++ flat_map f (drop (i + 1) ss)) c.in_ok-texts.ensures
     ∙ (append_assoc c.loop-i.into (f s) (flat_map f (drop (i + 1) ss))
-    ∙ (ap (λ (ids : List TextId). c.loop-i.into ++ ids) (sym (texts_from c.args.step ss i s c.slot.ensures)) ∙ c.loop-i.invariant))
+    ∙ (ap (λ (ids : List TextId). c.loop-i.into ++ ids) (sym (texts_from ss i s c.slot.ensures)) ∙ c.loop-i.invariant))
