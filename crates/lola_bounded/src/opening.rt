@@ -1,6 +1,6 @@
 //! A new store.
 
-ghost use Rattle.std.specs.Prelude.{◌≡◌, ◌≤◌, ◌<◌, ◌++◌, ◌∷◌, ◌+◌, ◌^◌, nat_eq, if◌then◌else◌, [], ℕ, List, Some, IfOk, OnOk, drop, length, map, slice_get, unwrap_or};
+ghost use Rattle.std.specs.Prelude.{◌≡◌, ◌≤◌, ◌<◌, ◌++◌, ◌+◌, ◌^◌, nat_eq, if◌then◌else◌, [], ℕ, Some, IfOk, OnOk, drop, length, map, slice_get, unwrap_or};
 ghost use Rattle.lola_value.specs.Naming.{Naming};
 ghost use Rattle.lola_value.specs.declared.value.Kind.TheVariants as kinds;
 ghost use Rattle.lola_model.specs.Store.{StreamLayout, instances_seen, layout_of, layouts_from, new_seen};

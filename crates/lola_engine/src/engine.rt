@@ -1,6 +1,6 @@
 //! The engine: deadlines before a row, the row, and the lines of each step.
 
-ghost use Rattle.std.specs.Prelude.{◌≡◌, ◌+◌, ◌*◌, ◌<◌, ◌≤◌, ◌^◌, ◌++◌, ℕ, List, [], ◌∷◌, length, IsTrue, OnOk, OnErr, IfOk, IfErr, Some, None};
+ghost use Rattle.std.specs.Prelude.{◌≡◌, ◌+◌, ◌*◌, ◌<◌, ◌≤◌, ◌^◌, ◌++◌, ℕ, List, [], ◌∷◌, length, IsTrue, OnOk, IfOk, IfErr, Some, None};
 ghost use Rattle.std.specs.List.{AllZip};
 ghost use Rattle.lola_value.specs.declared.text.Field.{Field};
 ghost use Rattle.lola_value.specs.Naming.{Naming};

@@ -1,5 +1,5 @@
 //! An engine that has met a fault is asked again.
-ghost use Rattle.std.specs.Prelude.{◌≡◌, ◌≤◌, ◌<◌, ◌^◌, None, IfOk, IsSome, MatchOption, length};
+ghost use Rattle.std.specs.Prelude.{◌≡◌, ◌<◌, None, IfOk, IsSome, MatchOption};
 ghost use Rattle.lola_model.specs.Acceptance.{IsAccepted};
 ghost use Rattle.lola_model.specs.Trace.{IsTraceable};
 ghost use Rattle.lola_engine.specs.Engines.{IsEngine, accepted_entry};

@@ -1,6 +1,6 @@
 //! The instances of one stream, each with the last of its values and the panes of each window onto the stream.
 
-ghost use Rattle.std.specs.Prelude.{◌≡◌, ℕ, ◌≤◌, ◌<◌, ◌+◌, ◌-◌, ◌^◌, ◌++◌, ◌∷◌, [], List, Some, None, Bool, true, false, not, map, nat_eq, length, slice_get, remove, IfOk, IsOk, OnOk, IsTrue, MatchOption};
+ghost use Rattle.std.specs.Prelude.{◌≡◌, ℕ, ◌≤◌, ◌<◌, ◌+◌, ◌-◌, ◌^◌, ◌++◌, ◌∷◌, [], List, Some, None, true, false, not, map, nat_eq, length, slice_get, remove, IfOk, IsOk, OnOk, IsTrue, MatchOption};
 ghost use Rattle.lola_value.specs.declared.text.Field.{Field};
 ghost use Rattle.lola_value.specs.declared.value.Outcome.TheVariants as outcome;
 ghost use Rattle.lola_value.specs.Kinds.{are_of_kinds, is_of_kind, is_outcome_of, is_well_formed};
@@ -8,7 +8,7 @@ ghost use Rattle.lola_value.specs.Naming.{Naming, read_outcome, the_values, IsHe
 ghost use Rattle.lola_model.specs.Accesses.{from_end};
 ghost use Rattle.lola_model.specs.Reading.{held_answer};
 ghost use Rattle.lola_model.specs.Spawning.{has_room, spawn_end};
-ghost use Rattle.lola_model.specs.Store.{gives_kind, is_silent, newborn_seen, opened, told_at};
+ghost use Rattle.lola_model.specs.Store.{gives_kind, is_silent, opened, told_at};
 ghost use Rattle.lola_model.specs.Typing.{takes};
 ghost use Rattle.lola_slots.specs.Holdings.{slot_seen};
 ghost use Rattle.lola_slots.specs.Unborn.{AllOnto, AllSound};

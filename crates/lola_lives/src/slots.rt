@@ -1,10 +1,8 @@
 //! Lists of instances: one that is found, given an outcome, or made ahead.
 
-ghost use Rattle.std.specs.Prelude.{◌≡◌, ◌≤◌, ◌<◌, ◌+◌, ◌++◌, ◌∷◌, [], Bool, length, slice_get, IfOk, OnOk, IsTrue, MatchOption, vec_len};
+ghost use Rattle.std.specs.Prelude.{◌≡◌, ◌≤◌, ◌<◌, ◌+◌, ◌++◌, ◌∷◌, [], length, slice_get, IfOk, OnOk, IsTrue, MatchOption};
 ghost use Rattle.std.specs.Vec.{vec_capacity};
 ghost use Rattle.lola_value.specs.Kinds.{is_well_formed};
-ghost use Rattle.lola_slots.specs.Holdings.{shown};
-ghost use Rattle.lola_slots.specs.Memories.{RemembersNothing};
 ghost use Rattle.lola_slots.specs.Telling.{AllReady};
 ghost use Rattle.lola_slots.specs.Unborn.{AllSound, unborn};
 ghost use Rattle.lola_lives.specs.Births.{firsts, newborn};

@@ -1,8 +1,7 @@
 //! A stream with one instance that keeps its last two values, in steps with a value and without one, and poisoned.
 
-ghost use Rattle.std.specs.Prelude.{◌≡◌, ◌≤◌, ◌-◌, [], length, IfOk, IsTrue, true, false};
+ghost use Rattle.std.specs.Prelude.{◌≡◌, ◌≤◌, ◌-◌, length, IfOk, true, false};
 ghost use Rattle.lola_value.specs.declared.value.Kind.TheVariants as kinds;
-ghost use Rattle.lola_value.specs.Kinds.{is_of_kind};
 ghost use Rattle.lola_lives.specs.Rights.{AreRight, AreSteady};
 
 use crate::lives::Lives;

@@ -1,5 +1,5 @@
 -- The last line of a drill, and its status.
-use Rattle.std.proofs.Common.{◌≡◌, ◌⊎◌, ℕ, List, inl, inr, refl, ap, ◌∙◌, subst, arith}
+use Rattle.std.proofs.Common.{◌≡◌, ◌⊎◌, ℕ, List, inl, inr, ap, ◌∙◌, subst, arith}
 use Rattle.lola_port.specs.States.{PutBroke, SinkState, grown}
 use Rattle.lola_value.specs.declared.front.Refusal.{Refusal}
 use Rattle.lola_report.specs.Ends.{end_text}

@@ -1,5 +1,5 @@
 -- How a run of two made-up sources ends, whose reads never fail.
-use Rattle.std.proofs.Common.{◌≡◌, ◌⊎◌, ℕ, zero, suc, ◌<◌, ◌≤◌, List, [], ◌∷◌, ◌++◌, Option, None, Some, Result, Ok, Err, IsSome, All, inl, inr, false, true, slice_get, length, map, refl, sym, ap, ◌∙◌, subst, arith}
+use Rattle.std.proofs.Common.{◌≡◌, ℕ, zero, suc, ◌<◌, ◌≤◌, List, [], ◌∷◌, ◌++◌, Option, None, Some, Result, Ok, Err, IsSome, All, inl, inr, false, true, slice_get, length, map, refl, sym, ap, ◌∙◌, subst, arith}
 use Rattle.std.proofs.lemmas.List.{length-map}
 use Rattle.std.proofs.lemmas.List.Elements.{All-head, All-tail}
 use Rattle.lola_port.specs.States.{Rose, SinkState}
@@ -7,7 +7,6 @@ use Rattle.lola_model.specs.Acceptance.{IsAccepted}
 use Rattle.lola_model.specs.Faults.{RunFault}
 use Rattle.lola_model.specs.Journal.{IsLegal, accepted, rows_of}
 use Rattle.lola_model.specs.Model.{HasOneModel}
-use Rattle.lola_model.specs.Runs.{final_lines}
 use Rattle.lola_model.specs.Steps.{all_steps}
 use Rattle.lola_model.specs.declared.plan.Plan.{Plan}
 use Rattle.lola_model.specs.declared.journal.Entry.{Entry}
@@ -21,14 +20,14 @@ use Rattle.lola_feed.specs.declared.worker.SourceEnd as worker
 use Rattle.lola_feed.specs.declared.worker.SourceEnd.TheVariants as finish
 use Rattle.lola_report.specs.declared.end.EndLine.{EndLine}
 use Rattle.lola_report.specs.declared.end.EndLine.TheVariants.{Done}
-use Rattle.lola_drill.specs.Drills.{drill_bytes, drill_text}
+use Rattle.lola_drill.specs.Drills.{drill_text}
 use Rattle.lola_run.specs.Verdicts.{Setting, fault_in, late_count, most_rows}
 use Rattle.lola_run.specs.Running.{Keeping, setting_in}
 use Rattle.lola_run.specs.declared.stop.Stop.{Stop}
 use Rattle.lola_run.specs.declared.stop.Stop.TheVariants as stop
 use Rattle.lola_rounds.specs.Rounds.{AreFirst}
 use Rattle.lola_rounds.specs.Feeds.{AreFed, AreInPlace, AreReady, CameTo, EndedByFault, EndedWith, EndsRun, GoInRounds, HasEnded, HaveEnded, IsListOf, Supply, ThroughWell, World, supply_of, world}
-use Rattle.lola_monitor.specs.Drilling.{AreDrillWorkers, DrillRun, DrillsTo, IsDrillDone, IsDrillFault, IsDrillMalformed, IsDrillWorker, drill_rows, drill_setting}
+use Rattle.lola_monitor.specs.Drilling.{AreDrillWorkers, DrillRun, DrillsTo, IsDrillFault, IsDrillWorker, drill_rows, drill_setting}
 use Rattle.lola_monitor.specs.Monitor.{MalformedSource, done_line, fault_line, first_malformed}
 use Rattle.lola_monitor.specs.Outcomes.{OutcomeAfter, end_by, end_of, ends_of, first_failed, is_read_fault, line_of, malformed_by, source_end}
 use Rattle.lola_monitor.specs.declared.ending.SourcesEnd.{SourcesEnd}

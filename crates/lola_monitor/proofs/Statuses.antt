@@ -15,7 +15,7 @@ use Rattle.lola_command.specs.declared.command.Command.TheVariants.{Run, Analyse
 use Rattle.lola_command.specs.declared.command.DrillCommand.{DrillCommand}
 use Rattle.lola_run.specs.Verdicts.{fault_in}
 use Rattle.lola_monitor.specs.Command.{Names, analysed_named, analysed_of, drill_named, drill_of, names_with, run_by, run_of, specification_named, specification_of}
-use Rattle.lola_monitor.specs.Drilling.{DrillsTo, IsCleanDrill, IsCutDrill, IsDrillFault, IsDrillMalformed, IsDrilled, IsFaultyDrill, IsMalformedDrill, IsRefusedDrill, drill_rows}
+use Rattle.lola_monitor.specs.Drilling.{IsCleanDrill, IsCutDrill, IsDrillFault, IsDrillMalformed, IsDrilled, IsFaultyDrill, IsMalformedDrill, IsRefusedDrill, drill_rows}
 use Rattle.lola_monitor.specs.Monitor.{IsAnalysed, IsBroken, IsClean, IsCleanAnalysis, IsCutAnalysis, IsCutShort, IsDone, IsFault, IsMalformed, IsRefused, IsSpoiled, IsUnread, IsUsage, Outside, Plans, first_malformed, one_further, setting_of, source_rows}
 use Rattle.lola_monitor.specs.Outcomes.{Concluded, StoodDrilled, Works}
 use Rattle.lola_monitor.specs.declared.outcome.Outcome.{Outcome}

@@ -7,7 +7,6 @@ use Rattle.lola_model.specs.Faults.{RunFault}
 use Rattle.lola_model.specs.Journal.{IsLegal, rows_of}
 use Rattle.lola_model.specs.Model.{HasOneModel}
 use Rattle.lola_model.specs.declared.journal.Entry.{Entry}
-use Rattle.lola_model.specs.declared.journal.Row.{Row}
 use Rattle.lola_model.specs.declared.journal.Show.TheVariants as show
 use Rattle.lola_model.specs.declared.plan.Plan.{Plan}
 use Rattle.lola_front.specs.Front.{IsPlanOf, IsRefusalOf}

@@ -1,5 +1,5 @@
 //! The top call.
-ghost use Rattle.std.specs.Prelude.{◌≡◌, ◌⊎◌, ◌<◌, ℕ, [], ◌∷◌, Some, None, map, string_bytes};
+ghost use Rattle.std.specs.Prelude.{◌≡◌, ◌⊎◌, ◌<◌, Some, None, map, string_bytes};
 ghost use Rattle.lola_port.specs.States.{SinkState};
 ghost use Rattle.lola_command.specs.Command.{command_of};
 ghost use Rattle.lola_monitor.specs.Command.{names_asked};

@@ -1,6 +1,5 @@
 //! A specification, read and compiled.
-ghost use Rattle.std.specs.Prelude.{◌≡◌, ◌<◌, ◌^◌};
-ghost use Rattle.lola_front.specs.Front.{Compiles};
+ghost use Rattle.std.specs.Prelude.{◌≡◌, ◌<◌};
 ghost use Rattle.lola_monitor.specs.Outcomes.{PlansName, PlansText, without_plan as without_plan_of};
 
 use crate::outcome::{Outcome, Unplanned};

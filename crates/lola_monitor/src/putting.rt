@@ -1,5 +1,5 @@
 //! The last line of a call, put to a sink.
-ghost use Rattle.std.specs.Prelude.{◌≡◌, ◌<◌, IfOk, length};
+ghost use Rattle.std.specs.Prelude.{◌≡◌, ◌<◌, IfOk};
 ghost use Rattle.lola_report.specs.Ends.{end_text};
 ghost use Rattle.lola_monitor.specs.Outcomes.{Concluded, status_with, status_without};
 

@@ -1,5 +1,5 @@
 //! A specification, read whole.
-ghost use Rattle.std.specs.Prelude.{◌≡◌, ◌<◌, ◌≤◌, ◌^◌, ◌++◌, [], length, List, ℕ, Some, None, IfOk, OnErr, IsErrOf, OnOk};
+ghost use Rattle.std.specs.Prelude.{◌≡◌, ◌<◌, ◌≤◌, ◌^◌, [], length, List, ℕ, Some, IfOk, IsErrOf, OnOk};
 ghost use Rattle.std.specs.Io.KnownBytes.{IsAtEnd};
 ghost use Rattle.lola_port.specs.States.{Rose};
 ghost use Rattle.lola_monitor.specs.Outcomes.{AppendsRead, IsReadFront, Marred, Stopped, noted};

@@ -8,12 +8,13 @@ use Rattle.lola_merge.specs.Merging.{Merging, opening}
 use Rattle.lola_feed.specs.Feeding.{Working, handed_in}
 use Rattle.lola_run.specs.Verdicts.{settled_text}
 use Rattle.lola_run.specs.Running.{Keeping, Stands, setting_in}
+use Rattle.lola_run.proofs.Entries.{front_of_all, no_part}
 use Rattle.lola_run.proofs.Sinks.{an_entry, some_line}
 use Rattle.lola_rounds.specs.Feeds.{AreReady, Feeding, IsFresh, IsIdle, RanToCut, World, supplies_of, supply_of, world}
 use Rattle.lola_rounds.specs.Turning.{SoFar}
 use Rattle.lola_rounds.proofs.Going.{begun, in_rounds}
 use Rattle.lola_rounds.proofs.Rounding.{few_sources, fresh_sources}
-use Rattle.lola_rounds.proofs.Runs.{front_of_all, no_part, started}
+use Rattle.lola_rounds.proofs.Runs.{started}
 
 -- workers that are ready, at any merge object, have not begun
 pub ready_fresh : (plan : Plan) (feed : Feeding) → AreReady plan feed.workers → IsFresh feed

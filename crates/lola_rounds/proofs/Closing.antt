@@ -14,11 +14,11 @@ use Rattle.lola_run.specs.Verdicts.{HasFrontOf, Setting, fault_in, settled_fault
 use Rattle.lola_run.specs.Running.{Closed, ClosedByFault, Closes, CutClose, Keeping, setting_in}
 use Rattle.lola_run.specs.declared.stop.Stop.{Stop}
 use Rattle.lola_run.specs.declared.stop.Stop.TheVariants as stop
+use Rattle.lola_run.proofs.Entries.{front_of_all, no_part}
 use Rattle.lola_run.proofs.Fronts.{fault_stays, text_stays}
 use Rattle.lola_run.proofs.Sinks.{an_entry, grown_part, more_text, some_line}
 use Rattle.lola_rounds.specs.Feeds.{CameTo, EndedByFault, EndsRun, RanToCut, RanToEnd, RanToFault, Runs, Supply, ThroughWell, World, world}
 use Rattle.lola_rounds.proofs.Going.{begun}
-use Rattle.lola_rounds.proofs.Runs.{front_of_all, no_part}
 
 -- the lines of the whole model, in a setting
 abbrev CompletesIn : Setting → List Entry → List (List ℕ) → Type 0

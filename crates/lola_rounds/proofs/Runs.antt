@@ -3,45 +3,28 @@ use Rattle.std.proofs.Common.{◌≡◌, ℕ, suc, ◌⊎◌, ◌<◌, ◌≤◌
 use Rattle.std.proofs.lemmas.List.{append-nil}
 use Rattle.std.specs.Prelude.{slice_get}
 use Rattle.std.specs.Io.KnownBytes.{append_known}
-use Rattle.lola_port.specs.States.{Rose, SinkState, grown}
+use Rattle.lola_port.specs.States.{Rose, grown}
 use Rattle.lola_model.specs.Journal.{IsLegal}
 use Rattle.lola_model.specs.Faults.{RunFault}
 use Rattle.lola_model.specs.Texts.{text_of}
-use Rattle.lola_model.specs.Trace.{trace_line, trace_text}
-use Rattle.lola_model.specs.Runs.{settled_lines}
-use Rattle.lola_model.specs.declared.journal.Row.{Row}
+use Rattle.lola_model.specs.Trace.{trace_text}
 use Rattle.lola_model.specs.declared.journal.Entry.{Entry}
 use Rattle.lola_model.specs.declared.journal.Mark.{Mark}
 use Rattle.lola_model.specs.declared.journal.Mark.TheVariants as mark
-use Rattle.lola_model.proofs.Journals.{text_of-append, trace_text-append_one}
+use Rattle.lola_model.proofs.Journals.{trace_text-append_one}
 use Rattle.lola_engine.specs.Engines.{Brings}
-use Rattle.lola_run.specs.Verdicts.{HasFrontOf, HasLines, IsFineBefore, IsRowFault, Setting, settled_fault_in, settled_text, verdicts}
+use Rattle.lola_run.specs.Verdicts.{IsFineBefore, IsRowFault, Setting, settled_fault_in, settled_text}
 use Rattle.lola_run.specs.Running.{IsAccepted, IsSetAs, MayFail, Stands, setting_in}
 use Rattle.lola_run.specs.declared.stop.Stop.{Stop}
 use Rattle.lola_run.specs.declared.stop.Stop.TheVariants as stop
-use Rattle.lola_run.proofs.Fronts.{nothing_settled, text_front}
+use Rattle.lola_run.proofs.Entries.{BringsIn, accepted_is, front_of_all, no_part, text_more}
+use Rattle.lola_run.proofs.Fronts.{nothing_settled}
 use Rattle.lola_run.proofs.Sinks.{grown_nil, grown_part, known_nil, more_text, some_line}
 use Rattle.lola_run.proofs.Taking.{legal_more}
 use Rattle.lola_rounds.specs.Feeds.{CameTo, GoInRounds, HaveEnded, IsSound, RanToCut, RanToEnd, RanToFault, RanToPutFault, Runs, Supply, World}
 use Rattle.lola_rounds.specs.Turning.{Drawn, OutCut, OutKept, Passed, SawFault, SoFar, Stepped, Steps, Touched, TraceCut, Traced}
 use Rattle.lola_rounds.proofs.Drawing.{drawn_none, draws, round_drawn, sits}
 use Rattle.lola_rounds.proofs.Going.{begun, in_rounds, sound_there, touched_in_rounds}
-
--- whole lines, and no part of another
-pub no_part : (s0 s1 : SinkState) (journal : List Entry) (entry : Entry) → 0 < length (trace_line entry) → s1 ≡ grown s0 (trace_text journal) → HasLines s0 s1 journal
-no_part s0 s1 journal entry some is = record {
-  entry = entry;
-  part = [];
-  is_part = record { rest = trace_line entry; joined = refl; not_whole = some };
-  written = ap (λ s. s.written) is ∙ ap (append_known s0.written) (sym (append-nil (trace_text journal)));
-}
-
--- the lines that an entry brings, in a setting
-abbrev BringsIn : Setting → List Entry → Entry → List (List ℕ) → Type 0
-BringsIn s journal entry lines = settled_lines s.plan s.start (journal ++ entry ∷ []) s.show ≡ settled_lines s.plan s.start journal s.show ++ lines
-
-text_more : (s : Setting) (journal : List Entry) (entry : Entry) (lines : List (List ℕ)) → BringsIn s journal entry lines → settled_text s (journal ++ entry ∷ []) ≡ settled_text s journal ++ text_of lines
-text_more s journal entry lines brings = ap text_of brings ∙ text_of-append (settled_lines s.plan s.start journal s.show) lines
 
 -- a run has begun
 pub started : (first : World) → length first.sources ≤ 64 → Stands [] first.kept
@@ -137,19 +120,6 @@ ran_to_end first n last so ended = record {
   out = so.out;
   stands = so.stands;
 }
-
-marked_so : (row : Row) (m : Mark) → IsAccepted (record { row = row; mark = m }) → ◌≡◌ {A = Entry} (record { row = row; mark = m }) (record { row = row; mark = mark.Accepted })
-marked_so row mark.Accepted is = refl
-marked_so row (mark.Late t) is = absurd is
-
-accepted_is : (entry : Entry) → IsAccepted entry → entry ≡ record { row = entry.row; mark = mark.Accepted }
-accepted_is entry is = marked_so entry.row entry.mark is
-
--- a front of the settled text is one of all verdicts
-pub front_of_all : (s : Setting) (journal : List Entry) (old new : SinkState) (part rest : List ℕ) → settled_text s journal ≡ part ++ rest → new.written ≡ append_known old.written part → HasFrontOf old new (verdicts s journal)
-front_of_all s journal old new part rest joined written =
-    let more = text_front s journal in
-    record { part = part; rest = rest ++ more.0; joined = more.1 ∙ (ap (λ (l : List ℕ). l ++ more.0) joined ∙ append_assoc part rest more.0); written = written }
 
 module _ (first : World) (n k : ℕ) (now last : World) (within : k < length first.sources) (so : SoFar first n k now) where
   fine_so_far : settled_fault_in (setting_in first.kept) so.journal ≡ None

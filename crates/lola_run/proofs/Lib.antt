@@ -1,3 +1,4 @@
 pub mod Sinks
+pub mod Entries
 pub mod Fronts
 pub mod Taking

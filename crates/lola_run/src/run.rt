@@ -1,5 +1,5 @@
 //! A run: marked rows are traced, accepted ones are run, and their verdicts put.
-ghost use Rattle.std.specs.Prelude.{◌≡◌, ◌+◌, ◌<◌, ◌≤◌, ◌^◌, ◌++◌, [], ◌∷◌, None, Some, IfOk, OnOk, OnErr, length, unwrap_or};
+ghost use Rattle.std.specs.Prelude.{◌≡◌, ◌+◌, ◌<◌, ◌≤◌, [], IfOk};
 ghost use Rattle.lola_model.specs.Acceptance.{IsAccepted};
 ghost use Rattle.lola_model.specs.Trace.{trace_line};
 ghost use Rattle.lola_engine.specs.Engines.{IsEngine, IsOptionInTime, StandsFor};

@@ -1,13 +1,13 @@
 //! An instance of a stream: its parameters, its outcome of this step, and all its values.
 
-ghost use Rattle.std.specs.Prelude.{◌≡◌, ℕ, ◌+◌, ◌-◌, ◌<◌, ◌≤◌, ◌++◌, ◌∷◌, [], List, IsTrue, length, OnOk, vec_len};
+ghost use Rattle.std.specs.Prelude.{◌≡◌, ℕ, ◌+◌, ◌-◌, ◌<◌, ◌≤◌, ◌++◌, ◌∷◌, [], List, IsTrue, OnOk, vec_len};
 ghost use Rattle.std.specs.Vec.{vec_capacity};
 ghost use Rattle.lola_value.specs.declared.text.Field.{Field};
 ghost use Rattle.lola_value.specs.declared.value.Outcome.TheVariants as outcome;
-ghost use Rattle.lola_value.specs.Naming.{Naming, read_outcome, IsHeld, IsHeldIn};
+ghost use Rattle.lola_value.specs.Naming.{Naming, read_outcome, IsHeldIn};
 ghost use Rattle.lola_model.specs.Accesses.{from_end};
 ghost use Rattle.lola_model.specs.Reading.{held_answer};
-ghost use Rattle.lola_model.specs.Store.{is_of_kind, is_outcome_of};
+ghost use Rattle.lola_model.specs.Store.{is_outcome_of};
 ghost use Rattle.lola_value.specs.declared.value.Kind.{Kind};
 ghost use Rattle.lola_store.specs.Tallies.{AllOf};
 ghost use Rattle.lola_store.specs.Instances.{shown, Recalls, outcome_from_end};

@@ -1,6 +1,6 @@
 //! A new store.
 
-ghost use Rattle.std.specs.Prelude.{◌≡◌, ◌<◌, ℕ, List, [], Bool, IfOk, map, drop, length, unwrap_or};
+ghost use Rattle.std.specs.Prelude.{◌≡◌, ◌<◌, ℕ, [], Bool, IfOk, map, drop, length, unwrap_or};
 ghost use Rattle.lola_value.specs.Naming.{Naming};
 ghost use Rattle.lola_value.specs.declared.value.Kind.TheVariants as kinds;
 ghost use Rattle.lola_model.specs.Store.{layout_of, layouts_from, new_seen, instances_seen};

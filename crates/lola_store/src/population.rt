@@ -1,6 +1,6 @@
 //! The instances of a stream, in order of birth.
 
-ghost use Rattle.std.specs.Prelude.{◌≡◌, ◌≤◌, ◌+◌, ℕ, [], ◌∷◌, ◌++◌, length};
+ghost use Rattle.std.specs.Prelude.{◌≡◌, ◌≤◌};
 ghost use Rattle.lola_store.specs.Each.{Each};
 ghost use Rattle.lola_store.specs.Instances.{place_in};
 

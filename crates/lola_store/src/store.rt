@@ -1,6 +1,6 @@
 //! The store that keeps all values of every instance.
 
-ghost use Rattle.std.specs.Prelude.{◌≡◌, ◌≤◌, IsTrue, map, slice_get};
+ghost use Rattle.std.specs.Prelude.{◌≤◌, IsTrue, map, slice_get};
 ghost use Rattle.lola_model.specs.Store.{kind_in};
 ghost use Rattle.lola_model.specs.Typing.{takes};
 ghost use Rattle.lola_store.specs.Each.{Each};

@@ -1,7 +1,7 @@
 //! A window's answer, from one pass over the values in it.
 
 ghost use Rattle.std.specs.Prelude.{◌≡◌, ◌-◌, ◌^◌, ◌<◌, ◌&&◌, ◌||◌, pos, ◌+ℤ◌, ◌≤ℤ◌, IsTrue, map};
-ghost use Rattle.lola_value.specs.Naming.{Naming, read, read_outcome};
+ghost use Rattle.lola_value.specs.Naming.{Naming, read_outcome};
 ghost use Rattle.lola_model.specs.Store.{gives_kind, is_outcome_of};
 ghost use Rattle.lola_model.specs.Typing.{takes};
 ghost use Rattle.lola_model.specs.Windows.{aggregated};

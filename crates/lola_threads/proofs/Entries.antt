@@ -1,5 +1,5 @@
 -- An entry behind a journal is traced and run, and what becomes of one after another.
-use Rattle.std.proofs.Common.{◌≡◌, ℕ, ◌+◌, ◌<◌, List, [], ◌∷◌, ◌++◌, Option, None, Some, Result, Ok, Err, refl, sym, ap, ◌∙◌, inl, inr, ⊎_elim, arith, append_assoc, subst, length}
+use Rattle.std.proofs.Common.{◌≡◌, ℕ, ◌+◌, ◌<◌, List, [], ◌∷◌, ◌++◌, Option, None, Some, Result, Ok, Err, refl, sym, ap, ◌∙◌, inl, inr, ⊎_elim, arith, append_assoc, subst}
 use Rattle.std.proofs.lemmas.List.{append-nil}
 use Rattle.std.proofs.lemmas.List.Elements.{All-append, All-push}
 use Rattle.std.specs.Io.KnownBytes.{append_known}
@@ -8,52 +8,21 @@ use Rattle.lola_model.specs.Journal.{IsLegal, IsLegalFrom, IsRightlyMarked, open
 use Rattle.lola_model.specs.Faults.{RunFault}
 use Rattle.lola_model.specs.Texts.{text_of}
 use Rattle.lola_model.specs.Trace.{trace_line, trace_text}
-use Rattle.lola_model.specs.Runs.{settled_lines}
-use Rattle.lola_model.specs.declared.journal.Row.{Row}
 use Rattle.lola_model.specs.declared.journal.Entry.{Entry}
 use Rattle.lola_model.specs.declared.journal.Mark.{Mark}
 use Rattle.lola_model.specs.declared.journal.Mark.TheVariants as mark
-use Rattle.lola_model.proofs.Journals.{IsLegalFrom-append_left, IsLegalFrom-append_right, text_of-append, trace_text-append_one}
+use Rattle.lola_model.proofs.Journals.{IsLegalFrom-append_left, IsLegalFrom-append_right, trace_text-append_one}
 use Rattle.lola_engine.specs.Engines.{Brings}
-use Rattle.lola_run.specs.Verdicts.{AreOfSources, HasFrontOf, HasLines, IsFineBefore, IsRowFault, Setting, settled_fault_in, settled_text, verdicts}
+use Rattle.lola_run.specs.Verdicts.{AreOfSources, IsFineBefore, IsRowFault, Setting, settled_fault_in, settled_text}
 use Rattle.lola_run.specs.Running.{CutNext, FaultNext, HasRoom, IsAccepted, IsNext, IsSetAs, Keeping, KeptNext, MayFail, Puts, StandsNext, Takes, setting_in}
 use Rattle.lola_run.specs.declared.stop.Stop.{Stop}
 use Rattle.lola_run.specs.declared.stop.Stop.TheVariants as stop
-use Rattle.lola_run.proofs.Fronts.{text_front}
+use Rattle.lola_run.proofs.Entries.{BringsIn, accepted_is, front_of_all, no_part, text_more}
 use Rattle.lola_run.proofs.Sinks.{grown_part, known_nil, more_text, some_line}
 use Rattle.lola_run.proofs.Taking.{merged_is}
 use Rattle.lola_threads.specs.Takings.{HasFailed, HasRun, Halts, IsBroken, IsCut, IsFit, IsStopped, IsUnderWay, Place, RunsOne, most_taken, place}
 use Rattle.lola_threads.specs.declared.halt.Halt.{Halt}
 use Rattle.lola_threads.specs.declared.halt.Halt.TheVariants as halt
-
--- whole lines, and no part of another
-no_part : (s0 s1 : SinkState) (journal : List Entry) (entry : Entry) → 0 < length (trace_line entry) → s1 ≡ grown s0 (trace_text journal) → HasLines s0 s1 journal
-no_part s0 s1 journal entry some is = record {
-  entry = entry;
-  part = [];
-  is_part = record { rest = trace_line entry; joined = refl; not_whole = some };
-  written = ap (λ s. s.written) is ∙ ap (append_known s0.written) (sym (append-nil (trace_text journal)));
-}
-
--- the lines that an entry brings, in a setting
-abbrev BringsIn : Setting → List Entry → Entry → List (List ℕ) → Type 0
-BringsIn s journal entry lines = settled_lines s.plan s.start (journal ++ entry ∷ []) s.show ≡ settled_lines s.plan s.start journal s.show ++ lines
-
-text_more : (s : Setting) (journal : List Entry) (entry : Entry) (lines : List (List ℕ)) → BringsIn s journal entry lines → settled_text s (journal ++ entry ∷ []) ≡ settled_text s journal ++ text_of lines
-text_more s journal entry lines brings = ap text_of brings ∙ text_of-append (settled_lines s.plan s.start journal s.show) lines
-
-marked_so : (row : Row) (m : Mark) → IsAccepted (record { row = row; mark = m }) → ◌≡◌ {A = Entry} (record { row = row; mark = m }) (record { row = row; mark = mark.Accepted })
-marked_so row mark.Accepted is = refl
-marked_so row (mark.Late t) is = absurd is
-
-accepted_is : (entry : Entry) → IsAccepted entry → entry ≡ record { row = entry.row; mark = mark.Accepted }
-accepted_is entry is = marked_so entry.row entry.mark is
-
--- a front of the settled text is one of all verdicts
-front_of_all : (s : Setting) (journal : List Entry) (old new : SinkState) (part rest : List ℕ) → settled_text s journal ≡ part ++ rest → new.written ≡ append_known old.written part → HasFrontOf old new (verdicts s journal)
-front_of_all s journal old new part rest joined written =
-    let more = text_front s journal in
-    record { part = part; rest = rest ++ more.0; joined = more.1 ∙ (ap (λ (l : List ℕ). l ++ more.0) joined ∙ append_assoc part rest more.0); written = written }
 
 module _ (first : Place) (journal : List Entry) (k0 : Keeping) (o0 t0 : SinkState) (so : HasRun first journal (place k0 o0 t0)) (entry : Entry) where
   fine_so_far : settled_fault_in (setting_in first.kept) journal ≡ None

@@ -25,7 +25,7 @@ use Rattle.lola_feed.specs.declared.worker.SourceEnd.TheVariants as end
 use Rattle.lola_feed.specs.declared.worker.Turn.{Turn}
 use Rattle.lola_feed.specs.declared.worker.Turn.TheVariants as turn
 use Rattle.lola_rounds.specs.Feeds.{BeganWith, EndedWith, HasEnded, IsAt, Passes, led_by as before, supply_of}
-use Rattle.lola_threads.specs.Posts.{HasOffered, HasStopped, HasTold, IsRowIn, Post, WentOn, post, rows_in}
+use Rattle.lola_threads.specs.Posts.{HasOffered, HasStopped, HasTold, IsRowIn, WentOn, post, rows_in}
 
 -- the rows of one call more
 
@@ -213,20 +213,4 @@ turn_goes_on t d0 d1 old new turns kept = record {
   seat = turn-same t d0 d1 old new turns;
   kept = kept;
   offers = λ from h. offers_next from old new d0 d1 h kept.shape t turns;
-}
-
--- or by no turn
-pub stays_there : (p : Post) → WentOn p p
-stays_there p = record {
-  seat = record { intake = refl; setting = refl; caller = refl; source = refl };
-  kept = record { shape = refl; place = refl };
-  offers = λ from h. h;
-}
-
--- or by several
-pub goes_on_twice : (a b c : Post) → WentOn a b → WentOn b c → WentOn a c
-goes_on_twice a b c first second = record {
-  seat = record { intake = second.seat.intake ∙ first.seat.intake; setting = second.seat.setting ∙ first.seat.setting; caller = second.seat.caller ∙ first.seat.caller; source = second.seat.source ∙ first.seat.source };
-  kept = record { shape = second.kept.shape ∙ first.kept.shape; place = second.kept.place ∙ first.kept.place };
-  offers = λ from h. second.offers from (first.offers from h);
 }

@@ -16,7 +16,7 @@ stays_there p = record {
 }
 
 -- a post that went on twice went on
-goes_on_twice : (p q r : Post) → WentOn p q → WentOn q r → WentOn p r
+pub goes_on_twice : (p q r : Post) → WentOn p q → WentOn q r → WentOn p r
 goes_on_twice p q r first second = record {
   seat = record {
     intake = second.seat.intake ∙ first.seat.intake;

@@ -5,19 +5,6 @@ use Rattle.std.proofs.lemmas.List.Elements.{All-pop, All-push, All-same, AllZip-
 use Rattle.atomic_table.specs.Seated.{TableId}
 use Rattle.lola_threads.specs.Posts.{AreAt, Post, WentOn}
 
--- a post that went on twice went on
-pub went_on : (old between new : Post) → WentOn old between → WentOn between new → WentOn old new
-went_on old between new a b = record {
-  seat = record {
-    intake = b.seat.intake ∙ a.seat.intake;
-    setting = b.seat.setting ∙ a.seat.setting;
-    caller = b.seat.caller ∙ a.seat.caller;
-    source = b.seat.source ∙ a.seat.source;
-  };
-  kept = record { shape = b.kept.shape ∙ a.kept.shape; place = b.kept.place ∙ a.kept.place };
-  offers = λ from offered. b.offers from (a.offers from offered);
-}
-
 -- what holds of all that wait holds of the last, and of those before it
 pub of_last : (P : Post → Type 0) (waiting before : List Post) (last : Post) → waiting ≡ before ++ last ∷ [] → All P waiting → All P before × P last
 of_last P waiting before last waited all = All-pop P waiting before (Some last) waited all

@@ -16,7 +16,7 @@ use Rattle.lola_run.specs.declared.stop.Stop.TheVariants as stop
 use Rattle.lola_run.proofs.Sinks.{an_entry, some_line}
 use Rattle.lola_rounds.specs.Feeds.{HasEnded, RanToCut, RanToEnd, Runs, Supply, World, supply_of}
 use Rattle.lola_rounds.proofs.Lists.{from_mapped}
-use Rattle.lola_rounds.proofs.Runs.{front_of_all, no_part}
+use Rattle.lola_run.proofs.Entries.{front_of_all, no_part}
 use Rattle.lola_threads.specs.Joining.{AllCame, IsOver, SomeCame}
 use Rattle.lola_threads.specs.Posts.{SomeOutOfMemory}
 

@@ -1,7 +1,8 @@
 use Rattle.std.proofs.Common.{◌≡◌, ◌<◌, arith, length, subst}
 use Rattle.lola_threads.specs.Posts.{WentOn}
 use Rattle.lola_threads.specs.Posts.{Post as PostState}
-use Rattle.lola_threads.proofs.SentPosts.{came_back, more_here, of_last, room_left, some_here, stayed_here, went_on}
+use Rattle.lola_threads.proofs.SentPosts.{came_back, more_here, of_last, room_left, some_here, stayed_here}
+use Rattle.lola_threads.proofs.Passing.{goes_on_twice}
 use Rattle.lola_threads.proofs.sending.+send_each.Goals as goal
 
 -- the last post that waits, and those before it
@@ -69,4 +70,4 @@ returns-in-Err-clause-back g t c =
     stayed_here c.args.here.items c.push_reserved-in-Err.new.self.items c.send_each-here-in-Err.result.0.items c.move_last.new.here.items c.in-Err.post moved.0
     c.push_reserved-in-Err.ensures.items c.send_each-here-in-Err.ensures.here moved.1 in
     came_back c.args.waiting.items c.pop.new.self.items c.in-Some.post c.args.back.items c.send_each-here-in-Err.result.1.items c.move_last.new.back.items moved.0
-    c.in-Some.ensures.items c.send_each-here-in-Err.ensures.back moved.2 (went_on c.in-Some.post c.in-Err.post moved.0 c.in-Err.ensures.kept stayed.1)
+    c.in-Some.ensures.items c.send_each-here-in-Err.ensures.back moved.2 (goes_on_twice c.in-Some.post c.in-Err.post moved.0 c.in-Err.ensures.kept stayed.1)
