@@ -15,14 +15,14 @@ use Rattle.lola_model.specs.Store.{New, Started, Running, instances_of, is_bad_s
 use Rattle.lola_model.specs.Windows.{aggregated, values_within}
 use Rattle.lola_model.specs.declared.plan.PaneSize.{PaneSize}
 use Rattle.lola_model.specs.declared.spec.WindowSpec.{WindowSpec}
-use Rattle.lola_slots.specs.declared.window.WindowPanes.{WindowPanes}
-use Rattle.lola_slots.specs.Holdings.{Holdings, slot_seen}
-use Rattle.lola_lives.specs.Crowds.{Crowd, crowd_seen, RemembersAt, now_in, place_in, shown_among, shown_at}
-use Rattle.lola_lives.specs.Each.{Each}
-use Rattle.lola_lives.specs.Rights.{CrowdRight, SlotRight}
-use Rattle.lola_lives.specs.Windowed.{windowed}
-use Rattle.lola_lives.proofs.Finding.{places, seen_at}
-use Rattle.lola_lives.proofs.Outcomes.{item_at}
+use Rattle.lola_instance.specs.declared.window.WindowPanes.{WindowPanes}
+use Rattle.lola_instance.specs.Holdings.{Holdings, slot_seen}
+use Rattle.lola_instances.specs.Crowds.{Crowd, crowd_seen, RemembersAt, now_in, place_in, shown_among, shown_at}
+use Rattle.lola_instances.specs.Each.{Each}
+use Rattle.lola_instances.specs.Rights.{CrowdRight, SlotRight}
+use Rattle.lola_instances.specs.Windowed.{windowed}
+use Rattle.lola_instances.proofs.Finding.{places, seen_at}
+use Rattle.lola_instances.proofs.Outcomes.{item_at}
 use Rattle.lola_bounded.specs.declared.stage.Stage.{Stage}
 use Rattle.lola_bounded.specs.declared.stage.Stage.TheVariants as stage
 use Rattle.lola_bounded.specs.declared.store.BoundedStore.{BoundedStore}

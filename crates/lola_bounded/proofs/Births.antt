@@ -5,11 +5,11 @@ use Rattle.std.proofs.lemmas.List.{map-append}
 use Rattle.lola_value.specs.declared.value.Params.{Params}
 use Rattle.lola_model.specs.Spawning.{has_room}
 use Rattle.lola_model.specs.Store.{SeenStream, StreamLayout, changed_at, has_spawned, newborn_seen, spawns_in}
-use Rattle.lola_slots.specs.Holdings.{slot_seen}
-use Rattle.lola_lives.specs.Births.{newborn}
-use Rattle.lola_lives.specs.Crowds.{Crowd, crowd_seen}
-use Rattle.lola_lives.specs.Rights.{AreRight, CrowdRight, owed}
-use Rattle.lola_lives.proofs.Newborns.{newborn_shows}
+use Rattle.lola_instance.specs.Holdings.{slot_seen}
+use Rattle.lola_instances.specs.Births.{newborn}
+use Rattle.lola_instances.specs.Crowds.{Crowd, crowd_seen}
+use Rattle.lola_instances.specs.Rights.{AreRight, CrowdRight, owed}
+use Rattle.lola_instances.proofs.Newborns.{newborn_shows}
 use Rattle.lola_bounded.specs.Streams.{crowd_layout}
 use Rattle.lola_bounded.proofs.Asking.{layout_at, stream_at}
 use Rattle.lola_bounded.proofs.Changing.{changed_set}

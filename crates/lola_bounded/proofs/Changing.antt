@@ -5,14 +5,14 @@ use Rattle.lola_model.specs.Reading.{moved_up}
 use Rattle.lola_model.specs.Store.{SeenStream, SeenInstance, changed_at, instances_of, is_new, is_running, is_silent, now_at, quiet, StreamLayout}
 use Rattle.lola_model.specs.declared.plan.PaneSize.{PaneSize}
 use Rattle.lola_model.specs.declared.spec.WindowSpec.{WindowSpec}
-use Rattle.lola_slots.specs.declared.window.WindowPanes.{WindowPanes}
-use Rattle.lola_slots.specs.Holdings.{Holdings, slot_seen}
-use Rattle.lola_lives.specs.Crowds.{Crowd, crowd_seen, shown_at}
-use Rattle.lola_lives.specs.Each.{Each}
-use Rattle.lola_lives.specs.Rights.{AreRight, CrowdRight, owed}
-use Rattle.lola_lives.proofs.Beginnings.{crowd_quiet}
-use Rattle.lola_lives.proofs.Finding.{seen_at}
-use Rattle.lola_lives.proofs.Lists.{same_set, other_set}
+use Rattle.lola_instance.specs.declared.window.WindowPanes.{WindowPanes}
+use Rattle.lola_instance.specs.Holdings.{Holdings, slot_seen}
+use Rattle.lola_instances.specs.Crowds.{Crowd, crowd_seen, shown_at}
+use Rattle.lola_instances.specs.Each.{Each}
+use Rattle.lola_instances.specs.Rights.{AreRight, CrowdRight, owed}
+use Rattle.lola_instances.proofs.Beginnings.{crowd_quiet}
+use Rattle.lola_instances.proofs.Finding.{seen_at}
+use Rattle.lola_instances.proofs.Lists.{same_set, other_set}
 use Rattle.lola_bounded.specs.declared.stage.Stage.{Stage}
 use Rattle.lola_bounded.specs.declared.stage.Stage.TheVariants as stage
 use Rattle.lola_bounded.specs.Placed.{IsPaneOf, IsPlaced, ArePlaced}

@@ -3,8 +3,8 @@ use Rattle.std.proofs.Common.{◌≡◌, ◌∙◌, ℕ, List, MatchOption, Opti
 use Rattle.lola_model.specs.Store.{target_of}
 use Rattle.lola_model.specs.declared.spec.WindowSpec.{WindowSpec}
 use Rattle.lola_panes.specs.Standing.{Partials}
-use Rattle.lola_slots.specs.Holdings.{Holdings}
-use Rattle.lola_lives.specs.Crowds.{Crowd}
+use Rattle.lola_instance.specs.Holdings.{Holdings}
+use Rattle.lola_instances.specs.Crowds.{Crowd}
 use Rattle.lola_bounded.specs.Streams.{panes_in, panes_of, slot_at, slots_in, values_of}
 
 values_counted : (o : Option Holdings) (r : ℕ) → MatchOption o ⊥ (λ s. r ≡ length s.ring.values) → r ≡ length (values_of o)

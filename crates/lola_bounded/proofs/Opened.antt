@@ -9,8 +9,8 @@ use Rattle.lola_model.specs.Typing.{takes}
 use Rattle.lola_model.specs.declared.plan.PaneSize.{PaneSize}
 use Rattle.lola_model.specs.declared.spec.Stream.{Stream}
 use Rattle.lola_model.specs.declared.spec.WindowSpec.{WindowSpec}
-use Rattle.lola_slots.specs.Unborn.{AllOnto, AllSound}
-use Rattle.lola_lives.specs.Crowds.{Crowd, crowd_seen, RemembersAt}
+use Rattle.lola_instance.specs.Unborn.{AllOnto, AllSound}
+use Rattle.lola_instances.specs.Crowds.{Crowd, crowd_seen, RemembersAt}
 use Rattle.lola_bounded.specs.Opening.{ArePlaces, IsCut, IsOpened, count_onto, first_kept, first_size, one_onto, onto, panes_for, stream_layout}
 use Rattle.lola_bounded.specs.Placed.{IsPaneOf, ArePlaced}
 use Rattle.lola_bounded.specs.Streams.{crowd_layout, slots_in, slot_at}

@@ -8,7 +8,7 @@ use Rattle.lola_model.specs.declared.spec.Clause.{Clause}
 use Rattle.lola_model.specs.declared.spec.Sort.{Sort}
 use Rattle.lola_model.specs.declared.spec.Sort.TheVariants as sort
 use Rattle.lola_model.specs.declared.spec.Stream.{Stream}
-use Rattle.lola_lives.specs.Each.{Each}
+use Rattle.lola_instances.specs.Each.{Each}
 
 first : (a b : Bool) → (a && b) ≡ true → a ≡ true
 first true b e = refl

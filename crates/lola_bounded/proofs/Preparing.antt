@@ -4,11 +4,11 @@ use Rattle.std.proofs.lemmas.Bool.{eqb-true, eqb-false}
 use Rattle.lola_model.specs.Store.{never_spawns}
 use Rattle.lola_model.specs.declared.plan.PaneSize.{PaneSize}
 use Rattle.lola_model.specs.declared.spec.WindowSpec.{WindowSpec}
-use Rattle.lola_slots.specs.Holdings.{Holdings}
-use Rattle.lola_lives.specs.Crowds.{Crowd, crowd_seen}
-use Rattle.lola_lives.specs.Rights.{CrowdRight}
-use Rattle.lola_lives.proofs.Beginnings.{owed_two}
-use Rattle.lola_lives.proofs.Lists.{same_set, other_set}
+use Rattle.lola_instance.specs.Holdings.{Holdings}
+use Rattle.lola_instances.specs.Crowds.{Crowd, crowd_seen}
+use Rattle.lola_instances.specs.Rights.{CrowdRight}
+use Rattle.lola_instances.proofs.Beginnings.{owed_two}
+use Rattle.lola_instances.proofs.Lists.{same_set, other_set}
 use Rattle.lola_bounded.specs.Placed.{ArePlaced}
 use Rattle.lola_bounded.specs.Rooms.{IsKept, AreKept, IsReady}
 use Rattle.lola_bounded.specs.Streams.{crowd_layout, slot_at}

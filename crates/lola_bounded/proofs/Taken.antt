@@ -21,7 +21,7 @@ use Rattle.lola_model.specs.declared.spec.Part.TheVariants as part
 use Rattle.lola_model.specs.declared.spec.Spec.{Spec}
 use Rattle.lola_model.specs.declared.spec.Stream.{Stream}
 use Rattle.lola_model.specs.declared.spec.WindowSpec.{WindowSpec}
-use Rattle.lola_lives.specs.Each.{Each}
+use Rattle.lola_instances.specs.Each.{Each}
 
 first : (a b : Bool) → (a && b) ≡ true → a ≡ true
 first true b h = refl

@@ -5,13 +5,13 @@ use Rattle.lola_value.specs.declared.text.Field.{Field}
 use Rattle.lola_value.specs.Naming.{Naming, the_values}
 use Rattle.lola_model.specs.Store.{SeenInstance, instances_of, instances_seen}
 use Rattle.lola_sweep.specs.Needed.{AreAmong, IsAmongIn, KeepsTexts}
-use Rattle.lola_slots.specs.Holdings.{Holdings}
-use Rattle.lola_slots.specs.Texts.{slot_texts, KeepsOutcome}
+use Rattle.lola_instance.specs.Holdings.{Holdings}
+use Rattle.lola_instance.specs.Texts.{slot_texts, KeepsOutcome}
 use Rattle.lola_sweep.proofs.Among.{AreWithin, within_front, within_back, item_within}
-use Rattle.lola_lives.specs.Crowds.{Crowd, crowd_seen}
-use Rattle.lola_lives.specs.Each.{Each}
-use Rattle.lola_lives.specs.Texts.{crowd_texts}
-use Rattle.lola_lives.proofs.Needing.{Shows, shows_within, lives_show, kept_at}
+use Rattle.lola_instances.specs.Crowds.{Crowd, crowd_seen}
+use Rattle.lola_instances.specs.Each.{Each}
+use Rattle.lola_instances.specs.Texts.{crowd_texts}
+use Rattle.lola_instances.proofs.Needing.{Shows, shows_within, lives_show, kept_at}
 use Rattle.lola_bounded.specs.declared.store.BoundedStore.{BoundedStore}
 use Rattle.lola_bounded.specs.Stages.{start_in, time_in}
 use Rattle.lola_bounded.specs.Stores.{bounded_seen, bounded_remembers}

@@ -9,10 +9,10 @@ use Rattle.lola_model.specs.declared.plan.PaneSize.{PaneSize}
 use Rattle.lola_model.specs.declared.plan.Plan.{Plan}
 use Rattle.lola_model.specs.declared.spec.Stream.{Stream}
 use Rattle.lola_model.specs.declared.spec.WindowSpec.{WindowSpec}
-use Rattle.lola_slots.specs.declared.window.WindowPanes.{WindowPanes}
-use Rattle.lola_lives.specs.Crowds.{Crowd, crowd_seen, RemembersAt}
-use Rattle.lola_lives.specs.Each.{Each}
-use Rattle.lola_lives.specs.Rights.{CrowdRight}
+use Rattle.lola_instance.specs.declared.window.WindowPanes.{WindowPanes}
+use Rattle.lola_instances.specs.Crowds.{Crowd, crowd_seen, RemembersAt}
+use Rattle.lola_instances.specs.Each.{Each}
+use Rattle.lola_instances.specs.Rights.{CrowdRight}
 
 -- the layout of a stream that keeps so many values
 abbrev pub stream_layout : Stream → ℕ → StreamLayout

@@ -3,8 +3,8 @@ use Rattle.std.specs.Prelude.{ℕ, ◌≡◌, ◌*◌, ◌<◌, List, Some, leng
 use Rattle.lola_value.specs.declared.value.Kind.{Kind}
 use Rattle.lola_model.specs.declared.plan.PaneSize.{PaneSize}
 use Rattle.lola_model.specs.declared.spec.WindowSpec.{WindowSpec}
-use Rattle.lola_slots.specs.declared.window.WindowPanes.{WindowPanes}
-use Rattle.lola_lives.specs.Crowds.{Crowd}
+use Rattle.lola_instance.specs.declared.window.WindowPanes.{WindowPanes}
+use Rattle.lola_instances.specs.Crowds.{Crowd}
 
 -- panes of a window, onto values of a kind
 pub record IsPaneOf (kind : Kind) (w : WindowSpec) (size : PaneSize) (q : WindowPanes) : Type 0 where

@@ -3,7 +3,7 @@ use Rattle.std.specs.Prelude.{ℕ, List}
 use Rattle.lola_value.specs.declared.text.Field.{Field}
 use Rattle.lola_value.specs.Naming.{Naming}
 use Rattle.lola_model.specs.Reading.{IsHeldBy}
-use Rattle.lola_lives.proofs.Beginnings.{renamed_at}
+use Rattle.lola_instances.proofs.Beginnings.{renamed_at}
 use Rattle.lola_bounded.specs.declared.store.BoundedStore.{BoundedStore}
 use Rattle.lola_bounded.specs.Stages.{start_in, time_in}
 use Rattle.lola_bounded.specs.Stores.{bounded_remembers}

@@ -1,6 +1,6 @@
 -- Room that is made, and what stays.
 use Rattle.std.specs.Prelude.{◌≡◌, ◌+◌, ◌≤◌, List, [], ◌∷◌, length, true}
-use Rattle.lola_lives.specs.Crowds.{Crowd}
+use Rattle.lola_instances.specs.Crowds.{Crowd}
 
 -- the same stream, with no less room
 pub record IsKept (c d : Crowd) : Type 0 where

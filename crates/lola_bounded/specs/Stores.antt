@@ -5,7 +5,7 @@ use Rattle.lola_value.specs.declared.value.Value.{Value}
 use Rattle.lola_value.specs.Naming.{Naming}
 use Rattle.lola_model.specs.Store.{Seen, target_of}
 use Rattle.lola_panes.specs.declared.pane.Pane.{Pane}
-use Rattle.lola_lives.specs.Crowds.{crowd_seen, RemembersAt}
+use Rattle.lola_instances.specs.Crowds.{crowd_seen, RemembersAt}
 use Rattle.lola_bounded.specs.declared.store.BoundedStore.{BoundedStore}
 use Rattle.lola_bounded.specs.Stages.{phase_in, start_in, time_in}
 use Rattle.lola_bounded.specs.Streams.{crowd_layout, panes_of, slot_at, values_of}

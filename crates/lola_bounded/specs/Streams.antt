@@ -4,8 +4,8 @@ use Rattle.lola_model.specs.Store.{StreamLayout}
 use Rattle.lola_panes.specs.Standing.{Partials}
 use Rattle.lola_panes.specs.declared.pane.Pane.{Pane}
 use Rattle.lola_value.specs.declared.value.Value.{Value}
-use Rattle.lola_slots.specs.Holdings.{Holdings}
-use Rattle.lola_lives.specs.Crowds.{Crowd}
+use Rattle.lola_instance.specs.Holdings.{Holdings}
+use Rattle.lola_instances.specs.Crowds.{Crowd}
 
 -- what a store has to know of a stream
 abbrev pub crowd_layout : Crowd → StreamLayout

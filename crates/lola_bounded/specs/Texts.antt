@@ -1,7 +1,7 @@
 -- Which texts a store holds.
 use Rattle.std.specs.Prelude.{List, flat_map}
 use Rattle.lola_value.specs.declared.value.TextId.{TextId}
-use Rattle.lola_lives.specs.Texts.{crowd_texts}
+use Rattle.lola_instances.specs.Texts.{crowd_texts}
 use Rattle.lola_bounded.specs.declared.store.BoundedStore.{BoundedStore}
 
 -- the numbers of the texts that its streams hold, one stream after another

@@ -4,18 +4,18 @@ ghost use Rattle.std.specs.Prelude.{◌≡◌, ◌≤◌, ◌<◌, ◌++◌, ◌
 ghost use Rattle.lola_value.specs.Naming.{Naming};
 ghost use Rattle.lola_value.specs.declared.value.Kind.TheVariants as kinds;
 ghost use Rattle.lola_model.specs.Store.{StreamLayout, instances_seen, layout_of, layouts_from, new_seen};
-ghost use Rattle.lola_slots.specs.Unborn.{AllSound};
-ghost use Rattle.lola_lives.specs.Crowds.{Crowd};
+ghost use Rattle.lola_instance.specs.Unborn.{AllSound};
+ghost use Rattle.lola_instances.specs.Crowds.{Crowd};
 ghost use Rattle.lola_bounded.specs.Opening.{ArePlaces, IsOpened, IsStorable, count_onto, first_kept, one_onto, onto, stream_layout};
 ghost use Rattle.lola_bounded.specs.Stores.{bounded_seen, bounded_remembers};
 ghost use Rattle.lola_bounded.specs.Streams.{crowd_layout};
 
 use crate::stage::Stage;
 use crate::store::BoundedStore;
-use lola_lives::lives::Lives;
+use lola_instances::instances::Instances;
 use lola_model::plan::{PaneSize, PaneSizes, Plan};
 use lola_model::spec::{Kinds, Stream, WindowSpec, Windows};
-use lola_slots::window::WindowPanes;
+use lola_instance::window::WindowPanes;
 use lola_value::text::Memory;
 use lola_value::value::Kind;
 use std::alloc::Global;
@@ -159,7 +159,7 @@ fn open(
     kept: u32,
     windows: &[WindowSpec],
     sizes: &[PaneSize],
-) -> Result<Lives, Memory>
+) -> Result<Instances, Memory>
     requires kept { 1 ≤ kept }
     requires sizes { length sizes.now ≡ length windows.now }
     requires sound { AllSound (onto number (stream_layout stream.now kept).kind windows.now sizes.now) }
@@ -169,7 +169,7 @@ fn open(
     let kind = kind_of(stream.kind);
     let parameters = copy_kinds(alloc, &stream.parameters)?;
     let onto = windows_onto(alloc, number, kind, windows, sizes)?;
-    Lives::create(alloc, kind, parameters, has_spawn(stream), kept, onto)
+    Instances::create(alloc, kind, parameters, has_spawn(stream), kept, onto)
 }
 
 /// The streams of a new store.
@@ -179,7 +179,7 @@ fn open_all(
     kept: &[u32],
     windows: &[WindowSpec],
     sizes: &[PaneSize],
-) -> Result<Vec<Lives>, Memory>
+) -> Result<Vec<Instances>, Memory>
     requires sizes { length sizes.now ≡ length windows.now }
     requires kept { (n : ℕ) (l : StreamLayout) → slice_get (layouts_from streams.now kept.now) n ≡ Some l → 1 ≤ l.kept }
     requires sound { (n : ℕ) (l : StreamLayout) → slice_get (layouts_from streams.now kept.now) n ≡ Some l → AllSound (onto n l.kind windows.now sizes.now) }

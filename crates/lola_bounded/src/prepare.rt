@@ -3,17 +3,17 @@
 ghost use Rattle.std.specs.Prelude.{◌≡◌, IsOk, IsTrue, OnOk, OnErr, map};
 ghost use Rattle.lola_model.specs.Reading.{KeepsAll};
 ghost use Rattle.lola_model.specs.Store.{after_prepare, never_spawns};
-ghost use Rattle.lola_lives.specs.Each.{Each};
+ghost use Rattle.lola_instances.specs.Each.{Each};
 ghost use Rattle.lola_bounded.specs.Rooms.{AreKept, IsReady};
 ghost use Rattle.lola_bounded.specs.Stores.{bounded_seen, bounded_remembers};
 ghost use Rattle.lola_bounded.specs.Streams.{crowd_layout};
 
 use crate::store::BoundedStore;
-use lola_lives::lives::Lives;
+use lola_instances::instances::Instances;
 use lola_value::text::Memory;
 
 /// Room for a step in each stream.
-fn make_all_ready(streams: &mut Vec<Lives>) -> Result<(), Memory>
+fn make_all_ready(streams: &mut Vec<Instances>) -> Result<(), Memory>
     ensures kept { AreKept streams.old.items streams.new.items }
     ensures ok { OnOk result (Each IsReady streams.new.items) }
     ensures plain { IsTrue (never_spawns (map crowd_layout streams.old.items)) → IsOk result }

@@ -11,12 +11,12 @@ ghost use Rattle.lola_bounded.specs.Stores.{bounded_seen, bounded_remembers, pan
 
 use crate::stage::offset_of;
 use crate::store::BoundedStore;
-use lola_lives::lives::Lives;
+use lola_instances::instances::Instances;
 use lola_model::spec::WindowSpec;
 use lola_value::value::{Outcome, Params};
 
 /// The instances of a stream.
-fn lives_of(s: &BoundedStore, stream: u32) -> &Lives
+fn lives_of(s: &BoundedStore, stream: u32) -> &Instances
     requires { stream < length (bounded_seen s.now).layout.streams }
     ensures { slice_get s.now.streams.items stream ≡ Some result.now }
 {

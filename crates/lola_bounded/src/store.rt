@@ -2,14 +2,14 @@
 
 ghost use Rattle.std.specs.Prelude.{◌≡◌, ◌≤◌, ◌+◌, ◌-◌, ◌^◌, true};
 ghost use Rattle.std.proofs.Props.{props};
-ghost use Rattle.lola_lives.specs.Each.{Each};
-ghost use Rattle.lola_lives.specs.Props.{AllOf-prop, AllGiven-prop, AllPanesOf-prop};
-ghost use Rattle.lola_lives.specs.Rights.{CrowdRight};
+ghost use Rattle.lola_instances.specs.Each.{Each};
+ghost use Rattle.lola_instances.specs.Props.{AllOf-prop, AllGiven-prop, AllPanesOf-prop};
+ghost use Rattle.lola_instances.specs.Rights.{CrowdRight};
 ghost use Rattle.lola_bounded.specs.Placed.{ArePlaced};
 ghost use Rattle.lola_bounded.specs.Stages.{is_on, start_in, time_in};
 
 use crate::stage::Stage;
-use lola_lives::lives::Lives;
+use lola_instances::instances::Instances;
 use lola_model::plan::PaneSizes;
 use lola_model::spec::Windows;
 
@@ -22,7 +22,7 @@ pub struct BoundedStore {
     pub(crate) prepared: bool,
     /// One more than the number of steps that began, so that no step has number 0.
     pub(crate) step: u64,
-    pub(crate) streams: Vec<Lives>,
+    pub(crate) streams: Vec<Instances>,
     /// For each window, the place of its panes among those of its target.
     pub(crate) places: Vec<usize>,
     ghost step_ge: { 1 ≤ step },

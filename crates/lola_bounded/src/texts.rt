@@ -1,16 +1,16 @@
 //! The bounded store as one that tells which texts it holds.
 
 ghost use Rattle.std.specs.Prelude.{◌≡◌, ◌++◌, OnOk, flat_map};
-ghost use Rattle.lola_lives.specs.Texts.{crowd_texts};
+ghost use Rattle.lola_instances.specs.Texts.{crowd_texts};
 
 use crate::store::BoundedStore;
-use lola_lives::lives::Lives;
+use lola_instances::instances::Instances;
 use lola_sweep::ids::Ids;
 use lola_sweep::store::TextStore;
 use lola_value::text::Memory;
 
 // The numbers of the texts of each stream.
-fn add_all(streams: &[Lives], into: &mut Ids) -> Result<(), Memory>
+fn add_all(streams: &[Instances], into: &mut Ids) -> Result<(), Memory>
     ensures { OnOk result (into.new ≡ into.old ++ flat_map crowd_texts streams.now) }
 {
     for lives in streams {

@@ -3,10 +3,10 @@ use Rattle.lola_value.specs.declared.text.Field.{Field}
 use Rattle.lola_value.specs.Naming.{read_outcome}
 use Rattle.lola_model.specs.Accesses.{one_more}
 use Rattle.lola_model.specs.Store.{time_seen, start_seen, now_seen, Running}
-use Rattle.lola_lives.specs.Crowds.{RemembersAt, shown_at}
-use Rattle.lola_lives.specs.Each.{Each}
-use Rattle.lola_lives.specs.Rights.{CrowdRight}
-use Rattle.lola_lives.proofs.Beginnings.{crowd_later, begun_at}
+use Rattle.lola_instances.specs.Crowds.{RemembersAt, shown_at}
+use Rattle.lola_instances.specs.Each.{Each}
+use Rattle.lola_instances.specs.Rights.{CrowdRight}
+use Rattle.lola_instances.proofs.Beginnings.{crowd_later, begun_at}
 use Rattle.lola_bounded.specs.Stages.{start_in, time_in, is_on}
 use Rattle.lola_bounded.specs.Stores.{bounded_seen}
 use Rattle.lola_bounded.specs.Streams.{crowd_layout, slot_at}

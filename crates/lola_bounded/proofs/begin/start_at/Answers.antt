@@ -1,6 +1,6 @@
 use Rattle.std.proofs.Common.{◌≡◌, ◌-◌, ℕ, Bool, subst, arith}
-use Rattle.lola_lives.specs.Rights.{CrowdRight}
-use Rattle.lola_lives.proofs.Beginnings.{started_at}
+use Rattle.lola_instances.specs.Rights.{CrowdRight}
+use Rattle.lola_instances.proofs.Beginnings.{started_at}
 use Rattle.lola_bounded.specs.Stages.{start_in, time_in, is_on}
 use Rattle.lola_bounded.specs.Streams.{slot_at}
 use Rattle.lola_bounded.proofs.Asking.{right_at}

@@ -1,10 +1,10 @@
 use Rattle.std.proofs.Common.{◌≡◌, ◌∙◌, ◌-◌, map, slice_get, refl, ap, sym, subst, add-one}
 use Rattle.std.specs.Prelude.{remove}
 use Rattle.lola_model.specs.Store.{SeenStream}
-use Rattle.lola_slots.specs.Holdings.{slot_seen}
-use Rattle.lola_lives.specs.Crowds.{Crowd, RemembersAt}
-use Rattle.lola_lives.specs.Rights.{CrowdRight, SlotRight}
-use Rattle.lola_lives.proofs.Lists.{each-set, each-remove, remove_before, remove_after, remove_length, remove_map}
+use Rattle.lola_instance.specs.Holdings.{slot_seen}
+use Rattle.lola_instances.specs.Crowds.{Crowd, RemembersAt}
+use Rattle.lola_instances.specs.Rights.{CrowdRight, SlotRight}
+use Rattle.lola_instances.proofs.Lists.{each-set, each-remove, remove_before, remove_after, remove_length, remove_map}
 use Rattle.lola_bounded.specs.Stages.{phase_in, start_in, time_in, is_on}
 use Rattle.lola_bounded.proofs.Asking.{found_stream, index_is}
 use Rattle.lola_bounded.proofs.Changing.{layout_set, changed_set, placed_set, past_remove, slots_right, slots_seen}

@@ -1,9 +1,9 @@
 use Rattle.std.proofs.Common.{◌≡◌, ◌-◌, map, slice_get, true, refl, sym, arith, nat_eq, eq-eqb}
 use Rattle.lola_model.specs.Store.{SeenStream}
-use Rattle.lola_slots.specs.Holdings.{slot_seen}
-use Rattle.lola_lives.specs.Crowds.{Crowd, crowd_seen, RemembersAt}
-use Rattle.lola_lives.specs.Rights.{CrowdRight}
-use Rattle.lola_lives.proofs.Lists.{each-set}
+use Rattle.lola_instance.specs.Holdings.{slot_seen}
+use Rattle.lola_instances.specs.Crowds.{Crowd, crowd_seen, RemembersAt}
+use Rattle.lola_instances.specs.Rights.{CrowdRight}
+use Rattle.lola_instances.proofs.Lists.{each-set}
 use Rattle.std.proofs.Common.{ap, ◌∙◌, subst}
 use Rattle.lola_bounded.specs.Stages.{phase_in, start_in, time_in, is_on}
 use Rattle.lola_bounded.proofs.Asking.{stream_read}

@@ -2,9 +2,9 @@ use Rattle.std.proofs.Common.{◌≡◌, ℕ, ◌-◌, Option, Bool, true, IsTru
 use Rattle.lola_value.specs.declared.value.Outcome.TheVariants as outcome
 use Rattle.lola_value.specs.Kinds.{is_of_kind}
 use Rattle.lola_model.specs.Store.{SeenStream, StreamLayout, told_at, kind_in}
-use Rattle.lola_lives.specs.Crowds.{Crowd, RemembersAt}
-use Rattle.lola_lives.specs.Rights.{AreRight, CrowdRight}
-use Rattle.lola_lives.proofs.Lists.{each-set}
+use Rattle.lola_instances.specs.Crowds.{Crowd, RemembersAt}
+use Rattle.lola_instances.specs.Rights.{AreRight, CrowdRight}
+use Rattle.lola_instances.proofs.Lists.{each-set}
 use Rattle.lola_bounded.specs.Stages.{phase_in, start_in, time_in, is_on}
 use Rattle.lola_bounded.proofs.Asking.{found_stream, index_is, layout_at}
 use Rattle.lola_bounded.proofs.Changing.{running_is_on, silent_in, layout_set, changed_set, placed_set, past_set, slots_right, slots_seen}

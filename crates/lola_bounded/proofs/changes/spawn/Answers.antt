@@ -4,10 +4,10 @@ use Rattle.lola_value.specs.Kinds.{are_of_kinds}
 use Rattle.lola_value.specs.Naming.{the_values}
 use Rattle.lola_model.specs.Spawning.{has_room, spawn_end}
 use Rattle.lola_model.specs.Store.{Seen, StreamLayout, after_spawn, changed_at, instances_seen, newborn_seen, parameters_of, place_of}
-use Rattle.lola_slots.specs.Holdings.{Holdings}
-use Rattle.lola_lives.specs.Crowds.{RemembersAt, place_in}
-use Rattle.lola_lives.specs.Rights.{AreRight, CrowdRight}
-use Rattle.lola_lives.proofs.Lists.{each-set, same_set}
+use Rattle.lola_instance.specs.Holdings.{Holdings}
+use Rattle.lola_instances.specs.Crowds.{RemembersAt, place_in}
+use Rattle.lola_instances.specs.Rights.{AreRight, CrowdRight}
+use Rattle.lola_instances.proofs.Lists.{each-set, same_set}
 use Rattle.lola_bounded.specs.Stages.{phase_in, start_in, time_in, is_on}
 use Rattle.lola_bounded.specs.Stores.{bounded_seen}
 use Rattle.lola_bounded.specs.Streams.{slots_in, slot_at}

@@ -1,5 +1,5 @@
 use Rattle.std.proofs.Common.{sym, subst}
-use Rattle.lola_slots.specs.Unborn.{AllOnto}
+use Rattle.lola_instance.specs.Unborn.{AllOnto}
 use Rattle.lola_bounded.proofs.Opened.{onto_kind}
 use Rattle.lola_bounded.proofs.opening.open.Goals as goal
 

@@ -1,6 +1,6 @@
 use Rattle.std.proofs.Common.{◌≡◌, ◌++◌, ℕ, Some, drop, length, map, slice_get}
 use Rattle.lola_model.specs.Store.{layouts_from}
-use Rattle.lola_lives.specs.Crowds.{Crowd}
+use Rattle.lola_instances.specs.Crowds.{Crowd}
 use Rattle.lola_bounded.specs.Opening.{IsOpened}
 use Rattle.lola_bounded.specs.Streams.{crowd_layout}
 use Rattle.lola_bounded.proofs.opening.open_all.Given as goal

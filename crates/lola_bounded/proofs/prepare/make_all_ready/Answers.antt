@@ -1,6 +1,6 @@
 use Rattle.std.proofs.Common.{◌≡◌, ◌<◌, length, Some, slice_get, refl, arith, ap, ◌∙◌}
 use Rattle.std.proofs.lemmas.Option.{slice_get_read, slice_get_within}
-use Rattle.lola_lives.specs.Crowds.{Crowd}
+use Rattle.lola_instances.specs.Crowds.{Crowd}
 use Rattle.lola_bounded.specs.Rooms.{IsKept, IsReady}
 use Rattle.lola_bounded.proofs.Preparing.{all_kept, kept_set, each_more, prepared_ready, kept_at, plain_at}
 use Rattle.lola_bounded.proofs.prepare.make_all_ready.Goals as goal

@@ -1,7 +1,7 @@
 use Rattle.std.proofs.Common.{◌≡◌, ℕ, ◌<◌, Some, slice_get}
 use Rattle.std.specs.Prelude.{vec_len}
 use Rattle.std.specs.Vec.{vec_capacity}
-use Rattle.lola_lives.specs.Crowds.{Crowd}
+use Rattle.lola_instances.specs.Crowds.{Crowd}
 use Rattle.lola_bounded.specs.Rooms.{AreKept, IsReady}
 use Rattle.lola_bounded.proofs.prepare.make_all_ready.Given as goal
 

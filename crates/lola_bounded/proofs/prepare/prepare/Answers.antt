@@ -1,5 +1,5 @@
 use Rattle.std.proofs.Common.{◌-◌, true}
-use Rattle.lola_lives.specs.Crowds.{RemembersAt}
+use Rattle.lola_instances.specs.Crowds.{RemembersAt}
 use Rattle.lola_bounded.specs.Stages.{phase_in, start_in, time_in, is_on}
 use Rattle.lola_bounded.proofs.Preparing.{kept_at, kept_right, ready_right, seen_still, layout_still, slots_still, placed_still}
 use Rattle.lola_bounded.proofs.prepare.prepare.Goals as goal

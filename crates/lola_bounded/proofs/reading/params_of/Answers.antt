@@ -6,7 +6,7 @@ use Rattle.lola_value.specs.declared.value.Params.{Params}
 use Rattle.lola_value.specs.Kinds.{are_of_kinds}
 use Rattle.lola_value.specs.Naming.{the_values}
 use Rattle.lola_model.specs.Store.{SeenInstance, instances_of, parameters_of}
-use Rattle.lola_slots.specs.Holdings.{Holdings, slot_seen}
+use Rattle.lola_instance.specs.Holdings.{Holdings, slot_seen}
 use Rattle.lola_bounded.proofs.Asking.{layout_at, stream_at, stream_within, index_is}
 use Rattle.lola_bounded.proofs.reading.params_of.Goals as goal
 

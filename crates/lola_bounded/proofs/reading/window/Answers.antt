@@ -2,9 +2,9 @@ use Rattle.std.proofs.Common.{◌∙◌, ℕ, Option, IsTrue, MatchOption, ap, s
 use Rattle.lola_value.specs.Kinds.{is_outcome_of}
 use Rattle.lola_model.specs.Store.{gives_kind, kind_in, window_kind_of}
 use Rattle.lola_model.specs.declared.spec.WindowSpec.{WindowSpec}
-use Rattle.lola_slots.specs.declared.window.WindowPanes.{WindowPanes}
-use Rattle.lola_lives.specs.Rights.{AreTimely}
-use Rattle.lola_lives.specs.Windowed.{IsWhole}
+use Rattle.lola_instance.specs.declared.window.WindowPanes.{WindowPanes}
+use Rattle.lola_instances.specs.Rights.{AreTimely}
+use Rattle.lola_instances.specs.Windowed.{IsWhole}
 use Rattle.lola_bounded.specs.Stores.{bounded_seen}
 use Rattle.lola_bounded.proofs.Asking.{OfStream, layout_at, placed_window, whole_offset, window_told}
 use Rattle.lola_bounded.proofs.reading.window.Goals as goal

@@ -1,6 +1,6 @@
 use Rattle.std.proofs.Common.{◌≡◌, ◌++◌, drop}
 use Rattle.std.specs.Prelude.{flat_map}
-use Rattle.lola_lives.specs.Texts.{crowd_texts}
+use Rattle.lola_instances.specs.Texts.{crowd_texts}
 use Rattle.lola_bounded.proofs.texts.add_all.Given as goal
 
 abbrev pub invariant-loop-lives : goal.invariant-loop-lives

@@ -2,8 +2,8 @@ use Rattle.std.proofs.Common.{◌≡◌, ◌∙◌, ℕ, Some, false, map, slice
 use Rattle.lola_value.specs.declared.value.Kind.{Kind}
 use Rattle.lola_model.specs.Store.{New, kind_in, layouts_from, opened}
 use Rattle.lola_model.specs.Typing.{takes}
-use Rattle.lola_slots.specs.Unborn.{AllSound}
-use Rattle.lola_lives.specs.Crowds.{Crowd}
+use Rattle.lola_instance.specs.Unborn.{AllSound}
+use Rattle.lola_instances.specs.Crowds.{Crowd}
 use Rattle.lola_bounded.specs.Opening.{ArePlaces, IsOpened, onto}
 use Rattle.lola_bounded.specs.Placed.{ArePlaced}
 use Rattle.lola_bounded.specs.Streams.{crowd_layout}

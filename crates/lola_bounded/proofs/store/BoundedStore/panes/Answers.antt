@@ -2,7 +2,7 @@ use Rattle.std.proofs.Common.{◌≤◌, ◌<◌, Option, MatchOption, length, s
 use Rattle.lola_model.specs.Store.{instances_seen, target_of}
 use Rattle.lola_model.specs.declared.plan.PaneSize.{PaneSize}
 use Rattle.lola_model.specs.declared.spec.WindowSpec.{WindowSpec}
-use Rattle.lola_slots.specs.declared.window.WindowPanes.{WindowPanes}
+use Rattle.lola_instance.specs.declared.window.WindowPanes.{WindowPanes}
 use Rattle.lola_bounded.specs.Stores.{bounded_seen}
 use Rattle.lola_bounded.proofs.Asking.{placed_window, stream_within, index_is}
 use Rattle.lola_bounded.proofs.Keeping.{panes_from}

@@ -1,0 +1,18 @@
+use Rattle.std.proofs.Common.{◌≡◌, ◌∙◌, ◌≤◌, sym, ap, subst}
+use Rattle.lola_value.specs.declared.value.Outcome.TheVariants as outcome
+use Rattle.lola_buffer.specs.Kept.{before_newest}
+use Rattle.lola_instance.specs.Holdings.{Holdings, shown}
+use Rattle.lola_instance.proofs.Remembering.{newest-answers, answer_kind}
+use Rattle.lola_instance.proofs.instance.Instance.newest.Goals as goal
+
+pub returns-in-Missing-clause-value : goal.returns-in-Missing-clause-value
+returns-in-Missing-clause-value c = λ start time names values h.
+    let s = c.args.self.now in
+    let none : shown c.args.step s ≡ outcome.Missing = sym c.now.ensures ∙ c.in-Missing.is in
+    let q = c.back.ensures.value ∙ ap (λ (w : Holdings). before_newest 0 w.ring.values) c.self.view_is in
+    newest-answers start time c.args.step names s values h c.or_missing.result c.back.result none c.or_missing.ensures q (subst (λ (w : Holdings). 1 ≤ w.ring.capacity) c.self.view_is c.back.ensures.capacity)
+
+pub returns-in-Missing-clause-kind : goal.returns-in-Missing-clause-kind
+returns-in-Missing-clause-kind c = λ k o h.
+    let q = c.back.ensures.value ∙ ap (λ (w : Holdings). before_newest 0 w.ring.values) c.self.view_is in
+    answer_kind k c.args.self.now.ring.values 0 c.or_missing.result c.back.result c.or_missing.ensures q h

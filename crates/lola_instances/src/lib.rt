@@ -1,0 +1,13 @@
+//! The instances of one stream in little memory: of each the last of its values, and the panes of each window onto the
+//! stream.
+#![tactic(auto)]
+
+mod directory;
+pub mod instances;
+mod key;
+#[cfg(test)]
+mod named_tests;
+mod nothing;
+mod slots;
+#[cfg(test)]
+mod tests;

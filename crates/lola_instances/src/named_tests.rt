@@ -1,0 +1,60 @@
+//! Instances with a parameter, which are found by it: born, closed, and born again.
+
+ghost use Rattle.std.specs.Prelude.{◌≡◌, ◌<◌, ◌∷◌, [], length, IfOk, true};
+ghost use Rattle.lola_value.specs.declared.value.Kind.TheVariants as kinds;
+ghost use Rattle.lola_instances.specs.Rights.{AreRight};
+
+use crate::instances::Instances;
+use lola_model::spec::Kinds;
+use lola_model::store::SpawnEnd;
+use lola_value::text::Memory;
+use lola_value::value::{Kind, Params, TextId, Value};
+use std::alloc::Global;
+
+// A stream of truths whose instances have a text as their parameter.
+fn named(alloc: Global) -> Result<Instances, Memory>
+    ensures parameters { IfOk result (λ l. l.layout.parameters ≡ kinds.Text ∷ []) }
+    ensures spawns { IfOk result (λ l. l.layout.spawns ≡ true) }
+    ensures right { IfOk result (λ l. AreRight true 2 0 l) }
+{
+    let mut parameters = Kinds::create(alloc);
+    parameters.push(Kind::Text)?;
+    let lives = Instances::create(alloc, Kind::Bool, parameters, true, 1, Vec::new(alloc))?;
+    Ok(lives)
+}
+
+// What becomes of a spawn in step 2 with the text of a number.
+fn bear(lives: &mut Instances, number: u64) -> Result<SpawnEnd, Memory>
+    requires parameters { lives.old.layout.parameters ≡ kinds.Text ∷ [] }
+    requires spawns { lives.old.layout.spawns ≡ true }
+    requires right { AreRight true 2 0 lives.old }
+    ensures layout { lives.new.layout ≡ lives.old.layout }
+    ensures right { AreRight true 2 0 lives.new }
+{
+    lives.prepare()?;
+    let params = Params::none().led_by(Value::Text(TextId(number)));
+    Ok(lives.spawn(2, 0, params))
+}
+
+// The end of the instance at a place.
+fn close(lives: &mut Instances, index: usize)
+    requires index { index < length lives.old.slots }
+    requires right { AreRight true 2 0 lives.old }
+    ensures layout { lives.new.layout ≡ lives.old.layout }
+    ensures right { AreRight true 2 0 lives.new }
+{
+    lives.close(index);
+}
+
+#[test]
+fn born_closed_and_born_again(rt: HostRuntime) {
+    let mut lives = named(rt.alloc()).expect(&rt, "memory");
+    assert_eq!(rt; bear(&mut lives, 7).expect(&rt, "memory"), SpawnEnd::Born);
+    assert_eq!(rt; bear(&mut lives, 8).expect(&rt, "memory"), SpawnEnd::Born);
+    assert_eq!(rt; bear(&mut lives, 7).expect(&rt, "memory"), SpawnEnd::Living);
+    assert_eq!(rt; lives.instances(), 2);
+    close(&mut lives, 0);
+    assert_eq!(rt; bear(&mut lives, 8).expect(&rt, "memory"), SpawnEnd::Living);
+    assert_eq!(rt; bear(&mut lives, 7).expect(&rt, "memory"), SpawnEnd::Born);
+    assert_eq!(rt; lives.instances(), 2);
+}

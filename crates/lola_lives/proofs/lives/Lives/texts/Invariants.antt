@@ -1,7 +1,0 @@
-use Rattle.std.proofs.Common.{◌≡◌, ◌++◌, drop}
-use Rattle.std.specs.Prelude.{flat_map}
-use Rattle.lola_slots.specs.Texts.{slot_texts}
-use Rattle.lola_lives.proofs.lives.Lives.texts.Given as goal
-
-abbrev pub invariant-loop-i : goal.invariant-loop-i
-invariant-loop-i l = l.into ++ flat_map slot_texts (drop l.i l.self.slots) ≡ l.fn.into ++ flat_map slot_texts l.self.slots

@@ -1,8 +1,0 @@
-use Rattle.std.proofs.Common.{sym, subst}
-use Rattle.lola_slots.specs.Holdings.{Holdings}
-use Rattle.lola_slots.specs.Memories.{RemembersNothing}
-use Rattle.lola_slots.proofs.Births.{begun-nothing}
-use Rattle.lola_slots.proofs.slot.Slot.begin_life.Goals as goal
-
-pub returns-clause-nothing : goal.returns-clause-nothing
-returns-clause-nothing c = λ h. subst (λ (w : Holdings). RemembersNothing (record w { params = c.args.params })) (sym c.self.view_is) (begun-nothing c.args.self.now c.args.params h)

@@ -1,8 +1,0 @@
-//! One instance of a stream in little memory: the last of its values, and the panes of each window onto it.
-#![tactic(auto)]
-
-pub mod slot;
-#[cfg(test)]
-mod tests;
-mod texts;
-pub mod window;
