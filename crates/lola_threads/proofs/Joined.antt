@@ -28,7 +28,7 @@ use Rattle.lola_run.specs.Verdicts.{AreOfSources, Setting as RunSetting, most_ro
 use Rattle.lola_run.specs.Running.{IsRowFor, Keeping}
 use Rattle.lola_run.specs.declared.stop.Stop.{Stop}
 use Rattle.lola_rounds.specs.Feeds.{BeganWith, Supply, supply_of, world}
-use Rattle.lola_threads.specs.Posts.{HasOffered, HasStopped, HasTold, IsRowIn, post, rows_in}
+use Rattle.lola_threads.specs.Seated.{HasOffered, HasStopped, HasTold, IsRowIn, seated, rows_in}
 use Rattle.lola_threads.specs.Takings.{Halts, HasRun, IsStopped, IsUnfit, Place, place}
 use Rattle.lola_threads.specs.Joining.{AllCame, HasCome, IsOver, Joins, SomeCame}
 use Rattle.lola_threads.specs.declared.halt.Halt.{Halt}
@@ -39,7 +39,7 @@ use Rattle.lola_threads.proofs.Places.{all_behind}
 
 -- each worker with its seat comes from a worker that read a source of a plan
 pub record IsFrom (plan : Plan) (s : ℕ) (old new : Working) (seat : Shown) : Type 0 where
-  pub offered : HasOffered old (post new seat)
+  pub offered : HasOffered old (seated new seat)
   pub source : seat.source ≡ s
   pub shape : old.reader.shape ≡ shape_of plan.spec.streams s most_rows
 

@@ -1,4 +1,4 @@
-pub mod SentPosts
+pub mod SentWorkers
 pub mod Fitting
 pub mod Entries
 pub mod Passing
@@ -9,5 +9,5 @@ pub mod Pairing
 pub mod Settling
 pub mod Many
 pub mod Joined
-pub mod Posting
+pub mod Seating
 pub mod Threading

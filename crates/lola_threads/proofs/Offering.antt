@@ -25,7 +25,7 @@ use Rattle.lola_feed.specs.declared.worker.SourceEnd.TheVariants as end
 use Rattle.lola_feed.specs.declared.worker.Turn.{Turn}
 use Rattle.lola_feed.specs.declared.worker.Turn.TheVariants as turn
 use Rattle.lola_rounds.specs.Feeds.{BeganWith, EndedWith, HasEnded, IsAt, Passes, led_by as before, supply_of}
-use Rattle.lola_threads.specs.Posts.{HasOffered, HasStopped, HasTold, IsRowIn, WentOn, post, rows_in}
+use Rattle.lola_threads.specs.Seated.{HasOffered, HasStopped, HasTold, IsRowIn, WentOn, seated, rows_in}
 
 -- the rows of one call more
 
@@ -119,9 +119,9 @@ waits_before old w row waits passes all is =
 going : (from now : Working) (rows : List Row) → now.end ≡ None → HasStopped now.end (supply_of from) (supply_of now) rows → HasEnded None (supply_of from) (supply_of now) rows
 going from now rows none stopped = subst (λ (e : Option worker.SourceEnd). HasStopped e (supply_of from) (supply_of now) rows) none stopped
 
--- what the calls of a post come to, by its rows
+-- what the calls of a seated worker come to, by its rows
 pub has_offered : (from new : Working) (d : Shown) (rows : List Row) → rows_in d.mine ≡ rows → length rows ≤ from.reader.shape.most → BeganWith (to_come from) rows → All (IsRowIn from.reader.shape) rows
-    → HasStopped new.end (supply_of from) (supply_of new) rows → HasTold new.end d.mine → new.reader.shape ≡ from.reader.shape → HasOffered from (post new d)
+    → HasStopped new.end (supply_of from) (supply_of new) rows → HasTold new.end d.mine → new.reader.shape ≡ from.reader.shape → HasOffered from (seated new d)
 has_offered from new d rows is few began fits stopped told shape = record {
   few = subst (λ (l : List Row). length l ≤ from.reader.shape.most) (sym is) few;
   began = subst (BeganWith (to_come from)) (sym is) began;
@@ -131,7 +131,7 @@ has_offered from new d rows is few began fits stopped told shape = record {
   shape = shape;
 }
 
-module _ (from old new : Working) (d0 d1 : Shown) (h : HasOffered from (post old d0)) (goes_on : old.end ≡ None) (shape : new.reader.shape ≡ old.reader.shape) where
+module _ (from old new : Working) (d0 d1 : Shown) (h : HasOffered from (seated old d0)) (goes_on : old.end ≡ None) (shape : new.reader.shape ≡ old.reader.shape) where
   was : HasEnded None (supply_of from) (supply_of old) (rows_in d0.mine)
   was = going from old (rows_in d0.mine) goes_on h.end
 
@@ -146,7 +146,7 @@ module _ (from old new : Working) (d0 d1 : Shown) (h : HasOffered from (post old
   fits row is = subst (λ (s : reader.Shape). IsRowIn s row) h.shape (record { source = is.source; stamp = is.stamp; fields = is.fields })
 
   -- a row was let in
-  lets_in : (row : Row) (r : Offer) → IsNext row old new.reader → IsLetIn r → d1.mine ≡ d0.mine ++ Offered row r ∷ [] → new.kept ≡ None → new.end ≡ None → HasOffered from (post new d1)
+  lets_in : (row : Row) (r : Offer) → IsNext row old new.reader → IsLetIn r → d1.mine ≡ d0.mine ++ Offered row r ∷ [] → new.kept ≡ None → new.end ≡ None → HasOffered from (seated new d1)
   lets_in row r next is told none ended =
       let given : handed_in new ≡ new.reader.given = ap (λ (k : Option Row). without k new.reader.given) none in
       let number : handed_in new ≡ length (rows_in d0.mine ++ row ∷ []) = (let a = length-append (rows_in d0.mine) (row ∷ []) in let b = was.1 in let n = next.given in let m = next.is_row.number in omega arith) in
@@ -162,11 +162,11 @@ module _ (from old new : Working) (d0 d1 : Shown) (h : HasOffered from (post old
       (shape ∙ h.shape)
 
   -- no row more was let in
-  lets_in_none : rows_in d1.mine ≡ rows_in d0.mine → HasStopped new.end (supply_of from) (supply_of new) (rows_in d0.mine) → HasTold new.end d1.mine → HasOffered from (post new d1)
+  lets_in_none : rows_in d1.mine ≡ rows_in d0.mine → HasStopped new.end (supply_of from) (supply_of new) (rows_in d0.mine) → HasTold new.end d1.mine → HasOffered from (seated new d1)
   lets_in_none same stopped told = has_offered from new d1 (rows_in d0.mine) same h.few h.began h.rows stopped told (shape ∙ h.shape)
 
   -- a row waits
-  keeps : (row : Row) → IsNext row old new.reader → d1.mine ≡ d0.mine ++ Offered row (reply.Full row) ∷ [] → new.kept ≡ Some row → new.end ≡ None → HasOffered from (post new d1)
+  keeps : (row : Row) → IsNext row old new.reader → d1.mine ≡ d0.mine ++ Offered row (reply.Full row) ∷ [] → new.kept ≡ Some row → new.end ≡ None → HasOffered from (seated new d1)
   keeps row next told waits ended =
       let given : handed_in new ≡ new.reader.given - 1 = ap (λ (k : Option Row). without k new.reader.given) waits in
       let number : handed_in new ≡ length (rows_in d0.mine) = (let b = was.1 in let n = next.given in let m = next.is_row.number in omega arith) in
@@ -176,7 +176,7 @@ module _ (from old new : Working) (d0 d1 : Shown) (h : HasOffered from (post old
       (subst (λ (e : Option worker.SourceEnd). HasTold e d1.mine) (sym ended) (untold_still row (reply.Full row) told))
 
   -- a row met a closed intake
-  meets_closed : (row : Row) → d1.mine ≡ d0.mine ++ Offered row (reply.Closed row) ∷ [] → new.end ≡ Some end.Closed → HasOffered from (post new d1)
+  meets_closed : (row : Row) → d1.mine ≡ d0.mine ++ Offered row (reply.Closed row) ∷ [] → new.end ≡ Some end.Closed → HasOffered from (seated new d1)
   meets_closed row told ended = lets_in_none (ap rows_in told ∙ no_more d0.mine (Offered row (reply.Closed row)) refl)
       (subst (λ (e : Option worker.SourceEnd). HasStopped e (supply_of from) (supply_of new) (rows_in d0.mine)) (sym ended) tt)
       (subst (λ (e : Option worker.SourceEnd). HasTold e d1.mine) (sym ended) (untold_still row (reply.Closed row) told))
@@ -194,21 +194,21 @@ module _ (from old new : Working) (d0 d1 : Shown) (h : HasOffered from (post old
   has_told ending.ReadFault last = last
   has_told ending.Memory last = last
 
-  finishes : (how : Ending) → old.kept ≡ None → reader.Stops how old.reader new.reader → d1.mine ≡ d0.mine ++ Finished d0.source ∷ [] → new.end ≡ Some (end_of how) → HasOffered from (post new d1)
+  finishes : (how : Ending) → old.kept ≡ None → reader.Stops how old.reader new.reader → d1.mine ≡ d0.mine ++ Finished d0.source ∷ [] → new.end ≡ Some (end_of how) → HasOffered from (seated new d1)
   finishes how none stops told ended = lets_in_none (ap rows_in told ∙ no_more d0.mine (Finished d0.source) refl)
       (subst (λ (e : Option worker.SourceEnd). HasStopped e (supply_of from) (supply_of new) (rows_in d0.mine)) (sym ended) (has_stopped how none stops))
       (subst (λ (e : Option worker.SourceEnd). HasTold e d1.mine) (sym ended) (has_told how (subst FinishesLast (sym told) (finishes_last d0.mine d0.source untold))))
 
-module _ (from old new : Working) (d0 d1 : Shown) (h : HasOffered from (post old d0)) (shape : new.reader.shape ≡ old.reader.shape) where
-  offers_next : (t : Turn) → Turns offers_by finishes_by d0 d1 t old new → HasOffered from (post new d1)
+module _ (from old new : Working) (d0 d1 : Shown) (h : HasOffered from (seated old d0)) (shape : new.reader.shape ≡ old.reader.shape) where
+  offers_next : (t : Turn) → Turns offers_by finishes_by d0 d1 t old new → HasOffered from (seated new d1)
   offers_next turn.Moved t = let m = t.1.2 in lets_in from old new d0 d1 h t.0 shape t.1.0 t.1.1 m.next m.let_in m.offered.0.mine m.kept m.end
   offers_next turn.Full t = let w = t.1.1 in keeps from old new d0 d1 h t.0 shape t.1.0 w.next w.offered.0.mine w.kept w.end
-  offers_next (turn.Done how) (inl rests) = subst (λ (w : Working). HasOffered from (post w d1)) (sym rests.same) (subst (λ (d : Shown). HasOffered from (post old d)) (sym rests.desk) h)
+  offers_next (turn.Done how) (inl rests) = subst (λ (w : Working). HasOffered from (seated w d1)) (sym rests.same) (subst (λ (d : Shown). HasOffered from (seated old d)) (sym rests.desk) h)
   offers_next (turn.Done how) (inr (goes_on, inl shut)) = meets_closed from old new d0 d1 h goes_on shape shut.1.0 shut.1.1.offered.0.mine shut.1.1.end
   offers_next (turn.Done how) (inr (goes_on, inr f)) = finishes from old new d0 d1 h goes_on shape f.0 f.2.none f.2.stops f.2.finished.mine f.2.end
 
--- a post goes on by a turn
-pub turn_goes_on : (t : Turn) (d0 d1 : Shown) (old new : Working) → Turns offers_by finishes_by d0 d1 t old new → reader.Keeps old.reader new.reader → WentOn (post old d0) (post new d1)
+-- a seated worker goes on by a turn
+pub turn_goes_on : (t : Turn) (d0 d1 : Shown) (old new : Working) → Turns offers_by finishes_by d0 d1 t old new → reader.Keeps old.reader new.reader → WentOn (seated old d0) (seated new d1)
 turn_goes_on t d0 d1 old new turns kept = record {
   seat = turn-same t d0 d1 old new turns;
   kept = kept;

@@ -18,7 +18,7 @@ use Rattle.lola_rounds.specs.Feeds.{HasEnded, RanToCut, RanToEnd, Runs, Supply, 
 use Rattle.lola_rounds.proofs.Lists.{from_mapped}
 use Rattle.lola_run.proofs.Entries.{front_of_all, no_part}
 use Rattle.lola_threads.specs.Joining.{AllCame, IsOver, SomeCame}
-use Rattle.lola_threads.specs.Posts.{SomeOutOfMemory}
+use Rattle.lola_threads.specs.Seated.{SomeOutOfMemory}
 
 not_in_turns : {A : Type 0} → false ≡ true → A
 not_in_turns e = absurd (cc e)

@@ -17,14 +17,14 @@ use Rattle.lola_run.specs.declared.stop.Stop.{Stop}
 use Rattle.lola_run.proofs.Fronts.{nothing_settled}
 use Rattle.lola_run.proofs.Sinks.{grown_nil}
 use Rattle.lola_rounds.specs.Feeds.{AreInPlace, AreReady, EndsRun, World, supply_of, world}
-use Rattle.lola_threads.specs.Posts.{AreNewSeats, Post, WentOn, posts_of}
+use Rattle.lola_threads.specs.Seated.{AreNewSeats, Seated, WentOn, all_seated}
 use Rattle.lola_threads.specs.Takings.{Halts, HasRun, Place, Taking, place}
 use Rattle.lola_threads.specs.Joining.{Joins}
 use Rattle.lola_threads.specs.declared.halt.Halt.{Halt}
 use Rattle.lola_threads.specs.declared.halt.Halt.TheVariants as halt
 use Rattle.lola_threads.proofs.Joined.{AreJoined, joins}
 use Rattle.lola_threads.proofs.Places.{reverse_zip, zip_long}
-use Rattle.lola_threads.proofs.Posting.{as_many, in_place, joined, own_seats}
+use Rattle.lola_threads.proofs.Seating.{as_many, in_place, joined, own_seats}
 
 -- before the first row
 pub not_yet_run : (kept : Keeping) (out trace : SinkState) → Stands [] kept → HasRun (place kept out trace) [] (place kept out trace)
@@ -61,8 +61,8 @@ ends_with halted result first k1 k2 out1 out2 trace news slice is ends came =
     (ends first trace (subst (λ (l : List Working). Joins halted first (world k1 (map supply_of l) out1 trace)) (sym is) came))
 
 module _ (kept : Keeping) (id : TableId) (olds : List Working) (seats : List Shown) (ready : AreReady kept.desk.plan olds) (fresh : AreNewSeats id (setting (length olds) kept.desk.option) (length olds) seats) where
-  module _ (waiting back : List Post) (news : List Working) (backs : List Shown) (are : reverse waiting ≡ posts_of olds seats) (went : AllZip WentOn waiting back)
-      (parted : posts_of news backs ≡ reverse back) (many : (length news ≡ length back) × (length backs ≡ length back)) where
+  module _ (waiting back : List Seated) (news : List Working) (backs : List Shown) (are : reverse waiting ≡ all_seated olds seats) (went : AllZip WentOn waiting back)
+      (parted : all_seated news backs ≡ reverse back) (many : (length news ≡ length back) × (length backs ≡ length back)) where
     all_back : length back ≡ length olds
     all_back = zip_long WentOn waiting back went ∙ as_many kept.desk.plan kept.desk.option id olds seats ready fresh waiting are
 
@@ -72,8 +72,8 @@ module _ (kept : Keeping) (id : TableId) (olds : List Working) (seats : List Sho
     pub backs_many : length backs ≡ length olds
     backs_many = many.1 ∙ all_back
 
-    all_went : AllZip WentOn (posts_of olds seats) (posts_of news backs)
-    all_went = subst (λ (l : List Post). AllZip WentOn l (posts_of news backs)) are (subst (AllZip WentOn (reverse waiting)) (sym parted) (reverse_zip WentOn waiting back went))
+    all_went : AllZip WentOn (all_seated olds seats) (all_seated news backs)
+    all_went = subst (λ (l : List Seated). AllZip WentOn l (all_seated news backs)) are (subst (AllZip WentOn (reverse waiting)) (sym parted) (reverse_zip WentOn waiting back went))
 
     pub seats_back : AreSeatsOf id backs
     seats_back = own_seats kept.desk.plan kept.desk.option id olds seats ready fresh news backs news_many backs_many all_went

@@ -8,14 +8,14 @@ use Rattle.lola_feed.specs.declared.worker.SourceEnd.TheVariants.{End, Malformed
 use Rattle.lola_run.specs.Verdicts.{AreOfSources, most_rows}
 use Rattle.lola_run.specs.declared.stop.Stop.{Stop}
 use Rattle.lola_rounds.specs.Feeds.{BeganWith, HasEnded, HaveBegun, Supply, World}
-use Rattle.lola_threads.specs.Posts.{Post}
+use Rattle.lola_threads.specs.Seated.{Seated}
 use Rattle.lola_threads.specs.Takings.{HasRun, Place, StopsAt, place}
 use Rattle.lola_threads.specs.declared.halt.Halt.{Halt}
 use Rattle.lola_threads.specs.declared.halt.Halt.TheVariants as halt
 
--- each post is of a source that has one of so many flags
-abbrev pub HaveFlags : ℕ → List Post → Type 0
-HaveFlags flags posts = All (λ (p : Post). p.seat.source < flags) posts
+-- each seated worker is of a source that has one of so many flags
+abbrev pub HaveFlags : ℕ → List Seated → Type 0
+HaveFlags flags workers = All (λ (p : Seated). p.seat.source < flags) workers
 
 -- where a world stands, whatever its sources do
 abbrev pub place_in : World → Place

@@ -1,3 +1,3 @@
-pub mod Posts
+pub mod Seated
 pub mod Takings
 pub mod Joining

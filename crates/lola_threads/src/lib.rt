@@ -3,7 +3,7 @@
 
 mod fit;
 pub mod halt;
-mod posts;
 pub mod run;
+mod seated;
 mod sending;
 mod taking;

@@ -8,12 +8,12 @@ ghost use Rattle.lola_intake.specs.Intakes.{Shown, new_seat, setting};
 ghost use Rattle.lola_run.specs.Running.{IsGoing, Stands, keeping};
 ghost use Rattle.lola_rounds.specs.Feeds.{AreInPlace, AreReady, EndsRun, World, supply_of, world};
 ghost use Rattle.lola_threads.specs.Joining.{Joins};
-ghost use Rattle.lola_threads.specs.Posts.{AreNewSeats, SomeOutOfMemory, posts_of};
+ghost use Rattle.lola_threads.specs.Seated.{AreNewSeats, SomeOutOfMemory, all_seated};
 ghost use Rattle.lola_threads.specs.declared.halt.Halt.TheVariants as halt;
 
 use crate::fit::Inputs;
 use crate::halt::Halt;
-use crate::posts::Post;
+use crate::seated::SeatedWorker;
 use crate::sending::send_all;
 use crate::taking::Taker;
 use lola_feed::worker::{SourceEnd, SourceWorker};
@@ -33,17 +33,17 @@ use std::sync::atomic::AtomicBool;
 use std::thread::Threads;
 
 /// The room that a run with threads takes before the first is started: the intake with its seats, a flag for each source, room for
-/// the posts that wait, for those that no thread could be started for and for those that came back, and for what the intake has left
-/// at its end.
+/// the seated workers that wait, for those that no thread could be started for and for those that came back, and for what the
+/// intake has left at its end.
 #[derive(Drop)]
 struct Room<S: Source> {
     intake: Intake,
     seats: Vec<SourceSeat>,
     taker: Taker,
     flags: Vec<AtomicBool>,
-    waiting: Vec<Post<S>>,
-    here: Vec<Post<S>>,
-    back: Vec<Post<S>>,
+    waiting: Vec<SeatedWorker<S>>,
+    here: Vec<SeatedWorker<S>>,
+    back: Vec<SeatedWorker<S>>,
     left: Batch,
 }
 
@@ -93,39 +93,39 @@ fn new_flags(alloc: Global, count: u32) -> Result<Vec<AtomicBool>, Memory>
 }
 
 // Joins each worker with the seat of its source, the last first.
-fn make_posts<S: Source>(
+fn seat_all<S: Source>(
     workers: &mut Vec<SourceWorker<S>>,
     seats: &mut Vec<SourceSeat>,
-    waiting: &mut Vec<Post<S>>,
+    waiting: &mut Vec<SeatedWorker<S>>,
 )
     requires pairs { AllZip (λ (w : Working) (p : Shown). w.reader.shape.index ≡ p.source) workers.old.items seats.old.items }
     requires none { waiting.old.items ≡ [] }
     requires room { length workers.old.items ≤ vec_capacity waiting.old }
-    ensures posts { reverse waiting.new.items ≡ posts_of workers.old.items seats.old.items }
+    ensures seated { reverse waiting.new.items ≡ all_seated workers.old.items seats.old.items }
     ensures workers { (workers.new.items ≡ []) × (vec_capacity workers.new ≡ vec_capacity workers.old) }
     ensures seats { (seats.new.items ≡ []) × (vec_capacity seats.new ≡ vec_capacity seats.old) }
 {
     while let Some(worker) = workers.pop() {
         if let Some(seat) = seats.pop() {
-            waiting.push_reserved(Post::create(worker, seat));
+            waiting.push_reserved(SeatedWorker::create(worker, seat));
         }
     }
 }
 
-// Takes posts apart, the last first.
+// Takes seated workers apart, the last first.
 fn take_apart<S: Source>(
-    back: Vec<Post<S>>,
+    back: Vec<SeatedWorker<S>>,
     workers: &mut Vec<SourceWorker<S>>,
     seats: &mut Vec<SourceSeat>,
 )
     requires none { (workers.old.items ≡ []) × (seats.old.items ≡ []) }
     requires room { (length back.items ≤ vec_capacity workers.old) × (length back.items ≤ vec_capacity seats.old) }
-    ensures posts { posts_of workers.new.items seats.new.items ≡ reverse back.items }
+    ensures seated { all_seated workers.new.items seats.new.items ≡ reverse back.items }
     ensures many { (length workers.new.items ≡ length back.items) × (length seats.new.items ≡ length back.items) }
 {
     let mut back = back;
-    while let Some(post) = back.pop() {
-        let (worker, seat) = post.into_parts();
+    while let Some(seated) = back.pop() {
+        let (worker, seat) = seated.into_parts();
         workers.push_reserved(worker);
         seats.push_reserved(seat);
     }
@@ -215,7 +215,7 @@ fn run_room<R: Threads + Wait + Sync, S: Source + Send, K: Sink, T: Sink, G: Gat
         mut left,
     } = room;
     let mut workers = workers;
-    make_posts(&mut workers, &mut seats, &mut waiting);
+    seat_all(&mut workers, &mut seats, &mut waiting);
     let (back, halted) = send_all(
         rt, &intake, gate, &flags, waiting, here, back, &mut taker, run, out, trace,
     );

@@ -7,11 +7,11 @@ ghost use Rattle.lola_seats.specs.Seating.{IsSameSeat};
 ghost use Rattle.lola_run.specs.Verdicts.{AreOfSources};
 ghost use Rattle.lola_run.specs.Running.{keeping};
 ghost use Rattle.lola_threads.specs.Joining.{HaveFlags};
-ghost use Rattle.lola_threads.specs.Posts.{AreAt, Post as PostState, WentOn};
+ghost use Rattle.lola_threads.specs.Seated.{AreAt, Seated, WentOn};
 ghost use Rattle.lola_threads.specs.Takings.{Halts, HasRun, IsReady, Place, place};
 
 use crate::halt::Halt;
-use crate::posts::Post;
+use crate::seated::SeatedWorker;
 use crate::taking::Taker;
 use lola_intake::intake::Intake;
 use lola_port::{Gate, Sink, Source};
@@ -22,12 +22,12 @@ use std::sync::atomic::{AtomicBool, Ordering};
 use std::thread;
 use std::thread::{Promise, PromisedHandle, Scope, Threads};
 
-/// That a post that comes back from a thread is the one that was sent there, and went on.
+/// That a seated worker that comes back from a thread is the one that was sent there, and went on.
 #[derive(Drop)]
-pub struct Sent<S: Source>(Snapshot<Post<S>>);
+pub struct ComesBack<S: Source>(Snapshot<SeatedWorker<S>>);
 
-impl<S: Source> Promise<Post<S>> for Sent<S> {
-    ghost use Rattle.lola_threads.specs.Posts.{WentOn};
+impl<S: Source> Promise<SeatedWorker<S>> for ComesBack<S> {
+    ghost use Rattle.lola_threads.specs.Seated.{WentOn};
 
     ghost kept_by = { λ p r. WentOn p.0.value r };
 }
@@ -35,7 +35,7 @@ impl<S: Source> Promise<Post<S>> for Sent<S> {
 /// What all threads of a run share: the intake, the gate, and a flag for each source. A flag that is set says that no thread
 /// could be started for its source.
 #[derive(Drop)]
-pub struct Hall<'s, R, G> {
+pub struct ThreadContext<'s, R, G> {
     pub rt: &'s R,
     pub intake: &'s Intake,
     pub gate: &'s G,
@@ -48,42 +48,42 @@ fn work<S: Source, R: Wait + Sync, G: Gate>(
     intake: &Intake,
     gate: &G,
     flag: &AtomicBool,
-    post: Post<S>,
-) -> Post<S>
-    requires { post.seat.intake ≡ intake.now }
-    ensures { WentOn post result }
+    seated: SeatedWorker<S>,
+) -> SeatedWorker<S>
+    requires { seated.seat.intake ≡ intake.now }
+    ensures { WentOn seated result }
 {
     if flag.load(Ordering::SeqCst) {
-        return post;
+        return seated;
     }
-    post.run(rt, intake, gate)
+    seated.run(rt, intake, gate)
 }
 
-// Starts a thread for a post. Where none can be made, the flag of its source is set, and the post comes back.
+// Starts a thread for a seated worker. Where none can be made, the flag of its source is set, and the seated worker comes back.
 fn start<'s, E, S: Source + Send + 's, R: Threads + Wait + Sync, G: Gate + Sync>(
-    hall: &Hall<'s, R, G>,
+    context: &ThreadContext<'s, R, G>,
     scope: &Scope<'s, E>,
-    post: Post<S>,
-) -> Result<PromisedHandle<Post<S>, Sent<S>>, Post<S>>
-    requires intake { post.seat.intake ≡ hall.now.intake.now }
-    requires flag { post.seat.source < length hall.now.flags.now }
-    ensures sent { IfOk result (λ handle. handle.promise.0.value ≡ post) }
-    ensures kept { IfErr result (λ kept. WentOn post kept) }
+    seated: SeatedWorker<S>,
+) -> Result<PromisedHandle<SeatedWorker<S>, ComesBack<S>>, SeatedWorker<S>>
+    requires intake { seated.seat.intake ≡ context.now.intake.now }
+    requires flag { seated.seat.source < length context.now.flags.now }
+    ensures sent { IfOk result (λ handle. handle.promise.0.value ≡ seated) }
+    ensures kept { IfErr result (λ kept. WentOn seated kept) }
 {
-    let Hall {
+    let ThreadContext {
         rt,
         intake,
         gate,
         flags,
-    } = *hall;
-    let flag = &flags[post.source() as usize];
-    let promise = Sent(Snapshot::of(&post));
+    } = *context;
+    let flag = &flags[seated.source() as usize];
+    let promise = ComesBack(Snapshot::of(&seated));
     match scope.spawn_with(
         promise,
-        move || -> Post<S>
-            requires { post.seat.intake ≡ intake.now }
-            ensures { WentOn post result }
-        { work(rt, intake, gate, flag, post) },
+        move || -> SeatedWorker<S>
+            requires { seated.seat.intake ≡ intake.now }
+            ensures { WentOn seated result }
+        { work(rt, intake, gate, flag, seated) },
     ) {
         Ok(handle) => Ok(handle),
         Err(refused) => {
@@ -94,21 +94,21 @@ fn start<'s, E, S: Source + Send + 's, R: Threads + Wait + Sync, G: Gate + Sync>
     }
 }
 
-// Moves the last of the posts here behind those that came back.
-fn move_last<S: Source>(here: &mut Vec<Post<S>>, back: &mut Vec<Post<S>>)
+// Moves the last of the seated workers here behind those that came back.
+fn move_last<S: Source>(here: &mut Vec<SeatedWorker<S>>, back: &mut Vec<SeatedWorker<S>>)
     requires some { 0 < length here.old.items }
     requires room { length back.old.items < vec_capacity back.old }
-    ensures moved { (last : PostState) × (here.old.items ≡ here.new.items ++ last ∷ []) × (back.new.items ≡ back.old.items ++ last ∷ []) }
+    ensures moved { (last : Seated) × (here.old.items ≡ here.new.items ++ last ∷ []) × (back.new.items ≡ back.old.items ++ last ∷ []) }
     ensures room_here { vec_capacity here.new ≡ vec_capacity here.old }
     ensures room_back { vec_capacity back.new ≡ vec_capacity back.old }
 {
-    if let Some(post) = here.pop() {
-        back.push_reserved(post);
+    if let Some(seated) = here.pop() {
+        back.push_reserved(seated);
     }
 }
 
-// Starts a thread for each of the posts that wait, the last first, and takes rows until all is done or the run is stopped. A post
-// that no thread could be started for stays here meanwhile. All come back, in the order in which they waited.
+// Starts a thread for each of the seated workers that wait, the last first, and takes rows until all is done or the run is
+// stopped. One that no thread could be started for stays here meanwhile. All come back, in the order in which they waited.
 fn send_each<
     's,
     E,
@@ -118,20 +118,20 @@ fn send_each<
     T: Sink,
     G: Gate + Sync,
 >(
-    hall: &Hall<'s, R, G>,
+    context: &ThreadContext<'s, R, G>,
     scope: &Scope<'s, E>,
-    waiting: Vec<Post<S>>,
-    here: Vec<Post<S>>,
-    back: Vec<Post<S>>,
+    waiting: Vec<SeatedWorker<S>>,
+    here: Vec<SeatedWorker<S>>,
+    back: Vec<SeatedWorker<S>>,
     taker: &mut Taker,
     run: &mut Run,
     out: &mut K,
     trace: &mut T,
-) -> (Vec<Post<S>>, Vec<Post<S>>, Result<(), Halt>)
-    requires ready { IsReady taker.old hall.now.intake.now (keeping run.old) }
-    requires waiting { AreAt hall.now.intake.now waiting.items }
-    requires here { AreAt hall.now.intake.now here.items }
-    requires flags { HaveFlags (length hall.now.flags.now) waiting.items }
+) -> (Vec<SeatedWorker<S>>, Vec<SeatedWorker<S>>, Result<(), Halt>)
+    requires ready { IsReady taker.old context.now.intake.now (keeping run.old) }
+    requires waiting { AreAt context.now.intake.now waiting.items }
+    requires here { AreAt context.now.intake.now here.items }
+    requires flags { HaveFlags (length context.now.flags.now) waiting.items }
     requires room_here { length waiting.items + length here.items ≤ vec_capacity here }
     requires room_back { length waiting.items + length back.items ≤ vec_capacity back }
     requires run { (first : Place) × HasRun first (taken taker.old.seat.mine) (place (keeping run.old) (K.state out.old) (T.state trace.old)) }
@@ -142,28 +142,36 @@ fn send_each<
     ensures seat { IsSameSeat taker.old.seat taker.new.seat }
     ensures plan { (keeping run.new).desk.plan ≡ (keeping run.old).desk.plan }
     ensures here { AllZip WentOn here.items result.0.items }
-    ensures back { (sent : List PostState) × (result.1.items ≡ back.items ++ sent) × AllZip WentOn waiting.items sent }
+    ensures back { (sent : List Seated) × (result.1.items ≡ back.items ++ sent) × AllZip WentOn waiting.items sent }
     ensures room_here { vec_capacity result.0 ≡ vec_capacity here }
     ensures room_back { vec_capacity result.1 ≡ vec_capacity back }
 {
     let mut waiting = waiting;
-    let Some(post) = waiting.pop() else {
-        let (here, halted) = taker.take_all(hall.rt, hall.intake, here, run, out, trace, hall.gate);
+    let Some(seated) = waiting.pop() else {
+        let (here, halted) = taker.take_all(
+            context.rt,
+            context.intake,
+            here,
+            run,
+            out,
+            trace,
+            context.gate,
+        );
         return (here, back, halted);
     };
-    match start(hall, scope, post) {
+    match start(context, scope, seated) {
         Ok(handle) => {
             let (here, mut back, halted) = send_each(
-                hall, scope, waiting, here, back, taker, run, out, trace,
+                context, scope, waiting, here, back, taker, run, out, trace,
             );
-            back.push_reserved(handle.join(hall.rt));
+            back.push_reserved(handle.join(context.rt));
             (here, back, halted)
         }
-        Err(post) => {
+        Err(seated) => {
             let mut here = here;
-            here.push_reserved(post);
+            here.push_reserved(seated);
             let (mut here, mut back, halted) = send_each(
-                hall, scope, waiting, here, back, taker, run, out, trace,
+                context, scope, waiting, here, back, taker, run, out, trace,
             );
             move_last(&mut here, &mut back);
             (here, back, halted)
@@ -176,21 +184,21 @@ fn take_back<V>(_lent: &mut V)
     ensures { _lent.new ≡ _lent.old }
 {}
 
-/// Starts a thread for each of the posts that wait, the last first, takes rows until all is done or the run is stopped, and joins
-/// all threads. The posts come back in the order in which they waited.
+/// Starts a thread for each of the seated workers that wait, the last first, takes rows until all is done or the run is stopped, and joins
+/// all threads. The seated workers come back in the order in which they waited.
 pub fn send_all<S: Source + Send, R: Threads + Wait + Sync, K: Sink, T: Sink, G: Gate + Sync>(
     rt: &R,
     intake: &Intake,
     gate: &G,
     flags: &[AtomicBool],
-    waiting: Vec<Post<S>>,
-    here: Vec<Post<S>>,
-    back: Vec<Post<S>>,
+    waiting: Vec<SeatedWorker<S>>,
+    here: Vec<SeatedWorker<S>>,
+    back: Vec<SeatedWorker<S>>,
     taker: &mut Taker,
     run: &mut Run,
     out: &mut K,
     trace: &mut T,
-) -> (Vec<Post<S>>, Result<(), Halt>)
+) -> (Vec<SeatedWorker<S>>, Result<(), Halt>)
     requires ready { IsReady taker.old intake.now (keeping run.old) }
     requires waiting { AreAt intake.now waiting.items }
     requires here { here.items ≡ [] }
@@ -207,7 +215,7 @@ pub fn send_all<S: Source + Send, R: Threads + Wait + Sync, K: Sink, T: Sink, G:
     ensures plan { (keeping run.new).desk.plan ≡ (keeping run.old).desk.plan }
     ensures back { AllZip WentOn waiting.items result.0.items }
 {
-    let hall = Hall {
+    let context = ThreadContext {
         rt,
         intake,
         gate,
@@ -221,14 +229,14 @@ pub fn send_all<S: Source + Send, R: Threads + Wait + Sync, K: Sink, T: Sink, G:
             &mut Run,
             &mut K,
             &mut T,
-            Vec<Post<S>>,
+            Vec<SeatedWorker<S>>,
             Result<(), Halt>,
         )
-            requires ready { IsReady taker.now hall.intake.now (keeping run.now) }
-            requires waiting { AreAt hall.intake.now waiting.items }
+            requires ready { IsReady taker.now context.intake.now (keeping run.now) }
+            requires waiting { AreAt context.intake.now waiting.items }
             requires here { here.items ≡ [] }
             requires back { back.items ≡ [] }
-            requires flags { HaveFlags (length hall.flags.now) waiting.items }
+            requires flags { HaveFlags (length context.flags.now) waiting.items }
             requires room_here { length waiting.items ≤ vec_capacity here }
             requires room_back { length waiting.items ≤ vec_capacity back }
             requires run { (first : Place) × HasRun first (taken taker.now.seat.mine) (place (keeping run.now) (K.state out.now) (T.state trace.now)) }
@@ -246,7 +254,7 @@ pub fn send_all<S: Source + Send, R: Threads + Wait + Sync, K: Sink, T: Sink, G:
             ensures back { AllZip WentOn waiting.items result.4.items }
         {
             let (_, back, halted) = send_each(
-                &hall, scope, waiting, here, back, taker, run, out, trace,
+                &context, scope, waiting, here, back, taker, run, out, trace,
             );
             (taker, run, out, trace, back, halted)
         },

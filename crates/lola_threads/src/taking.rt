@@ -9,12 +9,12 @@ ghost use Rattle.lola_intake.specs.Intakes.{AreSeatsOf, Whole};
 ghost use Rattle.lola_seats.specs.Seating.{IsSameSeat};
 ghost use Rattle.lola_run.specs.Verdicts.{AreOfSources};
 ghost use Rattle.lola_run.specs.Running.{HasRoom, IsGoing, IsNext, IsRowFor, IsSetAs, keeping};
-ghost use Rattle.lola_threads.specs.Posts.{AreAt, WentOn};
+ghost use Rattle.lola_threads.specs.Seated.{AreAt, WentOn};
 ghost use Rattle.lola_threads.specs.Takings.{GoesOn, Halts, HasRun, IsReady, IsUnderWay, Place, RunsOne, place, was_taken};
 
 use crate::fit::Inputs;
 use crate::halt::Halt;
-use crate::posts::Post;
+use crate::seated::SeatedWorker;
 use lola_intake::intake::Intake;
 use lola_intake::seats::{EngineSeat, SourceSeat};
 use lola_merge::batch::Batch;
@@ -122,16 +122,16 @@ fn is_all_done(take: Take) -> bool
 fn turn_all<S: Source, R: Wait + Sync, G: Gate>(
     rt: &R,
     intake: &Intake,
-    mut here: Vec<Post<S>>,
+    mut here: Vec<SeatedWorker<S>>,
     gate: &G,
-) -> Vec<Post<S>>
+) -> Vec<SeatedWorker<S>>
     requires { AreAt intake.now here.items }
     ensures here { AllZip WentOn here.items result.items }
     ensures room { vec_capacity result ≡ vec_capacity here }
 {
     for _ in 0..here.len() {
-        let post = here.remove(0).turn(rt, intake, gate);
-        here.push_reserved(post);
+        let seated = here.remove(0).turn(rt, intake, gate);
+        here.push_reserved(seated);
     }
     here
 }
@@ -199,12 +199,12 @@ impl Taker {
         &mut self,
         rt: &R,
         intake: &Intake,
-        here: Vec<Post<S>>,
+        here: Vec<SeatedWorker<S>>,
         run: &mut Run,
         out: &mut K,
         trace: &mut T,
         gate: &G,
-    ) -> (Vec<Post<S>>, Result<(), Halt>)
+    ) -> (Vec<SeatedWorker<S>>, Result<(), Halt>)
         requires ready { IsReady self.old intake.now (keeping run.old) }
         requires here { AreAt intake.now here.items }
         requires run { (first : Place) × HasRun first (taken self.old.seat.mine) (place (keeping run.old) (K.state out.old) (T.state trace.old)) }

@@ -7,7 +7,7 @@ use Rattle.lola_run.specs.Running.{keeping}
 use Rattle.lola_run.specs.Verdicts.{AreOfSources}
 use Rattle.lola_seats.specs.Seating.{IsSameSeat}
 use Rattle.lola_threads.specs.Takings.{Halts, HasRun, Place, Taking, place}
-use Rattle.lola_threads.proofs.SentPosts.{of_equal, of_equals}
+use Rattle.lola_threads.proofs.SentWorkers.{of_equal, of_equals}
 use Rattle.lola_threads.proofs.sending.send_all.Goals as goal
 
 pub scoped-taker-requires : goal.scoped-taker-requires

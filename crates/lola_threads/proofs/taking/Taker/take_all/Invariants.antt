@@ -4,7 +4,7 @@ use Rattle.lola_intake.specs.Histories.{taken}
 use Rattle.lola_seats.specs.Seating.{IsSameSeat}
 use Rattle.lola_run.specs.Verdicts.{AreOfSources}
 use Rattle.lola_run.specs.Running.{IsSetAs, keeping}
-use Rattle.lola_threads.specs.Posts.{WentOn}
+use Rattle.lola_threads.specs.Seated.{WentOn}
 use Rattle.lola_threads.specs.Takings.{Halts, HasRun, IsReady, Place, place}
 use Rattle.lola_threads.proofs.taking.Taker.take_all.Given as goal
 

@@ -17,12 +17,12 @@ use Rattle.lola_seats.specs.Seating.{IsSameSeat}
 use Rattle.lola_rounds.specs.Feeds.{BeganWith, HasEnded, Supply, supply_of}
 
 -- a worker and its seat
-pub record Post : Type 0 where
+pub record Seated : Type 0 where
   pub working : Working
   pub seat : Shown
 
-abbrev pub post : Working → Shown → Post
-post working seat = record { working = working; seat = seat }
+abbrev pub seated : Working → Shown → Seated
+seated working seat = record { working = working; seat = seat }
 
 -- the rows that these calls let in
 abbrev pub rows_in : List Event → List Row
@@ -53,8 +53,8 @@ HasTold (Some ReadFault) mine = FinishesLast mine
 HasTold (Some Closed) mine = (s : ℕ) → has_finish mine s ≡ false
 HasTold (Some Memory) mine = FinishesLast mine
 
--- what the calls of a post come to, whose worker began like this
-pub record HasOffered (from : Working) (now : Post) : Type 0 where
+-- what the calls of a seated worker come to, whose worker began like this
+pub record HasOffered (from : Working) (now : Seated) : Type 0 where
   pub few : length (rows_in now.seat.mine) ≤ from.reader.shape.most
   pub began : BeganWith (to_come from) (rows_in now.seat.mine)
   pub rows : All (IsRowIn from.reader.shape) (rows_in now.seat.mine)
@@ -62,15 +62,15 @@ pub record HasOffered (from : Working) (now : Post) : Type 0 where
   pub told : HasTold now.working.end now.seat.mine
   pub shape : now.working.reader.shape ≡ from.reader.shape
 
--- a post went on: it has the same source and the same seat, and whatever worker it began as, what its calls come to stands again
-pub record WentOn (old new : Post) : Type 0 where
+-- a seated worker went on: it has the same source and the same seat, and whatever worker it began as, what its calls come to stands again
+pub record WentOn (old new : Seated) : Type 0 where
   pub seat : IsSameSeat old.seat new.seat
   pub kept : Keeps old.working.reader new.working.reader
   pub offers : (from : Working) → HasOffered from old → HasOffered from new
 
--- these posts have their seats at an intake
-abbrev pub AreAt : TableId → List Post → Type 0
-AreAt id posts = All (λ (p : Post). p.seat.intake ≡ id) posts
+-- these seated workers have their seats at an intake
+abbrev pub AreAt : TableId → List Seated → Type 0
+AreAt id workers = All (λ (p : Seated). p.seat.intake ≡ id) workers
 
 -- a seat for each of so many sources, in their order, that was told nothing
 pub record AreNewSeats (id : TableId) (setting : Setting) (count : ℕ) (seats : List Shown) : Type 0 where
@@ -79,10 +79,10 @@ pub record AreNewSeats (id : TableId) (setting : Setting) (count : ℕ) (seats :
   pub own : AreSeatsOf id seats
 
 -- each worker with the seat at its place
-abbrev pub posts_of : List Working → List Shown → List Post
-posts_of [] seats = []
-posts_of (w ∷ workers) [] = []
-posts_of (w ∷ workers) (p ∷ seats) = post w p ∷ posts_of workers seats
+abbrev pub all_seated : List Working → List Shown → List Seated
+all_seated [] seats = []
+all_seated (w ∷ workers) [] = []
+all_seated (w ∷ workers) (p ∷ seats) = seated w p ∷ all_seated workers seats
 
 -- one of these workers has ended for want of memory
 pub record SomeOutOfMemory (workers : List Working) : Type 0 where

@@ -1,6 +1,6 @@
 //! A source's worker with its seat at the intake.
 ghost use Rattle.std.specs.Prelude.{◌≡◌};
-ghost use Rattle.lola_threads.specs.Posts.{WentOn, post};
+ghost use Rattle.lola_threads.specs.Seated.{WentOn, seated};
 
 use lola_feed::worker::{SourceWorker, Turn};
 use lola_intake::intake::Intake;
@@ -13,16 +13,16 @@ use std::thread;
 
 /// A source's worker and its seat, which go together to the thread that reads the source.
 #[derive(Drop)]
-pub struct Post<S: Source> {
+pub struct SeatedWorker<S: Source> {
     worker: SourceWorker<S>,
     seat: SourceSeat,
 }
 
-impl<S: Source> Model for Post<S> {
+impl<S: Source> Model for SeatedWorker<S> {
     ghost use Rattle.std.specs.Prelude.{◌≡◌};
-    ghost use Rattle.lola_threads.specs.Posts.{Post};
+    ghost use Rattle.lola_threads.specs.Seated.{Seated};
 
-    ghost Value = { Post };
+    ghost Value = { Seated };
 
     ghost view = { λ p. record { working = p.worker; seat = p.seat } };
 
@@ -37,7 +37,7 @@ fn turn_at<S: Source, R: Wait + Sync, G: Gate>(
     gate: &G,
 ) -> Turn
     requires { worker.old.reader.shape.index ≡ desk.old.source }
-    ensures { WentOn (post worker.old desk.old) (post worker.new desk.new) }
+    ensures { WentOn (seated worker.old desk.old) (seated worker.new desk.new) }
 {
     gate.source_turn(source);
     worker.turn(desk)
@@ -52,7 +52,7 @@ fn run_at<S: Source, R: Wait + Sync, G: Gate>(
     gate: &G,
 )
     requires { worker.old.reader.shape.index ≡ desk.old.source }
-    ensures { WentOn (post worker.old desk.old) (post worker.new desk.new) }
+    ensures { WentOn (seated worker.old desk.old) (seated worker.new desk.new) }
 {
     for _ in rt.forever() {
         match turn_at(worker, desk, source, gate) {
@@ -64,13 +64,13 @@ fn run_at<S: Source, R: Wait + Sync, G: Gate>(
     unreachable!()
 }
 
-impl<S: Source> Post<S> {
+impl<S: Source> SeatedWorker<S> {
     /// The worker of a source with the seat of that source.
-    pub fn create(worker: SourceWorker<S>, seat: SourceSeat) -> Post<S>
+    pub fn create(worker: SourceWorker<S>, seat: SourceSeat) -> SeatedWorker<S>
         requires { worker.reader.shape.index ≡ seat.source }
-        ensures { result ≡ post worker seat }
+        ensures { result ≡ seated worker seat }
     {
-        Post { worker, seat }
+        SeatedWorker { worker, seat }
     }
 
     /// The number of its source.
@@ -81,30 +81,30 @@ impl<S: Source> Post<S> {
     }
 
     /// One turn of the source.
-    pub fn turn<R: Wait + Sync, G: Gate>(self, rt: &R, intake: &Intake, gate: &G) -> Post<S>
+    pub fn turn<R: Wait + Sync, G: Gate>(self, rt: &R, intake: &Intake, gate: &G) -> SeatedWorker<S>
         requires { self.seat.intake ≡ intake.now }
         ensures { WentOn self result }
     {
-        let Post { mut worker, seat } = self;
+        let SeatedWorker { mut worker, seat } = self;
         let source = seat.source();
         let mut desk = SeatDesk::create(rt, intake, seat);
         turn_at(&mut worker, &mut desk, source, gate);
-        Post {
+        SeatedWorker {
             worker,
             seat: desk.into_seat(),
         }
     }
 
     /// All turns of the source, until its worker has ended.
-    pub fn run<R: Wait + Sync, G: Gate>(self, rt: &R, intake: &Intake, gate: &G) -> Post<S>
+    pub fn run<R: Wait + Sync, G: Gate>(self, rt: &R, intake: &Intake, gate: &G) -> SeatedWorker<S>
         requires { self.seat.intake ≡ intake.now }
         ensures { WentOn self result }
     {
-        let Post { mut worker, seat } = self;
+        let SeatedWorker { mut worker, seat } = self;
         let source = seat.source();
         let mut desk = SeatDesk::create(rt, intake, seat);
         run_at(rt, &mut worker, &mut desk, source, gate);
-        Post {
+        SeatedWorker {
             worker,
             seat: desk.into_seat(),
         }
@@ -112,9 +112,9 @@ impl<S: Source> Post<S> {
 
     /// The worker and the seat.
     pub fn into_parts(self) -> (SourceWorker<S>, SourceSeat)
-        ensures { post result.0 result.1 ≡ self }
+        ensures { seated result.0 result.1 ≡ self }
     {
-        let Post { worker, seat } = self;
+        let SeatedWorker { worker, seat } = self;
         (worker, seat)
     }
 }

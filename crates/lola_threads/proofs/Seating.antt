@@ -1,4 +1,4 @@
--- Posts before their threads are started, and what is known of them once they came back.
+-- Seated workers before their threads are started, and what is known of them once they came back.
 use Rattle.std.proofs.Common.{◌≡◌, ℕ, zero, suc, ◌+◌, ◌<◌, List, [], ◌∷◌, Option, None, Some, All, length, reverse, refl, sym, ap, ◌∙◌, subst, arith}
 use Rattle.std.proofs.lemmas.List.{length-reverse, reverse-reverse}
 use Rattle.std.proofs.lemmas.List.Elements.{All-cons, All-nil}
@@ -16,15 +16,15 @@ use Rattle.lola_intake.specs.Intakes.{AreSeatsOf, Shown, Whole, new_seat, settin
 use Rattle.lola_feed.specs.Feeding.{Working, beginning, handed_in, to_come, without}
 use Rattle.lola_feed.specs.declared.worker.SourceEnd as worker
 use Rattle.lola_rounds.specs.Feeds.{AreInPlace, AreReady, supply_of}
-use Rattle.lola_threads.specs.Posts.{AreAt, AreNewSeats, HasOffered, HasStopped, HasTold, IsRowIn, Post, WentOn, post, posts_of, rows_in}
+use Rattle.lola_threads.specs.Seated.{AreAt, AreNewSeats, HasOffered, HasStopped, HasTold, IsRowIn, Seated, WentOn, seated, all_seated, rows_in}
 use Rattle.lola_threads.specs.Joining.{HaveFlags}
 use Rattle.lola_threads.proofs.Joined.{AreJoined, IsFrom}
 use Rattle.lola_threads.proofs.Offering.{has_offered, passes_began, passes_none}
 use Rattle.lola_threads.proofs.Places.{mapped_alike, reverse_all, zip_at, zip_from}
 
 -- a worker before its first turn, with a seat that was told nothing
-fresh_post : (w : Working) (p : Shown) → w ≡ beginning w.reader → w.reader.given ≡ 0 → p.mine ≡ [] → HasOffered w (post w p)
-fresh_post w p new given none =
+newly_seated : (w : Working) (p : Shown) → w ≡ beginning w.reader → w.reader.given ≡ 0 → p.mine ≡ [] → HasOffered w (seated w p)
+newly_seated w p new given none =
     let kept : w.kept ≡ None = ap (λ (x : Working). x.kept) new in
     let ended : w.end ≡ None = ap (λ (x : Working). x.end) new in
     let number : handed_in w ≡ 0 = ap (λ (k : Option Row). without k w.reader.given) kept ∙ given in
@@ -35,23 +35,23 @@ fresh_post w p new given none =
     (subst (λ (e : Option worker.SourceEnd). HasTold e p.mine) (sym ended) (λ s. ap (λ mine. has_finish mine s) none))
     refl
 
--- a post is a worker with the seat at its place
+-- a seated worker is a worker with the seat at its place
 
-pub posts_at : (ws : List Working) (ps : List Shown) (s : ℕ) (w : Working) (p : Shown) → slice_get ws s ≡ Some w → slice_get ps s ≡ Some p → slice_get (posts_of ws ps) s ≡ Some (post w p)
-posts_at [] ps s w p was is = absurd (cc (was))
-posts_at (v ∷ ws) [] s w p was is = absurd (cc (is))
-posts_at (v ∷ ws) (q ∷ ps) zero w p was is = cc
-posts_at (v ∷ ws) (q ∷ ps) (suc s) w p was is = posts_at ws ps s w p was is
+pub seated_at : (ws : List Working) (ps : List Shown) (s : ℕ) (w : Working) (p : Shown) → slice_get ws s ≡ Some w → slice_get ps s ≡ Some p → slice_get (all_seated ws ps) s ≡ Some (seated w p)
+seated_at [] ps s w p was is = absurd (cc (was))
+seated_at (v ∷ ws) [] s w p was is = absurd (cc (is))
+seated_at (v ∷ ws) (q ∷ ps) zero w p was is = cc
+seated_at (v ∷ ws) (q ∷ ps) (suc s) w p was is = seated_at ws ps s w p was is
 
-pub posts_long : (ws : List Working) (ps : List Shown) → length ps ≡ length ws → length (posts_of ws ps) ≡ length ws
-posts_long [] ps many = refl
-posts_long (w ∷ ws) [] many = absurd (omega arith)
-posts_long (w ∷ ws) (p ∷ ps) many = ap suc (posts_long ws ps (omega arith))
+pub seated_long : (ws : List Working) (ps : List Shown) → length ps ≡ length ws → length (all_seated ws ps) ≡ length ws
+seated_long [] ps many = refl
+seated_long (w ∷ ws) [] many = absurd (omega arith)
+seated_long (w ∷ ws) (p ∷ ps) many = ap suc (seated_long ws ps (omega arith))
 
-pub posts_all : (P : Post → Type 0) (ws : List Working) (ps : List Shown) → length ps ≡ length ws → ((s : ℕ) (w : Working) (p : Shown) → slice_get ws s ≡ Some w → slice_get ps s ≡ Some p → P (post w p)) → All P (posts_of ws ps)
-posts_all P [] ps many each = All-nil P
-posts_all P (w ∷ ws) [] many each = All-nil P
-posts_all P (w ∷ ws) (p ∷ ps) many each = All-cons P (post w p) (posts_of ws ps) (each 0 w p refl refl) (posts_all P ws ps (omega arith) (λ s v q was is. each (suc s) v q was is))
+pub seated_all : (P : Seated → Type 0) (ws : List Working) (ps : List Shown) → length ps ≡ length ws → ((s : ℕ) (w : Working) (p : Shown) → slice_get ws s ≡ Some w → slice_get ps s ≡ Some p → P (seated w p)) → All P (all_seated ws ps)
+seated_all P [] ps many each = All-nil P
+seated_all P (w ∷ ws) [] many each = All-nil P
+seated_all P (w ∷ ws) (p ∷ ps) many each = All-cons P (seated w p) (all_seated ws ps) (each 0 w p refl refl) (seated_all P ws ps (omega arith) (λ s v q was is. each (suc s) v q was is))
 
 seats_of_each : (id : TableId) (seats : List Shown) → ((s : ℕ) (p : Shown) → slice_get seats s ≡ Some p → p.intake ≡ id) → AreSeatsOf id seats
 seats_of_each id [] each = tt
@@ -66,34 +66,34 @@ module _ (plan : Plan) (start : Option ℕ) (id : TableId) (olds : List Working)
   in_pairs = zip_from (λ (w : Working) (p : Shown). w.reader.shape.index ≡ p.source) olds seats fresh.many
       (λ s w p was is. ap (λ (x : Shape). x.index) (ready.new s w was).2 ∙ ap (λ (q : Shown). q.source) (sym (seat_is s p is)))
 
-  module _ (waiting : List Post) (are : reverse waiting ≡ posts_of olds seats) where
-    waiting_is : reverse (posts_of olds seats) ≡ waiting
+  module _ (waiting : List Seated) (are : reverse waiting ≡ all_seated olds seats) where
+    waiting_is : reverse (all_seated olds seats) ≡ waiting
     waiting_is = ap reverse (sym are) ∙ reverse-reverse waiting
 
     pub as_many : length waiting ≡ length olds
-    as_many = sym (length-reverse waiting) ∙ (ap length are ∙ posts_long olds seats fresh.many)
+    as_many = sym (length-reverse waiting) ∙ (ap length are ∙ seated_long olds seats fresh.many)
 
     pub at_intake : AreAt id waiting
-    at_intake = subst (AreAt id) waiting_is (reverse_all (λ (p : Post). p.seat.intake ≡ id) (posts_of olds seats) (posts_all (λ (p : Post). p.seat.intake ≡ id) olds seats fresh.many
+    at_intake = subst (AreAt id) waiting_is (reverse_all (λ (p : Seated). p.seat.intake ≡ id) (all_seated olds seats) (seated_all (λ (p : Seated). p.seat.intake ≡ id) olds seats fresh.many
         (λ s w p was is. ap (λ (q : Shown). q.intake) (seat_is s p is))))
 
     pub have_flags : HaveFlags (length olds) waiting
-    have_flags = subst (HaveFlags (length olds)) waiting_is (reverse_all (λ (p : Post). p.seat.source < length olds) (posts_of olds seats) (posts_all (λ (p : Post). p.seat.source < length olds) olds seats fresh.many
+    have_flags = subst (HaveFlags (length olds)) waiting_is (reverse_all (λ (p : Seated). p.seat.source < length olds) (all_seated olds seats) (seated_all (λ (p : Seated). p.seat.source < length olds) olds seats fresh.many
         (λ s w p was is. subst (λ (k : ℕ). k < length olds) (sym (ap (λ (q : Shown). q.source) (seat_is s p is))) (slice_get_within olds s w was))))
 
-  module _ (news : List Working) (backs : List Shown) (many : length news ≡ length olds) (seated : length backs ≡ length olds) (went : AllZip WentOn (posts_of olds seats) (posts_of news backs)) where
-    -- the post of a source went on
-    went_at : (s : ℕ) (old new : Working) (p : Shown) → slice_get olds s ≡ Some old → slice_get news s ≡ Some new → slice_get backs s ≡ Some p → WentOn (post old (new_seat id (setting (length olds) start) (s + 1) s)) (post new p)
-    went_at s old new p was is at = zip_at WentOn (posts_of olds seats) (posts_of news backs) s _ _ went
-        (posts_at olds seats s old (new_seat id (setting (length olds) start) (s + 1) s) was (fresh.each s (slice_get_within olds s old was)))
-        (posts_at news backs s new p is at)
+  module _ (news : List Working) (backs : List Shown) (many : length news ≡ length olds) (seated : length backs ≡ length olds) (went : AllZip WentOn (all_seated olds seats) (all_seated news backs)) where
+    -- the seated worker of a source went on
+    went_at : (s : ℕ) (old new : Working) (p : Shown) → slice_get olds s ≡ Some old → slice_get news s ≡ Some new → slice_get backs s ≡ Some p → WentOn (seated old (new_seat id (setting (length olds) start) (s + 1) s)) (seated new p)
+    went_at s old new p was is at = zip_at WentOn (all_seated olds seats) (all_seated news backs) s _ _ went
+        (seated_at olds seats s old (new_seat id (setting (length olds) start) (s + 1) s) was (fresh.each s (slice_get_within olds s old was)))
+        (seated_at news backs s new p is at)
 
     is_from : (s : ℕ) (old new : Working) (p : Shown) → slice_get olds s ≡ Some old → slice_get news s ≡ Some new → slice_get backs s ≡ Some p → IsFrom plan s old new p
     is_from s old new p was is at =
         let w = went_at s old new p was is at in
         let r = ready.new s old was in
         record {
-          offered = w.offers old (fresh_post old (new_seat id (setting (length olds) start) (s + 1) s) r.0 r.1 refl);
+          offered = w.offers old (newly_seated old (new_seat id (setting (length olds) start) (s + 1) s) r.0 r.1 refl);
           source = w.seat.source;
           shape = r.2;
         }

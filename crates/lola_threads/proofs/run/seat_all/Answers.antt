@@ -1,7 +1,7 @@
 use Rattle.std.proofs.Common.{rules, arith}
 use Rattle.lola_threads.proofs.Pairing.{IsPair, joined_last, last_pair}
 use Rattle.lola_threads.proofs.Places.{zip_long}
-use Rattle.lola_threads.proofs.run.make_posts.Goals as goal
+use Rattle.lola_threads.proofs.run.seat_all.Goals as goal
 
 pub create-requires : goal.create-requires
 create-requires g c =
@@ -12,8 +12,8 @@ loop-worker-preserved-in-Some-pop g c =
     let inv = c.loop-worker.invariant in
     record {
       pairs = (last_pair c.loop-worker.workers.items c.pop.new.self.items c.loop-worker.seats.items c.pop-in-Some.new.self.items c.in-Some.worker c.in-Some-pop.seat inv.pairs c.in-Some.ensures.items c.in-Some-pop.ensures.items).0;
-      posts = joined_last c.loop-worker.workers.items c.pop.new.self.items c.loop-worker.seats.items c.pop-in-Some.new.self.items c.in-Some.worker c.in-Some-pop.seat inv.pairs c.in-Some.ensures.items c.in-Some-pop.ensures.items
-          c.loop-worker.waiting.items c.push_reserved.new.self.items _ c.create.result c.push_reserved.ensures.items c.create.ensures inv.posts;
+      seated = joined_last c.loop-worker.workers.items c.pop.new.self.items c.loop-worker.seats.items c.pop-in-Some.new.self.items c.in-Some.worker c.in-Some-pop.seat inv.pairs c.in-Some.ensures.items c.in-Some-pop.ensures.items
+          c.loop-worker.waiting.items c.push_reserved.new.self.items _ c.create.result c.push_reserved.ensures.items c.create.ensures inv.seated;
       room = search rules;
       workers = cc (c.pop.ensures.capacity, inv.workers);
       seats = cc (c.pop-in-Some.ensures.capacity, inv.seats);
