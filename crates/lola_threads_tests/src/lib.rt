@@ -1,10 +1,12 @@
-//! Tests of whole commands over objects in memory: runs on threads, drills, and streams that fail.
+//! Tests of whole commands over objects in memory: runs on threads, drills, and streams and sources that fail.
 #![tactic(auto)]
 
 #[cfg(test)]
 mod bounded;
 #[cfg(test)]
 mod drills;
+#[cfg(test)]
+mod failing;
 #[cfg(test)]
 mod poison;
 #[cfg(test)]
