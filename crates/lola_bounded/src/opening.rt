@@ -12,10 +12,10 @@ ghost use Rattle.lola_bounded.specs.Streams.{crowd_layout};
 
 use crate::stage::Stage;
 use crate::store::BoundedStore;
+use lola_instance::window::WindowPanes;
 use lola_instances::instances::Instances;
 use lola_model::plan::{PaneSize, PaneSizes, Plan};
 use lola_model::spec::{Kinds, Stream, WindowSpec, Windows};
-use lola_instance::window::WindowPanes;
 use lola_value::text::Memory;
 use lola_value::value::Kind;
 use std::alloc::Global;
