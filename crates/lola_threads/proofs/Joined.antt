@@ -47,7 +47,7 @@ pub record IsFrom (plan : Plan) (s : ℕ) (old new : Working) (seat : Shown) : T
 pub record AreJoined (plan : Plan) (start : Option ℕ) (olds news : List Working) (seats : List Shown) (engine : Shown) (left : List Entry) : Type 0 where
   pub few : length olds ≤ 64
   pub many : length news ≡ length olds
-  pub seated : length seats ≡ length olds
+  pub sat : length seats ≡ length olds
   pub each : (s : ℕ) (old new : Working) (seat : Shown) → slice_get olds s ≡ Some old → slice_get news s ≡ Some new → slice_get seats s ≡ Some seat → IsFrom plan s old new seat
   pub setting : engine.setting ≡ setting (length olds) start
   pub whole : Whole engine seats left
@@ -86,11 +86,11 @@ module _ (plan : Plan) (start : Option ℕ) (olds news : List Working) (seats : 
   new_at s less = slice_get_some news s (let m = j.many in omega arith)
 
   seat_at : (s : ℕ) → s < length olds → (p : Shown) × (slice_get seats s ≡ Some p)
-  seat_at s less = slice_get_some seats s (let m = j.seated in omega arith)
+  seat_at s less = slice_get_some seats s (let m = j.sat in omega arith)
 
   from_at : (s : ℕ) (p : Shown) → slice_get seats s ≡ Some p → (old : Working) × (new : Working) × IsFrom plan s old new p
   from_at s p at =
-      let less : s < length olds = (let m = j.seated in let l = slice_get_within seats s p at in omega arith) in
+      let less : s < length olds = (let m = j.sat in let l = slice_get_within seats s p at in omega arith) in
       let old = old_at s less in
       let new = new_at s less in
       (old.0, new.0, j.each s old.0 new.0 p old.1 new.1 at)

@@ -81,7 +81,7 @@ module _ (plan : Plan) (start : Option ℕ) (id : TableId) (olds : List Working)
     have_flags = subst (HaveFlags (length olds)) waiting_is (reverse_all (λ (p : Seated). p.seat.source < length olds) (all_seated olds seats) (seated_all (λ (p : Seated). p.seat.source < length olds) olds seats fresh.many
         (λ s w p was is. subst (λ (k : ℕ). k < length olds) (sym (ap (λ (q : Shown). q.source) (seat_is s p is))) (slice_get_within olds s w was))))
 
-  module _ (news : List Working) (backs : List Shown) (many : length news ≡ length olds) (seated : length backs ≡ length olds) (went : AllZip WentOn (all_seated olds seats) (all_seated news backs)) where
+  module _ (news : List Working) (backs : List Shown) (many : length news ≡ length olds) (sat : length backs ≡ length olds) (went : AllZip WentOn (all_seated olds seats) (all_seated news backs)) where
     -- the seated worker of a source went on
     went_at : (s : ℕ) (old new : Working) (p : Shown) → slice_get olds s ≡ Some old → slice_get news s ≡ Some new → slice_get backs s ≡ Some p → WentOn (seated old (new_seat id (setting (length olds) start) (s + 1) s)) (seated new p)
     went_at s old new p was is at = zip_at WentOn (all_seated olds seats) (all_seated news backs) s _ _ went
@@ -105,11 +105,11 @@ module _ (plan : Plan) (start : Option ℕ) (id : TableId) (olds : List Working)
     new_at s less = slice_get_some news s (let m = many in omega arith)
 
     back_at : (s : ℕ) → s < length olds → (p : Shown) × (slice_get backs s ≡ Some p)
-    back_at s less = slice_get_some backs s (let m = seated in omega arith)
+    back_at s less = slice_get_some backs s (let m = sat in omega arith)
 
     pub own_seats : AreSeatsOf id backs
     own_seats = seats_of_each id backs (λ s p is.
-        let less : s < length olds = (let l = slice_get_within backs s p is in let m = seated in omega arith) in
+        let less : s < length olds = (let l = slice_get_within backs s p is in let m = sat in omega arith) in
         let old = old_at s less in
         let new = new_at s less in
         (went_at s old.0 new.0 p old.1 new.1 is).seat.intake)
@@ -123,7 +123,7 @@ module _ (plan : Plan) (start : Option ℕ) (id : TableId) (olds : List Working)
     joined engine left set whole = record {
       few = ready.many.1;
       many = many;
-      seated = seated;
+      sat = sat;
       each = is_from;
       setting = set;
       whole = whole;
