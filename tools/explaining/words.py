@@ -1,0 +1,151 @@
+"""Reads the words behind the program's name as the program reads them, and says of words that are no command what is wrong.
+
+The program decides whether words are a command. What stands here is for people: the names of the files, and the reason.
+"""
+from __future__ import annotations
+
+import re
+from typing import Dict, List, NamedTuple
+
+COMMANDS = ("run", "analyse", "drill")
+FLAG = "--in-turns"
+VALUES = {
+    "--show": "'triggers' or 'outputs'",
+    "--workers": "a number from 1 to 64",
+    "--start": "a time in seconds, such as 0 or 1735689600.5",
+}
+MOST_SOURCES = 64
+MOST_TIME = 4_000_000_000_000_000_000  # nanoseconds
+MOST_SEED = 2_147_483_646
+MOST_ROWS = 1_000_000
+
+
+class Command(NamedTuple):
+    """A command with its names; the specification is empty for a drill."""
+
+    name: str
+    options: Dict[str, str]
+    specification: str
+    sources: List[str]
+
+
+class NotACommand(Exception):
+    """Words that are no command, with the reason."""
+
+
+def is_number(word: str, digits: int, least: int, most: int) -> bool:
+    return bool(re.fullmatch(f"[0-9]{{1,{digits}}}", word)) and least <= int(word) <= most
+
+
+def is_time(word: str) -> bool:
+    """Whether a word is a time in seconds. Decimals behind the ninth are dropped before it is compared with the greatest."""
+    if not re.fullmatch(r"[0-9]+\.?[0-9]*|\.[0-9]+", word):
+        return False
+    seconds, _, decimals = word.partition(".")
+    return int(seconds or "0") * 10**9 + int(decimals[:9].ljust(9, "0")) <= MOST_TIME
+
+
+def is_value(option: str, word: str) -> bool:
+    if option == "--show":
+        return word in ("triggers", "outputs")
+    if option == "--workers":
+        return is_number(word, 2, 1, 64)
+    return is_time(word)
+
+
+class Reader:
+    """Takes the words behind `run`, `analyse` or `drill` one after another."""
+
+    def __init__(self, words: List[str], with_options: bool) -> None:
+        self.rest = list(words)
+        self.with_options = with_options
+        self.options: Dict[str, str] = {}
+        self.names: List[str] = []
+        self.after_a_source = False  # an option came behind a source
+
+    def read(self) -> None:
+        while self.rest:
+            word = self.rest.pop(0)
+            if word == "--":
+                for name in self.rest:
+                    self.take_name(name)
+                return
+            if word.startswith("-") and len(word) > 1:
+                self.take_option(word)
+            else:
+                self.take_name(word)
+
+    def take_name(self, name: str) -> None:
+        if self.after_a_source:
+            raise NotACommand(f"an option stands between two sources, before '{name}', and not before or behind them all")
+        self.names.append(name)
+
+    def take_option(self, word: str) -> None:
+        name, equals, value = word.partition("=")
+        if not self.with_options or (name not in VALUES and word != FLAG):
+            raise NotACommand(f"there is no option '{word}' here; a name that begins with '-' stands behind the word '--'")
+        if name in self.options:
+            raise NotACommand(f"the option {name} comes twice")
+        if name != FLAG:
+            value = value if equals else self.value_of(name)
+            if not is_value(name, value):
+                raise NotACommand(f"the value of {name} is {VALUES[name]}, and not '{value}'")
+        self.options[name] = value
+        self.after_a_source = len(self.names) > 1
+
+    def value_of(self, option: str) -> str:
+        """The next word, as an option's value."""
+        if not self.rest or self.rest[0].startswith("-"):
+            raise NotACommand(f"behind {option} stands its value: {VALUES[option]}")
+        return self.rest.pop(0)
+
+
+def read_run(words: List[str]) -> Command:
+    reader = Reader(words, with_options=True)
+    reader.read()
+    if not reader.names:
+        raise NotACommand("the names of a specification and of a source file are missing")
+    if len(reader.names) == 1:
+        raise NotACommand(f"behind the specification '{reader.names[0]}' the name of a source file is missing")
+    if len(reader.names) > 1 + MOST_SOURCES:
+        raise NotACommand(f"these are {len(reader.names) - 1} sources, and {MOST_SOURCES} at most can be read")
+    return Command("run", reader.options, reader.names[0], reader.names[1:])
+
+
+def read_analyse(words: List[str]) -> Command:
+    reader = Reader(words, with_options=False)
+    reader.read()
+    if not reader.names:
+        raise NotACommand("the name of a specification is missing")
+    if len(reader.names) > 1:
+        raise NotACommand(f"'analyse' reads one specification and no sources, so '{reader.names[1]}' is too much")
+    return Command("analyse", {}, reader.names[0], [])
+
+
+def read_drill(words: List[str]) -> Command:
+    reader = Reader(words, with_options=False)
+    reader.read()
+    if len(reader.names) != 3:
+        raise NotACommand("behind 'drill' stand three numbers: NUMBER ROWS WORKERS")
+    number, rows, workers = reader.names
+    if not is_number(number, 10, 0, MOST_SEED):
+        raise NotACommand(f"NUMBER is a number from 0 to {MOST_SEED}, and not '{number}'")
+    if not is_number(rows, 7, 1, MOST_ROWS):
+        raise NotACommand(f"ROWS is a number from 1 to {MOST_ROWS}, and not '{rows}'")
+    if not is_number(workers, 2, 1, 64):
+        raise NotACommand(f"WORKERS is a number from 1 to 64, and not '{workers}'")
+    return Command("drill", {}, "", [])
+
+
+def read_command(words: List[str]) -> Command:
+    """The command that the words are."""
+    if not words:
+        raise NotACommand("no command was given")
+    readers = {"run": read_run, "analyse": read_analyse, "drill": read_drill}
+    if words[0] not in readers:
+        raise NotACommand(f"there is no command '{words[0]}'; there are run, analyse and drill")
+    return readers[words[0]](words[1:])
+
+
+def asks_for_help(words: List[str]) -> bool:
+    return bool(words) and words[0] in ("--help", "-h", "help", "--version")
