@@ -1,4 +1,4 @@
-"""Runs the program with the caller's words and streams and passes on what it writes, byte for byte, as soon as it comes.
+"""Runs the program with the caller's words and streams and passes on what it writes, byte for byte, as it comes.
 
 The program writes into pipes, so that its lines can be looked at as they pass. Where both of its streams go to one
 place they share one pipe, and so their lines keep their order.

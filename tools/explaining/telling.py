@@ -107,7 +107,7 @@ class Teller:
     def crash(self, number: int) -> List[str]:
         if number in QUIET_SIGNALS:
             return []
-        return [f"The program was ended by signal {number}, {signal.strsignal(number)}; what it wrote may end within a line."]
+        return [f"The program was ended by signal {number}, {signal.strsignal(number)}. What it wrote may not be all."]
 
     def usage(self) -> List[str]:
         lines = []
@@ -198,7 +198,7 @@ class Teller:
 
     def late(self) -> List[str]:
         late = sorted(self.outcome.watch.late.items())
-        if not late or not self.command:
+        if not late or not self.command or self.outcome.failures:
             return []
         lines = ["Late rows, which are traced and have no other effect:"]
         for source, count in late[:MOST_LATE_SOURCES]:

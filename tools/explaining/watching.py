@@ -29,7 +29,7 @@ class Watch:
 
 
 class Lines:
-    """Cuts the bytes of one stream into lines for a watch. Of a line that is not yet whole its beginning alone is kept."""
+    """Cuts the bytes of one stream into lines for a watch. Of a line that is not yet whole the beginning is kept."""
 
     def __init__(self, watch: Watch) -> None:
         self.watch = watch

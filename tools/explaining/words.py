@@ -1,6 +1,6 @@
-"""Reads the words behind the program's name as the program reads them, and says of words that are no command what is wrong.
+"""Reads the words behind the program's name as the program reads them, and says why words are no command.
 
-The program decides whether words are a command. What stands here is for people: the names of the files, and the reason.
+The program decides whether they are one. What stands here is for people: the names of the files, and the reason.
 """
 from __future__ import annotations
 
@@ -38,7 +38,7 @@ def is_number(word: str, digits: int, least: int, most: int) -> bool:
 
 
 def is_time(word: str) -> bool:
-    """Whether a word is a time in seconds. Decimals behind the ninth are dropped before it is compared with the greatest."""
+    """Whether a word is a time in seconds. Decimals behind the ninth do not count."""
     if not re.fullmatch(r"[0-9]+\.?[0-9]*|\.[0-9]+", word):
         return False
     seconds, _, decimals = word.partition(".")
@@ -77,13 +77,13 @@ class Reader:
 
     def take_name(self, name: str) -> None:
         if self.after_a_source:
-            raise NotACommand(f"an option stands between two sources, before '{name}', and not before or behind them all")
+            raise NotACommand(f"an option stands between two sources, before '{name}'; it stands before or behind all")
         self.names.append(name)
 
     def take_option(self, word: str) -> None:
         name, equals, value = word.partition("=")
         if not self.with_options or (name not in VALUES and word != FLAG):
-            raise NotACommand(f"there is no option '{word}' here; a name that begins with '-' stands behind the word '--'")
+            raise NotACommand(f"there is no option '{word}' here; names that begin with '-' stand behind the word '--'")
         if name in self.options:
             raise NotACommand(f"the option {name} comes twice")
         if name != FLAG:
