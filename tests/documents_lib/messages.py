@@ -1,0 +1,104 @@
+"""Compares the table of codes, tools/messages.tsv, with the documents that define the codes and explain them."""
+
+import re
+from dataclasses import dataclass
+from pathlib import Path
+
+from .links import heading_is_there
+from .markdown import Document
+from .tally import Tally
+
+TABLE = "tools/messages.tsv"
+COLUMNS = "code\tname\tsentence\tsection"
+REFUSALS = [f"E{number}" for number in range(1, 21)]
+KINDS = [f"kind {number}" for number in range(1, 9)]
+FAULTS = [f"fault {number}" for number in range(1, 4)]
+STATUSES = [f"status {number}" for number in (0, 2, 3, 4, 5, 6, 7, 8)]
+
+REFUSAL_ROW = re.compile(r"^\| (E\d+) (\w+) \|", re.MULTILINE)
+KIND_ROW = re.compile(r"^\| (\d+) (\w+) \|", re.MULTILINE)
+STATUS_ROW = re.compile(r"^\| (\d+) \|(.*)\|$", re.MULTILINE)
+
+
+@dataclass
+class Message:
+    code: str
+    name: str
+    sentence: str
+    section: str
+
+
+def read_table(text: str, tally: Tally) -> list[Message]:
+    lines = text.split("\n")
+    tally.expect(lines[0] == COLUMNS, TABLE, f"the columns {COLUMNS!r}", repr(lines[0]))
+    tally.expect(lines[-1] == "", TABLE, "a line feed at the end", repr(lines[-1]))
+    messages: list[Message] = []
+    for number, line in enumerate(lines[1:-1], start=2):
+        fields = line.split("\t")
+        if tally.expect(len(fields) == 4 and all(fields), f"{TABLE}:{number}", "four fields", repr(fields)):
+            messages.append(Message(*fields))
+    return messages
+
+
+def check_table(messages: list[Message], checkout: Path, tally: Tally) -> None:
+    """The table has each code once, in order; each sentence is one; each section is a heading of its file."""
+    codes = [message.code for message in messages]
+    wanted = REFUSALS + KINDS + FAULTS + STATUSES
+    tally.expect(codes == wanted, TABLE, f"the codes {wanted}", str(codes))
+    for message in messages:
+        where = f"{TABLE}, {message.code}"
+        tally.expect(message.sentence.endswith("."), where, "a full stop at the end", message.sentence)
+        file, _, anchor = message.section.partition("#")
+        there = (checkout / file).is_file() and heading_is_there(checkout / file, anchor)
+        tally.expect(there, where, f"a heading for {message.section}", "none")
+
+
+def compare_names(what: str, told: list[tuple[str, str]], messages: list[Message], sort: str, tally: Tally) -> None:
+    """The codes of one sort and their names are the same in the table and in the document."""
+    wanted = [(message.code, message.name) for message in messages if message.code.startswith(sort)]
+    tally.expect(sorted(told) == sorted(wanted), what, f"as in {TABLE}: {wanted}", str(told))
+
+
+def part_below(text: str, heading: str) -> str:
+    """What stands below a heading, up to the next one."""
+    found = re.search(rf"^#+ {re.escape(heading)}$\n(.*?)(?=^#+ |\Z)", text, re.MULTILINE | re.DOTALL)
+    return found[1] if found else ""
+
+
+def check_definitions(language: str, formats: str, messages: list[Message], tally: Tally) -> None:
+    """The documents that define the codes have the same ones as the table, with the same names."""
+    compare_names("docs/language.md, tables of codes", REFUSAL_ROW.findall(language), messages, "E", tally)
+    kinds = [(f"kind {number}", name) for number, name in KIND_ROW.findall(part_below(formats, "Malformed lines"))]
+    compare_names("docs/formats.md, table of kinds", kinds, messages, "kind", tally)
+    end_lines = STATUS_ROW.findall(part_below(formats, "The end line, on standard output"))
+    rows = {f"status {number}": row for number, row in reversed(end_lines)}
+    for message in messages:
+        sort, _, number = message.code.partition(" ")
+        if sort == "fault":
+            beside = re.compile(rf"\b{number}\b\W+{message.name}\b|\b{message.name}\b\W+{number}\b")
+            there = beside.search(formats) or beside.search(language)
+            tally.expect(there is not None, message.code, f"docs/formats.md to name {number} {message.name}", "it does not")
+        elif sort == "status":
+            row = rows.get(message.code, "")
+            tally.expect(re.search(rf"\b{message.name}\b", row) is not None, message.code,
+                         f"a row of docs/formats.md's table of statuses with '{message.name}'", row or "no such row")
+
+
+def check_explanations(errors: Document, messages: list[Message], tally: Tally) -> None:
+    """docs/errors.md has a heading for each code: "E11 NotImplied", "kind 3 BadTime", "fault 1 Overflow", "status 7"."""
+    for message in messages:
+        wanted = message.code if message.code.startswith("status") else f"{message.code} {message.name}"
+        there = any(heading == wanted or heading.startswith(wanted + " ") for heading in errors.headings)
+        tally.expect(there, "docs/errors.md", f"a heading that begins with '{wanted}'", "none")
+
+
+def check_messages(documents: dict[str, Document], checkout: Path, tally: Tally) -> None:
+    table = checkout / TABLE
+    if not tally.expect(table.is_file(), TABLE, "the table of codes", "no such file"):
+        return
+    messages = read_table(table.read_text(encoding="utf-8"), tally)
+    check_table(messages, checkout, tally)
+    language = (checkout / "docs/language.md").read_text(encoding="utf-8")
+    formats = (checkout / "docs/formats.md").read_text(encoding="utf-8")
+    check_definitions(language, formats, messages, tally)
+    check_explanations(documents.get("docs/errors.md", Document()), messages, tally)

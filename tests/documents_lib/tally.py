@@ -1,0 +1,18 @@
+"""Counts what passed and what failed, and tells of each failure on standard error what was expected and what came."""
+
+import sys
+
+
+class Tally:
+    def __init__(self) -> None:
+        self.passed = 0
+        self.failed = 0
+
+    def expect(self, right: bool, where: str, expected: str, came: str) -> bool:
+        """Counts one test. Where it failed, says where it stands, what was expected and what came."""
+        if right:
+            self.passed += 1
+        else:
+            self.failed += 1
+            print(f"{where}\n  expected: {expected}\n  came: {came}", file=sys.stderr, flush=True)
+        return right
