@@ -7,7 +7,8 @@ What is to be done with a block is told by its language and by the comment direc
     <!-- not run: REASON -->  nothing is done with the block
     language console          the block's commands are run, and their transcript is the block
 
-A document that is strict has no other blocks.
+A document that is strict has no other blocks. All blocks of a document share the folder, in which ./lolamon and
+examples/ are those of the checkout; "lolamon" without a folder is the same program.
 """
 
 import difflib
@@ -86,3 +87,5 @@ def run_blocks(name: str, document: Document, checkout: Path, strict: bool, tall
         runner = BlockRunner(name, folder, Path(made, "statuses"), strict, tally)
         for block in document.blocks:
             runner.run_block(block)
+    for number, line in document.odd_lines if strict else []:
+        tally.expect(False, f"{name}:{number}", "blocks to begin with three backquotes at the start of a line", line)

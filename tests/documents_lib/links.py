@@ -19,5 +19,6 @@ def check_links(name: str, document: Document, checkout: Path, tally: Tally) -> 
         path = (checkout / name).parent / file if file else checkout / name
         inside = path.resolve().is_relative_to(checkout)
         where = f"{name}:{line}"
-        if tally.expect(inside and path.exists(), where, f"a file or folder of the checkout at {target}", "none") and anchor:
+        there = tally.expect(inside and path.exists(), where, f"a file or folder of the checkout: {target}", "none")
+        if there and anchor:
             tally.expect(path.is_file() and heading_is_there(path, anchor), where, f"a heading for {target}", "none")

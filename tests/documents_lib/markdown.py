@@ -1,7 +1,8 @@
 """Reads what the checks need of a Markdown document: its fenced blocks, its headings and its links.
 
 A fenced block begins with three backquotes at the start of a line, behind which may stand the block's language, and
-ends with three backquotes. A comment of one line directly above a block is the block's note.
+ends with three backquotes. A comment of one line directly above a block is the block's note. Markdown knows more forms
+of blocks; lines that would begin one of these are noted as odd.
 """
 
 import re
@@ -11,6 +12,7 @@ FENCE = "```"
 NOTE = re.compile(r"<!-- (.+) -->$")
 HEADING = re.compile(r"#{1,6} +(.+?) *#*$")
 INLINE_CODE = re.compile(r"`[^`]*`")
+ODD = re.compile(r" +```|````| *~~~| {4}|\t")
 LINK = re.compile(r"\[[^\]]*\]\(([^()\s]+)\)")
 
 
@@ -30,11 +32,12 @@ class Document:
     blocks: list[Block] = field(default_factory=list)
     headings: list[str] = field(default_factory=list)
     links: list[tuple[int, str]] = field(default_factory=list)
+    odd_lines: list[tuple[int, str]] = field(default_factory=list)
     open_fence: int = 0
 
 
 def read_document(text: str) -> Document:
-    """The document's blocks, headings and links. Where a block has no end, open_fence is the line on which it begins."""
+    """What stands in the document. Where a block has no end, open_fence is the line on which it begins."""
     document = Document()
     block: Block | None = None
     prose: list[str] = []
@@ -61,6 +64,8 @@ def read_prose(number: int, line: str, document: Document) -> None:
     heading = HEADING.match(line)
     if heading:
         document.headings.append(heading[1])
+    if ODD.match(line):
+        document.odd_lines.append((number, line))
     for target in LINK.findall(INLINE_CODE.sub("", line)):
         document.links.append((number, target))
 

@@ -77,7 +77,7 @@ def check_definitions(language: str, formats: str, messages: list[Message], tall
         if sort == "fault":
             beside = re.compile(rf"\b{number}\b\W+{message.name}\b|\b{message.name}\b\W+{number}\b")
             there = beside.search(formats) or beside.search(language)
-            tally.expect(there is not None, message.code, f"docs/formats.md to name {number} {message.name}", "it does not")
+            tally.expect(there is not None, message.code, f"docs/formats.md to name {number} {message.name}", "nothing")
         elif sort == "status":
             row = rows.get(message.code, "")
             tally.expect(re.search(rf"\b{message.name}\b", row) is not None, message.code,
@@ -85,7 +85,7 @@ def check_definitions(language: str, formats: str, messages: list[Message], tall
 
 
 def check_explanations(errors: Document, messages: list[Message], tally: Tally) -> None:
-    """docs/errors.md has a heading for each code: "E11 NotImplied", "kind 3 BadTime", "fault 1 Overflow", "status 7"."""
+    """docs/errors.md has a heading for each code, such as "E11 NotImplied", "kind 3 BadTime" and "status 7"."""
     for message in messages:
         wanted = message.code if message.code.startswith("status") else f"{message.code} {message.name}"
         there = any(heading == wanted or heading.startswith(wanted + " ") for heading in errors.headings)
