@@ -54,9 +54,13 @@ def check_table(messages: list[Message], checkout: Path, tally: Tally) -> None:
 
 
 def compare_names(what: str, told: list[tuple[str, str]], messages: list[Message], sort: str, tally: Tally) -> None:
-    """The codes of one sort and their names are the same in the table and in the document."""
-    wanted = [(message.code, message.name) for message in messages if message.code.startswith(sort)]
-    tally.expect(sorted(told) == sorted(wanted), what, f"as in {TABLE}: {wanted}", str(told))
+    """The codes of one sort and their names are the same in the table and in the document, and no code comes twice."""
+    names = dict(told)
+    tally.expect(len(names) == len(told), what, "each code once", str([code for code, _ in told]))
+    wanted = {message.code: message.name for message in messages if message.code.startswith(sort)}
+    for code in sorted(wanted.keys() | names.keys()):
+        tally.expect(names.get(code) == wanted.get(code), f"{what}, {code}",
+                     f"the name that {TABLE} has: {wanted.get(code)}", str(names.get(code)))
 
 
 def part_below(text: str, heading: str) -> str:
