@@ -1,10 +1,12 @@
-"""Counts what passed and what failed, and tells of each failure on standard error what was expected and what came."""
+"""Counts what passed and what failed, and tells of each failure what was expected and what came."""
 
 import sys
+from typing import TextIO
 
 
 class Tally:
-    def __init__(self) -> None:
+    def __init__(self, complaints: TextIO = sys.stderr) -> None:
+        self.complaints = complaints
         self.passed = 0
         self.failed = 0
 
@@ -14,5 +16,5 @@ class Tally:
             self.passed += 1
         else:
             self.failed += 1
-            print(f"{where}\n  expected: {expected}\n  came: {came}", file=sys.stderr, flush=True)
+            print(f"{where}\n  expected: {expected}\n  came: {came}", file=self.complaints, flush=True)
         return right
