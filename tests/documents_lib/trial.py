@@ -54,7 +54,7 @@ SPOILT = (
     ("a failure that is not shown", "$ echo $?\n1\n", ""),
     ("a file", "```\nfirst\nsecond\n", "```\nfirst\nthird\nsecond\n"),
     ("a file that the text does not name", "`one.txt`", "It"),
-    ("a file in another folder", "file: one.txt", "file: ../one.txt"),
+    ("a file in another folder", "# A document\n", "# A document\n\n`../x`\n\n<!-- file: ../x -->\n```\n```\n"),
     ("a part of a file", "```\nsecond\n", "```\nsecond line\n"),
     ("a part of no file", "part of: one.txt", "part of: two.txt"),
     ("a block without a reason", "it is only shown", ""),
