@@ -79,9 +79,12 @@ def run_commands(commands: list[Command], folder: Path, statuses: Path) -> Trans
     shell = subprocess.Popen(
         ["bash", "-c", script], cwd=folder, env=environment, start_new_session=True,
         stdin=subprocess.DEVNULL, stdout=subprocess.PIPE, stderr=subprocess.STDOUT)
+    timed_out = False
     try:
         written, _ = shell.communicate(timeout=SECONDS)
-        timed_out = False
+    except KeyboardInterrupt:
+        os.killpg(shell.pid, signal.SIGKILL)
+        raise
     except subprocess.TimeoutExpired:
         os.killpg(shell.pid, signal.SIGKILL)
         written, _ = shell.communicate()
