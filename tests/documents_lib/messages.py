@@ -5,10 +5,11 @@ from dataclasses import dataclass
 from pathlib import Path
 
 from .links import heading_is_there
-from .markdown import Document
+from .markdown import read_document
 from .tally import Tally
 
 TABLE = "tools/messages.tsv"
+ERRORS = "docs/errors.md"
 COLUMNS = "code\tname\tsentence\tsection"
 REFUSALS = [f"E{number}" for number in range(1, 21)]
 KINDS = [f"kind {number}" for number in range(1, 9)]
@@ -88,15 +89,19 @@ def check_definitions(language: str, formats: str, messages: list[Message], tall
                          f"a row of docs/formats.md's table of statuses with '{message.name}'", row or "no such row")
 
 
-def check_explanations(errors: Document, messages: list[Message], tally: Tally) -> None:
-    """docs/errors.md has a heading for each code, such as "E11 NotImplied", "kind 3 BadTime" and "status 7"."""
+def check_explanations(errors: str, messages: list[Message], tally: Tally) -> None:
+    """docs/errors.md has a heading for each code, such as "E11 NotImplied", "kind 3 BadTime" and "status 7", and below
+    it the sentence that the table has."""
+    headings = read_document(errors).headings
     for message in messages:
         wanted = message.code if message.code.startswith("status") else f"{message.code} {message.name}"
-        there = any(heading == wanted or heading.startswith(wanted + " ") for heading in errors.headings)
-        tally.expect(there, "docs/errors.md", f"a heading that begins with '{wanted}'", "none")
+        found = [heading for heading in headings if heading == wanted or heading.startswith(wanted + " ")]
+        if tally.expect(len(found) == 1, ERRORS, f"one heading that begins with '{wanted}'", str(found)):
+            below = " ".join(part_below(errors, found[0]).split())
+            tally.expect(message.sentence in below, f"{ERRORS}, {wanted}", message.sentence, "no such sentence")
 
 
-def check_messages(documents: dict[str, Document], checkout: Path, tally: Tally) -> None:
+def check_messages(checkout: Path, tally: Tally) -> None:
     table = checkout / TABLE
     if not tally.expect(table.is_file(), TABLE, "the table of codes", "no such file"):
         return
@@ -105,4 +110,6 @@ def check_messages(documents: dict[str, Document], checkout: Path, tally: Tally)
     language = (checkout / "docs/language.md").read_text(encoding="utf-8")
     formats = (checkout / "docs/formats.md").read_text(encoding="utf-8")
     check_definitions(language, formats, messages, tally)
-    check_explanations(documents.get("docs/errors.md", Document()), messages, tally)
+    errors = checkout / ERRORS
+    if tally.expect(errors.is_file(), ERRORS, "a page that explains each code", "no such file"):
+        check_explanations(errors.read_text(encoding="utf-8"), messages, tally)
