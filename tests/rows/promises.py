@@ -1,0 +1,74 @@
+"""What is promised of a run whose sources are read on threads, each on its own: any order between sources, and nothing less.
+
+Of each source the trace has the same rows in the same order as in turns; a row is late exactly where an accepted row before it has a
+later time; and the end line counts what the trace has.
+"""
+
+from typing import NamedTuple
+
+
+class TraceRow(NamedTuple):
+    """A line of the trace, cut at its first four commas."""
+
+    source: str
+    number: str
+    time: str
+    mark: str
+    fields: str
+
+
+def trace_rows(trace: bytes) -> list[TraceRow]:
+    """The rows of a trace, in its order."""
+    rows = []
+    for line in trace.decode("utf-8", "surrogateescape").split("\n")[:-1]:
+        parts = line.split(",", 4)
+        rows.append(TraceRow(*(parts + [""] * (5 - len(parts)))))
+    return rows
+
+
+def rows_by_source(rows: list[TraceRow]) -> dict[str, list[tuple[str, str, str]]]:
+    """Of each source its rows without their marks, which may differ from run to run."""
+    by_source: dict[str, list[tuple[str, str, str]]] = {}
+    for row in rows:
+        by_source.setdefault(row.source, []).append((row.number, row.time, row.fields))
+    return by_source
+
+
+def right_marks(rows: list[TraceRow]) -> list[str]:
+    """The marks that rows in this order must have. Times have nine decimals, so they compare as whole numbers without their point."""
+    merged = "0.000000000"
+    marks = []
+    for row in rows:
+        if int(row.time.replace(".", "")) < int(merged.replace(".", "")):
+            marks.append("L" + merged)
+        else:
+            marks.append("A")
+            merged = row.time
+    return marks
+
+
+def end_line_complaint(expected_end: str, end: str, rows: list[TraceRow], verdicts: int) -> str | None:
+    """What is wrong with an end line: where nothing went wrong, its counts are those of the trace and of the verdict lines."""
+    if not expected_end.startswith("= done "):
+        return None if end == expected_end else f"the end line {expected_end!r} was expected and {end!r} came"
+    accepted = sum(row.mark == "A" for row in rows)
+    begin = f"= done accepted {accepted} late {len(rows) - accepted} steps "
+    if not end.startswith(begin) or not end.endswith(f" lines {verdicts}"):
+        return f"an end line {begin}.. lines {verdicts} was expected and {end!r} came"
+    return None
+
+
+def complaints_on_threads(expected_out: bytes, expected_trace: bytes, out: bytes, trace: bytes) -> list[str]:
+    """What a run on threads did not keep of the above, compared with what the run in turns has to write."""
+    rows = trace_rows(trace)
+    complaints = []
+    if rows_by_source(rows) != rows_by_source(trace_rows(expected_trace)):
+        complaints.append(f"on threads: other rows than in turns, or in another order within a source:\n{trace.decode(errors='replace')}")
+    if [row.mark for row in rows] != right_marks(rows):
+        complaints.append(f"on threads: a wrong mark in the trace:\n{trace.decode(errors='replace')}")
+    lines = out.decode("utf-8", "replace").splitlines() or [""]
+    expected_end = (expected_out.decode("utf-8", "replace").splitlines() or [""])[-1]
+    wrong_end = end_line_complaint(expected_end, lines[-1], rows, len(lines) - 1)
+    if wrong_end:
+        complaints.append(f"on threads: {wrong_end}")
+    return complaints
