@@ -4,9 +4,8 @@ from __future__ import annotations
 import os
 import re
 import subprocess
-import sys
 
-from terminal_parts.harness import CHECKOUT, EXPLAIN, LOLAMON, SUM, Checks, explained, on_terminal, split, stand_in, write
+from terminal_parts.harness import CHECKOUT, EXPLAIN, SUM, Checks, explained, on_terminal, split, stand_in, write
 
 INPUT = "input a: Int64\n"
 
@@ -16,8 +15,8 @@ def test_usage_and_help(checks: Checks) -> None:
         ended = on_terminal(*words)
         checks.same(f"status of {words}", 2, ended.status)
         told = split(ended, "= usage\n")
-        for piece in ("lolamon run", "lolamon analyse SPEC", "lolamon drill NUMBER ROWS WORKERS", "--show outputs", "--in-turns",
-                      "--start 0", "--workers 4", "docs/formats.md#command-words"):
+        for piece in ("lolamon run", "lolamon analyse SPEC", "lolamon drill NUMBER ROWS WORKERS", "--show outputs",
+                      "--in-turns", "--start 0", "--workers 4", "docs/formats.md#command-words"):
             checks.has(f"help of {words}", piece, told)
         if words:
             checks.lacks(f"no complaint of {words}", "no command", told)
@@ -73,17 +72,18 @@ def test_long_lines_are_cut(checks: Checks) -> None:
 def test_malformed_rows(checks: Checks) -> None:
     write("sum.lola", SUM)
     rows = "0,1,0.000000000,A,1\n"
-    cases = {  # the file; the trace; row and kind; what is told
-        "after an empty line": (b"time,a\n\n0,1\n1e3,2\n", rows, "row 2 kind 3 BadTime", "row 2, in line 4 of the file: 1e3,2 kind 3"),
-        "after a byte order mark": (b"\xef\xbb\xbftime,a\n0,1\n1\n", rows, "row 2 kind 2 FieldCount", "line 3 of the file: 1 kind 2"),
-        "with CR LF": (b"time,a\r\n\r\n0,1\r\n1,x\r\n", rows, "row 2 kind 4 BadValue", "line 4 of the file: 1,x kind 4 BadValue:"),
-        "without a line feed": (b"time,a\n0,1\n1,x", rows, "row 2 kind 4 BadValue", "line 3 of the file: 1,x kind 4"),
-        "that are no text": (b"time,a\n0,1\n1,\xff\n", rows, "row 2 kind 5 BadText", "line 3 of the file: 1,\\xff kind 5"),
-        "with a CR": (b"time,a\n0,1\n1\r,2\n", rows, "row 2 kind 6 BareCr", "line 3 of the file: 1\\r,2 kind 6"),
-        "in the heading": (b"\nclock,a\n", "", "row 0 kind 1 BadHeading", "the heading, in line 2 of the file: clock,a kind 1"),
-        "without any line": (b"", "", "row 0 kind 1 BadHeading", "rows.csv has no line kind 1 BadHeading:"),
+    cases = {  # the file; row and kind; what is told
+        "after an empty line": (b"time,a\n\n0,1\n1e3,2\n", "row 2 kind 3 BadTime", "row 2, in line 4 of the file: 1e3,2"),
+        "after a mark": (b"\xef\xbb\xbftime,a\n0,1\n1\n", "row 2 kind 2 FieldCount", "in line 3 of the file: 1 kind 2"),
+        "with CR LF": (b"time,a\r\n\r\n0,1\r\n1,x\r\n", "row 2 kind 4 BadValue", "in line 4 of the file: 1,x kind 4"),
+        "without a line feed": (b"time,a\n0,1\n1,x", "row 2 kind 4 BadValue", "in line 3 of the file: 1,x kind 4"),
+        "that are no text": (b"time,a\n0,1\n1,\xff\n", "row 2 kind 5 BadText", "in line 3 of the file: 1,\\xff kind 5"),
+        "with a CR": (b"time,a\n0,1\n1\r,2\n", "row 2 kind 6 BareCr", "in line 3 of the file: 1\\r,2 kind 6"),
+        "in the heading": (b"\nclock,a\n", "row 0 kind 1 BadHeading", "the heading, in line 2 of the file: clock,a kind 1"),
+        "without any line": (b"", "row 0 kind 1 BadHeading", "rows.csv has no line kind 1 BadHeading:"),
     }
-    for name, (content, trace, kind, told) in cases.items():
+    for name, (content, kind, told) in cases.items():
+        trace = rows if kind.startswith("row 2") else ""
         write("rows.csv", content)
         ended = on_terminal("run", "sum.lola", "rows.csv")
         checks.same(f"status {name}", 4, ended.status)
@@ -105,13 +105,14 @@ def test_malformed_pipe(checks: Checks) -> None:
     reading, writing = os.pipe()
     os.write(writing, b"time,a\nx,1\n")
     os.close(writing)
-    told = split(on_terminal("run", "sum.lola", "/dev/stdin", stdin=reading), "= malformed source 0 row 1 kind 3 BadTime\n")
+    ended = on_terminal("run", "sum.lola", "/dev/stdin", stdin=reading)
     os.close(reading)
+    told = split(ended, "= malformed source 0 row 1 kind 3 BadTime\n")
     checks.has("the name alone", "/dev/stdin, row 1 kind 3 BadTime:", told)
 
 
 def test_faults(checks: Checks) -> None:
-    write("fault.lola", "// output b\n" + INPUT + "trigger a < 0\noutput b: Int64 := a + 1\ntrigger 1 / a > 5 \"much\"\n")
+    write("fault.lola", f"// output b\n{INPUT}trigger a < 0\noutput b: Int64 := a + 1\ntrigger 1 / a > 5 \"much\"\n")
     write("overflow.csv", "time,a\n0,9223372036854775807\n")
     ended = on_terminal("run", "fault.lola", "overflow.csv")
     checks.same("status", 5, ended.status)
@@ -120,7 +121,8 @@ def test_faults(checks: Checks) -> None:
     checks.has("declaration", "fault.lola, line 4, column 8: output b: Int64 := a + 1", told)
     checks.has("sentence", "fault 1 Overflow: A result is outside the range", told)
     write("zero.csv", "time,a\n3,0\n")
-    told = split(on_terminal("run", "fault.lola", "zero.csv"), "0,1,3.000000000,A,0\n= fault trigger_2 2 DivZero at 3.000000000\n")
+    told = split(on_terminal("run", "fault.lola", "zero.csv"),
+                 "0,1,3.000000000,A,0\n= fault trigger_2 2 DivZero at 3.000000000\n")
     checks.has("trigger", 'fault.lola, line 5, column 1: trigger 1 / a > 5 "much"', told)
     checks.has("sentence of a trigger", "fault 2 DivZero: A number was to be divided by zero.", told)
     write("many.lola", INPUT + "output z(p: Int64): Int64 spawn with a eval @a with 1\n")
@@ -134,15 +136,15 @@ def test_unreadable(checks: Checks) -> None:
     write("sum.lola", SUM)
     write("good.csv", "time,a\n0,1\n")
     os.makedirs("folder", exist_ok=True)
-    cases = {
-        "= unreadable specification\n": ("The specification, none.lola, cannot be read: No such file", ["none.lola", "good.csv"]),
-        "= unreadable source 1\n": ("Source 1, none.csv, cannot be read: No such file", ["sum.lola", "good.csv", "none.csv"]),
-        "= unreadable source 0\n": ("Source 0, folder, cannot be read: it is a folder.", ["sum.lola", "folder"]),
+    cases = {  # the names; what is unreadable; what is told
+        "none.lola good.csv": ("specification", "The specification, none.lola, cannot be read: No such file"),
+        "sum.lola good.csv none.csv": ("source 1", "Source 1, none.csv, cannot be read: No such file"),
+        "sum.lola folder": ("source 0", "Source 0, folder, cannot be read: it is a folder."),
     }
-    for own, (piece, names) in cases.items():
-        ended = on_terminal("run", *names)
+    for names, (what, piece) in cases.items():
+        ended = on_terminal("run", *names.split())
         checks.same(f"status of {names}", 6, ended.status)
-        checks.has(f"reason of {names}", piece, split(ended, own))
+        checks.has(f"reason of {names}", piece, split(ended, f"= unreadable {what}\n"))
 
 
 def test_no_memory(checks: Checks) -> None:
@@ -179,7 +181,8 @@ def test_late_rows(checks: Checks) -> None:
 
 
 def test_late_rows_of_many_sources(checks: Checks) -> None:
-    script = "for s in 0 1 2 3 4 5 63; do echo \"$s,1,1.000000000,L5.000000000,2\" >&2; done\necho '= done accepted 0 late 7 steps 0 lines 0'"
+    script = ("for s in 0 1 2 3 4 5 63; do echo \"$s,1,1.000000000,L5.000000000,2\" >&2; done\n"
+              "echo '= done accepted 0 late 7 steps 0 lines 0'")
     names = [f"{number}.csv" for number in range(64)]
     told = explained(stand_in("many_late", script), "run", "a.lola", *names).terminal
     checks.has("the first few", "1 of source 3, 3.csv 3 of 3 other sources", told)
@@ -211,16 +214,18 @@ def test_each_code_is_told(checks: Checks) -> None:
         rows = [line.rstrip("\n").split("\t") for line in file][1:]
     for code, name, sentence, section in rows:
         if code.startswith(("E", "kind")):
-            line = f"= refused {code} {name} at 0" if code.startswith("E") else f"= malformed source 0 row 0 {code} {name}"
-            program = stand_in("says", f"echo '{line}'\nexit {3 if code.startswith('E') else 4}")
-            told = subprocess.run([EXPLAIN, program, "run", "none.lola", "none.csv"], capture_output=True, text=True).stderr
+            refused = code.startswith("E")
+            line = f"= refused {code} {name} at 0" if refused else f"= malformed source 0 row 0 {code} {name}"
+            program = stand_in("says", f"echo '{line}'\nexit {3 if refused else 4}")
+            told = subprocess.run([EXPLAIN, program, "run", "a.lola", "a.csv"], capture_output=True, text=True).stderr
             checks.has(code, f"{code} {name}: {sentence}", told)
             checks.has(f"section of {code}", section, told)
 
 
 def test_marks_are_bold_where_they_may(checks: Checks) -> None:
     write("unknown.lola", INPUT + "output b: Int64 := c\n")
-    for variables, bold in (({"TERM": "xterm"}, True), ({"TERM": "dumb"}, False), ({"TERM": "xterm", "NO_COLOR": "1"}, False)):
+    cases = (({"TERM": "xterm"}, True), ({"TERM": "dumb"}, False), ({"TERM": "xterm", "NO_COLOR": "1"}, False))
+    for variables, bold in cases:
         told = on_terminal("analyse", "unknown.lola", variables=variables).terminal
         checks.same(f"bold with {variables}", bold, "\x1b[1m^\x1b[0m" in told)
         checks.same(f"escapes with {variables}", bold, "\x1b" in told)

@@ -22,7 +22,7 @@ SUM = 'input a: Int64\noutput b: Int64 := a + 1\ntrigger b > 2 "high"\n'
 
 
 class Ended(NamedTuple):
-    """How a command ended (below 0: by a signal), what stood on the terminal, and what went to standard output elsewhere."""
+    """How a command ended (below 0: by a signal), what stood on the terminal, and what its output was elsewhere."""
 
     status: int
     terminal: str

@@ -1,1 +1,98 @@
-"""Nothing else."""
+"""How words are read: exactly as the program reads them, and with a reason where they are no command."""
+from __future__ import annotations
+
+import os
+import subprocess
+import sys
+
+from terminal_parts.harness import CHECKOUT, LOLAMON, Checks, on_terminal, write
+
+sys.path.insert(0, os.path.join(CHECKOUT, "tools"))
+from explaining.words import NotACommand, read_command  # noqa: E402
+
+COMMANDS = [
+    "run s f", "run - -", "run -- s f", "run s -- f", "run s f -- f", "run -- -s -f", "run --in-turns s f",
+    "run s --in-turns f",
+    "run s f --in-turns", "run --show outputs s f", "run --show=triggers s f", "run --workers 64 s --start 1.5 f --in-turns",
+    "run --workers=01 s f", "run --start .5 s f", "run --start 7. s f", "run --start 4000000000 s f",
+    "run --start 4000000000.0000000009 s f", "run --start=007 s f", "run s" + " f" * 64, "analyse s", "analyse -- -s", "analyse -",
+]
+NO_COMMANDS = {  # with a piece of the reason
+    "": "no command was given",
+    "Run s f": "there is no command 'Run'",
+    "replay s f f": "there is no command 'replay'",
+    "run": "a specification and of a source file are missing",
+    "run s": "behind the specification 's' the name of a source file is missing",
+    "run s" + " f" * 65: "these are 65 sources, and 64 at most can be read",
+    "run --quick s f": "there is no option '--quick' here",
+    "run --show-outputs s f": "there is no option '--show-outputs' here",
+    "run -s f": "there is no option '-s' here",
+    "run --in-turns=yes s f": "there is no option '--in-turns=yes' here",
+    "run --in-turns --in-turns s f": "the option --in-turns comes twice",
+    "run --show=outputs --show outputs s f": "the option --show comes twice",
+    "run s f --in-turns f": "an option stands between two sources, before 'f'",
+    "run s f --in-turns -- f": "an option stands between two sources, before 'f'",
+    "run --show all s f": "the value of --show is 'triggers' or 'outputs', and not 'all'",
+    "run --show= s f": "the value of --show is 'triggers' or 'outputs', and not ''",
+    "run --workers 0 s f": "the value of --workers is a number from 1 to 64, and not '0'",
+    "run --workers 65 s f": "and not '65'",
+    "run --workers 001 s f": "and not '001'",
+    "run --workers +1 s f": "and not '+1'",
+    "run --workers -- s f": "behind --workers stands its value",
+    "run s f --workers": "behind --workers stands its value",
+    "run --start -1 s f": "behind --start stands its value: a time in seconds",
+    "run --start=-1 s f": "the value of --start is a time in seconds",
+    "run --start 1e3 s f": "and not '1e3'",
+    "run --start . s f": "and not '.'",
+    "run --start 4000000000.000000001 s f": "and not '4000000000.000000001'",
+    "analyse": "the name of a specification is missing",
+    "analyse s f": "'f' is too much",
+    "analyse --show outputs s": "there is no option '--show' here",
+    "drill 1 1": "three numbers: NUMBER ROWS WORKERS",
+    "drill 2147483647 1 1": "NUMBER is a number from 0 to 2147483646, and not '2147483647'",
+    "drill 00000000001 1 1": "NUMBER is a number",
+    "drill 1 0 1": "ROWS is a number from 1 to 1000000, and not '0'",
+    "drill 1 1000001 1": "ROWS is a number",
+    "drill 1 1 65": "WORKERS is a number from 1 to 64, and not '65'",
+    "drill --in-turns 1 1 1": "there is no option '--in-turns' here",
+}
+
+
+def status(words: list[str]) -> int:
+    """The program's status; no file of these names is there, so that of a run is 6 where the words are a command."""
+    return subprocess.run([LOLAMON, *words], capture_output=True).returncode
+
+
+def test_words_that_are_a_command(checks: Checks) -> None:
+    for words in COMMANDS:
+        checks.same(f"status of {words}", 6, status(words.split()))
+        try:
+            read_command(words.split())
+            checks.note(True, words, "", "")
+        except NotACommand as reason:
+            checks.same(f"reading of {words}", "a command", f"no command: {reason}")
+    command = read_command("run --start=1 s --in-turns -- -f g".split())
+    checks.same("names", ("s", ["-f", "g"]), (command.specification, command.sources))
+    checks.same("options", {"--start": "1", "--in-turns": ""}, command.options)
+    checks.same("a drill", 0, status(["drill", "0", "1", "1"]))
+    checks.same("reading of a drill", "drill", read_command(["drill", "0000000000", "0000001", "01"]).name)
+
+
+def test_words_that_are_none(checks: Checks) -> None:
+    for words, piece in NO_COMMANDS.items():
+        checks.same(f"status of {words}", 2, status(words.split()))
+        try:
+            read_command(words.split())
+            checks.same(f"reading of {words}", "no command", "a command")
+        except NotACommand as reason:
+            checks.has(f"reason of {words}", piece, str(reason))
+
+
+def test_the_reason_is_told(checks: Checks) -> None:
+    told = on_terminal("run", "--workers", "0", "s", "f").terminal
+    checks.has("value", "These words are no command: the value of --workers is a number from 1 to 64, and not '0'.", told)
+    told = on_terminal("run", "s", "f", "--\x1b[2J").terminal
+    checks.has("escape", "there is no option '--\\x1b[2J' here", told)
+    write("-s", "input a: Int64\n")
+    write("f", "time,a\n")
+    checks.same("names behind --", "= done accepted 0 late 0 steps 0 lines 0\n", on_terminal("run", "--", "-s", "f").terminal)

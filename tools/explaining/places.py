@@ -16,6 +16,7 @@ LONGEST_LINE = 65_540
 MARK = b"\xef\xbb\xbf"  # the byte order mark
 TAB = 8
 INDENT = "      "
+MARGIN = len(INDENT) + 3  # two blanks stand before each line that is told, and one cell stays free
 DOTS = "..."
 
 
@@ -99,12 +100,12 @@ def ending(text: str, room: int) -> str:
 
 
 def show_line(text: str, width: int) -> str:
-    return INDENT + beginning(text, width - len(INDENT) - 1)
+    return INDENT + beginning(text, width - MARGIN)
 
 
 def show_place(place: Place, width: int, mark: str) -> List[str]:
     """The line, and below it the mark under the place."""
-    room = max(width - len(INDENT) - 1, 20)
+    room = max(width - MARGIN, 20)
     before = ending(place.before, room * 2 // 3)
     behind = beginning(place.behind, room - sum(map(cells, before)))
     blank = "".join("\t" if sign == "\t" else " " * cells(sign) for sign in before)
