@@ -3,9 +3,14 @@ from __future__ import annotations
 
 import os
 import re
-import subprocess
+import sys
 
-from terminal_parts.harness import CHECKOUT, EXPLAIN, SUM, Checks, explained, on_terminal, split, stand_in, write
+from terminal_parts.harness import CHECKOUT, SUM, Checks, explained, on_terminal, split, stand_in, write
+
+sys.path.insert(0, os.path.join(CHECKOUT, "tools"))
+from explaining.running import Outcome  # noqa: E402
+from explaining.telling import Manual, Teller  # noqa: E402
+from explaining.watching import Watch  # noqa: E402
 
 INPUT = "input a: Int64\n"
 
@@ -209,17 +214,19 @@ def test_all_codes_have_a_heading(checks: Checks) -> None:
 
 
 def test_each_code_is_told(checks: Checks) -> None:
-    """Each refusal and kind gets its own sentence, which is that of the table."""
+    """Each refusal, kind and fault gets its own sentence and section, which are those of the table."""
     with open(os.path.join(CHECKOUT, "tools", "messages.tsv"), encoding="utf-8") as file:
         rows = [line.rstrip("\n").split("\t") for line in file][1:]
+    lines = {"E": (3, "= refused {} {} at 0"), "k": (4, "= malformed source 0 row 0 {} {}"), "f": (5, "= {} {} at 0.5")}
+    manual = Manual(os.path.join(CHECKOUT, "tools", "messages.tsv"), CHECKOUT)
     for code, name, sentence, section in rows:
-        if code.startswith(("E", "kind")):
-            refused = code.startswith("E")
-            line = f"= refused {code} {name} at 0" if refused else f"= malformed source 0 row 0 {code} {name}"
-            program = stand_in("says", f"echo '{line}'\nexit {3 if refused else 4}")
-            told = subprocess.run([EXPLAIN, program, "run", "a.lola", "a.csv"], capture_output=True, text=True).stderr
-            checks.has(code, f"{code} {name}: {sentence}", told)
-            checks.has(f"section of {code}", section, told)
+        if code[0] in lines:
+            status, line = lines[code[0]]
+            watch = Watch()
+            watch.end_line = line.format(code.replace("fault", "fault b"), name).encode()
+            told = Teller(manual, Outcome(status, None, watch, {}, False), ["run", "a.lola", "a.csv"]).all()
+            checks.has(code, f"{code} {name}: {sentence}", "\n".join(told))
+            checks.has(f"section of {code}", section, told[-1])
 
 
 def test_marks_are_bold_where_they_may(checks: Checks) -> None:
