@@ -78,13 +78,13 @@ def test_malformed_rows(checks: Checks) -> None:
     write("sum.lola", SUM)
     rows = "0,1,0.000000000,A,1\n"
     cases = {  # the file; row and kind; what is told
-        "after an empty line": (b"time,a\n\n0,1\n1e3,2\n", "row 2 kind 3 BadTime", "row 2, in line 4 of the file: 1e3,2"),
+        "after an empty line": (b"time,a\n\n0,1\n1e3,2\n", "row 2 kind 3 BadTime", "in line 4 of the file: 1e3,2"),
         "after a mark": (b"\xef\xbb\xbftime,a\n0,1\n1\n", "row 2 kind 2 FieldCount", "in line 3 of the file: 1 kind 2"),
         "with CR LF": (b"time,a\r\n\r\n0,1\r\n1,x\r\n", "row 2 kind 4 BadValue", "in line 4 of the file: 1,x kind 4"),
         "without a line feed": (b"time,a\n0,1\n1,x", "row 2 kind 4 BadValue", "in line 3 of the file: 1,x kind 4"),
         "that are no text": (b"time,a\n0,1\n1,\xff\n", "row 2 kind 5 BadText", "in line 3 of the file: 1,\\xff kind 5"),
         "with a CR": (b"time,a\n0,1\n1\r,2\n", "row 2 kind 6 BareCr", "in line 3 of the file: 1\\r,2 kind 6"),
-        "in the heading": (b"\nclock,a\n", "row 0 kind 1 BadHeading", "the heading, in line 2 of the file: clock,a kind 1"),
+        "in the heading": (b"\nclock,a\n", "row 0 kind 1 BadHeading", "the heading, in line 2 of the file: clock,a"),
         "without any line": (b"", "row 0 kind 1 BadHeading", "rows.csv has no line kind 1 BadHeading:"),
     }
     for name, (content, kind, told) in cases.items():

@@ -83,7 +83,7 @@ def environment(changes: Optional[Dict[str, str]]) -> Dict[str, str]:
 
 
 class Terminal:
-    """A command with a pseudo-terminal as its standard error, and as its standard output where nothing else is given."""
+    """A command with a pseudo-terminal as its standard error, and as its standard output where no other is given."""
 
     def __init__(self, command: Sequence[str], columns: int = 80, **streams: Any) -> None:
         self.master, slave = pty.openpty()

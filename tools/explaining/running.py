@@ -10,7 +10,7 @@ import resource
 import select
 import signal
 import threading
-from typing import Callable, Dict, List, NamedTuple, NoReturn, Optional
+from typing import Callable, Dict, List, NamedTuple, NoReturn, Optional, Set, Tuple
 
 from explaining.watching import Lines, Watch
 
@@ -87,49 +87,34 @@ class Run:
     """One run of the program, from its start to the end of all that it wrote."""
 
     def __init__(self) -> None:
-        self.child: Optional[int] = None
         self.failures: Dict[int, OSError] = {}
         self.watch = Watch()
         self.lines: Dict[int, Lines] = {}  # by stream
 
-    def hand_signals_on(self) -> None:
-        """What would end this process ends the program instead, and then this process behind it."""
-        for number in PASSED_ON:
-            if signal.getsignal(number) != signal.SIG_IGN:
-                signal.signal(number, self.on_signal)
-
-    def on_signal(self, number: int, _frame: object) -> None:
-        if self.child is None:
-            end_by(number)
-        os.kill(self.child, number)
-
     def passing(self, pipe: int, streams: List[int]) -> threading.Thread:
-        """A thread that passes on from the pipe to these streams, which go to one place."""
+        """A thread that passes on what comes from the pipe to these streams, which go to one place."""
         lines = Lines(self.watch)
         for stream in streams:
             self.lines[stream] = lines
         return threading.Thread(target=pass_on, args=(pipe, streams[0], lines.look, self.failures), daemon=True)
 
-    def start(self, program: str, words: List[str]) -> List[threading.Thread]:
-        """Starts the program, and a thread for each pipe."""
+    def start(self, program: str, words: List[str], mask: Set[int]) -> Tuple[int, List[threading.Thread]]:
+        """Starts the program, with this mask of signals, and a thread for each pipe."""
         together = [[OUTPUT, ERRORS]] if go_to_one_place(OUTPUT, ERRORS) else [[OUTPUT], [ERRORS]]
         pipes = [os.pipe() for _ in together]
         actions = [(os.POSIX_SPAWN_DUP2, writing, stream)
                    for (_, writing), streams in zip(pipes, together) for stream in streams]
-        self.child = os.posix_spawn(program, [program, *words], os.environ, file_actions=actions,
-                                    setsigdef=[signal.SIGPIPE, signal.SIGXFSZ])
+        child = os.posix_spawn(program, [program, *words], os.environ, file_actions=actions, setsigmask=mask,
+                               setsigdef=[signal.SIGPIPE, signal.SIGXFSZ])
         for _, writing in pipes:
             os.close(writing)
         threads = [self.passing(reading, streams) for (reading, _), streams in zip(pipes, together)]
         for thread in threads:
             thread.start()
-        return threads
+        return child, threads
 
-    def wait(self, threads: List[threading.Thread]) -> Outcome:
-        """Waits for the program and for all that it wrote. From its end on a signal ends this process at once."""
-        assert self.child is not None
-        _, ended = os.waitpid(self.child, 0)
-        self.child = None
+    def outcome(self, ended: int, threads: List[threading.Thread]) -> Outcome:
+        """How the program ended, once all that it wrote has been passed on."""
         for thread in threads:
             thread.join()
         in_a_line = bool(self.lines[ERRORS].begun)
@@ -139,9 +124,27 @@ class Run:
         return Outcome(status, None, self.watch, self.failures, in_a_line)
 
 
+def wait(child: int, signals: Set[int]) -> int:
+    """Waits for the end of the program. Signals, which are blocked so that none is missed, are passed on to it."""
+    while True:
+        number = signal.sigwait(signals)
+        if number != signal.SIGCHLD:
+            os.kill(child, number)
+            continue
+        found, ended = os.waitpid(child, os.WNOHANG)
+        if found:
+            return ended
+
+
 def run(program: str, words: List[str]) -> Outcome:
-    """Runs the program to its end."""
+    """Runs the program to its end. What would end this process before ends the program, and then this process."""
+    signal.signal(signal.SIGCHLD, signal.SIG_DFL)
+    signals = {number for number in PASSED_ON if signal.getsignal(number) != signal.SIG_IGN} | {signal.SIGCHLD}
+    mask = signal.pthread_sigmask(signal.SIG_BLOCK, signals)
     this = Run()
-    this.hand_signals_on()
-    threads = this.start(program, words)
-    return this.wait(threads)
+    child, threads = this.start(program, words, mask)
+    ended = wait(child, signals)
+    for number in signals:
+        signal.signal(number, signal.SIG_DFL)
+    signal.pthread_sigmask(signal.SIG_SETMASK, mask)
+    return this.outcome(ended, threads)
