@@ -4,7 +4,11 @@ Of each source the trace has the same rows in the same order as in turns; a row 
 later time; and the end line counts what the trace has.
 """
 
+import re
 from typing import NamedTuple
+
+CHARACTERS_SHOWN = 2000
+TRACE_LINE = re.compile(r"(\d+),(\d+),(\d+\.\d{9}),(A|L\d+\.\d{9})(?:,(.*))?")
 
 
 class TraceRow(NamedTuple):
@@ -14,21 +18,21 @@ class TraceRow(NamedTuple):
     number: str
     time: str
     mark: str
-    fields: str
+    fields: str | None
 
 
 def trace_rows(trace: bytes) -> list[TraceRow]:
-    """The rows of a trace, in its order."""
-    rows = []
-    for line in trace.decode("utf-8", "surrogateescape").split("\n")[:-1]:
-        parts = line.split(",", 4)
-        rows.append(TraceRow(*(parts + [""] * (5 - len(parts)))))
-    return rows
+    """The rows of a trace, in its order. A ValueError tells of a line that is none."""
+    lines = trace.decode("utf-8", "surrogateescape").split("\n")
+    matches = [TRACE_LINE.fullmatch(line) for line in lines[:-1]]
+    if lines[-1] or None in matches:
+        raise ValueError("a line of the trace is no trace line, or has no end")
+    return [TraceRow(*match.groups()) for match in matches if match]
 
 
-def rows_by_source(rows: list[TraceRow]) -> dict[str, list[tuple[str, str, str]]]:
+def rows_by_source(rows: list[TraceRow]) -> dict[str, list[tuple[str, str, str | None]]]:
     """Of each source its rows without their marks, which may differ from run to run."""
-    by_source: dict[str, list[tuple[str, str, str]]] = {}
+    by_source: dict[str, list[tuple[str, str, str | None]]] = {}
     for row in rows:
         by_source.setdefault(row.source, []).append((row.number, row.time, row.fields))
     return by_source
@@ -60,12 +64,16 @@ def end_line_complaint(expected_end: str, end: str, rows: list[TraceRow], verdic
 
 def complaints_on_threads(expected_out: bytes, expected_trace: bytes, out: bytes, trace: bytes) -> list[str]:
     """What a run on threads did not keep of the above, compared with what the run in turns has to write."""
-    rows = trace_rows(trace)
+    came = trace.decode(errors="replace")[:CHARACTERS_SHOWN]
+    try:
+        rows = trace_rows(trace)
+    except ValueError as error:
+        return [f"on threads: {error}:\n{came}"]
     complaints = []
     if rows_by_source(rows) != rows_by_source(trace_rows(expected_trace)):
-        complaints.append(f"on threads: other rows than in turns, or in another order within a source:\n{trace.decode(errors='replace')}")
+        complaints.append(f"on threads: other rows than in turns, or in another order within a source:\n{came}")
     if [row.mark for row in rows] != right_marks(rows):
-        complaints.append(f"on threads: a wrong mark in the trace:\n{trace.decode(errors='replace')}")
+        complaints.append(f"on threads: a wrong mark in the trace:\n{came}")
     lines = out.decode("utf-8", "replace").splitlines() or [""]
     expected_end = (expected_out.decode("utf-8", "replace").splitlines() or [""])[-1]
     wrong_end = end_line_complaint(expected_end, lines[-1], rows, len(lines) - 1)
