@@ -5,7 +5,7 @@ use Rattle.lola_model.specs.Bounds.{ArePanesOf, HasBounds, pacing_at}
 use Rattle.lola_model.specs.Named.{all_windows, is_span}
 use Rattle.lola_model.specs.Store.{StreamLayout, layouts_from}
 use Rattle.lola_model.specs.declared.pacing.Pacing.{Pacing}
-use Rattle.lola_model.specs.declared.pacing.Pacing.TheVariants.{Event, Periodic}
+use Rattle.lola_model.specs.declared.pacing.Pacing.TheVariants.{Event, Periodic, Local}
 use Rattle.lola_model.specs.declared.plan.PaneSize.{PaneSize}
 use Rattle.lola_model.specs.declared.plan.Plan.{Plan}
 use Rattle.lola_model.specs.declared.spec.Stream.{Stream}
@@ -44,6 +44,7 @@ by_pacing : (o : Option Pacing) (w : WindowSpec) (p : PaneSize) → ArePanesOf o
 by_pacing None w p h = absurd h
 by_pacing (Some (Event f)) w p h = absurd h
 by_pacing (Some (Periodic r)) w p h = h.count
+by_pacing (Some (Local r)) w p h = absurd h
 
 -- the windows of a plan are cut into panes
 pub cut_of : (plan : Plan) → HasBounds plan → IsTrue (all_windows is_span plan.spec.windows)

@@ -6,7 +6,7 @@ use Rattle.lola_model.specs.Bounds.{ArePanes, ArePanesOf, pacing_at}
 use Rattle.lola_model.specs.declared.spec.Spec.{Spec}
 use Rattle.lola_model.specs.declared.spec.WindowSpec.{WindowSpec}
 use Rattle.lola_model.specs.declared.pacing.Pacing.{Pacing}
-use Rattle.lola_model.specs.declared.pacing.Pacing.TheVariants.{Event, Periodic}
+use Rattle.lola_model.specs.declared.pacing.Pacing.TheVariants.{Event, Periodic, Local}
 use Rattle.lola_model.specs.declared.pacing.ClausePacings.{ClausePacings}
 use Rattle.lola_model.specs.declared.plan.PaneSize.{PaneSize}
 
@@ -14,6 +14,7 @@ use Rattle.lola_model.specs.declared.plan.PaneSize.{PaneSize}
 abbrev pub rate_of : Option Pacing → Option Ratio
 rate_of (Some (Periodic r)) = Some r
 rate_of (Some (Event sets)) = None
+rate_of (Some (Local r)) = None
 rate_of None = None
 
 -- a window in a clause of this rate has panes, and not too many: the period is a whole number of nanoseconds,

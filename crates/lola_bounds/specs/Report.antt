@@ -13,7 +13,7 @@ use Rattle.lola_model.specs.declared.spec.WindowSpec.{WindowSpec}
 use Rattle.lola_model.specs.Implication.{has_input}
 use Rattle.lola_model.specs.declared.pacing.InputSet.{InputSet}
 use Rattle.lola_model.specs.declared.pacing.Pacing.{Pacing}
-use Rattle.lola_model.specs.declared.pacing.Pacing.TheVariants.{Event, Periodic}
+use Rattle.lola_model.specs.declared.pacing.Pacing.TheVariants.{Event, Periodic, Local}
 use Rattle.lola_model.specs.declared.spec.Stream.{Stream}
 
 -- texts one after another, with a separator before each but the first
@@ -39,11 +39,16 @@ sets_text streams sets = joined (codes " || ") true (map (set_text streams) sets
 abbrev pub rate_text : Ratio → List ℕ
 rate_text r = decimal r.num ++ ((if nat_eq r.den 1 then [] else 47 ∷ decimal r.den) ++ codes "Hz")
 
+-- a rate that counts from the birth of each instance
+abbrev pub local_text : Ratio → List ℕ
+local_text r = codes "Local(" ++ (rate_text r ++ codes ")")
+
 -- a clause's pacing
 abbrev pub pacing_text : List Stream → Option Pacing → List ℕ
 pacing_text streams None = []
 pacing_text streams (Some (Event sets)) = sets_text streams sets
 pacing_text streams (Some (Periodic r)) = rate_text r
+pacing_text streams (Some (Local r)) = local_text r
 
 -- a kind, as specifications spell it
 abbrev pub kind_name : Kind → List ℕ

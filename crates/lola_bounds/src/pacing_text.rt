@@ -3,7 +3,7 @@
 ghost use Rattle.std.specs.Prelude.{◌≡◌, ◌++◌, ◌≤◌, ◌<◌, [], ◌∷◌, nat_eq, decimal, OnOk, if◌then◌else◌, filter, length};
 ghost use Rattle.lola_model.specs.Implication.{has_input};
 ghost use Rattle.lola_model.specs.Model.{is_input};
-ghost use Rattle.lola_bounds.specs.Report.{set_text, sets_text, rate_text, pacing_text};
+ghost use Rattle.lola_bounds.specs.Report.{set_text, sets_text, rate_text, local_text, pacing_text};
 
 use lola_model::pacing::{InputSet, Pacing};
 use lola_model::spec::Stream;
@@ -86,6 +86,15 @@ fn rate_text(rate: &Rate, to: &mut Text) -> Result<(), Memory>
     to.append(b"Hz")
 }
 
+/// Appends a local rate.
+fn local_text(rate: &Rate, to: &mut Text) -> Result<(), Memory>
+    ensures { OnOk result (to.new ≡ to.old ++ local_text rate.now) }
+{
+    to.append(b"Local(")?;
+    rate_text(rate, to)?;
+    to.append(b")")
+}
+
 /// Appends a pacing.
 pub(crate) fn pacing_text(
     streams: &[Stream],
@@ -99,5 +108,6 @@ pub(crate) fn pacing_text(
         None => Ok(()),
         Some(Pacing::Event(form)) => sets_text(streams, form.as_slice(), to),
         Some(Pacing::Periodic(rate)) => rate_text(rate, to),
+        Some(Pacing::Local(rate)) => local_text(rate, to),
     }
 }

@@ -1,5 +1,5 @@
 pub mod Moments
 pub mod Setting
-pub mod Coming
+pub mod NextStep
 pub mod Passing
 pub mod Following

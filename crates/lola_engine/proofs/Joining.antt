@@ -6,6 +6,8 @@ use Rattle.lola_model.specs.Content.{Content}
 use Rattle.lola_model.specs.Faults.{RowFault, RunFault, at_time, fault_of_last, row_fault}
 use Rattle.lola_model.specs.Journal.{accepted, merged_from, opening_time}
 use Rattle.lola_model.specs.Model.{answered, last_row, model, the_instance}
+use Rattle.lola_model.specs.Acceptance.{IsAccepted}
+use Rattle.lola_model.proofs.RunModels.{accepted_listed}
 use Rattle.lola_model.specs.Runs.{content_after, final_lines, first_fault, run_start, settled_fault, settled_lines, settled_model, whole_model}
 use Rattle.lola_model.specs.Standing.{StandsBetween}
 use Rattle.lola_model.specs.Steps.{all_steps, deadline_step, deadline_steps, rates_of, row_step, settled_steps, start_of}
@@ -26,7 +28,7 @@ use Rattle.lola_engine.specs.Going.{Add, CutsOn, FailsOn, Goes, HasKept, HasRun,
 use Rattle.lola_engine.specs.declared.engine.Desk.{Desk}
 use Rattle.lola_engine.specs.declared.end.EngineEnd.{EngineEnd}
 use Rattle.lola_engine.specs.declared.end.EngineEnd.TheVariants.{Fault, Memory}
-use Rattle.lola_model.proofs.Growing.{model_none, rows_are_steps}
+use Rattle.lola_model.proofs.Growing.{is_ended, model_none, rows_are_steps}
 use Rattle.lola_engine.proofs.Loop.{due_goes_on}
 use Rattle.lola_engine.proofs.Rows.{at_last, first_row, no_last, no_second, one_row_more, start_stays}
 use Rattle.lola_engine.proofs.Tables.{faulty_lines, fine_goes_on, lines_stay}
@@ -64,13 +66,12 @@ has_renamed t start steps m s names m2 s2 h naming texts stands = record {
   lines_are = h.lines_are;
 }
 
-module _ (e : Desk) (s : Seen) (m : Memories) (journal : List Entry) (h : StandsFor e s m journal) where
+module _ (e : Desk) (known : IsAccepted e.plan) (s : Seen) (m : Memories) (journal : List Entry) (h : StandsFor e s m journal) where
   abbrev steps : List Step
   steps = settled_steps e.plan.pacings e.option (accepted journal)
 
   pub model_is : (start : ℕ) → start_of e.option (accepted journal) ≡ start → model e.plan start steps ≡ settled_model e.plan e.option journal
-  unfolding settled_model
-  model_is start here = ap (λ z. model e.plan z steps) (sym here)
+  model_is start here = ap (λ z. model e.plan z steps) (sym here) ∙ sym ((accepted_listed e.plan known).settled e.option journal)
 
   fine_is : fault_of_last (last_row (settled_model e.plan e.option journal)) ≡ None
   unfolding settled_fault
@@ -95,8 +96,9 @@ module _ (e : Desk) (s : Seen) (m : Memories) (journal : List Entry) (h : Stands
 
   -- a waiting engine has run none
   waiting_model : IsWaiting e s m journal → settled_model e.plan e.option journal ≡ []
-  unfolding settled_model
-  waiting_model w = ap (λ rows. model e.plan (start_of e.option rows) (settled_steps e.plan.pacings e.option rows)) w.none ∙ model_none e.plan (start_of e.option [])
+  waiting_model w =
+      (accepted_listed e.plan known).settled e.option journal
+      ∙ (ap (λ rows. model e.plan (start_of e.option rows) (settled_steps e.plan.pacings e.option rows)) w.none ∙ model_none e.plan (start_of e.option []))
 
   waiting_steps : IsWaiting e s m journal → steps ≡ []
   waiting_steps w = ap (λ rows. settled_steps e.plan.pacings e.option rows) w.none
@@ -128,8 +130,8 @@ module _ (e : Desk) (s : Seen) (m : Memories) (row : Row) (names : Naming) (cloc
               one_row_more e.plan.pacings e.option journal row start e.clock.passed longer here (passed_behind u here)
               ∙ ap (λ ds. settled_steps e.plan.pacings e.option (accepted journal) ++ (ds ++ row_step row ∷ []))
               (ap (λ rs. deadline_steps rs start (e.clock.passed - start) (row.stamp - start)) (sym engine.sound.rates) ∙ ap (λ k. due_steps k start row.stamp) (sym same));
-          model_is = model_is e s m journal h start here;
-          has = has_renamed (tally_of e) start (settled_steps e.plan.pacings e.option (accepted journal)) m s names m2 s2 (has_run e s m journal h u start here) naming texts stands;
+          model_is = model_is e engine.sound.accepted s m journal h start here;
+          has = has_renamed (tally_of e) start (settled_steps e.plan.pacings e.option (accepted journal)) m s names m2 s2 (has_run e engine.sound.accepted s m journal h u start here) naming texts stands;
           passed = (let q : clock.passed ≡ e.clock.passed = ap (λ (k : ClockState). k.passed) same in omega (arith, q, u.passed, here, h.merged, order));
         }
 
@@ -137,7 +139,7 @@ module _ (e : Desk) (s : Seen) (m : Memories) (row : Row) (names : Naming) (cloc
     begins_waiting : IsWaiting e s m journal → start ≡ row.stamp → clock ≡ record e.clock { start = Some row.stamp; passed = row.stamp }
         → StandsBetween names m2 s2 (content_after e.plan row.stamp []) → Begins e names clock row start m2 s2 journal
     begins_waiting w at is stands =
-        let none = waiting_steps e s m journal h w in
+        let none = waiting_steps e engine.sound.accepted s m journal h w in
         let passed_is : clock.passed ≡ row.stamp = ap (λ (k : ClockState). k.passed) is in
         let empty : model e.plan start (settled_steps e.plan.pacings e.option (accepted journal)) ≡ [] = ap (model e.plan start) none ∙ model_none e.plan start in
         record {
@@ -147,13 +149,13 @@ module _ (e : Desk) (s : Seen) (m : Memories) (row : Row) (names : Naming) (cloc
               ∙ (ap (λ z. [] ++ (deadline_steps (rates_of e.plan.pacings) z (clock.passed - z) (row.stamp - z) ++ row_step row ∷ [])) (sym at)
               ∙ (ap (λ rs. [] ++ (deadline_steps rs start (clock.passed - start) (row.stamp - start) ++ row_step row ∷ [])) (sym (ap (λ (k : ClockState). k.rates) is ∙ engine.sound.rates))
               ∙ ap (λ xs. xs ++ (due_steps clock start row.stamp ++ row_step row ∷ [])) (sym none)));
-          model_is = empty ∙ sym (waiting_model e s m journal h w);
+          model_is = empty ∙ sym (waiting_model e engine.sound.accepted s m journal h w);
           has = record {
             fine = ap (λ t. fault_of_last (last_row t)) empty;
             run = subst (λ t. IsRun e.plan names t) (sym empty) (record { naming = naming; texts = texts; of_rows = of_no_rows; settled = settled_at_none e.plan });
             stands = subst (λ t. StandsBetween names m2 s2 (content_after e.plan start t)) (sym empty) (subst (λ z. StandsBetween names m2 s2 (content_after e.plan z [])) (sym at) stands);
-            steps_are = h.steps ∙ ap length (waiting_model e s m journal h w ∙ sym empty);
-            lines_are = lines_is e s m journal h ∙ ap (λ t. length (table_lines e.show e.plan.spec.streams t)) (waiting_model e s m journal h w ∙ sym empty);
+            steps_are = h.steps ∙ ap length (waiting_model e engine.sound.accepted s m journal h w ∙ sym empty);
+            lines_are = lines_is e engine.sound.accepted s m journal h ∙ ap (λ t. length (table_lines e.show e.plan.spec.streams t)) (waiting_model e engine.sound.accepted s m journal h w ∙ sym empty);
           };
           passed = omega (arith, passed_is, at);
         }
@@ -170,7 +172,7 @@ module _ (e : Desk) (s : Seen) (m : Memories) (row : Row) (names : Naming) (cloc
     begins journal h = begins_by journal h h.state
 
 -- the journal with the row
-module _ (e : Desk) (s : Seen) (m : Memories) (row : Row) (names : Naming) (clock : ClockState) (start : ℕ) (m2 : Memories) (s2 : Seen)
+module _ (e : Desk) (known : IsAccepted e.plan) (s : Seen) (m : Memories) (row : Row) (names : Naming) (clock : ClockState) (start : ℕ) (m2 : Memories) (s2 : Seen)
     (begin : (journal : List Entry) → StandsFor e s m journal → Begins e names clock row start m2 s2 journal) where
   abbrev more : List Step
   more = due_steps clock start row.stamp ++ row_step row ∷ []
@@ -189,11 +191,11 @@ module _ (e : Desk) (s : Seen) (m : Memories) (row : Row) (names : Naming) (cloc
     rows_are = accepted-append_accepted journal (accepted_entry row) refl
 
     settled_is : settled_model e.plan e.option longer ≡ model e.plan start (past ++ more)
-    unfolding settled_model
     settled_is =
         let b = begin journal h in
-        ap (λ rows. model e.plan (start_of e.option rows) (settled_steps e.plan.pacings e.option rows)) rows_are
-        ∙ (ap (λ z. model e.plan z (settled_steps e.plan.pacings e.option (accepted journal ++ row ∷ []))) b.start_is ∙ ap (model e.plan start) b.steps_are)
+        (accepted_listed e.plan known).settled e.option longer
+        ∙ (ap (λ rows. model e.plan (start_of e.option rows) (settled_steps e.plan.pacings e.option rows)) rows_are
+        ∙ (ap (λ z. model e.plan z (settled_steps e.plan.pacings e.option (accepted journal ++ row ∷ []))) b.start_is ∙ ap (model e.plan start) b.steps_are))
 
     brings : (lines : List (List ℕ)) → Add before start past more lines → Brings e journal (accepted_entry row) lines
     unfolding settled_lines
@@ -298,7 +300,7 @@ module _ (e : Desk) (s : Seen) (m : Memories) (row : Row) (names : Naming) (cloc
           }
 
 -- where the row could not be read, nothing of its lines is appended
-module _ (e : Desk) (s : Seen) (m : Memories) (row : Row) (x : List ℕ) (journal : List Entry) (h : StandsFor e s m journal) where
+module _ (e : Desk) (known : IsAccepted e.plan) (s : Seen) (m : Memories) (row : Row) (x : List ℕ) (journal : List Entry) (h : StandsFor e s m journal) where
   row_is_last : accepted (journal ++ accepted_entry row ∷ []) ≡ accepted journal ++ row ∷ []
   row_is_last = accepted-append_accepted journal (accepted_entry row) refl
 
@@ -307,19 +309,22 @@ module _ (e : Desk) (s : Seen) (m : Memories) (row : Row) (x : List ℕ) (journa
 
   nothing : IsWaiting e s m journal → settled_lines e.plan e.option journal e.show ≡ []
   unfolding settled_lines
-  nothing w = ap (table_lines e.show e.plan.spec.streams) (waiting_model e s m journal h w)
+  nothing w = ap (table_lines e.show e.plan.spec.streams) (waiting_model e known s m journal h w)
 
   a_front : (start : ℕ) (more : List Step) → start_of e.option (accepted journal ++ row ∷ []) ≡ start → start_of e.option (accepted journal) ≡ start
       → settled_steps e.plan.pacings e.option (accepted journal ++ row ∷ []) ≡ settled_steps e.plan.pacings e.option (accepted journal) ++ more
       → (lines : List (List ℕ)) × Brings e journal (accepted_entry row) lines
-  unfolding settled_lines settled_model
+  unfolding settled_lines
   a_front start more longer here steps_are =
+      let law = accepted_listed e.plan known in
       let w = lines_stay e.plan start e.show (settled_steps e.plan.pacings e.option (accepted journal)) more in (
         w.0,
-        ap (λ rows. table_lines e.show e.plan.spec.streams (model e.plan (start_of e.option rows) (settled_steps e.plan.pacings e.option rows))) row_is_last
+        ap (table_lines e.show e.plan.spec.streams) (law.settled e.option (journal ++ accepted_entry row ∷ []))
+            ∙ (ap (λ rows. table_lines e.show e.plan.spec.streams (model e.plan (start_of e.option rows) (settled_steps e.plan.pacings e.option rows))) row_is_last
             ∙ (ap (λ z. table_lines e.show e.plan.spec.streams (model e.plan z (settled_steps e.plan.pacings e.option (accepted journal ++ row ∷ [])))) longer
             ∙ (ap (λ xs. table_lines e.show e.plan.spec.streams (model e.plan start xs)) steps_are
-            ∙ (w.1 ∙ ap (λ z. table_lines e.show e.plan.spec.streams (model e.plan z (settled_steps e.plan.pacings e.option (accepted journal))) ++ w.0) (sym here)))),
+            ∙ (w.1 ∙ ap (λ z. table_lines e.show e.plan.spec.streams (model e.plan z (settled_steps e.plan.pacings e.option (accepted journal))) ++ w.0) (sym here)
+            ∙ ap (λ t. table_lines e.show e.plan.spec.streams t ++ w.0) (sym (law.settled e.option journal)))))),
       )
 
   unread_by : IsWaiting e s m journal ⊎ IsUnderWay e s m journal → CutsRow row journal e x x
@@ -332,8 +337,8 @@ module _ (e : Desk) (s : Seen) (m : Memories) (row : Row) (x : List ℕ) (journa
       let f = a_front start _ longer refl (one_row_more e.plan.pacings e.option journal row start e.clock.passed longer refl (omega (arith, u.passed, h.merged))) in
       cut f.0 f.1
 
-pub accepts_unread : (e : Desk) (s : Seen) (m : Memories) (row : Row) (x : List ℕ) (new : Desk) (s' : Seen) (m' : Memories) → Accepts (Err Memory) row e s m new s' m' x x
-accepts_unread e s m row x new s' m' = λ journal h. unread_by e s m row x journal h h.state
+pub accepts_unread : (e : Desk) → IsAccepted e.plan → (s : Seen) (m : Memories) (row : Row) (x : List ℕ) (new : Desk) (s' : Seen) (m' : Memories) → Accepts (Err Memory) row e s m new s' m' x x
+accepts_unread e known s m row x new s' m' = λ journal h. unread_by e known s m row x journal h h.state
 
 -- the end of a run
 
@@ -350,17 +355,21 @@ nothing_behind : {A : Type 0} (ks ls : List A) → ks ++ ls ≡ ks ++ [] → ls 
 nothing_behind ks ls k = let q = ap length k in nothing_of ls (omega (arith, q, length-append ks ls, ap length (append-nil ks)))
 
 -- without a fault each step has its row
-whole_is_all : (plan : Plan) (option : Option ℕ) (journal : List Entry) → first_fault plan option journal ≡ None → length (whole_model plan option journal) ≡ length (all_steps plan.pacings option (accepted journal))
-unfolding first_fault whole_model
-whole_is_all plan option journal fine =
-    rows_are_steps plan (start_of option (accepted journal)) (all_steps plan.pacings option (accepted journal)) (fine_goes_on (whole_model plan option journal) fine)
+whole_is_all : (plan : Plan) → IsAccepted plan → (option : Option ℕ) (journal : List Entry) → first_fault plan option journal ≡ None → length (whole_model plan option journal) ≡ length (all_steps plan.pacings option (accepted journal))
+unfolding first_fault
+whole_is_all plan known option journal fine =
+    let listed = (accepted_listed plan known).whole option journal in
+    ap length listed
+    ∙ rows_are_steps plan (start_of option (accepted journal)) (all_steps plan.pacings option (accepted journal)) (ap is_ended (sym listed) ∙ fine_goes_on (whole_model plan option journal) fine)
 
-module _ (e : Desk) (s : Seen) (m : Memories) (journal : List Entry) (h : StandsFor e s m journal) where
+module _ (e : Desk) (known : IsAccepted e.plan) (s : Seen) (m : Memories) (journal : List Entry) (h : StandsFor e s m journal) where
   -- no step is left
   module _ (none : all_steps e.plan.pacings e.option (accepted journal) ≡ settled_steps e.plan.pacings e.option (accepted journal) ++ []) where
     whole_is_settled : whole_model e.plan e.option journal ≡ settled_model e.plan e.option journal
-    unfolding whole_model settled_model
-    whole_is_settled = ap (model e.plan (start_of e.option (accepted journal))) (none ∙ append-nil (settled_steps e.plan.pacings e.option (accepted journal)))
+    whole_is_settled =
+        (accepted_listed e.plan known).whole e.option journal
+        ∙ (ap (model e.plan (start_of e.option (accepted journal))) (none ∙ append-nil (settled_steps e.plan.pacings e.option (accepted journal)))
+        ∙ sym ((accepted_listed e.plan known).settled e.option journal))
 
     final_is_settled : final_lines e.plan e.option journal e.show ≡ settled_lines e.plan e.option journal e.show
     unfolding final_lines settled_lines
@@ -377,7 +386,7 @@ module _ (e : Desk) (s : Seen) (m : Memories) (journal : List Entry) (h : Stands
       completes = final_is_settled ∙ sym (append-nil (settled_lines e.plan e.option journal e.show));
       text = sym (append-nil x);
       steps = h.steps ∙ ap length (sym whole_is_settled);
-      all = h.steps ∙ (ap length (sym whole_is_settled) ∙ whole_is_all e.plan e.option journal fine_at_last);
+      all = h.steps ∙ (ap length (sym whole_is_settled) ∙ whole_is_all e.plan known e.option journal fine_at_last);
       counted = h.lines ∙ ap length (sym final_is_settled);
     }
 
@@ -388,13 +397,14 @@ module _ (e : Desk) (s : Seen) (m : Memories) (journal : List Entry) (h : Stands
     done = settled_steps e.plan.pacings e.option (accepted journal)
 
     whole_is : whole_model e.plan e.option journal ≡ model e.plan start (done ++ of ∷ [])
-    unfolding whole_model
-    whole_is = ap (λ z. model e.plan z (all_steps e.plan.pacings e.option (accepted journal))) here ∙ ap (model e.plan start) one
+    whole_is =
+        (accepted_listed e.plan known).whole e.option journal
+        ∙ (ap (λ z. model e.plan z (all_steps e.plan.pacings e.option (accepted journal))) here ∙ ap (model e.plan start) one)
 
     completes_by : (lines : List (List ℕ)) → Add (tally_of e) start done (of ∷ []) lines → Completes e journal lines
     unfolding final_lines settled_lines
     completes_by lines add =
-        ap (table_lines e.show e.plan.spec.streams) whole_is ∙ (add ∙ ap (λ t. table_lines e.show e.plan.spec.streams t ++ lines) (model_is e s m journal h start here))
+        ap (table_lines e.show e.plan.spec.streams) whole_is ∙ (add ∙ ap (λ t. table_lines e.show e.plan.spec.streams t ++ lines) (model_is e known s m journal h start here))
 
     fault_by : (o : Option RunFault) → fault_of_last (last_row (model e.plan start (done ++ of ∷ []))) ≡ o → first_fault e.plan e.option journal ≡ o
     unfolding first_fault
@@ -420,7 +430,7 @@ module _ (e : Desk) (s : Seen) (m : Memories) (journal : List Entry) (h : Stands
         completes = completes_by r.lines r.add;
         text = r.text;
         steps = has_last.steps_are ∙ ap length (sym whole_is);
-        all = has_last.steps_are ∙ (ap length (sym whole_is) ∙ whole_is_all e.plan e.option journal (fault_by None has_last.fine));
+        all = has_last.steps_are ∙ (ap length (sym whole_is) ∙ whole_is_all e.plan known e.option journal (fault_by None has_last.fine));
         counted = lines_last;
       }
 
@@ -445,9 +455,9 @@ module _ (e : Desk) (s : Seen) (m : Memories) (journal : List Entry) (h : Stands
     cuts_out x0 x1 f = record { lines = f.lines; completes = completes_by f.lines f.add; part = f.part; rest = f.rest; joined = f.joined; text = f.text }
 
 -- no row was accepted
-pub finishes_at_once : (e : Desk) (s : Seen) (m : Memories) (x : List ℕ) → e.rows ≡ 0 → Finishes (Ok tt) e s m e x x
-finishes_at_once e s m x none =
-    λ journal h. runs_out_of_none e s m journal h (no_last e.plan.pacings e.option journal (nothing_of (accepted journal) (sym h.rows ∙ none))) x
+pub finishes_at_once : (e : Desk) → IsAccepted e.plan → (s : Seen) (m : Memories) (x : List ℕ) → e.rows ≡ 0 → Finishes (Ok tt) e s m e x x
+finishes_at_once e known s m x none =
+    λ journal h. runs_out_of_none e known s m journal h (no_last e.plan.pacings e.option journal (nothing_of (accepted journal) (sym h.rows ∙ none))) x
 
 -- a row was, and the clock has not started: that cannot be
 pub finishes_never : (e : Desk) (s : Seen) (m : Memories) (x : List ℕ) → (e.rows ≡ 0 → ⊥) → e.clock.start ≡ None → Finishes (Ok tt) e s m e x x
@@ -483,7 +493,7 @@ module _ (e : Desk) (s : Seen) (m : Memories) (engine : IsEngine e s) (some : e.
 
   pub finishes_none : (x : List ℕ) → due_steps e.clock start (e.merged + 1) ≡ [] → Finishes (Ok tt) e s m e x x
   finishes_none x none =
-      λ journal h. runs_out_of_none e s m journal h (all_are journal h ∙ ap (λ ds. settled_steps e.plan.pacings e.option (accepted journal) ++ ds) none) x
+      λ journal h. runs_out_of_none e engine.sound.accepted s m journal h (all_are journal h ∙ ap (λ ds. settled_steps e.plan.pacings e.option (accepted journal) ++ ds) none) x
 
   module _ (due : ℕ) (next : Some due ≡ first_to_come e.clock) (later : e.clock.passed < due) (low : due ≤ e.merged) where
     only_one : due_steps e.clock start (e.merged + 1) ≡ deadline_step due ∷ []
@@ -499,16 +509,16 @@ module _ (e : Desk) (s : Seen) (m : Memories) (engine : IsEngine e s) (some : e.
     one_left journal h = all_are journal h ∙ ap (λ ds. settled_steps e.plan.pacings e.option (accepted journal) ++ ds) only_one
 
     has_all : (journal : List Entry) (h : StandsFor e s m journal) → HasRun (tally_of e) start (settled_steps e.plan.pacings e.option (accepted journal)) m s
-    has_all journal h = has_run e s m journal h (is_going journal h) start (is_here journal h)
+    has_all journal h = has_run e engine.sound.accepted s m journal h (is_going journal h) start (is_here journal h)
 
     pub finishes_step : (r : Result (Unit {0}) EngineEnd) (new : Desk) (s' : Seen) (m' : Memories) (x0 x1 : List ℕ) → HasKept e new
         → Goes r start (deadline_step due ∷ []) (tally_of e) m s (tally_of new) m' s' x0 x1 → Finishes r e s m new x0 x1
     finishes_step (Ok _) new s' m' x0 x1 kept goes =
-        λ journal h. runs_out e s m journal h start (deadline_step due) (is_here journal h) (one_left journal h) new s' m' x0 x1 kept.plan kept.show
+        λ journal h. runs_out e engine.sound.accepted s m journal h start (deadline_step due) (is_here journal h) (one_left journal h) new s' m' x0 x1 kept.plan kept.show
         (goes (settled_steps e.plan.pacings e.option (accepted journal)) (has_all journal h))
     finishes_step (Err (Fault stream kind time)) new s' m' x0 x1 kept goes =
-        λ journal h. fails_out e s m journal h start (deadline_step due) (is_here journal h) (one_left journal h) (has_all journal h) _ x0 x1
+        λ journal h. fails_out e engine.sound.accepted s m journal h start (deadline_step due) (is_here journal h) (one_left journal h) (has_all journal h) _ x0 x1
         (goes (settled_steps e.plan.pacings e.option (accepted journal)) [] (has_all journal h))
     finishes_step (Err Memory) new s' m' x0 x1 kept goes =
-        λ journal h. cuts_out e s m journal h start (deadline_step due) (is_here journal h) (one_left journal h) x0 x1
+        λ journal h. cuts_out e engine.sound.accepted s m journal h start (deadline_step due) (is_here journal h) (one_left journal h) x0 x1
         (goes (settled_steps e.plan.pacings e.option (accepted journal)) [] (has_all journal h))

@@ -26,7 +26,7 @@ use Rattle.lola_engine.proofs.Ranges.{sound_rows, sound_started}
 module _ (plan : Plan) (option : Option ℕ) where
   none_settled : settled_model plan option [] ≡ []
   unfolding settled_model
-  none_settled = model_none plan (start_of option [])
+  none_settled = refl
 
   none_fails : settled_fault plan option [] ≡ None
   unfolding settled_fault

@@ -10,7 +10,7 @@ use Rattle.lola_model.specs.Activity.{satisfies, satisfies_some}
 use Rattle.lola_model.specs.Implication.{Implies, IsWholeMultipleOf, AreLeastSets}
 use Rattle.lola_model.specs.declared.pacing.InputSet.{InputSet}
 use Rattle.lola_model.specs.declared.pacing.Pacing.{Pacing}
-use Rattle.lola_model.specs.declared.pacing.Pacing.TheVariants.{Event, Periodic}
+use Rattle.lola_model.specs.declared.pacing.Pacing.TheVariants.{Event, Periodic, Local}
 use Rattle.lola_model.proofs.Implied.{implies_by_sets, satisfies_some-member, satisfies_some-through}
 use Rattle.lola_model.specs.PacingFound.{IsJoined, any_row, is_multiple, satisfies_both}
 use Rattle.lola_findings.specs.Laws.{TellsImplication, MeansConjunction}
@@ -36,6 +36,9 @@ told (Event a) (Event b) = sets_told a b
 told (Event a) (Periodic q) = (λ e. absurd (cc), λ h. absurd h)
 told (Periodic r) (Event b) = (λ e. absurd (cc), λ h. absurd h)
 told (Periodic r) (Periodic q) = multiple_told r q
+told (Local r) q = (λ e. absurd (cc), λ h. absurd h)
+told (Event a) (Local q) = (λ e. absurd (cc), λ h. absurd h)
+told (Periodic r) (Local q) = (λ e. absurd (cc), λ h. absurd h)
 
 -- two tests that hold together are equal
 pub same_test : (a b : Bool) → (a ≡ true → b ≡ true) → (b ≡ true → a ≡ true) → a ≡ b

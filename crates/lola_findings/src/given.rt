@@ -86,6 +86,7 @@ pub fn copied(alloc: Global, finding: &Finding) -> Result<Finding, Memory>
             Ok(Finding::Paced(Pacing::Event(copy)))
         }
         Finding::Paced(Pacing::Periodic(rate)) => Ok(Finding::Paced(Pacing::Periodic(*rate))),
+        Finding::Paced(Pacing::Local(rate)) => Ok(Finding::Paced(Pacing::Local(*rate))),
         Finding::Refused(refusal) => Ok(Finding::Refused(*refusal)),
         Finding::Unpaced => Ok(Finding::Unpaced),
     }

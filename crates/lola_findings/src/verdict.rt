@@ -35,6 +35,7 @@ pub fn verdict(finding: &Finding, over: u64) -> Option<Code>
     match finding {
         Finding::Paced(Pacing::Event(_)) => Some(Code::WindowOutsidePeriodic),
         Finding::Paced(Pacing::Periodic(rate)) => rate_verdict(rate, over),
+        Finding::Paced(Pacing::Local(_)) => Some(Code::WindowOutsidePeriodic),
         Finding::Refused(_) => None,
         Finding::Unpaced => None,
     }

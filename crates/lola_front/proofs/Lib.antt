@@ -1,3 +1,4 @@
 mod OffsetLemmas
 mod EndLemmas
 mod PaneLemmas
+mod Births

@@ -4,6 +4,7 @@ ghost use Rattle.std.specs.Prelude.{◌≡◌, ◌<◌, length, slice_get, IfOk}
 ghost use Rattle.lola_value.specs.declared.front.Code.TheVariants as code;
 ghost use Rattle.lola_model.specs.Model.{HasOneModel};
 ghost use Rattle.lola_model.specs.Named.{IsNamed};
+ghost use Rattle.lola_model.specs.Runs.{HasModelsOfRuns};
 ghost use Rattle.lola_model.specs.StepOrder.{AreRates};
 ghost use Rattle.lola_model.specs.Steps.{rates_of};
 ghost use Rattle.lola_model.specs.Typed.{IsTyped};
@@ -82,6 +83,7 @@ fn completed(alloc: Global, spec: &Spec) -> Result<Parts, FrontEnd>
 pub fn compile(alloc: Global, bytes: &[u8]) -> Result<Plan, FrontEnd>
     ensures compiles { Compiles bytes.now result }
     ensures one_model { IfOk result (λ plan. HasOneModel plan) }
+    ensures models_of_runs { IfOk result (λ plan. HasModelsOfRuns plan) }
     ensures rates { IfOk result (λ plan. AreRates (rates_of plan.pacings)) }
 {
     let spec = full(alloc, bytes)?;

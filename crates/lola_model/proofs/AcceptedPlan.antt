@@ -1,9 +1,11 @@
 -- A plan that is accepted: one input alone. So the conditions of acceptance can all be met at once.
-use Rattle.std.proofs.Common.{◌≡◌, refl, arith, ℕ, zero, suc, ◌≤◌, List, [], ◌∷◌, Some, None, length, slice_get}
+use Rattle.std.proofs.Common.{◌≡◌, refl, arith, ℕ, zero, suc, ◌≤◌, List, [], ◌∷◌, Some, length, slice_get}
 use Rattle.lola_model.specs.Acceptance.{IsAccepted}
 use Rattle.lola_model.specs.Accepted.{HasLayers, IsAcyclic}
 use Rattle.lola_model.specs.Bounds.{HasBounds, IsKept}
-use Rattle.lola_model.specs.Graph.{AllWeightless, IsWalk}
+use Rattle.lola_model.specs.NextStep.{HasRates, local_rates}
+use Rattle.lola_model.specs.Graph.{IsWalk}
+use Rattle.lola_model.specs.StepOrder.{AreRates}
 use Rattle.lola_model.specs.Named.{IsNamed}
 use Rattle.lola_model.specs.Pacings.{ArePacings}
 use Rattle.lola_model.specs.Typed.{IsTyped}
@@ -73,5 +75,12 @@ kept_one (suc n) k e = absurd (cc)
 has_bounds : HasBounds one_input
 has_bounds = record { kept_count = refl; kept = kept_one; pane_count = refl; panes = λ i w e. absurd (cc); few = λ i p e. absurd (cc) }
 
+has_rates : HasRates one_input.pacings
+has_rates = record { counted_from_start = tt; counted_from_births = no_births }
+  where
+    no_births : (n : ℕ) → AreRates (local_rates (slice_get one_input.pacings n))
+    no_births zero = tt
+    no_births (suc n) = tt
+
 is_accepted : IsAccepted one_input
-is_accepted = record { named = is_named; typed = is_typed; paced = are_pacings; acyclic = is_acyclic; layers = has_layers; layer_count = refl; bounds = has_bounds }
+is_accepted = record { named = is_named; typed = is_typed; paced = are_pacings; acyclic = is_acyclic; layers = has_layers; layer_count = refl; bounds = has_bounds; rates = has_rates }

@@ -114,7 +114,7 @@ module _ (plan : Plan) (start : ℕ) where
 -- where there is no fault there is a row for each step
 
 -- of rows without a fault at the end, the later ones
-later_fine : (row : TableRow) (table : List TableRow) → is_ended (row ∷ table) ≡ false → is_ended table ≡ false
+pub later_fine : (row : TableRow) (table : List TableRow) → is_ended (row ∷ table) ≡ false → is_ended table ≡ false
 later_fine row [] h = refl
 later_fine row (r ∷ table) h = h
 

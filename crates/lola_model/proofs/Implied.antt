@@ -19,7 +19,7 @@ use Rattle.lola_model.specs.Activity.{satisfies, satisfies_some, present, is_dea
 use Rattle.lola_model.specs.Implication.{IsWithin, AreApart, AreLeastSets, has_input, satisfies_formula, IsNormalFormOf, FormulaImplies, IsWholeMultipleOf, IsPacing, Implies, MeansImplication}
 use Rattle.lola_model.specs.declared.pacing.InputSet.{InputSet}
 use Rattle.lola_model.specs.declared.pacing.Pacing.{Pacing}
-use Rattle.lola_model.specs.declared.pacing.Pacing.TheVariants.{Event, Periodic}
+use Rattle.lola_model.specs.declared.pacing.Pacing.TheVariants.{Event, Periodic, Local}
 use Rattle.lola_model.specs.declared.spec.Formula.{Formula}
 use Rattle.lola_model.specs.declared.spec.Formula.TheVariants.{Input, And', Or'}
 
@@ -217,6 +217,9 @@ implied_at start time fields (Event a) (Periodic q) hp hq i e = absurd i
 implied_at start time fields (Periodic r) (Event b) hp hq i e = absurd i
 implied_at start time (Some fields) (Periodic r) (Periodic q) hp hq i e = absurd (cc)
 implied_at start time None (Periodic r) (Periodic q) hp hq i e = multiple_is_due r q i hp hq (time - start) e
+implied_at start time fields (Local r) q hp hq i e = absurd i
+implied_at start time fields (Event a) (Local q) hp hq i e = absurd i
+implied_at start time fields (Periodic r) (Local q) hp hq i e = absurd i
 
 -- in each step in which a pacing is active, each that it implies is
 pub implied_is_active : (start : ℕ) (step : Step) (p q : Pacing) → IsPacing p → IsPacing q → Implies p q → is_active start step (Some p) ≡ true → is_active start step (Some q) ≡ true

@@ -3,9 +3,10 @@ use Rattle.std.proofs.Common.{◌≡◌, ◌<◌, ◌≤◌, subst, refl, ap, sy
 use Rattle.lola_model.specs.Journal.{time_after, IsRightlyMarked, IsLegalFrom, merged_from, add_accepted, accepted, rows_of}
 use Rattle.lola_model.specs.Table.{TableRow}
 use Rattle.lola_model.specs.Runs.{run_start, settled_model, whole_model, settled_lines, final_lines, settled_fault, first_fault}
-use Rattle.lola_model.specs.Model.{model, last_row}
+use Rattle.lola_model.specs.Model.{made, last_row}
 use Rattle.lola_model.specs.Faults.{fault_of_last}
-use Rattle.lola_model.specs.Steps.{start_of, settled_steps, all_steps}
+use Rattle.lola_model.specs.Steps.{start_of}
+use Rattle.lola_model.specs.NextStep.{next_step, next_settled, most_steps, after_last}
 use Rattle.lola_model.specs.Texts.{row_lines, table_lines, text_of}
 use Rattle.lola_model.specs.Trace.{trace_line, trace_text}
 use Rattle.lola_model.specs.declared.journal.Row.{Row}
@@ -184,12 +185,12 @@ module _ (plan : Plan) (start : Option ℕ) (es fs : List Entry) where
   -- without the last deadline
   pub settled_model-by_accepted : accepted es ≡ accepted fs → settled_model plan start es ≡ settled_model plan start fs
   unfolding settled_model
-  settled_model-by_accepted h = ap (λ rows. model plan (start_of start rows) (settled_steps plan.pacings start rows)) h
+  settled_model-by_accepted h = ap (λ rows. made plan (start_of start rows) (next_settled plan (start_of start rows) rows) (most_steps 0 0 rows) []) h
 
   -- with it
   pub whole_model-by_accepted : accepted es ≡ accepted fs → whole_model plan start es ≡ whole_model plan start fs
   unfolding whole_model
-  whole_model-by_accepted h = ap (λ rows. model plan (start_of start rows) (all_steps plan.pacings start rows)) h
+  whole_model-by_accepted h = ap (λ rows. made plan (start_of start rows) (next_step plan (start_of start rows) rows) (most_steps (after_last rows) 0 rows) []) h
 
 -- so a late entry changes nothing
 module _ (plan : Plan) (start : Option ℕ) (es : List Entry) (e : Entry) (t : ℕ) (late : e.mark ≡ mark.Late t) where

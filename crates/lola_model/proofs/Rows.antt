@@ -26,7 +26,7 @@ use Rattle.lola_model.specs.Steps.{all_steps}
 use Rattle.lola_model.specs.Model.{model, IsModel, in_order, the_instance}
 use Rattle.lola_model.specs.Table.{Step, TableRow, StreamRow, Idle}
 use Rattle.lola_model.specs.Content.{outcome_among}
-use Rattle.lola_model.specs.Texts.{text_of}
+use Rattle.lola_model.specs.Texts.{text_of, trigger_line, output_line}
 use Rattle.lola_model.specs.Trace.{IsTraceable, trace_line}
 use Rattle.lola_model.specs.Runs.{first_fault, whole_model, final_lines}
 use Rattle.lola_model.proofs.Build.{Around, here, num, direct, last, or, both, with, input, output, named, triggered, on_a, hz, plan_of, at_row, row_at, accepted_all, int, gist, window, last_at}
@@ -45,32 +45,35 @@ sum_and_trigger u = plan_of
 a_trigger_fires_at_the_second_row : (u : Around) → map gist (whole_model (sum_and_trigger u) None (accepted_all (row_at 0 (int 1) ∷ row_at second (int 2) ∷ [])))
     ≡ (0, (Given (int 1) ∷ []) ∷ (Given (int 2) ∷ []) ∷ (Given (field.Bool false) ∷ []) ∷ [])
     ∷ (second, (Given (int 2) ∷ []) ∷ (Given (int 3) ∷ []) ∷ (Given (field.Bool true) ∷ []) ∷ []) ∷ []
-unfolding whole_model model
+unfolding whole_model
 a_trigger_fires_at_the_second_row u = refl
 
 its_text_has_one_line : (u : Around) → text_of (final_lines (sum_and_trigger u) None (accepted_all (row_at 0 (int 1) ∷ row_at second (int 2) ∷ [])) Triggers)
     ≡ codes "1.000000000 trigger_1 \"high\"\n"
-unfolding final_lines whole_model model
-its_text_has_one_line u = rw (decimal_digit 1 (lit< tt), decimal_digit 0 (lit< tt)) refl
+unfolding final_lines whole_model
+its_text_has_one_line u =
+    let lines : List (List ℕ) = trigger_line second (triggered (codes "trigger_1") (codes "high") input) ∷ [] in
+    let e : text_of (final_lines (sum_and_trigger u) None (accepted_all (row_at 0 (int 1) ∷ row_at second (int 2) ∷ [])) Triggers) ≡ text_of lines = refl in
+    e ∙ rw (decimal_digit 1 (lit< tt), decimal_digit 0 (lit< tt)) refl
 
 it_has_no_fault : (u : Around) → first_fault (sum_and_trigger u) None (accepted_all (row_at 0 (int 1) ∷ row_at second (int 2) ∷ [])) ≡ None
-unfolding first_fault whole_model model
+unfolding first_fault whole_model
 it_has_no_fault u = refl
 
 -- the same with a value that is too great for a sum: the run ends at its row
 a_sum_overflows : (u : Around) → map gist (whole_model (sum_and_trigger u) None (accepted_all (row_at 0 (int 1) ∷ row_at second (int 9223372036854775807) ∷ row_at (2 * second) (int 5) ∷ [])))
     ≡ (0, (Given (int 1) ∷ []) ∷ (Given (int 2) ∷ []) ∷ (Given (field.Bool false) ∷ []) ∷ [])
     ∷ (second, (Given (int 9223372036854775807) ∷ []) ∷ (Failed fault.Overflow ∷ []) ∷ (Poisoned ∷ []) ∷ []) ∷ []
-unfolding whole_model model
+unfolding whole_model
 a_sum_overflows u = refl
 
 the_sum_is_at_fault : (u : Around) → first_fault (sum_and_trigger u) None (accepted_all (row_at 0 (int 1) ∷ row_at second (int 9223372036854775807) ∷ row_at (2 * second) (int 5) ∷ []))
     ≡ Some (record { stream = 1; kind = fault.Overflow; time = second })
-unfolding first_fault whole_model model
+unfolding first_fault whole_model
 the_sum_is_at_fault u = refl
 
 a_faulty_step_has_no_line : (u : Around) → final_lines (sum_and_trigger u) None (accepted_all (row_at 0 (int 1) ∷ row_at second (int 9223372036854775807) ∷ row_at (2 * second) (int 5) ∷ [])) Triggers ≡ []
-unfolding final_lines whole_model model
+unfolding final_lines whole_model
 a_faulty_step_has_no_line u = refl
 
 -- output n: UInt64 @1Hz := a.aggregate(over: 10s, using: count)
@@ -91,13 +94,16 @@ values_are_counted_at_deadlines : map gist (whole_model count_of_ten_seconds Non
     ∷ (second, (Missing ∷ []) ∷ (Given (int 1) ∷ []) ∷ [])
     ∷ (2 * second, (Missing ∷ []) ∷ (Given (int 1) ∷ []) ∷ [])
     ∷ (2500000000, (Missing ∷ []) ∷ (Missing ∷ []) ∷ []) ∷ []
-unfolding whole_model model
+unfolding whole_model
 values_are_counted_at_deadlines = refl
 
 the_counts_are_shown : final_lines count_of_ten_seconds None (accepted_all a_row_without_a_value) Outputs
     ≡ codes "1.000000000 n = 1\n" ∷ codes "2.000000000 n = 1\n" ∷ []
-unfolding final_lines whole_model model
-the_counts_are_shown = rw (decimal_digit 1 (lit< tt), decimal_digit 2 (lit< tt), decimal_digit 0 (lit< tt)) refl
+unfolding final_lines whole_model
+the_counts_are_shown =
+    let lines : List (List ℕ) = output_line second (named (codes "n") input) [] (int 1) ∷ output_line (2 * second) (named (codes "n") input) [] (int 1) ∷ [] in
+    let e : final_lines count_of_ten_seconds None (accepted_all a_row_without_a_value) Outputs ≡ lines = refl in
+    e ∙ rw (decimal_digit 1 (lit< tt), decimal_digit 2 (lit< tt), decimal_digit 0 (lit< tt)) refl
 
 -- three rows at one time, and the deadline of that time last
 abbrev rows_of_one_time : List Row
@@ -108,7 +114,7 @@ a_deadline_comes_after_the_rows_of_its_time : map gist (whole_model count_of_ten
     ∷ (second, (Given (int 6) ∷ []) ∷ (Missing ∷ []) ∷ [])
     ∷ (second, (Given (int 7) ∷ []) ∷ (Missing ∷ []) ∷ [])
     ∷ (second, (Missing ∷ []) ∷ (Given (int 3) ∷ []) ∷ []) ∷ []
-unfolding whole_model model
+unfolding whole_model
 a_deadline_comes_after_the_rows_of_its_time = refl
 
 -- output x: Int64 := x.offset(by: -1).defaults(to: 0) + a
@@ -124,13 +130,16 @@ a_stream_reads_its_last_value : (u : Around) → map gist (whole_model (sum_of_t
     ≡ (0, (Given (int 1) ∷ []) ∷ (Given (int 1) ∷ []) ∷ [])
     ∷ (second, (Given (int 2) ∷ []) ∷ (Given (int 3) ∷ []) ∷ [])
     ∷ (2 * second, (Given (int 3) ∷ []) ∷ (Given (int 6) ∷ []) ∷ []) ∷ []
-unfolding whole_model model
+unfolding whole_model
 a_stream_reads_its_last_value u = refl
 
 the_sums_are_shown : (u : Around) → final_lines (sum_of_the_past u) None (accepted_all one_two_three) Outputs
     ≡ codes "0.000000000 x = 1\n" ∷ codes "1.000000000 x = 3\n" ∷ codes "2.000000000 x = 6\n" ∷ []
-unfolding final_lines whole_model model
-the_sums_are_shown u = rw (decimal_digit 0 (lit< tt), decimal_digit 1 (lit< tt), decimal_digit 2 (lit< tt), decimal_digit 3 (lit< tt), decimal_digit 6 (lit< tt)) refl
+unfolding final_lines whole_model
+the_sums_are_shown u =
+    let lines : List (List ℕ) = output_line 0 (named (codes "x") input) [] (int 1) ∷ output_line second (named (codes "x") input) [] (int 3) ∷ output_line (2 * second) (named (codes "x") input) [] (int 6) ∷ [] in
+    let e : final_lines (sum_of_the_past u) None (accepted_all one_two_three) Outputs ≡ lines = refl in
+    e ∙ rw (decimal_digit 0 (lit< tt), decimal_digit 1 (lit< tt), decimal_digit 2 (lit< tt), decimal_digit 3 (lit< tt), decimal_digit 6 (lit< tt)) refl
 
 -- the table that is made solves the equations
 abbrev steps_of_two_rows : List Step
@@ -185,7 +194,7 @@ a_closed_instance_begins_anew : (u : Around) → map gist (whole_model (counts_o
     ∷ (3 * second, (Given (int 1) ∷ []) ∷ (Given (int 2) ∷ []) ∷ [])
     ∷ (4 * second, (Given (int 0) ∷ []) ∷ (Missing ∷ Given (int 1) ∷ []) ∷ [])
     ∷ (5 * second, (Given (int 1) ∷ []) ∷ (Given (int 1) ∷ []) ∷ []) ∷ []
-unfolding whole_model model
+unfolding whole_model
 a_closed_instance_begins_anew u = refl
 
 -- a line of an instance, where numbers are written by this function
@@ -207,7 +216,7 @@ instance_lines_in_digits write h = rw (h 0 (lit< tt), h 1 (lit< tt), h 2 (lit< t
 instances_are_shown_with_their_parameters : (u : Around) → final_lines (counts_of_values u) None (accepted_all zeros_and_ones) Outputs
     ≡ codes "0.000000000 z(0) = 1\n" ∷ codes "1.000000000 z(0) = 1\n" ∷ codes "2.000000000 z(1) = 1\n"
     ∷ codes "3.000000000 z(1) = 2\n" ∷ codes "4.000000000 z(0) = 1\n" ∷ codes "5.000000000 z(1) = 1\n" ∷ []
-unfolding final_lines whole_model model
+unfolding final_lines whole_model
 instances_are_shown_with_their_parameters u =
     let e : final_lines (counts_of_values u) None (accepted_all zeros_and_ones) Outputs ≡ instance_lines decimal = refl in
     e ∙ instance_lines_in_digits decimal decimal_digit

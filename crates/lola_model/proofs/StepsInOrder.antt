@@ -416,7 +416,7 @@ pub legal_do_not_fall : (start : Option ℕ) (journal : List Entry) → IsLegal 
 legal_do_not_fall start journal h = legal_rows (opening_time start) journal h
 
 -- none of them is below the start
-from_start : (start : Option ℕ) (rows : List Row) → DoNotFall (opening_time start) rows → DoNotFall (start_of start rows) rows
+pub from_start : (start : Option ℕ) (rows : List Row) → DoNotFall (opening_time start) rows → DoNotFall (start_of start rows) rows
 from_start (Some t) rows h = h
 from_start None [] h = tt
 from_start None (r ∷ rows) h = (omega arith, h.1)

@@ -2,6 +2,8 @@
 use Rattle.std.specs.Prelude.{◌≡◌, length}
 use Rattle.lola_model.specs.Accepted.{HasLayers, IsAcyclic, IsOrderly}
 use Rattle.lola_model.specs.Bounds.{HasBounds}
+use Rattle.lola_model.specs.NextStep.{HasRates}
+use Rattle.lola_model.specs.Runs.{HasModelsOfRuns}
 use Rattle.lola_model.specs.Graph.{edges_of}
 use Rattle.lola_model.specs.Model.{HasOneModel}
 use Rattle.lola_model.specs.Named.{IsNamed}
@@ -21,8 +23,11 @@ pub record IsAccepted (plan : Plan) : Type 0 where
   pub layers : HasLayers plan
   pub layer_count : length plan.layers ≡ node_count (edges_of plan.spec)
   pub bounds : HasBounds plan
+  -- each rate is above 0, as the type of rates has it
+  pub rates : HasRates plan.pacings
 
--- what an accepted plan has: it is orderly, and so it has one model over each list of steps
+-- what an accepted plan has: it is orderly, and so it has one model over each list of steps and over each journal
 pub record HasModelOfAccepted (plan : Plan) : Type 0 where
   pub orderly : IsOrderly plan
   pub one : HasOneModel plan
+  pub runs : HasModelsOfRuns plan

@@ -7,7 +7,7 @@ use Rattle.lola_model.specs.Activity.{satisfies, satisfies_some, is_active}
 use Rattle.lola_model.specs.StepOrder.{IsRate}
 use Rattle.lola_model.specs.declared.pacing.InputSet.{InputSet}
 use Rattle.lola_model.specs.declared.pacing.Pacing.{Pacing}
-use Rattle.lola_model.specs.declared.pacing.Pacing.TheVariants.{Event, Periodic}
+use Rattle.lola_model.specs.declared.pacing.Pacing.TheVariants.{Event, Periodic, Local}
 use Rattle.lola_model.specs.declared.spec.Formula.{Formula}
 use Rattle.lola_model.specs.declared.spec.Formula.TheVariants.{Input, And', Or'}
 
@@ -44,6 +44,7 @@ IsNormalFormOf formula sets = AreLeastSets (λ inputs. satisfies_formula inputs 
 abbrev pub IsPacing : Pacing → Type 0
 IsPacing (Event sets) = Unit {0}
 IsPacing (Periodic r) = IsRate r
+IsPacing (Local r) = IsRate r
 
 -- each set of inputs that satisfies the one satisfies the other
 abbrev pub FormulaImplies : Formula → Formula → Type 0
@@ -54,12 +55,14 @@ abbrev pub IsWholeMultipleOf : Ratio → Ratio → Type 0
 IsWholeMultipleOf q r = (times : ℕ) × (q.num * r.den ≡ times * (q.den * r.num))
 
 -- pacings by inputs: each set of inputs that satisfies the first satisfies the second; rates: the second is a
--- whole multiple of the first; and neither sort implies the other
+-- whole multiple of the first; neither sort implies the other, and a local rate implies nothing and is implied by nothing
 abbrev pub Implies : Pacing → Pacing → Type 0
 Implies (Event a) (Event b) = (inputs : ℕ) → satisfies_some inputs a ≡ true → satisfies_some inputs b ≡ true
 Implies (Periodic r) (Periodic q) = IsWholeMultipleOf q r
 Implies (Event a) (Periodic q) = ⊥
 Implies (Periodic r) (Event b) = ⊥
+Implies (Local r) q = ⊥
+Implies p (Local q) = ⊥
 
 -- what implication means of two pacings
 pub record MeansImplication (p q : Pacing) : Type 0 where

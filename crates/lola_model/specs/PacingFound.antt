@@ -6,7 +6,7 @@ use Rattle.lola_value.specs.declared.front.Code.TheVariants as code
 use Rattle.lola_model.specs.Activity.{satisfies_some}
 use Rattle.lola_model.specs.Model.{is_input}
 use Rattle.lola_model.specs.declared.pacing.InputSet.{InputSet}
-use Rattle.lola_model.specs.declared.pacing.Pacing.TheVariants.{Event, Periodic}
+use Rattle.lola_model.specs.declared.pacing.Pacing.TheVariants.{Event, Periodic, Local}
 use Rattle.lola_model.specs.declared.spec.Clause.{Clause}
 use Rattle.lola_model.specs.declared.spec.Formula.{Formula}
 use Rattle.lola_model.specs.declared.spec.Pace.{Pace}
@@ -31,6 +31,7 @@ too_wide at = Refused (record { code = code.PacingTooWide; at = at })
 abbrev pub IsGivenEvent : ℕ → Formula → Finding → Type 0
 IsGivenEvent at f (Paced (Event sets)) = ListsNormalForm f sets
 IsGivenEvent at f (Paced (Periodic r)) = ⊥
+IsGivenEvent at f (Paced (Local r)) = ⊥
 IsGivenEvent at f (Refused r) = (Refused r ≡ too_wide at) × Any IsWide (parts_of f)
 IsGivenEvent at f Unpaced = ⊥
 
@@ -114,12 +115,14 @@ rate_of _ = []
 abbrev pub is_event : Finding → Bool
 is_event (Paced (Event sets)) = true
 is_event (Paced (Periodic r)) = false
+is_event (Paced (Local r)) = false
 is_event (Refused r) = false
 is_event Unpaced = false
 
 abbrev pub is_periodic : Finding → Bool
 is_periodic (Paced (Event sets)) = false
 is_periodic (Paced (Periodic r)) = true
+is_periodic (Paced (Local r)) = false
 is_periodic (Refused r) = false
 is_periodic Unpaced = false
 

@@ -9,7 +9,7 @@ use Rattle.lola_model.specs.Named.{has_clause, has_when}
 use Rattle.lola_model.specs.Parts.{listed_clause}
 use Rattle.lola_model.specs.declared.pacing.InputSet.{InputSet}
 use Rattle.lola_model.specs.declared.pacing.Pacing.{Pacing}
-use Rattle.lola_model.specs.declared.pacing.Pacing.TheVariants.{Event, Periodic}
+use Rattle.lola_model.specs.declared.pacing.Pacing.TheVariants.{Event, Periodic, Local}
 use Rattle.lola_model.specs.declared.expr.Access.{Access}
 use Rattle.lola_model.specs.declared.expr.Access.TheVariants as access
 use Rattle.lola_model.specs.declared.expr.Expr.{Expr}
@@ -28,6 +28,8 @@ does_imply (Event a) (Event b) = list_all (λ (s : InputSet). satisfies_some s.0
 does_imply (Periodic r) (Periodic q) = is_multiple r q
 does_imply (Event a) (Periodic q) = false
 does_imply (Periodic r) (Event b) = false
+does_imply (Local r) q = false
+does_imply p (Local q) = false
 
 -- a refusal, or none
 abbrev pub refusal_where : Bool → Code → ℕ → List Refusal

@@ -5,7 +5,7 @@ use Rattle.lola_value.specs.Rate.{period_over}
 use Rattle.lola_value.specs.Ratio.{Ratio}
 use Rattle.lola_value.specs.declared.front.Code.{Code}
 use Rattle.lola_value.specs.declared.front.Code.TheVariants as code
-use Rattle.lola_model.specs.declared.pacing.Pacing.TheVariants.{Event, Periodic}
+use Rattle.lola_model.specs.declared.pacing.Pacing.TheVariants.{Event, Periodic, Local}
 use Rattle.lola_model.specs.declared.finding.Finding.{Finding}
 use Rattle.lola_model.specs.declared.finding.Finding.TheVariants.{Paced, Refused, Unpaced}
 
@@ -42,5 +42,6 @@ IsRateVerdict r over _ = ⊥
 abbrev pub IsVerdict : Finding → ℕ → Option Code → Type 0
 IsVerdict (Paced (Event sets)) over verdict = verdict ≡ Some code.WindowOutsidePeriodic
 IsVerdict (Paced (Periodic r)) over verdict = IsRateVerdict r over verdict
+IsVerdict (Paced (Local r)) over verdict = verdict ≡ Some code.WindowOutsidePeriodic
 IsVerdict (Refused r) over verdict = verdict ≡ None
 IsVerdict Unpaced over verdict = verdict ≡ None

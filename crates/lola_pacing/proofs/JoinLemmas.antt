@@ -3,7 +3,7 @@ use Rattle.std.proofs.Common.{◌≡◌, ◌≢◌, refl, ap, sym, subst, ℕ, �
 use Rattle.std.specs.List.{slice_index_or, list_all}
 use Rattle.std.proofs.lemmas.List.{drop_more}
 use Rattle.lola_model.specs.declared.pacing.InputSet.{InputSet}
-use Rattle.lola_model.specs.declared.pacing.Pacing.TheVariants.{Event, Periodic}
+use Rattle.lola_model.specs.declared.pacing.Pacing.TheVariants.{Event, Periodic, Local}
 use Rattle.lola_normal.specs.declared.answer.NormalEnd.TheVariants.{TooWide}
 use Rattle.lola_model.specs.PacingFound.{finding_at, findings_at, form_of, forms_of, rates_of, is_event, is_periodic, too_wide, IsCombined, IsJoined, IsRateFound}
 use Rattle.lola_model.specs.declared.finding.Finding.{Finding}
@@ -15,6 +15,7 @@ module _ (at : ℕ) (rest : List (List InputSet)) (finding : Finding) where
   step_one : (f : Finding) (sets next : List InputSet) → AnswersNext sets (form_of f) (Ok next) → IsJoined at next rest finding → IsJoined at sets (form_of f ++ rest) finding
   step_one (Paced (Event form)) sets next a j = inr (next, a, j)
   step_one (Paced (Periodic r)) sets next a j = let e : next ≡ sets = cc in subst (λ (s : List InputSet). IsJoined at s rest finding) e j
+  step_one (Paced (Local r)) sets next a j = let e : next ≡ sets = cc in subst (λ (s : List InputSet). IsJoined at s rest finding) e j
   step_one (Refused r) sets next a j = let e : next ≡ sets = cc in subst (λ (s : List InputSet). IsJoined at s rest finding) e j
   step_one Unpaced sets next a j = let e : next ≡ sets = cc in subst (λ (s : List InputSet). IsJoined at s rest finding) e j
 
@@ -22,6 +23,7 @@ module _ (at : ℕ) (rest : List (List InputSet)) (finding : Finding) where
   step_last : (f : Finding) (sets : List InputSet) → AnswersNext sets (form_of f) (Err TooWide) → IsJoined at sets (form_of f ++ rest) (too_wide at)
   step_last (Paced (Event form)) sets a = inl (a, refl)
   step_last (Paced (Periodic r)) sets a = absurd (cc)
+  step_last (Paced (Local r)) sets a = absurd (cc)
   step_last (Refused r) sets a = absurd (cc)
   step_last Unpaced sets a = absurd (cc)
 
@@ -49,6 +51,7 @@ module _ (at : ℕ) (fs : List Finding) (ns : List ℕ) (i : ℕ) (lt : i < leng
 pub some_rate : (f : Finding) (fs : List Finding) → list_all is_periodic (f ∷ fs) ≡ true → rates_of (f ∷ fs) ≢ []
 some_rate (Paced (Event sets)) fs h e = absurd (cc)
 some_rate (Paced (Periodic r)) fs h e = absurd (cc)
+some_rate (Paced (Local r)) fs h e = absurd (cc)
 some_rate (Refused r) fs h e = absurd (cc)
 some_rate Unpaced fs h e = absurd (cc)
 

@@ -19,7 +19,7 @@ use Rattle.lola_model.specs.declared.expr.Expr.{Expr}
 use Rattle.lola_model.specs.declared.expr.Expr.TheVariants.{Literal, Parameter, Read, Window, Defaults', Unary', Both', Choice'}
 use Rattle.lola_model.specs.declared.finding.Finding.{Finding}
 use Rattle.lola_model.specs.declared.finding.Finding.TheVariants.{Paced, Refused, Unpaced}
-use Rattle.lola_model.specs.declared.pacing.Pacing.TheVariants.{Event, Periodic}
+use Rattle.lola_model.specs.declared.pacing.Pacing.TheVariants.{Event, Periodic, Local}
 use Rattle.lola_model.specs.declared.pacing.ClausePacings.{ClausePacings}
 use Rattle.lola_model.specs.declared.spec.Clause.{Clause}
 use Rattle.lola_model.specs.declared.spec.Part.{Part}
@@ -237,6 +237,7 @@ none_against v (Some x) e h = cc
 by_verdict : (g : Finding) (over : ℕ) → is_unpaced g ≡ false → IsVerdict g over None → (r : Ratio) × (g ≡ Paced (Periodic r)) × IsFineEnough r over
 by_verdict (Paced (Event sets)) over u v = absurd (cc)
 by_verdict (Paced (Periodic r)) over u v = (r, refl, v)
+by_verdict (Paced (Local r)) over u v = absurd (cc)
 by_verdict (Refused r) over u v = absurd (cc)
 by_verdict Unpaced over u v = absurd (cc)
 

@@ -12,7 +12,7 @@ use Rattle.lola_model.specs.Bounds.{ArePanesOf}
 use Rattle.lola_model.specs.Store.{pane_of}
 use Rattle.lola_model.specs.Table.{Step}
 use Rattle.lola_model.specs.declared.pacing.Pacing.{Pacing}
-use Rattle.lola_model.specs.declared.pacing.Pacing.TheVariants.{Event, Periodic}
+use Rattle.lola_model.specs.declared.pacing.Pacing.TheVariants.{Event, Periodic, Local}
 use Rattle.lola_model.specs.declared.plan.PaneSize.{PaneSize}
 use Rattle.lola_expr.proofs.OperandLemmas.{first, second}
 
@@ -37,6 +37,7 @@ part_of_deadline r after pane whole part due =
 pub whole_panes : (start : ℕ) (step : Step) (o : Option Pacing) (over : ℕ) (q : Option PaneSize) → ArePanesOf o over q → is_active start step o ≡ true → (step.time - start) % pane_of q ≡ 0
 whole_panes start step None over q panes active = absurd (cc)
 whole_panes start step (Some (Event sets)) over q panes active = absurd panes
+whole_panes start step (Some (Local r)) over q panes active = absurd panes
 whole_panes start step (Some (Periodic r)) over None panes active = absurd panes
 whole_panes start step (Some (Periodic r)) over (Some p) panes active = at step.fields active
   where

@@ -1,10 +1,8 @@
 -- What is settled is a front of what is final; and where a settled step has a fault, it is all.
 use Rattle.std.proofs.Common.{◌≡◌, ℕ, List, [], ◌∷◌, ◌++◌, Some, None, is_some, Bool, true, false, refl, sym, ap, ◌∙◌, append_assoc}
 use Rattle.std.proofs.lemmas.List.{append-nil}
-use Rattle.lola_model.specs.Journal.{accepted}
-use Rattle.lola_model.specs.Table.{Step, TableRow}
-use Rattle.lola_model.specs.Steps.{last_deadline, rates_of, settled_steps, start_of}
-use Rattle.lola_model.specs.Model.{answered, last_row, model}
+use Rattle.lola_model.specs.Table.{TableRow}
+use Rattle.lola_model.specs.Model.{last_row}
 use Rattle.lola_model.specs.Faults.{RunFault, fault_of_last}
 use Rattle.lola_model.specs.Runs.{final_lines, first_fault, run_start, settled_fault, settled_lines, settled_model, whole_model}
 use Rattle.lola_model.specs.Texts.{table_lines, text_of}
@@ -13,44 +11,17 @@ use Rattle.lola_model.specs.declared.journal.Entry.{Entry}
 use Rattle.lola_model.proofs.Journals.{table_lines-append, text_of-append}
 use Rattle.lola_run.specs.Verdicts.{Setting, fault_in, settled_fault_in, verdicts}
 use Rattle.lola_run.specs.Verdicts.{settled_text}
-use Rattle.lola_model.proofs.Growing.{ended_by_fault, grown, is_ended, model_more}
-
--- a table with one row more
-grown_front : (b : Bool) (table : List TableRow) (row : TableRow) → (more : List TableRow) × (grown b table row ≡ table ++ more)
-grown_front true table row = ([], sym (append-nil table))
-grown_front false table row = (row ∷ [], refl)
-
-module _ (plan : Plan) (start : ℕ) where
-  -- a model over more steps begins with that over fewer
-  front : (xs ys : List Step) → (more : List TableRow) × (model plan start (xs ++ ys) ≡ model plan start xs ++ more)
-  front xs [] = ([], ap (model plan start) (append-nil xs) ∙ sym (append-nil (model plan start xs)))
-  front xs (y ∷ ys) =
-      let last = front (xs ++ y ∷ []) ys in
-      let first = grown_front (is_ended (model plan start xs)) (model plan start xs) (answered plan start (model plan start xs) y) in (
-        first.0 ++ last.0,
-        ap (model plan start) (sym (append_assoc xs (y ∷ []) ys))
-            ∙ (last.1 ∙ (ap (λ t. t ++ last.0) (model_more plan start xs y ∙ first.1) ∙ append_assoc (model plan start xs) first.0 last.0)),
-      )
-
-  -- and is the same where that is ended by a fault
-  stays : (xs ys : List Step) → is_ended (model plan start xs) ≡ true → model plan start (xs ++ ys) ≡ model plan start xs
-  stays xs [] ended = ap (model plan start) (append-nil xs)
-  stays xs (y ∷ ys) ended =
-      let same : model plan start (xs ++ y ∷ []) ≡ model plan start xs = model_more plan start xs y ∙ ap (λ b. grown b (model plan start xs) (answered plan start (model plan start xs) y)) ended in
-      ap (model plan start) (sym (append_assoc xs (y ∷ []) ys)) ∙ (stays (xs ++ y ∷ []) ys (ap is_ended same ∙ ended) ∙ same)
+use Rattle.lola_model.proofs.Growing.{ended_by_fault, is_ended}
+use Rattle.lola_model.proofs.RunFronts.{settled_is_front}
 
 module _ (s : Setting) (journal : List Entry) where
-  -- the deadline at the last stamp
-  abbrev after : List Step
-  after = last_deadline (rates_of s.plan.pacings) (start_of s.start (accepted journal)) (accepted journal)
-
   whole_front : (more : List TableRow) × (whole_model s.plan s.start journal ≡ settled_model s.plan s.start journal ++ more)
-  unfolding whole_model settled_model
-  whole_front = front s.plan (run_start s.plan s.start journal) (settled_steps s.plan.pacings s.start (accepted journal)) after
+  whole_front = let w = settled_is_front s.plan s.start journal in (w.0, w.1)
 
   whole_stays : is_ended (settled_model s.plan s.start journal) ≡ true → whole_model s.plan s.start journal ≡ settled_model s.plan s.start journal
-  unfolding whole_model settled_model
-  whole_stays ended = stays s.plan (run_start s.plan s.start journal) (settled_steps s.plan.pacings s.start (accepted journal)) after ended
+  whole_stays ended =
+      let w = settled_is_front s.plan s.start journal in
+      w.1 ∙ (ap (λ (t : List TableRow). settled_model s.plan s.start journal ++ t) (w.2 ended) ∙ append-nil (settled_model s.plan s.start journal))
 
   ended_by : (fault : RunFault) → settled_fault s.plan s.start journal ≡ Some fault → is_ended (settled_model s.plan s.start journal) ≡ true
   unfolding settled_fault
@@ -85,13 +56,13 @@ module _ (s : Setting) (journal : List Entry) where
 
 -- no row of a journal: no verdict and no fault
 pub nothing_settled : (s : Setting) → settled_text s [] ≡ []
-unfolding settled_lines settled_model model
+unfolding settled_lines settled_model
 nothing_settled s = refl
 
 pub nothing_final : (s : Setting) → verdicts s [] ≡ []
-unfolding final_lines whole_model model
+unfolding final_lines whole_model
 nothing_final s = refl
 
 pub nothing_fails : (s : Setting) → fault_in s [] ≡ None
-unfolding first_fault whole_model model
+unfolding first_fault whole_model
 nothing_fails s = refl

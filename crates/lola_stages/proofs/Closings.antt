@@ -6,7 +6,8 @@ use Rattle.lola_value.specs.declared.text.Field.{Field}
 use Rattle.lola_value.specs.declared.text.Field.TheVariants as field
 use Rattle.lola_value.specs.Answer.{Answer, Given}
 use Rattle.lola_model.specs.Content.{Life, StreamContent, Content, content, life_of, streams_from, is_bad}
-use Rattle.lola_model.specs.Model.{close_answer, closed_among, add_closed, is_closed, is_closing, closes_from}
+use Rattle.lola_model.specs.Model.{close_answer, closed_among, add_closed, is_closed, closes_from, with_closes}
+use Rattle.lola_model.specs.NextStep.{has_local}
 use Rattle.lola_model.specs.Standing.{left_of, without_closed}
 use Rattle.lola_model.specs.Table.{Instance, is_instance, Living, StreamRow, TableRow}
 use Rattle.lola_model.specs.declared.plan.Plan.{Plan}
@@ -14,10 +15,10 @@ use Rattle.lola_model.specs.declared.spec.Clause.{Clause}
 use Rattle.lola_model.specs.declared.spec.Spec.{Spec}
 use Rattle.lola_model.specs.declared.spec.Stream.{Stream}
 use Rattle.lola_contents.specs.Changed.{changed, closed}
-use Rattle.lola_stages.specs.Ends.{Place, add_place, places_closed, closings_from, closed_each}
+use Rattle.lola_stages.specs.Ends.{Place, add_place, places_closed, closings_from, closed_each, is_closing}
 use Rattle.lola_model.proofs.Orderly.{instance_self}
 use Rattle.lola_stages.proofs.Instances.{instance_params}
-use Rattle.lola_stages.proofs.Quiet.{AreQuiet, closing_if}
+use Rattle.lola_stages.proofs.Quiet.{AreQuiet, closing_if, with_alike}
 
 -- whether a condition is true
 abbrev is_true : Answer → Bool
@@ -183,7 +184,7 @@ module _ (plan : Plan) (start : ℕ) (rows : List TableRow) (row : TableRow) whe
       ∙ (places_taken s.close n before at (is_bad y.spawned) rest (life_of rows row.step.time n) [] 0 refl y.living
       ∙ ap (λ (ls : List Living). before ++ record { bad = is_bad y.spawned; lives = lives_at n ls } ∷ rest) (sym (left_is plan.spec now s.close y.living))))
   stream_taken false n before at s y none whole rest later h =
-      h ∙ ap (λ (ls : List Living). before ++ record { bad = is_bad y.spawned; lives = lives_at n ls } ∷ rest) (sym (left_all y.closed y.living none))
+      h ∙ ap (λ (ls : List Living). before ++ record { bad = is_bad y.spawned; lives = lives_at n ls } ∷ rest) (sym (left_all [] y.living refl))
 
   none_left : (n : ℕ) (ys : List StreamRow) → AreQuiet ys → streams_from rows row.step.time n ys ≡ streams_from rows row.step.time n (map without_closed ys)
   none_left n [] q = refl
@@ -191,26 +192,27 @@ module _ (plan : Plan) (start : ℕ) (rows : List TableRow) (row : TableRow) whe
       ap (λ (ls : List Living). record { bad = is_bad y.spawned; lives = lives_at n ls } ∷ streams_from rows row.step.time (n + 1) ys) (sym (left_all y.closed y.living q.0))
       ∙ ap (λ (cs : List StreamContent). stream_at n (without_closed y) ∷ cs) (none_left (n + 1) ys q.2)
 
-  streams_taken : (n : ℕ) (before : List StreamContent) → length before ≡ n → (ss : List Stream) (ys : List StreamRow) → AreQuiet ys
+  streams_taken : has_local plan.pacings ≡ false → (n : ℕ) (before : List StreamContent) → length before ≡ n → (ss : List Stream) (ys : List StreamRow) → AreQuiet ys
       → taken (before ++ streams_from rows row.step.time n ys) (closings_from plan start rows row.step now n ss ys)
       ≡ before ++ streams_from rows row.step.time n (map without_closed (closes_from plan start rows row n ss ys))
-  streams_taken n before at [] ys q = ap (λ (cs : List StreamContent). before ++ cs) (none_left n ys q)
-  streams_taken n before at (s ∷ ss) [] q = refl
-  streams_taken n before at (s ∷ ss) (y ∷ ys) q =
+  streams_taken global n before at [] ys q = ap (λ (cs : List StreamContent). before ++ cs) (none_left n ys q)
+  streams_taken global n before at (s ∷ ss) [] q = refl
+  streams_taken global n before at (s ∷ ss) (y ∷ ys) q =
       let later : List Place = closings_from plan start rows row.step now (n + 1) ss ys in
       let here : List StreamContent = stream_at n y ∷ [] in
       let rest : List StreamContent = streams_from rows row.step.time (n + 1) (map without_closed (closes_from plan start rows row (n + 1) ss ys)) in
       let more : length (before ++ here) ≡ n + 1 = omega (arith, length-append before here) in
       stream_taken (is_closing plan start rows row.step n) n before at s y q.0 (before ++ stream_at n y ∷ streams_from rows row.step.time (n + 1) ys) rest later
       (ap (λ (cs : List StreamContent). taken cs later) (sym (append_assoc before here (streams_from rows row.step.time (n + 1) ys)))
-      ∙ (streams_taken (n + 1) (before ++ here) more ss ys q.2
+      ∙ (streams_taken global (n + 1) (before ++ here) more ss ys q.2
       ∙ append_assoc before here rest))
+      ∙ ap (λ z. before ++ stream_at n (without_closed z) ∷ rest) (sym (with_alike plan start rows row global n s y))
 
   -- what is left after the close clauses of a row
-  pub closes_leave : AreQuiet row.streams
+  pub closes_leave : has_local plan.pacings ≡ false → AreQuiet row.streams
       → content start rows (record { step = row.step; streams = map without_closed (closes_from plan start rows row 0 plan.spec.streams row.streams) })
       ≡ closed_each now (reverse (closings_from plan start rows row.step now 0 plan.spec.streams row.streams))
-  closes_leave q =
+  closes_leave global q =
       let places : List Place = closings_from plan start rows row.step now 0 plan.spec.streams row.streams in
-      ap (λ (cs : List StreamContent). record { start = start; time = row.step.time; streams = cs }) (sym (streams_taken 0 [] refl plan.spec.streams row.streams q))
+      ap (λ (cs : List StreamContent). record { start = start; time = row.step.time; streams = cs }) (sym (streams_taken global 0 [] refl plan.spec.streams row.streams q))
       ∙ sym (each_is_taken start row.step.time now.streams places)

@@ -4,8 +4,10 @@ use Rattle.std.proofs.lemmas.Bool.{cases_eq, eq-eqb, le-ltb, lt-ltb, ne_eqb}
 use Rattle.std.proofs.lemmas.Option.{slice_get_within}
 use Rattle.lola_value.specs.Answer.{Answer, Missing}
 use Rattle.lola_model.specs.Acceptance.{IsAccepted}
-use Rattle.lola_model.specs.Activity.{is_active}
-use Rattle.lola_model.specs.Content.{Content, Life, StreamContent, content, is_bad, life_of, seen}
+use Rattle.lola_model.specs.Activity.{is_active, is_active_for}
+use Rattle.lola_model.proofs.NoLocals.{none_local}
+use Rattle.lola_stages.proofs.Alike.{alike, eval_global}
+use Rattle.lola_model.specs.Content.{Content, Life, StreamContent, content, is_bad, life_of, seen, time_of}
 use Rattle.lola_model.specs.Graph.{eval_node, layer_of, spawn_node}
 use Rattle.lola_model.specs.Model.{eval_outcome, eval_pacing, input_outcome, is_input, last_row, newborn, outcome_of, spawned_in, survivors}
 use Rattle.lola_model.specs.Table.{Step, Instance, Spawned, Living, StreamRow, TableRow}
@@ -192,7 +194,11 @@ module _ (plan : Plan) (accepted : IsAccepted plan) (start : ℕ) (rows : List T
     -- an instance of no input comes to what its clause does
     output_is : (c : Content) (xs : List Instance) → is_input s ≡ false
         → living_with (λ x. outcome_of plan start rows step c n (inputs_before streams n) s did x) xs ≡ living_with (λ x. eval_outcome plan.spec c (is_bad did) active s.eval x.params) xs
-    output_is c xs i = ap (λ b. living_with (λ x. if b then input_outcome (inputs_before streams n) step.fields else eval_outcome plan.spec c (is_bad did) active s.eval x.params) xs) i
+    output_is c xs i =
+        ap (λ b. living_with (λ x. if b then input_outcome (inputs_before streams n) step.fields
+        else eval_outcome plan.spec c (is_bad did) (is_active_for start (time_of step.time (slice_get rows x.born)) step (eval_pacing (slice_get plan.pacings n))) s.eval x.params) xs) i
+        ∙ alike (λ test. living_with (λ x. eval_outcome plan.spec c (is_bad did) (test x) s.eval x.params) xs) start (λ x. time_of step.time (slice_get rows x.born)) step
+        (eval_pacing (slice_get plan.pacings n)) (eval_global plan.pacings n (none_local plan.spec plan.pacings accepted.paced))
 
     seen_params : (b : Bool) → map (λ l. l.params) (seen_of plan start rows step n (so_far true b alive row)).lives ≡ map (λ l. l.instance.params) row.living
     seen_params true = params_kept rows step.time n row.living

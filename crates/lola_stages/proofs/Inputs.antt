@@ -5,8 +5,8 @@ use Rattle.lola_value.specs.declared.text.Field.{Field}
 use Rattle.lola_value.specs.declared.text.Field.TheVariants as field
 use Rattle.lola_value.specs.Answer.{Answer}
 use Rattle.lola_model.specs.Acceptance.{IsAccepted}
-use Rattle.lola_model.specs.Activity.{is_active}
-use Rattle.lola_model.specs.Content.{StreamContent, content, seen, is_bad}
+use Rattle.lola_model.specs.Activity.{is_active_for}
+use Rattle.lola_model.specs.Content.{StreamContent, content, seen, is_bad, time_of}
 use Rattle.lola_model.specs.Graph.{eval_node, layer_of}
 use Rattle.lola_model.specs.Model.{eval_outcome, eval_pacing, field_outcome, input_outcome, is_input, last_row, spawned_in, survivors, the_instance}
 use Rattle.lola_model.specs.Table.{Step, Instance, StreamRow, TableRow}
@@ -53,7 +53,7 @@ module _ (plan : Plan) (accepted : IsAccepted plan) (start : ℕ) (rows : List T
       let none = no_spawn n s at i in
       let sp = spawned_in (slice_get (full plan start rows step) n) in
       full_is_one plan accepted start rows step n s at none (settled n s at none)
-      ∙ ap (λ b. one_living (if b then outcome n else eval_outcome plan.spec (content start rows (row_of step (full plan start rows step))) (is_bad sp) (is_active start step (eval_pacing (slice_get plan.pacings n))) s.eval [])) i
+      ∙ ap (λ b. one_living (if b then outcome n else eval_outcome plan.spec (content start rows (row_of step (full plan start rows step))) (is_bad sp) (is_active_for start (time_of step.time (slice_get rows 0)) step (eval_pacing (slice_get plan.pacings n))) s.eval [])) i
 
   -- the instance of an input is told its field
   abbrev tell : Answer → StreamContent → StreamContent

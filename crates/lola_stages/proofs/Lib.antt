@@ -1,4 +1,5 @@
 pub mod Agree
+pub mod Alike
 pub mod Begin
 pub mod Behind
 pub mod Closings

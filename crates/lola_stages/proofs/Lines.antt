@@ -2,7 +2,7 @@
 use Rattle.std.proofs.Common.{◌≡◌, refl, ap, ◌∙◌, sym, ℕ, ◌+◌, arith, List, [], ◌∷◌, ◌++◌, Some, Bool, true, false, if◌then◌else◌, length, slice_get, append_assoc, length-append}
 use Rattle.lola_value.specs.declared.text.Field.{Field}
 use Rattle.lola_value.specs.Answer.{Answer, Given, Missing, Failed, Poisoned}
-use Rattle.lola_model.specs.Model.{is_input, is_closing, closes_from}
+use Rattle.lola_model.specs.Model.{is_input, closes_from}
 use Rattle.lola_model.specs.Table.{Living, StreamRow, TableRow}
 use Rattle.lola_model.specs.Texts.{answer_lines, value_lines, output_lines, trigger_lines, living_lines, stream_lines}
 use Rattle.lola_model.specs.declared.journal.Show.{Show}
@@ -11,7 +11,6 @@ use Rattle.lola_model.specs.declared.spec.Sort.{Sort}
 use Rattle.lola_model.specs.declared.spec.Sort.TheVariants as sort
 use Rattle.lola_model.specs.declared.spec.Stream.{Stream}
 use Rattle.lola_stages.specs.Ends.{RowValue, add_value, values_among, row_values, lines_at, lines_of}
-use Rattle.lola_stages.proofs.Quiet.{closing_if}
 
 input_sort : (k : Sort) → (elim k as (λ _. Bool) [ sort.Input ↦ true | sort.Output ↦ false | sort.Trigger ↦ false ]) ≡ true → k ≡ sort.Input
 input_sort sort.Input e = refl
@@ -87,14 +86,9 @@ module _ (show : Show) (time : ℕ) where
   lines_of_values ss ys = lines_from ss 0 [] refl ss refl ys
 
   module _ (plan : Plan) (start : ℕ) (rows : List TableRow) (row : TableRow) where
-    living_kept : (b : Bool) (s : Stream) (y : StreamRow) → (closing_if plan start rows row b s y).living ≡ y.living
-    living_kept true s y = refl
-    living_kept false s y = refl
-
     -- close clauses change no lines
     pub lines_kept : (n : ℕ) (ss : List Stream) (ys : List StreamRow) → stream_lines show time ss (closes_from plan start rows row n ss ys) ≡ stream_lines show time ss ys
     lines_kept n [] ys = refl
     lines_kept n (s ∷ ss) [] = refl
     lines_kept n (s ∷ ss) (y ∷ ys) =
-        ap (λ (ls : List Living). living_lines show time s ls ++ stream_lines show time ss (closes_from plan start rows row (n + 1) ss ys)) (living_kept (is_closing plan start rows row.step n) s y)
-        ∙ ap (λ (xs : List (List ℕ)). living_lines show time s y.living ++ xs) (lines_kept (n + 1) ss ys)
+        ap (λ (xs : List (List ℕ)). living_lines show time s y.living ++ xs) (lines_kept (n + 1) ss ys)

@@ -3,7 +3,7 @@ use Rattle.std.proofs.Common.{◌≡◌, refl, ap, ◌∙◌, ℕ, zero, suc, �
 use Rattle.lola_value.specs.Answer.{Answer}
 use Rattle.lola_model.specs.Acceptance.{IsAccepted}
 use Rattle.lola_model.specs.Content.{Content, content}
-use Rattle.lola_model.specs.Model.{answered, closing, closes_from, with_closes, is_closing, closed_among, close_faults_among, has_evaluation_fault, last_row, outcome_of, spawned_in, survivors, survivors_in, newborn, the_instance}
+use Rattle.lola_model.specs.Model.{answered, closing, closes_from, with_closes, asked_to_close, is_closing_for, closed_among, close_faults_among, has_evaluation_fault, last_row, outcome_of, spawned_in, survivors, surviving, survivors_in, newborn, the_instance}
 use Rattle.lola_model.specs.Table.{Step, Instance, Spawned, Idle, Living, StreamRow, TableRow}
 use Rattle.lola_model.specs.declared.plan.Plan.{Plan}
 use Rattle.lola_model.specs.declared.spec.Stream.{Stream}
@@ -50,10 +50,16 @@ module _ (plan : Plan) (accepted : IsAccepted plan) (start : ℕ) (rows : List T
   closes_there row j (suc m) k (r ∷ ss) (z ∷ ys) y e a b = closes_there row (j + 1) m k ss ys y (omega arith) a b
 
   -- no instance is closed where the close clause is left out
-  keeps_one : (c : Content) (b : Bool) (y : StreamRow) (a : Answer) → y.closed ≡ [] → y.living ≡ one_living a
-      → survivors_in (Some (if b then record y { closed = closed_among plan.spec c s.close y.living; close_faults = close_faults_among plan.spec c s.close y.living } else y)) ≡ the_instance ∷ []
-  keeps_one c true y a e f = rw (f, no_close) refl
-  keeps_one c false y a e f = rw (f, e) refl
+  keeps_one : (c : Content) (y : StreamRow) (a : Answer) → y.living ≡ one_living a
+      → survivors_in (Some (record y { closed = closed_among plan.spec c s.close (asked_to_close plan start rows step n y.living); close_faults = close_faults_among plan.spec c s.close (asked_to_close plan start rows step n y.living) })) ≡ the_instance ∷ []
+  keeps_one c y a f = rw (f, no_close) (go (is_closing_for plan start rows step n the_instance))
+    where
+      go : (b : Bool) → surviving (closed_among plan.spec c None (if b then one_living a else [])) (one_living a) ≡ the_instance ∷ []
+      go true = refl
+      go false = refl
+
+  keeps_quiet : (y : StreamRow) (a : Answer) → y.closed ≡ [] → y.living ≡ one_living a → survivors_in (Some y) ≡ the_instance ∷ []
+  keeps_quiet y a e f = rw (f, e) refl
 
   stays : survivors n s (last_row rows) ≡ the_instance ∷ [] → survivors n s (last_row (rows ++ answered plan start rows step ∷ [])) ≡ the_instance ∷ []
   stays e =
@@ -67,10 +73,10 @@ module _ (plan : Plan) (accepted : IsAccepted plan) (start : ℕ) (rows : List T
       by_fault : (b : Bool)
           → survivors_in (slice_get (if b then row_of step (full plan start rows step) else row_of step (closes_from plan start rows (row_of step (full plan start rows step)) 0 plan.spec.streams (full plan start rows step))).streams n)
           ≡ the_instance ∷ []
-      by_fault true = ap survivors_in there ∙ keeps_one (content start rows (row_of step (full plan start rows step))) false (full_at plan start rows step n s) _ refl (full_is_one e)
+      by_fault true = ap survivors_in there ∙ keeps_quiet (full_at plan start rows step n s) _ refl (full_is_one e)
       by_fault false =
           ap survivors_in (closes_there (row_of step (full plan start rows step)) 0 n n plan.spec.streams (full plan start rows step) (full_at plan start rows step n s) (omega arith) at there)
-          ∙ keeps_one (content start rows (row_of step (full plan start rows step))) (is_closing plan start rows step n) (full_at plan start rows step n s) _ refl (full_is_one e)
+          ∙ keeps_one (content start rows (row_of step (full plan start rows step))) (full_at plan start rows step n s) _ (full_is_one e)
 
 -- the law, at this plan
 pub stay_settled : (plan : Plan) → IsAccepted plan → StaySettled plan

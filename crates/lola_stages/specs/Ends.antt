@@ -1,12 +1,14 @@
 -- How a step ends: its fault, its values and its lines, and what its close clauses leave.
-use Rattle.std.specs.Prelude.{ℕ, ◌≡◌, ◌+◌, List, [], ◌∷◌, ◌++◌, Option, Some, None, true, false, if◌then◌else◌, slice_get, reverse}
+use Rattle.std.specs.Prelude.{ℕ, ◌≡◌, ◌+◌, List, [], ◌∷◌, ◌++◌, Option, Some, None, Bool, true, false, if◌then◌else◌, slice_get, reverse}
 use Rattle.lola_value.specs.declared.text.Field.{Field}
 use Rattle.lola_value.specs.declared.text.Field.TheVariants as field
 use Rattle.lola_value.specs.declared.value.FaultKind.{FaultKind}
 use Rattle.lola_value.specs.Answer.{Answer, Given}
 use Rattle.lola_model.specs.Content.{Content, content}
 use Rattle.lola_model.specs.Faults.{RowFault, row_fault, own_fault, first_with, least_kind}
-use Rattle.lola_model.specs.Model.{answered, has_fault, is_input, is_closing, close_answer, close_faults_among}
+use Rattle.lola_model.specs.Activity.{is_active}
+use Rattle.lola_model.specs.NextStep.{has_local}
+use Rattle.lola_model.specs.Model.{answered, has_fault, is_input, close_pacing, close_answer, close_faults_among}
 use Rattle.lola_model.specs.Standing.{content_left}
 use Rattle.lola_model.specs.Table.{Step, Living, StreamRow, TableRow}
 use Rattle.lola_model.specs.Texts.{row_lines, value_lines}
@@ -57,6 +59,10 @@ pub record Place : Type 0 where
 abbrev pub add_place : Answer → ℕ → ℕ → List Place → List Place
 add_place (Given (field.Bool true)) n i rest = record { stream = n; index = i } ∷ rest
 add_place a n i rest = rest
+
+-- whether stream n's close clause, which is not local, is active in a step: for all instances or for none
+abbrev pub is_closing : Plan → ℕ → List TableRow → Step → ℕ → Bool
+is_closing plan start rows step n = is_active start step (close_pacing (slice_get plan.pacings n))
 
 module _ (plan : Plan) (start : ℕ) (rows : List TableRow) (step : Step) (c : Content) where
   -- the places of the instances that a close clause closes, from a place on
@@ -116,6 +122,6 @@ module _ (plan : Plan) (start : ℕ) (rows : List TableRow) (step : Step) where
     pub closing : (f : RowFault) → evaluation_fault ≡ None → closing_fault ≡ Some f → row_fault (answered plan start rows step) ≡ Some f
     pub none : evaluation_fault ≡ None → closing_fault ≡ None → IsFine
 
--- each step ends so
+-- each step of a plan in which no clause is local ends so
 abbrev pub StepsEnd : Type 0
-StepsEnd = (plan : Plan) (start : ℕ) (rows : List TableRow) (step : Step) → EndsBy plan start rows step
+StepsEnd = (plan : Plan) → has_local plan.pacings ≡ false → (start : ℕ) (rows : List TableRow) (step : Step) → EndsBy plan start rows step

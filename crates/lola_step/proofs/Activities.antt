@@ -5,7 +5,7 @@ use Rattle.lola_model.specs.Activity.{is_active, is_active_at, present}
 use Rattle.lola_model.specs.Store.{Phase, New, Started, Running, Seen}
 use Rattle.lola_model.specs.Table.{Step}
 use Rattle.lola_model.specs.declared.pacing.Pacing.{Pacing}
-use Rattle.lola_model.specs.declared.pacing.Pacing.TheVariants.{Event, Periodic}
+use Rattle.lola_model.specs.declared.pacing.Pacing.TheVariants.{Event, Periodic, Local}
 use Rattle.lola_model.specs.declared.plan.Plan.{Plan}
 use Rattle.lola_ready.specs.Ready.{IsAtStep}
 use Rattle.lola_stages.specs.Stages.{Stage}
@@ -16,6 +16,8 @@ use Rattle.lola_step.specs.declared.moment.Moment.{Moment}
 active_with : (start time : ℕ) (fields : Option (List Field)) (p : Pacing) → active_at start time (option_map present fields) p ≡ is_active_at start time fields p
 active_with start time None (Event sets) = refl
 active_with start time None (Periodic r) = refl
+active_with start time None (Local r) = refl
+active_with start time (Some fs) (Local r) = refl
 active_with start time (Some fs) (Event sets) = refl
 active_with start time (Some fs) (Periodic r) = refl
 

@@ -10,14 +10,14 @@ use Rattle.lola_value.specs.Naming.{Naming, read_outcome, text_at, the_text}
 use Rattle.lola_model.specs.Acceptance.{IsAccepted}
 use Rattle.lola_model.specs.Content.{Content, content, life_of}
 use Rattle.lola_model.specs.Faults.{RowFault, add_failed, least_kind}
-use Rattle.lola_model.specs.Model.{add_fault, close_answer, close_faults_among, close_pacing, is_closing, when_answer}
+use Rattle.lola_model.specs.Model.{add_fault, close_answer, close_faults_among, close_pacing, when_answer}
 use Rattle.lola_model.specs.Store.{Memories, Seen, SeenInstance, Stands, StandForLives, instances_seen, layout_of}
 use Rattle.lola_model.specs.Table.{Step, Living, StreamRow, TableRow}
 use Rattle.lola_model.specs.declared.plan.Plan.{Plan}
 use Rattle.lola_model.specs.declared.spec.Clause.{Clause}
 use Rattle.lola_model.specs.declared.spec.Stream.{Stream}
 use Rattle.lola_expr.specs.Evaluation.{Sees}
-use Rattle.lola_stages.specs.Ends.{Place, add_place, closing_fault, closings, closings_from, close_fault, first_close_fault, places_closed}
+use Rattle.lola_stages.specs.Ends.{Place, add_place, closing_fault, closings, closings_from, close_fault, first_close_fault, places_closed, is_closing}
 use Rattle.lola_stages.specs.Stages.{full_row}
 use Rattle.lola_step.specs.Clauses.{IsAnswer}
 use Rattle.lola_step.specs.Closings.{FindsAll, FindsAmong, FindsIn, IsShown, all_places, closed_by, condition_of, first_condition, least_condition, places_true, stream_condition, stream_places}

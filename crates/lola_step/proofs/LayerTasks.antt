@@ -13,7 +13,7 @@ use Rattle.lola_model.specs.Named.{count_with, is_input_shape, is_of_bool, is_ou
 use Rattle.lola_model.specs.Store.{Memories, Phase, Seen, has_spawned, instances_seen, is_running, is_silent, now_seen, start_seen, time_seen}
 use Rattle.lola_model.specs.Table.{Step}
 use Rattle.lola_model.specs.declared.pacing.Pacing.{Pacing}
-use Rattle.lola_model.specs.declared.pacing.Pacing.TheVariants.{Event, Periodic}
+use Rattle.lola_model.specs.declared.pacing.Pacing.TheVariants.{Event, Periodic, Local}
 use Rattle.lola_model.specs.declared.plan.Plan.{Plan}
 use Rattle.lola_model.specs.declared.spec.Clause.{Clause}
 use Rattle.lola_model.specs.declared.spec.Sort.{Sort}
@@ -58,6 +58,8 @@ has_eval x h i = by x.sort refl
 same_at : (start time : ℕ) (fields : Option (List Field)) (p : Pacing) → active_at start time (option_map present fields) p ≡ is_active start (record { time = time; fields = fields }) (Some p)
 same_at start time None (Event sets) = refl
 same_at start time None (Periodic r) = refl
+same_at start time None (Local r) = refl
+same_at start time (Some fields) (Local r) = refl
 same_at start time (Some fields) (Event sets) = refl
 same_at start time (Some fields) (Periodic r) = refl
 

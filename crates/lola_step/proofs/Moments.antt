@@ -9,7 +9,7 @@ use Rattle.lola_model.specs.Activity.{bit_of, is_active, is_active_at, present}
 use Rattle.lola_model.specs.Model.{field_outcome}
 use Rattle.lola_model.specs.Table.{Step}
 use Rattle.lola_model.specs.declared.pacing.Pacing.{Pacing}
-use Rattle.lola_model.specs.declared.pacing.Pacing.TheVariants.{Event, Periodic}
+use Rattle.lola_model.specs.declared.pacing.Pacing.TheVariants.{Event, Periodic, Local}
 use Rattle.lola_step.specs.Moments.{IsMoment, ReadAs, active_at, active_in, bit_of_outcome, present_in}
 use Rattle.lola_step.specs.declared.moment.Moment.{Moment}
 
@@ -17,6 +17,8 @@ use Rattle.lola_step.specs.declared.moment.Moment.{Moment}
 pacing_is : (start time : ℕ) (fields : Option (List Field)) (p : Pacing) → active_at start time (option_map present fields) p ≡ is_active_at start time fields p
 pacing_is start time None (Event sets) = refl
 pacing_is start time None (Periodic r) = refl
+pacing_is start time None (Local r) = refl
+pacing_is start time (Some fields) (Local r) = refl
 pacing_is start time (Some fields) (Event sets) = refl
 pacing_is start time (Some fields) (Periodic r) = refl
 

@@ -78,5 +78,6 @@ pub(crate) fn is_active(moment: &Moment, pacing: &Option<Pacing>) -> bool
             Some(_) => false,
             None => is_deadline(rate, moment.time - moment.start),
         },
+        Some(Pacing::Local(_)) => false,
     }
 }

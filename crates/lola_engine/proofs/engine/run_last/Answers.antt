@@ -7,7 +7,7 @@ use Rattle.lola_engine.proofs.engine.run_last.Goals as goal
 
 pub returns-then-desk-eq0-clause-finishes : goal.returns-then-desk-eq0-clause-finishes
 returns-then-desk-eq0-clause-finishes g c =
-    finishes_at_once c.args.desk.now (g.S.StreamStore.seen c.args.store.now) (g.S.StreamStore.remembers c.args.store.now) c.args.lines.now c.if-desk-eq0.true
+    finishes_at_once c.args.desk.now c.requires.sound.accepted (g.S.StreamStore.seen c.args.store.now) (g.S.StreamStore.remembers c.args.store.now) c.args.lines.now c.if-desk-eq0.true
 
 pub returns-in_default-next_due-clause-finishes : goal.returns-in_default-next_due-clause-finishes
 returns-in_default-next_due-clause-finishes g c =

@@ -21,7 +21,7 @@ pub returns-in-Err-clause-accepts : goal.returns-in-Err-clause-accepts
 returns-in-Err-clause-accepts g c =
     let s = g.S.StreamStore.seen c.args.store.now in
     let m = g.S.StreamStore.remembers c.args.store.now in
-    accepts_unread c.args.desk.now s m c.args.row.now c.args.lines.now c.args.desk.now s m
+    accepts_unread c.args.desk.now c.requires.engine.sound.accepted s m c.args.row.now c.args.lines.now c.args.desk.now s m
 
 pub run_taken-requires-clause-below : goal.run_taken-requires-clause-below
 run_taken-requires-clause-below g c κs within =
@@ -44,7 +44,7 @@ returns-in-Ok-clause-accepts g c =
     let names = c.read_row.new.texts.held in
     let clock : ClockState = c.started-start.new.clock in
     let new = record c.run_taken.new.desk { rows = c.run_taken.new.desk.rows + 1; merged = c.args.row.now.stamp } in
-    accepts_all e (seen c.args.store.now) (remembers c.args.store.now) c.args.row.now names clock c.started-start.result (remembers c.started-start.new.store) (seen c.started-start.new.store)
+    accepts_all e c.requires.engine.sound.accepted (seen c.args.store.now) (remembers c.args.store.now) c.args.row.now names clock c.started-start.result (remembers c.started-start.new.store) (seen c.started-start.new.store)
     (begins e (seen c.args.store.now) (remembers c.args.store.now) c.args.row.now names clock c.started-start.result (remembers c.started-start.new.store) (seen c.started-start.new.store)
     c.requires.engine c.requires.row.order c.in_default.ensures.table.naming c.in_default.ensures.literals
     (λ a q. let k = c.started-start.ensures.going a q in (k.0, k.1, λ content stands. subst (λ z. StandsBetween names (remembers z) (seen z) content) (sym k.2) (c.in_default.ensures.stands content stands)))
@@ -62,7 +62,7 @@ returns-in-Err-run_taken-clause-accepts g c =
     let e = c.args.desk.now in
     let names = c.read_row.new.texts.held in
     let clock : ClockState = c.started-start.new.clock in
-    accepts_no_more e (seen c.args.store.now) (remembers c.args.store.now) c.args.row.now names clock c.started-start.result (remembers c.started-start.new.store) (seen c.started-start.new.store)
+    accepts_no_more e c.requires.engine.sound.accepted (seen c.args.store.now) (remembers c.args.store.now) c.args.row.now names clock c.started-start.result (remembers c.started-start.new.store) (seen c.started-start.new.store)
     (begins e (seen c.args.store.now) (remembers c.args.store.now) c.args.row.now names clock c.started-start.result (remembers c.started-start.new.store) (seen c.started-start.new.store)
     c.requires.engine c.requires.row.order c.in_default.ensures.table.naming c.in_default.ensures.literals
     (λ a q. let k = c.started-start.ensures.going a q in (k.0, k.1, λ content stands. subst (λ z. StandsBetween names (remembers z) (seen z) content) (sym k.2) (c.in_default.ensures.stands content stands)))
