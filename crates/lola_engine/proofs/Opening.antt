@@ -18,7 +18,6 @@ use Rattle.lola_step.specs.Progress.{IsRun}
 use Rattle.lola_engine.specs.Engines.{IsEngine, IsUnderWay, StandsFor}
 use Rattle.lola_engine.specs.Going.{IsMade}
 use Rattle.lola_engine.specs.declared.engine.Desk.{Desk}
-use Rattle.lola_model.proofs.Growing.{model_none}
 use Rattle.lola_engine.proofs.Joining.{settled_at_none}
 use Rattle.lola_engine.proofs.Ranges.{sound_rows, sound_started}
 

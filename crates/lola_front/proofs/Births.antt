@@ -1,5 +1,5 @@
 -- The rates of one stream more.
-use Rattle.std.proofs.Common.{ℕ, zero, suc, List, [], ◌∷◌, Some}
+use Rattle.std.proofs.Common.{ℕ, zero, suc, List, ◌∷◌, Some}
 use Rattle.std.specs.List.{slice_get}
 use Rattle.lola_model.specs.StepOrder.{AreRates}
 use Rattle.lola_model.specs.NextStep.{local_rates}

@@ -1,12 +1,11 @@
 -- What is settled is a front of what is final; and where a settled step has a fault, it is all.
-use Rattle.std.proofs.Common.{◌≡◌, ℕ, List, [], ◌∷◌, ◌++◌, Some, None, is_some, Bool, true, false, refl, sym, ap, ◌∙◌, append_assoc}
+use Rattle.std.proofs.Common.{◌≡◌, ℕ, List, [], ◌++◌, Some, None, is_some, true, refl, sym, ap, ◌∙◌}
 use Rattle.std.proofs.lemmas.List.{append-nil}
 use Rattle.lola_model.specs.Table.{TableRow}
 use Rattle.lola_model.specs.Model.{last_row}
 use Rattle.lola_model.specs.Faults.{RunFault, fault_of_last}
-use Rattle.lola_model.specs.Runs.{final_lines, first_fault, run_start, settled_fault, settled_lines, settled_model, whole_model}
+use Rattle.lola_model.specs.Runs.{final_lines, first_fault, settled_fault, settled_lines, settled_model, whole_model}
 use Rattle.lola_model.specs.Texts.{table_lines, text_of}
-use Rattle.lola_model.specs.declared.plan.Plan.{Plan}
 use Rattle.lola_model.specs.declared.journal.Entry.{Entry}
 use Rattle.lola_model.proofs.Journals.{table_lines-append, text_of-append}
 use Rattle.lola_run.specs.Verdicts.{Setting, fault_in, settled_fault_in, verdicts}

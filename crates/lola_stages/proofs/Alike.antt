@@ -1,5 +1,5 @@
 -- Where no clause is local, a clause is active in a step for all instances or for none.
-use Rattle.std.proofs.Common.{◌≡◌, refl, ap, ◌∙◌, ℕ, zero, suc, ◌+◌, List, [], ◌∷◌, Option, Some, None, Bool, true, false, ◌||◌, if◌then◌else◌}
+use Rattle.std.proofs.Common.{◌≡◌, refl, ap, ◌∙◌, ℕ, zero, suc, List, [], ◌∷◌, Option, Some, None, Bool, true, false, ◌||◌, if◌then◌else◌}
 use Rattle.std.specs.List.{slice_get}
 use Rattle.lola_model.specs.Activity.{is_active, is_active_for}
 use Rattle.lola_model.specs.Content.{time_of}

@@ -6,7 +6,7 @@ use Rattle.lola_value.specs.declared.text.Field.{Field}
 use Rattle.lola_value.specs.declared.text.Field.TheVariants as field
 use Rattle.lola_value.specs.Answer.{Answer, Given}
 use Rattle.lola_model.specs.Content.{Life, StreamContent, Content, content, life_of, streams_from, is_bad}
-use Rattle.lola_model.specs.Model.{close_answer, closed_among, add_closed, is_closed, closes_from, with_closes}
+use Rattle.lola_model.specs.Model.{close_answer, closed_among, add_closed, is_closed, closes_from}
 use Rattle.lola_model.specs.NextStep.{has_local}
 use Rattle.lola_model.specs.Standing.{left_of, without_closed}
 use Rattle.lola_model.specs.Table.{Instance, is_instance, Living, StreamRow, TableRow}

@@ -8,7 +8,7 @@ use Rattle.lola_model.specs.Activity.{is_deadline, present, satisfies_some}
 use Rattle.lola_model.specs.Model.{field_outcome}
 use Rattle.lola_model.specs.Table.{Step}
 use Rattle.lola_model.specs.declared.pacing.Pacing.{Pacing}
-use Rattle.lola_model.specs.declared.pacing.Pacing.TheVariants.{Event, Periodic, Local}
+use Rattle.lola_model.specs.declared.pacing.Pacing.TheVariants.{Event, Periodic}
 use Rattle.lola_step.specs.declared.moment.Moment.{Moment}
 
 -- a pacing at a moment: inputs at a row's, a rate at one of deadlines
