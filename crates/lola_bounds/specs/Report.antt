@@ -1,5 +1,5 @@
 -- The lines that tell what was found of a specification.
-use Rattle.std.specs.Prelude.{ℕ, ◌+◌, ◌*◌, List, [], ◌∷◌, ◌++◌, Bool, true, false, Option, Some, None, if◌then◌else◌, codes, decimal, map, nat_eq, slice_get, unwrap_or}
+use Rattle.std.specs.Prelude.{ℕ, ◌+◌, List, [], ◌∷◌, ◌++◌, Bool, true, false, Option, Some, None, if◌then◌else◌, codes, decimal, map, nat_eq, slice_get, unwrap_or}
 use Rattle.lola_value.specs.Ratio.{Ratio}
 use Rattle.lola_value.specs.Times.{time_text}
 use Rattle.lola_value.specs.declared.value.Kind.{Kind}

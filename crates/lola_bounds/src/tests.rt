@@ -3,12 +3,14 @@
 ghost use Rattle.std.specs.Prelude.{◌≡◌, ◌≤◌, IfOk, length, filter};
 ghost use Rattle.lola_model.specs.Model.{is_input};
 
+use crate::pacing_text::pacing_text;
 use crate::report::report;
 use lola_model::pacing::{ClausePacings, InputSet, NormalForm, Pacing, Pacings};
 use lola_model::plan::{Layers, Numbers, PaneSize, PaneSizes, Plan};
 use lola_model::spec::{
     Agg, Constants, Kinds, Part, Places, Sort, Spec, Stream, Streams, Texts, WindowSpec, Windows,
 };
+use lola_value::rate::Rate;
 use lola_value::text::{Memory, Text};
 use lola_value::value::Kind;
 use std::alloc::Global;
@@ -98,5 +100,15 @@ fn lines(rt: HostRuntime) -> Result<(), Fail> {
     let lines =
         b"stream 0 dev String pacing dev layer 0 kept 1\nwindow 0 in dev onto dev over 60.000000000 panes 60\n";
     assert_eq!(rt; text.as_bytes(), lines.as_slice());
+    Ok(())
+}
+
+/// A rate that counts from the birth of each instance stands in the brackets of `Local(..)`.
+#[test]
+fn local_pacings(rt: HostRuntime) -> Result<(), Fail> {
+    let rate = Rate::create(1, 2).ok_or("no rate")?;
+    let mut text = Text::from_bytes(rt.alloc(), b"")?;
+    pacing_text(&[], &Some(Pacing::Local(rate)), &mut text)?;
+    assert_eq!(rt; text.as_bytes(), b"Local(1/2Hz)".as_slice());
     Ok(())
 }

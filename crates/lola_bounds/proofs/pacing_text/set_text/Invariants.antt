@@ -1,4 +1,4 @@
-use Rattle.std.proofs.Common.{◌≡◌, ◌≤◌, ◌+◌, ◌++◌, drop, take, length, codes, true}
+use Rattle.std.proofs.Common.{◌≡◌, ◌≤◌, ◌+◌, ◌++◌, drop, length, codes}
 use Rattle.std.specs.List.{filter}
 use Rattle.lola_model.specs.Model.{is_input}
 use Rattle.lola_bounds.specs.Report.{joined, names_in, set_text}
