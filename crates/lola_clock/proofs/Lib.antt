@@ -1,5 +1,5 @@
 pub mod Moments
 pub mod Setting
-pub mod NextStep
+pub mod Coming
 pub mod Passing
 pub mod Following
