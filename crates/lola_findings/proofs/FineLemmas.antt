@@ -1,5 +1,5 @@
 -- Where nothing is refused.
-use Rattle.std.proofs.Common.{◌≡◌, ◌≢◌, refl, ap, sym, subst, ◌∙◌, ℕ, zero, suc, ◌<◌, List, [], ◌∷◌, ◌++◌, Option, Some, None, Bool, true, false, if◌then◌else◌, arith, length, slice_get, unwrap_or}
+use Rattle.std.proofs.Common.{◌≡◌, ◌≢◌, refl, subst, ℕ, zero, suc, ◌<◌, List, [], ◌∷◌, ◌++◌, Option, Some, None, Bool, true, false, if◌then◌else◌, arith, length, slice_get, unwrap_or}
 use Rattle.std.specs.List.{Contains, slice_index_or, flat_map}
 use Rattle.lola_value.specs.declared.front.Code.{Code}
 use Rattle.lola_value.specs.declared.front.Code.TheVariants as code

@@ -1,19 +1,19 @@
 -- The laws of what is found.
-use Rattle.std.proofs.Common.{◌≡◌, refl, ap, sym, subst, ◌∙◌, ℕ, ◌*◌, ◌/◌, ◌%◌, ◌+◌, ◌↔◌, List, [], ◌∷◌, Bool, true, false, ◌&&◌, ◌||◌, nat_eq, bit_and, arith, inl, inr}
-use Rattle.std.specs.List.{All, AllPass, Contains, list_all}
+use Rattle.std.proofs.Common.{◌≡◌, refl, ap, sym, subst, ◌∙◌, ℕ, ◌*◌, ◌/◌, ◌%◌, ◌+◌, ◌↔◌, List, [], ◌∷◌, Bool, true, false, ◌&&◌, arith, inl, inr}
+use Rattle.std.specs.List.{list_all}
 use Rattle.std.proofs.Math.Nat.{mul-mod_left}
 use Rattle.std.proofs.lemmas.Bool.{eqb-true, eq-eqb}
 use Rattle.std.proofs.lemmas.Nat.{div-add-mod'}
 use Rattle.std.proofs.lemmas.List.Sums.{AllPass-from_list_all, list_all-from_AllPass}
 use Rattle.lola_value.specs.Ratio.{Ratio}
-use Rattle.lola_model.specs.Activity.{satisfies, satisfies_some}
+use Rattle.lola_model.specs.Activity.{satisfies_some}
 use Rattle.lola_model.specs.Implication.{Implies, IsWholeMultipleOf, AreLeastSets}
 use Rattle.lola_model.specs.declared.pacing.InputSet.{InputSet}
 use Rattle.lola_model.specs.declared.pacing.Pacing.{Pacing}
 use Rattle.lola_model.specs.declared.pacing.Pacing.TheVariants.{Event, Periodic, Local}
 use Rattle.lola_model.proofs.Implied.{implies_by_sets, satisfies_some-member, satisfies_some-through}
 use Rattle.lola_model.specs.PacingFound.{IsJoined, any_row, is_multiple, satisfies_both}
-use Rattle.lola_findings.specs.Laws.{TellsImplication, MeansConjunction}
+use Rattle.lola_findings.specs.Laws.{MeansConjunction}
 use Rattle.lola_model.specs.PacingRefused.{does_imply}
 use Rattle.lola_model.specs.declared.finding.Finding.TheVariants.{Paced}
 

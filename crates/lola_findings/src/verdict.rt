@@ -27,7 +27,8 @@ fn rate_verdict(rate: &Rate, over: u64) -> Option<Code>
 }
 
 /// What stands against a window of so many nanoseconds in a clause of which this is found: E15 where it goes by
-/// inputs, E18 or E16 where its period cannot be cut into panes, or into too many.
+/// inputs, or by a rate that counts from the birth of each instance; E18 or E16 where its period cannot be cut into panes,
+/// or into too many.
 pub fn verdict(finding: &Finding, over: u64) -> Option<Code>
     requires { 1 ≤ over }
     ensures { IsVerdict finding.now over result }

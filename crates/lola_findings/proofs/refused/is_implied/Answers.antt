@@ -1,4 +1,3 @@
-use Rattle.std.proofs.Common.{◌≡◌, true}
 use Rattle.lola_model.specs.PacingRefused.{does_imply}
 use Rattle.lola_findings.proofs.LawLemmas.{told, same_test}
 use Rattle.lola_findings.proofs.refused.is_implied.Goals as goal
