@@ -1,4 +1,3 @@
 mod OffsetLemmas
 mod EndLemmas
 mod PaneLemmas
-mod Births

@@ -8,7 +8,7 @@ use Rattle.lola_value.specs.declared.front.FrontEnd.TheVariants as front_end
 use Rattle.lola_lexer.specs.Tokens.{tokens_of}
 use Rattle.lola_lexer.specs.declared.token.Token.{Token}
 use Rattle.lola_parser.specs.Cursor.{lexemes}
-use Rattle.lola_syntax.specs.Places.{Refuses}
+use Rattle.lola_syntax.specs.Places.{Answers, Refuses}
 use Rattle.lola_tree.specs.declared.declarations.Declaration.{Declaration}
 use Rattle.lola_names.specs.Refused as names
 use Rattle.lola_resolve.specs.Specification.{Resolves}
@@ -34,11 +34,13 @@ use Rattle.lola_front.specs.declared.compiling.Parts.{Parts}
 pub record IsCut (bytes : List ℕ) (tokens : List Token) : Type 0 where
   pub are : tokens_of bytes ≡ Ok tokens
 
--- the declarations that its tokens spell
+-- the declarations that its tokens spell, and that the reading of the grammar gives, which lets no expression and no formula have
+-- more marks than may come
 pub record IsRead (bytes : List ℕ) (ds : List Declaration) : Type 0 where
   pub tokens : List Token
   pub cut : IsCut bytes tokens
   pub read : Refuses (lexemes bytes tokens) (length bytes) (Ok ds)
+  pub exact : Answers (lexemes bytes tokens) (length bytes) (Ok ds)
 
 -- the specification whose names they resolve to
 pub record IsResolved (bytes : List ℕ) (spec : Spec) : Type 0 where
@@ -65,11 +67,13 @@ pub record IsPlanOf (bytes : List ℕ) (plan : Plan) : Type 0 where
 abbrev pub IsTokenRefusal : List ℕ → Refusal → Type 0
 IsTokenRefusal bytes r = tokens_of bytes ≡ Err r
 
--- its tokens spell no specification, or one that is too deep
+-- its tokens spell no specification, or one that is too deep: whichever ends the reading of the grammar, which counts marks and
+-- goes from left to right
 pub record IsSyntaxRefusal (bytes : List ℕ) (r : Refusal) : Type 0 where
   pub tokens : List Token
   pub cut : IsCut bytes tokens
   pub refused : Refuses (lexemes bytes tokens) (length bytes) (Err (front_end.Refused r))
+  pub exact : Answers (lexemes bytes tokens) (length bytes) (Err (front_end.Refused r))
 
 -- the first refusal of names
 pub record IsNameRefusal (bytes : List ℕ) (r : Refusal) : Type 0 where

@@ -451,6 +451,9 @@ fn expressions_that_are_too_deep(rt: HostRuntime) -> Result<(), Memory> {
     let table = [
         ("output b: Int64 := a", " + a", 512, "", (0, 0)),
         ("output b: Int64 := a", " + a", 513, "", (4, 2084)),
+        // also before a token that does not fit
+        ("output b: Int64 := a", " + a", 513, " )", (4, 2084)),
+        ("output b: Int64 := a", " + a", 512, " )", (3, 2084)),
         (
             "output b(p: Int64): Int64 spawn with (a",
             "+a",
