@@ -11,7 +11,7 @@ use Rattle.lola_monitor.specs.Command.{names_asked}
 use Rattle.lola_monitor.specs.Monitor.{Asked, Outside, asks_between}
 use Rattle.lola_monitor.specs.Outcomes.{AllHome, Grew, Marred, PlansName, RunsSources, Stopped, noted}
 use Rattle.lola_monitor.specs.declared.outcome.Outcome.{Outcome}
-use Rattle.lola_monitor.specs.declared.outcome.Outcome.TheVariants.{Line, Drilled, Report, Put, Memory}
+use Rattle.lola_monitor.specs.declared.outcome.Outcome.TheVariants.{Line, Drilled, Report, CutFault, Put, Memory}
 use Rattle.lola_monitor.specs.declared.outcome.Unplanned.{Unplanned}
 use Rattle.lola_monitor.specs.declared.outcome.Unplanned.TheVariants as unplanned
 
@@ -67,6 +67,7 @@ grew_sources in_turns (Line UnreadableSpecification) s names before after ran = 
 grew_sources in_turns (Line (Analysed n w)) s names before after ran = absurd ran
 grew_sources in_turns (Drilled line) s names before after ran = absurd ran
 grew_sources in_turns (Report text) s names before after ran = absurd ran
+grew_sources in_turns CutFault s names before after ran = grew_all names before.shelf after.shelf ran.asks ran.home.appended ran.home.named ran.home.out
 grew_sources in_turns Put s names before after ran = ran.shelf
 grew_sources in_turns Memory s names before after ran = ran.shelf
 

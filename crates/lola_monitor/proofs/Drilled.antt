@@ -235,6 +235,7 @@ module _ (d : DrillCommand) (plan : Plan) (kept0 kept1 : Keeping) (w0 w1 v0 v1 :
         let fault : RunFault = record { stream = stream; kind = kind; time = time } in
         subst (λ l. DrillsTo l d) (sym (line_same line (fault_line plan fault) is)) (faulty fault ran)
     ends_with (Err (stop.Fault stream kind time)) line (inr is) ran = absurd (cc)
+    ends_with (Err (stop.CutFault stream kind time)) line is ran = absurd (cc)
     ends_with (Err stop.Put) line is ran = absurd (cc)
     ends_with (Err stop.Memory) line is ran = absurd (cc)
 

@@ -1,5 +1,5 @@
 -- The last line of a call, and its status.
-use Rattle.std.proofs.Common.{◌≡◌, ◌⊎◌, ℕ, List, ◌++◌, inl, inr, None, refl, sym, ap, ◌∙◌, subst, append_assoc, arith}
+use Rattle.std.proofs.Common.{◌≡◌, ◌⊎◌, ℕ, ◌≤◌, List, ◌++◌, inl, inr, None, refl, sym, ap, ◌∙◌, subst, append_assoc, arith}
 use Rattle.std.specs.Io.KnownBytes.{append_known}
 use Rattle.lola_port.specs.States.{PutBroke, Rose, SinkState, grown}
 use Rattle.lola_value.specs.declared.front.Refusal.{Refusal}
@@ -11,7 +11,7 @@ use Rattle.lola_monitor.specs.Drilling.{IsCutDrill, IsDrilled, IsFaultyDrill, Is
 use Rattle.lola_monitor.specs.Monitor.{Analysis, BrokeOff, IsAnalysed, IsBroken, IsCutAnalysis, IsCutShort, IsDone, IsEarly, IsFault, IsMalformed, IsRefused, IsUnread, IsUsage, Outside, Ran, Wrote, setting_of}
 use Rattle.lola_monitor.specs.Outcomes.{Concluded, NoCommand, NoPlan, NotRead, Stood, StoodAnalysed, StoodCut, StoodDone, StoodFault, StoodMalformed, Works}
 use Rattle.lola_monitor.specs.declared.outcome.Outcome.{Outcome}
-use Rattle.lola_monitor.specs.declared.outcome.Outcome.TheVariants.{Line, Drilled, Report, Put, Memory}
+use Rattle.lola_monitor.specs.declared.outcome.Outcome.TheVariants.{Line, Drilled, Report, CutFault, Put, Memory}
 use Rattle.lola_monitor.proofs.DrillEnds.{drill_cut_of, drill_done_of, drill_early_of, drill_fault_of, drill_malformed_of, drill_refused_of, drill_unread_of, drill_usage_of}
 use Rattle.lola_monitor.proofs.Laws.{PutLaws, PutsAddUp, WholeLines}
 
@@ -27,6 +27,19 @@ broken_front parts s0 s1 s2 text more first broke = record {
   joined = ap (λ (l : List ℕ). text ++ l) broke.is_part.joined ∙ sym (append_assoc text broke.part broke.is_part.rest);
   written = broke.written ∙ ap (λ s. append_known s.written broke.part) first ∙ ap (λ (k : SinkState). k.written) (parts s0 text broke.part);
 }
+
+-- a text and a line behind it, or a proper part of both
+wrote_behind : PutsAddUp → (s0 s1 s2 : SinkState) (text more : List ℕ) → s1 ≡ grown s0 text → Wrote s1 s2 more → Wrote s0 s2 (text ++ more)
+wrote_behind parts s0 s1 s2 text more first (inl is) = inl (is ∙ ap (λ s. grown s more) first ∙ parts s0 text more)
+wrote_behind parts s0 s1 s2 text more first (inr broke) =
+    let front = broken_front parts s0 s1 s2 text more first broke in
+    inr (record {
+      part = front.part;
+      is_part = record { rest = front.rest; joined = front.joined; not_whole = broke.is_part.not_whole };
+      written = front.written;
+      later = subst (λ n. n ≤ s2.count) (ap (λ (s : SinkState). s.count) first) broke.later;
+      rose = subst (λ n. Rose n s2.count) (ap (λ (s : SinkState). s.count) first) broke.rose;
+    })
 
 module _ (words : List (List ℕ)) (before after : Outside) (last : SinkState) where
   -- the same run, whatever the last line is
@@ -55,8 +68,8 @@ module _ (words : List (List ℕ)) (before after : Outside) (last : SinkState) w
     given = s.ended.given;
   }
 
-  ends_fault : (line : EndLine) (s : StoodFault line words before after) → Wrote after.out last (end_text line) → IsFault words before (record after { out = last })
-  ends_fault line s wrote = record {
+  ends_fault : PutsAddUp → (line : EndLine) (s : StoodFault line words before after) → Wrote after.out last (end_text line) → IsFault words before (record after { out = last })
+  ends_fault parts line s wrote = record {
     run = ran_with s.stood.run;
     fault = s.fault;
     rows = s.stood.rows;
@@ -64,7 +77,7 @@ module _ (words : List (List ℕ)) (before after : Outside) (last : SinkState) w
     asks = s.asks;
     given = s.given;
     stands = s.stands;
-    out = subst (λ e. Wrote (grown before.out (verdicts (setting_of s.stood.run.plan s.stood.run.names) s.stood.run.journal)) last (end_text e)) s.line_is (wrote_same (grown before.out (verdicts (setting_of s.stood.run.plan s.stood.run.names) s.stood.run.journal)) after.out last _ s.stood.out wrote);
+    out = subst (λ e. Wrote before.out last (verdicts (setting_of s.stood.run.plan s.stood.run.names) s.stood.run.journal ++ end_text e)) s.line_is (wrote_behind parts before.out after.out last _ (end_text line) s.stood.out wrote);
   }
 
   ends_cut_short : (line : EndLine) (s : StoodCut line words before after) → Wrote after.out last (end_text line) → IsCutShort words before (record after { out = last })
@@ -132,7 +145,7 @@ module _ (words : List (List ℕ)) (before after : Outside) (last : SinkState) w
       line = line;
       out = broken_front laws.parts before.out after.out last _ (end_text line) s.out broke;
     };
-    no_fault = inl none;
+    no_fault = none;
     rose = inl (subst (λ n. Rose n last.count) (ap (λ o. o.count) s.out) broke.rose);
   }
 
@@ -186,6 +199,7 @@ done_of parts status (Drilled line) words before after last works ended is = inr
 done_of parts status (Report text) words before after last works (inl done) is = inr (inl (ends_analysed words before after last text works done.1))
 done_of parts status (Report text) words before after last works (inr (inl broke)) is = absurd (omega (arith, broke.0))
 done_of parts status (Report text) words before after last works (inr (inr same)) is = absurd (omega (arith, same.0))
+done_of parts status CutFault words before after last works done is = absurd (omega (arith, done.0))
 done_of parts status Put words before after last works done is = absurd (omega (arith, done.0))
 done_of parts status Memory words before after last works done is = absurd (omega (arith, done.0))
 
@@ -217,6 +231,7 @@ usage_of status (Drilled line) words before after last works ended is = absurd (
 usage_of status (Report text) words before after last works (inl done) is = absurd (omega (arith, done.0))
 usage_of status (Report text) words before after last works (inr (inl broke)) is = absurd (omega (arith, broke.0))
 usage_of status (Report text) words before after last works (inr (inr same)) is = absurd (omega (arith, same.0))
+usage_of status CutFault words before after last works done is = absurd (omega (arith, done.0))
 usage_of status Put words before after last works done is = absurd (omega (arith, done.0))
 usage_of status Memory words before after last works done is = absurd (omega (arith, done.0))
 
@@ -248,6 +263,7 @@ refused_of status (Drilled line) words before after last works ended is = inr (d
 refused_of status (Report text) words before after last works (inl done) is = absurd (omega (arith, done.0))
 refused_of status (Report text) words before after last works (inr (inl broke)) is = absurd (omega (arith, broke.0))
 refused_of status (Report text) words before after last works (inr (inr same)) is = absurd (omega (arith, same.0))
+refused_of status CutFault words before after last works done is = absurd (omega (arith, done.0))
 refused_of status Put words before after last works done is = absurd (omega (arith, done.0))
 refused_of status Memory words before after last works done is = absurd (omega (arith, done.0))
 
@@ -279,39 +295,41 @@ malformed_of parts status (Drilled line) words before after last works ended is 
 malformed_of parts status (Report text) words before after last works (inl done) is = absurd (omega (arith, done.0))
 malformed_of parts status (Report text) words before after last works (inr (inl broke)) is = absurd (omega (arith, broke.0))
 malformed_of parts status (Report text) words before after last works (inr (inr same)) is = absurd (omega (arith, same.0))
+malformed_of parts status CutFault words before after last works done is = absurd (omega (arith, done.0))
 malformed_of parts status Put words before after last works done is = absurd (omega (arith, done.0))
 malformed_of parts status Memory words before after last works done is = absurd (omega (arith, done.0))
 
 -- a fault
-pub fault_of : (status : ℕ) (outcome : Outcome) (words : List (List ℕ)) (before after : Outside) (last : SinkState) → Works outcome words before after → Concluded status outcome after.out last → status ≡ 5 → IsFault words before (record after { out = last }) ⊎ IsFaultyDrill words before (record after { out = last })
-fault_of status (Line (Done a l n v)) words before after last works (inl done) is = absurd (omega (arith, done.0))
-fault_of status (Line (Done a l n v)) words before after last works (inr (inl broke)) is = absurd (omega (arith, broke.0))
-fault_of status (Line (Done a l n v)) words before after last works (inr (inr same)) is = absurd (omega (arith, same.0))
-fault_of status (Line Usage) words before after last works (inl done) is = absurd (omega (arith, done.0))
-fault_of status (Line Usage) words before after last works (inr (inl broke)) is = absurd (omega (arith, broke.0))
-fault_of status (Line Usage) words before after last works (inr (inr same)) is = absurd (omega (arith, same.0))
-fault_of status (Line (Refused r)) words before after last works (inl done) is = absurd (omega (arith, done.0))
-fault_of status (Line (Refused r)) words before after last works (inr (inl broke)) is = absurd (omega (arith, broke.0))
-fault_of status (Line (Refused r)) words before after last works (inr (inr same)) is = absurd (omega (arith, same.0))
-fault_of status (Line (Malformed m row kind)) words before after last works (inl done) is = absurd (omega (arith, done.0))
-fault_of status (Line (Malformed m row kind)) words before after last works (inr (inl broke)) is = absurd (omega (arith, broke.0))
-fault_of status (Line (Malformed m row kind)) words before after last works (inr (inr same)) is = absurd (omega (arith, same.0))
-fault_of status (Line (Fault nm kind time)) words before after last works (inl done) is = inl (ends_fault words before after last (Fault nm kind time) works (inl done.1))
-fault_of status (Line (Fault nm kind time)) words before after last works (inr (inl broke)) is = inl (ends_fault words before after last (Fault nm kind time) works (inr broke.1))
-fault_of status (Line (Fault nm kind time)) words before after last works (inr (inr same)) is = absurd (omega (arith, same.0))
-fault_of status (Line UnreadableSpecification) words before after last works (inl done) is = absurd (omega (arith, done.0))
-fault_of status (Line UnreadableSpecification) words before after last works (inr (inl broke)) is = absurd (omega (arith, broke.0))
-fault_of status (Line UnreadableSpecification) words before after last works (inr (inr same)) is = absurd (omega (arith, same.0))
-fault_of status (Line (UnreadableSource m)) words before after last works (inl done) is = absurd (omega (arith, done.0))
-fault_of status (Line (UnreadableSource m)) words before after last works (inr (inl broke)) is = absurd (omega (arith, broke.0))
-fault_of status (Line (UnreadableSource m)) words before after last works (inr (inr same)) is = absurd (omega (arith, same.0))
-fault_of status (Line (Analysed n w)) words before after last works done is = absurd works
-fault_of status (Drilled line) words before after last works ended is = inr (drill_fault_of status line words before after last works ended is)
-fault_of status (Report text) words before after last works (inl done) is = absurd (omega (arith, done.0))
-fault_of status (Report text) words before after last works (inr (inl broke)) is = absurd (omega (arith, broke.0))
-fault_of status (Report text) words before after last works (inr (inr same)) is = absurd (omega (arith, same.0))
-fault_of status Put words before after last works done is = absurd (omega (arith, done.0))
-fault_of status Memory words before after last works done is = absurd (omega (arith, done.0))
+pub fault_of : PutsAddUp → (status : ℕ) (outcome : Outcome) (words : List (List ℕ)) (before after : Outside) (last : SinkState) → Works outcome words before after → Concluded status outcome after.out last → status ≡ 5 → IsFault words before (record after { out = last }) ⊎ IsFaultyDrill words before (record after { out = last })
+fault_of parts status (Line (Done a l n v)) words before after last works (inl done) is = absurd (omega (arith, done.0))
+fault_of parts status (Line (Done a l n v)) words before after last works (inr (inl broke)) is = absurd (omega (arith, broke.0))
+fault_of parts status (Line (Done a l n v)) words before after last works (inr (inr same)) is = absurd (omega (arith, same.0))
+fault_of parts status (Line Usage) words before after last works (inl done) is = absurd (omega (arith, done.0))
+fault_of parts status (Line Usage) words before after last works (inr (inl broke)) is = absurd (omega (arith, broke.0))
+fault_of parts status (Line Usage) words before after last works (inr (inr same)) is = absurd (omega (arith, same.0))
+fault_of parts status (Line (Refused r)) words before after last works (inl done) is = absurd (omega (arith, done.0))
+fault_of parts status (Line (Refused r)) words before after last works (inr (inl broke)) is = absurd (omega (arith, broke.0))
+fault_of parts status (Line (Refused r)) words before after last works (inr (inr same)) is = absurd (omega (arith, same.0))
+fault_of parts status (Line (Malformed m row kind)) words before after last works (inl done) is = absurd (omega (arith, done.0))
+fault_of parts status (Line (Malformed m row kind)) words before after last works (inr (inl broke)) is = absurd (omega (arith, broke.0))
+fault_of parts status (Line (Malformed m row kind)) words before after last works (inr (inr same)) is = absurd (omega (arith, same.0))
+fault_of parts status (Line (Fault nm kind time)) words before after last works (inl done) is = inl (ends_fault words before after last parts (Fault nm kind time) works (inl done.1))
+fault_of parts status (Line (Fault nm kind time)) words before after last works (inr (inl broke)) is = inl (ends_fault words before after last parts (Fault nm kind time) works (inr broke.1))
+fault_of parts status (Line (Fault nm kind time)) words before after last works (inr (inr same)) is = absurd (omega (arith, same.0))
+fault_of parts status (Line UnreadableSpecification) words before after last works (inl done) is = absurd (omega (arith, done.0))
+fault_of parts status (Line UnreadableSpecification) words before after last works (inr (inl broke)) is = absurd (omega (arith, broke.0))
+fault_of parts status (Line UnreadableSpecification) words before after last works (inr (inr same)) is = absurd (omega (arith, same.0))
+fault_of parts status (Line (UnreadableSource m)) words before after last works (inl done) is = absurd (omega (arith, done.0))
+fault_of parts status (Line (UnreadableSource m)) words before after last works (inr (inl broke)) is = absurd (omega (arith, broke.0))
+fault_of parts status (Line (UnreadableSource m)) words before after last works (inr (inr same)) is = absurd (omega (arith, same.0))
+fault_of parts status (Line (Analysed n w)) words before after last works done is = absurd works
+fault_of parts status (Drilled line) words before after last works ended is = inr (drill_fault_of status line words before after last works ended is)
+fault_of parts status (Report text) words before after last works (inl done) is = absurd (omega (arith, done.0))
+fault_of parts status (Report text) words before after last works (inr (inl broke)) is = absurd (omega (arith, broke.0))
+fault_of parts status (Report text) words before after last works (inr (inr same)) is = absurd (omega (arith, same.0))
+fault_of parts status CutFault words before after last works done is = inl (subst (λ s. IsFault words before (record after { out = s })) (sym done.1) works)
+fault_of parts status Put words before after last works done is = absurd (omega (arith, done.0))
+fault_of parts status Memory words before after last works done is = absurd (omega (arith, done.0))
 
 -- something could not be read
 pub unreadable_of : (status : ℕ) (outcome : Outcome) (words : List (List ℕ)) (before after : Outside) (last : SinkState) → Works outcome words before after → Concluded status outcome after.out last → status ≡ 6 → IsUnread words before (record after { out = last }) ⊎ IsCutShort words before (record after { out = last })
@@ -341,6 +359,7 @@ unreadable_of status (Drilled line) words before after last works ended is = abs
 unreadable_of status (Report text) words before after last works (inl done) is = absurd (omega (arith, done.0))
 unreadable_of status (Report text) words before after last works (inr (inl broke)) is = absurd (omega (arith, broke.0))
 unreadable_of status (Report text) words before after last works (inr (inr same)) is = absurd (omega (arith, same.0))
+unreadable_of status CutFault words before after last works done is = absurd (omega (arith, done.0))
 unreadable_of status Put words before after last works done is = absurd (omega (arith, done.0))
 unreadable_of status Memory words before after last works done is = absurd (omega (arith, done.0))
 
@@ -372,6 +391,7 @@ broken_of laws status (Drilled line) words before after last works ended is = in
 broken_of laws status (Report text) words before after last works (inl done) is = absurd (omega (arith, done.0))
 broken_of laws status (Report text) words before after last works (inr (inl broke)) is = inr (inl (ends_cut_analysis words before after last text works broke.1))
 broken_of laws status (Report text) words before after last works (inr (inr same)) is = absurd (omega (arith, same.0))
+broken_of laws status CutFault words before after last works done is = absurd (omega (arith, done.0))
 broken_of laws status Put words before after last works done is = inl (subst (λ s. IsBroken words before (record after { out = s })) (sym done.1) works)
 broken_of laws status Memory words before after last works done is = absurd (omega (arith, done.0))
 
@@ -403,5 +423,6 @@ memory_of lines status (Drilled line) words before after last works ended is = i
 memory_of lines status (Report text) words before after last works (inl done) is = absurd (omega (arith, done.0))
 memory_of lines status (Report text) words before after last works (inr (inl broke)) is = absurd (omega (arith, broke.0))
 memory_of lines status (Report text) words before after last works (inr (inr same)) is = inl (early_analysis words before after last text works same.1)
+memory_of lines status CutFault words before after last works done is = absurd (omega (arith, done.0))
 memory_of lines status Put words before after last works done is = absurd (omega (arith, done.0))
 memory_of lines status Memory words before after last works done is = subst (λ s. IsEarly before (record after { out = s }) ⊎ BrokeOff words before (record after { out = s })) (sym done.1) works

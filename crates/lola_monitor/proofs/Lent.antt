@@ -19,18 +19,18 @@ use Rattle.lola_feed.specs.Feeding.{Working, beginning, to_come}
 use Rattle.lola_feed.specs.declared.worker.SourceEnd as worker
 use Rattle.lola_feed.specs.declared.worker.SourceEnd.TheVariants as finish
 use Rattle.lola_report.specs.declared.end.EndLine.TheVariants.{Done, UnreadableSource}
-use Rattle.lola_run.specs.Verdicts.{AreOfSources, Setting, fault_in, late_count, most_rows, verdicts}
+use Rattle.lola_run.specs.Verdicts.{AreOfSources, IsRowFault, Setting, fault_in, late_count, most_rows, verdicts}
 use Rattle.lola_run.specs.Running.{Keeping, setting_in}
 use Rattle.lola_run.specs.declared.stop.Stop.{Stop}
 use Rattle.lola_run.specs.declared.stop.Stop.TheVariants as stop
 use Rattle.lola_rounds.specs.Feeds as feeds
-use Rattle.lola_rounds.specs.Feeds.{AreFed, AreReady, BeganWith, EndedByFault, EndedWith, EndsRun, GoInRounds, HasEnded, HaveBegun, HaveEnded, IsFed, IsSoundAt, RanToCut, Supply, Through, ThroughWell, World, supply_of, world}
+use Rattle.lola_rounds.specs.Feeds.{AreFed, AreReady, BeganWith, EndedByCutFault, EndedByFault, EndedWith, EndsRun, GoInRounds, HasEnded, HaveBegun, HaveEnded, IsFed, RanToCut, Supply, Through, ThroughWell, World, supply_of, world}
 use Rattle.lola_shelves.specs.Lending as shelves
 use Rattle.lola_shelves.specs.Lending.{AreRooms, Fetches, HasReturned, IsLent, IsNotGiven, IsStopped, asks_of, counts_of, places_of}
 use Rattle.lola_shelves.specs.declared.sources.FetchStop.{FetchStop}
 use Rattle.lola_shelves.specs.declared.sources.FetchStop.TheVariants as fetch
-use Rattle.lola_monitor.specs.Monitor.{AllBegin, AllEnd, AllRead, Begins, Ends, GoInTurns, IsAtDeadline, IsAtRow, MalformedSource, Outside, asks_between, done_line, fault_line, first_faulty, first_malformed, is_faulty, outside, source_rows}
-use Rattle.lola_monitor.specs.Outcomes.{AllHome, CameHome, CutFacts, CutRun, EndedRun, FaultRun, Grew, OutcomeAfter, RunsSources, SourcesRun, StoppedRun, end_by, end_of, ends_of, first_failed, line_of, source_end, unfetched}
+use Rattle.lola_monitor.specs.Monitor.{AllBegin, AllEnd, AllRead, Begins, Ends, GoInTurns, IsAtDeadline, MalformedSource, Outside, asks_between, done_line, fault_line, first_faulty, first_malformed, is_faulty, outside, source_rows}
+use Rattle.lola_monitor.specs.Outcomes.{AllHome, CameHome, CutFacts, CutFaultRun, CutRun, EndedRun, FaultRun, Grew, OutcomeAfter, RunsSources, SourcesRun, StoppedRun, end_by, end_of, ends_of, first_failed, line_of, source_end, unfetched}
 use Rattle.lola_monitor.specs.declared.outcome.Outcome.{Outcome}
 use Rattle.lola_monitor.specs.declared.outcome.Outcome.TheVariants.{Line}
 use Rattle.lola_monitor.proofs.Calls.{between, grew_all, grew_none, names_given}
@@ -74,9 +74,6 @@ not_failed (Some (finish.Malformed kind row)) count none fit = fit
 not_failed (Some finish.ReadFault) count none fit = absurd (none refl)
 not_failed (Some finish.Closed) count none fit = absurd fit
 not_failed (Some finish.Memory) count none fit = absurd fit
-
-none_lt : (count : ℕ) → count ≡ 0 → nat_lt 0 count ≡ false
-none_lt count none = grind (arith, nat_tests)
 
 zero_of : (count : ℕ) → nat_lt 0 count ≡ false → count ≡ 0
 zero_of count is = grind (arith, nat_tests)
@@ -320,18 +317,9 @@ module _ (in_turns : Bool) (names : List (List ℕ)) (before after : Outside) (k
       line_is = done_is w;
     }
 
-    -- the source of the row at the fault has not failed where sources are read in turns
-    sound_at : (row : Row) → IsSoundAt row olds news → (ask : Ask) → slice_get asks row.source ≡ Some ask → is_faulty ask ≡ false
-    sound_at row sound ask there =
-        let named = get_beside asks names row.source ask (sym (length_counted names counts many_counts)) there in
-        let w = old_of row.source named.0 named.1 in
-        let v = new_of row.source named.0 named.1 in
-        let same = sound (supply_of w.0) (supply_of v.0) (image_get supply_of lent row.source w.0 w.1) (image_get supply_of last row.source v.0 v.1) in
-        ask_is row.source named.0 v.0 ask named.1 v.1 there ∙ none_lt v.0.reader.source.count (same ∙ fresh.count row.source named.0 w.0 named.1 w.1)
-
-    placed : (fault : RunFault) (journal : List Entry) → feeds.IsAtRow in_turns fault journal first final ⊎ feeds.IsAtDeadline journal first final
-        → IsAtRow in_turns s journal fault asks ⊎ IsAtDeadline before.shelf s names asks journal
-    placed fault journal (inl at) = inl (record { is = at.is; sound = λ asked. sound_at at.is.row (at.sound asked) })
+    placed : (fault : RunFault) (journal : List Entry) → IsRowFault s journal fault ⊎ feeds.IsAtDeadline journal first final
+        → IsRowFault s journal fault ⊎ IsAtDeadline before.shelf s names asks journal
+    placed fault journal (inl at) = inl at
     placed fault journal (inr at) = inr (record { settled = at.settled; read = all_read journal at.fed at.ended })
 
     fault_run : (fault : RunFault) → EndedByFault in_turns fault first final → FaultRun in_turns (fault_line s.plan fault) s names before after
@@ -345,12 +333,30 @@ module _ (in_turns : Bool) (names : List (List ℕ)) (before after : Outside) (k
       line_is = refl;
     }
 
+    cut_fault_run : (fault : RunFault) → EndedByCutFault in_turns fault first final → CutFaultRun in_turns s names before after
+    cut_fault_run fault e = record {
+      journal = e.came.journal;
+      legal = e.came.legal;
+      sources = of_sources e.came.journal e.came.sources;
+      rows = all_begun e.came.journal e.begun;
+      turns = λ asked. go_in_turns e.came.journal (e.came.rounds asked);
+      trace = e.came.trace;
+      fault = fault;
+      is_fault = e.is_fault;
+      asks = asks;
+      home = came_home;
+      stands = e.place;
+      out = e.out;
+    }
+
     pub ran_sources : WholeLines → (how : Result (Unit {0}) Stop) (outcome : Outcome) → OutcomeAfter how (end_of (ends_of last)) s.plan kept1 outcome → EndsRun in_turns how first final → RunsSources in_turns outcome s names before after
     ran_sources lines (Ok done) outcome is ran =
         subst (λ o. RunsSources in_turns o s names before after) (sym is) (by_ends (first_failed (ends_of last)) (first_malformed (map source_end (ends_of last))) refl refl ran)
     ran_sources lines (Err (stop.Fault stream kind time)) outcome (inl is) ran =
         subst (λ o. RunsSources in_turns o s names before after) (sym is) (fault_run (record { stream = stream; kind = kind; time = time }) ran)
     ran_sources lines (Err (stop.Fault stream kind time)) outcome (inr is) ran = subst (λ o. RunsSources in_turns o s names before after) (sym is) (record { shelf = grew; cut = inl (cut_none lines (run_is ran.through)) })
+    ran_sources lines (Err (stop.CutFault stream kind time)) outcome is ran =
+        subst (λ o. RunsSources in_turns o s names before after) (sym is) (cut_fault_run (record { stream = stream; kind = kind; time = time }) ran)
     ran_sources lines (Err stop.Put) outcome is ran = subst (λ o. RunsSources in_turns o s names before after) (sym is) (record { shelf = grew; cut = cut_is ran.cut; no_fault = ran.no_fault; rose = ran.rose })
     ran_sources lines (Err stop.Memory) outcome is ran = subst (λ o. RunsSources in_turns o s names before after) (sym is) (record { shelf = grew; cut = inl (cut_is ran) })
 

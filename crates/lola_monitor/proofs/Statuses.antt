@@ -19,7 +19,7 @@ use Rattle.lola_monitor.specs.Drilling.{IsCleanDrill, IsCutDrill, IsDrillFault, 
 use Rattle.lola_monitor.specs.Monitor.{IsAnalysed, IsBroken, IsClean, IsCleanAnalysis, IsCutAnalysis, IsCutShort, IsDone, IsFault, IsMalformed, IsRefused, IsSpoiled, IsUnread, IsUsage, Outside, Plans, first_malformed, one_further, setting_of, source_rows}
 use Rattle.lola_monitor.specs.Outcomes.{Concluded, StoodDrilled, Works}
 use Rattle.lola_monitor.specs.declared.outcome.Outcome.{Outcome}
-use Rattle.lola_monitor.specs.declared.outcome.Outcome.TheVariants.{Line, Drilled, Report, Put, Memory}
+use Rattle.lola_monitor.specs.declared.outcome.Outcome.TheVariants.{Line, Drilled, Report, CutFault, Put, Memory}
 use Rattle.lola_monitor.proofs.Laws.{PutLaws}
 use Rattle.lola_monitor.proofs.Ends.{broken_of, done_of, fault_of, malformed_of, refused_of, unreadable_of, usage_of}
 use Rattle.lola_monitor.proofs.Listed.{get_beside}
@@ -246,8 +246,8 @@ complete_of laws status (Line (Refused r)) words before after last works (inr (i
 complete_of laws status (Line (Malformed m row kind)) words before after last works (inl e) clean = absurd (clean_malformed words before after last clean (malformed_of laws.parts status (Line (Malformed m row kind)) words before after last works (inl e) e.0))
 complete_of laws status (Line (Malformed m row kind)) words before after last works (inr (inl e)) clean = absurd (clean_broken words before after last clean (broken_of laws status (Line (Malformed m row kind)) words before after last works (inr (inl e)) e.0))
 complete_of laws status (Line (Malformed m row kind)) words before after last works (inr (inr e)) clean = inr e.0
-complete_of laws status (Line (Fault nm kind time)) words before after last works (inl e) clean = absurd (clean_fault words before after last clean (fault_of status (Line (Fault nm kind time)) words before after last works (inl e) e.0))
-complete_of laws status (Line (Fault nm kind time)) words before after last works (inr (inl e)) clean = absurd (clean_fault words before after last clean (fault_of status (Line (Fault nm kind time)) words before after last works (inr (inl e)) e.0))
+complete_of laws status (Line (Fault nm kind time)) words before after last works (inl e) clean = absurd (clean_fault words before after last clean (fault_of laws.parts status (Line (Fault nm kind time)) words before after last works (inl e) e.0))
+complete_of laws status (Line (Fault nm kind time)) words before after last works (inr (inl e)) clean = absurd (clean_fault words before after last clean (fault_of laws.parts status (Line (Fault nm kind time)) words before after last works (inr (inl e)) e.0))
 complete_of laws status (Line (Fault nm kind time)) words before after last works (inr (inr e)) clean = inr e.0
 complete_of laws status (Line UnreadableSpecification) words before after last works (inl e) clean = absurd (clean_unreadable words before after last clean (unreadable_of status (Line UnreadableSpecification) words before after last works (inl e) e.0))
 complete_of laws status (Line UnreadableSpecification) words before after last works (inr (inl e)) clean = absurd (clean_unreadable words before after last clean (unreadable_of status (Line UnreadableSpecification) words before after last works (inr (inl e)) e.0))
@@ -260,6 +260,7 @@ complete_of laws status (Drilled line) words before after last works ended clean
 complete_of laws status (Report text) words before after last works (inl e) clean = inl e.0
 complete_of laws status (Report text) words before after last works (inr (inl e)) clean = absurd (clean_broken words before after last clean (broken_of laws status (Report text) words before after last works (inr (inl e)) e.0))
 complete_of laws status (Report text) words before after last works (inr (inr e)) clean = inr e.0
+complete_of laws status CutFault words before after last works e clean = absurd (clean_fault words before after last clean (fault_of laws.parts status CutFault words before after last works e e.0))
 complete_of laws status Put words before after last works e clean = absurd (clean_broken words before after last clean (broken_of laws status Put words before after last works e e.0))
 complete_of laws status Memory words before after last works e clean = inr e.0
 
@@ -277,8 +278,8 @@ complete_analysis_of laws status (Line (Refused r)) words before after last work
 complete_analysis_of laws status (Line (Malformed m row kind)) words before after last works (inl e) whole = absurd (whole_malformed words before after last whole (malformed_of laws.parts status (Line (Malformed m row kind)) words before after last works (inl e) e.0))
 complete_analysis_of laws status (Line (Malformed m row kind)) words before after last works (inr (inl e)) whole = absurd (whole_broken words before after last whole (broken_of laws status (Line (Malformed m row kind)) words before after last works (inr (inl e)) e.0))
 complete_analysis_of laws status (Line (Malformed m row kind)) words before after last works (inr (inr e)) whole = inr e.0
-complete_analysis_of laws status (Line (Fault nm kind time)) words before after last works (inl e) whole = absurd (whole_fault words before after last whole (fault_of status (Line (Fault nm kind time)) words before after last works (inl e) e.0))
-complete_analysis_of laws status (Line (Fault nm kind time)) words before after last works (inr (inl e)) whole = absurd (whole_fault words before after last whole (fault_of status (Line (Fault nm kind time)) words before after last works (inr (inl e)) e.0))
+complete_analysis_of laws status (Line (Fault nm kind time)) words before after last works (inl e) whole = absurd (whole_fault words before after last whole (fault_of laws.parts status (Line (Fault nm kind time)) words before after last works (inl e) e.0))
+complete_analysis_of laws status (Line (Fault nm kind time)) words before after last works (inr (inl e)) whole = absurd (whole_fault words before after last whole (fault_of laws.parts status (Line (Fault nm kind time)) words before after last works (inr (inl e)) e.0))
 complete_analysis_of laws status (Line (Fault nm kind time)) words before after last works (inr (inr e)) whole = inr e.0
 complete_analysis_of laws status (Line UnreadableSpecification) words before after last works (inl e) whole = absurd (whole_unreadable words before after last whole (unreadable_of status (Line UnreadableSpecification) words before after last works (inl e) e.0))
 complete_analysis_of laws status (Line UnreadableSpecification) words before after last works (inr (inl e)) whole = absurd (whole_unreadable words before after last whole (unreadable_of status (Line UnreadableSpecification) words before after last works (inr (inl e)) e.0))
@@ -291,6 +292,7 @@ complete_analysis_of laws status (Drilled line) words before after last works en
 complete_analysis_of laws status (Report text) words before after last works (inl e) whole = inl e.0
 complete_analysis_of laws status (Report text) words before after last works (inr (inl e)) whole = absurd (whole_broken words before after last whole (broken_of laws status (Report text) words before after last works (inr (inl e)) e.0))
 complete_analysis_of laws status (Report text) words before after last works (inr (inr e)) whole = inr e.0
+complete_analysis_of laws status CutFault words before after last works e whole = absurd (whole_fault words before after last whole (fault_of laws.parts status CutFault words before after last works e e.0))
 complete_analysis_of laws status Put words before after last works e whole = absurd (whole_broken words before after last whole (broken_of laws status Put words before after last works e e.0))
 complete_analysis_of laws status Memory words before after last works e whole = inr e.0
 
@@ -308,8 +310,8 @@ usage_only_of laws status (Line (Refused r)) words before after last works (inr 
 usage_only_of laws status (Line (Malformed m row kind)) words before after last works (inl e) none = absurd (lost_malformed words before after last none (malformed_of laws.parts status (Line (Malformed m row kind)) words before after last works (inl e) e.0))
 usage_only_of laws status (Line (Malformed m row kind)) words before after last works (inr (inl e)) none = absurd (lost_broken words before after last none (broken_of laws status (Line (Malformed m row kind)) words before after last works (inr (inl e)) e.0))
 usage_only_of laws status (Line (Malformed m row kind)) words before after last works (inr (inr e)) none = inr e.0
-usage_only_of laws status (Line (Fault nm kind time)) words before after last works (inl e) none = absurd (lost_fault words before after last none (fault_of status (Line (Fault nm kind time)) words before after last works (inl e) e.0))
-usage_only_of laws status (Line (Fault nm kind time)) words before after last works (inr (inl e)) none = absurd (lost_fault words before after last none (fault_of status (Line (Fault nm kind time)) words before after last works (inr (inl e)) e.0))
+usage_only_of laws status (Line (Fault nm kind time)) words before after last works (inl e) none = absurd (lost_fault words before after last none (fault_of laws.parts status (Line (Fault nm kind time)) words before after last works (inl e) e.0))
+usage_only_of laws status (Line (Fault nm kind time)) words before after last works (inr (inl e)) none = absurd (lost_fault words before after last none (fault_of laws.parts status (Line (Fault nm kind time)) words before after last works (inr (inl e)) e.0))
 usage_only_of laws status (Line (Fault nm kind time)) words before after last works (inr (inr e)) none = inr e.0
 usage_only_of laws status (Line UnreadableSpecification) words before after last works (inl e) none = absurd (lost_unreadable words before after last none (unreadable_of status (Line UnreadableSpecification) words before after last works (inl e) e.0))
 usage_only_of laws status (Line UnreadableSpecification) words before after last works (inr (inl e)) none = absurd (lost_unreadable words before after last none (unreadable_of status (Line UnreadableSpecification) words before after last works (inr (inl e)) e.0))
@@ -322,6 +324,7 @@ usage_only_of laws status (Drilled line) words before after last works ended non
 usage_only_of laws status (Report text) words before after last works (inl e) none = absurd (lost_done words before after last none (done_of laws.parts status (Report text) words before after last works (inl e) e.0))
 usage_only_of laws status (Report text) words before after last works (inr (inl e)) none = absurd (lost_broken words before after last none (broken_of laws status (Report text) words before after last works (inr (inl e)) e.0))
 usage_only_of laws status (Report text) words before after last works (inr (inr e)) none = inr e.0
+usage_only_of laws status CutFault words before after last works e none = absurd (lost_fault words before after last none (fault_of laws.parts status CutFault words before after last works e e.0))
 usage_only_of laws status Put words before after last works e none = absurd (lost_broken words before after last none (broken_of laws status Put words before after last works e e.0))
 usage_only_of laws status Memory words before after last works e none = inr e.0
 
@@ -339,8 +342,8 @@ refused_only_of laws status (Line (Refused r)) words before after last works (in
 refused_only_of laws status (Line (Malformed m row kind)) words before after last works (inl e) spoiled = absurd (spoiled_malformed words before after last spoiled (malformed_of laws.parts status (Line (Malformed m row kind)) words before after last works (inl e) e.0))
 refused_only_of laws status (Line (Malformed m row kind)) words before after last works (inr (inl e)) spoiled = absurd (spoiled_broken words before after last spoiled (broken_of laws status (Line (Malformed m row kind)) words before after last works (inr (inl e)) e.0))
 refused_only_of laws status (Line (Malformed m row kind)) words before after last works (inr (inr e)) spoiled = inr e.0
-refused_only_of laws status (Line (Fault nm kind time)) words before after last works (inl e) spoiled = absurd (spoiled_fault words before after last spoiled (fault_of status (Line (Fault nm kind time)) words before after last works (inl e) e.0))
-refused_only_of laws status (Line (Fault nm kind time)) words before after last works (inr (inl e)) spoiled = absurd (spoiled_fault words before after last spoiled (fault_of status (Line (Fault nm kind time)) words before after last works (inr (inl e)) e.0))
+refused_only_of laws status (Line (Fault nm kind time)) words before after last works (inl e) spoiled = absurd (spoiled_fault words before after last spoiled (fault_of laws.parts status (Line (Fault nm kind time)) words before after last works (inl e) e.0))
+refused_only_of laws status (Line (Fault nm kind time)) words before after last works (inr (inl e)) spoiled = absurd (spoiled_fault words before after last spoiled (fault_of laws.parts status (Line (Fault nm kind time)) words before after last works (inr (inl e)) e.0))
 refused_only_of laws status (Line (Fault nm kind time)) words before after last works (inr (inr e)) spoiled = inr e.0
 refused_only_of laws status (Line UnreadableSpecification) words before after last works (inl e) spoiled = absurd (spoiled_unreadable words before after last spoiled (unreadable_of status (Line UnreadableSpecification) words before after last works (inl e) e.0))
 refused_only_of laws status (Line UnreadableSpecification) words before after last works (inr (inl e)) spoiled = absurd (spoiled_unreadable words before after last spoiled (unreadable_of status (Line UnreadableSpecification) words before after last works (inr (inl e)) e.0))
@@ -353,6 +356,7 @@ refused_only_of laws status (Drilled line) words before after last works ended s
 refused_only_of laws status (Report text) words before after last works (inl e) spoiled = absurd (spoiled_done words before after last spoiled (done_of laws.parts status (Report text) words before after last works (inl e) e.0))
 refused_only_of laws status (Report text) words before after last works (inr (inl e)) spoiled = absurd (spoiled_broken words before after last spoiled (broken_of laws status (Report text) words before after last works (inr (inl e)) e.0))
 refused_only_of laws status (Report text) words before after last works (inr (inr e)) spoiled = inr e.0
+refused_only_of laws status CutFault words before after last works e spoiled = absurd (spoiled_fault words before after last spoiled (fault_of laws.parts status CutFault words before after last works e e.0))
 refused_only_of laws status Put words before after last works e spoiled = absurd (spoiled_broken words before after last spoiled (broken_of laws status Put words before after last works e e.0))
 refused_only_of laws status Memory words before after last works e spoiled = inr e.0
 
@@ -411,5 +415,6 @@ complete_drill_of status (Line UnreadableSpecification) words before after last 
 complete_drill_of status (Line (Analysed n w)) words before after last works ended drill = absurd works
 complete_drill_of status (Drilled line) words before after last works ended drill = by_line words before after last drill status line works ended
 complete_drill_of status (Report text) words before after last works ended drill = absurd (drill_analysis words before after last drill works.analysis.name works.analysis.is_command)
+complete_drill_of status CutFault words before after last works ended drill = absurd (drill_run words before after last drill works.run.names works.run.is_command)
 complete_drill_of status Put words before after last works ended drill = absurd (drill_run words before after last drill works.off.names works.off.is_command)
 complete_drill_of status Memory words before after last works ended drill = inr ended.0

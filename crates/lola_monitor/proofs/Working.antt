@@ -1,8 +1,8 @@
 -- A command's run, after its specification was read.
-use Rattle.std.proofs.Common.{◌≡◌, ◌⊎◌, ℕ, ◌+◌, List, [], ◌∷◌, ◌++◌, Option, None, Some, Err, Bool, map, inl, inr, ⊎_elim, refl, sym, ap, if◌then◌else◌, ◌∙◌, subst, append_assoc}
+use Rattle.std.proofs.Common.{◌≡◌, ◌⊎◌, ℕ, ◌+◌, List, [], ◌∷◌, ◌++◌, Option, None, Some, Err, Bool, map, inl, inr, ⊎_elim, refl, sym, ap, if◌then◌else◌, ◌∙◌, subst, append_assoc, arith, length, length-append}
 use Rattle.std.specs.Option.{option_map}
 use Rattle.lola_port.specs.Asks.{given_ask}
-use Rattle.lola_port.specs.States.{Rose, ShelfState}
+use Rattle.lola_port.specs.States.{PutBroke, Rose, ShelfState, SinkState}
 use Rattle.lola_port.specs.declared.traits.Ask.{Ask}
 use Rattle.lola_model.specs.Journal.{rows_of}
 use Rattle.lola_model.specs.Acceptance.{IsAccepted}
@@ -13,17 +13,31 @@ use Rattle.lola_model.specs.declared.journal.Entry.{Entry}
 use Rattle.lola_rows.specs.Rows.{Whole}
 use Rattle.lola_report.specs.Ends.{end_text}
 use Rattle.lola_report.specs.declared.end.EndLine.TheVariants.{Done, Usage, Refused, Malformed, Fault, UnreadableSpecification, UnreadableSource, Analysed}
-use Rattle.lola_run.specs.Verdicts.{Setting}
+use Rattle.lola_run.specs.Verdicts.{IsRowFault, Setting, verdicts}
 use Rattle.lola_command.specs.declared.command.DrillCommand.{DrillCommand}
 use Rattle.lola_monitor.specs.Command.{Names, analysed_of, drill_of, run_of, specification_of}
 use Rattle.lola_monitor.specs.Drilling.{DrillsBy}
-use Rattle.lola_monitor.specs.Monitor.{AllBegin, AllGiven, AllRead, Begins, BrokeOff, Ends, GoInTurns, HasRows, IsAtDeadline, IsAtRow, IsEarly, Outside, Plans, Ran, WereGiven, analysis_text, asks_between, first_faulty, setting_of}
+use Rattle.lola_monitor.specs.Monitor.{AllBegin, AllGiven, AllRead, Begins, BrokeOff, Ends, GoInTurns, HasRows, IsAtDeadline, IsEarly, Outside, Plans, Ran, WereGiven, analysis_text, asks_between, fault_line, first_faulty, setting_of}
 use Rattle.lola_monitor.specs.Outcomes.{AllHome, CameHome, CutFacts, EndedRun, Marred, PlansName, ReadPlan, RunsSources, SourcesRun, Stood, StoodEnded, Works, noted, without_plan}
 use Rattle.lola_monitor.specs.declared.outcome.Outcome.{Outcome}
-use Rattle.lola_monitor.specs.declared.outcome.Outcome.TheVariants.{Line, Drilled, Report, Put, Memory}
+use Rattle.lola_monitor.specs.declared.outcome.Outcome.TheVariants.{Line, Drilled, Report, CutFault, Put, Memory}
 use Rattle.lola_monitor.specs.declared.outcome.Unplanned.{Unplanned}
 use Rattle.lola_monitor.specs.declared.outcome.Unplanned.TheVariants as unplanned
 use Rattle.lola_monitor.proofs.Calls.{between}
+
+-- a part of a text is one of that text and more
+broke_before : (old new : SinkState) (text more : List ℕ) → PutBroke old new text → PutBroke old new (text ++ more)
+broke_before old new text more broke = record {
+  part = broke.part;
+  is_part = record {
+    rest = broke.is_part.rest ++ more;
+    joined = ap (λ (l : List ℕ). l ++ more) broke.is_part.joined ∙ append_assoc broke.part broke.is_part.rest more;
+    not_whole = (let l = length-append broke.is_part.rest more in omega (arith, l, broke.is_part.not_whole));
+  };
+  written = broke.written;
+  later = broke.later;
+  rose = broke.rose;
+}
 
 -- no ask is faulty behind one that is not
 none_behind : (o : Option ℕ) → option_map (λ n. n + 1) o ≡ None → o ≡ None
@@ -123,8 +137,8 @@ module _ (words : List (List ℕ)) (names : Names) (plan : Plan) (before after :
       };
     }
 
-    stands_at : (fault : RunFault) (asks : List Ask) (journal : List Entry) → IsAtRow names.in_turns s journal fault asks ⊎ IsAtDeadline shelf s names.sources asks journal
-        → IsAtRow names.in_turns s journal fault asks ⊎ IsAtDeadline before.shelf s names.sources asks journal
+    stands_at : (fault : RunFault) (asks : List Ask) (journal : List Entry) → IsRowFault s journal fault ⊎ IsAtDeadline shelf s names.sources asks journal
+        → IsRowFault s journal fault ⊎ IsAtDeadline before.shelf s names.sources asks journal
     stands_at fault asks journal (inl at) = inl at
     stands_at fault asks journal (inr at) = inr (record { settled = at.settled; read = all_read asks journal at.read })
 
@@ -169,6 +183,28 @@ module _ (words : List (List ℕ)) (names : Names) (plan : Plan) (before after :
     works_after (Line (Analysed s w)) r = absurd r
     works_after (Drilled line) r = absurd r
     works_after (Report text) r = absurd r
+    works_after CutFault r = record {
+      run = record {
+        names = names;
+        is_command = is_command;
+        plan = plan;
+        is_plan = is_plan;
+        accepted = accepted;
+        one_model = one_model;
+        journal = r.journal;
+        legal = r.legal;
+        sources = r.sources;
+        turns = λ asked. in_turns r.asks r.journal r.home.appended (r.turns asked);
+        trace = r.trace;
+      };
+      fault = r.fault;
+      rows = all_begin r.journal r.rows;
+      is_fault = r.is_fault;
+      asks = r.asks;
+      given = were_given r.asks r.home;
+      stands = inl r.stands;
+      out = inr (broke_before before.out after.out (verdicts s r.journal) (end_text (fault_line plan r.fault)) r.out);
+    }
     works_after Put r = record { off = off r.shelf.asks r.shelf.appended r.cut; no_fault = r.no_fault; rose = r.rose }
     works_after Memory r = ⊎_elim (λ cut. inr (off r.shelf.asks r.shelf.appended cut)) (λ early. inl (record { trace = early.trace; out = early.out })) r.cut
 
@@ -216,5 +252,6 @@ pub works_drilled : (words : List (List ℕ)) (here : Outside) (d : DrillCommand
 works_drilled words here d (Line line) is drills = absurd drills
 works_drilled words here d (Drilled line) is drills = record { of = record { drill = d; is_command = is; shelf = refl; trace = refl }; drills = drills; out = refl }
 works_drilled words here d (Report text) is drills = absurd drills
+works_drilled words here d CutFault is drills = absurd drills
 works_drilled words here d Put is drills = absurd drills
 works_drilled words here d Memory is drills = inl (record { trace = refl; out = refl })

@@ -21,7 +21,7 @@ use Rattle.lola_drill.specs.Drills.{drill_bytes, drill_text}
 use Rattle.lola_run.specs.Verdicts.{AreOfSources, Setting, fault_in, most_rows}
 use Rattle.lola_rounds.specs.Rounds.{AreFirst}
 use Rattle.lola_monitor.specs.declared.outcome.Outcome.{Outcome}
-use Rattle.lola_monitor.specs.declared.outcome.Outcome.TheVariants.{Line, Drilled, Report, Put, Memory}
+use Rattle.lola_monitor.specs.declared.outcome.Outcome.TheVariants.{Line, Drilled, Report, CutFault, Put, Memory}
 use Rattle.lola_monitor.specs.Command.{drill_of}
 use Rattle.lola_monitor.specs.Monitor.{MalformedSource, Outside, Wrote, done_line, fault_line, first_malformed, source_rows}
 
@@ -125,6 +125,7 @@ abbrev pub DrillsBy : Outcome → DrillCommand → Type 0
 DrillsBy (Line line) d = ⊥
 DrillsBy (Drilled line) d = DrillsTo line d
 DrillsBy (Report text) d = ⊥
+DrillsBy CutFault d = ⊥
 DrillsBy Put d = ⊥
 DrillsBy Memory d = Unit {0}
 

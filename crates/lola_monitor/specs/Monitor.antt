@@ -24,7 +24,7 @@ use Rattle.lola_rows.specs.Columns.{inputs_of}
 use Rattle.lola_report.specs.Ends.{end_text}
 use Rattle.lola_report.specs.declared.end.EndLine.{EndLine}
 use Rattle.lola_report.specs.declared.end.EndLine.TheVariants.{Done, Usage, Refused, Malformed, Fault, UnreadableSpecification, UnreadableSource, Analysed}
-use Rattle.lola_run.specs.Verdicts.{AreOfSources, HasFrontOf, HasLines, IsFineBefore, IsRowFault, Setting, fault_in, late_count, most_rows, settled_fault_in, verdicts}
+use Rattle.lola_run.specs.Verdicts.{AreOfSources, HasFrontOf, HasLines, IsRowFault, Setting, fault_in, late_count, most_rows, settled_fault_in, verdicts}
 use Rattle.lola_rounds.specs.Rounds.{AreFirst}
 use Rattle.lola_monitor.specs.Command.{Names, analysed_of, names_of, run_of, specification_of}
 
@@ -236,17 +236,13 @@ pub record IsMalformed (words : List (List ℕ)) (before after : Outside) : Type
   pub out : after.out ≡ grown before.out (verdicts (setting_of run.plan run.names) run.journal ++ end_text (Malformed at.source at.row at.kind))
   pub given : AllGiven run.names before.shelf after.shelf
 
--- the last row has the fault, whose source has not failed where sources are read in turns
-pub record IsAtRow (in_turns : Bool) (s : Setting) (journal : List Entry) (fault : RunFault) (asks : List Ask) : Type 0 where
-  pub is : IsRowFault s journal fault
-  pub sound : in_turns ≡ true → (ask : Ask) → slice_get asks is.row.source ≡ Some ask → is_faulty ask ≡ false
-
 -- no settled step has a fault: it stands at the deadline of the last stamp, once each source was read to its end or has failed
 pub record IsAtDeadline (shelf : ShelfState) (s : Setting) (sources : List (List ℕ)) (asks : List Ask) (journal : List Entry) : Type 0 where
   pub settled : settled_fault_in s journal ≡ None
   pub read : AllRead shelf s.plan sources asks journal
 
--- the first rows of the sources were taken, up to the first fault
+-- the first rows of the sources were taken, up to the first fault, which stands at the last of them or at the deadline of the last
+-- stamp. The sink received all verdicts and the end line, or, its count having risen, a proper part of these
 pub record IsFault (words : List (List ℕ)) (before after : Outside) : Type 0 where
   pub run : Ran words before after
   pub fault : RunFault
@@ -254,9 +250,8 @@ pub record IsFault (words : List (List ℕ)) (before after : Outside) : Type 0 w
   pub is_fault : fault_in (setting_of run.plan run.names) run.journal ≡ Some fault
   pub asks : List Ask
   pub given : WereGiven run.names asks before.shelf after.shelf
-  pub stands : IsAtRow run.names.in_turns (setting_of run.plan run.names) run.journal fault asks
-      ⊎ IsAtDeadline before.shelf (setting_of run.plan run.names) run.names.sources asks run.journal
-  pub out : Wrote (grown before.out (verdicts (setting_of run.plan run.names) run.journal)) after.out (end_text (fault_line run.plan fault))
+  pub stands : IsRowFault (setting_of run.plan run.names) run.journal fault ⊎ IsAtDeadline before.shelf (setting_of run.plan run.names) run.names.sources asks run.journal
+  pub out : Wrote before.out after.out (verdicts (setting_of run.plan run.names) run.journal ++ end_text (fault_line run.plan fault))
 
 -- the specification was not given, or could not be read
 pub record IsUnread (words : List (List ℕ)) (before after : Outside) : Type 0 where
@@ -300,10 +295,10 @@ pub record BrokeOff (words : List (List ℕ)) (before after : Outside) : Type 0 
   pub line : EndLine
   pub out : HasFrontOf before.out after.out (verdicts (setting_of plan names) journal ++ end_text line)
 
--- a put failed, and no row before the last had a fault
+-- a put failed, and no settled step has a fault
 pub record IsBroken (words : List (List ℕ)) (before after : Outside) : Type 0 where
   pub off : BrokeOff words before after
-  pub no_fault : IsFineBefore (setting_of off.plan off.names) off.journal
+  pub no_fault : settled_fault_in (setting_of off.plan off.names) off.journal ≡ None
   pub rose : Rose before.out.count after.out.count ⊎ Rose before.trace.count after.trace.count
 
 -- no memory before any row

@@ -20,7 +20,7 @@ use Rattle.lola_report.specs.declared.end.EndLine.TheVariants.{Done, Usage, Refu
 use Rattle.lola_feed.specs.Feeding.{Working}
 use Rattle.lola_feed.specs.declared.worker.SourceEnd as worker
 use Rattle.lola_feed.specs.declared.worker.SourceEnd.TheVariants as finish
-use Rattle.lola_run.specs.Verdicts.{AreOfSources, HasFrontOf, HasLines, IsFineBefore, Setting, fault_in, settled_fault_in, verdicts}
+use Rattle.lola_run.specs.Verdicts.{AreOfSources, HasFrontOf, HasLines, IsRowFault, Setting, fault_in, settled_fault_in, verdicts}
 use Rattle.lola_run.specs.Running.{Keeping}
 use Rattle.lola_run.specs.declared.stop.Stop.{Stop}
 use Rattle.lola_run.specs.declared.stop.Stop.TheVariants as stop
@@ -28,11 +28,11 @@ use Rattle.lola_shelves.specs.declared.sources.FetchStop.{FetchStop}
 use Rattle.lola_shelves.specs.declared.sources.FetchStop.TheVariants as fetch
 use Rattle.lola_monitor.specs.Command.{specification_of}
 use Rattle.lola_monitor.specs.Drilling.{DrillsTo, OfDrill}
-use Rattle.lola_monitor.specs.Monitor.{AllBegin, AllEnd, AllGiven, AllRead, Analysis, AreGiven, BrokeOff, Ends, GoInTurns, IsAtDeadline, IsAtRow, IsBroken, IsEarly, IsFrontOf, IsRefusedBy, MalformedSource, Outside, Plans, Ran, WereGiven, analysis_text, asks_between, done_line, fault_line, first_faulty, first_malformed, is_faulty, setting_of}
+use Rattle.lola_monitor.specs.Monitor.{AllBegin, AllEnd, AllGiven, AllRead, Analysis, AreGiven, BrokeOff, Ends, GoInTurns, IsAtDeadline, IsBroken, IsEarly, IsFault, IsFrontOf, IsRefusedBy, MalformedSource, Outside, Plans, Ran, WereGiven, analysis_text, asks_between, done_line, fault_line, first_faulty, first_malformed, is_faulty, setting_of}
 use Rattle.lola_monitor.specs.declared.ending.SourcesEnd.{SourcesEnd}
 use Rattle.lola_monitor.specs.declared.ending.SourcesEnd.TheVariants as sources_end
 use Rattle.lola_monitor.specs.declared.outcome.Outcome.{Outcome}
-use Rattle.lola_monitor.specs.declared.outcome.Outcome.TheVariants.{Line, Drilled, Report, Put, Memory}
+use Rattle.lola_monitor.specs.declared.outcome.Outcome.TheVariants.{Line, Drilled, Report, CutFault, Put, Memory}
 use Rattle.lola_monitor.specs.declared.outcome.Unplanned.{Unplanned}
 use Rattle.lola_monitor.specs.declared.outcome.Unplanned.TheVariants as unplanned
 
@@ -127,8 +127,23 @@ pub record FaultRun (in_turns : Bool) (line : EndLine) (s : Setting) (names : Li
   pub is_fault : fault_in s run.journal ≡ Some fault
   pub asks : List Ask
   pub home : CameHome names asks before.shelf after.shelf
-  pub stands : IsAtRow in_turns s run.journal fault asks ⊎ IsAtDeadline before.shelf s names asks run.journal
+  pub stands : IsRowFault s run.journal fault ⊎ IsAtDeadline before.shelf s names asks run.journal
   pub line_is : line ≡ fault_line s.plan fault
+
+-- sources were run to the first fault of a row, before whose line a put failed: a proper part of the verdicts was put
+pub record CutFaultRun (in_turns : Bool) (s : Setting) (names : List (List ℕ)) (before after : Outside) : Type 0 where
+  pub journal : List Entry
+  pub legal : IsLegal s.start journal
+  pub sources : AreOfSources (length names) journal
+  pub rows : AllBegin before.shelf s.plan names journal
+  pub turns : in_turns ≡ true → GoInTurns names s.plan before.shelf after.shelf journal
+  pub trace : after.trace ≡ grown before.trace (trace_text journal)
+  pub fault : RunFault
+  pub is_fault : fault_in s journal ≡ Some fault
+  pub asks : List Ask
+  pub home : CameHome names asks before.shelf after.shelf
+  pub stands : IsRowFault s journal fault
+  pub out : PutBroke before.out after.out (verdicts s journal)
 
 -- a source was not given, and nothing was run; or sources were run, and some could not be read to their ends
 pub record CutRun (in_turns : Bool) (line : EndLine) (s : Setting) (names : List (List ℕ)) (before after : Outside) : Type 0 where
@@ -156,7 +171,7 @@ pub record CutFacts (in_turns : Bool) (s : Setting) (names : List (List ℕ)) (b
 pub record BrokenRun (in_turns : Bool) (s : Setting) (names : List (List ℕ)) (before after : Outside) : Type 0 where
   pub shelf : Grew names before.shelf after.shelf
   pub cut : CutFacts in_turns s names before after
-  pub no_fault : IsFineBefore s cut.journal
+  pub no_fault : settled_fault_in s cut.journal ≡ None
   pub rose : Rose before.out.count after.out.count ⊎ Rose before.trace.count after.trace.count
 
 -- sources were run, or asked for, until there was no memory
@@ -176,6 +191,7 @@ RunsSources in_turns (Line UnreadableSpecification) s names before after = ⊥
 RunsSources in_turns (Line (Analysed n w)) s names before after = ⊥
 RunsSources in_turns (Drilled line) s names before after = ⊥
 RunsSources in_turns (Report text) s names before after = ⊥
+RunsSources in_turns CutFault s names before after = CutFaultRun in_turns s names before after
 RunsSources in_turns Put s names before after = BrokenRun in_turns s names before after
 RunsSources in_turns Memory s names before after = StoppedRun in_turns s names before after
 
@@ -271,6 +287,7 @@ line_of (sources_end.Malformed source row kind) kept = Malformed source row kind
 abbrev pub OutcomeAfter : Result (Unit {0}) Stop → SourcesEnd → Plan → Keeping → Outcome → Type 0
 OutcomeAfter (Ok done) end plan kept outcome = outcome ≡ Line (line_of end kept)
 OutcomeAfter (Err (stop.Fault stream kind time)) end plan kept outcome = (outcome ≡ Line (fault_line plan (record { stream = stream; kind = kind; time = time }))) ⊎ (outcome ≡ Memory)
+OutcomeAfter (Err (stop.CutFault stream kind time)) end plan kept outcome = outcome ≡ CutFault
 OutcomeAfter (Err stop.Put) end plan kept outcome = outcome ≡ Put
 OutcomeAfter (Err stop.Memory) end plan kept outcome = outcome ≡ Memory
 
@@ -307,7 +324,7 @@ pub record StoodFault (line : EndLine) (words : List (List ℕ)) (before after :
   pub is_fault : fault_in (setting_of stood.run.plan stood.run.names) stood.run.journal ≡ Some fault
   pub asks : List Ask
   pub given : WereGiven stood.run.names asks before.shelf after.shelf
-  pub stands : IsAtRow stood.run.names.in_turns (setting_of stood.run.plan stood.run.names) stood.run.journal fault asks
+  pub stands : IsRowFault (setting_of stood.run.plan stood.run.names) stood.run.journal fault
       ⊎ IsAtDeadline before.shelf (setting_of stood.run.plan stood.run.names) stood.run.names.sources asks stood.run.journal
   pub line_is : line ≡ fault_line stood.run.plan fault
 
@@ -371,6 +388,7 @@ Works (Line UnreadableSpecification) words before after = NotRead words before a
 Works (Line (Analysed s w)) words before after = ⊥
 Works (Drilled line) words before after = StoodDrilled line words before after
 Works (Report text) words before after = StoodAnalysed text words before after
+Works CutFault words before after = IsFault words before after
 Works Put words before after = IsBroken words before after
 Works Memory words before after = IsEarly before after ⊎ BrokeOff words before after
 
@@ -402,5 +420,6 @@ Concluded status (Line line) old new =
 Concluded status (Drilled line) old new =
     ((status ≡ status_with line) × (new ≡ grown old (end_text line))) ⊎ (((status ≡ status_without line) × PutBroke old new (end_text line)) ⊎ ((status ≡ 8) × (new ≡ old)))
 Concluded status (Report text) old new = ((status ≡ 0) × (new ≡ grown old text)) ⊎ (((status ≡ 7) × PutBroke old new text) ⊎ ((status ≡ 8) × (new ≡ old)))
+Concluded status CutFault old new = (status ≡ 5) × (new ≡ old)
 Concluded status Put old new = (status ≡ 7) × (new ≡ old)
 Concluded status Memory old new = (status ≡ 8) × (new ≡ old)

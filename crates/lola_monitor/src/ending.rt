@@ -141,6 +141,7 @@ pub fn outcome_after(
                 Err(_) => Outcome::Memory,
             }
         }
+        Err(Stop::CutFault { .. }) => Outcome::CutFault,
         Err(Stop::Put) => Outcome::Put,
         Err(Stop::Memory) => Outcome::Memory,
     }

@@ -14,13 +14,14 @@ pub enum Unplanned {
     Memory,
 }
 
-/// A call ends with a line, that of a run or of a drill, or with a report and its last line, or with a failed put, or for want of
-/// memory.
+/// A call ends with a line, that of a run or of a drill, or with a report and its last line, or with a fault the lines before which
+/// could not be put, or with a failed put, or for want of memory.
 #[derive(Drop)]
 pub enum Outcome {
     Line(EndLine),
     Drilled(EndLine),
     Report(Text),
+    CutFault,
     Put,
     Memory,
 }

@@ -64,6 +64,7 @@ pub fn conclude<K: Sink>(alloc: Global, outcome: Outcome, out: &mut K) -> u8
     let line = match outcome {
         Outcome::Line(line) | Outcome::Drilled(line) => line,
         Outcome::Report(text) => return put_report(&text, out),
+        Outcome::CutFault => return 5,
         Outcome::Put => return 7,
         Outcome::Memory => return 8,
     };

@@ -1,7 +1,7 @@
 -- The deadlines at the last stamp, behind the rows of a run.
 use Rattle.std.proofs.Common.{◌≡◌, Bool, ℕ, List, [], ◌++◌, length, None, Result, Ok, Err, inl, inr, sym, ap, ◌∙◌, subst, append_assoc}
 use Rattle.std.proofs.lemmas.List.{append-nil}
-use Rattle.lola_port.specs.States.{Rose, SinkState, grown}
+use Rattle.lola_port.specs.States.{PutBroke, Rose, SinkState, grown}
 use Rattle.lola_model.specs.Faults.{RunFault}
 use Rattle.lola_model.specs.Journal.{accepted}
 use Rattle.lola_model.specs.Runs.{final_lines, settled_lines}
@@ -17,7 +17,7 @@ use Rattle.lola_run.specs.declared.stop.Stop.TheVariants as stop
 use Rattle.lola_run.proofs.Entries.{front_of_all, no_part}
 use Rattle.lola_run.proofs.Fronts.{fault_stays, text_stays}
 use Rattle.lola_run.proofs.Sinks.{an_entry, grown_part, more_text, some_line}
-use Rattle.lola_rounds.specs.Feeds.{CameTo, EndedByFault, EndsRun, RanToCut, RanToEnd, RanToFault, Runs, Supply, ThroughWell, World, world}
+use Rattle.lola_rounds.specs.Feeds.{CameTo, EndedByCutFault, EndedByFault, EndsRun, RanToCut, RanToCutFault, RanToEnd, RanToFault, Runs, Supply, ThroughWell, World, world}
 use Rattle.lola_rounds.proofs.Going.{begun}
 
 -- the lines of the whole model, in a setting
@@ -98,9 +98,10 @@ module _ (in_turns : Bool) (first : World) (k1 k2 : Keeping) (sources : List Sup
   pub closes : (result : Result (Unit {0}) Stop) → Closes result k1 k2 o1 o2 → EndsRun in_turns result first last
   closes (Ok done) did = well (did journal ran.stands)
   closes (Err (stop.Fault stream kind time)) did = by_fault (record { stream = stream; kind = kind; time = time }) (did journal ran.stands)
+  closes (Err (stop.CutFault stream kind time)) did = absurd (did journal ran.stands)
   closes (Err stop.Put) did = record {
     cut = cut_here (by_put (did.0 journal ran.stands));
-    no_fault = inl fine;
+    no_fault = fine;
     rose = inl (subst (λ n. Rose n o2.count) (ap (λ s. s.count) ran.out) did.1);
   }
   closes (Err stop.Memory) did = cut_here (by_memory did)
@@ -110,11 +111,22 @@ row_fault_ends : (in_turns : Bool) (fault : RunFault) (first final : World) → 
 row_fault_ends in_turns fault first final r = record {
   through = record { came = r.came; begun = r.begun; out = r.out ∙ ap (grown first.out) (sym (text_stays (setting_in first.kept) r.came.journal fault r.stands.settled)) };
   is_fault = fault_stays (setting_in first.kept) r.came.journal fault r.stands.settled;
-  place = inl (record { is = r.stands; sound = r.sound });
+  place = inl r.stands;
+}
+
+-- and where the lines before it were cut short
+row_fault_cut : (in_turns : Bool) (fault : RunFault) (first final : World) → RanToCutFault in_turns fault first final → EndedByCutFault in_turns fault first final
+row_fault_cut in_turns fault first final r = record {
+  came = r.came;
+  begun = r.begun;
+  out = subst (PutBroke first.out final.out) (sym (text_stays (setting_in first.kept) r.came.journal fault r.stands.settled)) r.out;
+  is_fault = fault_stays (setting_in first.kept) r.came.journal fault r.stands.settled;
+  place = r.stands;
 }
 
 -- no deadlines are run where a row has a fault or the run was cut short
 pub stays_ended : (in_turns : Bool) (how : Stop) (first final : World) → Runs in_turns (Err how) first final → EndsRun in_turns (Err how) first final
 stays_ended in_turns (stop.Fault stream kind time) first final r = row_fault_ends in_turns (record { stream = stream; kind = kind; time = time }) first final r
+stays_ended in_turns (stop.CutFault stream kind time) first final r = row_fault_cut in_turns (record { stream = stream; kind = kind; time = time }) first final r
 stays_ended in_turns stop.Put first final r = r
 stays_ended in_turns stop.Memory first final r = r

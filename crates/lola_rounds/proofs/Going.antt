@@ -6,15 +6,14 @@ use Rattle.std.specs.Prelude.{slice_get}
 use mathlib.Core.Logic.{dite}
 use native.Mathlib.Decide.{ℕ_discrete}
 use Rattle.lola_model.specs.Journal.{rows_of}
-use Rattle.lola_model.specs.declared.plan.Plan.{Plan}
 use Rattle.lola_model.specs.declared.journal.Row.{Row}
 use Rattle.lola_model.specs.declared.journal.Entry.{Entry}
 use Rattle.lola_model.proofs.Growing.{slice_get_some}
 use Rattle.lola_rows.specs.Rows.{SourceRows}
 use Rattle.lola_feed.specs.declared.worker.SourceEnd as worker
 use Rattle.lola_feed.specs.declared.worker.SourceEnd.TheVariants as end
-use Rattle.lola_rounds.specs.Feeds.{AreFed, BeganWith, GoInRounds, HasEnded, HaveBegun, IsSound, IsSoundAt, Supply, World}
-use Rattle.lola_rounds.specs.Turning.{Drawn, Goes, TookRow, Touched}
+use Rattle.lola_rounds.specs.Feeds.{AreFed, BeganWith, GoInRounds, HasEnded, HaveBegun, IsSound, Supply, World}
+use Rattle.lola_rounds.specs.Turning.{Drawn, Goes, Touched}
 use Rattle.lola_rounds.proofs.Lists.{some_is, some_not}
 use Rattle.lola_rounds.proofs.Listing.{Prolongs, are_first, table, table_get, table_many}
 use Rattle.lola_rounds.proofs.Drawing.{other_is, own_is}
@@ -107,9 +106,3 @@ touched_in_rounds olds nows news k journal at sound g = record {
       (λ same. absurd (sound (ap (λ (x : Supply). x.end) (sym (own_is k nows news at s new same is)) ∙ failed)))
       (λ apart. g.failed s old new was (sym (other_is k nows news at s apart) ∙ is) failed);
 }
-
--- the source of a row that was taken goes on, so it has not failed
-pub sound_there : (plan : Plan) (k : ℕ) (row : Row) (olds nows news : List Supply) (journal : List Entry) → TookRow plan k row nows news → AreFed olds news journal → IsSoundAt row olds news
-sound_there plan k row olds nows news journal took fed old new was is =
-    let goes : new.end ≡ None = ap (λ (x : Supply). x.end) (own_is k nows news took.at row.source new took.source is) ∙ took.goes_on in
-    (subst (λ (e : Option worker.SourceEnd). HasEnded e old new (rows_of row.source journal)) goes (fed.each row.source old new was is).end).2

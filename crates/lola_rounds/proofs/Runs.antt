@@ -3,7 +3,7 @@ use Rattle.std.proofs.Common.{◌≡◌, ℕ, suc, ◌⊎◌, ◌<◌, ◌≤◌
 use Rattle.std.proofs.lemmas.List.{append-nil}
 use Rattle.std.specs.Prelude.{slice_get}
 use Rattle.std.specs.Io.KnownBytes.{append_known}
-use Rattle.lola_port.specs.States.{Rose, grown}
+use Rattle.lola_port.specs.States.{PutBroke, Rose, grown}
 use Rattle.lola_model.specs.Journal.{IsLegal}
 use Rattle.lola_model.specs.Faults.{RunFault}
 use Rattle.lola_model.specs.Texts.{text_of}
@@ -13,18 +13,18 @@ use Rattle.lola_model.specs.declared.journal.Mark.{Mark}
 use Rattle.lola_model.specs.declared.journal.Mark.TheVariants as mark
 use Rattle.lola_model.proofs.Journals.{trace_text-append_one}
 use Rattle.lola_engine.specs.Engines.{Brings}
-use Rattle.lola_run.specs.Verdicts.{IsFineBefore, IsRowFault, Setting, settled_fault_in, settled_text}
-use Rattle.lola_run.specs.Running.{IsAccepted, IsSetAs, MayFail, Stands, setting_in}
+use Rattle.lola_run.specs.Verdicts.{IsRowFault, Setting, settled_fault_in, settled_text}
+use Rattle.lola_run.specs.Running.{IsAccepted, IsSetAs, Stands, setting_in}
 use Rattle.lola_run.specs.declared.stop.Stop.{Stop}
 use Rattle.lola_run.specs.declared.stop.Stop.TheVariants as stop
 use Rattle.lola_run.proofs.Entries.{BringsIn, accepted_is, front_of_all, no_part, text_more}
 use Rattle.lola_run.proofs.Fronts.{nothing_settled}
-use Rattle.lola_run.proofs.Sinks.{grown_nil, grown_part, known_nil, more_text, some_line}
+use Rattle.lola_run.proofs.Sinks.{broke_behind, grown_nil, grown_part, known_nil, more_text, some_line}
 use Rattle.lola_run.proofs.Taking.{legal_more}
-use Rattle.lola_rounds.specs.Feeds.{CameTo, GoInRounds, HaveEnded, IsSound, RanToCut, RanToEnd, RanToFault, RanToPutFault, Runs, Supply, World}
-use Rattle.lola_rounds.specs.Turning.{Drawn, OutCut, OutKept, Passed, SawFault, SoFar, Stepped, Steps, Touched, TraceCut, Traced}
+use Rattle.lola_rounds.specs.Feeds.{CameTo, GoInRounds, HaveEnded, IsSound, RanToCut, RanToCutFault, RanToEnd, RanToFault, RanToPutFault, Runs, Supply, World}
+use Rattle.lola_rounds.specs.Turning.{Drawn, OutCut, OutKept, Passed, SawCutFault, SawFault, SoFar, Stepped, Steps, Touched, TraceCut, Traced}
 use Rattle.lola_rounds.proofs.Drawing.{drawn_none, draws, round_drawn, sits}
-use Rattle.lola_rounds.proofs.Going.{begun, in_rounds, sound_there, touched_in_rounds}
+use Rattle.lola_rounds.proofs.Going.{begun, in_rounds, touched_in_rounds}
 
 -- a run has begun
 pub started : (first : World) → length first.sources ≤ 64 → Stands [] first.kept
@@ -143,8 +143,18 @@ module _ (first : World) (n k : ℕ) (now last : World) (within : k < length fir
         begun = begun first.sources last.sources (so.journal ++ saw.entry ∷ []) (drawn_is first n k now last within so saw.entry saw.traced).fed;
         out = more_text _ _ _ _ _ _ so.out bad.out (text_is first n k now last within so saw.entry saw.traced bad.lines bad.brings);
         stands = row_fault saw.entry fault saw.accepted bad.is_fault;
-        sound = λ turns. sound_there now.kept.desk.plan k saw.entry.row first.sources now.sources last.sources (so.journal ++ saw.entry ∷ []) saw.traced.took
-            (drawn_is first n k now last within so saw.entry saw.traced).fed;
+      }
+
+  -- the lines before a fault were cut short
+  fails_cut : (fault : RunFault) → SawCutFault fault k now last → RanToCutFault true fault first last
+  fails_cut fault saw =
+      let bad = saw.runs so.journal so.stands in
+      record {
+        came = came_on first n k now last within so saw.entry saw.traced;
+        begun = begun first.sources last.sources (so.journal ++ saw.entry ∷ []) (drawn_is first n k now last within so saw.entry saw.traced).fed;
+        out = subst (PutBroke first.out last.out) (sym (text_is first n k now last within so saw.entry saw.traced bad.lines bad.brings))
+            (broke_behind first.out now.out last.out (settled_text (setting_in first.kept) so.journal) (text_of bad.lines) so.out bad.out);
+        stands = row_fault saw.entry fault saw.accepted bad.is_fault;
       }
 
   rose_since : Rose now.out.count last.out.count ⊎ Rose now.trace.count last.trace.count → Rose first.out.count last.out.count ⊎ Rose first.trace.count last.trace.count
@@ -191,26 +201,22 @@ module _ (first : World) (n k : ℕ) (now last : World) (within : k < length fir
       let c = kept.runs so.journal so.stands in
       out_cut kept.entry kept.traced c.lines [] (text_of c.lines) c.brings refl (ap (λ s. s.written) c.out ∙ sym (known_nil now.out.written))
 
-  -- an entry that may have a fault is the last of the journal
-  fine_before : (entry : Entry) → MayFail (setting_in now.kept) so.journal entry → IsFineBefore (setting_in first.kept) (so.journal ++ entry ∷ [])
-  fine_before entry (inl fine) = inl (ap (λ (s : Setting). settled_fault_in s (so.journal ++ entry ∷ [])) (sym so.setting) ∙ fine)
-  fine_before entry (inr bad) = inr (bad.1.0, row_fault entry bad.1.0 bad.0 bad.1.1)
-
   put_fault : TraceCut k now last ⊎ OutCut k now last → (Rose now.out.count last.out.count ⊎ Rose now.trace.count last.trace.count) → RanToPutFault true first last
   put_fault (inl cut) rose = record {
     cut = trace_cut cut;
-    no_fault = inl fine_so_far;
+    no_fault = fine_so_far;
     rose = rose_since rose;
   }
   put_fault (inr cut) rose =
       let c = cut.runs so.journal so.stands in
       record {
         cut = out_cut cut.entry cut.traced c.lines c.out.part c.out.is_part.rest c.brings c.out.is_part.joined c.out.written;
-        no_fault = fine_before cut.entry c.fails;
+        no_fault = ap (λ (s : Setting). settled_fault_in s (so.journal ++ cut.entry ∷ [])) (sym so.setting) ∙ c.fine;
         rose = rose_since rose;
       }
 
   pub stops : (how : Stop) → Steps (Err how) k now last → Runs true (Err how) first last
   stops (stop.Fault stream kind time) saw = fails (record { stream = stream; kind = kind; time = time }) saw
+  stops (stop.CutFault stream kind time) saw = fails_cut (record { stream = stream; kind = kind; time = time }) saw
   stops stop.Put saw = put_fault saw.cut saw.rose
   stops stop.Memory saw = cuts saw

@@ -30,6 +30,7 @@ module _ (k0 : Keeping) (o0 t0 : SinkState) (entry : Entry) (mark : IsNext k0 en
   -- a row was taken, and its trace line was not put whole
   pub not_traced : (t1 : SinkState) (how : Stop) → Puts (Err how) (trace_line entry) t0 t1 → Steps (Err how) s (world k0 olds o0 t0) (world k0 news o0 t1)
   not_traced t1 (stop.Fault stream kind time) puts = absurd puts
+  not_traced t1 (stop.CutFault stream kind time) puts = absurd puts
   not_traced t1 stop.Put puts = record {
     cut = inl (record { touched = inr (took.at, sound_on took.at.new took.goes_on); entry = entry; part = puts.part; is_part = puts.is_part; trace = puts.written; out = refl });
     rose = inr puts.rose;
@@ -51,6 +52,7 @@ module _ (k0 : Keeping) (o0 t0 : SinkState) (entry : Entry) (mark : IsNext k0 en
     pub stepped : (result : Result (Unit {0}) Stop) → Takes result entry k0 k1 o0 o1 → RunsTaken result s (world k0 olds o0 t0) (world k1 news o1 t1)
     stepped (Ok done) takes = record { entry = entry; traced = traced; setting = takes.1; runs = takes.0 }
     stepped (Err (stop.Fault stream kind time)) takes = record { entry = entry; traced = traced; accepted = takes.1; runs = takes.0 }
+    stepped (Err (stop.CutFault stream kind time)) takes = record { entry = entry; traced = traced; accepted = takes.1; runs = takes.0 }
     stepped (Err stop.Put) takes = record { cut = inr (record { entry = entry; traced = traced; runs = takes.0 }); rose = inl takes.1 }
     stepped (Err stop.Memory) takes = inr (record { entry = entry; traced = traced; runs = takes.0 })
 

@@ -1,6 +1,6 @@
 -- Sources that are read in turns: what is taken of each, and how a run of their rows ends.
 use Rattle.std.specs.Prelude.{Bool, true, ℕ, ◌≡◌, ◌⊎◌, ◌≤◌, List, [], ◌++◌, Option, Some, None, IsSome, Result, Ok, Err, false, length, map, slice_get}
-use Rattle.lola_port.specs.States.{Rose, SinkState, grown}
+use Rattle.lola_port.specs.States.{PutBroke, Rose, SinkState, grown}
 use Rattle.lola_model.specs.Journal.{IsLegal, accepted, rows_of}
 use Rattle.lola_model.specs.Faults.{RunFault}
 use Rattle.lola_model.specs.Runs.{final_lines}
@@ -15,7 +15,7 @@ use Rattle.lola_merge.specs.Merging.{Merging, sources_of}
 use Rattle.lola_feed.specs.Feeding.{Working, beginning, bound_of, handed_in, to_come}
 use Rattle.lola_feed.specs.declared.worker.SourceEnd as worker
 use Rattle.lola_feed.specs.declared.worker.SourceEnd.TheVariants.{End, Malformed, ReadFault, Closed, Memory}
-use Rattle.lola_run.specs.Verdicts.{AreOfSources, HasFrontOf, HasLines, IsFineBefore, IsRowFault, fault_in, late_count, most_rows, settled_fault_in, settled_text, verdicts}
+use Rattle.lola_run.specs.Verdicts.{AreOfSources, HasFrontOf, HasLines, IsRowFault, fault_in, late_count, most_rows, settled_fault_in, settled_text, verdicts}
 use Rattle.lola_run.specs.Running.{Keeping, IsSetAs, Stands, setting_in}
 use Rattle.lola_rounds.specs.Rounds.{AreFirst}
 use Rattle.lola_run.specs.declared.stop.Stop.{Stop}
@@ -124,17 +124,19 @@ pub record RanToEnd (in_turns : Bool) (first last : World) : Type 0 where
   pub out : last.out ≡ grown first.out (settled_text (setting_in first.kept) came.journal)
   pub stands : Stands came.journal last.kept
 
--- the source of a row has not failed
-abbrev pub IsSoundAt : Row → List Supply → List Supply → Type 0
-IsSoundAt row olds news = (old new : Supply) → slice_get olds row.source ≡ Some old → slice_get news row.source ≡ Some new → new.count ≡ old.count
-
--- a run to the first fault of a row. Where sources are read on threads of their own, that of the row may have failed since
+-- a run to the first fault of a row
 pub record RanToFault (in_turns : Bool) (fault : RunFault) (first last : World) : Type 0 where
   pub came : CameTo in_turns first last
   pub begun : HaveBegun first.sources came.journal
   pub out : last.out ≡ grown first.out (settled_text (setting_in first.kept) came.journal)
   pub stands : IsRowFault (setting_in first.kept) came.journal fault
-  pub sound : in_turns ≡ true → IsSoundAt stands.row first.sources last.sources
+
+-- a run to the first fault of a row, before whose line a put failed: a proper part of the verdicts was put
+pub record RanToCutFault (in_turns : Bool) (fault : RunFault) (first last : World) : Type 0 where
+  pub came : CameTo in_turns first last
+  pub begun : HaveBegun first.sources came.journal
+  pub out : PutBroke first.out last.out (settled_text (setting_in first.kept) came.journal)
+  pub stands : IsRowFault (setting_in first.kept) came.journal fault
 
 -- a run that was cut short: a front of the verdicts was put
 pub record RanToCut (in_turns : Bool) (first last : World) : Type 0 where
@@ -146,16 +148,17 @@ pub record RanToCut (in_turns : Bool) (first last : World) : Type 0 where
   pub trace : HasLines first.trace last.trace journal
   pub out : HasFrontOf first.out last.out (verdicts (setting_in first.kept) journal)
 
--- a run that a failed put cut short
+-- a run that a failed put cut short, no settled step of which has a fault
 pub record RanToPutFault (in_turns : Bool) (first last : World) : Type 0 where
   pub cut : RanToCut in_turns first last
-  pub no_fault : IsFineBefore (setting_in first.kept) cut.journal
+  pub no_fault : settled_fault_in (setting_in first.kept) cut.journal ≡ None
   pub rose : Rose first.out.count last.out.count ⊎ Rose first.trace.count last.trace.count
 
 -- all rows of a run
 abbrev pub Runs : Bool → Result (Unit {0}) Stop → World → World → Type 0
 Runs in_turns (Ok done) first last = RanToEnd in_turns first last
 Runs in_turns (Err (stop.Fault stream kind time)) first last = RanToFault in_turns (record { stream = stream; kind = kind; time = time }) first last
+Runs in_turns (Err (stop.CutFault stream kind time)) first last = RanToCutFault in_turns (record { stream = stream; kind = kind; time = time }) first last
 Runs in_turns (Err stop.Put) first last = RanToPutFault in_turns first last
 Runs in_turns (Err stop.Memory) first last = RanToCut in_turns first last
 
@@ -177,27 +180,31 @@ pub record ThroughWell (in_turns : Bool) (first last : World) : Type 0 where
   pub late : last.kept.late ≡ late_count through.came.journal
   pub lines : last.kept.desk.lines ≡ length (final_lines first.kept.desk.plan first.kept.desk.option through.came.journal first.kept.desk.show)
 
--- the last row has the fault
-pub record IsAtRow (in_turns : Bool) (fault : RunFault) (journal : List Entry) (first last : World) : Type 0 where
-  pub is : IsRowFault (setting_in first.kept) journal fault
-  pub sound : in_turns ≡ true → IsSoundAt is.row first.sources last.sources
-
 -- the deadline at the last stamp has the fault, and all sources have ended
 pub record IsAtDeadline (journal : List Entry) (first last : World) : Type 0 where
   pub settled : settled_fault_in (setting_in first.kept) journal ≡ None
   pub fed : AreFed first.sources last.sources journal
   pub ended : HaveEnded last.sources
 
--- a whole run, to its first fault
+-- a whole run, to its first fault: that of its last row, or of the deadline at the last stamp
 pub record EndedByFault (in_turns : Bool) (fault : RunFault) (first last : World) : Type 0 where
   pub through : Through in_turns first last
   pub is_fault : fault_in (setting_in first.kept) through.came.journal ≡ Some fault
-  pub place : IsAtRow in_turns fault through.came.journal first last ⊎ IsAtDeadline through.came.journal first last
+  pub place : IsRowFault (setting_in first.kept) through.came.journal fault ⊎ IsAtDeadline through.came.journal first last
+
+-- a run to the first fault, before whose line a put failed: a proper part of all verdicts was put
+pub record EndedByCutFault (in_turns : Bool) (fault : RunFault) (first last : World) : Type 0 where
+  pub came : CameTo in_turns first last
+  pub begun : HaveBegun first.sources came.journal
+  pub out : PutBroke first.out last.out (verdicts (setting_in first.kept) came.journal)
+  pub is_fault : fault_in (setting_in first.kept) came.journal ≡ Some fault
+  pub place : IsRowFault (setting_in first.kept) came.journal fault
 
 -- how a whole run ends, whose sources are read in turns or not
 abbrev pub EndsRun : Bool → Result (Unit {0}) Stop → World → World → Type 0
 EndsRun in_turns (Ok done) first last = ThroughWell in_turns first last
 EndsRun in_turns (Err (stop.Fault stream kind time)) first last = EndedByFault in_turns (record { stream = stream; kind = kind; time = time }) first last
+EndsRun in_turns (Err (stop.CutFault stream kind time)) first last = EndedByCutFault in_turns (record { stream = stream; kind = kind; time = time }) first last
 EndsRun in_turns (Err stop.Put) first last = RanToPutFault in_turns first last
 EndsRun in_turns (Err stop.Memory) first last = RanToCut in_turns first last
 

@@ -18,7 +18,7 @@ use Rattle.lola_feed.specs.declared.worker.SourceEnd.TheVariants as end
 use Rattle.lola_feed.specs.declared.worker.Turn.{Turn}
 use Rattle.lola_feed.specs.declared.worker.Turn.TheVariants as turn
 use Rattle.lola_run.specs.Verdicts.{AreOfSources, most_rows, settled_text}
-use Rattle.lola_run.specs.Running.{CutNext, FaultNext, IsAccepted, IsNext, IsRowFor, IsSetAs, Keeping, KeptNext, Stands, StandsNext, setting_in}
+use Rattle.lola_run.specs.Running.{CutFaultNext, CutNext, FaultNext, IsAccepted, IsNext, IsRowFor, IsSetAs, Keeping, KeptNext, Stands, StandsNext, setting_in}
 use Rattle.lola_run.specs.declared.stop.Stop.{Stop}
 use Rattle.lola_run.specs.declared.stop.Stop.TheVariants as stop
 use Rattle.lola_rounds.specs.Rounds.{InTurn}
@@ -126,6 +126,13 @@ pub record SawFault (fault : RunFault) (s : ℕ) (old new : World) : Type 0 wher
   pub accepted : IsAccepted entry
   pub runs : (journal : List Entry) → Stands journal old.kept → FaultNext fault journal entry old.kept old.out new.out
 
+-- a row was taken and traced, and has a fault, the lines before which were cut short
+pub record SawCutFault (fault : RunFault) (s : ℕ) (old new : World) : Type 0 where
+  pub entry : Entry
+  pub traced : Traced s entry old new
+  pub accepted : IsAccepted entry
+  pub runs : (journal : List Entry) → Stands journal old.kept → CutFaultNext fault journal entry old.kept old.out new.out
+
 -- a row was not traced whole, or there was no memory for it
 pub record TraceCut (s : ℕ) (old new : World) : Type 0 where
   pub touched : (new.sources ≡ old.sources) ⊎ ((at : Touched s old.sources new.sources) × IsSound at.new)
@@ -157,6 +164,7 @@ abbrev pub Steps : Result Bool Stop → ℕ → World → World → Type 0
 Steps (Ok true) s old new = Stepped s old new
 Steps (Ok false) s old new = Passed s old new
 Steps (Err (stop.Fault stream kind time)) s old new = SawFault (record { stream = stream; kind = kind; time = time }) s old new
+Steps (Err (stop.CutFault stream kind time)) s old new = SawCutFault (record { stream = stream; kind = kind; time = time }) s old new
 Steps (Err stop.Put) s old new = SawPutFault s old new
 Steps (Err stop.Memory) s old new = TraceCut s old new ⊎ OutKept s old new
 

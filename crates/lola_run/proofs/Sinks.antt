@@ -1,8 +1,8 @@
 -- What a sink received, one text after another.
-use Rattle.std.proofs.Common.{◌≡◌, ℕ, ◌<◌, List, [], ◌++◌, Option, None, Some, refl, sym, ap, ◌∙◌, arith, append_assoc, length, decimal, length-append}
+use Rattle.std.proofs.Common.{◌≡◌, ℕ, ◌<◌, ◌≤◌, List, [], ◌++◌, Option, None, Some, refl, sym, ap, ◌∙◌, subst, arith, append_assoc, length, decimal, length-append}
 use Rattle.std.proofs.lemmas.List.{append-nil}
 use Rattle.std.specs.Io.KnownBytes.{append_known}
-use Rattle.lola_port.specs.States.{SinkState, grown}
+use Rattle.lola_port.specs.States.{PutBroke, Rose, SinkState, grown}
 use Rattle.lola_model.specs.Trace.{trace_line, trace_text}
 use Rattle.lola_model.specs.declared.journal.Entry.{Entry}
 use Rattle.lola_model.specs.declared.journal.Mark.TheVariants as mark
@@ -33,6 +33,20 @@ more_text s0 s1 s2 xs ys zs first second is = second ∙ ap (λ s. grown s ys) f
 -- a text grown by a part
 pub grown_part : (s0 s1 s2 : SinkState) (xs part : List ℕ) → s1 ≡ grown s0 xs → s2.written ≡ append_known s1.written part → s2.written ≡ append_known s0.written (xs ++ part)
 grown_part s0 s1 s2 xs part first second = second ∙ ap (λ s. append_known s.written part) first ∙ known_append s0.written xs part
+
+-- a put that failed behind a text: a proper part of both
+pub broke_behind : (s0 s1 s2 : SinkState) (text more : List ℕ) → s1 ≡ grown s0 text → PutBroke s1 s2 more → PutBroke s0 s2 (text ++ more)
+broke_behind s0 s1 s2 text more first broke = record {
+  part = text ++ broke.part;
+  is_part = record {
+    rest = broke.is_part.rest;
+    joined = ap (λ (l : List ℕ). text ++ l) broke.is_part.joined ∙ sym (append_assoc text broke.part broke.is_part.rest);
+    not_whole = broke.is_part.not_whole;
+  };
+  written = grown_part s0 s1 s2 text broke.part first broke.written;
+  later = subst (λ n. n ≤ s2.count) (ap (λ (s : SinkState). s.count) first) broke.later;
+  rose = subst (λ n. Rose n s2.count) (ap (λ (s : SinkState). s.count) first) broke.rose;
+}
 
 -- some entry, of whose line nothing was put
 abbrev pub an_entry : Entry

@@ -76,23 +76,15 @@ next_accepted row old new out0 out1 text next ran out journal stands =
     let r = ran.accepts journal stands.engine in
     record { stands = stands_more row old new text journal stands next ran r.stands; lines = r.lines; brings = r.brings; out = out ∙ ap (grown out0) r.text }
 
-cut_accepted : (row : Row) (old new : Keeping) (out0 out1 : SinkState) (text : List ℕ) → HasText row old new text → PutBroke out0 out1 text
+cut_accepted : (row : Row) (old new : Keeping) (out0 out1 : SinkState) (text : List ℕ) → RanRow row old new text → PutBroke out0 out1 text
     → (journal : List Entry) → Stands journal old → CutNext journal (accepted_entry row) old out0 out1
-cut_accepted row old new out0 out1 text (inl ran) broke journal stands =
+cut_accepted row old new out0 out1 text ran broke journal stands =
     let r = ran.accepts journal stands.engine in
     record {
-      fails = inl (ap (λ (s : Setting). settled_fault_in s (journal ++ accepted_entry row ∷ [])) (sym ran.setting) ∙ r.stands.fine);
+      fine = ap (λ (s : Setting). settled_fault_in s (journal ++ accepted_entry row ∷ [])) (sym ran.setting) ∙ r.stands.fine;
       lines = r.lines;
       brings = r.brings;
       out = subst (PutBroke out0 out1) r.text broke;
-    }
-cut_accepted row old new out0 out1 text (inr failed) broke journal stands =
-    let f = failed.1 journal stands.engine in
-    record {
-      fails = inr (tt, (record { stream = failed.0.stream; kind = failed.0.kind; time = failed.0.time }, f.is_fault));
-      lines = f.lines;
-      brings = f.brings;
-      out = subst (PutBroke out0 out1) f.text broke;
     }
 
 kept_accepted : (row : Row) (old new : Keeping) (out0 out1 : SinkState) (text : List ℕ) → AcceptsRow (Err engine_end.Memory) row old new text ⊎ HasText row old new text → out1 ≡ out0
@@ -109,6 +101,13 @@ takes_accepted (Err (stop.Fault stream kind time)) row old new out0 out1 next se
   λ journal stands.
       let f = ran.1 journal stands.engine in
       record { is_fault = f.is_fault; lines = f.lines; brings = f.brings; out = ran.2 ∙ ap (grown out0) f.text },
+  tt,
+  setting,
+)
+takes_accepted (Err (stop.CutFault stream kind time)) row old new out0 out1 next setting ran = (
+  λ journal stands.
+      let f = ran.1 journal stands.engine in
+      record { is_fault = f.is_fault; lines = f.lines; brings = f.brings; out = subst (PutBroke out0 out1) f.text ran.2 },
   tt,
   setting,
 )
@@ -171,7 +170,7 @@ pub stopped_row : (end : EngineEnd) (how : Stop) (row : Row) (old new : Keeping)
     → RunsAccepted (Err how) row old new out0 out1
 stopped_row (engine_end.Fault stream kind time) how row old new out0 out1 text accepts (inl at) = subst (λ (s : Stop). RunsAccepted (Err s) row old new out0 out1) (sym at.0) (text, accepts, at.1)
 stopped_row (engine_end.Fault stream kind time) how row old new out0 out1 text accepts (inr (inl at)) =
-    subst (λ (s : Stop). RunsAccepted (Err s) row old new out0 out1) (sym at.0) (text, inr (record { stream = stream; kind = kind; time = time }, accepts), at.1)
+    subst (λ (s : Stop). RunsAccepted (Err s) row old new out0 out1) (sym at.0) (text, accepts, at.1)
 stopped_row (engine_end.Fault stream kind time) how row old new out0 out1 text accepts (inr (inr at)) =
     subst (λ (s : Stop). RunsAccepted (Err s) row old new out0 out1) (sym at.0) (text, inr (inr (record { stream = stream; kind = kind; time = time }, accepts)), at.1)
 stopped_row engine_end.Memory how row old new out0 out1 text accepts at = subst (λ (s : Stop). RunsAccepted (Err s) row old new out0 out1) (sym at.0) (text, inl accepts, at.1)
@@ -180,7 +179,8 @@ stopped_row engine_end.Memory how row old new out0 out1 text accepts at = subst 
 pub ran_and_put : (result : Result (Unit {0}) Stop) (row : Row) (old new : Keeping) (out0 out1 : SinkState) (text : List ℕ) → RanRow row old new text → Puts result text out0 out1 → RunsAccepted result row old new out0 out1
 ran_and_put (Ok done) row old new out0 out1 text ran puts = (text, ran, puts)
 ran_and_put (Err (stop.Fault stream kind time)) row old new out0 out1 text ran puts = absurd puts
-ran_and_put (Err stop.Put) row old new out0 out1 text ran puts = (text, inl ran, puts)
+ran_and_put (Err (stop.CutFault stream kind time)) row old new out0 out1 text ran puts = absurd puts
+ran_and_put (Err stop.Put) row old new out0 out1 text ran puts = (text, ran, puts)
 ran_and_put (Err stop.Memory) row old new out0 out1 text ran puts = (text, inr (inl ran), puts)
 
 -- an entry with the mark of an accepted row
@@ -205,6 +205,12 @@ takes_entry_late entry t old new out is next same = takes_as (Ok tt) entry (mark
 abbrev pub FinishesWith : Result (Unit {0}) EngineEnd → Keeping → Keeping → List ℕ → Type 0
 FinishesWith result old new text = Finishes result old.desk (bounded_seen old.store) (bounded_remembers old.store) new.desk [] text
 
+-- no part of nothing is put
+none_cut : (out0 out1 : SinkState) (text : List ℕ) → text ≡ [] → PutBroke out0 out1 text → ⊥
+none_cut out0 out1 text none broke =
+    let parts : length text ≡ length broke.part + length broke.is_part.rest = ap length broke.is_part.joined ∙ length-append broke.part broke.is_part.rest in
+    omega (arith, parts, ap length none, broke.is_part.not_whole)
+
 pub stopped_close : (end : EngineEnd) (how : Stop) (old new : Keeping) (out0 out1 : SinkState) (text : List ℕ) → FinishesWith (Err end) old new text → StopsAt end how text out0 out1 → Closes (Err how) old new out0 out1
 stopped_close (engine_end.Fault stream kind time) how old new out0 out1 text finishes (inl at) =
     subst (λ (s : Stop). Closes (Err s) old new out0 out1) (sym at.0)
@@ -212,12 +218,7 @@ stopped_close (engine_end.Fault stream kind time) how old new out0 out1 text fin
     let f = finishes journal stands.engine in
     record { is_fault = f.is_fault; completes = f.completes; out = at.1 ∙ ap (grown out0) f.text ∙ grown_nil out0 })
 stopped_close (engine_end.Fault stream kind time) how old new out0 out1 text finishes (inr (inl at)) =
-    subst (λ (s : Stop). Closes (Err s) old new out0 out1) (sym at.0) (
-      λ journal stands.
-          let f = finishes journal stands.engine in
-          record { lines = []; completes = f.completes; out = subst (PutBroke out0 out1) f.text at.1 },
-      at.1.rose,
-    )
+    subst (λ (s : Stop). Closes (Err s) old new out0 out1) (sym at.0) (λ journal stands. none_cut out0 out1 text (finishes journal stands.engine).text at.1)
 stopped_close (engine_end.Fault stream kind time) how old new out0 out1 text finishes (inr (inr at)) = subst (λ (s : Stop). Closes (Err s) old new out0 out1) (sym at.0) at.1
 stopped_close engine_end.Memory how old new out0 out1 text finishes at = subst (λ (s : Stop). Closes (Err s) old new out0 out1) (sym at.0) at.1
 
@@ -227,6 +228,7 @@ closed_and_put (Ok done) old new out0 out1 text finishes count late puts = λ jo
     let f = finishes journal stands.engine in
     record { fine = f.fine; lines = f.lines; completes = f.completes; out = puts ∙ ap (grown out0) f.text; accepted = count; late = late; steps = f.all; counted = f.counted }
 closed_and_put (Err (stop.Fault stream kind time)) old new out0 out1 text finishes count late puts = absurd puts
+closed_and_put (Err (stop.CutFault stream kind time)) old new out0 out1 text finishes count late puts = absurd puts
 closed_and_put (Err stop.Put) old new out0 out1 text finishes count late puts = (
   λ journal stands.
       let f = finishes journal stands.engine in

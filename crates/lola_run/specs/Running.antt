@@ -85,14 +85,16 @@ pub record FaultNext (fault : RunFault) (journal : List Entry) (entry : Entry) (
 abbrev pub IsAccepted : Entry → Type 0
 IsAccepted entry = elim entry.mark [ mark.Accepted ↦ Unit {0} | mark.Late m ↦ ⊥ ]
 
--- an entry behind a journal has no fault, or it is accepted and has one
-abbrev pub MayFail : Setting → List Entry → Entry → Type 0
-MayFail s journal entry =
-    (settled_fault_in s (journal ++ entry ∷ []) ≡ None) ⊎ (IsAccepted entry × ((fault : RunFault) × (settled_fault_in s (journal ++ entry ∷ []) ≡ Some fault)))
+-- a step of an entry has a fault: the lines of the steps before it were cut short
+pub record CutFaultNext (fault : RunFault) (journal : List Entry) (entry : Entry) (old : Keeping) (out0 out1 : SinkState) : Type 0 where
+  pub is_fault : settled_fault_in (setting_in old) (journal ++ entry ∷ []) ≡ Some fault
+  pub lines : List (List ℕ)
+  pub brings : Brings old.desk journal entry lines
+  pub out : PutBroke out0 out1 (text_of lines)
 
--- the lines of an entry were cut short
+-- the lines of an entry were cut short, and no step of it has a fault
 pub record CutNext (journal : List Entry) (entry : Entry) (old : Keeping) (out0 out1 : SinkState) : Type 0 where
-  pub fails : MayFail (setting_in old) journal entry
+  pub fine : settled_fault_in (setting_in old) (journal ++ entry ∷ []) ≡ None
   pub lines : List (List ℕ)
   pub brings : Brings old.desk journal entry lines
   pub out : PutBroke out0 out1 (text_of lines)
@@ -116,6 +118,8 @@ abbrev pub Takes : Result (Unit {0}) Stop → Entry → Keeping → Keeping → 
 Takes (Ok done) entry old new out0 out1 = ((journal : List Entry) → Stands journal old → StandsNext journal entry old new out0 out1) × IsSetAs old new × (new.accepted + new.late ≡ old.accepted + old.late + 1)
 Takes (Err (stop.Fault stream kind time)) entry old new out0 out1 =
     ((journal : List Entry) → Stands journal old → FaultNext (record { stream = stream; kind = kind; time = time }) journal entry old out0 out1) × IsAccepted entry × IsSetAs old new
+Takes (Err (stop.CutFault stream kind time)) entry old new out0 out1 =
+    ((journal : List Entry) → Stands journal old → CutFaultNext (record { stream = stream; kind = kind; time = time }) journal entry old out0 out1) × IsAccepted entry × IsSetAs old new
 Takes (Err stop.Put) entry old new out0 out1 = ((journal : List Entry) → Stands journal old → CutNext journal entry old out0 out1) × Rose out0.count out1.count × IsSetAs old new
 Takes (Err stop.Memory) entry old new out0 out1 = ((journal : List Entry) → Stands journal old → KeptNext journal entry old out0 out1) × IsSetAs old new
 
@@ -145,13 +149,14 @@ HasText row old new text = RanRow row old new text ⊎ ((fault : RunFault) × Fa
 abbrev pub RunsAccepted : Result (Unit {0}) Stop → Row → Keeping → Keeping → SinkState → SinkState → Type 0
 RunsAccepted (Ok done) row old new out0 out1 = (text : List ℕ) × RanRow row old new text × (out1 ≡ grown out0 text)
 RunsAccepted (Err (stop.Fault stream kind time)) row old new out0 out1 = (text : List ℕ) × FailedRow row old new text (record { stream = stream; kind = kind; time = time }) × (out1 ≡ grown out0 text)
-RunsAccepted (Err stop.Put) row old new out0 out1 = (text : List ℕ) × HasText row old new text × PutBroke out0 out1 text
+RunsAccepted (Err (stop.CutFault stream kind time)) row old new out0 out1 = (text : List ℕ) × FailedRow row old new text (record { stream = stream; kind = kind; time = time }) × PutBroke out0 out1 text
+RunsAccepted (Err stop.Put) row old new out0 out1 = (text : List ℕ) × RanRow row old new text × PutBroke out0 out1 text
 RunsAccepted (Err stop.Memory) row old new out0 out1 = (text : List ℕ) × (AcceptsRow (Err engine_end.Memory) row old new text ⊎ HasText row old new text) × (out1 ≡ out0)
 
 -- how an engine's end stops a run: the lines before a fault are put first
 abbrev pub StopsAt : EngineEnd → Stop → List ℕ → SinkState → SinkState → Type 0
 StopsAt (engine_end.Fault stream kind time) end text out0 out1 =
-    ((end ≡ stop.Fault stream kind time) × (out1 ≡ grown out0 text)) ⊎ (((end ≡ stop.Put) × PutBroke out0 out1 text) ⊎ ((end ≡ stop.Memory) × (out1 ≡ out0)))
+    ((end ≡ stop.Fault stream kind time) × (out1 ≡ grown out0 text)) ⊎ (((end ≡ stop.CutFault stream kind time) × PutBroke out0 out1 text) ⊎ ((end ≡ stop.Memory) × (out1 ≡ out0)))
 StopsAt engine_end.Memory end text out0 out1 = (end ≡ stop.Memory) × (out1 ≡ out0)
 
 -- the deadlines at the last stamp were run: all is counted, and their lines put
@@ -177,10 +182,11 @@ pub record CutClose (journal : List Entry) (old : Keeping) (out0 out1 : SinkStat
   pub completes : Completes old.desk journal lines
   pub out : PutBroke out0 out1 (text_of lines)
 
--- what is run at the end of a run's rows, whatever journal the run stands for
+-- what is run at the end of a run's rows, whatever journal the run stands for. Their step is one, so no line comes before its fault
 abbrev pub Closes : Result (Unit {0}) Stop → Keeping → Keeping → SinkState → SinkState → Type 0
 Closes (Ok done) old new out0 out1 = (journal : List Entry) → Stands journal old → Closed journal old new out0 out1
 Closes (Err (stop.Fault stream kind time)) old new out0 out1 = (journal : List Entry) → Stands journal old → ClosedByFault (record { stream = stream; kind = kind; time = time }) journal old out0 out1
+Closes (Err (stop.CutFault stream kind time)) old new out0 out1 = (journal : List Entry) → Stands journal old → ⊥
 Closes (Err stop.Put) old new out0 out1 = ((journal : List Entry) → Stands journal old → CutClose journal old out0 out1) × Rose out0.count out1.count
 Closes (Err stop.Memory) old new out0 out1 = out1 ≡ out0
 
@@ -188,6 +194,7 @@ Closes (Err stop.Memory) old new out0 out1 = out1 ≡ out0
 abbrev pub Puts : Result (Unit {0}) Stop → List ℕ → SinkState → SinkState → Type 0
 Puts (Ok done) bytes old new = new ≡ grown old bytes
 Puts (Err (stop.Fault stream kind time)) bytes old new = ⊥
+Puts (Err (stop.CutFault stream kind time)) bytes old new = ⊥
 Puts (Err stop.Put) bytes old new = PutBroke old new bytes
 Puts (Err stop.Memory) bytes old new = new ≡ old
 

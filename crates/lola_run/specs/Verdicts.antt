@@ -68,10 +68,6 @@ pub record HasFrontOf (old new : SinkState) (text : List ℕ) : Type 0 where
   pub joined : text ≡ part ++ rest
   pub written : new.written ≡ append_known old.written part
 
--- no settled step has a fault, or only one that stands at the last row
-abbrev pub IsFineBefore : Setting → List Entry → Type 0
-IsFineBefore s journal = (settled_fault_in s journal ≡ None) ⊎ ((fault : RunFault) × IsRowFault s journal fault)
-
 -- the settled verdicts of a journal
 abbrev pub settled_text : Setting → List Entry → List ℕ
 settled_text s journal = text_of (settled_lines s.plan s.start journal s.show)

@@ -29,14 +29,16 @@ pub struct Run {
     lines: Text,
 }
 
-// Puts the lines before a fault, and tells how the run stops at an engine's end.
+// Puts the lines before a fault, and tells how the run stops at an engine's end. The fault has come first, so a put that fails is
+// told beside it.
 fn stop_at<K: Sink>(end: EngineEnd, lines: &[u8], out: &mut K) -> Stop
     ensures { StopsAt end result lines.now (K.state out.old) (K.state out.new) }
 {
     match end {
         EngineEnd::Fault { stream, kind, time } => match put_text(lines, out) {
             Ok(()) => Stop::Fault { stream, kind, time },
-            Err(stop) => stop,
+            Err(Stop::Memory) => Stop::Memory,
+            Err(_) => Stop::CutFault { stream, kind, time },
         },
         EngineEnd::Memory => Stop::Memory,
     }

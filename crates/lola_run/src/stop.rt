@@ -13,7 +13,13 @@ pub enum Stop {
         kind: FaultKind,
         time: u64,
     },
-    /// A put failed.
+    /// A step has such a fault, and a put of the lines before it failed.
+    CutFault {
+        stream: u32,
+        kind: FaultKind,
+        time: u64,
+    },
+    /// A put failed, and no step so far has a fault.
     Put,
     /// There is no memory.
     Memory,

@@ -3,7 +3,7 @@ use Rattle.std.proofs.Common.{◌≡◌, ℕ, ◌+◌, ◌<◌, List, [], ◌∷
 use Rattle.std.proofs.lemmas.List.{append-nil}
 use Rattle.std.proofs.lemmas.List.Elements.{All-append, All-push}
 use Rattle.std.specs.Io.KnownBytes.{append_known}
-use Rattle.lola_port.specs.States.{IsProperPart, Rose, SinkState, grown}
+use Rattle.lola_port.specs.States.{IsProperPart, PutBroke, Rose, SinkState, grown}
 use Rattle.lola_model.specs.Journal.{IsLegal, IsLegalFrom, IsRightlyMarked, opening_time}
 use Rattle.lola_model.specs.Faults.{RunFault}
 use Rattle.lola_model.specs.Texts.{text_of}
@@ -13,14 +13,14 @@ use Rattle.lola_model.specs.declared.journal.Mark.{Mark}
 use Rattle.lola_model.specs.declared.journal.Mark.TheVariants as mark
 use Rattle.lola_model.proofs.Journals.{IsLegalFrom-append_left, IsLegalFrom-append_right, trace_text-append_one}
 use Rattle.lola_engine.specs.Engines.{Brings}
-use Rattle.lola_run.specs.Verdicts.{AreOfSources, IsFineBefore, IsRowFault, Setting, settled_fault_in, settled_text}
-use Rattle.lola_run.specs.Running.{CutNext, FaultNext, HasRoom, IsAccepted, IsNext, IsSetAs, Keeping, KeptNext, MayFail, Puts, StandsNext, Takes, setting_in}
+use Rattle.lola_run.specs.Verdicts.{AreOfSources, IsRowFault, Setting, settled_fault_in, settled_text}
+use Rattle.lola_run.specs.Running.{CutFaultNext, CutNext, FaultNext, HasRoom, IsAccepted, IsNext, IsSetAs, Keeping, KeptNext, Puts, StandsNext, Takes, setting_in}
 use Rattle.lola_run.specs.declared.stop.Stop.{Stop}
 use Rattle.lola_run.specs.declared.stop.Stop.TheVariants as stop
 use Rattle.lola_run.proofs.Entries.{BringsIn, accepted_is, front_of_all, no_part, text_more}
-use Rattle.lola_run.proofs.Sinks.{grown_part, known_nil, more_text, some_line}
+use Rattle.lola_run.proofs.Sinks.{broke_behind, grown_part, known_nil, more_text, some_line}
 use Rattle.lola_run.proofs.Taking.{merged_is}
-use Rattle.lola_threads.specs.Takings.{HasFailed, HasRun, Halts, IsBroken, IsCut, IsFit, IsStopped, IsUnderWay, Place, RunsOne, most_taken, place}
+use Rattle.lola_threads.specs.Takings.{HasFailed, HasRun, Halts, IsBroken, IsCut, IsCutAtFault, IsFit, IsStopped, IsUnderWay, Place, RunsOne, most_taken, place}
 use Rattle.lola_threads.specs.declared.halt.Halt.{Halt}
 use Rattle.lola_threads.specs.declared.halt.Halt.TheVariants as halt
 
@@ -37,10 +37,11 @@ module _ (first : Place) (journal : List Entry) (k0 : Keeping) (o0 t0 : SinkStat
 
   pub not_traced : (t1 : SinkState) (how : Stop) → Puts (Err how) (trace_line entry) t0 t1 → RunsOne (Err how) first journal entry (place k0 o0 t1)
   not_traced t1 (stop.Fault stream kind time) puts = absurd puts
+  not_traced t1 (stop.CutFault stream kind time) puts = absurd puts
   not_traced t1 stop.Put puts = (
     journal,
     inl refl,
-    record { cut = cut_in_line t1 puts.part puts.is_part puts.written; no_fault = inl fine_so_far; rose = inr (subst (λ n. Rose n t1.count) (ap (λ s. s.count) so.trace) puts.rose) },
+    record { cut = cut_in_line t1 puts.part puts.is_part puts.written; no_fault = fine_so_far; rose = inr (subst (λ n. Rose n t1.count) (ap (λ s. s.count) so.trace) puts.rose) },
   )
   not_traced t1 stop.Memory puts =
       (journal, inl refl, cut_in_line t1 [] (record { rest = trace_line entry; joined = refl; not_whole = some_line entry }) (ap (λ s. s.written) puts ∙ sym (known_nil t0.written)))
@@ -62,11 +63,6 @@ module _ (first : Place) (journal : List Entry) (k0 : Keeping) (o0 t0 : SinkStat
       settled = ap (λ (s : Setting). settled_fault_in s (journal ++ entry ∷ [])) (sym so.setting) ∙ is;
     }
 
-    -- an entry that may have a fault is the last of the journal
-    fine_before : MayFail (setting_in k0) journal entry → IsFineBefore (setting_in first.kept) (journal ++ entry ∷ [])
-    fine_before (inl fine) = inl (ap (λ (s : Setting). settled_fault_in s (journal ++ entry ∷ [])) (sym so.setting) ∙ fine)
-    fine_before (inr bad) = inr (bad.1.0, row_fault bad.1.0 bad.0 bad.1.1)
-
     -- this much of an entry's verdicts was put
     cut_behind : (lines : List (List ℕ)) (part rest : List ℕ) → Brings k0.desk journal entry lines → text_of lines ≡ part ++ rest → o1.written ≡ append_known o0.written part
         → IsCut first (journal ++ entry ∷ []) (place k1 o1 t1)
@@ -83,10 +79,17 @@ module _ (first : Place) (journal : List Entry) (k0 : Keeping) (o0 t0 : SinkStat
     failed : (fault : RunFault) → FaultNext fault journal entry k0 o0 o1 → IsAccepted entry → HasFailed fault first (journal ++ entry ∷ []) (place k1 o1 t1)
     failed fault bad accepted = record { stands = row_fault fault accepted bad.is_fault; trace = trace_is; out = more_text _ _ _ _ _ _ so.out bad.out (text_is bad.lines bad.brings) }
 
+    failed_cut : (fault : RunFault) → CutFaultNext fault journal entry k0 o0 o1 → IsAccepted entry → IsCutAtFault fault first (journal ++ entry ∷ []) (place k1 o1 t1)
+    failed_cut fault bad accepted = record {
+      stands = row_fault fault accepted bad.is_fault;
+      trace = trace_is;
+      out = subst (PutBroke first.out o1) (sym (text_is bad.lines bad.brings)) (broke_behind first.out o0 o1 (settled_text (setting_in first.kept) journal) (text_of bad.lines) so.out bad.out);
+    }
+
     broken : CutNext journal entry k0 o0 o1 → Rose o0.count o1.count → IsBroken first (journal ++ entry ∷ []) (place k1 o1 t1)
     broken c rose = record {
       cut = cut_behind c.lines c.out.part c.out.is_part.rest c.brings c.out.is_part.joined c.out.written;
-      no_fault = fine_before c.fails;
+      no_fault = ap (λ (s : Setting). settled_fault_in s (journal ++ entry ∷ [])) (sym so.setting) ∙ c.fine;
       rose = inl (subst (λ n. Rose n o1.count) (ap (λ s. s.count) so.out) rose);
     }
 
@@ -96,6 +99,8 @@ module _ (first : Place) (journal : List Entry) (k0 : Keeping) (o0 t0 : SinkStat
     pub ran_one : (result : Result (Unit {0}) Stop) → Takes result entry k0 k1 o0 o1 → RunsOne result first journal entry (place k1 o1 t1)
     ran_one (Ok done) takes = ran (takes.0 journal so.stands) takes.1
     ran_one (Err (stop.Fault stream kind time)) takes = (journal ++ entry ∷ [], inr refl, failed (record { stream = stream; kind = kind; time = time }) (takes.0 journal so.stands) takes.1)
+    ran_one (Err (stop.CutFault stream kind time)) takes =
+        (journal ++ entry ∷ [], inr refl, failed_cut (record { stream = stream; kind = kind; time = time }) (takes.0 journal so.stands) takes.1)
     ran_one (Err stop.Put) takes = (journal ++ entry ∷ [], inr refl, broken (takes.0 journal so.stands) takes.1)
     ran_one (Err stop.Memory) takes = (journal ++ entry ∷ [], inr refl, unput (takes.0 journal so.stands))
 

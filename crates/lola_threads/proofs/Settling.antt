@@ -82,7 +82,12 @@ some_stopped (stop.Fault stream kind time) first last some = record {
   begun = some.begun;
   out = some.stops.out;
   stands = some.stops.stands;
-  sound = not_in_turns;
+}
+some_stopped (stop.CutFault stream kind time) first last some = record {
+  came = record { journal = some.journal; legal = some.legal; sources = some.sources; rounds = not_in_turns; trace = some.stops.trace };
+  begun = some.begun;
+  out = some.stops.out;
+  stands = some.stops.stands;
 }
 some_stopped stop.Put first last some = record {
   cut = record {

@@ -1,6 +1,6 @@
 -- What the engine's thread takes out of an intake, and what becomes of it.
-use Rattle.std.specs.Prelude.{◌≡◌, ◌⊎◌, ◌+◌, ◌<◌, ◌^◌, ℕ, Bool, List, [], ◌∷◌, ◌++◌, Result, Ok, Err}
-use Rattle.lola_port.specs.States.{Rose, SinkState, grown}
+use Rattle.std.specs.Prelude.{◌≡◌, ◌⊎◌, ◌+◌, ◌<◌, ◌^◌, ℕ, Bool, List, [], ◌∷◌, ◌++◌, None, Result, Ok, Err}
+use Rattle.lola_port.specs.States.{PutBroke, Rose, SinkState, grown}
 use Rattle.atomic_table.specs.Seated.{TableId}
 use Rattle.lola_value.specs.declared.value.Kind.{Kind}
 use Rattle.lola_model.specs.Faults.{RunFault}
@@ -8,7 +8,7 @@ use Rattle.lola_model.specs.Journal.{IsLegal}
 use Rattle.lola_model.specs.Trace.{input_kinds, trace_text}
 use Rattle.lola_model.specs.declared.journal.Entry.{Entry}
 use Rattle.lola_intake.specs.Intakes.{Shown}
-use Rattle.lola_run.specs.Verdicts.{AreOfSources, HasFrontOf, HasLines, IsFineBefore, IsRowFault, settled_text, verdicts}
+use Rattle.lola_run.specs.Verdicts.{AreOfSources, HasFrontOf, HasLines, IsRowFault, settled_fault_in, settled_text, verdicts}
 use Rattle.lola_run.specs.Running.{IsRowFor, IsSetAs, Keeping, Stands, setting_in}
 use Rattle.lola_run.specs.declared.stop.Stop.{Stop}
 use Rattle.lola_run.specs.declared.stop.Stop.TheVariants as stop
@@ -37,20 +37,27 @@ pub record HasFailed (fault : RunFault) (first : Place) (journal : List Entry) (
   pub trace : now.trace ≡ grown first.trace (trace_text journal)
   pub out : now.out ≡ grown first.out (settled_text (setting_in first.kept) journal)
 
+-- the last of them has a fault, and the lines before it were cut short
+pub record IsCutAtFault (fault : RunFault) (first : Place) (journal : List Entry) (now : Place) : Type 0 where
+  pub stands : IsRowFault (setting_in first.kept) journal fault
+  pub trace : now.trace ≡ grown first.trace (trace_text journal)
+  pub out : PutBroke first.out now.out (settled_text (setting_in first.kept) journal)
+
 -- their lines were cut short: a part of one more trace line, and a front of their verdicts were put
 pub record IsCut (first : Place) (journal : List Entry) (now : Place) : Type 0 where
   pub trace : HasLines first.trace now.trace journal
   pub out : HasFrontOf first.out now.out (verdicts (setting_in first.kept) journal)
 
--- a failed put cut them short
+-- a failed put cut them short, and no settled step of them has a fault
 pub record IsBroken (first : Place) (journal : List Entry) (now : Place) : Type 0 where
   pub cut : IsCut first journal now
-  pub no_fault : IsFineBefore (setting_in first.kept) journal
+  pub no_fault : settled_fault_in (setting_in first.kept) journal ≡ None
   pub rose : Rose first.out.count now.out.count ⊎ Rose first.trace.count now.trace.count
 
 -- how a run is stopped at a journal
 abbrev pub StopsAt : Stop → Place → List Entry → Place → Type 0
 StopsAt (stop.Fault stream kind time) first journal now = HasFailed (record { stream = stream; kind = kind; time = time }) first journal now
+StopsAt (stop.CutFault stream kind time) first journal now = IsCutAtFault (record { stream = stream; kind = kind; time = time }) first journal now
 StopsAt stop.Put first journal now = IsBroken first journal now
 StopsAt stop.Memory first journal now = IsCut first journal now
 

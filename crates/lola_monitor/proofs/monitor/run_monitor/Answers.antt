@@ -34,7 +34,7 @@ returns-clause-malformed g c =
 
 pub returns-clause-fault : goal.returns-clause-fault
 returns-clause-fault g c =
-    fault_of c.conclude.result c.work-outcome.result (map (string_bytes {Z = Global}) c.args.words.now)
+    fault_of c.puts_add_up.ensures.parts c.conclude.result c.work-outcome.result (map (string_bytes {Z = Global}) c.args.words.now)
     (outside (g.F.Shelf.state c.args.shelf.now) (g.K.Sink.state c.args.out.now) (g.T.Sink.state c.args.trace.now))
     (outside (g.F.Shelf.state c.work-outcome.new.shelf) (g.K.Sink.state c.work-outcome.new.out) (g.T.Sink.state c.work-outcome.new.trace))
     (g.K.Sink.state c.conclude.new.out) c.work-outcome.ensures.works c.conclude.ensures
