@@ -119,9 +119,9 @@ fn work<R: Threads + Wait + Sync, F: Shelf, K: Sink, T: Sink, G: Gate + Sync>(
 /// | 2 | the words are no command |
 /// | 3 | the specification was read, and is refused |
 /// | 4 | all rows of all sources were taken up to their malformed lines; the least source that has one is named |
-/// | 5 | a row, a deadline before it, or the deadline at the last stamp has a fault |
+/// | 5 | a row, a deadline before it, or the deadline at the last stamp has a fault; whether or not what is put from then on fails |
 /// | 6 | the specification or a source was not given, and no row was taken; or it could not be read, and all rows of the other sources were taken; the least of them is named |
-/// | 7 | a put failed |
+/// | 7 | a put failed, and no fault was met before |
 /// | 8 | there is no memory |
 ///
 /// Of several the status tells the first of these: what stopped the run (5, 7 or 8), a source that could not be read (6), a

@@ -1,6 +1,6 @@
 //! Sources of each form, and sources and sinks that fail.
 
-use crate::cases::{Case, RUN, holds, shelf_of, words, worked};
+use crate::cases::{Case, RUN, holds, leaves, shelf_of, words, worked};
 use lola_monitor::run_monitor;
 use lola_port::{IdleGate, MemoryShelf, MemorySink, OutSink};
 use lola_value::text::Memory;
@@ -224,6 +224,60 @@ fn puts_that_fail(rt: HostRuntime) -> Result<(), Memory> {
         ..worked()
     };
     assert!(rt; holds(&rt, rt.alloc(), &fault_line)?);
+    Ok(())
+}
+
+/// The words of a run that shows outputs, of sources on threads and in turns, where time begins at 0.
+const FROM_THE_START: [&[&str]; 2] = [
+    &[
+        "lolamon", "run", "--show", "outputs", "--start", "0", "spec", "rows",
+    ],
+    &[
+        "lolamon",
+        "run",
+        "--in-turns",
+        "--show",
+        "outputs",
+        "--start",
+        "0",
+        "spec",
+        "rows",
+    ],
+];
+
+/// Behind a fault the put of the lines before it fails, or that of the end line: the fault came first. Before it a failed put does.
+#[test]
+fn puts_that_fail_beside_a_fault(rt: HostRuntime) -> Result<(), Memory> {
+    let none = Case {
+        specification: "input a: Int64\noutput n: Int64 @1Hz := a.hold(or: 0)\noutput c: Int64 := a + 1",
+        source: "time,a\n2,9223372036854775807\n",
+        status: 5,
+        out: "1.000000000 n = 0\n= fault c 1 Overflow at 2.000000000\n",
+        trace: "0,1,2.000000000,A,9223372036854775807\n",
+        ..worked()
+    };
+    let lines = Case {
+        failing_puts: &[0],
+        out: "",
+        ..none
+    };
+    let end_line = Case {
+        failing_puts: &[1],
+        out: "1.000000000 n = 0\n",
+        ..none
+    };
+    let before = Case {
+        source: "time,a\n1.5,1\n2,9223372036854775807\n",
+        status: 7,
+        trace: "0,1,1.500000000,A,1\n",
+        ..lines
+    };
+    for texts in FROM_THE_START {
+        assert!(rt; leaves(&rt, rt.alloc(), texts, &none)?);
+        assert!(rt; leaves(&rt, rt.alloc(), texts, &lines)?);
+        assert!(rt; leaves(&rt, rt.alloc(), texts, &end_line)?);
+        assert!(rt; leaves(&rt, rt.alloc(), texts, &before)?);
+    }
     Ok(())
 }
 
