@@ -19,27 +19,30 @@ use Rattle.lola_monitor.proofs.Laws.{PutLaws, PutsAddUp, WholeLines}
 wrote_same : (s0 s1 s2 : SinkState) (ys : List ℕ) → s1 ≡ s0 → Wrote s1 s2 ys → Wrote s0 s2 ys
 wrote_same s0 s1 s2 ys same wrote = subst (λ s. Wrote s s2 ys) same wrote
 
+-- a put that failed behind a text: a proper part of both
+broke_behind : PutsAddUp → (s0 s1 s2 : SinkState) (text more : List ℕ) → s1 ≡ grown s0 text → PutBroke s1 s2 more → PutBroke s0 s2 (text ++ more)
+broke_behind parts s0 s1 s2 text more first broke = record {
+  part = text ++ broke.part;
+  is_part = record {
+    rest = broke.is_part.rest;
+    joined = ap (λ (l : List ℕ). text ++ l) broke.is_part.joined ∙ sym (append_assoc text broke.part broke.is_part.rest);
+    not_whole = broke.is_part.not_whole;
+  };
+  written = broke.written ∙ ap (λ s. append_known s.written broke.part) first ∙ ap (λ (k : SinkState). k.written) (parts s0 text broke.part);
+  later = subst (λ n. n ≤ s2.count) (ap (λ (s : SinkState). s.count) first) broke.later;
+  rose = subst (λ n. Rose n s2.count) (ap (λ (s : SinkState). s.count) first) broke.rose;
+}
+
 -- a front that ends inside the last part
 broken_front : PutsAddUp → (s0 s1 s2 : SinkState) (text more : List ℕ) → s1 ≡ grown s0 text → PutBroke s1 s2 more → HasFrontOf s0 s2 (text ++ more)
-broken_front parts s0 s1 s2 text more first broke = record {
-  part = text ++ broke.part;
-  rest = broke.is_part.rest;
-  joined = ap (λ (l : List ℕ). text ++ l) broke.is_part.joined ∙ sym (append_assoc text broke.part broke.is_part.rest);
-  written = broke.written ∙ ap (λ s. append_known s.written broke.part) first ∙ ap (λ (k : SinkState). k.written) (parts s0 text broke.part);
-}
+broken_front parts s0 s1 s2 text more first broke =
+    let both = broke_behind parts s0 s1 s2 text more first broke in
+    record { part = both.part; rest = both.is_part.rest; joined = both.is_part.joined; written = both.written }
 
 -- a text and a line behind it, or a proper part of both
 wrote_behind : PutsAddUp → (s0 s1 s2 : SinkState) (text more : List ℕ) → s1 ≡ grown s0 text → Wrote s1 s2 more → Wrote s0 s2 (text ++ more)
 wrote_behind parts s0 s1 s2 text more first (inl is) = inl (is ∙ ap (λ s. grown s more) first ∙ parts s0 text more)
-wrote_behind parts s0 s1 s2 text more first (inr broke) =
-    let front = broken_front parts s0 s1 s2 text more first broke in
-    inr (record {
-      part = front.part;
-      is_part = record { rest = front.rest; joined = front.joined; not_whole = broke.is_part.not_whole };
-      written = front.written;
-      later = subst (λ n. n ≤ s2.count) (ap (λ (s : SinkState). s.count) first) broke.later;
-      rose = subst (λ n. Rose n s2.count) (ap (λ (s : SinkState). s.count) first) broke.rose;
-    })
+wrote_behind parts s0 s1 s2 text more first (inr broke) = inr (broke_behind parts s0 s1 s2 text more first broke)
 
 module _ (words : List (List ℕ)) (before after : Outside) (last : SinkState) where
   -- the same run, whatever the last line is

@@ -209,7 +209,8 @@ FinishesWith result old new text = Finishes result old.desk (bounded_seen old.st
 none_cut : (out0 out1 : SinkState) (text : List ℕ) → text ≡ [] → PutBroke out0 out1 text → ⊥
 none_cut out0 out1 text none broke =
     let parts : length text ≡ length broke.part + length broke.is_part.rest = ap length broke.is_part.joined ∙ length-append broke.part broke.is_part.rest in
-    omega (arith, parts, ap length none, broke.is_part.not_whole)
+    let empty : length text ≡ 0 = ap length none in
+    omega (arith, parts, empty, broke.is_part.not_whole)
 
 pub stopped_close : (end : EngineEnd) (how : Stop) (old new : Keeping) (out0 out1 : SinkState) (text : List ℕ) → FinishesWith (Err end) old new text → StopsAt end how text out0 out1 → Closes (Err how) old new out0 out1
 stopped_close (engine_end.Fault stream kind time) how old new out0 out1 text finishes (inl at) =
