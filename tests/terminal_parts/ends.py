@@ -80,6 +80,7 @@ def test_malformed_rows(checks: Checks) -> None:
     cases = {  # the file; row and kind; what is told
         "after an empty line": (b"time,a\n\n0,1\n1e3,2\n", "row 2 kind 3 BadTime", "in line 4 of the file: 1e3,2"),
         "after a mark": (b"\xef\xbb\xbftime,a\n0,1\n1\n", "row 2 kind 2 FieldCount", "in line 3 of the file: 1 kind 2"),
+        "after a mark alone": (b"\xef\xbb\xbf\ntime,a\n0,1\n1\n", "row 2 kind 2 FieldCount", "in line 4 of the"),
         "with CR LF": (b"time,a\r\n\r\n0,1\r\n1,x\r\n", "row 2 kind 4 BadValue", "in line 4 of the file: 1,x kind 4"),
         "without a line feed": (b"time,a\n0,1\n1,x", "row 2 kind 4 BadValue", "in line 3 of the file: 1,x kind 4"),
         "that are no text": (b"time,a\n0,1\n1,\xff\n", "row 2 kind 5 BadText", "in line 3 of the file: 1,\\xff kind 5"),
@@ -109,21 +110,23 @@ def test_malformed_pipe(checks: Checks) -> None:
     write("sum.lola", SUM)
     reading, writing = os.pipe()
     os.write(writing, b"time,a\nx,1\n")
+    ended = on_terminal("run", "sum.lola", "/dev/stdin", stdin=reading)  # would wait for ever if it read on
     os.close(writing)
-    ended = on_terminal("run", "sum.lola", "/dev/stdin", stdin=reading)
     os.close(reading)
     told = split(ended, "= malformed source 0 row 1 kind 3 BadTime\n")
     checks.has("the name alone", "/dev/stdin, row 1 kind 3 BadTime:", told)
 
 
 def test_faults(checks: Checks) -> None:
-    write("fault.lola", f"// output b\n{INPUT}trigger a < 0\noutput b: Int64 := a + 1\ntrigger 1 / a > 5 \"much\"\n")
+    text = (f"// output b\n{INPUT}trigger a < 0\n"
+            "output /* next */ b: Int64 := a + 1\ntrigger 1 / a > 5 \"much\"\n")
+    write("fault.lola", text)
     write("overflow.csv", "time,a\n0,9223372036854775807\n")
     ended = on_terminal("run", "fault.lola", "overflow.csv")
     checks.same("status", 5, ended.status)
     told = split(ended, "0,1,0.000000000,A,9223372036854775807\n= fault b 1 Overflow at 0.000000000\n")
     checks.has("step", "In the step at 0.000000000 the stream b has a fault", told)
-    checks.has("declaration", "fault.lola, line 4, column 8: output b: Int64 := a + 1", told)
+    checks.has("declaration", "fault.lola, line 4, column 19: output /* next */ b: Int64 := a + 1", told)
     checks.has("sentence", "fault 1 Overflow: A result is outside the range", told)
     write("zero.csv", "time,a\n3,0\n")
     told = split(on_terminal("run", "fault.lola", "zero.csv"),

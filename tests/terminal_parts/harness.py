@@ -78,7 +78,8 @@ def stand_in(name: str, script: str) -> str:
 
 def environment(changes: Optional[Dict[str, str]]) -> Dict[str, str]:
     """The environment of a run: a plain terminal, and nothing that turns help off."""
-    kept = {name: value for name, value in os.environ.items() if name not in ("LOLAMON_PLAIN", "NO_COLOR")}
+    dropped = ("LOLAMON_PLAIN", "NO_COLOR", "PYTHONDONTWRITEBYTECODE")
+    kept = {name: value for name, value in os.environ.items() if name not in dropped}
     return {**kept, "TERM": "dumb", **(changes or {})}
 
 

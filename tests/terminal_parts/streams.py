@@ -5,8 +5,8 @@ import os
 import signal
 import subprocess
 
-from terminal_parts.harness import (CHECKOUT, EXPLAIN, LOLAMON, SUM, Checks, Terminal, explained, on_terminal,
-                                    output_elsewhere, split, stand_in, write)
+from terminal_parts.harness import (CHECKOUT, EXPLAIN, LOLAMON, SUM, Checks, Terminal, environment, explained,
+                                    on_terminal, output_elsewhere, split, stand_in, write)
 
 TRACE = "0,1,0.000000000,A,1\n0,2,1.000000000,A,2\n"
 VERDICTS = '1.000000000 trigger_1 "high"\n= done accepted 2 late 0 steps 2 lines 1\n'
@@ -81,7 +81,7 @@ def test_full_device(checks: Checks) -> None:
     checks.same("status, though the program ended well before", 7, ended.status)
     both = explained(stand_in("failed", "printf '0,1,0.0'; exit 7"), "run", "a.lola", "a.csv")
     checks.same("status of a failed write", 7, both.status)
-    checks.has("a line of its own", "A write to standard output or standard error failed", split(both, "0,1,0.0\n"))
+    checks.has("a line of its own", "A write to standard output or standard error failed", split(both, "0,1,0.0\n\n  "))
 
 
 def test_reader_that_goes_away(checks: Checks) -> None:
@@ -163,7 +163,8 @@ def test_statuses_stay(checks: Checks) -> None:
 
 
 def test_help_of_explain(checks: Checks) -> None:
-    ended = subprocess.run([EXPLAIN, "--help"], capture_output=True, text=True)
+    explained(stand_in("fails", "exit 8"), "run", "a", "b")
+    ended = subprocess.run([EXPLAIN, "--help"], capture_output=True, text=True, env=environment(None))
     checks.same("status", 0, ended.returncode)
     checks.has("what it does", "Runs the program lolamon with these words", ended.stdout)
     left = os.path.join(CHECKOUT, "tools", "explaining", "__pycache__")
