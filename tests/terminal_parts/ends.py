@@ -222,6 +222,7 @@ def test_each_code_is_told(checks: Checks) -> None:
         rows = [line.rstrip("\n").split("\t") for line in file][1:]
     lines = {"E": (3, "= refused {} {} at 0"), "k": (4, "= malformed source 0 row 0 {} {}"), "f": (5, "= {} {} at 0.5")}
     manual = Manual(os.path.join(CHECKOUT, "tools", "messages.tsv"), CHECKOUT)
+    examples = os.path.exists(os.path.join(CHECKOUT, "docs", "errors.md"))
     for code, name, sentence, section in rows:
         if code[0] in lines:
             status, line = lines[code[0]]
@@ -229,7 +230,10 @@ def test_each_code_is_told(checks: Checks) -> None:
             watch.end_line = line.format(code.replace("fault", "fault b"), name).encode()
             told = Teller(manual, Outcome(status, None, watch, {}, False), ["run", "a.lola", "a.csv"]).all()
             checks.has(code, f"{code} {name}: {sentence}", "\n".join(told))
-            checks.has(f"section of {code}", section, told[-1])
+            checks.has(f"section of {code}", section, told[-2] if examples else told[-1])
+            if examples:
+                heading = f"{code} {name}".lower().replace(" ", "-")
+                checks.has(f"example of {code}", f"docs/errors.md#{heading}", told[-1])
 
 
 def test_marks_are_bold_where_they_may(checks: Checks) -> None:

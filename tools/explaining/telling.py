@@ -77,9 +77,11 @@ class Manual:
 
     def meaning(self, code: str) -> List[str]:
         message = self.messages[code]
-        errors = self.path("docs/errors.md")
-        example = f"; an example and what mends it: {errors}" if os.path.exists(errors) else ""
-        return [f"{code} {message.name}: {message.sentence}", f"More: {self.path(message.section)}{example}"]
+        lines = [f"{code} {message.name}: {message.sentence}", *self.more(message.section)]
+        if os.path.exists(self.path("docs/errors.md")):
+            heading = f"{code} {message.name}".lower().replace(" ", "-")
+            lines.append("An example and what mends it: " + self.path(f"docs/errors.md#{heading}"))
+        return lines
 
     def more(self, section: str) -> List[str]:
         return [f"More: {self.path(section)}"]
