@@ -20,6 +20,7 @@ MALFORMED = re.compile(r"= malformed source (\d+) row (\d+) (kind \d+) \w+")
 FAULT = re.compile(r"= fault (\w+) (\d+) \w+ at ([\d.]+)")
 UNREADABLE = re.compile(r"= unreadable (?:specification|source (\d+))")
 LATE_ROWS = "docs/formats.md#trace-lines-on-standard-error"
+TWO_LOGS = "docs/cookbook.md#two-logs"
 MOST_LATE_SOURCES = 4  # so many sources with late rows are named
 QUIET_SIGNALS = (signal.SIGINT, signal.SIGTERM, signal.SIGHUP, signal.SIGQUIT, signal.SIGPIPE)
 
@@ -218,7 +219,9 @@ class Teller:
             reason += " So the times of this source go back."
         if several and "--in-turns" not in self.command.options:
             reason += " Of files on a disk one gets ahead of the others: read them with --in-turns."
-        return [reason, *self.manual.more(LATE_ROWS)]
+        if several:
+            reason += " Logs with unequal numbers of rows are put in order of time before a run."
+        return [reason, *self.manual.more(LATE_ROWS), *(self.manual.more(TWO_LOGS) if several else [])]
 
     def source(self, number: str) -> Optional[str]:
         sources = self.command.sources if self.command else []
