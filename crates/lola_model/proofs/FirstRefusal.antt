@@ -7,11 +7,11 @@ use Rattle.lola_value.specs.declared.front.Code.TheVariants as code
 use Rattle.lola_value.specs.declared.front.Refusal.{Refusal}
 use Rattle.lola_model.specs.Refusals.{code_number, is_before, earlier, first_of, IsFirstIn, IsFirstOf, MeansFirst}
 
--- the codes by their numbers
+-- the codes by their numbers; no code has 0 or 20
 abbrev codes_in_order : List Code
 codes_in_order =
     code.TooLong ∷ code.TooLong ∷ code.BadToken ∷ code.Unexpected ∷ code.TooDeep ∷ code.Duplicate ∷ code.Unknown ∷ code.TooMany ∷ code.BadArity ∷ code.WrongType ∷ code.LiteralRange
-    ∷ code.NotImplied ∷ code.NoPacing ∷ code.PacingTooWide ∷ code.DirectToFiltered ∷ code.WindowOutsidePeriodic ∷ code.WindowTooFine ∷ code.PeriodTooShort ∷ code.WindowNeedsWholePeriod ∷ code.ZeroCycle ∷ code.Unbuilt ∷ []
+    ∷ code.NotImplied ∷ code.NoPacing ∷ code.PacingTooWide ∷ code.DirectToFiltered ∷ code.WindowOutsidePeriodic ∷ code.WindowTooFine ∷ code.PeriodTooShort ∷ code.WindowNeedsWholePeriod ∷ code.ZeroCycle ∷ code.TooLong ∷ code.LocalWithoutSpawn ∷ []
 
 numbered : (c : Code) → slice_get codes_in_order (code_number c) ≡ Some c
 numbered code.TooLong = refl
@@ -33,7 +33,7 @@ numbered code.WindowTooFine = refl
 numbered code.PeriodTooShort = refl
 numbered code.WindowNeedsWholePeriod = refl
 numbered code.ZeroCycle = refl
-numbered code.Unbuilt = refl
+numbered code.LocalWithoutSpawn = refl
 
 same_code : (c d : Code) → code_number c ≡ code_number d → c ≡ d
 same_code c d e = grind (arith, numbered c, numbered d, ap (slice_get codes_in_order) e)

@@ -2,7 +2,6 @@
 use Rattle.std.proofs.Common.{◌≡◌, refl, ap, ◌∙◌, sym, subst, ℕ, ◌-◌, ◌↔◌, List, [], ◌++◌, Option, false, arith, append-nil}
 use Rattle.std.specs.Prelude.{is_some}
 use Rattle.lola_model.specs.Table.{Step, TableRow}
-use Rattle.lola_model.specs.Acceptance.{IsAccepted}
 use Rattle.lola_model.specs.Accepted.{IsAcyclic}
 use Rattle.lola_model.specs.Journal.{accepted}
 use Rattle.lola_model.specs.Steps.{rates_of, deadline_steps, steps_from, settled_steps, all_steps}
@@ -16,7 +15,6 @@ use Rattle.lola_model.proofs.Deadlines.{passed_after}
 use Rattle.lola_model.proofs.Ends.{steps_end}
 use Rattle.lola_model.proofs.Growing.{ended_by_fault}
 use Rattle.lola_model.proofs.Layers.{has_one_model}
-use Rattle.lola_model.proofs.NoLocals.{none_local}
 use Rattle.lola_model.proofs.Listed.{rows_walk, last_walk, none_between, goes_in_order, up_to_fault, steps_of_rows, Walks}
 
 module _ (plan : Plan) (one : HasOneModel plan) (has : HasRates plan.pacings) (start : Option ℕ) (journal : List Entry) where
@@ -104,7 +102,3 @@ has_listed_steps plan a has none = record {
   all_are = λ start journal. whole_up_to plan (has_one_model plan a) has start journal none;
   settled_are = λ start journal. settled_up_to plan (has_one_model plan a) has start journal none;
 }
-
--- of an accepted plan
-pub accepted_listed : (plan : Plan) → IsAccepted plan → HasListedSteps plan
-accepted_listed plan h = has_listed_steps plan h.acyclic h.rates (none_local plan.spec plan.pacings h.paced)

@@ -5,6 +5,7 @@ use Rattle.lola_value.specs.Ratio.{Ratio}
 use Rattle.lola_value.specs.declared.front.Code.TheVariants as code
 use Rattle.lola_model.specs.Activity.{satisfies_some}
 use Rattle.lola_model.specs.Model.{is_input}
+use Rattle.lola_model.specs.Named.{has_clause}
 use Rattle.lola_model.specs.declared.pacing.InputSet.{InputSet}
 use Rattle.lola_model.specs.declared.pacing.Pacing.TheVariants.{Event, Periodic, Local}
 use Rattle.lola_model.specs.declared.spec.Clause.{Clause}
@@ -41,31 +42,35 @@ given_rate at rate.OutOfRange = Unpaced
 given_rate at rate.TooFast = Refused (record { code = code.PeriodTooShort; at = at })
 given_rate at (rate.Of r) = Paced (Periodic r)
 
--- a rate in a form that is not built: E20, or E17 where that stands too
-abbrev pub unbuilt_rate : ℕ → WrittenRate → Finding
-unbuilt_rate at rate.OutOfRange = Refused (record { code = code.Unbuilt; at = at })
-unbuilt_rate at rate.TooFast = Refused (record { code = code.PeriodTooShort; at = at })
-unbuilt_rate at (rate.Of r) = Refused (record { code = code.Unbuilt; at = at })
+-- E21 at a place
+abbrev pub without_spawn : ℕ → Finding
+without_spawn at = Refused (record { code = code.LocalWithoutSpawn; at = at })
 
--- what stands behind `@`
-abbrev pub IsGiven : Pace → Finding → Type 0
-IsGiven (pace.Event at f) finding = IsGivenEvent at f finding
-IsGiven (pace.Rate at r) finding = finding ≡ given_rate at r
-IsGiven (pace.Global at r) finding = finding ≡ unbuilt_rate at r
-IsGiven (pace.Local at r) finding = finding ≡ unbuilt_rate at r
+-- a rate in `Local` at an `@`: itself, where the clause is of instances that a spawn clause makes, else E21; or E17
+abbrev pub given_local : Bool → ℕ → WrittenRate → Finding
+given_local spawned at rate.OutOfRange = if spawned then Unpaced else without_spawn at
+given_local spawned at rate.TooFast = Refused (record { code = code.PeriodTooShort; at = at })
+given_local spawned at (rate.Of r) = if spawned then Paced (Local r) else without_spawn at
+
+-- what stands behind `@` of a clause, which is of instances that a spawn clause makes or not
+abbrev pub IsGiven : Bool → Pace → Finding → Type 0
+IsGiven spawned (pace.Event at f) finding = IsGivenEvent at f finding
+IsGiven spawned (pace.Rate at r) finding = finding ≡ given_rate at r
+IsGiven spawned (pace.Global at r) finding = finding ≡ given_rate at r
+IsGiven spawned (pace.Local at r) finding = finding ≡ given_local spawned at r
 
 -- the pacing of the i-th input: the rows that have it
 abbrev pub input_finding : ℕ → Finding
 input_finding i = Paced (Event (record { 0 = 2 ^ i } ∷ []))
 
 -- of a clause whose pacing, if it has one, is written
-abbrev pub IsWritten : Option Pace → Finding → Type 0
-IsWritten None finding = finding ≡ Unpaced
-IsWritten (Some p) finding = IsGiven p finding
+abbrev pub IsWritten : Bool → Option Pace → Finding → Type 0
+IsWritten spawned None finding = finding ≡ Unpaced
+IsWritten spawned (Some p) finding = IsGiven spawned p finding
 
-abbrev pub IsWrittenIn : Option Clause → Finding → Type 0
-IsWrittenIn None finding = finding ≡ Unpaced
-IsWrittenIn (Some c) finding = IsWritten c.pace finding
+abbrev pub IsWrittenIn : Bool → Option Clause → Finding → Type 0
+IsWrittenIn spawned None finding = finding ≡ Unpaced
+IsWrittenIn spawned (Some c) finding = IsWritten spawned c.pace finding
 
 -- the number of inputs up to and with a stream
 abbrev pub inputs_with : ℕ → Stream → ℕ
@@ -73,7 +78,7 @@ inputs_with i s = if is_input s then i + 1 else i
 
 -- of a stream before which stand i inputs, as far as it is an input or the pacing of its eval clause is written
 abbrev pub IsOwn : ℕ → Stream → Finding → Type 0
-IsOwn i s finding = MatchBool (is_input s) (finding ≡ input_finding i) (IsWrittenIn s.eval finding)
+IsOwn i s finding = MatchBool (is_input s) (finding ≡ input_finding i) (IsWrittenIn (has_clause s.spawn) s.eval finding)
 
 -- of each stream, of which i inputs stand before the first
 abbrev pub AreOwn : ℕ → List Stream → List Finding → Type 0

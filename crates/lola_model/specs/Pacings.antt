@@ -1,5 +1,5 @@
 -- The pacings of all clauses, and what the phase that finds them refuses.
-use Rattle.std.specs.Prelude.{ℕ, ◌≡◌, ◌+◌, List, [], ◌∷◌, ◌++◌, Option, Some, None, MatchBool}
+use Rattle.std.specs.Prelude.{ℕ, ◌≡◌, ◌+◌, List, [], ◌∷◌, ◌++◌, Option, Some, None, Bool, false, MatchBool}
 use Rattle.lola_value.specs.declared.front.Code.{Code}
 use Rattle.lola_value.specs.declared.front.Refusal.{Refusal}
 use Rattle.lola_model.specs.Refusals.{IsFirstIn}
@@ -13,6 +13,7 @@ use Rattle.lola_model.specs.declared.spec.Spec.{Spec}
 use Rattle.lola_model.specs.declared.spec.Stream.{Stream}
 use Rattle.lola_model.specs.declared.spec.WindowSpec.{WindowSpec}
 use Rattle.lola_model.specs.Leaves.{AreLeaves, is_end}
+use Rattle.lola_model.specs.Named.{has_clause}
 use Rattle.lola_model.specs.PacingFound.{AreOwn, IsGiven, IsFound, finding_at, findings_at, no_pacing}
 use Rattle.lola_model.specs.PacingRefused.{clause_refusals}
 use Rattle.lola_model.specs.WindowVerdicts.{IsVerdict}
@@ -43,26 +44,27 @@ module _ (streams : List Stream) (owns : List Finding) where
   IsFromLeaves n at alone clause finding = (leaves : List ℕ) × AreLeaves streams n clause leaves × IsFound at alone (findings_at owns leaves) finding
 
   -- of a clause with this pacing written, or none
-  abbrev pub IsPaceFound : ℕ → ℕ → Finding → Option Clause → Option Pace → Finding → Type 0
-  IsPaceFound n at alone clause None finding = IsFromLeaves n at alone clause finding
-  IsPaceFound n at alone clause (Some p) finding = IsGiven p finding
+  abbrev pub IsPaceFound : ℕ → ℕ → Bool → Finding → Option Clause → Option Pace → Finding → Type 0
+  IsPaceFound n at spawned alone clause None finding = IsFromLeaves n at alone clause finding
+  IsPaceFound n at spawned alone clause (Some p) finding = IsGiven spawned p finding
 
-  -- of a clause of stream n; at the place stand E12 and E13 of a found pacing, and without a leaf the clause has what it has alone
-  abbrev pub IsClauseFound : ℕ → ℕ → Finding → Option Clause → Finding → Type 0
-  IsClauseFound n at alone None finding = finding ≡ Unpaced
-  IsClauseFound n at alone (Some c) finding = IsPaceFound n at alone (Some c) c.pace finding
+  -- of a clause of stream n, which is of instances that a spawn clause makes or not; at the place stand E12 and E13 of a found
+  -- pacing, and without a leaf the clause has what it has alone
+  abbrev pub IsClauseFound : ℕ → ℕ → Bool → Finding → Option Clause → Finding → Type 0
+  IsClauseFound n at spawned alone None finding = finding ≡ Unpaced
+  IsClauseFound n at spawned alone (Some c) finding = IsPaceFound n at spawned alone (Some c) c.pace finding
 
   -- an eval clause: without a leaf E12; an input has the rows that have it
   abbrev pub IsEvalFound : ℕ → Stream → Finding → Type 0
-  IsEvalFound n s finding = MatchBool (is_end s) (finding ≡ finding_at owns n) (IsClauseFound n s.place (no_pacing s.place) s.eval finding)
+  IsEvalFound n s finding = MatchBool (is_end s) (finding ≡ finding_at owns n) (IsClauseFound n s.place (has_clause s.spawn) (no_pacing s.place) s.eval finding)
 
   -- a spawn clause, whose refusals stand at its own word
   abbrev pub IsSpawnFound : ℕ → Stream → Finding → Type 0
-  IsSpawnFound n s finding = IsClauseFound n (place_of s.spawn) (no_pacing (place_of s.spawn)) s.spawn finding
+  IsSpawnFound n s finding = IsClauseFound n (place_of s.spawn) false (no_pacing (place_of s.spawn)) s.spawn finding
 
   -- a close clause: without a leaf it has the pacing of its stream's eval clause
   abbrev pub IsCloseFound : List Finding → ℕ → Stream → Finding → Type 0
-  IsCloseFound evals n s finding = IsClauseFound n s.place (only_pacing (finding_at evals n)) s.close finding
+  IsCloseFound evals n s finding = IsClauseFound n s.place (has_clause s.spawn) (only_pacing (finding_at evals n)) s.close finding
 
 -- of the clause that a window stands in
 abbrev pub finding_of_part : List Finding → List Finding → List Finding → ℕ → Part → Finding

@@ -25,7 +25,7 @@ code_number code.WindowTooFine = 16
 code_number code.PeriodTooShort = 17
 code_number code.WindowNeedsWholePeriod = 18
 code_number code.ZeroCycle = 19
-code_number code.Unbuilt = 20
+code_number code.LocalWithoutSpawn = 21
 
 -- one refusal comes before another: at an earlier place, or there with a lesser code
 abbrev pub is_before : Refusal → Refusal → Bool

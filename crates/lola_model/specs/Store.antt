@@ -9,7 +9,10 @@ use Rattle.lola_value.specs.declared.value.Outcome.TheVariants as outcome
 use Rattle.lola_value.specs.declared.value.Params.{Params}
 use Rattle.lola_value.specs.Naming.{Naming, read_outcome, read_params, the_values, AreHeld, IsHeldIn}
 pub use Rattle.lola_value.specs.Kinds.{values_same, all_same, same_params, is_well_formed, is_of_kind, are_of_kinds, is_outcome_of}
+use Rattle.lola_value.specs.Ratio.{Ratio}
 use Rattle.lola_model.specs.Content.{Life, StreamContent, Content}
+use Rattle.lola_model.specs.NextStep.{local_rates}
+use Rattle.lola_model.specs.declared.pacing.ClausePacings.{ClausePacings}
 use Rattle.lola_model.specs.declared.spec.Stream.{Stream}
 use Rattle.lola_model.specs.declared.spec.WindowSpec.{WindowSpec}
 use Rattle.lola_model.specs.declared.spec.Agg.{Agg}
@@ -17,12 +20,13 @@ use Rattle.lola_model.specs.declared.spec.Agg.TheVariants as agg
 use Rattle.lola_model.specs.declared.plan.Plan.{Plan}
 use Rattle.lola_model.specs.declared.plan.PaneSize.{PaneSize}
 
--- what a store has to know of a stream
+-- what a store has to know of a stream; the rates are those of its clauses that count from the birth of each instance
 pub record StreamLayout : Type 0 where
   pub kind : Kind
   pub parameters : List Kind
   pub spawns : Bool
   pub kept : ℕ
+  pub locals : List Ratio
 
 -- what it has to know of a plan
 pub record Layout : Type 0 where
@@ -30,20 +34,27 @@ pub record Layout : Type 0 where
   pub windows : List WindowSpec
   pub panes : List PaneSize
 
--- of streams, with how many values each keeps
-abbrev pub layouts_from : List Stream → List ℕ → List StreamLayout
-layouts_from [] kept = []
-layouts_from (s ∷ ss) kept =
-    record { kind = unwrap_or s.kind kind.Int64; parameters = s.parameters; spawns = elim s.spawn [ None ↦ false | Some k ↦ true ]; kept = unwrap_or (slice_get kept 0) 1 }
-    ∷ layouts_from ss (drop 1 kept)
+-- of streams, with how many values each keeps and the pacings of its clauses
+abbrev pub layouts_from : List Stream → List ℕ → List ClausePacings → List StreamLayout
+layouts_from [] kept pacings = []
+layouts_from (s ∷ ss) kept pacings =
+    record {
+      kind = unwrap_or s.kind kind.Int64;
+      parameters = s.parameters;
+      spawns = elim s.spawn [ None ↦ false | Some k ↦ true ];
+      kept = unwrap_or (slice_get kept 0) 1;
+      locals = local_rates (slice_get pacings 0);
+    }
+    ∷ layouts_from ss (drop 1 kept) (drop 1 pacings)
 
 -- of a plan
 abbrev pub layout_of : Plan → Layout
-layout_of plan = record { streams = layouts_from plan.spec.streams plan.kept; windows = plan.spec.windows; panes = plan.panes }
+layout_of plan = record { streams = layouts_from plan.spec.streams plan.kept plan.pacings; windows = plan.spec.windows; panes = plan.panes }
 
--- an instance with this step's outcome, which is no fault
+-- an instance with the time of its birth and this step's outcome, which is no fault
 pub record SeenInstance : Type 0 where
   pub params : Params
+  pub born : ℕ
   pub outcome : Outcome
 
 -- a stream: whether it is poisoned in this step, whether its spawn clause ran in it, and its instances
@@ -152,7 +163,7 @@ changed_at (s ∷ ss) n f = elim n [ zero ↦ f s ∷ ss | suc m ↦ s ∷ chang
 -- the instances with the outcome of the one at a place
 abbrev pub told_at : List SeenInstance → ℕ → Outcome → List SeenInstance
 told_at [] i o = []
-told_at (x ∷ xs) i o = elim i [ zero ↦ record { params = x.params; outcome = o } ∷ xs | suc j ↦ x ∷ told_at xs j o ]
+told_at (x ∷ xs) i o = elim i [ zero ↦ record { params = x.params; born = x.born; outcome = o } ∷ xs | suc j ↦ x ∷ told_at xs j o ]
 
 -- after `start_at`
 abbrev pub after_start : Seen → ℕ → Seen
@@ -164,7 +175,7 @@ after_prepare s = record s { prepared = true }
 
 -- an instance with no outcome
 abbrev pub silent : SeenInstance → SeenInstance
-silent x = record { params = x.params; outcome = outcome.Missing }
+silent x = record { params = x.params; born = x.born; outcome = outcome.Missing }
 
 -- a stream as a step begins
 abbrev pub quiet : SeenStream → SeenStream
@@ -182,14 +193,14 @@ after_outcome s n i o = record s { streams = changed_at s.streams n (λ x. recor
 abbrev pub after_poison_stream : Seen → ℕ → Seen
 after_poison_stream s n = record s { streams = changed_at s.streams n (λ x. record x { bad = true }) }
 
--- an instance that was just born
-abbrev pub newborn_seen : Params → SeenInstance
-newborn_seen p = record { params = p; outcome = outcome.Missing }
+-- an instance that was just born, at this time
+abbrev pub newborn_seen : ℕ → Params → SeenInstance
+newborn_seen time p = record { params = p; born = time; outcome = outcome.Missing }
 
 -- after `spawn`, where an instance was born or not
 abbrev pub after_spawn : Seen → ℕ → Params → Bool → Seen
 after_spawn s n p born =
-    if born then record s { streams = changed_at s.streams n (λ x. record x { spawned = true; instances = x.instances ++ newborn_seen p ∷ [] }) } else s
+    if born then record s { streams = changed_at s.streams n (λ x. record x { spawned = true; instances = x.instances ++ newborn_seen (time_seen s) p ∷ [] }) } else s
 
 -- whether an instance of the stream was born in this step
 abbrev pub has_spawned : Option SeenStream → Bool
@@ -275,23 +286,26 @@ module _ (names : Naming) (remembers : Memories) (n : ℕ) where
   StandForLives i (x ∷ xs) (l ∷ ls) = StandsForLife i x l × StandForLives (i + 1) xs ls
   StandForLives i _ _ = ⊥
 
-  -- a stream stands for a stream of a content
-  pub record StandsForStream (s : SeenStream) (c : StreamContent) : Type 0 where
+  -- a stream, which has a spawn clause or not, stands for a stream of a content; the one instance of a stream without a spawn clause
+  -- is never born
+  pub record StandsForStream (spawns : Bool) (s : SeenStream) (c : StreamContent) : Type 0 where
     pub bad : s.bad ≡ c.bad
     pub lives : StandForLives 0 s.instances c.lives
+    pub births : spawns ≡ true → map (λ (x : SeenInstance). x.born) s.instances ≡ map (λ (l : Life). l.born) c.lives
 
-module _ (names : Naming) (remembers : Memories) where
+module _ (layouts : List StreamLayout) (names : Naming) (remembers : Memories) where
   -- streams stand for streams, each for its own
   abbrev pub StandForStreams : ℕ → List SeenStream → List StreamContent → Type 0
   StandForStreams n [] [] = Unit {0}
-  StandForStreams n (s ∷ ss) (c ∷ cs) = StandsForStream names remembers n s c × StandForStreams (n + 1) ss cs
+  StandForStreams n (s ∷ ss) (c ∷ cs) = StandsForStream names remembers n (spawns_in (slice_get layouts n)) s c × StandForStreams (n + 1) ss cs
   StandForStreams n _ _ = ⊥
 
+module _ (names : Naming) (remembers : Memories) where
   -- a store that shows this and remembers these stands for a content
   pub record Stands (s : Seen) (c : Content) : Type 0 where
     pub start : start_seen s ≡ c.start
     pub time : time_seen s ≡ c.time
-    pub streams : StandForStreams 0 s.streams c.streams
+    pub streams : StandForStreams s.layout.streams names remembers 0 s.streams c.streams
 
 -- the kind that an aggregation gives, onto values of a kind
 abbrev pub gives_kind : Agg → Kind → Kind
@@ -320,7 +334,7 @@ no_params =
 -- a stream of a new store: one without a spawn clause has one instance
 abbrev pub opened : StreamLayout → SeenStream
 opened s =
-    record { bad = false; spawned = false; instances = if s.spawns then [] else newborn_seen no_params ∷ [] }
+    record { bad = false; spawned = false; instances = if s.spawns then [] else newborn_seen 0 no_params ∷ [] }
 
 -- what a new store shows
 abbrev pub new_seen : Layout → Seen

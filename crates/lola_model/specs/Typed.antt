@@ -11,7 +11,7 @@ use Rattle.lola_model.specs.declared.spec.Spec.{Spec}
 
 -- where an expression stands that has parameters of these kinds
 abbrev pub scope_in : Spec → List Kind → Scope
-scope_in spec ks = record { streams = layouts_from spec.streams []; windows = spec.windows; has_parameter = is_kind_at ks }
+scope_in spec ks = record { streams = layouts_from spec.streams [] []; windows = spec.windows; has_parameter = is_kind_at ks }
 
 -- a whole expression has the kind that is asked of it, and all its parts have theirs by the table of kinds
 abbrev pub whole_is_typed : Spec → Whole → Bool

@@ -12,6 +12,7 @@ ghost use Rattle.lola_value.specs.Naming.{Naming, read_outcome, the_values, IsHe
 ghost use Rattle.lola_model.specs.Store.{Seen, Fits, CanBegin, IsNew, IsStarted, IsRunning, start_seen, time_seen, max_offset, target_of, pane_of, never_spawns, instances_seen, place_of, now_of, now_seen, is_silent, is_of_kind, is_outcome_of, are_of_kinds, is_well_formed, parameters_of, kind_in, spawns_in, after_start, after_prepare, after_begin, after_outcome, after_poison_stream, after_spawn, after_close, window_kind, has_spawned};
 ghost use Rattle.lola_model.specs.Reading.{held_answer, window_reading, KeepsAll, KeepsOthers, IsHeldBy};
 ghost use Rattle.lola_model.specs.Spawning.{has_room, spawn_end};
+ghost use Rattle.lola_model.specs.Dues.{due_seen};
 ghost use Rattle.lola_model.specs.Accesses.{from_end, one_more};
 
 use lola_value::text::Memory;
@@ -116,6 +117,17 @@ pub trait StreamStore: Drop {
         ensures value { MatchOption (slice_get (instances_seen (seen self.now) stream) index) ⊥ (λ x. result ≡ x.params) }
         ensures kinds { IsTrue (are_of_kinds (parameters_of (slice_get (seen self.now).layout.streams stream)) (the_values result)) }
         ensures places { IsTrue (is_well_formed result) };
+
+    /// When an instance was born, in nanoseconds: the time of the step in which the spawn clause of its stream made it.
+    fn born(&self, stream: u32, index: u32) -> u64
+        requires spawns { IsTrue (spawns_in (slice_get (seen self.now).layout.streams stream)) }
+        requires index { index < length (instances_seen (seen self.now) stream) }
+        ensures { MatchOption (slice_get (instances_seen (seen self.now) stream) index) ⊥ (λ x. result ≡ x.born) };
+
+    /// The first deadline that is at `from` or later of all clauses that count from the birth of an instance, over all instances that
+    /// live; in nanoseconds, and none where there is none up to the greatest time.
+    fn local_due(&self, from: u64) -> Option<u64>
+        ensures { result ≡ due_seen (seen self.now) from };
 
     /// Gives an instance its value of this step.
     fn push(&mut self, stream: u32, index: u32, value: Value)

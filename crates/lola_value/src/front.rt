@@ -3,8 +3,8 @@
 use crate::text::Memory;
 use thiserror::Error;
 
-/// Why a specification is refused. The codes E1 to E20 are numbered from 1 in this order, as `code as u8` tells
-/// them.
+/// Why a specification is refused. The codes E1 to E19 and E21 have these numbers, as `code as u8` tells them. E20 was
+/// a form that was not built yet, and is not used again.
 #[derive(Clone, Copy, Debug, PartialEq, Eq)]
 pub enum Code {
     /// E1: it has more than 1,048,576 bytes.
@@ -45,8 +45,8 @@ pub enum Code {
     WindowNeedsWholePeriod = 18,
     /// E19: streams that read each other in the same step, round in a circle.
     ZeroCycle = 19,
-    /// E20: a form that is not built yet.
-    Unbuilt = 20,
+    /// E21: a pacing by `@Local` of a clause that belongs to no instance that a spawn clause makes.
+    LocalWithoutSpawn = 21,
 }
 
 /// A refusal: its code, and the position in the specification, in bytes from 0, at which it stands.
