@@ -1,10 +1,11 @@
 -- What becomes of a content by the calls of a store.
-use Rattle.std.specs.Prelude.{ℕ, ◌≡◌, zero, suc, List, [], ◌∷◌, ◌++◌, Option, Some, None, Bool, true, false, if◌then◌else◌, nat_lt, length, remove}
+use Rattle.std.specs.Prelude.{ℕ, ◌≡◌, ◌+◌, zero, suc, List, [], ◌∷◌, ◌++◌, Option, Some, None, Bool, true, false, if◌then◌else◌, nat_lt, length, map, remove, slice_get}
 use Rattle.lola_value.specs.declared.text.Field.{Field}
 use Rattle.lola_value.specs.Answer.{Answer, Missing}
 use Rattle.lola_value.specs.Arithmetic.{all_equal}
 use Rattle.lola_model.specs.Content.{Life, StreamContent, Content}
 use Rattle.lola_model.specs.Model.{most_instances}
+use Rattle.lola_model.specs.Store.{StreamLayout, spawns_in}
 use Rattle.lola_model.specs.declared.store.SpawnEnd.{SpawnEnd}
 use Rattle.lola_model.specs.declared.store.SpawnEnd.TheVariants as spawn
 
@@ -78,19 +79,20 @@ AreSameLives [] [] = Unit {0}
 AreSameLives (l ∷ ls) (m ∷ ms) = IsSameLife l m × AreSameLives ls ms
 AreSameLives _ _ = ⊥
 
--- two streams that differ at most in when their instances were born
-pub record IsSameStream (s t : StreamContent) : Type 0 where
+-- two streams that differ at most in when their instances were born, and where they have a spawn clause not even in that
+pub record IsSameStream (spawns : Bool) (s t : StreamContent) : Type 0 where
   pub bad : s.bad ≡ t.bad
   pub lives : AreSameLives s.lives t.lives
+  pub births : spawns ≡ true → map (λ (l : Life). l.born) s.lives ≡ map (λ (l : Life). l.born) t.lives
 
--- streams in step, each the same as its own
-abbrev pub AreSameStreams : List StreamContent → List StreamContent → Type 0
-AreSameStreams [] [] = Unit {0}
-AreSameStreams (s ∷ ss) (t ∷ ts) = IsSameStream s t × AreSameStreams ss ts
-AreSameStreams _ _ = ⊥
+-- streams in step from stream n on, each the same as its own
+abbrev pub AreSameStreams : List StreamLayout → ℕ → List StreamContent → List StreamContent → Type 0
+AreSameStreams layouts n [] [] = Unit {0}
+AreSameStreams layouts n (s ∷ ss) (t ∷ ts) = IsSameStream (spawns_in (slice_get layouts n)) s t × AreSameStreams layouts (n + 1) ss ts
+AreSameStreams layouts n _ _ = ⊥
 
--- two contents that differ at most in when instances were born
-pub record AreSameButBorn (c d : Content) : Type 0 where
+-- two contents that differ at most in when the instances of streams without a spawn clause were born
+pub record AreSameButBorn (layouts : List StreamLayout) (c d : Content) : Type 0 where
   pub start : c.start ≡ d.start
   pub time : c.time ≡ d.time
-  pub streams : AreSameStreams c.streams d.streams
+  pub streams : AreSameStreams layouts 0 c.streams d.streams

@@ -149,9 +149,9 @@ locals_spawn spec pacings h n s at =
     let eval = in_step_at (IsEvalFound spec.streams f.owns) 0 spec.streams f.evals f.are.are_evals n n s at place in
     let close = in_step_at (IsCloseFound spec.streams f.owns f.evals) 0 spec.streams f.closes f.are.are_closes n n s at place in
     let of_eval = λ (none : s.spawn ≡ None).
-        either (is_end s) _ _ (finding_at f.evals n)
-        (λ e. by_equal (finding_at f.evals n) (finding_at f.owns n) e (owns_global 0 spec.streams f.owns f.are.are_own n s at (has_none s.spawn none)))
-        (clause_global (has_clause s.spawn) (has_none s.spawn none) spec.streams f.owns n s.place (no_pacing s.place) s.eval (finding_at f.evals n) refl) eval in
+    either (is_end s) _ _ (finding_at f.evals n)
+    (λ e. by_equal (finding_at f.evals n) (finding_at f.owns n) e (owns_global 0 spec.streams f.owns f.are.are_own n s at (has_none s.spawn none)))
+    (clause_global (has_clause s.spawn) (has_none s.spawn none) spec.streams f.owns n s.place (no_pacing s.place) s.eval (finding_at f.evals n) refl) eval in
     record {
       spawn_global = ap (λ c. is_local (spawn_pacing c)) is_at ∙ clause_global false refl spec.streams f.owns n (place_of s.spawn) (no_pacing (place_of s.spawn)) s.spawn (finding_at f.spawns n) refl spawn;
       eval_global = λ none. ap (λ c. is_local (eval_pacing c)) is_at ∙ of_eval none;

@@ -6,7 +6,7 @@ use Rattle.lola_value.specs.declared.value.Params.{Params}
 use Rattle.lola_value.specs.Kinds.{are_of_kinds}
 use Rattle.lola_value.specs.Naming.{Naming, text_at, the_values}
 use Rattle.lola_model.specs.Acceptance.{IsAccepted}
-use Rattle.lola_model.specs.Activity.{is_active}
+use Rattle.lola_model.specs.Activity.{is_active, is_active_for}
 use Rattle.lola_model.specs.Model.{spawn_pacing, eval_pacing, close_pacing}
 use Rattle.lola_model.specs.Store.{Seen, IsRunning, layout_of, no_params, start_seen, time_seen}
 use Rattle.lola_model.specs.Table.{Step}
@@ -60,18 +60,18 @@ module _ (plan : Plan) (start : ℕ) (step : Step) (s : Seen) (n : ℕ) (stream 
       → is_active start step (spawn_pacing (slice_get plan.pacings n)) ≡ true
       → IsClauseAskable s no_params plan.spec.texts stream.parameters k
 
-  -- where the eval clause is active, it may be asked for each instance
+  -- where the eval clause is active for an instance, whenever that was born, it may be asked for it
   abbrev pub EvalMayAsk : Params → Type 0
   EvalMayAsk p =
       IsAccepted plan → IsAtStep plan start step s → slice_get plan.spec.streams n ≡ Some stream → stream.eval ≡ Some k
-      → is_active start step (eval_pacing (slice_get plan.pacings n)) ≡ true → IsTrue (are_of_kinds stream.parameters (the_values p))
+      → (born : ℕ) → is_active_for start born step (eval_pacing (slice_get plan.pacings n)) ≡ true → IsTrue (are_of_kinds stream.parameters (the_values p))
       → IsClauseAskable s p plan.spec.texts (unwrap_or stream.kind kind.Int64 ∷ []) k
 
   -- and where the close clause is active
   abbrev pub CloseMayAsk : Params → Type 0
   CloseMayAsk p =
       IsAccepted plan → IsAtStep plan start step s → slice_get plan.spec.streams n ≡ Some stream → stream.close ≡ Some k
-      → is_active start step (close_pacing (slice_get plan.pacings n)) ≡ true → IsTrue (are_of_kinds stream.parameters (the_values p))
+      → (born : ℕ) → is_active_for start born step (close_pacing (slice_get plan.pacings n)) ≡ true → IsTrue (are_of_kinds stream.parameters (the_values p))
       → IsClauseAskable s p plan.spec.texts [] k
 
 -- all clauses of all accepted plans, in all steps

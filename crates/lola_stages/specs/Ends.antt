@@ -6,9 +6,7 @@ use Rattle.lola_value.specs.declared.value.FaultKind.{FaultKind}
 use Rattle.lola_value.specs.Answer.{Answer, Given}
 use Rattle.lola_model.specs.Content.{Content, content}
 use Rattle.lola_model.specs.Faults.{RowFault, row_fault, own_fault, first_with, least_kind}
-use Rattle.lola_model.specs.Activity.{is_active}
-use Rattle.lola_model.specs.NextStep.{has_local}
-use Rattle.lola_model.specs.Model.{answered, has_fault, is_input, close_pacing, close_answer, close_faults_among}
+use Rattle.lola_model.specs.Model.{answered, has_fault, is_input, close_answer, close_faults_among, is_closing_for, asked_to_close}
 use Rattle.lola_model.specs.Standing.{content_left}
 use Rattle.lola_model.specs.Table.{Step, Living, StreamRow, TableRow}
 use Rattle.lola_model.specs.Texts.{row_lines, value_lines}
@@ -60,24 +58,23 @@ abbrev pub add_place : Answer → ℕ → ℕ → List Place → List Place
 add_place (Given (field.Bool true)) n i rest = record { stream = n; index = i } ∷ rest
 add_place a n i rest = rest
 
--- whether stream n's close clause, which is not local, is active in a step: for all instances or for none
-abbrev pub is_closing : Plan → ℕ → List TableRow → Step → ℕ → Bool
-is_closing plan start rows step n = is_active start step (close_pacing (slice_get plan.pacings n))
-
 module _ (plan : Plan) (start : ℕ) (rows : List TableRow) (step : Step) (c : Content) where
-  -- the places of the instances that a close clause closes, from a place on
+  -- the places of the instances for which a close clause is active and which it closes, from a place on
   abbrev pub places_closed : Option Clause → ℕ → ℕ → List Living → List Place
   places_closed k n i [] = []
-  places_closed k n i (l ∷ ls) = add_place (close_answer plan.spec c k l.instance.params) n i (places_closed k n (i + 1) ls)
+  places_closed k n i (l ∷ ls) =
+      if is_closing_for plan start rows step n l.instance
+      then add_place (close_answer plan.spec c k l.instance.params) n i (places_closed k n (i + 1) ls)
+      else places_closed k n (i + 1) ls
 
   -- of all streams from number n on
   abbrev pub closings_from : ℕ → List Stream → List StreamRow → List Place
-  closings_from n (s ∷ ss) (y ∷ ys) = (if is_closing plan start rows step n then places_closed s.close n 0 y.living else []) ++ closings_from (n + 1) ss ys
+  closings_from n (s ∷ ss) (y ∷ ys) = places_closed s.close n 0 y.living ++ closings_from (n + 1) ss ys
   closings_from n _ _ = []
 
   -- the fault of a stream's close clause
   abbrev pub close_fault : ℕ → Stream → StreamRow → Option FaultKind
-  close_fault n s y = if is_closing plan start rows step n then least_kind (close_faults_among plan.spec c s.close y.living) else None
+  close_fault n s y = least_kind (close_faults_among plan.spec c s.close (asked_to_close plan start rows step n y.living))
 
   -- the first of all streams from number n on
   abbrev pub first_close_fault : ℕ → List Stream → List StreamRow → Option RowFault
@@ -122,6 +119,6 @@ module _ (plan : Plan) (start : ℕ) (rows : List TableRow) (step : Step) where
     pub closing : (f : RowFault) → evaluation_fault ≡ None → closing_fault ≡ Some f → row_fault (answered plan start rows step) ≡ Some f
     pub none : evaluation_fault ≡ None → closing_fault ≡ None → IsFine
 
--- each step of a plan in which no clause is local ends so
+-- each step ends so
 abbrev pub StepsEnd : Type 0
-StepsEnd = (plan : Plan) → has_local plan.pacings ≡ false → (start : ℕ) (rows : List TableRow) (step : Step) → EndsBy plan start rows step
+StepsEnd = (plan : Plan) (start : ℕ) (rows : List TableRow) (step : Step) → EndsBy plan start rows step

@@ -6,12 +6,12 @@ use Rattle.lola_value.specs.declared.value.FaultKind.TheVariants as fault
 use Rattle.lola_value.specs.Answer.{Answer, Given, Missing, Failed, Poisoned}
 use Rattle.lola_value.specs.Naming.{Naming}
 use Rattle.lola_model.specs.Acceptance.{IsAccepted}
-use Rattle.lola_model.specs.Activity.{is_active}
-use Rattle.lola_model.specs.Content.{Content, seen, is_bad, content}
+use Rattle.lola_model.specs.Activity.{is_active, is_active_for, may_be_active}
+use Rattle.lola_model.specs.Content.{Content, Life, seen, is_bad, content, time_of}
 use Rattle.lola_model.specs.Graph.{eval_node, spawn_node, layer_of}
 use Rattle.lola_model.specs.Model.{survivors, last_row, answered, is_input, input_outcome, eval_outcome, eval_pacing, spawn_pacing, when_answer, named_params, spawned_in, newborn}
 use Rattle.lola_model.specs.Runs.{begun, content_after, rested}
-use Rattle.lola_model.specs.Store.{Memories, Seen, Stands}
+use Rattle.lola_model.specs.Store.{Memories, Seen, Stands, layout_of}
 use Rattle.lola_model.specs.Table.{Step, Spawned, Idle, Named, SpawnFailed, SpawnPoisoned, Living, StreamRow, TableRow}
 use Rattle.lola_model.specs.declared.plan.Plan.{Plan}
 use Rattle.lola_model.specs.declared.spec.Spec.{Spec}
@@ -76,11 +76,12 @@ abbrev pub living_in : Option StreamRow → List Living
 living_in None = []
 living_in (Some s) = s.living
 
--- a stream is evaluated in a layer: it is no input and its node is of that layer, its clause is active, and it is not bad
+-- a stream is evaluated in a layer: it is no input and its node is of that layer, its clause may be active for some instance, and it
+-- is not bad
 abbrev pub is_run_in : Plan → ℕ → Step → List StreamRow → ℕ → ℕ → Stream → Bool
 is_run_in plan start step full layer n s =
     not (is_input s) && (nat_eq (layer_of plan.layers (eval_node n)) layer
-    && (is_active start step (eval_pacing (slice_get plan.pacings n)) && not (is_bad (spawned_in (slice_get full n)))))
+    && (may_be_active start step (eval_pacing (slice_get plan.pacings n)) && not (is_bad (spawned_in (slice_get full n)))))
 
 -- all instances of the streams that are evaluated in a layer, from stream n on
 abbrev pub told_in_layer : Plan → ℕ → Step → List StreamRow → ℕ → ℕ → List Stream → List Told
@@ -107,7 +108,7 @@ module _ (plan : Plan) (start : ℕ) (rows : List TableRow) (step : Step) where
 
   -- where a store stands between steps for the content after these rows, it stands at the first stage once the step has begun
   abbrev pub BeginsSo : Memories → Seen → Type 0
-  BeginsSo remembers s = (names : Naming) (whole : Content) → rested whole ≡ content_after plan start rows
+  BeginsSo remembers s = s.layout ≡ layout_of plan → (names : Naming) (whole : Content) → rested whole ≡ content_after plan start rows
       → Stands names remembers s (begun whole step.time) → Stands names remembers s (at first_stage)
 
   -- an input has its one instance, whose outcome is its field
@@ -146,11 +147,12 @@ module _ (plan : Plan) (start : ℕ) (rows : List TableRow) (step : Step) where
   -- the instances of a stream of the layer: who they are, and what they come to over the content of the stage
   pub record EvalIs (layer n : ℕ) (s : Stream) : Type 0 where
     pub living : living_in (slice_get full n)
-        ≡ map (λ x. record { instance = x; outcome = eval_outcome plan.spec (at (eval_stage count layer)) (is_bad (spawned_in (slice_get full n))) (is_active start step (eval_pacing (slice_get plan.pacings n))) s.eval x.params })
+        ≡ map (λ x. record { instance = x; outcome = eval_outcome plan.spec (at (eval_stage count layer)) (is_bad (spawned_in (slice_get full n))) (is_active_for start (time_of step.time (slice_get rows x.born)) step (eval_pacing (slice_get plan.pacings n))) s.eval x.params })
         (survivors n s (last_row rows) ++ newborn (spawned_in (slice_get full n)) (survivors n s (last_row rows)) (length rows))
     -- its spawn clause is done, and the content has them
     pub spawned : is_spawned plan.layers (eval_stage count layer) n ≡ true
     pub lives : map (λ l. l.params) (lives_in (slice_get (at (eval_stage count layer)).streams n)) ≡ map (λ l. l.instance.params) (living_in (slice_get full n))
+    pub births : map (λ (l : Life). l.born) (lives_in (slice_get (at (eval_stage count layer)).streams n)) ≡ map (λ (l : Living). time_of step.time (slice_get rows l.instance.born)) (living_in (slice_get full n))
 
   -- how the instances of a layer go
   pub record EvalsGo (layer : ℕ) : Type 0 where
