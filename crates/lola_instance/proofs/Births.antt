@@ -65,19 +65,19 @@ unborn-nothing n ws h =
           (no_items (life_values time step names (unborn n ws) values) (none_kept n (map (λ (v : ℕ × Field). v.1) (life_values time step names (unborn n ws) values)) h m.ring));
     }
 
--- parameters are nothing that is remembered
+-- parameters and births are nothing that is remembered
 
-pub remembers-params : (start time step : ℕ) (names : Naming) (s : Holdings) (p : Params) (values : List (ℕ × Field)) → Remembers start time step names s values → Remembers start time step names (record s { params = p }) values
-remembers-params start time step names s p values h = record { ring = h.ring; panes = h.panes; since = h.since; held = h.held; now_held = h.now_held }
+pub remembers-params : (start time step : ℕ) (names : Naming) (s : Holdings) (p : Params) (t : ℕ) (values : List (ℕ × Field)) → Remembers start time step names s values → Remembers start time step names (record s { params = p; born = t }) values
+remembers-params start time step names s p t values h = record { ring = h.ring; panes = h.panes; since = h.since; held = h.held; now_held = h.now_held }
 
-params-remembered : (start time step : ℕ) (names : Naming) (s : Holdings) (p : Params) (values : List (ℕ × Field)) → Remembers start time step names (record s { params = p }) values → Remembers start time step names s values
-params-remembered start time step names s p values h = record { ring = h.ring; panes = h.panes; since = h.since; held = h.held; now_held = h.now_held }
+params-remembered : (start time step : ℕ) (names : Naming) (s : Holdings) (p : Params) (t : ℕ) (values : List (ℕ × Field)) → Remembers start time step names (record s { params = p; born = t }) values → Remembers start time step names s values
+params-remembered start time step names s p t values h = record { ring = h.ring; panes = h.panes; since = h.since; held = h.held; now_held = h.now_held }
 
-pub begun-nothing : (s : Holdings) (p : Params) → RemembersNothing s → RemembersNothing (record s { params = p })
-begun-nothing s p h =
+pub begun-nothing : (s : Holdings) (p : Params) (t : ℕ) → RemembersNothing s → RemembersNothing (record s { params = p; born = t })
+begun-nothing s p t h =
     record {
-      none = λ start time step names. remembers-params start time step names s p [] (h.none start time step names);
-      only = λ start time step names values m. h.only start time step names values (params-remembered start time step names s p values m);
+      none = λ start time step names. remembers-params start time step names s p t [] (h.none start time step names);
+      only = λ start time step names values m. h.only start time step names values (params-remembered start time step names s p t values m);
     }
 
 -- a window of those that are wanted

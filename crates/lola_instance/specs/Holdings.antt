@@ -10,18 +10,19 @@ use Rattle.lola_model.specs.Store.{SeenInstance}
 use Rattle.lola_buffer.specs.Kept.{Kept}
 use Rattle.lola_panes.specs.Standing.{Partials}
 
--- its parameters, the step that its outcome belongs to, from 1, the outcome, its last values, and the panes of each
--- window onto its stream; this step's value is among the last values and in the panes
+-- its parameters, the time of its birth, the step that its outcome belongs to, from 1, the outcome, its last values, and
+-- the panes of each window onto its stream; this step's value is among the last values and in the panes
 pub record Holdings : Type 0 where
   pub params : Params
+  pub born : ℕ
   pub stamp : ℕ
   pub outcome : Outcome
   pub ring : Kept
   pub panes : List Partials
 
 -- the same, written as a row
-abbrev pub holdings : Params → ℕ → Outcome → Kept → List Partials → Holdings
-holdings params stamp o ring panes = record { params = params; stamp = stamp; outcome = o; ring = ring; panes = panes }
+abbrev pub holdings : Params → ℕ → ℕ → Outcome → Kept → List Partials → Holdings
+holdings params born stamp o ring panes = record { params = params; born = born; stamp = stamp; outcome = o; ring = ring; panes = panes }
 
 -- an outcome of an earlier step is none of this one
 abbrev pub shown : ℕ → Holdings → Outcome
@@ -29,7 +30,7 @@ shown step s = if nat_eq s.stamp step then s.outcome else outcome.Missing
 
 -- what others see of it in the step of a number
 abbrev pub slot_seen : ℕ → Holdings → SeenInstance
-slot_seen step s = record { params = s.params; outcome = shown step s }
+slot_seen step s = record { params = s.params; born = s.born; outcome = shown step s }
 
 -- a value, if there is one
 abbrev pub value_or_missing : Option Value → Outcome

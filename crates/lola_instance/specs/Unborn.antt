@@ -24,9 +24,9 @@ AllSound (w ∷ ws) = IsSound w × AllSound ws
 abbrev pub empty_panes : WindowPanes → Partials
 empty_panes w = no_values w.aggregation w.kind w.pane w.count w.exact
 
--- no parameters, no values, and the panes of these windows
+-- no parameters, no time of birth, no values, and the panes of these windows
 abbrev pub unborn : ℕ → List WindowPanes → Holdings
-unborn capacity ws = holdings no_params 0 outcome.Missing (kept [] capacity) (map empty_panes ws)
+unborn capacity ws = holdings no_params 0 0 outcome.Missing (kept [] capacity) (map empty_panes ws)
 
 -- windows onto values of a kind
 abbrev pub AllOnto : Kind → List WindowPanes → Type 0

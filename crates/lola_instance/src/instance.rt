@@ -34,6 +34,7 @@ use std::marker::Model;
 #[derive(Drop)]
 pub struct Instance {
     params: Params,
+    born: u64,
     stamp: u64,
     outcome: Outcome,
     values: Buffer,
@@ -47,7 +48,7 @@ impl Model for Instance {
 
     ghost Value = { Holdings };
 
-    ghost view = { λ s. holdings s.params s.stamp s.outcome s.values s.panes.items };
+    ghost view = { λ s. holdings s.params s.born s.stamp s.outcome s.values s.panes.items };
 
     ghost invariant = { λ s. IsTrue (is_well_formed s.params) };
 }
@@ -132,6 +133,7 @@ impl Instance {
         let panes = panes_of(alloc, windows)?;
         Ok(Instance {
             params: without_parameters(),
+            born: 0,
             stamp: 0,
             outcome: Outcome::Missing,
             values,
@@ -139,14 +141,16 @@ impl Instance {
         })
     }
 
-    /// An instance that was made before it is born gets its parameters. It was given no value yet.
-    pub fn begin_life(&mut self, params: Params)
+    /// An instance that was made before it is born gets its parameters, and the time of its birth. It was given no value
+    /// yet.
+    pub fn begin_life(&mut self, params: Params, time: u64)
         requires formed { IsTrue (is_well_formed params) }
         requires blank { self.old.ring.values ≡ [] }
-        ensures slot { self.new ≡ record self.old { params = params } }
+        ensures slot { self.new ≡ record self.old { params = params; born = time } }
         ensures nothing { RemembersNothing self.old → RemembersNothing self.new }
     {
         self.params = params;
+        self.born = time;
     }
 
     /// The parameters.
@@ -155,6 +159,13 @@ impl Instance {
         ensures formed { IsTrue (is_well_formed result) }
     {
         self.params
+    }
+
+    /// The time of its birth.
+    pub fn born(&self) -> u64
+        ensures { result ≡ self.now.born }
+    {
+        self.born
     }
 
     /// The outcome in the step of this number, missing where it was told none.
@@ -214,6 +225,7 @@ impl Instance {
     pub fn tell(&mut self, step: u64, offset: u64, value: Value)
         requires ready { AllReady offset value self.old.panes }
         ensures params { self.new.params ≡ self.old.params }
+        ensures born { self.new.born ≡ self.old.born }
         ensures stamp { self.new.stamp ≡ step }
         ensures outcome { self.new.outcome ≡ outcome.Value value }
         ensures ring { self.new.ring ≡ kept (keep_last self.old.ring.capacity (self.old.ring.values ++ value ∷ [])) self.old.ring.capacity }

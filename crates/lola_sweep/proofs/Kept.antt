@@ -5,7 +5,7 @@ use Rattle.lola_value.specs.declared.value.TextId.{TextId}
 use Rattle.lola_value.specs.Naming.{Naming, the_values}
 use Rattle.lola_model.specs.Content.{Life, StreamContent, Content}
 use Rattle.lola_model.specs.Standing.{StandsBetween}
-use Rattle.lola_model.specs.Store.{Seen, SeenStream, SeenInstance, Memories, StandForStreams, StandForLives, instances_of, instances_seen}
+use Rattle.lola_model.specs.Store.{Seen, SeenStream, SeenInstance, StreamLayout, Memories, StandForStreams, StandForLives, instances_of, instances_seen}
 use Rattle.lola_sweep.specs.Needed.{AreAmong, IsAmongIn, KeepsTexts}
 use Rattle.lola_sweep.proofs.Among.{all_read, all_held, outcome_read, outcome_held}
 
@@ -30,15 +30,15 @@ module _ (ids : List TextId) (names fewer : Naming) (keeps : KeepsTexts ids name
         still_lives n (i + 1) xs ls (λ j y e. shows (suc j) y e) h.1,
       )
 
-  still_streams : (n : ℕ) (ss : List SeenStream) (cs : List StreamContent)
+  still_streams : (layouts : List StreamLayout) (n : ℕ) (ss : List SeenStream) (cs : List StreamContent)
       → ((m j : ℕ) (x : SeenInstance) → slice_get (instances_of (slice_get ss m)) j ≡ Some x → AreAmong ids (the_values x.params) × IsAmongIn ids x.outcome)
-      → StandForStreams names remembers n ss cs → StandForStreams fewer remembers n ss cs
-  still_streams n [] [] shows h = tt
-  still_streams n [] (c ∷ cs) shows h = h
-  still_streams n (x ∷ xs) [] shows h = h
-  still_streams n (x ∷ xs) (c ∷ cs) shows h = (
-    record { bad = h.0.bad; lives = still_lives n 0 x.instances c.lives (shows 0) h.0.lives },
-    still_streams (n + 1) xs cs (λ m. shows (suc m)) h.1,
+      → StandForStreams layouts names remembers n ss cs → StandForStreams layouts fewer remembers n ss cs
+  still_streams layouts n [] [] shows h = tt
+  still_streams layouts n [] (c ∷ cs) shows h = h
+  still_streams layouts n (x ∷ xs) [] shows h = h
+  still_streams layouts n (x ∷ xs) (c ∷ cs) shows h = (
+    record { bad = h.0.bad; lives = still_lives n 0 x.instances c.lives (shows 0) h.0.lives; births = h.0.births },
+    still_streams layouts (n + 1) xs cs (λ m. shows (suc m)) h.1,
   )
 
   -- between steps such a store stands for the same content through both
@@ -47,6 +47,6 @@ module _ (ids : List TextId) (names fewer : Naming) (keeps : KeepsTexts ids name
       → StandsBetween names remembers s c → StandsBetween fewer remembers s c
   stands_still s c shows h = (
     h.0,
-    record { start = h.1.start; time = h.1.time; streams = still_streams 0 s.streams h.0.streams shows h.1.streams },
+    record { start = h.1.start; time = h.1.time; streams = still_streams s.layout.streams 0 s.streams h.0.streams shows h.1.streams },
     h.2,
   )
