@@ -1,5 +1,5 @@
 -- What a store stands for after a close.
-use Rattle.std.proofs.Common.{◌≡◌, ℕ, zero, suc, ◌+◌, ◌<◌, ◌≤◌, refl, arith, List, [], ◌∷◌, Bool, ap, sym, ◌∙◌, subst, ◌&&◌, if◌then◌else◌, nat_le, eq-eqb}
+use Rattle.std.proofs.Common.{◌≡◌, ℕ, zero, suc, ◌+◌, ◌<◌, ◌≤◌, refl, arith, List, [], ◌∷◌, map, Bool, ap, sym, ◌∙◌, subst, ◌&&◌, if◌then◌else◌, nat_le, eq-eqb}
 use Rattle.std.proofs.lemmas.Bool.{ne_eqb, le-leb, lt-leb}
 use Rattle.std.specs.Prelude.{remove}
 use Rattle.lola_value.specs.declared.text.Field.{Field}
@@ -22,6 +22,20 @@ later_place n index i later =
 earlier_place : (n index i : ℕ) → i < index → moved_up n index n i ≡ i
 earlier_place n index i earlier =
     ap (λ b. if b && nat_le index i then i + 1 else i) (eq-eqb n n refl) ∙ ap (λ (b : Bool). if b then i + 1 else i) (lt-leb index i earlier)
+
+-- what is left when one is taken away
+
+born_left : (xs : List SeenInstance) (i : ℕ) → map (λ (x : SeenInstance). x.born) (remove xs i) ≡ remove (map (λ (x : SeenInstance). x.born) xs) i
+born_left [] zero = refl
+born_left [] (suc i) = refl
+born_left (x ∷ xs) zero = refl
+born_left (x ∷ xs) (suc i) = ap (λ bs. x.born ∷ bs) (born_left xs i)
+
+lives_left : (ls : List Life) (i : ℕ) → map (λ (l : Life). l.born) (remove ls i) ≡ remove (map (λ (l : Life). l.born) ls) i
+lives_left [] zero = refl
+lives_left [] (suc i) = refl
+lives_left (l ∷ ls) zero = refl
+lives_left (l ∷ ls) (suc i) = ap (λ bs. l.born ∷ bs) (lives_left ls i)
 
 module _ (names : Naming) (old new : Memories) (n index : ℕ) (keeps : KeepsOthers n index old new) where
   kept_at : (m i j : ℕ) → moved_up n index m i ≡ j → (values : List (ℕ × Field)) → old names m j values → new names m i values
@@ -56,4 +70,9 @@ module _ (names : Naming) (old new : Memories) (n index : ℕ) (keeps : KeepsOth
   pub stands_closed : (s : Seen) (c : Content) → Stands names old s c → Stands names new (after_close s n index) (closed c n index)
   stands_closed s c h =
       stands_changed names old new n keeps_other_streams _ _ s c
-      (λ x d at e. record { bad = e.bad; lives = left_lives 0 index (omega arith) x.instances d.lives e.lives }) h
+      (λ x d at e.
+      record {
+        bad = e.bad;
+        lives = left_lives 0 index (omega arith) x.instances d.lives e.lives;
+        births = λ spawns. born_left x.instances index ∙ ap (λ bs. remove bs index) (e.births spawns) ∙ sym (lives_left d.lives index);
+      }) h

@@ -5,3 +5,4 @@ pub mod Closes
 pub mod Namings
 pub mod Births
 mod Beginnings
+mod LocalDues

@@ -9,7 +9,7 @@ use Rattle.lola_value.specs.Answer.{Given}
 use Rattle.lola_value.specs.Naming.{Naming, the_text, read, read_outcome, the_values, IsHeld, AreHeld, IsHeldIn}
 use Rattle.lola_model.specs.Content.{Life, StreamContent, Content}
 use Rattle.lola_model.specs.Reading.{IsHeldBy}
-use Rattle.lola_model.specs.Store.{Seen, SeenStream, SeenInstance, Memories, Stands, StandForStreams, StandForLives}
+use Rattle.lola_model.specs.Store.{Seen, SeenStream, SeenInstance, StreamLayout, Memories, Stands, StandForStreams, StandForLives}
 
 module _ (names more : Naming) (holds : IsHeldBy names more) where
   -- a value that is held is held by the larger naming, and reads the same there
@@ -60,13 +60,16 @@ module _ (names more : Naming) (holds : IsHeldBy names more) where
       renamed_lives n (i + 1) xs ls h.1,
     )
 
-    renamed_streams : (n : ℕ) (ss : List SeenStream) (cs : List StreamContent) → StandForStreams names remembers n ss cs → StandForStreams more remembers n ss cs
-    renamed_streams n [] [] h = tt
-    renamed_streams n [] (c ∷ cs) h = h
-    renamed_streams n (x ∷ xs) [] h = h
-    renamed_streams n (x ∷ xs) (c ∷ cs) h =
-        (record { bad = h.0.bad; lives = renamed_lives n 0 x.instances c.lives h.0.lives }, renamed_streams (n + 1) xs cs h.1)
+    renamed_streams : (layouts : List StreamLayout) (n : ℕ) (ss : List SeenStream) (cs : List StreamContent)
+        → StandForStreams layouts names remembers n ss cs → StandForStreams layouts more remembers n ss cs
+    renamed_streams layouts n [] [] h = tt
+    renamed_streams layouts n [] (c ∷ cs) h = h
+    renamed_streams layouts n (x ∷ xs) [] h = h
+    renamed_streams layouts n (x ∷ xs) (c ∷ cs) h = (
+      record { bad = h.0.bad; lives = renamed_lives n 0 x.instances c.lives h.0.lives; births = h.0.births },
+      renamed_streams layouts (n + 1) xs cs h.1,
+    )
 
     -- through a larger naming a store stands for the same content
     pub stands_renamed : (s : Seen) (c : Content) → Stands names remembers s c → Stands more remembers s c
-    stands_renamed s c h = record { start = h.start; time = h.time; streams = renamed_streams 0 s.streams c.streams h.streams }
+    stands_renamed s c h = record { start = h.start; time = h.time; streams = renamed_streams s.layout.streams 0 s.streams c.streams h.streams }

@@ -1,5 +1,6 @@
 -- What a store stands for after a spawn, and what the spawn comes to.
-use Rattle.std.proofs.Common.{◌≡◌, ℕ, suc, ◌+◌, refl, arith, List, [], ◌∷◌, ◌++◌, Option, Some, None, Bool, true, false, ap, sym, ◌∙◌, subst, length, slice_get, nat_lt, if◌then◌else◌, ◌⊎◌, inl, inr, IsTrue}
+use Rattle.std.proofs.Common.{◌≡◌, ℕ, suc, ◌+◌, refl, arith, List, [], ◌∷◌, ◌++◌, Option, Some, None, Bool, true, false, ap, sym, ◌∙◌, subst, length, map, slice_get, nat_lt, if◌then◌else◌, ◌⊎◌, inl, inr, IsTrue}
+use Rattle.std.proofs.lemmas.List.{map-append}
 use Rattle.lola_value.specs.declared.text.Field.{Field}
 use Rattle.lola_value.specs.declared.value.Params.{Params}
 use Rattle.lola_value.specs.Arithmetic.{all_equal}
@@ -8,7 +9,7 @@ use Rattle.lola_model.specs.Content.{Life, StreamContent, Content}
 use Rattle.lola_model.specs.Accesses.{life_with}
 use Rattle.lola_model.specs.Model.{most_instances}
 use Rattle.lola_model.specs.Spawning.{has_room, spawn_end}
-use Rattle.lola_model.specs.Store.{Seen, SeenStream, SeenInstance, Memories, Stands, StandForLives, after_spawn, newborn_seen, instances_seen, instances_of, place_of, place_among}
+use Rattle.lola_model.specs.Store.{Seen, SeenStream, SeenInstance, Memories, Stands, StandForLives, after_spawn, newborn_seen, instances_seen, instances_of, place_of, place_among, time_seen}
 use Rattle.lola_model.specs.declared.store.SpawnEnd.{SpawnEnd}
 use Rattle.lola_model.specs.declared.store.SpawnEnd.TheVariants as spawn
 use Rattle.lola_model.proofs.Lookups.{found_or_none, Found, at_stream, Both}
@@ -63,9 +64,9 @@ module _ (names : Naming) (naming : IsNaming names) (old : Memories) (n : ℕ) (
   -- what a spawn comes to is told by the lives of its stream
   pub spawn_ends : (s : Seen) (c : Content) → Stands names old s c
       → spawn_end (place_of s n p) (length (instances_seen s n)) ≡ spawn_end_among (read_params names p) (lives_in (slice_get c.streams n))
-  spawn_ends s c h = by_stream (slice_get s.streams n) (slice_get c.streams n) (at_stream names old 0 s.streams c.streams n n (omega arith) h.streams)
+  spawn_ends s c h = by_stream (slice_get s.streams n) (slice_get c.streams n) (at_stream s.layout.streams names old 0 s.streams c.streams n n (omega arith) h.streams)
     where
-      by_stream : (o : Option SeenStream) (q : Option StreamContent) → ((o ≡ None) × (q ≡ None)) ⊎ Both names old n o q
+      by_stream : (o : Option SeenStream) (q : Option StreamContent) → ((o ≡ None) × (q ≡ None)) ⊎ Both s.layout.streams names old n o q
           → spawn_end (place_among p (instances_of o) 0) (length (instances_of o)) ≡ spawn_end_among (read_params names p) (lives_in q)
       by_stream o q (inl e) =
           ap (λ o. spawn_end (place_among p (instances_of o) 0) (length (instances_of o))) e.0
@@ -75,10 +76,19 @@ module _ (names : Naming) (naming : IsNaming names) (old : Memories) (n : ℕ) (
           ∙ (end_among b.seen.instances b.content.lives b.stands.lives
           ∙ sym (ap (λ q. spawn_end_among (read_params names p) (lives_in q)) b.is_content))
 
+-- born at the same times, and one more at the same time
+more_births : (xs : List SeenInstance) (ls : List Life) (x : SeenInstance) (l : Life) → x.born ≡ l.born → map (λ (x : SeenInstance). x.born) xs ≡ map (λ (l : Life). l.born) ls
+    → map (λ (x : SeenInstance). x.born) (xs ++ x ∷ []) ≡ map (λ (l : Life). l.born) (ls ++ l ∷ [])
+more_births xs ls x l same e =
+    map-append (λ (x : SeenInstance). x.born) xs (x ∷ [])
+    ∙ (ap (λ bs. bs ++ x.born ∷ []) e
+    ∙ (ap (λ b. map (λ (l : Life). l.born) ls ++ b ∷ []) same
+    ∙ sym (map-append (λ (l : Life). l.born) ls (l ∷ []))))
+
 module _ (names : Naming) (old new : Memories) (keeps : (m : ℕ) → KeepsStream names old new m) (n : ℕ) (p : Params) (held : AreHeld names (the_values p)) where
-  born_lives : (time k : ℕ) (xs : List SeenInstance) (ls : List Life) → new names n (k + length xs) []
-      → StandForLives names old n k xs ls → StandForLives names new n k (xs ++ newborn_seen p ∷ []) (ls ++ newborn_life time (read_params names p) ∷ [])
-  born_lives time k [] [] fresh h = (
+  born_lives : (seen time k : ℕ) (xs : List SeenInstance) (ls : List Life) → new names n (k + length xs) []
+      → StandForLives names old n k xs ls → StandForLives names new n k (xs ++ newborn_seen seen p ∷ []) (ls ++ newborn_life time (read_params names p) ∷ [])
+  born_lives seen time k [] [] fresh h = (
     record {
       params = refl;
       params_held = held;
@@ -88,11 +98,11 @@ module _ (names : Naming) (old new : Memories) (keeps : (m : ℕ) → KeepsStrea
     },
     tt,
   )
-  born_lives time k [] (l ∷ ls) fresh h = absurd h
-  born_lives time k (x ∷ xs) [] fresh h = absurd h
-  born_lives time k (x ∷ xs) (l ∷ ls) fresh h = (
+  born_lives seen time k [] (l ∷ ls) fresh h = absurd h
+  born_lives seen time k (x ∷ xs) [] fresh h = absurd h
+  born_lives seen time k (x ∷ xs) (l ∷ ls) fresh h = (
     moved_life names old new n k k x l (keeps n k l.earlier) h.0,
-    born_lives time (k + 1) xs ls (let e : k + suc (length xs) ≡ k + 1 + length xs = omega arith in subst (λ (j : ℕ). new names n j []) e fresh) h.1,
+    born_lives seen time (k + 1) xs ls (let e : k + suc (length xs) ≡ k + 1 + length xs = omega arith in subst (λ (j : ℕ). new names n j []) e fresh) h.1,
   )
 
   module _ (s : Seen) (c : Content) (h : Stands names old s c) where
@@ -103,10 +113,11 @@ module _ (names : Naming) (old new : Memories) (keeps : (m : ℕ) → KeepsStrea
         (λ x d at e.
         record {
           bad = e.bad;
-          lives = born_lives c.time 0 x.instances d.lives
+          lives = born_lives (time_seen s) c.time 0 x.instances d.lives
               (let q : length (instances_seen s n) ≡ 0 + length x.instances = (let r : length (instances_seen s n) ≡ length x.instances = ap (λ o. length (instances_of o)) at in omega (arith, r)) in
               subst (λ (j : ℕ). new names n j []) q fresh)
               e.lives;
+          births = λ spawns. more_births x.instances d.lives (newborn_seen (time_seen s) p) (newborn_life c.time (read_params names p)) h.time (e.births spawns);
         }) h
 
     spawned_at : (o : Option ℕ) (count : ℕ) → (IsTrue (has_room o count) → new names n (length (instances_seen s n)) [])
