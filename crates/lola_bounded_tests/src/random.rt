@@ -18,6 +18,14 @@ const VALUES: &str =
 const INSTANCES: &str =
     "input a: Int64\ninput s: String\noutput z(p: Int64): Int64\n  spawn with a\n  eval @a when a == p with z(p).last(or: 0) + 1\n  close when a == 0\noutput count(name: String): Int64\n  spawn with s\n  eval @s when s == name with count(name).offset(by: -2).defaults(to: 0) + 1\n  close @a when a == 3\noutput seen: UInt64 @1Hz := z(1).aggregate(over: 3s, using: count)\noutput best: Int64 @2Hz := count(\"p\").aggregate(over: 2s, using: max).defaults(to: 55)\noutput now: Int64 @2Hz := z(2).hold(or: 66)\noutput q: Int64 @1Hz := count(\"q\").hold(or: 44)\n";
 
+/// Instances whose deadlines count from their births: of eval clauses, of close clauses, and beside a rate that counts from the start.
+const LOCALS: &str =
+    "input a: Int64\ninput s: String\noutput z(p: Int64): Int64\n  spawn with a\n  eval @Local(2Hz) with z(p).last(or: 0) + a.hold(or: 0)\n  close @a when a == 0\noutput beats(name: String): Int64\n  spawn with s\n  eval @s when s == name with beats(name).last(or: 0) + 1\n  close @Local(1500ms) when ticks(name).hold(or: 0) > 2 * beats(name).hold(or: 0)\noutput ticks(name: String): Int64\n  spawn with s\n  eval @Local(700ms) with ticks(name).last(or: 0) + 1\n  close @Local(2s) when ticks(name).hold(or: 0) > beats(name).hold(or: 0)\noutput sum: Int64 @Global(2Hz) := z(1).hold(or: 66) + z(2).hold(or: 77)\noutput seen: UInt64 @1Hz := ticks(\"p\").aggregate(over: 3s, using: count)\n";
+
+/// Sums of instances that leave their kind at a deadline that counts from a birth.
+const LOCAL_FAULTS: &str =
+    "input a: Int64\ninput s: String\noutput w(p: Int64): Int8\n  spawn with a\n  eval @Local(3Hz) with w(p).last(or: 0) + 20\n  close @s when s == \"a longer text\"\noutput v(p: Int64): Int8\n  spawn with a\n  eval @Local(3Hz) with v(p).last(or: 0) + 7\n";
+
 /// Sums that leave their kind after a while.
 const FAULTS: &str =
     "input a: Int64\ninput s: String\noutput total: Int8 := total.offset(by: -1).defaults(to: 0) + small\noutput small: Int8 := if a > 0 then 3 else 0 - 1\noutput least: Int64 @1Hz := a.aggregate(over: 2s, using: min).defaults(to: 1)\noutput part: Int64 @1Hz := 12 / least\n";
@@ -155,7 +163,7 @@ fn agreed<R: Threads + Sync>(
 #[test]
 fn both_stores_agree(rt: HostRuntime) -> Result<(), Fail> {
     let alloc = rt.alloc();
-    for specification in [VALUES, INSTANCES] {
+    for specification in [VALUES, INSTANCES, LOCALS] {
         for seed in 1..9 {
             let end = agreed(&rt, alloc, specification, seed)?;
             assert!(rt; end == Some(Ok(())), "{specification}{seed}");
@@ -167,9 +175,11 @@ fn both_stores_agree(rt: HostRuntime) -> Result<(), Fail> {
 #[test]
 fn both_stores_fail_at_the_same_step(rt: HostRuntime) -> Result<(), Fail> {
     let alloc = rt.alloc();
-    for seed in 1..9 {
-        let end = agreed(&rt, alloc, FAULTS, seed)?;
-        assert!(rt; matches!(end, Some(Err(EngineEnd::Fault { .. }))), "{seed}");
+    for specification in [FAULTS, LOCAL_FAULTS] {
+        for seed in 1..9 {
+            let end = agreed(&rt, alloc, specification, seed)?;
+            assert!(rt; matches!(end, Some(Err(EngineEnd::Fault { .. }))), "{specification}{seed}");
+        }
     }
     Ok(())
 }

@@ -100,7 +100,7 @@ fn refusals_of_each_phase(rt: HostRuntime) -> Result<(), Memory> {
         ),
         (
             "input a: Int64\noutput b: Int64 @Local(1Hz) := 1",
-            "= refused E20 Unbuilt at 31\n",
+            "= refused E21 LocalWithoutSpawn at 31\n",
         ),
     ];
     for (specification, out) in table {
