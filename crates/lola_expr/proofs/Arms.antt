@@ -22,6 +22,7 @@ use Rattle.lola_model.specs.declared.expr.Prefix.{Prefix}
 use Rattle.lola_model.specs.declared.expr.Prefix.TheVariants as prefix
 use Rattle.lola_model.specs.declared.spec.Stream.{Stream}
 use Rattle.lola_model.specs.declared.spec.WindowSpec.{WindowSpec}
+use Rattle.lola_model.specs.declared.pacing.ClausePacings.{ClausePacings}
 use Rattle.lola_model.specs.declared.plan.Plan.{Plan}
 use Rattle.lola_model.proofs.Lookups.{bytes_equal-true}
 use Rattle.lola_expr.specs.Evaluation.{value_or_missing, literal_is_named, same_text}
@@ -174,10 +175,11 @@ pub joined_both : (sign : Binary) (k : Kind) (names : Naming) (x y : Value) (r a
 joined_both sign k names x y r a b h e f o = goes_on names x a (λ v. with_right sign k v b) r e (o ∙ right_value sign k names x y b h f)
 
 -- a window
-layout_kind : (ss : List Stream) (kept : List ℕ) (n : ℕ) → n < length (layouts_from ss kept) → kind_in (slice_get (layouts_from ss kept) n) ≡ unwrap_or (option_and_then (λ s. s.kind) (slice_get ss n)) kind.Int64
-layout_kind [] kept n h = absurd (omega (arith, h))
-layout_kind (s ∷ ss) kept zero h = refl
-layout_kind (s ∷ ss) kept (suc n) h = layout_kind ss (drop 1 kept) n (omega (arith, h))
+layout_kind : (ss : List Stream) (kept : List ℕ) (pacings : List ClausePacings) (n : ℕ) → n < length (layouts_from ss kept pacings)
+    → kind_in (slice_get (layouts_from ss kept pacings) n) ≡ unwrap_or (option_and_then (λ s. s.kind) (slice_get ss n)) kind.Int64
+layout_kind [] kept pacings n h = absurd (omega (arith, h))
+layout_kind (s ∷ ss) kept pacings zero h = refl
+layout_kind (s ∷ ss) kept pacings (suc n) h = layout_kind ss (drop 1 kept) (drop 1 pacings) n (omega (arith, h))
 
 -- what the window of a content answers is the denotation of a window
 pub window_read : (plan : Plan) (s : Seen) (c : Content) (q : List Field) (r : Answer) (n : ℕ) → s.layout ≡ layout_of plan → target_of (slice_get s.layout.windows n) < length s.layout.streams
@@ -187,7 +189,7 @@ window_read plan s c q r n e lt m = by_window (slice_get plan.spec.windows n) (s
   where
     by_window : (o : Option WindowSpec) → target_of o < length (layout_of plan).streams → MatchOption o ⊥ (λ w. r ≡ window_answer c w (kind_in (slice_get (layout_of plan).streams w.target)) q) → r ≡ window_of plan.spec c o q
     by_window None lt m = absurd m
-    by_window (Some w) lt m = m ∙ ap (λ k. window_answer c w k q) (layout_kind plan.spec.streams plan.kept w.target lt)
+    by_window (Some w) lt m = m ∙ ap (λ k. window_answer c w k q) (layout_kind plan.spec.streams plan.kept plan.pacings w.target lt)
 
 -- a value of the kind of a row fits: before one operand
 pub prefix_fits : (sign : Prefix) (k a : Kind) (v : Value) → prefix_row sign k a ≡ true → is_of_kind a v ≡ true → operand_fits sign k v ≡ true

@@ -9,6 +9,7 @@ use Rattle.lola_model.specs.Denotation.{kind_of}
 use Rattle.lola_model.specs.Store.{Seen, Layout, kind_in, parameters_of, gives_kind, layouts_from, layout_of}
 use Rattle.lola_model.specs.Typed.{scope_in}
 use Rattle.lola_model.specs.Typing.{each_part, each_argument, is_noted, place_in, row_holds, part_is_typed, is_typed, scope_with, scope_seen, is_ready, part_can_ask, can_ask, is_kind_at, is_value_of, is_reference, window_row, takes, same_kind, same_kinds, noted_all}
+use Rattle.lola_model.specs.declared.pacing.ClausePacings.{ClausePacings}
 use Rattle.lola_model.specs.declared.plan.Plan.{Plan}
 use Rattle.lola_model.specs.declared.spec.Stream.{Stream}
 use Rattle.lola_model.specs.declared.spec.WindowSpec.{WindowSpec}
@@ -87,41 +88,42 @@ module _ (s : Seen) (p : Params) (ks : List Kind) (given : are_of_kinds ks (the_
   pub typed_can_ask : (e : Expr) → is_typed (scope_with s.layout ks) e ≡ true → each_part (is_ready s) e ≡ true → can_ask s p e ≡ true
   typed_can_ask e h g = each_of_both (part_is_typed (scope_with s.layout ks)) (is_ready s) (part_can_ask s p) part_asks e h g
 
--- how many values are kept of streams is nothing to the rows
-length_same : (ss : List Stream) (kept other : List ℕ) → length (layouts_from ss kept) ≡ length (layouts_from ss other)
-length_same [] kept other = refl
-length_same (s ∷ ss) kept other = ap suc (length_same ss (drop 1 kept) (drop 1 other))
+-- how many values are kept of streams, and at what rates they are due, is nothing to the rows
+length_same : (ss : List Stream) (kept other : List ℕ) (pacings others : List ClausePacings) → length (layouts_from ss kept pacings) ≡ length (layouts_from ss other others)
+length_same [] kept other pacings others = refl
+length_same (s ∷ ss) kept other pacings others = ap suc (length_same ss (drop 1 kept) (drop 1 other) (drop 1 pacings) (drop 1 others))
 
-kind_same : (ss : List Stream) (kept other : List ℕ) (n : ℕ) → kind_in (slice_get (layouts_from ss kept) n) ≡ kind_in (slice_get (layouts_from ss other) n)
-kind_same [] kept other n = refl
-kind_same (s ∷ ss) kept other zero = refl
-kind_same (s ∷ ss) kept other (suc n) = kind_same ss (drop 1 kept) (drop 1 other) n
+kind_same : (ss : List Stream) (kept other : List ℕ) (pacings others : List ClausePacings) (n : ℕ) → kind_in (slice_get (layouts_from ss kept pacings) n) ≡ kind_in (slice_get (layouts_from ss other others) n)
+kind_same [] kept other pacings others n = refl
+kind_same (s ∷ ss) kept other pacings others zero = refl
+kind_same (s ∷ ss) kept other pacings others (suc n) = kind_same ss (drop 1 kept) (drop 1 other) (drop 1 pacings) (drop 1 others) n
 
-parameters_same : (ss : List Stream) (kept other : List ℕ) (n : ℕ) → parameters_of (slice_get (layouts_from ss kept) n) ≡ parameters_of (slice_get (layouts_from ss other) n)
-parameters_same [] kept other n = refl
-parameters_same (s ∷ ss) kept other zero = refl
-parameters_same (s ∷ ss) kept other (suc n) = parameters_same ss (drop 1 kept) (drop 1 other) n
+parameters_same : (ss : List Stream) (kept other : List ℕ) (pacings others : List ClausePacings) (n : ℕ)
+    → parameters_of (slice_get (layouts_from ss kept pacings) n) ≡ parameters_of (slice_get (layouts_from ss other others) n)
+parameters_same [] kept other pacings others n = refl
+parameters_same (s ∷ ss) kept other pacings others zero = refl
+parameters_same (s ∷ ss) kept other pacings others (suc n) = parameters_same ss (drop 1 kept) (drop 1 other) (drop 1 pacings) (drop 1 others) n
 
-module _ (ss : List Stream) (kept other : List ℕ) where
-  reference_same : (n : ℕ) (args : Arguments) → is_reference (layouts_from ss kept) n args ≡ is_reference (layouts_from ss other) n args
+module _ (ss : List Stream) (kept other : List ℕ) (pacings others : List ClausePacings) where
+  reference_same : (n : ℕ) (args : Arguments) → is_reference (layouts_from ss kept pacings) n args ≡ is_reference (layouts_from ss other others) n args
   reference_same n args =
-      ap (λ (l : ℕ). nat_lt n l && same_kinds (noted_all args) (parameters_of (slice_get (layouts_from ss kept) n))) (length_same ss kept other)
-      ∙ ap (λ ks. nat_lt n (length (layouts_from ss other)) && same_kinds (noted_all args) ks) (parameters_same ss kept other n)
+      ap (λ (l : ℕ). nat_lt n l && same_kinds (noted_all args) (parameters_of (slice_get (layouts_from ss kept pacings) n))) (length_same ss kept other pacings others)
+      ∙ ap (λ ks. nat_lt n (length (layouts_from ss other others)) && same_kinds (noted_all args) ks) (parameters_same ss kept other pacings others n)
 
-  window_same : (o : Option WindowSpec) (k : Kind) (args : Arguments) → window_row (layouts_from ss kept) o k args ≡ window_row (layouts_from ss other) o k args
+  window_same : (o : Option WindowSpec) (k : Kind) (args : Arguments) → window_row (layouts_from ss kept pacings) o k args ≡ window_row (layouts_from ss other others) o k args
   window_same None k args = refl
   window_same (Some w) k args =
-      ap (λ r. r && (takes w.using (kind_in (slice_get (layouts_from ss kept) w.target)) && same_kind (gives_kind w.using (kind_in (slice_get (layouts_from ss kept) w.target))) k)) (reference_same w.target args)
-      ∙ ap (λ j. is_reference (layouts_from ss other) w.target args && (takes w.using j && same_kind (gives_kind w.using j) k)) (kind_same ss kept other w.target)
+      ap (λ r. r && (takes w.using (kind_in (slice_get (layouts_from ss kept pacings) w.target)) && same_kind (gives_kind w.using (kind_in (slice_get (layouts_from ss kept pacings) w.target))) k)) (reference_same w.target args)
+      ∙ ap (λ j. is_reference (layouts_from ss other others) w.target args && (takes w.using j && same_kind (gives_kind w.using j) k)) (kind_same ss kept other pacings others w.target)
 
 -- a row holds over a plan's store where it does in the plan's specification
 row_in_plan : (plan : Plan) (ks : List Kind) (e : Expr) → row_holds (scope_in plan.spec ks) e ≡ row_holds (scope_with (layout_of plan) ks) e
 row_in_plan plan ks (Literal place v) = refl
 row_in_plan plan ks (Parameter place i) = refl
 row_in_plan plan ks (Read place n how args) =
-    ap (λ r. r && same_kind (kind_in (slice_get (layouts_from plan.spec.streams []) n)) (kind_of place)) (reference_same plan.spec.streams [] plan.kept n args)
-    ∙ ap (λ k. is_reference (layouts_from plan.spec.streams plan.kept) n args && same_kind k (kind_of place)) (kind_same plan.spec.streams [] plan.kept n)
-row_in_plan plan ks (Window place n args) = window_same plan.spec.streams [] plan.kept (slice_get plan.spec.windows n) (kind_of place) args
+    ap (λ r. r && same_kind (kind_in (slice_get (layouts_from plan.spec.streams [] []) n)) (kind_of place)) (reference_same plan.spec.streams [] plan.kept [] plan.pacings n args)
+    ∙ ap (λ k. is_reference (layouts_from plan.spec.streams plan.kept plan.pacings) n args && same_kind k (kind_of place)) (kind_same plan.spec.streams [] plan.kept [] plan.pacings n)
+row_in_plan plan ks (Window place n args) = window_same plan.spec.streams [] plan.kept [] plan.pacings (slice_get plan.spec.windows n) (kind_of place) args
 row_in_plan plan ks (Defaults' place u a v b) = refl
 row_in_plan plan ks (Unary' place sign u a) = refl
 row_in_plan plan ks (Both' place sign u a v b) = refl

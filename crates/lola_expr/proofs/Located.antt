@@ -36,9 +36,9 @@ module _ (names : Naming) (remembers : Memories) (s : Seen) (c : Content) (n : �
 module _ (names : Naming) (h : IsNaming names) (remembers : Memories) (s : Seen) (c : Content) (stands : Stands names remembers s c) (n : ℕ) (p : Params) (held' : AreHeld names (the_values p)) where
   -- it is one of the two
   pub located : Nowhere names remembers s c n p ⊎ Located names remembers s c n p
-  located = by_stream (at_stream names remembers 0 s.streams c.streams n n (omega arith) stands.streams)
+  located = by_stream (at_stream s.layout.streams names remembers 0 s.streams c.streams n n (omega arith) stands.streams)
     where
-      of_found : (b : Both names remembers n (slice_get s.streams n) (slice_get c.streams n))
+      of_found : (b : Both s.layout.streams names remembers n (slice_get s.streams n) (slice_get c.streams n))
           → ((place_among p b.seen.instances 0 ≡ None) × (Rattle.lola_model.specs.Accesses.life_with (read_params names p) b.content.lives ≡ None)) ⊎ Found names remembers n p 0 b.seen.instances b.content.lives
           → Nowhere names remembers s c n p ⊎ Located names remembers s c n p
       of_found b (inl w) =
@@ -57,7 +57,7 @@ module _ (names : Naming) (h : IsNaming names) (remembers : Memories) (s : Seen)
             stands = f.stands;
           })
 
-      by_stream : ((slice_get s.streams n ≡ None) × (slice_get c.streams n ≡ None)) ⊎ Both names remembers n (slice_get s.streams n) (slice_get c.streams n)
+      by_stream : ((slice_get s.streams n ≡ None) × (slice_get c.streams n ≡ None)) ⊎ Both s.layout.streams names remembers n (slice_get s.streams n) (slice_get c.streams n)
           → Nowhere names remembers s c n p ⊎ Located names remembers s c n p
       by_stream (inl w) =
           inl (record {
@@ -68,9 +68,9 @@ module _ (names : Naming) (h : IsNaming names) (remembers : Memories) (s : Seen)
 
   -- a stream is poisoned where it is in the content
   pub bad_same : is_bad_seen (slice_get s.streams n) ≡ bad_in (slice_get c.streams n)
-  bad_same = by_stream (at_stream names remembers 0 s.streams c.streams n n (omega arith) stands.streams)
+  bad_same = by_stream (at_stream s.layout.streams names remembers 0 s.streams c.streams n n (omega arith) stands.streams)
     where
-      by_stream : ((slice_get s.streams n ≡ None) × (slice_get c.streams n ≡ None)) ⊎ Both names remembers n (slice_get s.streams n) (slice_get c.streams n)
+      by_stream : ((slice_get s.streams n ≡ None) × (slice_get c.streams n ≡ None)) ⊎ Both s.layout.streams names remembers n (slice_get s.streams n) (slice_get c.streams n)
           → is_bad_seen (slice_get s.streams n) ≡ bad_in (slice_get c.streams n)
       by_stream (inl w) = ap is_bad_seen w.0 ∙ ap bad_in (sym w.1)
       by_stream (inr b) = ap is_bad_seen b.is ∙ (b.stands.bad ∙ ap bad_in (sym b.is_content))
