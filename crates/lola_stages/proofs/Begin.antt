@@ -1,53 +1,38 @@
--- As a step begins nothing of it is done: what is seen is what was there before, but for when instances were born.
-use Rattle.std.proofs.Common.{◌≡◌, refl, ap, ◌∙◌, sym, subst, ℕ, zero, suc, ◌+◌, List, [], ◌∷◌, Bool, true, false, ◌&&◌, nat_eq, arith, map, length, if◌then◌else◌}
+-- As a step begins nothing of it is done: what is seen is what was there before, but for when the one instance of a
+-- stream without a spawn clause was born.
+use Rattle.std.proofs.Common.{◌≡◌, refl, ap, ◌∙◌, sym, subst, ℕ, zero, suc, ◌+◌, ◌<◌, List, [], ◌∷◌, Option, Some, None, Bool, true, false, ◌&&◌, nat_eq, arith, map, length, drop, slice_get, if◌then◌else◌}
 use Rattle.std.proofs.lemmas.Bool.{le-ltb}
-use Rattle.lola_value.specs.Naming.{Naming}
-use Rattle.lola_model.specs.Content.{Content, Life, StreamContent, life_of, streams_from, is_bad}
+use Rattle.lola_model.specs.Content.{Content, Life, life_of, streams_from, is_bad, time_of}
 use Rattle.lola_model.specs.Model.{asked, is_input, outcomes_from, unknown_from, survivors, last_row}
 use Rattle.lola_model.specs.Graph.{nodes_of, eval_node, spawn_node, layer_of}
 use Rattle.lola_model.specs.Runs.{begun, content_after, rested, life_after, streams_after}
-use Rattle.lola_model.specs.Store.{Memories, Seen, SeenInstance, SeenStream, Stands, StandForLives, StandForStreams}
+use Rattle.lola_model.specs.Store.{Layout, Memories, Seen, StreamLayout, layout_of, layouts_from, spawns_in}
 use Rattle.lola_model.specs.Table.{Step, Instance, StreamRow, TableRow}
+use Rattle.lola_model.specs.declared.pacing.ClausePacings.{ClausePacings}
 use Rattle.lola_model.specs.declared.plan.Plan.{Plan}
+use Rattle.lola_model.specs.declared.spec.Clause.{Clause}
 use Rattle.lola_model.specs.declared.spec.Stream.{Stream}
 use Rattle.lola_contents.specs.Changed.{IsSameStream, AreSameLives, AreSameStreams, AreSameButBorn}
+use Rattle.lola_contents.proofs.Births.{stands_unborn}
 use Rattle.lola_stages.specs.Nexts.{BeginsSo}
-use Rattle.lola_stages.specs.Stages.{is_behind, is_evaluated, so_far, silent_living, rows_so_far, full_row, content_so_far, first_stage}
+use Rattle.lola_stages.specs.Stages.{AreBornBefore, AreSettled, is_behind, is_evaluated, so_far, silent_living, rows_so_far, full_row, content_so_far, first_stage}
 
--- a store stands for a content as well that differs from its own only in when instances were born
+-- whether a stream of a plan has a spawn clause, by its layout
+spawns_at : (ss : List Stream) (kept : List ℕ) (pacings : List ClausePacings) (n : ℕ) (s : Stream) → slice_get ss n ≡ Some s
+    → spawns_in (slice_get (layouts_from ss kept pacings) n) ≡ true → (k : Clause) × (s.spawn ≡ Some k)
+spawns_at [] kept pacings n s at spawns = absurd (cc)
+spawns_at (r ∷ ss) kept pacings zero s at spawns = let e : r ≡ s = cc in subst (λ (x : Stream). (k : Clause) × (x.spawn ≡ Some k)) e (has r.spawn spawns)
+  where
+    has : (o : Option Clause) → (elim o as (λ _. Bool) [ None ↦ false | Some k ↦ true ]) ≡ true → (k : Clause) × (o ≡ Some k)
+    has None e = absurd (cc)
+    has (Some k) e = (k, refl)
+spawns_at (r ∷ ss) kept pacings (suc n) s at spawns = spawns_at ss (drop 1 kept) (drop 1 pacings) n s at spawns
 
-module _ (names : Naming) (remembers : Memories) where
-  same_lives_stand : (n i : ℕ) (xs : List SeenInstance) (ls ms : List Life) → AreSameLives ls ms → StandForLives names remembers n i xs ls → StandForLives names remembers n i xs ms
-  same_lives_stand n i [] [] [] e h = h
-  same_lives_stand n i [] [] (m ∷ ms) e h = absurd e
-  same_lives_stand n i [] (l ∷ ls) ms e h = absurd h
-  same_lives_stand n i (x ∷ xs) [] ms e h = absurd h
-  same_lives_stand n i (x ∷ xs) (l ∷ ls) [] e h = absurd e
-  same_lives_stand n i (x ∷ xs) (l ∷ ls) (m ∷ ms) e h = (
-    record {
-      params = h.0.params ∙ e.0.params;
-      params_held = h.0.params_held;
-      outcome = h.0.outcome ∙ e.0.outcome;
-      outcome_held = h.0.outcome_held;
-      earlier = subst (λ v. remembers names n i v) e.0.earlier h.0.earlier;
-    },
-    same_lives_stand n (i + 1) xs ls ms e.1 h.1,
-  )
-
-  same_streams_stand : (n : ℕ) (ss : List SeenStream) (cs ds : List StreamContent) → AreSameStreams cs ds → StandForStreams names remembers n ss cs → StandForStreams names remembers n ss ds
-  same_streams_stand n [] [] [] e h = h
-  same_streams_stand n [] [] (d ∷ ds) e h = absurd e
-  same_streams_stand n [] (c ∷ cs) ds e h = absurd h
-  same_streams_stand n (s ∷ ss) [] ds e h = absurd h
-  same_streams_stand n (s ∷ ss) (c ∷ cs) [] e h = absurd e
-  same_streams_stand n (s ∷ ss) (c ∷ cs) (d ∷ ds) e h = (
-    record { bad = h.0.bad ∙ e.0.bad; lives = same_lives_stand n 0 s.instances c.lives d.lives e.0.lives h.0.lives },
-    same_streams_stand (n + 1) ss cs ds e.1 h.1,
-  )
-
-  -- so for whole contents
-  pub same_stands : (s : Seen) (c d : Content) → AreSameButBorn c d → Stands names remembers s c → Stands names remembers s d
-  same_stands s c d e h = record { start = h.start ∙ e.start; time = h.time ∙ e.time; streams = same_streams_stand 0 s.streams c.streams d.streams e.streams h.streams }
+-- the time of a row, whatever stands for rows to come
+time_in : (rows : List TableRow) (n a b : ℕ) → n < length rows → time_of a (slice_get rows n) ≡ time_of b (slice_get rows n)
+time_in [] n a b lt = absurd (omega arith)
+time_in (r ∷ rows) zero a b lt = refl
+time_in (r ∷ rows) (suc n) a b lt = time_in rows n a b (omega arith)
 
 -- no node is behind the first stage
 none_behind : (l n : ℕ) → is_behind l n 0 0 ≡ false
@@ -86,31 +71,53 @@ module _ (plan : Plan) (start : ℕ) (rows : List TableRow) (step : Step) where
   quiet_lives n [] = tt
   quiet_lives n (i ∷ is) = (record { params = refl; earlier = refl; outcome = refl }, quiet_lives n is)
 
-  quiet_stream : (n : ℕ) (spawned evaluated : Bool) (alive : List Instance) (y : StreamRow) → spawned ≡ false → evaluated ≡ false
-      → IsSameStream (record { bad = false; lives = map (life_after rows n) alive })
+  quiet_births : (n : ℕ) (is : List Instance) → AreBornBefore (length rows) is
+      → map (λ (l : Life). l.born) (map (life_after rows n) is) ≡ map (λ (l : Life). l.born) (map (life_of rows step.time n) (map silent_living is))
+  quiet_births n [] h = refl
+  quiet_births n (i ∷ is) h =
+      ap (λ t. t ∷ map (λ (l : Life). l.born) (map (life_after rows n) is)) (time_in rows i.born 0 step.time h.0)
+      ∙ ap (λ ts. time_of step.time (slice_get rows i.born) ∷ ts) (quiet_births n is h.1)
+
+  quiet_stream : (n : ℕ) (spawns spawned evaluated : Bool) (alive : List Instance) (y : StreamRow) → (spawns ≡ true → AreBornBefore (length rows) alive) → spawned ≡ false → evaluated ≡ false
+      → IsSameStream spawns (record { bad = false; lives = map (life_after rows n) alive })
       (record { bad = is_bad (so_far spawned evaluated alive y).spawned; lives = map (life_of rows step.time n) (so_far spawned evaluated alive y).living })
-  quiet_stream n true evaluated alive y e f = absurd (cc)
-  quiet_stream n false true alive y e f = absurd (cc)
-  quiet_stream n false false alive y e f = record { bad = refl; lives = quiet_lives n alive }
+  quiet_stream n spawns true evaluated alive y born e f = absurd (cc)
+  quiet_stream n spawns false true alive y born e f = absurd (cc)
+  quiet_stream n spawns false false alive y born e f = record { bad = refl; lives = quiet_lives n alive; births = λ h. quiet_births n alive (born h) }
 
-  quiet_streams : (n : ℕ) (ss : List Stream) (ys : List StreamRow) → length ys ≡ length ss
-      → AreSameStreams (streams_after rows n ss) (streams_from rows step.time n (rows_so_far plan rows first_stage n ss ys))
-  quiet_streams n [] [] e = tt
-  quiet_streams n [] (y ∷ ys) e = absurd (omega arith)
-  quiet_streams n (s ∷ ss) [] e = absurd (omega arith)
-  quiet_streams n (s ∷ ss) (y ∷ ys) e = (
-    quiet_stream n _ _ (survivors n s (last_row rows)) y (none_behind (layer_of plan.layers (spawn_node n)) n) (none_evaluated plan.layers n s),
-    quiet_streams (n + 1) ss ys (omega arith),
-  )
+  module _ (settled : AreSettled plan rows) where
+    abbrev layouts : List StreamLayout
+    layouts = (layout_of plan).streams
 
-  same_at_first : (whole : Content) → rested whole ≡ content_after plan start rows → AreSameButBorn (begun whole step.time) (content_so_far plan start rows step first_stage)
-  unfolding content_so_far
-  same_at_first whole e =
-      let at_rest : begun whole step.time ≡ record { start = start; time = step.time; streams = streams_after rows 0 plan.spec.streams } =
-      ap (λ (c : Content). record { start = c.start; time = step.time; streams = c.streams }) e in
-      subst (λ (c : Content). AreSameButBorn c (content_so_far plan start rows step first_stage)) (sym at_rest)
-      (record { start = refl; time = refl; streams = quiet_streams 0 plan.spec.streams (full_row plan start rows step).streams length_full })
+    born_at : (n : ℕ) (s : Stream) → slice_get plan.spec.streams n ≡ Some s → spawns_in (slice_get layouts n) ≡ true → AreBornBefore (length rows) (survivors n s (last_row rows))
+    born_at n s at spawns = let has = spawns_at plan.spec.streams plan.kept plan.pacings n s at spawns in settled.born n s has.0 has.1
 
-  -- the law, at these
-  pub begins : (remembers : Memories) (s : Seen) → BeginsSo plan start rows step remembers s
-  begins remembers s names whole e h = same_stands names remembers s (begun whole step.time) (content_so_far plan start rows step first_stage) (same_at_first whole e) h
+    quiet_streams : (n : ℕ) (ss : List Stream) (ys : List StreamRow) → length ys ≡ length ss
+        → ((k m : ℕ) (s : Stream) → k ≡ n + m → slice_get ss m ≡ Some s → slice_get plan.spec.streams k ≡ Some s)
+        → AreSameStreams layouts n (streams_after rows n ss) (streams_from rows step.time n (rows_so_far plan rows first_stage n ss ys))
+    quiet_streams n [] [] e at = tt
+    quiet_streams n [] (y ∷ ys) e at = absurd (omega arith)
+    quiet_streams n (s ∷ ss) [] e at = absurd (omega arith)
+    quiet_streams n (s ∷ ss) (y ∷ ys) e at = (
+      quiet_stream n _ _ _ (survivors n s (last_row rows)) y (born_at n s (at n 0 s (omega arith) refl)) (none_behind (layer_of plan.layers (spawn_node n)) n) (none_evaluated plan.layers n s),
+      quiet_streams (n + 1) ss ys (omega arith) (λ k m r q f. at k (suc m) r (omega arith) f),
+    )
+
+    same_at_first : (whole : Content) → rested whole ≡ content_after plan start rows → AreSameButBorn layouts (begun whole step.time) (content_so_far plan start rows step first_stage)
+    unfolding content_so_far
+    same_at_first whole e =
+        let at_rest : begun whole step.time ≡ record { start = start; time = step.time; streams = streams_after rows 0 plan.spec.streams } =
+        ap (λ (c : Content). record { start = c.start; time = step.time; streams = c.streams }) e in
+        subst (λ (c : Content). AreSameButBorn layouts c (content_so_far plan start rows step first_stage)) (sym at_rest)
+        (record {
+          start = refl;
+          time = refl;
+          streams = quiet_streams 0 plan.spec.streams (full_row plan start rows step).streams length_full
+              (λ k m s q f. let same : k ≡ m = omega arith in ap (slice_get plan.spec.streams) same ∙ f);
+        })
+
+    -- the law, at these
+    pub begins : (remembers : Memories) (s : Seen) → BeginsSo plan start rows step remembers s
+    begins remembers s layout names whole e h =
+        stands_unborn names remembers s (begun whole step.time) (content_so_far plan start rows step first_stage)
+        (subst (λ (l : Layout). AreSameButBorn l.streams (begun whole step.time) (content_so_far plan start rows step first_stage)) (sym layout) (same_at_first whole e)) h

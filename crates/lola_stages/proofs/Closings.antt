@@ -1,24 +1,21 @@
 -- What close clauses leave is what is left once their instances are taken one after the other, the last places first.
-use Rattle.std.proofs.Common.{◌≡◌, refl, ap, ◌∙◌, sym, subst, ℕ, ◌+◌, arith, List, [], ◌∷◌, ◌++◌, Option, Bool, true, false, ◌||◌, if◌then◌else◌, map, length, reverse, append_assoc, length-append}
+use Rattle.std.proofs.Common.{◌≡◌, refl, ap, ◌∙◌, sym, subst, ℕ, ◌+◌, arith, List, [], ◌∷◌, ◌++◌, Option, Bool, true, false, ◌&&◌, ◌||◌, if◌then◌else◌, map, length, reverse, append_assoc, length-append}
 use Rattle.std.specs.Prelude.{remove}
 use Rattle.std.proofs.lemmas.List.{reverse-append}
-use Rattle.lola_value.specs.declared.text.Field.{Field}
 use Rattle.lola_value.specs.declared.text.Field.TheVariants as field
 use Rattle.lola_value.specs.Answer.{Answer, Given}
 use Rattle.lola_model.specs.Content.{Life, StreamContent, Content, content, life_of, streams_from, is_bad}
-use Rattle.lola_model.specs.Model.{close_answer, closed_among, add_closed, is_closed, closes_from}
-use Rattle.lola_model.specs.NextStep.{has_local}
+use Rattle.lola_model.specs.Model.{asked_to_close, close_answer, closed_among, add_closed, is_closed, is_closing_for, closes_from, with_closes}
 use Rattle.lola_model.specs.Standing.{left_of, without_closed}
-use Rattle.lola_model.specs.Table.{Instance, is_instance, Living, StreamRow, TableRow}
+use Rattle.lola_model.specs.Table.{Instance, is_instance, Step, Living, StreamRow, TableRow}
 use Rattle.lola_model.specs.declared.plan.Plan.{Plan}
 use Rattle.lola_model.specs.declared.spec.Clause.{Clause}
-use Rattle.lola_model.specs.declared.spec.Spec.{Spec}
 use Rattle.lola_model.specs.declared.spec.Stream.{Stream}
 use Rattle.lola_contents.specs.Changed.{changed, closed}
-use Rattle.lola_stages.specs.Ends.{Place, add_place, places_closed, closings_from, closed_each, is_closing}
+use Rattle.lola_stages.specs.Ends.{Place, add_place, places_closed, closings_from, closed_each}
 use Rattle.lola_model.proofs.Orderly.{instance_self}
-use Rattle.lola_stages.proofs.Instances.{instance_params}
-use Rattle.lola_stages.proofs.Quiet.{AreQuiet, closing_if, with_alike}
+use Rattle.lola_stages.proofs.Instances.{same_instance}
+use Rattle.lola_stages.proofs.Quiet.{AreQuiet}
 
 -- whether a condition is true
 abbrev is_true : Answer → Bool
@@ -30,21 +27,43 @@ same_bools true b f g = sym (f refl)
 same_bools false true f g = g refl
 same_bools false false f g = refl
 
--- the instances that are left are those whose own close condition is not true
-module _ (spec : Spec) (c : Content) (k : Option Clause) where
-  -- its close condition is true
-  abbrev closes : Living → Bool
-  closes l = is_true (close_answer spec c k l.instance.params)
+-- the close clause of stream n
+module _ (plan : Plan) (start : ℕ) (rows : List TableRow) (step : Step) (c : Content) (k : Option Clause) (n : ℕ) where
+  -- is active for an instance
+  abbrev asks : Instance → Bool
+  asks x = is_closing_for plan start rows step n x
 
-  -- the others
+  abbrev answer : Instance → Answer
+  answer x = close_answer plan.spec c k x.params
+
+  -- and closes it
+  abbrev closes : Instance → Bool
+  closes x = asks x && is_true (answer x)
+
+  -- the others are left
   abbrev kept : List Living → List Living
   kept [] = []
-  kept (l ∷ ls) = if closes l then kept ls else l ∷ kept ls
+  kept (l ∷ ls) = if closes l.instance then kept ls else l ∷ kept ls
+
+  -- the instances that it closes
+  abbrev closing : List Living → List Instance
+  closing ls = closed_among plan.spec c k (asked_to_close plan start rows step n ls)
+
+  -- with one more, for which it is active or not
+  abbrev one_more : Bool → Answer → Instance → List Instance → List Instance
+  one_more b a x is = if b then add_closed a x is else is
+
+  closing_is : (l : Living) (ls : List Living) → closing (l ∷ ls) ≡ one_more (asks l.instance) (answer l.instance) l.instance (closing ls)
+  closing_is l ls = by (asks l.instance)
+    where
+      by : (b : Bool) → closed_among plan.spec c k (if b then l ∷ asked_to_close plan start rows step n ls else asked_to_close plan start rows step n ls) ≡ one_more b (answer l.instance) l.instance (closing ls)
+      by true = refl
+      by false = refl
 
   -- all that close are among these
   abbrev HasClosing : List Instance → List Living → Type 0
   HasClosing closed [] = Unit {0}
-  HasClosing closed (l ∷ ls) = (closes l ≡ true → is_closed closed l.instance ≡ true) × HasClosing closed ls
+  HasClosing closed (l ∷ ls) = (closes l.instance ≡ true → is_closed closed l.instance ≡ true) × HasClosing closed ls
 
   closing_more : (x : Instance) (closed : List Instance) (ls : List Living) → HasClosing closed ls → HasClosing (x ∷ closed) ls
   closing_more x closed [] h = tt
@@ -54,38 +73,41 @@ module _ (spec : Spec) (c : Content) (k : Option Clause) where
       either true b e = refl
       either false b e = e
 
-  has_closing : (ls : List Living) → HasClosing (closed_among spec c k ls) ls
+  has_closing : (ls : List Living) → HasClosing (closing ls) ls
   has_closing [] = tt
-  has_closing (l ∷ ls) = with_answer (close_answer spec c k l.instance.params) (has_closing ls)
+  has_closing (l ∷ ls) = subst (λ (is : List Instance). HasClosing is (l ∷ ls)) (sym (closing_is l ls)) (with_answer (asks l.instance) (answer l.instance) (has_closing ls))
     where
-      with_answer : (a : Answer) → HasClosing (closed_among spec c k ls) ls
-          → (is_true a ≡ true → is_closed (add_closed a l.instance (closed_among spec c k ls)) l.instance ≡ true) × HasClosing (add_closed a l.instance (closed_among spec c k ls)) ls
-      with_answer (Given (field.Bool true)) h = (λ e. rw (instance_self l.instance) refl, closing_more l.instance (closed_among spec c k ls) ls h)
-      with_answer a h = (λ e. absurd (cc), h)
+      with_answer : (b : Bool) (a : Answer) → HasClosing (closing ls) ls
+          → ((b && is_true a) ≡ true → is_closed (one_more b a l.instance (closing ls)) l.instance ≡ true) × HasClosing (one_more b a l.instance (closing ls)) ls
+      with_answer true (Given (field.Bool true)) h = (λ e. rw (instance_self l.instance) refl, closing_more l.instance (closing ls) ls h)
+      with_answer true a h = (λ e. absurd (cc), h)
+      with_answer false a h = (λ e. absurd (cc), h)
 
-  only_closing : (ls : List Living) (x : Living) → is_closed (closed_among spec c k ls) x.instance ≡ true → closes x ≡ true
+  only_closing : (ls : List Living) (x : Instance) → is_closed (closing ls) x ≡ true → closes x ≡ true
   only_closing [] x e = absurd (cc)
-  only_closing (l ∷ ls) x e = with_answer (close_answer spec c k l.instance.params) refl (only_closing ls x) e
+  only_closing (l ∷ ls) x e =
+      with_answer (asks l.instance) (answer l.instance) refl refl (only_closing ls x) (subst (λ (is : List Instance). is_closed is x ≡ true) (closing_is l ls) e)
     where
-      same_one : (b : Bool) → is_instance l.instance x.instance ≡ b → closes l ≡ true → (is_closed (closed_among spec c k ls) x.instance ≡ true → closes x ≡ true)
-          → (b || is_closed (closed_among spec c k ls) x.instance) ≡ true → closes x ≡ true
-      same_one true q t h e = subst (λ (p : List Field). is_true (close_answer spec c k p) ≡ true) (instance_params l.instance x.instance q) t
+      same_one : (b : Bool) → is_instance l.instance x ≡ b → closes l.instance ≡ true → (is_closed (closing ls) x ≡ true → closes x ≡ true)
+          → (b || is_closed (closing ls) x) ≡ true → closes x ≡ true
+      same_one true q t h e = subst (λ (y : Instance). closes y ≡ true) (same_instance l.instance x q) t
       same_one false q t h e = h e
 
-      with_answer : (a : Answer) → close_answer spec c k l.instance.params ≡ a → (is_closed (closed_among spec c k ls) x.instance ≡ true → closes x ≡ true)
-          → is_closed (add_closed a l.instance (closed_among spec c k ls)) x.instance ≡ true → closes x ≡ true
-      with_answer (Given (field.Bool true)) q h e = same_one (is_instance l.instance x.instance) refl (ap is_true q) h e
-      with_answer a q h e = h e
+      with_answer : (b : Bool) (a : Answer) → asks l.instance ≡ b → answer l.instance ≡ a → (is_closed (closing ls) x ≡ true → closes x ≡ true)
+          → is_closed (one_more b a l.instance (closing ls)) x ≡ true → closes x ≡ true
+      with_answer true (Given (field.Bool true)) p q h e = same_one (is_instance l.instance x) refl (ap (λ b. b && is_true (answer l.instance)) p ∙ ap is_true q) h e
+      with_answer true a p q h e = h e
+      with_answer false a p q h e = h e
 
-  left_by : (closed : List Instance) (ls : List Living) → ((x : Living) → is_closed closed x.instance ≡ true → closes x ≡ true) → HasClosing closed ls → left_of closed ls ≡ kept ls
+  left_by : (closed : List Instance) (ls : List Living) → ((x : Instance) → is_closed closed x ≡ true → closes x ≡ true) → HasClosing closed ls → left_of closed ls ≡ kept ls
   left_by closed [] only has = refl
   left_by closed (l ∷ ls) only has =
-      ap (λ b. if b then left_of closed ls else l ∷ left_of closed ls) (same_bools (is_closed closed l.instance) (closes l) (only l) has.0)
-      ∙ ap (λ (r : List Living). if closes l then r else l ∷ r) (left_by closed ls only has.1)
+      ap (λ b. if b then left_of closed ls else l ∷ left_of closed ls) (same_bools (is_closed closed l.instance) (closes l.instance) (only l.instance) has.0)
+      ∙ ap (λ (r : List Living). if closes l.instance then r else l ∷ r) (left_by closed ls only has.1)
 
-  -- what is left of instances where these close
-  pub left_is : (ls : List Living) → left_of (closed_among spec c k ls) ls ≡ kept ls
-  left_is ls = left_by (closed_among spec c k ls) ls (only_closing ls) (has_closing ls)
+  -- what is left of instances
+  pub left_is : (ls : List Living) → left_of (closing ls) ls ≡ kept ls
+  left_is ls = left_by (closing ls) ls (only_closing ls) (has_closing ls)
 
 left_all : (closed : List Instance) (ls : List Living) → closed ≡ [] → left_of closed ls ≡ ls
 left_all closed ls e = ap (λ (is : List Instance). left_of is ls) e ∙ of_none ls
@@ -147,24 +169,30 @@ module _ (plan : Plan) (start : ℕ) (rows : List TableRow) (row : TableRow) whe
     abbrev with_lives : List Life → List StreamContent
     with_lives ls = before ++ record { bad = bad; lives = ls } ∷ rest
 
-    place_taken : (a : Answer) (first : List Life) (i : ℕ) → length first ≡ i → (l : Living) (ks : List Living) (whole : List StreamContent) (later : List Place)
-        → taken whole later ≡ with_lives (first ++ f l ∷ map f ks) → taken whole (add_place a n i later) ≡ with_lives (first ++ map f (if is_true a then ks else l ∷ ks))
-    place_taken (Given (field.Bool true)) first i e l ks whole later h =
+    -- the instances that are left of these
+    abbrev others : List Living → List Living
+    others ls = kept plan start rows row.step now k n ls
+
+    place_taken : (b : Bool) (a : Answer) (first : List Life) (i : ℕ) → length first ≡ i → (l : Living) (ks : List Living) (whole : List StreamContent) (later : List Place)
+        → taken whole later ≡ with_lives (first ++ f l ∷ map f ks)
+        → taken whole (if b then add_place a n i later else later) ≡ with_lives (first ++ map f (if b && is_true a then ks else l ∷ ks))
+    place_taken true (Given (field.Bool true)) first i e l ks whole later h =
         ap (λ (ds : List StreamContent). changed ds n (without i)) h
         ∙ (changed_at before (record { bad = bad; lives = first ++ f l ∷ map f ks }) rest n (without i) at
         ∙ ap with_lives (removed_at first (f l) (map f ks) i e))
-    place_taken a first i e l ks whole later h = h
+    place_taken true a first i e l ks whole later h = h
+    place_taken false a first i e l ks whole later h = h
 
     places_taken : (first : List Life) (i : ℕ) → length first ≡ i → (ls : List Living)
-        → taken (with_lives (first ++ map f ls)) (places_closed plan start rows row.step now k n i ls) ≡ with_lives (first ++ map f (kept plan.spec now k ls))
+        → taken (with_lives (first ++ map f ls)) (places_closed plan start rows row.step now k n i ls) ≡ with_lives (first ++ map f (others ls))
     places_taken first i e [] = refl
     places_taken first i e (l ∷ ls) =
         let later : List Place = places_closed plan start rows row.step now k n (i + 1) ls in
         let more : length (first ++ f l ∷ []) ≡ i + 1 = omega (arith, length-append first (f l ∷ [])) in
-        place_taken (close_answer plan.spec now k l.instance.params) first i e l (kept plan.spec now k ls) (with_lives (first ++ f l ∷ map f ls)) later
+        place_taken (is_closing_for plan start rows row.step n l.instance) (close_answer plan.spec now k l.instance.params) first i e l (others ls) (with_lives (first ++ f l ∷ map f ls)) later
         (ap (λ (xs : List Life). taken (with_lives xs) later) (sym (append_assoc first (f l ∷ []) (map f ls)))
         ∙ (places_taken (first ++ f l ∷ []) (i + 1) more ls
-        ∙ ap with_lives (append_assoc first (f l ∷ []) (map f (kept plan.spec now k ls)))))
+        ∙ ap with_lives (append_assoc first (f l ∷ []) (map f (others ls)))))
 
   -- what is seen of the instances of a stream
   abbrev lives_at : ℕ → List Living → List Life
@@ -174,17 +202,15 @@ module _ (plan : Plan) (start : ℕ) (rows : List TableRow) (row : TableRow) whe
   abbrev stream_at : ℕ → StreamRow → StreamContent
   stream_at n y = record { bad = is_bad y.spawned; lives = lives_at n y.living }
 
-  stream_taken : (b : Bool) (n : ℕ) (before : List StreamContent) → length before ≡ n → (s : Stream) (y : StreamRow) → y.closed ≡ []
-      → (whole rest : List StreamContent) (later : List Place) → taken whole later ≡ before ++ stream_at n y ∷ rest
-      → taken whole ((if b then places_closed plan start rows row.step now s.close n 0 y.living else []) ++ later) ≡ before ++ stream_at n (without_closed (closing_if plan start rows row b s y)) ∷ rest
-  stream_taken true n before at s y none whole rest later h =
+  stream_taken : (n : ℕ) (before : List StreamContent) → length before ≡ n → (s : Stream) (y : StreamRow) (whole rest : List StreamContent) (later : List Place)
+      → taken whole later ≡ before ++ stream_at n y ∷ rest
+      → taken whole (places_closed plan start rows row.step now s.close n 0 y.living ++ later) ≡ before ++ stream_at n (without_closed (with_closes plan start rows row n s y)) ∷ rest
+  stream_taken n before at s y whole rest later h =
       let places : List Place = places_closed plan start rows row.step now s.close n 0 y.living in
       taken-append whole places later
       ∙ (ap (λ (ds : List StreamContent). taken ds places) h
       ∙ (places_taken s.close n before at (is_bad y.spawned) rest (life_of rows row.step.time n) [] 0 refl y.living
-      ∙ ap (λ (ls : List Living). before ++ record { bad = is_bad y.spawned; lives = lives_at n ls } ∷ rest) (sym (left_is plan.spec now s.close y.living))))
-  stream_taken false n before at s y none whole rest later h =
-      h ∙ ap (λ (ls : List Living). before ++ record { bad = is_bad y.spawned; lives = lives_at n ls } ∷ rest) (sym (left_all [] y.living refl))
+      ∙ ap (λ (ls : List Living). before ++ record { bad = is_bad y.spawned; lives = lives_at n ls } ∷ rest) (sym (left_is plan start rows row.step now s.close n y.living))))
 
   none_left : (n : ℕ) (ys : List StreamRow) → AreQuiet ys → streams_from rows row.step.time n ys ≡ streams_from rows row.step.time n (map without_closed ys)
   none_left n [] q = refl
@@ -192,27 +218,26 @@ module _ (plan : Plan) (start : ℕ) (rows : List TableRow) (row : TableRow) whe
       ap (λ (ls : List Living). record { bad = is_bad y.spawned; lives = lives_at n ls } ∷ streams_from rows row.step.time (n + 1) ys) (sym (left_all y.closed y.living q.0))
       ∙ ap (λ (cs : List StreamContent). stream_at n (without_closed y) ∷ cs) (none_left (n + 1) ys q.2)
 
-  streams_taken : has_local plan.pacings ≡ false → (n : ℕ) (before : List StreamContent) → length before ≡ n → (ss : List Stream) (ys : List StreamRow) → AreQuiet ys
+  streams_taken : (n : ℕ) (before : List StreamContent) → length before ≡ n → (ss : List Stream) (ys : List StreamRow) → AreQuiet ys
       → taken (before ++ streams_from rows row.step.time n ys) (closings_from plan start rows row.step now n ss ys)
       ≡ before ++ streams_from rows row.step.time n (map without_closed (closes_from plan start rows row n ss ys))
-  streams_taken global n before at [] ys q = ap (λ (cs : List StreamContent). before ++ cs) (none_left n ys q)
-  streams_taken global n before at (s ∷ ss) [] q = refl
-  streams_taken global n before at (s ∷ ss) (y ∷ ys) q =
+  streams_taken n before at [] ys q = ap (λ (cs : List StreamContent). before ++ cs) (none_left n ys q)
+  streams_taken n before at (s ∷ ss) [] q = refl
+  streams_taken n before at (s ∷ ss) (y ∷ ys) q =
       let later : List Place = closings_from plan start rows row.step now (n + 1) ss ys in
       let here : List StreamContent = stream_at n y ∷ [] in
       let rest : List StreamContent = streams_from rows row.step.time (n + 1) (map without_closed (closes_from plan start rows row (n + 1) ss ys)) in
       let more : length (before ++ here) ≡ n + 1 = omega (arith, length-append before here) in
-      stream_taken (is_closing plan start rows row.step n) n before at s y q.0 (before ++ stream_at n y ∷ streams_from rows row.step.time (n + 1) ys) rest later
+      stream_taken n before at s y (before ++ stream_at n y ∷ streams_from rows row.step.time (n + 1) ys) rest later
       (ap (λ (cs : List StreamContent). taken cs later) (sym (append_assoc before here (streams_from rows row.step.time (n + 1) ys)))
-      ∙ (streams_taken global (n + 1) (before ++ here) more ss ys q.2
+      ∙ (streams_taken (n + 1) (before ++ here) more ss ys q.2
       ∙ append_assoc before here rest))
-      ∙ ap (λ z. before ++ stream_at n (without_closed z) ∷ rest) (sym (with_alike plan start rows row global n s y))
 
   -- what is left after the close clauses of a row
-  pub closes_leave : has_local plan.pacings ≡ false → AreQuiet row.streams
+  pub closes_leave : AreQuiet row.streams
       → content start rows (record { step = row.step; streams = map without_closed (closes_from plan start rows row 0 plan.spec.streams row.streams) })
       ≡ closed_each now (reverse (closings_from plan start rows row.step now 0 plan.spec.streams row.streams))
-  closes_leave global q =
+  closes_leave q =
       let places : List Place = closings_from plan start rows row.step now 0 plan.spec.streams row.streams in
-      ap (λ (cs : List StreamContent). record { start = start; time = row.step.time; streams = cs }) (sym (streams_taken global 0 [] refl plan.spec.streams row.streams q))
+      ap (λ (cs : List StreamContent). record { start = start; time = row.step.time; streams = cs }) (sym (streams_taken 0 [] refl plan.spec.streams row.streams q))
       ∙ sym (each_is_taken start row.step.time now.streams places)

@@ -3,7 +3,6 @@ use Rattle.std.proofs.Common.{◌≡◌, ap, ◌∙◌, sym, ℕ, List, [], Some
 use Rattle.lola_model.specs.Faults.{RowFault, row_fault, own_fault, first_with, or_else}
 use Rattle.lola_model.specs.Graph.{nodes_of}
 use Rattle.lola_model.specs.Model.{answered, has_fault, has_evaluation_fault, has_close_fault, closes_from}
-use Rattle.lola_model.specs.NextStep.{has_local}
 use Rattle.lola_model.specs.Standing.{content_left}
 use Rattle.lola_model.specs.Table.{Step, TableRow}
 use Rattle.lola_model.specs.Texts.{row_lines, stream_lines}
@@ -15,7 +14,7 @@ use Rattle.lola_stages.proofs.Faults.{no_evaluation_fault, no_close_fault, of_cl
 use Rattle.lola_stages.proofs.Lines.{lines_of_values, lines_kept}
 use Rattle.lola_stages.proofs.Quiet.{AreQuiet, quiet_asked, asked_at}
 
-module _ (plan : Plan) (global : has_local plan.pacings ≡ false) (start : ℕ) (rows : List TableRow) (step : Step) where
+module _ (plan : Plan) (start : ℕ) (rows : List TableRow) (step : Step) where
   -- the row before its close clauses
   abbrev row : TableRow
   row = full_row plan start rows step
@@ -35,7 +34,7 @@ module _ (plan : Plan) (global : has_local plan.pacings ≡ false) (start : ℕ)
 
   same_closing : first_with of_closes 0 closed_row.streams ≡ closing_fault plan start rows step
   same_closing =
-      closing_fault_is plan start rows row global 0 plan.spec.streams row.streams quiet
+      closing_fault_is plan start rows row 0 plan.spec.streams row.streams quiet
       ∙ ap (λ (t : Step). first_close_fault plan start rows t (full_content plan start rows step) 0 plan.spec.streams row.streams) at_step
 
   -- where no stream has a fault of its own, the close clauses are asked
@@ -61,7 +60,7 @@ module _ (plan : Plan) (global : has_local plan.pacings ≡ false) (start : ℕ)
     what_is_left : content_left start rows (answered plan start rows step) ≡ closed_each (full_content plan start rows step) (reverse (closings plan start rows step))
     what_is_left =
         ap (content_left start rows) (closes_asked e)
-        ∙ (closes_leave plan start rows row global quiet
+        ∙ (closes_leave plan start rows row quiet
         ∙ ap (λ (t : Step). closed_each (full_content plan start rows step) (reverse (closings_from plan start rows t (full_content plan start rows step) 0 plan.spec.streams row.streams))) at_step)
 
     is_fine : IsFine plan start rows step
@@ -78,8 +77,8 @@ module _ (plan : Plan) (global : has_local plan.pacings ≡ false) (start : ℕ)
 
 -- each step ends by its first fault, or has none
 pub each_step_ends : StepsEnd
-each_step_ends plan global start rows step = record {
-  evaluation = λ f e. fails_by_evaluation plan global start rows step f e (has_evaluation_fault (full_row plan start rows step).streams);
-  closing = fails_by_closing plan global start rows step;
-  none = is_fine plan global start rows step;
+each_step_ends plan start rows step = record {
+  evaluation = λ f e. fails_by_evaluation plan start rows step f e (has_evaluation_fault (full_row plan start rows step).streams);
+  closing = fails_by_closing plan start rows step;
+  none = is_fine plan start rows step;
 }

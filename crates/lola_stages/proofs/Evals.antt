@@ -2,15 +2,16 @@
 use Rattle.std.proofs.Common.{◌≡◌, refl, ap, ◌∙◌, sym, ℕ, zero, suc, ◌+◌, ◌<◌, ◌⊎◌, inl, inr, List, [], ◌∷◌, ◌++◌, Option, Some, None, Bool, true, false, not, ◌&&◌, nat_eq, nat_lt, slice_get, arith, map, length, length-append, append_assoc, if◌then◌else◌}
 use Rattle.std.proofs.lemmas.Bool.{cases_eq, eq-eqb, le-ltb, lt-ltb, ne_eqb}
 use Rattle.std.proofs.lemmas.Option.{slice_get_within}
+use Rattle.lola_value.specs.declared.text.Field.{Field}
 use Rattle.lola_value.specs.Answer.{Answer, Missing}
 use Rattle.lola_model.specs.Acceptance.{IsAccepted}
-use Rattle.lola_model.specs.Activity.{is_active, is_active_for}
-use Rattle.lola_model.proofs.NoLocals.{none_local}
-use Rattle.lola_stages.proofs.Alike.{alike, eval_global}
+use Rattle.lola_model.specs.Activity.{is_active_at, is_active_for, may_be_active}
 use Rattle.lola_model.specs.Content.{Content, Life, StreamContent, content, is_bad, life_of, seen, time_of}
 use Rattle.lola_model.specs.Graph.{eval_node, layer_of, spawn_node}
 use Rattle.lola_model.specs.Model.{eval_outcome, eval_pacing, input_outcome, is_input, last_row, newborn, outcome_of, spawned_in, survivors}
 use Rattle.lola_model.specs.Table.{Step, Instance, Spawned, Living, StreamRow, TableRow}
+use Rattle.lola_model.specs.declared.pacing.Pacing.{Pacing}
+use Rattle.lola_model.specs.declared.pacing.Pacing.TheVariants.{Event, Periodic, Local}
 use Rattle.lola_model.specs.declared.plan.Plan.{Plan}
 use Rattle.lola_model.specs.declared.spec.Clause.{Clause}
 use Rattle.lola_model.specs.declared.spec.Stream.{Stream}
@@ -23,6 +24,17 @@ use Rattle.lola_stages.proofs.Edges.{spawn_no_higher}
 use Rattle.lola_stages.proofs.Fixed.{full, full_at, at_full}
 use Rattle.lola_stages.proofs.Places.{at_contents, at_rows, change_in, changed_else, changed_here, contents, past_contents, same_list, seen_of, stream_or_none, with_contents}
 use Rattle.lola_stages.proofs.Behind.{equal_behind, layer_behind, same_behind, up_to_behind}
+
+-- where a clause may be active for no instance, it is active for none
+never_active : (start born : ℕ) (step : Step) (p : Option Pacing) → may_be_active start step p ≡ false → is_active_for start born step p ≡ false
+never_active start born step None e = e
+never_active start born step (Some (Event sets)) e = e
+never_active start born step (Some (Periodic r)) e = e
+never_active start born step (Some (Local r)) e = at step.fields e
+  where
+    at : (o : Option (List Field)) → (elim o as (λ _. Bool) [ None ↦ true | Some fields ↦ false ]) ≡ false → is_active_at born step.time o (Periodic r) ≡ false
+    at None e = absurd (cc)
+    at (Some fields) e = refl
 
 -- what becomes of a stream as one of its instances is told
 abbrev tell : Told → StreamContent → StreamContent
@@ -86,6 +98,11 @@ told_behind [] l ls (suc i) a e = absurd (omega arith)
 told_behind (f ∷ front) l ls zero a e = absurd (omega arith)
 told_behind (f ∷ front) l ls (suc i) a e = ap (λ xs. f ∷ xs) (told_behind front l ls i a (omega arith))
 
+-- instances of which each is silent
+silent_each : (o : Instance → Answer) → ((x : Instance) → o x ≡ Missing) → (xs : List Instance) → living_with o xs ≡ living_with (λ x. Missing) xs
+silent_each o h [] = refl
+silent_each o h (x ∷ xs) = ap (λ a. record { instance = x; outcome = a } ∷ living_with o xs) (h x) ∙ ap (λ ls. silent_living x ∷ ls) (silent_each o h xs)
+
 module _ (rows : List TableRow) (time m : ℕ) where
   abbrev shown : List Living → List Life
   shown ls = map (life_of rows time m) ls
@@ -110,6 +127,14 @@ module _ (rows : List TableRow) (time m : ℕ) where
   all_silent : (xs : List Instance) → shown (living_with (λ x. Missing) xs) ≡ hidden (living_with (λ x. Missing) xs)
   all_silent [] = refl
   all_silent (x ∷ xs) = ap (λ ls. life_of rows time m (silent_living x) ∷ ls) (all_silent xs)
+
+  births_kept : (ls : List Living) → map (λ (l : Life). l.born) (shown ls) ≡ map (λ (l : Living). time_of time (slice_get rows l.instance.born)) ls
+  births_kept [] = refl
+  births_kept (l ∷ ls) = ap (λ ts. time_of time (slice_get rows l.instance.born) ∷ ts) (births_kept ls)
+
+  births_hidden : (ls : List Living) → map (λ (l : Life). l.born) (hidden ls) ≡ map (λ (l : Living). time_of time (slice_get rows l.instance.born)) ls
+  births_hidden [] = refl
+  births_hidden (l ∷ ls) = ap (λ ts. time_of time (slice_get rows l.instance.born) ∷ ts) (births_hidden ls)
 
   params_kept : (ls : List Living) → map (λ l. l.params) (shown ls) ≡ map (λ l. l.instance.params) ls
   params_kept [] = refl
@@ -173,8 +198,13 @@ module _ (plan : Plan) (accepted : IsAccepted plan) (start : ℕ) (rows : List T
     abbrev did : Spawned
     did = spawned_in (slice_get whole n)
 
+    -- the eval clause may be active for some instance
     abbrev active : Bool
-    active = is_active start step (eval_pacing (slice_get plan.pacings n))
+    active = may_be_active start step (eval_pacing (slice_get plan.pacings n))
+
+    -- and for this one
+    abbrev active_for : Instance → Bool
+    active_for x = is_active_for start (time_of step.time (slice_get rows x.born)) step (eval_pacing (slice_get plan.pacings n))
 
     there : slice_get whole n ≡ Some row
     there = at_full plan start rows step accepted.acyclic n s at
@@ -193,16 +223,17 @@ module _ (plan : Plan) (accepted : IsAccepted plan) (start : ℕ) (rows : List T
 
     -- an instance of no input comes to what its clause does
     output_is : (c : Content) (xs : List Instance) → is_input s ≡ false
-        → living_with (λ x. outcome_of plan start rows step c n (inputs_before streams n) s did x) xs ≡ living_with (λ x. eval_outcome plan.spec c (is_bad did) active s.eval x.params) xs
+        → living_with (λ x. outcome_of plan start rows step c n (inputs_before streams n) s did x) xs ≡ living_with (λ x. eval_outcome plan.spec c (is_bad did) (active_for x) s.eval x.params) xs
     output_is c xs i =
-        ap (λ b. living_with (λ x. if b then input_outcome (inputs_before streams n) step.fields
-        else eval_outcome plan.spec c (is_bad did) (is_active_for start (time_of step.time (slice_get rows x.born)) step (eval_pacing (slice_get plan.pacings n))) s.eval x.params) xs) i
-        ∙ alike (λ test. living_with (λ x. eval_outcome plan.spec c (is_bad did) (test x) s.eval x.params) xs) start (λ x. time_of step.time (slice_get rows x.born)) step
-        (eval_pacing (slice_get plan.pacings n)) (eval_global plan.pacings n (none_local plan.spec plan.pacings accepted.paced))
+        ap (λ b. living_with (λ x. if b then input_outcome (inputs_before streams n) step.fields else eval_outcome plan.spec c (is_bad did) (active_for x) s.eval x.params) xs) i
 
     seen_params : (b : Bool) → map (λ l. l.params) (seen_of plan start rows step n (so_far true b alive row)).lives ≡ map (λ l. l.instance.params) row.living
     seen_params true = params_kept rows step.time n row.living
     seen_params false = params_hidden rows step.time n row.living
+
+    seen_births : (b : Bool) → map (λ (l : Life). l.born) (seen_of plan start rows step n (so_far true b alive row)).lives ≡ map (λ (l : Living). time_of step.time (slice_get rows l.instance.born)) row.living
+    seen_births true = births_kept rows step.time n row.living
+    seen_births false = births_hidden rows step.time n row.living
 
     eval_is : is_input s ≡ false → layer_of plan.layers (eval_node n) ≡ layer → EvalIs plan start rows step layer n s
     unfolding content_so_far
@@ -214,6 +245,9 @@ module _ (plan : Plan) (accepted : IsAccepted plan) (start : ℕ) (rows : List T
       lives = ap (λ c. map (λ l. l.params) (lives_in c)) (at_contents plan start rows step accepted.acyclic now n s at)
           ∙ (ap (λ b. map (λ l. l.params) (seen_of plan start rows step n (so_far b (is_evaluated plan.layers now n s) alive row)).lives) (spawns_before here)
           ∙ (seen_params (is_evaluated plan.layers now n s) ∙ ap (λ o. map (λ l. l.instance.params) (living_in o)) (sym there)));
+      births = ap (λ c. map (λ (l : Life). l.born) (lives_in c)) (at_contents plan start rows step accepted.acyclic now n s at)
+          ∙ (ap (λ b. map (λ (l : Life). l.born) (seen_of plan start rows step n (so_far b (is_evaluated plan.layers now n s) alive row)).lives) (spawns_before here)
+          ∙ (seen_births (is_evaluated plan.layers now n s) ∙ ap (λ o. map (λ (l : Living). time_of step.time (slice_get rows l.instance.born)) (living_in o)) (sym there)));
     }
 
     -- a stream that is not run in this layer is as it was
@@ -237,11 +271,12 @@ module _ (plan : Plan) (accepted : IsAccepted plan) (start : ℕ) (rows : List T
         ∙ (ap (λ b. seen_by (is_spawned plan.layers now n) b) (sym e) ∙ sym (not_told _ f))
 
     -- what is bad or not active is silent
-    silent_by : (c : Content) (b a : Bool) (k : Option Clause) (xs : List Instance) → (a && not b) ≡ false → living_with (λ x. eval_outcome plan.spec c b a k x.params) xs ≡ living_with (λ x. Missing) xs
-    silent_by c b a None xs e = refl
-    silent_by c true a (Some k) xs e = refl
-    silent_by c false false (Some k) xs e = refl
-    silent_by c false true (Some k) xs e = absurd (cc)
+    silent_by : (c : Content) (b a : Bool) (k : Option Clause) (x : Instance) → active ≡ a → (a && not b) ≡ false → eval_outcome plan.spec c b (active_for x) k x.params ≡ Missing
+    silent_by c b a None x m e = refl
+    silent_by c true a (Some k) x m e = refl
+    silent_by c false false (Some k) x m e =
+        ap (λ t. eval_outcome plan.spec c false t (Some k) x.params) (never_active start (time_of step.time (slice_get rows x.born)) step (eval_pacing (slice_get plan.pacings n)) m)
+    silent_by c false true (Some k) x m e = absurd (cc)
 
     abbrev living_here : List Instance
     living_here = alive ++ newborn did alive (length rows)
@@ -249,7 +284,7 @@ module _ (plan : Plan) (accepted : IsAccepted plan) (start : ℕ) (rows : List T
     all_missing : is_input s ≡ false → (active && not (is_bad did)) ≡ false → row.living ≡ living_with (λ x. Missing) living_here
     all_missing i e =
         output_is (content start rows (row_of step whole)) living_here i
-        ∙ silent_by (content start rows (row_of step whole)) (is_bad did) active s.eval living_here e
+        ∙ silent_each _ (λ x. silent_by (content start rows (row_of step whole)) (is_bad did) active s.eval x refl e) living_here
 
     same_silent : is_input s ≡ false → (active && not (is_bad did)) ≡ false → seen_by true true ≡ seen_by true false
     same_silent i e =

@@ -1,16 +1,15 @@
 -- The fault of a row with its close clauses: that of its evaluation, or else of its close clauses, or none.
-use Rattle.std.proofs.Common.{◌≡◌, refl, ap, ◌∙◌, ℕ, ◌+◌, List, [], ◌∷◌, Option, Some, None, Bool, true, false, ◌||◌, if◌then◌else◌}
+use Rattle.std.proofs.Common.{◌≡◌, refl, ap, ◌∙◌, ℕ, ◌+◌, List, [], ◌∷◌, Option, Some, None, Bool, true, false, ◌||◌}
 use Rattle.lola_value.specs.Answer.{Answer, Given, Missing, Failed, Poisoned}
 use Rattle.lola_value.specs.declared.value.FaultKind.{FaultKind}
 use Rattle.lola_model.specs.Content.{content}
 use Rattle.lola_model.specs.Faults.{RowFault, own_fault, first_with, least_kind, lesser_kind, least_failed, add_failed}
-use Rattle.lola_model.specs.Model.{has_failed, spawn_has_failed, some_failed, has_evaluation_fault, has_close_fault, closes_from, close_faults_among}
-use Rattle.lola_model.specs.NextStep.{has_local}
+use Rattle.lola_model.specs.Model.{has_failed, spawn_has_failed, some_failed, has_evaluation_fault, has_close_fault, closes_from}
 use Rattle.lola_model.specs.Table.{Spawned, Idle, Named, SpawnFailed, SpawnPoisoned, Living, StreamRow, TableRow}
 use Rattle.lola_model.specs.declared.plan.Plan.{Plan}
 use Rattle.lola_model.specs.declared.spec.Stream.{Stream}
-use Rattle.lola_stages.specs.Ends.{first_close_fault, is_closing}
-use Rattle.lola_stages.proofs.Quiet.{AreQuiet, closing_if, with_alike}
+use Rattle.lola_stages.specs.Ends.{close_fault, first_close_fault}
+use Rattle.lola_stages.proofs.Quiet.{AreQuiet}
 
 some_kind : (k : FaultKind) (o : Option FaultKind) → lesser_kind k o ≡ None → ⊥
 some_kind k None e = cc
@@ -80,21 +79,14 @@ module _ (plan : Plan) (start : ℕ) (rows : List TableRow) (row : TableRow) whe
   evaluation_kept n m (s ∷ ss) (y ∷ ys) =
       ap (λ r. first_of_two n (own_fault y) r) (evaluation_kept (n + 1) (m + 1) ss ys)
 
-  fault_of_closes : (b : Bool) (s : Stream) (y : StreamRow)
-      → of_closes (closing_if plan start rows row b s y) ≡ (if b then least_kind (close_faults_among plan.spec (content start rows row) s.close y.living) else None)
-  fault_of_closes true s y = refl
-  fault_of_closes false s y = refl
-
   quiet_fault : (n : ℕ) (ys : List StreamRow) → AreQuiet ys → first_with of_closes n ys ≡ None
   quiet_fault n [] q = refl
   quiet_fault n (y ∷ ys) q = ap (λ ks. first_of_two n (least_kind ks) (first_with of_closes (n + 1) ys)) q.1 ∙ quiet_fault (n + 1) ys q.2
 
   -- the first fault of the close clauses of a row
-  pub closing_fault_is : has_local plan.pacings ≡ false → (n : ℕ) (ss : List Stream) (ys : List StreamRow) → AreQuiet ys
+  pub closing_fault_is : (n : ℕ) (ss : List Stream) (ys : List StreamRow) → AreQuiet ys
       → first_with of_closes n (closes_from plan start rows row n ss ys) ≡ first_close_fault plan start rows row.step (content start rows row) n ss ys
-  closing_fault_is none n [] ys q = quiet_fault n ys q
-  closing_fault_is none n (s ∷ ss) [] q = refl
-  closing_fault_is none n (s ∷ ss) (y ∷ ys) q =
-      ap (λ o. first_of_two n o (first_with of_closes (n + 1) (closes_from plan start rows row (n + 1) ss ys))) (ap of_closes (with_alike plan start rows row none n s y) ∙ fault_of_closes (is_closing plan start rows row.step n) s y)
-      ∙ ap (λ r. first_of_two n (if is_closing plan start rows row.step n then least_kind (close_faults_among plan.spec (content start rows row) s.close y.living) else None) r)
-      (closing_fault_is none (n + 1) ss ys q.2)
+  closing_fault_is n [] ys q = quiet_fault n ys q
+  closing_fault_is n (s ∷ ss) [] q = refl
+  closing_fault_is n (s ∷ ss) (y ∷ ys) q =
+      ap (λ r. first_of_two n (close_fault plan start rows row.step (content start rows row) n s y) r) (closing_fault_is (n + 1) ss ys q.2)

@@ -52,7 +52,7 @@ module _ (plan : Plan) (accepted : IsAccepted plan) (start : ℕ) (rows : List T
   full_is_field n s at i =
       let none = no_spawn n s at i in
       let sp = spawned_in (slice_get (full plan start rows step) n) in
-      full_is_one plan accepted start rows step n s at none (settled n s at none)
+      full_is_one plan accepted start rows step n s at none (settled.one n s at none)
       ∙ ap (λ b. one_living (if b then outcome n else eval_outcome plan.spec (content start rows (row_of step (full plan start rows step))) (is_bad sp) (is_active_for start (time_of step.time (slice_get rows 0)) step (eval_pacing (slice_get plan.pacings n))) s.eval [])) i
 
   -- the instance of an input is told its field
@@ -88,7 +88,7 @@ module _ (plan : Plan) (accepted : IsAccepted plan) (start : ℕ) (rows : List T
         (told_one n (is_spawned plan.layers (input_stage n) n) (is_evaluated plan.layers (input_stage n) n s) (is_evaluated plan.layers (input_stage (n + 1)) n s)
         (survivors n s (last_row rows)) (full_at plan start rows step n s) (outcome n)
         (evaluated_by n n s false i (le-ltb n n (omega arith))) (evaluated_by (n + 1) n s true i (lt-ltb n (n + 1) (omega arith)))
-        (settled n s at (no_spawn n s at i)) (full_is_field n s at i) (seen_field (inputs_before streams n) step.fields)));
+        (settled.one n s at (no_spawn n s at i)) (full_is_field n s at i) (seen_field (inputs_before streams n) step.fields)));
   }
 
   other_is : (n : ℕ) (s : Stream) → slice_get streams n ≡ Some s → is_input s ≡ false → contents plan start rows step (input_stage n) ≡ contents plan start rows step (input_stage (n + 1))

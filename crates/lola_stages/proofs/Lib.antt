@@ -1,5 +1,4 @@
 pub mod Agree
-pub mod Alike
 pub mod Begin
 pub mod Behind
 pub mod Closings

@@ -1,15 +1,18 @@
--- Rows stay settled: what has no spawn clause is never born again, nor closed.
-use Rattle.std.proofs.Common.{◌≡◌, refl, ap, ◌∙◌, ℕ, zero, suc, ◌+◌, List, [], ◌∷◌, ◌++◌, Some, None, Bool, true, false, slice_get, arith, length, if◌then◌else◌}
+-- Rows stay settled: what has no spawn clause is never born again, nor closed, and what is born is born in the row of the step.
+use Rattle.std.proofs.Common.{◌≡◌, refl, ap, ◌∙◌, sym, subst, ℕ, zero, suc, ◌+◌, ◌≤◌, List, [], ◌∷◌, ◌++◌, Option, Some, None, Bool, true, false, slice_get, arith, length, length-append, if◌then◌else◌}
 use Rattle.lola_value.specs.Answer.{Answer}
 use Rattle.lola_model.specs.Acceptance.{IsAccepted}
 use Rattle.lola_model.specs.Content.{Content, content}
-use Rattle.lola_model.specs.Model.{answered, closing, closes_from, with_closes, asked_to_close, is_closing_for, closed_among, close_faults_among, has_evaluation_fault, last_row, outcome_of, spawned_in, survivors, surviving, survivors_in, newborn, the_instance}
+use Rattle.lola_model.specs.Model.{answered, closing, closes_from, with_closes, asked_to_close, is_closing_for, is_closed, closed_among, close_faults_among, has_evaluation_fault, last_row, outcome_of, spawned_in, survivors, surviving, survivors_in, newborn, the_instance}
 use Rattle.lola_model.specs.Table.{Step, Instance, Spawned, Idle, Living, StreamRow, TableRow}
 use Rattle.lola_model.specs.declared.plan.Plan.{Plan}
+use Rattle.lola_model.specs.declared.spec.Clause.{Clause}
 use Rattle.lola_model.specs.declared.spec.Stream.{Stream}
-use Rattle.lola_model.proofs.Growth.{last_row-append}
+use Rattle.lola_model.proofs.Growth.{AreBornBy, AreOrderly, last_row-append}
+use Rattle.lola_model.proofs.Orderly.{AreOfRows, answered_orderly}
 use Rattle.lola_model.proofs.Rounds.{row_of}
 use Rattle.lola_stages.specs.Nexts.{StaySettled, inputs_before}
+use Rattle.lola_stages.specs.Stages.{AreBornBefore, AreSettled}
 use Rattle.lola_stages.proofs.Agree.{living_with, idle_without}
 use Rattle.lola_stages.proofs.Fixed.{full, full_is, full_at, at_full}
 use Rattle.lola_stages.proofs.Shapes.{passes_at, never_closes}
@@ -78,6 +81,40 @@ module _ (plan : Plan) (accepted : IsAccepted plan) (start : ℕ) (rows : List T
           ap survivors_in (closes_there (row_of step (full plan start rows step)) 0 n n plan.spec.streams (full plan start rows step) (full_at plan start rows step n s) (omega arith) at there)
           ∙ keeps_one (content start rows (row_of step (full plan start rows step))) (full_at plan start rows step n s) _ (full_is_one e)
 
+-- what is left of instances that were born by a number
+born_left : (m : ℕ) (closed : List Instance) (ls : List Living) → AreBornBy m ls → AreBornBefore (suc m) (surviving closed ls)
+born_left m closed [] h = tt
+born_left m closed (l ∷ ls) h = by (is_closed closed l.instance) (born_left m closed ls h.1)
+  where
+    by : (b : Bool) → AreBornBefore (suc m) (surviving closed ls) → AreBornBefore (suc m) (if b then surviving closed ls else l.instance ∷ surviving closed ls)
+    by true rest = rest
+    by false rest = ((let k : l.instance.born ≤ m = h.0 in omega arith), rest)
+
+-- of the stream of a number
+born_at : (m : ℕ) (ys : List StreamRow) (n : ℕ) → AreOrderly m ys → AreBornBefore (suc m) (survivors_in (slice_get ys n))
+born_at m [] n h = tt
+born_at m (y ∷ ys) zero h = born_left m y.closed y.living h.1
+born_at m (y ∷ ys) (suc n) h = born_at m ys n h.2
+
+-- after the next row
+born_after : (plan : Plan) (start : ℕ) (rows : List TableRow) (step : Step) → AreOfRows rows → (n : ℕ) (s : Stream)
+    → AreBornBefore (length (rows ++ answered plan start rows step ∷ [])) (survivors n s (last_row (rows ++ answered plan start rows step ∷ [])))
+born_after plan start rows step h n s =
+    let row = answered plan start rows step in
+    let more : suc (length rows) ≡ length (rows ++ row ∷ []) = omega (arith, length-append rows (row ∷ [])) in
+    subst (λ (o : Option TableRow). AreBornBefore (length (rows ++ row ∷ [])) (survivors n s o)) (sym (last_row-append rows row))
+    (subst (λ (m : ℕ). AreBornBefore m (survivors_in (slice_get row.streams n))) more (born_at (length rows) row.streams n (answered_orderly plan start rows step h)))
+
+-- before the first step
+pub settled_at_none : (plan : Plan) → AreSettled plan []
+settled_at_none plan = record {
+  one = λ n s at none. ap (λ o. elim o as (λ _. List Instance) [ None ↦ the_instance ∷ [] | Some k ↦ [] ]) none;
+  born = λ n s k has. subst (λ (o : Option Clause). AreBornBefore 0 (elim o as (λ _. List Instance) [ None ↦ the_instance ∷ [] | Some k ↦ [] ])) (sym has) tt;
+}
+
 -- the law, at this plan
 pub stay_settled : (plan : Plan) → IsAccepted plan → StaySettled plan
-stay_settled plan accepted start rows step h n s at none = stays plan accepted start rows step n s at none (h n s at none)
+stay_settled plan accepted start rows step of_rows h = record {
+  one = λ n s at none. stays plan accepted start rows step n s at none (h.one n s at none);
+  born = λ n s k has. born_after plan start rows step of_rows n s;
+}

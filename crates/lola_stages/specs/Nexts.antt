@@ -176,4 +176,4 @@ StepsGo plan = IsAccepted plan → (start : ℕ) (rows : List TableRow) (step : 
 
 -- rows stay settled as the next row of the model comes
 abbrev pub StaySettled : Plan → Type 0
-StaySettled plan = (start : ℕ) (rows : List TableRow) (step : Step) → AreSettled plan rows → AreSettled plan (rows ++ answered plan start rows step ∷ [])
+StaySettled plan = (start : ℕ) (rows : List TableRow) (step : Step) → AreOfRows rows → AreSettled plan rows → AreSettled plan (rows ++ answered plan start rows step ∷ [])

@@ -1,10 +1,11 @@
 -- A step of the model, as far as it is done: layer by layer, in each layer first the spawn clauses and then the instances.
-use Rattle.std.specs.Prelude.{ℕ, ◌≡◌, ◌+◌, List, [], ◌∷◌, Some, None, Bool, ◌&&◌, ◌||◌, if◌then◌else◌, map, length, slice_get, nat_lt, nat_eq}
+use Rattle.std.specs.Prelude.{ℕ, ◌≡◌, ◌+◌, ◌<◌, List, [], ◌∷◌, Some, None, Bool, ◌&&◌, ◌||◌, if◌then◌else◌, map, length, slice_get, nat_lt, nat_eq}
 use Rattle.lola_value.specs.Answer.{Missing}
 use Rattle.lola_model.specs.Table.{Step, Instance, Idle, Living, StreamRow, TableRow}
 use Rattle.lola_model.specs.Content.{Content, content}
 use Rattle.lola_model.specs.Graph.{nodes_of, eval_node, spawn_node, layer_of}
 use Rattle.lola_model.specs.Model.{asked, is_input, survivors, last_row, the_instance}
+use Rattle.lola_model.specs.declared.spec.Clause.{Clause}
 use Rattle.lola_model.specs.declared.spec.Stream.{Stream}
 use Rattle.lola_model.specs.declared.plan.Plan.{Plan}
 
@@ -82,7 +83,14 @@ spawn_stage streams layer n = record { inputs = streams; layer = layer; spawns =
 abbrev pub eval_stage : ℕ → ℕ → Stage
 eval_stage streams layer = record { inputs = streams; layer = layer; spawns = streams; evals = 0 }
 
--- after these rows each stream without a spawn clause has its one instance. An input's field is told to that instance, so a step
--- goes by stages only after such rows. No rows are such, and rows with the next row of an accepted plan behind them
-abbrev pub AreSettled : Plan → List TableRow → Type 0
-AreSettled plan rows = (n : ℕ) (s : Stream) → slice_get plan.spec.streams n ≡ Some s → s.spawn ≡ None → survivors n s (last_row rows) ≡ the_instance ∷ []
+-- these instances were born in steps before this number
+abbrev pub AreBornBefore : ℕ → List Instance → Type 0
+AreBornBefore n [] = Unit {0}
+AreBornBefore n (x ∷ xs) = (x.born < n) × AreBornBefore n xs
+
+-- after these rows each stream without a spawn clause has its one instance, and all instances of the others were born in the rows.
+-- An input's field is told to its one instance, and a time of birth is that of a row, so a step goes by stages only after such rows.
+-- No rows are such, and rows with the next row of an accepted plan behind them
+pub record AreSettled (plan : Plan) (rows : List TableRow) : Type 0 where
+  pub one : (n : ℕ) (s : Stream) → slice_get plan.spec.streams n ≡ Some s → s.spawn ≡ None → survivors n s (last_row rows) ≡ the_instance ∷ []
+  pub born : (n : ℕ) (s : Stream) (k : Clause) → s.spawn ≡ Some k → AreBornBefore (length rows) (survivors n s (last_row rows))

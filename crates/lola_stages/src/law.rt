@@ -4,7 +4,6 @@
 ghost use Rattle.std.specs.Prelude.{ℕ, List, []};
 ghost use Rattle.lola_model.specs.Acceptance.{IsAccepted};
 ghost use Rattle.lola_model.specs.Table.{Step, TableRow};
-ghost use Rattle.lola_model.proofs.Orderly.{AreOfRows};
 ghost use Rattle.lola_stages.specs.Ends.{StepsEnd};
 ghost use Rattle.lola_stages.specs.Nexts.{BeginsSo, StepsGo, StaySettled};
 ghost use Rattle.lola_stages.specs.Stages.{AreSettled};
@@ -12,10 +11,10 @@ ghost use Rattle.lola_stages.specs.Stages.{AreSettled};
 use lola_model::plan::Plan;
 use lola_model::store::StreamStore;
 
-/// Where a store stands between steps for the content after some rows, it stands at the first stage once a step has begun.
+/// Where a store stands between steps for the content after settled rows, it stands at the first stage once a step has begun.
 pub fn steps_begin<S: StreamStore>(_plan: &Plan, _store: &S)
     requires { IsAccepted _plan.now }
-    ensures { (start : ℕ) (rows : List TableRow) (step : Step) → AreOfRows rows
+    ensures { (start : ℕ) (rows : List TableRow) (step : Step) → AreSettled _plan.now rows
         → BeginsSo _plan.now start rows step (S.remembers _store.now) (S.seen _store.now) }
 {}
 
@@ -25,12 +24,12 @@ pub fn steps_go(_plan: &Plan)
     ensures { StepsGo _plan.now }
 {}
 
-/// Before the first step each stream without a spawn clause has its one instance.
+/// Before the first step each stream without a spawn clause has its one instance, and no other has any.
 pub fn settled_at_first(_plan: &Plan)
     ensures { AreSettled _plan.now [] }
 {}
 
-/// And so after each step: what has no spawn clause is never born again, nor closed.
+/// And so after each step: what has no spawn clause is never born again, nor closed, and what is born is born in the row of the step.
 pub fn settled_after_each(_plan: &Plan)
     requires { IsAccepted _plan.now }
     ensures { StaySettled _plan.now }
