@@ -1,5 +1,5 @@
 -- A whole expression of a clause that is active can be asked for.
-use Rattle.std.proofs.Common.{◌≡◌, refl, sym, subst, ◌∙◌, ℕ, zero, suc, ◌+◌, ◌-◌, ◌<◌, ◌≤◌, List, [], ◌∷◌, Option, Some, Bool, true, ◌&&◌, arith, if◌then◌else◌, nat_le, nat_lt, length, slice_get}
+use Rattle.std.proofs.Common.{◌≡◌, refl, sym, subst, ◌∙◌, ℕ, zero, suc, ◌+◌, ◌-◌, ◌<◌, ◌≤◌, List, [], ◌∷◌, Option, Some, Bool, true, ◌&&◌, arith, if◌then◌else◌, nat_le, nat_lt, length, drop, slice_get}
 use Rattle.std.specs.List.{Contains}
 use Rattle.std.proofs.lemmas.Bool.{eq-eqb, le-leb, ltb-true}
 use Rattle.lola_value.specs.declared.value.Kind.{Kind}
@@ -11,7 +11,7 @@ use Rattle.lola_value.specs.Naming.{Naming, text_at, the_values}
 use Rattle.lola_model.proofs.Lookups.{bytes_equal-same}
 use Rattle.lola_model.proofs.Strictly.{Contains-here}
 use Rattle.lola_model.specs.Acceptance.{IsAccepted}
-use Rattle.lola_model.specs.Activity.{is_active}
+use Rattle.lola_model.specs.Activity.{is_active_for}
 use Rattle.lola_model.specs.Bounds.{greatest_offset, offset_onto, offsets_onto, pacing_at}
 use Rattle.lola_model.specs.Parts.{listed_spec}
 use Rattle.lola_model.specs.Store.{Layout, Seen, kept_in, kind_in, layout_of, layouts_from, pane_of, parameters_of}
@@ -26,6 +26,7 @@ use Rattle.lola_model.specs.declared.expr.Arguments.{Arguments}
 use Rattle.lola_model.specs.declared.expr.Expr.{Expr}
 use Rattle.lola_model.specs.declared.expr.Expr.TheVariants.{Literal, Parameter, Read, Window, Defaults', Unary', Both', Choice'}
 use Rattle.lola_model.specs.declared.expr.Place.{Place}
+use Rattle.lola_model.specs.declared.pacing.ClausePacings.{ClausePacings}
 use Rattle.lola_model.specs.declared.plan.Plan.{Plan}
 use Rattle.lola_model.specs.declared.spec.Part.{Part}
 use Rattle.lola_model.specs.declared.spec.Stream.{Stream}
@@ -39,11 +40,12 @@ use Rattle.lola_ready.proofs.EachPart.{Known, each_where}
 use Rattle.lola_ready.proofs.Listings.{Listing, Offsets, Onto, Windows, Texts, IsKnown, few_at, known, numbers_in}
 
 -- a stream that is there keeps as many values as its number in the list of kept ones says
-kept_at : (ss : List Stream) (kept : List ℕ) (n : ℕ) → n < length (layouts_from ss []) → length kept ≡ length ss → slice_get kept n ≡ Some (kept_in (slice_get (layouts_from ss kept) n))
-kept_at [] kept n lt e = absurd (omega (arith, lt))
-kept_at (s ∷ ss) [] n lt e = absurd (omega (arith, e))
-kept_at (s ∷ ss) (k ∷ ks) zero lt e = refl
-kept_at (s ∷ ss) (k ∷ ks) (suc n) lt e = kept_at ss ks n (omega (arith, lt)) (omega (arith, e))
+kept_at : (ss : List Stream) (kept : List ℕ) (pacings : List ClausePacings) (n : ℕ) → n < length (layouts_from ss [] []) → length kept ≡ length ss
+    → slice_get kept n ≡ Some (kept_in (slice_get (layouts_from ss kept pacings) n))
+kept_at [] kept pacings n lt e = absurd (omega (arith, lt))
+kept_at (s ∷ ss) [] pacings n lt e = absurd (omega (arith, e))
+kept_at (s ∷ ss) (k ∷ ks) pacings zero lt e = refl
+kept_at (s ∷ ss) (k ∷ ks) pacings (suc n) lt e = kept_at ss ks (drop 1 pacings) n (omega (arith, lt)) (omega (arith, e))
 
 -- what an offset lists of itself
 offset_here : (place : Place) (n k : ℕ) (args : Arguments) → Contains (offset_onto n (Read place n (access.Offset k) args)) k
@@ -89,16 +91,16 @@ module _ (plan : Plan) (s : Seen) where
 
 module _ (plan : Plan) (s : Seen) (accepted : IsAccepted plan) (layout : s.layout ≡ layout_of plan) (ks : List Kind) where
   -- no offset goes further back than values are kept
-  offset_kept : (n k : ℕ) → n < length (layouts_from plan.spec.streams []) → nat_le 1 k ≡ true → k ≤ greatest_offset (offsets_onto n plan.spec)
-      → is_kept (slice_get (layouts_from plan.spec.streams plan.kept) n) (access.Offset k) ≡ true
+  offset_kept : (n k : ℕ) → n < length (layouts_from plan.spec.streams [] []) → nat_le 1 k ≡ true → k ≤ greatest_offset (offsets_onto n plan.spec)
+      → is_kept (slice_get (layouts_from plan.spec.streams plan.kept plan.pacings) n) (access.Offset k) ≡ true
   offset_kept n k lt above below =
-      let kept = kept_in (slice_get (layouts_from plan.spec.streams plan.kept) n) in
-      let is : kept ≡ 1 + greatest_offset (offsets_onto n plan.spec) = accepted.bounds.kept n kept (kept_at plan.spec.streams plan.kept n lt accepted.bounds.kept_count) in
+      let kept = kept_in (slice_get (layouts_from plan.spec.streams plan.kept plan.pacings) n) in
+      let is : kept ≡ 1 + greatest_offset (offsets_onto n plan.spec) = accepted.bounds.kept n kept (kept_at plan.spec.streams plan.kept plan.pacings n lt accepted.bounds.kept_count) in
       both (nat_le 1 k) (nat_le k (kept - 1)) above (le-leb k (kept - 1) (omega (arith, is, below)))
 
   -- and no access does
-  access_kept : (place : Place) (n : ℕ) (how : Access) (args : Arguments) → n < length (layouts_from plan.spec.streams []) → IsKnownOf plan s (Read place n how args)
-      → is_kept (slice_get (layouts_from plan.spec.streams plan.kept) n) how ≡ true
+  access_kept : (place : Place) (n : ℕ) (how : Access) (args : Arguments) → n < length (layouts_from plan.spec.streams [] []) → IsKnownOf plan s (Read place n how args)
+      → is_kept (slice_get (layouts_from plan.spec.streams plan.kept plan.pacings) n) how ≡ true
   access_kept place n access.Direct args lt k = refl
   access_kept place n access.Get args lt k = refl
   access_kept place n access.Hold args lt k = refl
@@ -110,12 +112,12 @@ module _ (plan : Plan) (s : Seen) (accepted : IsAccepted plan) (layout : s.layou
   part_ready (Parameter place i) h k = refl
   part_ready (Read place n how args) h k =
       let row = second (is_noted (place_in (Read place n how args)).kind) (row_holds (scope_in plan.spec ks) (Read place n how args)) h in
-      let reference = first (is_reference (layouts_from plan.spec.streams []) n args) (same_kind (kind_in (slice_get (layouts_from plan.spec.streams []) n)) (kind_of place)) row in
-      let lt = ltb-true n (length (layouts_from plan.spec.streams []))
-      (first (nat_lt n (length (layouts_from plan.spec.streams []))) (same_kinds (noted_all args) (parameters_of (slice_get (layouts_from plan.spec.streams []) n))) reference) in
+      let reference = first (is_reference (layouts_from plan.spec.streams [] []) n args) (same_kind (kind_in (slice_get (layouts_from plan.spec.streams [] []) n)) (kind_of place)) row in
+      let lt = ltb-true n (length (layouts_from plan.spec.streams [] []))
+      (first (nat_lt n (length (layouts_from plan.spec.streams [] []))) (same_kinds (noted_all args) (parameters_of (slice_get (layouts_from plan.spec.streams [] []) n))) reference) in
       subst (λ (l : Layout). (has_few (slice_get l.streams n) && is_kept (slice_get l.streams n) how) ≡ true) (sym layout)
-      (both (has_few (slice_get (layouts_from plan.spec.streams plan.kept) n)) (is_kept (slice_get (layouts_from plan.spec.streams plan.kept) n) how)
-      (few_at plan.spec.streams plan.kept n accepted.named.few_parameters) (access_kept place n how args lt k))
+      (both (has_few (slice_get (layouts_from plan.spec.streams plan.kept plan.pacings) n)) (is_kept (slice_get (layouts_from plan.spec.streams plan.kept plan.pacings) n) how)
+      (few_at plan.spec.streams plan.kept plan.pacings n accepted.named.few_parameters) (access_kept place n how args lt k))
   part_ready (Window place i args) h k =
       subst (λ (l : Layout). (target_few l.streams (slice_get l.windows i) && is_whole_pane s (pane_of (slice_get l.panes i))) ≡ true) (sym layout)
       (k Windows i (Contains-here i []))
@@ -125,17 +127,17 @@ module _ (plan : Plan) (s : Seen) (accepted : IsAccepted plan) (layout : s.layou
   part_ready (Choice' place u a v b w d) h k = refl
 
 module _ (plan : Plan) (start : ℕ) (step : Step) (s : Seen) (accepted : IsAccepted plan) (at : IsAtStep plan start step s) where
-  -- a whole expression of an active clause, for parameters of its kinds
-  pub askable : (n : ℕ) (p : Part) → is_active start step (pacing_at plan.pacings n p) ≡ true
+  -- a whole expression of a clause that is active for an instance, for parameters of its kinds
+  pub askable : (n : ℕ) (p : Part) (born : ℕ) → is_active_for start born step (pacing_at plan.pacings n p) ≡ true
       → (q : Params) (ks : List Kind) → are_of_kinds ks (the_values q) ≡ true
       → (want : Kind) (before : ℕ) (e : Expr) → IsAmong (wholes_of plan.spec) (λ g. listed_spec g plan.spec) (whole n p ks want before e)
       → IsAskable s q plan.spec.texts want e
-  askable n p active q ks given want before e among =
+  askable n p born active q ks given want before e among =
       let scope = scope_in plan.spec ks in
       let is : whole_is_typed plan.spec (whole n p ks want before e) ≡ true = among.passes (whole_is_typed plan.spec) accepted.typed.typed in
       let typed = first (is_typed scope e) (same_kind (noted e) want && is_certain scope.windows e) is in
       let kind = first (same_kind (noted e) want) (is_certain scope.windows e) (second (is_typed scope e) (same_kind (noted e) want && is_certain scope.windows e) is) in
-      let all = known plan start step s accepted at n p active ks want before e among in
+      let all = known plan start step s accepted at n p born active ks want before e among in
       let ready = each_where Listing numbers_in (IsKnown plan s) (part_is_typed scope) (is_ready s) (part_ready plan s accepted at.layout ks) e typed all in
       record {
         asks = typed_in_plan s q ks given plan at.layout e typed ready;

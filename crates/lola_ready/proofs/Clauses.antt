@@ -3,6 +3,7 @@ use Rattle.std.proofs.Common.{◌≡◌, refl, sym, subst, ℕ, List, [], ◌∷
 use Rattle.lola_value.specs.declared.value.Kind.{Kind}
 use Rattle.lola_value.specs.declared.value.Kind.TheVariants as kind
 use Rattle.lola_value.specs.declared.value.Params.{Params}
+use Rattle.lola_model.specs.Model.{spawn_pacing}
 use Rattle.lola_model.specs.Parts.{listed, listed_clause, listed_spec, listed_stream, listed_when, listed_with}
 use Rattle.lola_model.specs.Store.{Seen, no_params}
 use Rattle.lola_model.specs.Table.{Step}
@@ -16,6 +17,7 @@ use Rattle.lola_model.specs.declared.spec.Stream.{Stream}
 use Rattle.lola_ready.specs.Ready.{AreAskable, ClausesMayAsk, CloseMayAsk, EvalMayAsk, IsAskable, IsClauseAskable, IsWhenAskable, SpawnMayAsk}
 use Rattle.lola_ready.proofs.Among.{IsAmong, whole, among_first, among_others, among_one, of_close, of_eval, of_spawn, of_streams}
 use Rattle.lola_ready.proofs.Askable.{askable}
+use Rattle.lola_ready.proofs.Moments.{active_for}
 
 -- a clause can be asked for where each of its whole expressions can
 module _ (s : Seen) (q : Params) (texts : List (List ℕ)) (n : ℕ) (p : Part) (ks : List Kind) where
@@ -63,24 +65,24 @@ module _ (plan : Plan) (start : ℕ) (step : Step) (s : Seen) (n : ℕ) (stream 
   pub spawn_may_ask : SpawnMayAsk plan start step s n stream k
   spawn_may_ask accepted at e is active =
       clause_askable s no_params plan.spec.texts n part.Spawn [] stream.parameters k
-      (λ want before x a. askable plan start step s accepted at n part.Spawn active no_params [] refl want before x
+      (λ want before x a. askable plan start step s accepted at n part.Spawn 0 (active_for start 0 step (spawn_pacing (slice_get plan.pacings n)) active) no_params [] refl want before x
       (in_spec (whole n part.Spawn [] want before x) e (of_spawn n stream (unwrap_or stream.kind kind.Int64) (whole n part.Spawn [] want before x)
       (subst (λ (o : Option Clause). IsAmong (clause_wholes n part.Spawn [] stream.parameters o) (λ g. listed_clause g o) (whole n part.Spawn [] want before x)) (sym is) a))))
 
   -- the eval clause, for an instance
   pub eval_may_ask : (p : Params) → EvalMayAsk plan start step s n stream k p
-  eval_may_ask p accepted at e is active given =
+  eval_may_ask p accepted at e is born active given =
       let l = unwrap_or stream.kind kind.Int64 in
       clause_askable s p plan.spec.texts n part.Eval stream.parameters (l ∷ []) k
-      (λ want before x a. askable plan start step s accepted at n part.Eval active p stream.parameters given want before x
+      (λ want before x a. askable plan start step s accepted at n part.Eval born active p stream.parameters given want before x
       (in_spec (whole n part.Eval stream.parameters want before x) e (of_eval n stream l (whole n part.Eval stream.parameters want before x)
       (subst (λ (o : Option Clause). IsAmong (clause_wholes n part.Eval stream.parameters (l ∷ []) o) (λ g. listed_clause g o) (whole n part.Eval stream.parameters want before x)) (sym is) a))))
 
   -- the close clause
   pub close_may_ask : (p : Params) → CloseMayAsk plan start step s n stream k p
-  close_may_ask p accepted at e is active given =
+  close_may_ask p accepted at e is born active given =
       clause_askable s p plan.spec.texts n part.Close stream.parameters [] k
-      (λ want before x a. askable plan start step s accepted at n part.Close active p stream.parameters given want before x
+      (λ want before x a. askable plan start step s accepted at n part.Close born active p stream.parameters given want before x
       (in_spec (whole n part.Close stream.parameters want before x) e (of_close n stream (unwrap_or stream.kind kind.Int64) (whole n part.Close stream.parameters want before x)
       (subst (λ (o : Option Clause). IsAmong (clause_wholes n part.Close stream.parameters [] o) (λ g. listed_clause g o) (whole n part.Close stream.parameters want before x)) (sym is) a))))
 

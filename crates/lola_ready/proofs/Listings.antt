@@ -5,7 +5,7 @@ use Rattle.std.proofs.lemmas.Bool.{eqb-true, eq-eqb, le-leb, ltb-true}
 use Rattle.lola_value.specs.declared.value.Kind.{Kind}
 use Rattle.lola_model.proofs.Strictly.{Contains-cases, Contains-none}
 use Rattle.lola_model.specs.Acceptance.{IsAccepted}
-use Rattle.lola_model.specs.Activity.{is_active}
+use Rattle.lola_model.specs.Activity.{is_active_for}
 use Rattle.lola_model.specs.Bounds.{greatest_offset, offset_onto, offsets_onto, pacing_at}
 use Rattle.lola_model.specs.Named.{all_numbers, all_streams, has_few_parameters, is_window_of, literal_text, offset_in, same_part, window_number, windows_stand_here}
 use Rattle.lola_model.specs.Parts.{listed, listed_spec}
@@ -14,6 +14,7 @@ use Rattle.lola_model.specs.Table.{Step}
 use Rattle.lola_model.specs.Typing.{has_few, is_whole_pane, target_few}
 use Rattle.lola_model.specs.Wholes.{wholes_of}
 use Rattle.lola_model.specs.declared.expr.Expr.{Expr}
+use Rattle.lola_model.specs.declared.pacing.ClausePacings.{ClausePacings}
 use Rattle.lola_model.specs.declared.plan.Plan.{Plan}
 use Rattle.lola_model.specs.declared.spec.Part.{Part}
 use Rattle.lola_model.specs.declared.spec.Part.TheVariants as part
@@ -64,10 +65,10 @@ up_to_greatest (x ∷ xs) k c =
     elim (Contains-cases x k xs c) [ inl e ↦ omega (arith, e) | inr d ↦ (let h = rest d in omega (arith, h)) ]
 
 -- a stream that is read has few parameters, and so has none where there is none
-pub few_at : (ss : List Stream) (kept : List ℕ) (n : ℕ) → all_streams has_few_parameters ss ≡ true → has_few (slice_get (layouts_from ss kept) n) ≡ true
-few_at [] kept n h = refl
-few_at (s ∷ ss) kept zero h = first (has_few_parameters s) (all_streams has_few_parameters ss) h
-few_at (s ∷ ss) kept (suc n) h = few_at ss (drop 1 kept) n (second (has_few_parameters s) (all_streams has_few_parameters ss) h)
+pub few_at : (ss : List Stream) (kept : List ℕ) (pacings : List ClausePacings) (n : ℕ) → all_streams has_few_parameters ss ≡ true → has_few (slice_get (layouts_from ss kept pacings) n) ≡ true
+few_at [] kept pacings n h = refl
+few_at (s ∷ ss) kept pacings zero h = first (has_few_parameters s) (all_streams has_few_parameters ss) h
+few_at (s ∷ ss) kept pacings (suc n) h = few_at ss (drop 1 kept) (drop 1 pacings) n (second (has_few_parameters s) (all_streams has_few_parameters ss) h)
 
 -- the same clause
 same_part-true : (p q : Part) → same_part p q ≡ true → p ≡ q
@@ -81,15 +82,15 @@ same_part-true part.Close part.Spawn h = absurd (cc)
 same_part-true part.Close part.Eval h = absurd (cc)
 same_part-true part.Close part.Close h = refl
 
-module _ (plan : Plan) (start : ℕ) (step : Step) (s : Seen) (accepted : IsAccepted plan) (at : IsAtStep plan start step s) (n : ℕ) (p : Part) (active : is_active start step (pacing_at plan.pacings n p) ≡ true) where
+module _ (plan : Plan) (start : ℕ) (step : Step) (s : Seen) (accepted : IsAccepted plan) (at : IsAtStep plan start step s) (n : ℕ) (p : Part) (born : ℕ) (active : is_active_for start born step (pacing_at plan.pacings n p) ≡ true) where
   -- a window of a clause that is active has a whole number of panes up to this moment
   whole_moment : (i : ℕ) (w : WindowSpec) → slice_get plan.spec.windows i ≡ Some w → w.stream ≡ n → w.part ≡ p → is_whole_pane s (pane_of (slice_get plan.panes i)) ≡ true
   whole_moment i w e stream clause =
       let pane = pane_of (slice_get plan.panes i) in
       let pacing : pacing_at plan.pacings w.stream w.part ≡ pacing_at plan.pacings n p =
       ap (λ m. pacing_at plan.pacings m w.part) stream ∙ ap (λ q. pacing_at plan.pacings n q) clause in
-      let rest = whole_panes start step (pacing_at plan.pacings w.stream w.part) w.over (slice_get plan.panes i) (accepted.bounds.panes i w e)
-      (ap (λ o. is_active start step o) pacing ∙ active) in
+      let rest = whole_panes start born step (pacing_at plan.pacings w.stream w.part) w.over (slice_get plan.panes i) (accepted.bounds.panes i w e)
+      (ap (λ o. is_active_for start born step o) pacing ∙ active) in
       let moment : (time_seen s - start_seen s) % pane ≡ (step.time - start) % pane =
       ap (λ t. (t - start_seen s) % pane) at.time_is ∙ ap (λ t. (step.time - t) % pane) at.start_is in
       let order : start_seen s ≤ time_seen s = (let a = at.start_is in let b = at.time_is in let c = at.order in omega (arith, a, b, c)) in
@@ -103,7 +104,7 @@ module _ (plan : Plan) (start : ℕ) (step : Step) (s : Seen) (accepted : IsAcce
   asked_window i None e h = absurd (cc)
   asked_window i (Some w) e h =
       both (has_few (slice_get (layout_of plan).streams w.target)) (is_whole_pane s (pane_of (slice_get plan.panes i)))
-      (few_at plan.spec.streams plan.kept w.target accepted.named.few_parameters)
+      (few_at plan.spec.streams plan.kept plan.pacings w.target accepted.named.few_parameters)
       (whole_moment i w e (eqb-true w.stream n (first (nat_eq w.stream n) (same_part w.part p) h)) (same_part-true w.part p (second (nat_eq w.stream n) (same_part w.part p) h)))
 
   -- what is known of the numbers of a whole expression of this clause

@@ -7,7 +7,7 @@ use Rattle.std.proofs.lemmas.Nat.Gcd.{dvd_of_mod-eq-zero, mod-eq-zero_of_dvd}
 use Rattle.lola_value.specs.Ratio.{Ratio}
 use Rattle.lola_value.specs.Rate.{deadline, next_deadline, next_number, period_over}
 use Rattle.lola_value.specs.declared.text.Field.{Field}
-use Rattle.lola_model.specs.Activity.{is_active, is_active_at, is_deadline}
+use Rattle.lola_model.specs.Activity.{is_active, is_active_at, is_active_for, is_deadline}
 use Rattle.lola_model.specs.Bounds.{ArePanesOf}
 use Rattle.lola_model.specs.Store.{pane_of}
 use Rattle.lola_model.specs.Table.{Step}
@@ -33,13 +33,26 @@ part_of_deadline r after pane whole part due =
     let times : deadline r k ≡ k * (period_over r / r.num) = times_quotient k (period_over r) r.num whole (subst (λ (t : ℕ). 0 < t) (sym is) above) in
     mod-eq-zero_of_dvd pane (subst (λ (t : ℕ). pane ∣ t) (sym times ∙ is) (dvd-mul_left_of_dvd pane part k))
 
--- where a clause is active that a window with these panes stands in, the moment is whole panes after the start
-pub whole_panes : (start : ℕ) (step : Step) (o : Option Pacing) (over : ℕ) (q : Option PaneSize) → ArePanesOf o over q → is_active start step o ≡ true → (step.time - start) % pane_of q ≡ 0
-whole_panes start step None over q panes active = absurd (cc)
-whole_panes start step (Some (Event sets)) over q panes active = absurd panes
-whole_panes start step (Some (Local r)) over q panes active = absurd panes
-whole_panes start step (Some (Periodic r)) over None panes active = absurd panes
-whole_panes start step (Some (Periodic r)) over (Some p) panes active = at step.fields active
+-- what is active for all instances is active for each
+pub active_for : (start born : ℕ) (step : Step) (o : Option Pacing) → is_active start step o ≡ true → is_active_for start born step o ≡ true
+active_for start born step None active = active
+active_for start born step (Some (Event sets)) active = active
+active_for start born step (Some (Periodic r)) active = active
+active_for start born step (Some (Local r)) active = absurd (never step.fields active)
+  where
+    never : (fields : Option (List Field)) → is_active_at start step.time fields (Local r) ≡ true → ⊥
+    never None active = cc
+    never (Some fields) active = cc
+
+-- where a clause is active that a window with these panes stands in, the moment is whole panes after the start: no local clause has
+-- panes
+pub whole_panes : (start born : ℕ) (step : Step) (o : Option Pacing) (over : ℕ) (q : Option PaneSize) → ArePanesOf o over q → is_active_for start born step o ≡ true
+    → (step.time - start) % pane_of q ≡ 0
+whole_panes start born step None over q panes active = absurd (cc)
+whole_panes start born step (Some (Event sets)) over q panes active = absurd panes
+whole_panes start born step (Some (Local r)) over q panes active = absurd panes
+whole_panes start born step (Some (Periodic r)) over None panes active = absurd panes
+whole_panes start born step (Some (Periodic r)) over (Some p) panes active = at step.fields active
   where
     at : (fields : Option (List Field)) → is_active_at start step.time fields (Periodic r) ≡ true → (step.time - start) % p.pane ≡ 0
     at None active = part_of_deadline r (step.time - start) p.pane panes.whole panes.pane.0 active
