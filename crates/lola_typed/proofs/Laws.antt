@@ -111,12 +111,12 @@ module _ (spec full : Spec) (h : IsFilled spec full) where
       let constants_fit = constants_typed spec.constants (none_left of_constants (of_wholes ++ range_refusals spec.refused) r) in
       let r2 : of_wholes ++ range_refusals spec.refused ≡ [] = none_right of_constants (of_wholes ++ range_refusals spec.refused) r in
       let none : spec.refused ≡ [] = none_in_range spec.refused (none_right of_wholes (range_refusals spec.refused) r2) in
-      let typed = streams_typed spec kinds (layouts_from full.streams []) (agreeing base kinds spec.streams full.streams h.streams (all_found spec)) (constant_fits spec.constants constants_fit)
+      let typed = streams_typed spec kinds (layouts_from full.streams [] []) (agreeing base kinds spec.streams full.streams h.streams (all_found spec)) (constant_fits spec.constants constants_fit)
       0 kinds (noted_kinds spec.streams) spec.streams full.streams h.streams (none_left of_wholes (range_refusals spec.refused) r2)
       (wholes_both (whole_is_resolved spec) (whole_is_known spec) (wholes_of spec) n.resolved c) in
       record {
         kinds = kinds_noted base kinds spec.streams full.streams h.streams;
-        typed = subst (λ ws. all_wholes (λ w. is_whole (record { streams = layouts_from full.streams []; windows = ws; has_parameter = is_kind_at w.parameters }) w.want w.expr) (wholes_of full) ≡ true) (sym h.windows) typed;
+        typed = subst (λ ws. all_wholes (λ w. is_whole (record { streams = layouts_from full.streams [] []; windows = ws; has_parameter = is_kind_at w.parameters }) w.want w.expr) (wholes_of full) ≡ true) (sym h.windows) typed;
         constants = subst (λ cs. all_constants constant_is_typed cs ≡ true) (sym h.constants) constants_fit;
         ranges = h.refused ∙ none;
         ranged = ranged_kept (n.ranges none);

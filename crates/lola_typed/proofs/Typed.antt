@@ -23,6 +23,7 @@ use Rattle.lola_model.specs.declared.spec.Constant.{Constant}
 use Rattle.lola_model.specs.declared.spec.Part.{Part}
 use Rattle.lola_model.specs.declared.spec.Part.TheVariants as part
 use Rattle.lola_model.specs.declared.spec.Spec.{Spec}
+use Rattle.lola_model.specs.declared.pacing.ClausePacings.{ClausePacings}
 use Rattle.lola_model.specs.declared.spec.Stream.{Stream}
 use Rattle.lola_types.specs.Found.{Setting, found, literal_part, stream_parameters}
 use Rattle.lola_types.specs.LeftOut.{setting_of, missing_kinds}
@@ -110,18 +111,18 @@ refused_right s xs ys h = none_right (flat_map (refusals_of_whole s) xs) _ (sym 
 
 -- layouts agree with what is found
 
-agree_from : (s : Setting) (kinds : List (Option Kind)) (as' bs : List Stream) (kept : List ℕ) (n count : ℕ) → FilledStreams s kinds as' bs → missing_kinds kinds ≡ 0 → is_read_of (slice_get as' n) count ≡ true
-    → (n < length (layouts_from bs kept)) × (unwrap_or (slice_get kinds n) (Some kind.Int64) ≡ Some (kind_in (slice_get (layouts_from bs kept) n))) × (parameters_of (slice_get (layouts_from bs kept) n) ≡ stream_parameters (slice_get as' n))
-agree_from s kinds [] [] kept n count h m g = never_back g
-agree_from s kinds [] (b ∷ bs) kept n count h m g = absurd h
-agree_from s kinds (a ∷ as') [] kept n count h m g = absurd h
-agree_from s [] (a ∷ as') (b ∷ bs) kept zero count h m g = (omega arith, ap (λ o. Some (unwrap_or o kind.Int64)) (sym h.0.kind), sym h.0.parameters)
-agree_from s (Some k ∷ kinds) (a ∷ as') (b ∷ bs) kept zero count h m g = (omega arith, ap (λ o. Some (unwrap_or o kind.Int64)) (sym h.0.kind), sym h.0.parameters)
-agree_from s (None ∷ kinds) (a ∷ as') (b ∷ bs) kept n count h m g = absurd (omega (arith, m))
-agree_from s [] (a ∷ as') (b ∷ bs) kept (suc n) count h m g =
-    let r = agree_from s [] as' bs (drop 1 kept) n count h.1 m g in (omega (arith, r.0), r.1, r.2)
-agree_from s (Some k ∷ kinds) (a ∷ as') (b ∷ bs) kept (suc n) count h m g =
-    let r = agree_from s kinds as' bs (drop 1 kept) n count h.1 m g in (omega (arith, r.0), r.1, r.2)
+agree_from : (s : Setting) (kinds : List (Option Kind)) (as' bs : List Stream) (kept : List ℕ) (pacings : List ClausePacings) (n count : ℕ) → FilledStreams s kinds as' bs → missing_kinds kinds ≡ 0 → is_read_of (slice_get as' n) count ≡ true
+    → (n < length (layouts_from bs kept pacings)) × (unwrap_or (slice_get kinds n) (Some kind.Int64) ≡ Some (kind_in (slice_get (layouts_from bs kept pacings) n))) × (parameters_of (slice_get (layouts_from bs kept pacings) n) ≡ stream_parameters (slice_get as' n))
+agree_from s kinds [] [] kept pacings n count h m g = never_back g
+agree_from s kinds [] (b ∷ bs) kept pacings n count h m g = absurd h
+agree_from s kinds (a ∷ as') [] kept pacings n count h m g = absurd h
+agree_from s [] (a ∷ as') (b ∷ bs) kept pacings zero count h m g = (omega arith, ap (λ o. Some (unwrap_or o kind.Int64)) (sym h.0.kind), sym h.0.parameters)
+agree_from s (Some k ∷ kinds) (a ∷ as') (b ∷ bs) kept pacings zero count h m g = (omega arith, ap (λ o. Some (unwrap_or o kind.Int64)) (sym h.0.kind), sym h.0.parameters)
+agree_from s (None ∷ kinds) (a ∷ as') (b ∷ bs) kept pacings n count h m g = absurd (omega (arith, m))
+agree_from s [] (a ∷ as') (b ∷ bs) kept pacings (suc n) count h m g =
+    let r = agree_from s [] as' bs (drop 1 kept) (drop 1 pacings) n count h.1 m g in (omega (arith, r.0), r.1, r.2)
+agree_from s (Some k ∷ kinds) (a ∷ as') (b ∷ bs) kept pacings (suc n) count h m g =
+    let r = agree_from s kinds as' bs (drop 1 kept) (drop 1 pacings) n count h.1 m g in (omega (arith, r.0), r.1, r.2)
 
 -- constants
 
@@ -282,5 +283,5 @@ module _ (spec : Spec) (kinds : List (Option Kind)) (ls : List StreamLayout)
       (streams_typed (n + 1) (drop 1 now) (drop 1 gives) as' bs t.1 (refused_right base (stream_wholes n a k) (wholes_from (n + 1) as' (drop 1 now)) r) (wholes_right is_good_whole (stream_wholes n a l) (wholes_from (n + 1) as' (drop 1 gives)) g))
 
 pub agreeing : (s : Setting) (kinds : List (Option Kind)) (as' bs : List Stream) → FilledStreams s kinds as' bs → missing_kinds kinds ≡ 0 → (n count : ℕ) → is_read_of (slice_get as' n) count ≡ true
-    → (nat_lt n (length (layouts_from bs [])) ≡ true) × (unwrap_or (slice_get kinds n) (Some kind.Int64) ≡ Some (kind_in (slice_get (layouts_from bs []) n))) × (parameters_of (slice_get (layouts_from bs []) n) ≡ stream_parameters (slice_get as' n))
-agreeing s kinds as' bs t m n count g = let r = agree_from s kinds as' bs [] n count t m g in (lt-ltb n (length (layouts_from bs [])) r.0, r.1, r.2)
+    → (nat_lt n (length (layouts_from bs [] [])) ≡ true) × (unwrap_or (slice_get kinds n) (Some kind.Int64) ≡ Some (kind_in (slice_get (layouts_from bs [] []) n))) × (parameters_of (slice_get (layouts_from bs [] []) n) ≡ stream_parameters (slice_get as' n))
+agreeing s kinds as' bs t m n count g = let r = agree_from s kinds as' bs [] [] n count t m g in (lt-ltb n (length (layouts_from bs [] [])) r.0, r.1, r.2)
