@@ -68,7 +68,7 @@ slots_silent step (s ∷ ss) h =
     let m = h 0 s refl in
     let e = not_shown (step + 1) s (omega arith) in
     let r = slots_silent step ss (λ i y q. h (suc i) y q) in
-    λ i. record { params = s.params; outcome = e i } ∷ r i
+    λ i. record { params = s.params; born = s.born; outcome = e i } ∷ r i
 
 pub crowd_quiet : (running prepared : Bool) (step offset : ℕ) (c : Crowd) → CrowdRight running prepared step offset c → crowd_seen (step + 1) c ≡ quiet (crowd_seen step c)
 crowd_quiet running prepared step offset c h =

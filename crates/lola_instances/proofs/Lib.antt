@@ -6,4 +6,5 @@ pub mod Beginnings
 pub mod Answering
 pub mod Keys
 pub mod Directories
+pub mod Dues
 pub mod Needing

@@ -18,24 +18,24 @@ use Rattle.lola_instances.specs.Rights.{SlotRight}
 use Rattle.lola_instances.proofs.Lists.{got_before}
 use Rattle.lola_instances.proofs.Outcomes.{given_more, not_shown}
 
-pub newborn_right : (layout : StreamLayout) (windows : List WindowPanes) (running : Bool) (step offset : ℕ) (p : Params) → 1 ≤ step → AllOnto layout.kind windows
-    → IsTrue (are_of_kinds layout.parameters (the_values p)) → IsTrue (is_well_formed p) → SlotRight layout windows running step offset (newborn layout.kept windows p)
-newborn_right layout windows running step offset p l o k f =
+pub newborn_right : (layout : StreamLayout) (windows : List WindowPanes) (running : Bool) (step offset time : ℕ) (p : Params) → 1 ≤ step → AllOnto layout.kind windows
+    → IsTrue (are_of_kinds layout.parameters (the_values p)) → IsTrue (is_well_formed p) → SlotRight layout windows running step offset (newborn layout.kept windows time p)
+newborn_right layout windows running step offset time p l o k f =
     record {
       steady = record { outcome = refl; capacity = refl; values = tt; newest = λ v e. cc; kinds = k; formed = f; panes = panes_none windows };
       timely = record {
         stamp_le = omega arith;
         told = λ e. absurd (omega arith);
-        given = given_more 0 offset 0 0 layout.kind (newborn layout.kept windows p).panes (given_none layout.kind windows o) (omega arith) (omega arith);
+        given = given_more 0 offset 0 0 layout.kind (newborn layout.kept windows time p).panes (given_none layout.kind windows o) (omega arith) (omega arith);
       };
       untold = λ e. record { stamp_lt = omega arith; values = refl };
     }
 
-pub newborn_shows : (kept step : ℕ) (windows : List WindowPanes) (p : Params) → 1 ≤ step → slot_seen step (newborn kept windows p) ≡ newborn_seen p
-newborn_shows kept step windows p l = let none = not_shown step (newborn kept windows p) (omega arith) in λ i. record { params = p; outcome = none i }
+pub newborn_shows : (kept step : ℕ) (windows : List WindowPanes) (time : ℕ) (p : Params) → 1 ≤ step → slot_seen step (newborn kept windows time p) ≡ newborn_seen time p
+newborn_shows kept step windows time p l = let none = not_shown step (newborn kept windows time p) (omega arith) in λ i. record { params = p; born = time; outcome = none i }
 
-pub newborn_remembers : (kept : ℕ) (windows : List WindowPanes) (p : Params) (start time step : ℕ) (names : Naming) → 1 ≤ kept → Remembers start time step names (newborn kept windows p) []
-newborn_remembers kept windows p start time step names l = (begun-nothing (unborn kept windows) p (unborn-nothing kept windows l)).none start time step names
+pub newborn_remembers : (kept : ℕ) (windows : List WindowPanes) (born : ℕ) (p : Params) (start time step : ℕ) (names : Naming) → 1 ≤ kept → Remembers start time step names (newborn kept windows born p) []
+newborn_remembers kept windows born p start time step names l = (begun-nothing (unborn kept windows) p born (unborn-nothing kept windows l)).none start time step names
 
 -- who lives already is found in its place
 pub past_append : (P : Option Holdings → Type 0) (xs : List Holdings) (y : Holdings) (j : ℕ) → (P None → ⊥) → P (slice_get xs j) → P (slice_get (xs ++ y ∷ []) j)
@@ -51,9 +51,9 @@ pub firsts_right : (layout : StreamLayout) (windows : List WindowPanes) (spawns 
     → Each (SlotRight layout windows false 1 0) (firsts spawns layout.kept windows)
 firsts_right layout windows true o f i x e = absurd (cc)
 firsts_right layout windows false o f zero x e =
-    let q : newborn layout.kept windows no_params ≡ x = cc in
+    let q : newborn layout.kept windows 0 no_params ≡ x = cc in
     subst (SlotRight layout windows false 1 0) q
-    (newborn_right layout windows false 1 0 no_params (omega arith) o (subst (λ (ks : List Kind). IsTrue (are_of_kinds ks (the_values no_params))) (sym (f refl)) refl) refl)
+    (newborn_right layout windows false 1 0 0 no_params (omega arith) o (subst (λ (ks : List Kind). IsTrue (are_of_kinds ks (the_values no_params))) (sym (f refl)) refl) refl)
 firsts_right layout windows false o f (suc i) x e = absurd (cc)
 
 pub firsts_count : (spawns : Bool) (kept : ℕ) (windows : List WindowPanes) → length (firsts spawns kept windows) ≤ 1
@@ -67,5 +67,5 @@ firsts_none false kept windows e = cc
 pub firsts_remember : (spawns : Bool) (kept : ℕ) (windows : List WindowPanes) (start time step : ℕ) (names : Naming) (i : ℕ) → 1 ≤ kept → i < length (firsts spawns kept windows)
     → RemembersAt start time step names (slice_get (firsts spawns kept windows) i) []
 firsts_remember true kept windows start time step names i k l = absurd (omega arith)
-firsts_remember false kept windows start time step names zero k l = newborn_remembers kept windows no_params start time step names k
+firsts_remember false kept windows start time step names zero k l = newborn_remembers kept windows 0 no_params start time step names k
 firsts_remember false kept windows start time step names (suc i) k l = absurd (omega arith)

@@ -133,12 +133,12 @@ failed_right layout windows step offset x y h t = subst (SlotRight layout window
 
 -- one instance of a list became another
 
-told_set : (step : ℕ) (xs : List Holdings) (i : ℕ) (x y : Holdings) (o : Outcome) → slice_get xs i ≡ Some x → slot_seen step y ≡ record { params = x.params; outcome = o }
+told_set : (step : ℕ) (xs : List Holdings) (i : ℕ) (x y : Holdings) (o : Outcome) → slice_get xs i ≡ Some x → slot_seen step y ≡ record { params = x.params; born = x.born; outcome = o }
     → map (slot_seen step) (slice_set xs i y) ≡ told_at (map (slot_seen step) xs) i o
 told_set step [] i x y o e q = absurd (cc)
 told_set step (a ∷ xs) zero x y o e q =
     let w : x ≡ a = cc in
-    ap (λ z. z ∷ map (slot_seen step) xs) (q ∙ (let f : Holdings → SeenInstance = λ z. record { params = z.params; outcome = o } in ap f w))
+    ap (λ z. z ∷ map (slot_seen step) xs) (q ∙ (let f : Holdings → SeenInstance = λ z. record { params = z.params; born = z.born; outcome = o } in ap f w))
 told_set step (a ∷ xs) (suc i) x y o e q = ap (λ zs. slot_seen step a ∷ zs) (told_set step xs i x y o e q)
 
 past_set : (P : Option Holdings → Type 0) (xs : List Holdings) (i j : ℕ) (x y : Holdings) → slice_get xs i ≡ Some x → (P (Some x) → P (Some y)) → P (slice_get xs j) → P (slice_get (slice_set xs i y) j)
@@ -157,7 +157,7 @@ module _ (R : Holdings → Holdings → Type 0) (i : ℕ) (xs ys : List Holdings
   pub changed_count : length ys ≡ length xs
   changed_count = ap length h.set ∙ length-set xs i h.y
 
-  pub changed_seen : (step : ℕ) (o : Outcome) → slot_seen step h.y ≡ record { params = h.x.params; outcome = o } → map (slot_seen step) ys ≡ told_at (map (slot_seen step) xs) i o
+  pub changed_seen : (step : ℕ) (o : Outcome) → slot_seen step h.y ≡ record { params = h.x.params; born = h.x.born; outcome = o } → map (slot_seen step) ys ≡ told_at (map (slot_seen step) xs) i o
   changed_seen step o q = ap (map (slot_seen step)) h.set ∙ told_set step xs i h.x h.y o h.at q
 
   pub changed_past : (P : Option Holdings → Type 0) (j : ℕ) → (P (Some h.x) → P (Some h.y)) → P (slice_get xs j) → P (slice_get ys j)
@@ -166,13 +166,13 @@ module _ (R : Holdings → Holdings → Type 0) (i : ℕ) (xs ys : List Holdings
   pub changed_silent : (step : ℕ) → IsTrue (is_silent (shown_at step (slice_get xs i))) → IsTrue (is_silent (shown step h.x))
   changed_silent step s = subst (λ o. IsTrue (is_silent (shown_at step o))) h.at s
 
-pub told_seen : (step offset : ℕ) (v : Value) (x y : Holdings) → HasTold step offset v x y → slot_seen step y ≡ record { params = x.params; outcome = outcome.Value v }
-told_seen step offset v x y t = let some = shown_now step y (outcome.Value v) t.stamp t.outcome in λ i. record { params = t.params i; outcome = some i }
+pub told_seen : (step offset : ℕ) (v : Value) (x y : Holdings) → HasTold step offset v x y → slot_seen step y ≡ record { params = x.params; born = x.born; outcome = outcome.Value v }
+told_seen step offset v x y t = let some = shown_now step y (outcome.Value v) t.stamp t.outcome in λ i. record { params = t.params i; born = t.born i; outcome = some i }
 
-pub failed_seen : (step : ℕ) (x y : Holdings) → HasFailed step x y → slot_seen step y ≡ record { params = x.params; outcome = outcome.Poison }
+pub failed_seen : (step : ℕ) (x y : Holdings) → HasFailed step x y → slot_seen step y ≡ record { params = x.params; born = x.born; outcome = outcome.Poison }
 failed_seen step x y t =
     let some = shown_now step y outcome.Poison (ap (λ (s : Holdings). s.stamp) t.slot) (ap (λ (s : Holdings). s.outcome) t.slot) in
-    λ i. record { params = (t.slot i).params; outcome = some i }
+    λ i. record { params = (t.slot i).params; born = (t.slot i).born; outcome = some i }
 
 -- where there is a place, there is an item
 pub item_at : {X : Type 0} (xs : List X) (i : ℕ) → i < length xs → (x : X) × (slice_get xs i ≡ Some x)

@@ -13,6 +13,7 @@ use Rattle.lola_instance.specs.Telling.{ToldAll}
 -- it was told a value in the step of a number, at an offset from the start
 pub record HasTold (step offset : ℕ) (v : Value) (x y : Holdings) : Type 0 where
   pub params : y.params ≡ x.params
+  pub born : y.born ≡ x.born
   pub stamp : y.stamp ≡ step
   pub outcome : y.outcome ≡ outcomes.Value v
   pub ring : y.ring ≡ kept (keep_last x.ring.capacity (x.ring.values ++ v ∷ [])) x.ring.capacity

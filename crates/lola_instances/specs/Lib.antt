@@ -1,6 +1,7 @@
 pub mod Births
 pub mod Changes
 pub mod Crowds
+pub mod Dues
 pub mod Each
 pub mod Keys
 pub mod Listings

@@ -12,13 +12,15 @@ ghost use Rattle.lola_model.specs.Store.{gives_kind, is_silent, opened, told_at}
 ghost use Rattle.lola_model.specs.Typing.{takes};
 ghost use Rattle.lola_instance.specs.Holdings.{slot_seen};
 ghost use Rattle.lola_instance.specs.Unborn.{AllOnto, AllSound};
-ghost use Rattle.lola_instances.specs.Births.{firsts, newborn};
+ghost use Rattle.lola_instances.specs.Births.{births_of, firsts, newborn};
 ghost use Rattle.lola_instances.specs.Crowds.{RemembersAt, crowd, crowd_seen, now_in, place_in, shown_at};
+ghost use Rattle.lola_instances.specs.Dues.{due_since, in_time};
 ghost use Rattle.lola_instances.specs.Rights.{AreRight, AreSteady, AreTimely, CrowdRight};
 ghost use Rattle.lola_instances.specs.Texts.{crowd_texts};
 ghost use Rattle.lola_instances.specs.Windowed.{IsWhole, windowed};
 
 use crate::directory::Directory;
+use crate::due::due_of_slots;
 use crate::nothing::without_values;
 use crate::slots::{bear, fill_spares, first_slots, make_room, place, poison, tell};
 use lola_instance::instance::Instance;
@@ -26,6 +28,7 @@ use lola_instance::window::WindowPanes;
 use lola_model::spec::Kinds;
 use lola_model::store::SpawnEnd;
 use lola_sweep::ids::Ids;
+use lola_value::rate::Rate;
 use lola_value::text::Memory;
 use lola_value::value::{Kind, Outcome, Params, Value};
 use std::alloc::Global;
@@ -40,6 +43,8 @@ pub struct Instances {
     parameters: Kinds,
     spawns: bool,
     kept: u32,
+    // of the clauses that count from the birth of each instance
+    locals: Vec<Rate>,
     windows: Vec<WindowPanes>,
     bad_at: u64,
     spawned_at: u64,
@@ -55,11 +60,12 @@ impl Model for Instances {
     ghost use Rattle.std.specs.Vec.{vec_capacity};
     ghost use Rattle.lola_instances.specs.Crowds.{Crowd, crowd};
     ghost use Rattle.lola_instances.specs.Listings.{IsListed};
+    ghost use Rattle.lola_instances.specs.Dues.{due_since, in_time};
     ghost use Rattle.lola_instances.specs.Rights.{IsSettled};
 
     ghost Value = { Crowd };
 
-    ghost view = { λ l. crowd (record { kind = l.kind; parameters = l.parameters; spawns = l.spawns; kept = l.kept }) l.windows.items l.bad_at l.spawned_at l.slots.items (vec_capacity l.slots) (length l.spares.items) };
+    ghost view = { λ l. crowd (record { kind = l.kind; parameters = l.parameters; spawns = l.spawns; kept = l.kept; locals = l.locals.items }) l.windows.items l.bad_at l.spawned_at l.slots.items (vec_capacity l.slots) (length l.spares.items) };
 
     ghost invariant = { λ l. IsSettled l.kind l.kept l.windows.items l.spares.items × IsListed l.slots.items l.spares.items l.directory };
 }
@@ -73,19 +79,20 @@ fn has_parameters(spawns: bool, parameters: &Kinds) -> bool
 
 impl Instances {
     /// The instances of a stream of a new store: one, where there is no spawn clause. Each keeps its last `kept` values
-    /// and the panes of these windows.
+    /// and the panes of these windows, and has the deadlines of these rates, counted from its birth.
     pub fn create(
         alloc: Global,
         kind: Kind,
         parameters: Kinds,
         spawns: bool,
         kept: u32,
+        locals: Vec<Rate>,
         windows: Vec<WindowPanes>,
     ) -> Result<Instances, Memory>
         requires kept { 1 ≤ kept }
         requires sound { AllSound windows.items }
         requires onto { AllOnto kind windows.items }
-        ensures crowd { IfOk result (λ l. l ≡ crowd (record { kind = kind; parameters = parameters; spawns = spawns; kept = kept }) windows.items 0 0 (firsts spawns kept windows.items) l.capacity 0) }
+        ensures crowd { IfOk result (λ l. l ≡ crowd (record { kind = kind; parameters = parameters; spawns = spawns; kept = kept; locals = locals.items }) windows.items 0 0 (firsts spawns kept windows.items) l.capacity 0) }
         ensures seen { IfOk result (λ l. crowd_seen 1 l ≡ opened l.layout) }
         ensures right { IfOk result (λ l. (spawns ≡ false → parameters ≡ []) → CrowdRight false false 1 0 l) }
         ensures past { IfOk result (λ l. (start time : ℕ) (names : Naming) (i : ℕ) → i < length l.slots → RemembersAt start time 1 names (slice_get l.slots i) []) }
@@ -98,6 +105,7 @@ impl Instances {
             parameters,
             spawns,
             kept,
+            locals,
             windows,
             bad_at: 0,
             spawned_at: 0,
@@ -143,6 +151,21 @@ impl Instances {
         ensures places { IsTrue (is_well_formed result) }
     {
         self.slot(index).params()
+    }
+
+    /// When the instance at a place was born.
+    pub fn born(&self, index: usize) -> u64
+        requires { index < length self.now.slots }
+        ensures { MatchOption (slice_get self.now.slots index) ⊥ (λ s. result ≡ s.born) }
+    {
+        self.slot(index).born()
+    }
+
+    /// The first deadline from a moment on of the clauses that count from the birth of each instance, if it is a time.
+    pub fn local_due(&self, from: u64) -> Option<u64>
+        ensures { result ≡ in_time (due_since self.now.layout.locals from (births_of self.now.slots)) }
+    {
+        due_of_slots(self.slots.as_slice(), self.locals.as_slice(), from)
     }
 
     /// The value in the step of a number: poison where the stream is poisoned, and missing where the instance does not
@@ -348,13 +371,13 @@ impl Instances {
     }
 
     // A new instance, from one that was made ahead.
-    fn give_birth(&mut self, step: u64, params: Params)
+    fn give_birth(&mut self, step: u64, time: u64, params: Params)
         requires places { IsTrue (is_well_formed params) }
         requires room { length self.old.slots < self.old.capacity }
         requires spare { 1 ≤ self.old.spares }
         requires absent { place_in params self.old.slots 0 ≡ None }
         ensures kept { 1 ≤ self.old.layout.kept }
-        ensures born { self.new ≡ record self.old { spawned_at = step; slots = self.old.slots ++ newborn self.old.layout.kept self.old.windows params ∷ []; spares = self.new.spares } }
+        ensures born { self.new ≡ record self.old { spawned_at = step; slots = self.old.slots ++ newborn self.old.layout.kept self.old.windows time params ∷ []; spares = self.new.spares } }
         ensures spares { self.new.spares + 1 ≡ self.old.spares }
         ensures onto { AllOnto self.old.layout.kind self.old.windows }
     {
@@ -363,15 +386,16 @@ impl Instances {
             &mut self.slots,
             &mut self.spares,
             params,
+            time,
             self.kept,
             self.windows.as_slice(),
         );
         self.directory.add(params);
     }
 
-    /// A new instance with no values, if it does not live and fewer than 65,536 do. There is room for it, and one was
+    /// A new instance with no values, born at a time, if it does not live and fewer than 65,536 do. There is room for it, and one was
     /// made ahead.
-    pub fn spawn(&mut self, step: u64, _offset: u64, params: Params) -> SpawnEnd
+    pub fn spawn(&mut self, step: u64, _offset: u64, time: u64, params: Params) -> SpawnEnd
         requires step_ge { 1 ≤ step }
         requires places { IsTrue (is_well_formed params) }
         requires kinds { IsTrue (are_of_kinds self.old.layout.parameters (the_values params)) }
@@ -382,7 +406,7 @@ impl Instances {
         ensures end { result ≡ spawn_end (place_in params self.old.slots 0) (length self.old.slots) }
         ensures living { IsTrue (not (has_room (place_in params self.old.slots 0) (length self.old.slots))) → self.new ≡ self.old }
         ensures born { IsTrue (has_room (place_in params self.old.slots 0) (length self.old.slots))
-            → self.new ≡ record self.old { spawned_at = step; slots = self.old.slots ++ newborn self.old.layout.kept self.old.windows params ∷ []; spares = self.new.spares } }
+            → self.new ≡ record self.old { spawned_at = step; slots = self.old.slots ++ newborn self.old.layout.kept self.old.windows time params ∷ []; spares = self.new.spares } }
         ensures spares { self.old.spares ≤ self.new.spares + 1 }
         ensures past { (start time : ℕ) (names : Naming) (i : ℕ) (values : List (ℕ × Field))
             → RemembersAt start time step names (slice_get self.old.slots i) values → RemembersAt start time step names (slice_get self.new.slots i) values }
@@ -395,7 +419,7 @@ impl Instances {
         if self.slots.len() >= 65536 {
             return SpawnEnd::TooMany;
         }
-        self.give_birth(step, params);
+        self.give_birth(step, time, params);
         SpawnEnd::Born
     }
 

@@ -3,6 +3,7 @@
 #![tactic(auto)]
 
 mod directory;
+pub mod due;
 pub mod instances;
 mod key;
 #[cfg(test)]

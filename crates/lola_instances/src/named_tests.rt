@@ -1,4 +1,4 @@
-//! Instances with a parameter, which are found by it: born, closed, and born again.
+//! Instances with a parameter, which are found by it: born, closed, and born again. Their deadlines count from their births.
 
 ghost use Rattle.std.specs.Prelude.{◌≡◌, ◌<◌, ◌∷◌, [], length, IfOk, true};
 ghost use Rattle.lola_value.specs.declared.value.Kind.TheVariants as kinds;
@@ -7,11 +7,12 @@ ghost use Rattle.lola_instances.specs.Rights.{AreRight};
 use crate::instances::Instances;
 use lola_model::spec::Kinds;
 use lola_model::store::SpawnEnd;
+use lola_value::rate::Rate;
 use lola_value::text::Memory;
 use lola_value::value::{Kind, Params, TextId, Value};
 use std::alloc::Global;
 
-// A stream of truths whose instances have a text as their parameter.
+// A stream of truths whose instances have a text as their parameter, and a deadline each second.
 fn named(alloc: Global) -> Result<Instances, Memory>
     ensures parameters { IfOk result (λ l. l.layout.parameters ≡ kinds.Text ∷ []) }
     ensures spawns { IfOk result (λ l. l.layout.spawns ≡ true) }
@@ -19,12 +20,24 @@ fn named(alloc: Global) -> Result<Instances, Memory>
 {
     let mut parameters = Kinds::create(alloc);
     parameters.push(Kind::Text)?;
-    let lives = Instances::create(alloc, Kind::Bool, parameters, true, 1, Vec::new(alloc))?;
+    let mut locals = Vec::new(alloc);
+    if let Some(rate) = Rate::create(1, 1) {
+        locals.push(rate)?;
+    }
+    let lives = Instances::create(
+        alloc,
+        Kind::Bool,
+        parameters,
+        true,
+        1,
+        locals,
+        Vec::new(alloc),
+    )?;
     Ok(lives)
 }
 
-// What becomes of a spawn in step 2 with the text of a number.
-fn bear(lives: &mut Instances, number: u64) -> Result<SpawnEnd, Memory>
+// What becomes of a spawn in step 2, at a time, with the text of a number.
+fn bear(lives: &mut Instances, number: u64, time: u64) -> Result<SpawnEnd, Memory>
     requires parameters { lives.old.layout.parameters ≡ kinds.Text ∷ [] }
     requires spawns { lives.old.layout.spawns ≡ true }
     requires right { AreRight true 2 0 lives.old }
@@ -33,7 +46,7 @@ fn bear(lives: &mut Instances, number: u64) -> Result<SpawnEnd, Memory>
 {
     lives.prepare()?;
     let params = Params::none().led_by(Value::Text(TextId(number)));
-    Ok(lives.spawn(2, 0, params))
+    Ok(lives.spawn(2, 0, time, params))
 }
 
 // The end of the instance at a place.
@@ -49,12 +62,51 @@ fn close(lives: &mut Instances, index: usize)
 #[test]
 fn born_closed_and_born_again(rt: HostRuntime) {
     let mut lives = named(rt.alloc()).expect(&rt, "memory");
-    assert_eq!(rt; bear(&mut lives, 7).expect(&rt, "memory"), SpawnEnd::Born);
-    assert_eq!(rt; bear(&mut lives, 8).expect(&rt, "memory"), SpawnEnd::Born);
-    assert_eq!(rt; bear(&mut lives, 7).expect(&rt, "memory"), SpawnEnd::Living);
+    assert_eq!(rt;
+        bear(&mut lives, 7, 5).expect(&rt, "memory"),
+        SpawnEnd::Born
+    );
+    assert_eq!(rt;
+        bear(&mut lives, 8, 9).expect(&rt, "memory"),
+        SpawnEnd::Born
+    );
+    assert_eq!(rt;
+        bear(&mut lives, 7, 5).expect(&rt, "memory"),
+        SpawnEnd::Living
+    );
     assert_eq!(rt; lives.instances(), 2);
     close(&mut lives, 0);
-    assert_eq!(rt; bear(&mut lives, 8).expect(&rt, "memory"), SpawnEnd::Living);
-    assert_eq!(rt; bear(&mut lives, 7).expect(&rt, "memory"), SpawnEnd::Born);
+    assert_eq!(rt;
+        bear(&mut lives, 8, 9).expect(&rt, "memory"),
+        SpawnEnd::Living
+    );
+    assert_eq!(rt;
+        bear(&mut lives, 7, 5).expect(&rt, "memory"),
+        SpawnEnd::Born
+    );
     assert_eq!(rt; lives.instances(), 2);
+}
+
+#[test]
+fn deadlines_from_births(rt: HostRuntime) {
+    let mut lives = named(rt.alloc()).expect(&rt, "memory");
+    assert_eq!(rt; lives.local_due(0), None);
+    assert_eq!(rt;
+        bear(&mut lives, 7, 5).expect(&rt, "memory"),
+        SpawnEnd::Born
+    );
+    assert_eq!(rt;
+        bear(&mut lives, 8, 9).expect(&rt, "memory"),
+        SpawnEnd::Born
+    );
+    assert_eq!(rt; lives.instances(), 2);
+    assert_eq!(rt; lives.born(0), 5);
+    assert_eq!(rt; lives.born(1), 9);
+    assert_eq!(rt; lives.local_due(9), Some(1_000_000_005));
+    assert_eq!(rt; lives.local_due(1_000_000_005), Some(1_000_000_005));
+    assert_eq!(rt; lives.local_due(1_000_000_006), Some(1_000_000_009));
+    assert_eq!(rt; lives.local_due(1_000_000_010), Some(2_000_000_005));
+    close(&mut lives, 0);
+    assert_eq!(rt; lives.local_due(1_000_000_010), Some(2_000_000_009));
+    assert_eq!(rt; lives.local_due(4_000_000_000_000_000_000), None);
 }

@@ -132,11 +132,12 @@ pub fn fill_spares(
     }
 }
 
-/// An instance that was made ahead is born, in room that was made.
+/// An instance that was made ahead is born at a time, in room that was made.
 pub fn bear(
     slots: &mut Vec<Instance>,
     spares: &mut Vec<Instance>,
     params: Params,
+    time: u64,
     _kept: u32,
     _windows: &[WindowPanes],
 )
@@ -144,14 +145,14 @@ pub fn bear(
     requires spare { 1 ≤ length spares.old.items }
     requires room { length slots.old.items < vec_capacity slots.old }
     requires blank { Each (λ s. s ≡ unborn _kept _windows.now) spares.old.items }
-    ensures slots { slots.new.items ≡ slots.old.items ++ newborn _kept _windows.now params ∷ [] }
+    ensures slots { slots.new.items ≡ slots.old.items ++ newborn _kept _windows.now time params ∷ [] }
     ensures capacity { vec_capacity slots.new ≡ vec_capacity slots.old }
     ensures spares { length spares.new.items + 1 ≡ length spares.old.items }
     ensures rest { Each (λ s. s ≡ unborn _kept _windows.now) spares.new.items }
 {
     if let Some(spare) = spares.pop() {
         let mut born = spare;
-        born.begin_life(params);
+        born.begin_life(params, time);
         slots.push_reserved(born);
     }
 }

@@ -31,6 +31,7 @@ fn truths(alloc: Global) -> Result<Instances, Memory>
         false,
         2,
         Vec::new(alloc),
+        Vec::new(alloc),
     )?;
     Ok(lives)
 }

@@ -13,7 +13,7 @@ pub returns-clause-right : goal.returns-clause-right
 returns-clause-right c =
     let off = c.args._offset in
     let w = c.self.view_is in
-    let layout : StreamLayout = record { kind = c.self.inside.kind; parameters = c.self.inside.parameters; spawns = c.self.inside.spawns; kept = c.self.inside.kept } in
+    let layout : StreamLayout = record { kind = c.self.inside.kind; parameters = c.self.inside.parameters; spawns = c.self.inside.spawns; kept = c.self.inside.kept; locals = c.self.inside.locals.items } in
     let windows = c.self.inside.windows.items in
     let xs = c.self.inside.slots.items in
     let ys = c.poison.new.slots.items in

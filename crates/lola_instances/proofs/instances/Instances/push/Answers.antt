@@ -14,7 +14,7 @@ pub returns-clause-right : goal.returns-clause-right
 returns-clause-right c =
     let off = c.args.offset in
     let w = c.self.view_is in
-    let layout : StreamLayout = record { kind = c.self.inside.kind; parameters = c.self.inside.parameters; spawns = c.self.inside.spawns; kept = c.self.inside.kept } in
+    let layout : StreamLayout = record { kind = c.self.inside.kind; parameters = c.self.inside.parameters; spawns = c.self.inside.spawns; kept = c.self.inside.kept; locals = c.self.inside.locals.items } in
     let windows = c.self.inside.windows.items in
     let xs = c.self.inside.slots.items in
     let ys = c.tell.new.slots.items in
@@ -45,7 +45,7 @@ returns-clause-past c = λ start time names i values o l held m.
 pub tell-requires-clause-ready : goal.tell-requires-clause-ready
 tell-requires-clause-ready c =
     let w = c.self.view_is in
-    let layout : StreamLayout = record { kind = c.self.inside.kind; parameters = c.self.inside.parameters; spawns = c.self.inside.spawns; kept = c.self.inside.kept } in
+    let layout : StreamLayout = record { kind = c.self.inside.kind; parameters = c.self.inside.parameters; spawns = c.self.inside.spawns; kept = c.self.inside.kept; locals = c.self.inside.locals.items } in
     ready_at layout c.self.inside.windows.items c.args.step c.args.offset c.args.value c.self.inside.slots.items c.args.index
     (subst (AreRight true c.args.step c.args.offset) (sym w) c.requires.right)
     (subst (λ (k : Crowd). c.args.index < length k.slots) (sym w) c.requires.index)

@@ -13,18 +13,18 @@ returns-clause-right c =
     let step = c.args.step in
     let off = c.args._offset in
     subst (AreRight true step off) (sym c.give_birth.ensures.born)
-    (each-append (SlotRight k.layout k.windows true step off) k.slots (newborn k.layout.kept k.windows c.args.params) c.requires.right
-    (newborn_right k.layout k.windows true step off c.args.params c.requires.step_ge c.give_birth.ensures.onto c.requires.kinds c.requires.places))
+    (each-append (SlotRight k.layout k.windows true step off) k.slots (newborn k.layout.kept k.windows c.args.time c.args.params) c.requires.right
+    (newborn_right k.layout k.windows true step off c.args.time c.args.params c.requires.step_ge c.give_birth.ensures.onto c.requires.kinds c.requires.places))
 
 pub returns-clause-past : goal.returns-clause-past
 returns-clause-past c = λ start time names i values m.
     let k = c.args.self.now in
     subst (λ (z : Crowd). RemembersAt start time c.args.step names (slice_get z.slots i) values) (sym c.give_birth.ensures.born)
-    (past_append (λ o. RemembersAt start time c.args.step names o values) k.slots (newborn k.layout.kept k.windows c.args.params) i (λ z. z) m)
+    (past_append (λ o. RemembersAt start time c.args.step names o values) k.slots (newborn k.layout.kept k.windows c.args.time c.args.params) i (λ z. z) m)
 
 pub returns-clause-new : goal.returns-clause-new
 returns-clause-new c = λ room start time names.
     let k = c.args.self.now in
-    let x = newborn k.layout.kept k.windows c.args.params in
+    let x = newborn k.layout.kept k.windows c.args.time c.args.params in
     subst (λ (z : Crowd). RemembersAt start time c.args.step names (slice_get z.slots (length k.slots)) []) (sym c.give_birth.ensures.born)
-    (subst (λ (o : Option Holdings). RemembersAt start time c.args.step names o []) (sym (got_last k.slots x)) (newborn_remembers k.layout.kept k.windows c.args.params start time c.args.step names c.give_birth.ensures.kept))
+    (subst (λ (o : Option Holdings). RemembersAt start time c.args.step names o []) (sym (got_last k.slots x)) (newborn_remembers k.layout.kept k.windows c.args.time c.args.params start time c.args.step names c.give_birth.ensures.kept))
