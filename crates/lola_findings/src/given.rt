@@ -1,7 +1,7 @@
 //! Pacings that are given: by rates behind `@`, and those of inputs.
 
 ghost use Rattle.std.specs.Prelude.{◌≡◌, ◌<◌, [], ◌++◌, IfOk, take};
-ghost use Rattle.lola_model.specs.PacingFound.{given_rate, unbuilt_rate, input_finding, no_pacing, too_wide};
+ghost use Rattle.lola_model.specs.PacingFound.{given_local, given_rate, input_finding, no_pacing, too_wide, without_spawn};
 
 use lola_model::finding::Finding;
 use lola_model::pacing::{InputSet, NormalForm, Pacing};
@@ -30,6 +30,16 @@ pub fn one_too_wide(at: u32) -> Finding
     })
 }
 
+/// E21 at a place: a rate in `Local` where no spawn clause makes the instances.
+fn no_spawn(at: u32) -> Finding
+    ensures { result ≡ without_spawn at }
+{
+    Finding::Refused(Refusal {
+        code: Code::LocalWithoutSpawn,
+        at,
+    })
+}
+
 /// What is found of a clause whose `@` stands at a place, with this rate: the rate, or E17.
 pub fn of_rate(at: u32, rate: &WrittenRate) -> Finding
     ensures { result ≡ given_rate at rate.now }
@@ -44,15 +54,31 @@ pub fn of_rate(at: u32, rate: &WrittenRate) -> Finding
     }
 }
 
-/// The same where the rate stands in `Global` or `Local`, which are not built yet: E20, or E17.
-pub fn of_unbuilt_rate(at: u32, rate: &WrittenRate) -> Finding
-    ensures { result ≡ unbuilt_rate at rate.now }
+/// The same where the rate stands in `Local`: that rate, counted from the birth of each instance, where a spawn clause makes
+/// them, else E21; or E17.
+pub fn of_local_rate(spawned: bool, at: u32, rate: &WrittenRate) -> Finding
+    ensures { result ≡ given_local spawned at rate.now }
 {
-    let code = match rate {
-        WrittenRate::TooFast => Code::PeriodTooShort,
-        _ => Code::Unbuilt,
-    };
-    Finding::Refused(Refusal { code, at })
+    match rate {
+        WrittenRate::OutOfRange => {
+            if spawned {
+                Finding::Unpaced
+            } else {
+                no_spawn(at)
+            }
+        }
+        WrittenRate::TooFast => Finding::Refused(Refusal {
+            code: Code::PeriodTooShort,
+            at,
+        }),
+        WrittenRate::Of(rate) => {
+            if spawned {
+                Finding::Paced(Pacing::Local(*rate))
+            } else {
+                no_spawn(at)
+            }
+        }
+    }
 }
 
 /// The pacing of an input: the rows that have it.
