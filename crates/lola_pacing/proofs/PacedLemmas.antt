@@ -7,7 +7,7 @@ use Rattle.lola_value.specs.declared.front.Code.{Code}
 use Rattle.lola_value.specs.declared.front.Refusal.{Refusal}
 use Rattle.lola_model.proofs.Strictly.{Contains-here, Contains-there}
 use Rattle.lola_model.specs.Model.{is_input}
-use Rattle.lola_model.specs.Named.{all_streams, has_clause, is_stream_paced_in_range, is_clause_paced_in_range, is_pace_in_range}
+use Rattle.lola_model.specs.Named.{all_streams, has_clause, is_stream_paced_in_range, is_clause_paced_in_range, is_pace_in_range, is_rate_in_range}
 use Rattle.lola_model.specs.declared.pacing.InputSet.{InputSet}
 use Rattle.lola_model.specs.declared.pacing.Pacing.TheVariants.{Periodic}
 use Rattle.lola_model.specs.declared.spec.Clause.{Clause}
@@ -18,7 +18,7 @@ use Rattle.lola_model.specs.declared.spec.Stream.{Stream}
 use Rattle.lola_model.specs.declared.spec.WrittenRate.{WrittenRate}
 use Rattle.lola_model.specs.declared.spec.WrittenRate.TheVariants as rate
 use Rattle.lola_model.specs.Leaves.{is_end, is_end_of, has_pace, is_written}
-use Rattle.lola_model.specs.PacingFound.{AreOwn, IsOwn, IsGiven, IsWritten, IsWrittenIn, input_finding, inputs_with, IsFound, IsCombined, IsJoined, IsRateFound, is_multiple, unbuilt_rate, no_pacing, any_row, forms_of, rates_of, finding_at, findings_at, is_unpaced, is_event, is_periodic}
+use Rattle.lola_model.specs.PacingFound.{AreOwn, IsOwn, IsGiven, IsWritten, IsWrittenIn, input_finding, inputs_with, IsFound, IsCombined, IsJoined, IsRateFound, is_multiple, given_local, given_rate, no_pacing, any_row, forms_of, rates_of, finding_at, findings_at, is_unpaced, is_event, is_periodic}
 use Rattle.lola_model.specs.PacingRefused.{clause_refusals}
 use Rattle.lola_findings.proofs.FineLemmas.{accepts_fine}
 use Rattle.lola_model.specs.declared.finding.Finding.{Finding}
@@ -47,30 +47,34 @@ second_true false b h = absurd (cc)
 
 -- given pacings
 
-unbuilt_refused : (at : ℕ) (w : WrittenRate) (f : Finding) → f ≡ unbuilt_rate at w → IsNotRefused f → is_unpaced f ≡ false
-unbuilt_refused at rate.OutOfRange f e nr = absurd (nr _ e)
-unbuilt_refused at rate.TooFast f e nr = absurd (nr _ e)
-unbuilt_refused at (rate.Of r) f e nr = absurd (nr _ e)
+rate_paced : (at : ℕ) (w : WrittenRate) (f : Finding) → is_rate_in_range w ≡ true → f ≡ given_rate at w → IsNotRefused f → is_unpaced f ≡ false
+rate_paced at rate.OutOfRange f h k nr = absurd (cc)
+rate_paced at rate.TooFast f h k nr = absurd (nr _ k)
+rate_paced at (rate.Of r) f h k nr = ap is_unpaced k
 
-given_paced : (p : Pace) (f : Finding) → is_pace_in_range (Some p) ≡ true → IsGiven p f → IsNotRefused f → is_unpaced f ≡ false
-given_paced (pace.Event at g) (Paced q) h k nr = refl
-given_paced (pace.Event at g) (Refused r) h k nr = absurd (nr r refl)
-given_paced (pace.Event at g) Unpaced h k nr = absurd k
-given_paced (pace.Rate at rate.OutOfRange) f h k nr = absurd (cc)
-given_paced (pace.Rate at rate.TooFast) f h k nr = absurd (nr _ k)
-given_paced (pace.Rate at (rate.Of r)) f h k nr = ap is_unpaced k
-given_paced (pace.Global at w) f h k nr = unbuilt_refused at w f k nr
-given_paced (pace.Local at w) f h k nr = unbuilt_refused at w f k nr
+local_paced : (spawned : Bool) (at : ℕ) (w : WrittenRate) (f : Finding) → is_rate_in_range w ≡ true → f ≡ given_local spawned at w → IsNotRefused f → is_unpaced f ≡ false
+local_paced spawned at rate.OutOfRange f h k nr = absurd (cc)
+local_paced spawned at rate.TooFast f h k nr = absurd (nr _ k)
+local_paced true at (rate.Of r) f h k nr = ap is_unpaced k
+local_paced false at (rate.Of r) f h k nr = absurd (nr _ k)
 
-written_paced : (p : Option Pace) (f : Finding) → is_written p ≡ true → is_pace_in_range p ≡ true → IsWritten p f → IsNotRefused f → is_unpaced f ≡ false
-written_paced None f w h k nr = absurd (cc)
-written_paced (Some p) f w h k nr = given_paced p f h k nr
+given_paced : (spawned : Bool) (p : Pace) (f : Finding) → is_pace_in_range (Some p) ≡ true → IsGiven spawned p f → IsNotRefused f → is_unpaced f ≡ false
+given_paced spawned (pace.Event at g) (Paced q) h k nr = refl
+given_paced spawned (pace.Event at g) (Refused r) h k nr = absurd (nr r refl)
+given_paced spawned (pace.Event at g) Unpaced h k nr = absurd k
+given_paced spawned (pace.Rate at w) f h k nr = rate_paced at w f h k nr
+given_paced spawned (pace.Global at w) f h k nr = rate_paced at w f h k nr
+given_paced spawned (pace.Local at w) f h k nr = local_paced spawned at w f h k nr
 
-own_cases : (b : Bool) (j : ℕ) (e : Option Clause) (f : Finding) → (b || has_pace e) ≡ true → is_clause_paced_in_range e ≡ true
-    → MatchBool b (f ≡ input_finding j) (IsWrittenIn e f) → IsNotRefused f → is_unpaced f ≡ false
-own_cases true j e f w h k nr = ap is_unpaced k
-own_cases false j None f w h k nr = absurd (cc)
-own_cases false j (Some c) f w h k nr = written_paced c.pace f w h k nr
+written_paced : (spawned : Bool) (p : Option Pace) (f : Finding) → is_written p ≡ true → is_pace_in_range p ≡ true → IsWritten spawned p f → IsNotRefused f → is_unpaced f ≡ false
+written_paced spawned None f w h k nr = absurd (cc)
+written_paced spawned (Some p) f w h k nr = given_paced spawned p f h k nr
+
+own_cases : (b : Bool) (j : ℕ) (spawned : Bool) (e : Option Clause) (f : Finding) → (b || has_pace e) ≡ true → is_clause_paced_in_range e ≡ true
+    → MatchBool b (f ≡ input_finding j) (IsWrittenIn spawned e f) → IsNotRefused f → is_unpaced f ≡ false
+own_cases true j spawned e f w h k nr = ap is_unpaced k
+own_cases false j spawned None f w h k nr = absurd (cc)
+own_cases false j spawned (Some c) f w h k nr = written_paced spawned c.pace f w h k nr
 
 -- found pacings
 
@@ -208,30 +212,30 @@ module _ (spec : Spec) (f : Found spec) (range : all_streams is_stream_paced_in_
   own_paced : (n : ℕ) (s : Stream) → slice_get spec.streams n ≡ Some s → is_end s ≡ true → is_unpaced (finding_at f.owns n) ≡ false
   own_paced n s e t =
       let own = own_at 0 spec.streams f.owns n s f.are.are_own e in
-      own_cases (is_input s) own.0 s.eval (finding_at f.owns n) t (eval_range n s e) own.1 (own_kept n s e t)
+      own_cases (is_input s) own.0 (has_clause s.spawn) s.eval (finding_at f.owns n) t (eval_range n s e) own.1 (own_kept n s e t)
 
   leaf_cases : (n : ℕ) (o : Option Stream) → slice_get spec.streams n ≡ o → is_end_of o ≡ true → is_unpaced (finding_at f.owns n) ≡ false
   leaf_cases n None e t = absurd (cc)
   leaf_cases n (Some s) e t = own_paced n s e t
 
   -- a clause with this pacing written, or none
-  pace_paced : (n at : ℕ) (alone : Finding) (c : Clause) (p : Option Pace) (g : Finding) → (g ≡ alone → is_unpaced g ≡ false) → is_pace_in_range p ≡ true
-      → IsPaceFound spec.streams f.owns n at alone (Some c) p g → IsNotRefused g → is_unpaced g ≡ false
-  pace_paced n at alone c (Some p) g single r k nr = given_paced p g r k nr
-  pace_paced n at alone c None g single r k nr =
+  pace_paced : (n at : ℕ) (spawned : Bool) (alone : Finding) (c : Clause) (p : Option Pace) (g : Finding) → (g ≡ alone → is_unpaced g ≡ false) → is_pace_in_range p ≡ true
+      → IsPaceFound spec.streams f.owns n at spawned alone (Some c) p g → IsNotRefused g → is_unpaced g ≡ false
+  pace_paced n at spawned alone c (Some p) g single r k nr = given_paced spawned p g r k nr
+  pace_paced n at spawned alone c None g single r k nr =
       found_paced at alone (findings_at f.owns k.0) g single (none_unpaced f.owns k.0 (λ m l. leaf_cases m (slice_get spec.streams m) refl ((k.1.members m).0 l).ends)) k.2 nr
 
-  clause_paced : (n at : ℕ) (alone : Finding) (c : Option Clause) (g : Finding) → (g ≡ alone → is_unpaced g ≡ false) → is_clause_paced_in_range c ≡ true
-      → IsClauseFound spec.streams f.owns n at alone c g → IsNotRefused g → IsPacedWhere c g
-  clause_paced n at alone None g single r k nr = tt
-  clause_paced n at alone (Some c) g single r k nr = pace_paced n at alone c c.pace g single r k nr
+  clause_paced : (n at : ℕ) (spawned : Bool) (alone : Finding) (c : Option Clause) (g : Finding) → (g ≡ alone → is_unpaced g ≡ false) → is_clause_paced_in_range c ≡ true
+      → IsClauseFound spec.streams f.owns n at spawned alone c g → IsNotRefused g → IsPacedWhere c g
+  clause_paced n at spawned alone None g single r k nr = tt
+  clause_paced n at spawned alone (Some c) g single r k nr = pace_paced n at spawned alone c c.pace g single r k nr
 
   refused_alone : (at : ℕ) (g : Finding) → IsNotRefused g → g ≡ no_pacing at → is_unpaced g ≡ false
   refused_alone at g nr e = absurd (nr _ e)
 
   spawn_paced : (n : ℕ) (s : Stream) → slice_get spec.streams n ≡ Some s → IsPacedWhere s.spawn (finding_at f.spawns n)
   spawn_paced n s e =
-      clause_paced n (place_of s.spawn) (no_pacing (place_of s.spawn)) s.spawn (finding_at f.spawns n)
+      clause_paced n (place_of s.spawn) false (no_pacing (place_of s.spawn)) s.spawn (finding_at f.spawns n)
       (refused_alone (place_of s.spawn) (finding_at f.spawns n) (spawn_kept n s e)) (spawn_range n s e)
       (in_step_at (IsSpawnFound spec.streams f.owns) 0 spec.streams f.spawns n s n (omega arith) f.are.are_spawns e) (spawn_kept n s e)
 
@@ -240,11 +244,11 @@ module _ (spec : Spec) (f : Found spec) (range : all_streams is_stream_paced_in_
   where_paced (Some c) g h = h
 
   eval_cases : (b : Bool) (n : ℕ) (s : Stream) → is_end s ≡ b → slice_get spec.streams n ≡ Some s
-      → MatchBool b (finding_at f.evals n ≡ finding_at f.owns n) (IsClauseFound spec.streams f.owns n s.place (no_pacing s.place) s.eval (finding_at f.evals n))
+      → MatchBool b (finding_at f.evals n ≡ finding_at f.owns n) (IsClauseFound spec.streams f.owns n s.place (has_clause s.spawn) (no_pacing s.place) s.eval (finding_at f.evals n))
       → IsPacedWhere s.eval (finding_at f.evals n)
   eval_cases true n s t e k = where_paced s.eval (finding_at f.evals n) (ap is_unpaced k ∙ own_paced n s e t)
   eval_cases false n s t e k =
-      clause_paced n s.place (no_pacing s.place) s.eval (finding_at f.evals n) (refused_alone s.place (finding_at f.evals n) (eval_kept n s e)) (eval_range n s e) k (eval_kept n s e)
+      clause_paced n s.place (has_clause s.spawn) (no_pacing s.place) s.eval (finding_at f.evals n) (refused_alone s.place (finding_at f.evals n) (eval_kept n s e)) (eval_range n s e) k (eval_kept n s e)
 
   eval_paced : (n : ℕ) (s : Stream) → slice_get spec.streams n ≡ Some s → IsPacedWhere s.eval (finding_at f.evals n)
   eval_paced n s e = eval_cases (is_end s) n s refl e (eval_found n s e)
@@ -261,7 +265,7 @@ module _ (spec : Spec) (f : Found spec) (range : all_streams is_stream_paced_in_
   close_paced : (n : ℕ) (s : Stream) → slice_get spec.streams n ≡ Some s → has_clause s.eval ≡ true → IsPacedWhere s.close (finding_at f.closes n)
   close_paced n s e t =
       let paced = only_paced (finding_at f.evals n) (is_there s.eval (finding_at f.evals n) t (eval_paced n s e)) in
-      clause_paced n s.place (only_pacing (finding_at f.evals n)) s.close (finding_at f.closes n) (λ q. ap is_unpaced q ∙ paced) (close_range n s e)
+      clause_paced n s.place (has_clause s.spawn) (only_pacing (finding_at f.evals n)) s.close (finding_at f.closes n) (λ q. ap is_unpaced q ∙ paced) (close_range n s e)
       (in_step_at (IsCloseFound spec.streams f.owns f.evals) 0 spec.streams f.closes n s n (omega arith) f.are.are_closes e) (close_kept n s e)
 
 pub paces_all : PacesAll

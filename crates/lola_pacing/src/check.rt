@@ -82,7 +82,7 @@ fn answer(alloc: Global, spec: &Spec, found: &AllFindings) -> Result<Pacings, Fr
 }
 
 /// The pacing of each clause of a specification whose names are resolved and whose kinds are found, or the first refusal
-/// of this phase: E11 to E18, and E20 for what is not built. Pacings are those of the RTLola language: event-based ones
+/// of this phase: E11 to E18, and E21 for a local pacing where no spawn clause makes the instances. Pacings are those of the RTLola language: event-based ones
 /// imply each other over all sets of inputs, and a rate implies its whole multiples.
 pub fn check(alloc: Global, spec: &Spec) -> Result<Pacings, FrontEnd>
     requires named { IsNamed spec.now }

@@ -9,7 +9,7 @@ ghost use Rattle.lola_model.specs.Pacings.{InStep, IsClauseFound, IsCloseFound, 
 ghost use Rattle.lola_pacing.specs.Steps.{IsPartFound};
 
 use crate::found::of_leaves;
-use crate::given::of_pace;
+use crate::given::{has_spawn, of_pace};
 use lola_findings::given::{copied, none_found};
 use lola_leaves::leaves::{is_end, leaves};
 use lola_leaves::numbers::Numbers;
@@ -40,7 +40,7 @@ fn from_leaves(
     Ok(finding)
 }
 
-/// What is found of a clause of a stream: by its `@`, or from its leaves.
+/// What is found of a clause of a stream, where a spawn clause makes its instances or not: by its `@`, or from its leaves.
 fn of_clause(
     alloc: Global,
     spec: &Spec,
@@ -48,6 +48,7 @@ fn of_clause(
     owns: &[Finding],
     number: u32,
     at: u32,
+    spawned: bool,
     alone: Finding,
     clause: &Option<Clause>,
 ) -> Result<Finding, Memory>
@@ -56,12 +57,12 @@ fn of_clause(
     requires clause { IsClauseInRange (length spec.now.streams) (length spec.now.windows) clause.now }
     requires formula { IsClauseOverInputs clause.now }
     requires lists { lists.now ≡ map onward spec.now.streams }
-    ensures { IfOk result (λ finding. IsClauseFound spec.now.streams owns.now number at alone clause.now finding) }
+    ensures { IfOk result (λ finding. IsClauseFound spec.now.streams owns.now number at spawned alone clause.now finding) }
 {
     match clause {
         None => Ok(Finding::Unpaced),
         Some(inner) => match &inner.pace {
-            Some(pace) => of_pace(alloc, pace),
+            Some(pace) => of_pace(alloc, spawned, pace),
             None => from_leaves(alloc, spec, lists, owns, number, at, alone, clause),
         },
     }
@@ -125,6 +126,7 @@ fn of_eval(
         owns,
         number,
         at,
+        has_spawn(stream),
         none_found(at),
         &stream.eval,
     )
@@ -164,6 +166,7 @@ fn of_spawn(
         owns,
         number,
         at,
+        false,
         none_found(at),
         &stream.spawn,
     )
@@ -194,6 +197,7 @@ fn of_close(
         owns,
         number,
         stream.place,
+        has_spawn(stream),
         alone,
         &stream.close,
     )

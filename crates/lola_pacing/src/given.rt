@@ -2,11 +2,12 @@
 
 ghost use Rattle.std.specs.Prelude.{◌≡◌, ◌≤◌, ◌+◌, IfOk, length, filter};
 ghost use Rattle.lola_model.specs.Model.{is_input as is_input_stream};
+ghost use Rattle.lola_model.specs.Named.{has_clause};
 ghost use Rattle.lola_model.specs.NormalForms.{HasInputsBelow};
 ghost use Rattle.lola_model.specs.PacingFound.{AreOwn, IsGiven, IsGivenEvent, IsOwn, IsWrittenIn, inputs_with};
 ghost use Rattle.lola_model.specs.Formulas.{AreOverInputs, IsClauseOverInputs, IsOverInputs};
 
-use lola_findings::given::{of_input, of_rate, of_unbuilt_rate, one_too_wide};
+use lola_findings::given::{of_input, of_local_rate, of_rate, one_too_wide};
 use lola_model::finding::Finding;
 use lola_model::pacing::Pacing;
 use lola_model::spec::{Clause, Formula, Pace, Stream};
@@ -27,31 +28,38 @@ fn of_formula(alloc: Global, at: u32, formula: &Formula) -> Result<Finding, Memo
     }
 }
 
-/// What is found of a clause with this pacing behind `@`.
-pub fn of_pace(alloc: Global, pace: &Pace) -> Result<Finding, Memory>
+/// What is found of a clause with this pacing behind `@`, where a spawn clause makes its instances or not.
+pub fn of_pace(alloc: Global, spawned: bool, pace: &Pace) -> Result<Finding, Memory>
     requires { IsOverInputs pace.now }
-    ensures { IfOk result (λ finding. IsGiven pace.now finding) }
+    ensures { IfOk result (λ finding. IsGiven spawned pace.now finding) }
 {
     match pace {
         Pace::Event(at, formula) => of_formula(alloc, *at, formula),
         Pace::Rate(at, rate) => Ok(of_rate(*at, rate)),
-        Pace::Global(at, rate) => Ok(of_unbuilt_rate(*at, rate)),
-        Pace::Local(at, rate) => Ok(of_unbuilt_rate(*at, rate)),
+        Pace::Global(at, rate) => Ok(of_rate(*at, rate)),
+        Pace::Local(at, rate) => Ok(of_local_rate(spawned, *at, rate)),
     }
 }
 
-/// What is found of a clause as far as its pacing is written.
-fn of_written(alloc: Global, clause: &Option<Clause>) -> Result<Finding, Memory>
+/// The same of a clause as far as its pacing is written.
+fn of_written(alloc: Global, spawned: bool, clause: &Option<Clause>) -> Result<Finding, Memory>
     requires { IsClauseOverInputs clause.now }
-    ensures { IfOk result (λ finding. IsWrittenIn clause.now finding) }
+    ensures { IfOk result (λ finding. IsWrittenIn spawned clause.now finding) }
 {
     match clause {
         None => Ok(Finding::Unpaced),
         Some(clause) => match &clause.pace {
             None => Ok(Finding::Unpaced),
-            Some(pace) => of_pace(alloc, pace),
+            Some(pace) => of_pace(alloc, spawned, pace),
         },
     }
+}
+
+/// Whether a spawn clause makes the instances of a stream.
+pub fn has_spawn(stream: &Stream) -> bool
+    ensures { result ≡ has_clause stream.now.spawn }
+{
+    stream.spawn.is_some()
 }
 
 /// What is found of a stream before which so many inputs stand, as far as it is an input or the pacing of its eval
@@ -64,7 +72,7 @@ fn own(alloc: Global, inputs: u32, stream: &Stream) -> Result<Finding, Memory>
     if stream.is_input() {
         of_input(alloc, inputs)
     } else {
-        of_written(alloc, &stream.eval)
+        of_written(alloc, has_spawn(stream), &stream.eval)
     }
 }
 
