@@ -11,7 +11,7 @@ from .tally import Tally
 TABLE = "tools/messages.tsv"
 ERRORS = "docs/errors.md"
 COLUMNS = "code\tname\tsentence\tsection"
-REFUSALS = [f"E{number}" for number in range(1, 21)]
+REFUSALS = [f"E{number}" for number in (*range(1, 20), 21)]
 KINDS = [f"kind {number}" for number in range(1, 9)]
 FAULTS = [f"fault {number}" for number in range(1, 4)]
 STATUSES = [f"status {number}" for number in (0, 2, 3, 4, 5, 6, 7, 8)]
