@@ -28,7 +28,7 @@ code_name code.WindowTooFine = codes "WindowTooFine"
 code_name code.PeriodTooShort = codes "PeriodTooShort"
 code_name code.WindowNeedsWholePeriod = codes "WindowNeedsWholePeriod"
 code_name code.ZeroCycle = codes "ZeroCycle"
-code_name code.Unbuilt = codes "Unbuilt"
+code_name code.LocalWithoutSpawn = codes "LocalWithoutSpawn"
 
 -- the number of a kind of malformed row
 abbrev pub malformed_number : MalformedKind → ℕ

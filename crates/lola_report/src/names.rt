@@ -37,7 +37,7 @@ pub fn code_name(code: Code) -> &'static str
         Code::PeriodTooShort => "PeriodTooShort",
         Code::WindowNeedsWholePeriod => "WindowNeedsWholePeriod",
         Code::ZeroCycle => "ZeroCycle",
-        Code::Unbuilt => "Unbuilt",
+        Code::LocalWithoutSpawn => "LocalWithoutSpawn",
     }
 }
 
