@@ -14,7 +14,7 @@ use Rattle.lola_model.specs.Content.{Content}
 use Rattle.lola_model.specs.Model.{field_outcome, is_input}
 use Rattle.lola_model.specs.Runs.{begun, content_after}
 use Rattle.lola_model.specs.Standing.{StandsBetween}
-use Rattle.lola_model.specs.Store.{Memories, Seen, SeenInstance, SeenStream, Stands, after_begin, after_prepare, has_spawned, instances_of, is_silent, now_at, quiet, silent, start_seen, time_seen}
+use Rattle.lola_model.specs.Store.{Memories, Seen, SeenInstance, SeenStream, Stands, after_begin, after_prepare, has_spawned, instances_of, is_silent, layout_of, now_at, quiet, silent, start_seen, time_seen}
 use Rattle.lola_model.specs.Table.{Step, TableRow}
 use Rattle.lola_model.specs.declared.plan.Plan.{Plan}
 use Rattle.lola_model.specs.declared.spec.Stream.{Stream}
@@ -181,18 +181,18 @@ module _ (plan : Plan) (start time : ℕ) (is_row : Bool) (inputs : List Outcome
       (n : Scratch) (end : StepEnd) (verdicts : List Verdict)
       → ((names : Naming) (c : Content) → Stands names r0 s0 c → Stands names r1 s1 c)
       → ((names : Naming) (c : Content) → Stands names r1 s1 c → Stands names r2 s2 (begun c time))
-      → start_seen s2 ≡ start
+      → start_seen s2 ≡ start → s2.layout ≡ layout_of plan
       → TakesInputs plan is_row inputs r2 s2 r3 s3
       → EvaluatesAll plan m r3 s3 r4 s4 n
       → Concludes plan m n.marks.items n.spans.items n.results.items r4 s4 end r5 s5 verdicts
       → (names : Naming) (rows : List TableRow) (step : Step) → IsRun plan names rows → step.time ≡ time → ReadFields names inputs is_row step.fields
       → StandsBetween names r0 s0 (content_after plan start rows)
       → StepEnds end plan start rows step names r5 s5 verdicts
-  whole_step r0 s0 r1 s1 r2 s2 r3 s3 r4 s4 r5 s5 n end verdicts prepares begins_so at_start takes evaluates concludes names rows step run e reads between =
+  whole_step r0 s0 r1 s1 r2 s2 r3 s3 r4 s4 r5 s5 n end verdicts prepares begins_so at_start layout takes evaluates concludes names rows step run e reads between =
       let whole : Content = between.0 in
       let begun_there : Stands names r2 s2 (begun whole step.time) =
       subst (λ t. Stands names r2 s2 (begun whole t)) (sym e) (begins_so names whole (prepares names whole between.1)) in
-      let first : Stands names r2 s2 (content_so_far plan start rows step first_stage) = begins plan start rows step r2 s2 names whole between.2 begun_there in
+      let first : Stands names r2 s2 (content_so_far plan start rows step first_stage) = begins plan start rows step run.settled r2 s2 layout names whole between.2 begun_there in
       let told : Stands names r3 s3 (content_so_far plan (start_seen s2) rows step (layer_stage (length plan.spec.streams) 0)) =
       takes names rows step run reads (subst (λ a. Stands names r2 s2 (content_so_far plan a rows step first_stage)) (sym at_start) first) in
       let moment : IsMoment m.start step m = moment_in names step e reads in

@@ -6,7 +6,7 @@ use Rattle.lola_value.specs.declared.value.Params.{Params}
 use Rattle.lola_model.specs.Graph.{layer_of, spawn_node}
 use Rattle.lola_model.specs.Model.{most_instances}
 use Rattle.lola_model.specs.Spawning.{has_room}
-use Rattle.lola_model.specs.Store.{Seen, SeenInstance, SeenStream, is_running, after_poison_stream, after_spawn, has_spawned, instances_of, instances_seen, is_silent, newborn_seen, now_at, now_seen}
+use Rattle.lola_model.specs.Store.{Seen, SeenInstance, SeenStream, is_running, after_poison_stream, after_spawn, has_spawned, instances_of, instances_seen, is_silent, newborn_seen, now_at, now_seen, time_seen}
 use Rattle.lola_model.specs.declared.plan.Plan.{Plan}
 use Rattle.lola_model.specs.declared.spec.Clause.{Clause}
 use Rattle.lola_model.specs.declared.spec.Stream.{Stream}
@@ -37,21 +37,21 @@ spoils x = record x { bad = true }
 
 -- an instance is born
 
-abbrev bears : Params → SeenStream → SeenStream
-bears p x = record x { spawned = true; instances = x.instances ++ newborn_seen p ∷ [] }
+abbrev bears : ℕ → Params → SeenStream → SeenStream
+bears time p x = record x { spawned = true; instances = x.instances ++ newborn_seen time p ∷ [] }
 
-newborn_silent : (p : Params) (xs : List SeenInstance) (i : ℕ) → is_silent (now_at (slice_get xs i)) ≡ true → is_silent (now_at (slice_get (xs ++ newborn_seen p ∷ []) i)) ≡ true
-newborn_silent p [] zero h = refl
-newborn_silent p [] (suc i) h = refl
-newborn_silent p (x ∷ xs) zero h = h
-newborn_silent p (x ∷ xs) (suc i) h = newborn_silent p xs i h
+newborn_silent : (time : ℕ) (p : Params) (xs : List SeenInstance) (i : ℕ) → is_silent (now_at (slice_get xs i)) ≡ true → is_silent (now_at (slice_get (xs ++ newborn_seen time p ∷ []) i)) ≡ true
+newborn_silent time p [] zero h = refl
+newborn_silent time p [] (suc i) h = refl
+newborn_silent time p (x ∷ xs) zero h = h
+newborn_silent time p (x ∷ xs) (suc i) h = newborn_silent time p xs i h
 
-one_more : (p : Params) (xs : List SeenInstance) → length (xs ++ newborn_seen p ∷ []) ≡ length xs + 1
-one_more p xs = length-append xs (newborn_seen p ∷ [])
+one_more : (time : ℕ) (p : Params) (xs : List SeenInstance) → length (xs ++ newborn_seen time p ∷ []) ≡ length xs + 1
+one_more time p xs = length-append xs (newborn_seen time p ∷ [])
 
-born_room : (p : Params) (xs : List SeenInstance) (b : Bool) → b ≡ false → length (xs ++ newborn_seen p ∷ []) + 0 ≡ length xs + (if b then 0 else 1)
-born_room p xs true e = absurd (cc)
-born_room p xs false e = let h = one_more p xs in omega (arith, h)
+born_room : (time : ℕ) (p : Params) (xs : List SeenInstance) (b : Bool) → b ≡ false → length (xs ++ newborn_seen time p ∷ []) + 0 ≡ length xs + (if b then 0 else 1)
+born_room time p xs true e = absurd (cc)
+born_room time p xs false e = let h = one_more time p xs in omega (arith, h)
 
 -- an instance is born only where there is room
 pub room_below : (place : Option ℕ) (count : ℕ) → has_room place count ≡ true → count < most_instances
@@ -82,25 +82,28 @@ module _ (plan : Plan) (n : ℕ) (s : Seen) (of : IsOf plan s) where
 
   module _ (stream : Stream) (k : Clause) (at : slice_get plan.spec.streams n ≡ Some stream) (has : stream.spawn ≡ Some k)
       (first : has_spawned (slice_get s.streams n) ≡ false) (room : length (instances_seen s n) < most_instances) (p : Params) where
+    abbrev time : ℕ
+    time = time_seen s
+
     born_change : IsSpawnChange plan n s (after_spawn s n p true)
     born_change = record {
       of = record {
         layout = of.layout;
-        streams = changed_length s.streams n (bears p) ∙ of.streams;
-        few = λ m. moved_of (λ o. length (instances_of o) ≤ most_instances) (bears p) s.streams n m
-            (λ x here h. (let e = one_more p x.instances in let c : length (instances_seen s n) ≡ length x.instances = ap (λ o. length (instances_of o)) here in omega (arith, e, c, room))) (of.few m);
+        streams = changed_length s.streams n (bears time p) ∙ of.streams;
+        few = λ m. moved_of (λ o. length (instances_of o) ≤ most_instances) (bears time p) s.streams n m
+            (λ x here h. (let e = one_more time p x.instances in let c : length (instances_seen s n) ≡ length x.instances = ap (λ o. length (instances_of o)) here in omega (arith, e, c, room))) (of.few m);
         single = λ m r e none.
-            ap (λ o. length (instances_of o)) (changed_else s.streams n m (bears p)
+            ap (λ o. length (instances_of o)) (changed_else s.streams n m (bears time p)
             (λ q. (let a : slice_get plan.spec.streams n ≡ Some r = (rw (← q) e) in let b : r ≡ stream = cc in let c : Some k ≡ None = sym has ∙ (ap (λ (x : Stream). x.spawn) (sym b) ∙ none) in absurd (cc))))
             ∙ of.single m r e none;
         order = of.order;
         in_time = of.in_time;
       };
-      goes_on = goes_on_by plan s n (bears p)
-          (λ x here. born_room p x.instances x.spawned (sym (ap has_spawned here) ∙ first))
-          (λ x here. (let e = one_more p x.instances in omega (arith, e)));
-      silent = λ m i h. moved_of (λ o. is_silent (now_at (slice_get (instances_of o) i)) ≡ true) (bears p) s.streams n m (λ x here g. newborn_silent p x.instances i g) h;
-      others = λ m d. ap has_spawned (changed_else s.streams n m (bears p) d);
+      goes_on = goes_on_by plan s n (bears time p)
+          (λ x here. born_room time p x.instances x.spawned (sym (ap has_spawned here) ∙ first))
+          (λ x here. (let e = one_more time p x.instances in omega (arith, e)));
+      silent = λ m i h. moved_of (λ o. is_silent (now_at (slice_get (instances_of o) i)) ≡ true) (bears time p) s.streams n m (λ x here g. newborn_silent time p x.instances i g) h;
+      others = λ m d. ap has_spawned (changed_else s.streams n m (bears time p) d);
     }
 
 change_far : (plan : Plan) (n : ℕ) (r s t : Seen) → IsSpawnChange plan n r s → IsSpawnChange plan n s t → IsSpawnChange plan n r t

@@ -1,5 +1,5 @@
 -- How many instances a step may have.
-use Rattle.std.proofs.Common.{◌≡◌, refl, ap, ◌∙◌, sym, subst, ℕ, zero, suc, ◌+◌, ◌*◌, ◌<◌, ◌≤◌, ◌^◌, ◌⊎◌, inl, inr, List, [], ◌∷◌, Some, None, IsTrue, true, false, length, drop, slice_get, arith}
+use Rattle.std.proofs.Common.{◌≡◌, ap, ◌∙◌, sym, subst, ℕ, zero, suc, ◌+◌, ◌*◌, ◌<◌, ◌≤◌, ◌^◌, ◌⊎◌, inl, inr, List, [], ◌∷◌, Some, None, IsTrue, true, false, length, drop, slice_get, arith}
 use Rattle.std.proofs.lemmas.List.{at_drop_more}
 use Rattle.std.proofs.lemmas.Option.{slice_get-get_or}
 use Rattle.lola_model.specs.Model.{most_instances}
@@ -10,17 +10,12 @@ use Rattle.lola_stages.proofs.Places.{stream_or_none}
 use Rattle.lola_step.specs.Progress.{IsOf}
 use Rattle.lola_step.specs.Scratches.{HasRoom, IsScratchOf, instances_to_come, least_room, of_streams}
 use Rattle.lola_step.specs.declared.scratch.Scratch.{Scratch}
-use Rattle.lola_step.proofs.Layouts.{never_there}
-
--- each stream has a layout
-pub length_layouts : (ss : List Stream) (kept : List ℕ) → length (layouts_from ss kept) ≡ length ss
-length_layouts [] kept = refl
-length_layouts (s ∷ ss) kept = ap suc (length_layouts ss _)
+use Rattle.lola_step.proofs.Layouts.{layouts_length, never_there}
 
 -- a stream of a store that was made for a plan
 pub has_layout : (plan : Plan) (s : Seen) (n : ℕ) → IsOf plan s → n < length plan.spec.streams → n < length s.layout.streams
 has_layout plan s n of lt =
-    let e : length s.layout.streams ≡ length plan.spec.streams = ap (λ l. length l.streams) of.layout ∙ length_layouts plan.spec.streams plan.kept in
+    let e : length s.layout.streams ≡ length plan.spec.streams = ap (λ l. length l.streams) of.layout ∙ layouts_length plan.spec.streams plan.kept plan.pacings in
     omega arith
 
 no_stream : SeenStream
@@ -50,10 +45,10 @@ few_to_come plan s of few =
 -- where no stream has a spawn clause
 
 -- each has its one
-one_of : (plan : Plan) (s : Seen) (n : ℕ) → IsOf plan s → never_spawns (layouts_from plan.spec.streams plan.kept) ≡ true
+one_of : (plan : Plan) (s : Seen) (n : ℕ) → IsOf plan s → never_spawns (layouts_from plan.spec.streams plan.kept plan.pacings) ≡ true
     → ((x : Stream) × (slice_get plan.spec.streams n ≡ Some x)) ⊎ (slice_get plan.spec.streams n ≡ None) → n < length plan.spec.streams
     → length (instances_seen s n) ≤ 1
-one_of plan s n of never (inl h) lt = omega (arith, of.single n h.0 h.1 (never_there plan.spec.streams plan.kept n h.0 never h.1))
+one_of plan s n of never (inl h) lt = omega (arith, of.single n h.0 h.1 (never_there plan.spec.streams plan.kept plan.pacings n h.0 never h.1))
 one_of plan s n of never (inr h) lt = absurd (none_past plan.spec.streams n h lt)
   where
     none_past : (xs : List Stream) (i : ℕ) → slice_get xs i ≡ None → i < length xs → ⊥
@@ -71,7 +66,7 @@ two_of_each (s ∷ ss) one =
 -- so the least room is enough
 pub few_single : (plan : Plan) (s : Seen) → IsOf plan s → IsTrue (never_spawns s.layout.streams) → instances_to_come s ≤ least_room plan
 few_single plan s of never =
-    let none : never_spawns (layouts_from plan.spec.streams plan.kept) ≡ true = subst (λ (l : Layout). never_spawns l.streams ≡ true) of.layout never in
+    let none : never_spawns (layouts_from plan.spec.streams plan.kept plan.pacings) ≡ true = subst (λ (l : Layout). never_spawns l.streams ≡ true) of.layout never in
     let e : length s.streams ≡ length plan.spec.streams = of.streams in
     let a : of_streams s.streams ≤ 2 * length s.streams =
     two_of_each s.streams (λ n lt. one_of plan s n of none (stream_or_none plan.spec.streams n) (omega (arith, lt, e))) in

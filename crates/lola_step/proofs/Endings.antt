@@ -1,5 +1,5 @@
 -- How an evaluated step ends: by its fault, or done.
-use Rattle.std.proofs.Common.{◌≡◌, refl, ap, ◌∙◌, sym, subst, ℕ, List, Some, None, Option, reverse, false}
+use Rattle.std.proofs.Common.{◌≡◌, refl, ap, ◌∙◌, sym, subst, ℕ, List, Some, None, Option, reverse}
 use Rattle.lola_value.specs.declared.value.FaultKind.{FaultKind}
 use Rattle.lola_value.specs.declared.value.Outcome.{Outcome}
 use Rattle.lola_value.specs.Naming.{Naming}
@@ -11,7 +11,6 @@ use Rattle.lola_model.specs.Table.{Step, TableRow}
 use Rattle.lola_model.specs.declared.plan.Plan.{Plan}
 use Rattle.lola_stages.specs.Ends.{IsFine, closed_each, closings, evaluation_fault, full_content, lines_of}
 use Rattle.lola_stages.specs.Stages.{full_row}
-use Rattle.lola_model.specs.NextStep.{has_local}
 use Rattle.lola_stages.proofs.Ending.{each_step_ends}
 use Rattle.lola_step.specs.Ends.{CollectsVerdicts, FindsClosings, FindsFault}
 use Rattle.lola_step.specs.Moments.{IsMoment}
@@ -41,14 +40,14 @@ pub same_verdicts : (plan : Plan) (spans spans' : List Span) (results results' :
 same_verdicts plan spans spans' results results' remembers s verdicts f g h =
     subst (λ ps. CollectsVerdicts plan ps results remembers s verdicts) f (subst (λ os. CollectsVerdicts plan spans' os remembers s verdicts) g h)
 
-module _ (plan : Plan) (global : has_local plan.pacings ≡ false) (m : Moment) (marks : List Mark) (spans : List Span) (results : List Outcome) where
+module _ (plan : Plan) (m : Moment) (marks : List Mark) (spans : List Span) (results : List Outcome) where
   -- by the fault of a spawn clause or of an instance
   pub fails_by_evaluation : (stream : ℕ) (kind : FaultKind) → FindsFault plan marks spans results (Some (stream, kind))
       → (names : Naming) (rows : List TableRow) (step : Step) → IsRun plan names rows
       → AreNoted plan (full_row plan m.start rows step).streams names marks spans results
       → IsFaulty plan m.start rows step stream kind
   fails_by_evaluation stream kind finds names rows step run noted =
-      (each_step_ends plan global m.start rows step).evaluation (record { stream = stream; kind = kind }) (sym (finds names m.start rows step run noted))
+      (each_step_ends plan m.start rows step).evaluation (record { stream = stream; kind = kind }) (sym (finds names m.start rows step run noted))
 
   module _ (remembers : Memories) (s : Seen) (none : FindsFault plan marks spans results None) where
     -- by that of a close clause
@@ -58,7 +57,7 @@ module _ (plan : Plan) (global : has_local plan.pacings ≡ false) (m : Moment) 
         → Stands names remembers s (content m.start rows (full_row plan m.start rows step))
         → IsFaulty plan m.start rows step stream kind
     fails_by_closing stream kind closing finds names rows step run moment noted stands =
-        (each_step_ends plan global m.start rows step).closing (record { stream = stream; kind = kind })
+        (each_step_ends plan m.start rows step).closing (record { stream = stream; kind = kind })
         (sym (none names m.start rows step run noted)) (sym (finds names rows step run moment stands).0)
 
     -- or done: its lines are those of the values, and instances are closed
@@ -73,7 +72,7 @@ module _ (plan : Plan) (global : has_local plan.pacings ≡ false) (m : Moment) 
     is_done remembers' s' closing closed verdicts finds same collects closes names rows step run moment noted stands =
         let no_fault : evaluation_fault plan m.start rows step ≡ None = sym (none names m.start rows step run noted) in
         let found = finds names rows step run moment stands in
-        let fine : IsFine plan m.start rows step = (each_step_ends plan global m.start rows step).none no_fault (sym found.0) in
+        let fine : IsFine plan m.start rows step = (each_step_ends plan m.start rows step).none no_fault (sym found.0) in
         let values = collects names m.start rows step marks run noted stands in
         let places : places_of closed ≡ closings plan m.start rows step = ap places_of same ∙ found.1 refl in
         let left : closed_each (full_content plan m.start rows step) (reverse (places_of closed)) ≡ content_left m.start rows (answered plan m.start rows step) =

@@ -5,12 +5,9 @@ use Rattle.std.proofs.lemmas.Bool.{and_parts, cases_eq, eqb-true, le-ltb, lt-ltb
 use Rattle.std.proofs.lemmas.List.{drop_more, drop-set-lt, replicate-append-replicate, take_more, take_more_set}
 use Rattle.lola_value.specs.declared.value.Outcome.{Outcome}
 use Rattle.lola_value.specs.declared.value.Outcome.TheVariants as outcome
-use Rattle.lola_model.specs.Acceptance.{IsAccepted}
 use Rattle.lola_model.specs.Graph.{eval_node, layer_of}
 use Rattle.lola_model.specs.Model.{is_input}
-use Rattle.lola_model.specs.Pacings.{pacings_from}
-use Rattle.lola_model.specs.Store.{Seen, SeenStream, instances_of, instances_seen, layouts_from}
-use Rattle.lola_model.specs.declared.finding.Finding.{Finding}
+use Rattle.lola_model.specs.Store.{Seen, SeenStream, instances_of, instances_seen}
 use Rattle.lola_model.specs.declared.plan.Plan.{Plan}
 use Rattle.lola_model.specs.declared.spec.Stream.{Stream}
 use Rattle.lola_stages.specs.Stages.{Stage, eval_stage, is_behind, is_evaluated, layer_stage}
@@ -22,15 +19,6 @@ use Rattle.lola_step.specs.declared.mark.Mark.{Mark}
 use Rattle.lola_step.specs.declared.moment.Moment.{Moment}
 use Rattle.lola_step.specs.declared.scratch.Span.{Span}
 use Rattle.lola_step.specs.declared.tasks.Task.{Task}
-
--- each stream has its pacings
-
-length_pacings : (a b c : List Finding) (n : ℕ) (ss : List Stream) → length (pacings_from a b c n ss) ≡ length ss
-length_pacings a b c n [] = refl
-length_pacings a b c n (s ∷ ss) = ap suc (length_pacings a b c (n + 1) ss)
-
-pub as_many_pacings : (plan : Plan) → IsAccepted plan → length plan.pacings ≡ length plan.spec.streams
-as_many_pacings plan accepted = ap length accepted.paced.are ∙ length_pacings _ _ _ 0 plan.spec.streams
 
 -- the tasks of a stream
 
@@ -250,8 +238,3 @@ gathers_places first old new ts us vs e f h =
 -- an element that is read at a place
 pub drop_here : {A : Type 0} (xs : List A) (i : ℕ) (x : A) → i < length xs → x ≡ get_or xs i x → drop i xs ≡ x ∷ drop (i + 1) xs
 drop_here xs i x h e = drop_more xs i x h ∙ ap (λ y. y ∷ drop (i + 1) xs) (sym e)
-
--- as many layouts as streams
-pub length_layouts : (ss : List Stream) (kept : List ℕ) → length (layouts_from ss kept) ≡ length ss
-length_layouts [] kept = refl
-length_layouts (x ∷ ss) kept = ap suc (length_layouts ss (drop 1 kept))

@@ -22,7 +22,7 @@ is_missing outcome.Poison e = absurd (cc)
 
 told_nothing : (xs : List SeenInstance) (i : ℕ) → is_silent (now_at (slice_get xs i)) ≡ true → told_at xs i outcome.Missing ≡ xs
 told_nothing [] i e = refl
-told_nothing (x ∷ xs) zero e = ap (λ o. record { params = x.params; outcome = o } ∷ xs) (is_missing x.outcome e)
+told_nothing (x ∷ xs) zero e = ap (λ o. record { params = x.params; born = x.born; outcome = o } ∷ xs) (is_missing x.outcome e)
 told_nothing (x ∷ xs) (suc i) e = ap (λ ys. x ∷ ys) (told_nothing xs i e)
 
 changed_nothing : (ss : List SeenStream) (n i : ℕ) → is_silent (now_at (slice_get (instances_of (slice_get ss n)) i)) ≡ true

@@ -49,10 +49,10 @@ module _ (plan : Plan) (m : Moment) (marks : List Mark) (remembers : Memories) (
   abbrev pub spans_after : List Span
   spans_after = layer_spans plan m marks s layer (length first) 0 plan.spec.streams spans
 
-  module _ (results : AreResults plan remembers s tasks fresh) where
+  module _ (results : AreResults plan m remembers s tasks fresh) where
     pub span_of : (n : ℕ) (x : Stream) (p : Span) → slice_get plan.spec.streams n ≡ Some x → slice_get spans_after n ≡ Some p
-        → SpanOf plan remembers s m marks layer n x (slice_get spans n) p (first ++ fresh)
-    span_of n x p e f = each_span plan remembers s m marks layer 0 plan.spec.streams spans (length first) first fresh (first ++ fresh) refl refl results n n x p (omega arith) e f
+        → SpanOf plan m remembers s marks layer n x (slice_get spans n) p (first ++ fresh)
+    span_of n x p e f = each_span plan m remembers s marks layer 0 plan.spec.streams spans (length first) first fresh (first ++ fresh) refl refl results n n x p (omega arith) e f
 
     module _ (ready : IsReadyFor plan now s first spans) where
       keeps : Keeps s after
@@ -64,11 +64,11 @@ module _ (plan : Plan) (m : Moment) (marks : List Mark) (remembers : Memories) (
       of_kind : (n : ℕ) (os : List Outcome) → AreOutcomesOf (kind_in (slice_get s.layout.streams n)) os → AreOutcomesOf (kind_in (slice_get after.layout.streams n)) os
       of_kind n os h = subst (λ l. AreOutcomesOf (kind_in (slice_get l.streams n)) os) (sym keeps.layout) h
 
-      span_is : (n : ℕ) (x : Stream) (p : Span) → SpanOf plan remembers s m marks layer n x (slice_get spans n) p (first ++ fresh) → IsSpanAfter n p
+      span_is : (n : ℕ) (x : Stream) (p : Span) → SpanOf plan m remembers s marks layer n x (slice_get spans n) p (first ++ fresh) → IsSpanAfter n p
       span_is n x p (inl h) = record {
         within = h.within;
         few = omega (arith, h.count_is, keeps.counts n);
-        kinds = of_kind n _ (kinds_of_stream plan remembers s n 0 (length (instances_seen s n)) (in_span (first ++ fresh) (Some p)) h.results_are);
+        kinds = of_kind n _ (kinds_of_stream plan m remembers s n 0 (length (instances_seen s n)) (in_span (first ++ fresh) (Some p)) h.results_are);
       }
       span_is n x p (inr h) =
           let old = ready.within n p h.same in
@@ -95,13 +95,13 @@ module _ (plan : Plan) (m : Moment) (marks : List Mark) (remembers : Memories) (
       to_come_still n x e f true g = absurd (let h = done_stays plan m marks s layer n x (slice_get_within plan.spec.streams n x e) g in cc)
 
       empty_after : (n : ℕ) (x : Stream) (p : Span) → slice_get plan.spec.streams n ≡ Some x → is_evaluated plan.layers next n x ≡ false
-          → SpanOf plan remembers s m marks layer n x (slice_get spans n) p (first ++ fresh) → p.count ≡ 0
+          → SpanOf plan m remembers s marks layer n x (slice_get spans n) p (first ++ fresh) → p.count ≡ 0
       empty_after n x p e f (inl h) =
           absurd (let g = run_is_done plan m marks s layer n x (runs_so plan m marks s layer n x h.runs) (slice_get_within plan.spec.streams n x e) in cc)
       empty_after n x p e f (inr h) = ready.empty n x p e (to_come_still n x e f (is_evaluated plan.layers now n x) refl) h.same
 
       inputs_after : (n : ℕ) (x : Stream) (p : Span) → slice_get plan.spec.streams n ≡ Some x → is_input x ≡ true
-          → SpanOf plan remembers s m marks layer n x (slice_get spans n) p (first ++ fresh) → p.count ≡ 0
+          → SpanOf plan m remembers s marks layer n x (slice_get spans n) p (first ++ fresh) → p.count ≡ 0
       inputs_after n x p e f (inl h) = absurd (let g = (runs_so plan m marks s layer n x h.runs).no_input in cc)
       inputs_after n x p e f (inr h) = ready.inputs n x p e f h.same
 

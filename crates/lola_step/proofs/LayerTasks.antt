@@ -1,19 +1,14 @@
 -- The tasks of a layer, and what a store shows once all of them have their outcomes.
-use Rattle.std.proofs.Common.{◌≡◌, refl, ap, ◌∙◌, sym, subst, ℕ, zero, suc, ◌+◌, ◌*◌, ◌^◌, ◌<◌, ◌≤◌, ◌⊎◌, inl, inr, List, [], ◌∷◌, ◌++◌, Option, Some, None, Bool, true, false, not, nat_eq, if◌then◌else◌, length, slice_get, arith, length-append, option_map, add-zero, zero-add}
+use Rattle.std.proofs.Common.{◌≡◌, refl, ap, ◌∙◌, sym, subst, ℕ, zero, suc, ◌+◌, ◌*◌, ◌^◌, ◌<◌, ◌≤◌, ◌⊎◌, inl, inr, List, [], ◌∷◌, ◌++◌, Option, Some, None, Bool, true, false, not, nat_eq, if◌then◌else◌, length, slice_get, arith, length-append, add-zero, zero-add}
 use Rattle.std.proofs.lemmas.Bool.{and_parts, cases_lt}
 use Rattle.std.proofs.lemmas.Option.{slice_get_past, slice_get_within}
 use Rattle.lola_value.specs.Times.{latest}
-use Rattle.lola_value.specs.declared.text.Field.{Field}
 use Rattle.lola_value.specs.declared.value.Outcome.{Outcome}
 use Rattle.lola_model.specs.Acceptance.{IsAccepted}
-use Rattle.lola_model.specs.Activity.{is_active, present}
 use Rattle.lola_model.specs.Graph.{eval_node, layer_of, spawn_node}
 use Rattle.lola_model.specs.Model.{eval_pacing, is_input}
 use Rattle.lola_model.specs.Named.{count_with, is_input_shape, is_of_bool, is_output_shape, is_trigger_shape, is_well_shaped}
 use Rattle.lola_model.specs.Store.{Memories, Phase, Seen, has_spawned, instances_seen, is_running, is_silent, now_seen, start_seen, time_seen}
-use Rattle.lola_model.specs.Table.{Step}
-use Rattle.lola_model.specs.declared.pacing.Pacing.{Pacing}
-use Rattle.lola_model.specs.declared.pacing.Pacing.TheVariants.{Event, Periodic, Local}
 use Rattle.lola_model.specs.declared.plan.Plan.{Plan}
 use Rattle.lola_model.specs.declared.spec.Clause.{Clause}
 use Rattle.lola_model.specs.declared.spec.Sort.{Sort}
@@ -25,14 +20,17 @@ use Rattle.lola_stages.specs.Stages.{Stage, eval_stage, is_evaluated, is_spawned
 use Rattle.lola_stages.proofs.Behind.{layer_behind}
 use Rattle.lola_stages.proofs.Shapes.{passes_at}
 use Rattle.lola_step.specs.Given.{AreResults, CanGiveAll, after_all, stream_tasks}
-use Rattle.lola_step.specs.Moments.{IsMoment, active_at, active_in}
+use Rattle.lola_step.specs.Moments.{born_seen, may_be_active_in}
 use Rattle.lola_step.specs.Notes.{is_fine, layer_tasks, runs_in, tasks_from}
 use Rattle.lola_step.specs.Progress.{GoesOn, IsAt, IsMomentOf, IsOf}
-use Rattle.lola_step.specs.Tasks.{AreTasks, IsTask, params_seen}
+use Rattle.lola_step.specs.Tasks.{AreTasks, IsActiveTask, IsTask, is_active_task, pacing_of_task, params_seen}
 use Rattle.lola_step.specs.declared.mark.Mark.{Mark}
 use Rattle.lola_step.specs.declared.moment.Moment.{Moment}
 use Rattle.lola_step.specs.declared.tasks.Task.{Task}
+use Rattle.lola_step.proofs.Activities.{active_for_is}
+use Rattle.lola_step.proofs.Asking.{evals_locally}
 use Rattle.lola_step.proofs.Gathering.{done_stays, length_tasks, run_is_done, run_is_to_come, runs_so}
+use Rattle.lola_step.proofs.Layouts.{pacings_length}
 use Rattle.lola_step.proofs.Keeping.{AreGivable, EachTask, IsFrom, Keeps, OrderedFrom, can_give_all, each_at, each_both, each_so, keeps_given, now_given}
 
 -- a stream that is no input has an eval clause
@@ -52,22 +50,6 @@ has_eval x h i = by x.sort refl
     by sort.Trigger e =
         let f : is_trigger_shape x ≡ true = sym (ap (λ t. elim t [ sort.Input ↦ is_input_shape x | sort.Output ↦ is_output_shape x | sort.Trigger ↦ is_trigger_shape x ]) e) ∙ h in
         has_one x.eval (and_parts (nat_eq (count_with x.eval) 1) _ (and_parts (is_of_bool x.kind) _ f).1).0
-
--- a clause is active in the model where it is in the code
-
-same_at : (start time : ℕ) (fields : Option (List Field)) (p : Pacing) → active_at start time (option_map present fields) p ≡ is_active start (record { time = time; fields = fields }) (Some p)
-same_at start time None (Event sets) = refl
-same_at start time None (Periodic r) = refl
-same_at start time None (Local r) = refl
-same_at start time (Some fields) (Local r) = refl
-same_at start time (Some fields) (Event sets) = refl
-same_at start time (Some fields) (Periodic r) = refl
-
-pub same_active : (m : Moment) (step : Step) → IsMoment m.start step m → (o : Option Pacing) → active_in m o ≡ is_active m.start step o
-same_active m step h None = refl
-same_active m step h (Some p) =
-    ap (λ t. active_at m.start t m.present p) h.time_is
-    ∙ (ap (λ i. active_at m.start step.time i p) h.present_is ∙ same_at m.start step.time step.fields p)
 
 module _ (plan : Plan) (m : Moment) (marks : List Mark) (s : Seen) (layer : ℕ) where
   abbrev count : ℕ
@@ -163,30 +145,40 @@ module _ (plan : Plan) (m : Moment) (marks : List Mark) (s : Seen) (layer : ℕ)
       order = omega (arith, at.of.order, moment.start_is, moment.time_is, moment.is.time_is);
     }
 
-    is_active_there : (n : ℕ) (x : Stream) → runs_in plan m marks layer n x ≡ true → is_active m.start moment.step (eval_pacing (slice_get plan.pacings n)) ≡ true
-    is_active_there n x e =
-        sym (same_active m moment.step moment.is (eval_pacing (slice_get plan.pacings n)))
-        ∙ (and_parts (active_in m (eval_pacing (slice_get plan.pacings n))) (is_fine (slice_get marks n))
+    may_there : (n : ℕ) (x : Stream) → runs_in plan m marks layer n x ≡ true → may_be_active_in m (eval_pacing (slice_get plan.pacings n)) ≡ true
+    may_there n x e =
+        (and_parts (may_be_active_in m (eval_pacing (slice_get plan.pacings n))) (is_fine (slice_get marks n))
         (and_parts (nat_eq (layer_of plan.layers (eval_node n)) layer) _ (and_parts (not (is_input x)) _ e).1).1).0
 
-    of_task : (t : Task) → OfLayer t → IsTask plan s t
-    of_task t h =
+    of_active : (t : Task) → OfLayer t → is_active_task plan m s t ≡ true → IsActiveTask plan s t
+    of_active t h active =
         let clause = has_eval h.stream (passes_at is_well_shaped plan.spec.streams t.stream h.stream accepted.named.shapes h.stream_is) (runs_so plan m marks s layer t.stream h.stream h.runs).no_input in
+        let born = born_seen s t.stream t.index in
         record {
           stream = h.stream;
           stream_is = h.stream_is;
           clause = clause.0;
           clause_is = clause.1;
           lives = h.lives;
-          asks = λ kinds. eval_may_ask plan m.start moment.step s t.stream h.stream clause.0 (params_seen s t.stream t.index) accepted at_step h.stream_is clause.1 (is_active_there t.stream h.stream h.runs) kinds;
+          asks = λ kinds. eval_may_ask plan m.start moment.step s t.stream h.stream clause.0 (params_seen s t.stream t.index) accepted at_step h.stream_is clause.1
+              born (sym (active_for_is m.start moment.step m moment.is born born (pacing_of_task plan t) (λ l. refl)) ∙ active) kinds;
         }
 
-    pub are_tasks : AreTasks plan s tasks
+    of_task : (t : Task) → OfLayer t → IsTask plan m s t
+    of_task t h = record {
+      lives = h.lives;
+      paced = omega (arith, slice_get_within plan.spec.streams t.stream h.stream h.stream_is, pacings_length plan accepted);
+      may = may_there t.stream h.stream h.runs;
+      spawns = evals_locally plan accepted s at.of t.stream h.stream h.stream_is;
+      active = of_active t h;
+    }
+
+    pub are_tasks : AreTasks plan m s tasks
     are_tasks i t e = of_task t (each_at OfLayer tasks i t e each_of_layer)
 
     -- each can be given its outcome
 
-    givable : (remembers : Memories) (ts : List Task) (rs : List Outcome) → EachTask OfLayer ts → AreResults plan remembers s ts rs → AreGivable s ts rs
+    givable : (remembers : Memories) (ts : List Task) (rs : List Outcome) → EachTask OfLayer ts → AreResults plan m remembers s ts rs → AreGivable s ts rs
     givable remembers [] [] h r = tt
     givable remembers [] (o ∷ rs) h r = absurd r
     givable remembers (t ∷ ts) [] h r = absurd r
@@ -200,7 +192,7 @@ module _ (plan : Plan) (m : Moment) (marks : List Mark) (s : Seen) (layer : ℕ)
       givable remembers ts rs h.1 r.1,
     )
 
-    pub can_give_layer : (remembers : Memories) (rs : List Outcome) → AreResults plan remembers s tasks rs → CanGiveAll s tasks rs
+    pub can_give_layer : (remembers : Memories) (rs : List Outcome) → AreResults plan m remembers s tasks rs → CanGiveAll s tasks rs
     can_give_layer remembers rs r = can_give_all tasks rs s (ordered 0 plan.spec.streams) (givable remembers tasks rs each_of_layer r)
 
     -- what the store shows then

@@ -7,14 +7,15 @@ use Rattle.lola_value.specs.Answer.{Answer, Missing}
 use Rattle.lola_value.specs.Naming.{Naming, read_outcome, read_params}
 use Rattle.lola_value.specs.declared.text.Field.{Field}
 use Rattle.lola_value.specs.declared.value.Outcome.{Outcome}
-use Rattle.lola_value.specs.declared.value.Params.{Params}
 use Rattle.lola_model.specs.Acceptance.{IsAccepted}
-use Rattle.lola_model.specs.Activity.{is_active}
-use Rattle.lola_model.specs.Content.{Content, Life, StreamContent, is_bad, seen}
+use Rattle.lola_model.specs.Activity.{is_active_for, may_be_active}
+use Rattle.lola_model.specs.Content.{Content, Life, StreamContent, is_bad, seen, time_of}
 use Rattle.lola_model.specs.Graph.{eval_node, layer_of}
 use Rattle.lola_model.specs.Model.{eval_outcome, eval_pacing, is_input, spawned_in}
-use Rattle.lola_model.specs.Store.{Memories, Seen, SeenInstance, SeenStream, StandForLives, StandForStreams, instances_of, instances_seen}
+use Rattle.lola_model.specs.NextStep.{is_local}
+use Rattle.lola_model.specs.Store.{Memories, Seen, SeenInstance, SeenStream, StandForLives, StandForStreams, StreamLayout, instances_of, instances_seen, spawns_in}
 use Rattle.lola_model.specs.Table.{Idle, Instance, Living, Named, SpawnFailed, SpawnPoisoned, Spawned, Step, StreamRow, TableRow}
+use Rattle.lola_model.specs.declared.pacing.Pacing.{Pacing}
 use Rattle.lola_model.specs.declared.plan.Plan.{Plan}
 use Rattle.lola_model.specs.declared.spec.Clause.{Clause}
 use Rattle.lola_model.specs.declared.spec.Spec.{Spec}
@@ -28,6 +29,7 @@ use Rattle.lola_stages.proofs.Evals.{evals_go}
 use Rattle.lola_step.specs.Clauses.{IsAnswer, eval_answer}
 use Rattle.lola_step.specs.Evals.{IsReadyFor}
 use Rattle.lola_step.specs.Given.{AreHeldIn, AreResults, stream_tasks, told_outcomes}
+use Rattle.lola_step.specs.Moments.{active_for_in, birth_at}
 use Rattle.lola_step.specs.Notes.{AreMarks, AreSilent, ReadEach, ShowLiving, ShowResults, done_of, in_span, is_fine, layer_tasks, mark_of, runs_in, tasks_from}
 use Rattle.lola_step.specs.Progress.{IsAt, IsRunAt}
 use Rattle.lola_step.specs.Tasks.{params_at}
@@ -35,8 +37,9 @@ use Rattle.lola_step.specs.declared.mark.Mark.{Mark}
 use Rattle.lola_step.specs.declared.moment.Moment.{Moment}
 use Rattle.lola_step.specs.declared.scratch.Span.{Span}
 use Rattle.lola_step.specs.declared.tasks.Task.{Task}
+use Rattle.lola_step.proofs.Activities.{active_for_is, may_be_is, never_active}
+use Rattle.lola_step.proofs.Asking.{evals_locally}
 use Rattle.lola_step.proofs.LayerNotes.{as_many_spans, same_in_span, span_of, spans_after}
-use Rattle.lola_step.proofs.LayerTasks.{same_active}
 use Rattle.lola_step.proofs.Results.{SpanOf, count_results, split_results}
 
 -- what stands for lives
@@ -48,13 +51,23 @@ module _ (names : Naming) (remembers : Memories) where
   as_many_lives n i (x ∷ xs) [] h = absurd h
   as_many_lives n i (x ∷ xs) (v ∷ vs) h = ap suc (as_many_lives n (i + 1) xs vs h.1)
 
-  lives_stand : (k j n : ℕ) → n ≡ k + j → (ss : List SeenStream) (cs : List StreamContent) → StandForStreams names remembers k ss cs
-      → StandForLives names remembers n 0 (instances_of (slice_get ss j)) (lives_in (slice_get cs j))
-  lives_stand k j n e [] [] h = tt
-  lives_stand k j n e [] (c ∷ cs) h = absurd h
-  lives_stand k j n e (x ∷ ss) [] h = absurd h
-  lives_stand k zero n e (x ∷ ss) (c ∷ cs) h = let q : k ≡ n = omega (arith, e) in subst (λ l. StandForLives names remembers l 0 x.instances c.lives) q h.0.lives
-  lives_stand k (suc j) n e (x ∷ ss) (c ∷ cs) h = lives_stand (k + 1) j n (omega (arith, e)) ss cs h.1
+  module _ (layouts : List StreamLayout) where
+    lives_stand : (k j n : ℕ) → n ≡ k + j → (ss : List SeenStream) (cs : List StreamContent) → StandForStreams layouts names remembers k ss cs
+        → StandForLives names remembers n 0 (instances_of (slice_get ss j)) (lives_in (slice_get cs j))
+    lives_stand k j n e [] [] h = tt
+    lives_stand k j n e [] (c ∷ cs) h = absurd h
+    lives_stand k j n e (x ∷ ss) [] h = absurd h
+    lives_stand k zero n e (x ∷ ss) (c ∷ cs) h = let q : k ≡ n = omega (arith, e) in subst (λ l. StandForLives names remembers l 0 x.instances c.lives) q h.0.lives
+    lives_stand k (suc j) n e (x ∷ ss) (c ∷ cs) h = lives_stand (k + 1) j n (omega (arith, e)) ss cs h.1
+
+    -- and were born when they were, in a stream with a spawn clause
+    births_stand : (k j n : ℕ) → n ≡ k + j → (ss : List SeenStream) (cs : List StreamContent) → StandForStreams layouts names remembers k ss cs → spawns_in (slice_get layouts n) ≡ true
+        → map (λ (y : SeenInstance). y.born) (instances_of (slice_get ss j)) ≡ map (λ (v : Life). v.born) (lives_in (slice_get cs j))
+    births_stand k j n e [] [] h spawns = refl
+    births_stand k j n e [] (c ∷ cs) h spawns = absurd h
+    births_stand k j n e (x ∷ ss) [] h spawns = absurd h
+    births_stand k zero n e (x ∷ ss) (c ∷ cs) h spawns = let q : n ≡ k = omega (arith, e) in h.0.births (subst (λ l. spawns_in (slice_get layouts l) ≡ true) q spawns)
+    births_stand k (suc j) n e (x ∷ ss) (c ∷ cs) h spawns = births_stand (k + 1) j n (omega (arith, e)) ss cs h.1 spawns
 
 -- outcomes as a function of instances
 
@@ -95,6 +108,13 @@ both_true : (a b : Bool) → (a && b) ≡ true → (a ≡ true) × (b ≡ true)
 both_true true true e = (refl, refl)
 both_true true false e = absurd (cc)
 both_true false b e = absurd (cc)
+
+-- where the first is false the second is
+both_false : (a b q : Bool) → (a ≡ false → b ≡ false) → (a && q) ≡ false → (b && q) ≡ false
+both_false true b true h e = absurd (cc)
+both_false true true false h e = refl
+both_false true false false h e = refl
+both_false false b q h e = ap (λ t. t && q) (h refl)
 
 -- telling in parts
 
@@ -158,8 +178,17 @@ module _ (plan : Plan) (m : Moment) (marks : List Mark) (remembers : Memories) (
       abbrev did : Spawned
       did = spawned_in (slice_get full n)
 
-      abbrev active : Bool
-      active = is_active m.start step (eval_pacing (slice_get plan.pacings n))
+      abbrev pacing : Option Pacing
+      pacing = eval_pacing (slice_get plan.pacings n)
+
+      abbrev may : Bool
+      may = may_be_active m.start step pacing
+
+      abbrev time_of_birth : Instance → ℕ
+      time_of_birth y = time_of step.time (slice_get rows y.born)
+
+      abbrev active : Instance → Bool
+      active y = is_active_for m.start (time_of_birth y) step pacing
 
       fine_here : EvalIs plan m.start rows step layer n x → is_fine (slice_get marks n) ≡ not (is_bad did)
       fine_here here =
@@ -174,14 +203,14 @@ module _ (plan : Plan) (m : Moment) (marks : List Mark) (remembers : Memories) (
       same_runs =
           and_same (not (is_input x)) _ _ (λ i.
           and_same (nat_eq (layer_of plan.layers (eval_node n)) layer) _ _ (λ e.
-          ap (λ b. b && is_fine (slice_get marks n)) (same_active m step run.moment (eval_pacing (slice_get plan.pacings n)))
-          ∙ ap (λ b. active && b) (fine_here (here_is i e))))
+          ap (λ b. b && is_fine (slice_get marks n)) (may_be_is m.start step m run.moment pacing)
+          ∙ ap (λ b. may && b) (fine_here (here_is i e))))
 
       -- where it runs, the outcomes read as the model's
 
       module _ (here : EvalIs plan m.start rows step layer n x) where
         stands_here : StandForLives names remembers n 0 (instances_seen s n) (lives_in (slice_get content_now.streams n))
-        stands_here = lives_stand names remembers 0 n n (omega arith) s.streams content_now.streams run.stands.streams
+        stands_here = lives_stand names remembers s.layout.streams 0 n n (omega arith) s.streams content_now.streams run.stands.streams
 
         pub as_many_living : length (instances_seen s n) ≡ length (living n)
         as_many_living =
@@ -189,63 +218,70 @@ module _ (plan : Plan) (m : Moment) (marks : List Mark) (remembers : Memories) (
             ∙ (sym (length-map (lives_in (slice_get content_now.streams n)) (λ l. l.params))
             ∙ (ap length here.lives ∙ length-map (living n) (λ l. l.instance.params)))
 
-        outcomes_here : AreOutcomes (λ y. eval_outcome plan.spec content_now (is_bad did) active x.eval y.params) (living n)
+        births_here : is_local pacing ≡ true → map (λ (y : SeenInstance). y.born) (instances_seen s n) ≡ map (λ (l : Living). time_of_birth l.instance) (living n)
+        births_here local =
+            births_stand names remembers s.layout.streams 0 n n (omega arith) s.streams content_now.streams run.stands.streams (evals_locally plan accepted s layout_at.of n x at local)
+            ∙ here.births
+
+        outcomes_here : AreOutcomes (λ y. eval_outcome plan.spec content_now (is_bad did) (active y) x.eval y.params) (living n)
         outcomes_here =
-            let P : List Living → Type 0 = λ ls. AreOutcomes (λ y. eval_outcome plan.spec content_now (is_bad did) active x.eval y.params) ls in
-            subst P (sym here.living) (all_outcomes (λ y. eval_outcome plan.spec content_now (is_bad did) active x.eval y.params) _)
+            let P : List Living → Type 0 = λ ls. AreOutcomes (λ y. eval_outcome plan.spec content_now (is_bad did) (active y) x.eval y.params) ls in
+            subst P (sym here.living) (all_outcomes (λ y. eval_outcome plan.spec content_now (is_bad did) (active y) x.eval y.params) _)
 
-        silent_here : (active && not (is_bad did)) ≡ false → AreSilent (living n)
-        silent_here e = none_given (living n) (other_outcomes _ (λ y. Missing) (λ y. missing_where plan.spec content_now (is_bad did) active x.eval y.params e) (living n) outcomes_here)
+        silent_here : (may && not (is_bad did)) ≡ false → AreSilent (living n)
+        silent_here e =
+            none_given (living n) (other_outcomes _ (λ y. Missing)
+            (λ y. missing_where plan.spec content_now (is_bad did) (active y) x.eval y.params (both_false may (active y) (not (is_bad did)) (never_active m.start step (time_of_birth y) pacing) e))
+            (living n) outcomes_here)
 
-        answers_here : active ≡ true → is_bad did ≡ false → AreOutcomes (λ y. eval_outcome plan.spec content_now false true x.eval y.params) (living n)
-        answers_here a b =
-            other_outcomes _ (λ y. eval_outcome plan.spec content_now false true x.eval y.params)
-            (λ y. ap (λ t. eval_outcome plan.spec content_now t active x.eval y.params) b ∙ ap (λ t. eval_outcome plan.spec content_now false t x.eval y.params) a)
-            (living n) outcomes_here
-
-        answer_of : Params → Answer
-        answer_of p = eval_outcome plan.spec content_now false true x.eval (read_params names p)
+        answers_here : is_bad did ≡ false → AreOutcomes (λ y. eval_outcome plan.spec content_now false (active y) x.eval y.params) (living n)
+        answers_here b =
+            other_outcomes _ (λ y. eval_outcome plan.spec content_now false (active y) x.eval y.params)
+            (λ y. ap (λ t. eval_outcome plan.spec content_now t (active y) x.eval y.params) b) (living n) outcomes_here
 
         read_each : (i : ℕ) (xs : List SeenInstance) (vs : List Life) (ls : List Living) (rs : List Outcome)
             → ((j : ℕ) → slice_get (instances_seen s n) (i + j) ≡ slice_get xs j)
             → StandForLives names remembers n i xs vs → map (λ l. l.params) vs ≡ map (λ l. l.instance.params) ls
-            → AreOutcomes (λ y. eval_outcome plan.spec content_now false true x.eval y.params) ls
-            → AreResults plan remembers s (tasks_from n i (length xs)) rs → ReadEach names rs ls
-        read_each i [] [] [] [] shown stand same are results = tt
-        read_each i [] [] [] (r ∷ rs) shown stand same are results = absurd results
-        read_each i [] [] (l ∷ ls) rs shown stand same are results = absurd (cc)
-        read_each i [] (v ∷ vs) ls rs shown stand same are results = absurd stand
-        read_each i (y ∷ xs) [] ls rs shown stand same are results = absurd stand
-        read_each i (y ∷ xs) (v ∷ vs) [] rs shown stand same are results = absurd (cc)
-        read_each i (y ∷ xs) (v ∷ vs) (l ∷ ls) [] shown stand same are results = absurd results
-        read_each i (y ∷ xs) (v ∷ vs) (l ∷ ls) (r ∷ rs) shown stand same are results =
+            → (is_local pacing ≡ true → map (λ (z : SeenInstance). z.born) xs ≡ map (λ (z : Living). time_of_birth z.instance) ls)
+            → AreOutcomes (λ y. eval_outcome plan.spec content_now false (active y) x.eval y.params) ls
+            → AreResults plan m remembers s (tasks_from n i (length xs)) rs → ReadEach names rs ls
+        read_each i [] [] [] [] shown stand same births are results = tt
+        read_each i [] [] [] (r ∷ rs) shown stand same births are results = absurd results
+        read_each i [] [] (l ∷ ls) rs shown stand same births are results = absurd (cc)
+        read_each i [] (v ∷ vs) ls rs shown stand same births are results = absurd stand
+        read_each i (y ∷ xs) [] ls rs shown stand same births are results = absurd stand
+        read_each i (y ∷ xs) (v ∷ vs) [] rs shown stand same births are results = absurd (cc)
+        read_each i (y ∷ xs) (v ∷ vs) (l ∷ ls) [] shown stand same births are results = absurd results
+        read_each i (y ∷ xs) (v ∷ vs) (l ∷ ls) (r ∷ rs) shown stand same births are results =
             let there : slice_get (instances_seen s n) i ≡ Some y = ap (λ k. slice_get (instances_seen s n) k) (sym (add-zero i)) ∙ shown 0 in
-            let P : Params → Type 0 = λ p. IsAnswer plan remembers s p (eval_answer plan.spec (slice_get plan.spec.streams n)) r in
-            let answer : P y.params = subst P (ap params_at there) results.0.answer in
+            let P : Option SeenInstance → Type 0 = λ o. IsAnswer plan remembers s (params_at o) (eval_answer plan.spec (active_for_in m (birth_at o) pacing) (slice_get plan.spec.streams n)) r in
+            let answer : P (Some y) = subst P there results.0.answer in
+            let is_active_here : active_for_in m y.born pacing ≡ active l.instance =
+            active_for_is m.start step m run.moment y.born (time_of_birth l.instance) pacing (λ local. (let e = births local in cc)) in
             let sees : Sees plan names content_now remembers s y.params = record { naming = run.run.naming; layout = layout_at.of.layout; held = stand.0.params_held; stands = run.stands } in
             let given = answer names content_now sees run.run.texts in
             let params : v.params ≡ l.instance.params = cc in
             let rest : map (λ (z : Life). z.params) vs ≡ map (λ (z : Living). z.instance.params) ls = cc in (
               given.0
-                  ∙ (ap (λ o. eval_answer plan.spec o content_now (read_params names y.params)) at
-                  ∙ (ap (λ p. eval_outcome plan.spec content_now false true x.eval p) (stand.0.params ∙ params)
-                  ∙ sym are.0)),
+                  ∙ (ap (λ o. eval_answer plan.spec (active_for_in m y.born pacing) o content_now (read_params names y.params)) at
+                  ∙ (ap (λ b. eval_outcome plan.spec content_now false b x.eval (read_params names y.params)) is_active_here
+                  ∙ (ap (λ p. eval_outcome plan.spec content_now false (active l.instance) x.eval p) (stand.0.params ∙ params)
+                  ∙ sym are.0))),
               given.1,
-              read_each (i + 1) xs vs ls rs (λ j. ap (λ k. slice_get (instances_seen s n) k) (same_place i j) ∙ shown (suc j)) stand.1 rest are.1 results.1,
+              read_each (i + 1) xs vs ls rs (λ j. ap (λ k. slice_get (instances_seen s n) k) (same_place i j) ∙ shown (suc j)) stand.1 rest (λ local. (let e = births local in cc)) are.1 results.1,
             )
           where
             same_place : (a b : ℕ) → (a + 1) + b ≡ a + suc b
             same_place a b = omega arith
 
-        read_here : active ≡ true → is_bad did ≡ false → (rs : List Outcome) → AreResults plan remembers s (tasks_from n 0 (length (instances_seen s n))) rs → ReadEach names rs (living n)
-        read_here a b rs h =
+        read_here : is_bad did ≡ false → (rs : List Outcome) → AreResults plan m remembers s (tasks_from n 0 (length (instances_seen s n))) rs → ReadEach names rs (living n)
+        read_here b rs h =
             read_each 0 (instances_seen s n) (lives_in (slice_get content_now.streams n)) (living n) rs
-            (λ j. ap (λ k. slice_get (instances_seen s n) k) (zero-add j)) stands_here here.lives (answers_here a b) h
+            (λ j. ap (λ k. slice_get (instances_seen s n) k) (zero-add j)) stands_here here.lives births_here (answers_here b) h
 
       -- all that is known of a stream that runs
       record Reads : Type 0 where
         pub here : EvalIs plan m.start rows step layer n x
-        pub is_active_here : active ≡ true
         pub is_good : is_bad did ≡ false
 
       reads : runs_in plan m marks layer n x ≡ true → Reads
@@ -253,18 +289,18 @@ module _ (plan : Plan) (m : Moment) (marks : List Mark) (remembers : Memories) (
           let run_there : is_run_in plan m.start step full layer n x ≡ true = sym same_runs ∙ e in
           let a = both_true (not (is_input x)) _ run_there in
           let b = both_true (nat_eq (layer_of plan.layers (eval_node n)) layer) _ a.1 in
-          let d = both_true active (not (is_bad did)) b.1 in
-          record { here = here_is a.0 b.0; is_active_here = d.0; is_good = not-true (is_bad did) d.1 }
+          let d = both_true may (not (is_bad did)) b.1 in
+          record { here = here_is a.0 b.0; is_good = not-true (is_bad did) d.1 }
 
-      pub read_stream : runs_in plan m marks layer n x ≡ true → (rs : List Outcome) → AreResults plan remembers s (tasks_from n 0 (length (instances_seen s n))) rs → ReadEach names rs (living n)
-      read_stream e rs h = let k = reads e in read_here k.here k.is_active_here k.is_good rs h
+      pub read_stream : runs_in plan m marks layer n x ≡ true → (rs : List Outcome) → AreResults plan m remembers s (tasks_from n 0 (length (instances_seen s n))) rs → ReadEach names rs (living n)
+      read_stream e rs h = let k = reads e in read_here k.here k.is_good rs h
 
       -- one that does not run, though it belongs to the layer, is silent
       pub silent_stream : runs_in plan m marks layer n x ≡ false → is_input x ≡ false → layer_of plan.layers (eval_node n) ≡ layer → AreSilent (living n)
       silent_stream e i l =
           silent_here (go.here n x at i l)
-          (sym (ap (λ b. not b && (nat_eq (layer_of plan.layers (eval_node n)) layer && (active && not (is_bad did)))) i
-          ∙ ap (λ b. b && (active && not (is_bad did))) (eq-eqb (layer_of plan.layers (eval_node n)) layer l))
+          (sym (ap (λ b. not b && (nat_eq (layer_of plan.layers (eval_node n)) layer && (may && not (is_bad did)))) i
+          ∙ ap (λ b. b && (may && not (is_bad did))) (eq-eqb (layer_of plan.layers (eval_node n)) layer l))
           ∙ (sym same_runs ∙ e))
 
     -- all outcomes of the layer are told as the model tells them
@@ -275,7 +311,7 @@ module _ (plan : Plan) (m : Moment) (marks : List Mark) (remembers : Memories) (
       pub held : AreHeldIn names rs
 
     tells_stream : (n : ℕ) (x : Stream) → slice_get plan.spec.streams n ≡ Some x → (d : Content) (rs : List Outcome) (b e : Bool) → runs_in plan m marks layer n x ≡ b → e ≡ b
-        → AreResults plan remembers s (if b then tasks_from n 0 (length (instances_seen s n)) else []) rs
+        → AreResults plan m remembers s (if b then tasks_from n 0 (length (instances_seen s n)) else []) rs
         → TellsSame d (if b then tasks_from n 0 (length (instances_seen s n)) else []) rs (if e then told_from n 0 (living n) else [])
     tells_stream n x at d [] false false r q h = record { same = refl; held = tt }
     tells_stream n x at d (o ∷ rs) false false r q h = absurd h
@@ -289,7 +325,7 @@ module _ (plan : Plan) (m : Moment) (marks : List Mark) (remembers : Memories) (
         }
 
     tells_streams : (n : ℕ) (xs : List Stream) → ((i : ℕ) → slice_get plan.spec.streams (n + i) ≡ slice_get xs i) → (d : Content) (rs : List Outcome)
-        → AreResults plan remembers s (layer_tasks plan m marks s layer n xs) rs
+        → AreResults plan m remembers s (layer_tasks plan m marks s layer n xs) rs
         → TellsSame d (layer_tasks plan m marks s layer n xs) rs (told_in_layer plan m.start step full layer n xs)
     tells_streams n [] at d [] h = record { same = refl; held = tt }
     tells_streams n [] at d (r ∷ rs) h = absurd h
@@ -299,13 +335,13 @@ module _ (plan : Plan) (m : Moment) (marks : List Mark) (remembers : Memories) (
         let size = length ts in
         let here : slice_get plan.spec.streams n ≡ Some x = ap (λ k. slice_get plan.spec.streams k) (sym (add-zero n)) ∙ at 0 in
         let told_here = if is_run_in plan m.start step full layer n x then told_from n 0 (living n) else [] in
-        let parts = split_results plan remembers s ts us rs h in
+        let parts = split_results plan m remembers s ts us rs h in
         let one : TellsSame d ts (take size rs) told_here =
         tells_stream n x here d (take size rs) (runs_in plan m marks layer n x) (is_run_in plan m.start step full layer n x) refl (sym (same_runs n x here)) parts.0 in
         let rest = tells_streams (n + 1) xs (λ i. ap (λ k. slice_get plan.spec.streams k) (same_place n i) ∙ at (suc i)) (told_outcomes names d ts (take size rs)) (drop size rs) parts.1 in
         record {
           same =
-              outcomes_in_parts names d ts us rs (omega (arith, count_results plan remembers s (ts ++ us) rs h, length-append ts us))
+              outcomes_in_parts names d ts us rs (omega (arith, count_results plan m remembers s (ts ++ us) rs h, length-append ts us))
               ∙ (rest.same
               ∙ (ap (λ c. told_each c (told_in_layer plan m.start step full layer (n + 1) xs)) one.same
               ∙ sym (told_in_parts d told_here (told_in_layer plan m.start step full layer (n + 1) xs))));
@@ -315,7 +351,7 @@ module _ (plan : Plan) (m : Moment) (marks : List Mark) (remembers : Memories) (
         same_place : (a b : ℕ) → (a + 1) + b ≡ a + suc b
         same_place a b = omega arith
 
-    module _ (fresh : List Outcome) (results : AreResults plan remembers s (layer_tasks plan m marks s layer 0 plan.spec.streams) fresh) where
+    module _ (fresh : List Outcome) (results : AreResults plan m remembers s (layer_tasks plan m marks s layer 0 plan.spec.streams) fresh) where
       tells_all : TellsSame content_now (layer_tasks plan m marks s layer 0 plan.spec.streams) fresh (told_in_layer plan m.start step full layer 0 plan.spec.streams)
       tells_all = tells_streams 0 plan.spec.streams (λ i. ap (λ k. slice_get plan.spec.streams k) (zero-add i)) content_now fresh results
 
@@ -361,7 +397,7 @@ module _ (plan : Plan) (m : Moment) (marks : List Mark) (remembers : Memories) (
             absurd (let f : is_evaluated plan.layers now n x ≡ true = evaluated_by now x n i ∙ (same_behind (layer_of plan.layers (eval_node n)) n layer l ∙ (sym (evaluated_by next x n i) ∙ d)) in cc)
 
         shown_by : (n : ℕ) (x : Stream) (p : Span) → slice_get plan.spec.streams n ≡ Some x → is_input x ≡ false → is_evaluated plan.layers next n x ≡ true
-            → SpanOf plan remembers s m marks layer n x (slice_get spans n) p all → ShowLiving names (in_span all (Some p)) (living n)
+            → SpanOf plan m remembers s marks layer n x (slice_get spans n) p all → ShowLiving names (in_span all (Some p)) (living n)
         shown_by n x p e i d (inl h) = inl (read_stream n x e h.runs (in_span all (Some p)) h.results_are)
         shown_by n x p e i d (inr h) = shown_at_rest n x p e i d h.rests h.same (is_evaluated plan.layers now n x) refl (cases_eq (layer_of plan.layers (eval_node n)) layer)
 

@@ -7,46 +7,47 @@ use Rattle.lola_model.specs.Acceptance.{IsAccepted}
 use Rattle.lola_model.specs.Pacings.{pacings_from}
 use Rattle.lola_model.specs.Store.{kind_in, layouts_from, never_spawns, parameters_of, spawns_in}
 use Rattle.lola_model.specs.declared.finding.Finding.{Finding}
+use Rattle.lola_model.specs.declared.pacing.ClausePacings.{ClausePacings}
 use Rattle.lola_model.specs.declared.plan.Plan.{Plan}
 use Rattle.lola_model.specs.declared.spec.Clause.{Clause}
 use Rattle.lola_model.specs.declared.spec.Stream.{Stream}
 
 -- as many streams
-pub layouts_length : (ss : List Stream) (kept : List ℕ) → length (layouts_from ss kept) ≡ length ss
-layouts_length [] kept = refl
-layouts_length (s ∷ ss) kept = ap suc (layouts_length ss (drop 1 kept))
+pub layouts_length : (ss : List Stream) (kept : List ℕ) (ps : List ClausePacings) → length (layouts_from ss kept ps) ≡ length ss
+layouts_length [] kept ps = refl
+layouts_length (s ∷ ss) kept ps = ap suc (layouts_length ss (drop 1 kept) (drop 1 ps))
 
 -- the kind of its values
-pub kind_there : (ss : List Stream) (kept : List ℕ) (n : ℕ) (s : Stream) → slice_get ss n ≡ Some s → kind_in (slice_get (layouts_from ss kept) n) ≡ unwrap_or s.kind kind.Int64
-kind_there [] kept n s e = absurd (cc)
-kind_there (r ∷ ss) kept zero s e = let p : r ≡ s = cc in ap (λ (x : Stream). unwrap_or x.kind kind.Int64) p
-kind_there (r ∷ ss) kept (suc n) s e = kind_there ss (drop 1 kept) n s e
+pub kind_there : (ss : List Stream) (kept : List ℕ) (ps : List ClausePacings) (n : ℕ) (s : Stream) → slice_get ss n ≡ Some s → kind_in (slice_get (layouts_from ss kept ps) n) ≡ unwrap_or s.kind kind.Int64
+kind_there [] kept ps n s e = absurd (cc)
+kind_there (r ∷ ss) kept ps zero s e = let p : r ≡ s = cc in ap (λ (x : Stream). unwrap_or x.kind kind.Int64) p
+kind_there (r ∷ ss) kept ps (suc n) s e = kind_there ss (drop 1 kept) (drop 1 ps) n s e
 
 -- the kinds of its parameters
-pub parameters_there : (ss : List Stream) (kept : List ℕ) (n : ℕ) (s : Stream) → slice_get ss n ≡ Some s → parameters_of (slice_get (layouts_from ss kept) n) ≡ s.parameters
-parameters_there [] kept n s e = absurd (cc)
-parameters_there (r ∷ ss) kept zero s e = let p : r ≡ s = cc in ap (λ (x : Stream). x.parameters) p
-parameters_there (r ∷ ss) kept (suc n) s e = parameters_there ss (drop 1 kept) n s e
+pub parameters_there : (ss : List Stream) (kept : List ℕ) (ps : List ClausePacings) (n : ℕ) (s : Stream) → slice_get ss n ≡ Some s → parameters_of (slice_get (layouts_from ss kept ps) n) ≡ s.parameters
+parameters_there [] kept ps n s e = absurd (cc)
+parameters_there (r ∷ ss) kept ps zero s e = let p : r ≡ s = cc in ap (λ (x : Stream). x.parameters) p
+parameters_there (r ∷ ss) kept ps (suc n) s e = parameters_there ss (drop 1 kept) (drop 1 ps) n s e
 
 -- that it has a spawn clause
-pub spawns_there : (ss : List Stream) (kept : List ℕ) (n : ℕ) (s : Stream) (k : Clause) → slice_get ss n ≡ Some s → s.spawn ≡ Some k → spawns_in (slice_get (layouts_from ss kept) n) ≡ true
-spawns_there [] kept n s k e f = absurd (cc)
-spawns_there (r ∷ ss) kept zero s k e f =
+pub spawns_there : (ss : List Stream) (kept : List ℕ) (ps : List ClausePacings) (n : ℕ) (s : Stream) (k : Clause) → slice_get ss n ≡ Some s → s.spawn ≡ Some k → spawns_in (slice_get (layouts_from ss kept ps) n) ≡ true
+spawns_there [] kept ps n s k e f = absurd (cc)
+spawns_there (r ∷ ss) kept ps zero s k e f =
     let p : r ≡ s = cc in
-    ap (λ (x : Stream). spawns_in (slice_get (layouts_from (x ∷ ss) kept) zero)) p ∙ ap (λ (o : Option Clause). elim o [ None ↦ false | Some c ↦ true ]) f
-spawns_there (r ∷ ss) kept (suc n) s k e f = spawns_there ss (drop 1 kept) n s k e f
+    ap (λ (x : Stream). spawns_in (slice_get (layouts_from (x ∷ ss) kept ps) zero)) p ∙ ap (λ (o : Option Clause). elim o [ None ↦ false | Some c ↦ true ]) f
+spawns_there (r ∷ ss) kept ps (suc n) s k e f = spawns_there ss (drop 1 kept) (drop 1 ps) n s k e f
 
 no_clause : (o : Option Clause) → not (elim o [ None ↦ false | Some k ↦ true ]) ≡ true → o ≡ None
 no_clause None e = refl
 no_clause (Some k) e = absurd (cc)
 
 -- where none has a spawn clause, that it has none
-pub never_there : (ss : List Stream) (kept : List ℕ) (n : ℕ) (s : Stream) → never_spawns (layouts_from ss kept) ≡ true → slice_get ss n ≡ Some s → s.spawn ≡ None
-never_there [] kept n s h e = absurd (cc)
-never_there (r ∷ ss) kept zero s h e =
+pub never_there : (ss : List Stream) (kept : List ℕ) (ps : List ClausePacings) (n : ℕ) (s : Stream) → never_spawns (layouts_from ss kept ps) ≡ true → slice_get ss n ≡ Some s → s.spawn ≡ None
+never_there [] kept ps n s h e = absurd (cc)
+never_there (r ∷ ss) kept ps zero s h e =
     let p : r ≡ s = cc in
     subst (λ (x : Stream). x.spawn ≡ None) p (no_clause r.spawn (and_parts _ _ h).0)
-never_there (r ∷ ss) kept (suc n) s h e = never_there ss (drop 1 kept) n s (and_parts _ _ h).1 e
+never_there (r ∷ ss) kept ps (suc n) s h e = never_there ss (drop 1 kept) (drop 1 ps) n s (and_parts _ _ h).1 e
 
 -- the stream of a turn of a loop
 pub stream_of_turn : (xs ss : List Stream) (n : ℕ) (s : Stream) → xs ≡ ss → n < length xs → s ≡ get_or xs n s → slice_get ss n ≡ Some s

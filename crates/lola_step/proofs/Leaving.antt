@@ -8,6 +8,7 @@ use Rattle.std.proofs.lemmas.Option.{slice_get-map}
 use Rattle.lola_value.specs.Naming.{Naming}
 use Rattle.lola_model.specs.Content.{Content}
 use Rattle.lola_model.specs.Store.{Layout, Memories, layouts_from, Seen, SeenStream, Stands, after_close, changed_at, instances_of, instances_seen, spawns_in}
+use Rattle.lola_model.specs.declared.pacing.ClausePacings.{ClausePacings}
 use Rattle.lola_model.specs.declared.plan.Plan.{Plan}
 use Rattle.lola_model.specs.declared.spec.Clause.{Clause}
 use Rattle.lola_model.specs.declared.spec.Stream.{Stream}
@@ -22,12 +23,12 @@ use Rattle.lola_step.proofs.Shown.{changed_else, changed_length}
 -- the streams
 
 -- one without a spawn clause never spawns
-never_there : (ss : List Stream) (kept : List ℕ) (n : ℕ) (s : Stream) → slice_get ss n ≡ Some s → s.spawn ≡ None → spawns_in (slice_get (layouts_from ss kept) n) ≡ false
-never_there [] kept n s e f = absurd (cc)
-never_there (r ∷ ss) kept zero s e f =
+never_there : (ss : List Stream) (kept : List ℕ) (ps : List ClausePacings) (n : ℕ) (s : Stream) → slice_get ss n ≡ Some s → s.spawn ≡ None → spawns_in (slice_get (layouts_from ss kept ps) n) ≡ false
+never_there [] kept ps n s e f = absurd (cc)
+never_there (r ∷ ss) kept ps zero s e f =
     let p : r ≡ s = cc in
-    ap (λ (x : Stream). spawns_in (slice_get (layouts_from (x ∷ ss) kept) zero)) p ∙ ap (λ (o : Option Clause). elim o [ None ↦ false | Some c ↦ true ]) f
-never_there (r ∷ ss) kept (suc n) s e f = never_there ss (drop 1 kept) n s e f
+    ap (λ (x : Stream). spawns_in (slice_get (layouts_from (x ∷ ss) kept ps) zero)) p ∙ ap (λ (o : Option Clause). elim o [ None ↦ false | Some c ↦ true ]) f
+never_there (r ∷ ss) kept ps (suc n) s e f = never_there ss (drop 1 kept) (drop 1 ps) n s e f
 
 removed_there : (xs : List SeenStream) (n i : ℕ) → i < length (instances_of (slice_get xs n))
     → length (instances_of (slice_get (changed_at xs n (λ x. record x { instances = remove x.instances i })) n)) + 1 ≡ length (instances_of (slice_get xs n))
@@ -59,7 +60,7 @@ module _ (s : Seen) (n i : ℕ) (lives : i < length (instances_seen s n)) where
     not_here : (m : ℕ) (x : Stream) → slice_get plan.spec.streams m ≡ Some x → x.spawn ≡ None → m ≡ n → ⊥
     not_here m x at none e =
         let a : spawns_in (slice_get s.layout.streams m) ≡ true = subst (λ j. spawns_in (slice_get s.layout.streams j) ≡ true) (sym e) spawns in
-        let b : spawns_in (slice_get s.layout.streams m) ≡ false = ap (λ (l : Layout). spawns_in (slice_get l.streams m)) of.layout ∙ never_there plan.spec.streams plan.kept m x at none in
+        let b : spawns_in (slice_get s.layout.streams m) ≡ false = ap (λ (l : Layout). spawns_in (slice_get l.streams m)) of.layout ∙ never_there plan.spec.streams plan.kept plan.pacings m x at none in
         cc
 
     closed_of : IsOf plan (after_close s n i)

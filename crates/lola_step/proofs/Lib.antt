@@ -1,6 +1,5 @@
 pub mod Asked
 pub mod Done
-pub mod Moments
 pub mod Shared
 pub mod Activities
 pub mod Births

@@ -15,30 +15,30 @@ use Rattle.lola_step.specs.declared.scratch.Span.{Span}
 use Rattle.lola_step.specs.declared.tasks.Task.{Task}
 use Rattle.lola_step.proofs.Gathering.{length_tasks, spans_cons}
 
-module _ (plan : Plan) (remembers : Memories) (s : Seen) where
+module _ (plan : Plan) (m : Moment) (remembers : Memories) (s : Seen) where
   -- an outcome at each task's number
   pub each_is_result : (ts : List Task) (rs : List Outcome) → length rs ≡ length ts
-      → ((i : ℕ) → i < length ts → IsSomeAnd (slice_get rs i) (λ r. IsResultAt plan remembers s (slice_get ts i) r)) → AreResults plan remembers s ts rs
+      → ((i : ℕ) → i < length ts → IsSomeAnd (slice_get rs i) (λ r. IsResultAt plan m remembers s (slice_get ts i) r)) → AreResults plan m remembers s ts rs
   each_is_result [] [] e h = tt
   each_is_result [] (r ∷ rs) e h = absurd (omega (arith, e))
   each_is_result (t ∷ ts) [] e h = absurd (omega (arith, e))
   each_is_result (t ∷ ts) (r ∷ rs) e h = (h 0 (omega arith), each_is_result ts rs (omega (arith, e)) (λ i l. h (suc i) (omega (arith, l))))
 
-  pub count_results : (ts : List Task) (rs : List Outcome) → AreResults plan remembers s ts rs → length rs ≡ length ts
+  pub count_results : (ts : List Task) (rs : List Outcome) → AreResults plan m remembers s ts rs → length rs ≡ length ts
   count_results [] [] h = refl
   count_results [] (r ∷ rs) h = absurd h
   count_results (t ∷ ts) [] h = absurd h
   count_results (t ∷ ts) (r ∷ rs) h = ap suc (count_results ts rs h.1)
 
   -- of tasks that are listed in two parts
-  pub split_results : (ts us : List Task) (rs : List Outcome) → AreResults plan remembers s (ts ++ us) rs
-      → AreResults plan remembers s ts (take (length ts) rs) × AreResults plan remembers s us (drop (length ts) rs)
+  pub split_results : (ts us : List Task) (rs : List Outcome) → AreResults plan m remembers s (ts ++ us) rs
+      → AreResults plan m remembers s ts (take (length ts) rs) × AreResults plan m remembers s us (drop (length ts) rs)
   split_results [] us rs h = (tt, h)
   split_results (t ∷ ts) us [] h = absurd h
   split_results (t ∷ ts) us (r ∷ rs) h = let k = split_results ts us rs h.1 in ((h.0, k.0), k.1)
 
   -- the outcomes of a stream are of its kind
-  pub kinds_of_stream : (n i k : ℕ) (rs : List Outcome) → AreResults plan remembers s (tasks_from n i k) rs → AreOutcomesOf (kind_in (slice_get s.layout.streams n)) rs
+  pub kinds_of_stream : (n i k : ℕ) (rs : List Outcome) → AreResults plan m remembers s (tasks_from n i k) rs → AreOutcomesOf (kind_in (slice_get s.layout.streams n)) rs
   kinds_of_stream n i zero [] h = tt
   kinds_of_stream n i zero (r ∷ rs) h = absurd h
   kinds_of_stream n i (suc k) [] h = absurd h
@@ -46,13 +46,13 @@ module _ (plan : Plan) (remembers : Memories) (s : Seen) where
 
   -- the spans after a layer
 
-  module _ (m : Moment) (marks : List Mark) (layer : ℕ) where
+  module _ (marks : List Mark) (layer : ℕ) where
     -- a stream that ran: its span has the outcomes of its tasks
     pub record HasRun (n : ℕ) (x : Stream) (p : Span) (all : List Outcome) : Type 0 where
       pub runs : runs_in plan m marks layer n x ≡ true
       pub count_is : p.count ≡ length (instances_seen s n)
       pub within : p.from + p.count ≤ length all
-      pub results_are : AreResults plan remembers s (tasks_from n 0 (length (instances_seen s n))) (in_span all (Some p))
+      pub results_are : AreResults plan m remembers s (tasks_from n 0 (length (instances_seen s n))) (in_span all (Some p))
 
     -- one that did not: its span is as before
     pub record HasNotRun (n : ℕ) (x : Stream) (before : Option Span) (p : Span) : Type 0 where
@@ -63,7 +63,7 @@ module _ (plan : Plan) (remembers : Memories) (s : Seen) where
     SpanOf n x before p all = HasRun n x p all ⊎ HasNotRun n x before p
 
     first_span : (n : ℕ) (x : Stream) (q p : Span) (us : List Task) (front rest all : List Outcome) (from : ℕ) → all ≡ front ++ rest → from ≡ length front
-        → (b : Bool) → runs_in plan m marks layer n x ≡ b → AreResults plan remembers s ((if b then tasks_from n 0 (length (instances_seen s n)) else []) ++ us) rest
+        → (b : Bool) → runs_in plan m marks layer n x ≡ b → AreResults plan m remembers s ((if b then tasks_from n 0 (length (instances_seen s n)) else []) ++ us) rest
         → (if b then record { from = from; count = length (instances_seen s n) } else q) ≡ p → SpanOf n x (Some q) p all
     first_span n x q p us front rest all from e f false r h g = inr (record { rests = r; same = ap Some g })
     first_span n x q p us front rest all from e f true r h g =
@@ -72,8 +72,8 @@ module _ (plan : Plan) (remembers : Memories) (s : Seen) where
         let parts = split_results (tasks_from n 0 k) us rest h in
         let few : k ≤ length rest = omega (arith, a, count_results (tasks_from n 0 k ++ us) rest h, length-append (tasks_from n 0 k) us) in
         let here : take k rest ≡ in_span all (Some (record { from = from; count = k })) = ap (take k) (sym (drop_at front rest from (sym f))) ∙ ap (λ rs. take k (drop from rs)) (sym e) in
-        let P : List Outcome → Type 0 = λ rs. AreResults plan remembers s (tasks_from n 0 k) rs in
-        let Q : ℕ → Type 0 = λ j. AreResults plan remembers s (tasks_from n 0 k) (take j rest) in
+        let P : List Outcome → Type 0 = λ rs. AreResults plan m remembers s (tasks_from n 0 k) rs in
+        let Q : ℕ → Type 0 = λ j. AreResults plan m remembers s (tasks_from n 0 k) (take j rest) in
         let R : Span → Type 0 = λ z. SpanOf n x (Some q) z all in
         subst R g (inl (record {
           runs = r;
@@ -83,7 +83,7 @@ module _ (plan : Plan) (remembers : Memories) (s : Seen) where
         }))
 
     pub each_span : (n : ℕ) (xs : List Stream) (ps : List Span) (from : ℕ) (front rest all : List Outcome) → all ≡ front ++ rest → from ≡ length front
-        → AreResults plan remembers s (layer_tasks plan m marks s layer n xs) rest
+        → AreResults plan m remembers s (layer_tasks plan m marks s layer n xs) rest
         → (i k : ℕ) (x : Stream) (p : Span) → k ≡ n + i → slice_get xs i ≡ Some x → slice_get (layer_spans plan m marks s layer from n xs ps) i ≡ Some p
         → SpanOf k x (slice_get ps i) p all
     each_span n [] ps from front rest all e f h i k x p q a b = absurd (cc)

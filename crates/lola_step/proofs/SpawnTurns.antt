@@ -166,17 +166,17 @@ module _ (plan : Plan) (accepted : IsAccepted plan) (m : Moment) (layer n : ℕ)
     may_spawn = record {
       running = here.running;
       stream = (let a = slice_get_within plan.spec.streams n stream at in
-          let b = layouts_length plan.spec.streams plan.kept in
+          let b = layouts_length plan.spec.streams plan.kept plan.pacings in
           let c : length s.layout.streams ≡ _ = ap (λ l. length l.streams) here.of.layout in
           omega (arith, a, b, c));
-      spawns = ap (λ l. spawns_in (slice_get l.streams n)) here.of.layout ∙ spawns_there plan.spec.streams plan.kept n stream k at has;
+      spawns = ap (λ l. spawns_in (slice_get l.streams n)) here.of.layout ∙ spawns_there plan.spec.streams plan.kept plan.pacings n stream k at has;
       first = here.unspawned n (to_come_here plan layer n of_layer);
     }
 
     pub is_for : (asked : Spawning) → IsWellNamed stream.parameters asked → IsFor s n asked
     is_for asked h =
         subst (λ ks. IsWellNamed ks asked)
-        (sym (ap (λ l. parameters_of (slice_get l.streams n)) here.of.layout ∙ parameters_there plan.spec.streams plan.kept n stream at)) h
+        (sym (ap (λ l. parameters_of (slice_get l.streams n)) here.of.layout ∙ parameters_there plan.spec.streams plan.kept plan.pacings n stream at)) h
 
 -- the spawn clauses of the streams below a number are done
 pub record AreSpawned (plan : Plan) (m : Moment) (layer n : ℕ) (marks marks' : List Mark) (remembers : Memories) (s : Seen) (remembers' : Memories) (s' : Seen) : Type 0 where

@@ -39,7 +39,7 @@ silent_is_missing outcome.Poison h = absurd (cc)
 
 silent_instance : (xs : List SeenInstance) (i : ℕ) → is_silent (now_at (slice_get xs i)) ≡ true → told_at xs i outcome.Missing ≡ xs
 silent_instance [] i h = refl
-silent_instance (x ∷ xs) zero h = ap (λ (o : Outcome). record { params = x.params; outcome = o } ∷ xs) (sym (silent_is_missing x.outcome h))
+silent_instance (x ∷ xs) zero h = ap (λ (o : Outcome). record { params = x.params; born = x.born; outcome = o } ∷ xs) (sym (silent_is_missing x.outcome h))
 silent_instance (x ∷ xs) (suc i) h = ap (λ ys. x ∷ ys) (silent_instance xs i h)
 
 silent_stream : (ss : List SeenStream) (n i : ℕ) → is_silent (now_at (slice_get (instances_of (slice_get ss n)) i)) ≡ true
@@ -175,7 +175,7 @@ module _ (plan : Plan) (accepted : IsAccepted plan) (n : ℕ) (stream : Stream) 
   kind_of_input s is_row os h a i =
       let o = input_outcome_at os (inputs_before plan.spec.streams n) in
       ap (λ l. is_input_outcome (kind_in (slice_get l.streams n)) o) h.of.layout
-      ∙ (ap (λ k. is_input_outcome k o) (kind_there plan.spec.streams plan.kept n stream at) ∙ kind_fits is_row plan.spec.streams os n stream a at i)
+      ∙ (ap (λ k. is_input_outcome k o) (kind_there plan.spec.streams plan.kept plan.pacings n stream at) ∙ kind_fits is_row plan.spec.streams os n stream a at i)
 
   pub at_told : (s : Seen) (o : Outcome) → is_input stream ≡ true → IsAt plan (input_stage n) s → IsAt plan (input_stage (n + 1)) (after_outcome s n 0 o)
   at_told s o i h =

@@ -76,7 +76,7 @@ module _ (plan : Plan) where
         stream_is = at;
         no_input = no_input;
         kind = k.0;
-        params = subst (λ (ks : List Kind). are_of_kinds ks (the_values x.params) ≡ true) (parameters_there plan.spec.streams plan.kept n s at) f.0.params;
+        params = subst (λ (ks : List Kind). are_of_kinds ks (the_values x.params) ≡ true) (parameters_there plan.spec.streams plan.kept plan.pacings n s at) f.0.params;
         well_formed = f.0.well_formed;
       },
       are_verdicts xs os k.1 f.1,

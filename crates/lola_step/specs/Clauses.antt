@@ -1,5 +1,5 @@
 -- What clauses come to, over whatever content a store stands for.
-use Rattle.std.specs.Prelude.{ℕ, ◌≡◌, List, [], ◌∷◌, Option, Some, None, IsTrue, true, false}
+use Rattle.std.specs.Prelude.{ℕ, ◌≡◌, List, [], ◌∷◌, Option, Some, None, Bool, IsTrue, false, if◌then◌else◌}
 use Rattle.lola_value.specs.declared.text.Field.{Field}
 use Rattle.lola_value.specs.declared.value.Kind.{Kind}
 use Rattle.lola_value.specs.declared.value.Params.{Params}
@@ -8,7 +8,7 @@ use Rattle.lola_value.specs.Answer.{Answer, Missing}
 use Rattle.lola_value.specs.Kinds.{are_of_kinds, is_well_formed}
 use Rattle.lola_value.specs.Naming.{Naming, AreHeld, IsHeldIn, read_outcome, read_params, the_values}
 use Rattle.lola_model.specs.Content.{Content}
-use Rattle.lola_model.specs.Model.{eval_outcome, named_params}
+use Rattle.lola_model.specs.Model.{close_answer, eval_outcome, named_params}
 use Rattle.lola_model.specs.Store.{Memories, Seen, no_params}
 use Rattle.lola_model.specs.Typing.{noted}
 use Rattle.lola_model.specs.Table.{Spawned, Idle, Named, SpawnFailed, SpawnPoisoned}
@@ -63,7 +63,11 @@ AreNamed plan remembers s es r =
     (names : Naming) (c : Content) → Sees plan names c remembers s no_params → HasTexts names plan.spec.texts
     → (read_spawning names r ≡ asked_of (named_params plan.spec c es)) × IsSpawningHeld names r
 
--- the answer of a stream's active eval clause, where the stream is not bad
-abbrev pub eval_answer : Spec → Option Stream → Content → List Field → Answer
-eval_answer spec None c p = Missing
-eval_answer spec (Some s) c p = eval_outcome spec c false true s.eval p
+-- the answer of a stream's eval clause, where it is active or not and the stream is not bad
+abbrev pub eval_answer : Spec → Bool → Option Stream → Content → List Field → Answer
+eval_answer spec active None c p = Missing
+eval_answer spec active (Some s) c p = eval_outcome spec c false active s.eval p
+
+-- of a close condition, which is asked where its clause is active
+abbrev pub closing_answer : Spec → Bool → Option Clause → Content → List Field → Answer
+closing_answer spec active k c p = if active then close_answer spec c k p else Missing

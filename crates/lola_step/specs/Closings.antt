@@ -1,22 +1,26 @@
 -- What the close conditions of a step come to, over whatever content a store stands for.
-use Rattle.std.specs.Prelude.{ℕ, ◌≡◌, ◌+◌, List, [], ◌∷◌, ◌++◌, Option, Some, None, true, if◌then◌else◌, slice_get}
+use Rattle.std.specs.Prelude.{ℕ, ◌≡◌, ◌+◌, List, [], ◌∷◌, ◌++◌, Option, Some, None, IsTrue, true, slice_get}
 use Rattle.lola_value.specs.declared.value.FaultKind.{FaultKind}
 use Rattle.lola_value.specs.declared.value.Outcome.{Outcome}
 use Rattle.lola_value.specs.declared.value.Outcome.TheVariants as outcome
 use Rattle.lola_value.specs.declared.value.Value.TheVariants as value
 use Rattle.lola_value.specs.Answer.{Answer}
-use Rattle.lola_value.specs.Naming.{Naming, IsNaming, read_params}
+use Rattle.lola_value.specs.declared.value.Params.{Params}
+use Rattle.lola_value.specs.Kinds.{are_of_kinds}
+use Rattle.lola_value.specs.Naming.{Naming, IsNaming, read_params, the_values}
 use Rattle.lola_model.specs.Content.{Content}
 use Rattle.lola_model.specs.Faults.{add_failed}
-use Rattle.lola_model.specs.Model.{close_answer, close_pacing}
-use Rattle.lola_model.specs.Store.{Memories, Seen, SeenInstance, Stands, instances_seen}
+use Rattle.lola_model.specs.Model.{close_pacing}
+use Rattle.lola_model.specs.Store.{Memories, Seen, SeenInstance, Stands, instances_seen, parameters_of}
+use Rattle.lola_model.specs.declared.pacing.Pacing.{Pacing}
 use Rattle.lola_model.specs.declared.plan.Plan.{Plan}
 use Rattle.lola_model.specs.declared.spec.Clause.{Clause}
 use Rattle.lola_model.specs.declared.spec.Stream.{Stream}
-use Rattle.lola_ready.specs.Ready.{HasTexts}
+use Rattle.lola_ready.specs.Ready.{HasTexts, IsClauseAskable}
 use Rattle.lola_stages.specs.Ends.{Place, add_place}
+use Rattle.lola_step.specs.Clauses.{closing_answer}
 use Rattle.lola_step.specs.Found.{fault_or}
-use Rattle.lola_step.specs.Moments.{active_in}
+use Rattle.lola_step.specs.Moments.{active_for_in}
 use Rattle.lola_step.specs.Notes.{AreClosable, IsBefore, places_of}
 use Rattle.lola_step.specs.declared.moment.Moment.{Moment}
 use Rattle.lola_step.specs.declared.tasks.Task.{Task}
@@ -27,25 +31,32 @@ pub record IsShown (plan : Plan) (names : Naming) (c : Content) (remembers : Mem
   pub texts : HasTexts names plan.spec.texts
   pub stands : Stands names remembers s c
 
-module _ (plan : Plan) (names : Naming) (c : Content) where
-  -- the close condition of an instance that is shown
-  abbrev pub condition_of : Option Clause → SeenInstance → Answer
-  condition_of k x = close_answer plan.spec c k (read_params names x.params)
+-- where a close clause of stream n with this pacing is active for an instance, whenever that was born, it may be asked for it
+abbrev pub MayAskClosing : Plan → Moment → Option Pacing → Seen → ℕ → Clause → Type 0
+MayAskClosing plan m o s n k =
+    (born : ℕ) → active_for_in m born o ≡ true → (p : Params) → IsTrue (are_of_kinds (parameters_of (slice_get s.layout.streams n)) (the_values p))
+    → IsClauseAskable s p plan.spec.texts [] k
 
-  -- the least kind of a fault among those of instances
-  abbrev pub least_condition : Option Clause → List SeenInstance → Option FaultKind
-  least_condition k [] = None
-  least_condition k (x ∷ xs) = add_failed (condition_of k x) (least_condition k xs)
+module _ (plan : Plan) (names : Naming) (c : Content) (m : Moment) where
+  module _ (o : Option Pacing) (k : Option Clause) where
+    -- the close condition of an instance that is shown, missing where the clause is not active for it
+    abbrev pub condition_of : SeenInstance → Answer
+    condition_of x = closing_answer plan.spec (active_for_in m x.born o) k c (read_params names x.params)
 
-  -- the places at which they are true, of instances of stream n from a place on
-  abbrev pub places_true : Option Clause → ℕ → ℕ → List SeenInstance → List Place
-  places_true k n i [] = []
-  places_true k n i (x ∷ xs) = add_place (condition_of k x) n i (places_true k n (i + 1) xs)
+    -- the least kind of a fault among those of instances
+    abbrev pub least_condition : List SeenInstance → Option FaultKind
+    least_condition [] = None
+    least_condition (x ∷ xs) = add_failed (condition_of x) (least_condition xs)
 
-  module _ (m : Moment) (s : Seen) where
-    -- the fault of a stream's close conditions, where its clause is active
+    -- the places at which they are true, of instances of stream n from a place on
+    abbrev pub places_true : ℕ → ℕ → List SeenInstance → List Place
+    places_true n i [] = []
+    places_true n i (x ∷ xs) = add_place (condition_of x) n i (places_true n (i + 1) xs)
+
+  module _ (s : Seen) where
+    -- the fault of a stream's close conditions
     abbrev pub stream_condition : ℕ → Stream → Option FaultKind
-    stream_condition n x = if active_in m (close_pacing (slice_get plan.pacings n)) then least_condition x.close (instances_seen s n) else None
+    stream_condition n x = least_condition (close_pacing (slice_get plan.pacings n)) x.close (instances_seen s n)
 
     -- the first of the streams from number n on that has one
     abbrev pub first_condition : ℕ → List Stream → Option (ℕ × FaultKind)
@@ -54,7 +65,7 @@ module _ (plan : Plan) (names : Naming) (c : Content) where
 
     -- the places of a stream
     abbrev pub stream_places : ℕ → Stream → List Place
-    stream_places n x = if active_in m (close_pacing (slice_get plan.pacings n)) then places_true x.close n 0 (instances_seen s n) else []
+    stream_places n x = places_true (close_pacing (slice_get plan.pacings n)) x.close n 0 (instances_seen s n)
 
     -- of the streams from number n on
     abbrev pub all_places : ℕ → List Stream → List Place
@@ -67,16 +78,14 @@ closed_by (outcome.Value (value.Bool true)) t = t ∷ []
 closed_by _ t = []
 
 -- of instances of one stream: whatever the store stands for, that is the fault of their conditions, and the places where they are true are listed
-abbrev pub FindsAmong : Plan → Memories → Seen → Clause → ℕ → Option FaultKind → List Task → List Task → Type 0
-FindsAmong plan remembers s k n found old new =
+abbrev pub FindsAmong : Plan → Moment → Option Pacing → Memories → Seen → Option Clause → ℕ → Option FaultKind → List Task → List Task → Type 0
+FindsAmong plan m o remembers s k n found old new =
     (names : Naming) (c : Content) → IsShown plan names c remembers s
-    → (found ≡ least_condition plan names c (Some k) (instances_seen s n)) × (places_of new ≡ places_of old ++ places_true plan names c (Some k) n 0 (instances_seen s n))
+    → (found ≡ least_condition plan names c m o k (instances_seen s n)) × (places_of new ≡ places_of old ++ places_true plan names c m o k n 0 (instances_seen s n))
 
--- of a stream, whose clause may not be active
+-- of a stream
 abbrev pub FindsIn : Plan → Moment → Memories → Seen → ℕ → Stream → Option FaultKind → List Task → List Task → Type 0
-FindsIn plan m remembers s n x found old new =
-    (names : Naming) (c : Content) → IsShown plan names c remembers s
-    → (found ≡ stream_condition plan names c m s n x) × (places_of new ≡ places_of old ++ stream_places plan names c m s n x)
+FindsIn plan m remembers s n x found old new = FindsAmong plan m (close_pacing (slice_get plan.pacings n)) remembers s x.close n found old new
 
 -- of all streams
 abbrev pub FindsAll : Plan → Moment → Memories → Seen → Option (ℕ × FaultKind) → List Task → Type 0

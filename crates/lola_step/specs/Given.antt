@@ -20,10 +20,10 @@ abbrev pub stream_tasks : Plan → Moment → List Mark → Seen → ℕ → ℕ
 stream_tasks plan m marks s layer n x = if runs_in plan m marks layer n x then tasks_from n 0 (length (instances_seen s n)) else []
 
 -- an outcome for each task, in order
-abbrev pub AreResults : Plan → Memories → Seen → List Task → List Outcome → Type 0
-AreResults plan remembers s [] [] = Unit {0}
-AreResults plan remembers s (t ∷ ts) (r ∷ rs) = IsResult plan remembers s t r × AreResults plan remembers s ts rs
-AreResults plan remembers s _ _ = ⊥
+abbrev pub AreResults : Plan → Moment → Memories → Seen → List Task → List Outcome → Type 0
+AreResults plan m remembers s [] [] = Unit {0}
+AreResults plan m remembers s (t ∷ ts) (r ∷ rs) = IsResult plan m remembers s t r × AreResults plan m remembers s ts rs
+AreResults plan m remembers s _ _ = ⊥
 
 -- an instance has its outcome: others see a fault as poison
 abbrev pub after_giving : Seen → Task → Outcome → Seen

@@ -1,14 +1,16 @@
 -- The moment of a step, as the code has it.
-use Rattle.std.specs.Prelude.{ℕ, ◌≡◌, ◌+◌, ◌-◌, ◌*◌, List, [], ◌∷◌, Option, Some, None, Bool, false, option_map}
+use Rattle.std.specs.Prelude.{ℕ, ◌≡◌, ◌+◌, ◌-◌, ◌*◌, List, [], ◌∷◌, Option, Some, None, Bool, true, false, option_map, slice_get}
 use Rattle.lola_value.specs.declared.text.Field.{Field}
 use Rattle.lola_value.specs.declared.value.Outcome.{Outcome}
 use Rattle.lola_value.specs.declared.value.Outcome.TheVariants as outcome
 use Rattle.lola_value.specs.Naming.{Naming, read_outcome, IsHeldIn}
 use Rattle.lola_model.specs.Activity.{is_deadline, present, satisfies_some}
+use Rattle.lola_value.specs.Ratio.{Ratio}
 use Rattle.lola_model.specs.Model.{field_outcome}
+use Rattle.lola_model.specs.Store.{Seen, SeenInstance, instances_seen}
 use Rattle.lola_model.specs.Table.{Step}
 use Rattle.lola_model.specs.declared.pacing.Pacing.{Pacing}
-use Rattle.lola_model.specs.declared.pacing.Pacing.TheVariants.{Event, Periodic}
+use Rattle.lola_model.specs.declared.pacing.Pacing.TheVariants.{Event, Periodic, Local}
 use Rattle.lola_step.specs.declared.moment.Moment.{Moment}
 
 -- a pacing at a moment: inputs at a row's, a rate at one of deadlines
@@ -21,6 +23,29 @@ active_at start time _ _ = false
 abbrev pub active_in : Moment → Option Pacing → Bool
 active_in m None = false
 active_in m (Some p) = active_at m.start m.time m.present p
+
+-- a rate that counts from a birth: at a moment of deadlines alone
+abbrev pub active_since : Moment → ℕ → Ratio → Bool
+active_since m born r = active_at born m.time m.present (Periodic r)
+
+-- for an instance born at a time: a local rate counts from its birth, all else is the same for all instances
+abbrev pub active_for_in : Moment → ℕ → Option Pacing → Bool
+active_for_in m born (Some (Local r)) = active_since m born r
+active_for_in m born p = active_in m p
+
+-- for some instance: a local rate may be active at each moment of deadlines
+abbrev pub may_be_active_in : Moment → Option Pacing → Bool
+may_be_active_in m (Some (Local r)) = elim m.present [ None ↦ true | Some inputs ↦ false ]
+may_be_active_in m p = active_in m p
+
+-- when an instance was born, if there is one
+abbrev pub birth_at : Option SeenInstance → ℕ
+birth_at None = 0
+birth_at (Some x) = x.born
+
+-- the instance at a place of stream n
+abbrev pub born_seen : Seen → ℕ → ℕ → ℕ
+born_seen s n i = birth_at (slice_get (instances_seen s n) i)
 
 -- the moment of a step of a run from this start
 pub record IsMoment (start : ℕ) (step : Step) (m : Moment) : Type 0 where

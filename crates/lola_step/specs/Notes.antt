@@ -16,7 +16,7 @@ use Rattle.lola_model.specs.declared.spec.Stream.{Stream}
 use Rattle.lola_stages.specs.Ends.{RowValue, Place}
 use Rattle.lola_stages.specs.Nexts.{living_in}
 use Rattle.lola_stages.specs.Stages.{Stage, is_evaluated, is_spawned}
-use Rattle.lola_step.specs.Moments.{active_in}
+use Rattle.lola_step.specs.Moments.{may_be_active_in}
 use Rattle.lola_step.specs.declared.mark.Mark.{Mark}
 use Rattle.lola_step.specs.declared.mark.Mark.TheVariants as mark
 use Rattle.lola_step.specs.declared.moment.Moment.{Moment}
@@ -102,10 +102,11 @@ abbrev pub is_fine : Option Mark → Bool
 is_fine (Some mark.Fine) = true
 is_fine _ = false
 
--- a stream runs in a layer: it is no input, its node is of the layer, its clause is active, and its spawn clause did not fail
+-- a stream runs in a layer: it is no input, its node is of the layer, its clause may be active for some instance, and its spawn
+-- clause did not fail
 abbrev pub runs_in : Plan → Moment → List Mark → ℕ → ℕ → Stream → Bool
 runs_in plan m marks layer n s =
-    not (is_input s) && (nat_eq (layer_of plan.layers (eval_node n)) layer && (active_in m (eval_pacing (slice_get plan.pacings n)) && is_fine (slice_get marks n)))
+    not (is_input s) && (nat_eq (layer_of plan.layers (eval_node n)) layer && (may_be_active_in m (eval_pacing (slice_get plan.pacings n)) && is_fine (slice_get marks n)))
 
 -- so many instances of stream n, from a place on
 abbrev pub tasks_from : ℕ → ℕ → ℕ → List Task

@@ -18,6 +18,7 @@ use Rattle.lola_expr.specs.Evaluation.{is_named}
 use Rattle.lola_expr.proofs.Parts.{same_kind-true}
 use Rattle.lola_ready.specs.Ready.{AreAskable, HasTexts, IsAskable, IsClauseAskable, IsWhenAskable}
 use Rattle.lola_step.specs.Tasks.{AreReady, IsEvalReady, IsReady}
+use Rattle.lola_step.specs.declared.moment.Moment.{Moment}
 use Rattle.lola_step.specs.declared.tasks.Task.{Task}
 
 -- kinds are told apart by their numbers
@@ -61,5 +62,5 @@ module _ (s : Seen) (p : Params) (texts : List (List ℕ)) where
   stream-prop (Some stream) = eval-prop stream.parameters (unwrap_or stream.kind kind.Int64) stream.eval
 
 -- of each task
-pub AreReady-prop : (plan : Plan) (s : Seen) (tasks : List Task) → IsProp (AreReady plan s tasks)
-AreReady-prop plan s tasks = hlevel (props, stream-prop)
+pub AreReady-prop : (plan : Plan) (m : Moment) (s : Seen) (tasks : List Task) → IsProp (AreReady plan m s tasks)
+AreReady-prop plan m s tasks = hlevel (props, stream-prop)

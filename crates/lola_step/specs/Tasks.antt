@@ -1,17 +1,22 @@
 -- The tasks of a layer.
-use Rattle.std.specs.Prelude.{ℕ, ◌≡◌, ◌<◌, List, [], ◌∷◌, Option, Some, None, length, slice_get, unwrap_or, IsTrue}
+use Rattle.std.specs.Prelude.{ℕ, ◌≡◌, ◌<◌, List, [], ◌∷◌, Option, Some, None, Bool, true, length, slice_get, unwrap_or, IsTrue}
 use Rattle.lola_value.specs.declared.value.Kind.{Kind}
 use Rattle.lola_value.specs.declared.value.Kind.TheVariants as kind
 use Rattle.lola_value.specs.declared.value.Params.{Params}
 use Rattle.lola_value.specs.declared.value.Outcome.{Outcome}
 use Rattle.lola_value.specs.Kinds.{are_of_kinds, is_outcome_of}
 use Rattle.lola_value.specs.Naming.{the_values}
-use Rattle.lola_model.specs.Store.{Memories, Seen, SeenInstance, instances_seen, kind_in, no_params}
+use Rattle.lola_model.specs.Model.{eval_pacing}
+use Rattle.lola_model.specs.NextStep.{is_local}
+use Rattle.lola_model.specs.Store.{Memories, Seen, SeenInstance, instances_seen, kind_in, no_params, spawns_in}
+use Rattle.lola_model.specs.declared.pacing.Pacing.{Pacing}
 use Rattle.lola_model.specs.declared.plan.Plan.{Plan}
 use Rattle.lola_model.specs.declared.spec.Clause.{Clause}
 use Rattle.lola_model.specs.declared.spec.Stream.{Stream}
 use Rattle.lola_ready.specs.Ready.{IsClauseAskable}
 use Rattle.lola_step.specs.Clauses.{IsAnswer, eval_answer}
+use Rattle.lola_step.specs.Moments.{active_for_in, born_seen, may_be_active_in}
+use Rattle.lola_step.specs.declared.moment.Moment.{Moment}
 use Rattle.lola_step.specs.declared.tasks.Task.{Task}
 
 -- the parameters of an instance, if there is one
@@ -24,7 +29,7 @@ abbrev pub params_seen : Seen → ℕ → ℕ → Params
 params_seen s n i = params_at (slice_get (instances_seen s n) i)
 
 -- an instance that lives, and the eval clause of its stream, which may be asked for it where its parameters are of their kinds
-pub record IsTask (plan : Plan) (s : Seen) (t : Task) : Type 0 where
+pub record IsActiveTask (plan : Plan) (s : Seen) (t : Task) : Type 0 where
   pub stream : Stream
   pub stream_is : slice_get plan.spec.streams t.stream ≡ Some stream
   pub clause : Clause
@@ -33,9 +38,25 @@ pub record IsTask (plan : Plan) (s : Seen) (t : Task) : Type 0 where
   pub asks : IsTrue (are_of_kinds stream.parameters (the_values (params_seen s t.stream t.index)))
       → IsClauseAskable s (params_seen s t.stream t.index) plan.spec.texts (unwrap_or stream.kind kind.Int64 ∷ []) clause
 
+-- the pacing of the eval clause of a task's stream
+abbrev pub pacing_of_task : Plan → Task → Option Pacing
+pacing_of_task plan t = eval_pacing (slice_get plan.pacings t.stream)
+
+-- whether the clause is active for the instance
+abbrev pub is_active_task : Plan → Moment → Seen → Task → Bool
+is_active_task plan m s t = active_for_in m (born_seen s t.stream t.index) (pacing_of_task plan t)
+
+-- an instance that lives, of a stream whose eval clause may be active; a local one stands with a spawn clause
+pub record IsTask (plan : Plan) (m : Moment) (s : Seen) (t : Task) : Type 0 where
+  pub lives : t.index < length (instances_seen s t.stream)
+  pub paced : t.stream < length plan.pacings
+  pub may : may_be_active_in m (pacing_of_task plan t) ≡ true
+  pub spawns : is_local (pacing_of_task plan t) ≡ true → IsTrue (spawns_in (slice_get s.layout.streams t.stream))
+  pub active : is_active_task plan m s t ≡ true → IsActiveTask plan s t
+
 -- each of these
-abbrev pub AreTasks : Plan → Seen → List Task → Type 0
-AreTasks plan s tasks = (i : ℕ) (t : Task) → slice_get tasks i ≡ Some t → IsTask plan s t
+abbrev pub AreTasks : Plan → Moment → Seen → List Task → Type 0
+AreTasks plan m s tasks = (i : ℕ) (t : Task) → slice_get tasks i ≡ Some t → IsTask plan m s t
 
 -- the same, in a form that is said in at most one way, so that a job can hold it: of the eval clause of a stream
 abbrev pub IsEvalReady : Seen → Params → List (List ℕ) → List Kind → Kind → Option Clause → Type 0
@@ -48,17 +69,23 @@ IsReady s p texts None = ⊥
 IsReady s p texts (Some stream) = IsEvalReady s p texts stream.parameters (unwrap_or stream.kind kind.Int64) stream.eval
 
 -- of each task
-abbrev pub AreReady : Plan → Seen → List Task → Type 0
-AreReady plan s tasks =
+abbrev pub AreReady : Plan → Moment → Seen → List Task → Type 0
+AreReady plan m s tasks =
     (i : ℕ) (t : Task) → slice_get tasks i ≡ Some t
-    → (t.index < length (instances_seen s t.stream)) × IsReady s (params_seen s t.stream t.index) plan.spec.texts (slice_get plan.spec.streams t.stream)
+    → (t.index < length (instances_seen s t.stream)) × (t.stream < length plan.pacings) × IsTrue (may_be_active_in m (pacing_of_task plan t))
+    × (IsTrue (is_local (pacing_of_task plan t)) → IsTrue (spawns_in (slice_get s.layout.streams t.stream)))
+    × (IsTrue (is_active_task plan m s t) → IsReady s (params_seen s t.stream t.index) plan.spec.texts (slice_get plan.spec.streams t.stream))
 
--- an outcome of a task: of the stream's kind, and the answer of its clause for the instance
-pub record IsResult (plan : Plan) (remembers : Memories) (s : Seen) (t : Task) (r : Outcome) : Type 0 where
+-- an outcome of a task: of the stream's kind, and the answer of its clause for the instance, where it is active or not
+pub record IsOutcome (plan : Plan) (active : Bool) (remembers : Memories) (s : Seen) (t : Task) (r : Outcome) : Type 0 where
   pub kind : IsTrue (is_outcome_of (kind_in (slice_get s.layout.streams t.stream)) r)
-  pub answer : IsAnswer plan remembers s (params_seen s t.stream t.index) (eval_answer plan.spec (slice_get plan.spec.streams t.stream)) r
+  pub answer : IsAnswer plan remembers s (params_seen s t.stream t.index) (eval_answer plan.spec active (slice_get plan.spec.streams t.stream)) r
+
+-- at a moment
+abbrev pub IsResult : Plan → Moment → Memories → Seen → Task → Outcome → Type 0
+IsResult plan m remembers s t r = IsOutcome plan (is_active_task plan m s t) remembers s t r
 
 -- of the task of a number, if there is one
-abbrev pub IsResultAt : Plan → Memories → Seen → Option Task → Outcome → Type 0
-IsResultAt plan remembers s None r = Unit {0}
-IsResultAt plan remembers s (Some t) r = IsResult plan remembers s t r
+abbrev pub IsResultAt : Plan → Moment → Memories → Seen → Option Task → Outcome → Type 0
+IsResultAt plan m remembers s None r = Unit {0}
+IsResultAt plan m remembers s (Some t) r = IsResult plan m remembers s t r

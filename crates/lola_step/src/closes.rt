@@ -1,20 +1,19 @@
 //! The close clauses of a step.
 
-ghost use Rattle.std.specs.Prelude.{◌≡◌, ◌+◌, ◌<◌, ◌≤◌, [], ◌++◌, IsTrue, Some, length, reverse, slice_get, vec_len};
+ghost use Rattle.std.specs.Prelude.{◌≡◌, ◌+◌, ◌<◌, ◌≤◌, [], ◌++◌, IsTrue, Some, length, reverse, slice_get, true, vec_len};
 ghost use Rattle.std.specs.Vec.{vec_capacity};
-ghost use Rattle.lola_value.specs.declared.value.Params.{Params};
-ghost use Rattle.lola_value.specs.Kinds.{are_of_kinds};
-ghost use Rattle.lola_value.specs.Naming.{Naming, the_values};
+ghost use Rattle.lola_value.specs.Naming.{Naming};
+ghost use Rattle.lola_value.specs.Times.{latest};
 ghost use Rattle.lola_model.specs.Acceptance.{IsAccepted};
 ghost use Rattle.lola_model.specs.Content.{Content};
-ghost use Rattle.lola_model.specs.Model.{close_pacing, when_answer};
-ghost use Rattle.lola_model.specs.Store.{IsRunning, Stands, instances_seen, layout_of, parameters_of, spawns_in};
-ghost use Rattle.lola_ready.specs.Ready.{IsClauseAskable};
+ghost use Rattle.lola_model.specs.Model.{close_pacing};
+ghost use Rattle.lola_model.specs.Store.{IsRunning, Stands, instances_seen, layout_of, spawns_in};
 ghost use Rattle.lola_stages.specs.Ends.{closed_each};
-ghost use Rattle.lola_step.specs.Clauses.{IsAnswer};
-ghost use Rattle.lola_step.specs.Closings.{AreUpTo, FindsAmong, FindsIn, closed_by};
+ghost use Rattle.lola_step.specs.Clauses.{IsAnswer, closing_answer};
+ghost use Rattle.lola_step.specs.Closings.{AreUpTo, FindsAmong, FindsIn, MayAskClosing, closed_by};
 ghost use Rattle.lola_step.specs.Ends.{FindsClosings};
 ghost use Rattle.lola_step.specs.Found.{add_fault};
+ghost use Rattle.lola_step.specs.Moments.{active_for_in, born_seen, may_be_active_in};
 ghost use Rattle.lola_step.specs.Notes.{AreClosable, places_of};
 ghost use Rattle.lola_step.specs.Progress.{IsMomentOf, IsOf};
 ghost use Rattle.lola_step.specs.Rooms.{rooms, total};
@@ -22,7 +21,7 @@ ghost use Rattle.lola_step.specs.Tasks.{params_seen};
 
 use crate::clauses::close_outcome;
 use crate::ends::with_fault;
-use crate::moment::{Moment, is_active};
+use crate::moment::{Moment, is_active_for, may_be_active};
 use crate::tasks::Task;
 use lola_contents::calls::close;
 use lola_model::pacing::{ClausePacings, Pacing};
@@ -39,23 +38,31 @@ fn close_pacing_at(pacings: &[ClausePacings], n: usize) -> &Option<Pacing>
     &pacings[n].close
 }
 
-/// What the close condition of an instance comes to.
+/// What the close condition of an instance comes to: missing where the clause is not active for it.
 fn close_condition<S: StreamStore>(
     plan: &Plan,
+    moment: &Moment,
     clause: &Clause,
+    pacing: &Option<Pacing>,
     store: &S,
     stream: u32,
     index: u32,
 ) -> Outcome
+    requires in_time { moment.now.time ≤ latest }
+    requires may { may_be_active_in moment.now pacing.now ≡ true }
     requires running { IsRunning (S.seen store.now) }
-    requires asks { (p : Params) → IsTrue (are_of_kinds (parameters_of (slice_get (S.seen store.now).layout.streams stream)) (the_values p))
-        → IsClauseAskable (S.seen store.now) p plan.now.spec.texts [] clause.now }
+    requires spawns { IsTrue (spawns_in (slice_get (S.seen store.now).layout.streams stream)) }
+    requires asks { MayAskClosing plan.now moment.now pacing.now (S.seen store.now) stream clause.now }
     requires lives { index < length (instances_seen (S.seen store.now) stream) }
     ensures { IsAnswer plan.now (S.remembers store.now) (S.seen store.now) (params_seen (S.seen store.now) stream index)
-        (λ c p. when_answer plan.now.spec c p clause.now.when) result }
+        (closing_answer plan.now.spec (active_for_in moment.now (born_seen (S.seen store.now) stream index) pacing.now) (Some clause.now)) result }
 {
-    let params = store.params_of(stream, index);
-    close_outcome(plan, clause, &params, store)
+    if is_active_for(moment, pacing, store, stream, index) {
+        let params = store.params_of(stream, index);
+        close_outcome(plan, clause, &params, store)
+    } else {
+        Outcome::Missing
+    }
 }
 
 /// Notes what the close condition of an instance comes to: the instance, where it is true, and the least kind of a fault so far.
@@ -77,36 +84,40 @@ fn note_condition(
     with_fault(condition, least)
 }
 
-/// Lists the instances of a stream whose close condition is true, and answers the least kind of a fault among the conditions.
+/// Lists the instances of a stream whose close condition is true, and answers the least kind of a fault among the conditions. The
+/// condition is asked of the instances for which the clause is active.
 fn find_among<S: StreamStore>(
     plan: &Plan,
+    moment: &Moment,
     clause: &Clause,
+    pacing: &Option<Pacing>,
     store: &S,
     stream: u32,
     closing: &mut Vec<Task>,
 ) -> Option<FaultKind>
+    requires in_time { moment.now.time ≤ latest }
+    requires may { may_be_active_in moment.now pacing.now ≡ true }
     requires running { IsRunning (S.seen store.now) }
     requires layout { (S.seen store.now).layout ≡ layout_of plan.now }
-    requires asks { (p : Params) → IsTrue (are_of_kinds (parameters_of (slice_get (S.seen store.now).layout.streams stream)) (the_values p))
-        → IsClauseAskable (S.seen store.now) p plan.now.spec.texts [] clause.now }
+    requires asks { MayAskClosing plan.now moment.now pacing.now (S.seen store.now) stream clause.now }
     requires stream { stream < length (S.seen store.now).layout.streams }
     requires spawns { IsTrue (spawns_in (slice_get (S.seen store.now).layout.streams stream)) }
     requires closable { AreUpTo (S.seen store.now) (record { stream = stream; index = 0 }) closing.old.items }
     requires room { vec_len closing.old + length (instances_seen (S.seen store.now) stream) ≤ vec_capacity closing.old }
     ensures closable { AreUpTo (S.seen store.now) (record { stream = stream + 1; index = 0 }) closing.new.items }
-    ensures finds { FindsAmong plan.now (S.remembers store.now) (S.seen store.now) clause.now stream result closing.old.items closing.new.items }
+    ensures finds { FindsAmong plan.now moment.now pacing.now (S.remembers store.now) (S.seen store.now) (Some clause.now) stream result closing.old.items closing.new.items }
     ensures count { vec_len closing.new ≤ vec_len closing.old + length (instances_seen (S.seen store.now) stream) }
     ensures capacity { vec_capacity closing.new ≡ vec_capacity closing.old }
 {
     let mut least = None;
     for index in 0..store.instances(stream) {
-        let condition = close_condition(plan, clause, store, stream, index);
+        let condition = close_condition(plan, moment, clause, pacing, store, stream, index);
         least = note_condition(condition, Task { stream, index }, least, closing);
     }
     least
 }
 
-/// The same of a stream, where its close clause is active; where it is not, nothing is listed and there is no fault.
+/// The same of a stream, where its close clause may be active; where it may not, nothing is listed and there is no fault.
 fn find_in_stream<S: StreamStore>(
     plan: &Plan,
     moment: &Moment,
@@ -130,13 +141,11 @@ fn find_in_stream<S: StreamStore>(
     let Some(clause) = &stream.close else {
         return None;
     };
-    if !is_active(
-        moment,
-        close_pacing_at(plan.pacings.as_slice(), number as usize),
-    ) {
+    let pacing = close_pacing_at(plan.pacings.as_slice(), number as usize);
+    if !may_be_active(moment, pacing) {
         return None;
     }
-    find_among(plan, clause, store, number, closing)
+    find_among(plan, moment, clause, pacing, store, number, closing)
 }
 
 /// Lists the instances whose close condition is true, by the streams' numbers and in the order of birth; or answers the first stream of

@@ -7,7 +7,6 @@ ghost use Rattle.lola_value.specs.Times.{latest};
 ghost use Rattle.lola_value.specs.declared.value.Outcome.TheVariants as outcome;
 ghost use Rattle.lola_model.specs.Acceptance.{IsAccepted};
 ghost use Rattle.lola_model.specs.Content.{Content, seen};
-ghost use Rattle.lola_model.specs.Model.{eval_pacing};
 ghost use Rattle.lola_model.specs.Store.{IsRunning, Stands, instances_seen, layout_of};
 ghost use Rattle.lola_contents.specs.Changed.{told};
 ghost use Rattle.lola_stages.specs.Stages.{eval_stage, layer_stage};
@@ -18,26 +17,17 @@ ghost use Rattle.lola_step.specs.Progress.{GoesOn, IsAt, IsMomentOf, IsOf};
 ghost use Rattle.lola_step.specs.Tasks.{AreTasks};
 
 use crate::mark::Mark;
-use crate::moment::{Moment, is_active};
+use crate::moment::{Moment, may_be_active};
 use crate::scratch::Span;
 use crate::spawns::layer_at;
-use crate::tasks::{Task, run_tasks};
+use crate::tasks::{Task, eval_pacing_at, run_tasks};
 use lola_contents::calls::{poison, push};
-use lola_model::pacing::{ClausePacings, Pacing};
 use lola_model::plan::Plan;
 use lola_model::spec::Stream;
 use lola_model::store::StreamStore;
 use lola_port::Gate;
 use lola_value::value::Outcome;
 use std::thread::Threads;
-
-/// The pacing of the eval clause of stream `n`.
-fn eval_pacing_at(pacings: &[ClausePacings], n: usize) -> &Option<Pacing>
-    requires { n < length pacings.now }
-    ensures { result.now ≡ eval_pacing (slice_get pacings.now n) }
-{
-    &pacings[n].eval
-}
 
 /// Whether a spawn clause did not fail.
 fn is_fine(mark: Mark) -> bool
@@ -49,8 +39,8 @@ fn is_fine(mark: Mark) -> bool
     }
 }
 
-/// Whether a stream runs in a layer: it is no input, its instances belong to the layer, its clause is active and its spawn clause did
-/// not fail.
+/// Whether a stream runs in a layer: it is no input, its instances belong to the layer, its clause may be active for some of them and
+/// its spawn clause did not fail.
 fn runs(plan: &Plan, moment: &Moment, marks: &[Mark], layer: u32, n: usize, stream: &Stream) -> bool
     requires few { n ≤ 1024 }
     requires pacings { n < length plan.now.pacings }
@@ -62,7 +52,7 @@ fn runs(plan: &Plan, moment: &Moment, marks: &[Mark], layer: u32, n: usize, stre
     if stream.is_input() || layer_at(plan.layers.as_slice(), 2 * n) != layer {
         return false;
     }
-    is_active(moment, eval_pacing_at(plan.pacings.as_slice(), n)) && is_fine(marks[n])
+    may_be_active(moment, eval_pacing_at(plan.pacings.as_slice(), n)) && is_fine(marks[n])
 }
 
 /// So many tasks of a stream, each with a place for its outcome.
@@ -154,6 +144,7 @@ fn answer_tasks<R: Threads + Sync, S: StreamStore + Sync, G: Gate + Sync>(
     rt: &R,
     gate: &G,
     plan: &Plan,
+    moment: &Moment,
     store: &S,
     tasks: &[Task],
     results: &mut [Outcome],
@@ -163,14 +154,15 @@ fn answer_tasks<R: Threads + Sync, S: StreamStore + Sync, G: Gate + Sync>(
     requires workers { (1 ≤ workers) × (workers ≤ 64) }
     requires places { length results.old ≡ from + length tasks.now }
     requires numbered { length tasks.now < 2 ^ 32 }
+    requires in_time { moment.now.time ≤ latest }
     requires running { IsRunning (S.seen store.now) }
     requires layout { (S.seen store.now).layout ≡ layout_of plan.now }
-    requires ready { AreTasks plan.now (S.seen store.now) tasks.now }
+    requires ready { AreTasks plan.now moment.now (S.seen store.now) tasks.now }
     ensures before { take from results.new ≡ take from results.old }
-    ensures results { AreResults plan.now (S.remembers store.now) (S.seen store.now) tasks.now (drop from results.new) }
+    ensures results { AreResults plan.now moment.now (S.remembers store.now) (S.seen store.now) tasks.now (drop from results.new) }
 {
     let (_, places) = results.split_at_mut(from);
-    run_tasks(rt, gate, plan, store, tasks, places, workers);
+    run_tasks(rt, gate, plan, moment, store, tasks, places, workers);
 }
 
 /// Gives an instance its outcome: others see a fault as poison.
@@ -237,6 +229,7 @@ pub(crate) fn eval_layer<R: Threads + Sync, S: StreamStore + Sync, G: Gate + Syn
         rt,
         gate,
         plan,
+        moment,
         store,
         tasks.as_slice(),
         results.as_mut_slice(),

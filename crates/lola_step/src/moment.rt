@@ -1,11 +1,14 @@
 //! When clauses are active.
 
-ghost use Rattle.std.specs.Prelude.{◌≡◌, ◌≤◌, ◌<◌, ◌^◌, length};
+ghost use Rattle.std.specs.Prelude.{◌≡◌, ◌≤◌, ◌<◌, ◌^◌, IsTrue, None, Some, length, slice_get, true};
 ghost use Rattle.lola_value.specs.Times.{latest};
 ghost use Rattle.lola_model.specs.Activity.{is_deadline as is_deadline_of, satisfies_some as satisfies_some_of};
-ghost use Rattle.lola_step.specs.Moments.{active_in, present_in};
+ghost use Rattle.lola_model.specs.NextStep.{is_local};
+ghost use Rattle.lola_model.specs.Store.{instances_seen, spawns_in};
+ghost use Rattle.lola_step.specs.Moments.{active_for_in, active_in, active_since, born_seen, may_be_active_in, present_in};
 
 use lola_model::pacing::{InputSet, Pacing};
+use lola_model::store::StreamStore;
 use lola_value::rate::Rate;
 use lola_value::value::Outcome;
 
@@ -62,7 +65,8 @@ fn is_deadline(rate: &Rate, after: u64) -> bool
     }
 }
 
-/// Whether a pacing is active: one by inputs at rows that have all of one of its sets, a rate at its deadlines.
+/// Whether a pacing is active for all instances alike: one by inputs at rows that have all of one of its sets, a rate at its deadlines.
+/// A local rate, which counts from the birth of each instance, never is.
 pub(crate) fn is_active(moment: &Moment, pacing: &Option<Pacing>) -> bool
     requires in_time { moment.now.time ≤ latest }
     requires order { moment.now.start ≤ moment.now.time }
@@ -79,5 +83,51 @@ pub(crate) fn is_active(moment: &Moment, pacing: &Option<Pacing>) -> bool
             None => is_deadline(rate, moment.time - moment.start),
         },
         Some(Pacing::Local(_)) => false,
+    }
+}
+
+/// Whether a pacing may be active for some instance: a local rate may at each moment of deadlines.
+pub(crate) fn may_be_active(moment: &Moment, pacing: &Option<Pacing>) -> bool
+    requires in_time { moment.now.time ≤ latest }
+    requires order { moment.now.start ≤ moment.now.time }
+    ensures { result ≡ may_be_active_in moment.now pacing.now }
+{
+    match pacing {
+        Some(Pacing::Local(_)) => match moment.present {
+            None => true,
+            _ => false,
+        },
+        _ => is_active(moment, pacing),
+    }
+}
+
+/// Whether a moment is a deadline of a local rate for an instance that was born at a time.
+fn is_deadline_since(moment: &Moment, born: u64, rate: &Rate) -> bool
+    requires in_time { moment.now.time ≤ latest }
+    ensures { result ≡ active_since moment.now born rate.now }
+{
+    match moment.present {
+        None => is_deadline(rate, moment.time.saturating_sub(born)),
+        _ => false,
+    }
+}
+
+/// Whether a pacing that may be active is so for an instance. The store is asked for its birth only where the rate is local.
+pub(crate) fn is_active_for<S: StreamStore>(
+    moment: &Moment,
+    pacing: &Option<Pacing>,
+    store: &S,
+    stream: u32,
+    index: u32,
+) -> bool
+    requires in_time { moment.now.time ≤ latest }
+    requires may { may_be_active_in moment.now pacing.now ≡ true }
+    requires spawns { is_local pacing.now ≡ true → IsTrue (spawns_in (slice_get (S.seen store.now).layout.streams stream)) }
+    requires lives { index < length (instances_seen (S.seen store.now) stream) }
+    ensures { result ≡ active_for_in moment.now (born_seen (S.seen store.now) stream index) pacing.now }
+{
+    match pacing {
+        Some(Pacing::Local(rate)) => is_deadline_since(moment, store.born(stream, index), rate),
+        _ => true,
     }
 }

@@ -1,12 +1,16 @@
 //! The tasks of a layer.
 
-ghost use Rattle.std.specs.Prelude.{◌≡◌, ◌≤◌, ◌<◌, ◌^◌, ℕ, IsSomeAnd, length, slice_get};
+ghost use Rattle.std.specs.Prelude.{◌≡◌, ◌≤◌, ◌<◌, ◌^◌, ℕ, IsSomeAnd, length, slice_get, true};
+ghost use Rattle.lola_value.specs.Times.{latest};
+ghost use Rattle.lola_model.specs.Model.{eval_pacing};
 ghost use Rattle.lola_model.specs.Store.{IsRunning, layout_of};
 ghost use Rattle.lola_step.specs.Once.{AreReady-prop};
-ghost use Rattle.lola_step.specs.Tasks.{AreReady, AreTasks, IsTask, IsResult, IsResultAt};
+ghost use Rattle.lola_step.specs.Tasks.{AreReady, AreTasks, IsActiveTask, IsOutcome, IsTask, IsResult, IsResultAt};
 
 use crate::clauses::instance_outcome;
+use crate::moment::{Moment, is_active_for};
 use lola_model::job::Job;
+use lola_model::pacing::{ClausePacings, Pacing};
 use lola_model::plan::Plan;
 use lola_model::store::StreamStore;
 use lola_port::Gate;
@@ -21,33 +25,64 @@ pub struct Task {
     pub index: u32,
 }
 
+/// The pacing of the eval clause of stream `n`.
+pub(crate) fn eval_pacing_at(pacings: &[ClausePacings], n: usize) -> &Option<Pacing>
+    requires { n < length pacings.now }
+    ensures { result.now ≡ eval_pacing (slice_get pacings.now n) }
+{
+    &pacings[n].eval
+}
+
 /// Instances to evaluate over a lent store, each a task whose outcome is that of its stream's eval clause.
 #[derive(Drop)]
 pub(crate) struct LayerJob<'a, S: StreamStore> {
     plan: &'a Plan,
+    moment: &'a Moment,
     store: &'a S,
     tasks: &'a [Task],
+    ghost in_time: { moment.now.time ≤ latest },
     ghost running: { IsRunning (S.seen store.now) },
     ghost layout: { (S.seen store.now).layout ≡ layout_of plan.now },
-    ghost ready: { AreReady plan.now (S.seen store.now) tasks.now } by { AreReady-prop plan.now (S.seen store.now) tasks.now },
+    ghost ready: { AreReady plan.now moment.now (S.seen store.now) tasks.now } by { AreReady-prop plan.now moment.now (S.seen store.now) tasks.now },
 }
 
 impl<'a, S: StreamStore> Job for LayerJob<'a, S> {
     ghost tasks = { λ job. length job.tasks.now };
 
-    ghost gives = { λ job i r. IsResultAt job.plan.now (S.remembers job.store.now) (S.seen job.store.now) (slice_get job.tasks.now i) r };
+    ghost gives = { λ job i r. IsResultAt job.plan.now job.moment.now (S.remembers job.store.now) (S.seen job.store.now) (slice_get job.tasks.now i) r };
 
     fn answer(&self, task: u32) -> Outcome {
-        task_outcome(self.plan, self.store, self.tasks[task as usize])
+        task_outcome(
+            self.plan,
+            self.moment,
+            self.store,
+            self.tasks[task as usize],
+        )
     }
 }
 
-/// What the eval clause of a task's stream comes to, for its instance.
-fn task_outcome<S: StreamStore>(plan: &Plan, store: &S, task: Task) -> Outcome
+/// What the eval clause of a task's stream comes to, for its instance: missing where it is not active for it.
+fn task_outcome<S: StreamStore>(plan: &Plan, moment: &Moment, store: &S, task: Task) -> Outcome
+    requires in_time { moment.now.time ≤ latest }
     requires running { IsRunning (S.seen store.now) }
     requires layout { (S.seen store.now).layout ≡ layout_of plan.now }
-    requires ready { IsTask plan.now (S.seen store.now) task }
-    ensures { IsResult plan.now (S.remembers store.now) (S.seen store.now) task result }
+    requires ready { IsTask plan.now moment.now (S.seen store.now) task }
+    ensures { IsResult plan.now moment.now (S.remembers store.now) (S.seen store.now) task result }
+{
+    let pacing = eval_pacing_at(plan.pacings.as_slice(), task.stream as usize);
+    if is_active_for(moment, pacing, store, task.stream, task.index) {
+        active_outcome(plan, store, task)
+    } else {
+        Outcome::Missing
+    }
+}
+
+/// What it comes to where it is active.
+fn active_outcome<S: StreamStore>(plan: &Plan, store: &S, task: Task) -> Outcome
+    requires running { IsRunning (S.seen store.now) }
+    requires layout { (S.seen store.now).layout ≡ layout_of plan.now }
+    requires ready { IsActiveTask plan.now (S.seen store.now) task }
+    ensures { IsOutcome plan.now true (S.remembers store.now) (S.seen store.now) task result }
 {
     let stream = &plan.spec.streams.as_slice()[task.stream as usize];
     match &stream.eval {
@@ -65,6 +100,7 @@ pub(crate) fn run_tasks<R: Threads + Sync, S: StreamStore + Sync, G: Gate + Sync
     rt: &R,
     gate: &G,
     plan: &Plan,
+    moment: &Moment,
     store: &S,
     tasks: &[Task],
     results: &mut [Outcome],
@@ -73,12 +109,18 @@ pub(crate) fn run_tasks<R: Threads + Sync, S: StreamStore + Sync, G: Gate + Sync
     requires workers { (1 ≤ workers) × (workers ≤ 64) }
     requires places { length results.old ≡ length tasks.now }
     requires numbered { length tasks.now < 2 ^ 32 }
+    requires in_time { moment.now.time ≤ latest }
     requires running { IsRunning (S.seen store.now) }
     requires layout { (S.seen store.now).layout ≡ layout_of plan.now }
-    requires ready { AreTasks plan.now (S.seen store.now) tasks.now }
+    requires ready { AreTasks plan.now moment.now (S.seen store.now) tasks.now }
     ensures { (i : ℕ) → i < length tasks.now → IsSomeAnd (slice_get results.new i)
-        (λ r. IsResultAt plan.now (S.remembers store.now) (S.seen store.now) (slice_get tasks.now i) r) }
+        (λ r. IsResultAt plan.now moment.now (S.remembers store.now) (S.seen store.now) (slice_get tasks.now i) r) }
 {
-    let job = LayerJob { plan, store, tasks };
+    let job = LayerJob {
+        plan,
+        moment,
+        store,
+        tasks,
+    };
     run_layer(rt, gate, &job, results, workers);
 }

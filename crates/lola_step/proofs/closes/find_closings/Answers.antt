@@ -17,7 +17,7 @@ returns-in-Some-clause-finds g c =
     let n = c.loop-n.n in
     let new = c.find_in_stream.new.closing.items in
     let at : slice_get plan.spec.streams n ≡ Some c.stream-item.result = read_is c.as_slice-stream-items.result.now plan.spec.streams n c.as_slice-stream-items.ensures c.loop-n-test.true _ c.stream-item.is in
-    finds_closings plan c.requires.accepted m remembers s (Some (n, c.in-Some.kind)) new
+    finds_closings plan c.requires.accepted m remembers s c.requires.of (Some (n, c.in-Some.kind)) new
     (found_fault plan m remembers s n c.stream-item.result at c.loop-n.closing.items new c.loop-n.invariant.found c.in-Some.kind c.in-Some.ensures.finds)
 
 pub loop-n-preserved : goal.loop-n-preserved
@@ -43,4 +43,4 @@ returns-clause-finds g c =
     let remembers = g.S.StreamStore.remembers c.args.store.now in
     let s = g.S.StreamStore.seen c.args.store.now in
     let past : length plan.spec.streams ≤ c.loop-n.n = omega (arith, ap length c.as_slice-stream-items.ensures) in
-    finds_closings plan c.requires.accepted m remembers s None c.loop-n.closing.items (found_all plan m remembers s c.loop-n.n c.loop-n.closing.items past c.loop-n.invariant.found)
+    finds_closings plan c.requires.accepted m remembers s c.requires.of None c.loop-n.closing.items (found_all plan m remembers s c.loop-n.n c.loop-n.closing.items past c.loop-n.invariant.found)

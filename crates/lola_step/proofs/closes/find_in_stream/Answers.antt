@@ -1,8 +1,9 @@
-use Rattle.std.proofs.Common.{◌∙◌, ap, arith, length, slice_get}
+use Rattle.std.proofs.Common.{◌∙◌, ap, arith, length, slice_get, sym}
 use Rattle.std.proofs.lemmas.Option.{slice_get_within}
 use Rattle.lola_model.specs.Model.{close_pacing}
+use Rattle.lola_step.specs.Moments.{may_be_active_in}
 use Rattle.lola_step.proofs.Asking.{closes_asked, closes_spawned, laid_out}
-use Rattle.lola_step.proofs.Conditions.{none_without}
+use Rattle.lola_step.proofs.Conditions.{found_in, none_active, none_without}
 use Rattle.lola_step.proofs.Layouts.{pacings_length}
 use Rattle.lola_step.proofs.closes.find_in_stream.Goals as goal
 
@@ -11,15 +12,21 @@ returns-in_default-clause-finds g c =
     none_without c.args.plan.now c.args.moment.now (g.S.StreamStore.remembers c.args.store.now) (g.S.StreamStore.seen c.args.store.now) c.args.number c.args.stream.now
     c.args.closing.now.items c.in_default.is
 
-pub close_pacing_at-requires : goal.close_pacing_at-requires
-close_pacing_at-requires g c =
+pub close_pacing_at-pacing-requires : goal.close_pacing_at-pacing-requires
+close_pacing_at-pacing-requires g c =
     omega (arith, slice_get_within c.args.plan.now.spec.streams c.args.number c.args.stream.now c.requires.there, pacings_length c.args.plan.now c.requires.accepted, ap length c.as_slice.ensures)
+
+pub returns-then-not-may_be_active-clause-finds : goal.returns-then-not-may_be_active-clause-finds
+returns-then-not-may_be_active-clause-finds g c =
+    let pacing = c.close_pacing_at-pacing.ensures ∙ ap (λ ps. close_pacing (slice_get ps c.args.number)) c.as_slice.ensures in
+    none_active c.args.plan.now c.args.moment.now (g.S.StreamStore.remembers c.args.store.now) (g.S.StreamStore.seen c.args.store.now) c.args.number c.args.stream.now
+    c.args.closing.now.items (sym (ap (may_be_active_in c.args.moment.now) pacing) ∙ (sym c.may_be_active.ensures ∙ c.if-not-may_be_active.true))
 
 pub find_among-requires-clause-asks : goal.find_among-requires-clause-asks
 find_among-requires-clause-asks g c =
     closes_asked c.args.plan.now c.requires.accepted (g.S.StreamStore.seen c.args.store.now) c.requires.of c.args.number c.args.stream.now c.requires.there c.in-Some.clause c.in-Some.is
-    c.args.moment.now c.requires.moment c.requires.running c.close_pacing_at.result.now
-    (c.close_pacing_at.ensures ∙ ap (λ ps. close_pacing (slice_get ps c.args.number)) c.as_slice.ensures) c.if-not-is_active.ensures
+    c.args.moment.now c.requires.moment c.requires.running c.close_pacing_at-pacing.result.now
+    (c.close_pacing_at-pacing.ensures ∙ ap (λ ps. close_pacing (slice_get ps c.args.number)) c.as_slice.ensures)
 
 pub find_among-requires-clause-stream : goal.find_among-requires-clause-stream
 find_among-requires-clause-stream g c =
@@ -28,3 +35,9 @@ find_among-requires-clause-stream g c =
 pub find_among-requires-clause-spawns : goal.find_among-requires-clause-spawns
 find_among-requires-clause-spawns g c =
     closes_spawned c.args.plan.now c.requires.accepted (g.S.StreamStore.seen c.args.store.now) c.requires.of c.args.number c.args.stream.now c.requires.there c.in-Some.clause c.in-Some.is
+
+pub returns-clause-finds : goal.returns-clause-finds
+returns-clause-finds g c =
+    found_in c.args.plan.now c.args.moment.now (g.S.StreamStore.remembers c.args.store.now) (g.S.StreamStore.seen c.args.store.now) c.args.number c.args.stream.now
+    c.args.closing.now.items c.close_pacing_at-pacing.result.now c.in-Some.clause c.find_among.result c.find_among.new.closing.items
+    (c.close_pacing_at-pacing.ensures ∙ ap (λ ps. close_pacing (slice_get ps c.args.number)) c.as_slice.ensures) c.in-Some.is c.find_among.ensures.finds

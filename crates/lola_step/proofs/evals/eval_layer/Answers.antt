@@ -27,9 +27,12 @@ answer_tasks-requires-clause-numbered g c κs within =
     subst P (sym (c.as_slice.ensures.value ∙ c.gather.ensures.tasks))
     (numbered c.args.plan.now c.args.moment.now c.args.marks.now (g.S.StreamStore.seen c.args.store.now) c.args.layer c.requires.accepted c.requires.at c.requires.moment)
 
+pub answer_tasks-requires-clause-in_time : goal.answer_tasks-requires-clause-in_time
+answer_tasks-requires-clause-in_time g c κs within = omega (arith, c.requires.moment.time_is, c.requires.at.of.in_time)
+
 pub answer_tasks-requires-clause-ready : goal.answer_tasks-requires-clause-ready
 answer_tasks-requires-clause-ready g c κs within =
-    let P : List Task → Type 0 = λ ts. AreTasks c.args.plan.now (g.S.StreamStore.seen c.args.store.now) ts in
+    let P : List Task → Type 0 = λ ts. AreTasks c.args.plan.now c.args.moment.now (g.S.StreamStore.seen c.args.store.now) ts in
     subst P (sym (c.as_slice.ensures.value ∙ c.gather.ensures.tasks))
     (are_tasks c.args.plan.now c.args.moment.now c.args.marks.now (g.S.StreamStore.seen c.args.store.now) c.args.layer c.requires.accepted c.requires.at c.requires.moment)
 
@@ -38,7 +41,7 @@ give_all-requires-clause-can g c =
     let shown = g.S.StreamStore.seen c.args.store.now in
     let tasks = layer_tasks c.args.plan.now c.args.moment.now c.args.marks.now shown c.args.layer 0 c.args.plan.now.spec.streams in
     let fresh = drop c.len-from.result c.answer_tasks.new.results in
-    let A : List Task → Type 0 = λ ts. AreResults c.args.plan.now (g.S.StreamStore.remembers c.args.store.now) shown ts fresh in
+    let A : List Task → Type 0 = λ ts. AreResults c.args.plan.now c.args.moment.now (g.S.StreamStore.remembers c.args.store.now) shown ts fresh in
     let are : A tasks = subst A (c.as_slice.ensures.value ∙ c.gather.ensures.tasks) c.answer_tasks.ensures.results in
     let kept : c.deref.result.now ≡ c.answer_tasks.new.results =
     c.deref.ensures.value ∙ with_items_is c.gather.new.results c.answer_tasks.new.results (c.answer_tasks.auto.results ∙ c.as_mut_slice.ensures.len) in
@@ -68,8 +71,8 @@ module _ (g : Over) (c : After-give_all g) where
   tasks_are : c.gather.new.tasks.items ≡ tasks
   tasks_are = c.gather.ensures.tasks
 
-  are_results : AreResults c.args.plan.now remembers shown tasks fresh
-  are_results = subst (λ ts. AreResults c.args.plan.now remembers shown ts fresh) (c.as_slice.ensures.value ∙ tasks_are) c.answer_tasks.ensures.results
+  are_results : AreResults c.args.plan.now c.args.moment.now remembers shown tasks fresh
+  are_results = subst (λ ts. AreResults c.args.plan.now c.args.moment.now remembers shown ts fresh) (c.as_slice.ensures.value ∙ tasks_are) c.answer_tasks.ensures.results
 
   kept : (with_items c.gather.new.results c.answer_tasks.new.results).items ≡ c.answer_tasks.new.results
   kept = with_items_is c.gather.new.results c.answer_tasks.new.results (c.answer_tasks.auto.results ∙ c.as_mut_slice.ensures.len)

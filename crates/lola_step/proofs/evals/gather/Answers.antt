@@ -6,7 +6,8 @@ use Rattle.lola_stages.specs.Stages.{eval_stage}
 use Rattle.lola_step.specs.Given.{stream_tasks}
 use Rattle.lola_step.specs.Notes.{layer_tasks}
 use Rattle.lola_step.specs.Rooms.{rooms}
-use Rattle.lola_step.proofs.Gathering.{all_rooms, as_many_pacings, drop_here, few_to_come, gathers_places, gathers_spans, gathers_tasks, layer_fits, length_layouts}
+use Rattle.lola_step.proofs.Gathering.{all_rooms, drop_here, few_to_come, gathers_places, gathers_spans, gathers_tasks, layer_fits}
+use Rattle.lola_step.proofs.Layouts.{layouts_length, pacings_length}
 use Rattle.lola_step.proofs.evals.gather.Goals as goal
 
 pub gather_stream-requires : goal.gather_stream-requires
@@ -30,12 +31,12 @@ gather_stream-requires g c =
     ap length c.loop-n.invariant.results ∙ (length-append c.args.results.now.items _ ∙ ap (λ k. length c.args.results.now.items + k) (length-replicate (length c.loop-n.tasks.items) outcome.Missing)) in
     record {
       few = omega (arith, within, c.requires.accepted.named.few_streams);
-      pacings = omega (arith, within, as_many_pacings c.args.plan.now c.requires.accepted);
+      pacings = omega (arith, within, pacings_length c.args.plan.now c.requires.accepted);
       marks = omega (arith, within, c.requires.marks);
       in_time = omega (arith, c.requires.moment.time_is, c.requires.of.in_time);
       order = omega (arith, c.requires.moment.time_is, c.requires.moment.start_is, c.requires.of.order);
       spans = omega (arith, within, c.loop-n.auto.spans, c.requires.spans);
-      store = omega (arith, within, ap (λ l. length l.streams) c.requires.of.layout, length_layouts streams c.args.plan.now.kept);
+      store = omega (arith, within, ap (λ l. length l.streams) c.requires.of.layout, layouts_length streams c.args.plan.now.kept c.args.plan.now.pacings);
       tasks_room = omega (arith, counted, both, fits, few, c.loop-n.tasks.ok.0, c.loop-n.invariant.tasks_room, c.requires.rooms.tasks_room);
       results_room = omega (arith, counted, both, fits, places, c.loop-n.results.ok.0, c.args.results.now.ok.0, c.loop-n.invariant.results_room, c.requires.rooms.results_room);
     }

@@ -1,6 +1,5 @@
 use Rattle.std.proofs.Common.{Some, None}
 use Rattle.lola_step.specs.Ends.{FindsClosings, FindsFault}
-use Rattle.lola_model.proofs.NoLocals.{none_local}
 use Rattle.lola_step.proofs.Endings.{fails_by_closing, fails_by_evaluation, is_done, same_fault, same_spans, same_verdicts}
 use Rattle.lola_step.proofs.step.conclude.Goals as goal
 
@@ -13,7 +12,7 @@ pub returns-in-Some-clause-concludes : goal.returns-in-Some-clause-concludes
 returns-in-Some-clause-concludes g c names rows step run moment noted stands =
     let now = c.args.scratch.now in
     let finds : FindsFault c.args.plan.now c.deref.result.now c.deref-2.result.now c.deref-3.result.now (Some (c.in-Some.stream, c.in-Some.kind)) = c.in-Some.ensures in
-    fails_by_evaluation c.args.plan.now (none_local c.args.plan.now.spec c.args.plan.now.pacings c.requires.accepted.paced) c.args.moment.now now.marks.items now.spans.items now.results.items c.in-Some.stream c.in-Some.kind
+    fails_by_evaluation c.args.plan.now c.args.moment.now now.marks.items now.spans.items now.results.items c.in-Some.stream c.in-Some.kind
     (same_fault c.args.plan.now now.marks.items c.deref.result.now now.spans.items c.deref-2.result.now now.results.items c.deref-3.result.now (Some (c.in-Some.stream, c.in-Some.kind))
     c.deref.ensures.value c.deref-2.ensures.value c.deref-3.ensures.value finds)
     names rows step run noted
@@ -26,7 +25,7 @@ returns-in-Some-find_closings-clause-concludes g c names rows step run moment no
     let kind = c.in-Some-find_closings.kind in
     let finds : FindsClosings c.args.plan.now c.args.moment.now (g.S.StreamStore.remembers c.args.store.now) (g.S.StreamStore.seen c.args.store.now) (Some (stream, kind)) c.find_closings.new.closing.items =
     c.in-Some-find_closings.ensures.finds in
-    fails_by_closing c.args.plan.now (none_local c.args.plan.now.spec c.args.plan.now.pacings c.requires.accepted.paced) c.args.moment.now now.marks.items now.spans.items now.results.items
+    fails_by_closing c.args.plan.now c.args.moment.now now.marks.items now.spans.items now.results.items
     (g.S.StreamStore.remembers c.args.store.now) (g.S.StreamStore.seen c.args.store.now)
     (same_fault c.args.plan.now now.marks.items c.deref.result.now now.spans.items c.deref-2.result.now now.results.items c.deref-3.result.now None
     c.deref.ensures.value c.deref-2.ensures.value c.deref-3.ensures.value none)
@@ -43,7 +42,7 @@ returns-clause-concludes g c names rows step run moment noted stands =
     let none : FindsFault c.args.plan.now c.deref.result.now c.deref-2.result.now c.deref-3.result.now None = c.in_default.ensures in
     let finds : FindsClosings c.args.plan.now c.args.moment.now (g.S.StreamStore.remembers c.args.store.now) (g.S.StreamStore.seen c.args.store.now) None c.find_closings.new.closing.items =
     c.in_default-find_closings.ensures.finds in
-    is_done c.args.plan.now (none_local c.args.plan.now.spec c.args.plan.now.pacings c.requires.accepted.paced) c.args.moment.now now.marks.items now.spans.items now.results.items
+    is_done c.args.plan.now c.args.moment.now now.marks.items now.spans.items now.results.items
     (g.S.StreamStore.remembers c.args.store.now) (g.S.StreamStore.seen c.args.store.now)
     (same_fault c.args.plan.now now.marks.items c.deref.result.now now.spans.items c.deref-2.result.now now.results.items c.deref-3.result.now None
     c.deref.ensures.value c.deref-2.ensures.value c.deref-3.ensures.value none)

@@ -95,5 +95,5 @@ returns-clause-ends g c =
     (remembers c.begin.new.store) (seen c.begin.new.store) (remembers c.tell_inputs.new.store) (seen c.tell_inputs.new.store)
     (remembers c.evaluate.new.store) (seen c.evaluate.new.store) (remembers c.conclude.new.store) (seen c.conclude.new.store)
     c.evaluate.new.scratch c.conclude.result c.conclude.new.scratch.verdicts.items
-    c.make_all_room.ensures.stands c.begin.ensures.stands (ap start_seen e ∙ sym c.requires.start)
+    c.make_all_room.ensures.stands c.begin.ensures.stands (ap start_seen e ∙ sym c.requires.start) (ap (λ (t : Seen). t.layout) e ∙ c.requires.of.layout)
     c.tell_inputs.ensures.takes c.evaluate.ensures.evaluates c.conclude.ensures.concludes

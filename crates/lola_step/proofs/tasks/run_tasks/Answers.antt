@@ -8,9 +8,10 @@ use Rattle.lola_step.proofs.tasks.run_tasks.Goals as goal
 pub invariant_of-job : goal.invariant_of-job
 invariant_of-job g c =
     record {
+      in_time = c.requires.in_time;
       running = c.requires.running;
       layout = c.requires.layout;
-      ready = are_ready c.args.plan.now (g.S.StreamStore.seen c.args.store.now) c.args.tasks.now c.requires.ready;
+      ready = are_ready c.args.plan.now c.args.moment.now (g.S.StreamStore.seen c.args.store.now) c.args.tasks.now c.requires.ready;
     }
 
 pub run_layer-requires-sync-J : goal.run_layer-requires-sync-J

@@ -1,34 +1,24 @@
--- A task has the outcome of its stream's clause.
-use Rattle.std.proofs.Common.{◌≡◌, subst, refl, slice_get, length, get_or, List}
-use Rattle.std.proofs.lemmas.Option.{slice_get_read, slice_get_within}
-use Rattle.lola_model.specs.Store.{instances_seen}
-use Rattle.lola_model.specs.declared.spec.Stream.{Stream}
-use Rattle.lola_step.proofs.Done.{is_result, may_ask, never_without, params_are}
+-- A task has the outcome of its stream's clause where that is active, and else none.
+use Rattle.std.proofs.Common.{Bool, subst, sym, true, false}
+use Rattle.lola_value.specs.declared.value.Outcome.TheVariants as outcome
+use Rattle.lola_step.specs.Tasks.{IsOutcome}
+use Rattle.lola_step.proofs.Done.{is_so, no_result}
 use Rattle.lola_step.proofs.tasks.task_outcome.Goals as goal
 
-pub instance_outcome-requires-clause-asks : goal.instance_outcome-requires-clause-asks
-instance_outcome-requires-clause-asks g c =
-    let s = g.S.StreamStore.seen c.args.store.now in
-    let streams = c.args.plan.now.spec.streams in
-    let read = slice_get_read streams (length streams) c.args.task.stream c.index-as_slice-task.result refl (slice_get_within streams c.args.task.stream c.requires.ready.stream c.requires.ready.stream_is)
-    (subst (λ (xs : List Stream). c.index-as_slice-task.result ≡ get_or xs c.args.task.stream c.index-as_slice-task.result) c.as_slice.ensures c.index-as_slice-task.is) in
-    may_ask c.args.plan.now s c.args.task c.requires.ready c.index-as_slice-task.result c.in-Some.clause c.params_of-params.result
-    c.requires.layout read c.in-Some.is (params_are (slice_get (instances_seen s c.args.task.stream) c.args.task.index) c.params_of-params.result c.params_of-params.ensures.value)
-    c.params_of-params.ensures.kinds
+pub active_outcome-requires-clause-ready : goal.active_outcome-requires-clause-ready
+active_outcome-requires-clause-ready g c =
+    c.requires.ready.active (sym (is_so c.args.plan.now c.args.moment.now (g.S.StreamStore.seen c.args.store.now) c.args.task c.as_slice.result.now c.eval_pacing_at-pacing.result.now
+    c.is_active_for.result true c.as_slice.ensures c.eval_pacing_at-pacing.ensures c.is_active_for.ensures c.if-is_active_for.true))
 
-pub returns-in-Some : goal.returns-in-Some
-returns-in-Some g c =
-    let s = g.S.StreamStore.seen c.args.store.now in
-    let streams = c.args.plan.now.spec.streams in
-    let read = slice_get_read streams (length streams) c.args.task.stream c.index-as_slice-task.result refl (slice_get_within streams c.args.task.stream c.requires.ready.stream c.requires.ready.stream_is)
-    (subst (λ (xs : List Stream). c.index-as_slice-task.result ≡ get_or xs c.args.task.stream c.index-as_slice-task.result) c.as_slice.ensures c.index-as_slice-task.is) in
-    is_result c.args.plan.now (g.S.StreamStore.remembers c.args.store.now) s c.args.task c.index-as_slice-task.result c.in-Some.clause c.params_of-params.result c.instance_outcome.result
-    c.requires.layout read c.in-Some.is (params_are (slice_get (instances_seen s c.args.task.stream) c.args.task.index) c.params_of-params.result c.params_of-params.ensures.value)
-    c.instance_outcome.ensures.kind c.instance_outcome.ensures.answer
+pub returns-then-is_active_for : goal.returns-then-is_active_for
+returns-then-is_active_for g c =
+    subst (λ (b : Bool). IsOutcome c.args.plan.now b (g.S.StreamStore.remembers c.args.store.now) (g.S.StreamStore.seen c.args.store.now) c.args.task c.active_outcome.result)
+    (is_so c.args.plan.now c.args.moment.now (g.S.StreamStore.seen c.args.store.now) c.args.task c.as_slice.result.now c.eval_pacing_at-pacing.result.now
+    c.is_active_for.result true c.as_slice.ensures c.eval_pacing_at-pacing.ensures c.is_active_for.ensures c.if-is_active_for.true) c.active_outcome.ensures
 
-pub returns-in-None : goal.returns-in-None
-returns-in-None g c =
-    let streams = c.args.plan.now.spec.streams in
-    let read = slice_get_read streams (length streams) c.args.task.stream c.index-as_slice-task.result refl (slice_get_within streams c.args.task.stream c.requires.ready.stream c.requires.ready.stream_is)
-    (subst (λ (xs : List Stream). c.index-as_slice-task.result ≡ get_or xs c.args.task.stream c.index-as_slice-task.result) c.as_slice.ensures c.index-as_slice-task.is) in
-    absurd (never_without (slice_get streams c.args.task.stream) c.index-as_slice-task.result c.requires.ready.stream c.requires.ready.clause read c.in-None.is c.requires.ready.stream_is c.requires.ready.clause_is)
+pub returns-else-is_active_for : goal.returns-else-is_active_for
+returns-else-is_active_for g c =
+    subst (λ (b : Bool). IsOutcome c.args.plan.now b (g.S.StreamStore.remembers c.args.store.now) (g.S.StreamStore.seen c.args.store.now) c.args.task outcome.Missing)
+    (is_so c.args.plan.now c.args.moment.now (g.S.StreamStore.seen c.args.store.now) c.args.task c.as_slice.result.now c.eval_pacing_at-pacing.result.now
+    c.is_active_for.result false c.as_slice.ensures c.eval_pacing_at-pacing.ensures c.is_active_for.ensures c.if-is_active_for.false)
+    (no_result c.args.plan.now (g.S.StreamStore.remembers c.args.store.now) (g.S.StreamStore.seen c.args.store.now) c.args.task)

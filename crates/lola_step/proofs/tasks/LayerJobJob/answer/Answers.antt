@@ -10,11 +10,10 @@ pub task_outcome-requires-clause-ready : goal.task_outcome-requires-clause-ready
 task_outcome-requires-clause-ready g c =
     let job = c.args.self.now in
     let read = slice_get-get_or job.tasks.now c.args.task (record { stream = 0; index = 0 }) c.requires in
-    let x = job.ready c.args.task _ read in
-    is_task job.plan.now (g.S.StreamStore.seen job.store.now) _ x.0 x.1
+    is_task job.plan.now job.moment.now (g.S.StreamStore.seen job.store.now) job.tasks.now job.ready c.args.task _ read
 
 pub returns : goal.returns
 returns g c =
     let job = c.args.self.now in
     let read = slice_get-get_or job.tasks.now c.args.task (record { stream = 0; index = 0 }) c.requires in
-    subst (λ (o : Option Task). IsResultAt job.plan.now (g.S.StreamStore.remembers job.store.now) (g.S.StreamStore.seen job.store.now) o c.task_outcome.result) (sym read) c.task_outcome.ensures
+    subst (λ (o : Option Task). IsResultAt job.plan.now job.moment.now (g.S.StreamStore.remembers job.store.now) (g.S.StreamStore.seen job.store.now) o c.task_outcome.result) (sym read) c.task_outcome.ensures
