@@ -1,0 +1,8 @@
+//! The next deadline of the instances of a stream whose rates count from the birth of each, however many they are.
+#![tactic(auto)]
+
+mod due;
+mod queue;
+#[cfg(test)]
+mod tests;
+pub mod times;

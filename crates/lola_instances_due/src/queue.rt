@@ -1,0 +1,119 @@
+//! A queue of births, in the order of their next deadlines.
+
+ghost use Rattle.std.specs.Prelude.{◌≡◌, ℕ, ◌≤◌, ◌<◌, ◌∷◌, slice_index_or, Contains};
+ghost use Rattle.std.specs.List.Sorted.{IsPermutation};
+ghost use Rattle.std.specs.VecDeque.{deque_capacity, deque_len};
+ghost use Rattle.lola_instances_due.specs.Moments.{least_due};
+ghost use Rattle.lola_instances_due.specs.Queues.{births_of, AreInOrder, IsQueue, IsWithout};
+
+use crate::due::{TOO_LATE, next_due};
+use lola_value::rate::Rate;
+use std::collections::VecDeque;
+
+/// The birth of an instance, and its next deadline.
+#[derive(Clone, Copy, Debug)]
+pub struct Entry {
+    pub due: u64,
+    pub born: u64,
+}
+
+// The place behind the entries that are due no later.
+fn place_of(queue: &VecDeque<Entry>, due: u64) -> usize
+    requires { AreInOrder queue.now.items }
+    ensures within { result ≤ deque_len queue.now }
+    ensures before { (k : ℕ) (d : Entry) → k < result → (slice_index_or queue.now.items k d).due ≤ due }
+    ensures behind { (k : ℕ) (d : Entry) → result ≤ k → k < deque_len queue.now → due ≤ (slice_index_or queue.now.items k d).due }
+{
+    queue.partition_point(|e| e.due <= due)
+}
+
+/// One more entry, in room that was made.
+pub fn put(queue: &mut VecDeque<Entry>, entry: Entry)
+    requires room { deque_len queue.old < deque_capacity queue.old }
+    requires order { AreInOrder queue.old.items }
+    ensures order { AreInOrder queue.new.items }
+    ensures entries { IsPermutation (entry ∷ queue.old.items) queue.new.items }
+    ensures capacity { deque_capacity queue.old ≤ deque_capacity queue.new }
+{
+    let place = place_of(queue, entry.due);
+    match queue.insert(place, entry) {
+        Ok(()) => {}
+        Err(_) => {}
+    }
+}
+
+// Sets the first entry to its next deadline, where it was due before a moment.
+fn renew_first(queue: &mut VecDeque<Entry>, rates: &[Rate], moment: u64) -> bool
+    requires { IsQueue rates.now moment queue.old.items }
+    ensures queue { IsQueue rates.now moment queue.new.items }
+    ensures births { IsPermutation (births_of queue.old.items) (births_of queue.new.items) }
+    ensures capacity { deque_capacity queue.old ≤ deque_capacity queue.new }
+{
+    if queue.is_empty() {
+        return false;
+    }
+    let first = queue[0];
+    if moment <= first.due {
+        return false;
+    }
+    let _passed = queue.pop_front();
+    let born = first.born;
+    let due = next_due(rates, born, moment);
+    put(queue, Entry { due, born });
+    true
+}
+
+/// Sets each entry that was due before a moment to its next deadline.
+pub fn renew(queue: &mut VecDeque<Entry>, rates: &[Rate], moment: u64)
+    requires { IsQueue rates.now moment queue.old.items }
+    ensures queue { IsQueue rates.now moment queue.new.items }
+    ensures births { IsPermutation (births_of queue.old.items) (births_of queue.new.items) }
+    ensures capacity { deque_capacity queue.old ≤ deque_capacity queue.new }
+{
+    for _turn in 0..queue.len() {
+        if !renew_first(queue, rates, moment) {
+            return;
+        }
+    }
+}
+
+// The place of an entry with a birth.
+fn place_born(queue: &VecDeque<Entry>, born: u64) -> usize
+    requires { Contains (births_of queue.now.items) born }
+    ensures within { result < deque_len queue.now }
+    ensures born { (d : Entry) → (slice_index_or queue.now.items result d).born ≡ born }
+{
+    for i in 0..queue.len() {
+        if queue[i].born == born {
+            return i;
+        }
+    }
+    unreachable!()
+}
+
+/// Takes an entry with a birth out.
+pub fn take_out(queue: &mut VecDeque<Entry>, born: u64)
+    requires { Contains (births_of queue.old.items) born }
+    ensures without { IsWithout born queue.old.items queue.new.items }
+    ensures capacity { deque_capacity queue.new ≡ deque_capacity queue.old }
+{
+    let place = place_born(queue, born);
+    let _gone = queue.remove(place);
+}
+
+/// The first deadline that is not before `from`. What was due before a moment may stand in the queue for it still; from
+/// that moment on only the entries that are due before `from` are counted anew.
+pub fn least_from(queue: &VecDeque<Entry>, rates: &[Rate], passed: u64, from: u64) -> u64
+    requires { IsQueue rates.now passed queue.now.items }
+    ensures { result ≡ least_due rates.now from (births_of queue.now.items) }
+{
+    let mut least = TOO_LATE;
+    for i in 0..queue.len() {
+        let entry = queue[i];
+        if passed <= from && from <= entry.due {
+            return entry.due.min(least);
+        }
+        least = next_due(rates, entry.born, from).min(least);
+    }
+    least
+}
