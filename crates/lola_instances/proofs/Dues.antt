@@ -1,6 +1,7 @@
 -- The first deadline of many, one after another.
-use Rattle.std.proofs.Common.{◌≡◌, ℕ, zero, suc, ◌+◌, ◌-◌, ◌≤◌, ◌<◌, List, [], ◌∷◌, length, drop, get_or, drop-cons, min, refl, ap, sym, ◌∙◌, arith, Option, Some, None, nat_le, Bool, true, false, if◌then◌else◌}
+use Rattle.std.proofs.Common.{◌≡◌, ℕ, suc, ◌+◌, ◌-◌, ◌≤◌, ◌<◌, List, [], ◌∷◌, length, drop, get_or, drop-cons, min, refl, ap, sym, ◌∙◌, arith, Option, Some, None, nat_le, Bool, true, false, if◌then◌else◌}
 use Rattle.std.specs.Option.{option_map}
+use Rattle.std.proofs.lemmas.List.{drop_all}
 use Rattle.std.proofs.lemmas.Bool.{leb-true, leb-false, le-leb, lt-leb}
 use Rattle.lola_value.specs.Ratio.{Ratio}
 use Rattle.lola_value.specs.Rate.{next_deadline}
@@ -95,13 +96,6 @@ item_first xs i x l e =
     let next : suc i ≡ i + 1 = omega arith in
     drop-cons xs i x l ∙ (λ j. sym e j ∷ drop (next j) xs)
 
--- no item is left
-none_left : {X : Type 0} (xs : List X) (i : ℕ) → length xs ≤ i → drop i xs ≡ []
-none_left [] zero l = refl
-none_left [] (suc i) l = refl
-none_left (x ∷ xs) zero l = absurd (omega arith)
-none_left (x ∷ xs) (suc i) l = none_left xs i (omega arith)
-
 module _ (from : ℕ) (first mine : Option ℕ) where
   pub next_rate : (b : ℕ) (rs : List Ratio) (i : ℕ) (r : Ratio) → i < length rs → r ≡ get_or rs i r → mine ≡ up_to_latest (b + next_deadline r (from - b - 1))
       → earlier (earlier first mine) (in_time (first_due b (drop (i + 1) rs) from)) ≡ earlier first (in_time (first_due b (drop i rs) from))
@@ -122,7 +116,7 @@ module _ (from : ℕ) (first mine : Option ℕ) where
       ∙ ap (λ (xs : List Holdings). in_time (due_since rs from (births_of xs))) (sym (item_first ss i s l at)))
 
 pub last_rate : (b from : ℕ) (rs : List Ratio) (i : ℕ) (first : Option ℕ) → length rs ≤ i → first ≡ earlier first (in_time (first_due b (drop i rs) from))
-last_rate b from rs i first l = sym (ap (λ xs. earlier first (in_time (first_due b xs from))) (none_left rs i l) ∙ earlier_none first)
+last_rate b from rs i first l = sym (ap (λ xs. earlier first (in_time (first_due b xs from))) (drop_all i rs l) ∙ earlier_none first)
 
 pub last_slot : (rs : List Ratio) (from : ℕ) (ss : List Holdings) (i : ℕ) (first : Option ℕ) → length ss ≤ i → first ≡ earlier first (in_time (due_since rs from (births_of (drop i ss))))
-last_slot rs from ss i first l = sym (ap (λ (xs : List Holdings). earlier first (in_time (due_since rs from (births_of xs)))) (none_left ss i l) ∙ earlier_none first)
+last_slot rs from ss i first l = sym (ap (λ (xs : List Holdings). earlier first (in_time (due_since rs from (births_of xs)))) (drop_all i ss l) ∙ earlier_none first)
