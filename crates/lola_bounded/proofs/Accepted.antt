@@ -4,6 +4,7 @@ use Rattle.std.proofs.lemmas.Bool.{leb-true}
 use Rattle.lola_model.specs.Bounds.{ArePanesOf, HasBounds, pacing_at}
 use Rattle.lola_model.specs.Named.{all_windows, is_span}
 use Rattle.lola_model.specs.Store.{StreamLayout, layouts_from}
+use Rattle.lola_model.specs.declared.pacing.ClausePacings.{ClausePacings}
 use Rattle.lola_model.specs.declared.pacing.Pacing.{Pacing}
 use Rattle.lola_model.specs.declared.pacing.Pacing.TheVariants.{Event, Periodic, Local}
 use Rattle.lola_model.specs.declared.plan.PaneSize.{PaneSize}
@@ -60,14 +61,14 @@ first_ge : (ks : List ℕ) → ((k : ℕ) → slice_get ks 0 ≡ Some k → 1 �
 first_ge [] h = omega arith
 first_ge (k ∷ ks) h = h k refl
 
-pub kept_from : (ss : List Stream) (ks : List ℕ) → ((i : ℕ) (k : ℕ) → slice_get ks i ≡ Some k → 1 ≤ k) → (i : ℕ) (l : StreamLayout) → slice_get (layouts_from ss ks) i ≡ Some l → 1 ≤ l.kept
-kept_from [] ks h zero l e = absurd (cc)
-kept_from [] ks h (suc i) l e = absurd (cc)
-kept_from (s ∷ ss) ks h zero l e = subst (λ (z : StreamLayout). 1 ≤ z.kept) (same e) (first_ge ks (λ k q. h 0 k q))
+pub kept_from : (ss : List Stream) (ks : List ℕ) (ps : List ClausePacings) → ((i : ℕ) (k : ℕ) → slice_get ks i ≡ Some k → 1 ≤ k) → (i : ℕ) (l : StreamLayout) → slice_get (layouts_from ss ks ps) i ≡ Some l → 1 ≤ l.kept
+kept_from [] ks ps h zero l e = absurd (cc)
+kept_from [] ks ps h (suc i) l e = absurd (cc)
+kept_from (s ∷ ss) ks ps h zero l e = subst (λ (z : StreamLayout). 1 ≤ z.kept) (same e) (first_ge ks (λ k q. h 0 k q))
   where
     same : {x y : StreamLayout} → Some x ≡ Some y → x ≡ y
     same q = cc
-kept_from (s ∷ ss) ks h (suc i) l e = kept_from ss (drop 1 ks) (rest ks h) i l e
+kept_from (s ∷ ss) ks ps h (suc i) l e = kept_from ss (drop 1 ks) (drop 1 ps) (rest ks h) i l e
   where
     rest : (ks : List ℕ) → ((i : ℕ) (k : ℕ) → slice_get ks i ≡ Some k → 1 ≤ k) → (i : ℕ) (k : ℕ) → slice_get (drop 1 ks) i ≡ Some k → 1 ≤ k
     rest [] h i k e = h i k e

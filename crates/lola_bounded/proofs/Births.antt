@@ -49,9 +49,9 @@ room_few (Some i) n e = cc
 
 -- a stream with one more instance, or none
 
-module _ (running prepared : Bool) (step offset : ℕ) (c y : Crowd) (p : Params) (b : Bool) (h : CrowdRight running prepared step offset c) where
+module _ (running prepared : Bool) (step offset : ℕ) (c y : Crowd) (time : ℕ) (p : Params) (b : Bool) (h : CrowdRight running prepared step offset c) where
   pub spawn_right : (o : Option ℕ) → b ≡ has_room o (length c.slots) → running ≡ true → (c.spawned_at ≡ step → ⊥) → (IsTrue (not b) → y ≡ c)
-      → (IsTrue b → y ≡ record c { spawned_at = step; slots = c.slots ++ newborn c.layout.kept c.windows p ∷ []; spares = y.spares }) → c.spares ≤ y.spares + 1 → AreRight running step offset y
+      → (IsTrue b → y ≡ record c { spawned_at = step; slots = c.slots ++ newborn c.layout.kept c.windows time p ∷ []; spares = y.spares }) → c.spares ≤ y.spares + 1 → AreRight running step offset y
       → CrowdRight running prepared step offset y
   spawn_right o q r u living born spares right = by_room b refl
     where
@@ -62,7 +62,7 @@ module _ (running prepared : Bool) (step offset : ℕ) (c y : Crowd) (p : Params
           let l = room_few o (length c.slots) (sym q ∙ e) in
           let w = ap (λ (z : Crowd). z.layout.spawns) g in
           let at = ap (λ (z : Crowd). z.spawned_at) g in
-          let n : length y.slots ≡ length c.slots + 1 = ap (λ (z : Crowd). length z.slots) g ∙ length-append c.slots (newborn c.layout.kept c.windows p ∷ []) in
+          let n : length y.slots ≡ length c.slots + 1 = ap (λ (z : Crowd). length z.slots) g ∙ length-append c.slots (newborn c.layout.kept c.windows time p ∷ []) in
           let fall = owed_fall prepared running step c.spawned_at y.spawned_at r u at in
           record {
             bad_le = omega (arith, h.bad_le, ap (λ (z : Crowd). z.bad_at) g);
@@ -74,18 +74,18 @@ module _ (running prepared : Bool) (step offset : ℕ) (c y : Crowd) (p : Params
             spares = λ e. omega (arith, h.spares (sym w ∙ e), fall, spares);
           }
 
-pub born_seen : (step : ℕ) (c y : Crowd) (p : Params) → 1 ≤ step → y ≡ record c { spawned_at = step; slots = c.slots ++ newborn c.layout.kept c.windows p ∷ []; spares = y.spares }
-    → crowd_seen step y ≡ record (crowd_seen step c) { spawned = true; instances = map (slot_seen step) c.slots ++ newborn_seen p ∷ [] }
-born_seen step c y p l g =
+pub born_seen : (step : ℕ) (c y : Crowd) (time : ℕ) (p : Params) → 1 ≤ step → y ≡ record c { spawned_at = step; slots = c.slots ++ newborn c.layout.kept c.windows time p ∷ []; spares = y.spares }
+    → crowd_seen step y ≡ record (crowd_seen step c) { spawned = true; instances = map (slot_seen step) c.slots ++ newborn_seen time p ∷ [] }
+born_seen step c y time p l g =
     let b = ap (λ (z : Crowd). z.bad_at) g in
     let s : nat_eq y.spawned_at step ≡ true = eq-eqb y.spawned_at step (ap (λ (z : Crowd). z.spawned_at) g) in
-    let m : map (slot_seen step) y.slots ≡ map (slot_seen step) c.slots ++ newborn_seen p ∷ [] =
+    let m : map (slot_seen step) y.slots ≡ map (slot_seen step) c.slots ++ newborn_seen time p ∷ [] =
     ap (λ (z : Crowd). map (slot_seen step) z.slots) g
-    ∙ (map-append (slot_seen step) c.slots (newborn c.layout.kept c.windows p ∷ []) ∙ ap (λ x. map (slot_seen step) c.slots ++ x ∷ []) (newborn_shows c.layout.kept step c.windows p l)) in
+    ∙ (map-append (slot_seen step) c.slots (newborn c.layout.kept c.windows time p ∷ []) ∙ ap (λ x. map (slot_seen step) c.slots ++ x ∷ []) (newborn_shows c.layout.kept step c.windows time p l)) in
     λ j. record { bad = nat_eq (b j) step; spawned = s j; instances = m j }
 
-module _ (step : ℕ) (c y : Crowd) (p : Params) (b : Bool) (living : IsTrue (not b) → y ≡ c)
-    (born : IsTrue b → y ≡ record c { spawned_at = step; slots = c.slots ++ newborn c.layout.kept c.windows p ∷ []; spares = y.spares }) where
+module _ (step : ℕ) (c y : Crowd) (time : ℕ) (p : Params) (b : Bool) (living : IsTrue (not b) → y ≡ c)
+    (born : IsTrue b → y ≡ record c { spawned_at = step; slots = c.slots ++ newborn c.layout.kept c.windows time p ∷ []; spares = y.spares }) where
   pub spawn_layout : y.layout ≡ c.layout
   spawn_layout = by_room b refl
     where
@@ -105,9 +105,9 @@ same_again [] n c y e q = refl
 same_again (x ∷ cs) zero c y e q = let w : c ≡ x = cc in ap (λ z. z ∷ cs) (q ∙ w)
 same_again (x ∷ cs) (suc n) c y e q = ap (λ zs. x ∷ zs) (same_again cs n c y e q)
 
-pub spawn_seen : (step : ℕ) (cs : List Crowd) (n : ℕ) (c y : Crowd) (p : Params) (b : Bool) → slice_get cs n ≡ Some c → 1 ≤ step → (IsTrue (not b) → y ≡ c)
-    → (IsTrue b → y ≡ record c { spawned_at = step; slots = c.slots ++ newborn c.layout.kept c.windows p ∷ []; spares = y.spares })
+pub spawn_seen : (step : ℕ) (cs : List Crowd) (n : ℕ) (c y : Crowd) (time : ℕ) (p : Params) (b : Bool) → slice_get cs n ≡ Some c → 1 ≤ step → (IsTrue (not b) → y ≡ c)
+    → (IsTrue b → y ≡ record c { spawned_at = step; slots = c.slots ++ newborn c.layout.kept c.windows time p ∷ []; spares = y.spares })
     → map (crowd_seen step) (slice_set cs n y)
-    ≡ (if b then changed_at (map (crowd_seen step) cs) n (λ x. record x { spawned = true; instances = x.instances ++ newborn_seen p ∷ [] }) else map (crowd_seen step) cs)
-spawn_seen step cs n c y p true e l living born = changed_set step cs n c y (λ (x : SeenStream). record x { spawned = true; instances = x.instances ++ newborn_seen p ∷ [] }) e (born_seen step c y p l (born refl))
-spawn_seen step cs n c y p false e l living born = ap (map (crowd_seen step)) (same_again cs n c y e (living refl))
+    ≡ (if b then changed_at (map (crowd_seen step) cs) n (λ x. record x { spawned = true; instances = x.instances ++ newborn_seen time p ∷ [] }) else map (crowd_seen step) cs)
+spawn_seen step cs n c y time p true e l living born = changed_set step cs n c y (λ (x : SeenStream). record x { spawned = true; instances = x.instances ++ newborn_seen time p ∷ [] }) e (born_seen step c y time p l (born refl))
+spawn_seen step cs n c y time p false e l living born = ap (map (crowd_seen step)) (same_again cs n c y e (living refl))

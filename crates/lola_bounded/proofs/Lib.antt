@@ -7,3 +7,4 @@ mod Births
 mod Opened
 mod Preparing
 mod Keeping
+mod Dues

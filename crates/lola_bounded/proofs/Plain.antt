@@ -4,6 +4,7 @@ use Rattle.std.proofs.lemmas.Bool.{eqb-true}
 use Rattle.lola_value.specs.declared.value.Kind.{Kind}
 use Rattle.lola_model.specs.Named.{all_streams, is_well_shaped, is_input_shape, is_output_shape, is_trigger_shape, count_with, has_clause, has_when, is_of_bool}
 use Rattle.lola_model.specs.Store.{StreamLayout, layouts_from}
+use Rattle.lola_model.specs.declared.pacing.ClausePacings.{ClausePacings}
 use Rattle.lola_model.specs.declared.spec.Clause.{Clause}
 use Rattle.lola_model.specs.declared.spec.Sort.{Sort}
 use Rattle.lola_model.specs.declared.spec.Sort.TheVariants as sort
@@ -39,13 +40,13 @@ by_sort s sort.Trigger e f =
     (first (nat_eq (length s.parameters) 0) (not (has_clause s.spawn) && not (has_clause s.close)) (second (not (has_when s.eval)) r (second (nat_eq (count_with s.eval) 1) w one))))
 
 -- a stream without a spawn clause has no parameters, as names promise
-pub plain_of : (ss : List Stream) (kept : List ℕ) → IsTrue (all_streams is_well_shaped ss) → Each (λ (l : StreamLayout). l.spawns ≡ false → l.parameters ≡ []) (layouts_from ss kept)
-plain_of ss kept h = at ss kept h
+pub plain_of : (ss : List Stream) (kept : List ℕ) (pacings : List ClausePacings) → IsTrue (all_streams is_well_shaped ss) → Each (λ (l : StreamLayout). l.spawns ≡ false → l.parameters ≡ []) (layouts_from ss kept pacings)
+plain_of ss kept pacings h = at ss kept pacings h
   where
-    at : (ss : List Stream) (kept : List ℕ) → all_streams is_well_shaped ss ≡ true → (i : ℕ) (l : StreamLayout) → slice_get (layouts_from ss kept) i ≡ Some l → l.spawns ≡ false → l.parameters ≡ []
-    at [] kept h i l e = absurd (cc)
-    at (s ∷ ss) kept h zero l e = subst (λ (y : StreamLayout). y.spawns ≡ false → y.parameters ≡ []) (some_same e) (by_sort s s.sort (first _ _ h))
+    at : (ss : List Stream) (kept : List ℕ) (pacings : List ClausePacings) → all_streams is_well_shaped ss ≡ true → (i : ℕ) (l : StreamLayout) → slice_get (layouts_from ss kept pacings) i ≡ Some l → l.spawns ≡ false → l.parameters ≡ []
+    at [] kept pacings h i l e = absurd (cc)
+    at (s ∷ ss) kept pacings h zero l e = subst (λ (y : StreamLayout). y.spawns ≡ false → y.parameters ≡ []) (some_same e) (by_sort s s.sort (first _ _ h))
       where
         some_same : {x y : StreamLayout} → Some x ≡ Some y → x ≡ y
         some_same q = cc
-    at (s ∷ ss) kept h (suc i) l e = at ss (drop 1 kept) (second _ _ h) i l e
+    at (s ∷ ss) kept pacings h (suc i) l e = at ss (drop 1 kept) (drop 1 pacings) (second _ _ h) i l e

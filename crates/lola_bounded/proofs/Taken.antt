@@ -11,6 +11,7 @@ use Rattle.lola_model.specs.Store.{StreamLayout, gives_kind, kind_in, layouts_fr
 use Rattle.lola_model.specs.Typed.{IsTyped, scope_in, whole_is_typed}
 use Rattle.lola_model.specs.Typing.{Scope, each_part, each_argument, is_certain, is_noted, is_reference, is_typed, noted, part_is_typed, row_holds, same_kind, takes, target_in, window_row}
 use Rattle.lola_model.specs.Wholes.{Whole, condition_wholes, with_wholes, clause_wholes, stream_wholes, wholes_from, noted_kinds, all_wholes}
+use Rattle.lola_model.specs.declared.pacing.ClausePacings.{ClausePacings}
 use Rattle.lola_model.specs.declared.expr.Arguments.{Arguments}
 use Rattle.lola_model.specs.declared.expr.Arguments.TheVariants.{End, More'}
 use Rattle.lola_model.specs.declared.expr.Expr.{Expr}
@@ -115,7 +116,7 @@ module _ (spec : Spec) (i : ℕ) where
   typed w = whole_is_typed spec w
 
   abbrev Row : Type 0
-  Row = HasRow (layouts_from spec.streams []) spec.windows i
+  Row = HasRow (layouts_from spec.streams [] []) spec.windows i
 
   in_whole : (w : Whole) → typed w ≡ true → Contains (listed window_number w.expr) i → Row
   in_whole w h c =
@@ -170,11 +171,11 @@ module _ (spec : Spec) (i : ℕ) where
       let rest = in_streams (n + 1) ss (drop 1 kinds) (wholes_right typed xs ys h) in
       elim (Contains-append_cases (listed_stream window_number s) (listed_streams window_number ss) i c) [ inl a ↦ one a | inr b ↦ rest b ]
 
--- how many values are kept changes no kind
-same_kinds_in : (ss : List Stream) (kept others : List ℕ) (i : ℕ) → kind_in (slice_get (layouts_from ss kept) i) ≡ kind_in (slice_get (layouts_from ss others) i)
-same_kinds_in [] kept others i = refl
-same_kinds_in (s ∷ ss) kept others zero = refl
-same_kinds_in (s ∷ ss) kept others (suc i) = same_kinds_in ss (drop 1 kept) (drop 1 others) i
+-- how many values are kept, and when clauses are evaluated, changes no kind
+same_kinds_in : (ss : List Stream) (kept others : List ℕ) (pacings moments : List ClausePacings) (i : ℕ) → kind_in (slice_get (layouts_from ss kept pacings) i) ≡ kind_in (slice_get (layouts_from ss others moments) i)
+same_kinds_in [] kept others pacings moments i = refl
+same_kinds_in (s ∷ ss) kept others pacings moments zero = refl
+same_kinds_in (s ∷ ss) kept others pacings moments (suc i) = same_kinds_in ss (drop 1 kept) (drop 1 others) (drop 1 pacings) (drop 1 moments) i
 
 -- a window whose row holds takes its target's kind
 takes_of : (streams : List StreamLayout) (o : Option WindowSpec) (w : WindowSpec) (k : Kind) (args : Arguments) → o ≡ Some w → window_row streams o k args ≡ true
@@ -187,11 +188,11 @@ takes_of streams (Some v) w k args e h =
     subst (λ (x : WindowSpec). takes x.using (kind_in (slice_get streams x.target)) ≡ true) same (first (takes v.using t) (same_kind (gives_kind v.using t) k) r)
 
 -- each window's target has a kind that its aggregation takes, as names and kinds promise
-pub taken_of : (spec : Spec) (kept : List ℕ) → IsNamed spec → IsTyped spec
-    → Each (λ (w : WindowSpec). IsTrue (takes w.using (kind_in (slice_get (layouts_from spec.streams kept) w.target)))) spec.windows
-taken_of spec kept named typed i w e =
+pub taken_of : (spec : Spec) (kept : List ℕ) (pacings : List ClausePacings) → IsNamed spec → IsTyped spec
+    → Each (λ (w : WindowSpec). IsTrue (takes w.using (kind_in (slice_get (layouts_from spec.streams kept pacings) w.target)))) spec.windows
+taken_of spec kept pacings named typed i w e =
     let number = has_number 0 (length spec.windows) i i (below_length spec.windows i w e) (omega arith) in
     let numbered = subst (λ (ns : List ℕ). Contains ns i) (sym named.window_numbers) number in
     let row = in_streams spec i 0 spec.streams (noted_kinds spec.streams) typed.typed numbered in
-    let taken = takes_of (layouts_from spec.streams []) (slice_get spec.windows i) w row.0 row.1 e row.2 in
-    subst (λ (k : Kind). takes w.using k ≡ true) (same_kinds_in spec.streams [] kept w.target) taken
+    let taken = takes_of (layouts_from spec.streams [] []) (slice_get spec.windows i) w row.0 row.1 e row.2 in
+    subst (λ (k : Kind). takes w.using k ≡ true) (same_kinds_in spec.streams [] kept [] pacings w.target) taken

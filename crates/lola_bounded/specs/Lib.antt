@@ -6,4 +6,5 @@ pub mod Stages
 pub mod Stores
 pub mod Streams
 pub mod Texts
+pub mod Dues
 pub mod Needing

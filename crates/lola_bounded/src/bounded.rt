@@ -55,6 +55,14 @@ impl StreamStore for BoundedStore {
         reading::params_of(self, stream, index)
     }
 
+    fn born(&self, stream: u32, index: u32) -> u64 {
+        reading::born(self, stream, index)
+    }
+
+    fn local_due(&self, from: u64) -> Option<u64> {
+        reading::local_due(self, from)
+    }
+
     fn push(&mut self, stream: u32, index: u32, value: Value) {
         changes::push(self, stream, index, value)
     }

@@ -7,9 +7,10 @@ ghost use Rattle.lola_value.specs.Naming.{Naming, IsHeld};
 ghost use Rattle.lola_model.specs.Reading.{KeepsAll, KeepsOthers};
 ghost use Rattle.lola_model.specs.Spawning.{has_room, spawn_end};
 ghost use Rattle.lola_model.specs.Store.{Fits, IsRunning, instances_seen, now_seen, is_silent, is_of_kind, kind_in, place_of, spawns_in, has_spawned, after_outcome, after_poison_stream, after_spawn, after_close};
+ghost use Rattle.lola_bounded.specs.Stages.{time_in};
 ghost use Rattle.lola_bounded.specs.Stores.{bounded_seen, bounded_remembers};
 
-use crate::stage::offset_of;
+use crate::stage::{Stage, offset_of, time_of};
 use crate::store::BoundedStore;
 use lola_model::store::SpawnEnd;
 use lola_value::value::{Params, Value};
@@ -68,6 +69,13 @@ pub fn close(s: &mut BoundedStore, stream: u32, index: u32)
     lives.close(index as usize);
 }
 
+/// When the instances are born that are born in this step.
+fn birth_time(stage: Stage) -> u64
+    ensures { result ≡ time_in stage }
+{
+    time_of(stage)
+}
+
 /// A new instance, if it does not live and there is room.
 pub fn spawn(s: &mut BoundedStore, stream: u32, params: Params) -> SpawnEnd
     requires running { IsRunning (bounded_seen s.old) }
@@ -82,6 +90,7 @@ pub fn spawn(s: &mut BoundedStore, stream: u32, params: Params) -> SpawnEnd
 {
     let step = s.step;
     let offset = offset_of(s.stage);
+    let time = birth_time(s.stage);
     let lives = &mut s.streams[stream as usize];
-    lives.spawn(step, offset, params)
+    lives.spawn(step, offset, time, params)
 }

@@ -3,10 +3,11 @@
 ghost use Rattle.std.specs.Prelude.{◌≡◌, ◌≤◌, ◌<◌, ◌++◌, ◌+◌, ◌^◌, nat_eq, if◌then◌else◌, [], ℕ, Some, IfOk, OnOk, drop, length, map, slice_get, unwrap_or};
 ghost use Rattle.lola_value.specs.Naming.{Naming};
 ghost use Rattle.lola_value.specs.declared.value.Kind.TheVariants as kinds;
+ghost use Rattle.lola_model.specs.NextStep.{local_rate_of, local_rates};
 ghost use Rattle.lola_model.specs.Store.{StreamLayout, instances_seen, layout_of, layouts_from, new_seen};
 ghost use Rattle.lola_instance.specs.Unborn.{AllSound};
 ghost use Rattle.lola_instances.specs.Crowds.{Crowd};
-ghost use Rattle.lola_bounded.specs.Opening.{ArePlaces, IsOpened, IsStorable, count_onto, first_kept, one_onto, onto, stream_layout};
+ghost use Rattle.lola_bounded.specs.Opening.{ArePlaces, IsOpened, IsStorable, count_onto, first_kept, first_locals, one_onto, onto, stream_layout};
 ghost use Rattle.lola_bounded.specs.Stores.{bounded_seen, bounded_remembers};
 ghost use Rattle.lola_bounded.specs.Streams.{crowd_layout};
 
@@ -14,8 +15,10 @@ use crate::stage::Stage;
 use crate::store::BoundedStore;
 use lola_instance::window::WindowPanes;
 use lola_instances::instances::Instances;
+use lola_model::pacing::{ClausePacings, Pacing};
 use lola_model::plan::{PaneSize, PaneSizes, Plan};
 use lola_model::spec::{Kinds, Stream, WindowSpec, Windows};
+use lola_value::rate::Rate;
 use lola_value::text::Memory;
 use lola_value::value::Kind;
 use std::alloc::Global;
@@ -65,7 +68,7 @@ fn kind_of(kind: Option<Kind>) -> Kind
 
 /// Whether a stream has a spawn clause.
 fn has_spawn(stream: &Stream) -> bool
-    ensures { result ≡ (stream_layout stream.now 0).spawns }
+    ensures { result ≡ (stream_layout stream.now 0 []).spawns }
 {
     match &stream.spawn {
         None => false,
@@ -78,6 +81,37 @@ fn kept_at(kept: &[u32], i: usize) -> u32
     ensures { result ≡ first_kept (drop i kept.now) }
 {
     if i < kept.len() { kept[i] } else { 1 }
+}
+
+/// The rate of a pacing, behind the others, if it counts from births.
+fn add_local(pacing: &Option<Pacing>, rates: &mut Vec<Rate>) -> Result<(), Memory>
+    ensures { OnOk result (rates.new.items ≡ rates.old.items ++ local_rate_of pacing.now) }
+{
+    if let Some(Pacing::Local(rate)) = pacing {
+        rates.push(*rate)?;
+    }
+    Ok(())
+}
+
+/// The rates of a stream's clauses that count from births.
+fn locals_of(alloc: Global, clauses: &ClausePacings) -> Result<Vec<Rate>, Memory>
+    ensures { IfOk result (λ rates. rates.items ≡ local_rates (Some clauses.now)) }
+{
+    let mut rates = Vec::new(alloc);
+    add_local(&clauses.eval, &mut rates)?;
+    add_local(&clauses.close, &mut rates)?;
+    Ok(rates)
+}
+
+/// The same of the stream of a number.
+fn locals_at(alloc: Global, pacings: &[ClausePacings], i: usize) -> Result<Vec<Rate>, Memory>
+    ensures { IfOk result (λ rates. rates.items ≡ first_locals (drop i pacings.now)) }
+{
+    if i < pacings.len() {
+        locals_of(alloc, &pacings[i])
+    } else {
+        Ok(Vec::new(alloc))
+    }
 }
 
 /// The panes of a window, behind the others, if it is onto the stream.
@@ -157,19 +191,28 @@ fn open(
     number: usize,
     stream: &Stream,
     kept: u32,
+    locals: Vec<Rate>,
     windows: &[WindowSpec],
     sizes: &[PaneSize],
 ) -> Result<Instances, Memory>
     requires kept { 1 ≤ kept }
     requires sizes { length sizes.now ≡ length windows.now }
-    requires sound { AllSound (onto number (stream_layout stream.now kept).kind windows.now sizes.now) }
-    ensures layout { IfOk result (λ l. l.layout ≡ stream_layout stream.now kept) }
+    requires sound { AllSound (onto number (stream_layout stream.now kept locals.items).kind windows.now sizes.now) }
+    ensures layout { IfOk result (λ l. l.layout ≡ stream_layout stream.now kept locals.items) }
     ensures opened { IfOk result (λ l. IsOpened windows.now sizes.now number l) }
 {
     let kind = kind_of(stream.kind);
     let parameters = copy_kinds(alloc, &stream.parameters)?;
     let onto = windows_onto(alloc, number, kind, windows, sizes)?;
-    Instances::create(alloc, kind, parameters, has_spawn(stream), kept, onto)
+    Instances::create(
+        alloc,
+        kind,
+        parameters,
+        has_spawn(stream),
+        kept,
+        locals,
+        onto,
+    )
 }
 
 /// The streams of a new store.
@@ -177,18 +220,20 @@ fn open_all(
     alloc: Global,
     streams: &[Stream],
     kept: &[u32],
+    pacings: &[ClausePacings],
     windows: &[WindowSpec],
     sizes: &[PaneSize],
 ) -> Result<Vec<Instances>, Memory>
     requires sizes { length sizes.now ≡ length windows.now }
-    requires kept { (n : ℕ) (l : StreamLayout) → slice_get (layouts_from streams.now kept.now) n ≡ Some l → 1 ≤ l.kept }
-    requires sound { (n : ℕ) (l : StreamLayout) → slice_get (layouts_from streams.now kept.now) n ≡ Some l → AllSound (onto n l.kind windows.now sizes.now) }
-    ensures layouts { IfOk result (λ ls. map crowd_layout ls.items ≡ layouts_from streams.now kept.now) }
+    requires kept { (n : ℕ) (l : StreamLayout) → slice_get (layouts_from streams.now kept.now pacings.now) n ≡ Some l → 1 ≤ l.kept }
+    requires sound { (n : ℕ) (l : StreamLayout) → slice_get (layouts_from streams.now kept.now pacings.now) n ≡ Some l → AllSound (onto n l.kind windows.now sizes.now) }
+    ensures layouts { IfOk result (λ ls. map crowd_layout ls.items ≡ layouts_from streams.now kept.now pacings.now) }
     ensures opened { IfOk result (λ ls. (n : ℕ) (c : Crowd) → slice_get ls.items n ≡ Some c → IsOpened windows.now sizes.now n c) }
 {
     let mut made = Vec::new(alloc);
     for (i, stream) in streams.iter().enumerate() {
-        let lives = open(alloc, i, stream, kept_at(kept, i), windows, sizes)?;
+        let locals = locals_at(alloc, pacings, i)?;
+        let lives = open(alloc, i, stream, kept_at(kept, i), locals, windows, sizes)?;
         made.push(lives)?;
     }
     Ok(made)
@@ -209,6 +254,7 @@ impl BoundedStore {
             alloc,
             plan.spec.streams.as_slice(),
             plan.kept.as_slice(),
+            plan.pacings.as_slice(),
             plan.spec.windows.as_slice(),
             plan.panes.as_slice(),
         )?;

@@ -6,11 +6,15 @@ ghost use Rattle.lola_value.specs.declared.value.Outcome.TheVariants as outcome;
 ghost use Rattle.lola_value.specs.Naming.{Naming, read_outcome, the_values, IsHeldIn};
 ghost use Rattle.lola_model.specs.Store.{Fits, IsRunning, instances_seen, place_of, now_of, max_offset, target_of, pane_of, kept_in, start_seen, time_seen, kind_in, window_kind, is_outcome_of, are_of_kinds, is_well_formed, parameters_of};
 ghost use Rattle.lola_model.specs.Accesses.{from_end};
+ghost use Rattle.lola_model.specs.Dues.{due_seen};
 ghost use Rattle.lola_model.specs.Reading.{held_answer, window_reading};
+ghost use Rattle.lola_instances.specs.Dues.{in_time};
+ghost use Rattle.lola_bounded.specs.Dues.{due_of_crowds};
 ghost use Rattle.lola_bounded.specs.Stores.{bounded_seen, bounded_remembers, panes_kept, values_kept};
 
 use crate::stage::offset_of;
 use crate::store::BoundedStore;
+use lola_instances::due::earlier;
 use lola_instances::instances::Instances;
 use lola_model::spec::WindowSpec;
 use lola_value::value::{Outcome, Params};
@@ -78,6 +82,32 @@ pub fn params_of(s: &BoundedStore, stream: u32, index: u32) -> Params
     ensures places { IsTrue (is_well_formed result) }
 {
     lives_of(s, stream).params_of(index as usize)
+}
+
+/// When an instance was born, by its place.
+pub fn born(s: &BoundedStore, stream: u32, index: u32) -> u64
+    requires { index < length (instances_seen (bounded_seen s.now) stream) }
+    ensures { MatchOption (slice_get (instances_seen (bounded_seen s.now) stream) index) ⊥ (λ x. result ≡ x.born) }
+{
+    lives_of(s, stream).born(index as usize)
+}
+
+/// The first deadline from a moment on of the instances of these streams, if it is a time.
+fn due_of_streams(streams: &[Instances], from: u64) -> Option<u64>
+    ensures { result ≡ in_time (due_of_crowds from streams.now) }
+{
+    let mut first = None;
+    for lives in streams {
+        first = earlier(first, lives.local_due(from));
+    }
+    first
+}
+
+/// The first deadline from a moment on that counts from a birth, if it is a time.
+pub fn local_due(s: &BoundedStore, from: u64) -> Option<u64>
+    ensures { result ≡ due_seen (bounded_seen s.now) from }
+{
+    due_of_streams(s.streams.as_slice(), from)
 }
 
 /// What a window is.

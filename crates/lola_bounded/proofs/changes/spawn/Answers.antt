@@ -3,15 +3,16 @@ use Rattle.lola_value.specs.declared.value.Params.{Params}
 use Rattle.lola_value.specs.Kinds.{are_of_kinds}
 use Rattle.lola_value.specs.Naming.{the_values}
 use Rattle.lola_model.specs.Spawning.{has_room, spawn_end}
-use Rattle.lola_model.specs.Store.{Seen, StreamLayout, after_spawn, changed_at, instances_seen, newborn_seen, parameters_of, place_of}
+use Rattle.lola_model.specs.Store.{Seen, StreamLayout, after_spawn, changed_at, instances_seen, newborn_seen, parameters_of, place_of, time_seen}
 use Rattle.lola_instance.specs.Holdings.{Holdings}
+use Rattle.lola_instances.specs.Births.{newborn}
 use Rattle.lola_instances.specs.Crowds.{RemembersAt, place_in}
 use Rattle.lola_instances.specs.Rights.{AreRight, CrowdRight}
 use Rattle.lola_instances.proofs.Lists.{each-set, same_set}
 use Rattle.lola_bounded.specs.Stages.{phase_in, start_in, time_in, is_on}
 use Rattle.lola_bounded.specs.Stores.{bounded_seen}
 use Rattle.lola_bounded.specs.Streams.{slots_in, slot_at}
-use Rattle.lola_bounded.proofs.Asking.{stream_read, layout_at, place_is, count_is}
+use Rattle.lola_bounded.proofs.Asking.{phase_time, stream_read, layout_at, place_is, count_is}
 use Rattle.lola_bounded.proofs.Births.{spawns_at, unspawned, owed_some, spawn_right, spawn_layout, spawn_windows, spawn_seen}
 use Rattle.lola_bounded.proofs.Changing.{running_is_on, layout_set, placed_set, past_set}
 use Rattle.lola_bounded.proofs.changes.spawn.Goals as goal
@@ -68,8 +69,8 @@ invariant_of-s c =
       begun = s.begun;
       time_ge = s.time_ge;
       right = each-set (CrowdRight (is_on s.stage) s.prepared s.step off) s.streams.items n y s.right
-          (spawn_right (is_on s.stage) s.prepared s.step off l y c.args.params b (s.right n l e) o refl on (unspawned s.step s.streams.items n l e c.requires.first) q.living q.born q.spares right);
-      placed = placed_set s.windows s.sizes s.places.items s.streams.items n l y e (spawn_layout s.step l y c.args.params b q.living q.born) (spawn_windows s.step l y c.args.params b q.living q.born) s.placed;
+          (spawn_right (is_on s.stage) s.prepared s.step off l y c.birth_time-time.result c.args.params b (s.right n l e) o refl on (unspawned s.step s.streams.items n l e c.requires.first) q.living q.born q.spares right);
+      placed = placed_set s.windows s.sizes s.places.items s.streams.items n l y e (spawn_layout s.step l y c.birth_time-time.result c.args.params b q.living q.born) (spawn_windows s.step l y c.birth_time-time.result c.args.params b q.living q.born) s.placed;
     }
 
 pub returns-clause-end : goal.returns-clause-end
@@ -90,8 +91,10 @@ returns-clause-seen c =
     let p = c.args.params in
     let e = stream_read s.streams.items n l c.requires.fits.stream c.index_mut-lives.ensures.value in
     let b = has_room (place_in p l.slots 0) (length l.slots) in
-    let lay = layout_set s.streams.items n l y e (spawn_layout s.step l y p b q.living q.born) in
-    let all = spawn_seen s.step s.streams.items n l y p b e s.step_ge q.living q.born in
+    let lay = layout_set s.streams.items n l y e (spawn_layout s.step l y c.birth_time-time.result p b q.living q.born) in
+    let now : c.birth_time-time.result ≡ time_seen (bounded_seen s) = c.birth_time-time.ensures ∙ sym (phase_time s.stage) in
+    let born = subst (λ (t : ℕ). IsTrue b → y ≡ record l { spawned_at = s.step; slots = l.slots ++ newborn l.layout.kept l.windows t p ∷ []; spares = y.spares }) now q.born in
+    let all = spawn_seen s.step s.streams.items n l y (time_seen (bounded_seen s)) p b e s.step_ge q.living born in
     let room : b ≡ has_room (place_of (bounded_seen s) n p) (length (instances_seen (bounded_seen s) n)) = λ j. has_room (sym (place_is s n l p e) j) (sym (count_is s.step s.streams.items n l e) j) in
     (λ i. record {
       layout = record { streams = lay i; windows = s.windows; panes = s.sizes };
@@ -103,7 +106,7 @@ returns-clause-seen c =
     ∙ (by_room (bounded_seen s) n p b ∙ ap (after_spawn (bounded_seen s) n p) room)
   where
     by_room : (z : Seen) (n : ℕ) (p : Params) (b : Bool)
-        → record z { streams = if b then changed_at z.streams n (λ x. record x { spawned = true; instances = x.instances ++ newborn_seen p ∷ [] }) else z.streams } ≡ after_spawn z n p b
+        → record z { streams = if b then changed_at z.streams n (λ x. record x { spawned = true; instances = x.instances ++ newborn_seen (time_seen z) p ∷ [] }) else z.streams } ≡ after_spawn z n p b
     by_room z n p true = refl
     by_room z n p false = refl
 

@@ -2,7 +2,7 @@ use Rattle.std.proofs.Common.{◌≡◌, ◌∙◌, ◌++◌, ◌∷◌, [], ℕ
 use Rattle.std.proofs.lemmas.List.{map-append}
 use Rattle.std.proofs.lemmas.Option.{slice_get_read}
 use Rattle.lola_model.specs.Store.{layouts_from}
-use Rattle.lola_bounded.specs.Opening.{IsOpened, stream_layout, first_kept}
+use Rattle.lola_bounded.specs.Opening.{IsOpened, stream_layout, first_kept, first_locals}
 use Rattle.lola_bounded.specs.Streams.{crowd_layout}
 use Rattle.lola_bounded.proofs.Opened.{layouts_at, layouts_more, opened_more}
 use Rattle.lola_bounded.proofs.opening.open_all.Goals as goal
@@ -11,33 +11,37 @@ pub open-requires-clause-kept : goal.open-requires-clause-kept
 open-requires-clause-kept c =
     let ss = c.args.streams.now in
     let kept = c.args.kept.now in
+    let pacings = c.args.pacings.now in
     let i = c.loop-i.i in
     let s = c.index-streams-i.result in
-    let at = layouts_at ss kept i s (slice_get_read ss (length ss) i s refl (omega arith) c.index-streams-i.is) in
-    subst (λ (n : ℕ). 1 ≤ n) (sym c.kept_at.ensures) (c.requires.kept i (stream_layout s (first_kept (drop i kept))) at)
+    let at = layouts_at ss kept pacings i s (slice_get_read ss (length ss) i s refl (omega arith) c.index-streams-i.is) in
+    subst (λ (n : ℕ). 1 ≤ n) (sym c.kept_at.ensures) (c.requires.kept i (stream_layout s (first_kept (drop i kept)) (first_locals (drop i pacings))) at)
 
 pub open-requires-clause-sound : goal.open-requires-clause-sound
 open-requires-clause-sound c =
     let ss = c.args.streams.now in
     let kept = c.args.kept.now in
+    let pacings = c.args.pacings.now in
     let i = c.loop-i.i in
     let s = c.index-streams-i.result in
-    let at = layouts_at ss kept i s (slice_get_read ss (length ss) i s refl (omega arith) c.index-streams-i.is) in
-    c.requires.sound i (stream_layout s (first_kept (drop i kept))) at
+    let at = layouts_at ss kept pacings i s (slice_get_read ss (length ss) i s refl (omega arith) c.index-streams-i.is) in
+    c.requires.sound i (stream_layout s (first_kept (drop i kept)) (first_locals (drop i pacings))) at
 
 pub loop-i-preserved : goal.loop-i-preserved
 loop-i-preserved c =
     let ss = c.args.streams.now in
     let kept = c.args.kept.now in
+    let pacings = c.args.pacings.now in
     let i = c.loop-i.i in
     let made = c.loop-i.made.items in
     let p = c.in_ok-lives.lives in
     let s = c.index-streams-i.result in
-    let rest = layouts_from (drop (i + 1) ss) (drop (i + 1) kept) in
+    let rest = layouts_from (drop (i + 1) ss) (drop (i + 1) kept) (drop (i + 1) pacings) in
     let g : c.push.new.self.items ≡ made ++ p ∷ [] = c.in_ok-push.ensures.items in
-    let lay : crowd_layout p ≡ stream_layout s (first_kept (drop i kept)) = c.in_ok-lives.ensures.layout ∙ ap (stream_layout s) c.kept_at.ensures in
+    let lay : crowd_layout p ≡ stream_layout s (first_kept (drop i kept)) (first_locals (drop i pacings)) =
+    c.in_ok-lives.ensures.layout ∙ (λ j. stream_layout s (c.kept_at.ensures j) (c.in_ok-locals.ensures j)) in
     let l : i < length ss = omega arith in
-    let more = layouts_more ss kept i s l c.index-streams-i.is in
+    let more = layouts_more ss kept pacings i s l c.index-streams-i.is in
     let n = c.loop-i.invariant.count in
     record {
       count = omega (arith, ap length g, length-append made (p ∷ []), n);
