@@ -88,7 +88,7 @@ instances_silent step [] h = refl
 instances_silent step (x ∷ xs) h =
     let e = not_shown step x (h 0 x refl) in
     let r = instances_silent step xs (λ i y q. h (suc i) y q) in
-    λ i. record { params = x.params; outcome = e i } ∷ r i
+    λ i. record { params = x.params; born = x.born; outcome = e i } ∷ r i
 
 pub populations_quiet : (on prepared : Bool) (step : ℕ) (ls : List Population) → Each (PopulationRight on prepared step) ls → map (population_seen (step + 1)) ls ≡ map quiet (map (population_seen step) ls)
 populations_quiet on prepared step [] h = refl

@@ -70,12 +70,12 @@ changed_set step [] n l y g e q = absurd (cc)
 changed_set step (x ∷ ls) zero l y g e q = let w : l ≡ x = cc in ap (λ z. z ∷ map (population_seen step) ls) (q ∙ ap (λ z. g (population_seen step z)) w)
 changed_set step (x ∷ ls) (suc n) l y g e q = ap (λ zs. population_seen step x ∷ zs) (changed_set step ls n l y g e q)
 
-pub told_set : (step : ℕ) (xs : List Instance) (i : ℕ) (x y : Instance) (o : Outcome) → slice_get xs i ≡ Some x → instance_seen step y ≡ record { params = x.params; outcome = o }
+pub told_set : (step : ℕ) (xs : List Instance) (i : ℕ) (x y : Instance) (o : Outcome) → slice_get xs i ≡ Some x → instance_seen step y ≡ record { params = x.params; born = x.born; outcome = o }
     → map (instance_seen step) (slice_set xs i y) ≡ told_at (map (instance_seen step) xs) i o
 told_set step [] i x y o e q = absurd (cc)
 told_set step (a ∷ xs) zero x y o e q =
     let w : x ≡ a = cc in
-    ap (λ z. z ∷ map (instance_seen step) xs) (q ∙ (let f : Instance → SeenInstance = λ z. record { params = z.params; outcome = o } in ap f w))
+    ap (λ z. z ∷ map (instance_seen step) xs) (q ∙ (let f : Instance → SeenInstance = λ z. record { params = z.params; born = z.born; outcome = o } in ap f w))
 told_set step (a ∷ xs) (suc i) x y o e q = ap (λ zs. instance_seen step a ∷ zs) (told_set step xs i x y o e q)
 
 -- what is said of instances where one stream is another
@@ -201,8 +201,8 @@ unspawned step ls n l e h q =
     let at : slice_get (map (population_seen step) ls) n ≡ Some (population_seen step l) = slice_get-map (population_seen step) ls n ∙ ap (option_map (population_seen step)) e in
     no_both (nat_eq l.spawned_at step) (eq-eqb l.spawned_at step q) (subst (λ (o : Option SeenStream). IsTrue (not (has_spawned o))) at h)
 
-pub newborn_right : (k : Kind) (ps : List Kind) (on prepared : Bool) (step : ℕ) (p : Params) (x : Instance) → IsNewborn p x → on ≡ true → 1 ≤ step → IsTrue (are_of_kinds ps (the_values p)) → IsTrue (is_well_formed p) → InstanceRight k ps on prepared step x
-newborn_right k ps on prepared step p x b r g f w =
+pub newborn_right : (k : Kind) (ps : List Kind) (on prepared : Bool) (step at : ℕ) (p : Params) (x : Instance) → IsNewborn at p x → on ≡ true → 1 ≤ step → IsTrue (are_of_kinds ps (the_values p)) → IsTrue (is_well_formed p) → InstanceRight k ps on prepared step x
+newborn_right k ps on prepared step at p x b r g f w =
     let z = b.told_at in
     record {
       told_le = omega arith;
@@ -215,12 +215,12 @@ newborn_right k ps on prepared step p x b r g f w =
       room = omega (arith, x.values.ok.0, ap length b.values, owed_two prepared on step x.told_at, b.room);
     }
 
-pub newborn_silent : (step : ℕ) (p : Params) (x : Instance) → IsNewborn p x → 1 ≤ step → shown step x ≡ outcome.Missing
-newborn_silent step p x b g = let z = b.told_at in ap (λ t. if t then x.outcome else outcome.Missing) (ne_eqb x.told_at step (λ q. omega arith))
+pub newborn_silent : (step at : ℕ) (p : Params) (x : Instance) → IsNewborn at p x → 1 ≤ step → shown step x ≡ outcome.Missing
+newborn_silent step at p x b g = let z = b.told_at in ap (λ t. if t then x.outcome else outcome.Missing) (ne_eqb x.told_at step (λ q. omega arith))
 
-pub newborn_recalls : (time step : ℕ) (names : Naming) (p : Params) (x : Instance) → IsNewborn p x → 1 ≤ step → Recalls time step names x []
-newborn_recalls time step names p x b g =
-    let none = newborn_silent step p x b g in
+pub newborn_recalls : (time step : ℕ) (names : Naming) (at : ℕ) (p : Params) (x : Instance) → IsNewborn at p x → 1 ≤ step → Recalls time step names x []
+newborn_recalls time step names at p x b g =
+    let none = newborn_silent step at p x b g in
     record {
       all = ap (map (read_timed names)) b.values ∙ sym (ap (λ o. one_more time (read_outcome names o)) none);
       held = subst (AllHeld names) (sym b.values) tt;

@@ -1,6 +1,7 @@
 mod Asking
 mod Beginning
 mod Changing
+mod Dues
 mod Lists
 mod Opened
 mod Places

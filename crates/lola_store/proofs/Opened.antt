@@ -6,25 +6,26 @@ use Rattle.lola_value.specs.Naming.{Naming, the_values}
 use Rattle.lola_value.specs.declared.value.Kind.{Kind}
 use Rattle.lola_value.specs.Kinds.{are_of_kinds, is_outcome_of, is_well_formed}
 use Rattle.lola_model.specs.Store.{opened, no_params, newborn_seen, layouts_from}
+use Rattle.lola_model.specs.declared.pacing.ClausePacings.{ClausePacings}
 use Rattle.lola_model.specs.declared.spec.Stream.{Stream}
 use Rattle.lola_store.specs.declared.instance.Instance.{Instance}
 use Rattle.lola_store.specs.declared.population.Population.{Population}
 use Rattle.lola_store.specs.Each.{Each}
 use Rattle.lola_store.specs.Instances.{instance_seen, InstanceRight, Recalls, RecallsAt}
-use Rattle.lola_store.specs.Opening.{AreFirst, IsOpened, stream_layout, first_kept}
+use Rattle.lola_store.specs.Opening.{AreFirst, IsOpened, stream_layout, first_kept, first_locals}
 use Rattle.lola_store.specs.Populations.{IsNewborn, population_layout, population_seen, lives_in, instance_at}
 use Rattle.lola_store.specs.Tallies.{AllOf}
 use Rattle.lola_store.proofs.Beginning.{owed_two}
 use Rattle.lola_store.proofs.Changing.{newborn_silent, newborn_recalls}
 
-first_seen : (spawns : Bool) (xs : List Instance) → AreFirst spawns xs → map (instance_seen 1) xs ≡ (if spawns then [] else newborn_seen no_params ∷ [])
+first_seen : (spawns : Bool) (xs : List Instance) → AreFirst spawns xs → map (instance_seen 1) xs ≡ (if spawns then [] else newborn_seen 0 no_params ∷ [])
 first_seen true xs h = ap (map (instance_seen 1)) h
 first_seen false xs h =
-    let none = newborn_silent 1 no_params h.0 h.2 (omega arith) in
-    let one : instance_seen 1 h.0 ≡ newborn_seen no_params = λ i. record { params = h.2.params_is i; outcome = none i } in
+    let none = newborn_silent 1 0 no_params h.0 h.2 (omega arith) in
+    let one : instance_seen 1 h.0 ≡ newborn_seen 0 no_params = λ i. record { params = h.2.params_is i; born = h.2.born i; outcome = none i } in
     ap (map (instance_seen 1)) h.1 ∙ ap (λ z. z ∷ []) one
 
-first_right : (k : Kind) (x : Instance) → IsNewborn no_params x → InstanceRight k [] false false 1 x
+first_right : (k : Kind) (x : Instance) → IsNewborn 0 no_params x → InstanceRight k [] false false 1 x
 first_right k x b =
     let z = b.told_at in
     record {
@@ -43,7 +44,7 @@ firsts_right k ps true xs f h = subst (Each (InstanceRight k ps false false 1)) 
 firsts_right k ps false xs f h =
     subst (λ (qs : List Kind). Each (InstanceRight k qs false false 1) xs) (sym (f refl)) (subst (Each (InstanceRight k [] false false 1)) (sym h.1) (one h.0 h.2))
   where
-    one : (y : Instance) → IsNewborn no_params y → (i : ℕ) (x : Instance) → slice_get (y ∷ []) i ≡ Some x → InstanceRight k [] false false 1 x
+    one : (y : Instance) → IsNewborn 0 no_params y → (i : ℕ) (x : Instance) → slice_get (y ∷ []) i ≡ Some x → InstanceRight k [] false false 1 x
     one y b zero x e = let q : y ≡ x = cc in subst (InstanceRight k [] false false 1) q (first_right k y b)
     one y b (suc i) x e = absurd (cc)
 
@@ -59,8 +60,8 @@ first_blank : (spawns : Bool) (xs : List Instance) → AreFirst spawns xs → (n
 first_blank true xs h names = subst (Each (λ x. Recalls 0 1 names x [])) (sym h) (λ i x e. absurd (cc))
 first_blank false xs h names = subst (Each (λ x. Recalls 0 1 names x [])) (sym h.1) (one h.0 h.2)
   where
-    one : (y : Instance) → IsNewborn no_params y → (i : ℕ) (x : Instance) → slice_get (y ∷ []) i ≡ Some x → Recalls 0 1 names x []
-    one y b zero x e = let q : y ≡ x = cc in subst (λ (z : Instance). Recalls 0 1 names z []) q (newborn_recalls 0 1 names no_params y b (omega arith))
+    one : (y : Instance) → IsNewborn 0 no_params y → (i : ℕ) (x : Instance) → slice_get (y ∷ []) i ≡ Some x → Recalls 0 1 names x []
+    one y b zero x e = let q : y ≡ x = cc in subst (λ (z : Instance). Recalls 0 1 names z []) q (newborn_recalls 0 1 names 0 no_params y b (omega arith))
     one y b (suc i) x e = absurd (cc)
 
 pub opened_is : (l : Population) → l.bad_at ≡ 0 → l.spawned_at ≡ 0 → l.spares.items ≡ [] → AreFirst l.spawns l.lives.items → IsOpened l
@@ -81,11 +82,13 @@ opened_is l b s e f =
     }
 
 -- one more stream
-pub layouts_more : (ss : List Stream) (kept : List ℕ) (i : ℕ) (s : Stream) → i < length ss → s ≡ get_or ss i s
-    → layouts_from (drop i ss) (drop i kept) ≡ stream_layout s (first_kept (drop i kept)) ∷ layouts_from (drop (i + 1) ss) (drop (i + 1) kept)
-layouts_more ss kept i s l e =
+pub layouts_more : (ss : List Stream) (kept : List ℕ) (ps : List ClausePacings) (i : ℕ) (s : Stream) → i < length ss → s ≡ get_or ss i s
+    → layouts_from (drop i ss) (drop i kept) (drop i ps) ≡ stream_layout s (first_kept (drop i kept)) (first_locals (drop i ps)) ∷ layouts_from (drop (i + 1) ss) (drop (i + 1) kept) (drop (i + 1) ps)
+layouts_more ss kept ps i s l e =
     let cut : drop i ss ≡ s ∷ drop (i + 1) ss = drop-cons ss i s l ∙ (λ j. sym e j ∷ drop (sym (add-one i) j) ss) in
-    ap (λ xs. layouts_from xs (drop i kept)) cut ∙ ap (λ ks. stream_layout s (first_kept (drop i kept)) ∷ layouts_from (drop (i + 1) ss) ks) (drop-drop 1 i kept)
+    let first = stream_layout s (first_kept (drop i kept)) (first_locals (drop i ps)) in
+    ap (λ xs. layouts_from xs (drop i kept) (drop i ps)) cut
+    ∙ (λ j. first ∷ layouts_from (drop (i + 1) ss) (drop-drop 1 i kept j) (drop-drop 1 i ps j))
 
 -- all streams of a new store
 pub all_opened : (ls : List Population) → Each IsOpened ls → map (population_seen 1) ls ≡ map opened (map population_layout ls)

@@ -68,11 +68,11 @@ each-more P xs n y z h e p i x l g =
     ]) refl
 
 pub alike-refl : (x : Instance) → IsAlike x x
-alike-refl x = record { params = refl; told_at = refl; outcome = refl; values = refl; len = refl; capacity = omega arith }
+alike-refl x = record { params = refl; born = refl; told_at = refl; outcome = refl; values = refl; len = refl; capacity = omega arith }
 
 pub alike-trans : (x y z : Instance) → IsAlike x y → IsAlike y z → IsAlike x z
 alike-trans x y z h g =
-    record { params = g.params ∙ h.params; told_at = g.told_at ∙ h.told_at; outcome = g.outcome ∙ h.outcome; values = g.values ∙ h.values; len = g.len ∙ h.len; capacity = omega (arith, h.capacity, g.capacity) }
+    record { params = g.params ∙ h.params; born = g.born ∙ h.born; told_at = g.told_at ∙ h.told_at; outcome = g.outcome ∙ h.outcome; values = g.values ∙ h.values; len = g.len ∙ h.len; capacity = omega (arith, h.capacity, g.capacity) }
 
 pub kept-refl : (l : Population) → IsKept l l
 kept-refl l = record { rest = refl; lives = paired-refl IsAlike alike-refl l.lives.items; len = refl; capacity = omega arith; spares = omega arith; spare = λ h. h }
@@ -158,7 +158,7 @@ instances_still step [] (y ∷ ys) h = absurd h
 instances_still step (x ∷ xs) [] h = absurd h
 instances_still step (x ∷ xs) (y ∷ ys) h =
     let e = alike_shown step x y h.0 in let p = h.0.params in let r = instances_still step xs ys h.1 in
-    λ i. record { params = p i; outcome = e i } ∷ r i
+    let w = h.0.born in λ i. record { params = p i; born = w i; outcome = e i } ∷ r i
 
 pub seen_still : (step : ℕ) (ls ks : List Population) → Paired IsKept ls ks → map (population_seen step) ks ≡ map (population_seen step) ls
 seen_still step [] [] h = refl

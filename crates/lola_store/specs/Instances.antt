@@ -19,7 +19,7 @@ shown step x = if nat_eq x.told_at step then x.outcome else outcome.Missing
 
 -- what others see of it in the step of a number
 abbrev pub instance_seen : ℕ → Instance → SeenInstance
-instance_seen step x = record { params = x.params; outcome = shown step x }
+instance_seen step x = record { params = x.params; born = x.born; outcome = shown step x }
 
 -- a value, if there is one
 abbrev pub item_or_missing : Option Timed → Outcome

@@ -1,3 +1,4 @@
+pub mod Dues
 pub mod Each
 pub mod Instances
 pub mod Opening

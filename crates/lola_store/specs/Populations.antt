@@ -11,7 +11,7 @@ use Rattle.lola_store.specs.Instances.{instance_seen, InstanceRight, owed}
 
 -- what a store has to know of a stream
 abbrev pub population_layout : Population → StreamLayout
-population_layout l = record { kind = l.kind; parameters = l.parameters; spawns = l.spawns; kept = l.kept }
+population_layout l = record { kind = l.kind; parameters = l.parameters; spawns = l.spawns; kept = l.kept; locals = l.locals.items }
 
 -- what others see of a stream in the step of a number
 abbrev pub population_seen : ℕ → Population → SeenStream
@@ -37,19 +37,20 @@ pub record PopulationRight (on prepared : Bool) (step : ℕ) (l : Population) : 
   pub spares : l.spawns ≡ true → owed prepared on step l.spawned_at ≤ length l.spares.items
   pub spare : Each (λ v. (vec_len v ≡ 0) × (2 ≤ vec_capacity v)) l.spares.items
 
--- an instance that was just born, in room that was kept for its values
-pub record IsNewborn (params : Params) (x : Instance) : Type 0 where
+-- an instance that was just born at this time, in room that was kept for its values
+pub record IsNewborn (time : ℕ) (params : Params) (x : Instance) : Type 0 where
   pub params_is : x.params ≡ params
+  pub born : x.born ≡ time
   pub told_at : x.told_at ≡ 0
   pub outcome : x.outcome ≡ outcome.Missing
   pub values : x.values.items ≡ []
   pub room : 2 ≤ vec_capacity x.values
 
--- what a birth makes of a stream: one more instance behind the others, and one spare less
-pub record Bore (step : ℕ) (params : Params) (old new : Population) : Type 0 where
+-- what a birth at this time makes of a stream: one more instance behind the others, and one spare less
+pub record Bore (step time : ℕ) (params : Params) (old new : Population) : Type 0 where
   pub x : Instance
   pub lives : new.lives.items ≡ old.lives.items ++ x ∷ []
-  pub newborn : Each (λ v. (vec_len v ≡ 0) × (2 ≤ vec_capacity v)) old.spares.items → IsNewborn params x
+  pub newborn : Each (λ v. (vec_len v ≡ 0) × (2 ≤ vec_capacity v)) old.spares.items → IsNewborn time params x
   pub same : new ≡ record old { spawned_at = step; lives = new.lives; spares = new.spares }
   pub len : vec_len new.lives ≡ vec_len old.lives + 1
   pub capacity : vec_capacity new.lives ≡ vec_capacity old.lives

@@ -8,6 +8,7 @@ use Rattle.lola_store.specs.Each.{Each, Paired}
 -- the same instance, with no less room
 pub record IsAlike (x y : Instance) : Type 0 where
   pub params : y.params ≡ x.params
+  pub born : y.born ≡ x.born
   pub told_at : y.told_at ≡ x.told_at
   pub outcome : y.outcome ≡ x.outcome
   pub values : y.values.items ≡ x.values.items

@@ -7,7 +7,7 @@ ghost use Rattle.lola_value.specs.declared.value.Outcome.TheVariants as outcome;
 ghost use Rattle.lola_value.specs.Naming.{Naming, IsHeld};
 ghost use Rattle.lola_model.specs.Reading.{KeepsAll, KeepsOthers};
 ghost use Rattle.lola_model.specs.Spawning.{has_room, spawn_end};
-ghost use Rattle.lola_model.specs.Store.{Fits, IsRunning, instances_seen, now_seen, is_silent, is_of_kind, kind_in, place_of, spawns_in, has_spawned, after_outcome, after_poison_stream, after_spawn, after_close};
+ghost use Rattle.lola_model.specs.Store.{Fits, IsRunning, instances_seen, now_seen, is_silent, is_of_kind, kind_in, place_of, spawns_in, has_spawned, time_seen, after_outcome, after_poison_stream, after_spawn, after_close};
 ghost use Rattle.lola_store.specs.Stores.{whole_seen, whole_remembers};
 ghost use Rattle.lola_store.specs.Populations.{Bore};
 
@@ -74,16 +74,17 @@ pub fn close(s: &mut WholeStore, stream: u32, index: u32)
     let _gone = population.lives.remove(index as usize);
 }
 
-/// An instance is born from a spare, with no values.
-fn bear(population: &mut Population, step: u64, params: Params)
+/// An instance is born from a spare at a time, with no values.
+fn bear(population: &mut Population, step: u64, time: u64, params: Params)
     requires spare { 1 ≤ length population.old.spares.items }
     requires room { vec_len population.old.lives < vec_capacity population.old.lives }
-    ensures { Bore step params population.old population.new }
+    ensures { Bore step time params population.old population.new }
 {
     population.spawned_at = step;
     if let Some(values) = population.spares.pop() {
         population.lives.push_reserved(Instance {
             params,
+            born: time,
             told_at: 0,
             outcome: Outcome::Missing,
             values,
@@ -91,7 +92,14 @@ fn bear(population: &mut Population, step: u64, params: Params)
     }
 }
 
-/// An instance is born. It does not live yet, and there is room.
+/// When an instance is born that is born in this step.
+fn birth(s: &WholeStore) -> u64
+    ensures { result ≡ time_seen (whole_seen s.now) }
+{
+    time_of(s.stage)
+}
+
+/// An instance is born at the time of this step. It does not live yet, and there is room.
 fn bear_at(s: &mut WholeStore, stream: u32, params: Params)
     requires running { IsRunning (whole_seen s.old) }
     requires fits { Fits (whole_seen s.old) stream params }
@@ -102,9 +110,10 @@ fn bear_at(s: &mut WholeStore, stream: u32, params: Params)
     ensures past { KeepsAll (whole_remembers s.old) (whole_remembers s.new) }
     ensures new { (names : Naming) → whole_remembers s.new names stream (length (instances_seen (whole_seen s.old) stream)) [] }
 {
+    let time = birth(s);
     let step = s.step;
     let population = &mut s.streams[stream as usize];
-    bear(population, step, params);
+    bear(population, step, time, params);
 }
 
 /// A new instance, if it does not live and there is room.

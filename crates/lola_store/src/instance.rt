@@ -16,11 +16,12 @@ use crate::tally::Timed;
 use lola_value::text::Memory;
 use lola_value::value::{Outcome, Params, Value};
 
-/// An instance. Its outcome belongs to the step of its number, and is none of a later one, so that a step begins
-/// without a pass over the instances. Its values include that of this step.
+/// An instance, with the time of its birth. Its outcome belongs to the step of its number, and is none of a later one,
+/// so that a step begins without a pass over the instances. Its values include that of this step.
 #[derive(Drop)]
 pub struct Instance {
     pub params: Params,
+    pub born: u64,
     pub told_at: u64,
     pub outcome: Outcome,
     pub values: Vec<Timed>,
@@ -79,6 +80,7 @@ impl Instance {
     pub fn push(&mut self, step: u64, time: u64, v: Value)
         requires { vec_len self.old.values < vec_capacity self.old.values }
         ensures params { self.new.params ≡ self.old.params }
+        ensures born { self.new.born ≡ self.old.born }
         ensures told_at { self.new.told_at ≡ step }
         ensures outcome { self.new.outcome ≡ outcome.Value v }
         ensures values { self.new.values.items ≡ self.old.values.items ++ record { at = time; item = v } ∷ [] }
@@ -93,6 +95,7 @@ impl Instance {
     /// Poison in this step.
     pub fn poison(&mut self, step: u64)
         ensures params { self.new.params ≡ self.old.params }
+        ensures born { self.new.born ≡ self.old.born }
         ensures told_at { self.new.told_at ≡ step }
         ensures outcome { self.new.outcome ≡ outcome.Poison }
         ensures values { self.new.values ≡ self.old.values }
@@ -104,6 +107,7 @@ impl Instance {
     /// Makes room for two more values. It keeps the room that there is, whatever the answer.
     pub fn make_room(&mut self) -> Result<(), Memory>
         ensures params { self.new.params ≡ self.old.params }
+        ensures born { self.new.born ≡ self.old.born }
         ensures told_at { self.new.told_at ≡ self.old.told_at }
         ensures outcome { self.new.outcome ≡ self.old.outcome }
         ensures values { self.new.values.items ≡ self.old.values.items }

@@ -3,6 +3,7 @@
 
 mod begin;
 mod changes;
+mod due;
 mod instance;
 pub mod law;
 mod opening;

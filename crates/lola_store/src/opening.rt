@@ -1,11 +1,12 @@
 //! A new store.
 
-ghost use Rattle.std.specs.Prelude.{◌≡◌, ◌<◌, ℕ, [], Bool, IfOk, map, drop, length, unwrap_or};
+ghost use Rattle.std.specs.Prelude.{◌≡◌, ◌<◌, ◌++◌, ℕ, [], Bool, IfOk, OnOk, map, drop, length, unwrap_or};
 ghost use Rattle.lola_value.specs.Naming.{Naming};
 ghost use Rattle.lola_value.specs.declared.value.Kind.TheVariants as kinds;
+ghost use Rattle.lola_model.specs.NextStep.{local_rate_of, local_rates};
 ghost use Rattle.lola_model.specs.Store.{layout_of, layouts_from, new_seen, instances_seen};
 ghost use Rattle.lola_store.specs.Each.{Each};
-ghost use Rattle.lola_store.specs.Opening.{IsStorable, IsOpened, AreFirst, stream_layout, first_kept};
+ghost use Rattle.lola_store.specs.Opening.{IsStorable, IsOpened, AreFirst, stream_layout, first_kept, first_locals};
 ghost use Rattle.lola_store.specs.Populations.{population_layout};
 ghost use Rattle.lola_store.specs.Stores.{whole_seen, whole_remembers};
 
@@ -13,8 +14,10 @@ use crate::instance::Instance;
 use crate::population::Population;
 use crate::stage::Stage;
 use crate::store::WholeStore;
+use lola_model::pacing::{ClausePacings, Pacing};
 use lola_model::plan::{PaneSizes, Plan};
 use lola_model::spec::{Kinds, Stream, Windows};
+use lola_value::rate::Rate;
 use lola_value::text::Memory;
 use lola_value::value::{Kind, Outcome, Params, Value};
 use std::alloc::Global;
@@ -70,6 +73,7 @@ fn first_lives(alloc: Global, spawns: bool) -> Result<Vec<Instance>, Memory>
             at2: unused,
             at3: unused,
         },
+        born: 0,
         told_at: 0,
         outcome: Outcome::Missing,
         values,
@@ -92,7 +96,7 @@ fn kind_of(kind: Option<Kind>) -> Kind
 
 /// Whether a stream has a spawn clause.
 fn has_spawn(stream: &Stream) -> bool
-    ensures { result ≡ (stream_layout stream.now 0).spawns }
+    ensures { result ≡ (stream_layout stream.now 0 []).spawns }
 {
     match &stream.spawn {
         None => false,
@@ -101,8 +105,8 @@ fn has_spawn(stream: &Stream) -> bool
 }
 
 /// A stream of a new store.
-fn open(alloc: Global, stream: &Stream, kept: u32) -> Result<Population, Memory>
-    ensures layout { IfOk result (λ l. population_layout l ≡ stream_layout stream.now kept) }
+fn open(alloc: Global, stream: &Stream, kept: u32, locals: Vec<Rate>) -> Result<Population, Memory>
+    ensures layout { IfOk result (λ l. population_layout l ≡ stream_layout stream.now kept locals.items) }
     ensures opened { IfOk result (λ l. IsOpened l) }
 {
     let spawns = has_spawn(stream);
@@ -113,6 +117,7 @@ fn open(alloc: Global, stream: &Stream, kept: u32) -> Result<Population, Memory>
         parameters,
         spawns,
         kept,
+        locals,
         bad_at: 0,
         spawned_at: 0,
         lives,
@@ -127,14 +132,56 @@ fn kept_at(kept: &[u32], i: usize) -> u32
     if i < kept.len() { kept[i] } else { 1 }
 }
 
+/// Puts the rate of a pacing behind these rates, where it counts from births.
+fn add_local(pacing: &Option<Pacing>, rates: &mut Vec<Rate>) -> Result<(), Memory>
+    ensures { OnOk result (rates.new.items ≡ rates.old.items ++ local_rate_of pacing.now) }
+{
+    match pacing {
+        Some(Pacing::Local(rate)) => {
+            rates.push(*rate)?;
+            Ok(())
+        }
+        Some(Pacing::Event(_)) => Ok(()),
+        Some(Pacing::Periodic(_)) => Ok(()),
+        None => Ok(()),
+    }
+}
+
+/// The rates of a stream's clauses that count from births: of the eval clause, then of the close clause.
+fn locals_of(alloc: Global, pacings: &ClausePacings) -> Result<Vec<Rate>, Memory>
+    ensures { IfOk result (λ rates. rates.items ≡ local_rates (Some pacings.now)) }
+{
+    let mut rates = Vec::new(alloc);
+    add_local(&pacings.eval, &mut rates)?;
+    add_local(&pacings.close, &mut rates)?;
+    Ok(rates)
+}
+
+/// Those of a stream by its number.
+fn locals_at(alloc: Global, pacings: &[ClausePacings], i: usize) -> Result<Vec<Rate>, Memory>
+    ensures { IfOk result (λ rates. rates.items ≡ first_locals (drop i pacings.now)) }
+{
+    if i < pacings.len() {
+        locals_of(alloc, &pacings[i])
+    } else {
+        Ok(Vec::new(alloc))
+    }
+}
+
 /// The streams of a new store.
-fn open_all(alloc: Global, streams: &[Stream], kept: &[u32]) -> Result<Vec<Population>, Memory>
-    ensures layouts { IfOk result (λ ls. map population_layout ls.items ≡ layouts_from streams.now kept.now) }
+fn open_all(
+    alloc: Global,
+    streams: &[Stream],
+    kept: &[u32],
+    pacings: &[ClausePacings],
+) -> Result<Vec<Population>, Memory>
+    ensures layouts { IfOk result (λ ls. map population_layout ls.items ≡ layouts_from streams.now kept.now pacings.now) }
     ensures opened { IfOk result (λ ls. Each IsOpened ls.items) }
 {
     let mut made = Vec::new(alloc);
     for (i, stream) in streams.iter().enumerate() {
-        let population = open(alloc, stream, kept_at(kept, i))?;
+        let locals = locals_at(alloc, pacings, i)?;
+        let population = open(alloc, stream, kept_at(kept, i), locals)?;
         made.push(population)?;
     }
     Ok(made)
@@ -149,7 +196,12 @@ impl WholeStore {
     {
         let windows = copy_windows(alloc, &plan.spec.windows)?;
         let sizes = copy_sizes(alloc, &plan.panes)?;
-        let streams = open_all(alloc, plan.spec.streams.as_slice(), plan.kept.as_slice())?;
+        let streams = open_all(
+            alloc,
+            plan.spec.streams.as_slice(),
+            plan.kept.as_slice(),
+            plan.pacings.as_slice(),
+        )?;
         Ok(WholeStore {
             alloc,
             windows,

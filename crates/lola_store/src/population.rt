@@ -7,6 +7,7 @@ ghost use Rattle.lola_store.specs.Instances.{place_in};
 use crate::instance::Instance;
 use crate::tally::Timed;
 use lola_model::spec::Kinds;
+use lola_value::rate::Rate;
 use lola_value::value::{Kind, Params};
 
 /// The instances of a stream. The numbers of steps say when it was poisoned last and when an instance was born
@@ -17,6 +18,8 @@ pub struct Population {
     pub parameters: Kinds,
     pub spawns: bool,
     pub kept: u32,
+    /// The rates of the clauses whose deadlines count from the birth of each instance.
+    pub locals: Vec<Rate>,
     pub bad_at: u64,
     pub spawned_at: u64,
     pub lives: Vec<Instance>,

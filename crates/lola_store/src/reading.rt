@@ -117,6 +117,14 @@ pub fn params_of(s: &WholeStore, stream: u32, index: u32) -> Params
     instance(s, stream, index as usize).params
 }
 
+/// When an instance was born, by its place.
+pub fn born(s: &WholeStore, stream: u32, index: u32) -> u64
+    requires { index < length (instances_seen (whole_seen s.now) stream) }
+    ensures { MatchOption (slice_get (instances_seen (whole_seen s.now) stream) index) ⊥ (λ x. result ≡ x.born) }
+{
+    instance(s, stream, index as usize).born
+}
+
 /// Whether a window is exact and its whole length has not passed since the start.
 fn is_early(exact: bool, start: u64, over: u64, time: u64) -> bool
     ensures { result ≡ (exact && nat_lt time (start + over)) }

@@ -1,7 +1,7 @@
 //! The plain store as a store.
 
 use crate::store::WholeStore;
-use crate::{begin, changes, prepare, reading};
+use crate::{begin, changes, due, prepare, reading};
 use lola_model::store::{SpawnEnd, StreamStore};
 use lola_value::text::Memory;
 use lola_value::value::{Outcome, Params, Value};
@@ -53,6 +53,14 @@ impl StreamStore for WholeStore {
 
     fn params_of(&self, stream: u32, index: u32) -> Params {
         reading::params_of(self, stream, index)
+    }
+
+    fn born(&self, stream: u32, index: u32) -> u64 {
+        reading::born(self, stream, index)
+    }
+
+    fn local_due(&self, from: u64) -> Option<u64> {
+        due::local_due(self, from)
     }
 
     fn push(&mut self, stream: u32, index: u32, value: Value) {

@@ -19,11 +19,11 @@ returns-in-Some c =
     let v = c.in-Some.values in
     let g : old.items ≡ new.items ++ v ∷ [] = c.in-Some.ensures.items in
     record {
-      x = record { params = c.args.params; told_at = 0; outcome = outcome.Missing; values = v };
+      x = record { params = c.args.params; born = c.args.time; told_at = 0; outcome = outcome.Missing; values = v };
       lives = c.push_reserved.ensures.items;
       newborn = λ h.
           let k = h (length new.items) v (ap (λ xs. slice_get xs (length new.items)) g ∙ got_last new.items v) in
-          record { params_is = refl; told_at = refl; outcome = refl; values = no_items v.items (let a = k.0 in omega (arith, a, v.ok.0)); room = k.1 };
+          record { params_is = refl; born = refl; told_at = refl; outcome = refl; values = no_items v.items (let a = k.0 in omega (arith, a, v.ok.0)); room = k.1 };
       same = refl;
       len = c.push_reserved.ensures.len;
       capacity = c.push_reserved.ensures.capacity;

@@ -9,11 +9,12 @@ use Rattle.lola_store.specs.Each.{Each}
 use Rattle.lola_store.specs.Instances.{instance_seen, RecallsAt, InstanceRight}
 use Rattle.lola_store.specs.Populations.{population_layout, population_seen, instance_at, PopulationRight}
 use Rattle.lola_store.specs.Stages.{phase_in, time_in, is_on}
+use Rattle.lola_store.specs.Stores.{whole_seen}
 use Rattle.lola_store.proofs.Lists.{same_set, each-set, each-append, got_last}
 use Rattle.lola_store.proofs.Places.{layout_at}
 use Rattle.lola_store.proofs.Changing.{running_is_on, stream_read, layout_set, changed_set, past_set, owed_fall, owed_some}
 use Rattle.lola_value.specs.Naming.{the_values}
-use Rattle.lola_model.specs.Store.{newborn_seen, are_of_kinds, parameters_of, instances_of}
+use Rattle.lola_model.specs.Store.{newborn_seen, time_seen, are_of_kinds, parameters_of, instances_of}
 use Rattle.lola_store.specs.Populations.{lives_in}
 use Rattle.lola_store.proofs.Places.{lives_count}
 use Rattle.lola_store.proofs.Changing.{spawns_at, unspawned, newborn_right, newborn_recalls, newborn_silent, past_append}
@@ -58,7 +59,7 @@ invariant_of-s c =
     let g : 1 ≤ s.step = s.step_ge in
     let fall = owed_fall s.prepared (is_on s.stage) s.step l.spawned_at s.step on u refl in
     let ks : IsTrue (are_of_kinds l.parameters (the_values c.args.params)) = subst (λ (o : Option StreamLayout). IsTrue (are_of_kinds (parameters_of o) (the_values c.args.params))) (layout_at s.streams.items n l e) c.requires.fits.kinds in
-    let nr = newborn_right l.kind l.parameters (is_on s.stage) s.prepared s.step c.args.params b.x (b.newborn p.spare) on g ks c.requires.fits.places in
+    let nr = newborn_right l.kind l.parameters (is_on s.stage) s.prepared s.step c.birth-time.result c.args.params b.x (b.newborn p.spare) on g ks c.requires.fits.places in
     let few : length l.lives.items < 65536 = let q : length (lives_in (slice_get s.streams.items n)) ≡ length l.lives.items = ap (λ o. length (lives_in o)) e in omega (arith, c.requires.few, lives_count s.step s.streams.items n, q) in
     let kr : PopulationRight (is_on s.stage) s.prepared s.step k = record {
       bad_le = p.bad_le;
@@ -86,13 +87,13 @@ returns-clause-seen c =
     let e = stream_read s.streams.items n l c.requires.fits.stream c.index_mut-population.ensures.value in
     let p = s.right n l e in
     let nb = b.newborn p.spare in
-    let none = newborn_silent s.step c.args.params b.x nb s.step_ge in
+    let none = newborn_silent s.step c.birth-time.result c.args.params b.x nb s.step_ge in
     let t : nat_eq s.step s.step ≡ true = eq-eqb s.step s.step refl in
-    let last : instance_seen s.step b.x ≡ newborn_seen c.args.params = λ i. record { params = nb.params_is i; outcome = none i } in
-    let inner : map (instance_seen s.step) y.lives.items ≡ map (instance_seen s.step) l.lives.items ++ newborn_seen c.args.params ∷ [] =
+    let last : instance_seen s.step b.x ≡ newborn_seen (time_seen (whole_seen s)) c.args.params = (let at = nb.born ∙ c.birth-time.ensures in λ i. record { params = nb.params_is i; born = at i; outcome = none i }) in
+    let inner : map (instance_seen s.step) y.lives.items ≡ map (instance_seen s.step) l.lives.items ++ newborn_seen (time_seen (whole_seen s)) c.args.params ∷ [] =
     ap (map (instance_seen s.step)) b.lives ∙ (map-append (instance_seen s.step) l.lives.items (b.x ∷ []) ∙ ap (λ z. map (instance_seen s.step) l.lives.items ++ z ∷ []) last) in
     let lay = layout_set s.streams.items n l y e (ap population_layout b.same) in
-    let all = changed_set s.step s.streams.items n l y (λ (z : SeenStream). record z { spawned = true; instances = z.instances ++ newborn_seen c.args.params ∷ [] }) e
+    let all = changed_set s.step s.streams.items n l y (λ (z : SeenStream). record z { spawned = true; instances = z.instances ++ newborn_seen (time_seen (whole_seen s)) c.args.params ∷ [] }) e
     (ap (population_seen s.step) b.same ∙ (λ j. record { bad = nat_eq l.bad_at s.step; spawned = t j; instances = inner j })) in
     λ i. record {
       layout = record { streams = lay i; windows = s.windows; panes = s.sizes };
@@ -126,4 +127,4 @@ returns-clause-new c = λ names.
     let at : instance_at (slice_set s.streams.items n y) n (length (instances_of (slice_get (map (population_seen s.step) s.streams.items) n))) ≡ Some b.x =
     ap (λ o. slice_get (lives_in o) (length (instances_of (slice_get (map (population_seen s.step) s.streams.items) n)))) (same_set s.streams.items n l y e)
     ∙ (ap (slice_get y.lives.items) q ∙ (ap (λ xs. slice_get xs (length l.lives.items)) b.lives ∙ got_last l.lives.items b.x)) in
-    subst (λ (o : Option Instance). RecallsAt (time_in s.stage) s.step names o []) (sym at) (newborn_recalls (time_in s.stage) s.step names c.args.params b.x (b.newborn p.spare) s.step_ge)
+    subst (λ (o : Option Instance). RecallsAt (time_in s.stage) s.step names o []) (sym at) (newborn_recalls (time_in s.stage) s.step names c.birth-time.result c.args.params b.x (b.newborn p.spare) s.step_ge)

@@ -74,7 +74,7 @@ returns-clause-seen c =
     let e = found_stream s.step s.streams.items n c.args.index l c.requires.index c.index_mut-population.ensures.value in
     let f = found_instance s.step s.streams.items n c.args.index l x e c.requires.index c.index_mut-life.ensures.value in
     let some = shown_told s.step y (outcome.Value c.args.value) c.push.ensures.told_at c.push.ensures.outcome in
-    let q : instance_seen s.step y ≡ record { params = x.params; outcome = outcome.Value c.args.value } = λ i. record { params = c.push.ensures.params i; outcome = some i } in
+    let q : instance_seen s.step y ≡ record { params = x.params; born = x.born; outcome = outcome.Value c.args.value } = λ i. record { params = c.push.ensures.params i; born = c.push.ensures.born i; outcome = some i } in
     let inner = told_set s.step l.lives.items c.args.index x y (outcome.Value c.args.value) f q in
     let lay = layout_set s.streams.items n l k e refl in
     let all = changed_set s.step s.streams.items n l k (λ (z : SeenStream). record z { instances = told_at z.instances c.args.index (outcome.Value c.args.value) }) e

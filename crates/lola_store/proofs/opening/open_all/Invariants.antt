@@ -7,6 +7,6 @@ use Rattle.lola_store.proofs.opening.open_all.Given as goal
 
 abbrev pub invariant-loop-i : goal.invariant-loop-i
 invariant-loop-i l = record {
-  layouts : map population_layout l.made.items ++ layouts_from (drop l.i l.streams) (drop l.i l.kept) ≡ layouts_from l.streams l.kept;
+  layouts : map population_layout l.made.items ++ layouts_from (drop l.i l.streams) (drop l.i l.kept) (drop l.i l.pacings) ≡ layouts_from l.streams l.kept l.pacings;
   opened : Each IsOpened l.made.items;
 }

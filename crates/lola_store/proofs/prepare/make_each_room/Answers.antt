@@ -13,7 +13,7 @@ returns-in-Err-clause-alike c =
     let i = c.loop-i.i in
     let y = c.index_mut-life.result.now in
     let at : slice_get xs i ≡ Some y = slice_get_read xs (length xs) i y refl (omega (arith, c.loop-i.lives.ok.0, c.loop-i.invariant.len)) c.index_mut-life.ensures.value in
-    paired-set IsAlike alike-trans c.args.lives.now.items xs i y c.make_room.new.self c.loop-i.invariant.paired at (record { params = c.make_room.ensures.params; told_at = c.make_room.ensures.told_at; outcome = c.make_room.ensures.outcome; values = c.make_room.ensures.values; len = c.make_room.ensures.len; capacity = c.make_room.ensures.capacity })
+    paired-set IsAlike alike-trans c.args.lives.now.items xs i y c.make_room.new.self c.loop-i.invariant.paired at (record { params = c.make_room.ensures.params; born = c.make_room.ensures.born; told_at = c.make_room.ensures.told_at; outcome = c.make_room.ensures.outcome; values = c.make_room.ensures.values; len = c.make_room.ensures.len; capacity = c.make_room.ensures.capacity })
 
 pub loop-i-preserved : goal.loop-i-preserved
 loop-i-preserved c =
@@ -22,7 +22,7 @@ loop-i-preserved c =
     let y = c.index_mut-life.result.now in
     let at : slice_get xs i ≡ Some y = slice_get_read xs (length xs) i y refl (omega (arith, c.loop-i.lives.ok.0, c.loop-i.invariant.len)) c.index_mut-life.ensures.value in
     record {
-      paired = paired-set IsAlike alike-trans c.args.lives.now.items xs i y c.make_room.new.self c.loop-i.invariant.paired at (record { params = c.make_room.ensures.params; told_at = c.make_room.ensures.told_at; outcome = c.make_room.ensures.outcome; values = c.make_room.ensures.values; len = c.make_room.ensures.len; capacity = c.make_room.ensures.capacity });
+      paired = paired-set IsAlike alike-trans c.args.lives.now.items xs i y c.make_room.new.self c.loop-i.invariant.paired at (record { params = c.make_room.ensures.params; born = c.make_room.ensures.born; told_at = c.make_room.ensures.told_at; outcome = c.make_room.ensures.outcome; values = c.make_room.ensures.values; len = c.make_room.ensures.len; capacity = c.make_room.ensures.capacity });
       len = c.loop-i.invariant.len;
       capacity = c.loop-i.invariant.capacity;
       done = each-more IsRoomy xs i y c.make_room.new.self c.loop-i.invariant.done at (record { room = c.in-Ok.ensures.ok });

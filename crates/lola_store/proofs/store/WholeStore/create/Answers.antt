@@ -12,7 +12,8 @@ pub invariant_of-result : goal.invariant_of-result
 invariant_of-result c =
     let plan = c.args.plan.now in
     let ls = c.in_ok-streams.streams.items in
-    let lay : map population_layout ls ≡ layouts_from plan.spec.streams plan.kept = c.in_ok-streams.ensures.layouts ∙ (λ i. layouts_from (c.as_slice.ensures i) (c.as_slice-2.ensures i)) in
+    let lay : map population_layout ls ≡ layouts_from plan.spec.streams plan.kept plan.pacings =
+    c.in_ok-streams.ensures.layouts ∙ (λ i. layouts_from (c.as_slice.ensures i) (c.as_slice-2.ensures i) (c.as_slice-3.ensures i)) in
     record {
       step_ge = omega arith;
       right = λ i l e. (c.in_ok-streams.ensures.opened i l e).right
@@ -25,8 +26,9 @@ pub returns-clause-seen : goal.returns-clause-seen
 returns-clause-seen c =
     let plan = c.args.plan.now in
     let ls = c.in_ok-streams.streams.items in
-    let lay : map population_layout ls ≡ layouts_from plan.spec.streams plan.kept = c.in_ok-streams.ensures.layouts ∙ (λ i. layouts_from (c.as_slice.ensures i) (c.as_slice-2.ensures i)) in
-    let q : map (population_seen 1) ls ≡ map opened (layouts_from plan.spec.streams plan.kept) = all_opened ls c.in_ok-streams.ensures.opened ∙ ap (map opened) lay in
+    let lay : map population_layout ls ≡ layouts_from plan.spec.streams plan.kept plan.pacings =
+    c.in_ok-streams.ensures.layouts ∙ (λ i. layouts_from (c.as_slice.ensures i) (c.as_slice-2.ensures i) (c.as_slice-3.ensures i)) in
+    let q : map (population_seen 1) ls ≡ map opened (layouts_from plan.spec.streams plan.kept plan.pacings) = all_opened ls c.in_ok-streams.ensures.opened ∙ ap (map opened) lay in
     λ i. record {
       layout = record { streams = lay i; windows = c.in_ok-windows.ensures i; panes = c.in_ok-sizes.ensures i };
       phase = New;
