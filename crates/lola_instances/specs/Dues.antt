@@ -1,9 +1,11 @@
 -- Which deadline of the instances of a stream comes next.
-use Rattle.std.specs.Prelude.{ℕ, List, [], ◌∷◌, Option, None}
+use Rattle.std.specs.Prelude.{ℕ, ◌≡◌, ◌≤◌, true, List, length, Option}
 use Rattle.std.specs.Option.{option_and_then}
 use Rattle.lola_value.specs.Ratio.{Ratio}
 use Rattle.lola_value.specs.Times.{up_to_latest}
-use Rattle.lola_model.specs.NextStep.{earlier, first_due}
+use Rattle.lola_instance.specs.Holdings.{Holdings}
+use Rattle.lola_instances_due.specs.Dues.{Timetable, due_of_births, is_timed}
+use Rattle.lola_instances.specs.Births.{births_of}
 
 -- a moment, if it is a time
 abbrev pub in_time : Option ℕ → Option ℕ
@@ -11,5 +13,9 @@ in_time t = option_and_then up_to_latest t
 
 -- the first deadline, from a moment on, of rates that count from each of these births
 abbrev pub due_since : List Ratio → ℕ → List ℕ → Option ℕ
-due_since rates from [] = None
-due_since rates from (b ∷ bs) = earlier (first_due b rates from) (due_since rates from bs)
+due_since rates from births = due_of_births rates from births
+
+-- where some rate counts from births, a timetable has those of these instances, and room for as many as were made ahead
+pub record IsDated (slots spares : List Holdings) (t : Timetable) : Type 0 where
+  pub births : is_timed t.rates ≡ true → t.births ≡ births_of slots
+  pub room : is_timed t.rates ≡ true → length spares ≤ t.room

@@ -1,15 +1,14 @@
-//! The first deadline of rates that count from births.
+//! The deadlines of rates that count from births.
 
-ghost use Rattle.std.specs.Prelude.{◌≡◌, ◌+◌, ◌-◌, Some, map};
-ghost use Rattle.lola_value.specs.Rate.{next_deadline};
-ghost use Rattle.lola_value.specs.Times.{up_to_latest};
-ghost use Rattle.lola_model.specs.NextStep.{earlier, first_due};
-ghost use Rattle.lola_instances.specs.Births.{births_of};
-ghost use Rattle.lola_instances.specs.Dues.{due_since, in_time};
+ghost use Rattle.std.specs.Prelude.{◌≡◌, ◌≤◌, [], ◌∷◌, true, IfOk, OnOk, if◌then◌else◌};
+ghost use Rattle.lola_model.specs.NextStep.{earlier};
+ghost use Rattle.lola_instances_due.specs.Dues.{is_timed};
 
-use lola_instance::instance::Instance;
+use crate::directory::Directory;
+use lola_instances_due::times::DueTimes;
 use lola_value::rate::Rate;
-use lola_value::times::LATEST;
+use lola_value::text::Memory;
+use std::alloc::Global;
 
 /// The earlier of two moments, if they are there.
 pub fn earlier(a: Option<u64>, b: Option<u64>) -> Option<u64>
@@ -22,45 +21,37 @@ pub fn earlier(a: Option<u64>, b: Option<u64>) -> Option<u64>
     }
 }
 
-// The moment an offset after another one, if it is a time.
-fn time_after(counted: u64, offset: u64) -> Option<u64>
-    ensures { result ≡ up_to_latest (counted + offset) }
+/// The deadlines of the first instances of a stream: one, born at 0, where there is no spawn clause.
+pub(crate) fn first_dues(alloc: Global, spawns: bool, locals: Vec<Rate>) -> Result<DueTimes, Memory>
+    ensures rates { IfOk result (λ d. d.rates ≡ locals.items) }
+    ensures births { IfOk result (λ d. is_timed d.rates ≡ true → d.births ≡ (if spawns then [] else 0 ∷ [])) }
 {
-    let time = counted.checked_add(offset)?;
-    if time <= LATEST { Some(time) } else { None }
+    let mut dues = DueTimes::create(alloc, locals);
+    if spawns {
+        return Ok(dues);
+    }
+    dues.make_room(1)?;
+    dues.add(0);
+    Ok(dues)
 }
 
-// The first deadline from a moment on of a rate that counts from another, if it is a time.
-fn due_of_rate(rate: &Rate, counted: u64, from: u64) -> Option<u64>
-    ensures { result ≡ up_to_latest (counted + next_deadline rate.now (from - counted - 1)) }
+/// Room for so many more instances, by their parameters and by their births.
+pub(crate) fn make_places(
+    directory: &mut Directory,
+    dues: &mut DueTimes,
+    more: usize,
+) -> Result<(), Memory>
+    ensures kept { directory.new.is_kept ≡ directory.old.is_kept }
+    ensures names { directory.new.names ≡ directory.old.names }
+    ensures room { directory.old.room ≤ directory.new.room }
+    ensures rates { dues.new.rates ≡ dues.old.rates }
+    ensures births { dues.new.births ≡ dues.old.births }
+    ensures dues_room { dues.old.room ≤ dues.new.room }
+    ensures ok { OnOk result (directory.old.is_kept ≡ true → more ≤ directory.new.room) }
+    ensures dues_ok { OnOk result (is_timed dues.old.rates ≡ true → more ≤ dues.new.room) }
 {
-    let passed = from.saturating_sub(counted).saturating_sub(1);
-    let (_, offset) = rate.next_after(passed)?;
-    time_after(counted, offset)
-}
-
-// The first of several rates, if it is a time.
-fn due_of_rates(rates: &[Rate], counted: u64, from: u64) -> Option<u64>
-    ensures { result ≡ in_time (first_due counted rates.now from) }
-{
-    let mut first = None;
-    for rate in rates {
-        first = earlier(first, due_of_rate(rate, counted, from));
+    match directory.make_room(more) {
+        Err(memory) => Err(memory),
+        Ok(()) => dues.make_room(more),
     }
-    first
-}
-
-/// The first deadline from a moment on of rates that count from the birth of each of these instances, if it is a time.
-/// Where there is no rate no instance is looked at.
-pub fn due_of_slots(slots: &[Instance], rates: &[Rate], from: u64) -> Option<u64>
-    ensures { result ≡ in_time (due_since rates.now from (births_of slots.now)) }
-{
-    if rates.is_empty() {
-        return None;
-    }
-    let mut first = None;
-    for slot in slots {
-        first = earlier(first, due_of_rates(rates, slot.born(), from));
-    }
-    first
 }

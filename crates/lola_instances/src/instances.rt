@@ -20,11 +20,12 @@ ghost use Rattle.lola_instances.specs.Texts.{crowd_texts};
 ghost use Rattle.lola_instances.specs.Windowed.{IsWhole, windowed};
 
 use crate::directory::Directory;
-use crate::due::due_of_slots;
+use crate::due::{first_dues, make_places};
 use crate::nothing::without_values;
 use crate::slots::{bear, fill_spares, first_slots, make_room, place, poison, tell};
 use lola_instance::instance::Instance;
 use lola_instance::window::WindowPanes;
+use lola_instances_due::times::DueTimes;
 use lola_model::spec::Kinds;
 use lola_model::store::SpawnEnd;
 use lola_sweep::ids::Ids;
@@ -44,7 +45,7 @@ pub struct Instances {
     spawns: bool,
     kept: u32,
     // of the clauses that count from the birth of each instance
-    locals: Vec<Rate>,
+    dues: DueTimes,
     windows: Vec<WindowPanes>,
     bad_at: u64,
     spawned_at: u64,
@@ -60,14 +61,14 @@ impl Model for Instances {
     ghost use Rattle.std.specs.Vec.{vec_capacity};
     ghost use Rattle.lola_instances.specs.Crowds.{Crowd, crowd};
     ghost use Rattle.lola_instances.specs.Listings.{IsListed};
-    ghost use Rattle.lola_instances.specs.Dues.{due_since, in_time};
+    ghost use Rattle.lola_instances.specs.Dues.{IsDated};
     ghost use Rattle.lola_instances.specs.Rights.{IsSettled};
 
     ghost Value = { Crowd };
 
-    ghost view = { λ l. crowd (record { kind = l.kind; parameters = l.parameters; spawns = l.spawns; kept = l.kept; locals = l.locals.items }) l.windows.items l.bad_at l.spawned_at l.slots.items (vec_capacity l.slots) (length l.spares.items) };
+    ghost view = { λ l. crowd (record { kind = l.kind; parameters = l.parameters; spawns = l.spawns; kept = l.kept; locals = l.dues.rates }) l.windows.items l.bad_at l.spawned_at l.slots.items (vec_capacity l.slots) (length l.spares.items) };
 
-    ghost invariant = { λ l. IsSettled l.kind l.kept l.windows.items l.spares.items × IsListed l.slots.items l.spares.items l.directory };
+    ghost invariant = { λ l. IsSettled l.kind l.kept l.windows.items l.spares.items × IsListed l.slots.items l.spares.items l.directory × IsDated l.slots.items l.spares.items l.dues };
 }
 
 // Whether the instances have parameters: a stream with no spawn clause has one instance with none.
@@ -99,13 +100,14 @@ impl Instances {
     {
         let slots = first_slots(alloc, spawns, kept, windows.as_slice())?;
         let directory = Directory::create(alloc, has_parameters(spawns, &parameters));
+        let dues = first_dues(alloc, spawns, locals)?;
         Ok(Instances {
             alloc,
             kind,
             parameters,
             spawns,
             kept,
-            locals,
+            dues,
             windows,
             bad_at: 0,
             spawned_at: 0,
@@ -165,7 +167,7 @@ impl Instances {
     pub fn local_due(&self, from: u64) -> Option<u64>
         ensures { result ≡ in_time (due_since self.now.layout.locals from (births_of self.now.slots)) }
     {
-        due_of_slots(self.slots.as_slice(), self.locals.as_slice(), from)
+        self.dues.next(from)
     }
 
     /// The value in the step of a number: poison where the stream is poisoned, and missing where the instance does not
@@ -295,8 +297,9 @@ impl Instances {
     }
 
     /// Makes room for the births of one whole step, so that none of its calls takes memory: none is wanted where there
-    /// is no spawn clause. It does so too where this step is not over, so two instances are made ahead.
-    pub fn prepare(&mut self) -> Result<(), Memory>
+    /// is no spawn clause. It does so too where this step is not over, so two instances are made ahead. From a moment on
+    /// before which all deadlines are passed, the next one is found quickly.
+    pub fn prepare(&mut self, passed: u64) -> Result<(), Memory>
         ensures rest { self.new ≡ record self.old { capacity = self.new.capacity; spares = self.new.spares } }
         ensures capacity { self.old.capacity ≤ self.new.capacity }
         ensures spares { self.old.spares ≤ self.new.spares }
@@ -307,19 +310,21 @@ impl Instances {
         if !self.spawns {
             return Ok(());
         }
+        self.dues.pass(passed);
         match make_room(&mut self.slots) {
             Err(memory) => Err(memory),
             Ok(()) => self.make_spares(),
         }
     }
 
-    // Two instances at least that are made ahead, and room for their parameters.
+    // Two instances at least that are made ahead, and room for their parameters and births.
     fn make_spares(&mut self) -> Result<(), Memory>
         ensures rest { self.new ≡ record self.old { spares = self.new.spares } }
         ensures spares { self.old.spares ≤ self.new.spares }
         ensures ready { OnOk result (2 ≤ self.new.spares) }
     {
-        match self.directory.make_room(self.spares.len() + 2) {
+        let more = self.spares.len() + 2;
+        match make_places(&mut self.directory, &mut self.dues, more) {
             Err(memory) => Err(memory),
             Ok(()) => fill_spares(
                 &mut self.spares,
@@ -391,6 +396,7 @@ impl Instances {
             self.windows.as_slice(),
         );
         self.directory.add(params);
+        self.dues.add(time);
     }
 
     /// A new instance with no values, born at a time, if it does not live and fewer than 65,536 do. There is room for it, and one was
@@ -430,5 +436,6 @@ impl Instances {
     {
         let _gone = self.slots.remove(index);
         self.directory.remove(index);
+        self.dues.remove(index);
     }
 }

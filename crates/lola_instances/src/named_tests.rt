@@ -44,7 +44,7 @@ fn bear(lives: &mut Instances, number: u64, time: u64) -> Result<SpawnEnd, Memor
     ensures layout { lives.new.layout ≡ lives.old.layout }
     ensures right { AreRight true 2 0 lives.new }
 {
-    lives.prepare()?;
+    lives.prepare(time)?;
     let params = Params::none().led_by(Value::Text(TextId(number)));
     Ok(lives.spawn(2, 0, time, params))
 }

@@ -1,5 +1,5 @@
 -- The moment of an instance's next deadline: how it is found, and that it stays the next until it is passed.
-use Rattle.std.proofs.Common.{◌≡◌, ℕ, suc, ◌+◌, ◌-◌, ◌<◌, ◌≤◌, List, [], ◌∷◌, Option, Some, None, Bool, true, false, min, nat_le, refl, ap, sym, ◌∙◌, arith, if◌then◌else◌, drop, length, get_or, subst, add-one, drop-cons}
+use Rattle.std.proofs.Common.{◌≡◌, ℕ, suc, ◌+◌, ◌-◌, ◌^◌, ◌<◌, ◌≤◌, List, [], ◌∷◌, Option, Some, None, Bool, true, false, min, nat_le, refl, ap, sym, ◌∙◌, arith, if◌then◌else◌, drop, length, get_or, subst, add-one, drop-cons}
 use Rattle.std.proofs.lemmas.List.{drop_all}
 use Rattle.std.proofs.lemmas.Bool.{leb-false}
 use Rattle.std.specs.Option.{option_map}
@@ -20,6 +20,10 @@ found_if false m x n offset born h = absurd (cc)
 none_if : (b : Bool) (m x born : ℕ) → nat_le x latest ≡ b → ◌≡◌ {A = Option (ℕ × ℕ)} None (if b then Some (m, x) else None) → too_late ≡ min (born + x) too_late
 none_if true m x born e h = absurd (cc)
 none_if false m x born e h = let above : latest < x = leb-false x latest e in omega arith
+
+-- a sum that is cut may be cut before
+pub cut_before : (n : ℕ) → min (min n (2 ^ 64 - 1)) too_late ≡ min n too_late
+cut_before n = omega arith
 
 -- is that of the deadline, where it is a time and where it is none
 pub due_found : (born from : ℕ) (r : Ratio) (n offset : ℕ) → ◌≡◌ {A = Option (ℕ × ℕ)} (Some (n, offset)) (next_in_time r (from - born - 1)) → min (born + offset) too_late ≡ due_by r born from

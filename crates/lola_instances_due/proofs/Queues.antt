@@ -8,7 +8,6 @@ use Rattle.std.proofs.lemmas.List.Edits.{get_or-remove_below, get_or-remove_abov
 use Rattle.std.proofs.lemmas.List.Elements.{All-cons, All-drop, All-head, All-tail, All-weaker}
 use Rattle.std.proofs.lemmas.List.Sorted.{All-permutation, IsNonDecreasingBy-drop, IsPermutation-map}
 use Rattle.lola_value.specs.Ratio.{Ratio}
-use Rattle.lola_value.specs.Times.{latest}
 use Rattle.lola_model.specs.StepOrder.{AreRates}
 use Rattle.lola_instances_due.specs.declared.queue.Entry.{Entry}
 use Rattle.lola_instances_due.specs.Moments.{due_at, least_due, too_late}
@@ -16,9 +15,8 @@ use Rattle.lola_instances_due.specs.Queues.{births_of, AreInOrder, IsEntry, IsQu
 use Rattle.lola_instances_due.proofs.Moments.{due_stays, due_within}
 
 -- an entry that is set at a moment
-pub is_entry : (rates : List Ratio) (moment : ℕ) (e : Entry) → AreRates rates → e.born ≤ latest → e.due ≡ due_at rates e.born moment → IsEntry rates moment e
-is_entry rates moment e are in_time due = record {
-  in_time = in_time;
+pub is_entry : (rates : List Ratio) (moment : ℕ) (e : Entry) → AreRates rates → e.due ≡ due_at rates e.born moment → IsEntry rates moment e
+is_entry rates moment e are due = record {
   next = λ from later until. due_stays rates e.born moment from are later (omega arith) ∙ sym due;
 }
 
@@ -26,7 +24,7 @@ is_entry rates moment e are in_time due = record {
 pub still_right : (rates : List Ratio) (passed moment : ℕ) (queue : List Entry) → passed ≤ moment → IsQueue rates passed queue → IsQueue rates moment queue
 still_right rates passed moment queue later h = record {
   order = h.order;
-  entries = All-weaker (IsEntry rates passed) (IsEntry rates moment) (λ (e : Entry) k. record { in_time = k.in_time; next = λ from above until. k.next from (omega arith) until }) queue h.entries;
+  entries = All-weaker (IsEntry rates passed) (IsEntry rates moment) (λ (e : Entry) k. record { next = λ from above until. k.next from (omega arith) until }) queue h.entries;
 }
 
 -- one more entry
@@ -41,12 +39,11 @@ pub split_first : (old rest : List Entry) (first : Entry) → 0 < length old →
 split_first old rest first some is others = drop-cons old 0 first some ∙ (ap (λ x. x ∷ drop 1 old) (sym is) ∙ ap (λ xs. first ∷ xs) (sym others))
 
 -- the first entry, set anew
-pub renewed : (rates : List Ratio) (moment : ℕ) (old rest new : List Entry) (first e : Entry) → IsQueue rates moment old → old ≡ first ∷ rest → AreRates rates → e.born ≡ first.born → e.due ≡ due_at rates e.born moment
+pub renewed : (rates : List Ratio) (moment : ℕ) (old rest new : List Entry) (first e : Entry) → IsQueue rates moment old → old ≡ first ∷ rest → AreRates rates → e.due ≡ due_at rates e.born moment
     → AreInOrder new → IsPermutation (e ∷ rest) new → IsQueue rates moment new
-renewed rates moment old rest new first e h split are born due order put =
+renewed rates moment old rest new first e h split are due order put =
     let all : All (IsEntry rates moment) (first ∷ rest) = subst (All (IsEntry rates moment)) split h.entries in
-    let was : first.born ≤ latest = (All-head (IsEntry rates moment) first rest all).in_time in
-    one_more rates moment rest new e (All-tail (IsEntry rates moment) first rest all) (is_entry rates moment e are (omega arith) due) order put
+    one_more rates moment rest new e (All-tail (IsEntry rates moment) first rest all) (is_entry rates moment e are due) order put
 
 pub same_births : (old rest new : List Entry) (first e : Entry) → old ≡ first ∷ rest → e.born ≡ first.born → IsPermutation (e ∷ rest) new → IsPermutation (births_of old) (births_of new)
 same_births old rest new first e split born put =

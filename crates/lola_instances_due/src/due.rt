@@ -1,7 +1,6 @@
 //! The next deadline of one instance.
 
-ghost use Rattle.std.specs.Prelude.{◌≡◌, ◌≤◌};
-ghost use Rattle.lola_value.specs.Times.{latest};
+ghost use Rattle.std.specs.Prelude.{◌≡◌};
 ghost use Rattle.lola_model.specs.StepOrder.{IsRate, AreRates};
 ghost use Rattle.lola_instances_due.specs.Moments.{due_at, due_by};
 
@@ -12,20 +11,18 @@ pub const TOO_LATE: u64 = 4_000_000_000_000_000_001;
 
 // The moment of a rate's first deadline that is not before `from`, counted from a birth.
 fn due_of(rate: &Rate, born: u64, from: u64) -> u64
-    requires { born ≤ latest }
     ensures due { result ≡ due_by rate.now born from }
     ensures rate { IsRate rate.now }
 {
     let passed = from.saturating_sub(born).saturating_sub(1);
     match rate.next_after(passed) {
-        Some((_number, offset)) => (born + offset).min(TOO_LATE),
+        Some((_number, offset)) => born.saturating_add(offset).min(TOO_LATE),
         None => TOO_LATE,
     }
 }
 
 /// The same of several rates.
 pub fn next_due(rates: &[Rate], born: u64, from: u64) -> u64
-    requires { born ≤ latest }
     ensures due { result ≡ due_at rates.now born from }
     ensures rates { AreRates rates.now }
 {

@@ -3,7 +3,7 @@
 ghost use Rattle.std.specs.Prelude.{◌≡◌, ◌≤◌, ◌<◌, ◌+◌, ◌++◌, ◌∷◌, [], true, length, remove, option_and_then, OnOk};
 ghost use Rattle.std.specs.Vec.{vec_capacity};
 ghost use Rattle.std.specs.VecDeque.{deque_capacity};
-ghost use Rattle.lola_value.specs.Times.{latest, up_to_latest};
+ghost use Rattle.lola_value.specs.Times.{up_to_latest};
 ghost use Rattle.lola_instances_due.specs.Dues.{due_of_births, is_timed};
 
 use crate::due::next_due;
@@ -83,8 +83,7 @@ impl DueTimes {
 
     /// One more birth, behind the others, in room that was made.
     pub fn add(&mut self, born: u64)
-        requires room { is_timed self.old.rates ≡ true → 1 ≤ self.old.room }
-        requires in_time { born ≤ latest }
+        requires { is_timed self.old.rates ≡ true → 1 ≤ self.old.room }
         ensures rates { self.new.rates ≡ self.old.rates }
         ensures births { is_timed self.old.rates ≡ true → self.new.births ≡ self.old.births ++ born ∷ [] }
         ensures room { self.old.room ≤ self.new.room + 1 }

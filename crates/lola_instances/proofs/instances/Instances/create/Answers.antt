@@ -12,7 +12,7 @@ use Rattle.lola_instances.proofs.instances.Instances.create.Goals as goal
 pub returns-clause-right : goal.returns-clause-right
 returns-clause-right c = λ plain.
     let windows = c.args.windows.items in
-    let layout : StreamLayout = record { kind = c.args.kind; parameters = c.args.parameters; spawns = c.args.spawns; kept = c.args.kept; locals = c.args.locals.items } in
+    let layout : StreamLayout = record { kind = c.args.kind; parameters = c.args.parameters; spawns = c.args.spawns; kept = c.args.kept; locals = c.in_ok-dues.dues.rates } in
     let e : c.in_ok-slots.slots.items ≡ firsts c.args.spawns c.args.kept windows = c.in_ok-slots.ensures ∙ ap (λ (ws : List WindowPanes). firsts c.args.spawns c.args.kept ws) c.as_slice.ensures.value in
     let n = ap length e in
     record {

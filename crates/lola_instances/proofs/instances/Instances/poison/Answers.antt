@@ -7,13 +7,14 @@ use Rattle.lola_instances.specs.Crowds.{Crowd, RemembersAt, shown_at}
 use Rattle.lola_instances.specs.Rights.{AreRight, SlotRight}
 use Rattle.lola_instances.proofs.Outcomes.{changed_each, changed_seen, changed_past, changed_silent, is_missing, failed_right, failed_seen}
 use Rattle.lola_instances.proofs.Directories.{changed_names}
+use Rattle.lola_instances.proofs.Dues.{changed_births}
 use Rattle.lola_instances.proofs.instances.Instances.poison.Goals as goal
 
 pub returns-clause-right : goal.returns-clause-right
 returns-clause-right c =
     let off = c.args._offset in
     let w = c.self.view_is in
-    let layout : StreamLayout = record { kind = c.self.inside.kind; parameters = c.self.inside.parameters; spawns = c.self.inside.spawns; kept = c.self.inside.kept; locals = c.self.inside.locals.items } in
+    let layout : StreamLayout = record { kind = c.self.inside.kind; parameters = c.self.inside.parameters; spawns = c.self.inside.spawns; kept = c.self.inside.kept; locals = c.self.inside.dues.rates } in
     let windows = c.self.inside.windows.items in
     let xs = c.self.inside.slots.items in
     let ys = c.poison.new.slots.items in
@@ -43,10 +44,15 @@ returns-clause-past c = λ start time names i values m.
 pub invariant_of-self : goal.invariant_of-self
 invariant_of-self c =
     let h = c.poison.ensures.changed in
-    let listed = c.self.invariant.1 in (
+    let listed = c.self.invariant.1 in
+    let dated = c.self.invariant.2 in (
       c.self.invariant.0,
       record {
         names = λ kept. listed.names kept ∙ sym (changed_names (HasFailed c.args.step) c.args.index c.self.inside.slots.items c.poison.new.slots.items h (ap (λ (s : Holdings). s.params) h.related.slot));
         room = listed.room;
+      },
+      record {
+        births = λ timed. dated.births timed ∙ sym (changed_births (HasFailed c.args.step) c.args.index c.self.inside.slots.items c.poison.new.slots.items h (ap (λ (s : Holdings). s.born) h.related.slot));
+        room = dated.room;
       },
     )

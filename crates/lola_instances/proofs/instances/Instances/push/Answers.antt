@@ -8,13 +8,14 @@ use Rattle.lola_instances.specs.Crowds.{Crowd, RemembersAt, shown_at}
 use Rattle.lola_instances.specs.Rights.{AreRight, SlotRight}
 use Rattle.lola_instances.proofs.Outcomes.{changed_each, changed_seen, changed_past, changed_silent, is_missing, told_right, told_seen, ready_at}
 use Rattle.lola_instances.proofs.Directories.{changed_names}
+use Rattle.lola_instances.proofs.Dues.{changed_births}
 use Rattle.lola_instances.proofs.instances.Instances.push.Goals as goal
 
 pub returns-clause-right : goal.returns-clause-right
 returns-clause-right c =
     let off = c.args.offset in
     let w = c.self.view_is in
-    let layout : StreamLayout = record { kind = c.self.inside.kind; parameters = c.self.inside.parameters; spawns = c.self.inside.spawns; kept = c.self.inside.kept; locals = c.self.inside.locals.items } in
+    let layout : StreamLayout = record { kind = c.self.inside.kind; parameters = c.self.inside.parameters; spawns = c.self.inside.spawns; kept = c.self.inside.kept; locals = c.self.inside.dues.rates } in
     let windows = c.self.inside.windows.items in
     let xs = c.self.inside.slots.items in
     let ys = c.tell.new.slots.items in
@@ -45,7 +46,7 @@ returns-clause-past c = λ start time names i values o l held m.
 pub tell-requires-clause-ready : goal.tell-requires-clause-ready
 tell-requires-clause-ready c =
     let w = c.self.view_is in
-    let layout : StreamLayout = record { kind = c.self.inside.kind; parameters = c.self.inside.parameters; spawns = c.self.inside.spawns; kept = c.self.inside.kept; locals = c.self.inside.locals.items } in
+    let layout : StreamLayout = record { kind = c.self.inside.kind; parameters = c.self.inside.parameters; spawns = c.self.inside.spawns; kept = c.self.inside.kept; locals = c.self.inside.dues.rates } in
     ready_at layout c.self.inside.windows.items c.args.step c.args.offset c.args.value c.self.inside.slots.items c.args.index
     (subst (AreRight true c.args.step c.args.offset) (sym w) c.requires.right)
     (subst (λ (k : Crowd). c.args.index < length k.slots) (sym w) c.requires.index)
@@ -56,10 +57,15 @@ tell-requires-clause-ready c =
 pub invariant_of-self : goal.invariant_of-self
 invariant_of-self c =
     let h = c.tell.ensures.changed in
-    let listed = c.self.invariant.1 in (
+    let listed = c.self.invariant.1 in
+    let dated = c.self.invariant.2 in (
       c.self.invariant.0,
       record {
         names = λ kept. listed.names kept ∙ sym (changed_names (HasTold c.args.step c.args.offset c.args.value) c.args.index c.self.inside.slots.items c.tell.new.slots.items h (h.related.params));
         room = listed.room;
+      },
+      record {
+        births = λ timed. dated.births timed ∙ sym (changed_births (HasTold c.args.step c.args.offset c.args.value) c.args.index c.self.inside.slots.items c.tell.new.slots.items h h.related.born);
+        room = dated.room;
       },
     )

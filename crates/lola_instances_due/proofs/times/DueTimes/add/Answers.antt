@@ -24,7 +24,7 @@ invariant_of-self c =
     let longer : length new ≡ suc (length old) = length_permutation (e ∷ old) new c.put.ensures.entries in
     let more : length c.push_reserved.new.self.items ≡ length births + 1 = ap (λ (bs : List ℕ). length bs) c.push_reserved.ensures.items ∙ length-append births (c.args.born ∷ []) in
     record {
-      right = one_more rates passed old new e h.right.entries (is_entry rates passed e are c.requires.in_time due) c.put.ensures.order c.put.ensures.entries;
+      right = one_more rates passed old new e h.right.entries (is_entry rates passed e are due) c.put.ensures.order c.put.ensures.entries;
       same = subst (λ bs. HasBirths bs (births_of new)) (sym c.push_reserved.ensures.items) (added births old new e h.same c.put.ensures.entries);
       in_births = let room = h.in_births in let same = c.push_reserved.ensures.capacity in omega arith;
       in_queue = let room = h.in_queue in let same = c.put.ensures.capacity in omega arith;
