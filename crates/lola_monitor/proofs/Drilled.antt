@@ -5,9 +5,8 @@ use Rattle.std.proofs.lemmas.List.Elements.{All-head, All-tail}
 use Rattle.lola_port.specs.States.{Rose, SinkState}
 use Rattle.lola_model.specs.Acceptance.{IsAccepted}
 use Rattle.lola_model.specs.Faults.{RunFault}
+use Rattle.lola_model.specs.Runs.{whole_model}
 use Rattle.lola_model.specs.Journal.{IsLegal, accepted, rows_of}
-use Rattle.lola_model.specs.Model.{HasOneModel}
-use Rattle.lola_model.specs.Steps.{all_steps}
 use Rattle.lola_model.specs.declared.plan.Plan.{Plan}
 use Rattle.lola_model.specs.declared.journal.Entry.{Entry}
 use Rattle.lola_model.specs.declared.journal.Row.{Row}
@@ -28,7 +27,7 @@ use Rattle.lola_run.specs.declared.stop.Stop.TheVariants as stop
 use Rattle.lola_rounds.specs.Rounds.{AreFirst}
 use Rattle.lola_rounds.specs.Feeds.{AreFed, AreInPlace, AreReady, CameTo, EndedByFault, EndedWith, EndsRun, GoInRounds, HasEnded, HaveEnded, IsListOf, Supply, ThroughWell, World, supply_of, world}
 use Rattle.lola_monitor.specs.Drilling.{AreDrillWorkers, DrillRun, DrillsTo, IsDrillFault, IsDrillWorker, drill_rows, drill_setting}
-use Rattle.lola_monitor.specs.Monitor.{MalformedSource, done_line, fault_line, first_malformed}
+use Rattle.lola_monitor.specs.Monitor.{HasItsModels, MalformedSource, done_line, fault_line, first_malformed}
 use Rattle.lola_monitor.specs.Outcomes.{OutcomeAfter, end_by, end_of, ends_of, first_failed, is_read_fault, line_of, malformed_by, source_end}
 use Rattle.lola_monitor.specs.declared.ending.SourcesEnd.{SourcesEnd}
 use Rattle.lola_monitor.specs.declared.outcome.Outcome.TheVariants.{Line}
@@ -123,7 +122,7 @@ module _ (d : DrillCommand) (plan : Plan) (kept0 kept1 : Keeping) (w0 w1 v0 v1 :
   abbrev ends : List (Option worker.SourceEnd)
   ends = ends_of last
 
-  module _ (is_plan : IsPlanOf drill_text plan) (accepted_plan : IsAccepted plan) (one_model : HasOneModel plan) (setting : setting_in kept0 ≡ drill_setting plan)
+  module _ (is_plan : IsPlanOf drill_text plan) (accepted_plan : IsAccepted plan) (one_model : HasItsModels plan) (setting : setting_in kept0 ≡ drill_setting plan)
       (new0 : IsDrillWorker plan d 0 w0) (new1 : IsDrillWorker plan d 1 w1) (still0 : v0.reader.source.count ≡ 0) (still1 : v1.reader.source.count ≡ 0) where
     none0 : w0.reader.source.count ≡ 0
     none0 = new_count plan d 0 w0 new0
@@ -197,7 +196,7 @@ module _ (d : DrillCommand) (plan : Plan) (kept0 kept1 : Keeping) (w0 w1 v0 v1 :
         ap (λ a. Done a kept1.late kept1.desk.steps kept1.desk.lines) w.accepted
         ∙ (ap (λ l. Done (length (accepted journal)) l kept1.desk.steps kept1.desk.lines) w.late
         ∙ (ap (λ n. Done (length (accepted journal)) (late_count journal) n kept1.desk.lines) w.steps
-        ∙ ap (λ v. Done (length (accepted journal)) (late_count journal) (length (all_steps s.plan.pacings s.start (accepted journal))) v) w.lines))
+        ∙ ap (λ v. Done (length (accepted journal)) (late_count journal) (length (whole_model s.plan s.start journal)) v) w.lines))
 
     by_ends : (m : Option MalformedSource) → first_malformed (map source_end ends) ≡ m → ThroughWell true first final → DrillsTo (line_of (malformed_by m) kept1) d
     by_ends None well w = record {
@@ -241,7 +240,7 @@ module _ (d : DrillCommand) (plan : Plan) (kept0 kept1 : Keeping) (w0 w1 v0 v1 :
 
 -- the same of two lists of workers
 pub drills_to : (d : DrillCommand) (plan : Plan) (kept0 kept1 : Keeping) (lent last : List Working) (out0 trace0 out1 trace1 : SinkState) (how : Result (Unit {0}) Stop) (line : EndLine)
-    → IsPlanOf drill_text plan → IsAccepted plan → HasOneModel plan → setting_in kept0 ≡ drill_setting plan → AreDrillWorkers plan d lent → length last ≡ length lent
+    → IsPlanOf drill_text plan → IsAccepted plan → HasItsModels plan → setting_in kept0 ≡ drill_setting plan → AreDrillWorkers plan d lent → length last ≡ length lent
     → All (λ (w : Working). w.reader.source.count ≡ 0) last
     → OutcomeAfter how (end_of (ends_of last)) plan kept1 (Line line)
     → EndsRun true how (world kept0 (map supply_of lent) out0 trace0) (world kept1 (map supply_of last) out1 trace1) → DrillsTo line d
@@ -268,7 +267,7 @@ few_workers plan d lent last shown are places same = omega (arith, ap length sam
 
 -- the same of what was shown of the workers and of the run
 pub drilled : (d : DrillCommand) (plan : Plan) (kept0 kept1 : Keeping) (lent last shown : List Working) (how : Result (Unit {0}) Stop) (end : SourcesEnd) (line : EndLine)
-    → IsPlanOf drill_text plan → IsAccepted plan → HasOneModel plan → setting_in kept0 ≡ drill_setting plan → AreDrillWorkers plan d lent → AreInPlace lent last
+    → IsPlanOf drill_text plan → IsAccepted plan → HasItsModels plan → setting_in kept0 ≡ drill_setting plan → AreDrillWorkers plan d lent → AreInPlace lent last
     → All (λ (w : Working). w.reader.source.count ≡ 0) last → shown ≡ last → end ≡ end_of (ends_of shown) → kept1.desk.plan ≡ kept0.desk.plan
     → OutcomeAfter how end kept1.desk.plan kept1 (Line line)
     → EndsRun true how (world kept0 (map supply_of lent) nowhere nowhere) (world kept1 (map supply_of last) nowhere nowhere) → DrillsTo line d

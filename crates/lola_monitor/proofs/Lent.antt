@@ -8,8 +8,8 @@ use Rattle.lola_port.specs.States.{Rose, ShelfState, SinkState, SourceState, gro
 use Rattle.lola_port.specs.Asks.{failed_ask, given_ask}
 use Rattle.lola_port.specs.declared.traits.Ask.{Ask}
 use Rattle.lola_model.specs.Journal.{accepted, rows_of}
+use Rattle.lola_model.specs.Runs.{whole_model}
 use Rattle.lola_model.specs.Faults.{RunFault}
-use Rattle.lola_model.specs.Steps.{all_steps}
 use Rattle.lola_model.specs.declared.plan.Plan.{Plan}
 use Rattle.lola_model.specs.declared.journal.Entry.{Entry}
 use Rattle.lola_model.specs.declared.journal.Row.{Row}
@@ -276,7 +276,7 @@ module _ (in_turns : Bool) (names : List (List ℕ)) (before after : Outside) (k
         ap (λ a. Done a kept1.late kept1.desk.steps kept1.desk.lines) w.accepted
         ∙ (ap (λ l. Done (length (accepted journal)) l kept1.desk.steps kept1.desk.lines) w.late
         ∙ (ap (λ n. Done (length (accepted journal)) (late_count journal) n kept1.desk.lines) w.steps
-        ∙ ap (λ v. Done (length (accepted journal)) (late_count journal) (length (all_steps s.plan.pacings s.start (accepted journal))) v) w.lines))
+        ∙ ap (λ v. Done (length (accepted journal)) (late_count journal) (length (whole_model s.plan s.start journal)) v) w.lines))
 
     none_first : (w : ThroughWell in_turns first final) → first_failed (ends_of last) ≡ None → first_faulty asks ≡ None
     none_first w none = first_is_failed w.through.came.journal w.fed ∙ none

@@ -7,7 +7,6 @@ use Rattle.lola_port.specs.declared.traits.Ask.{Ask}
 use Rattle.lola_model.specs.Journal.{rows_of}
 use Rattle.lola_model.specs.Acceptance.{IsAccepted}
 use Rattle.lola_model.specs.Faults.{RunFault}
-use Rattle.lola_model.specs.Model.{HasOneModel}
 use Rattle.lola_model.specs.declared.plan.Plan.{Plan}
 use Rattle.lola_model.specs.declared.journal.Entry.{Entry}
 use Rattle.lola_rows.specs.Rows.{Whole}
@@ -17,7 +16,7 @@ use Rattle.lola_run.specs.Verdicts.{IsRowFault, Setting, verdicts}
 use Rattle.lola_command.specs.declared.command.DrillCommand.{DrillCommand}
 use Rattle.lola_monitor.specs.Command.{Names, analysed_of, drill_of, run_of, specification_of}
 use Rattle.lola_monitor.specs.Drilling.{DrillsBy}
-use Rattle.lola_monitor.specs.Monitor.{AllBegin, AllGiven, AllRead, Begins, BrokeOff, Ends, GoInTurns, HasRows, IsAtDeadline, IsEarly, Outside, Plans, Ran, WereGiven, analysis_text, asks_between, fault_line, first_faulty, setting_of}
+use Rattle.lola_monitor.specs.Monitor.{AllBegin, AllGiven, AllRead, Begins, BrokeOff, Ends, GoInTurns, HasItsModels, HasRows, IsAtDeadline, IsEarly, Outside, Plans, Ran, WereGiven, analysis_text, asks_between, fault_line, first_faulty, setting_of}
 use Rattle.lola_monitor.specs.Outcomes.{AllHome, CameHome, CutFacts, EndedRun, Marred, PlansName, ReadPlan, RunsSources, SourcesRun, Stood, StoodEnded, Works, noted, without_plan}
 use Rattle.lola_monitor.specs.declared.outcome.Outcome.{Outcome}
 use Rattle.lola_monitor.specs.declared.outcome.Outcome.TheVariants.{Line, Drilled, Report, CutFault, Put, Memory}
@@ -51,7 +50,7 @@ module _ (words : List (List ℕ)) (names : Names) (plan : Plan) (before after :
   abbrev mid : Outside
   mid = record before { shelf = shelf }
 
-  module _ (is_command : run_of words ≡ Some names) (is_plan : Plans (before.shelf.told names.specification) plan) (accepted : IsAccepted plan) (one_model : HasOneModel plan) (read : shelf ≡ noted before.shelf names.specification) where
+  module _ (is_command : run_of words ≡ Some names) (is_plan : Plans (before.shelf.told names.specification) plan) (accepted : IsAccepted plan) (one_model : HasItsModels plan) (read : shelf ≡ noted before.shelf names.specification) where
     told : (name : List ℕ) → shelf.told name ≡ before.shelf.told name
     told name = ap (λ s. s.told name) read
 

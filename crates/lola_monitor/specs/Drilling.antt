@@ -5,7 +5,6 @@ use Rattle.lola_value.specs.declared.front.Refusal.{Refusal}
 use Rattle.lola_model.specs.Acceptance.{IsAccepted}
 use Rattle.lola_model.specs.Faults.{RunFault}
 use Rattle.lola_model.specs.Journal.{IsLegal, rows_of}
-use Rattle.lola_model.specs.Model.{HasOneModel}
 use Rattle.lola_model.specs.declared.journal.Entry.{Entry}
 use Rattle.lola_model.specs.declared.journal.Show.TheVariants as show
 use Rattle.lola_model.specs.declared.plan.Plan.{Plan}
@@ -23,7 +22,7 @@ use Rattle.lola_rounds.specs.Rounds.{AreFirst}
 use Rattle.lola_monitor.specs.declared.outcome.Outcome.{Outcome}
 use Rattle.lola_monitor.specs.declared.outcome.Outcome.TheVariants.{Line, Drilled, Report, CutFault, Put, Memory}
 use Rattle.lola_monitor.specs.Command.{drill_of}
-use Rattle.lola_monitor.specs.Monitor.{MalformedSource, Outside, Wrote, done_line, fault_line, first_malformed, source_rows}
+use Rattle.lola_monitor.specs.Monitor.{HasItsModels, MalformedSource, Outside, Wrote, done_line, fault_line, first_malformed, source_rows}
 
 -- the rows and the end of the made-up source 0 or 1
 abbrev pub drill_rows : Plan → DrillCommand → ℕ → SourceRows
@@ -38,7 +37,7 @@ pub record DrillRun (d : DrillCommand) : Type 0 where
   pub plan : Plan
   pub is_plan : IsPlanOf drill_text plan
   pub accepted : IsAccepted plan
-  pub one_model : HasOneModel plan
+  pub one_model : HasItsModels plan
   pub journal : List Entry
   pub legal : IsLegal None journal
   pub sources : AreOfSources 2 journal

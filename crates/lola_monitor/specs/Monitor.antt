@@ -7,10 +7,9 @@ use Rattle.lola_value.specs.declared.front.Refusal.{Refusal}
 use Rattle.lola_model.specs.Acceptance.{IsAccepted}
 use Rattle.lola_model.specs.Journal.{IsLegal, accepted, rows_of}
 use Rattle.lola_model.specs.Faults.{RunFault}
-use Rattle.lola_model.specs.Steps.{all_steps}
 use Rattle.lola_model.specs.Trace.{trace_text}
 use Rattle.lola_model.specs.Model.{HasOneModel}
-use Rattle.lola_model.specs.Runs.{final_lines}
+use Rattle.lola_model.specs.Runs.{HasModelsOfRuns, final_lines, whole_model}
 use Rattle.lola_model.specs.declared.plan.Plan.{Plan}
 use Rattle.lola_model.specs.declared.spec.Stream.{Stream}
 use Rattle.lola_model.specs.declared.journal.Row.{Row}
@@ -130,7 +129,7 @@ setting_of plan names = record { plan = plan; start = names.start; show = names.
 -- the last line of a run that ends well: how many rows were accepted and late, steps run and lines written
 abbrev pub done_line : Setting → List Entry → EndLine
 done_line s journal =
-    Done (length (accepted journal)) (late_count journal) (length (all_steps s.plan.pacings s.start (accepted journal))) (length (final_lines s.plan s.start journal s.show))
+    Done (length (accepted journal)) (late_count journal) (length (whole_model s.plan s.start journal)) (length (final_lines s.plan s.start journal s.show))
 
 abbrev pub name_in : Option Stream → List ℕ
 name_in None = []
@@ -139,6 +138,11 @@ name_in (Some s) = s.name
 abbrev pub fault_line : Plan → RunFault → EndLine
 fault_line plan fault = Fault (name_in (slice_get plan.spec.streams fault.stream)) fault.kind fault.time
 
+-- exactly one table solves the equations of a plan, over each list of steps and over each journal
+pub record HasItsModels (plan : Plan) : Type 0 where
+  pub over_steps : HasOneModel plan
+  pub of_runs : HasModelsOfRuns plan
+
 -- rows were taken under a specification that was accepted, so that it has one model: they stand in one legal journal, which is the trace
 pub record Ran (words : List (List ℕ)) (before after : Outside) : Type 0 where
   pub names : Names
@@ -146,7 +150,7 @@ pub record Ran (words : List (List ℕ)) (before after : Outside) : Type 0 where
   pub plan : Plan
   pub is_plan : Plans (before.shelf.told names.specification) plan
   pub accepted : IsAccepted plan
-  pub one_model : HasOneModel plan
+  pub one_model : HasItsModels plan
   pub journal : List Entry
   pub legal : IsLegal names.start journal
   pub sources : AreOfSources (length names.sources) journal
@@ -285,7 +289,7 @@ pub record BrokeOff (words : List (List ℕ)) (before after : Outside) : Type 0 
   pub plan : Plan
   pub is_plan : Plans (before.shelf.told names.specification) plan
   pub accepted : IsAccepted plan
-  pub one_model : HasOneModel plan
+  pub one_model : HasItsModels plan
   pub journal : List Entry
   pub legal : IsLegal names.start journal
   pub sources : AreOfSources (length names.sources) journal

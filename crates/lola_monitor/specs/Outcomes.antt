@@ -6,7 +6,6 @@ use Rattle.lola_port.specs.declared.traits.Ask.{Ask}
 use Rattle.lola_value.specs.declared.front.Refusal.{Refusal}
 use Rattle.lola_model.specs.Journal.{IsLegal, rows_of}
 use Rattle.lola_model.specs.Faults.{RunFault}
-use Rattle.lola_model.specs.Model.{HasOneModel}
 use Rattle.lola_model.specs.Trace.{trace_text}
 use Rattle.lola_model.specs.declared.plan.Plan.{Plan}
 use Rattle.lola_model.specs.declared.journal.Entry.{Entry}
@@ -28,7 +27,7 @@ use Rattle.lola_shelves.specs.declared.sources.FetchStop.{FetchStop}
 use Rattle.lola_shelves.specs.declared.sources.FetchStop.TheVariants as fetch
 use Rattle.lola_monitor.specs.Command.{specification_of}
 use Rattle.lola_monitor.specs.Drilling.{DrillsTo, OfDrill}
-use Rattle.lola_monitor.specs.Monitor.{AllBegin, AllEnd, AllGiven, AllRead, Analysis, AreGiven, BrokeOff, Ends, GoInTurns, IsAtDeadline, IsBroken, IsEarly, IsFault, IsFrontOf, IsRefusedBy, MalformedSource, Outside, Plans, Ran, WereGiven, analysis_text, asks_between, done_line, fault_line, first_faulty, first_malformed, is_faulty, setting_of}
+use Rattle.lola_monitor.specs.Monitor.{AllBegin, AllEnd, AllGiven, AllRead, Analysis, AreGiven, BrokeOff, Ends, GoInTurns, HasItsModels, IsAtDeadline, IsBroken, IsEarly, IsFault, IsFrontOf, IsRefusedBy, MalformedSource, Outside, Plans, Ran, WereGiven, analysis_text, asks_between, done_line, fault_line, first_faulty, first_malformed, is_faulty, setting_of}
 use Rattle.lola_monitor.specs.declared.ending.SourcesEnd.{SourcesEnd}
 use Rattle.lola_monitor.specs.declared.ending.SourcesEnd.TheVariants as sources_end
 use Rattle.lola_monitor.specs.declared.outcome.Outcome.{Outcome}
@@ -199,7 +198,7 @@ RunsSources in_turns Memory s names before after = StoppedRun in_turns s names b
 pub record ReadPlan (plan : Plan) (name : List ℕ) (before after : ShelfState) : Type 0 where
   pub is_plan : Plans (before.told name) plan
   pub accepted : IsAccepted plan
-  pub one_model : HasOneModel plan
+  pub one_model : HasItsModels plan
   pub shelf : after ≡ noted before name
 
 -- a specification was read, and is refused
@@ -209,7 +208,7 @@ pub record ReadRefusal (r : Refusal) (name : List ℕ) (before after : ShelfStat
 
 -- a text's plan, or why it has none
 abbrev pub PlansText : Result Plan Unplanned → List ℕ → Type 0
-PlansText (Ok plan) bytes = IsPlanOf bytes plan × HasOneModel plan
+PlansText (Ok plan) bytes = IsPlanOf bytes plan × HasItsModels plan
 PlansText (Err unplanned.Unreadable) bytes = ⊥
 PlansText (Err (unplanned.Refused r)) bytes = IsRefusalOf bytes r
 PlansText (Err unplanned.Memory) bytes = Unit {0}

@@ -3,9 +3,9 @@ ghost use Rattle.std.specs.Prelude.{◌≡◌, ◌<◌, ◌≤◌, [], All, IfOk
 ghost use Rattle.lola_drill.specs.Drills.{drill_text};
 ghost use Rattle.lola_front.specs.Front.{IsPlanOf};
 ghost use Rattle.lola_model.specs.Acceptance.{IsAccepted};
-ghost use Rattle.lola_model.specs.Model.{HasOneModel};
 ghost use Rattle.lola_run.specs.Running.{Stands, keeping, setting_in};
 ghost use Rattle.lola_monitor.specs.Drilling.{AreDrillWorkers, DrillsBy, IsDrillWorker, drill_setting};
+ghost use Rattle.lola_monitor.specs.Monitor.{HasItsModels};
 
 use crate::ending::{end_of, outcome_after};
 use crate::outcome::{Outcome, Unplanned};
@@ -95,7 +95,7 @@ fn run_drill<R: Threads + Sync, G: Gate + Sync>(
     requires accepted { IsAccepted plan }
     requires number { command.now.number < 2147483647 }
     requires workers { (1 ≤ command.now.workers) × (command.now.workers ≤ 64) }
-    ensures { IsPlanOf drill_text plan → HasOneModel plan → DrillsBy result command.now }
+    ensures { IsPlanOf drill_text plan → HasItsModels plan → DrillsBy result command.now }
 {
     let (mut run, workers) = match drill_room(alloc, plan, command) {
         Ok(room) => room,
