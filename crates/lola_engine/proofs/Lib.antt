@@ -4,6 +4,9 @@ pub mod Numbered
 pub mod RowsRead
 pub mod Tables
 pub mod Rows
+pub mod Rules
+pub mod Longer
+pub mod Told
 pub mod Steps
 pub mod Loop
 pub mod Joining

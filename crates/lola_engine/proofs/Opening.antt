@@ -18,7 +18,8 @@ use Rattle.lola_step.specs.Progress.{IsRun}
 use Rattle.lola_engine.specs.Engines.{IsEngine, IsUnderWay, StandsFor}
 use Rattle.lola_engine.specs.Going.{IsMade}
 use Rattle.lola_engine.specs.declared.engine.Desk.{Desk}
-use Rattle.lola_engine.proofs.Joining.{settled_at_none}
+use Rattle.lola_engine.proofs.Joining.{some_is}
+use Rattle.lola_stages.proofs.Settled.{settled_at_none}
 use Rattle.lola_engine.proofs.Ranges.{sound_rows, sound_started}
 
 -- of an empty journal there is nothing
@@ -67,7 +68,7 @@ module _ (e : Desk) (plan : Plan) (option : Option ℕ) (show : Show) (workers :
         record {
           sound = sound_rows (record e { clock = k }) s2 e.rows start (sound_started e (new_seen (layout_of plan)) s2 k start le at shown made.sound);
           time = omega (arith, time_is);
-          passed = omega (arith, passed_is);
+          passed = λ a q. let same : start ≡ a = some_is k.start start a (ap (λ (z : ClockState). z.start) at) q in omega (arith, passed_is);
           merged = le;
           few_rows = omega (arith, made.nothing.0);
           few_steps = omega (arith, steps_are);

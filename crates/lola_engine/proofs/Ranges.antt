@@ -1,5 +1,5 @@
 -- What holds of an engine goes on to hold, and numbers stay in their ranges.
-use Rattle.std.proofs.Common.{◌≡◌, refl, ap, sym, subst, ◌∙◌, ℕ, zero, suc, ◌+◌, ◌*◌, ◌^◌, ◌<◌, ◌≤◌, List, [], ◌∷◌, Option, Some, None, Bool, true, false, length, map, drop, slice_get, unwrap_or, if◌then◌else◌, cond, lit≤, arith}
+use Rattle.std.proofs.Common.{◌≡◌, refl, ap, sym, subst, ◌∙◌, ℕ, zero, suc, ◌+◌, ◌*◌, ◌^◌, ◌-◌, ◌<◌, ◌≤◌, List, [], ◌∷◌, Option, Some, None, Bool, true, false, length, map, drop, slice_get, unwrap_or, if◌then◌else◌, cond, lit≤, max, arith}
 use Rattle.std.proofs.lemmas.Slice.Zip.{AllZip-long}
 use Rattle.std.specs.List.{AllZip, filter}
 use Rattle.lola_value.specs.declared.text.Field.{Field}
@@ -11,6 +11,7 @@ use Rattle.lola_model.specs.Acceptance.{IsAccepted}
 use Rattle.lola_model.specs.Model.{is_input, most_instances}
 use Rattle.lola_model.specs.Store.{Seen, SeenInstance, after_start, instances_of, layout_of, layouts_from, new_seen, newborn_seen, no_params, opened, time_seen}
 use Rattle.lola_model.specs.Trace.{IsFieldOf, input_kinds}
+use Rattle.lola_model.specs.declared.pacing.ClausePacings.{ClausePacings}
 use Rattle.lola_model.specs.declared.plan.Plan.{Plan}
 use Rattle.lola_model.specs.declared.spec.Clause.{Clause}
 use Rattle.lola_model.specs.declared.spec.Stream.{Stream}
@@ -21,6 +22,7 @@ use Rattle.lola_engine.specs.Engines.{AreStarted, IsEngine, IsSound}
 use Rattle.lola_engine.specs.Going.{HasKept, HasTaken, IsBelow}
 use Rattle.lola_engine.specs.Sweeps.{LetsGo}
 use Rattle.lola_engine.specs.declared.engine.Desk.{Desk}
+use Rattle.lola_engine.proofs.Joining.{some_is, start_low}
 use Rattle.lola_engine.proofs.Loop.{sound_clock}
 use Rattle.lola_engine.proofs.Sweeping.{few_left}
 
@@ -57,6 +59,7 @@ sound_texts e s t ids left table texts h = record {
   accepted = h.accepted;
   workers = h.workers;
   rates = h.rates;
+  local = h.local;
   of = h.of;
   started = h.started;
   scratch = h.scratch;
@@ -72,6 +75,7 @@ sound_rows e s rows merged h = record {
   accepted = h.accepted;
   workers = h.workers;
   rates = h.rates;
+  local = h.local;
   of = h.of;
   started = h.started;
   scratch = h.scratch;
@@ -93,6 +97,7 @@ sound_started e s s2 k start le at shows h =
       accepted = h.accepted;
       workers = h.workers;
       rates = ap (λ (z : ClockState). z.rates) at ∙ h.rates;
+      local = h.local;
       of = of_started e.plan s start le h.of;
       started = subst (λ o. AreStarted (after_start s start) o) (sym (ap (λ (z : ClockState). z.start) at)) (refl, refl);
       scratch = h.scratch;
@@ -102,27 +107,31 @@ sound_started e s s2 k start le at shows h =
       few_lines = h.few_lines;
     })
 
-module _ (e : Desk) (s s2 : Seen) (k : ClockState) (t : Texts) (ids : List TextId) (left : ℕ) (start stamp : ℕ)
-    (engine : IsEngine e s) (le : stamp ≤ latest) (order : e.merged ≤ stamp) (table : IsTable t) (texts : HasTexts t.held e.plan.spec.texts) where
+module _ (e : Desk) (s s2 : Seen) (k : ClockState) (t : Texts) (ids : List TextId) (left : ℕ) (start stamp from : ℕ)
+    (engine : IsEngine e s) (le : stamp ≤ latest) (order : e.merged ≤ stamp) (from_is : from ≡ max e.merged start) (table : IsTable t) (texts : HasTexts t.held e.plan.spec.texts) where
   abbrev read : Desk
   read = record e { texts = t; ids = ids; swept = left }
 
   abbrev ready : Desk
   ready = record e { texts = t; ids = ids; swept = left; clock = k }
 
-  ready_going : e.clock.start ≡ Some start → k ≡ e.clock → s2 ≡ s → IsBelow ready s2 start stamp
+  ready_going : e.clock.start ≡ Some start → k ≡ e.clock → s2 ≡ s → IsBelow ready s2 start from stamp
   ready_going at same shows =
       let passed_is : k.passed ≡ e.clock.passed = ap (λ (z : ClockState). z.passed) same in
-      subst (λ z. IsBelow ready z start stamp) (sym shows) (record {
+      let before : start ≤ e.merged = start_low e s start engine at in
+      let passed : e.clock.passed ≡ max start (e.merged - 1) = engine.passed start at in
+      subst (λ z. IsBelow ready z start from stamp) (sym shows) (record {
         sound = sound_clock read s k (ap (λ (z : ClockState). z.rates) same) (ap (λ (z : ClockState). z.start) same) (sound_texts e s t ids left table texts engine.sound);
         start_is = ap (λ (z : ClockState). z.start) same ∙ at;
-        time = omega (arith, passed_is, engine.time, engine.passed);
-        below = omega (arith, engine.time, order);
+        low = omega (arith, from_is);
+        time = omega (arith, from_is, engine.time);
+        passed = omega (arith, passed_is, passed, before, from_is);
+        below = omega (arith, from_is, before, order);
         few_rows = engine.few_rows;
-        few_steps = omega (arith, passed_is, engine.few_steps);
+        few_steps = omega (arith, from_is, engine.few_steps);
       })
 
-  ready_first : e.clock.start ≡ None → start ≡ stamp → k ≡ record e.clock { start = Some stamp; passed = stamp } → s2 ≡ after_start s stamp → IsBelow ready s2 start stamp
+  ready_first : e.clock.start ≡ None → start ≡ stamp → k ≡ record e.clock { start = Some stamp; passed = stamp } → s2 ≡ after_start s stamp → IsBelow ready s2 start from stamp
   ready_first none first at shows =
       let passed_is : k.passed ≡ stamp = ap (λ (z : ClockState). z.passed) at in
       let no_steps : s.steps ≡ 0 = (subst (λ o. AreStarted s o) none engine.sound.started).1 in
@@ -131,18 +140,20 @@ module _ (e : Desk) (s s2 : Seen) (k : ClockState) (t : Texts) (ids : List TextI
       record {
         sound = sound_started read s s2 k stamp le at shows (sound_texts e s t ids left table texts engine.sound);
         start_is = ap (λ (z : ClockState). z.start) at ∙ ap (λ z. Some z) (sym first);
-        time = omega (arith, passed_is, time_is);
-        below = omega (arith, time_is);
+        low = omega (arith, from_is);
+        time = omega (arith, from_is, time_is, first);
+        passed = omega (arith, passed_is, first, from_is, order);
+        below = omega (arith, from_is, first, order);
         few_rows = engine.few_rows;
         few_steps = omega (arith, no_steps, steps_are);
       }
 
   -- an engine that has read a row and started may run the deadlines before it
   pub ready_below : ((a : ℕ) → e.clock.start ≡ Some a → (start ≡ a) × (k ≡ e.clock) × (s2 ≡ s))
-      → (e.clock.start ≡ None → (start ≡ stamp) × (k ≡ record e.clock { start = Some stamp; passed = stamp }) × (s2 ≡ after_start s stamp)) → IsBelow ready s2 start stamp
+      → (e.clock.start ≡ None → (start ≡ stamp) × (k ≡ record e.clock { start = Some stamp; passed = stamp }) × (s2 ≡ after_start s stamp)) → IsBelow ready s2 start from stamp
   ready_below going first = go e.clock.start refl
     where
-      go : (o : Option ℕ) → e.clock.start ≡ o → IsBelow ready s2 start stamp
+      go : (o : Option ℕ) → e.clock.start ≡ o → IsBelow ready s2 start from stamp
       go None q = let f = first q in ready_first q f.0 f.1 f.2
       go (Some a) q = let f = going a q in ready_going (q ∙ ap (λ z. Some z) (sym f.0)) f.1 f.2
 
@@ -154,7 +165,7 @@ module _ (e : Desk) (s s2 : Seen) (k : ClockState) (t : Texts) (ids : List TextI
       record {
         sound = sound_rows d s' (d.rows + 1) stamp taken.sound;
         time = omega (arith, taken.time);
-        passed = omega (arith, taken.passed);
+        passed = λ a q. let same : start ≡ a = some_is d.clock.start start a taken.start_is q in omega (arith, taken.passed);
         merged = le;
         few_rows = omega (arith, kept.rows, more);
         few_steps = omega (arith, kept.rows, taken.few_steps);
@@ -165,7 +176,7 @@ module _ (e : Desk) (s s2 : Seen) (k : ClockState) (t : Texts) (ids : List TextI
 -- a new store is that of its plan
 
 abbrev instances_for : Option Clause → List SeenInstance
-instances_for o = if (elim o [ None ↦ false | Some k ↦ true ]) then [] else newborn_seen no_params ∷ []
+instances_for o = if (elim o [ None ↦ false | Some k ↦ true ]) then [] else newborn_seen 0 no_params ∷ []
 
 few_for : (o : Option Clause) → length (instances_for o) ≤ most_instances
 few_for None = lit≤ tt
@@ -175,26 +186,26 @@ one_for : (o : Option Clause) → o ≡ None → length (instances_for o) ≡ 1
 one_for None e = refl
 one_for (Some k) e = absurd (cc)
 
-few_opened : (ss : List Stream) (kept : List ℕ) (n : ℕ) → length (instances_of (slice_get (map opened (layouts_from ss kept)) n)) ≤ most_instances
-few_opened [] kept n = lit≤ tt
-few_opened (s ∷ ss) kept zero = few_for s.spawn
-few_opened (s ∷ ss) kept (suc n) = few_opened ss (drop 1 kept) n
+few_opened : (ss : List Stream) (kept : List ℕ) (pacings : List ClausePacings) (n : ℕ) → length (instances_of (slice_get (map opened (layouts_from ss kept pacings)) n)) ≤ most_instances
+few_opened [] kept pacings n = lit≤ tt
+few_opened (s ∷ ss) kept pacings zero = few_for s.spawn
+few_opened (s ∷ ss) kept pacings (suc n) = few_opened ss (drop 1 kept) (drop 1 pacings) n
 
-one_opened : (ss : List Stream) (kept : List ℕ) (n : ℕ) (s : Stream) → slice_get ss n ≡ Some s → s.spawn ≡ None → length (instances_of (slice_get (map opened (layouts_from ss kept)) n)) ≡ 1
-one_opened [] kept n s e none = absurd (cc)
-one_opened (r ∷ ss) kept zero s e none = let k : r ≡ s = cc in one_for r.spawn (ap (λ (z : Stream). z.spawn) k ∙ none)
-one_opened (r ∷ ss) kept (suc n) s e none = one_opened ss (drop 1 kept) n s e none
+one_opened : (ss : List Stream) (kept : List ℕ) (pacings : List ClausePacings) (n : ℕ) (s : Stream) → slice_get ss n ≡ Some s → s.spawn ≡ None → length (instances_of (slice_get (map opened (layouts_from ss kept pacings)) n)) ≡ 1
+one_opened [] kept pacings n s e none = absurd (cc)
+one_opened (r ∷ ss) kept pacings zero s e none = let k : r ≡ s = cc in one_for r.spawn (ap (λ (z : Stream). z.spawn) k ∙ none)
+one_opened (r ∷ ss) kept pacings (suc n) s e none = one_opened ss (drop 1 kept) (drop 1 pacings) n s e none
 
-length_opened : (ss : List Stream) (kept : List ℕ) → length (map opened (layouts_from ss kept)) ≡ length ss
-length_opened [] kept = refl
-length_opened (s ∷ ss) kept = ap suc (length_opened ss (drop 1 kept))
+length_opened : (ss : List Stream) (kept : List ℕ) (pacings : List ClausePacings) → length (map opened (layouts_from ss kept pacings)) ≡ length ss
+length_opened [] kept pacings = refl
+length_opened (s ∷ ss) kept pacings = ap suc (length_opened ss (drop 1 kept) (drop 1 pacings))
 
 pub of_new : (plan : Plan) → IsOf plan (new_seen (layout_of plan))
 of_new plan = record {
   layout = refl;
-  streams = length_opened plan.spec.streams plan.kept;
-  few = few_opened plan.spec.streams plan.kept;
-  single = one_opened plan.spec.streams plan.kept;
+  streams = length_opened plan.spec.streams plan.kept plan.pacings;
+  few = few_opened plan.spec.streams plan.kept plan.pacings;
+  single = one_opened plan.spec.streams plan.kept plan.pacings;
   order = lit≤ tt;
   in_time = lit≤ tt;
 }

@@ -22,7 +22,7 @@ use Rattle.lola_step.specs.Steps.{IsDoneStep}
 use Rattle.lola_step.specs.declared.verdict.Verdict.{Verdict}
 use Rattle.lola_engine.specs.declared.end.EngineEnd.{EngineEnd}
 use Rattle.lola_engine.specs.declared.end.EngineEnd.TheVariants.{Fault, Memory}
-use Rattle.lola_engine.specs.Going.{Add, CutsOn, FailsOn, Goes, HasRun, Tally, lines_after}
+use Rattle.lola_engine.specs.Going.{Add, CutsOn, EndsOn, FailsOn, Goes, HasRun, RunsOn, Tally, lines_after}
 use Rattle.lola_model.proofs.Growing.{is_ended}
 use Rattle.lola_engine.proofs.Tables.{answered_step, faulty_ends, faulty_lines, faulty_row, fine_goes_on, fine_row, lines_stay, one_by_one, one_row_more, rows_end}
 
@@ -54,23 +54,19 @@ module _ (t u : Tally) (plan : u.plan ≡ t.plan) (show : u.show ≡ t.show) (st
   fault_same steps f h = subst (λ (p : Plan). fault_of_last (last_row (model p start steps)) ≡ Some f) plan h
 
 -- one stretch after another
-module _ (start : ℕ) (a b : List Step) (t u v : Tally) (m0 : Memories) (s0 : Seen) (m1 : Memories) (s1 : Seen) (m2 : Memories) (s2 : Seen) (x0 x1 x2 : List ℕ)
-    (plan : u.plan ≡ t.plan) (show : u.show ≡ t.show) (first : Goes (Ok tt) start a t m0 s0 u m1 s1 x0 x1) where
-  pub goes_on : Goes (Ok tt) start b u m1 s1 v m2 s2 x1 x2 → Goes (Ok tt) start (a ++ b) t m0 s0 v m2 s2 x0 x2
-  goes_on next steps h =
-      let f = first steps h in
-      let n = next (steps ++ a) f.has in
-      record {
-        has = subst (λ xs. HasRun v start xs m2 s2) (append_assoc steps a b) n.has;
-        lines = f.lines ++ n.lines;
-        add = add_then t start steps a b f.lines n.lines f.add (add_same t u plan show start (steps ++ a) b n.lines n.add);
-        text = text_then f.lines x0 x1 x2 (text_of n.lines) f.text n.text ∙ ap (λ (xs : List ℕ). x0 ++ xs) (sym (text_of-append f.lines n.lines));
-      }
+module _ (start : ℕ) (steps a b : List Step) (t u : Tally) (m1 : Memories) (s1 : Seen) (x0 x1 x2 : List ℕ)
+    (plan : u.plan ≡ t.plan) (show : u.show ≡ t.show) (f : RunsOn start steps a t u m1 s1 x0 x1) where
+  pub runs_then : (v : Tally) (m2 : Memories) (s2 : Seen) → RunsOn start (steps ++ a) b u v m2 s2 x1 x2 → RunsOn start steps (a ++ b) t v m2 s2 x0 x2
+  runs_then v m2 s2 n = record {
+    has = subst (λ xs. HasRun v start xs m2 s2) (append_assoc steps a b) n.has;
+    lines = f.lines ++ n.lines;
+    add = add_then t start steps a b f.lines n.lines f.add (add_same t u plan show start (steps ++ a) b n.lines n.add);
+    text = text_then f.lines x0 x1 x2 (text_of n.lines) f.text n.text ∙ ap (λ (xs : List ℕ). x0 ++ xs) (sym (text_of-append f.lines n.lines));
+  }
 
-  pub fails_then : (stream time : ℕ) (kind : FaultKind) → Goes (Err (Fault stream kind time)) start b u m1 s1 v m2 s2 x1 x2 → Goes (Err (Fault stream kind time)) start (a ++ b) t m0 s0 v m2 s2 x0 x2
-  fails_then stream time kind next steps later h =
-      let f = first steps h in
-      let n = next (steps ++ a) later f.has in
+  -- whatever was still to come
+  pub ends_then : (e : EngineEnd) (later : List Step) → EndsOn e start (steps ++ a) (b ++ later) u x1 x2 → EndsOn e start steps ((a ++ b) ++ later) t x0 x2
+  ends_then (Fault stream kind time) later n =
       let fault : RunFault = record { stream = stream; kind = kind; time = time } in
       subst (λ xs. FailsOn fault start steps xs t x0 x2) (sym (append_assoc a b later)) (record {
         is_fault = ap (λ (xs : List Step). fault_of_last (last_row (model t.plan start xs))) (sym (append_assoc steps a (b ++ later))) ∙ fault_same t u plan show start ((steps ++ a) ++ (b ++ later)) fault n.is_fault;
@@ -78,11 +74,7 @@ module _ (start : ℕ) (a b : List Step) (t u v : Tally) (m0 : Memories) (s0 : S
         add = add_then t start steps a (b ++ later) f.lines n.lines f.add (add_same t u plan show start (steps ++ a) (b ++ later) n.lines n.add);
         text = text_then f.lines x0 x1 x2 (text_of n.lines) f.text n.text ∙ ap (λ (xs : List ℕ). x0 ++ xs) (sym (text_of-append f.lines n.lines));
       })
-
-  pub cuts_then : Goes (Err Memory) start b u m1 s1 v m2 s2 x1 x2 → Goes (Err Memory) start (a ++ b) t m0 s0 v m2 s2 x0 x2
-  cuts_then next steps later h =
-      let f = first steps h in
-      let n = next (steps ++ a) later f.has in
+  ends_then Memory later n =
       subst (λ xs. CutsOn start steps xs t x0 x2) (sym (append_assoc a b later)) (record {
         lines = f.lines ++ n.lines;
         add = add_then t start steps a (b ++ later) f.lines n.lines f.add (add_same t u plan show start (steps ++ a) (b ++ later) n.lines n.add);
@@ -91,24 +83,6 @@ module _ (start : ℕ) (a b : List Step) (t u v : Tally) (m0 : Memories) (s0 : S
         joined = text_of-append f.lines n.lines ∙ (ap (λ (xs : List ℕ). text_of f.lines ++ xs) n.joined ∙ sym (append_assoc (text_of f.lines) n.part n.rest));
         text = text_then f.lines x0 x1 x2 n.part f.text n.text;
       })
-
-  pub ends_then : (e : EngineEnd) → Goes (Err e) start b u m1 s1 v m2 s2 x1 x2 → Goes (Err e) start (a ++ b) t m0 s0 v m2 s2 x0 x2
-  ends_then (Fault stream kind time) next = fails_then stream time kind next
-  ends_then Memory next = cuts_then next
-
--- what ended goes no further, whatever was still to come
-pub ends_before : (e : EngineEnd) (start : ℕ) (a b : List Step) (t v : Tally) (m0 : Memories) (s0 : Seen) (m1 : Memories) (s1 : Seen) (x0 x1 : List ℕ)
-    → Goes (Err e) start a t m0 s0 v m1 s1 x0 x1 → Goes (Err e) start (a ++ b) t m0 s0 v m1 s1 x0 x1
-ends_before (Fault stream kind time) start a b t v m0 s0 m1 s1 x0 x1 h =
-    λ steps later r. subst (λ xs. FailsOn (record { stream = stream; kind = kind; time = time }) start steps xs t x0 x1) (sym (append_assoc a b later)) (h steps (b ++ later) r)
-ends_before Memory start a b t v m0 s0 m1 s1 x0 x1 h =
-    λ steps later r. subst (λ xs. CutsOn start steps xs t x0 x1) (sym (append_assoc a b later)) (h steps (b ++ later) r)
-
--- where it ends does not matter
-pub ends_anywhere : (e : EngineEnd) (start : ℕ) (a : List Step) (t v w : Tally) (m0 : Memories) (s0 : Seen) (m1 : Memories) (s1 : Seen) (m2 : Memories) (s2 : Seen) (x0 x1 : List ℕ)
-    → Goes (Err e) start a t m0 s0 v m1 s1 x0 x1 → Goes (Err e) start a t m0 s0 w m2 s2 x0 x1
-ends_anywhere (Fault stream kind time) start a t v w m0 s0 m1 s1 m2 s2 x0 x1 h = h
-ends_anywhere Memory start a t v w m0 s0 m1 s1 m2 s2 x0 x1 h = h
 
 -- one step
 module _ (t : Tally) (start : ℕ) (x : Step) (m0 : Memories) (s0 : Seen) (x0 x1 : List ℕ) where
@@ -189,7 +163,7 @@ module _ (t : Tally) (start : ℕ) (x : Step) (m0 : Memories) (s0 : Seen) (x0 x1
               naming = h.run.naming;
               texts = h.run.texts;
               of_rows = of_more_rows (rows steps) (row steps) (answered_orderly t.plan start (rows steps) x h.run.of_rows);
-              settled = stay_settled t.plan accepted start (rows steps) x h.run.settled;
+              settled = stay_settled t.plan accepted start (rows steps) x h.run.of_rows h.run.settled;
             });
             stands = subst (λ (table : List TableRow). StandsBetween t.names m1 s1 (content_after t.plan start table)) (sym one)
                 (content_left start (rows steps) (row steps), d.stands, answered_grows t.plan start (rows steps) x h.run.of_rows);

@@ -7,9 +7,10 @@ use Rattle.lola_model.specs.Trace.{IsFieldOf, input_kinds}
 use Rattle.lola_model.specs.Acceptance.{IsAccepted}
 use Rattle.lola_model.specs.Faults.{RunFault}
 use Rattle.lola_model.specs.Journal.{accepted, merged_from, opening_time}
+use Rattle.lola_model.specs.NextStep.{has_local}
 use Rattle.lola_model.specs.Runs.{content_after, first_fault, final_lines, run_start, settled_fault, settled_lines, settled_model, whole_model}
 use Rattle.lola_model.specs.Standing.{StandsBetween}
-use Rattle.lola_model.specs.Steps.{all_steps, rates_of}
+use Rattle.lola_model.specs.Steps.{rates_of}
 use Rattle.lola_model.specs.Store.{IsNew, IsStarted, Memories, instances_seen, Seen, layout_of, new_seen, start_seen, time_seen}
 use Rattle.lola_model.specs.Texts.{text_of}
 use Rattle.lola_model.specs.declared.journal.Entry.{Entry}
@@ -33,6 +34,7 @@ pub record IsSound (e : Desk) (s : Seen) : Type 0 where
   pub accepted : IsAccepted e.plan
   pub workers : (1 ≤ e.workers) × (e.workers ≤ 64)
   pub rates : e.clock.rates ≡ rates_of e.plan.pacings
+  pub local : e.local ≡ has_local e.plan.pacings
   pub of : IsOf e.plan s
   pub started : AreStarted s e.clock.start
   pub scratch : IsScratchOf e.plan e.scratch
@@ -46,11 +48,11 @@ pub record IsEngine (e : Desk) (s : Seen) : Type 0 where
   pub sound : IsSound e s
   -- no step lies behind the last stamp, and all before it is passed
   pub time : time_seen s ≤ e.merged
-  pub passed : e.merged ≤ e.clock.passed + 1
+  pub passed : (start : ℕ) → e.clock.start ≡ Some start → e.clock.passed ≡ max start (e.merged - 1)
   pub merged : e.merged ≤ latest
   -- numbers stay in their ranges: each step has a row or a moment of its own, and each row at most 64 new texts
   pub few_rows : e.rows ≤ 2 ^ 47
-  pub few_steps : s.steps ≤ e.rows + e.clock.passed
+  pub few_steps : s.steps ≤ e.rows + e.merged
   pub few_texts : e.texts.given ≤ 2 ^ 32 + 64 * e.rows
   pub few_swept : e.swept ≤ 2 ^ 32 + 64 * e.rows
 
@@ -132,7 +134,6 @@ pub record RunsOut (journal : List Entry) (old new : Desk) (text0 text1 : List �
   pub completes : Completes old journal lines
   pub text : text1 ≡ text0 ++ text_of lines
   pub steps : new.steps ≡ length (whole_model old.plan old.option journal)
-  pub all : new.steps ≡ length (all_steps old.plan.pacings old.option (accepted journal))
   pub counted : new.lines ≡ length (final_lines old.plan old.option journal old.show)
 
 -- their step has a fault

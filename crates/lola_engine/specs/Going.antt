@@ -1,20 +1,21 @@
 -- Steps that an engine runs one after the other, whatever steps it ran before.
 use Rattle.std.specs.Prelude.{ℕ, ◌≡◌, ◌+◌, ◌-◌, ◌^◌, ◌≤◌, List, ◌++◌, Option, Some, None, Result, Ok, Err, length, max}
 use Rattle.lola_value.specs.Naming.{Naming}
-use Rattle.lola_clock.specs.Clock.{ClockState, IsClock}
 use Rattle.lola_model.specs.Faults.{RunFault, fault_of_last}
-use Rattle.lola_model.specs.Model.{last_row, model}
+use Rattle.lola_model.specs.Model.{Next, last_row, model}
+use Rattle.lola_model.specs.NextStep.{rows_taken}
 use Rattle.lola_model.specs.Runs.{content_after}
 use Rattle.lola_model.specs.Standing.{StandsBetween}
-use Rattle.lola_model.specs.Steps.{deadline_steps}
 use Rattle.lola_model.specs.Store.{Memories, Seen, layout_of, new_seen, time_seen}
-use Rattle.lola_model.specs.Table.{Step}
+use Rattle.lola_model.specs.Table.{Step, TableRow}
 use Rattle.lola_model.specs.Texts.{table_lines, text_of}
+use Rattle.lola_model.specs.declared.journal.Row.{Row}
 use Rattle.lola_model.specs.declared.journal.Show.{Show}
 use Rattle.lola_model.specs.declared.plan.Plan.{Plan}
 use Rattle.lola_step.specs.Progress.{IsRun}
 use Rattle.lola_engine.specs.Engines.{IsSound}
 use Rattle.lola_engine.specs.Read.{numbered}
+use Rattle.lola_engine.specs.Rules.{Come, opened_at}
 use Rattle.lola_engine.specs.declared.engine.Desk.{Desk}
 use Rattle.lola_engine.specs.declared.end.EngineEnd.{EngineEnd}
 use Rattle.lola_engine.specs.declared.end.EngineEnd.TheVariants.{Fault, Memory}
@@ -69,19 +70,45 @@ pub record CutsOn (start : ℕ) (steps more : List Step) (old : Tally) (text0 te
   pub joined : text_of lines ≡ part ++ rest
   pub text : text1 ≡ text0 ++ part
 
+-- what the end of a run comes to
+abbrev pub EndsOn : EngineEnd → ℕ → List Step → List Step → Tally → List ℕ → List ℕ → Type 0
+EndsOn (Fault stream kind time) start steps more old text0 text1 = FailsOn (record { stream = stream; kind = kind; time = time }) start steps more old text0 text1
+EndsOn Memory start steps more old text0 text1 = CutsOn start steps more old text0 text1
+
 -- what running more steps comes to by the answer, whatever steps were run before, and whatever later ones were still to come
 abbrev pub Goes : Result (Unit {0}) EngineEnd → ℕ → List Step → Tally → Memories → Seen → Tally → Memories → Seen → List ℕ → List ℕ → Type 0
 Goes (Ok done) start more old remembers s new remembers' s' text0 text1 =
     (steps : List Step) → HasRun old start steps remembers s → RunsOn start steps more old new remembers' s' text0 text1
-Goes (Err (Fault stream kind time)) start more old remembers s new remembers' s' text0 text1 =
-    (steps later : List Step) → HasRun old start steps remembers s
-    → FailsOn (record { stream = stream; kind = kind; time = time }) start steps (more ++ later) old text0 text1
-Goes (Err Memory) start more old remembers s new remembers' s' text0 text1 =
-    (steps later : List Step) → HasRun old start steps remembers s → CutsOn start steps (more ++ later) old text0 text1
+Goes (Err end) start more old remembers s new remembers' s' text0 text1 =
+    (steps later : List Step) → HasRun old start steps remembers s → EndsOn end start steps (more ++ later) old text0 text1
 
--- the steps of the deadlines that a clock has not passed, below a moment
-abbrev pub due_steps : ClockState → ℕ → ℕ → List Step
-due_steps clock start limit = deadline_steps clock.rates start (clock.passed - start) (limit - start)
+-- all steps that come by a rule were run
+pub record RunsBy (start : ℕ) (next : Next) (steps : List Step) (old new : Tally) (remembers : Memories) (s : Seen) (text0 text1 : List ℕ) : Type 0 where
+  pub more : List Step
+  pub come : Come old.plan start next steps more
+  pub over : next (model old.plan start (steps ++ more)) ≡ None
+  pub runs : RunsOn start steps more old new remembers s text0 text1
+
+-- the last of those that came ended the run
+pub record EndsBy (end : EngineEnd) (start : ℕ) (next : Next) (steps : List Step) (old : Tally) (text0 text1 : List ℕ) : Type 0 where
+  pub more : List Step
+  pub come : Come old.plan start next steps more
+  pub ends : (later : List Step) → EndsOn end start steps (more ++ later) old text0 text1
+
+-- what running the steps that come by a rule comes to by the answer, whatever steps were run before over whose model this holds
+abbrev pub GoesBy : Result (Unit {0}) EngineEnd → ℕ → (List TableRow → Type 0) → Next → Tally → Memories → Seen → Tally → Memories → Seen → List ℕ → List ℕ → Type 0
+GoesBy (Ok done) start Holds next old remembers s new remembers' s' text0 text1 =
+    (steps : List Step) → HasRun old start steps remembers s → Holds (model old.plan start steps) → RunsBy start next steps old new remembers' s' text0 text1
+GoesBy (Err end) start Holds next old remembers s new remembers' s' text0 text1 =
+    (steps : List Step) → HasRun old start steps remembers s → Holds (model old.plan start steps) → EndsBy end start next steps old text0 text1
+
+-- behind this table deadlines are open from a moment on
+abbrev pub IsOpenAt : ℕ → ℕ → List TableRow → Type 0
+IsOpenAt start from table = from ≡ opened_at start (last_row table)
+
+-- and it has taken these rows
+abbrev pub IsOpenBehind : ℕ → ℕ → List Row → List TableRow → Type 0
+IsOpenBehind start from rows table = IsOpenAt start from table × (rows_taken table ≡ length rows)
 
 -- what stays while steps are run
 pub record HasKept (old new : Desk) : Type 0 where
@@ -102,28 +129,30 @@ pub record HasStayed (old new : Desk) : Type 0 where
   pub show : new.show ≡ old.show
   pub ended : new.ended ≡ old.ended
 
--- a desk that may run the steps below a moment: the last step is not behind it, and numbers stay in their ranges
-pub record IsBelow (e : Desk) (s : Seen) (start limit : ℕ) : Type 0 where
+-- a desk that may run the steps below a moment, where deadlines are open from another on: the last step is not behind that, all deadlines
+-- of the clock before it are passed, and numbers stay in their ranges
+pub record IsBelow (e : Desk) (s : Seen) (start from limit : ℕ) : Type 0 where
   pub sound : IsSound e s
   pub start_is : e.clock.start ≡ Some start
-  pub time : time_seen s ≤ e.clock.passed + 1
-  pub below : time_seen s ≤ limit
+  pub low : start ≤ from
+  pub time : time_seen s ≤ from
+  pub passed : e.clock.passed ≡ max start (from - 1)
+  pub below : from ≤ limit
   pub few_rows : e.rows ≤ 2 ^ 47
-  pub few_steps : s.steps ≤ e.rows + e.clock.passed
+  pub few_steps : s.steps ≤ e.rows + from
 
 -- the deadlines below a moment were run
-pub record HasPassed (old new : Desk) (s : Seen) (start limit : ℕ) : Type 0 where
-  pub below : IsBelow new s start limit
-  pub clock : IsClock new.clock
-  pub passed : max new.clock.passed (limit - 1) ≡ max old.clock.passed (limit - 1)
+pub record HasPassed (e : Desk) (s : Seen) (start limit : ℕ) : Type 0 where
+  pub from : ℕ
+  pub below : IsBelow e s start from limit
 
 -- and the row at that moment
 pub record HasTaken (old new : Desk) (s : Seen) (start limit : ℕ) : Type 0 where
   pub sound : IsSound new s
   pub start_is : new.clock.start ≡ Some start
-  pub passed : new.clock.passed ≡ max old.clock.passed (limit - 1)
+  pub passed : new.clock.passed ≡ max start (limit - 1)
   pub time : time_seen s ≡ limit
-  pub few_steps : s.steps ≤ old.rows + new.clock.passed + 1
+  pub few_steps : s.steps ≤ old.rows + limit + 1
 
 -- the desk of an engine that is new
 pub record IsMade (plan : Plan) (option : Option ℕ) (show : Show) (workers : ℕ) (e : Desk) : Type 0 where

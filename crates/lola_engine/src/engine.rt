@@ -1,6 +1,6 @@
 //! The engine: deadlines before a row, the row, and the lines of each step.
 
-ghost use Rattle.std.specs.Prelude.{◌≡◌, ◌+◌, ◌*◌, ◌<◌, ◌≤◌, ◌^◌, ◌++◌, ℕ, List, [], ◌∷◌, length, IsTrue, OnOk, IfOk, IfErr, Some, None};
+ghost use Rattle.std.specs.Prelude.{◌≡◌, ◌+◌, ◌*◌, ◌<◌, ◌≤◌, ◌^◌, ◌++◌, ℕ, List, [], ◌∷◌, length, max, IsTrue, OnOk, IfOk, IfErr, IsSome, Some, None};
 ghost use Rattle.std.specs.List.{AllZip};
 ghost use Rattle.lola_value.specs.declared.text.Field.{Field};
 ghost use Rattle.lola_value.specs.Naming.{Naming};
@@ -8,19 +8,23 @@ ghost use Rattle.lola_value.specs.Times.{latest};
 ghost use Rattle.lola_model.specs.Acceptance.{IsAccepted};
 ghost use Rattle.lola_model.specs.Content.{Content};
 ghost use Rattle.lola_model.specs.Named.{are_distinct};
+ghost use Rattle.lola_model.specs.NextStep.{earlier, has_local, is_local, next_settled};
+ghost use Rattle.lola_model.specs.Pacings.{ArePacings};
 ghost use Rattle.lola_model.specs.Runs.{content_after};
 ghost use Rattle.lola_model.specs.Standing.{StandsBetween};
 ghost use Rattle.lola_model.specs.Steps.{rate_of, rates_of};
 ghost use Rattle.lola_model.specs.Store.{after_start, instances_seen, layout_of, new_seen, time_seen};
 ghost use Rattle.lola_model.specs.Table.{Step};
 ghost use Rattle.lola_model.specs.Trace.{IsFieldOf, input_kinds};
+ghost use Rattle.lola_model.specs.declared.journal.Row.{Row};
 ghost use Rattle.lola_ready.specs.Ready.{HasTexts};
 ghost use Rattle.lola_text.specs.Texts.{IsTable};
 ghost use Rattle.lola_step.specs.Moments.{ReadAs};
 ghost use Rattle.lola_step.specs.Steps.{AreInputs, AreOfInputs, IsStepped, ReadFields};
 ghost use Rattle.lola_engine.specs.Engines.{Accepts, AreStarted, Finishes, IsEngine, IsOptionInTime, IsSound, IsTakeable, StandsFor};
-ghost use Rattle.lola_engine.specs.Going.{Goes, HasKept, HasPassed, HasStayed, HasTaken, IsBelow, IsMade, due_steps, tally_of};
+ghost use Rattle.lola_engine.specs.Going.{Goes, GoesBy, HasKept, HasPassed, HasStayed, HasTaken, IsBelow, IsMade, IsOpenAt, IsOpenBehind, tally_of};
 ghost use Rattle.lola_engine.specs.Read.{numbered};
+ghost use Rattle.lola_engine.specs.Rules.{TellsDue, deadlines_below, due_told};
 ghost use Rattle.lola_engine.specs.Sweeps.{RenewsTexts, TakesTexts};
 ghost use Rattle.lola_engine.specs.declared.end.EngineEnd.{EngineEnd};
 
@@ -29,7 +33,7 @@ use crate::fields::{name_literals, read_fields};
 use crate::lines::put_lines;
 use crate::sweep::let_go;
 use lola_clock::clock::Clock;
-use lola_contents::law::{new_stands, renamed_stands};
+use lola_contents::law::{local_due_stands, new_stands, renamed_stands};
 use lola_model::journal::{Row, Show};
 use lola_model::pacing::{ClausePacings, Pacing};
 use lola_model::plan::Plan;
@@ -49,7 +53,8 @@ use std::alloc::Global;
 use std::thread::Threads;
 
 /// All of an engine but its store: the plan, the start if one was given, what is shown, how many workers evaluate instances, the clock of
-/// the deadlines, the texts, the list for those that are needed, how many the newest sweep left, the notes of steps, and what was counted.
+/// the deadlines that count from the start, whether others count from births, the texts, the list for those that are needed, how many the
+/// newest sweep left, the notes of steps, and what was counted.
 #[derive(Drop)]
 pub struct Desk {
     pub(crate) alloc: Global,
@@ -58,6 +63,7 @@ pub struct Desk {
     pub(crate) show: Show,
     pub(crate) workers: u32,
     pub(crate) clock: Clock,
+    pub(crate) local: bool,
     pub(crate) texts: TextTable,
     pub(crate) ids: Ids,
     pub(crate) swept: u64,
@@ -100,6 +106,28 @@ fn rates_in(alloc: Global, pacings: &[ClausePacings]) -> Result<Vec<Rate>, Memor
     Ok(rates)
 }
 
+/// Whether a pacing counts from the birth of each instance.
+fn is_of_birth(pacing: &Option<Pacing>) -> bool
+    ensures { result ≡ is_local pacing.now }
+{
+    matches!(pacing, Some(Pacing::Local(_)))
+}
+
+/// Whether that of some clause does.
+fn some_of_birth(pacings: &[ClausePacings]) -> bool
+    ensures { result ≡ has_local pacings.now }
+{
+    match pacings.split_first() {
+        Some((clauses, others)) => {
+            is_of_birth(&clauses.spawn)
+                || is_of_birth(&clauses.eval)
+                || is_of_birth(&clauses.close)
+                || some_of_birth(others)
+        }
+        None => false,
+    }
+}
+
 /// A table with the texts of a plan's literals, each with the number of its place. Numbers of literals have 32 bits: a plan with more
 /// texts is answered with `Memory`.
 fn new_texts(alloc: Global, plan: &Plan) -> Result<TextTable, Memory>
@@ -131,6 +159,7 @@ fn new_desk(
 {
     let rates = rates_in(alloc, plan.pacings.as_slice())?;
     let clock = Clock::create(alloc, rates.as_slice())?;
+    let local = some_of_birth(plan.pacings.as_slice());
     let scratch = Scratch::create(alloc, &plan)?;
     let texts = new_texts(alloc, &plan)?;
     let swept = texts.len();
@@ -141,6 +170,7 @@ fn new_desk(
         show,
         workers,
         clock,
+        local,
         texts,
         ids: Ids::create(alloc),
         swept,
@@ -214,57 +244,99 @@ fn run_step<R: Threads + Sync, S: StreamStore + Sync, G: Gate + Sync>(
     Ok(())
 }
 
-/// Runs the deadlines that are not passed and lie below a moment.
+/// The earlier of two moments, if they are there.
+fn earlier_of(first: Option<u64>, second: Option<u64>) -> Option<u64>
+    ensures { result ≡ earlier first second }
+{
+    match (first, second) {
+        (Some(one), Some(other)) => Some(other.min(one)),
+        (Some(one), None) => Some(one),
+        (None, _) => second,
+    }
+}
+
+/// The first deadline that is open, where deadlines are open from a moment on: that of the clock, or, where some clause is local, of an
+/// instance that lives.
+fn next_due<S: StreamStore>(store: &S, desk: &Desk, from: u64) -> Option<u64>
+    requires paced { ArePacings desk.now.plan.spec desk.now.plan.pacings }
+    requires layout { (S.seen store.now).layout ≡ layout_of desk.now.plan }
+    ensures value { result ≡ due_told desk.now.local desk.now.clock (S.seen store.now) from }
+    ensures tells { TellsDue desk.now.plan (S.remembers store.now) (S.seen store.now) }
+{
+    local_due_stands(&desk.plan, store);
+    let due = desk.clock.next_due();
+    if desk.local {
+        earlier_of(due, store.local_due(from))
+    } else {
+        due
+    }
+}
+
+/// Passes the deadlines of a moment: those behind it are open.
+fn pass(desk: &mut Desk, due: u64) -> u64
+    requires started { IsSome desk.old.clock.start }
+    requires in_time { due ≤ latest }
+    ensures from { result ≡ due + 1 }
+    ensures desk { desk.new ≡ record desk.old { clock = record desk.old.clock { passed = max desk.old.clock.passed due } } }
+{
+    desk.clock.advance(due);
+    due + 1
+}
+
+/// Runs the deadlines that are open from a moment on and lie below another.
 fn run_deadlines<R: Threads + Sync, S: StreamStore + Sync, G: Gate + Sync>(
     rt: &R,
     gate: &G,
     store: &mut S,
     desk: &mut Desk,
     start: u64,
+    from: u64,
     limit: u64,
     lines: &mut Text,
 ) -> Result<(), EngineEnd>
-    requires below { IsBelow desk.old (S.seen store.old) start limit }
+    requires below { IsBelow desk.old (S.seen store.old) start from limit }
     requires in_time { limit ≤ latest }
-    ensures passed { OnOk result (HasPassed desk.old desk.new (S.seen store.new) start limit) }
+    ensures passed { OnOk result (HasPassed desk.new (S.seen store.new) start limit) }
     ensures kept { HasKept desk.old desk.new }
-    ensures goes { Goes result start (due_steps desk.old.clock start limit) (tally_of desk.old) (S.remembers store.old) (S.seen store.old)
+    ensures goes { GoesBy result start (IsOpenAt start from) (deadlines_below desk.old.plan start limit) (tally_of desk.old) (S.remembers store.old) (S.seen store.old)
         (tally_of desk.new) (S.remembers store.new) (S.seen store.new) lines.old lines.new }
 {
-    while let Some(due) = desk.clock.next_due() {
+    let mut from = from;
+    while let Some(due) = next_due(store, desk, from) {
         if due >= limit {
             return Ok(());
         }
         match run_step(rt, gate, store, desk, start, due, false, &[], lines) {
-            Ok(()) => desk.clock.advance(due),
+            Ok(()) => from = pass(desk, due),
             Err(end) => return Err(end),
         }
     }
     Ok(())
 }
 
-/// Runs the deadlines before a row's stamp, and the row.
+/// Runs the deadlines before a row's stamp, where they are open from a moment on, and the row.
 fn run_taken<R: Threads + Sync, S: StreamStore + Sync, G: Gate + Sync>(
     rt: &R,
     gate: &G,
     store: &mut S,
     desk: &mut Desk,
     start: u64,
+    from: u64,
     stamp: u64,
     inputs: &[Outcome],
     lines: &mut Text,
 ) -> Result<(), EngineEnd>
-    requires below { IsBelow desk.old (S.seen store.old) start stamp }
+    requires below { IsBelow desk.old (S.seen store.old) start from stamp }
     requires in_time { stamp ≤ latest }
     requires inputs { AreOfInputs desk.old.plan.spec.streams inputs.now }
     ensures taken { OnOk result (HasTaken desk.old desk.new (S.seen store.new) start stamp) }
     ensures kept { HasKept desk.old desk.new }
-    ensures goes { (fields : List Field) → ReadAs desk.old.texts.held inputs.now fields
-        → Goes result start (due_steps desk.old.clock start stamp ++ record { time = stamp; fields = Some fields } ∷ [])
+    ensures goes { (rows : List Row) (row : Row) → row.stamp ≡ stamp → ReadAs desk.old.texts.held inputs.now row.fields
+        → GoesBy result start (IsOpenBehind start from rows) (next_settled desk.old.plan start (rows ++ row ∷ []))
         (tally_of desk.old) (S.remembers store.old) (S.seen store.old)
         (tally_of desk.new) (S.remembers store.new) (S.seen store.new) lines.old lines.new }
 {
-    match run_deadlines(rt, gate, store, desk, start, stamp, lines) {
+    match run_deadlines(rt, gate, store, desk, start, from, stamp, lines) {
         Ok(()) => {}
         Err(end) => return Err(end),
     }
@@ -361,12 +433,14 @@ fn run_row<R: Threads + Sync, S: TextStore + Sync, G: Gate + Sync>(
         return Err(EngineEnd::Memory);
     }
     let start = started(&desk.plan, store, &mut desk.clock, row.stamp);
+    let from = desk.merged.max(start);
     match run_taken(
         rt,
         gate,
         store,
         desk,
         start,
+        from,
         row.stamp,
         inputs.as_slice(),
         lines,
@@ -398,7 +472,7 @@ fn run_last<R: Threads + Sync, S: StreamStore + Sync, G: Gate + Sync>(
     let Some(start) = desk.clock.start() else {
         return Ok(());
     };
-    let Some(due) = desk.clock.next_due() else {
+    let Some(due) = next_due(store, desk, desk.merged) else {
         return Ok(());
     };
     if due > desk.merged {

@@ -1,6 +1,7 @@
 -- What holds of the desk of a new engine.
 use Rattle.std.proofs.Common.{refl, ap, sym, subst, ◌∙◌, arith}
 use Rattle.lola_clock.specs.Clock.{ClockState}
+use Rattle.lola_model.specs.NextStep.{has_local}
 use Rattle.lola_model.specs.Steps.{rates_of}
 use Rattle.lola_model.specs.Store.{layout_of, new_seen}
 use Rattle.lola_engine.specs.Engines.{AreStarted}
@@ -16,6 +17,7 @@ returns c =
         accepted = c.requires.accepted;
         workers = c.requires.workers;
         rates = ap (λ (z : ClockState). z.rates) c.in_ok-clock.ensures ∙ (c.as_slice-2.ensures.value ∙ (c.in_ok-rates.ensures ∙ ap rates_of c.as_slice.ensures));
+        local = c.some_of_birth-local.ensures ∙ ap has_local c.as_slice-3.ensures;
         of = of_new c.args.plan;
         started = subst (λ o. AreStarted (new_seen (layout_of c.args.plan)) o) (sym started_is) (refl, refl);
         scratch = c.in_ok-scratch.ensures;

@@ -1,8 +1,7 @@
 -- The deadlines at the last stamp.
-use Rattle.std.proofs.Common.{◌+◌, Err, Ok, refl, sym, arith}
+use Rattle.std.proofs.Common.{Err, Ok, refl, sym, arith}
 use Rattle.lola_model.specs.Steps.{deadline_step}
-use Rattle.lola_engine.proofs.Joining.{finishes_at_once, finishes_none, finishes_step}
-use Rattle.lola_engine.proofs.Loop.{due_is_done, due_stops}
+use Rattle.lola_engine.proofs.Joining.{finishes_at_once, finishes_before, finishes_done, finishes_step, told_last}
 use Rattle.lola_engine.proofs.engine.run_last.Goals as goal
 
 pub returns-then-desk-eq0-clause-finishes : goal.returns-then-desk-eq0-clause-finishes
@@ -11,24 +10,26 @@ returns-then-desk-eq0-clause-finishes g c =
 
 pub returns-in_default-next_due-clause-finishes : goal.returns-in_default-next_due-clause-finishes
 returns-in_default-next_due-clause-finishes g c =
-    let e = c.args.desk.now in
-    finishes_none e (g.S.StreamStore.seen c.args.store.now) (g.S.StreamStore.remembers c.args.store.now) c.requires (λ q. omega (arith, q, c.if-desk-eq0.false))
-    c.in-Some.start (sym c.in-Some.ensures) c.in_default-next_due.ensures.clock c.args.lines.now
-    (due_is_done c.in-Some.start (e.merged + 1) e.clock (sym c.in-Some.ensures) c.in_default-next_due.ensures.value (omega (arith, c.requires.merged)))
+    finishes_done c.args.desk.now (g.S.StreamStore.seen c.args.store.now) (g.S.StreamStore.remembers c.args.store.now) c.requires (λ q. omega (arith, q, c.if-desk-eq0.false))
+    c.in-Some.start (sym c.in-Some.ensures) c.in_default-next_due.ensures.tells c.args.lines.now c.in_default-next_due.ensures.value
 
 pub returns-then-due-desk-clause-finishes : goal.returns-then-due-desk-clause-finishes
 returns-then-due-desk-clause-finishes g c =
-    let e = c.args.desk.now in
-    finishes_none e (g.S.StreamStore.seen c.args.store.now) (g.S.StreamStore.remembers c.args.store.now) c.requires (λ q. omega (arith, q, c.if-desk-eq0.false))
-    c.in-Some.start (sym c.in-Some.ensures) c.in-Some-next_due.ensures.clock c.args.lines.now
-    (due_stops c.in-Some.start (e.merged + 1) e.clock (sym c.in-Some.ensures) c.in-Some-next_due.due c.in-Some-next_due.ensures.value (omega (arith, c.if-due-desk.true)))
+    finishes_before c.args.desk.now (g.S.StreamStore.seen c.args.store.now) (g.S.StreamStore.remembers c.args.store.now) c.requires (λ q. omega (arith, q, c.if-desk-eq0.false))
+    c.in-Some.start (sym c.in-Some.ensures) c.in-Some-next_due.ensures.tells c.args.lines.now c.in-Some-next_due.due c.in-Some-next_due.ensures.value (omega (arith, c.if-due-desk.true))
+
+pub run_step-requires-clause-order : goal.run_step-requires-clause-order
+run_step-requires-clause-order g c κs within =
+    let high = told_last c.args.desk.now (g.S.StreamStore.seen c.args.store.now) (g.S.StreamStore.remembers c.args.store.now) c.requires (λ q. omega (arith, q, c.if-desk-eq0.false))
+    c.in-Some.start (sym c.in-Some.ensures) c.in-Some-next_due.ensures.tells c.in-Some-next_due.due c.in-Some-next_due.ensures.value (omega (arith, c.if-due-desk.false)) in
+    omega (arith, high, c.requires.time)
 
 pub returns-in-Ok-clause-finishes : goal.returns-in-Ok-clause-finishes
 returns-in-Ok-clause-finishes g c =
     let seen = g.S.StreamStore.seen in
     let remembers = g.S.StreamStore.remembers in
     finishes_step c.args.desk.now (seen c.args.store.now) (remembers c.args.store.now) c.requires (λ q. omega (arith, q, c.if-desk-eq0.false))
-    c.in-Some.start (sym c.in-Some.ensures) c.in-Some-next_due.ensures.clock c.in-Some-next_due.due c.in-Some-next_due.ensures.value c.in-Some-next_due.ensures.next.0.later (omega (arith, c.if-due-desk.false))
+    c.in-Some.start (sym c.in-Some.ensures) c.in-Some-next_due.ensures.tells c.in-Some-next_due.due c.in-Some-next_due.ensures.value (omega (arith, c.if-due-desk.false))
     (Ok tt) c.run_step.new.desk (seen c.run_step.new.store) (remembers c.run_step.new.store) c.args.lines.now c.run_step.new.lines c.in-Ok.ensures.kept
     (c.in-Ok.ensures.goes (deadline_step c.in-Some-next_due.due) refl tt)
 
@@ -37,6 +38,6 @@ returns-in-Err-clause-finishes g c =
     let seen = g.S.StreamStore.seen in
     let remembers = g.S.StreamStore.remembers in
     finishes_step c.args.desk.now (seen c.args.store.now) (remembers c.args.store.now) c.requires (λ q. omega (arith, q, c.if-desk-eq0.false))
-    c.in-Some.start (sym c.in-Some.ensures) c.in-Some-next_due.ensures.clock c.in-Some-next_due.due c.in-Some-next_due.ensures.value c.in-Some-next_due.ensures.next.0.later (omega (arith, c.if-due-desk.false))
+    c.in-Some.start (sym c.in-Some.ensures) c.in-Some-next_due.ensures.tells c.in-Some-next_due.due c.in-Some-next_due.ensures.value (omega (arith, c.if-due-desk.false))
     (Err c.in-Err.end) c.run_step.new.desk (seen c.run_step.new.store) (remembers c.run_step.new.store) c.args.lines.now c.run_step.new.lines c.in-Err.ensures.kept
     (c.in-Err.ensures.goes (deadline_step c.in-Some-next_due.due) refl tt)

@@ -1,6 +1,6 @@
 -- A row, read and run.
 use Rattle.std.proofs.Common.{◌≡◌, ◌+◌, refl, sym, subst, ap, length, arith}
-use Rattle.lola_clock.specs.Clock.{ClockState}
+use Rattle.lola_model.specs.Journal.{accepted}
 use Rattle.lola_model.specs.Standing.{StandsBetween}
 use Rattle.lola_text.specs.Texts.{Texts}
 use Rattle.lola_step.specs.Moments.{ReadAs}
@@ -25,14 +25,14 @@ returns-in-Err-clause-accepts g c =
 
 pub run_taken-requires-clause-below : goal.run_taken-requires-clause-below
 run_taken-requires-clause-below g c κs within =
-    ready_below c.args.desk.now (g.S.StreamStore.seen c.args.store.now) (g.S.StreamStore.seen c.started-start.new.store) c.started-start.new.clock c.read_row.new.texts c.read_row.new.ids c.read_row.new.left c.started-start.result c.args.row.now.stamp
-    c.requires.engine c.requires.row.in_time c.requires.row.order c.in_default.ensures.table c.in_default.ensures.literals
+    ready_below c.args.desk.now (g.S.StreamStore.seen c.args.store.now) (g.S.StreamStore.seen c.started-start.new.store) c.started-start.new.clock c.read_row.new.texts c.read_row.new.ids c.read_row.new.left c.started-start.result c.args.row.now.stamp c.max-from.result
+    c.requires.engine c.requires.row.in_time c.requires.row.order c.max-from.ensures c.in_default.ensures.table c.in_default.ensures.literals
     (λ a q. let k = c.started-start.ensures.going a q in (k.0, k.1, ap g.S.StreamStore.seen k.2)) c.started-start.ensures.first
 
 pub returns-in-Ok-clause-engine : goal.returns-in-Ok-clause-engine
 returns-in-Ok-clause-engine g c =
-    engine_again c.args.desk.now (g.S.StreamStore.seen c.args.store.now) (g.S.StreamStore.seen c.started-start.new.store) c.started-start.new.clock c.read_row.new.texts c.read_row.new.ids c.read_row.new.left c.started-start.result c.args.row.now.stamp
-    c.requires.engine c.requires.row.in_time c.requires.row.order c.in_default.ensures.table c.in_default.ensures.literals
+    engine_again c.args.desk.now (g.S.StreamStore.seen c.args.store.now) (g.S.StreamStore.seen c.started-start.new.store) c.started-start.new.clock c.read_row.new.texts c.read_row.new.ids c.read_row.new.left c.started-start.result c.args.row.now.stamp c.max-from.result
+    c.requires.engine c.requires.row.in_time c.requires.row.order c.max-from.ensures c.in_default.ensures.table c.in_default.ensures.literals
     c.run_taken.new.desk (g.S.StreamStore.seen c.run_taken.new.store) c.args.row.now.fields c.in-Ok.ensures.taken c.in-Ok.ensures.kept c.requires.row.more c.requires.row.fields c.in_default.ensures.given
     (let takes = c.in_default.ensures.takes in few_swept c.args.desk.now (g.S.StreamStore.seen c.args.store.now) c.requires.engine _ _ takes.between c.read_row.new.left takes.goes)
 
@@ -42,16 +42,15 @@ returns-in-Ok-clause-accepts g c =
     let remembers = g.S.StreamStore.remembers in
     let e = c.args.desk.now in
     let names = c.read_row.new.texts.held in
-    let clock : ClockState = c.started-start.new.clock in
     let new = record c.run_taken.new.desk { rows = c.run_taken.new.desk.rows + 1; merged = c.args.row.now.stamp } in
-    accepts_all e c.requires.engine.sound.accepted (seen c.args.store.now) (remembers c.args.store.now) c.args.row.now names clock c.started-start.result (remembers c.started-start.new.store) (seen c.started-start.new.store)
-    (begins e (seen c.args.store.now) (remembers c.args.store.now) c.args.row.now names clock c.started-start.result (remembers c.started-start.new.store) (seen c.started-start.new.store)
-    c.requires.engine c.requires.row.order c.in_default.ensures.table.naming c.in_default.ensures.literals
-    (λ a q. let k = c.started-start.ensures.going a q in (k.0, k.1, λ content stands. subst (λ z. StandsBetween names (remembers z) (seen z) content) (sym k.2) (c.in_default.ensures.stands content stands)))
-    (λ q. let f = c.started-start.ensures.first q in (f.0, f.1))
+    accepts_all e c.requires.engine.sound.accepted (seen c.args.store.now) (remembers c.args.store.now) c.args.row.now names c.started-start.result c.max-from.result (remembers c.started-start.new.store) (seen c.started-start.new.store)
+    (begins e (seen c.args.store.now) (remembers c.args.store.now) c.args.row.now names c.started-start.result c.max-from.result (remembers c.started-start.new.store) (seen c.started-start.new.store)
+    c.requires.engine c.requires.row.order c.in_default.ensures.table.naming c.in_default.ensures.literals c.max-from.ensures
+    (λ a q. let k = c.started-start.ensures.going a q in (k.0, λ content stands. subst (λ z. StandsBetween names (remembers z) (seen z) content) (sym k.2) (c.in_default.ensures.stands content stands)))
+    (λ q. (c.started-start.ensures.first q).0)
     (λ q shows past. c.started-start.ensures.stands q shows past names))
     c.args.lines.now c.run_taken.new.lines new (seen c.run_taken.new.store) (remembers c.run_taken.new.store)
-    (c.in-Ok.ensures.goes c.args.row.now.fields (subst (λ os. ReadAs names os c.args.row.now.fields) (sym c.as_slice.ensures.value) c.in_default.ensures.ok))
+    (λ journal. c.in-Ok.ensures.goes (accepted journal) c.args.row.now refl (subst (λ os. ReadAs names os c.args.row.now.fields) (sym c.as_slice.ensures.value) c.in_default.ensures.ok))
     c.in-Ok.ensures.kept.plan c.in-Ok.ensures.kept.option c.in-Ok.ensures.kept.show c.in-Ok.ensures.kept.ended
     (ap (λ n. n + 1) c.in-Ok.ensures.kept.rows) refl c.in-Ok.ensures.taken.start_is c.in-Ok.ensures.taken.passed
 
@@ -61,15 +60,14 @@ returns-in-Err-run_taken-clause-accepts g c =
     let remembers = g.S.StreamStore.remembers in
     let e = c.args.desk.now in
     let names = c.read_row.new.texts.held in
-    let clock : ClockState = c.started-start.new.clock in
-    accepts_no_more e c.requires.engine.sound.accepted (seen c.args.store.now) (remembers c.args.store.now) c.args.row.now names clock c.started-start.result (remembers c.started-start.new.store) (seen c.started-start.new.store)
-    (begins e (seen c.args.store.now) (remembers c.args.store.now) c.args.row.now names clock c.started-start.result (remembers c.started-start.new.store) (seen c.started-start.new.store)
-    c.requires.engine c.requires.row.order c.in_default.ensures.table.naming c.in_default.ensures.literals
-    (λ a q. let k = c.started-start.ensures.going a q in (k.0, k.1, λ content stands. subst (λ z. StandsBetween names (remembers z) (seen z) content) (sym k.2) (c.in_default.ensures.stands content stands)))
-    (λ q. let f = c.started-start.ensures.first q in (f.0, f.1))
+    accepts_no_more e c.requires.engine.sound.accepted (seen c.args.store.now) (remembers c.args.store.now) c.args.row.now names c.started-start.result c.max-from.result (remembers c.started-start.new.store) (seen c.started-start.new.store)
+    (begins e (seen c.args.store.now) (remembers c.args.store.now) c.args.row.now names c.started-start.result c.max-from.result (remembers c.started-start.new.store) (seen c.started-start.new.store)
+    c.requires.engine c.requires.row.order c.in_default.ensures.table.naming c.in_default.ensures.literals c.max-from.ensures
+    (λ a q. let k = c.started-start.ensures.going a q in (k.0, λ content stands. subst (λ z. StandsBetween names (remembers z) (seen z) content) (sym k.2) (c.in_default.ensures.stands content stands)))
+    (λ q. (c.started-start.ensures.first q).0)
     (λ q shows past. c.started-start.ensures.stands q shows past names))
     c.args.lines.now c.run_taken.new.lines c.in-Err-run_taken.end (tally_of c.run_taken.new.desk) (remembers c.run_taken.new.store) (seen c.run_taken.new.store)
-    (c.in-Err-run_taken.ensures.goes c.args.row.now.fields (subst (λ os. ReadAs names os c.args.row.now.fields) (sym c.as_slice.ensures.value) c.in_default.ensures.ok))
+    (λ journal. c.in-Err-run_taken.ensures.goes (accepted journal) c.args.row.now refl (subst (λ os. ReadAs names os c.args.row.now.fields) (sym c.as_slice.ensures.value) c.in_default.ensures.ok))
     c.run_taken.new.desk (seen c.run_taken.new.store) (remembers c.run_taken.new.store)
 
 pub returns-in-Ok-clause-texts : goal.returns-in-Ok-clause-texts
