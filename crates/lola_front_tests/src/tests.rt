@@ -2,6 +2,7 @@
 
 use lola_bounds::report::report;
 use lola_front::compile;
+use lola_model::pacing::Pacing;
 use lola_value::front::{FrontEnd, Refusal};
 use lola_value::text::{Memory, Text};
 use std::alloc::Global;
@@ -157,6 +158,7 @@ fn refusals_of_literals(rt: HostRuntime) -> Result<(), Memory> {
         ("output b: Int64 @0Hz := a.hold(or: 0)", (10, 32)),
         ("output b: Int64 @0s := a.hold(or: 0)", (10, 32)),
         ("output b: Int64 @Global(0Hz) := a.hold(or: 0)", (10, 39)),
+        ("output b: Int64 @Local(0Hz) := a.hold(or: 0)", (10, 38)),
     ];
     for (text, wanted) in table {
         assert!(rt; has(rt.alloc(), text, wanted)?, "of {text}");
@@ -225,8 +227,64 @@ fn refusals_of_pacings(rt: HostRuntime) -> Result<(), Memory> {
             "trigger @3Hz a.aggregate(over: 1s, using: sum) > 0",
             (18, 28),
         ),
-        ("output b: Int64 @Global(1Hz) := a.hold(or: 0)", (20, 31)),
-        ("trigger @Local(1Hz) a.hold(or: 0) > 0", (20, 23)),
+        ("output b: Int64 @Global(2MHz) := 1", (17, 31)),
+    ];
+    for (text, wanted) in table {
+        assert!(rt; has(rt.alloc(), text, wanted)?, "of {text}");
+    }
+    Ok(())
+}
+
+/// Rates that count from births stand in eval and close clauses of streams with a spawn clause, and nowhere else.
+#[test]
+fn refusals_of_local_pacings(rt: HostRuntime) -> Result<(), Memory> {
+    let table = [
+        ("output b: Int64 @Local(1Hz) := 1", (21, 31)),
+        ("trigger @Local(1Hz) a.hold(or: 0) > 0", (21, 23)),
+        (
+            "output z(p: Int64): Int64 spawn @Local(1Hz) with a.hold(or: 0) eval @a with p",
+            (21, 47),
+        ),
+        (
+            "output z(p: Int64): Int64 spawn @Local(1Hz) with a.hold(or: 0) eval @Local(1Hz) with p",
+            (21, 47),
+        ),
+        // a period that is too short is told first
+        ("output b: Int64 @Local(2MHz) := 1", (17, 31)),
+        (
+            "output z(p: Int64): Int64 spawn @Local(2MHz) with a.hold(or: 0) eval @a with p",
+            (17, 47),
+        ),
+        (
+            "output z(p: Int64): Int64 spawn with a eval @Local(999ns) with p",
+            (17, 59),
+        ),
+        // they imply no other pacing, and none implies them
+        (
+            "output z(p: Int64): Int64 spawn with a eval @Local(1Hz) with a",
+            (11, 76),
+        ),
+        (
+            "output z(p: Int64): Int64 spawn with a eval @Local(1Hz) with 1\noutput y(p: Int64): Int64 spawn with a eval @Local(1Hz) with z(p)",
+            (11, 139),
+        ),
+        // no pacing is found from a leaf that has one
+        (
+            "output z(p: Int64): Int64 spawn with a eval @Local(1Hz) with 1\noutput y: Int64 := z(1).last(or: 0)",
+            (12, 85),
+        ),
+        (
+            "output z(p: Int64): Int64 spawn with a eval @Local(1Hz) with 1\noutput y(q: Int64): Int64 spawn with a eval with z(q).last(or: 0)",
+            (12, 85),
+        ),
+        (
+            "output w(p: Int64): UInt64 spawn with a eval @Local(1Hz) with a.aggregate(over: 1s, using: count)",
+            (15, 77),
+        ),
+        (
+            "output w(p: Int64): Int64 spawn with a eval @a with p close @Local(1Hz) when a.aggregate(over: 1s, using: count) > 3",
+            (15, 92),
+        ),
     ];
     for (text, wanted) in table {
         assert!(rt; has(rt.alloc(), text, wanted)?, "of {text}");
@@ -293,6 +351,9 @@ fn specifications_that_are_accepted(rt: HostRuntime) -> Result<(), Memory> {
         "output b: Int64 @a := 9223372036854775807\ntrigger @a b > -9223372036854775808 \"fine\"",
         "output b @(a || a) := 1 < 2\ntrigger b",
         "output h: Int64 @30Hz := a.hold(or: 0)",
+        "output h: Int64 @Global(1Hz) := a.hold(or: 0)\noutput g: Int64 @Global(2Hz) := h.hold(or: 0)\noutput f: Int64 @1Hz := h + g",
+        "output z(p: Int64): Int64 spawn @Global(1Hz) with a.hold(or: 0) eval @Local(1us) when p > 0 with z(p).last(or: 0) + a.hold(or: 0) close @Local(1min) when p > 3",
+        "output z(p: Int64): Int64 spawn with a eval @a with p close @Local(30Hz) when a.hold(or: 0) > 3",
         "output b: UInt64 @1Hz := a.aggregate(over: 65536s, using: count)\noutput c: Int64 @1us := a.offset(by: -4096).defaults(to: 0)\noutput d: UInt64 @4000000000s := a.aggregate(over: 4000000000s, using: count)",
     ];
     for text in table {
@@ -335,12 +396,66 @@ fn pacings_layers_and_bounds(rt: HostRuntime) -> Result<(), Memory> {
             "stream 0 a Int64 pacing a layer 0 kept 1\nstream 1 b Int64 pacing b layer 0 kept 1\nstream 2 m Int64 pacing a layer 1 kept 1\nstream 3 c Int64 pacing a && b layer 2 kept 1\n",
         ),
         (
+            "input a: Int64\noutput z(p: Int64): Int64 spawn with a eval @Local(500ms) with p + a.hold(or: 0) close @Local(1min) when true\noutput g: Int64 @Global(2Hz) := a.hold(or: 0)",
+            "stream 0 a Int64 pacing a layer 0 kept 1\nstream 1 z Int64 spawn a layer 1 pacing Local(2Hz) layer 2 kept 1\nstream 2 g Int64 pacing 2Hz layer 1 kept 1\n",
+        ),
+        (
             "input dev: String\ninput temp: Int64\ninput hum: Int64\noutput mean: Int64 @1Hz := temp.aggregate(over: 1min, using: avg).defaults(to: 0)\noutput last_hum: Int64 @1Hz := hum.hold(or: 0)\noutput seen(d: String): Int64\n  spawn with dev\n  eval @dev when dev == d with seen(d).last(or: 0) + 1\ntrigger mean >= 224 && last_hum > 90 \"warm and damp\"\n",
             "stream 0 dev String pacing dev layer 0 kept 1\nstream 1 temp Int64 pacing temp layer 0 kept 1\nstream 2 hum Int64 pacing hum layer 0 kept 1\nstream 3 mean Int64 pacing 1Hz layer 1 kept 1\nstream 4 last_hum Int64 pacing 1Hz layer 1 kept 1\nstream 5 seen Int64 spawn dev layer 1 pacing dev layer 2 kept 2\nstream 6 trigger_1 Bool pacing 1Hz layer 2 kept 1\nwindow 0 in mean onto temp over 60.000000000 panes 60\n",
         ),
     ];
     for (text, wanted) in table {
         assert!(rt; reports(rt.alloc(), text, wanted)?, "of {text}");
+    }
+    Ok(())
+}
+
+/// The rate of a pacing, if it counts from the birth of each instance.
+fn local_rate(pacing: &Option<Pacing>) -> Option<(u64, u64)> {
+    match pacing {
+        Some(Pacing::Local(rate)) => Some((rate.num(), rate.den())),
+        _ => None,
+    }
+}
+
+/// Those of the eval and the close clause of the stream behind that input.
+fn local_rates(
+    alloc: Global,
+    text: &str,
+) -> Result<(Option<(u64, u64)>, Option<(u64, u64)>), Memory> {
+    let whole = format!(in alloc; "{I}{text}")?;
+    let Ok(plan) = compile(alloc, whole.as_bytes()) else {
+        return Ok((None, None));
+    };
+    match plan.pacings.as_slice().get(1) {
+        Some(pacings) => Ok((local_rate(&pacings.eval), local_rate(&pacings.close))),
+        None => Ok((None, None)),
+    }
+}
+
+/// A close clause without `@` and without a leaf has the pacing of its eval clause, also one that counts from births.
+#[test]
+fn pacings_of_eval_and_close_clauses(rt: HostRuntime) -> Result<(), Memory> {
+    let table = [
+        (
+            "output z(p: Int64): Int64 spawn with a eval @Local(2Hz) with p close @Local(1min) when p > 3",
+            (Some((2, 1)), Some((1, 60))),
+        ),
+        (
+            "output z(p: Int64): Int64 spawn with a eval @Local(500mHz) with p close when p > 3",
+            (Some((1, 2)), Some((1, 2))),
+        ),
+        (
+            "output z(p: Int64): Int64 spawn with a eval @Local(2Hz) with p close when a.last(or: 0) > 3",
+            (Some((2, 1)), None),
+        ),
+        (
+            "output z(p: Int64): Int64 spawn with a eval @Global(2Hz) with p close when p > 3",
+            (None, None),
+        ),
+    ];
+    for (text, wanted) in table {
+        assert_eq!(rt; local_rates(rt.alloc(), text)?, wanted, "of {text}");
     }
     Ok(())
 }
