@@ -3,9 +3,7 @@ use Rattle.std.proofs.Common.{◌≡◌, Bool, ℕ, List, [], ◌++◌, length, 
 use Rattle.std.proofs.lemmas.List.{append-nil}
 use Rattle.lola_port.specs.States.{PutBroke, Rose, SinkState, grown}
 use Rattle.lola_model.specs.Faults.{RunFault}
-use Rattle.lola_model.specs.Journal.{accepted}
-use Rattle.lola_model.specs.Runs.{final_lines, settled_lines}
-use Rattle.lola_model.specs.Steps.{all_steps}
+use Rattle.lola_model.specs.Runs.{final_lines, settled_lines, whole_model}
 use Rattle.lola_model.specs.Texts.{text_of}
 use Rattle.lola_model.specs.declared.journal.Entry.{Entry}
 use Rattle.lola_model.proofs.Journals.{text_of-append}
@@ -56,7 +54,7 @@ module _ (in_turns : Bool) (first : World) (k1 k2 : Keeping) (sources : List Sup
     settled = fine;
     accepted = c.accepted ∙ ran.stands.accepted;
     late = c.late ∙ ran.stands.late;
-    steps = c.steps ∙ ap (λ (s : Setting). length (all_steps s.plan.pacings s.start (accepted journal))) ran.setting;
+    steps = c.steps ∙ ap (λ (s : Setting). length (whole_model s.plan s.start journal)) ran.setting;
     lines = c.counted ∙ ap (λ (s : Setting). length (final_lines s.plan s.start journal s.show)) ran.setting;
   }
 

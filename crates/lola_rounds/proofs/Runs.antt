@@ -9,8 +9,6 @@ use Rattle.lola_model.specs.Faults.{RunFault}
 use Rattle.lola_model.specs.Texts.{text_of}
 use Rattle.lola_model.specs.Trace.{trace_text}
 use Rattle.lola_model.specs.declared.journal.Entry.{Entry}
-use Rattle.lola_model.specs.declared.journal.Mark.{Mark}
-use Rattle.lola_model.specs.declared.journal.Mark.TheVariants as mark
 use Rattle.lola_model.proofs.Journals.{trace_text-append_one}
 use Rattle.lola_engine.specs.Engines.{Brings}
 use Rattle.lola_run.specs.Verdicts.{IsRowFault, Setting, settled_fault_in, settled_text}

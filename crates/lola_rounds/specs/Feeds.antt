@@ -3,8 +3,7 @@ use Rattle.std.specs.Prelude.{Bool, true, ℕ, ◌≡◌, ◌⊎◌, ◌≤◌, 
 use Rattle.lola_port.specs.States.{PutBroke, Rose, SinkState, grown}
 use Rattle.lola_model.specs.Journal.{IsLegal, accepted, rows_of}
 use Rattle.lola_model.specs.Faults.{RunFault}
-use Rattle.lola_model.specs.Runs.{final_lines}
-use Rattle.lola_model.specs.Steps.{all_steps}
+use Rattle.lola_model.specs.Runs.{final_lines, whole_model}
 use Rattle.lola_model.specs.Trace.{trace_text}
 use Rattle.lola_model.specs.declared.plan.Plan.{Plan}
 use Rattle.lola_model.specs.declared.journal.Row.{Row}
@@ -175,7 +174,7 @@ pub record ThroughWell (in_turns : Bool) (first last : World) : Type 0 where
   pub ended : HaveEnded last.sources
   pub no_fault : fault_in (setting_in first.kept) through.came.journal ≡ None
   pub settled : settled_fault_in (setting_in first.kept) through.came.journal ≡ None
-  pub steps : last.kept.desk.steps ≡ length (all_steps first.kept.desk.plan.pacings first.kept.desk.option (accepted through.came.journal))
+  pub steps : last.kept.desk.steps ≡ length (whole_model first.kept.desk.plan first.kept.desk.option through.came.journal)
   pub accepted : last.kept.accepted ≡ length (accepted through.came.journal)
   pub late : last.kept.late ≡ late_count through.came.journal
   pub lines : last.kept.desk.lines ≡ length (final_lines first.kept.desk.plan first.kept.desk.option through.came.journal first.kept.desk.show)

@@ -227,7 +227,7 @@ pub closed_and_put : (result : Result (Unit {0}) Stop) (old new : Keeping) (out0
     → Puts result text out0 out1 → Closes result old new out0 out1
 closed_and_put (Ok done) old new out0 out1 text finishes count late puts = λ journal stands.
     let f = finishes journal stands.engine in
-    record { fine = f.fine; lines = f.lines; completes = f.completes; out = puts ∙ ap (grown out0) f.text; accepted = count; late = late; steps = f.all; counted = f.counted }
+    record { fine = f.fine; lines = f.lines; completes = f.completes; out = puts ∙ ap (grown out0) f.text; accepted = count; late = late; steps = f.steps; counted = f.counted }
 closed_and_put (Err (stop.Fault stream kind time)) old new out0 out1 text finishes count late puts = absurd puts
 closed_and_put (Err (stop.CutFault stream kind time)) old new out0 out1 text finishes count late puts = absurd puts
 closed_and_put (Err stop.Put) old new out0 out1 text finishes count late puts = (

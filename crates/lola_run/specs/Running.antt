@@ -9,8 +9,7 @@ use Rattle.lola_model.specs.Journal.{IsLegal, IsRightlyMarked, accepted}
 use Rattle.lola_model.specs.Faults.{RunFault}
 use Rattle.lola_model.specs.Texts.{text_of}
 use Rattle.lola_model.specs.Trace.{IsFieldOf, input_kinds}
-use Rattle.lola_model.specs.Runs.{final_lines}
-use Rattle.lola_model.specs.Steps.{all_steps}
+use Rattle.lola_model.specs.Runs.{final_lines, whole_model}
 use Rattle.lola_model.specs.declared.plan.Plan.{Plan}
 use Rattle.lola_model.specs.declared.journal.Row.{Row}
 use Rattle.lola_model.specs.declared.journal.Entry.{Entry}
@@ -165,7 +164,7 @@ pub record Closed (journal : List Entry) (old new : Keeping) (out0 out1 : SinkSt
   pub lines : List (List ℕ)
   pub completes : Completes old.desk journal lines
   pub out : out1 ≡ grown out0 (text_of lines)
-  pub steps : new.desk.steps ≡ length (all_steps old.desk.plan.pacings old.desk.option (accepted journal))
+  pub steps : new.desk.steps ≡ length (whole_model old.desk.plan old.desk.option journal)
   pub accepted : new.accepted ≡ old.accepted
   pub late : new.late ≡ old.late
   pub counted : new.desk.lines ≡ length (final_lines old.desk.plan old.desk.option journal old.desk.show)
