@@ -1,6 +1,6 @@
 //! A queue of births, in the order of their next deadlines.
 
-ghost use Rattle.std.specs.Prelude.{◌≡◌, ℕ, ◌≤◌, ◌<◌, ◌∷◌, slice_index_or, Contains};
+ghost use Rattle.std.specs.Prelude.{◌≡◌, ℕ, ◌≤◌, ◌<◌, ◌∷◌, slice_index_or, Contains, IfSome};
 ghost use Rattle.std.specs.List.Sorted.{IsPermutation};
 ghost use Rattle.std.specs.VecDeque.{deque_capacity, deque_len};
 ghost use Rattle.lola_instances_due.specs.Moments.{least_due};
@@ -91,13 +91,48 @@ fn place_born(queue: &VecDeque<Entry>, born: u64) -> usize
     unreachable!()
 }
 
-/// Takes an entry with a birth out.
-pub fn take_out(queue: &mut VecDeque<Entry>, born: u64)
-    requires { Contains (births_of queue.old.items) born }
+// The place of an entry with a birth among those that are due then, from the last on; none where it is not among them.
+fn place_due(queue: &VecDeque<Entry>, due: u64, born: u64) -> Option<usize>
+    requires { AreInOrder queue.now.items }
+    ensures within { IfSome result (λ i. i < deque_len queue.now) }
+    ensures born { IfSome result (λ i. (d : Entry) → (slice_index_or queue.now.items i d).born ≡ born) }
+{
+    let mut behind = place_of(queue, due);
+    while behind > 0 {
+        let last = behind - 1;
+        let entry = queue[last];
+        if entry.due < due {
+            return None;
+        }
+        if entry.born == born {
+            return Some(last);
+        }
+        behind = last;
+    }
+    None
+}
+
+// The place of an entry with a birth, first looked for where it stands if it is due then.
+fn place_taken(queue: &VecDeque<Entry>, due: u64, born: u64) -> usize
+    requires order { AreInOrder queue.now.items }
+    requires born { Contains (births_of queue.now.items) born }
+    ensures within { result < deque_len queue.now }
+    ensures born { (d : Entry) → (slice_index_or queue.now.items result d).born ≡ born }
+{
+    match place_due(queue, due, born) {
+        Some(place) => place,
+        None => place_born(queue, born),
+    }
+}
+
+/// Takes an entry with a birth out. It is found quickly where it is due then.
+pub fn take_out(queue: &mut VecDeque<Entry>, due: u64, born: u64)
+    requires order { AreInOrder queue.old.items }
+    requires born { Contains (births_of queue.old.items) born }
     ensures without { IsWithout born queue.old.items queue.new.items }
     ensures capacity { deque_capacity queue.new ≡ deque_capacity queue.old }
 {
-    let place = place_born(queue, born);
+    let place = place_taken(queue, due, born);
     let _gone = queue.remove(place);
 }
 

@@ -108,7 +108,8 @@ impl DueTimes {
             return;
         }
         let born = self.births.remove(index);
-        take_out(&mut self.queue, born);
+        let due = next_due(self.rates.as_slice(), born, self.passed);
+        take_out(&mut self.queue, due, born);
     }
 
     /// Deadlines before a moment are passed: `next` is quick from that moment on.

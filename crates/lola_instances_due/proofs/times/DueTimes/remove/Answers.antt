@@ -7,8 +7,8 @@ use Rattle.lola_instances_due.proofs.Births.{is_queued, removed}
 use Rattle.lola_instances_due.proofs.Queues.{others_right}
 use Rattle.lola_instances_due.proofs.times.DueTimes.remove.Goals as goal
 
-pub take_out-requires : goal.take_out-requires
-take_out-requires c =
+pub take_out-requires-clause-born : goal.take_out-requires-clause-born
+take_out-requires-clause-born c =
     let within : c.args.index < length c.self.inside.births.items = grind (arith, common_steps) in
     is_queued c.self.inside.births.items (births_of c.self.inside.queue.items) c.args.index c.remove-born.result c.self.invariant.same within c.remove-born.ensures.value
 
