@@ -1,5 +1,5 @@
--- The steps of a run, said of them as a whole: where they come from, which of two is first, and that a list
--- has each of them once.
+-- The steps of a run in which all deadlines count from the start, said of them as a whole: where they come from, which of two is
+-- first, and that a list has each of them once.
 use Rattle.std.specs.Prelude.{ℕ, ◌≡◌, ◌<◌, ◌≤◌, ◌-◌, ◌⊎◌, ◌↔◌, List, [], ◌∷◌, Option, Some, slice_get, map, Contains, AllPairs}
 use Rattle.lola_value.specs.Ratio.{Ratio}
 use Rattle.lola_value.specs.Rate.{IsDeadline}
@@ -51,7 +51,7 @@ last_stamp [] = 0
 last_stamp (r ∷ []) = r.stamp
 last_stamp (r ∷ q ∷ rs) = last_stamp (q ∷ rs)
 
--- a moment after the start that is a deadline, counted from the start, of some clause's rate
+-- a moment after the start that is a deadline of some clause's rate that counts from the start
 pub record IsDue (pacings : List ClausePacings) (start t : ℕ) : Type 0 where
   pub rate : Ratio
   pub listed : Contains (rates_of pacings) rate
@@ -81,7 +81,7 @@ abbrev pub DoNotFall : ℕ → List Row → Type 0
 DoNotFall time [] = Unit {0}
 DoNotFall time (r ∷ rs) = (time ≤ r.stamp) × DoNotFall r.stamp rs
 
--- the steps of a run are the only list in their order that has them all
+-- these lists are the only ones in the order of steps that have them all
 pub record HasTheSteps (pacings : List ClausePacings) : Type 0 where
   pub all : (start : Option ℕ) (rows : List Row) → DoNotFall (opening_time start) rows → (steps : List Step)
       → AreStepsOf (IsOrigin pacings (start_of start rows) rows) steps ↔ (steps ≡ all_steps pacings start rows)

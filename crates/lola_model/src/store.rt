@@ -1,7 +1,7 @@
 //! Stores: what a run keeps of its past.
 //!
 //! A store shows exactly what it is between two calls (`seen`): how far it is, and the living
-//! instances of each stream with their parameters and their outcomes of this step. Of the values
+//! instances of each stream with their parameters, their births and their outcomes of this step. Of the values
 //! before this step it need not keep all: `remembers` says which lists of them it may stand for, and
 //! each reading call answers what every such list has.
 

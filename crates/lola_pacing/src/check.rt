@@ -82,8 +82,9 @@ fn answer(alloc: Global, spec: &Spec, found: &AllFindings) -> Result<Pacings, Fr
 }
 
 /// The pacing of each clause of a specification whose names are resolved and whose kinds are found, or the first refusal
-/// of this phase: E11 to E18, and E21 for a local pacing where no spawn clause makes the instances. Pacings are those of the RTLola language: event-based ones
-/// imply each other over all sets of inputs, and a rate implies its whole multiples.
+/// of this phase: E11 to E18, and E21 for a local pacing where no spawn clause makes the instances. Pacings are those of
+/// the RTLola language: event-based ones imply each other over all sets of inputs, a rate that counts from the start implies
+/// its whole multiples, and a local one implies nothing.
 pub fn check(alloc: Global, spec: &Spec) -> Result<Pacings, FrontEnd>
     requires named { IsNamed spec.now }
     requires typed { IsTyped spec.now }

@@ -67,7 +67,7 @@ module _ (plan : Plan) (start : ℕ) (step : Step) (s : Seen) (n : ℕ) (stream 
       → (born : ℕ) → is_active_for start born step (eval_pacing (slice_get plan.pacings n)) ≡ true → IsTrue (are_of_kinds stream.parameters (the_values p))
       → IsClauseAskable s p plan.spec.texts (unwrap_or stream.kind kind.Int64 ∷ []) k
 
-  -- and where the close clause is active
+  -- and where the close clause is active for an instance
   abbrev pub CloseMayAsk : Params → Type 0
   CloseMayAsk p =
       IsAccepted plan → IsAtStep plan start step s → slice_get plan.spec.streams n ≡ Some stream → stream.close ≡ Some k
