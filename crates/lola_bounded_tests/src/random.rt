@@ -178,7 +178,10 @@ fn both_stores_fail_at_the_same_step(rt: HostRuntime) -> Result<(), Fail> {
     for specification in [FAULTS, LOCAL_FAULTS] {
         for seed in 1..9 {
             let end = agreed(&rt, alloc, specification, seed)?;
-            assert!(rt; matches!(end, Some(Err(EngineEnd::Fault { .. }))), "{specification}{seed}");
+            assert!(rt;
+                matches!(end, Some(Err(EngineEnd::Fault { .. }))),
+                "{specification}{seed}"
+            );
         }
     }
     Ok(())
