@@ -6,13 +6,15 @@
 //! each reading call answers what every such list has.
 
 ghost use Rattle.std.specs.Prelude.{◌≡◌, ℕ, ◌+◌, ◌-◌, ◌*◌, ◌%◌, ◌^◌, ◌<◌, ◌≤◌, ◌↔◌, List, [], ◌∷◌, ◌++◌, Bool, true, not, length, slice_get, remove, OnOk, OnErr, IsOk, IsTrue, MatchOption, if◌then◌else◌};
+ghost use Rattle.std.specs.Vec.{vec_capacity};
 ghost use Rattle.lola_value.specs.declared.text.Field.{Field};
 ghost use Rattle.lola_value.specs.declared.value.Outcome.TheVariants as outcome;
 ghost use Rattle.lola_value.specs.Naming.{Naming, read_outcome, the_values, IsHeld, IsHeldIn};
+ghost use Rattle.lola_value.specs.Times.{latest};
 ghost use Rattle.lola_model.specs.Store.{Seen, Fits, CanBegin, IsNew, IsStarted, IsRunning, start_seen, time_seen, max_offset, target_of, pane_of, never_spawns, instances_seen, place_of, now_of, now_seen, is_silent, is_of_kind, is_outcome_of, are_of_kinds, is_well_formed, parameters_of, kind_in, spawns_in, after_start, after_prepare, after_begin, after_outcome, after_poison_stream, after_spawn, after_close, window_kind, has_spawned};
 ghost use Rattle.lola_model.specs.Reading.{held_answer, window_reading, KeepsAll, KeepsOthers, IsHeldBy};
 ghost use Rattle.lola_model.specs.Spawning.{has_room, spawn_end};
-ghost use Rattle.lola_model.specs.Dues.{due_seen};
+ghost use Rattle.lola_model.specs.Dues.{due_places, due_seen};
 ghost use Rattle.lola_model.specs.Accesses.{from_end, one_more};
 
 use lola_value::text::Memory;
@@ -128,6 +130,15 @@ pub trait StreamStore: Drop {
     /// live; in nanoseconds, and none where there is none up to the greatest time.
     fn local_due(&self, from: u64) -> Option<u64>
         ensures { result ≡ due_seen (seen self.now) from };
+
+    /// Lists the places of the instances of a stream that have a deadline at a moment, of a clause that counts from their births. They
+    /// come in order of birth, in a list that has the room.
+    fn list_due(&self, stream: u32, time: u64, places: &mut Vec<u32>)
+        requires stream { stream < length (seen self.now).layout.streams }
+        requires in_time { time ≤ latest }
+        requires room { length (instances_seen (seen self.now) stream) ≤ vec_capacity places.old }
+        ensures places { places.new.items ≡ due_places (seen self.now) stream time }
+        ensures capacity { vec_capacity places.new ≡ vec_capacity places.old };
 
     /// Gives an instance its value of this step.
     fn push(&mut self, stream: u32, index: u32, value: Value)
