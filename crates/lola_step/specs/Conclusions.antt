@@ -16,6 +16,7 @@ use Rattle.lola_step.specs.declared.end.StepEnd.TheVariants as end
 use Rattle.lola_step.specs.declared.mark.Mark.{Mark}
 use Rattle.lola_step.specs.declared.moment.Moment.{Moment}
 use Rattle.lola_step.specs.declared.scratch.Span.{Span}
+use Rattle.lola_step.specs.declared.tasks.Task.{Task}
 use Rattle.lola_step.specs.declared.verdict.Verdict.{Verdict}
 
 -- what the store shows once instances are closed
@@ -31,9 +32,9 @@ ShowsConcluded (end.Fault stream kind) plan old new = Unit {0}
 ShowsConcluded end.Memory plan old new = ⊥
 
 -- in each run of which all is noted so, and for whose row the store stood, the step ends so
-abbrev pub Concludes : Plan → Moment → List Mark → List Span → List Outcome → Memories → Seen → StepEnd → Memories → Seen → List Verdict → Type 0
-Concludes plan m marks spans results remembers s e remembers' s' verdicts =
+abbrev pub Concludes : Plan → Moment → List Mark → List Span → List Task → List Outcome → Memories → Seen → StepEnd → Memories → Seen → List Verdict → Type 0
+Concludes plan m marks spans tasks results remembers s e remembers' s' verdicts =
     (names : Naming) (rows : List TableRow) (step : Step) → IsRun plan names rows → IsMoment m.start step m
-    → AreNoted plan (full_row plan m.start rows step).streams names marks spans results
+    → AreNoted plan (full_row plan m.start rows step).streams names marks spans tasks results
     → Stands names remembers s (content m.start rows (full_row plan m.start rows step))
     → StepEnds e plan m.start rows step names remembers' s' verdicts

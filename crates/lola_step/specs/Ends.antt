@@ -19,17 +19,17 @@ use Rattle.lola_step.specs.declared.tasks.Task.{Task}
 use Rattle.lola_step.specs.declared.verdict.Verdict.{Verdict}
 
 -- in each run of which all is noted so, that is the fault of spawn clauses and instances
-abbrev pub FindsFault : Plan → List Mark → List Span → List Outcome → Option (ℕ × FaultKind) → Type 0
-FindsFault plan marks spans results found =
+abbrev pub FindsFault : Plan → List Mark → List Span → List Task → List Outcome → Option (ℕ × FaultKind) → Type 0
+FindsFault plan marks spans tasks results found =
     (names : Naming) (start : ℕ) (rows : List TableRow) (step : Step) → IsRun plan names rows
-    → AreNoted plan (full_row plan start rows step).streams names marks spans results
+    → AreNoted plan (full_row plan start rows step).streams names marks spans tasks results
     → read_fault found ≡ evaluation_fault plan start rows step
 
 -- in each run of which all is noted so, and for whose row the store stands, these are its values, and their texts are held
-abbrev pub CollectsVerdicts : Plan → List Span → List Outcome → Memories → Seen → List Verdict → Type 0
-CollectsVerdicts plan spans results remembers s verdicts =
+abbrev pub CollectsVerdicts : Plan → List Span → List Task → List Outcome → Memories → Seen → List Verdict → Type 0
+CollectsVerdicts plan spans tasks results remembers s verdicts =
     (names : Naming) (start : ℕ) (rows : List TableRow) (step : Step) (marks : List Mark) → IsRun plan names rows
-    → AreNoted plan (full_row plan start rows step).streams names marks spans results
+    → AreNoted plan (full_row plan start rows step).streams names marks spans tasks results
     → Stands names remembers s (content start rows (full_row plan start rows step))
     → (map (read_verdict names) verdicts ≡ row_values 0 plan.spec.streams (full_row plan start rows step).streams) × AreVerdictsHeld names verdicts
 

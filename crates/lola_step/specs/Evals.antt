@@ -18,15 +18,17 @@ use Rattle.lola_step.specs.declared.moment.Moment.{Moment}
 use Rattle.lola_step.specs.declared.scratch.Span.{Span}
 use Rattle.lola_step.specs.declared.tasks.Task.{Task}
 
--- there is room for the tasks of any layer, and for the outcomes of all instances that are still to be evaluated
-pub record HasRooms (plan : Plan) (g : Stage) (s : Seen) (tasks : Vec Task) (results : Vec Outcome) : Type 0 where
-  pub tasks_room : total (rooms s) ≤ vec_capacity tasks
+-- there is an outcome for each task, room for all instances that are still to be evaluated, and for the places of any stream's
+pub record HasRooms (plan : Plan) (g : Stage) (s : Seen) (places : Vec ℕ) (tasks : Vec Task) (results : Vec Outcome) : Type 0 where
+  pub each : length tasks.items ≡ length results.items
+  pub places_room : total (rooms s) ≤ vec_capacity places
+  pub tasks_room : vec_len tasks + to_come plan.layers g 0 plan.spec.streams (rooms s) ≤ vec_capacity tasks
   pub results_room : vec_len results + to_come plan.layers g 0 plan.spec.streams (rooms s) ≤ vec_capacity results
 
 -- a span for each stream: of those that are evaluated within the results, of the others empty
-pub record IsReadyFor (plan : Plan) (g : Stage) (s : Seen) (results : List Outcome) (spans : List Span) : Type 0 where
+pub record IsReadyFor (plan : Plan) (g : Stage) (s : Seen) (tasks : List Task) (results : List Outcome) (spans : List Span) : Type 0 where
   pub each : length spans ≡ length plan.spec.streams
-  pub within : AreSpans s results spans
+  pub within : AreSpans s tasks results spans
   pub empty : AreEmpty plan g spans
   pub inputs : (n : ℕ) (stream : Stream) (p : Span) → slice_get plan.spec.streams n ≡ Some stream → is_input stream ≡ true → slice_get spans n ≡ Some p → p.count ≡ 0
 
@@ -38,9 +40,9 @@ EvalsTake plan m layer marks remembers s remembers' s' =
     → IsRunAt plan m (layer_stage (length plan.spec.streams) (layer + 1)) remembers' s' names rows step
 
 -- and what showed the outcomes so far shows those of the layer too
-abbrev pub ShowsMore : Plan → Moment → ℕ → List Mark → Memories → Seen → List Span → List Outcome → List Span → List Outcome → Type 0
-ShowsMore plan m layer marks remembers s spans results spans' results' =
+abbrev pub ShowsMore : Plan → Moment → ℕ → List Mark → Memories → Seen → List Span → List Task → List Outcome → List Span → List Task → List Outcome → Type 0
+ShowsMore plan m layer marks remembers s spans tasks results spans' tasks' results' =
     (names : Naming) (rows : List TableRow) (step : Step) → IsRunAt plan m (eval_stage (length plan.spec.streams) layer) remembers s names rows step
     → AreMarks plan (full_row plan m.start rows step).streams (eval_stage (length plan.spec.streams) layer) marks
-    → ShowResults plan (full_row plan m.start rows step).streams (eval_stage (length plan.spec.streams) layer) names spans results
-    → ShowResults plan (full_row plan m.start rows step).streams (layer_stage (length plan.spec.streams) (layer + 1)) names spans' results'
+    → ShowResults plan (full_row plan m.start rows step).streams (eval_stage (length plan.spec.streams) layer) names spans tasks results
+    → ShowResults plan (full_row plan m.start rows step).streams (layer_stage (length plan.spec.streams) (layer + 1)) names spans' tasks' results'

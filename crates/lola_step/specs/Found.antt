@@ -8,12 +8,14 @@ use Rattle.lola_value.specs.Kinds.{are_of_kinds, is_well_formed}
 use Rattle.lola_value.specs.Naming.{the_values}
 use Rattle.lola_model.specs.Faults.{lesser_kind}
 use Rattle.lola_model.specs.Model.{is_input}
-use Rattle.lola_model.specs.Store.{Layout, Seen, SeenInstance, instances_seen, parameters_of}
+use Rattle.lola_model.specs.Store.{Layout, Seen, parameters_of}
 use Rattle.lola_model.specs.declared.spec.Stream.{Stream}
-use Rattle.lola_step.specs.Notes.{in_span}
+use Rattle.lola_step.specs.Notes.{asked_in, in_span}
+use Rattle.lola_step.specs.Tasks.{params_seen}
 use Rattle.lola_step.specs.declared.mark.Mark.{Mark}
 use Rattle.lola_step.specs.declared.mark.Mark.TheVariants as mark
 use Rattle.lola_step.specs.declared.scratch.Span.{Span}
+use Rattle.lola_step.specs.declared.tasks.Task.{Task}
 use Rattle.lola_step.specs.declared.verdict.Verdict.{Verdict}
 
 -- faults
@@ -55,16 +57,16 @@ abbrev pub add_verdict : ℕ → Params → Outcome → List Verdict → List Ve
 add_verdict n p (outcome.Value v) rest = record { stream = n; params = p; value = v } ∷ rest
 add_verdict n p _ rest = rest
 
--- the values of instances of stream n that have these outcomes
-abbrev pub verdicts_among : ℕ → List SeenInstance → List Outcome → List Verdict
-verdicts_among n (x ∷ xs) (o ∷ os) = add_verdict n x.params o (verdicts_among n xs os)
-verdicts_among n _ _ = []
+-- the values of instances of stream n that have these outcomes, each of the instance that was asked
+abbrev pub verdicts_among : Seen → ℕ → List Task → List Outcome → List Verdict
+verdicts_among s n (t ∷ ts) (o ∷ os) = add_verdict n (params_seen s n t.index) o (verdicts_among s n ts os)
+verdicts_among s n _ _ = []
 
 -- of the streams from number n on, but inputs
-abbrev pub all_verdicts : Seen → List Outcome → ℕ → List Stream → List Span → List Verdict
-all_verdicts s results n (x ∷ xs) (p ∷ ps) =
-    (if is_input x then [] else verdicts_among n (instances_seen s n) (in_span results (Some p))) ++ all_verdicts s results (n + 1) xs ps
-all_verdicts s results n _ _ = []
+abbrev pub all_verdicts : Seen → List Task → List Outcome → ℕ → List Stream → List Span → List Verdict
+all_verdicts s tasks results n (x ∷ xs) (p ∷ ps) =
+    (if is_input x then [] else verdicts_among s n (asked_in tasks (Some p)) (in_span results (Some p))) ++ all_verdicts s tasks results (n + 1) xs ps
+all_verdicts s tasks results n _ _ = []
 
 -- parameters of the kinds that a layout has for the stream
 pub record FitsLayout (l : Layout) (v : Verdict) : Type 0 where

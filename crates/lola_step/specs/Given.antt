@@ -1,5 +1,5 @@
 -- How instances are given their outcomes, one after another.
-use Rattle.std.specs.Prelude.{ℕ, ◌<◌, List, [], ◌∷◌, if◌then◌else◌, length, slice_get, IsTrue}
+use Rattle.std.specs.Prelude.{ℕ, ◌<◌, List, [], ◌∷◌, length, slice_get, IsTrue}
 use Rattle.lola_value.specs.declared.value.Outcome.{Outcome}
 use Rattle.lola_value.specs.declared.value.Outcome.TheVariants as outcome
 use Rattle.lola_value.specs.Kinds.{is_outcome_of}
@@ -7,17 +7,10 @@ use Rattle.lola_value.specs.Naming.{Naming, IsHeldIn, read_outcome}
 use Rattle.lola_model.specs.Content.{Content, seen}
 use Rattle.lola_model.specs.Store.{IsRunning, Memories, Seen, after_outcome, instances_seen, is_silent, kind_in, now_seen}
 use Rattle.lola_model.specs.declared.plan.Plan.{Plan}
-use Rattle.lola_model.specs.declared.spec.Stream.{Stream}
 use Rattle.lola_contents.specs.Changed.{told}
-use Rattle.lola_step.specs.Notes.{runs_in, tasks_from}
 use Rattle.lola_step.specs.Tasks.{IsResult}
-use Rattle.lola_step.specs.declared.mark.Mark.{Mark}
 use Rattle.lola_step.specs.declared.moment.Moment.{Moment}
 use Rattle.lola_step.specs.declared.tasks.Task.{Task}
-
--- the tasks of stream n in a layer
-abbrev pub stream_tasks : Plan → Moment → List Mark → Seen → ℕ → ℕ → Stream → List Task
-stream_tasks plan m marks s layer n x = if runs_in plan m marks layer n x then tasks_from n 0 (length (instances_seen s n)) else []
 
 -- an outcome for each task, in order
 abbrev pub AreResults : Plan → Moment → Memories → Seen → List Task → List Outcome → Type 0

@@ -6,11 +6,14 @@ use Rattle.lola_value.specs.Answer.{Missing}
 use Rattle.lola_value.specs.declared.value.Kind.{Kind}
 use Rattle.lola_value.specs.Kinds.{are_of_kinds, is_of_kind, is_outcome_of, is_well_formed}
 use Rattle.lola_value.specs.Naming.{Naming, AreHeld, IsHeld, IsHeldIn, read, read_outcome, read_params, the_values}
+use Rattle.lola_model.specs.Dues.{due_places}
 use Rattle.lola_model.specs.Faults.{RowFault}
 use Rattle.lola_model.specs.Graph.{eval_node, layer_of}
 use Rattle.lola_model.specs.Model.{is_input, eval_pacing, spawned_in}
 use Rattle.lola_model.specs.Store.{Seen, instances_seen, kind_in, layout_of, spawns_in}
 use Rattle.lola_model.specs.Table.{Spawned, Idle, Named, SpawnFailed, SpawnPoisoned, Living, StreamRow}
+use Rattle.lola_model.specs.declared.pacing.Pacing.{Pacing}
+use Rattle.lola_model.specs.declared.pacing.Pacing.TheVariants.{Local}
 use Rattle.lola_model.specs.declared.plan.Plan.{Plan}
 use Rattle.lola_model.specs.declared.spec.Stream.{Stream}
 use Rattle.lola_stages.specs.Ends.{RowValue, Place}
@@ -50,40 +53,63 @@ abbrev pub in_span : List Outcome → Option Span → List Outcome
 in_span results None = []
 in_span results (Some p) = take p.count (drop p.from results)
 
+-- the instances that were asked for them
+abbrev pub asked_in : List Task → Option Span → List Task
+asked_in tasks None = []
+asked_in tasks (Some p) = take p.count (drop p.from tasks)
+
 -- all of these are of a kind
 abbrev pub AreOutcomesOf : Kind → List Outcome → Type 0
 AreOutcomesOf k [] = Unit {0}
 AreOutcomesOf k (o ∷ os) = IsTrue (is_outcome_of k o) × AreOutcomesOf k os
 
--- the span is within the results, and has no more outcomes than the stream has instances, each of the stream's kind
-pub record IsSpan (s : Seen) (results : List Outcome) (n : ℕ) (p : Span) : Type 0 where
+-- instances of stream n at places from i on and below k, each behind the one before
+abbrev pub AreOfStream : ℕ → ℕ → ℕ → List Task → Type 0
+AreOfStream n i k [] = Unit {0}
+AreOfStream n i k (t ∷ ts) = (t.stream ≡ n) × (i ≤ t.index) × (t.index < k) × AreOfStream n (t.index + 1) k ts
+
+-- the span is within the results; its tasks are of instances of the stream in order of birth, and its outcomes of the stream's kind
+pub record IsSpan (s : Seen) (tasks : List Task) (results : List Outcome) (n : ℕ) (p : Span) : Type 0 where
   pub within : p.from + p.count ≤ length results
   pub few : p.count ≤ length (instances_seen s n)
+  pub asked : AreOfStream n 0 (length (instances_seen s n)) (asked_in tasks (Some p))
   pub kinds : AreOutcomesOf (kind_in (slice_get s.layout.streams n)) (in_span results (Some p))
 
-abbrev pub AreSpans : Seen → List Outcome → List Span → Type 0
-AreSpans s results spans = (n : ℕ) (p : Span) → slice_get spans n ≡ Some p → IsSpan s results n p
+abbrev pub AreSpans : Seen → List Task → List Outcome → List Span → Type 0
+AreSpans s tasks results spans = (n : ℕ) (p : Span) → slice_get spans n ≡ Some p → IsSpan s tasks results n p
 
--- outcomes that read as those of instances, each as its own
-abbrev pub ReadEach : Naming → List Outcome → List Living → Type 0
-ReadEach names [] [] = Unit {0}
-ReadEach names (o ∷ os) (l ∷ ls) = (read_outcome names o ≡ l.outcome) × IsHeldIn names o × ReadEach names os ls
-ReadEach names _ _ = ⊥
+-- each span is within the results
+abbrev pub AreWithin : List Outcome → List Span → Type 0
+AreWithin results spans = (n : ℕ) (p : Span) → slice_get spans n ≡ Some p → p.from + p.count ≤ length results
 
 -- no instance has an outcome
 abbrev pub AreSilent : List Living → Type 0
 AreSilent [] = Unit {0}
 AreSilent (l ∷ ls) = (l.outcome ≡ Missing) × AreSilent ls
 
--- the outcomes of a stream's instances, or none where all are silent
-abbrev pub ShowLiving : Naming → List Outcome → List Living → Type 0
-ShowLiving names os ls = ReadEach names os ls ⊎ ((os ≡ []) × AreSilent ls)
+-- one of two facts
+abbrev pub OneOf : Bool → Type 0 → Type 0 → Type 0
+OneOf true here there = here
+OneOf false here there = there
+
+-- of these instances, from a place on, those that were asked have outcomes that read as these, each as its own, and the others have none
+abbrev pub ReadEach : Naming → ℕ → List Task → List Outcome → List Living → Type 0
+ReadEach names i [] [] ls = AreSilent ls
+ReadEach names i (t ∷ ts) (o ∷ os) (l ∷ ls) =
+    OneOf (nat_eq t.index i)
+    ((read_outcome names o ≡ l.outcome) × IsHeldIn names o × ReadEach names (i + 1) ts os ls)
+    ((l.outcome ≡ Missing) × ReadEach names (i + 1) (t ∷ ts) (o ∷ os) ls)
+ReadEach names i _ _ _ = ⊥
+
+-- the outcomes of a stream's instances
+abbrev pub ShowLiving : Naming → List Task → List Outcome → List Living → Type 0
+ShowLiving names ts os ls = ReadEach names 0 ts os ls
 
 -- the outcomes of all streams at a stage, but of inputs
-abbrev pub ShowResults : Plan → List StreamRow → Stage → Naming → List Span → List Outcome → Type 0
-ShowResults plan full g names spans results =
+abbrev pub ShowResults : Plan → List StreamRow → Stage → Naming → List Span → List Task → List Outcome → Type 0
+ShowResults plan full g names spans tasks results =
     (n : ℕ) (s : Stream) → slice_get plan.spec.streams n ≡ Some s → is_input s ≡ false → is_evaluated plan.layers g n s ≡ true
-    → ShowLiving names (in_span results (slice_get spans n)) (living_in (slice_get full n))
+    → ShowLiving names (asked_in tasks (slice_get spans n)) (in_span results (slice_get spans n)) (living_in (slice_get full n))
 
 -- and of those whose instances are still to come there is nothing
 abbrev pub AreEmpty : Plan → Stage → List Span → Type 0
@@ -91,9 +117,10 @@ AreEmpty plan g spans =
     (n : ℕ) (s : Stream) (p : Span) → slice_get plan.spec.streams n ≡ Some s → is_evaluated plan.layers g n s ≡ false → slice_get spans n ≡ Some p → p.count ≡ 0
 
 -- all that is noted once the streams are evaluated: the marks, the outcomes of instances, and of inputs nothing
-pub record AreNoted (plan : Plan) (full : List StreamRow) (names : Naming) (marks : List Mark) (spans : List Span) (results : List Outcome) : Type 0 where
+pub record AreNoted (plan : Plan) (full : List StreamRow) (names : Naming) (marks : List Mark) (spans : List Span) (tasks : List Task) (results : List Outcome) : Type 0 where
   pub marks_are : (n : ℕ) → n < length plan.spec.streams → slice_get marks n ≡ Some (mark_of (spawned_in (slice_get full n)))
-  pub results_show : (n : ℕ) (s : Stream) → slice_get plan.spec.streams n ≡ Some s → is_input s ≡ false → ShowLiving names (in_span results (slice_get spans n)) (living_in (slice_get full n))
+  pub results_show : (n : ℕ) (s : Stream) → slice_get plan.spec.streams n ≡ Some s → is_input s ≡ false
+      → ShowLiving names (asked_in tasks (slice_get spans n)) (in_span results (slice_get spans n)) (living_in (slice_get full n))
   pub inputs_empty : (n : ℕ) (s : Stream) (p : Span) → slice_get plan.spec.streams n ≡ Some s → is_input s ≡ true → slice_get spans n ≡ Some p → p.count ≡ 0
 
 -- the tasks of a layer
@@ -108,23 +135,42 @@ abbrev pub runs_in : Plan → Moment → List Mark → ℕ → ℕ → Stream �
 runs_in plan m marks layer n s =
     not (is_input s) && (nat_eq (layer_of plan.layers (eval_node n)) layer && (may_be_active_in m (eval_pacing (slice_get plan.pacings n)) && is_fine (slice_get marks n)))
 
--- so many instances of stream n, from a place on
-abbrev pub tasks_from : ℕ → ℕ → ℕ → List Task
-tasks_from n i zero = []
-tasks_from n i (suc k) = record { stream = n; index = i } ∷ tasks_from n (i + 1) k
+-- so many places from a number on
+abbrev pub places_from : ℕ → ℕ → List ℕ
+places_from i zero = []
+places_from i (suc k) = i ∷ places_from (i + 1) k
+
+-- the places of the instances of stream n that are asked for a clause with a pacing: where it is local, of those that have a deadline
+-- at the moment, and else of all
+abbrev pub places_asked : Option Pacing → Moment → Seen → ℕ → List ℕ
+places_asked (Some (Local r)) m s n = due_places s n m.time
+places_asked _ m s n = places_from 0 (length (instances_seen s n))
+
+-- the instances of stream n at places
+abbrev pub tasks_at : ℕ → List ℕ → List Task
+tasks_at n [] = []
+tasks_at n (i ∷ is) = record { stream = n; index = i } ∷ tasks_at n is
+
+-- the tasks of stream n in a layer
+abbrev pub stream_tasks : Plan → Moment → List Mark → Seen → ℕ → ℕ → Stream → List Task
+stream_tasks plan m marks s layer n x =
+    if runs_in plan m marks layer n x then tasks_at n (places_asked (eval_pacing (slice_get plan.pacings n)) m s n) else []
 
 -- of the streams from number n on
 abbrev pub layer_tasks : Plan → Moment → List Mark → Seen → ℕ → ℕ → List Stream → List Task
 layer_tasks plan m marks s layer n [] = []
-layer_tasks plan m marks s layer n (x ∷ xs) =
-    (if runs_in plan m marks layer n x then tasks_from n 0 (length (instances_seen s n)) else []) ++ layer_tasks plan m marks s layer (n + 1) xs
+layer_tasks plan m marks s layer n (x ∷ xs) = stream_tasks plan m marks s layer n x ++ layer_tasks plan m marks s layer (n + 1) xs
+
+-- where the outcomes of stream n stand that begin at a place of the results, if it runs in a layer
+abbrev pub span_after : Plan → Moment → List Mark → Seen → ℕ → ℕ → ℕ → Stream → Span → Span
+span_after plan m marks s layer from n x p =
+    if runs_in plan m marks layer n x then record { from = from; count = length (stream_tasks plan m marks s layer n x) } else p
 
 -- the spans after the tasks of a layer, whose outcomes begin at a place of the results
 abbrev pub layer_spans : Plan → Moment → List Mark → Seen → ℕ → ℕ → ℕ → List Stream → List Span → List Span
 layer_spans plan m marks s layer from n (x ∷ xs) (p ∷ ps) =
-    if runs_in plan m marks layer n x
-    then record { from = from; count = length (instances_seen s n) } ∷ layer_spans plan m marks s layer (from + length (instances_seen s n)) (n + 1) xs ps
-    else p ∷ layer_spans plan m marks s layer from (n + 1) xs ps
+    span_after plan m marks s layer from n x p
+    ∷ layer_spans plan m marks s layer (from + length (stream_tasks plan m marks s layer n x)) (n + 1) xs ps
 layer_spans plan m marks s layer from n _ ps = ps
 
 -- verdicts

@@ -18,6 +18,7 @@ use Rattle.lola_step.specs.declared.scratch.Span.{Span}
 
 -- each list has room for so many instances
 pub record HasRoom (n : Scratch) (room : ℕ) : Type 0 where
+  pub places : room ≤ vec_capacity n.places
   pub tasks : room ≤ vec_capacity n.tasks
   pub results : room ≤ vec_capacity n.results
   pub closing : room ≤ vec_capacity n.closing
@@ -51,9 +52,11 @@ no_span = record { from = 0; count = 0 }
 pub record IsFresh (n : Scratch) (room : ℕ) : Type 0 where
   pub marks : n.marks.items ≡ replicate (length n.marks.items) mark.Fine
   pub spans : n.spans.items ≡ replicate (length n.spans.items) no_span
+  pub tasks : n.tasks.items ≡ []
   pub results : n.results.items ≡ []
   pub closing : n.closing.items ≡ []
   pub verdicts : n.verdicts.items ≡ []
+  pub places_room : room ≤ vec_capacity n.places
   pub tasks_room : room ≤ vec_capacity n.tasks
   pub results_room : room ≤ vec_capacity n.results
   pub closing_room : room ≤ vec_capacity n.closing
@@ -63,5 +66,5 @@ pub record IsFresh (n : Scratch) (room : ℕ) : Type 0 where
 abbrev pub EvaluatesAll : Plan → Moment → Memories → Seen → Memories → Seen → Scratch → Type 0
 EvaluatesAll plan m remembers s remembers' s' n =
     (names : Naming) (rows : List TableRow) (step : Step) → IsRunAt plan m (layer_stage (length plan.spec.streams) 0) remembers s names rows step
-    → AreNoted plan (full_row plan m.start rows step).streams names n.marks.items n.spans.items n.results.items
+    → AreNoted plan (full_row plan m.start rows step).streams names n.marks.items n.spans.items n.tasks.items n.results.items
     × Stands names remembers' s' (content m.start rows (full_row plan m.start rows step))

@@ -7,6 +7,7 @@ ghost use Rattle.lola_value.specs.Times.{latest};
 ghost use Rattle.lola_model.specs.Acceptance.{IsAccepted};
 ghost use Rattle.lola_model.specs.Content.{Content};
 ghost use Rattle.lola_model.specs.Model.{close_pacing};
+ghost use Rattle.lola_model.specs.NextStep.{is_local};
 ghost use Rattle.lola_model.specs.Store.{IsRunning, Stands, instances_seen, layout_of, spawns_in};
 ghost use Rattle.lola_stages.specs.Ends.{closed_each};
 ghost use Rattle.lola_step.specs.Clauses.{IsAnswer, closing_answer};
@@ -85,7 +86,7 @@ fn note_condition(
 }
 
 /// Lists the instances of a stream whose close condition is true, and answers the least kind of a fault among the conditions. The
-/// condition is asked of the instances for which the clause is active.
+/// condition is asked of all instances.
 fn find_among<S: StreamStore>(
     plan: &Plan,
     moment: &Moment,
@@ -117,6 +118,44 @@ fn find_among<S: StreamStore>(
     least
 }
 
+/// The same for a clause that counts from the birth of each instance: the condition is asked of the instances that have a deadline.
+fn find_due<S: StreamStore>(
+    plan: &Plan,
+    moment: &Moment,
+    clause: &Clause,
+    pacing: &Option<Pacing>,
+    store: &S,
+    stream: u32,
+    places: &mut Vec<u32>,
+    closing: &mut Vec<Task>,
+) -> Option<FaultKind>
+    requires in_time { moment.now.time ≤ latest }
+    requires local { is_local pacing.now ≡ true }
+    requires may { may_be_active_in moment.now pacing.now ≡ true }
+    requires running { IsRunning (S.seen store.now) }
+    requires layout { (S.seen store.now).layout ≡ layout_of plan.now }
+    requires asks { MayAskClosing plan.now moment.now pacing.now (S.seen store.now) stream clause.now }
+    requires stream { stream < length (S.seen store.now).layout.streams }
+    requires spawns { IsTrue (spawns_in (slice_get (S.seen store.now).layout.streams stream)) }
+    requires closable { AreUpTo (S.seen store.now) (record { stream = stream; index = 0 }) closing.old.items }
+    requires places_room { length (instances_seen (S.seen store.now) stream) ≤ vec_capacity places.old }
+    requires room { vec_len closing.old + length (instances_seen (S.seen store.now) stream) ≤ vec_capacity closing.old }
+    ensures closable { AreUpTo (S.seen store.now) (record { stream = stream + 1; index = 0 }) closing.new.items }
+    ensures finds { FindsAmong plan.now moment.now pacing.now (S.remembers store.now) (S.seen store.now) (Some clause.now) stream result closing.old.items closing.new.items }
+    ensures count { vec_len closing.new ≤ vec_len closing.old + length (instances_seen (S.seen store.now) stream) }
+    ensures places { vec_capacity places.new ≡ vec_capacity places.old }
+    ensures capacity { vec_capacity closing.new ≡ vec_capacity closing.old }
+{
+    store.list_due(stream, moment.time, places);
+    let mut least = None;
+    for place in places.as_slice() {
+        let index = *place;
+        let condition = close_condition(plan, moment, clause, pacing, store, stream, index);
+        least = note_condition(condition, Task { stream, index }, least, closing);
+    }
+    least
+}
+
 /// The same of a stream, where its close clause may be active; where it may not, nothing is listed and there is no fault.
 fn find_in_stream<S: StreamStore>(
     plan: &Plan,
@@ -124,6 +163,7 @@ fn find_in_stream<S: StreamStore>(
     stream: &Stream,
     number: u32,
     store: &S,
+    places: &mut Vec<u32>,
     closing: &mut Vec<Task>,
 ) -> Option<FaultKind>
     requires accepted { IsAccepted plan.now }
@@ -132,10 +172,12 @@ fn find_in_stream<S: StreamStore>(
     requires moment { IsMomentOf moment.now (S.seen store.now) }
     requires there { slice_get plan.now.spec.streams number ≡ Some stream.now }
     requires closable { AreUpTo (S.seen store.now) (record { stream = number; index = 0 }) closing.old.items }
+    requires places_room { total (rooms (S.seen store.now)) ≤ vec_capacity places.old }
     requires room { vec_len closing.old + length (instances_seen (S.seen store.now) number) ≤ vec_capacity closing.old }
     ensures closable { AreUpTo (S.seen store.now) (record { stream = number + 1; index = 0 }) closing.new.items }
     ensures finds { FindsIn plan.now moment.now (S.remembers store.now) (S.seen store.now) number stream.now result closing.old.items closing.new.items }
     ensures count { vec_len closing.new ≤ vec_len closing.old + length (instances_seen (S.seen store.now) number) }
+    ensures places { vec_capacity places.new ≡ vec_capacity places.old }
     ensures capacity { vec_capacity closing.new ≡ vec_capacity closing.old }
 {
     let Some(clause) = &stream.close else {
@@ -145,7 +187,12 @@ fn find_in_stream<S: StreamStore>(
     if !may_be_active(moment, pacing) {
         return None;
     }
-    find_among(plan, moment, clause, pacing, store, number, closing)
+    match pacing {
+        Some(Pacing::Local(_)) => find_due(
+            plan, moment, clause, pacing, store, number, places, closing,
+        ),
+        _ => find_among(plan, moment, clause, pacing, store, number, closing),
+    }
 }
 
 /// Lists the instances whose close condition is true, by the streams' numbers and in the order of birth; or answers the first stream of
@@ -154,6 +201,7 @@ pub(crate) fn find_closings<S: StreamStore>(
     plan: &Plan,
     moment: &Moment,
     store: &S,
+    places: &mut Vec<u32>,
     closing: &mut Vec<Task>,
 ) -> Option<(u32, FaultKind)>
     requires accepted { IsAccepted plan.now }
@@ -161,13 +209,15 @@ pub(crate) fn find_closings<S: StreamStore>(
     requires running { IsRunning (S.seen store.now) }
     requires moment { IsMomentOf moment.now (S.seen store.now) }
     requires none { closing.old.items ≡ [] }
+    requires places_room { total (rooms (S.seen store.now)) ≤ vec_capacity places.old }
     requires room { total (rooms (S.seen store.now)) ≤ vec_capacity closing.old }
     ensures closable { AreClosable (S.seen store.now) closing.new.items }
     ensures finds { FindsClosings plan.now moment.now (S.remembers store.now) (S.seen store.now) result closing.new.items }
+    ensures places { vec_capacity places.new ≡ vec_capacity places.old }
     ensures capacity { vec_capacity closing.new ≡ vec_capacity closing.old }
 {
     for (n, stream) in plan.spec.streams.as_slice().iter().enumerate() {
-        if let Some(kind) = find_in_stream(plan, moment, stream, n as u32, store, closing) {
+        if let Some(kind) = find_in_stream(plan, moment, stream, n as u32, store, places, closing) {
             return Some((n as u32, kind));
         }
     }

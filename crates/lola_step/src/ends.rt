@@ -1,20 +1,22 @@
 //! What a step comes to once its streams are evaluated: its fault, or its values.
 
-ghost use Rattle.std.specs.Prelude.{◌≡◌, ◌+◌, ◌<◌, ◌≤◌, [], ◌++◌, if◌then◌else◌, length, vec_len, Some};
+ghost use Rattle.std.specs.Prelude.{◌≡◌, ◌+◌, ◌<◌, ◌≤◌, List, [], ◌++◌, if◌then◌else◌, length, vec_len, Some};
 ghost use Rattle.std.specs.Vec.{vec_capacity};
 ghost use Rattle.lola_model.specs.Acceptance.{IsAccepted};
 ghost use Rattle.lola_model.specs.Faults.{lesser_kind};
-ghost use Rattle.lola_model.specs.Model.{is_input as is_input_of, most_instances};
+ghost use Rattle.lola_model.specs.Model.{is_input as is_input_of};
 ghost use Rattle.lola_model.specs.Store.{IsRunning, instances_seen};
 ghost use Rattle.lola_step.specs.Ends.{CollectsVerdicts, FindsFault};
 ghost use Rattle.lola_step.specs.Found.{FitLayout, add_fault, add_verdict, fault_of, least_among, verdicts_among};
-ghost use Rattle.lola_step.specs.Notes.{AreSpans, AreVerdicts, in_span};
+ghost use Rattle.lola_step.specs.Notes.{AreOfStream, AreSpans, AreVerdicts, AreWithin, asked_in, in_span};
 ghost use Rattle.lola_step.specs.Progress.{IsOf};
 ghost use Rattle.lola_step.specs.Rooms.{rooms, total};
 ghost use Rattle.lola_step.specs.Tasks.{params_seen};
+ghost use Rattle.lola_step.specs.declared.tasks.Task.{Task};
 
 use crate::mark::Mark;
 use crate::scratch::Span;
+use crate::tasks::Task;
 use crate::verdict::Verdict;
 use lola_model::plan::Plan;
 use lola_model::spec::Stream;
@@ -71,10 +73,18 @@ fn outcomes_of(results: &[Outcome], span: Span) -> &[Outcome]
     &results[span.from..span.from + span.count]
 }
 
+/// The tasks of a span.
+fn tasks_of(tasks: &[Task], span: Span) -> &[Task]
+    requires { span.from + span.count ≤ length tasks.now }
+    ensures value { result.now ≡ asked_in tasks.now (Some span) }
+    ensures count { length result.now ≡ span.count }
+{
+    &tasks[span.from..span.from + span.count]
+}
+
 /// The first stream of which a spawn clause or an instance has a fault, with the fault's kind.
-pub(crate) fn first_fault<S: StreamStore>(
+pub(crate) fn first_fault(
     plan: &Plan,
-    store: &S,
     marks: &[Mark],
     spans: &[Span],
     results: &[Outcome],
@@ -82,8 +92,8 @@ pub(crate) fn first_fault<S: StreamStore>(
     requires accepted { IsAccepted plan.now }
     requires marks { length marks.now ≡ length plan.now.spec.streams }
     requires spans { length spans.now ≡ length plan.now.spec.streams }
-    requires within { AreSpans (S.seen store.now) results.now spans.now }
-    ensures { FindsFault plan.now marks.now spans.now results.now result }
+    requires within { AreWithin results.now spans.now }
+    ensures { (tasks : List Task) → FindsFault plan.now marks.now spans.now tasks results.now result }
 {
     for (n, mark) in marks.iter().enumerate() {
         if let Some(kind) = stream_fault(*mark, outcomes_of(results, spans[n])) {
@@ -117,23 +127,24 @@ fn add_value<S: StreamStore>(
     }
 }
 
-/// The values of a stream's instances, of which these are the outcomes.
+/// The values of a stream's instances that were asked, of which these are the outcomes.
 fn add_values<S: StreamStore>(
     store: &S,
     stream: u32,
+    tasks: &[Task],
     results: &[Outcome],
     verdicts: &mut Vec<Verdict>,
 )
-    requires few { length results.now ≤ length (instances_seen (S.seen store.now) stream) }
-    requires numbered { length results.now ≤ most_instances }
+    requires each { length tasks.now ≡ length results.now }
+    requires asked { AreOfStream stream 0 (length (instances_seen (S.seen store.now) stream)) tasks.now }
     requires room { vec_len verdicts.old + length results.now ≤ vec_capacity verdicts.old }
-    ensures items { verdicts.new.items ≡ verdicts.old.items ++ verdicts_among stream (instances_seen (S.seen store.now) stream) results.now }
+    ensures items { verdicts.new.items ≡ verdicts.old.items ++ verdicts_among (S.seen store.now) stream tasks.now results.now }
     ensures fit { FitLayout (S.seen store.now).layout verdicts.old.items → FitLayout (S.seen store.now).layout verdicts.new.items }
     ensures count { vec_len verdicts.new ≤ vec_len verdicts.old + length results.now }
     ensures capacity { vec_capacity verdicts.new ≡ vec_capacity verdicts.old }
 {
-    for (index, outcome) in results.iter().enumerate() {
-        add_value(store, stream, index as u32, *outcome, verdicts);
+    for (i, task) in tasks.iter().enumerate() {
+        add_value(store, stream, task.index, results[i], verdicts);
     }
 }
 
@@ -142,20 +153,21 @@ fn add_outputs<S: StreamStore>(
     store: &S,
     stream: &Stream,
     number: u32,
+    tasks: &[Task],
     results: &[Outcome],
     verdicts: &mut Vec<Verdict>,
 )
-    requires few { length results.now ≤ length (instances_seen (S.seen store.now) number) }
-    requires numbered { length results.now ≤ most_instances }
+    requires each { length tasks.now ≡ length results.now }
+    requires asked { AreOfStream number 0 (length (instances_seen (S.seen store.now) number)) tasks.now }
     requires room { vec_len verdicts.old + length results.now ≤ vec_capacity verdicts.old }
     ensures items { verdicts.new.items ≡ verdicts.old.items
-        ++ (if is_input_of stream.now then [] else verdicts_among number (instances_seen (S.seen store.now) number) results.now) }
+        ++ (if is_input_of stream.now then [] else verdicts_among (S.seen store.now) number tasks.now results.now) }
     ensures fit { FitLayout (S.seen store.now).layout verdicts.old.items → FitLayout (S.seen store.now).layout verdicts.new.items }
     ensures count { vec_len verdicts.new ≤ vec_len verdicts.old + length results.now }
     ensures capacity { vec_capacity verdicts.new ≡ vec_capacity verdicts.old }
 {
     if !stream.is_input() {
-        add_values(store, number, results, verdicts);
+        add_values(store, number, tasks, results, verdicts);
     }
 }
 
@@ -164,6 +176,7 @@ pub(crate) fn collect<S: StreamStore>(
     plan: &Plan,
     store: &S,
     spans: &[Span],
+    tasks: &[Task],
     results: &[Outcome],
     verdicts: &mut Vec<Verdict>,
 )
@@ -171,11 +184,12 @@ pub(crate) fn collect<S: StreamStore>(
     requires of { IsOf plan.now (S.seen store.now) }
     requires running { IsRunning (S.seen store.now) }
     requires spans { length spans.now ≡ length plan.now.spec.streams }
-    requires within { AreSpans (S.seen store.now) results.now spans.now }
+    requires each { length tasks.now ≡ length results.now }
+    requires within { AreSpans (S.seen store.now) tasks.now results.now spans.now }
     requires none { verdicts.old.items ≡ [] }
     requires room { total (rooms (S.seen store.now)) ≤ vec_capacity verdicts.old }
     ensures verdicts { AreVerdicts plan.now verdicts.new.items }
-    ensures values { CollectsVerdicts plan.now spans.now results.now (S.remembers store.now) (S.seen store.now) verdicts.new.items }
+    ensures values { CollectsVerdicts plan.now spans.now tasks.now results.now (S.remembers store.now) (S.seen store.now) verdicts.new.items }
     ensures capacity { vec_capacity verdicts.new ≡ vec_capacity verdicts.old }
 {
     for (n, stream) in plan.spec.streams.as_slice().iter().enumerate() {
@@ -183,6 +197,7 @@ pub(crate) fn collect<S: StreamStore>(
             store,
             stream,
             n as u32,
+            tasks_of(tasks, spans[n]),
             outcomes_of(results, spans[n]),
             verdicts,
         );

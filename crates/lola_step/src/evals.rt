@@ -11,8 +11,8 @@ ghost use Rattle.lola_model.specs.Store.{IsRunning, Stands, instances_seen, layo
 ghost use Rattle.lola_contents.specs.Changed.{told};
 ghost use Rattle.lola_stages.specs.Stages.{eval_stage, layer_stage};
 ghost use Rattle.lola_step.specs.Evals.{EvalsTake, HasRooms, IsReadyFor, ShowsMore};
-ghost use Rattle.lola_step.specs.Given.{AreHeldIn, AreResults, CanGive, CanGiveAll, after_all, after_giving, stream_tasks, told_outcomes};
-ghost use Rattle.lola_step.specs.Notes.{is_fine as is_fine_mark, layer_spans, layer_tasks, runs_in, tasks_from};
+ghost use Rattle.lola_step.specs.Given.{AreHeldIn, AreResults, CanGive, CanGiveAll, after_all, after_giving, told_outcomes};
+ghost use Rattle.lola_step.specs.Notes.{is_fine as is_fine_mark, layer_spans, layer_tasks, places_asked, places_from, runs_in, stream_tasks, tasks_at};
 ghost use Rattle.lola_step.specs.Progress.{GoesOn, IsAt, IsMomentOf, IsOf};
 ghost use Rattle.lola_step.specs.Tasks.{AreTasks};
 
@@ -22,6 +22,7 @@ use crate::scratch::Span;
 use crate::spawns::layer_at;
 use crate::tasks::{Task, eval_pacing_at, run_tasks};
 use lola_contents::calls::{poison, push};
+use lola_model::pacing::Pacing;
 use lola_model::plan::Plan;
 use lola_model::spec::Stream;
 use lola_model::store::StreamStore;
@@ -55,11 +56,11 @@ fn runs(plan: &Plan, moment: &Moment, marks: &[Mark], layer: u32, n: usize, stre
     may_be_active(moment, eval_pacing_at(plan.pacings.as_slice(), n)) && is_fine(marks[n])
 }
 
-/// So many tasks of a stream, each with a place for its outcome.
-fn add_tasks(stream: u32, count: u32, tasks: &mut Vec<Task>, results: &mut Vec<Outcome>)
+/// A task for each of the first instances of a stream, with a place for its outcome.
+fn add_all(stream: u32, count: u32, tasks: &mut Vec<Task>, results: &mut Vec<Outcome>)
     requires tasks_room { vec_len tasks.old + count ≤ vec_capacity tasks.old }
     requires results_room { vec_len results.old + count ≤ vec_capacity results.old }
-    ensures tasks { tasks.new.items ≡ tasks.old.items ++ tasks_from stream 0 count }
+    ensures tasks { tasks.new.items ≡ tasks.old.items ++ tasks_at stream (places_from 0 count) }
     ensures results { results.new.items ≡ results.old.items ++ replicate count outcome.Missing }
     ensures capacities { (vec_capacity tasks.new ≡ vec_capacity tasks.old) × (vec_capacity results.new ≡ vec_capacity results.old) }
 {
@@ -69,8 +70,54 @@ fn add_tasks(stream: u32, count: u32, tasks: &mut Vec<Task>, results: &mut Vec<O
     }
 }
 
-/// Lists the tasks of stream `n` in a layer, if it runs there, one for each instance in order of birth, and notes where their
-/// outcomes will stand.
+/// A task for each of these instances of a stream, with a place for its outcome.
+fn add_listed(stream: u32, places: &[u32], tasks: &mut Vec<Task>, results: &mut Vec<Outcome>)
+    requires tasks_room { vec_len tasks.old + length places.now ≤ vec_capacity tasks.old }
+    requires results_room { vec_len results.old + length places.now ≤ vec_capacity results.old }
+    ensures tasks { tasks.new.items ≡ tasks.old.items ++ tasks_at stream places.now }
+    ensures results { results.new.items ≡ results.old.items ++ replicate (length places.now) outcome.Missing }
+    ensures capacities { (vec_capacity tasks.new ≡ vec_capacity tasks.old) × (vec_capacity results.new ≡ vec_capacity results.old) }
+{
+    for index in places {
+        tasks.push_reserved(Task {
+            stream,
+            index: *index,
+        });
+        results.push_reserved(Outcome::Missing);
+    }
+}
+
+/// A task for each instance of a stream that is asked at a moment for a clause with a pacing.
+fn add_asked<S: StreamStore>(
+    moment: &Moment,
+    pacing: &Option<Pacing>,
+    store: &S,
+    stream: u32,
+    places: &mut Vec<u32>,
+    tasks: &mut Vec<Task>,
+    results: &mut Vec<Outcome>,
+)
+    requires in_time { moment.now.time ≤ latest }
+    requires store { stream < length (S.seen store.now).layout.streams }
+    requires places_room { length (instances_seen (S.seen store.now) stream) ≤ vec_capacity places.old }
+    requires tasks_room { vec_len tasks.old + length (places_asked pacing.now moment.now (S.seen store.now) stream) ≤ vec_capacity tasks.old }
+    requires results_room { vec_len results.old + length (places_asked pacing.now moment.now (S.seen store.now) stream) ≤ vec_capacity results.old }
+    ensures tasks { tasks.new.items ≡ tasks.old.items ++ tasks_at stream (places_asked pacing.now moment.now (S.seen store.now) stream) }
+    ensures results { results.new.items ≡ results.old.items ++ replicate (length (places_asked pacing.now moment.now (S.seen store.now) stream)) outcome.Missing }
+    ensures places { vec_capacity places.new ≡ vec_capacity places.old }
+    ensures capacities { (vec_capacity tasks.new ≡ vec_capacity tasks.old) × (vec_capacity results.new ≡ vec_capacity results.old) }
+{
+    match pacing {
+        Some(Pacing::Local(_)) => {
+            store.list_due(stream, moment.time, places);
+            add_listed(stream, places.as_slice(), tasks, results);
+        }
+        _ => add_all(stream, store.instances(stream), tasks, results),
+    }
+}
+
+/// Lists the tasks of stream `n` in a layer, if it runs there, one for each instance that is asked in order of birth, and notes where
+/// their outcomes will stand.
 fn gather_stream<S: StreamStore>(
     plan: &Plan,
     moment: &Moment,
@@ -79,6 +126,7 @@ fn gather_stream<S: StreamStore>(
     marks: &[Mark],
     n: usize,
     stream: &Stream,
+    places: &mut Vec<u32>,
     tasks: &mut Vec<Task>,
     results: &mut Vec<Outcome>,
     spans: &mut [Span],
@@ -90,32 +138,36 @@ fn gather_stream<S: StreamStore>(
     requires order { moment.now.start ≤ moment.now.time }
     requires spans { n < length spans.old }
     requires store { n < length (S.seen store.now).layout.streams }
+    requires places_room { length (instances_seen (S.seen store.now) n) ≤ vec_capacity places.old }
     requires tasks_room { vec_len tasks.old + length (stream_tasks plan.now moment.now marks.now (S.seen store.now) layer n stream.now) ≤ vec_capacity tasks.old }
     requires results_room { vec_len results.old + length (stream_tasks plan.now moment.now marks.now (S.seen store.now) layer n stream.now) ≤ vec_capacity results.old }
     ensures tasks { tasks.new.items ≡ tasks.old.items ++ stream_tasks plan.now moment.now marks.now (S.seen store.now) layer n stream.now }
     ensures results { results.new.items ≡ results.old.items ++ replicate (length (stream_tasks plan.now moment.now marks.now (S.seen store.now) layer n stream.now)) outcome.Missing }
     ensures spans { spans.new ≡ (if runs_in plan.now moment.now marks.now layer n stream.now
-        then slice_set spans.old n (record { from = vec_len results.old; count = length (instances_seen (S.seen store.now) n) }) else spans.old) }
+        then slice_set spans.old n (record { from = vec_len tasks.old; count = length (stream_tasks plan.now moment.now marks.now (S.seen store.now) layer n stream.now) }) else spans.old) }
+    ensures places { vec_capacity places.new ≡ vec_capacity places.old }
     ensures capacities { (vec_capacity tasks.new ≡ vec_capacity tasks.old) × (vec_capacity results.new ≡ vec_capacity results.old) }
 {
     if runs(plan, moment, marks, layer, n, stream) {
-        let count = store.instances(n as u32);
+        let from = tasks.len();
+        let pacing = eval_pacing_at(plan.pacings.as_slice(), n);
+        add_asked(moment, pacing, store, n as u32, places, tasks, results);
         spans[n] = Span {
-            from: results.len(),
-            count: count as usize,
+            from,
+            count: tasks.len() - from,
         };
-        add_tasks(n as u32, count, tasks, results);
     }
 }
 
-/// Lists the tasks of a layer: for each stream that runs in it, by the streams' numbers, one for each instance in order of birth. Each
-/// gets a place for its outcome.
+/// Lists the tasks of a layer behind those of the layers before: for each stream that runs in it, by the streams' numbers, one for each
+/// instance that is asked in order of birth. Each gets a place for its outcome.
 fn gather<S: StreamStore>(
     plan: &Plan,
     moment: &Moment,
     store: &S,
     layer: u32,
     marks: &[Mark],
+    places: &mut Vec<u32>,
     tasks: &mut Vec<Task>,
     results: &mut Vec<Outcome>,
     spans: &mut [Span],
@@ -125,16 +177,17 @@ fn gather<S: StreamStore>(
     requires moment { IsMomentOf moment.now (S.seen store.now) }
     requires marks { length marks.now ≡ length plan.now.spec.streams }
     requires spans { length spans.old ≡ length plan.now.spec.streams }
-    requires rooms { HasRooms plan.now (eval_stage (length plan.now.spec.streams) layer) (S.seen store.now) tasks.old results.old }
-    requires none { tasks.old.items ≡ [] }
-    ensures tasks { tasks.new.items ≡ layer_tasks plan.now moment.now marks.now (S.seen store.now) layer 0 plan.now.spec.streams }
-    ensures results { results.new.items ≡ results.old.items ++ replicate (length tasks.new.items) outcome.Missing }
-    ensures spans { spans.new ≡ layer_spans plan.now moment.now marks.now (S.seen store.now) layer (length results.old.items) 0 plan.now.spec.streams spans.old }
+    requires rooms { HasRooms plan.now (eval_stage (length plan.now.spec.streams) layer) (S.seen store.now) places.old tasks.old results.old }
+    ensures tasks { tasks.new.items ≡ tasks.old.items ++ layer_tasks plan.now moment.now marks.now (S.seen store.now) layer 0 plan.now.spec.streams }
+    ensures results { results.new.items ≡ results.old.items
+        ++ replicate (length (layer_tasks plan.now moment.now marks.now (S.seen store.now) layer 0 plan.now.spec.streams)) outcome.Missing }
+    ensures spans { spans.new ≡ layer_spans plan.now moment.now marks.now (S.seen store.now) layer (length tasks.old.items) 0 plan.now.spec.streams spans.old }
+    ensures places { vec_capacity places.new ≡ vec_capacity places.old }
     ensures capacities { (vec_capacity tasks.new ≡ vec_capacity tasks.old) × (vec_capacity results.new ≡ vec_capacity results.old) }
 {
     for (n, stream) in plan.spec.streams.as_slice().iter().enumerate() {
         gather_stream(
-            plan, moment, store, layer, marks, n, stream, tasks, results, spans,
+            plan, moment, store, layer, marks, n, stream, places, tasks, results, spans,
         );
     }
 }
@@ -192,8 +245,8 @@ fn give_all<S: StreamStore>(store: &mut S, tasks: &[Task], results: &[Outcome])
     }
 }
 
-/// Evaluates the instances of a layer, split among so many threads, and then gives each its outcome. The outcomes are kept in `results`,
-/// those of a stream where its span says.
+/// Evaluates the instances of a layer that are asked, split among so many threads, and then gives each its outcome. The tasks and their
+/// outcomes are kept behind those of the layers before, those of a stream where its span says.
 pub(crate) fn eval_layer<R: Threads + Sync, S: StreamStore + Sync, G: Gate + Sync>(
     rt: &R,
     gate: &G,
@@ -202,6 +255,7 @@ pub(crate) fn eval_layer<R: Threads + Sync, S: StreamStore + Sync, G: Gate + Syn
     store: &mut S,
     layer: u32,
     marks: &[Mark],
+    places: &mut Vec<u32>,
     tasks: &mut Vec<Task>,
     results: &mut Vec<Outcome>,
     spans: &mut [Span],
@@ -212,29 +266,31 @@ pub(crate) fn eval_layer<R: Threads + Sync, S: StreamStore + Sync, G: Gate + Syn
     requires at { IsAt plan.now (eval_stage (length plan.now.spec.streams) layer) (S.seen store.old) }
     requires moment { IsMomentOf moment.now (S.seen store.old) }
     requires marks { length marks.now ≡ length plan.now.spec.streams }
-    requires rooms { HasRooms plan.now (eval_stage (length plan.now.spec.streams) layer) (S.seen store.old) tasks.old results.old }
-    requires spans { IsReadyFor plan.now (eval_stage (length plan.now.spec.streams) layer) (S.seen store.old) results.old.items spans.old }
+    requires rooms { HasRooms plan.now (eval_stage (length plan.now.spec.streams) layer) (S.seen store.old) places.old tasks.old results.old }
+    requires spans { IsReadyFor plan.now (eval_stage (length plan.now.spec.streams) layer) (S.seen store.old) tasks.old.items results.old.items spans.old }
     ensures at { IsAt plan.now (layer_stage (length plan.now.spec.streams) (layer + 1)) (S.seen store.new) }
     ensures goes_on { GoesOn (S.seen store.old) (S.seen store.new) }
-    ensures rooms { HasRooms plan.now (layer_stage (length plan.now.spec.streams) (layer + 1)) (S.seen store.new) tasks.new results.new }
-    ensures spans { IsReadyFor plan.now (layer_stage (length plan.now.spec.streams) (layer + 1)) (S.seen store.new) results.new.items spans.new }
+    ensures rooms { HasRooms plan.now (layer_stage (length plan.now.spec.streams) (layer + 1)) (S.seen store.new) places.new tasks.new results.new }
+    ensures spans { IsReadyFor plan.now (layer_stage (length plan.now.spec.streams) (layer + 1)) (S.seen store.new) tasks.new.items results.new.items spans.new }
+    ensures places { vec_capacity places.new ≡ vec_capacity places.old }
     ensures capacities { (vec_capacity tasks.new ≡ vec_capacity tasks.old) × (vec_capacity results.new ≡ vec_capacity results.old) }
     ensures takes { EvalsTake plan.now moment.now layer marks.now (S.remembers store.old) (S.seen store.old) (S.remembers store.new) (S.seen store.new) }
-    ensures shows { ShowsMore plan.now moment.now layer marks.now (S.remembers store.old) (S.seen store.old) spans.old results.old.items spans.new results.new.items }
+    ensures shows { ShowsMore plan.now moment.now layer marks.now (S.remembers store.old) (S.seen store.old) spans.old tasks.old.items results.old.items spans.new tasks.new.items results.new.items }
 {
-    let from = results.len();
-    tasks.clear();
-    gather(plan, moment, store, layer, marks, tasks, results, spans);
+    let from = tasks.len();
+    gather(
+        plan, moment, store, layer, marks, places, tasks, results, spans,
+    );
     answer_tasks(
         rt,
         gate,
         plan,
         moment,
         store,
-        tasks.as_slice(),
+        &tasks[from..],
         results.as_mut_slice(),
         from,
         workers,
     );
-    give_all(store, tasks.as_slice(), &results[from..]);
+    give_all(store, &tasks[from..], &results[from..]);
 }

@@ -17,18 +17,20 @@ use lola_value::text::Memory;
 use lola_value::value::Outcome;
 use std::alloc::Global;
 
-/// Where the outcomes of a stream's instances stand among the results.
+/// Where the outcomes of a stream's instances stand among the results, and the instances among the tasks.
 #[derive(Clone, Copy, Debug)]
 pub struct Span {
     pub from: usize,
     pub count: usize,
 }
 
-/// What steps of a plan note: what spawn clauses did, the outcomes of instances, which instances are closed, and the values.
+/// What steps of a plan note: what spawn clauses did, the places of a stream's instances that are asked, the instances that were asked with
+/// their outcomes, which instances are closed, and the values.
 #[derive(Drop)]
 pub struct Scratch {
     pub(crate) marks: Vec<Mark>,
     pub(crate) spans: Vec<Span>,
+    pub(crate) places: Vec<u32>,
     pub(crate) tasks: Vec<Task>,
     pub(crate) results: Vec<Outcome>,
     pub(crate) closing: Vec<Task>,
@@ -76,6 +78,7 @@ impl Scratch {
         Ok(Scratch {
             marks,
             spans,
+            places: Vec::with_capacity(alloc, room)?,
             tasks: Vec::with_capacity(alloc, room)?,
             results: Vec::with_capacity(alloc, room)?,
             closing: Vec::with_capacity(alloc, room)?,
@@ -108,6 +111,7 @@ pub(crate) fn make_room<S: StreamStore>(
     let room = instances_in_step(plan, store);
     forget_marks(&mut scratch.marks);
     forget_spans(&mut scratch.spans);
+    clear_for(&mut scratch.places, room)?;
     clear_for(&mut scratch.tasks, room)?;
     clear_for(&mut scratch.results, room)?;
     clear_for(&mut scratch.closing, room)?;

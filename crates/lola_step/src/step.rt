@@ -74,7 +74,9 @@ fn evaluate<R: Threads + Sync, S: StreamStore + Sync, G: Gate + Sync>(
     ensures running { IsRunning (S.seen store.new) }
     ensures goes_on { GoesOn (S.seen store.old) (S.seen store.new) }
     ensures made { IsScratchOf plan.now scratch.new }
-    ensures spans { IsReadyFor plan.now (layer_stage (length plan.now.spec.streams) scratch.new.layers) (S.seen store.new) scratch.new.results.items scratch.new.spans.items }
+    ensures spans { IsReadyFor plan.now (layer_stage (length plan.now.spec.streams) scratch.new.layers) (S.seen store.new) scratch.new.tasks.items scratch.new.results.items scratch.new.spans.items }
+    ensures each { length scratch.new.tasks.items ≡ length scratch.new.results.items }
+    ensures places { vec_capacity scratch.new.places ≡ vec_capacity scratch.old.places }
     ensures kept { (scratch.new.closing ≡ scratch.old.closing) × (scratch.new.verdicts ≡ scratch.old.verdicts) }
     ensures evaluates { EvaluatesAll plan.now moment.now (S.remembers store.old) (S.seen store.old) (S.remembers store.new) (S.seen store.new) scratch.new }
 {
@@ -88,6 +90,7 @@ fn evaluate<R: Threads + Sync, S: StreamStore + Sync, G: Gate + Sync>(
             store,
             layer as u32,
             &scratch.marks,
+            &mut scratch.places,
             &mut scratch.tasks,
             &mut scratch.results,
             &mut scratch.spans,
@@ -108,32 +111,40 @@ fn conclude<S: StreamStore>(
     requires running { IsRunning (S.seen store.old) }
     requires moment { IsMomentOf moment.now (S.seen store.old) }
     requires made { IsScratchOf plan.now scratch.old }
-    requires within { AreSpans (S.seen store.old) scratch.old.results.items scratch.old.spans.items }
+    requires each { length scratch.old.tasks.items ≡ length scratch.old.results.items }
+    requires within { AreSpans (S.seen store.old) scratch.old.tasks.items scratch.old.results.items scratch.old.spans.items }
     requires none { (scratch.old.closing.items ≡ []) × (scratch.old.verdicts.items ≡ []) }
+    requires places_room { total (rooms (S.seen store.old)) ≤ vec_capacity scratch.old.places }
     requires closing_room { total (rooms (S.seen store.old)) ≤ vec_capacity scratch.old.closing }
     requires verdicts_room { total (rooms (S.seen store.old)) ≤ vec_capacity scratch.old.verdicts }
     ensures made { IsScratchOf plan.now scratch.new }
     ensures verdicts { result ≡ end.Done → AreVerdicts plan.now scratch.new.verdicts.items }
     ensures seen { ShowsConcluded result plan.now (S.seen store.old) (S.seen store.new) }
-    ensures concludes { Concludes plan.now moment.now scratch.old.marks.items scratch.old.spans.items scratch.old.results.items (S.remembers store.old) (S.seen store.old)
+    ensures concludes { Concludes plan.now moment.now scratch.old.marks.items scratch.old.spans.items scratch.old.tasks.items scratch.old.results.items (S.remembers store.old) (S.seen store.old)
         result (S.remembers store.new) (S.seen store.new) scratch.new.verdicts.items }
 {
     if let Some((stream, kind)) = first_fault(
         plan,
-        store,
         &scratch.marks,
         &scratch.spans,
         &scratch.results,
     ) {
         return StepEnd::Fault { stream, kind };
     }
-    if let Some((stream, kind)) = find_closings(plan, moment, store, &mut scratch.closing) {
+    if let Some((stream, kind)) = find_closings(
+        plan,
+        moment,
+        store,
+        &mut scratch.places,
+        &mut scratch.closing,
+    ) {
         return StepEnd::Fault { stream, kind };
     }
     collect(
         plan,
         store,
         &scratch.spans,
+        &scratch.tasks,
         &scratch.results,
         &mut scratch.verdicts,
     );
