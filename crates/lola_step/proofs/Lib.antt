@@ -7,6 +7,7 @@ pub mod Layouts
 pub mod Shown
 pub mod SpawnTurns
 pub mod Telling
+pub mod Undue
 pub mod Counts
 pub mod Evaluation
 pub mod Endings

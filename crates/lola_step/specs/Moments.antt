@@ -6,7 +6,9 @@ use Rattle.lola_value.specs.declared.value.Outcome.TheVariants as outcome
 use Rattle.lola_value.specs.Naming.{Naming, read_outcome, IsHeldIn}
 use Rattle.lola_model.specs.Activity.{is_deadline, present, satisfies_some}
 use Rattle.lola_value.specs.Ratio.{Ratio}
+use Rattle.lola_model.specs.Dues.{is_due}
 use Rattle.lola_model.specs.Model.{field_outcome}
+use Rattle.lola_model.specs.NextStep.{local_rate_of}
 use Rattle.lola_model.specs.Store.{Seen, SeenInstance, instances_seen}
 use Rattle.lola_model.specs.Table.{Step}
 use Rattle.lola_model.specs.declared.pacing.Pacing.{Pacing}
@@ -37,6 +39,10 @@ active_for_in m born p = active_in m p
 abbrev pub may_be_active_in : Moment → Option Pacing → Bool
 may_be_active_in m (Some (Local r)) = elim m.present [ None ↦ true | Some inputs ↦ false ]
 may_be_active_in m p = active_in m p
+
+-- these rates have that of a local pacing: where none of them has a deadline, it has none
+abbrev pub IsListedIn : Option Pacing → List Ratio → Type 0
+IsListedIn o rates = (born time : ℕ) → is_due rates born time ≡ false → is_due (local_rate_of o) born time ≡ false
 
 -- when an instance was born, if there is one
 abbrev pub birth_at : Option SeenInstance → ℕ
