@@ -1,40 +1,25 @@
 -- How the tasks of a layer are listed, stream by stream.
-use Rattle.std.proofs.Common.{◌≡◌, refl, ap, ◌∙◌, sym, ℕ, zero, suc, ◌+◌, ◌<◌, ◌≤◌, ◌⊎◌, inl, inr, List, [], ◌∷◌, ◌++◌, Bool, true, false, not, ◌||◌, nat_eq, nat_lt, if◌then◌else◌, get_or, length, map, slice_get, take, drop, arith, append_assoc, length-append, replicate, add-one, add-zero, zero-add}
+use Rattle.std.proofs.Common.{◌≡◌, refl, ap, ◌∙◌, sym, ℕ, zero, suc, ◌+◌, ◌<◌, ◌≤◌, ◌⊎◌, inl, inr, List, [], ◌∷◌, ◌++◌, Option, Bool, true, false, not, ◌||◌, nat_eq, nat_lt, if◌then◌else◌, get_or, length, map, slice_get, take, drop, arith, append_assoc, length-append, replicate, add-one, add-zero, zero-add}
 use Rattle.std.proofs.Math.ListN.{set}
 use Rattle.std.proofs.lemmas.Bool.{and_parts, cases_eq, eqb-true, le-ltb, lt-ltb, not-true}
 use Rattle.std.proofs.lemmas.List.{drop_more, drop-set-lt, replicate-append-replicate, take_more, take_more_set}
 use Rattle.lola_value.specs.declared.value.Outcome.{Outcome}
 use Rattle.lola_value.specs.declared.value.Outcome.TheVariants as outcome
 use Rattle.lola_model.specs.Graph.{eval_node, layer_of}
-use Rattle.lola_model.specs.Model.{is_input}
+use Rattle.lola_model.specs.Model.{eval_pacing, is_input}
 use Rattle.lola_model.specs.Store.{Seen, SeenStream, instances_of, instances_seen}
+use Rattle.lola_model.specs.declared.pacing.Pacing.{Pacing}
 use Rattle.lola_model.specs.declared.plan.Plan.{Plan}
 use Rattle.lola_model.specs.declared.spec.Stream.{Stream}
 use Rattle.lola_stages.specs.Stages.{Stage, eval_stage, is_behind, is_evaluated, layer_stage}
 use Rattle.lola_stages.proofs.Behind.{equal_behind, layer_behind, same_behind}
-use Rattle.lola_step.specs.Given.{stream_tasks}
-use Rattle.lola_step.specs.Notes.{layer_spans, layer_tasks, runs_in, tasks_from}
+use Rattle.lola_step.specs.Notes.{layer_spans, layer_tasks, places_asked, runs_in, stream_tasks, tasks_at}
 use Rattle.lola_step.specs.Rooms.{room_of, rooms, to_come, total}
 use Rattle.lola_step.specs.declared.mark.Mark.{Mark}
 use Rattle.lola_step.specs.declared.moment.Moment.{Moment}
 use Rattle.lola_step.specs.declared.scratch.Span.{Span}
 use Rattle.lola_step.specs.declared.tasks.Task.{Task}
-
--- the tasks of a stream
-
-abbrev pub task_at : ℕ → ℕ → Task
-task_at n i = record { stream = n; index = i }
-
-pub length_tasks : (n i k : ℕ) → length (tasks_from n i k) ≡ k
-length_tasks n i zero = refl
-length_tasks n i (suc k) = ap suc (length_tasks n (i + 1) k)
-
-tasks_suc : (n i k j : ℕ) → j ≡ i + k → tasks_from n i (suc k) ≡ tasks_from n i k ++ task_at n j ∷ []
-tasks_suc n i zero j e = let q : j ≡ i = omega arith in rw q refl
-tasks_suc n i (suc k) j e = ap (λ ts. task_at n i ∷ ts) (tasks_suc n (i + 1) k j (omega arith))
-
-pub tasks_more : (n k : ℕ) → tasks_from n 0 (k + 1) ≡ tasks_from n 0 k ++ task_at n k ∷ []
-tasks_more n k = rw add-one (tasks_suc n 0 k k (omega arith))
+use Rattle.lola_step.proofs.Listed.{few_asked, length_tasks}
 
 -- a stream that runs in a layer is no input, and belongs to the layer
 pub record Runs (plan : Plan) (layer n : ℕ) (x : Stream) : Type 0 where
@@ -48,9 +33,24 @@ module _ (plan : Plan) (m : Moment) (marks : List Mark) (s : Seen) (layer : ℕ)
       let b = and_parts (nat_eq (layer_of plan.layers (eval_node n)) layer) _ a.1 in
       record { no_input = not-true (is_input x) a.0; layer_is = eqb-true (layer_of plan.layers (eval_node n)) layer b.0 }
 
-  -- its tasks are as many as its instances
-  pub as_many_tasks : (n : ℕ) (x : Stream) → runs_in plan m marks layer n x ≡ true → length (stream_tasks plan m marks s layer n x) ≡ length (instances_seen s n)
-  as_many_tasks n x e = ap (λ b. length (if b then tasks_from n 0 (length (instances_seen s n)) else [])) e ∙ length_tasks n 0 (length (instances_seen s n))
+  -- the instances of stream n that are asked
+  abbrev pub asked_tasks : ℕ → List Task
+  asked_tasks n = tasks_at n (places_asked (eval_pacing (slice_get plan.pacings n)) m s n)
+
+  -- no more than it has
+  pub few_tasks : (n : ℕ) (x : Stream) → length (stream_tasks plan m marks s layer n x) ≤ length (instances_seen s n)
+  few_tasks n x = by (runs_in plan m marks layer n x)
+    where
+      by : (b : Bool) → length (if b then asked_tasks n else []) ≤ length (instances_seen s n)
+      by true = few_asked (eval_pacing (slice_get plan.pacings n)) m s n
+      by false = omega arith
+
+  -- as many as the places that are asked, where it runs
+  pub count_asked : (n : ℕ) (x : Stream) (p : Option Pacing) → runs_in plan m marks layer n x ≡ true → p ≡ eval_pacing (slice_get plan.pacings n)
+      → length (places_asked p m s n) ≡ length (stream_tasks plan m marks s layer n x)
+  count_asked n x p r e =
+      ap (λ q. length (places_asked q m s n)) e
+      ∙ (sym (length_tasks n (places_asked (eval_pacing (slice_get plan.pacings n)) m s n)) ∙ sym (ap (λ b. length (if b then asked_tasks n else [])) r))
 
   abbrev count : ℕ
   count = length plan.spec.streams
@@ -106,12 +106,12 @@ module _ (plan : Plan) (m : Moment) (marks : List Mark) (s : Seen) (layer : ℕ)
   stream_fits n x k h few = by (runs_in plan m marks layer n x) refl
     where
       by : (b : Bool) → runs_in plan m marks layer n x ≡ b
-          → length (if b then tasks_from n 0 (length (instances_seen s n)) else []) + if_to_come next n x k ≤ if_to_come now n x k
+          → length (if b then asked_tasks n else []) + if_to_come next n x k ≤ if_to_come now n x k
       by true e =
           let r = runs_so n x e in
           let a : if_to_come next n x k ≡ 0 = ap (λ t. if is_input x || t then 0 else k) (run_is_done n x r h) ∙ ap (λ t. if t || true then 0 else k) r.no_input in
           let b : if_to_come now n x k ≡ k = ap (λ t. if is_input x || t then 0 else k) (run_is_to_come n x r) ∙ ap (λ t. if t || false then 0 else k) r.no_input in
-          omega (arith, a, b, length_tasks n 0 (length (instances_seen s n)), few)
+          omega (arith, a, b, few_asked (eval_pacing (slice_get plan.pacings n)) m s n, few)
       by false e =
           let a = not_more (is_input x) (is_evaluated plan.layers now n x) (is_evaluated plan.layers next n x) k (done_stays n x h) in
           omega (arith, a)
@@ -126,49 +126,31 @@ module _ (plan : Plan) (m : Moment) (marks : List Mark) (s : Seen) (layer : ℕ)
       let c = length-append (stream_tasks plan m marks s layer n x) (layer_tasks plan m marks s layer (n + 1) xs) in
       omega (arith, a, b, c)
 
-  -- where the outcomes of a stream stand, if it runs
-  abbrev pub span_after : ℕ → ℕ → Stream → Span → Span
-  span_after from n x p = if runs_in plan m marks layer n x then record { from = from; count = length (instances_seen s n) } else p
-
-  pub spans_cons : (from n : ℕ) (x : Stream) (xs : List Stream) (p : Span) (ps : List Span)
-      → layer_spans plan m marks s layer from n (x ∷ xs) (p ∷ ps)
-      ≡ span_after from n x p ∷ layer_spans plan m marks s layer (from + length (stream_tasks plan m marks s layer n x)) (n + 1) xs ps
-  spans_cons from n x xs p ps = by (runs_in plan m marks layer n x)
-    where
-      by : (b : Bool)
-          → (if b then record { from = from; count = length (instances_seen s n) } ∷ layer_spans plan m marks s layer (from + length (instances_seen s n)) (n + 1) xs ps else p ∷ layer_spans plan m marks s layer from (n + 1) xs ps)
-          ≡ (if b then record { from = from; count = length (instances_seen s n) } else p)
-          ∷ layer_spans plan m marks s layer (from + length (if b then tasks_from n 0 (length (instances_seen s n)) else [])) (n + 1) xs ps
-      by true =
-          ap (λ k. record { from = from; count = length (instances_seen s n) } ∷ layer_spans plan m marks s layer (from + k) (n + 1) xs ps) (sym (length_tasks n 0 (length (instances_seen s n))))
-      by false = ap (λ k. p ∷ layer_spans plan m marks s layer k (n + 1) xs ps) (omega arith)
-
   nothing : Span
   nothing = record { from = 0; count = 0 }
 
-  abbrev span_of : ℕ → ℕ → Span
-  span_of from n = record { from = from; count = length (instances_seen s n) }
+  abbrev span_of : ℕ → ℕ → Stream → Span
+  span_of from n x = record { from = from; count = length (stream_tasks plan m marks s layer n x) }
 
   abbrev spans_past : ℕ → ℕ → Stream → List Stream → List Span → List Span
   spans_past from n x xs ps = layer_spans plan m marks s layer (from + length (stream_tasks plan m marks s layer n x)) (n + 1) xs ps
 
   -- as one more stream is looked at
   pub span_step : (from n : ℕ) (x : Stream) (xs : List Stream) (spans : List Span) → n < length spans
-      → take (n + 1) (if runs_in plan m marks layer n x then set spans n (span_of from n) else spans)
-      ++ layer_spans plan m marks s layer (from + length (stream_tasks plan m marks s layer n x)) (n + 1) xs (drop (n + 1) (if runs_in plan m marks layer n x then set spans n (span_of from n) else spans))
+      → take (n + 1) (if runs_in plan m marks layer n x then set spans n (span_of from n x) else spans)
+      ++ layer_spans plan m marks s layer (from + length (stream_tasks plan m marks s layer n x)) (n + 1) xs (drop (n + 1) (if runs_in plan m marks layer n x then set spans n (span_of from n x) else spans))
       ≡ take n spans ++ layer_spans plan m marks s layer from n (x ∷ xs) (drop n spans)
   span_step from n x xs spans h =
       by (runs_in plan m marks layer n x)
-      ∙ (ap (λ ys. take n spans ++ ys) (sym (spans_cons from n x xs (get_or spans n nothing) (drop (n + 1) spans)))
-      ∙ ap (λ ps. take n spans ++ layer_spans plan m marks s layer from n (x ∷ xs) ps) (sym (drop_more spans n nothing h)))
+      ∙ ap (λ ps. take n spans ++ layer_spans plan m marks s layer from n (x ∷ xs) ps) (sym (drop_more spans n nothing h))
     where
       by : (b : Bool)
-          → take (n + 1) (if b then set spans n (span_of from n) else spans) ++ spans_past from n x xs (drop (n + 1) (if b then set spans n (span_of from n) else spans))
-          ≡ take n spans ++ ((if b then span_of from n else get_or spans n nothing) ∷ spans_past from n x xs (drop (n + 1) spans))
+          → take (n + 1) (if b then set spans n (span_of from n x) else spans) ++ spans_past from n x xs (drop (n + 1) (if b then set spans n (span_of from n x) else spans))
+          ≡ take n spans ++ ((if b then span_of from n x else get_or spans n nothing) ∷ spans_past from n x xs (drop (n + 1) spans))
       by true =
-          ap (λ ys. ys ++ spans_past from n x xs (drop (n + 1) (set spans n (span_of from n)))) (take_more_set spans n (span_of from n) h)
-          ∙ (ap (λ ps. (take n spans ++ span_of from n ∷ []) ++ spans_past from n x xs ps) (drop-set-lt (n + 1) spans n (span_of from n) (omega arith))
-          ∙ append_assoc (take n spans) (span_of from n ∷ []) (spans_past from n x xs (drop (n + 1) spans)))
+          ap (λ ys. ys ++ spans_past from n x xs (drop (n + 1) (set spans n (span_of from n x)))) (take_more_set spans n (span_of from n x) h)
+          ∙ (ap (λ ps. (take n spans ++ span_of from n x ∷ []) ++ spans_past from n x xs ps) (drop-set-lt (n + 1) spans n (span_of from n x) (omega arith))
+          ∙ append_assoc (take n spans) (span_of from n x ∷ []) (spans_past from n x xs (drop (n + 1) spans)))
       by false =
           ap (λ ys. ys ++ spans_past from n x xs (drop (n + 1) spans)) (take_more spans n nothing h)
           ∙ append_assoc (take n spans) (get_or spans n nothing ∷ []) (spans_past from n x xs (drop (n + 1) spans))
@@ -176,7 +158,7 @@ module _ (plan : Plan) (m : Moment) (marks : List Mark) (s : Seen) (layer : ℕ)
   pub length_spans : (n : ℕ) (xs : List Stream) (ps : List Span) (from : ℕ) → length (layer_spans plan m marks s layer from n xs ps) ≡ length ps
   length_spans n [] ps from = refl
   length_spans n (x ∷ xs) [] from = refl
-  length_spans n (x ∷ xs) (p ∷ ps) from = ap length (spans_cons from n x xs p ps) ∙ ap suc (length_spans (n + 1) xs ps (from + length (stream_tasks plan m marks s layer n x)))
+  length_spans n (x ∷ xs) (p ∷ ps) from = ap suc (length_spans (n + 1) xs ps (from + length (stream_tasks plan m marks s layer n x)))
 
   pub few_to_come : (g : Stage) (n : ℕ) (xs : List Stream) (ks : List ℕ) → to_come plan.layers g n xs ks ≤ total ks
   few_to_come g n [] ks = omega arith
@@ -215,25 +197,38 @@ module _ (plan : Plan) (m : Moment) (marks : List Mark) (s : Seen) (layer : ℕ)
       ∙ (append_assoc old (stream_tasks plan m marks s layer n x) (layer_tasks plan m marks s layer (n + 1) (drop (n + 1) streams))
       ∙ (ap (λ xs. old ++ layer_tasks plan m marks s layer n xs) (sym at) ∙ so))
 
+  -- with a place for each outcome
+  pub gathers_places : (n : ℕ) (x : Stream) (streams : List Stream) (old new all : List Outcome) → drop n streams ≡ x ∷ drop (n + 1) streams
+      → new ≡ old ++ replicate (length (stream_tasks plan m marks s layer n x)) outcome.Missing
+      → old ++ replicate (length (layer_tasks plan m marks s layer n (drop n streams))) outcome.Missing ≡ all
+      → new ++ replicate (length (layer_tasks plan m marks s layer (n + 1) (drop (n + 1) streams))) outcome.Missing ≡ all
+  gathers_places n x streams old new all at is so =
+      let ts = stream_tasks plan m marks s layer n x in
+      let us = layer_tasks plan m marks s layer (n + 1) (drop (n + 1) streams) in
+      ap (λ rs. rs ++ replicate (length us) outcome.Missing) is
+      ∙ (append_assoc old (replicate (length ts) outcome.Missing) (replicate (length us) outcome.Missing)
+      ∙ (ap (λ rs. old ++ rs) (replicate-append-replicate (length ts) (length us) outcome.Missing ∙ ap (λ k. replicate k outcome.Missing) (sym (length-append ts us)))
+      ∙ (ap (λ xs. old ++ replicate (length (layer_tasks plan m marks s layer n xs)) outcome.Missing) (sym at) ∙ so)))
+
   pub gathers_spans : (n : ℕ) (x : Stream) (streams : List Stream) (from later noted : ℕ) (old new all : List Span) → n < length old → drop n streams ≡ x ∷ drop (n + 1) streams
       → later ≡ from + length (stream_tasks plan m marks s layer n x) → noted ≡ from
-      → new ≡ (if runs_in plan m marks layer n x then set old n (span_of noted n) else old)
+      → new ≡ (if runs_in plan m marks layer n x then set old n (span_of noted n x) else old)
       → take n old ++ layer_spans plan m marks s layer from n (drop n streams) (drop n old) ≡ all
       → take (n + 1) new ++ layer_spans plan m marks s layer later (n + 1) (drop (n + 1) streams) (drop (n + 1) new) ≡ all
   gathers_spans n x streams from later noted old new all h at e f is so =
       ap (λ k. take (n + 1) new ++ layer_spans plan m marks s layer k (n + 1) (drop (n + 1) streams) (drop (n + 1) new)) e
-      ∙ (ap (λ ps. take (n + 1) ps ++ spans_past from n x (drop (n + 1) streams) (drop (n + 1) ps)) (is ∙ ap (λ k. if runs_in plan m marks layer n x then set old n (span_of k n) else old) f)
+      ∙ (ap (λ ps. take (n + 1) ps ++ spans_past from n x (drop (n + 1) streams) (drop (n + 1) ps)) (is ∙ ap (λ k. if runs_in plan m marks layer n x then set old n (span_of k n x) else old) f)
       ∙ (span_step from n x (drop (n + 1) streams) old h
       ∙ (ap (λ xs. take n old ++ layer_spans plan m marks s layer from n xs (drop n old)) (sym at) ∙ so)))
 
--- the places of outcomes, as many as tasks
-pub gathers_places : (first old new : List Outcome) (ts us vs : List Task) → vs ≡ ts ++ us → old ≡ first ++ replicate (length ts) outcome.Missing
-    → new ≡ old ++ replicate (length us) outcome.Missing → new ≡ first ++ replicate (length vs) outcome.Missing
-gathers_places first old new ts us vs e f h =
-    h ∙ (ap (λ rs. rs ++ replicate (length us) outcome.Missing) f
-    ∙ (append_assoc first (replicate (length ts) outcome.Missing) (replicate (length us) outcome.Missing)
-    ∙ (ap (λ rs. first ++ rs) (replicate-append-replicate (length ts) (length us) outcome.Missing)
-    ∙ ap (λ k. first ++ replicate k outcome.Missing) (sym (ap length e ∙ length-append ts us)))))
+-- no stream has more instances than all have rooms
+room_at : (ss : List SeenStream) (n : ℕ) → length (instances_of (slice_get ss n)) ≤ total (map room_of ss)
+room_at [] n = omega arith
+room_at (x ∷ ss) zero = omega arith
+room_at (x ∷ ss) (suc n) = let a = room_at ss n in omega (arith, a)
+
+pub room_of_places : (s : Seen) (n : ℕ) → length (instances_seen s n) ≤ total (rooms s)
+room_of_places s n = room_at s.streams n
 
 -- an element that is read at a place
 pub drop_here : {A : Type 0} (xs : List A) (i : ℕ) (x : A) → i < length xs → x ≡ get_or xs i x → drop i xs ≡ x ∷ drop (i + 1) xs

@@ -14,7 +14,7 @@ use Rattle.lola_step.specs.declared.tasks.Task.{Task}
 
 -- telling nothing where nothing was told changes nothing
 
-is_missing : (o : Outcome) → is_silent o ≡ true → outcome.Missing ≡ o
+pub is_missing : (o : Outcome) → is_silent o ≡ true → outcome.Missing ≡ o
 is_missing outcome.Missing e = refl
 is_missing (outcome.Value v) e = absurd (cc)
 is_missing (outcome.Fault k) e = absurd (cc)

@@ -19,9 +19,9 @@ use Rattle.lola_ready.proofs.Clauses.{eval_may_ask}
 use Rattle.lola_stages.specs.Stages.{Stage, eval_stage, is_evaluated, is_spawned, layer_stage}
 use Rattle.lola_stages.proofs.Behind.{layer_behind}
 use Rattle.lola_stages.proofs.Shapes.{passes_at}
-use Rattle.lola_step.specs.Given.{AreResults, CanGiveAll, after_all, stream_tasks}
+use Rattle.lola_step.specs.Given.{AreResults, CanGiveAll, after_all}
 use Rattle.lola_step.specs.Moments.{born_seen, may_be_active_in}
-use Rattle.lola_step.specs.Notes.{is_fine, layer_tasks, runs_in, tasks_from}
+use Rattle.lola_step.specs.Notes.{AreOfStream, is_fine, layer_tasks, runs_in, stream_tasks}
 use Rattle.lola_step.specs.Progress.{GoesOn, IsAt, IsMomentOf, IsOf}
 use Rattle.lola_step.specs.Tasks.{AreTasks, IsActiveTask, IsTask, is_active_task, pacing_of_task, params_seen}
 use Rattle.lola_step.specs.declared.mark.Mark.{Mark}
@@ -29,8 +29,9 @@ use Rattle.lola_step.specs.declared.moment.Moment.{Moment}
 use Rattle.lola_step.specs.declared.tasks.Task.{Task}
 use Rattle.lola_step.proofs.Activities.{active_for_is}
 use Rattle.lola_step.proofs.Asking.{evals_locally}
-use Rattle.lola_step.proofs.Gathering.{done_stays, length_tasks, run_is_done, run_is_to_come, runs_so}
+use Rattle.lola_step.proofs.Gathering.{asked_tasks, done_stays, few_tasks, run_is_done, run_is_to_come, runs_so}
 use Rattle.lola_step.proofs.Layouts.{pacings_length}
+use Rattle.lola_step.proofs.Listed.{asked_of_stream}
 use Rattle.lola_step.proofs.Keeping.{AreGivable, EachTask, IsFrom, Keeps, OrderedFrom, can_give_all, each_at, each_both, each_so, keeps_given, now_given}
 
 -- a stream that is no input has an eval clause
@@ -72,16 +73,26 @@ module _ (plan : Plan) (m : Moment) (marks : List Mark) (s : Seen) (layer : ℕ)
     pub lives : t.index < length (instances_seen s t.stream)
 
   each_of_stream : (n : ℕ) (x : Stream) → slice_get plan.spec.streams n ≡ Some x → runs_in plan m marks layer n x ≡ true
-      → (i k : ℕ) → i + k ≤ length (instances_seen s n) → EachTask OfLayer (tasks_from n i k)
-  each_of_stream n x e r i zero h = tt
-  each_of_stream n x e r i (suc k) h = (
-    record { stream = x; stream_is = e; runs = r; lives = omega (arith, h) },
-    each_of_stream n x e r (i + 1) k (omega (arith, h)),
+      → (i : ℕ) (ts : List Task) → AreOfStream n i (length (instances_seen s n)) ts → EachTask OfLayer ts
+  each_of_stream n x e r i [] h = tt
+  each_of_stream n x e r i (t ∷ ts) h = (
+    record {
+      stream = x;
+      stream_is = ap (λ k. slice_get plan.spec.streams k) h.0 ∙ e;
+      runs = ap (λ k. runs_in plan m marks layer k x) h.0 ∙ r;
+      lives = subst (λ k. t.index < length (instances_seen s k)) (sym h.0) h.2;
+    },
+    each_of_stream n x e r (t.index + 1) ts h.3,
   )
 
-  each_if_runs : (n : ℕ) (x : Stream) → slice_get plan.spec.streams n ≡ Some x → (b : Bool) → runs_in plan m marks layer n x ≡ b
-      → EachTask OfLayer (if b then tasks_from n 0 (length (instances_seen s n)) else [])
-  each_if_runs n x e true r = each_of_stream n x e r 0 (length (instances_seen s n)) (omega arith)
+  abbrev asked : ℕ → List Task
+  asked n = asked_tasks plan m marks s layer n
+
+  of_stream : (n : ℕ) → AreOfStream n 0 (length (instances_seen s n)) (asked n)
+  of_stream n = asked_of_stream (eval_pacing (slice_get plan.pacings n)) m s n
+
+  each_if_runs : (n : ℕ) (x : Stream) → slice_get plan.spec.streams n ≡ Some x → (b : Bool) → runs_in plan m marks layer n x ≡ b → EachTask OfLayer (if b then asked n else [])
+  each_if_runs n x e true r = each_of_stream n x e r 0 (asked n) (of_stream n)
   each_if_runs n x e false r = tt
 
   each_of_streams : (n : ℕ) (xs : List Stream) → ((i : ℕ) → slice_get plan.spec.streams (n + i) ≡ slice_get xs i) → EachTask OfLayer (layer_tasks plan m marks s layer n xs)
@@ -107,13 +118,16 @@ module _ (plan : Plan) (m : Moment) (marks : List Mark) (s : Seen) (layer : ℕ)
       before (inl a) = inl (omega (arith, a))
       before (inr a) = inl (omega (arith, a.0))
 
-  ordered_stream : (n i k : ℕ) (ts : List Task) → OrderedFrom (n + 1) 0 ts → OrderedFrom n i (tasks_from n i k ++ ts)
-  ordered_stream n i zero ts h = ordered_before n i ts h
-  ordered_stream n i (suc k) ts h = (inr (refl, omega arith), ordered_stream n (i + 1) k ts h)
+  ordered_stream : (n i k : ℕ) (ts us : List Task) → AreOfStream n i k ts → OrderedFrom (n + 1) 0 us → OrderedFrom n i (ts ++ us)
+  ordered_stream n i k [] us h o = ordered_before n i us o
+  ordered_stream n i k (t ∷ ts) us h o = (
+    inr (sym h.0, h.1),
+    subst (λ j. OrderedFrom j (t.index + 1) (ts ++ us)) (sym h.0) (ordered_stream n (t.index + 1) k ts us h.3 o),
+  )
 
-  ordered_if : (n : ℕ) (b : Bool) (ts : List Task) → OrderedFrom (n + 1) 0 ts → OrderedFrom n 0 ((if b then tasks_from n 0 (length (instances_seen s n)) else []) ++ ts)
-  ordered_if n true ts h = ordered_stream n 0 (length (instances_seen s n)) ts h
-  ordered_if n false ts h = ordered_before n 0 ts h
+  ordered_if : (n : ℕ) (b : Bool) (us : List Task) → OrderedFrom (n + 1) 0 us → OrderedFrom n 0 ((if b then asked n else []) ++ us)
+  ordered_if n true us o = ordered_stream n 0 (length (instances_seen s n)) (asked n) us (of_stream n) o
+  ordered_if n false us o = ordered_before n 0 us o
 
   pub ordered : (n : ℕ) (xs : List Stream) → OrderedFrom n 0 (layer_tasks plan m marks s layer n xs)
   ordered n [] = tt
@@ -124,13 +138,9 @@ module _ (plan : Plan) (m : Moment) (marks : List Mark) (s : Seen) (layer : ℕ)
   few_of_streams : ((n : ℕ) → length (instances_seen s n) ≤ 65536) → (n : ℕ) (xs : List Stream) → length (layer_tasks plan m marks s layer n xs) ≤ 65536 * length xs
   few_of_streams few n [] = omega arith
   few_of_streams few n (x ∷ xs) =
-      let a = by (runs_in plan m marks layer n x) in
+      let a = few_tasks plan m marks s layer n x in
       let b = few_of_streams few (n + 1) xs in
-      omega (arith, a, b, length-append (stream_tasks plan m marks s layer n x) (layer_tasks plan m marks s layer (n + 1) xs))
-    where
-      by : (b : Bool) → length (if b then tasks_from n 0 (length (instances_seen s n)) else []) ≤ 65536
-      by true = omega (arith, length_tasks n 0 (length (instances_seen s n)), few n)
-      by false = omega arith
+      omega (arith, a, few n, b, length-append (stream_tasks plan m marks s layer n x) (layer_tasks plan m marks s layer (n + 1) xs))
 
   module _ (accepted : IsAccepted plan) (at : IsAt plan now s) (moment : IsMomentOf m s) where
     pub numbered : length tasks < 2 ^ 32

@@ -8,6 +8,8 @@ pub mod Shown
 pub mod SpawnTurns
 pub mod Telling
 pub mod Undue
+pub mod Listed
+pub mod Quiet
 pub mod Counts
 pub mod Evaluation
 pub mod Endings
