@@ -4,7 +4,7 @@ use Rattle.std.proofs.lemmas.Bool.{cases_eq, eqb-true, not-true, eq-eqb}
 use Rattle.std.proofs.lemmas.List.{length-map}
 use Rattle.std.proofs.lemmas.Option.{slice_get-get_or, slice_get_within}
 use Rattle.lola_value.specs.Answer.{Answer, Missing}
-use Rattle.lola_value.specs.Naming.{Naming, read_outcome, read_params}
+use Rattle.lola_value.specs.Naming.{Naming, AreHeld, IsHeldIn, read_outcome, read_params, the_values}
 use Rattle.lola_value.specs.declared.text.Field.{Field}
 use Rattle.lola_value.specs.declared.value.Outcome.{Outcome}
 use Rattle.lola_model.specs.Acceptance.{IsAccepted}
@@ -28,29 +28,27 @@ use Rattle.lola_stages.proofs.Behind.{same_behind}
 use Rattle.lola_stages.proofs.Evals.{evals_go}
 use Rattle.lola_step.specs.Clauses.{IsAnswer, eval_answer}
 use Rattle.lola_step.specs.Evals.{IsReadyFor}
-use Rattle.lola_step.specs.Given.{AreHeldIn, AreResults, stream_tasks, told_outcomes}
-use Rattle.lola_step.specs.Moments.{active_for_in, birth_at}
-use Rattle.lola_step.specs.Notes.{AreMarks, AreSilent, ReadEach, ShowLiving, ShowResults, done_of, in_span, is_fine, layer_tasks, mark_of, runs_in, tasks_from}
+use Rattle.lola_step.specs.Given.{AreHeldIn, AreResults, told_outcomes}
+use Rattle.lola_step.specs.Moments.{active_for_in, birth_at, born_seen}
+use Rattle.lola_step.specs.Notes.{AreMarks, AreOfStream, AreSilent, ReadEach, ShowLiving, ShowResults, asked_in, done_of, in_span, is_fine, layer_tasks, mark_of, runs_in, stream_tasks, tasks_at}
 use Rattle.lola_step.specs.Progress.{IsAt, IsRunAt}
-use Rattle.lola_step.specs.Tasks.{params_at}
+use Rattle.lola_step.specs.Tasks.{IsResult, params_at}
 use Rattle.lola_step.specs.declared.mark.Mark.{Mark}
 use Rattle.lola_step.specs.declared.moment.Moment.{Moment}
 use Rattle.lola_step.specs.declared.scratch.Span.{Span}
 use Rattle.lola_step.specs.declared.tasks.Task.{Task}
 use Rattle.lola_step.proofs.Activities.{active_for_is, may_be_is, never_active}
 use Rattle.lola_step.proofs.Asking.{evals_locally}
-use Rattle.lola_step.proofs.LayerNotes.{as_many_spans, same_in_span, span_of, spans_after}
+use Rattle.lola_step.proofs.Gathering.{asked_tasks, run_is_to_come}
+use Rattle.lola_step.proofs.LayerNotes.{as_many_spans, same_asked_in, same_in_span, span_of, spans_after}
+use Rattle.lola_step.proofs.Listed.{asked_of_stream, asked_where, asks_of, of_stream_where, places_where, task_at, unasked_is_inactive}
+use Rattle.lola_step.proofs.Quiet.{IsQuiet, held_of_stream, quiet_lives, quiet_same, read_asked, read_past, told_else, told_stream}
 use Rattle.lola_step.proofs.Results.{SpanOf, count_results, split_results}
+use Rattle.lola_step.proofs.Undue.{evals_listed}
 
 -- what stands for lives
 
 module _ (names : Naming) (remembers : Memories) where
-  as_many_lives : (n i : ℕ) (xs : List SeenInstance) (vs : List Life) → StandForLives names remembers n i xs vs → length xs ≡ length vs
-  as_many_lives n i [] [] h = refl
-  as_many_lives n i [] (v ∷ vs) h = absurd h
-  as_many_lives n i (x ∷ xs) [] h = absurd h
-  as_many_lives n i (x ∷ xs) (v ∷ vs) h = ap suc (as_many_lives n (i + 1) xs vs h.1)
-
   module _ (layouts : List StreamLayout) where
     lives_stand : (k j n : ℕ) → n ≡ k + j → (ss : List SeenStream) (cs : List StreamContent) → StandForStreams layouts names remembers k ss cs
         → StandForLives names remembers n 0 (instances_of (slice_get ss j)) (lives_in (slice_get cs j))
@@ -134,22 +132,6 @@ module _ (names : Naming) where
   held_in_parts (suc k) [] h g = tt
   held_in_parts (suc k) (r ∷ rs) h g = (h.0, held_in_parts k rs h.1 g)
 
-  -- outcomes that read as those of instances
-  told_stream : (n i : ℕ) (rs : List Outcome) (ls : List Living) (c : Content) → ReadEach names rs ls
-      → told_outcomes names c (tasks_from n i (length ls)) rs ≡ told_each c (told_from n i ls)
-  told_stream n i [] [] c h = refl
-  told_stream n i [] (l ∷ ls) c h = absurd h
-  told_stream n i (r ∷ rs) [] c h = absurd h
-  told_stream n i (r ∷ rs) (l ∷ ls) c h =
-      told_stream n (i + 1) rs ls (told c n i (seen (read_outcome names r))) h.2
-      ∙ ap (λ a. told_each (told c n i (seen a)) (told_from n (i + 1) ls)) h.0
-
-  held_of_stream : (rs : List Outcome) (ls : List Living) → ReadEach names rs ls → AreHeldIn names rs
-  held_of_stream [] [] h = tt
-  held_of_stream [] (l ∷ ls) h = absurd h
-  held_of_stream (r ∷ rs) [] h = absurd h
-  held_of_stream (r ∷ rs) (l ∷ ls) h = (h.1, held_of_stream rs ls h.2)
-
 module _ (plan : Plan) (m : Moment) (marks : List Mark) (remembers : Memories) (s : Seen) (layer : ℕ) (accepted : IsAccepted plan)
     (names : Naming) (rows : List TableRow) (step : Step) where
   abbrev count : ℕ
@@ -212,11 +194,11 @@ module _ (plan : Plan) (m : Moment) (marks : List Mark) (remembers : Memories) (
         stands_here : StandForLives names remembers n 0 (instances_seen s n) (lives_in (slice_get content_now.streams n))
         stands_here = lives_stand names remembers s.layout.streams 0 n n (omega arith) s.streams content_now.streams run.stands.streams
 
-        pub as_many_living : length (instances_seen s n) ≡ length (living n)
-        as_many_living =
-            as_many_lives names remembers n 0 (instances_seen s n) (lives_in (slice_get content_now.streams n)) stands_here
-            ∙ (sym (length-map (lives_in (slice_get content_now.streams n)) (λ l. l.params))
-            ∙ (ap length here.lives ∙ length-map (living n) (λ l. l.instance.params)))
+        -- before they are asked they have no outcome
+        pub quiet_here : is_input x ≡ false → layer_of plan.layers (eval_node n) ≡ layer → IsQuiet content_now n 0
+        quiet_here i l =
+            quiet_lives names remembers n (instances_seen s n) content_now stands_here
+            (λ j. layout_at.silent n j x at (run_is_to_come plan m marks s layer n x (record { no_input = i; layer_is = l })))
 
         births_here : is_local pacing ≡ true → map (λ (y : SeenInstance). y.born) (instances_seen s n) ≡ map (λ (l : Living). time_of_birth l.instance) (living n)
         births_here local =
@@ -239,61 +221,120 @@ module _ (plan : Plan) (m : Moment) (marks : List Mark) (remembers : Memories) (
             other_outcomes _ (λ y. eval_outcome plan.spec content_now false (active y) x.eval y.params)
             (λ y. ap (λ t. eval_outcome plan.spec content_now t (active y) x.eval y.params) b) (living n) outcomes_here
 
-        read_each : (i : ℕ) (xs : List SeenInstance) (vs : List Life) (ls : List Living) (rs : List Outcome)
+        abbrev outcome_of : Instance → Answer
+        outcome_of y = eval_outcome plan.spec content_now false (active y) x.eval y.params
+
+        abbrev asks : ℕ → Bool
+        asks i = asks_of pacing m s n i
+
+        -- what is known of an instance at a place
+        record KnownAt (i : ℕ) (y : SeenInstance) (l : Living) : Type 0 where
+          pub there : slice_get (instances_seen s n) i ≡ Some y
+          pub params : read_params names y.params ≡ l.instance.params
+          pub held : AreHeld names (the_values y.params)
+          pub born : is_local pacing ≡ true → y.born ≡ time_of_birth l.instance
+          pub outcome : l.outcome ≡ outcome_of l.instance
+
+        active_here : (i : ℕ) (y : SeenInstance) (l : Living) → KnownAt i y l → active_for_in m y.born pacing ≡ active l.instance
+        active_here i y l k = active_for_is m.start step m run.moment y.born (time_of_birth l.instance) pacing k.born
+
+        -- one that is asked has the outcome of its task
+        asked_reads : (i : ℕ) (y : SeenInstance) (l : Living) (r : Outcome) → KnownAt i y l → IsResult plan m remembers s (task_at n i) r
+            → (read_outcome names r ≡ l.outcome) × IsHeldIn names r
+        asked_reads i y l r k result =
+            let P : Option SeenInstance → Type 0 = λ o. IsAnswer plan remembers s (params_at o) (eval_answer plan.spec (active_for_in m (birth_at o) pacing) (slice_get plan.spec.streams n)) r in
+            let answer : P (Some y) = subst P k.there result.answer in
+            let sees : Sees plan names content_now remembers s y.params = record { naming = run.run.naming; layout = layout_at.of.layout; held = k.held; stands = run.stands } in
+            let given = answer names content_now sees run.run.texts in (
+              given.0
+                  ∙ (ap (λ o. eval_answer plan.spec (active_for_in m y.born pacing) o content_now (read_params names y.params)) at
+                  ∙ (ap (λ b. eval_outcome plan.spec content_now false b x.eval (read_params names y.params)) (active_here i y l k)
+                  ∙ (ap (λ p. eval_outcome plan.spec content_now false (active l.instance) x.eval p) k.params
+                  ∙ sym k.outcome))),
+              given.1,
+            )
+
+        -- one that is not asked is not active, and silent
+        unasked_silent : (i : ℕ) (y : SeenInstance) (l : Living) → KnownAt i y l → asks i ≡ false → l.outcome ≡ Missing
+        unasked_silent i y l k e =
+            let idle : active_for_in m (born_seen s n i) pacing ≡ false = unasked_is_inactive pacing m s n i (evals_listed plan s layout_at.of n x at) e in
+            let born : born_seen s n i ≡ y.born = ap birth_at k.there in
+            let off : active l.instance ≡ false = sym (active_here i y l k) ∙ (ap (λ t. active_for_in m t pacing) (sym born) ∙ idle) in
+            k.outcome ∙ missing_where plan.spec content_now false (active l.instance) x.eval l.instance.params (ap (λ b. b && true) off)
+
+        abbrev Reads : ℕ → List ℕ → List Living → Type 0
+        Reads i ps ls = (rs : List Outcome) → AreResults plan m remembers s (tasks_at n ps) rs → ReadEach names i (tasks_at n ps) rs ls
+
+        reads_one : (i k : ℕ) (y : SeenInstance) (l : Living) (ls : List Living) (ps : List ℕ) → KnownAt i y l → AreOfStream n (i + 1) k (tasks_at n ps) → Reads (i + 1) ps ls
+            → (b : Bool) → asks i ≡ b → Reads i (if b then i ∷ ps else ps) (l ∷ ls)
+        reads_one i k y l ls ps known o rest true e [] h = absurd h
+        reads_one i k y l ls ps known o rest true e (r ∷ rs) h =
+            let own = asked_reads i y l r known h.0 in
+            read_asked names n i (tasks_at n ps) r rs l ls (own.0, own.1, rest rs h.1)
+        reads_one i k y l ls ps known o rest false e rs h = read_past names n i k (tasks_at n ps) rs l ls o (unasked_silent i y l known e, rest rs h)
+
+        read_each : (i : ℕ) (xs : List SeenInstance) (vs : List Life) (ls : List Living)
             → ((j : ℕ) → slice_get (instances_seen s n) (i + j) ≡ slice_get xs j)
             → StandForLives names remembers n i xs vs → map (λ l. l.params) vs ≡ map (λ l. l.instance.params) ls
             → (is_local pacing ≡ true → map (λ (z : SeenInstance). z.born) xs ≡ map (λ (z : Living). time_of_birth z.instance) ls)
-            → AreOutcomes (λ y. eval_outcome plan.spec content_now false (active y) x.eval y.params) ls
-            → AreResults plan m remembers s (tasks_from n i (length xs)) rs → ReadEach names rs ls
-        read_each i [] [] [] [] shown stand same births are results = tt
-        read_each i [] [] [] (r ∷ rs) shown stand same births are results = absurd results
-        read_each i [] [] (l ∷ ls) rs shown stand same births are results = absurd (cc)
-        read_each i [] (v ∷ vs) ls rs shown stand same births are results = absurd stand
-        read_each i (y ∷ xs) [] ls rs shown stand same births are results = absurd stand
-        read_each i (y ∷ xs) (v ∷ vs) [] rs shown stand same births are results = absurd (cc)
-        read_each i (y ∷ xs) (v ∷ vs) (l ∷ ls) [] shown stand same births are results = absurd results
-        read_each i (y ∷ xs) (v ∷ vs) (l ∷ ls) (r ∷ rs) shown stand same births are results =
-            let there : slice_get (instances_seen s n) i ≡ Some y = ap (λ k. slice_get (instances_seen s n) k) (sym (add-zero i)) ∙ shown 0 in
-            let P : Option SeenInstance → Type 0 = λ o. IsAnswer plan remembers s (params_at o) (eval_answer plan.spec (active_for_in m (birth_at o) pacing) (slice_get plan.spec.streams n)) r in
-            let answer : P (Some y) = subst P there results.0.answer in
-            let is_active_here : active_for_in m y.born pacing ≡ active l.instance =
-            active_for_is m.start step m run.moment y.born (time_of_birth l.instance) pacing (λ local. (let e = births local in cc)) in
-            let sees : Sees plan names content_now remembers s y.params = record { naming = run.run.naming; layout = layout_at.of.layout; held = stand.0.params_held; stands = run.stands } in
-            let given = answer names content_now sees run.run.texts in
+            → AreOutcomes outcome_of ls → Reads i (places_where asks i (length xs)) ls
+        read_each i [] [] [] shown stand same births are [] results = tt
+        read_each i [] [] [] shown stand same births are (r ∷ rs) results = absurd results
+        read_each i [] [] (l ∷ ls) shown stand same births are rs results = absurd (cc)
+        read_each i [] (v ∷ vs) ls shown stand same births are rs results = absurd stand
+        read_each i (y ∷ xs) [] ls shown stand same births are rs results = absurd stand
+        read_each i (y ∷ xs) (v ∷ vs) [] shown stand same births are rs results = absurd (cc)
+        read_each i (y ∷ xs) (v ∷ vs) (l ∷ ls) shown stand same births are rs results =
             let params : v.params ≡ l.instance.params = cc in
-            let rest : map (λ (z : Life). z.params) vs ≡ map (λ (z : Living). z.instance.params) ls = cc in (
-              given.0
-                  ∙ (ap (λ o. eval_answer plan.spec (active_for_in m y.born pacing) o content_now (read_params names y.params)) at
-                  ∙ (ap (λ b. eval_outcome plan.spec content_now false b x.eval (read_params names y.params)) is_active_here
-                  ∙ (ap (λ p. eval_outcome plan.spec content_now false (active l.instance) x.eval p) (stand.0.params ∙ params)
-                  ∙ sym are.0))),
-              given.1,
-              read_each (i + 1) xs vs ls rs (λ j. ap (λ k. slice_get (instances_seen s n) k) (same_place i j) ∙ shown (suc j)) stand.1 rest (λ local. (let e = births local in cc)) are.1 results.1,
-            )
+            let rest : map (λ (z : Life). z.params) vs ≡ map (λ (z : Living). z.instance.params) ls = cc in
+            let known : KnownAt i y l = record {
+              there = ap (λ k. slice_get (instances_seen s n) k) (sym (add-zero i)) ∙ shown 0;
+              params = stand.0.params ∙ params;
+              held = stand.0.params_held;
+              born = λ local. (let e = births local in cc);
+              outcome = are.0;
+            } in
+            reads_one i ((i + 1) + length xs) y l ls (places_where asks (i + 1) (length xs)) known
+            (of_stream_where asks n (i + 1) (length xs) ((i + 1) + length xs) (omega arith))
+            (read_each (i + 1) xs vs ls (λ j. ap (λ k. slice_get (instances_seen s n) k) (same_place i j) ∙ shown (suc j)) stand.1 rest (λ local. (let e = births local in cc)) are.1)
+            (asks i) refl rs results
           where
             same_place : (a b : ℕ) → (a + 1) + b ≡ a + suc b
             same_place a b = omega arith
 
-        read_here : is_bad did ≡ false → (rs : List Outcome) → AreResults plan m remembers s (tasks_from n 0 (length (instances_seen s n))) rs → ReadEach names rs (living n)
-        read_here b rs h =
-            read_each 0 (instances_seen s n) (lives_in (slice_get content_now.streams n)) (living n) rs
-            (λ j. ap (λ k. slice_get (instances_seen s n) k) (zero-add j)) stands_here here.lives births_here (answers_here b) h
+        read_here : is_bad did ≡ false → (rs : List Outcome) → AreResults plan m remembers s (asked_tasks plan m marks s layer n) rs
+            → ReadEach names 0 (asked_tasks plan m marks s layer n) rs (living n)
+        read_here b rs =
+            subst (λ ps. AreResults plan m remembers s (tasks_at n ps) rs → ReadEach names 0 (tasks_at n ps) rs (living n)) (sym (asked_where pacing m s n))
+            (read_each 0 (instances_seen s n) (lives_in (slice_get content_now.streams n)) (living n)
+            (λ j. ap (λ k. slice_get (instances_seen s n) k) (zero-add j)) stands_here here.lives births_here (answers_here b) rs)
 
       -- all that is known of a stream that runs
-      record Reads : Type 0 where
+      record KnownToRun : Type 0 where
         pub here : EvalIs plan m.start rows step layer n x
         pub is_good : is_bad did ≡ false
+        pub no_input : is_input x ≡ false
+        pub layer_is : layer_of plan.layers (eval_node n) ≡ layer
 
-      reads : runs_in plan m marks layer n x ≡ true → Reads
+      reads : runs_in plan m marks layer n x ≡ true → KnownToRun
       reads e =
           let run_there : is_run_in plan m.start step full layer n x ≡ true = sym same_runs ∙ e in
           let a = both_true (not (is_input x)) _ run_there in
           let b = both_true (nat_eq (layer_of plan.layers (eval_node n)) layer) _ a.1 in
           let d = both_true may (not (is_bad did)) b.1 in
-          record { here = here_is a.0 b.0; is_good = not-true (is_bad did) d.1 }
+          record {
+            here = here_is a.0 b.0;
+            is_good = not-true (is_bad did) d.1;
+            no_input = not-true (is_input x) a.0;
+            layer_is = eqb-true (layer_of plan.layers (eval_node n)) layer b.0;
+          }
 
-      pub read_stream : runs_in plan m marks layer n x ≡ true → (rs : List Outcome) → AreResults plan m remembers s (tasks_from n 0 (length (instances_seen s n))) rs → ReadEach names rs (living n)
+      pub read_stream : runs_in plan m marks layer n x ≡ true → (rs : List Outcome) → AreResults plan m remembers s (asked_tasks plan m marks s layer n) rs
+          → ReadEach names 0 (asked_tasks plan m marks s layer n) rs (living n)
       read_stream e rs h = let k = reads e in read_here k.here k.is_good rs h
+
+      pub quiet_stream : runs_in plan m marks layer n x ≡ true → IsQuiet content_now n 0
+      quiet_stream e = let k = reads e in quiet_here k.here k.no_input k.layer_is
 
       -- one that does not run, though it belongs to the layer, is silent
       pub silent_stream : runs_in plan m marks layer n x ≡ false → is_input x ≡ false → layer_of plan.layers (eval_node n) ≡ layer → AreSilent (living n)
@@ -310,35 +351,48 @@ module _ (plan : Plan) (m : Moment) (marks : List Mark) (remembers : Memories) (
       pub same : told_outcomes names d ts rs ≡ told_each d told_so
       pub held : AreHeldIn names rs
 
+    abbrev asked : ℕ → List Task
+    asked n = asked_tasks plan m marks s layer n
+
     tells_stream : (n : ℕ) (x : Stream) → slice_get plan.spec.streams n ≡ Some x → (d : Content) (rs : List Outcome) (b e : Bool) → runs_in plan m marks layer n x ≡ b → e ≡ b
-        → AreResults plan m remembers s (if b then tasks_from n 0 (length (instances_seen s n)) else []) rs
-        → TellsSame d (if b then tasks_from n 0 (length (instances_seen s n)) else []) rs (if e then told_from n 0 (living n) else [])
-    tells_stream n x at d [] false false r q h = record { same = refl; held = tt }
-    tells_stream n x at d (o ∷ rs) false false r q h = absurd h
-    tells_stream n x at d rs false true r q h = absurd (cc)
-    tells_stream n x at d rs true false r q h = absurd (cc)
-    tells_stream n x at d rs true true r q h =
+        → (runs_in plan m marks layer n x ≡ true → IsQuiet d n 0)
+        → AreResults plan m remembers s (if b then asked n else []) rs
+        → TellsSame d (if b then asked n else []) rs (if e then told_from n 0 (living n) else [])
+    tells_stream n x at d [] false false r q quiet h = record { same = refl; held = tt }
+    tells_stream n x at d (o ∷ rs) false false r q quiet h = absurd h
+    tells_stream n x at d rs false true r q quiet h = absurd (cc)
+    tells_stream n x at d rs true false r q quiet h = absurd (cc)
+    tells_stream n x at d rs true true r q quiet h =
         let each = read_stream n x at r rs h in
         record {
-          same = ap (λ k. told_outcomes names d (tasks_from n 0 k) rs) (as_many_living n x at (reads n x at r).here) ∙ told_stream names n 0 rs (living n) d each;
-          held = held_of_stream names rs (living n) each;
+          same = told_stream names n (length (instances_seen s n)) (asked n) rs (living n) d (asked_of_stream (eval_pacing (slice_get plan.pacings n)) m s n) (quiet r) each;
+          held = held_of_stream names (asked n) rs (living n) each;
         }
 
-    tells_streams : (n : ℕ) (xs : List Stream) → ((i : ℕ) → slice_get plan.spec.streams (n + i) ≡ slice_get xs i) → (d : Content) (rs : List Outcome)
+    -- the streams from number n on that run in the layer have no outcomes yet
+    abbrev AreQuiet : ℕ → Content → Type 0
+    AreQuiet n d = (k : ℕ) (x : Stream) → n ≤ k → slice_get plan.spec.streams k ≡ Some x → runs_in plan m marks layer k x ≡ true → IsQuiet d k 0
+
+    tells_streams : (n : ℕ) (xs : List Stream) → ((i : ℕ) → slice_get plan.spec.streams (n + i) ≡ slice_get xs i) → (d : Content) (rs : List Outcome) → AreQuiet n d
         → AreResults plan m remembers s (layer_tasks plan m marks s layer n xs) rs
         → TellsSame d (layer_tasks plan m marks s layer n xs) rs (told_in_layer plan m.start step full layer n xs)
-    tells_streams n [] at d [] h = record { same = refl; held = tt }
-    tells_streams n [] at d (r ∷ rs) h = absurd h
-    tells_streams n (x ∷ xs) at d rs h =
+    tells_streams n [] at d [] quiet h = record { same = refl; held = tt }
+    tells_streams n [] at d (r ∷ rs) quiet h = absurd h
+    tells_streams n (x ∷ xs) at d rs quiet h =
         let ts = stream_tasks plan m marks s layer n x in
         let us = layer_tasks plan m marks s layer (n + 1) xs in
         let size = length ts in
         let here : slice_get plan.spec.streams n ≡ Some x = ap (λ k. slice_get plan.spec.streams k) (sym (add-zero n)) ∙ at 0 in
-        let told_here = if is_run_in plan m.start step full layer n x then told_from n 0 (living n) else [] in
+        let run_here = is_run_in plan m.start step full layer n x in
+        let told_here = if run_here then told_from n 0 (living n) else [] in
         let parts = split_results plan m remembers s ts us rs h in
         let one : TellsSame d ts (take size rs) told_here =
-        tells_stream n x here d (take size rs) (runs_in plan m marks layer n x) (is_run_in plan m.start step full layer n x) refl (sym (same_runs n x here)) parts.0 in
-        let rest = tells_streams (n + 1) xs (λ i. ap (λ k. slice_get plan.spec.streams k) (same_place n i) ∙ at (suc i)) (told_outcomes names d ts (take size rs)) (drop size rs) parts.1 in
+        tells_stream n x here d (take size rs) (runs_in plan m marks layer n x) run_here refl (sym (same_runs n x here)) (quiet n x (omega arith) here) parts.0 in
+        let later : AreQuiet (n + 1) (told_outcomes names d ts (take size rs)) =
+        λ k y le there runs. quiet_same d (told_outcomes names d ts (take size rs)) k 0
+            (ap (λ (c : Content). slice_get c.streams k) one.same ∙ told_else run_here n k (living n) d (λ e. omega (arith, le, e)))
+            (quiet k y (omega (arith, le)) there runs) in
+        let rest = tells_streams (n + 1) xs (λ i. ap (λ k. slice_get plan.spec.streams k) (same_place n i) ∙ at (suc i)) (told_outcomes names d ts (take size rs)) (drop size rs) later parts.1 in
         record {
           same =
               outcomes_in_parts names d ts us rs (omega (arith, count_results plan m remembers s (ts ++ us) rs h, length-append ts us))
@@ -353,7 +407,8 @@ module _ (plan : Plan) (m : Moment) (marks : List Mark) (remembers : Memories) (
 
     module _ (fresh : List Outcome) (results : AreResults plan m remembers s (layer_tasks plan m marks s layer 0 plan.spec.streams) fresh) where
       tells_all : TellsSame content_now (layer_tasks plan m marks s layer 0 plan.spec.streams) fresh (told_in_layer plan m.start step full layer 0 plan.spec.streams)
-      tells_all = tells_streams 0 plan.spec.streams (λ i. ap (λ k. slice_get plan.spec.streams k) (zero-add i)) content_now fresh results
+      tells_all = 
+          tells_streams 0 plan.spec.streams (λ i. ap (λ k. slice_get plan.spec.streams k) (zero-add i)) content_now fresh (λ k x le there runs. quiet_stream k x there runs) results
 
       -- the naming has their texts, and the content is that of the next stage
       pub held_all : AreHeldIn names fresh
@@ -364,25 +419,37 @@ module _ (plan : Plan) (m : Moment) (marks : List Mark) (remembers : Memories) (
 
       -- the spans show them
 
-      module _ (first : List Outcome) (spans : List Span) (ready : IsReadyFor plan now s first spans) (shown : ShowResults plan full now names spans first) where
+      module _ (before : List Task) (first : List Outcome) (each : length before ≡ length first) (spans : List Span) (ready : IsReadyFor plan now s before first spans)
+          (shown : ShowResults plan full now names spans before first) where
+        abbrev tasks : List Task
+        tasks = before ++ layer_tasks plan m marks s layer 0 plan.spec.streams
+
         abbrev all : List Outcome
         all = first ++ fresh
 
         abbrev later : List Span
-        later = spans_after plan m marks remembers s layer first fresh spans
+        later = spans_after plan m marks remembers s layer before first fresh spans
+
+        abbrev ShownSo : ℕ → Option Span → Type 0
+        ShownSo n o = ShowLiving names (asked_in tasks o) (in_span all o) (living n)
 
         -- an earlier layer's
         shown_before : (n : ℕ) (x : Stream) (p : Span) → slice_get plan.spec.streams n ≡ Some x → is_input x ≡ false → slice_get spans n ≡ Some p → is_evaluated plan.layers now n x ≡ true
-            → ShowLiving names (in_span all (Some p)) (living n)
+            → ShownSo n (Some p)
         shown_before n x p e i g d =
-            let P : List Outcome → Type 0 = λ os. ShowLiving names os (living n) in
-            let Q : Option Span → Type 0 = λ o. ShowLiving names (in_span first o) (living n) in
-            subst P (sym (same_in_span first fresh p (ready.within n p g).within)) (subst Q g (shown n x e i d))
+            let within = (ready.within n p g).within in
+            let P : List Outcome → Type 0 = λ os. ShowLiving names (asked_in before (Some p)) os (living n) in
+            let Q : Option Span → Type 0 = λ o. ShowLiving names (asked_in before o) (in_span first o) (living n) in
+            let R : List Task → Type 0 = λ ts. ShowLiving names ts (in_span all (Some p)) (living n) in
+            subst R (sym (same_asked_in before (layer_tasks plan m marks s layer 0 plan.spec.streams) p (omega (arith, within, each))))
+            (subst P (sym (same_in_span first fresh p within)) (subst Q g (shown n x e i d)))
 
         -- nothing of a silent one
         shown_silent : (n : ℕ) (x : Stream) (p : Span) → slice_get plan.spec.streams n ≡ Some x → slice_get spans n ≡ Some p → is_evaluated plan.layers now n x ≡ false
-            → AreSilent (living n) → ShowLiving names (in_span all (Some p)) (living n)
-        shown_silent n x p e g d silent = inr (ap (λ k. take k (drop p.from all)) (ready.empty n x p e d g), silent)
+            → AreSilent (living n) → ShownSo n (Some p)
+        shown_silent n x p e g d silent =
+            let P : ℕ → Type 0 = λ k. ShowLiving names (take k (drop p.from tasks)) (take k (drop p.from all)) (living n) in
+            subst P (sym (ready.empty n x p e d g)) silent
 
         evaluated_by : (g : Stage) (x : Stream) (n : ℕ) → is_input x ≡ false → is_evaluated plan.layers g n x ≡ is_behind (layer_of plan.layers (eval_node n)) n g.layer g.evals
         evaluated_by g x n i = ap (λ t. if t then nat_lt n g.inputs else is_behind (layer_of plan.layers (eval_node n)) n g.layer g.evals) i
@@ -390,21 +457,23 @@ module _ (plan : Plan) (m : Moment) (marks : List Mark) (remembers : Memories) (
         shown_at_rest : (n : ℕ) (x : Stream) (p : Span) → slice_get plan.spec.streams n ≡ Some x → is_input x ≡ false → is_evaluated plan.layers next n x ≡ true
             → runs_in plan m marks layer n x ≡ false → slice_get spans n ≡ Some p
             → (b : Bool) → is_evaluated plan.layers now n x ≡ b → (layer_of plan.layers (eval_node n) ≡ layer) ⊎ (layer_of plan.layers (eval_node n) ≡ layer → ⊥)
-            → ShowLiving names (in_span all (Some p)) (living n)
+            → ShownSo n (Some p)
         shown_at_rest n x p e i d r g true b l = shown_before n x p e i g b
         shown_at_rest n x p e i d r g false b (inl l) = shown_silent n x p e g b (silent_stream n x e r i l)
         shown_at_rest n x p e i d r g false b (inr l) =
             absurd (let f : is_evaluated plan.layers now n x ≡ true = evaluated_by now x n i ∙ (same_behind (layer_of plan.layers (eval_node n)) n layer l ∙ (sym (evaluated_by next x n i) ∙ d)) in cc)
 
         shown_by : (n : ℕ) (x : Stream) (p : Span) → slice_get plan.spec.streams n ≡ Some x → is_input x ≡ false → is_evaluated plan.layers next n x ≡ true
-            → SpanOf plan m remembers s marks layer n x (slice_get spans n) p all → ShowLiving names (in_span all (Some p)) (living n)
-        shown_by n x p e i d (inl h) = inl (read_stream n x e h.runs (in_span all (Some p)) h.results_are)
+            → SpanOf plan m remembers s marks layer n x (slice_get spans n) p tasks all → ShownSo n (Some p)
+        shown_by n x p e i d (inl h) =
+            let P : List Task → Type 0 = λ ts. ShowLiving names ts (in_span all (Some p)) (living n) in
+            subst P (sym h.asked_are) (read_stream n x e h.runs (in_span all (Some p)) h.results_are)
         shown_by n x p e i d (inr h) = shown_at_rest n x p e i d h.rests h.same (is_evaluated plan.layers now n x) refl (cases_eq (layer_of plan.layers (eval_node n)) layer)
 
-        pub shows_more : ShowResults plan full next names later all
+        pub shows_more : ShowResults plan full next names later tasks all
         shows_more n x e i d =
-            let within : n < length later = omega (arith, slice_get_within plan.spec.streams n x e, as_many_spans plan m marks remembers s layer first fresh spans results ready) in
+            let within : n < length later = omega (arith, slice_get_within plan.spec.streams n x e, as_many_spans plan m marks remembers s layer before first fresh spans each results ready) in
             let p = get_or later n (record { from = 0; count = 0 }) in
             let there : slice_get later n ≡ Some p = slice_get-get_or later n (record { from = 0; count = 0 }) within in
-            let P : Option Span → Type 0 = λ o. ShowLiving names (in_span all o) (living n) in
-            subst P (sym there) (shown_by n x p e i d (span_of plan m marks remembers s layer first fresh spans results n x p e there))
+            let P : Option Span → Type 0 = λ o. ShownSo n o in
+            subst P (sym there) (shown_by n x p e i d (span_of plan m marks remembers s layer before first fresh spans each results n x p e there))

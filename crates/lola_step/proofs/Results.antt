@@ -1,6 +1,6 @@
 -- What the outcomes of a layer's tasks are.
-use Rattle.std.proofs.Common.{◌≡◌, refl, ap, ◌∙◌, sym, subst, ℕ, zero, suc, ◌+◌, ◌<◌, ◌≤◌, ◌⊎◌, inl, inr, List, [], ◌∷◌, ◌++◌, Bool, true, false, if◌then◌else◌, Option, Some, IsSomeAnd, IsTrue, length, slice_get, take, drop, arith, append_assoc, length-append}
-use Rattle.std.proofs.lemmas.List.{drop_at, take-append-drop, take_at}
+use Rattle.std.proofs.Common.{◌≡◌, refl, ap, ◌∙◌, sym, subst, ℕ, zero, suc, ◌+◌, ◌-◌, ◌<◌, ◌≤◌, ◌⊎◌, inl, inr, List, [], ◌∷◌, ◌++◌, Bool, true, false, if◌then◌else◌, Option, Some, IsSomeAnd, IsTrue, length, slice_get, take, drop, arith, append_assoc, length-append}
+use Rattle.std.proofs.lemmas.List.{drop_at, take-append-drop, take_at, take_rest}
 use Rattle.std.proofs.lemmas.Option.{same_Some}
 use Rattle.lola_value.specs.Kinds.{is_outcome_of}
 use Rattle.lola_value.specs.declared.value.Outcome.{Outcome}
@@ -136,3 +136,7 @@ pub answered_is : (from : ℕ) (first places gathered answered : List Outcome) �
 answered_is from first places gathered answered e f h =
     sym (take-append-drop from answered)
     ∙ ap (λ rs. rs ++ drop from answered) (h ∙ (ap (take from) f ∙ take_at first places from (sym e)))
+
+-- what stands behind those of the layers before
+pub behind_is : {A : Type 0} (xs front more : List A) (from : ℕ) → xs ≡ front ++ more → from ≡ length front → take (length xs - from) (drop from xs) ≡ more
+behind_is xs front more from e f = take_rest xs from ∙ (ap (drop from) e ∙ drop_at front more from (sym f))
