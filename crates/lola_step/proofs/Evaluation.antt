@@ -11,7 +11,7 @@ use Rattle.lola_model.specs.Acceptance.{IsAccepted}
 use Rattle.lola_model.specs.Content.{content}
 use Rattle.lola_model.specs.Graph.{eval_node, layer_of, spawn_node}
 use Rattle.lola_model.specs.Model.{is_input, spawned_in}
-use Rattle.lola_model.specs.Store.{Memories, Seen, Stands, kind_in, start_seen, time_seen}
+use Rattle.lola_model.specs.Store.{Memories, Seen, Stands, instances_seen, kind_in, start_seen, time_seen}
 use Rattle.lola_model.specs.Table.{Step, StreamRow, TableRow}
 use Rattle.lola_model.specs.declared.plan.Plan.{Plan}
 use Rattle.lola_model.specs.declared.spec.Stream.{Stream}
@@ -19,7 +19,7 @@ use Rattle.lola_stages.specs.Stages.{Stage, eval_stage, full_row, is_behind, is_
 use Rattle.lola_stages.proofs.Behind.{layer_behind}
 use Rattle.lola_stages.proofs.Complete.{completes}
 use Rattle.lola_step.specs.Evals.{EvalsTake, HasRooms, IsReadyFor, ShowsMore}
-use Rattle.lola_step.specs.Notes.{AreMarks, AreNoted, AreOutcomesOf, IsSpan, ShowResults, done_of, in_span, mark_of}
+use Rattle.lola_step.specs.Notes.{AreMarks, AreNoted, AreOutcomesOf, IsSpan, ShowResults, asked_in, done_of, in_span, mark_of}
 use Rattle.lola_step.specs.Progress.{GoesOn, IsAt, IsMomentOf, IsRunAt, TakesTo}
 use Rattle.lola_step.specs.Rooms.{rooms, to_come, total}
 use Rattle.lola_step.specs.Scratches.{no_span}
@@ -28,6 +28,7 @@ use Rattle.lola_step.specs.declared.mark.Mark.TheVariants as mark
 use Rattle.lola_step.specs.declared.moment.Moment.{Moment}
 use Rattle.lola_step.specs.declared.scratch.Span.{Span}
 use Rattle.lola_step.specs.declared.tasks.Task.{Task}
+use Rattle.lola_step.proofs.Listed.{of_stream_up}
 
 -- a step goes on
 
@@ -80,9 +81,9 @@ as_node : (layers : List ℕ) (g : Stage) (n : ℕ) (s : Stream) → is_input s 
 as_node layers g n s e = ap (λ b. if b then nat_lt n g.inputs else is_behind (layer_of layers (eval_node n)) n g.layer g.evals) e
 
 -- nothing is evaluated
-first_results : (plan : Plan) (full : List StreamRow) (names : Naming) (spans : List Span) (results : List Outcome)
-    → ShowResults plan full (layer_stage (length plan.spec.streams) 0) names spans results
-first_results plan full names spans results n s at no_input done =
+first_results : (plan : Plan) (full : List StreamRow) (names : Naming) (spans : List Span) (tasks : List Task) (results : List Outcome)
+    → ShowResults plan full (layer_stage (length plan.spec.streams) 0) names spans tasks results
+first_results plan full names spans tasks results n s at no_input done =
     let e : is_evaluated plan.layers (layer_stage (length plan.spec.streams) 0) n s ≡ false =
     as_node plan.layers (layer_stage (length plan.spec.streams) 0) n s no_input ∙ none_behind (layer_of plan.layers (eval_node n)) n in
     absurd (cc)
@@ -94,15 +95,15 @@ first_span spans n p e at =
     sym (get_or_from_slice_get spans n p no_span at)
     ∙ (ap (λ ps. get_or ps n no_span) e ∙ get_or-replicate (length spans) n no_span no_span within)
 
-empty_span : (s : Seen) (results : List Outcome) (n : ℕ) → IsSpan s results n no_span
-empty_span s results n = record { within = omega arith; few = omega arith; kinds = tt }
+empty_span : (s : Seen) (tasks : List Task) (results : List Outcome) (n : ℕ) → IsSpan s tasks results n no_span
+empty_span s tasks results n = record { within = omega arith; few = omega arith; asked = tt; kinds = tt }
 
 -- all spans are ready
-first_spans : (plan : Plan) (s : Seen) (results : List Outcome) (spans : List Span) → length spans ≡ length plan.spec.streams → spans ≡ replicate (length spans) no_span
-    → IsReadyFor plan (layer_stage (length plan.spec.streams) 0) s results spans
-first_spans plan s results spans e f = record {
+first_spans : (plan : Plan) (s : Seen) (tasks : List Task) (results : List Outcome) (spans : List Span) → length spans ≡ length plan.spec.streams → spans ≡ replicate (length spans) no_span
+    → IsReadyFor plan (layer_stage (length plan.spec.streams) 0) s tasks results spans
+first_spans plan s tasks results spans e f = record {
   each = e;
-  within = λ n p at. subst (λ q. IsSpan s results n q) (sym (first_span spans n p f at)) (empty_span s results n);
+  within = λ n p at. subst (λ q. IsSpan s tasks results n q) (sym (first_span spans n p f at)) (empty_span s tasks results n);
   empty = λ n x p of not at. ap (λ (q : Span). q.count) (first_span spans n p f at);
   inputs = λ n x p of is at. ap (λ (q : Span). q.count) (first_span spans n p f at);
 }
@@ -118,48 +119,54 @@ to_come_le layers g n (s ∷ ss) [] = omega arith
 to_come_le layers g n (s ∷ ss) (k ∷ ks) = omega (arith, to_come_le layers g (n + 1) ss ks, if_le (is_input s || is_evaluated layers g n s) k)
 
 -- there is room
-first_rooms : (plan : Plan) (s : Seen) (tasks : Vec Task) (results : Vec Outcome) → results.items ≡ [] → total (rooms s) ≤ vec_capacity tasks → total (rooms s) ≤ vec_capacity results
-    → HasRooms plan (layer_stage (length plan.spec.streams) 0) s tasks results
-first_rooms plan s tasks results none a b = record {
-  tasks_room = a;
-  results_room =
-      let e : vec_len results ≡ 0 = results.ok.0 ∙ ap length none in
-      omega (arith, to_come_le plan.layers (layer_stage (length plan.spec.streams) 0) 0 plan.spec.streams (rooms s));
-}
+first_rooms : (plan : Plan) (s : Seen) (places : Vec ℕ) (tasks : Vec Task) (results : Vec Outcome) → tasks.items ≡ [] → results.items ≡ []
+    → total (rooms s) ≤ vec_capacity places → total (rooms s) ≤ vec_capacity tasks → total (rooms s) ≤ vec_capacity results
+    → HasRooms plan (layer_stage (length plan.spec.streams) 0) s places tasks results
+first_rooms plan s places tasks results idle none p a b =
+    let d : vec_len tasks ≡ 0 = tasks.ok.0 ∙ ap length idle in
+    let e : vec_len results ≡ 0 = results.ok.0 ∙ ap length none in
+    let few = to_come_le plan.layers (layer_stage (length plan.spec.streams) 0) 0 plan.spec.streams (rooms s) in
+    record {
+      each = ap length idle ∙ sym (ap length none);
+      places_room = p;
+      tasks_room = omega (arith, a, d, few);
+      results_room = omega (arith, b, e, few);
+    }
 
 -- before a layer
 
 -- what a run comes to: where the store stands, what spawn clauses did, and the outcomes so far
-pub record IsRunSoFar (plan : Plan) (m : Moment) (layer : ℕ) (remembers : Memories) (s : Seen) (marks : List Mark) (spans : List Span) (results : List Outcome) (names : Naming) (rows : List TableRow) (step : Step) : Type 0 where
+pub record IsRunSoFar (plan : Plan) (m : Moment) (layer : ℕ) (remembers : Memories) (s : Seen) (marks : List Mark) (spans : List Span) (tasks : List Task) (results : List Outcome) (names : Naming) (rows : List TableRow) (step : Step) : Type 0 where
   pub run : IsRunAt plan m (layer_stage (length plan.spec.streams) layer) remembers s names rows step
   pub marks_are : AreMarks plan (full_row plan m.start rows step).streams (layer_stage (length plan.spec.streams) layer) marks
-  pub results_show : ShowResults plan (full_row plan m.start rows step).streams (layer_stage (length plan.spec.streams) layer) names spans results
+  pub results_show : ShowResults plan (full_row plan m.start rows step).streams (layer_stage (length plan.spec.streams) layer) names spans tasks results
 
 -- the layers below are evaluated, in each run that stood before the first layer
-pub record IsSoFar (plan : Plan) (m : Moment) (layer : ℕ) (remembers : Memories) (s : Seen) (remembers' : Memories) (s' : Seen) (marks : List Mark) (spans : List Span) (tasks : Vec Task) (results : Vec Outcome) : Type 0 where
+pub record IsSoFar (plan : Plan) (m : Moment) (layer : ℕ) (remembers : Memories) (s : Seen) (remembers' : Memories) (s' : Seen) (marks : List Mark) (spans : List Span) (places : Vec ℕ) (tasks : Vec Task) (results : Vec Outcome) : Type 0 where
   pub at : IsAt plan (layer_stage (length plan.spec.streams) layer) s'
   pub goes_on : GoesOn s s'
-  pub has_rooms : HasRooms plan (layer_stage (length plan.spec.streams) layer) s' tasks results
-  pub ready : IsReadyFor plan (layer_stage (length plan.spec.streams) layer) s' results.items spans
+  pub has_rooms : HasRooms plan (layer_stage (length plan.spec.streams) layer) s' places tasks results
+  pub ready : IsReadyFor plan (layer_stage (length plan.spec.streams) layer) s' tasks.items results.items spans
   pub runs : (names : Naming) (rows : List TableRow) (step : Step) → IsRunAt plan m (layer_stage (length plan.spec.streams) 0) remembers s names rows step
-      → IsRunSoFar plan m layer remembers' s' marks spans results.items names rows step
+      → IsRunSoFar plan m layer remembers' s' marks spans tasks.items results.items names rows step
 
 -- before the first
-pub first_layer : (plan : Plan) (m : Moment) (remembers : Memories) (s : Seen) (marks : List Mark) (spans : List Span) (tasks : Vec Task) (results : Vec Outcome)
+pub first_layer : (plan : Plan) (m : Moment) (remembers : Memories) (s : Seen) (marks : List Mark) (spans : List Span) (places : Vec ℕ) (tasks : Vec Task) (results : Vec Outcome)
     → IsAt plan (layer_stage (length plan.spec.streams) 0) s
     → length marks ≡ length plan.spec.streams → marks ≡ replicate (length marks) mark.Fine
     → length spans ≡ length plan.spec.streams → spans ≡ replicate (length spans) no_span
-    → results.items ≡ [] → total (rooms s) ≤ vec_capacity tasks → total (rooms s) ≤ vec_capacity results
-    → IsSoFar plan m 0 remembers s remembers s marks spans tasks results
-first_layer plan m remembers s marks spans tasks results at ms fine ss empty none a b = record {
+    → tasks.items ≡ [] → results.items ≡ []
+    → total (rooms s) ≤ vec_capacity places → total (rooms s) ≤ vec_capacity tasks → total (rooms s) ≤ vec_capacity results
+    → IsSoFar plan m 0 remembers s remembers s marks spans places tasks results
+first_layer plan m remembers s marks spans places tasks results at ms fine ss empty idle none p a b = record {
   at = at;
   goes_on = stays s;
-  has_rooms = first_rooms plan s tasks results none a b;
-  ready = first_spans plan s results.items spans ss empty;
+  has_rooms = first_rooms plan s places tasks results idle none p a b;
+  ready = first_spans plan s tasks.items results.items spans ss empty;
   runs = λ names rows step run. record {
     run = run;
     marks_are = first_marks plan (full_row plan m.start rows step).streams marks ms fine;
-    results_show = first_results plan (full_row plan m.start rows step).streams names spans results.items;
+    results_show = first_results plan (full_row plan m.start rows step).streams names spans tasks.items results.items;
   };
 }
 
@@ -173,25 +180,29 @@ same_to_come layers count layer n (s ∷ ss) (k ∷ ks) =
     ap (λ x. (if is_input s || is_evaluated layers (eval_stage count layer) n s then 0 else k) + x) (same_to_come layers count layer (n + 1) ss ks)
 
 -- there is as much room
-pub rooms_then : (plan : Plan) (layer : ℕ) (s t : Seen) (tasks : Vec Task) (results : Vec Outcome) → GoesOn s t
-    → HasRooms plan (layer_stage (length plan.spec.streams) layer) s tasks results → HasRooms plan (eval_stage (length plan.spec.streams) layer) t tasks results
-rooms_then plan layer s t tasks results g h = record {
-  tasks_room = subst (λ ks. total ks ≤ vec_capacity tasks) (sym g.rooms) h.tasks_room;
-  results_room =
-      subst (λ ks. vec_len results + to_come plan.layers (eval_stage (length plan.spec.streams) layer) 0 plan.spec.streams ks ≤ vec_capacity results) (sym g.rooms)
-      (subst (λ k. vec_len results + k ≤ vec_capacity results) (same_to_come plan.layers (length plan.spec.streams) layer 0 plan.spec.streams (rooms s)) h.results_room);
-}
+pub rooms_then : (plan : Plan) (layer : ℕ) (s t : Seen) (places : Vec ℕ) (tasks : Vec Task) (results : Vec Outcome) → GoesOn s t
+    → HasRooms plan (layer_stage (length plan.spec.streams) layer) s places tasks results → HasRooms plan (eval_stage (length plan.spec.streams) layer) t places tasks results
+rooms_then plan layer s t places tasks results g h =
+    let still : to_come plan.layers (eval_stage (length plan.spec.streams) layer) 0 plan.spec.streams (rooms t) ≡ to_come plan.layers (layer_stage (length plan.spec.streams) layer) 0 plan.spec.streams (rooms s) =
+    ap (to_come plan.layers (eval_stage (length plan.spec.streams) layer) 0 plan.spec.streams) g.rooms ∙ sym (same_to_come plan.layers (length plan.spec.streams) layer 0 plan.spec.streams (rooms s)) in
+    record {
+      each = h.each;
+      places_room = subst (λ ks. total ks ≤ vec_capacity places) (sym g.rooms) h.places_room;
+      tasks_room = subst (λ k. vec_len tasks + k ≤ vec_capacity tasks) (sym still) h.tasks_room;
+      results_room = subst (λ k. vec_len results + k ≤ vec_capacity results) (sym still) h.results_room;
+    }
 
 -- and the spans are ready
-pub spans_then : (plan : Plan) (layer : ℕ) (s t : Seen) (results : List Outcome) (spans : List Span) → GoesOn s t
-    → IsReadyFor plan (layer_stage (length plan.spec.streams) layer) s results spans → IsReadyFor plan (eval_stage (length plan.spec.streams) layer) t results spans
-spans_then plan layer s t results spans g h = record {
+pub spans_then : (plan : Plan) (layer : ℕ) (s t : Seen) (tasks : List Task) (results : List Outcome) (spans : List Span) → GoesOn s t
+    → IsReadyFor plan (layer_stage (length plan.spec.streams) layer) s tasks results spans → IsReadyFor plan (eval_stage (length plan.spec.streams) layer) t tasks results spans
+spans_then plan layer s t tasks results spans g h = record {
   each = h.each;
   within = λ n p at.
-      let i : IsSpan s results n p = h.within n p at in
+      let i : IsSpan s tasks results n p = h.within n p at in
       record {
         within = i.within;
         few = omega (arith, i.few, g.stay n);
+        asked = of_stream_up n 0 (length (instances_seen s n)) (length (instances_seen t n)) (asked_in tasks (Some p)) (g.stay n) i.asked;
         kinds = subst (λ l. AreOutcomesOf (kind_in (slice_get l.streams n)) (in_span results (Some p))) (sym g.layout) i.kinds;
       };
   empty = h.empty;
@@ -217,22 +228,23 @@ MarksThen plan m layer remembers s marks marks' =
 
 -- and so layer by layer
 module _ (plan : Plan) (m : Moment) (layer : ℕ) (remembers : Memories) (s : Seen) (r1 : Memories) (s1 : Seen) (r2 : Memories) (s2 : Seen) (r3 : Memories) (s3 : Seen) where
-  pub next_layer : (marks marks' : List Mark) (spans spans' : List Span) (tasks tasks' : Vec Task) (results results' : Vec Outcome)
-      → IsSoFar plan m layer remembers s r1 s1 marks spans tasks results
+  pub next_layer : (marks marks' : List Mark) (spans spans' : List Span) (places places' : Vec ℕ) (tasks tasks' : Vec Task) (results results' : Vec Outcome)
+      → IsSoFar plan m layer remembers s r1 s1 marks spans places tasks results
       → GoesOn s1 s2 → TakesTo plan m (layer_stage (length plan.spec.streams) layer) (eval_stage (length plan.spec.streams) layer) r1 s1 r2 s2
       → MarksThen plan m layer r1 s1 marks marks'
       → IsAt plan (layer_stage (length plan.spec.streams) (layer + 1)) s3 → GoesOn s2 s3
-      → HasRooms plan (layer_stage (length plan.spec.streams) (layer + 1)) s3 tasks' results'
-      → IsReadyFor plan (layer_stage (length plan.spec.streams) (layer + 1)) s3 results'.items spans'
-      → EvalsTake plan m layer marks' r2 s2 r3 s3 → ShowsMore plan m layer marks' r2 s2 spans results.items spans' results'.items
-      → IsSoFar plan m (layer + 1) remembers s r3 s3 marks' spans' tasks' results'
-  next_layer marks marks' spans spans' tasks tasks' results results' h on takes marked at on' has_rooms ready evals shows = record {
+      → HasRooms plan (layer_stage (length plan.spec.streams) (layer + 1)) s3 places' tasks' results'
+      → IsReadyFor plan (layer_stage (length plan.spec.streams) (layer + 1)) s3 tasks'.items results'.items spans'
+      → EvalsTake plan m layer marks' r2 s2 r3 s3
+      → ShowsMore plan m layer marks' r2 s2 spans tasks.items results.items spans' tasks'.items results'.items
+      → IsSoFar plan m (layer + 1) remembers s r3 s3 marks' spans' places' tasks' results'
+  next_layer marks marks' spans spans' places places' tasks tasks' results results' h on takes marked at on' has_rooms ready evals shows = record {
     at = at;
     goes_on = goes_on_again s s2 s3 (goes_on_again s s1 s2 h.goes_on on) on';
     has_rooms = has_rooms;
     ready = ready;
     runs = λ names rows step run.
-        let so_far : IsRunSoFar plan m layer r1 s1 marks spans results.items names rows step = h.runs names rows step run in
+        let so_far : IsRunSoFar plan m layer r1 s1 marks spans tasks.items results.items names rows step = h.runs names rows step run in
         let full : List StreamRow = (full_row plan m.start rows step).streams in
         let there : IsRunAt plan m (eval_stage (length plan.spec.streams) layer) r2 s2 names rows step = takes names rows step so_far.run in
         let ms : AreMarks plan full (eval_stage (length plan.spec.streams) layer) marks' = marked names rows step so_far.run so_far.marks_are in
@@ -249,14 +261,14 @@ all_behind : (l n layers : ℕ) → l < layers → is_behind l n layers 0 ≡ tr
 all_behind l n layers lt = rw (lt-ltb l layers lt) refl
 
 -- all is noted, and the store stands for the whole row
-pub all_layers : (plan : Plan) (m : Moment) (layers : ℕ) (remembers : Memories) (s : Seen) (remembers' : Memories) (s' : Seen) (marks : List Mark) (spans : List Span) (tasks : Vec Task) (results : Vec Outcome)
+pub all_layers : (plan : Plan) (m : Moment) (layers : ℕ) (remembers : Memories) (s : Seen) (remembers' : Memories) (s' : Seen) (marks : List Mark) (spans : List Span) (places : Vec ℕ) (tasks : Vec Task) (results : Vec Outcome)
     → IsAccepted plan → ((node : ℕ) → layer_of plan.layers node < layers)
-    → IsSoFar plan m layers remembers s remembers' s' marks spans tasks results
+    → IsSoFar plan m layers remembers s remembers' s' marks spans places tasks results
     → (names : Naming) (rows : List TableRow) (step : Step) → IsRunAt plan m (layer_stage (length plan.spec.streams) 0) remembers s names rows step
-    → AreNoted plan (full_row plan m.start rows step).streams names marks spans results.items
+    → AreNoted plan (full_row plan m.start rows step).streams names marks spans tasks.items results.items
     × Stands names remembers' s' (content m.start rows (full_row plan m.start rows step))
-all_layers plan m layers remembers s remembers' s' marks spans tasks results accepted low h names rows step run =
-    let so_far : IsRunSoFar plan m layers remembers' s' marks spans results.items names rows step = h.runs names rows step run in
+all_layers plan m layers remembers s remembers' s' marks spans places tasks results accepted low h names rows step run =
+    let so_far : IsRunSoFar plan m layers remembers' s' marks spans tasks.items results.items names rows step = h.runs names rows step run in
     let full : List StreamRow = (full_row plan m.start rows step).streams in (
       record {
         marks_are = λ n lt.

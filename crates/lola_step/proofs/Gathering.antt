@@ -160,18 +160,6 @@ module _ (plan : Plan) (m : Moment) (marks : List Mark) (s : Seen) (layer : ℕ)
   length_spans n (x ∷ xs) [] from = refl
   length_spans n (x ∷ xs) (p ∷ ps) from = ap suc (length_spans (n + 1) xs ps (from + length (stream_tasks plan m marks s layer n x)))
 
-  pub few_to_come : (g : Stage) (n : ℕ) (xs : List Stream) (ks : List ℕ) → to_come plan.layers g n xs ks ≤ total ks
-  few_to_come g n [] ks = omega arith
-  few_to_come g n (x ∷ xs) [] = omega arith
-  few_to_come g n (x ∷ xs) (k ∷ ks) =
-      let a = few_to_come g (n + 1) xs ks in
-      let b = at_most (is_input x || is_evaluated plan.layers g n x) k in
-      omega (arith, a, b)
-    where
-      at_most : (b : Bool) (j : ℕ) → (if b then 0 else j) ≤ j
-      at_most true j = omega arith
-      at_most false j = omega arith
-
   -- the rooms of a store are such
   rooms_by : (n : ℕ) (xs : List Stream) (ys : List SeenStream) → length ys ≡ length xs → ((i : ℕ) → slice_get s.streams (n + i) ≡ slice_get ys i) → HasRoom n xs (map room_of ys)
   rooms_by n [] ys e h = tt

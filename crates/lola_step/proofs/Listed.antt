@@ -62,6 +62,11 @@ pub of_stream_from : (n i top : ℕ) (ts : List Task) → AreOfStream n (i + 1) 
 of_stream_from n i top [] h = tt
 of_stream_from n i top (t ∷ ts) h = (h.0, omega (arith, h.1), h.2, h.3)
 
+-- and so they are where there are more instances
+pub of_stream_up : (n i k top : ℕ) (ts : List Task) → k ≤ top → AreOfStream n i k ts → AreOfStream n i top ts
+of_stream_up n i k top [] le h = tt
+of_stream_up n i k top (t ∷ ts) le h = (h.0, h.1, omega (arith, le, h.2), of_stream_up n (t.index + 1) k top ts le h.3)
+
 -- their tasks are of instances of the stream, in order
 pub of_stream_where : (asks : ℕ → Bool) (n i k top : ℕ) → i + k ≤ top → AreOfStream n i top (tasks_at n (places_where asks i k))
 of_stream_where asks n i zero top h = tt

@@ -11,13 +11,14 @@ pub loop-layer-init : goal.loop-layer-init
 loop-layer-init g c = record {
   so_far =
       first_layer c.args.plan.now c.args.moment.now (g.S.StreamStore.remembers c.args.store.now) (g.S.StreamStore.seen c.args.store.now)
-      c.args.scratch.now.marks.items c.args.scratch.now.spans.items c.args.scratch.now.tasks c.args.scratch.now.results
+      c.args.scratch.now.marks.items c.args.scratch.now.spans.items c.args.scratch.now.places c.args.scratch.now.tasks c.args.scratch.now.results
       c.requires.at c.requires.made.marks c.requires.fresh.marks c.requires.made.spans c.requires.fresh.spans
-      c.requires.fresh.results c.requires.fresh.tasks_room c.requires.fresh.results_room;
+      c.requires.fresh.tasks c.requires.fresh.results c.requires.fresh.places_room c.requires.fresh.tasks_room c.requires.fresh.results_room;
   marks = refl;
   layers = refl;
   closing = refl;
   verdicts = refl;
+  places_room = refl;
   tasks_room = refl;
   results_room = refl;
 }
@@ -25,10 +26,10 @@ loop-layer-init g c = record {
 pub eval_layer-requires-clause-spans : goal.eval_layer-requires-clause-spans
 eval_layer-requires-clause-spans g c κs within =
     subst
-    (λ ps. IsReadyFor c.args.plan.now (eval_stage (length c.args.plan.now.spec.streams) c.loop-layer.layer) (g.S.StreamStore.seen c.spawn_layer.new.store) c.loop-layer.scratch.results.items ps)
+    (λ ps. IsReadyFor c.args.plan.now (eval_stage (length c.args.plan.now.spec.streams) c.loop-layer.layer) (g.S.StreamStore.seen c.spawn_layer.new.store) c.loop-layer.scratch.tasks.items c.loop-layer.scratch.results.items ps)
     (sym c.deref_mut-in-loop-layer.ensures.value)
     (spans_then c.args.plan.now c.loop-layer.layer (g.S.StreamStore.seen c.loop-layer.store) (g.S.StreamStore.seen c.spawn_layer.new.store)
-    c.loop-layer.scratch.results.items c.loop-layer.scratch.spans.items c.spawn_layer.ensures.goes_on c.loop-layer.invariant.so_far.ready)
+    c.loop-layer.scratch.tasks.items c.loop-layer.scratch.results.items c.loop-layer.scratch.spans.items c.spawn_layer.ensures.goes_on c.loop-layer.invariant.so_far.ready)
 
 pub loop-layer-preserved : goal.loop-layer-preserved
 loop-layer-preserved g c =
@@ -45,28 +46,29 @@ loop-layer-preserved g c =
     take_at c.eval_layer.new.spans (drop (length c.eval_layer.new.spans) now.spans.items) now.spans.len length_spans in
     let lent : c.deref.result.now ≡ c.spawn_layer.new.marks = c.deref.ensures.value ∙ marks_back in
     let at : List Mark → List Span → Type 0 =
-    λ ms ps. IsSoFar plan m (c.loop-layer.layer + 1) (remembers c.args.store.now) (seen c.args.store.now) (remembers c.eval_layer.new.store) (seen c.eval_layer.new.store) ms ps c.eval_layer.new.tasks c.eval_layer.new.results in
+    λ ms ps. IsSoFar plan m (c.loop-layer.layer + 1) (remembers c.args.store.now) (seen c.args.store.now) (remembers c.eval_layer.new.store) (seen c.eval_layer.new.store) ms ps c.eval_layer.new.places c.eval_layer.new.tasks c.eval_layer.new.results in
     let before : List Mark → List Span → Type 0 =
-    λ ms ps. IsSoFar plan m c.loop-layer.layer (remembers c.args.store.now) (seen c.args.store.now) (remembers c.loop-layer.store) (seen c.loop-layer.store) ms ps now.tasks now.results in
+    λ ms ps. IsSoFar plan m c.loop-layer.layer (remembers c.args.store.now) (seen c.args.store.now) (remembers c.loop-layer.store) (seen c.loop-layer.store) ms ps now.places now.tasks now.results in
     record {
       so_far =
           subst (λ ms. at ms (take now.spans.len (c.eval_layer.new.spans ++ drop (length c.eval_layer.new.spans) now.spans.items))) (sym marks_back)
           (subst (λ ps. at c.spawn_layer.new.marks ps) (sym spans_back)
           (next_layer plan m c.loop-layer.layer (remembers c.args.store.now) (seen c.args.store.now)
           (remembers c.loop-layer.store) (seen c.loop-layer.store) (remembers c.spawn_layer.new.store) (seen c.spawn_layer.new.store) (remembers c.eval_layer.new.store) (seen c.eval_layer.new.store)
-          c.deref_mut.result.now c.spawn_layer.new.marks c.deref_mut-in-loop-layer.result.now c.eval_layer.new.spans now.tasks c.eval_layer.new.tasks now.results c.eval_layer.new.results
+          c.deref_mut.result.now c.spawn_layer.new.marks c.deref_mut-in-loop-layer.result.now c.eval_layer.new.spans now.places c.eval_layer.new.places now.tasks c.eval_layer.new.tasks now.results c.eval_layer.new.results
           (subst (λ ms. before ms c.deref_mut-in-loop-layer.result.now) (sym c.deref_mut.ensures.value)
           (subst (λ ps. before now.marks.items ps) (sym c.deref_mut-in-loop-layer.ensures.value) c.loop-layer.invariant.so_far))
           c.spawn_layer.ensures.goes_on c.spawn_layer.ensures.takes c.spawn_layer.ensures.marked
           c.eval_layer.ensures.at c.eval_layer.ensures.goes_on c.eval_layer.ensures.rooms c.eval_layer.ensures.spans
           (subst (λ ms. EvalsTake plan m c.loop-layer.layer ms (remembers c.spawn_layer.new.store) (seen c.spawn_layer.new.store) (remembers c.eval_layer.new.store) (seen c.eval_layer.new.store)) lent c.eval_layer.ensures.takes)
           (subst
-          (λ ms. ShowsMore plan m c.loop-layer.layer ms (remembers c.spawn_layer.new.store) (seen c.spawn_layer.new.store) c.deref_mut-in-loop-layer.result.now now.results.items c.eval_layer.new.spans c.eval_layer.new.results.items)
+          (λ ms. ShowsMore plan m c.loop-layer.layer ms (remembers c.spawn_layer.new.store) (seen c.spawn_layer.new.store) c.deref_mut-in-loop-layer.result.now now.tasks.items now.results.items c.eval_layer.new.spans c.eval_layer.new.tasks.items c.eval_layer.new.results.items)
           lent c.eval_layer.ensures.shows)));
       marks = ap length marks_back ∙ (length_marks ∙ (now.marks.ok.0 ∙ c.loop-layer.invariant.marks));
       layers = c.loop-layer.invariant.layers;
       closing = c.loop-layer.invariant.closing;
       verdicts = c.loop-layer.invariant.verdicts;
+      places_room = c.eval_layer.ensures.places ∙ c.loop-layer.invariant.places_room;
       tasks_room = c.eval_layer.ensures.capacities.0 ∙ c.loop-layer.invariant.tasks_room;
       results_room = c.eval_layer.ensures.capacities.1 ∙ c.loop-layer.invariant.results_room;
     }
@@ -75,5 +77,5 @@ pub returns-clause-evaluates : goal.returns-clause-evaluates
 returns-clause-evaluates g c =
     all_layers c.args.plan.now c.args.moment.now c.loop-layer.layer
     (g.S.StreamStore.remembers c.args.store.now) (g.S.StreamStore.seen c.args.store.now) (g.S.StreamStore.remembers c.loop-layer.store) (g.S.StreamStore.seen c.loop-layer.store)
-    c.loop-layer.scratch.marks.items c.loop-layer.scratch.spans.items c.loop-layer.scratch.tasks c.loop-layer.scratch.results
+    c.loop-layer.scratch.marks.items c.loop-layer.scratch.spans.items c.loop-layer.scratch.places c.loop-layer.scratch.tasks c.loop-layer.scratch.results
     c.requires.accepted (λ node. omega (arith, c.requires.made.layers node, c.loop-layer-test.false)) c.loop-layer.invariant.so_far

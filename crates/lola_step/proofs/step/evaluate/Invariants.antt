@@ -6,11 +6,12 @@ use Rattle.lola_step.proofs.step.evaluate.Given as goal
 abbrev pub invariant-loop-layer : goal.invariant-loop-layer
 invariant-loop-layer g l = record {
   so_far : IsSoFar l.plan l.moment l.layer (g.S.StreamStore.remembers l.initial.store) (g.S.StreamStore.seen l.initial.store) (g.S.StreamStore.remembers l.store) (g.S.StreamStore.seen l.store)
-      l.scratch.marks.items l.scratch.spans.items l.scratch.tasks l.scratch.results;
+      l.scratch.marks.items l.scratch.spans.items l.scratch.places l.scratch.tasks l.scratch.results;
   marks : length l.scratch.marks.items ≡ length l.initial.scratch.marks.items;
   layers : l.scratch.layers ≡ l.layer-end;
   closing : l.scratch.closing ≡ l.initial.scratch.closing;
   verdicts : l.scratch.verdicts ≡ l.initial.scratch.verdicts;
+  places_room : vec_capacity l.scratch.places ≡ vec_capacity l.initial.scratch.places;
   tasks_room : vec_capacity l.scratch.tasks ≡ vec_capacity l.initial.scratch.tasks;
   results_room : vec_capacity l.scratch.results ≡ vec_capacity l.initial.scratch.results;
 }
