@@ -28,7 +28,7 @@ use Rattle.lola_step.specs.declared.mark.Mark.{Mark}
 use Rattle.lola_step.specs.declared.scratch.Span.{Span}
 use Rattle.lola_step.specs.declared.tasks.Task.{Task}
 use Rattle.lola_step.specs.declared.verdict.Verdict.{Verdict}
-use Rattle.lola_step.proofs.Elements.{cut, drop_past}
+use Rattle.lola_step.proofs.Elements.{AreFrom, cut, drop_past, from_first, from_here, from_later}
 use Rattle.lola_step.proofs.Layouts.{parameters_there}
 use Rattle.lola_step.proofs.Standing.{length-full, lives_shown}
 
@@ -144,10 +144,6 @@ module _ (names : Naming) (remembers : Memories) where
     none_read (l ∷ ls) h = ap (λ a. add_value n l.instance.params a (values_among n ls)) h.0 ∙ none_read ls h.1
 
     module _ (s : Seen) where
-      -- these instances are those of the stream from a place on
-      abbrev AreFrom : ℕ → List SeenInstance → Type 0
-      AreFrom i xs = (j k : ℕ) (x : SeenInstance) → k ≡ i + j → slice_get xs j ≡ Some x → slice_get (instances_seen s n) k ≡ Some x
-
       -- an instance that was asked has its outcome's value, and another none
       one_read : (i : ℕ) (x : SeenInstance) (t : Task) (o : Outcome) (ts : List Task) (os : List Outcome) (l : Living) (ls : List Living) (here there : Type 0)
           → slice_get (instances_seen s n) i ≡ Some x → read_params names x.params ≡ l.instance.params → AreHeld names (the_values x.params)
@@ -162,7 +158,7 @@ module _ (names : Naming) (remembers : Memories) where
       one_read i x t o ts os l ls here there at params held false same h asked other =
           subst (λ (a : Answer). ReadAs (verdicts_among s n (t ∷ ts) (o ∷ os)) (add_value n l.instance.params a (values_among n ls))) (sym h.0) (other h.1)
 
-      values_read : (i : ℕ) (xs : List SeenInstance) (ts : List Task) (os : List Outcome) (ls : List Living) → AreFrom i xs → ReadEach names i ts os ls
+      values_read : (i : ℕ) (xs : List SeenInstance) (ts : List Task) (os : List Outcome) (ls : List Living) → AreFrom (instances_seen s n) i xs → ReadEach names i ts os ls
           → StandForLives names remembers n i xs (map (life_of rows time n) ls) → ReadAs (verdicts_among s n ts os) (values_among n ls)
       values_read i xs [] [] ls from r h = (sym (none_read ls r), tt)
       values_read i xs [] (o ∷ os) ls from r h = absurd r
@@ -170,14 +166,14 @@ module _ (names : Naming) (remembers : Memories) where
       values_read i xs (t ∷ ts) (o ∷ os) [] from r h = absurd r
       values_read i [] (t ∷ ts) (o ∷ os) (l ∷ ls) from r h = absurd h
       values_read i (x ∷ xs) (t ∷ ts) (o ∷ os) (l ∷ ls) from r h =
-          let later : AreFrom (i + 1) xs = λ j k y e at. from (suc j) k y (omega arith) at in
-          one_read i x t o ts os l ls _ _ (from 0 i x (omega arith) refl) h.0.params h.0.params_held (nat_eq t.index i) refl r
+          let later : AreFrom (instances_seen s n) (i + 1) xs = from_later (instances_seen s n) i x xs from in
+          one_read i x t o ts os l ls _ _ (from_here (instances_seen s n) i x xs from) h.0.params h.0.params_held (nat_eq t.index i) refl r
           (λ q. values_read (i + 1) xs ts os ls later q h.1) (λ q. values_read (i + 1) xs (t ∷ ts) (o ∷ os) ls later q h.1)
 
       values_shown : (ts : List Task) (os : List Outcome) (ls : List Living) → ShowLiving names ts os ls → StandForLives names remembers n 0 (instances_seen s n) (map (life_of rows time n) ls)
           → ReadAs (verdicts_among s n ts os) (values_among n ls)
       values_shown ts os ls r h =
-          values_read 0 (instances_seen s n) ts os ls (λ j k x e at. subst (λ q. slice_get (instances_seen s n) q ≡ Some x) (omega arith) at) r h
+          values_read 0 (instances_seen s n) ts os ls (from_first (instances_seen s n)) r h
 
   module _ (s : Seen) (tasks : List Task) (results : List Outcome) where
     both_read : (vs ws : List Verdict) (us ts : List RowValue) → ReadAs vs us → ReadAs ws ts → ReadAs (vs ++ ws) (us ++ ts)
