@@ -1,5 +1,5 @@
 -- Instances that are listed to be closed, each before the next.
-use Rattle.std.proofs.Common.{◌≡◌, refl, ap, ◌∙◌, sym, subst, ℕ, zero, suc, ◌+◌, ◌<◌, ◌⊎◌, inl, inr, List, [], ◌∷◌, ◌++◌, Some, true, false, slice_get, length, arith, append-nil, IsTrue}
+use Rattle.std.proofs.Common.{◌≡◌, refl, ap, ◌∙◌, sym, subst, ℕ, zero, suc, ◌+◌, ◌<◌, ◌≤◌, ◌⊎◌, inl, inr, List, [], ◌∷◌, ◌++◌, Some, true, false, slice_get, length, arith, append-nil, IsTrue}
 use Rattle.std.proofs.lemmas.Option.{slice_get_within}
 use Rattle.lola_value.specs.declared.value.Outcome.{Outcome}
 use Rattle.lola_value.specs.declared.value.Outcome.TheVariants as outcome
@@ -10,9 +10,9 @@ use Rattle.lola_step.specs.Notes.{AreClosable, IsBefore, IsClosable}
 use Rattle.lola_step.specs.declared.tasks.Task.{Task}
 use Rattle.lola_step.proofs.Elements.{Element, element}
 
-before_next : (n i : ℕ) (t : Task) → IsBefore t (record { stream = n; index = i }) → IsBefore t (record { stream = n; index = i + 1 })
-before_next n i t (inl lt) = inl lt
-before_next n i t (inr h) = inr (h.0, omega (arith, h.1))
+before_later : (n i j : ℕ) (t : Task) → i ≤ j → IsBefore t (record { stream = n; index = i }) → IsBefore t (record { stream = n; index = j })
+before_later n i j t le (inl lt) = inl lt
+before_later n i j t le (inr h) = inr (h.0, omega (arith, h.1))
 
 before_stream : (n i : ℕ) (t : Task) → IsBefore t (record { stream = n; index = i }) → IsBefore t (record { stream = n + 1; index = 0 })
 before_stream n i t (inl lt) = inl (omega arith)
@@ -39,6 +39,10 @@ module _ (s : Seen) where
   pub up_to_first : (b : Task) (ts : List Task) → ts ≡ [] → AreUpTo s b ts
   up_to_first b ts e = subst (AreUpTo s b) (sym e) (none_yet b)
 
+  -- a later place
+  pub up_to_later : (n i j : ℕ) (ts : List Task) → i ≤ j → AreUpTo s (record { stream = n; index = i }) ts → AreUpTo s (record { stream = n; index = j }) ts
+  up_to_later n i j ts le h = record { closable = h.closable; before = λ a t e. before_later n i j t le (h.before a t e) }
+
   -- the next stream
   pub up_to_stream : (n i : ℕ) (ts : List Task) → AreUpTo s (record { stream = n; index = i }) ts → AreUpTo s (record { stream = n + 1; index = 0 }) ts
   up_to_stream n i ts h = record { closable = h.closable; before = λ j t e. before_stream n i t (h.before j t e) }
@@ -52,7 +56,7 @@ module _ (s : Seen) where
 
     -- the next instance
     up_to_next : AreUpTo s after ts
-    up_to_next = record { closable = h.closable; before = λ j t e. before_next n i t (h.before j t e) }
+    up_to_next = up_to_later n i (i + 1) ts (omega arith) h
 
     each_pushed : IsClosable s here → (j : ℕ) (t : Task) → slice_get (ts ++ here ∷ []) j ≡ Some t → IsClosable s t
     each_pushed k j t e = elim (pushed_at ts here j t e) [ inl p ↦ h.closable.each j t p | inr p ↦ subst (IsClosable s) p.1 k ]
@@ -67,7 +71,7 @@ module _ (s : Seen) where
         by (inr p) (inr q) = absurd (omega (arith, q.0, p.0))
 
     before_pushed : (j : ℕ) (t : Task) → slice_get (ts ++ here ∷ []) j ≡ Some t → IsBefore t after
-    before_pushed j t e = elim (pushed_at ts here j t e) [ inl p ↦ before_next n i t (h.before j t p) | inr p ↦ subst (λ (u : Task). IsBefore u after) p.1 (inr (refl, omega arith)) ]
+    before_pushed j t e = elim (pushed_at ts here j t e) [ inl p ↦ before_later n i (i + 1) t (omega arith) (h.before j t p) | inr p ↦ subst (λ (u : Task). IsBefore u after) p.1 (inr (refl, omega arith)) ]
 
     up_to_pushed : IsClosable s here → AreUpTo s after (ts ++ here ∷ [])
     up_to_pushed k = record { closable = record { each = each_pushed k; ordered = ordered_pushed }; before = before_pushed }

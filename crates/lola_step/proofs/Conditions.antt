@@ -41,9 +41,9 @@ use Rattle.lola_step.proofs.Standing.{births_shown, length-full, lives_shown, pa
 
 -- one instance
 
-module _ (plan : Plan) (names : Naming) (c : Content) where
+module _ (names : Naming) where
   -- a true condition lists its instance
-  place_listed : (o : Outcome) (t : Task) (rest : List Place) → places_of (closed_by o t) ++ rest ≡ add_place (read_outcome names o) t.stream t.index rest
+  pub place_listed : (o : Outcome) (t : Task) (rest : List Place) → places_of (closed_by o t) ++ rest ≡ add_place (read_outcome names o) t.stream t.index rest
   place_listed (outcome.Value (value.Bool true)) t rest = refl
   place_listed (outcome.Value (value.Bool false)) t rest = refl
   place_listed (outcome.Value (value.Int z)) t rest = refl
@@ -56,7 +56,7 @@ module _ (plan : Plan) (names : Naming) (c : Content) where
   place_listed (outcome.Fault k) t rest = refl
   place_listed outcome.Poison t rest = refl
 
-  module _ (m : Moment) (p : Option Pacing) (k : Option Clause) (n i : ℕ) (xs : List SeenInstance) where
+  module _ (plan : Plan) (c : Content) (m : Moment) (p : Option Pacing) (k : Option Clause) (n i : ℕ) (xs : List SeenInstance) where
     -- the fault so far and those to come
     fault_noted : (x : SeenInstance) (o : Outcome) (least next : Option FaultKind) → slice_get xs i ≡ Some x → read_outcome names o ≡ condition_of plan names c m p k x → next ≡ found.add_fault o least
         → least_of least (least_condition plan names c m p k (drop i xs)) ≡ least_condition plan names c m p k xs
@@ -105,8 +105,8 @@ module _ (plan : Plan) (m : Moment) (p : Option Pacing) (remembers : Memories) (
       let h = subst (λ (t : Option SeenInstance). IsAnswer plan remembers s (params_at t) (closing_answer plan.spec (active_for_in m (birth_at t) p) k) o) x.is answers in
       let answer : read_outcome names o ≡ condition_of plan names c m p k x.at = (h names c sees shown.texts).0 in
       let before = so_far names c shown in (
-        fault_noted plan names c m p k n i xs x.at o least next x.is answer e before.0,
-        place_noted plan names c m p k n i xs x.at o now new _ x.is answer f before.1,
+        fault_noted names plan c m p k n i xs x.at o least next x.is answer e before.0,
+        place_noted names plan c m p k n i xs x.at o now new _ x.is answer f before.1,
       )
 
   -- all of them

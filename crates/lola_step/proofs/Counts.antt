@@ -76,6 +76,7 @@ pub room_is_there : (plan : Plan) (s : Seen) (n : Scratch) → IsOf plan s → I
 room_is_there plan s n of never made =
     let few : instances_to_come s ≤ least_room plan = few_single plan s of never in
     record {
+      places = omega (arith, few, made.room.places);
       tasks = omega (arith, few, made.room.tasks);
       results = omega (arith, few, made.room.results);
       closing = omega (arith, few, made.room.closing);

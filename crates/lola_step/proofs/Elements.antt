@@ -1,5 +1,5 @@
 -- The elements of lists by their places.
-use Rattle.std.proofs.Common.{◌≡◌, refl, ap, ◌∙◌, sym, ℕ, zero, suc, ◌+◌, ◌<◌, ◌≤◌, List, [], ◌∷◌, Some, slice_get, get_or, drop, length, arith, add-one}
+use Rattle.std.proofs.Common.{◌≡◌, refl, ap, ◌∙◌, sym, ℕ, zero, suc, ◌+◌, ◌<◌, ◌≤◌, List, [], ◌∷◌, Some, subst, slice_get, get_or, drop, length, arith, add-one}
 use Rattle.std.proofs.lemmas.Option.{slice_get_read}
 
 -- an element of a list
@@ -36,3 +36,16 @@ drop_past [] zero le = refl
 drop_past [] (suc i) le = refl
 drop_past (x ∷ xs) zero le = absurd (omega arith)
 drop_past (x ∷ xs) (suc i) le = drop_past xs i (omega arith)
+
+-- elements that are those of a list from a place on
+abbrev pub AreFrom : {A : Type 0} → List A → ℕ → List A → Type 0
+AreFrom {A} all i xs = (j k : ℕ) (x : A) → k ≡ i + j → slice_get xs j ≡ Some x → slice_get all k ≡ Some x
+
+pub from_first : {A : Type 0} (all : List A) → AreFrom all 0 all
+from_first all j k x e at = subst (λ q. slice_get all q ≡ Some x) (omega arith) at
+
+pub from_here : {A : Type 0} (all : List A) (i : ℕ) (x : A) (xs : List A) → AreFrom all i (x ∷ xs) → slice_get all i ≡ Some x
+from_here all i x xs from = from 0 i x (omega arith) refl
+
+pub from_later : {A : Type 0} (all : List A) (i : ℕ) (x : A) (xs : List A) → AreFrom all i (x ∷ xs) → AreFrom all (i + 1) xs
+from_later all i x xs from j k y e at = from (suc j) k y (omega arith) at

@@ -14,7 +14,7 @@ use Rattle.lola_stages.specs.Stages.{full_row}
 use Rattle.lola_stages.proofs.Ending.{each_step_ends}
 use Rattle.lola_step.specs.Ends.{CollectsVerdicts, FindsClosings, FindsFault}
 use Rattle.lola_step.specs.Moments.{IsMoment}
-use Rattle.lola_step.specs.Notes.{AreNoted, AreSpans, places_of}
+use Rattle.lola_step.specs.Notes.{AreNoted, AreSpans, AreWithin, places_of}
 use Rattle.lola_step.specs.Progress.{IsRun}
 use Rattle.lola_step.specs.Steps.{IsDoneStep}
 use Rattle.lola_step.specs.declared.mark.Mark.{Mark}
@@ -25,35 +25,42 @@ use Rattle.lola_step.specs.declared.verdict.Verdict.{Verdict}
 
 -- what was found of lists holds of equal ones
 
-pub same_spans : (s : Seen) (results others : List Outcome) (spans more : List Span) → others ≡ results → more ≡ spans → AreSpans s results spans → AreSpans s others more
-same_spans s results others spans more e f h = subst (λ os. AreSpans s os more) (sym e) (subst (λ ps. AreSpans s results ps) (sym f) h)
+pub same_within : (results others : List Outcome) (spans more : List Span) → others ≡ results → more ≡ spans → AreWithin results spans → AreWithin others more
+same_within results others spans more e f h = subst (λ os. AreWithin os more) (sym e) (subst (AreWithin results) (sym f) h)
 
-pub same_fault : (plan : Plan) (marks marks' : List Mark) (spans spans' : List Span) (results results' : List Outcome) (found : Option (ℕ × FaultKind))
-    → marks' ≡ marks → spans' ≡ spans → results' ≡ results → FindsFault plan marks' spans' results' found → FindsFault plan marks spans results found
-same_fault plan marks marks' spans spans' results results' found e f g h =
-    subst (λ ms. FindsFault plan ms spans results found) e
-    (subst (λ ps. FindsFault plan marks' ps results found) f
-    (subst (λ os. FindsFault plan marks' spans' os found) g h))
+pub same_spans : (s : Seen) (tasks asked : List Task) (results others : List Outcome) (spans more : List Span) → asked ≡ tasks → others ≡ results → more ≡ spans
+    → AreSpans s tasks results spans → AreSpans s asked others more
+same_spans s tasks asked results others spans more d e f h =
+    subst (λ ts. AreSpans s ts others more) (sym d) (subst (λ os. AreSpans s tasks os more) (sym e) (subst (λ ps. AreSpans s tasks results ps) (sym f) h))
 
-pub same_verdicts : (plan : Plan) (spans spans' : List Span) (results results' : List Outcome) (remembers : Memories) (s : Seen) (verdicts : List Verdict)
-    → spans' ≡ spans → results' ≡ results → CollectsVerdicts plan spans' results' remembers s verdicts → CollectsVerdicts plan spans results remembers s verdicts
-same_verdicts plan spans spans' results results' remembers s verdicts f g h =
-    subst (λ ps. CollectsVerdicts plan ps results remembers s verdicts) f (subst (λ os. CollectsVerdicts plan spans' os remembers s verdicts) g h)
+pub same_fault : (plan : Plan) (marks marks' : List Mark) (spans spans' : List Span) (tasks : List Task) (results results' : List Outcome) (found : Option (ℕ × FaultKind))
+    → marks' ≡ marks → spans' ≡ spans → results' ≡ results → FindsFault plan marks' spans' tasks results' found → FindsFault plan marks spans tasks results found
+same_fault plan marks marks' spans spans' tasks results results' found e f g h =
+    subst (λ ms. FindsFault plan ms spans tasks results found) e
+    (subst (λ ps. FindsFault plan marks' ps tasks results found) f
+    (subst (λ os. FindsFault plan marks' spans' tasks os found) g h))
 
-module _ (plan : Plan) (m : Moment) (marks : List Mark) (spans : List Span) (results : List Outcome) where
+pub same_verdicts : (plan : Plan) (spans spans' : List Span) (tasks tasks' : List Task) (results results' : List Outcome) (remembers : Memories) (s : Seen) (verdicts : List Verdict)
+    → spans' ≡ spans → tasks' ≡ tasks → results' ≡ results → CollectsVerdicts plan spans' tasks' results' remembers s verdicts → CollectsVerdicts plan spans tasks results remembers s verdicts
+same_verdicts plan spans spans' tasks tasks' results results' remembers s verdicts e f g h =
+    subst (λ ps. CollectsVerdicts plan ps tasks results remembers s verdicts) e
+    (subst (λ ts. CollectsVerdicts plan spans' ts results remembers s verdicts) f
+    (subst (λ os. CollectsVerdicts plan spans' tasks' os remembers s verdicts) g h))
+
+module _ (plan : Plan) (m : Moment) (marks : List Mark) (spans : List Span) (tasks : List Task) (results : List Outcome) where
   -- by the fault of a spawn clause or of an instance
-  pub fails_by_evaluation : (stream : ℕ) (kind : FaultKind) → FindsFault plan marks spans results (Some (stream, kind))
+  pub fails_by_evaluation : (stream : ℕ) (kind : FaultKind) → FindsFault plan marks spans tasks results (Some (stream, kind))
       → (names : Naming) (rows : List TableRow) (step : Step) → IsRun plan names rows
-      → AreNoted plan (full_row plan m.start rows step).streams names marks spans results
+      → AreNoted plan (full_row plan m.start rows step).streams names marks spans tasks results
       → IsFaulty plan m.start rows step stream kind
   fails_by_evaluation stream kind finds names rows step run noted =
       (each_step_ends plan m.start rows step).evaluation (record { stream = stream; kind = kind }) (sym (finds names m.start rows step run noted))
 
-  module _ (remembers : Memories) (s : Seen) (none : FindsFault plan marks spans results None) where
+  module _ (remembers : Memories) (s : Seen) (none : FindsFault plan marks spans tasks results None) where
     -- by that of a close clause
     pub fails_by_closing : (stream : ℕ) (kind : FaultKind) (closing : List Task) → FindsClosings plan m remembers s (Some (stream, kind)) closing
         → (names : Naming) (rows : List TableRow) (step : Step) → IsRun plan names rows → IsMoment m.start step m
-        → AreNoted plan (full_row plan m.start rows step).streams names marks spans results
+        → AreNoted plan (full_row plan m.start rows step).streams names marks spans tasks results
         → Stands names remembers s (content m.start rows (full_row plan m.start rows step))
         → IsFaulty plan m.start rows step stream kind
     fails_by_closing stream kind closing finds names rows step run moment noted stands =
@@ -63,10 +70,10 @@ module _ (plan : Plan) (m : Moment) (marks : List Mark) (spans : List Span) (res
     -- or done: its lines are those of the values, and instances are closed
     pub is_done : (remembers' : Memories) (s' : Seen) (closing closed : List Task) (verdicts : List Verdict)
         → FindsClosings plan m remembers s None closing → closed ≡ closing
-        → CollectsVerdicts plan spans results remembers s verdicts
+        → CollectsVerdicts plan spans tasks results remembers s verdicts
         → ((names : Naming) (c : Content) → Stands names remembers s c → Stands names remembers' s' (closed_each c (reverse (places_of closed))))
         → (names : Naming) (rows : List TableRow) (step : Step) → IsRun plan names rows → IsMoment m.start step m
-        → AreNoted plan (full_row plan m.start rows step).streams names marks spans results
+        → AreNoted plan (full_row plan m.start rows step).streams names marks spans tasks results
         → Stands names remembers s (content m.start rows (full_row plan m.start rows step))
         → IsDoneStep plan m.start rows step names remembers' s' verdicts
     is_done remembers' s' closing closed verdicts finds same collects closes names rows step run moment noted stands =

@@ -1,5 +1,5 @@
 -- The fault that is found among what is noted is that of the row.
-use Rattle.std.proofs.Common.{◌≡◌, refl, ap, ◌∙◌, sym, subst, ℕ, suc, ◌+◌, ◌<◌, inl, inr, List, [], ◌∷◌, Option, Some, None, Bool, true, false, slice_get, length, arith, take, drop, get_or, ◌≤◌}
+use Rattle.std.proofs.Common.{◌≡◌, refl, ap, ◌∙◌, sym, subst, ℕ, suc, ◌+◌, ◌<◌, List, [], ◌∷◌, Option, Some, None, Bool, true, false, slice_get, length, arith, nat_eq, take, drop, get_or, ◌≤◌}
 use Rattle.std.proofs.lemmas.Option.{slice_get-get_or, slice_get_within}
 use Rattle.lola_value.specs.declared.text.Field.{Field}
 use Rattle.lola_value.specs.declared.text.Field.TheVariants as field
@@ -7,7 +7,8 @@ use Rattle.lola_value.specs.declared.value.FaultKind.{FaultKind}
 use Rattle.lola_value.specs.declared.value.FaultKind.TheVariants.{Overflow, DivZero, TooManyInstances}
 use Rattle.lola_value.specs.declared.value.Outcome.{Outcome}
 use Rattle.lola_value.specs.declared.value.Outcome.TheVariants as outcome
-use Rattle.lola_value.specs.Naming.{Naming, read_outcome}
+use Rattle.lola_value.specs.Answer.{Missing}
+use Rattle.lola_value.specs.Naming.{Naming, IsHeldIn, read_outcome}
 use Rattle.lola_model.specs.Acceptance.{IsAccepted}
 use Rattle.lola_model.specs.Faults.{RowFault, lesser_kind, add_failed, least_failed, own_fault, first_with}
 use Rattle.lola_model.specs.Model.{field_outcome, input_outcome, is_input, spawned_in}
@@ -19,10 +20,11 @@ use Rattle.lola_stages.specs.Stages.{full_row}
 use Rattle.lola_stages.proofs.Inputs.{inputs_go}
 use Rattle.lola_step.specs.Ends.{FindsFault}
 use Rattle.lola_step.specs.Found.{least_of, add_fault, least_among, fault_of, fault_or, first_among}
-use Rattle.lola_step.specs.Notes.{AreNoted, AreSilent, ReadEach, ShowLiving, in_span, mark_of, read_fault}
+use Rattle.lola_step.specs.Notes.{AreNoted, AreSilent, OneOf, ReadEach, ShowLiving, asked_in, in_span, mark_of, read_fault}
 use Rattle.lola_step.specs.Progress.{IsRun}
 use Rattle.lola_step.specs.declared.mark.Mark.{Mark}
 use Rattle.lola_step.specs.declared.scratch.Span.{Span}
+use Rattle.lola_step.specs.declared.tasks.Task.{Task}
 use Rattle.lola_step.proofs.Elements.{Element, cut, drop_past, element}
 use Rattle.lola_step.proofs.Standing.{length-full}
 
@@ -72,22 +74,28 @@ module _ (names : Naming) where
   same_kind outcome.Missing rest = refl
   same_kind outcome.Poison rest = refl
 
-  read_least : (os : List Outcome) (ls : List Living) → ReadEach names os ls → least_among os ≡ least_failed ls
-  read_least [] [] h = refl
-  read_least [] (l ∷ ls) h = absurd h
-  read_least (o ∷ os) [] h = absurd h
-  read_least (o ∷ os) (l ∷ ls) h =
+  silent_least : (ls : List Living) → AreSilent ls → least_failed ls ≡ None
+  silent_least [] h = refl
+  silent_least (l ∷ ls) h = ap (λ a. add_failed a (least_failed ls)) h.0 ∙ silent_least ls h.1
+
+  -- an instance that was asked counts with its outcome, and another adds nothing
+  one_least : (b : Bool) (o : Outcome) (os : List Outcome) (l : Living) (ls : List Living) (here there : Type 0)
+      → OneOf b ((read_outcome names o ≡ l.outcome) × IsHeldIn names o × here) ((l.outcome ≡ Missing) × there)
+      → (here → least_among os ≡ least_failed ls) → (there → least_among (o ∷ os) ≡ least_failed ls)
+      → least_among (o ∷ os) ≡ least_failed (l ∷ ls)
+  one_least true o os l ls here there h asked other =
       same_kind o (least_among os)
       ∙ (ap (λ a. add_failed a (least_among os)) h.0
-      ∙ ap (add_failed l.outcome) (read_least os ls h.2))
+      ∙ ap (add_failed l.outcome) (asked h.2))
+  one_least false o os l ls here there h asked other = other h.1 ∙ sym (ap (λ a. add_failed a (least_failed ls)) h.0)
 
-silent_least : (ls : List Living) → AreSilent ls → least_failed ls ≡ None
-silent_least [] h = refl
-silent_least (l ∷ ls) h = ap (λ a. add_failed a (least_failed ls)) h.0 ∙ silent_least ls h.1
-
-shown_least : (names : Naming) (os : List Outcome) (ls : List Living) → ShowLiving names os ls → least_among os ≡ least_failed ls
-shown_least names os ls (inl h) = read_least names os ls h
-shown_least names os ls (inr h) = ap least_among h.0 ∙ sym (silent_least ls h.1)
+  read_least : (i : ℕ) (ts : List Task) (os : List Outcome) (ls : List Living) → ReadEach names i ts os ls → least_among os ≡ least_failed ls
+  read_least i [] [] ls h = sym (silent_least ls h)
+  read_least i [] (o ∷ os) ls h = absurd h
+  read_least i (t ∷ ts) [] ls h = absurd h
+  read_least i (t ∷ ts) (o ∷ os) [] h = absurd h
+  read_least i (t ∷ ts) (o ∷ os) (l ∷ ls) h =
+      one_least (nat_eq t.index i) o os l ls _ _ h (read_least (i + 1) ts os ls) (read_least (i + 1) (t ∷ ts) (o ∷ os) ls)
 
 field_is_fine : (f : Option Field) → add_failed (field_outcome f) None ≡ None
 field_is_fine None = refl
@@ -131,8 +139,8 @@ module _ (results : List Outcome) where
       (first_is (n + 1) ms ps ys (omega arith) (omega arith) (λ i k q z a b c. each (suc i) k q z a b c))
       ∙ ap (λ o. elim o as (λ _. Option RowFault) [ None ↦ first_with own_fault (n + 1) ys | Some k ↦ Some (record { stream = n; kind = k }) ]) (each 0 m p y refl refl refl)
 
-module _ (plan : Plan) (accepted : IsAccepted plan) (marks : List Mark) (spans : List Span) (results : List Outcome) where
-  module _ (names : Naming) (start : ℕ) (rows : List TableRow) (step : Step) (run : IsRun plan names rows) (noted : AreNoted plan (full_row plan start rows step).streams names marks spans results) where
+module _ (plan : Plan) (accepted : IsAccepted plan) (marks : List Mark) (spans : List Span) (tasks : List Task) (results : List Outcome) where
+  module _ (names : Naming) (start : ℕ) (rows : List TableRow) (step : Step) (run : IsRun plan names rows) (noted : AreNoted plan (full_row plan start rows step).streams names marks spans tasks results) where
     abbrev full : List StreamRow
     full = (full_row plan start rows step).streams
 
@@ -154,9 +162,9 @@ module _ (plan : Plan) (accepted : IsAccepted plan) (marks : List Mark) (spans :
 
       other_least : is_input there.at ≡ false → least_among (in_span results (Some p)) ≡ least_failed y.living
       other_least i =
-          shown_least names (in_span results (Some p)) y.living
-          (subst (λ (o : Option StreamRow). ShowLiving names (in_span results (Some p)) (living_in o)) is_row
-          (subst (λ (o : Option Span). ShowLiving names (in_span results o) (living_in (slice_get full n))) is_span (noted.results_show n there.at there.is i)))
+          read_least names 0 (asked_in tasks (Some p)) (in_span results (Some p)) y.living
+          (subst (λ (o : Option StreamRow). ShowLiving names (asked_in tasks (Some p)) (in_span results (Some p)) (living_in o)) is_row
+          (subst (λ (o : Option Span). ShowLiving names (asked_in tasks o) (in_span results o) (living_in (slice_get full n))) is_span (noted.results_show n there.at there.is i)))
 
       least : (b : Bool) → is_input there.at ≡ b → least_among (in_span results (Some p)) ≡ least_failed y.living
       least true i = input_least i
@@ -179,7 +187,7 @@ module _ (plan : Plan) (accepted : IsAccepted plan) (marks : List Mark) (spans :
         first_is results 0 marks spans full (omega arith) (omega arith) same_fault
 
   -- the first fault among what is noted is that of the evaluation
-  pub finds_fault : length marks ≡ length plan.spec.streams → length spans ≡ length plan.spec.streams → FindsFault plan marks spans results (first_among results 0 marks spans)
+  pub finds_fault : length marks ≡ length plan.spec.streams → length spans ≡ length plan.spec.streams → FindsFault plan marks spans tasks results (first_among results 0 marks spans)
   finds_fault a b names start rows step run noted = found names start rows step run noted a b
 
 -- the steps of the loops

@@ -83,3 +83,12 @@ room_from (x ∷ xs) (suc n) = room_from xs n
 
 pub room_there : (s : Seen) (n : ℕ) → length (instances_seen s n) + total (drop (n + 1) (rooms s)) ≤ total (drop n (rooms s))
 room_there s n = rw add-one (room_from s.streams n)
+
+-- and room for themselves
+alone_from : (xs : List SeenStream) (n : ℕ) → length (instances_of (slice_get xs n)) ≤ total (map room_of xs)
+alone_from [] n = omega arith
+alone_from (x ∷ xs) zero = omega arith
+alone_from (x ∷ xs) (suc n) = omega (arith, alone_from xs n)
+
+pub room_alone : (s : Seen) (n : ℕ) → length (instances_seen s n) ≤ total (rooms s)
+room_alone s n = alone_from s.streams n

@@ -1,12 +1,13 @@
 -- The values that are collected are those of the row.
-use Rattle.std.proofs.Common.{◌≡◌, refl, ap, ◌∙◌, sym, subst, ℕ, suc, ◌+◌, ◌<◌, ◌≤◌, inl, inr, List, [], ◌∷◌, ◌++◌, Option, Some, Bool, true, false, if◌then◌else◌, slice_get, length, map, drop, arith, append_assoc, append-nil, get_or}
+use Rattle.std.proofs.Common.{◌≡◌, refl, ap, ◌∙◌, sym, subst, ℕ, zero, suc, ◌+◌, ◌<◌, ◌≤◌, List, [], ◌∷◌, ◌++◌, Option, Some, Bool, true, false, if◌then◌else◌, slice_get, length, map, drop, arith, append_assoc, append-nil, nat_eq, get_or}
+use Rattle.std.proofs.lemmas.Bool.{eqb-true}
 use Rattle.std.proofs.lemmas.Option.{slice_get-get_or}
 use Rattle.lola_value.specs.declared.text.Field.{Field}
 use Rattle.lola_value.specs.declared.value.Kind.{Kind}
 use Rattle.lola_value.specs.declared.value.Outcome.{Outcome}
 use Rattle.lola_value.specs.declared.value.Outcome.TheVariants as outcome
 use Rattle.lola_value.specs.declared.value.Params.{Params}
-use Rattle.lola_value.specs.Answer.{Answer}
+use Rattle.lola_value.specs.Answer.{Answer, Missing}
 use Rattle.lola_value.specs.Kinds.{are_of_kinds}
 use Rattle.lola_value.specs.Naming.{Naming, AreHeld, IsHeldIn, read_outcome, read_params, the_values}
 use Rattle.lola_model.specs.Acceptance.{IsAccepted}
@@ -21,12 +22,13 @@ use Rattle.lola_stages.specs.Nexts.{living_in}
 use Rattle.lola_stages.specs.Stages.{full_row}
 use Rattle.lola_step.specs.Ends.{CollectsVerdicts}
 use Rattle.lola_step.specs.Found.{FitLayout, add_verdict, verdicts_among, all_verdicts}
-use Rattle.lola_step.specs.Notes.{AreNoted, AreOutcomesOf, AreSilent, AreSpans, AreVerdicts, AreVerdictsHeld, ReadEach, ShowLiving, in_span, read_verdict}
-use Rattle.lola_step.specs.Tasks.{params_at}
+use Rattle.lola_step.specs.Notes.{AreNoted, AreOfStream, AreOutcomesOf, AreSilent, AreSpans, AreVerdicts, AreVerdictsHeld, OneOf, ReadEach, ShowLiving, asked_in, in_span, read_verdict}
+use Rattle.lola_step.specs.Tasks.{params_at, params_seen}
 use Rattle.lola_step.specs.declared.mark.Mark.{Mark}
 use Rattle.lola_step.specs.declared.scratch.Span.{Span}
+use Rattle.lola_step.specs.declared.tasks.Task.{Task}
 use Rattle.lola_step.specs.declared.verdict.Verdict.{Verdict}
-use Rattle.lola_step.proofs.Elements.{Element, cut, drop_past, element}
+use Rattle.lola_step.proofs.Elements.{AreFrom, cut, drop_past, from_first, from_here, from_later}
 use Rattle.lola_step.proofs.Layouts.{parameters_there}
 use Rattle.lola_step.proofs.Standing.{length-full, lives_shown}
 
@@ -58,60 +60,66 @@ verdict_moves n p outcome.Missing vs rest = append_assoc vs [] rest
 verdict_moves n p (outcome.Fault k) vs rest = append_assoc vs [] rest
 verdict_moves n p outcome.Poison vs rest = append_assoc vs [] rest
 
-no_outcome : (n : ℕ) (xs : List SeenInstance) → verdicts_among n xs [] ≡ []
-no_outcome n [] = refl
-no_outcome n (x ∷ xs) = refl
+no_outcome : (s : Seen) (n : ℕ) (ts : List Task) → verdicts_among s n ts [] ≡ []
+no_outcome s n [] = refl
+no_outcome s n (t ∷ ts) = refl
+
+-- each instance that was asked lives
+pub asked_lives : (n i k : ℕ) (ts : List Task) → AreOfStream n i k ts → (j : ℕ) (t : Task) → slice_get ts j ≡ Some t → t.index < k
+asked_lives n i k [] h j t at = absurd (cc)
+asked_lives n i k (u ∷ ts) h zero t at = let e : u ≡ t = cc in subst (λ (v : Task). v.index < k) e h.2
+asked_lives n i k (u ∷ ts) h (suc j) t at = asked_lives n (u.index + 1) k ts h.3 j t at
 
 -- each is a verdict of the plan
 
 module _ (plan : Plan) where
   module _ (n : ℕ) (s : Stream) (at : slice_get plan.spec.streams n ≡ Some s) (no_input : is_input s ≡ false) where
-    are_verdicts : (xs : List SeenInstance) (os : List Outcome) → AreOutcomesOf (kind_in (slice_get (layout_of plan).streams n)) os → FitLayout (layout_of plan) (verdicts_among n xs os)
-        → AreVerdicts plan (verdicts_among n xs os)
-    are_verdicts [] os k f = tt
-    are_verdicts (x ∷ xs) [] k f = tt
-    are_verdicts (x ∷ xs) (outcome.Value v ∷ os) k f = (
+    are_verdicts : (r : Seen) (ts : List Task) (os : List Outcome) → AreOutcomesOf (kind_in (slice_get (layout_of plan).streams n)) os → FitLayout (layout_of plan) (verdicts_among r n ts os)
+        → AreVerdicts plan (verdicts_among r n ts os)
+    are_verdicts r [] os k f = tt
+    are_verdicts r (t ∷ ts) [] k f = tt
+    are_verdicts r (t ∷ ts) (outcome.Value v ∷ os) k f = (
       record {
         stream = s;
         stream_is = at;
         no_input = no_input;
         kind = k.0;
-        params = subst (λ (ks : List Kind). are_of_kinds ks (the_values x.params) ≡ true) (parameters_there plan.spec.streams plan.kept plan.pacings n s at) f.0.params;
+        params = subst (λ (ks : List Kind). are_of_kinds ks (the_values (params_seen r n t.index)) ≡ true) (parameters_there plan.spec.streams plan.kept plan.pacings n s at) f.0.params;
         well_formed = f.0.well_formed;
       },
-      are_verdicts xs os k.1 f.1,
+      are_verdicts r ts os k.1 f.1,
     )
-    are_verdicts (x ∷ xs) (outcome.Missing ∷ os) k f = are_verdicts xs os k.1 f
-    are_verdicts (x ∷ xs) (outcome.Fault e ∷ os) k f = are_verdicts xs os k.1 f
-    are_verdicts (x ∷ xs) (outcome.Poison ∷ os) k f = are_verdicts xs os k.1 f
+    are_verdicts r (t ∷ ts) (outcome.Missing ∷ os) k f = are_verdicts r ts os k.1 f
+    are_verdicts r (t ∷ ts) (outcome.Fault e ∷ os) k f = are_verdicts r ts os k.1 f
+    are_verdicts r (t ∷ ts) (outcome.Poison ∷ os) k f = are_verdicts r ts os k.1 f
 
-  module _ (s : Seen) (layout : s.layout ≡ layout_of plan) (results : List Outcome) where
+  module _ (s : Seen) (layout : s.layout ≡ layout_of plan) (tasks : List Task) (results : List Outcome) where
     -- of one stream
     of_stream : (b : Bool) (n : ℕ) (x : Stream) (p : Span) → is_input x ≡ b → slice_get plan.spec.streams n ≡ Some x → AreOutcomesOf (kind_in (slice_get s.layout.streams n)) (in_span results (Some p))
-        → FitLayout (layout_of plan) (if b then [] else verdicts_among n (instances_seen s n) (in_span results (Some p)))
-        → AreVerdicts plan (if b then [] else verdicts_among n (instances_seen s n) (in_span results (Some p)))
+        → FitLayout (layout_of plan) (if b then [] else verdicts_among s n (asked_in tasks (Some p)) (in_span results (Some p)))
+        → AreVerdicts plan (if b then [] else verdicts_among s n (asked_in tasks (Some p)) (in_span results (Some p)))
     of_stream true n x p e at k f = tt
     of_stream false n x p e at k f =
-        are_verdicts n x at e (instances_seen s n) (in_span results (Some p))
+        are_verdicts n x at e s (asked_in tasks (Some p)) (in_span results (Some p))
         (subst (λ (l : Layout). AreOutcomesOf (kind_in (slice_get l.streams n)) (in_span results (Some p))) layout k) f
 
     all_from : (n : ℕ) (xs : List Stream) (ps : List Span)
         → ((i m : ℕ) (x : Stream) (p : Span) → m ≡ n + i → slice_get xs i ≡ Some x → slice_get ps i ≡ Some p
         → (slice_get plan.spec.streams m ≡ Some x) × AreOutcomesOf (kind_in (slice_get s.layout.streams m)) (in_span results (Some p)))
-        → FitLayout (layout_of plan) (all_verdicts s results n xs ps) → AreVerdicts plan (all_verdicts s results n xs ps)
+        → FitLayout (layout_of plan) (all_verdicts s tasks results n xs ps) → AreVerdicts plan (all_verdicts s tasks results n xs ps)
     all_from n [] ps each f = tt
     all_from n (x ∷ xs) [] each f = tt
     all_from n (x ∷ xs) (p ∷ ps) each f =
-        let here : List Verdict = if is_input x then [] else verdicts_among n (instances_seen s n) (in_span results (Some p)) in
-        let rest : List Verdict = all_verdicts s results (n + 1) xs ps in
+        let here : List Verdict = if is_input x then [] else verdicts_among s n (asked_in tasks (Some p)) (in_span results (Some p)) in
+        let rest : List Verdict = all_verdicts s tasks results (n + 1) xs ps in
         let g : FitLayout (layout_of plan) here × FitLayout (layout_of plan) rest = fit_parts (layout_of plan) here rest f in
         let first = each 0 n x p (omega arith) refl refl in
         verdicts_more plan here rest (of_stream (is_input x) n x p refl first.0 first.1 g.0)
         (all_from (n + 1) xs ps (λ i m y q e a b. each (suc i) m y q (omega arith) a b) g.1)
 
     -- all that is collected
-    verdicts_are : (spans : List Span) → AreSpans s results spans → FitLayout (layout_of plan) (all_verdicts s results 0 plan.spec.streams spans)
-        → AreVerdicts plan (all_verdicts s results 0 plan.spec.streams spans)
+    verdicts_are : (spans : List Span) → AreSpans s tasks results spans → FitLayout (layout_of plan) (all_verdicts s tasks results 0 plan.spec.streams spans)
+        → AreVerdicts plan (all_verdicts s tasks results 0 plan.spec.streams spans)
     verdicts_are spans within f =
         all_from 0 plan.spec.streams spans
         (λ i m x p e a b. let c : i ≡ m = omega arith in (subst (λ j. slice_get plan.spec.streams j ≡ Some x) c a, (within m p (subst (λ j. slice_get spans j ≡ Some p) c b)).kinds)) f
@@ -131,30 +139,43 @@ module _ (names : Naming) (remembers : Memories) where
   one_more n p q outcome.Poison vs ws e f g h = h
 
   module _ (rows : List TableRow) (time n : ℕ) where
-    values_read : (i : ℕ) (xs : List SeenInstance) (os : List Outcome) (ls : List Living) → ReadEach names os ls → StandForLives names remembers n i xs (map (life_of rows time n) ls)
-        → ReadAs (verdicts_among n xs os) (values_among n ls)
-    values_read i xs [] [] r h = (ap (map (read_verdict names)) (no_outcome n xs), subst (AreVerdictsHeld names) (sym (no_outcome n xs)) tt)
-    values_read i xs [] (l ∷ ls) r h = absurd r
-    values_read i xs (o ∷ os) [] r h = absurd r
-    values_read i [] (o ∷ os) (l ∷ ls) r h = absurd h
-    values_read i (x ∷ xs) (o ∷ os) (l ∷ ls) r h =
-        subst (λ (a : Answer). ReadAs (add_verdict n x.params o (verdicts_among n xs os)) (add_value n l.instance.params a (values_among n ls))) r.0
-        (one_more n x.params l.instance.params o (verdicts_among n xs os) (values_among n ls) h.0.params h.0.params_held r.1 (values_read (i + 1) xs os ls r.2 h.1))
-
     none_read : (ls : List Living) → AreSilent ls → values_among n ls ≡ []
     none_read [] h = refl
     none_read (l ∷ ls) h = ap (λ a. add_value n l.instance.params a (values_among n ls)) h.0 ∙ none_read ls h.1
 
-    values_shown : (xs : List SeenInstance) (os : List Outcome) (ls : List Living) → ShowLiving names os ls → StandForLives names remembers n 0 xs (map (life_of rows time n) ls)
-        → ReadAs (verdicts_among n xs os) (values_among n ls)
-    values_shown xs os ls (inl r) h = values_read 0 xs os ls r h
-    values_shown xs os ls (inr r) h =
-        let none : verdicts_among n xs os ≡ [] = ap (verdicts_among n xs) r.0 ∙ no_outcome n xs in (
-          ap (map (read_verdict names)) none ∙ sym (none_read ls r.1),
-          subst (AreVerdictsHeld names) (sym none) tt,
-        )
+    module _ (s : Seen) where
+      -- an instance that was asked has its outcome's value, and another none
+      one_read : (i : ℕ) (x : SeenInstance) (t : Task) (o : Outcome) (ts : List Task) (os : List Outcome) (l : Living) (ls : List Living) (here there : Type 0)
+          → slice_get (instances_seen s n) i ≡ Some x → read_params names x.params ≡ l.instance.params → AreHeld names (the_values x.params)
+          → (b : Bool) → nat_eq t.index i ≡ b → OneOf b ((read_outcome names o ≡ l.outcome) × IsHeldIn names o × here) ((l.outcome ≡ Missing) × there)
+          → (here → ReadAs (verdicts_among s n ts os) (values_among n ls)) → (there → ReadAs (verdicts_among s n (t ∷ ts) (o ∷ os)) (values_among n ls))
+          → ReadAs (verdicts_among s n (t ∷ ts) (o ∷ os)) (values_among n (l ∷ ls))
+      one_read i x t o ts os l ls here there at params held true same h asked other =
+          let is : x.params ≡ params_seen s n t.index = sym (ap (λ k. params_seen s n k) (eqb-true t.index i same) ∙ ap params_at at) in
+          subst (λ (a : Answer). ReadAs (add_verdict n (params_seen s n t.index) o (verdicts_among s n ts os)) (add_value n l.instance.params a (values_among n ls))) h.0
+          (one_more n (params_seen s n t.index) l.instance.params o (verdicts_among s n ts os) (values_among n ls)
+          (ap (read_params names) (sym is) ∙ params) (subst (λ (p : Params). AreHeld names (the_values p)) is held) h.1 (asked h.2))
+      one_read i x t o ts os l ls here there at params held false same h asked other =
+          subst (λ (a : Answer). ReadAs (verdicts_among s n (t ∷ ts) (o ∷ os)) (add_value n l.instance.params a (values_among n ls))) (sym h.0) (other h.1)
 
-  module _ (s : Seen) (results : List Outcome) where
+      values_read : (i : ℕ) (xs : List SeenInstance) (ts : List Task) (os : List Outcome) (ls : List Living) → AreFrom (instances_seen s n) i xs → ReadEach names i ts os ls
+          → StandForLives names remembers n i xs (map (life_of rows time n) ls) → ReadAs (verdicts_among s n ts os) (values_among n ls)
+      values_read i xs [] [] ls from r h = (sym (none_read ls r), tt)
+      values_read i xs [] (o ∷ os) ls from r h = absurd r
+      values_read i xs (t ∷ ts) [] ls from r h = absurd r
+      values_read i xs (t ∷ ts) (o ∷ os) [] from r h = absurd r
+      values_read i [] (t ∷ ts) (o ∷ os) (l ∷ ls) from r h = absurd h
+      values_read i (x ∷ xs) (t ∷ ts) (o ∷ os) (l ∷ ls) from r h =
+          let later : AreFrom (instances_seen s n) (i + 1) xs = from_later (instances_seen s n) i x xs from in
+          one_read i x t o ts os l ls _ _ (from_here (instances_seen s n) i x xs from) h.0.params h.0.params_held (nat_eq t.index i) refl r
+          (λ q. values_read (i + 1) xs ts os ls later q h.1) (λ q. values_read (i + 1) xs (t ∷ ts) (o ∷ os) ls later q h.1)
+
+      values_shown : (ts : List Task) (os : List Outcome) (ls : List Living) → ShowLiving names ts os ls → StandForLives names remembers n 0 (instances_seen s n) (map (life_of rows time n) ls)
+          → ReadAs (verdicts_among s n ts os) (values_among n ls)
+      values_shown ts os ls r h =
+          values_read 0 (instances_seen s n) ts os ls (from_first (instances_seen s n)) r h
+
+  module _ (s : Seen) (tasks : List Task) (results : List Outcome) where
     both_read : (vs ws : List Verdict) (us ts : List RowValue) → ReadAs vs us → ReadAs ws ts → ReadAs (vs ++ ws) (us ++ ts)
     both_read vs ws us ts h k = (map-both vs ∙ (ap (λ zs. zs ++ map (read_verdict names) ws) h.0 ∙ ap (λ (zs : List RowValue). us ++ zs) k.0), held_more names vs ws h.1 k.1)
       where
@@ -164,15 +185,15 @@ module _ (names : Naming) (remembers : Memories) where
 
     -- of one stream
     stream_read : (b : Bool) (n : ℕ) (p : Span) (y : StreamRow)
-        → (b ≡ false → ReadAs (verdicts_among n (instances_seen s n) (in_span results (Some p))) (values_among n y.living))
-        → ReadAs (if b then [] else verdicts_among n (instances_seen s n) (in_span results (Some p))) (if b then [] else values_among n y.living)
+        → (b ≡ false → ReadAs (verdicts_among s n (asked_in tasks (Some p)) (in_span results (Some p))) (values_among n y.living))
+        → ReadAs (if b then [] else verdicts_among s n (asked_in tasks (Some p)) (in_span results (Some p))) (if b then [] else values_among n y.living)
     stream_read true n p y h = (refl, tt)
     stream_read false n p y h = h refl
 
     all_read : (n : ℕ) (xs : List Stream) (ps : List Span) (ys : List StreamRow) → length ps ≡ length xs → length ys ≡ length xs
         → ((i m : ℕ) (x : Stream) (p : Span) (y : StreamRow) → m ≡ n + i → slice_get xs i ≡ Some x → slice_get ps i ≡ Some p → slice_get ys i ≡ Some y → is_input x ≡ false
-        → ReadAs (verdicts_among m (instances_seen s m) (in_span results (Some p))) (values_among m y.living))
-        → ReadAs (all_verdicts s results n xs ps) (row_values n xs ys)
+        → ReadAs (verdicts_among s m (asked_in tasks (Some p)) (in_span results (Some p))) (values_among m y.living))
+        → ReadAs (all_verdicts s tasks results n xs ps) (row_values n xs ys)
     all_read n [] ps ys e f each = (refl, tt)
     all_read n (x ∷ xs) [] ys e f each = absurd (omega arith)
     all_read n (x ∷ xs) (p ∷ ps) [] e f each = absurd (omega arith)
@@ -181,80 +202,82 @@ module _ (names : Naming) (remembers : Memories) where
         (all_read (n + 1) xs ps ys (omega arith) (omega arith) (λ i m z q w g a b c. each (suc i) m z q w (omega arith) a b c))
 
 -- what is collected, where a span is noted for each stream
-module _ (plan : Plan) (accepted : IsAccepted plan) (spans : List Span) (results : List Outcome) (remembers : Memories) (s : Seen) where
-  module _ (names : Naming) (start : ℕ) (rows : List TableRow) (step : Step) (marks : List Mark) (noted : AreNoted plan (full_row plan start rows step).streams names marks spans results)
+module _ (plan : Plan) (accepted : IsAccepted plan) (spans : List Span) (tasks : List Task) (results : List Outcome) (remembers : Memories) (s : Seen) where
+  module _ (names : Naming) (start : ℕ) (rows : List TableRow) (step : Step) (marks : List Mark) (noted : AreNoted plan (full_row plan start rows step).streams names marks spans tasks results)
       (stands : Stands names remembers s (content start rows (full_row plan start rows step))) where
     abbrev full : List StreamRow
     full = (full_row plan start rows step).streams
 
     each : (i m : ℕ) (x : Stream) (p : Span) (y : StreamRow) → m ≡ 0 + i → slice_get plan.spec.streams i ≡ Some x → slice_get spans i ≡ Some p → slice_get full i ≡ Some y → is_input x ≡ false
-        → ReadAs names remembers (verdicts_among m (instances_seen s m) (in_span results (Some p))) (values_among m y.living)
+        → ReadAs names remembers (verdicts_among s m (asked_in tasks (Some p)) (in_span results (Some p))) (values_among m y.living)
     each i m x p y e a b c other =
         let same : i ≡ m = omega arith in
         let is_row : slice_get full m ≡ Some y = subst (λ j. slice_get full j ≡ Some y) same c in
         let is_span : slice_get spans m ≡ Some p = subst (λ j. slice_get spans j ≡ Some p) same b in
-        let shows : ShowLiving names (in_span results (slice_get spans m)) (living_in (slice_get full m)) = noted.results_show m x (subst (λ j. slice_get plan.spec.streams j ≡ Some x) same a) other in
-        values_shown names remembers rows (full_row plan start rows step).step.time m (instances_seen s m) (in_span results (Some p)) y.living
-        (subst (λ (o : Option StreamRow). ShowLiving names (in_span results (Some p)) (living_in o)) is_row
-        (subst (λ (o : Option Span). ShowLiving names (in_span results o) (living_in (slice_get full m))) is_span shows))
+        let shows : ShowLiving names (asked_in tasks (slice_get spans m)) (in_span results (slice_get spans m)) (living_in (slice_get full m)) = noted.results_show m x (subst (λ j. slice_get plan.spec.streams j ≡ Some x) same a) other in
+        values_shown names remembers rows (full_row plan start rows step).step.time m s (asked_in tasks (Some p)) (in_span results (Some p)) y.living
+        (subst (λ (o : Option StreamRow). ShowLiving names (asked_in tasks (Some p)) (in_span results (Some p)) (living_in o)) is_row
+        (subst (λ (o : Option Span). ShowLiving names (asked_in tasks o) (in_span results o) (living_in (slice_get full m))) is_span shows))
         (lives_shown names remembers s start rows (full_row plan start rows step) stands m y is_row)
 
-  collects_verdicts : length spans ≡ length plan.spec.streams → CollectsVerdicts plan spans results remembers s (all_verdicts s results 0 plan.spec.streams spans)
+  collects_verdicts : length spans ≡ length plan.spec.streams → CollectsVerdicts plan spans tasks results remembers s (all_verdicts s tasks results 0 plan.spec.streams spans)
   collects_verdicts count names start rows step marks run noted stands =
-      all_read names remembers s results 0 plan.spec.streams spans (full_row plan start rows step).streams count (length-full plan accepted.acyclic start rows step)
+      all_read names remembers s tasks results 0 plan.spec.streams spans (full_row plan start rows step).streams count (length-full plan accepted.acyclic start rows step)
       (each names start rows step marks noted stands)
 
 -- the steps of the loops
 
-module _ (n : ℕ) (xs : List SeenInstance) (os : List Outcome) (i : ℕ) (vs all : List Verdict) (so_far : vs ++ verdicts_among n (drop i xs) (drop i os) ≡ all) where
-  pub values_step : (d : Outcome) (ws : List Verdict) → i < length xs → i < length os → ws ≡ vs ++ add_verdict n (params_at (slice_get xs i)) (get_or os i d) []
-      → ws ++ verdicts_among n (drop (i + 1) xs) (drop (i + 1) os) ≡ all
-  values_step d ws below within e =
-      let x : Element xs i = element xs i below in
+module _ (s : Seen) (n : ℕ) (ts : List Task) (os : List Outcome) (i : ℕ) (vs all : List Verdict) (so_far : vs ++ verdicts_among s n (drop i ts) (drop i os) ≡ all) where
+  pub values_step : (e : Task) (d : Outcome) (ws : List Verdict) → i < length ts → i < length os → ws ≡ vs ++ add_verdict n (params_seen s n (get_or ts i e).index) (get_or os i d) []
+      → ws ++ verdicts_among s n (drop (i + 1) ts) (drop (i + 1) os) ≡ all
+  values_step e d ws below within f =
+      let t : Task = get_or ts i e in
       let o : Outcome = get_or os i d in
-      let rest : List Verdict = verdicts_among n (drop (i + 1) xs) (drop (i + 1) os) in
-      ap (λ (us : List Verdict). us ++ rest) (e ∙ ap (λ t. vs ++ add_verdict n (params_at t) o []) x.is)
-      ∙ (verdict_moves n x.at.params o vs rest
-      ∙ (ap (λ (us : List Verdict). vs ++ us) (sym (ap (λ ys. verdicts_among n ys (drop i os)) (cut xs i x.at x.is) ∙ ap (λ ys. verdicts_among n (x.at ∷ drop (i + 1) xs) ys) (cut os i o (slice_get-get_or os i d within))))
+      let rest : List Verdict = verdicts_among s n (drop (i + 1) ts) (drop (i + 1) os) in
+      ap (λ (us : List Verdict). us ++ rest) f
+      ∙ (verdict_moves n (params_seen s n t.index) o vs rest
+      ∙ (ap (λ (us : List Verdict). vs ++ us) (sym (ap (λ ys. verdicts_among s n ys (drop i os)) (cut ts i t (slice_get-get_or ts i e below)) ∙ ap (λ ys. verdicts_among s n (t ∷ drop (i + 1) ts) ys) (cut os i o (slice_get-get_or os i d within))))
       ∙ so_far))
 
   pub values_end : length os ≤ i → vs ≡ all
   values_end past =
       sym (append-nil vs)
-      ∙ (ap (λ (us : List Verdict). vs ++ us) (sym (ap (verdicts_among n (drop i xs)) (drop_past os i past) ∙ no_outcome n (drop i xs)))
+      ∙ (ap (λ (us : List Verdict). vs ++ us) (sym (ap (verdicts_among s n (drop i ts)) (drop_past os i past) ∙ no_outcome s n (drop i ts)))
       ∙ so_far)
 
-module _ (s : Seen) (results : List Outcome) (xs : List Stream) (ps : List Span) (n : ℕ) (vs : List Verdict)
-    (so_far : vs ++ all_verdicts s results n (drop n xs) (drop n ps) ≡ all_verdicts s results 0 xs ps) where
-  pub streams_step : (x : Stream) (d : Span) (os : List Outcome) (ws : List Verdict) → slice_get xs n ≡ Some x → n < length ps → os ≡ in_span results (Some (get_or ps n d))
-      → ws ≡ vs ++ (if is_input x then [] else verdicts_among n (instances_seen s n) os)
-      → ws ++ all_verdicts s results (n + 1) (drop (n + 1) xs) (drop (n + 1) ps) ≡ all_verdicts s results 0 xs ps
-  streams_step x d os ws at within of e =
+module _ (s : Seen) (tasks : List Task) (results : List Outcome) (xs : List Stream) (ps : List Span) (n : ℕ) (vs : List Verdict)
+    (so_far : vs ++ all_verdicts s tasks results n (drop n xs) (drop n ps) ≡ all_verdicts s tasks results 0 xs ps) where
+  pub streams_step : (x : Stream) (d : Span) (ts : List Task) (os : List Outcome) (ws : List Verdict) → slice_get xs n ≡ Some x → n < length ps
+      → ts ≡ asked_in tasks (Some (get_or ps n d)) → os ≡ in_span results (Some (get_or ps n d))
+      → ws ≡ vs ++ (if is_input x then [] else verdicts_among s n ts os)
+      → ws ++ all_verdicts s tasks results (n + 1) (drop (n + 1) xs) (drop (n + 1) ps) ≡ all_verdicts s tasks results 0 xs ps
+  streams_step x d ts os ws at within asked of e =
       let p : Span = get_or ps n d in
-      let here : List Verdict = if is_input x then [] else verdicts_among n (instances_seen s n) (in_span results (Some p)) in
-      let rest : List Verdict = all_verdicts s results (n + 1) (drop (n + 1) xs) (drop (n + 1) ps) in
-      ap (λ (us : List Verdict). us ++ rest) (e ∙ ap (λ ys. vs ++ (if is_input x then [] else verdicts_among n (instances_seen s n) ys)) of)
+      let here : List Verdict = if is_input x then [] else verdicts_among s n (asked_in tasks (Some p)) (in_span results (Some p)) in
+      let rest : List Verdict = all_verdicts s tasks results (n + 1) (drop (n + 1) xs) (drop (n + 1) ps) in
+      ap (λ (us : List Verdict). us ++ rest) (e ∙ (ap (λ ys. vs ++ (if is_input x then [] else verdicts_among s n ts ys)) of
+      ∙ ap (λ ys. vs ++ (if is_input x then [] else verdicts_among s n ys (in_span results (Some p)))) asked))
       ∙ (append_assoc vs here rest
-      ∙ (ap (λ (us : List Verdict). vs ++ us) (sym (ap (λ ys. all_verdicts s results n ys (drop n ps)) (cut xs n x at) ∙ ap (λ ys. all_verdicts s results n (x ∷ drop (n + 1) xs) ys) (cut ps n p (slice_get-get_or ps n d within))))
+      ∙ (ap (λ (us : List Verdict). vs ++ us) (sym (ap (λ ys. all_verdicts s tasks results n ys (drop n ps)) (cut xs n x at) ∙ ap (λ ys. all_verdicts s tasks results n (x ∷ drop (n + 1) xs) ys) (cut ps n p (slice_get-get_or ps n d within))))
       ∙ so_far))
 
-  streams_end : length xs ≤ n → vs ≡ all_verdicts s results 0 xs ps
+  streams_end : length xs ≤ n → vs ≡ all_verdicts s tasks results 0 xs ps
   streams_end past =
       sym (append-nil vs)
-      ∙ (ap (λ (us : List Verdict). vs ++ us) (sym (ap (λ ys. all_verdicts s results n ys (drop n ps)) (drop_past xs n past)))
+      ∙ (ap (λ (us : List Verdict). vs ++ us) (sym (ap (λ ys. all_verdicts s tasks results n ys (drop n ps)) (drop_past xs n past)))
       ∙ so_far)
 
 -- where the loop over all streams ends
-module _ (plan : Plan) (spans : List Span) (results : List Outcome) (s : Seen) (n : ℕ) (vs : List Verdict)
-    (so_far : vs ++ all_verdicts s results n (drop n plan.spec.streams) (drop n spans) ≡ all_verdicts s results 0 plan.spec.streams spans) (past : length plan.spec.streams ≤ n) where
-  all_collected : all_verdicts s results 0 plan.spec.streams spans ≡ vs
-  all_collected = sym (streams_end s results plan.spec.streams spans n vs so_far past)
+module _ (plan : Plan) (spans : List Span) (tasks : List Task) (results : List Outcome) (s : Seen) (n : ℕ) (vs : List Verdict)
+    (so_far : vs ++ all_verdicts s tasks results n (drop n plan.spec.streams) (drop n spans) ≡ all_verdicts s tasks results 0 plan.spec.streams spans) (past : length plan.spec.streams ≤ n) where
+  all_collected : all_verdicts s tasks results 0 plan.spec.streams spans ≡ vs
+  all_collected = sym (streams_end s tasks results plan.spec.streams spans n vs so_far past)
 
-  pub verdicts_end : s.layout ≡ layout_of plan → AreSpans s results spans → FitLayout s.layout vs → AreVerdicts plan vs
+  pub verdicts_end : s.layout ≡ layout_of plan → AreSpans s tasks results spans → FitLayout s.layout vs → AreVerdicts plan vs
   verdicts_end layout within fit =
       subst (AreVerdicts plan) all_collected
-      (verdicts_are plan s layout results spans within (subst (FitLayout (layout_of plan)) (sym all_collected) (subst (λ (l : Layout). FitLayout l vs) layout fit)))
+      (verdicts_are plan s layout tasks results spans within (subst (FitLayout (layout_of plan)) (sym all_collected) (subst (λ (l : Layout). FitLayout l vs) layout fit)))
 
-  pub collects_end : (remembers : Memories) → IsAccepted plan → length spans ≡ length plan.spec.streams → CollectsVerdicts plan spans results remembers s vs
+  pub collects_end : (remembers : Memories) → IsAccepted plan → length spans ≡ length plan.spec.streams → CollectsVerdicts plan spans tasks results remembers s vs
   collects_end remembers accepted count =
-      subst (CollectsVerdicts plan spans results remembers s) all_collected (collects_verdicts plan accepted spans results remembers s count)
+      subst (CollectsVerdicts plan spans tasks results remembers s) all_collected (collects_verdicts plan accepted spans tasks results remembers s count)

@@ -6,6 +6,7 @@ ghost use Rattle.lola_value.specs.Naming.{Naming};
 ghost use Rattle.lola_value.specs.Times.{latest};
 ghost use Rattle.lola_model.specs.Acceptance.{IsAccepted};
 ghost use Rattle.lola_model.specs.Content.{Content};
+ghost use Rattle.lola_model.specs.Dues.{locals_of};
 ghost use Rattle.lola_model.specs.Model.{close_pacing};
 ghost use Rattle.lola_model.specs.NextStep.{is_local};
 ghost use Rattle.lola_model.specs.Store.{IsRunning, Stands, instances_seen, layout_of, spawns_in};
@@ -14,7 +15,7 @@ ghost use Rattle.lola_step.specs.Clauses.{IsAnswer, closing_answer};
 ghost use Rattle.lola_step.specs.Closings.{AreUpTo, FindsAmong, FindsIn, MayAskClosing, closed_by};
 ghost use Rattle.lola_step.specs.Ends.{FindsClosings};
 ghost use Rattle.lola_step.specs.Found.{add_fault};
-ghost use Rattle.lola_step.specs.Moments.{active_for_in, born_seen, may_be_active_in};
+ghost use Rattle.lola_step.specs.Moments.{IsListedIn, active_for_in, born_seen, may_be_active_in};
 ghost use Rattle.lola_step.specs.Notes.{AreClosable, places_of};
 ghost use Rattle.lola_step.specs.Progress.{IsMomentOf, IsOf};
 ghost use Rattle.lola_step.specs.Rooms.{rooms, total};
@@ -131,6 +132,7 @@ fn find_due<S: StreamStore>(
 ) -> Option<FaultKind>
     requires in_time { moment.now.time ≤ latest }
     requires local { is_local pacing.now ≡ true }
+    requires listed { IsListedIn pacing.now (locals_of (slice_get (S.seen store.now).layout.streams stream)) }
     requires may { may_be_active_in moment.now pacing.now ≡ true }
     requires running { IsRunning (S.seen store.now) }
     requires layout { (S.seen store.now).layout ≡ layout_of plan.now }

@@ -1,10 +1,14 @@
-use Rattle.std.proofs.Common.{◌∙◌, ap, arith, length, slice_get, sym}
+use Rattle.std.proofs.Common.{◌∙◌, ap, arith, length, slice_get, sym, Option, subst}
 use Rattle.std.proofs.lemmas.Option.{slice_get_within}
+use Rattle.lola_model.specs.Dues.{locals_of}
 use Rattle.lola_model.specs.Model.{close_pacing}
-use Rattle.lola_step.specs.Moments.{may_be_active_in}
+use Rattle.lola_model.specs.declared.pacing.Pacing.{Pacing}
+use Rattle.lola_step.specs.Moments.{IsListedIn, may_be_active_in}
 use Rattle.lola_step.proofs.Asking.{closes_asked, closes_spawned, laid_out}
 use Rattle.lola_step.proofs.Conditions.{found_in, none_active, none_without}
 use Rattle.lola_step.proofs.Layouts.{pacings_length}
+use Rattle.lola_step.proofs.Standing.{room_alone}
+use Rattle.lola_step.proofs.Undue.{closes_listed}
 use Rattle.lola_step.proofs.closes.find_in_stream.Goals as goal
 
 pub returns-in_default-clause-finds : goal.returns-in_default-clause-finds
@@ -36,8 +40,38 @@ pub find_among-requires-clause-spawns : goal.find_among-requires-clause-spawns
 find_among-requires-clause-spawns g c =
     closes_spawned c.args.plan.now c.requires.accepted (g.S.StreamStore.seen c.args.store.now) c.requires.of c.args.number c.args.stream.now c.requires.there c.in-Some.clause c.in-Some.is
 
-pub returns-clause-finds : goal.returns-clause-finds
-returns-clause-finds g c =
+pub find_due-requires-clause-listed : goal.find_due-requires-clause-listed
+find_due-requires-clause-listed g c =
+    let s = g.S.StreamStore.seen c.args.store.now in
+    subst (λ (o : Option Pacing). IsListedIn o (locals_of (slice_get s.layout.streams c.args.number)))
+    (sym (c.close_pacing_at-pacing.ensures ∙ ap (λ ps. close_pacing (slice_get ps c.args.number)) c.as_slice.ensures))
+    (closes_listed c.args.plan.now s c.requires.of c.args.number c.args.stream.now c.requires.there)
+
+pub find_due-requires-clause-asks : goal.find_due-requires-clause-asks
+find_due-requires-clause-asks g c =
+    closes_asked c.args.plan.now c.requires.accepted (g.S.StreamStore.seen c.args.store.now) c.requires.of c.args.number c.args.stream.now c.requires.there c.in-Some.clause c.in-Some.is
+    c.args.moment.now c.requires.moment c.requires.running c.close_pacing_at-pacing.result.now
+    (c.close_pacing_at-pacing.ensures ∙ ap (λ ps. close_pacing (slice_get ps c.args.number)) c.as_slice.ensures)
+
+pub find_due-requires-clause-stream : goal.find_due-requires-clause-stream
+find_due-requires-clause-stream g c =
+    laid_out c.args.plan.now c.requires.accepted (g.S.StreamStore.seen c.args.store.now) c.requires.of c.args.number c.args.stream.now c.requires.there
+
+pub find_due-requires-clause-spawns : goal.find_due-requires-clause-spawns
+find_due-requires-clause-spawns g c =
+    closes_spawned c.args.plan.now c.requires.accepted (g.S.StreamStore.seen c.args.store.now) c.requires.of c.args.number c.args.stream.now c.requires.there c.in-Some.clause c.in-Some.is
+
+pub find_due-requires-clause-places_room : goal.find_due-requires-clause-places_room
+find_due-requires-clause-places_room g c = omega (arith, room_alone (g.S.StreamStore.seen c.args.store.now) c.args.number, c.requires.places_room)
+
+pub returns-in-Some-Local-clause-finds : goal.returns-in-Some-Local-clause-finds
+returns-in-Some-Local-clause-finds g c =
+    found_in c.args.plan.now c.args.moment.now (g.S.StreamStore.remembers c.args.store.now) (g.S.StreamStore.seen c.args.store.now) c.args.number c.args.stream.now
+    c.args.closing.now.items c.close_pacing_at-pacing.result.now c.in-Some.clause c.find_due.result c.find_due.new.closing.items
+    (c.close_pacing_at-pacing.ensures ∙ ap (λ ps. close_pacing (slice_get ps c.args.number)) c.as_slice.ensures) c.in-Some.is c.find_due.ensures.finds
+
+pub returns-in_default-pacing-clause-finds : goal.returns-in_default-pacing-clause-finds
+returns-in_default-pacing-clause-finds g c =
     found_in c.args.plan.now c.args.moment.now (g.S.StreamStore.remembers c.args.store.now) (g.S.StreamStore.seen c.args.store.now) c.args.number c.args.stream.now
     c.args.closing.now.items c.close_pacing_at-pacing.result.now c.in-Some.clause c.find_among.result c.find_among.new.closing.items
     (c.close_pacing_at-pacing.ensures ∙ ap (λ ps. close_pacing (slice_get ps c.args.number)) c.as_slice.ensures) c.in-Some.is c.find_among.ensures.finds

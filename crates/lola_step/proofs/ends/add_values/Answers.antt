@@ -1,20 +1,25 @@
-use Rattle.std.proofs.Common.{◌∙◌, arith}
+use Rattle.std.proofs.Common.{◌∙◌, arith, slice_index_or}
+use Rattle.std.proofs.lemmas.Option.{slice_get-get_or}
 use Rattle.lola_model.specs.Store.{instances_seen}
-use Rattle.lola_step.proofs.Valued.{values_end, values_step}
+use Rattle.lola_step.proofs.Valued.{asked_lives, values_end, values_step}
 use Rattle.lola_step.proofs.ends.add_values.Goals as goal
 
-pub loop-index-preserved : goal.loop-index-preserved
-loop-index-preserved g c =
-    let xs = instances_seen (g.S.StreamStore.seen c.args.store.now) c.args.stream in
+pub add_value-requires-clause-lives : goal.add_value-requires-clause-lives
+add_value-requires-clause-lives g c =
+    let i = c.loop-i.i in
+    asked_lives c.args.stream 0 _ c.args.tasks.now c.requires.asked i (slice_index_or c.args.tasks.now i (record { stream = 0; index = 0 })) (slice_get-get_or c.args.tasks.now i _ c.loop-i-test.true)
+
+pub loop-i-preserved : goal.loop-i-preserved
+loop-i-preserved g c =
+    let s = g.S.StreamStore.seen c.args.store.now in
     record {
-      items = values_step c.args.stream xs c.args.results.now c.loop-index.index c.loop-index.verdicts.items _ c.loop-index.invariant.items _ c.add_value.new.verdicts.items
-          (omega arith) c.loop-index-test.true c.add_value.ensures.items;
-      fit = λ f. c.add_value.ensures.fit (c.loop-index.invariant.fit f);
-      count = omega (arith, c.add_value.ensures.count, c.loop-index.invariant.count);
-      capacity = c.add_value.ensures.capacity ∙ c.loop-index.invariant.capacity;
+      items = values_step s c.args.stream c.args.tasks.now c.args.results.now c.loop-i.i c.loop-i.verdicts.items _ c.loop-i.invariant.items _ _ c.add_value.new.verdicts.items
+          c.loop-i-test.true (omega arith) c.add_value.ensures.items;
+      fit = λ f. c.add_value.ensures.fit (c.loop-i.invariant.fit f);
+      count = omega (arith, c.add_value.ensures.count, c.loop-i.invariant.count);
+      capacity = c.add_value.ensures.capacity ∙ c.loop-i.invariant.capacity;
     }
 
 pub returns-clause-items : goal.returns-clause-items
 returns-clause-items g c =
-    let xs = instances_seen (g.S.StreamStore.seen c.args.store.now) c.args.stream in
-    values_end c.args.stream xs c.args.results.now c.loop-index.index c.loop-index.verdicts.items _ c.loop-index.invariant.items c.loop-index-test.false
+    values_end (g.S.StreamStore.seen c.args.store.now) c.args.stream c.args.tasks.now c.args.results.now c.loop-i.i c.loop-i.verdicts.items _ c.loop-i.invariant.items (omega arith)

@@ -1,6 +1,7 @@
-use Rattle.std.proofs.Common.{◌≡◌, ◌∙◌, ◌<◌, ◌≤◌, Some, ap, arith, length, slice_get, slice_index_or}
+use Rattle.std.proofs.Common.{◌≡◌, ◌∙◌, ◌<◌, ◌≤◌, Some, ap, arith, length, slice_get, slice_index_or, subst, sym}
 use Rattle.std.proofs.lemmas.Option.{slice_get-get_or}
-use Rattle.lola_step.specs.Notes.{IsSpan}
+use Rattle.lola_model.specs.Store.{instances_seen}
+use Rattle.lola_step.specs.Notes.{AreOfStream, IsSpan}
 use Rattle.lola_step.specs.declared.scratch.Span.{Span}
 use Rattle.lola_step.proofs.Elements.{read_below, read_is}
 use Rattle.lola_step.proofs.Standing.{room_there}
@@ -10,21 +11,25 @@ use Rattle.lola_step.proofs.ends.collect.Goals.{After-stream-item}
 
 -- the span of the stream
 here : (g : _) (c : After-stream-item g)
-    → IsSpan (g.S.StreamStore.seen c.args.store.now) c.args.results.now c.loop-n.n (slice_index_or c.args.spans.now c.loop-n.n (record { from = 0; count = 0 }))
+    → IsSpan (g.S.StreamStore.seen c.args.store.now) c.args.tasks.now c.args.results.now c.loop-n.n (slice_index_or c.args.spans.now c.loop-n.n (record { from = 0; count = 0 }))
 here g c =
     let below : c.loop-n.n < length c.args.plan.now.spec.streams
     = read_below c.as_slice-stream-items.result.now c.args.plan.now.spec.streams c.loop-n.n c.as_slice-stream-items.ensures c.loop-n-test.true in
     c.requires.within c.loop-n.n _ (slice_get-get_or c.args.spans.now c.loop-n.n _ (omega arith))
 
+pub tasks_of-requires : goal.tasks_of-requires
+tasks_of-requires g c = omega (arith, (here g (goal.at.tasks_of-requires g c).After-stream-item).within)
+
 pub outcomes_of-requires : goal.outcomes_of-requires
 outcomes_of-requires g c = (here g (goal.at.outcomes_of-requires g c).After-stream-item).within
 
-pub add_outputs-requires-clause-few : goal.add_outputs-requires-clause-few
-add_outputs-requires-clause-few g c = omega (arith, c.outcomes_of.ensures.count, (here g (goal.at.add_outputs-requires-clause-few g c).After-stream-item).few)
+pub add_outputs-requires-clause-each : goal.add_outputs-requires-clause-each
+add_outputs-requires-clause-each g c = omega (arith, c.tasks_of.ensures.count, c.outcomes_of.ensures.count)
 
-pub add_outputs-requires-clause-numbered : goal.add_outputs-requires-clause-numbered
-add_outputs-requires-clause-numbered g c =
-    omega (arith, c.outcomes_of.ensures.count, (here g (goal.at.add_outputs-requires-clause-numbered g c).After-stream-item).few, c.requires.of.few c.loop-n.n)
+pub add_outputs-requires-clause-asked : goal.add_outputs-requires-clause-asked
+add_outputs-requires-clause-asked g c =
+    let s = g.S.StreamStore.seen c.args.store.now in
+    subst (AreOfStream c.loop-n.n 0 (length (instances_seen s c.loop-n.n))) (sym c.tasks_of.ensures.value) (here g (goal.at.add_outputs-requires-clause-asked g c).After-stream-item).asked
 
 pub add_outputs-requires-clause-room : goal.add_outputs-requires-clause-room
 add_outputs-requires-clause-room g c =
@@ -48,10 +53,10 @@ loop-n-preserved g c =
     let at : slice_get streams n ≡ Some x = read_is c.as_slice-stream-items.result.now streams n c.as_slice-stream-items.ensures c.loop-n-test.true x c.stream-item.is in
     let none : Span = record { from = 0; count = 0 } in
     let within : n < length spans = omega arith in
-    let span : IsSpan s c.args.results.now n (slice_index_or spans n none) = here g (goal.at.loop-n-preserved g c).After-stream-item in
+    let span : IsSpan s c.args.tasks.now c.args.results.now n (slice_index_or spans n none) = here g (goal.at.loop-n-preserved g c).After-stream-item in
     record {
-      items = streams_step s c.args.results.now streams spans n c.loop-n.verdicts.items c.loop-n.invariant.items x none c.outcomes_of.result.now c.add_outputs.new.verdicts.items at within
-          c.outcomes_of.ensures.value c.add_outputs.ensures.items;
+      items = streams_step s c.args.tasks.now c.args.results.now streams spans n c.loop-n.verdicts.items c.loop-n.invariant.items x none c.tasks_of.result.now c.outcomes_of.result.now
+          c.add_outputs.new.verdicts.items at within c.tasks_of.ensures.value c.outcomes_of.ensures.value c.add_outputs.ensures.items;
       fit = c.add_outputs.ensures.fit c.loop-n.invariant.fit;
       count = omega (arith, c.add_outputs.ensures.count, c.outcomes_of.ensures.count, span.few, room_there s n, c.loop-n.invariant.count);
       capacity = c.add_outputs.ensures.capacity ∙ c.loop-n.invariant.capacity;
@@ -61,12 +66,12 @@ pub returns-clause-verdicts : goal.returns-clause-verdicts
 returns-clause-verdicts g c =
     let plan = c.args.plan.now in
     let past : length plan.spec.streams ≤ c.loop-n.n = omega (arith, ap length c.as_slice-stream-items.ensures) in
-    verdicts_end plan c.args.spans.now c.args.results.now (g.S.StreamStore.seen c.args.store.now) c.loop-n.n c.loop-n.verdicts.items c.loop-n.invariant.items past
+    verdicts_end plan c.args.spans.now c.args.tasks.now c.args.results.now (g.S.StreamStore.seen c.args.store.now) c.loop-n.n c.loop-n.verdicts.items c.loop-n.invariant.items past
     c.requires.of.layout c.requires.within c.loop-n.invariant.fit
 
 pub returns-clause-values : goal.returns-clause-values
 returns-clause-values g c =
     let plan = c.args.plan.now in
     let past : length plan.spec.streams ≤ c.loop-n.n = omega (arith, ap length c.as_slice-stream-items.ensures) in
-    collects_end plan c.args.spans.now c.args.results.now (g.S.StreamStore.seen c.args.store.now) c.loop-n.n c.loop-n.verdicts.items c.loop-n.invariant.items past
+    collects_end plan c.args.spans.now c.args.tasks.now c.args.results.now (g.S.StreamStore.seen c.args.store.now) c.loop-n.n c.loop-n.verdicts.items c.loop-n.invariant.items past
     (g.S.StreamStore.remembers c.args.store.now) c.requires.accepted c.requires.spans

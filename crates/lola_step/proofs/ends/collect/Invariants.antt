@@ -9,7 +9,7 @@ abbrev pub invariant-loop-n : goal.invariant-loop-n
 invariant-loop-n g l =
     let s = g.S.StreamStore.seen l.store in
     record {
-      items : l.verdicts.items ++ all_verdicts s l.results l.n (drop l.n l.plan.spec.streams) (drop l.n l.spans) ≡ all_verdicts s l.results 0 l.plan.spec.streams l.spans;
+      items : l.verdicts.items ++ all_verdicts s l.tasks l.results l.n (drop l.n l.plan.spec.streams) (drop l.n l.spans) ≡ all_verdicts s l.tasks l.results 0 l.plan.spec.streams l.spans;
       fit : FitLayout s.layout l.verdicts.items;
       count : vec_len l.verdicts + total (drop l.n (rooms s)) ≤ total (rooms s);
       capacity : vec_capacity l.verdicts ≡ vec_capacity l.initial.verdicts;

@@ -6,18 +6,18 @@ use Rattle.lola_step.proofs.Faulty.{finds_fault, first_here, first_none}
 use Rattle.lola_step.proofs.ends.first_fault.Goals as goal
 
 pub outcomes_of-requires : goal.outcomes_of-requires
-outcomes_of-requires g c =
-    (c.requires.within c.loop-n.n (slice_index_or c.args.spans.now c.loop-n.n (record { from = 0; count = 0 })) (slice_get-get_or c.args.spans.now c.loop-n.n _ (omega arith))).within
+outcomes_of-requires c =
+    c.requires.within c.loop-n.n (slice_index_or c.args.spans.now c.loop-n.n (record { from = 0; count = 0 })) (slice_get-get_or c.args.spans.now c.loop-n.n _ (omega arith))
 
 pub returns-in-Some : goal.returns-in-Some
-returns-in-Some g c =
-    subst (FindsFault c.args.plan.now c.args.marks.now c.args.spans.now c.args.results.now)
+returns-in-Some c tasks =
+    subst (FindsFault c.args.plan.now c.args.marks.now c.args.spans.now tasks c.args.results.now)
     (first_here c.args.results.now c.args.marks.now c.args.spans.now c.loop-n.n c.loop-n.invariant _ (record { from = 0; count = 0 }) c.in-Some.kind c.loop-n-test.true (omega arith)
     (c.in-Some.ensures ∙ ap (fault_of _) c.outcomes_of.ensures.value))
-    (finds_fault c.args.plan.now c.requires.accepted c.args.marks.now c.args.spans.now c.args.results.now c.requires.marks c.requires.spans)
+    (finds_fault c.args.plan.now c.requires.accepted c.args.marks.now c.args.spans.now tasks c.args.results.now c.requires.marks c.requires.spans)
 
 pub returns : goal.returns
-returns g c =
-    subst (FindsFault c.args.plan.now c.args.marks.now c.args.spans.now c.args.results.now)
+returns c tasks =
+    subst (FindsFault c.args.plan.now c.args.marks.now c.args.spans.now tasks c.args.results.now)
     (first_none c.args.results.now c.args.marks.now c.args.spans.now c.loop-n.n c.loop-n.invariant c.loop-n-test.false)
-    (finds_fault c.args.plan.now c.requires.accepted c.args.marks.now c.args.spans.now c.args.results.now c.requires.marks c.requires.spans)
+    (finds_fault c.args.plan.now c.requires.accepted c.args.marks.now c.args.spans.now tasks c.args.results.now c.requires.marks c.requires.spans)

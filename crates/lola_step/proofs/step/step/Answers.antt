@@ -55,6 +55,16 @@ conclude-requires-clause-moment g c =
     same_moment c.moment_of-moment.result (after_begin (after_prepare s) c.args.time) (g.S.StreamStore.seen c.evaluate.new.store)
     (c.evaluate.ensures.goes_on.phase ∙ (c.tell_inputs.ensures.goes_on.phase ∙ ap (λ (t : Seen). t.phase) e)) there
 
+pub conclude-requires-clause-places_room : goal.conclude-requires-clause-places_room
+conclude-requires-clause-places_room g c =
+    let s = g.S.StreamStore.seen c.args.store.now in
+    let e : g.S.StreamStore.seen c.begin.new.store ≡ after_begin (after_prepare s) c.args.time =
+    c.begin.ensures.seen ∙ ap (λ t. after_begin t c.args.time) c.in_default.ensures.ok in
+    let told : total (rooms (g.S.StreamStore.seen c.tell_inputs.new.store)) ≡ instances_to_come s =
+    ap total c.tell_inputs.ensures.goes_on.rooms ∙ (ap (λ t. total (rooms t)) e ∙ first_room s c.args.time) in
+    let all : total (rooms (g.S.StreamStore.seen c.evaluate.new.store)) ≡ instances_to_come s = ap total c.evaluate.ensures.goes_on.rooms ∙ told in
+    omega (arith, all, c.evaluate.ensures.places, c.in_default.ensures.fresh.places_room)
+
 pub conclude-requires-clause-closing_room : goal.conclude-requires-clause-closing_room
 conclude-requires-clause-closing_room g c =
     let s = g.S.StreamStore.seen c.args.store.now in
