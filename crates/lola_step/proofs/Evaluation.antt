@@ -28,7 +28,7 @@ use Rattle.lola_step.specs.declared.mark.Mark.TheVariants as mark
 use Rattle.lola_step.specs.declared.moment.Moment.{Moment}
 use Rattle.lola_step.specs.declared.scratch.Span.{Span}
 use Rattle.lola_step.specs.declared.tasks.Task.{Task}
-use Rattle.lola_step.proofs.Listed.{of_stream_up}
+use Rattle.lola_step.proofs.Places.{of_stream_up}
 
 -- a step goes on
 
@@ -172,27 +172,7 @@ first_layer plan m remembers s marks spans places tasks results at ms fine ss em
 
 -- once the spawn clauses of a layer ran
 
--- as many outcomes are to come
-same_to_come : (layers : List ℕ) (count layer n : ℕ) (ss : List Stream) (ks : List ℕ) → to_come layers (layer_stage count layer) n ss ks ≡ to_come layers (eval_stage count layer) n ss ks
-same_to_come layers count layer n [] ks = refl
-same_to_come layers count layer n (s ∷ ss) [] = refl
-same_to_come layers count layer n (s ∷ ss) (k ∷ ks) =
-    ap (λ x. (if is_input s || is_evaluated layers (eval_stage count layer) n s then 0 else k) + x) (same_to_come layers count layer (n + 1) ss ks)
-
--- there is as much room
-pub rooms_then : (plan : Plan) (layer : ℕ) (s t : Seen) (places : Vec ℕ) (tasks : Vec Task) (results : Vec Outcome) → GoesOn s t
-    → HasRooms plan (layer_stage (length plan.spec.streams) layer) s places tasks results → HasRooms plan (eval_stage (length plan.spec.streams) layer) t places tasks results
-rooms_then plan layer s t places tasks results g h =
-    let still : to_come plan.layers (eval_stage (length plan.spec.streams) layer) 0 plan.spec.streams (rooms t) ≡ to_come plan.layers (layer_stage (length plan.spec.streams) layer) 0 plan.spec.streams (rooms s) =
-    ap (to_come plan.layers (eval_stage (length plan.spec.streams) layer) 0 plan.spec.streams) g.rooms ∙ sym (same_to_come plan.layers (length plan.spec.streams) layer 0 plan.spec.streams (rooms s)) in
-    record {
-      each = h.each;
-      places_room = subst (λ ks. total ks ≤ vec_capacity places) (sym g.rooms) h.places_room;
-      tasks_room = subst (λ k. vec_len tasks + k ≤ vec_capacity tasks) (sym still) h.tasks_room;
-      results_room = subst (λ k. vec_len results + k ≤ vec_capacity results) (sym still) h.results_room;
-    }
-
--- and the spans are ready
+-- the spans are ready
 pub spans_then : (plan : Plan) (layer : ℕ) (s t : Seen) (tasks : List Task) (results : List Outcome) (spans : List Span) → GoesOn s t
     → IsReadyFor plan (layer_stage (length plan.spec.streams) layer) s tasks results spans → IsReadyFor plan (eval_stage (length plan.spec.streams) layer) t tasks results spans
 spans_then plan layer s t tasks results spans g h = record {

@@ -1,5 +1,5 @@
 -- How the tasks of a layer are listed, stream by stream.
-use Rattle.std.proofs.Common.{◌≡◌, refl, ap, ◌∙◌, sym, ℕ, zero, suc, ◌+◌, ◌<◌, ◌≤◌, ◌⊎◌, inl, inr, List, [], ◌∷◌, ◌++◌, Option, Bool, true, false, not, ◌||◌, nat_eq, nat_lt, if◌then◌else◌, get_or, length, map, slice_get, take, drop, arith, append_assoc, length-append, replicate, add-one, add-zero, zero-add}
+use Rattle.std.proofs.Common.{◌≡◌, refl, ap, ◌∙◌, sym, ℕ, zero, suc, ◌+◌, ◌<◌, ◌≤◌, ◌⊎◌, inl, inr, List, [], ◌∷◌, ◌++◌, Option, Bool, true, false, not, ◌||◌, nat_eq, nat_lt, if◌then◌else◌, get_or, length, map, slice_get, take, drop, arith, append_assoc, length-append, replicate, add-zero, zero-add}
 use Rattle.std.proofs.Math.ListN.{set}
 use Rattle.std.proofs.lemmas.Bool.{and_parts, cases_eq, eqb-true, le-ltb, lt-ltb, not-true}
 use Rattle.std.proofs.lemmas.List.{drop_more, drop-set-lt, replicate-append-replicate, take_more, take_more_set}
@@ -19,7 +19,7 @@ use Rattle.lola_step.specs.declared.mark.Mark.{Mark}
 use Rattle.lola_step.specs.declared.moment.Moment.{Moment}
 use Rattle.lola_step.specs.declared.scratch.Span.{Span}
 use Rattle.lola_step.specs.declared.tasks.Task.{Task}
-use Rattle.lola_step.proofs.Listed.{few_asked, length_tasks}
+use Rattle.lola_step.proofs.Places.{few_asked, length_tasks}
 
 -- a stream that runs in a layer is no input, and belongs to the layer
 pub record Runs (plan : Plan) (layer n : ℕ) (x : Stream) : Type 0 where
@@ -208,15 +208,6 @@ module _ (plan : Plan) (m : Moment) (marks : List Mark) (s : Seen) (layer : ℕ)
       ∙ (ap (λ ps. take (n + 1) ps ++ spans_past from n x (drop (n + 1) streams) (drop (n + 1) ps)) (is ∙ ap (λ k. if runs_in plan m marks layer n x then set old n (span_of k n x) else old) f)
       ∙ (span_step from n x (drop (n + 1) streams) old h
       ∙ (ap (λ xs. take n old ++ layer_spans plan m marks s layer from n xs (drop n old)) (sym at) ∙ so)))
-
--- no stream has more instances than all have rooms
-room_at : (ss : List SeenStream) (n : ℕ) → length (instances_of (slice_get ss n)) ≤ total (map room_of ss)
-room_at [] n = omega arith
-room_at (x ∷ ss) zero = omega arith
-room_at (x ∷ ss) (suc n) = let a = room_at ss n in omega (arith, a)
-
-pub room_of_places : (s : Seen) (n : ℕ) → length (instances_seen s n) ≤ total (rooms s)
-room_of_places s n = room_at s.streams n
 
 -- an element that is read at a place
 pub drop_here : {A : Type 0} (xs : List A) (i : ℕ) (x : A) → i < length xs → x ≡ get_or xs i x → drop i xs ≡ x ∷ drop (i + 1) xs

@@ -42,12 +42,6 @@ stands_missing names remembers s c n i e h =
 
 -- the loop goes on
 
-pub same_number : (s : Seen) (ts : List Task) (rs : List Outcome) → CanGiveAll s ts rs → length ts ≡ length rs
-same_number s [] [] h = refl
-same_number s [] (r ∷ rs) h = absurd h
-same_number s (t ∷ ts) [] h = absurd h
-same_number s (t ∷ ts) (r ∷ rs) h = ap suc (same_number (after_giving s t r) ts rs h.1)
-
 pub can_first : (s : Seen) (ts us : List Task) (rs qs : List Outcome) (t : Task) (r : Outcome) → ts ≡ t ∷ us → rs ≡ r ∷ qs
     → CanGiveAll s ts rs → CanGive s t r × CanGiveAll (after_giving s t r) us qs
 can_first s ts us rs qs t r e f h =

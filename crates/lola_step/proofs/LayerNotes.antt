@@ -22,7 +22,7 @@ use Rattle.lola_step.specs.declared.scratch.Span.{Span}
 use Rattle.lola_step.specs.declared.tasks.Task.{Task}
 use Rattle.lola_step.proofs.Gathering.{all_rooms, asked_tasks, done_stays, layer_fits, length_spans, run_is_done, runs_so}
 use Rattle.lola_step.proofs.Keeping.{Keeps, keeps_given}
-use Rattle.lola_step.proofs.Listed.{asked_of_stream}
+use Rattle.lola_step.proofs.Places.{asked_of_stream}
 use Rattle.lola_step.proofs.Results.{SpanOf, each_span, kinds_of_stream}
 
 -- a span within the earlier results has the outcomes that it had

@@ -1,5 +1,5 @@
 -- The tasks of a layer, and what a store shows once all of them have their outcomes.
-use Rattle.std.proofs.Common.{◌≡◌, refl, ap, ◌∙◌, sym, subst, ℕ, zero, suc, ◌+◌, ◌*◌, ◌^◌, ◌<◌, ◌≤◌, ◌⊎◌, inl, inr, List, [], ◌∷◌, ◌++◌, Option, Some, None, Bool, true, false, not, nat_eq, if◌then◌else◌, length, slice_get, arith, length-append, add-zero, zero-add}
+use Rattle.std.proofs.Common.{◌≡◌, refl, ap, ◌∙◌, sym, subst, ℕ, suc, ◌+◌, ◌*◌, ◌^◌, ◌<◌, ◌≤◌, ◌⊎◌, inl, inr, List, [], ◌∷◌, ◌++◌, Option, Some, None, Bool, true, false, not, nat_eq, if◌then◌else◌, length, slice_get, arith, length-append, add-zero, zero-add}
 use Rattle.std.proofs.lemmas.Bool.{and_parts, cases_lt}
 use Rattle.std.proofs.lemmas.Option.{slice_get_past, slice_get_within}
 use Rattle.lola_value.specs.Times.{latest}
@@ -31,7 +31,7 @@ use Rattle.lola_step.proofs.Activities.{active_for_is}
 use Rattle.lola_step.proofs.Asking.{evals_locally}
 use Rattle.lola_step.proofs.Gathering.{asked_tasks, done_stays, few_tasks, run_is_done, run_is_to_come, runs_so}
 use Rattle.lola_step.proofs.Layouts.{pacings_length}
-use Rattle.lola_step.proofs.Listed.{asked_of_stream}
+use Rattle.lola_step.proofs.Places.{asked_of_stream}
 use Rattle.lola_step.proofs.Keeping.{AreGivable, EachTask, IsFrom, Keeps, OrderedFrom, can_give_all, each_at, each_both, each_so, keeps_given, now_given}
 
 -- a stream that is no input has an eval clause

@@ -1,7 +1,6 @@
 -- What a layer's outcomes are in each run: those of the model.
 use Rattle.std.proofs.Common.{◌≡◌, refl, ap, ◌∙◌, sym, subst, ℕ, zero, suc, ◌+◌, ◌<◌, ◌≤◌, ◌⊎◌, inl, inr, List, [], ◌∷◌, ◌++◌, Option, Some, None, Bool, true, false, not, ◌&&◌, nat_eq, nat_lt, if◌then◌else◌, length, map, slice_get, take, drop, arith, length-append, get_or, add-zero, zero-add}
 use Rattle.std.proofs.lemmas.Bool.{cases_eq, eqb-true, not-true, eq-eqb}
-use Rattle.std.proofs.lemmas.List.{length-map}
 use Rattle.std.proofs.lemmas.Option.{slice_get-get_or, slice_get_within}
 use Rattle.lola_value.specs.Answer.{Answer, Missing}
 use Rattle.lola_value.specs.Naming.{Naming, AreHeld, IsHeldIn, read_outcome, read_params, the_values}
@@ -41,7 +40,7 @@ use Rattle.lola_step.proofs.Activities.{active_for_is, may_be_is, never_active}
 use Rattle.lola_step.proofs.Asking.{evals_locally}
 use Rattle.lola_step.proofs.Gathering.{asked_tasks, run_is_to_come}
 use Rattle.lola_step.proofs.LayerNotes.{as_many_spans, same_asked_in, same_in_span, span_of, spans_after}
-use Rattle.lola_step.proofs.Listed.{asked_of_stream, asked_where, asks_of, of_stream_where, places_where, task_at, unasked_is_inactive}
+use Rattle.lola_step.proofs.Places.{asked_of_stream, asked_where, asks_of, of_stream_where, places_where, task_at, unasked_is_inactive}
 use Rattle.lola_step.proofs.Quiet.{IsQuiet, held_of_stream, quiet_lives, quiet_same, read_asked, read_past, told_else, told_stream}
 use Rattle.lola_step.proofs.Results.{SpanOf, count_results, split_results}
 use Rattle.lola_step.proofs.Undue.{evals_listed}
@@ -390,8 +389,8 @@ module _ (plan : Plan) (m : Moment) (marks : List Mark) (remembers : Memories) (
         tells_stream n x here d (take size rs) (runs_in plan m marks layer n x) run_here refl (sym (same_runs n x here)) (quiet n x (omega arith) here) parts.0 in
         let later : AreQuiet (n + 1) (told_outcomes names d ts (take size rs)) =
         λ k y le there runs. quiet_same d (told_outcomes names d ts (take size rs)) k 0
-            (ap (λ (c : Content). slice_get c.streams k) one.same ∙ told_else run_here n k (living n) d (λ e. omega (arith, le, e)))
-            (quiet k y (omega (arith, le)) there runs) in
+        (ap (λ (c : Content). slice_get c.streams k) one.same ∙ told_else run_here n k (living n) d (λ e. omega (arith, le, e)))
+        (quiet k y (omega (arith, le)) there runs) in
         let rest = tells_streams (n + 1) xs (λ i. ap (λ k. slice_get plan.spec.streams k) (same_place n i) ∙ at (suc i)) (told_outcomes names d ts (take size rs)) (drop size rs) later parts.1 in
         record {
           same =
@@ -407,7 +406,7 @@ module _ (plan : Plan) (m : Moment) (marks : List Mark) (remembers : Memories) (
 
     module _ (fresh : List Outcome) (results : AreResults plan m remembers s (layer_tasks plan m marks s layer 0 plan.spec.streams) fresh) where
       tells_all : TellsSame content_now (layer_tasks plan m marks s layer 0 plan.spec.streams) fresh (told_in_layer plan m.start step full layer 0 plan.spec.streams)
-      tells_all = 
+      tells_all =
           tells_streams 0 plan.spec.streams (λ i. ap (λ k. slice_get plan.spec.streams k) (zero-add i)) content_now fresh (λ k x le there runs. quiet_stream k x there runs) results
 
       -- the naming has their texts, and the content is that of the next stage

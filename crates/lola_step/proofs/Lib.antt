@@ -8,7 +8,7 @@ pub mod Shown
 pub mod SpawnTurns
 pub mod Telling
 pub mod Undue
-pub mod Listed
+pub mod Places
 pub mod Quiet
 pub mod Counts
 pub mod Evaluation

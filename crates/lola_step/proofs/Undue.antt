@@ -1,14 +1,12 @@
 -- An instance that has no deadline of its stream at a moment is not asked for a local clause.
 use Rattle.std.proofs.Common.{◌≡◌, refl, ap, ◌∙◌, sym, subst, ℕ, zero, suc, ◌-◌, List, [], ◌∷◌, ◌++◌, Option, Some, None, Bool, true, false, ◌||◌, drop, slice_get}
 use Rattle.lola_value.specs.Ratio.{Ratio}
-use Rattle.lola_model.specs.Acceptance.{IsAccepted}
 use Rattle.lola_model.specs.Activity.{is_deadline}
 use Rattle.lola_model.specs.Dues.{is_due, locals_of}
 use Rattle.lola_model.specs.Model.{close_pacing, eval_pacing}
 use Rattle.lola_model.specs.NextStep.{local_rate_of, local_rates}
-use Rattle.lola_model.specs.Store.{Layout, Seen, layout_of, layouts_from}
+use Rattle.lola_model.specs.Store.{Layout, Seen, layouts_from}
 use Rattle.lola_model.specs.declared.pacing.ClausePacings.{ClausePacings}
-use Rattle.lola_model.specs.declared.pacing.Pacing.{Pacing}
 use Rattle.lola_model.specs.declared.pacing.Pacing.TheVariants.{Local, Periodic}
 use Rattle.lola_model.specs.declared.plan.Plan.{Plan}
 use Rattle.lola_model.specs.declared.spec.Stream.{Stream}

@@ -1,5 +1,5 @@
 -- How instances are given their outcomes, one after another.
-use Rattle.std.specs.Prelude.{ℕ, ◌<◌, List, [], ◌∷◌, length, slice_get, IsTrue}
+use Rattle.std.specs.Prelude.{◌<◌, List, [], ◌∷◌, length, slice_get, IsTrue}
 use Rattle.lola_value.specs.declared.value.Outcome.{Outcome}
 use Rattle.lola_value.specs.declared.value.Outcome.TheVariants as outcome
 use Rattle.lola_value.specs.Kinds.{is_outcome_of}

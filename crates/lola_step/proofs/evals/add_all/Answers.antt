@@ -1,7 +1,7 @@
 use Rattle.std.proofs.Common.{◌∙◌, ap, append_assoc, arith, sym, ◌∷◌, [], ◌++◌}
 use Rattle.std.proofs.lemmas.List.{replicate_more}
 use Rattle.lola_value.specs.declared.value.Outcome.TheVariants as outcome
-use Rattle.lola_step.proofs.Listed.{task_at, tasks_more}
+use Rattle.lola_step.proofs.Places.{task_at, tasks_more}
 use Rattle.lola_step.proofs.evals.add_all.Goals as goal
 
 pub loop-index-preserved : goal.loop-index-preserved

@@ -2,7 +2,7 @@ use Rattle.std.proofs.Common.{◌≡◌, ◌∙◌, ◌++◌, ap, arith, length,
 use Rattle.lola_value.specs.declared.value.Outcome.TheVariants as outcome
 use Rattle.lola_model.specs.Store.{instances_seen}
 use Rattle.lola_step.specs.Notes.{places_asked, places_from}
-use Rattle.lola_step.proofs.Listed.{length_places}
+use Rattle.lola_step.proofs.Places.{length_places}
 use Rattle.lola_step.proofs.evals.add_asked.Goals as goal
 
 pub add_all-requires-clause-tasks_room : goal.add_all-requires-clause-tasks_room

@@ -1,7 +1,7 @@
 use Rattle.std.proofs.Common.{◌∙◌, ap, append_assoc, arith, get_or, sym, ◌∷◌, [], ◌++◌}
 use Rattle.std.proofs.lemmas.List.{replicate_more}
 use Rattle.lola_value.specs.declared.value.Outcome.TheVariants as outcome
-use Rattle.lola_step.proofs.Listed.{listed_more, task_at}
+use Rattle.lola_step.proofs.Places.{listed_more, task_at}
 use Rattle.lola_step.proofs.evals.add_listed.Goals as goal
 
 pub loop-index-preserved : goal.loop-index-preserved

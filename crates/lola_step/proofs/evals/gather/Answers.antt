@@ -1,12 +1,12 @@
-use Rattle.std.proofs.Common.{◌≡◌, ◌∙◌, ◌++◌, ◌<◌, ◌≤◌, ◌+◌, ◌∷◌, List, ap, arith, drop, refl, length, length-append, subst, sym, vec_len, replicate}
+use Rattle.std.proofs.Common.{◌≡◌, ◌∙◌, ◌<◌, ◌≤◌, ◌+◌, ◌∷◌, List, ap, arith, drop, length, length-append, subst, sym, vec_len, replicate}
 use Rattle.std.proofs.lemmas.List.{length-replicate}
 use Rattle.lola_value.specs.declared.value.Outcome.TheVariants as outcome
 use Rattle.lola_model.specs.declared.spec.Stream.{Stream}
-use Rattle.lola_stages.specs.Stages.{eval_stage}
 use Rattle.lola_step.specs.Notes.{layer_tasks, stream_tasks}
 use Rattle.lola_step.specs.Rooms.{rooms}
-use Rattle.lola_step.proofs.Gathering.{all_rooms, drop_here, gathers_places, gathers_spans, gathers_tasks, layer_fits, room_of_places}
+use Rattle.lola_step.proofs.Gathering.{all_rooms, drop_here, gathers_places, gathers_spans, gathers_tasks, layer_fits}
 use Rattle.lola_step.proofs.Layouts.{layouts_length, pacings_length}
+use Rattle.lola_step.proofs.Standing.{room_alone}
 use Rattle.lola_step.proofs.evals.gather.Goals as goal
 
 pub gather_stream-requires : goal.gather_stream-requires
@@ -43,7 +43,7 @@ gather_stream-requires g c =
       order = omega (arith, c.requires.moment.time_is, c.requires.moment.start_is, c.requires.of.order);
       spans = omega (arith, within, c.loop-n.auto.spans, c.requires.spans);
       store = omega (arith, within, ap (λ l. length l.streams) c.requires.of.layout, layouts_length streams plan.kept plan.pacings);
-      places_room = omega (arith, room_of_places seen n, c.loop-n.invariant.places_room, c.requires.rooms.places_room);
+      places_room = omega (arith, room_alone seen n, c.loop-n.invariant.places_room, c.requires.rooms.places_room);
       tasks_room = omega (arith, counted, few, fits, c.loop-n.tasks.ok.0, c.args.tasks.now.ok.0, c.loop-n.invariant.tasks_room, c.requires.rooms.tasks_room);
       results_room = omega (arith, places, few, fits, c.loop-n.results.ok.0, c.args.results.now.ok.0, c.loop-n.invariant.results_room, c.requires.rooms.results_room);
     }

@@ -1,4 +1,4 @@
-use Rattle.std.proofs.Common.{◌≡◌, ◌∙◌, ◌++◌, ap, arith, replicate, slice_get, sym, true}
+use Rattle.std.proofs.Common.{◌∙◌, ◌++◌, ap, arith, replicate, slice_get, sym}
 use Rattle.lola_value.specs.declared.value.Outcome.TheVariants as outcome
 use Rattle.lola_model.specs.Model.{eval_pacing}
 use Rattle.lola_step.proofs.Gathering.{count_asked}

@@ -1,5 +1,5 @@
--- Which instances of a stream are asked: those that pass a test, in order of birth.
-use Rattle.std.proofs.Common.{◌≡◌, refl, ap, ◌∙◌, sym, subst, ℕ, zero, suc, ◌+◌, ◌<◌, ◌≤◌, List, [], ◌∷◌, ◌++◌, Option, Some, None, Bool, true, false, if◌then◌else◌, length, slice_get, drop, take, get_or, arith, add-zero, zero-add}
+-- Which places of a stream are asked: those of the instances that pass a test, in order of birth.
+use Rattle.std.proofs.Common.{◌≡◌, refl, ap, ◌∙◌, sym, subst, ℕ, zero, suc, ◌+◌, ◌<◌, ◌≤◌, List, [], ◌∷◌, ◌++◌, Option, Some, None, Bool, true, false, if◌then◌else◌, length, slice_get, take, get_or, arith, add-zero, zero-add}
 use Rattle.std.proofs.lemmas.List.{take_more}
 use Rattle.lola_value.specs.Ratio.{Ratio}
 use Rattle.lola_model.specs.Dues.{due_from, is_due, locals_of}
