@@ -192,6 +192,28 @@ fn gather<S: StreamStore>(
     }
 }
 
+// So many tasks are worth a thread: to start and join one takes as long as to evaluate some eighty.
+const WORTH_A_THREAD: usize = 256;
+
+/// Among how many of the workers so many tasks are shared out: in the first step among all of them, and from then on among so many that
+/// each has enough to do.
+fn sharers_of(workers: u32, tasks: usize, is_first: bool) -> u32
+    requires { (1 ≤ workers) × (workers ≤ 64) }
+    ensures { (1 ≤ result) × (result ≤ workers) }
+{
+    if is_first {
+        return workers;
+    }
+    let worth = tasks / WORTH_A_THREAD;
+    if worth >= workers as usize {
+        workers
+    } else if worth == 0 {
+        1
+    } else {
+        worth as u32
+    }
+}
+
 /// Evaluates each task, split among so many threads, and leaves its outcome behind the first `from` results.
 fn answer_tasks<R: Threads + Sync, S: StreamStore + Sync, G: Gate + Sync>(
     rt: &R,
@@ -245,8 +267,8 @@ fn give_all<S: StreamStore>(store: &mut S, tasks: &[Task], results: &[Outcome])
     }
 }
 
-/// Evaluates the instances of a layer that are asked, split among so many threads, and then gives each its outcome. The tasks and their
-/// outcomes are kept behind those of the layers before, those of a stream where its span says.
+/// Evaluates the instances of a layer that are asked, shared out among at most so many threads, and then gives each its outcome. The
+/// tasks and their outcomes are kept behind those of the layers before, those of a stream where its span says.
 pub(crate) fn eval_layer<R: Threads + Sync, S: StreamStore + Sync, G: Gate + Sync>(
     rt: &R,
     gate: &G,
@@ -260,6 +282,7 @@ pub(crate) fn eval_layer<R: Threads + Sync, S: StreamStore + Sync, G: Gate + Syn
     results: &mut Vec<Outcome>,
     spans: &mut [Span],
     workers: u32,
+    is_first: bool,
 )
     requires workers { (1 ≤ workers) × (workers ≤ 64) }
     requires accepted { IsAccepted plan.now }
@@ -281,6 +304,7 @@ pub(crate) fn eval_layer<R: Threads + Sync, S: StreamStore + Sync, G: Gate + Syn
     gather(
         plan, moment, store, layer, marks, places, tasks, results, spans,
     );
+    let sharers = sharers_of(workers, tasks.len() - from, is_first);
     answer_tasks(
         rt,
         gate,
@@ -290,7 +314,7 @@ pub(crate) fn eval_layer<R: Threads + Sync, S: StreamStore + Sync, G: Gate + Syn
         &tasks[from..],
         results.as_mut_slice(),
         from,
-        workers,
+        sharers,
     );
     give_all(store, &tasks[from..], &results[from..]);
 }

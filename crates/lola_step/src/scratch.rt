@@ -36,6 +36,8 @@ pub struct Scratch {
     pub(crate) closing: Vec<Task>,
     pub(crate) verdicts: Vec<Verdict>,
     pub(crate) layers: u64,
+    // no step was evaluated yet
+    pub(crate) is_first: bool,
 }
 
 /// How many layers there are, at least one.
@@ -84,6 +86,7 @@ impl Scratch {
             closing: Vec::with_capacity(alloc, room)?,
             verdicts: Vec::with_capacity(alloc, room)?,
             layers: layer_count(plan.layers.as_slice()),
+            is_first: true,
         })
     }
 

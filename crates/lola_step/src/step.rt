@@ -95,8 +95,10 @@ fn evaluate<R: Threads + Sync, S: StreamStore + Sync, G: Gate + Sync>(
             &mut scratch.results,
             &mut scratch.spans,
             workers,
+            scratch.is_first,
         );
     }
+    scratch.is_first = false;
 }
 
 /// Ends a step whose streams are evaluated: its fault, or its values and its close clauses.
@@ -174,11 +176,11 @@ fn make_all_room<S: StreamStore>(
 }
 
 /// Runs one step: of a row, with an outcome for each input, missing where the field is absent; or of the deadlines of a moment, with no
-/// inputs. Times are in nanoseconds. Instances are evaluated by so many workers, from 1 to 64. Others see a fault as poison; the step's
-/// fault is that of the first stream that has one, of its spawn clause or else the least kind among its instances, and if there is none,
-/// of the first stream whose close condition has one. Where it is done, the values stand in the notes; an instance that is closed has its
-/// value there, and is gone from the store. All room is made before anything changes. Over a bounded store a step never lacks memory
-/// where no stream has a spawn clause.
+/// inputs. Times are in nanoseconds. Instances are evaluated by at most so many workers, from 1 to 64. Others see a fault as poison; the
+/// step's fault is that of the first stream that has one, of its spawn clause or else the least kind among its instances, and if there is
+/// none, of the first stream whose close condition has one. Where it is done, the values stand in the notes; an instance that is closed
+/// has its value there, and is gone from the store. All room is made before anything changes. Over a bounded store a step never lacks
+/// memory where no stream has a spawn clause.
 pub fn step<R: Threads + Sync, S: StreamStore + Sync, G: Gate + Sync>(
     rt: &R,
     gate: &G,
