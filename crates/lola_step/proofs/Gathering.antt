@@ -1,5 +1,5 @@
 -- How the tasks of a layer are listed, stream by stream.
-use Rattle.std.proofs.Common.{◌≡◌, refl, ap, ◌∙◌, sym, ℕ, zero, suc, ◌+◌, ◌<◌, ◌≤◌, ◌⊎◌, inl, inr, List, [], ◌∷◌, ◌++◌, Option, Bool, true, false, not, ◌||◌, nat_eq, nat_lt, if◌then◌else◌, get_or, length, map, slice_get, take, drop, arith, append_assoc, length-append, replicate, add-zero, zero-add}
+use Rattle.std.proofs.Common.{◌≡◌, refl, ap, ◌∙◌, sym, ℕ, suc, ◌+◌, ◌<◌, ◌≤◌, ◌⊎◌, inl, inr, List, [], ◌∷◌, ◌++◌, Option, Bool, true, false, not, ◌||◌, nat_eq, nat_lt, if◌then◌else◌, get_or, length, map, slice_get, take, drop, arith, append_assoc, length-append, replicate, add-zero, zero-add}
 use Rattle.std.proofs.Math.ListN.{set}
 use Rattle.std.proofs.lemmas.Bool.{and_parts, cases_eq, eqb-true, le-ltb, lt-ltb, not-true}
 use Rattle.std.proofs.lemmas.List.{drop_more, drop-set-lt, replicate-append-replicate, take_more, take_more_set}
@@ -14,7 +14,7 @@ use Rattle.lola_model.specs.declared.spec.Stream.{Stream}
 use Rattle.lola_stages.specs.Stages.{Stage, eval_stage, is_behind, is_evaluated, layer_stage}
 use Rattle.lola_stages.proofs.Behind.{equal_behind, layer_behind, same_behind}
 use Rattle.lola_step.specs.Notes.{layer_spans, layer_tasks, places_asked, runs_in, stream_tasks, tasks_at}
-use Rattle.lola_step.specs.Rooms.{room_of, rooms, to_come, total}
+use Rattle.lola_step.specs.Rooms.{room_of, rooms, to_come}
 use Rattle.lola_step.specs.declared.mark.Mark.{Mark}
 use Rattle.lola_step.specs.declared.moment.Moment.{Moment}
 use Rattle.lola_step.specs.declared.scratch.Span.{Span}

@@ -1,5 +1,5 @@
 -- How instances are given their outcomes, one after another.
-use Rattle.std.proofs.Common.{◌≡◌, refl, ap, ◌∙◌, subst, ℕ, zero, suc, ◌+◌, List, [], ◌∷◌, Some, true, false, length, slice_get, take, add-one}
+use Rattle.std.proofs.Common.{◌≡◌, refl, ap, ◌∙◌, subst, ℕ, zero, suc, ◌+◌, List, [], ◌∷◌, Some, true, false, slice_get, take, add-one}
 use Rattle.lola_value.specs.Answer.{Missing}
 use Rattle.lola_value.specs.Naming.{Naming, IsHeldIn, read_outcome}
 use Rattle.lola_value.specs.declared.value.Outcome.{Outcome}

@@ -1,13 +1,17 @@
 use Rattle.std.proofs.Common.{◌≡◌, ◌∙◌, ◌<◌, ◌≤◌, List, Some, ap, arith, length, refl, slice_get, slice_index_or, subst, ℕ}
 use Rattle.std.proofs.lemmas.Option.{slice_get-get_or}
 use Rattle.lola_model.specs.Dues.{due_places}
-use Rattle.lola_model.specs.Store.{instances_seen}
+use Rattle.lola_model.specs.Store.{Seen, instances_seen}
 use Rattle.lola_step.proofs.ClosesDue.{due_lives, few_places, found_due, found_due_next, up_to_due_first, up_to_due_next}
 use Rattle.lola_step.proofs.closes.find_due.Goals as goal
 
 -- the place that the loop reads
 read : (items listed : List ℕ) (i : ℕ) → items ≡ listed → i < length items → slice_get listed i ≡ Some (slice_index_or items i 0)
 read items listed i same below = subst (λ (js : List ℕ). slice_get js i ≡ Some (slice_index_or items i 0)) same (slice_get-get_or items i 0 below)
+
+-- no more places are listed than there are instances
+few_read : (s : Seen) (n time : ℕ) (items : List ℕ) → items ≡ due_places s n time → length items ≤ length (instances_seen s n)
+few_read s n time items same = omega (arith, few_places s n time, ap length same)
 
 pub loop-place-init : goal.loop-place-init
 loop-place-init g c = record {
@@ -24,11 +28,8 @@ close_condition-condition-requires-clause-lives g c =
 
 pub note_condition-least-requires : goal.note_condition-least-requires
 note_condition-least-requires g c =
-    let s = g.S.StreamStore.seen c.args.store.now in
-    let n = c.args.stream in
-    let few : length (due_places s n c.args.moment.now.time) ≤ length (instances_seen s n) = few_places s n c.args.moment.now.time in
-    let same : length c.as_slice-place-items.result.now ≡ length (due_places s n c.args.moment.now.time) = ap length (c.as_slice-place-items.ensures.value ∙ c.list_due.ensures.places) in
-    record { room = omega (arith, few, same, c.loop-place-test.true, c.loop-place.invariant.count, c.loop-place.invariant.capacity) }
+    let few = few_read (g.S.StreamStore.seen c.args.store.now) c.args.stream c.args.moment.now.time c.as_slice-place-items.result.now (c.as_slice-place-items.ensures.value ∙ c.list_due.ensures.places) in
+    record { room = omega (arith, few, c.loop-place-test.true, c.loop-place.invariant.count, c.loop-place.invariant.capacity) }
 
 pub loop-place-preserved : goal.loop-place-preserved
 loop-place-preserved g c =
@@ -54,16 +55,14 @@ returns-clause-closable g c = c.loop-place.invariant.closable.end
 
 pub returns-clause-count : goal.returns-clause-count
 returns-clause-count g c =
-    let s = g.S.StreamStore.seen c.args.store.now in
-    let n = c.args.stream in
-    let few : length (due_places s n c.args.moment.now.time) ≤ length (instances_seen s n) = few_places s n c.args.moment.now.time in
-    let same : length c.as_slice-place-items.result.now ≡ length (due_places s n c.args.moment.now.time) = ap length (c.as_slice-place-items.ensures.value ∙ c.list_due.ensures.places) in
-    omega (arith, few, same, c.loop-place.auto.place-index-end, c.loop-place.invariant.count)
+    let few = few_read (g.S.StreamStore.seen c.args.store.now) c.args.stream c.args.moment.now.time c.as_slice-place-items.result.now (c.as_slice-place-items.ensures.value ∙ c.list_due.ensures.places) in
+    omega (arith, few, c.loop-place.auto.place-index-end, c.loop-place.invariant.count)
 
 pub returns-clause-finds : goal.returns-clause-finds
 returns-clause-finds g c =
     let s = g.S.StreamStore.seen c.args.store.now in
     let n = c.args.stream in
-    let same : length c.as_slice-place-items.result.now ≡ length (due_places s n c.args.moment.now.time) = ap length (c.as_slice-place-items.ensures.value ∙ c.list_due.ensures.places) in
+    let past : length (due_places s n c.args.moment.now.time) ≤ c.loop-place.place-index =
+    subst (λ (js : List ℕ). length js ≤ c.loop-place.place-index) (c.as_slice-place-items.ensures.value ∙ c.list_due.ensures.places) c.loop-place-test.false in
     found_due c.args.plan.now c.args.moment.now c.args.pacing.now (g.S.StreamStore.remembers c.args.store.now) s (Some c.args.clause.now) n c.requires.local c.requires.listed
-    c.loop-place.place-index c.loop-place.least c.args.closing.now.items c.loop-place.closing.items (omega (arith, same, c.loop-place-test.false)) c.loop-place.invariant.found
+    c.loop-place.place-index c.loop-place.least c.args.closing.now.items c.loop-place.closing.items past c.loop-place.invariant.found
