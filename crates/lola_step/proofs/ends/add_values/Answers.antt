@@ -1,6 +1,5 @@
 use Rattle.std.proofs.Common.{◌∙◌, arith, slice_index_or}
 use Rattle.std.proofs.lemmas.Option.{slice_get-get_or}
-use Rattle.lola_model.specs.Store.{instances_seen}
 use Rattle.lola_step.proofs.Valued.{asked_lives, values_end, values_step}
 use Rattle.lola_step.proofs.ends.add_values.Goals as goal
 
