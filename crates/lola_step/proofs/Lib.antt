@@ -27,6 +27,6 @@ pub mod Conditions
 pub mod Elements
 pub mod Faulty
 pub mod Leaving
-pub mod Listed
+pub mod ClosesDue
 pub mod Standing
 pub mod Valued

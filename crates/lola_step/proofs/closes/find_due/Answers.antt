@@ -2,7 +2,7 @@ use Rattle.std.proofs.Common.{◌≡◌, ◌∙◌, ◌<◌, ◌≤◌, List, So
 use Rattle.std.proofs.lemmas.Option.{slice_get-get_or}
 use Rattle.lola_model.specs.Dues.{due_places}
 use Rattle.lola_model.specs.Store.{instances_seen}
-use Rattle.lola_step.proofs.Listed.{due_lives, few_places, found_due, found_due_next, up_to_due_first, up_to_due_next}
+use Rattle.lola_step.proofs.ClosesDue.{due_lives, few_places, found_due, found_due_next, up_to_due_first, up_to_due_next}
 use Rattle.lola_step.proofs.closes.find_due.Goals as goal
 
 -- the place that the loop reads

@@ -1,6 +1,6 @@
 use Rattle.std.proofs.Common.{◌≡◌, ◌+◌, ◌≤◌, Some, vec_len}
 use Rattle.std.specs.Vec.{vec_capacity}
-use Rattle.lola_step.proofs.Listed.{FoundUpToDue, IsUpToDue}
+use Rattle.lola_step.proofs.ClosesDue.{FoundUpToDue, IsUpToDue}
 use Rattle.lola_step.proofs.closes.find_due.Given as goal
 
 -- the conditions so far are noted
