@@ -1,6 +1,6 @@
 //! The instances of a layer.
 
-ghost use Rattle.std.specs.Prelude.{◌≡◌, ◌+◌, ◌<◌, ◌≤◌, ◌^◌, ◌++◌, [], drop, if◌then◌else◌, length, replicate, slice_get, slice_set, take, vec_len, Some};
+ghost use Rattle.std.specs.Prelude.{◌≡◌, ◌+◌, ◌<◌, ◌≤◌, ◌^◌, ◌++◌, drop, if◌then◌else◌, length, replicate, slice_set, take, vec_len, Some};
 ghost use Rattle.std.specs.Vec.{vec_capacity};
 ghost use Rattle.lola_value.specs.Naming.{Naming, IsHeldIn, read_outcome};
 ghost use Rattle.lola_value.specs.Times.{latest};
