@@ -45,13 +45,16 @@ def whole_run() -> Whole:
     return Whole(*("".join(texts).encode() for texts in (source, out, trace)))
 
 
-def feed(words: list[str], source: bytes, pieces: int, chosen: signal.Signals | None) -> Came:
-    """Runs over a pipe that gets so many pieces of the source, a millisecond between them; then a signal comes, or else the rest."""
+def feed(words: list[str], source: bytes, pieces: int, chosen: signal.Signals | None, stops: bool = False) -> Came:
+    """Runs over a pipe that gets so many pieces of the source, a millisecond between them; then a signal comes, or else the rest.
+    The run may be stopped between the pieces, and goes on with the next."""
     with open("came.out", "w+b") as out, open("came.trace", "w+b") as trace:
         with subprocess.Popen([LOLAMON, *words], stdin=subprocess.PIPE, stdout=out, stderr=trace) as started:
             try:
                 for piece in range(pieces):
                     os.write(started.stdin.fileno(), source[7 * piece : 7 * piece + 7])
+                    for halting in (signal.SIGSTOP, signal.SIGCONT) if stops else ():
+                        started.send_signal(halting)
                     time.sleep(0.001)
                 if chosen is None:
                     os.write(started.stdin.fileno(), source[7 * pieces :])
@@ -89,8 +92,9 @@ def complaints(came: Came, whole: Whole, chosen: signal.Signals) -> list[str]:
 def test_rows_in_pieces(checks: Checks) -> None:
     whole, spec = whole_run(), write("signals.lola", SPEC)
     for way in ([], ["--in-turns"]):
-        came = feed(["run", "--show", "outputs", *way, spec, "/dev/stdin"], whole.source, 20, None)
-        checks.same(f"the whole run {way}", Came(0, whole.out, whole.trace), came)
+        for stops in (False, True):
+            came = feed(["run", "--show", "outputs", *way, spec, "/dev/stdin"], whole.source, 30, None, stops)
+            checks.same(f"the whole run {way}, stopped and continued: {stops}", Came(0, whole.out, whole.trace), came)
 
 
 def test_signals(checks: Checks) -> None:
