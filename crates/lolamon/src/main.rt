@@ -9,6 +9,19 @@ use std::env;
 use std::io::ErrorKind;
 use std::process::ExitCode;
 use std::rt::Env;
+use std::thread::{Builder, Promise};
+
+// The stack of the thread that does the work, in bytes. The deepest specifications within the limit of marks take a quarter of it to
+// be read, so that what the system gives a program does not matter.
+const STACK: usize = 16 * 1024 * 1024;
+
+// What the status of that thread keeps: nothing.
+#[derive(Clone, Copy)]
+struct AnyStatus;
+
+impl Promise<u8> for AnyStatus {
+    ghost kept_by = { λ _ _. Unit {0} };
+}
 
 // The words of the command line. Where they cannot be had, none, which is no command.
 fn words(rt: &(impl Env + AllocGlobal)) -> Result<Vec<String>, Memory> {
@@ -19,19 +32,35 @@ fn words(rt: &(impl Env + AllocGlobal)) -> Result<Vec<String>, Memory> {
     }
 }
 
-fn main(rt: HostRuntime) -> ExitCode {
+// Does what the words ask for, and answers the status.
+fn monitor(rt: HostRuntime, words: Vec<String>) -> u8 {
     let alloc = rt.alloc();
-    let Ok(words) = words(&rt) else {
-        return ExitCode::from(8);
-    };
     let mut shelf = FolderShelf::create(&rt, alloc);
     let mut out = OutSink::create(&rt);
     let Ok(own) = rt.clone() else {
-        return ExitCode::from(8);
+        return 8;
     };
     let mut trace = ErrSink::create(own);
-    let status = run_monitor(
+    run_monitor(
         &rt, alloc, &words, &mut shelf, &mut out, &mut trace, &IdleGate,
-    );
+    )
+}
+
+fn main(rt: HostRuntime) -> ExitCode {
+    let Ok(words) = words(&rt) else {
+        return ExitCode::from(8);
+    };
+    let Ok(own) = rt.clone() else {
+        return ExitCode::from(8);
+    };
+    let work = move || monitor(own, words);
+    // where no thread can be started, on the stack that is there
+    let status = match Builder::new()
+        .stack_size(STACK)
+        .spawn_with(&rt, AnyStatus, work)
+    {
+        Ok(thread) => thread.join(&rt),
+        Err(refused) => (refused.value)(),
+    };
     ExitCode::from(status)
 }
