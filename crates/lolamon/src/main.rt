@@ -6,10 +6,12 @@ use lola_port::{ErrSink, FolderShelf, IdleGate, OutSink};
 use lola_value::text::Memory;
 use std::alloc::Global;
 use std::env;
+use std::fs::File;
 use std::io::ErrorKind;
 use std::process::ExitCode;
-use std::rt::Env;
-use std::thread::{Builder, Promise};
+use std::rt::{Env, Files};
+use std::sync::Wait;
+use std::thread::{Builder, Promise, Threads};
 
 // The stack of the thread that does the work, in bytes. The deepest specifications within the limit of marks take a quarter of it to
 // be read, so that what the system gives a program does not matter.
@@ -33,27 +35,31 @@ fn words(rt: &(impl Env + AllocGlobal)) -> Result<Vec<String>, Memory> {
 }
 
 // Does what the words ask for, and answers the status.
-fn monitor(rt: HostRuntime, words: Vec<String>) -> u8 {
-    let alloc = rt.alloc();
-    let mut shelf = FolderShelf::create(&rt, alloc);
-    let mut out = OutSink::create(&rt);
-    let Ok(own) = rt.clone() else {
-        return 8;
-    };
-    let mut trace = ErrSink::create(own);
+fn monitor<R: Threads + Wait + Files<File = File> + Print + Sync>(
+    rt: &R,
+    alloc: Global,
+    words: &[String],
+    mut trace: ErrSink,
+) -> u8 {
+    let mut shelf = FolderShelf::create(rt, alloc);
+    let mut out = OutSink::create(rt);
     run_monitor(
-        &rt, alloc, &words, &mut shelf, &mut out, &mut trace, &IdleGate,
+        rt, alloc, words, &mut shelf, &mut out, &mut trace, &IdleGate,
     )
 }
 
 fn main(rt: HostRuntime) -> ExitCode {
+    let alloc = rt.alloc();
     let Ok(words) = words(&rt) else {
         return ExitCode::from(8);
     };
     let Ok(own) = rt.clone() else {
         return ExitCode::from(8);
     };
-    let work = move || monitor(own, words);
+    let Ok(traced) = rt.clone() else {
+        return ExitCode::from(8);
+    };
+    let work = move || monitor(&own, alloc, &words, ErrSink::create(traced));
     // where no thread can be started, on the stack that is there
     let status = match Builder::new()
         .stack_size(STACK)
