@@ -63,6 +63,10 @@ impl StreamStore for BoundedStore {
         reading::local_due(self, from)
     }
 
+    fn list_due(&self, stream: u32, time: u64, places: &mut Vec<u32>) {
+        reading::list_due(self, stream, time, places)
+    }
+
     fn push(&mut self, stream: u32, index: u32, value: Value) {
         changes::push(self, stream, index, value)
     }

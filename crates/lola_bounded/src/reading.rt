@@ -1,12 +1,14 @@
 //! The calls that read.
 
 ghost use Rattle.std.specs.Prelude.{◌≡◌, ◌<◌, ◌≤◌, ◌+◌, ◌*◌, ℕ, List, [], Some, length, slice_get, MatchOption, IsTrue};
+ghost use Rattle.std.specs.Vec.{vec_capacity};
 ghost use Rattle.lola_value.specs.declared.text.Field.{Field};
 ghost use Rattle.lola_value.specs.declared.value.Outcome.TheVariants as outcome;
 ghost use Rattle.lola_value.specs.Naming.{Naming, read_outcome, the_values, IsHeldIn};
+ghost use Rattle.lola_value.specs.Times.{latest};
 ghost use Rattle.lola_model.specs.Store.{Fits, IsRunning, instances_seen, place_of, now_of, max_offset, target_of, pane_of, kept_in, start_seen, time_seen, kind_in, window_kind, is_outcome_of, are_of_kinds, is_well_formed, parameters_of};
 ghost use Rattle.lola_model.specs.Accesses.{from_end};
-ghost use Rattle.lola_model.specs.Dues.{due_seen};
+ghost use Rattle.lola_model.specs.Dues.{due_places, due_seen};
 ghost use Rattle.lola_model.specs.Reading.{held_answer, window_reading};
 ghost use Rattle.lola_instances.specs.Dues.{in_time};
 ghost use Rattle.lola_bounded.specs.Dues.{due_of_crowds};
@@ -108,6 +110,17 @@ pub fn local_due(s: &BoundedStore, from: u64) -> Option<u64>
     ensures { result ≡ due_seen (bounded_seen s.now) from }
 {
     due_of_streams(s.streams.as_slice(), from)
+}
+
+/// Lists the places of the instances of a stream that have a deadline at a moment, of a clause that counts from their births.
+pub fn list_due(s: &BoundedStore, stream: u32, time: u64, places: &mut Vec<u32>)
+    requires stream { stream < length (bounded_seen s.now).layout.streams }
+    requires in_time { time ≤ latest }
+    requires room { length (instances_seen (bounded_seen s.now) stream) ≤ vec_capacity places.old }
+    ensures places { places.new.items ≡ due_places (bounded_seen s.now) stream time }
+    ensures capacity { vec_capacity places.new ≡ vec_capacity places.old }
+{
+    lives_of(s, stream).list_due(time, places);
 }
 
 /// What a window is.

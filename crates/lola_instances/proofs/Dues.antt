@@ -1,15 +1,15 @@
--- The first deadline of many, one after another.
-use Rattle.std.proofs.Common.{◌≡◌, ℕ, ◌≤◌, ◌<◌, List, [], ◌∷◌, min, refl, ap, sym, ◌∙◌, arith, Option, Some, None, nat_le, Bool, true, false, if◌then◌else◌}
+-- The first deadline of many, one after another, and those that are at a moment.
+use Rattle.std.proofs.Common.{◌≡◌, ℕ, ◌+◌, ◌≤◌, ◌<◌, List, [], ◌∷◌, min, refl, ap, sym, ◌∙◌, arith, Option, Some, None, nat_le, Bool, true, false, if◌then◌else◌}
 use Rattle.std.proofs.lemmas.Bool.{leb-true, leb-false, le-leb, lt-leb}
 use Rattle.lola_value.specs.Ratio.{Ratio}
 use Rattle.lola_value.specs.Times.{latest, up_to_latest}
 use Rattle.lola_model.specs.NextStep.{earlier}
 use Rattle.lola_instance.specs.declared.window.WindowPanes.{WindowPanes}
 use Rattle.lola_instance.specs.Holdings.{Holdings}
-use Rattle.lola_instances_due.specs.Dues.{is_timed}
+use Rattle.lola_instances_due.specs.Dues.{due_births, is_timed}
 use Rattle.lola_instances.specs.Births.{births_of, firsts}
 use Rattle.lola_instances.specs.Changes.{IsChangedAt}
-use Rattle.lola_instances.specs.Dues.{due_since, in_time}
+use Rattle.lola_instances.specs.Dues.{due_at_births, due_since, in_time}
 use Rattle.lola_instances.proofs.Directories.{map_set}
 
 -- the earlier of moments
@@ -73,6 +73,14 @@ none_since from (b ∷ bs) = none_since from bs
 pub due_known : (rates : List Ratio) (from : ℕ) (births bs : List ℕ) → (is_timed rates ≡ true → births ≡ bs) → in_time (due_since rates from births) ≡ in_time (due_since rates from bs)
 due_known [] from births bs h = ap in_time (none_since from births ∙ sym (none_since from bs))
 due_known (r ∷ rs) from births bs h = ap (λ (l : List ℕ). in_time (due_since (r ∷ rs) from l)) (h refl)
+
+none_at : (time i : ℕ) (bs : List ℕ) → due_births [] time i bs ≡ []
+none_at time i [] = refl
+none_at time i (b ∷ bs) = none_at time (i + 1) bs
+
+pub places_known : (rates : List Ratio) (time : ℕ) (births bs : List ℕ) → (is_timed rates ≡ true → births ≡ bs) → due_at_births rates time births ≡ due_at_births rates time bs
+places_known [] time births bs h = none_at time 0 births ∙ sym (none_at time 0 bs)
+places_known (r ∷ rs) time births bs h = ap (λ (l : List ℕ). due_at_births (r ∷ rs) time l) (h refl)
 
 -- the births of instances of which one changed, and of the first instances
 

@@ -1,10 +1,12 @@
 //! The instances of one stream, each with the last of its values and the panes of each window onto the stream.
 
 ghost use Rattle.std.specs.Prelude.{◌≡◌, ℕ, ◌≤◌, ◌<◌, ◌+◌, ◌-◌, ◌^◌, ◌++◌, ◌∷◌, [], List, Some, None, true, false, not, map, nat_eq, length, slice_get, remove, IfOk, IsOk, OnOk, IsTrue, MatchOption};
+ghost use Rattle.std.specs.Vec.{vec_capacity};
 ghost use Rattle.lola_value.specs.declared.text.Field.{Field};
 ghost use Rattle.lola_value.specs.declared.value.Outcome.TheVariants as outcome;
 ghost use Rattle.lola_value.specs.Kinds.{are_of_kinds, is_of_kind, is_outcome_of, is_well_formed};
 ghost use Rattle.lola_value.specs.Naming.{Naming, read_outcome, the_values, IsHeld, IsHeldIn};
+ghost use Rattle.lola_value.specs.Times.{latest};
 ghost use Rattle.lola_model.specs.Accesses.{from_end};
 ghost use Rattle.lola_model.specs.Reading.{held_answer};
 ghost use Rattle.lola_model.specs.Spawning.{has_room, spawn_end};
@@ -14,7 +16,7 @@ ghost use Rattle.lola_instance.specs.Holdings.{slot_seen};
 ghost use Rattle.lola_instance.specs.Unborn.{AllOnto, AllSound};
 ghost use Rattle.lola_instances.specs.Births.{births_of, firsts, newborn};
 ghost use Rattle.lola_instances.specs.Crowds.{RemembersAt, crowd, crowd_seen, now_in, place_in, shown_at};
-ghost use Rattle.lola_instances.specs.Dues.{due_since, in_time};
+ghost use Rattle.lola_instances.specs.Dues.{due_at_births, due_since, in_time};
 ghost use Rattle.lola_instances.specs.Rights.{AreRight, AreSteady, AreTimely, CrowdRight};
 ghost use Rattle.lola_instances.specs.Texts.{crowd_texts};
 ghost use Rattle.lola_instances.specs.Windowed.{IsWhole, windowed};
@@ -168,6 +170,18 @@ impl Instances {
         ensures { result ≡ in_time (due_since self.now.layout.locals from (births_of self.now.slots)) }
     {
         self.dues.next(from)
+    }
+
+    /// Lists the places of the instances that have a deadline at a moment, of a clause that counts from the birth of each, in a list
+    /// that has the room.
+    pub fn list_due(&self, time: u64, places: &mut Vec<u32>)
+        requires in_time { time ≤ latest }
+        requires few { length self.now.slots ≤ 65536 }
+        requires room { length self.now.slots ≤ vec_capacity places.old }
+        ensures places { places.new.items ≡ due_at_births self.now.layout.locals time (births_of self.now.slots) }
+        ensures capacity { vec_capacity places.new ≡ vec_capacity places.old }
+    {
+        self.dues.list(time, places);
     }
 
     /// The value in the step of a number: poison where the stream is poisoned, and missing where the instance does not

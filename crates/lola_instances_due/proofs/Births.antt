@@ -22,10 +22,10 @@ use Rattle.lola_instances_due.proofs.Queues.{least_within}
 abbrev one_at : ℕ → ℕ → ℕ
 one_at b x = cond (nat_eq x b) 1 0
 
-births_more : (b x : ℕ) (xs : List ℕ) → births_at b (x ∷ xs) ≡ one_at b x + births_at b xs
+pub births_more : (b x : ℕ) (xs : List ℕ) → births_at b (x ∷ xs) ≡ one_at b x + births_at b xs
 births_more b x xs = sum_by-cons (one_at b) x xs
 
-own : (b : ℕ) → one_at b b ≡ 1
+pub own : (b : ℕ) → one_at b b ≡ 1
 own b = ap (λ t. cond t 1 0) (eq-eqb b b refl)
 
 -- a birth is found where there is one
@@ -128,7 +128,7 @@ added births old new e h p =
     }
 
 -- one birth less on both sides
-fewer : (xs : List ℕ) (i b x : ℕ) → i < length xs → x ≡ get_or xs i x → births_at b xs ≡ one_at b x + births_at b (remove xs i)
+pub fewer : (xs : List ℕ) (i b x : ℕ) → i < length xs → x ≡ get_or xs i x → births_at b xs ≡ one_at b x + births_at b (remove xs i)
 fewer xs i b x within is =
     let p : IsPermutation xs (x ∷ remove xs i) = IsPermutation-remove xs i x within is in
     sym (sum_by-IsPermutation (one_at b) xs (x ∷ remove xs i) p) ∙ births_more b x (remove xs i)

@@ -1,3 +1,4 @@
 pub mod Moments
 pub mod Queues
 pub mod Births
+pub mod DuePlaces

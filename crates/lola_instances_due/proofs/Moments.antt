@@ -1,11 +1,14 @@
 -- The moment of an instance's next deadline: how it is found, and that it stays the next until it is passed.
-use Rattle.std.proofs.Common.{◌≡◌, ℕ, suc, ◌+◌, ◌-◌, ◌^◌, ◌<◌, ◌≤◌, List, [], ◌∷◌, Option, Some, None, Bool, true, false, min, nat_le, refl, ap, sym, ◌∙◌, arith, if◌then◌else◌, drop, length, get_or, subst, add-one, drop-cons}
+use Rattle.std.proofs.Common.{◌≡◌, ℕ, suc, ◌+◌, ◌-◌, ◌^◌, ◌<◌, ◌≤◌, List, [], ◌∷◌, Option, Some, None, Bool, true, false, ◌&&◌, ◌||◌, min, nat_eq, nat_lt, nat_le, refl, ap, sym, ◌∙◌, arith, if◌then◌else◌, drop, length, get_or, subst, add-one, drop-cons}
 use Rattle.std.proofs.lemmas.List.{drop_all}
 use Rattle.std.proofs.lemmas.Bool.{leb-false}
+use Rattle.std.proofs.lemmas.Bool.Decides.{nat_tests}
 use Rattle.std.specs.Option.{option_map}
 use Rattle.lola_value.specs.Ratio.{Ratio}
 use Rattle.lola_value.specs.Rate.{next_deadline, next_number, next_in_time}
 use Rattle.lola_value.specs.Times.{latest}
+use Rattle.lola_model.specs.Activity.{is_deadline}
+use Rattle.lola_model.specs.Dues.{is_due}
 use Rattle.lola_model.specs.Steps.{first_after, earlier_of_two}
 use Rattle.lola_model.specs.StepOrder.{IsRate, AreRates}
 use Rattle.lola_model.proofs.Deadlines.{next_deadline_above, next_deadline_least}
@@ -102,3 +105,37 @@ all_done rates i least born from end within so_far =
 
 pub all_rates : (rates : List Ratio) (i : ℕ) → length rates ≤ i → (AreRates (drop i rates) → AreRates rates) → AreRates rates
 all_rates rates i end so_far = so_far (subst AreRates (sym (drop_all i rates end)) tt)
+
+-- a moment is a deadline of one of the rates where it is the first of all that are not before it
+now_if : (born time x : ℕ) → time ≤ latest → time - born - 1 < x → nat_eq (min (born + x) too_late) time ≡ (nat_lt 0 (time - born) && nat_eq x (time - born))
+now_if born time x in_time above = grind (arith, nat_tests)
+
+either : (a b time : ℕ) → time ≤ a → time ≤ b → nat_eq (min a b) time ≡ (nat_eq a time || nat_eq b time)
+either a b time one rest = grind (arith, nat_tests)
+
+due_by_not_before : (r : Ratio) (born time : ℕ) → IsRate r → time ≤ latest → time ≤ due_by r born time
+unfolding due_by
+due_by_not_before r born time is in_time =
+    let above : time - born - 1 < next_deadline r (time - born - 1) = next_deadline_above r (time - born - 1) is in
+    omega arith
+
+due_not_before : (rates : List Ratio) (born time : ℕ) → AreRates rates → time ≤ latest → time ≤ due_at rates born time
+due_not_before [] born time are in_time = let e = due_none_of born time in omega arith
+due_not_before (r ∷ rs) born time are in_time =
+    let e = due_more r rs born time in
+    let one : time ≤ due_by r born time = due_by_not_before r born time are.0 in_time in
+    let rest : time ≤ due_at rs born time = due_not_before rs born time are.1 in_time in
+    omega arith
+
+now_by : (r : Ratio) (born time : ℕ) → IsRate r → time ≤ latest → nat_eq (due_by r born time) time ≡ is_deadline r (time - born)
+unfolding due_by
+now_by r born time is in_time = now_if born time (next_deadline r (time - born - 1)) in_time (next_deadline_above r (time - born - 1) is)
+
+pub due_now : (rates : List Ratio) (born time : ℕ) → AreRates rates → time ≤ latest → nat_eq (due_at rates born time) time ≡ is_due rates born time
+due_now [] born time are in_time = let e = due_none_of born time in grind (arith, nat_tests)
+due_now (r ∷ rs) born time are in_time =
+    let one : time ≤ due_by r born time = due_by_not_before r born time are.0 in_time in
+    let rest : time ≤ due_at rs born time = due_not_before rs born time are.1 in_time in
+    ap (λ t. nat_eq t time) (due_more r rs born time)
+    ∙ (either (due_by r born time) (due_at rs born time) time one rest
+    ∙ λ j. now_by r born time are.0 in_time j || due_now rs born time are.1 in_time j)

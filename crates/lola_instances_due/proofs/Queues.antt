@@ -17,6 +17,7 @@ use Rattle.lola_instances_due.proofs.Moments.{due_stays, due_within}
 -- an entry that is set at a moment
 pub is_entry : (rates : List Ratio) (moment : ℕ) (e : Entry) → AreRates rates → e.due ≡ due_at rates e.born moment → IsEntry rates moment e
 is_entry rates moment e are due = record {
+  are = are;
   next = λ from later until. due_stays rates e.born moment from are later (omega arith) ∙ sym due;
 }
 
@@ -24,7 +25,7 @@ is_entry rates moment e are due = record {
 pub still_right : (rates : List Ratio) (passed moment : ℕ) (queue : List Entry) → passed ≤ moment → IsQueue rates passed queue → IsQueue rates moment queue
 still_right rates passed moment queue later h = record {
   order = h.order;
-  entries = All-weaker (IsEntry rates passed) (IsEntry rates moment) (λ (e : Entry) k. record { next = λ from above until. k.next from (omega arith) until }) queue h.entries;
+  entries = All-weaker (IsEntry rates passed) (IsEntry rates moment) (λ (e : Entry) k. record { are = k.are; next = λ from above until. k.next from (omega arith) until }) queue h.entries;
 }
 
 -- one more entry

@@ -3,6 +3,7 @@ use Rattle.std.specs.Prelude.{ℕ, ◌≡◌, ◌≤◌, ◌<◌, ◌+◌, List,
 use Rattle.std.specs.List.{remove}
 use Rattle.std.specs.List.Sorted.{IsNonDecreasingBy}
 use Rattle.lola_value.specs.Ratio.{Ratio}
+use Rattle.lola_model.specs.StepOrder.{AreRates}
 use Rattle.lola_instances_due.specs.declared.queue.Entry.{Entry}
 use Rattle.lola_instances_due.specs.Moments.{due_at}
 
@@ -14,6 +15,7 @@ AreInOrder queue = IsNonDecreasingBy (λ (e : Entry). e.due) queue
 
 -- from a moment on until it is due, an entry's deadline is the next of its instance
 pub record IsEntry (rates : List Ratio) (passed : ℕ) (e : Entry) : Type 0 where
+  pub are : AreRates rates
   pub next : (from : ℕ) → passed ≤ from → from ≤ e.due → due_at rates e.born from ≡ e.due
 
 pub record IsQueue (rates : List Ratio) (passed : ℕ) (queue : List Entry) : Type 0 where

@@ -1,6 +1,8 @@
 //! The next deadline of one instance.
 
-ghost use Rattle.std.specs.Prelude.{◌≡◌};
+ghost use Rattle.std.specs.Prelude.{◌≡◌, ◌≤◌};
+ghost use Rattle.lola_value.specs.Times.{latest};
+ghost use Rattle.lola_model.specs.Dues.{is_due};
 ghost use Rattle.lola_model.specs.StepOrder.{IsRate, AreRates};
 ghost use Rattle.lola_instances_due.specs.Moments.{due_at, due_by};
 
@@ -31,4 +33,12 @@ pub fn next_due(rates: &[Rate], born: u64, from: u64) -> u64
         least = due_of(rate, born, from).min(least);
     }
     least
+}
+
+/// Whether a moment is a deadline of one of them.
+pub fn is_due(rates: &[Rate], born: u64, time: u64) -> bool
+    requires { time ≤ latest }
+    ensures { result ≡ is_due rates.now born time }
+{
+    next_due(rates, born, time) == time
 }

@@ -2,6 +2,7 @@
 #![tactic(auto)]
 
 mod due;
+mod listing;
 mod queue;
 #[cfg(test)]
 mod tests;

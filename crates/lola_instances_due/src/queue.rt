@@ -1,6 +1,6 @@
 //! A queue of births, in the order of their next deadlines.
 
-ghost use Rattle.std.specs.Prelude.{◌≡◌, ℕ, ◌≤◌, ◌<◌, ◌∷◌, slice_index_or, Contains, IfSome};
+ghost use Rattle.std.specs.Prelude.{◌≡◌, ℕ, ◌≤◌, ◌<◌, ◌∷◌, true, false, slice_index_or, Contains, IfSome};
 ghost use Rattle.std.specs.List.Sorted.{IsPermutation};
 ghost use Rattle.std.specs.VecDeque.{deque_capacity, deque_len};
 ghost use Rattle.lola_instances_due.specs.Moments.{least_due};
@@ -17,14 +17,33 @@ pub struct Entry {
     pub born: u64,
 }
 
-// The place behind the entries that are due no later.
-fn place_of(queue: &VecDeque<Entry>, due: u64) -> usize
+// Whether an entry stands before another: it is due earlier, or at the same moment and was born no later.
+fn stands_before(entry: Entry, other: Entry) -> bool
+    ensures before { result ≡ true → entry.due ≤ other.due }
+    ensures behind { result ≡ false → other.due ≤ entry.due }
+{
+    entry.due < other.due || entry.due == other.due && entry.born <= other.born
+}
+
+// The place of an entry behind those that are due earlier, and among those that are due then in the order of births; it is found by
+// halves.
+fn place_of(queue: &VecDeque<Entry>, entry: Entry) -> usize
     requires { AreInOrder queue.now.items }
     ensures within { result ≤ deque_len queue.now }
-    ensures before { (k : ℕ) (d : Entry) → k < result → (slice_index_or queue.now.items k d).due ≤ due }
-    ensures behind { (k : ℕ) (d : Entry) → result ≤ k → k < deque_len queue.now → due ≤ (slice_index_or queue.now.items k d).due }
+    ensures before { (k : ℕ) (d : Entry) → k < result → (slice_index_or queue.now.items k d).due ≤ entry.due }
+    ensures behind { (k : ℕ) (d : Entry) → result ≤ k → k < deque_len queue.now → entry.due ≤ (slice_index_or queue.now.items k d).due }
 {
-    queue.partition_point(|e| e.due <= due)
+    let mut low = 0;
+    let mut high = queue.len();
+    while low < high {
+        let middle = low + (high - low) / 2;
+        if stands_before(queue[middle], entry) {
+            low = middle + 1;
+        } else {
+            high = middle;
+        }
+    }
+    low
 }
 
 /// One more entry, in room that was made.
@@ -35,7 +54,7 @@ pub fn put(queue: &mut VecDeque<Entry>, entry: Entry)
     ensures entries { IsPermutation (entry ∷ queue.old.items) queue.new.items }
     ensures capacity { deque_capacity queue.old ≤ deque_capacity queue.new }
 {
-    let place = place_of(queue, entry.due);
+    let place = place_of(queue, entry);
     match queue.insert(place, entry) {
         Ok(()) => {}
         Err(_) => {}
@@ -91,25 +110,22 @@ fn place_born(queue: &VecDeque<Entry>, born: u64) -> usize
     unreachable!()
 }
 
-// The place of an entry with a birth among those that are due then, from the last on; none where it is not among them.
-fn place_due(queue: &VecDeque<Entry>, due: u64, born: u64) -> Option<usize>
+// The place of an entry of this birth that is due then, if it is found at once.
+fn place_due(queue: &VecDeque<Entry>, entry: Entry) -> Option<usize>
     requires { AreInOrder queue.now.items }
     ensures within { IfSome result (λ i. i < deque_len queue.now) }
-    ensures born { IfSome result (λ i. (d : Entry) → (slice_index_or queue.now.items i d).born ≡ born) }
+    ensures born { IfSome result (λ i. (d : Entry) → (slice_index_or queue.now.items i d).born ≡ entry.born) }
 {
-    let mut behind = place_of(queue, due);
-    while behind > 0 {
-        let last = behind - 1;
-        let entry = queue[last];
-        if entry.due < due {
-            return None;
-        }
-        if entry.born == born {
-            return Some(last);
-        }
-        behind = last;
+    let behind = place_of(queue, entry);
+    if behind == 0 {
+        return None;
     }
-    None
+    let last = behind - 1;
+    if queue[last].born == entry.born {
+        Some(last)
+    } else {
+        None
+    }
 }
 
 // The place of an entry with a birth, first looked for where it stands if it is due then.
@@ -119,7 +135,7 @@ fn place_taken(queue: &VecDeque<Entry>, due: u64, born: u64) -> usize
     ensures within { result < deque_len queue.now }
     ensures born { (d : Entry) → (slice_index_or queue.now.items result d).born ≡ born }
 {
-    match place_due(queue, due, born) {
+    match place_due(queue, Entry { due, born }) {
         Some(place) => place,
         None => place_born(queue, born),
     }

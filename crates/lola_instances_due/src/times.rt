@@ -3,10 +3,11 @@
 ghost use Rattle.std.specs.Prelude.{◌≡◌, ◌≤◌, ◌<◌, ◌+◌, ◌++◌, ◌∷◌, [], true, length, remove, option_and_then, OnOk};
 ghost use Rattle.std.specs.Vec.{vec_capacity};
 ghost use Rattle.std.specs.VecDeque.{deque_capacity};
-ghost use Rattle.lola_value.specs.Times.{up_to_latest};
-ghost use Rattle.lola_instances_due.specs.Dues.{due_of_births, is_timed};
+ghost use Rattle.lola_value.specs.Times.{latest, up_to_latest};
+ghost use Rattle.lola_instances_due.specs.Dues.{due_births, due_of_births, is_timed};
 
 use crate::due::next_due;
+use crate::listing::{list_all, list_first};
 use crate::queue::{Entry, least_from, put, renew, take_out};
 use lola_value::rate::Rate;
 use lola_value::text::Memory;
@@ -129,6 +130,26 @@ impl DueTimes {
     {
         let least = least_from(&self.queue, self.rates.as_slice(), self.passed, from);
         if least <= LATEST { Some(least) } else { None }
+    }
+
+    /// Lists the places of the births that have a deadline at a moment, in their order, in a list that has the room. It is quick where
+    /// the deadlines before that moment are passed and births were added in the order of time.
+    pub fn list(&self, time: u64, places: &mut Vec<u32>)
+        requires in_time { time ≤ latest }
+        requires few { is_timed self.now.rates ≡ true → length self.now.births ≤ 65536 }
+        requires room { is_timed self.now.rates ≡ true → length self.now.births ≤ vec_capacity places.old }
+        ensures places { places.new.items ≡ due_births self.now.rates time 0 self.now.births }
+        ensures capacity { vec_capacity places.new ≡ vec_capacity places.old }
+    {
+        if !self.is_timed() {
+            places.clear();
+            return;
+        }
+        let rates = self.rates.as_slice();
+        let births = self.births.as_slice();
+        if !list_first(&self.queue, births, rates, self.passed, time, places) {
+            list_all(births, rates, time, places);
+        }
     }
 }
 

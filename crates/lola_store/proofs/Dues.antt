@@ -1,16 +1,21 @@
--- The earlier of moments, where only times count, and the next deadline of what is shown.
-use Rattle.std.proofs.Common.{◌≡◌, ℕ, ◌+◌, ◌≤◌, ◌<◌, List, [], ◌∷◌, map, min, refl, ap, sym, ◌∙◌, arith, length, get_or, drop, drop-cons, add-one, Option, Some, None, nat_le, if◌then◌else◌, Bool, true, false}
-use Rattle.std.proofs.lemmas.Bool.{leb-true, leb-false}
+-- The earlier of moments, where only times count, the next deadline of what is shown, and the places of those that are at a moment.
+use Rattle.std.proofs.Common.{◌≡◌, ℕ, ◌+◌, ◌-◌, ◌≤◌, ◌<◌, List, [], ◌∷◌, map, min, refl, ap, sym, ◌∙◌, arith, length, get_or, drop, drop-cons, add-one, Option, Some, None, slice_get, nat_eq, nat_le, nat_lt, if◌then◌else◌, Bool, ◌&&◌, true, false}
+use Rattle.std.proofs.lemmas.Bool.{leb-true, leb-false, lt-ltb}
 use Rattle.std.proofs.lemmas.Bool.Decides.{nat_tests}
 use Rattle.lola_value.specs.Ratio.{Ratio}
+use Rattle.lola_value.specs.Rate.{next_deadline, next_in_time, next_number}
 use Rattle.lola_value.specs.Times.{latest, up_to_latest}
-use Rattle.lola_model.specs.Dues.{due_among, due_in}
+use Rattle.lola_model.specs.Activity.{is_deadline}
+use Rattle.lola_model.specs.Dues.{due_among, due_from, due_in, due_places, is_due, locals_of}
 use Rattle.lola_model.specs.NextStep.{earlier, first_due}
 use Rattle.lola_store.specs.declared.instance.Instance.{Instance}
 use Rattle.lola_store.specs.declared.population.Population.{Population}
-use Rattle.lola_store.specs.Dues.{if_time, due_of_lives, due_of_streams}
+use Rattle.lola_store.specs.declared.store.WholeStore.{WholeStore}
+use Rattle.lola_store.specs.Dues.{if_time, due_lives, due_of_lives, due_of_streams}
 use Rattle.lola_store.specs.Instances.{instance_seen}
-use Rattle.lola_store.specs.Populations.{population_layout, population_seen}
+use Rattle.lola_store.specs.Populations.{lives_in, population_layout, population_seen}
+use Rattle.lola_store.specs.Stores.{whole_seen}
+use Rattle.lola_store.proofs.Places.{layout_at, lives_seen}
 
 -- the order in which the earliest is looked for does not matter
 
@@ -81,3 +86,40 @@ streams_due from step [] = refl
 streams_due from step (l ∷ ls) =
     ap (λ o. earlier o (due_in from (map population_layout ls) (map (population_seen step) ls))) (lives_due l.locals.items from step l.lives.items)
     ∙ ap (earlier (due_of_lives l.locals.items from l.lives.items)) (streams_due from step ls)
+
+-- and the same places of those that are due
+
+lives_places : (rates : List Ratio) (time i step : ℕ) (xs : List Instance) → due_lives rates time i xs ≡ due_from rates time i (map (instance_seen step) xs)
+lives_places rates time i step [] = refl
+lives_places rates time i step (x ∷ xs) = ap (λ ps. if is_due rates x.born time then i ∷ ps else ps) (lives_places rates time (i + 1) step xs)
+
+pub places_shown : (s : WholeStore) (n time : ℕ) (l : Population) → slice_get s.streams.items n ≡ Some l → due_lives l.locals.items time 0 l.lives.items ≡ due_places (whole_seen s) n time
+places_shown s n time l e =
+    let seen = lives_seen s.step s.streams.items n ∙ ap (λ o. map (instance_seen s.step) (lives_in o)) e in
+    lives_places l.locals.items time 0 s.step l.lives.items
+    ∙ λ j. due_from (locals_of (sym (layout_at s.streams.items n l e) j)) time 0 (sym seen j)
+
+-- a moment that a rate's next deadline passes over is none of its own
+
+deadline_if : (t : Bool) (x n after m offset : ℕ) → ◌≡◌ {A = Option (ℕ × ℕ)} (Some (m, offset)) (if t then Some (n, x) else None) → nat_eq offset after ≡ nat_eq x after
+deadline_if true x n after m offset h = let e : ◌≡◌ {A = ℕ × ℕ} (m, offset) (n, x) = cc in ap (λ (p : ℕ × ℕ). nat_eq p.1 after) e
+deadline_if false x n after m offset h = absurd (cc)
+
+pub deadline_found : (r : Ratio) (after m offset : ℕ) → 0 < after → ◌≡◌ {A = Option (ℕ × ℕ)} (Some (m, offset)) (next_in_time r (after - 1)) → nat_eq offset after ≡ is_deadline r after
+deadline_found r after m offset above h =
+    deadline_if (nat_le (next_deadline r (after - 1)) latest) (next_deadline r (after - 1)) (next_number r (after - 1)) after m offset h
+    ∙ sym (ap (λ t. t && nat_eq (next_deadline r (after - 1)) after) (lt-ltb 0 after above))
+
+late_if : (t : Bool) (x n after : ℕ) → nat_le x latest ≡ t → after ≤ latest → ◌≡◌ {A = Option (ℕ × ℕ)} None (if t then Some (n, x) else None) → nat_eq x after ≡ false
+late_if true x n after e in_time h = absurd (cc)
+late_if false x n after e in_time h = let above = leb-false x latest e in grind (arith, nat_tests)
+
+pub deadline_late : (r : Ratio) (after : ℕ) → after ≤ latest → ◌≡◌ {A = Option (ℕ × ℕ)} None (next_in_time r (after - 1)) → false ≡ is_deadline r after
+deadline_late r after in_time h =
+    let e : nat_eq (next_deadline r (after - 1)) after ≡ false =
+    late_if (nat_le (next_deadline r (after - 1)) latest) (next_deadline r (after - 1)) (next_number r (after - 1)) after refl in_time h in
+    sym (ap (λ t. nat_lt 0 after && t) e ∙ and_false (nat_lt 0 after))
+  where
+    and_false : (t : Bool) → (t && false) ≡ false
+    and_false true = refl
+    and_false false = refl

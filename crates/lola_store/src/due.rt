@@ -1,11 +1,14 @@
-//! The next deadline of an instance.
+//! The next deadline of an instance, and the instances that have one at a moment.
 
-ghost use Rattle.std.specs.Prelude.{◌≡◌, ◌+◌, ◌-◌};
+ghost use Rattle.std.specs.Prelude.{◌≡◌, ◌≤◌, ◌<◌, ◌+◌, ◌-◌, length};
+ghost use Rattle.std.specs.Vec.{vec_capacity};
 ghost use Rattle.lola_value.specs.Rate.{next_deadline};
-ghost use Rattle.lola_value.specs.Times.{up_to_latest};
-ghost use Rattle.lola_model.specs.Dues.{due_seen};
+ghost use Rattle.lola_value.specs.Times.{latest, up_to_latest};
+ghost use Rattle.lola_model.specs.Activity.{is_deadline};
+ghost use Rattle.lola_model.specs.Dues.{due_places, due_seen, is_due};
 ghost use Rattle.lola_model.specs.NextStep.{earlier, first_due};
-ghost use Rattle.lola_store.specs.Dues.{if_time, due_of_lives, due_of_streams};
+ghost use Rattle.lola_model.specs.Store.{instances_seen};
+ghost use Rattle.lola_store.specs.Dues.{if_time, due_lives, due_of_lives, due_of_streams};
 ghost use Rattle.lola_store.specs.Stores.{whole_seen};
 
 use crate::instance::Instance;
@@ -83,4 +86,64 @@ pub fn local_due(s: &WholeStore, from: u64) -> Option<u64>
     ensures { result ≡ due_seen (whole_seen s.now) from }
 {
     due_in(s.streams.as_slice(), from)
+}
+
+/// Whether a moment, so long after where a rate counts from, is one of its deadlines.
+fn is_deadline(rate: &Rate, after: u64) -> bool
+    requires { after ≤ latest }
+    ensures { result ≡ is_deadline rate.now after }
+{
+    if after == 0 {
+        return false;
+    }
+    match rate.next_after(after - 1) {
+        Some((_number, offset)) => offset == after,
+        None => false,
+    }
+}
+
+/// Whether a moment is a deadline of one of these rates, counted from a birth.
+fn is_due(rates: &[Rate], born: u64, time: u64) -> bool
+    requires { time ≤ latest }
+    ensures { result ≡ is_due rates.now born time }
+{
+    for rate in rates {
+        if is_deadline(rate, time.saturating_sub(born)) {
+            return true;
+        }
+    }
+    false
+}
+
+/// Lists the places of these instances that have a deadline at a moment.
+fn list_among(lives: &[Instance], rates: &[Rate], time: u64, places: &mut Vec<u32>)
+    requires in_time { time ≤ latest }
+    requires few { length lives.now ≤ 65536 }
+    requires room { length lives.now ≤ vec_capacity places.old }
+    ensures places { places.new.items ≡ due_lives rates.now time 0 lives.now }
+    ensures capacity { vec_capacity places.new ≡ vec_capacity places.old }
+{
+    places.clear();
+    for (place, x) in lives.iter().enumerate() {
+        if is_due(rates, x.born, time) {
+            places.push_reserved(place as u32);
+        }
+    }
+}
+
+/// Lists the places of the instances of a stream that have a deadline at a moment, of a clause that counts from their births.
+pub fn list_due(s: &WholeStore, stream: u32, time: u64, places: &mut Vec<u32>)
+    requires stream { stream < length (whole_seen s.now).layout.streams }
+    requires in_time { time ≤ latest }
+    requires room { length (instances_seen (whole_seen s.now) stream) ≤ vec_capacity places.old }
+    ensures places { places.new.items ≡ due_places (whole_seen s.now) stream time }
+    ensures capacity { vec_capacity places.new ≡ vec_capacity places.old }
+{
+    let population = &s.streams[stream as usize];
+    list_among(
+        population.lives.as_slice(),
+        population.locals.as_slice(),
+        time,
+        places,
+    );
 }

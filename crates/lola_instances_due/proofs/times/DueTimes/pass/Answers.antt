@@ -1,10 +1,17 @@
-use Rattle.std.proofs.Common.{◌≡◌, length, subst, arith}
+use Rattle.std.proofs.Common.{◌≡◌, length, subst, sym, arith}
 use Rattle.std.proofs.lemmas.List.{length-map}
 use Rattle.std.proofs.lemmas.List.Sorted.{length_permutation}
 use Rattle.lola_instances_due.specs.declared.queue.Entry.{Entry}
 use Rattle.lola_instances_due.specs.Queues.{births_of, IsQueue}
 use Rattle.lola_instances_due.proofs.Births.{moved}
+use Rattle.lola_instances_due.proofs.Queues.{still_right}
 use Rattle.lola_instances_due.proofs.times.DueTimes.pass.Goals as goal
+
+pub renew-requires : goal.renew-requires
+renew-requires c =
+    let queue = c.self.inside.queue.items in
+    subst (λ rs. IsQueue rs c.args.moment queue) (sym c.as_slice.ensures.value)
+    (still_right c.self.inside.rates.items c.self.inside.passed c.args.moment queue (omega arith) c.self.invariant.right)
 
 pub invariant_of-self : goal.invariant_of-self
 invariant_of-self c =
