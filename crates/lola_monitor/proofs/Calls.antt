@@ -57,8 +57,8 @@ grew_home : (names : List (List ℕ)) (before after : ShelfState) → AllHome na
 grew_home names before after home = grew_all names before after (map given_ask names) home.asks (names_given names) home.out
 
 pub grew_sources : (in_turns : Bool) (outcome : Outcome) (s : Setting) (names : List (List ℕ)) (before after : Outside) → RunsSources in_turns outcome s names before after → Grew names before.shelf after.shelf
-grew_sources in_turns (Line (Done a l n v)) s names before after ran = grew_home names before.shelf after.shelf ran.ended.home
-grew_sources in_turns (Line (Malformed n row kind)) s names before after ran = grew_home names before.shelf after.shelf ran.ended.home
+grew_sources in_turns (Line (Done a l n v)) s names before after ran = grew_home names before.shelf after.shelf ran.ended.all
+grew_sources in_turns (Line (Malformed n row kind)) s names before after ran = grew_home names before.shelf after.shelf ran.ended.all
 grew_sources in_turns (Line (Fault stream kind time)) s names before after ran = grew_all names before.shelf after.shelf ran.asks ran.home.appended ran.home.named ran.home.out
 grew_sources in_turns (Line (UnreadableSource n)) s names before after ran = ran.asked
 grew_sources in_turns (Line Usage) s names before after ran = absurd ran
@@ -68,7 +68,7 @@ grew_sources in_turns (Line (Analysed n w)) s names before after ran = absurd ra
 grew_sources in_turns (Drilled line) s names before after ran = absurd ran
 grew_sources in_turns (Report text) s names before after ran = absurd ran
 grew_sources in_turns CutFault s names before after ran = grew_all names before.shelf after.shelf ran.asks ran.home.appended ran.home.named ran.home.out
-grew_sources in_turns Put s names before after ran = ran.shelf
+grew_sources in_turns Put s names before after ran = grew_all names before.shelf after.shelf ran.asks ran.home.appended ran.home.named ran.home.out
 grew_sources in_turns Memory s names before after ran = ran.shelf
 
 pub grew_twice : (name : List ℕ) (names : List (List ℕ)) (before mid after : ShelfState) → mid ≡ noted before name → Grew names mid after → Grew (name ∷ names) before after

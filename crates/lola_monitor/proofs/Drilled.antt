@@ -1,5 +1,5 @@
 -- How a run of two made-up sources ends, whose reads never fail.
-use Rattle.std.proofs.Common.{◌≡◌, ℕ, zero, suc, ◌<◌, ◌≤◌, List, [], ◌∷◌, ◌++◌, Option, None, Some, Result, Ok, Err, IsSome, All, inl, inr, false, true, slice_get, length, map, refl, sym, ap, ◌∙◌, subst, arith}
+use Rattle.std.proofs.Common.{◌≡◌, ◌⊎◌, ℕ, zero, suc, ◌<◌, ◌≤◌, List, [], ◌∷◌, ◌++◌, Option, None, Some, Result, Ok, Err, IsSome, All, inl, inr, false, true, slice_get, length, map, refl, sym, ap, ◌∙◌, subst, arith}
 use Rattle.std.proofs.lemmas.List.{length-map}
 use Rattle.std.proofs.lemmas.List.Elements.{All-head, All-tail}
 use Rattle.lola_port.specs.States.{Rose, SinkState}
@@ -20,13 +20,14 @@ use Rattle.lola_feed.specs.declared.worker.SourceEnd.TheVariants as finish
 use Rattle.lola_report.specs.declared.end.EndLine.{EndLine}
 use Rattle.lola_report.specs.declared.end.EndLine.TheVariants.{Done}
 use Rattle.lola_drill.specs.Drills.{drill_text}
-use Rattle.lola_run.specs.Verdicts.{Setting, fault_in, late_count, most_rows}
+use Rattle.lola_run.specs.Verdicts.{IsRowFault, Setting, fault_in, late_count, most_rows, settled_fault_in}
 use Rattle.lola_run.specs.Running.{Keeping, setting_in}
 use Rattle.lola_run.specs.declared.stop.Stop.{Stop}
 use Rattle.lola_run.specs.declared.stop.Stop.TheVariants as stop
 use Rattle.lola_rounds.specs.Rounds.{AreFirst}
+use Rattle.lola_rounds.specs.Feeds as feeds
 use Rattle.lola_rounds.specs.Feeds.{AreFed, AreInPlace, AreReady, CameTo, EndedByFault, EndedWith, EndsRun, GoInRounds, HasEnded, HaveEnded, IsListOf, Supply, ThroughWell, World, supply_of, world}
-use Rattle.lola_monitor.specs.Drilling.{AreDrillWorkers, DrillRun, DrillsTo, IsDrillFault, IsDrillWorker, drill_rows, drill_setting}
+use Rattle.lola_monitor.specs.Drilling.{AreDrillWorkers, DrillRun, DrillsTo, IsAtDrillDeadline, IsDrillFault, IsDrillWorker, drill_rows, drill_setting}
 use Rattle.lola_monitor.specs.Monitor.{HasItsModels, MalformedSource, done_line, fault_line, first_malformed}
 use Rattle.lola_monitor.specs.Outcomes.{OutcomeAfter, end_by, end_of, ends_of, first_failed, is_read_fault, line_of, malformed_by, source_end}
 use Rattle.lola_monitor.specs.declared.ending.SourcesEnd.{SourcesEnd}
@@ -214,11 +215,18 @@ module _ (d : DrillCommand) (plan : Plan) (kept0 kept1 : Keeping) (w0 w1 v0 v1 :
       line_is = refl;
     }
 
+    -- where a fault stands
+    placed : (fault : RunFault) (came : CameTo true first final) → IsRowFault (setting_in kept0) came.journal fault ⊎ feeds.IsAtDeadline came.journal first final
+        → IsRowFault (drill_setting plan) came.journal fault ⊎ IsAtDrillDeadline d (run_of came)
+    placed fault came (inl at) = inl (subst (λ (s : Setting). IsRowFault s came.journal fault) setting at)
+    placed fault came (inr at) = inr (record { settled = subst (λ (s : Setting). settled_fault_in s came.journal ≡ None) setting at.settled; rows = all_rows came.journal at.fed at.ended })
+
     abbrev faulty : (fault : RunFault) → EndedByFault true fault first final → IsDrillFault d (fault_line plan fault)
     faulty fault e = record {
       run = run_of e.through.came;
       fault = fault;
       is_fault = subst (λ (s : Setting). fault_in s e.through.came.journal ≡ Some fault) setting e.is_fault;
+      stands = placed fault e.through.came e.place;
       line_is = refl;
     }
 

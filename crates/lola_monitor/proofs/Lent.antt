@@ -1,7 +1,7 @@
 -- A run of sources that were fetched and came back.
 use Rattle.std.proofs.Common.{◌≡◌, ℕ, ◌<◌, ◌≤◌, ◌⊎◌, List, [], ◌∷◌, ◌++◌, Option, None, Some, Result, Ok, Err, IsSome, Bool, nat_lt, slice_get, map, take, drop, refl, sym, ap, ◌∙◌, inl, inr, subst, length, true, false, arith}
 use Rattle.std.proofs.lemmas.Bool.Decides.{nat_tests}
-use Rattle.std.proofs.lemmas.List.{append-nil, length-map, take-append-drop}
+use Rattle.std.proofs.lemmas.List.{length-map, take-append-drop}
 use Rattle.std.proofs.lemmas.List.Elements.{All-nil}
 use Rattle.std.proofs.lemmas.Option.{slice_get_within}
 use Rattle.lola_port.specs.States.{Rose, ShelfState, SinkState, SourceState, grown}
@@ -24,18 +24,17 @@ use Rattle.lola_run.specs.Running.{Keeping, setting_in}
 use Rattle.lola_run.specs.declared.stop.Stop.{Stop}
 use Rattle.lola_run.specs.declared.stop.Stop.TheVariants as stop
 use Rattle.lola_rounds.specs.Feeds as feeds
-use Rattle.lola_rounds.specs.Feeds.{AreFed, AreReady, BeganWith, EndedByCutFault, EndedByFault, EndedWith, EndsRun, GoInRounds, HasEnded, HaveBegun, HaveEnded, IsFed, RanToCut, Supply, Through, ThroughWell, World, supply_of, world}
+use Rattle.lola_rounds.specs.Feeds.{AreFed, AreReady, BeganWith, CameTo, EndedByCutFault, EndedByFault, EndedWith, EndsRun, GoInRounds, HasEnded, HaveBegun, HaveEnded, IsFed, RanOutOfMemory, RanToPutFault, Supply, Through, ThroughCut, ThroughWell, World, supply_of, world}
 use Rattle.lola_shelves.specs.Lending as shelves
 use Rattle.lola_shelves.specs.Lending.{AreRooms, Fetches, HasReturned, IsLent, IsNotGiven, IsStopped, asks_of, counts_of, places_of}
 use Rattle.lola_shelves.specs.declared.sources.FetchStop.{FetchStop}
 use Rattle.lola_shelves.specs.declared.sources.FetchStop.TheVariants as fetch
 use Rattle.lola_monitor.specs.Monitor.{AllBegin, AllEnd, AllRead, Begins, Ends, GoInTurns, IsAtDeadline, MalformedSource, Outside, asks_between, done_line, fault_line, first_faulty, first_malformed, is_faulty, outside, source_rows}
-use Rattle.lola_monitor.specs.Outcomes.{AllHome, CameHome, CutFacts, CutFaultRun, CutRun, EndedRun, FaultRun, Grew, OutcomeAfter, RunsSources, SourcesRun, StoppedRun, end_by, end_of, ends_of, first_failed, line_of, source_end, unfetched}
+use Rattle.lola_monitor.specs.Outcomes.{AllHome, ArePut, BrokenRun, CameHome, CutFaultRun, CutRun, EndedRun, FaultRun, Grew, OutcomeAfter, RunsSources, SourcesRun, StoppedRun, end_by, end_of, ends_of, first_failed, line_of, source_end, unfetched}
 use Rattle.lola_monitor.specs.declared.outcome.Outcome.{Outcome}
 use Rattle.lola_monitor.specs.declared.outcome.Outcome.TheVariants.{Line}
 use Rattle.lola_monitor.proofs.Calls.{between, grew_all, grew_none, names_given}
-use Rattle.lola_monitor.proofs.Faulty.{Fits, all_counted, counted, first_is, first_not_given, front_asked, get_counted, given_counted, last_given, length_counted, names_counted, none_counted, none_failed, none_faulty, none_malformed, plainly_given, some_counted}
-use Rattle.lola_monitor.proofs.Laws.{WholeLines}
+use Rattle.lola_monitor.proofs.Faulty.{Fits, all_counted, counted, first_is, first_not_given, front_asked, get_counted, given_counted, last_given, names_counted, none_counted, none_failed, none_faulty, none_malformed, plainly_given, some_counted}
 use Rattle.lola_monitor.proofs.Listed.{get_beside, get_image, image_get}
 
 -- the rows of a told source are those to come
@@ -235,39 +234,21 @@ module _ (in_turns : Bool) (names : List (List ℕ)) (before after : Outside) (k
 
     -- ---- how a run ends
 
-    abbrev run_is : Through in_turns first final → SourcesRun in_turns s names before after
-    run_is through = record {
-      journal = through.came.journal;
-      legal = through.came.legal;
-      sources = of_sources through.came.journal through.came.sources;
-      rows = all_begun through.came.journal through.begun;
-      turns = λ asked. go_in_turns through.came.journal (through.came.rounds asked);
-      trace = through.came.trace;
-      out = through.out;
+    abbrev run_is : (came : CameTo in_turns first final) → HaveBegun olds came.journal → SourcesRun in_turns s names before.shelf after.shelf
+    run_is came begun = record {
+      journal = came.journal;
+      legal = came.legal;
+      sources = of_sources came.journal came.sources;
+      traceable = came.traceable;
+      rows = all_begun came.journal begun;
+      turns = λ asked. go_in_turns came.journal (came.rounds asked);
     }
 
-    abbrev cut_is : RanToCut in_turns first final → CutFacts in_turns s names before after
-    cut_is ran = record {
-      journal = ran.journal;
-      legal = ran.legal;
-      sources = of_sources ran.journal ran.sources;
-      rows = all_begun ran.journal ran.begun;
-      turns = λ asked. go_in_turns ran.journal (ran.rounds asked);
-      trace = ran.trace;
-      out = ran.out;
-    }
+    abbrev run_through : Through in_turns first final → SourcesRun in_turns s names before.shelf after.shelf
+    run_through through = run_is through.came through.begun
 
-    -- the facts of a run that was not cut, as those of one that was
-    cut_none : WholeLines → SourcesRun in_turns s names before after → CutFacts in_turns s names before after
-    cut_none lines run = record {
-      journal = run.journal;
-      legal = run.legal;
-      sources = run.sources;
-      rows = run.rows;
-      turns = run.turns;
-      trace = lines before.trace after.trace run.journal run.trace;
-      out = record { part = verdicts s run.journal; rest = []; joined = sym (append-nil _); written = ap (λ x. x.written) run.out };
-    }
+    put_is : (through : Through in_turns first final) → ArePut s before after through.came.journal
+    put_is through = record { trace = through.trace; out = through.out }
 
     -- the counts of the last line
     done_is : (w : ThroughWell in_turns first final) → Done kept1.accepted kept1.late kept1.desk.steps kept1.desk.lines ≡ done_line s w.through.came.journal
@@ -282,15 +263,17 @@ module _ (in_turns : Bool) (names : List (List ℕ)) (before after : Outside) (k
     none_first w none = first_is_failed w.through.came.journal w.fed ∙ none
 
     abbrev ended_run : (w : ThroughWell in_turns first final) → first_failed (ends_of last) ≡ None → EndedRun in_turns s names before after
-    ended_run w none = record { run = run_is w.through; home = all_home (none_first w none); no_fault = w.no_fault; settled = w.settled }
+    ended_run w none = record { run = run_through w.through; put = put_is w.through; asks = asks; home = came_home; all = all_home (none_first w none); no_fault = w.no_fault }
 
     cut_run : (w : ThroughWell in_turns first final) (at : ℕ) → first_failed (ends_of last) ≡ Some at → CutRun in_turns (UnreadableSource at) s names before after
     cut_run w at failed =
         let least : first_faulty asks ≡ Some at = first_is_failed w.through.came.journal w.fed ∙ failed in
         record {
-          run = run_is w.through;
+          run = run_through w.through;
+          put = put_is w.through;
           no_fault = w.no_fault;
           asked = grew;
+          home = inr came_home;
           at = at;
           least = least;
           rose = came_home.failed at least;
@@ -324,41 +307,56 @@ module _ (in_turns : Bool) (names : List (List ℕ)) (before after : Outside) (k
 
     fault_run : (fault : RunFault) → EndedByFault in_turns fault first final → FaultRun in_turns (fault_line s.plan fault) s names before after
     fault_run fault e = record {
-      run = run_is e.through;
-      fault = fault;
-      is_fault = e.is_fault;
+      run = run_through e.through;
+      put = put_is e.through;
       asks = asks;
       home = came_home;
+      fault = fault;
+      is_fault = e.is_fault;
       stands = placed fault e.through.came.journal e.place;
       line_is = refl;
     }
 
     cut_fault_run : (fault : RunFault) → EndedByCutFault in_turns fault first final → CutFaultRun in_turns s names before after
     cut_fault_run fault e = record {
-      journal = e.came.journal;
-      legal = e.came.legal;
-      sources = of_sources e.came.journal e.came.sources;
-      rows = all_begun e.came.journal e.begun;
-      turns = λ asked. go_in_turns e.came.journal (e.came.rounds asked);
-      trace = e.came.trace;
-      fault = fault;
-      is_fault = e.is_fault;
+      run = run_is e.came e.begun;
       asks = asks;
       home = came_home;
+      fault = fault;
+      is_fault = e.is_fault;
       stands = e.place;
+      trace = e.trace;
       out = e.out;
     }
 
-    pub ran_sources : WholeLines → (how : Result (Unit {0}) Stop) (outcome : Outcome) → OutcomeAfter how (end_of (ends_of last)) s.plan kept1 outcome → EndsRun in_turns how first final → RunsSources in_turns outcome s names before after
-    ran_sources lines (Ok done) outcome is ran =
+    -- a failed put ended the run
+    broken_run : RanToPutFault in_turns first final ⊎ ThroughCut in_turns first final → BrokenRun in_turns s names before after
+    broken_run (inl (inl t)) = record { run = run_is t.came t.begun; asks = asks; home = came_home; cut = inl (record { no_fault = t.no_fault; trace = t.trace; out = t.out }) }
+    broken_run (inl (inr r)) = record { run = run_is r.came r.begun; asks = asks; home = came_home; cut = inr (inl (record { no_fault = r.no_fault; trace = r.trace; out = r.out })) }
+    broken_run (inr d) = record {
+      run = run_is d.came d.begun;
+      asks = asks;
+      home = came_home;
+      cut = inr (inr (record { no_fault = d.no_fault; read = all_read d.came.journal d.place.fed d.place.ended; trace = d.trace; out = d.out }));
+    }
+
+    -- there was no memory, for a row or for the end line of a fault
+    out_of_memory : RanOutOfMemory in_turns first final → StoppedRun in_turns s names before after
+    out_of_memory m = record { shelf = grew; how = inl (record { run = run_is m.came m.begun; asks = asks; home = came_home; trace = m.trace; out = inl m.out }) }
+
+    no_line : Through in_turns first final → StoppedRun in_turns s names before after
+    no_line through = record { shelf = grew; how = inl (record { run = run_through through; asks = asks; home = came_home; trace = through.trace; out = inr through.out }) }
+
+    pub ran_sources : (how : Result (Unit {0}) Stop) (outcome : Outcome) → OutcomeAfter how (end_of (ends_of last)) s.plan kept1 outcome → EndsRun in_turns how first final → RunsSources in_turns outcome s names before after
+    ran_sources (Ok done) outcome is ran =
         subst (λ o. RunsSources in_turns o s names before after) (sym is) (by_ends (first_failed (ends_of last)) (first_malformed (map source_end (ends_of last))) refl refl ran)
-    ran_sources lines (Err (stop.Fault stream kind time)) outcome (inl is) ran =
+    ran_sources (Err (stop.Fault stream kind time)) outcome (inl is) ran =
         subst (λ o. RunsSources in_turns o s names before after) (sym is) (fault_run (record { stream = stream; kind = kind; time = time }) ran)
-    ran_sources lines (Err (stop.Fault stream kind time)) outcome (inr is) ran = subst (λ o. RunsSources in_turns o s names before after) (sym is) (record { shelf = grew; cut = inl (cut_none lines (run_is ran.through)) })
-    ran_sources lines (Err (stop.CutFault stream kind time)) outcome is ran =
+    ran_sources (Err (stop.Fault stream kind time)) outcome (inr is) ran = subst (λ o. RunsSources in_turns o s names before after) (sym is) (no_line ran.through)
+    ran_sources (Err (stop.CutFault stream kind time)) outcome is ran =
         subst (λ o. RunsSources in_turns o s names before after) (sym is) (cut_fault_run (record { stream = stream; kind = kind; time = time }) ran)
-    ran_sources lines (Err stop.Put) outcome is ran = subst (λ o. RunsSources in_turns o s names before after) (sym is) (record { shelf = grew; cut = cut_is ran.cut; no_fault = ran.no_fault; rose = ran.rose })
-    ran_sources lines (Err stop.Memory) outcome is ran = subst (λ o. RunsSources in_turns o s names before after) (sym is) (record { shelf = grew; cut = inl (cut_is ran) })
+    ran_sources (Err stop.Put) outcome is ran = subst (λ o. RunsSources in_turns o s names before after) (sym is) (broken_run ran)
+    ran_sources (Err stop.Memory) outcome is ran = subst (λ o. RunsSources in_turns o s names before after) (sym is) (out_of_memory ran)
 
 -- ---- sources that were lent
 
@@ -406,6 +404,7 @@ not_given in_turns at s names before after out trace none_of broke =
         journal = [];
         legal = tt;
         sources = All-nil (λ (e : Entry). e.row.source < length names);
+        traceable = tt;
         rows = λ n name named bytes told. ((source_rows s.plan n bytes).rows, refl);
         turns = λ asked. record {
           lists = map no_rows names;
@@ -415,11 +414,11 @@ not_given in_turns at s names before after out trace none_of broke =
           whole = λ none. let some : first_faulty (asks_between before after) ≡ Some at = ap first_faulty (between before after asks broke.asks) ∙ least in absurd (cc);
           first = record { rounds = 0; rest = []; joined = refl };
         };
-        trace = none_of.traced;
-        out = none_of.put;
       };
+      put = record { trace = none_of.traced; out = none_of.put };
       no_fault = none_of.no_fault;
       asked = record { asks = asks; appended = broke.asks; front = front; home = broke.out };
+      home = inl refl;
       at = at;
       least = least;
       rose = broke.rose;
@@ -438,12 +437,12 @@ not_fetched in_turns s names before after out trace stopped = record {
     front = (drop stopped.asked names, sym (ap (λ (l : List (List ℕ)). l ++ drop stopped.asked names) (names_given (take stopped.asked names)) ∙ take-append-drop stopped.asked names));
     home = stopped.out;
   };
-  cut = inr (record { trace = refl; out = refl });
+  how = inr (record { trace = refl; out = refl });
 }
 
 -- no memory before any source was asked for
 pub not_asked : (in_turns : Bool) (s : Setting) (names : List (List ℕ)) (shelf : ShelfState) (out trace : SinkState) → StoppedRun in_turns s names (outside shelf out trace) (outside shelf out trace)
-not_asked in_turns s names shelf out trace = record { shelf = grew_none names shelf; cut = inr (record { trace = refl; out = refl }) }
+not_asked in_turns s names shelf out trace = record { shelf = grew_none names shelf; how = inr (record { trace = refl; out = refl }) }
 
 -- not all sources were fetched
 pub unfetched_run : (in_turns : Bool) (end : FetchStop) (s : Setting) (names : List (List ℕ)) (rooms : List Shape) (before after : ShelfState) (out trace : SinkState) (workers : List Working) → NoRows s out trace → Fetches (Err end) names rooms before after workers
@@ -456,14 +455,14 @@ unfetched_run in_turns fetch.Memory s names rooms before after out trace workers
 pub as_many : (lent last : List Working) → places_of last ≡ places_of lent → length last ≡ length lent
 as_many lent last same = sym (length-map last (λ (w : Working). w.reader.source.place)) ∙ ap length same ∙ length-map lent (λ (w : Working). w.reader.source.place)
 
-pub ran_lent : (in_turns : Bool) → WholeLines → (names : List (List ℕ)) (rooms : List Shape) (before mid after : ShelfState) (out0 trace0 out1 trace1 : SinkState) (kept0 kept1 : Keeping) (lent last : List Working) (how : Result (Unit {0}) Stop) (outcome : Outcome)
+pub ran_lent : (in_turns : Bool) (names : List (List ℕ)) (rooms : List Shape) (before mid after : ShelfState) (out0 trace0 out1 trace1 : SinkState) (kept0 kept1 : Keeping) (lent last : List Working) (how : Result (Unit {0}) Stop) (outcome : Outcome)
     → IsLent names rooms before mid lent → AreRooms kept0.desk.plan (length names) most_rows rooms → places_of last ≡ places_of lent → HasReturned names (counts_of last) before after
     → kept1.desk.plan ≡ kept0.desk.plan → OutcomeAfter how (end_of (ends_of last)) kept1.desk.plan kept1 outcome
     → EndsRun in_turns how (world kept0 (map supply_of lent) out0 trace0) (world kept1 (map supply_of last) out1 trace1)
     → RunsSources in_turns outcome (setting_in kept0) names (outside before out0 trace0) (outside after out1 trace1)
-ran_lent in_turns lines names rooms before mid after out0 trace0 out1 trace1 kept0 kept1 lent last how outcome is are places returned same ends ran =
+ran_lent in_turns names rooms before mid after out0 trace0 out1 trace1 kept0 kept1 lent last how outcome is are places returned same ends ran =
     ran_sources in_turns names (outside before out0 trace0) (outside after out1 trace1) kept0 kept1 lent last (lent_fresh kept0.desk.plan names rooms before mid lent is are) (as_many lent last places) returned
-    lines how outcome (subst (λ (p : Plan). OutcomeAfter how (end_of (ends_of last)) p kept1 outcome) same ends) ran
+    how outcome (subst (λ (p : Plan). OutcomeAfter how (end_of (ends_of last)) p kept1 outcome) same ends) ran
 
 -- they can be given back
 pub still_given : (shelf : List Ask) (lent last : List Working) → places_of last ≡ places_of lent → shelves.AreGiven shelf (places_of lent) → shelves.AreGiven shelf (places_of last)

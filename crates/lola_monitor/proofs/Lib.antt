@@ -10,6 +10,7 @@ pub mod Laws
 pub mod Lent
 pub mod Options
 pub mod Working
+pub mod Means
 pub mod DrillEnds
 pub mod Ends
 pub mod Statuses

@@ -1,5 +1,5 @@
 -- A command's run, after its specification was read.
-use Rattle.std.proofs.Common.{◌≡◌, ◌⊎◌, ℕ, ◌+◌, List, [], ◌∷◌, ◌++◌, Option, None, Some, Err, Bool, map, inl, inr, ⊎_elim, refl, sym, ap, if◌then◌else◌, ◌∙◌, subst, append_assoc, arith, length, length-append}
+use Rattle.std.proofs.Common.{◌≡◌, ◌⊎◌, ℕ, ◌+◌, List, [], ◌∷◌, ◌++◌, Option, None, Some, Err, Bool, map, inl, inr, refl, sym, ap, if◌then◌else◌, ◌∙◌, subst, append_assoc, arith, length-append}
 use Rattle.std.specs.Option.{option_map}
 use Rattle.lola_port.specs.Asks.{given_ask}
 use Rattle.lola_port.specs.States.{PutBroke, Rose, ShelfState, SinkState}
@@ -16,8 +16,8 @@ use Rattle.lola_run.specs.Verdicts.{IsRowFault, Setting, verdicts}
 use Rattle.lola_command.specs.declared.command.DrillCommand.{DrillCommand}
 use Rattle.lola_monitor.specs.Command.{Names, analysed_of, drill_of, run_of, specification_of}
 use Rattle.lola_monitor.specs.Drilling.{DrillsBy}
-use Rattle.lola_monitor.specs.Monitor.{AllBegin, AllGiven, AllRead, Begins, BrokeOff, Ends, GoInTurns, HasItsModels, HasRows, IsAtDeadline, IsEarly, Outside, Plans, Ran, WereGiven, analysis_text, asks_between, fault_line, first_faulty, setting_of}
-use Rattle.lola_monitor.specs.Outcomes.{AllHome, CameHome, CutFacts, EndedRun, Marred, PlansName, ReadPlan, RunsSources, SourcesRun, Stood, StoodEnded, Works, noted, without_plan}
+use Rattle.lola_monitor.specs.Monitor.{AllBegin, AllGiven, AllRead, Begins, CutsOff, Ends, GoInTurns, HasItsModels, HasRows, IsAtDeadline, IsEarly, IsUnfinished, Outside, Plans, Ran, WereGiven, analysis_text, asks_between, call, fault_line, first_faulty, setting_of}
+use Rattle.lola_monitor.specs.Outcomes.{AllHome, AreUntouched, ArePut, CameHome, Marred, PlansName, ReadPlan, RunsSources, SourcesRun, UnfinishedRun, Works, noted, without_plan}
 use Rattle.lola_monitor.specs.declared.outcome.Outcome.{Outcome}
 use Rattle.lola_monitor.specs.declared.outcome.Outcome.TheVariants.{Line, Drilled, Report, CutFault, Put, Memory}
 use Rattle.lola_monitor.specs.declared.outcome.Unplanned.{Unplanned}
@@ -66,9 +66,8 @@ module _ (words : List (List ℕ)) (names : Names) (plan : Plan) (before after :
     rose_by : Rose shelf.count after.shelf.count → Rose before.shelf.count after.shelf.count
     rose_by rose = subst (λ n. Rose n after.shelf.count) count_is rose
 
-    were_given : (asks : List Ask) → CameHome names.sources asks shelf after.shelf → WereGiven names asks before.shelf after.shelf
+    were_given : (asks : List Ask) → CameHome names.sources asks shelf after.shelf → WereGiven names.sources asks before.shelf after.shelf
     were_given asks home = record {
-      between = asks_after asks home.appended;
       named = home.named;
       given = home.given;
       unfailed = λ none. home.unfailed none ∙ count_is;
@@ -92,10 +91,13 @@ module _ (words : List (List ℕ)) (names : Names) (plan : Plan) (before after :
       first = turns.first;
     }
 
-    abbrev ran : (asks : List Ask) → after.shelf.asks ≡ shelf.asks ++ asks → SourcesRun names.in_turns s names.sources mid after → Ran words before after
-    ran asks is run = record {
+    abbrev ran : (asks : List Ask) → after.shelf.asks ≡ shelf.asks ++ asks → (run : SourcesRun names.in_turns s names.sources shelf after.shelf)
+        → (run.journal ≡ []) ⊎ WereGiven names.sources asks before.shelf after.shelf → Ran words before.shelf after.shelf
+    ran asks is run given = record {
       names = names;
       is_command = is_command;
+      asks = asks;
+      between = asks_after asks is;
       plan = plan;
       is_plan = is_plan;
       accepted = accepted;
@@ -103,38 +105,32 @@ module _ (words : List (List ℕ)) (names : Names) (plan : Plan) (before after :
       journal = run.journal;
       legal = run.legal;
       sources = run.sources;
+      traceable = run.traceable;
+      rows = all_begin run.journal run.rows;
       turns = λ asked. in_turns asks run.journal is (run.turns asked);
-      trace = run.trace;
+      given = given;
     }
 
-    abbrev stood : (asks : List Ask) → after.shelf.asks ≡ shelf.asks ++ asks → SourcesRun names.in_turns s names.sources mid after → Stood words before after
-    stood asks is run = record { run = ran asks is run; out = run.out; rows = all_begin run.journal run.rows }
+    -- of sources that were all given
+    abbrev ran_home : (asks : List Ask) → SourcesRun names.in_turns s names.sources shelf after.shelf → CameHome names.sources asks shelf after.shelf → Ran words before.shelf after.shelf
+    ran_home asks run home = ran asks home.appended run (inr (were_given asks home))
 
-    abbrev stood_ended : EndedRun names.in_turns s names.sources mid after → StoodEnded words before after
-    stood_ended e = record { stood = stood (map given_ask names.sources) e.home.asks e.run; no_fault = e.no_fault; settled = e.settled; given = given e.home }
+    -- the same before the specification was asked for
+    abbrev put_so : (journal : List Entry) → ArePut s mid after journal → ArePut s before after journal
+    put_so journal put = record { trace = put.trace; out = put.out }
 
-    abbrev off : (asks : List Ask) → after.shelf.asks ≡ shelf.asks ++ asks → CutFacts names.in_turns s names.sources mid after → BrokeOff words before after
-    off asks is cut = record {
-      names = names;
-      is_command = is_command;
-      plan = plan;
-      is_plan = is_plan;
-      accepted = accepted;
-      one_model = one_model;
-      journal = cut.journal;
-      legal = cut.legal;
-      sources = cut.sources;
-      rows = all_begin cut.journal cut.rows;
-      turns = λ asked. in_turns asks cut.journal is (cut.turns asked);
-      trace = cut.trace;
-      line = Usage;
-      out = record {
-        part = cut.out.part;
-        rest = cut.out.rest ++ end_text Usage;
-        joined = ap (λ (l : List ℕ). l ++ end_text Usage) cut.out.joined ∙ append_assoc cut.out.part cut.out.rest (end_text Usage);
-        written = cut.out.written;
-      };
-    }
+    cut_so : (asks : List Ask) (journal : List Entry) → CutsOff s names.sources asks mid after journal → CutsOff s names.sources asks before after journal
+    cut_so asks journal (inl t) = inl (record { no_fault = t.no_fault; trace = t.trace; out = t.out })
+    cut_so asks journal (inr (inl r)) = inr (inl (record { no_fault = r.no_fault; trace = r.trace; out = r.out }))
+    cut_so asks journal (inr (inr d)) = inr (inr (record { no_fault = d.no_fault; read = all_read asks journal d.read; trace = d.trace; out = d.out }))
+
+    some_given : (asks : List Ask) (journal : List Entry) → (journal ≡ []) ⊎ CameHome names.sources asks shelf after.shelf → (journal ≡ []) ⊎ WereGiven names.sources asks before.shelf after.shelf
+    some_given asks journal (inl none) = inl none
+    some_given asks journal (inr home) = inr (were_given asks home)
+
+    unfinished : UnfinishedRun names.in_turns s names.sources mid after ⊎ AreUntouched mid after → IsEarly (call words before after) ⊎ IsUnfinished (call words before after)
+    unfinished (inl u) = inr (record { run = ran_home u.asks u.run u.home; trace = u.trace; out = u.out })
+    unfinished (inr early) = inl (record { trace = early.trace; out = early.out })
 
     stands_at : (fault : RunFault) (asks : List Ask) (journal : List Entry) → IsRowFault s journal fault ⊎ IsAtDeadline shelf s names.sources asks journal
         → IsRowFault s journal fault ⊎ IsAtDeadline before.shelf s names.sources asks journal
@@ -142,70 +138,74 @@ module _ (words : List (List ℕ)) (names : Names) (plan : Plan) (before after :
     stands_at fault asks journal (inr at) = inr (record { settled = at.settled; read = all_read asks journal at.read })
 
     pub works_after : (outcome : Outcome) → RunsSources names.in_turns outcome s names.sources mid after → Works outcome words before after
-    works_after (Line (Done a l s v)) r = record {
-      ended = stood_ended r.ended;
-      rows = λ n name is. subst (λ t. Ends t plan n (rows_of n r.ended.run.journal) Whole) (told name) (r.rows n name is);
-      line_is = r.line_is;
+    works_after (Line (Done a l n v)) r = record {
+      all = record {
+        run = ran_home r.ended.asks r.ended.run r.ended.home;
+        given = given r.ended.all;
+        rows = λ n name is. subst (λ t. Ends t plan n (rows_of n r.ended.run.journal) Whole) (told name) (r.rows n name is);
+        no_fault = r.ended.no_fault;
+        line_is = r.line_is;
+      };
+      put = put_so r.ended.run.journal r.ended.put;
     }
     works_after (Line (Malformed n row kind)) r = record {
-      ended = stood_ended r.ended;
-      ends = r.ends;
-      rows = record { many = r.rows.many; each = λ n name end is at. subst (λ t. Ends t plan n (rows_of n r.ended.run.journal) end) (told name) (r.rows.each n name end is at) };
-      at = r.at;
-      least = r.least;
-      line_is = r.line_is;
+      some = record {
+        run = ran_home r.ended.asks r.ended.run r.ended.home;
+        given = given r.ended.all;
+        ends = r.ends;
+        rows = record { many = r.rows.many; each = λ n name end is at. subst (λ t. Ends t plan n (rows_of n r.ended.run.journal) end) (told name) (r.rows.each n name end is at) };
+        no_fault = r.ended.no_fault;
+        at = r.at;
+        least = r.least;
+        line_is = r.line_is;
+      };
+      put = put_so r.ended.run.journal r.ended.put;
     }
     works_after (Line (Fault stream kind time)) r = record {
-      stood = stood r.asks r.home.appended r.run;
-      fault = r.fault;
-      is_fault = r.is_fault;
-      asks = r.asks;
-      given = were_given r.asks r.home;
-      stands = stands_at r.fault r.asks r.run.journal r.stands;
-      line_is = r.line_is;
+      up_to = record {
+        run = ran_home r.asks r.run r.home;
+        given = were_given r.asks r.home;
+        fault = r.fault;
+        is_fault = r.is_fault;
+        stands = stands_at r.fault r.asks r.run.journal r.stands;
+        line_is = r.line_is;
+      };
+      put = put_so r.run.journal r.put;
     }
     works_after (Line (UnreadableSource n)) r = record {
-      stood = stood r.asked.asks r.asked.appended r.run;
-      no_fault = r.no_fault;
-      asks = r.asked.asks;
-      between = asks_after r.asked.asks r.asked.appended;
-      at = r.at;
-      least = r.least;
-      rose = rose_by r.rose;
-      unless_given = r.unless_given;
-      read = λ were. let all = r.read were in (all.0, all_read r.asked.asks r.run.journal all.1);
-      line_is = r.line_is;
+      short = record {
+        run = ran r.asked.asks r.asked.appended r.run (some_given r.asked.asks r.run.journal r.home);
+        at = r.at;
+        least = r.least;
+        rose = rose_by r.rose;
+        unless_given = r.unless_given;
+        read = λ were. let all = r.read were in (all.0, all_read r.asked.asks r.run.journal all.1);
+        no_fault = r.no_fault;
+        line_is = r.line_is;
+      };
+      put = put_so r.run.journal r.put;
     }
     works_after (Line Usage) r = absurd r
     works_after (Line (Refused q)) r = absurd r
     works_after (Line UnreadableSpecification) r = absurd r
-    works_after (Line (Analysed s w)) r = absurd r
+    works_after (Line (Analysed n w)) r = absurd r
     works_after (Drilled line) r = absurd r
     works_after (Report text) r = absurd r
     works_after CutFault r = record {
-      run = record {
-        names = names;
-        is_command = is_command;
-        plan = plan;
-        is_plan = is_plan;
-        accepted = accepted;
-        one_model = one_model;
-        journal = r.journal;
-        legal = r.legal;
-        sources = r.sources;
-        turns = λ asked. in_turns r.asks r.journal r.home.appended (r.turns asked);
-        trace = r.trace;
+      line = fault_line plan r.fault;
+      up_to = record {
+        run = ran_home r.asks r.run r.home;
+        given = were_given r.asks r.home;
+        fault = r.fault;
+        is_fault = r.is_fault;
+        stands = inl r.stands;
+        line_is = refl;
       };
-      fault = r.fault;
-      rows = all_begin r.journal r.rows;
-      is_fault = r.is_fault;
-      asks = r.asks;
-      given = were_given r.asks r.home;
-      stands = inl r.stands;
-      out = inr (broke_before before.out after.out (verdicts s r.journal) (end_text (fault_line plan r.fault)) r.out);
+      trace = r.trace;
+      out = inr (broke_before before.out after.out (verdicts s r.run.journal) (end_text (fault_line plan r.fault)) r.out);
     }
-    works_after Put r = record { off = off r.shelf.asks r.shelf.appended r.cut; no_fault = r.no_fault; rose = r.rose }
-    works_after Memory r = ⊎_elim (λ cut. inr (off r.shelf.asks r.shelf.appended cut)) (λ early. inl (record { trace = early.trace; out = early.out })) r.cut
+    works_after Put r = record { run = ran_home r.asks r.run r.home; given = were_given r.asks r.home; cut = cut_so r.asks r.run.journal r.cut }
+    works_after Memory r = unfinished r.how
 
 asks_noted : (name : List ℕ) (before after : ShelfState) → after ≡ noted before name → asks_between before after ≡ given_ask name ∷ []
 asks_noted name before after is = between before after (given_ask name ∷ []) (ap (λ s. s.asks) is)
@@ -215,7 +215,7 @@ first_is_faulty : (name : List ℕ) (before after : ShelfState) → Marred name 
 first_is_faulty name before after m =
     ap first_faulty (between before after (m.ask ∷ []) m.asks) ∙ ap (λ (b : Bool). if b then Some 0 else option_map (λ n. n + 1) None) m.faulty
 
-module _ (words : List (List ℕ)) (name : List ℕ) (before after : Outside) (early : IsEarly before after) (is_command : specification_of words ≡ Some name) where
+module _ (words : List (List ℕ)) (name : List ℕ) (before after : Outside) (early : AreUntouched before after) (is_command : specification_of words ≡ Some name) where
   -- a specification that has no plan, or no memory to tell
   pub works_unplanned : (end : Unplanned) → PlansName (Err end) name before.shelf after.shelf → Works (without_plan end) words before after
   works_unplanned unplanned.Unreadable p = record { name = name; is_command = is_command; faulty = first_is_faulty name before.shelf after.shelf p; rose = p.rose; early = early }
@@ -227,7 +227,7 @@ module _ (words : List (List ℕ)) (name : List ℕ) (before after : Outside) (e
     count = ap (λ s. s.count) p.shelf;
     early = early;
   }
-  works_unplanned unplanned.Memory p = inl early
+  works_unplanned unplanned.Memory p = inl (record { trace = early.trace; out = early.out })
 
   module _ (plan : Plan) (p : ReadPlan plan name before.shelf after.shelf) where
     -- a plan that was analysed
@@ -240,16 +240,15 @@ module _ (words : List (List ℕ)) (name : List ℕ) (before after : Outside) (e
         is_plan = p.is_plan;
         asks = asks_noted name before.shelf after.shelf p.shelf;
         count = ap (λ s. s.count) p.shelf;
-        trace = early.trace;
       };
       text_is = is;
-      out = early.out;
+      early = early;
     }
 
 -- a drill, which asks for nothing and traces nothing
 pub works_drilled : (words : List (List ℕ)) (here : Outside) (d : DrillCommand) (outcome : Outcome) → drill_of words ≡ Some d → DrillsBy outcome d → Works outcome words here here
 works_drilled words here d (Line line) is drills = absurd drills
-works_drilled words here d (Drilled line) is drills = record { of = record { drill = d; is_command = is; shelf = refl; trace = refl }; drills = drills; out = refl }
+works_drilled words here d (Drilled line) is drills = record { of = record { drill = d; is_command = is; shelf = refl }; drills = drills; early = record { trace = refl; out = refl } }
 works_drilled words here d (Report text) is drills = absurd drills
 works_drilled words here d CutFault is drills = absurd drills
 works_drilled words here d Put is drills = absurd drills

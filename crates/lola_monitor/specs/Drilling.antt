@@ -1,6 +1,6 @@
 -- What a drill comes to: made-up sources are read in turns, and its end line alone is put.
 use Rattle.std.specs.Prelude.{◌≡◌, ◌⊎◌, ◌<◌, ℕ, List, [], ◌∷◌, None, Some, length, slice_get}
-use Rattle.lola_port.specs.States.{PutBroke, Rose, SourceState, grown}
+use Rattle.lola_port.specs.States.{PutBroke, Rose, ShelfState, SourceState, grown}
 use Rattle.lola_value.specs.declared.front.Refusal.{Refusal}
 use Rattle.lola_model.specs.Acceptance.{IsAccepted}
 use Rattle.lola_model.specs.Faults.{RunFault}
@@ -17,12 +17,12 @@ use Rattle.lola_report.specs.Ends.{end_text}
 use Rattle.lola_report.specs.declared.end.EndLine.{EndLine}
 use Rattle.lola_report.specs.declared.end.EndLine.TheVariants.{Done, Usage, Refused, Malformed, Fault, UnreadableSpecification, UnreadableSource, Analysed}
 use Rattle.lola_drill.specs.Drills.{drill_bytes, drill_text}
-use Rattle.lola_run.specs.Verdicts.{AreOfSources, Setting, fault_in, most_rows}
+use Rattle.lola_run.specs.Verdicts.{AreOfSources, IsRowFault, Setting, fault_in, most_rows, settled_fault_in}
 use Rattle.lola_rounds.specs.Rounds.{AreFirst}
 use Rattle.lola_monitor.specs.declared.outcome.Outcome.{Outcome}
 use Rattle.lola_monitor.specs.declared.outcome.Outcome.TheVariants.{Line, Drilled, Report, CutFault, Put, Memory}
 use Rattle.lola_monitor.specs.Command.{drill_of}
-use Rattle.lola_monitor.specs.Monitor.{HasItsModels, MalformedSource, Outside, Wrote, done_line, fault_line, first_malformed, source_rows}
+use Rattle.lola_monitor.specs.Monitor.{Call, HasItsModels, IsUntraced, MalformedSource, Wrote, done_line, fault_line, first_malformed, source_rows}
 
 -- the rows and the end of the made-up source 0 or 1
 abbrev pub drill_rows : Plan → DrillCommand → ℕ → SourceRows
@@ -59,11 +59,17 @@ pub record IsDrillMalformed (d : DrillCommand) (line : EndLine) : Type 0 where
   pub no_fault : fault_in (drill_setting run.plan) run.journal ≡ None
   pub line_is : line ≡ Malformed at.source at.row at.kind
 
--- rows were taken up to the first fault
+-- no settled step has a fault: it stands at the deadline of the last stamp, once all rows of both were taken
+pub record IsAtDrillDeadline (d : DrillCommand) (run : DrillRun d) : Type 0 where
+  pub settled : settled_fault_in (drill_setting run.plan) run.journal ≡ None
+  pub rows : (s : ℕ) → s < 2 → (drill_rows run.plan d s).rows ≡ rows_of s run.journal
+
+-- rows were taken up to the first fault, which stands at the last of them or at the deadline of the last stamp
 pub record IsDrillFault (d : DrillCommand) (line : EndLine) : Type 0 where
   pub run : DrillRun d
   pub fault : RunFault
   pub is_fault : fault_in (drill_setting run.plan) run.journal ≡ Some fault
+  pub stands : IsRowFault (drill_setting run.plan) run.journal fault ⊎ IsAtDrillDeadline d run
   pub line_is : line ≡ fault_line run.plan fault
 
 -- a drill, by its end line
@@ -77,47 +83,55 @@ DrillsTo UnreadableSpecification d = ⊥
 DrillsTo (UnreadableSource n) d = ⊥
 DrillsTo (Analysed s w) d = ⊥
 
--- the words are a drill, and nothing is asked for or traced
-pub record OfDrill (words : List (List ℕ)) (before after : Outside) : Type 0 where
+-- the words are a drill, and nothing is asked for
+pub record OfDrill (words : List (List ℕ)) (before after : ShelfState) : Type 0 where
   pub drill : DrillCommand
   pub is_command : drill_of words ≡ Some drill
-  pub shelf : after.shelf ≡ before.shelf
-  pub trace : after.trace ≡ before.trace
+  pub shelf : after ≡ before
 
--- the end line of a drill that ends well, alone
-pub record IsDrilled (words : List (List ℕ)) (before after : Outside) : Type 0 where
-  pub of : OfDrill words before after
+-- the drill of a call
+abbrev pub DrillIn : Call → Type 0
+DrillIn c = OfDrill c.words c.before.shelf c.after.shelf
+
+-- 0: the end line of a drill that ends well, alone
+pub record IsDrilled (c : Call) : Type 0 where
+  pub of : DrillIn c
   pub line : EndLine
   pub done : IsDrillDone of.drill line
-  pub out : after.out ≡ grown before.out (end_text line)
+  pub trace : IsUntraced c
+  pub out : c.after.out ≡ grown c.before.out (end_text line)
 
--- that of one whose specification is refused
-pub record IsRefusedDrill (words : List (List ℕ)) (before after : Outside) : Type 0 where
-  pub of : OfDrill words before after
+-- 3: that of one whose specification is refused
+pub record IsRefusedDrill (c : Call) : Type 0 where
+  pub of : DrillIn c
   pub refusal : Refusal
   pub cause : IsRefusalOf drill_text refusal
-  pub out : Wrote before.out after.out (end_text (Refused refusal))
+  pub trace : IsUntraced c
+  pub out : Wrote c.before.out c.after.out (end_text (Refused refusal))
 
--- that of one with a malformed source
-pub record IsMalformedDrill (words : List (List ℕ)) (before after : Outside) : Type 0 where
-  pub of : OfDrill words before after
+-- 4: that of one with a malformed source
+pub record IsMalformedDrill (c : Call) : Type 0 where
+  pub of : DrillIn c
   pub line : EndLine
   pub malformed : IsDrillMalformed of.drill line
-  pub out : after.out ≡ grown before.out (end_text line)
+  pub trace : IsUntraced c
+  pub out : c.after.out ≡ grown c.before.out (end_text line)
 
--- that of one whose rows have a fault
-pub record IsFaultyDrill (words : List (List ℕ)) (before after : Outside) : Type 0 where
-  pub of : OfDrill words before after
+-- 5: that of one whose rows have a fault
+pub record IsFaultyDrill (c : Call) : Type 0 where
+  pub of : DrillIn c
   pub line : EndLine
   pub fault : IsDrillFault of.drill line
-  pub out : Wrote before.out after.out (end_text line)
+  pub trace : IsUntraced c
+  pub out : Wrote c.before.out c.after.out (end_text line)
 
--- the put of the end line failed, of a drill that ends well or with a malformed source
-pub record IsCutDrill (words : List (List ℕ)) (before after : Outside) : Type 0 where
-  pub of : OfDrill words before after
+-- 7: the put of the end line failed, of a drill that ends well or with a malformed source
+pub record IsCutDrill (c : Call) : Type 0 where
+  pub of : DrillIn c
   pub line : EndLine
   pub is : IsDrillDone of.drill line ⊎ IsDrillMalformed of.drill line
-  pub out : PutBroke before.out after.out (end_text line)
+  pub trace : IsUntraced c
+  pub out : PutBroke c.before.out c.after.out (end_text line)
 
 -- how a drill ends before its line is put
 abbrev pub DrillsBy : Outcome → DrillCommand → Type 0
@@ -141,10 +155,10 @@ pub record AreDrillWorkers (plan : Plan) (d : DrillCommand) (workers : List Work
   pub each : (s : ℕ) (w : Working) → slice_get workers s ≡ Some w → IsDrillWorker plan d s w
 
 -- a drill whose specification is not refused, whose sources end well and whose rows have no fault, and no put of which failed
-pub record IsCleanDrill (words : List (List ℕ)) (before after : Outside) : Type 0 where
+pub record IsCleanDrill (c : Call) : Type 0 where
   pub drill : DrillCommand
-  pub is_command : drill_of words ≡ Some drill
+  pub is_command : drill_of c.words ≡ Some drill
   pub not_refused : (r : Refusal) → IsRefusalOf drill_text r → ⊥
   pub ends : (plan : Plan) (s : ℕ) → IsPlanOf drill_text plan → s < 2 → (drill_rows plan drill s).end ≡ Whole
   pub no_fault : (run : DrillRun drill) → fault_in (drill_setting run.plan) run.journal ≡ None
-  pub out : Rose before.out.count after.out.count → ⊥
+  pub out : Rose c.before.out.count c.after.out.count → ⊥

@@ -1,4 +1,5 @@
 pub mod Command
 pub mod Monitor
 pub mod Drilling
+pub mod Statuses
 pub mod Outcomes

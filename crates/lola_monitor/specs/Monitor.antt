@@ -23,7 +23,7 @@ use Rattle.lola_rows.specs.Columns.{inputs_of}
 use Rattle.lola_report.specs.Ends.{end_text}
 use Rattle.lola_report.specs.declared.end.EndLine.{EndLine}
 use Rattle.lola_report.specs.declared.end.EndLine.TheVariants.{Done, Usage, Refused, Malformed, Fault, UnreadableSpecification, UnreadableSource, Analysed}
-use Rattle.lola_run.specs.Verdicts.{AreOfSources, HasFrontOf, HasLines, IsRowFault, Setting, fault_in, late_count, most_rows, settled_fault_in, verdicts}
+use Rattle.lola_run.specs.Verdicts.{AreOfSources, AreTraceable, HasFront, IsCutAtDeadline, IsCutAtRow, IsCutInLine, IsRowFault, Setting, fault_in, late_count, most_rows, settled_fault_in, settled_text, verdicts}
 use Rattle.lola_rounds.specs.Rounds.{AreFirst}
 use Rattle.lola_monitor.specs.Command.{Names, analysed_of, names_of, run_of, specification_of}
 
@@ -35,6 +35,15 @@ pub record Outside : Type 0 where
 
 abbrev pub outside : ShelfState → SinkState → SinkState → Outside
 outside shelf out trace = record { shelf = shelf; out = out; trace = trace }
+
+-- a call of the monitor: its words, and what it was lent, before and after
+pub record Call : Type 0 where
+  pub words : List (List ℕ)
+  pub before : Outside
+  pub after : Outside
+
+abbrev pub call : List (List ℕ) → Outside → Outside → Call
+call words before after = record { words = words; before = before; after = after }
 
 -- an ask that was not given, or whose source has failed
 abbrev pub is_faulty : Ask → Bool
@@ -143,207 +152,278 @@ pub record HasItsModels (plan : Plan) : Type 0 where
   pub over_steps : HasOneModel plan
   pub of_runs : HasModelsOfRuns plan
 
--- rows were taken under a specification that was accepted, so that it has one model: they stand in one legal journal, which is the trace
-pub record Ran (words : List (List ℕ)) (before after : Outside) : Type 0 where
+-- whether asks were given
+abbrev pub AreGiven : List Ask → Type 0
+AreGiven asks = All (λ (ask : Ask). ask.given ≡ true) asks
+
+-- all sources were given, and may have failed: these are the asks for them
+pub record WereGiven (sources : List (List ℕ)) (asks : List Ask) (before after : ShelfState) : Type 0 where
+  pub named : map (λ ask. ask.name) asks ≡ sources
+  pub given : AreGiven asks
+  pub unfailed : first_faulty asks ≡ None → after.count ≡ before.count
+  pub failed : (at : ℕ) → first_faulty asks ≡ Some at → Rose before.count after.count
+
+-- rows were taken under a specification that was given, read and accepted, so that it has one model. They stand in one legal journal,
+-- each entry of which a line of the trace can tell, so that its lines tell no other journal; they are the first rows of the sources.
+-- Where there is a row, all sources were given
+pub record Ran (words : List (List ℕ)) (before after : ShelfState) : Type 0 where
   pub names : Names
   pub is_command : run_of words ≡ Some names
+  pub asks : List Ask
+  pub between : asks_between before after ≡ given_ask names.specification ∷ asks
   pub plan : Plan
-  pub is_plan : Plans (before.shelf.told names.specification) plan
+  pub is_plan : Plans (before.told names.specification) plan
   pub accepted : IsAccepted plan
   pub one_model : HasItsModels plan
   pub journal : List Entry
   pub legal : IsLegal names.start journal
   pub sources : AreOfSources (length names.sources) journal
-  pub turns : names.in_turns ≡ true → GoInTurns names.sources plan before.shelf after.shelf journal
-  pub trace : after.trace ≡ grown before.trace (trace_text journal)
+  pub traceable : AreTraceable plan journal
+  pub rows : AllBegin before plan names.sources journal
+  pub turns : names.in_turns ≡ true → GoInTurns names.sources plan before after journal
+  pub given : (journal ≡ []) ⊎ WereGiven names.sources asks before after
+
+-- the rows that a call took
+abbrev pub Rows : Call → Type 0
+Rows c = Ran c.words c.before.shelf c.after.shelf
 
 -- the specification and all sources were given, and nothing has failed
 pub record AllGiven (names : Names) (before after : ShelfState) : Type 0 where
   pub asks : asks_between before after ≡ map given_ask (names_of names)
   pub count : after.count ≡ before.count
 
--- whether asks were given
-abbrev pub AreGiven : List Ask → Type 0
-AreGiven asks = All (λ (ask : Ask). ask.given ≡ true) asks
-
--- the specification and all sources were given, and sources may have failed: these are the asks for sources
-pub record WereGiven (names : Names) (asks : List Ask) (before after : ShelfState) : Type 0 where
-  pub between : asks_between before after ≡ given_ask names.specification ∷ asks
-  pub named : map (λ ask. ask.name) asks ≡ names.sources
-  pub given : AreGiven asks
-  pub unfailed : first_faulty asks ≡ None → after.count ≡ before.count
-  pub failed : (at : ℕ) → first_faulty asks ≡ Some at → Rose before.count after.count
-
 -- a journal has all rows of each source that was given and has not failed
 abbrev pub AllRead : ShelfState → Plan → List (List ℕ) → List Ask → List Entry → Type 0
 AllRead shelf plan sources asks journal = (s : ℕ) (name : List ℕ) (ask : Ask) → slice_get sources s ≡ Some name → slice_get asks s ≡ Some ask → is_faulty ask ≡ false
     → (end : SourceEnd) × Ends (shelf.told name) plan s (rows_of s journal) end
 
--- all rows of all sources were taken, and each ends well
-pub record IsDone (words : List (List ℕ)) (before after : Outside) : Type 0 where
+-- all rows of all sources were taken, no step has a fault, and each source ends well
+pub record AllWell (words : List (List ℕ)) (before after : ShelfState) (line : EndLine) : Type 0 where
   pub run : Ran words before after
-  pub rows : (s : ℕ) (name : List ℕ) → slice_get run.names.sources s ≡ Some name → Ends (before.shelf.told name) run.plan s (rows_of s run.journal) Whole
+  pub given : AllGiven run.names before after
+  pub rows : (s : ℕ) (name : List ℕ) → slice_get run.names.sources s ≡ Some name → Ends (before.told name) run.plan s (rows_of s run.journal) Whole
   pub no_fault : fault_in (setting_of run.plan run.names) run.journal ≡ None
-  pub out : after.out ≡ grown before.out (verdicts (setting_of run.plan run.names) run.journal ++ end_text (done_line (setting_of run.plan run.names) run.journal))
-  pub given : AllGiven run.names before.shelf after.shelf
+  pub line_is : line ≡ done_line (setting_of run.plan run.names) run.journal
 
--- the words are no command: nothing is asked, and nothing is traced
-pub record IsUsage (words : List (List ℕ)) (before after : Outside) : Type 0 where
-  pub no_command : command_of words ≡ None
-  pub shelf : after.shelf ≡ before.shelf
-  pub trace : after.trace ≡ before.trace
-  pub out : Wrote before.out after.out (end_text Usage)
-
--- the specification was read, and is refused
-pub record IsRefused (words : List (List ℕ)) (before after : Outside) : Type 0 where
-  pub name : List ℕ
-  pub is_command : specification_of words ≡ Some name
-  pub refusal : Refusal
-  pub cause : IsRefusedBy (before.shelf.told name) refusal
-  pub asks : asks_between before.shelf after.shelf ≡ given_ask name ∷ []
-  pub count : after.shelf.count ≡ before.shelf.count
-  pub trace : after.trace ≡ before.trace
-  pub out : Wrote before.out after.out (end_text (Refused refusal))
-
--- the specification was read and has a plan, to be analysed: nothing is traced
-pub record Analysis (words : List (List ℕ)) (before after : Outside) : Type 0 where
-  pub name : List ℕ
-  pub is_command : analysed_of words ≡ Some name
-  pub plan : Plan
-  pub is_plan : Plans (before.shelf.told name) plan
-  pub asks : asks_between before.shelf after.shelf ≡ given_ask name ∷ []
-  pub count : after.shelf.count ≡ before.shelf.count
-  pub trace : after.trace ≡ before.trace
-
--- what was found of a specification, and how many streams and windows it has
-abbrev pub analysis_text : Plan → List ℕ
-analysis_text plan = report_of plan ++ end_text (Analysed (length plan.spec.streams) (length plan.spec.windows))
-
--- the whole report was put
-pub record IsAnalysed (words : List (List ℕ)) (before after : Outside) : Type 0 where
-  pub analysis : Analysis words before after
-  pub out : after.out ≡ grown before.out (analysis_text analysis.plan)
-
--- the put of the report failed
-pub record IsCutAnalysis (words : List (List ℕ)) (before after : Outside) : Type 0 where
-  pub analysis : Analysis words before after
-  pub out : PutBroke before.out after.out (analysis_text analysis.plan)
-
--- all rows of all sources before their malformed lines were taken, and the least source that has one is named
-pub record IsMalformed (words : List (List ℕ)) (before after : Outside) : Type 0 where
+-- all rows of all sources before their malformed lines were taken, no step has a fault, and the least source that has a malformed
+-- line is named
+pub record SomeMalformed (words : List (List ℕ)) (before after : ShelfState) (line : EndLine) : Type 0 where
   pub run : Ran words before after
+  pub given : AllGiven run.names before after
   pub ends : List SourceEnd
-  pub rows : AllEnd before.shelf run.plan run.names.sources run.journal ends
+  pub rows : AllEnd before run.plan run.names.sources run.journal ends
+  pub no_fault : fault_in (setting_of run.plan run.names) run.journal ≡ None
   pub at : MalformedSource
   pub least : first_malformed ends ≡ Some at
-  pub no_fault : fault_in (setting_of run.plan run.names) run.journal ≡ None
-  pub out : after.out ≡ grown before.out (verdicts (setting_of run.plan run.names) run.journal ++ end_text (Malformed at.source at.row at.kind))
-  pub given : AllGiven run.names before.shelf after.shelf
+  pub line_is : line ≡ Malformed at.source at.row at.kind
 
 -- no settled step has a fault: it stands at the deadline of the last stamp, once each source was read to its end or has failed
 pub record IsAtDeadline (shelf : ShelfState) (s : Setting) (sources : List (List ℕ)) (asks : List Ask) (journal : List Entry) : Type 0 where
   pub settled : settled_fault_in s journal ≡ None
   pub read : AllRead shelf s.plan sources asks journal
 
--- the first rows of the sources were taken, up to the first fault, which stands at the last of them or at the deadline of the last
--- stamp. The sink received all verdicts and the end line, or, its count having risen, a proper part of these
-pub record IsFault (words : List (List ℕ)) (before after : Outside) : Type 0 where
+-- rows were taken up to the first fault, which stands at the last of them or at the deadline of the last stamp
+pub record UpToFault (words : List (List ℕ)) (before after : ShelfState) (line : EndLine) : Type 0 where
   pub run : Ran words before after
+  pub given : WereGiven run.names.sources run.asks before after
   pub fault : RunFault
-  pub rows : AllBegin before.shelf run.plan run.names.sources run.journal
   pub is_fault : fault_in (setting_of run.plan run.names) run.journal ≡ Some fault
-  pub asks : List Ask
-  pub given : WereGiven run.names asks before.shelf after.shelf
-  pub stands : IsRowFault (setting_of run.plan run.names) run.journal fault ⊎ IsAtDeadline before.shelf (setting_of run.plan run.names) run.names.sources asks run.journal
-  pub out : Wrote before.out after.out (verdicts (setting_of run.plan run.names) run.journal ++ end_text (fault_line run.plan fault))
+  pub stands : IsRowFault (setting_of run.plan run.names) run.journal fault ⊎ IsAtDeadline before (setting_of run.plan run.names) run.names.sources run.asks run.journal
+  pub line_is : line ≡ fault_line run.plan fault
 
--- the specification was not given, or could not be read
-pub record IsUnread (words : List (List ℕ)) (before after : Outside) : Type 0 where
-  pub name : List ℕ
-  pub is_command : specification_of words ≡ Some name
-  pub faulty : first_faulty (asks_between before.shelf after.shelf) ≡ Some 0
-  pub rose : Rose before.shelf.count after.shelf.count
-  pub trace : after.trace ≡ before.trace
-  pub out : Wrote before.out after.out (end_text UnreadableSpecification)
-
--- a source was not given, and no row was taken; or some could not be read to their ends, and of the others all rows were taken. The
--- least of them is named
-pub record IsCutShort (words : List (List ℕ)) (before after : Outside) : Type 0 where
+-- a source was not given, and no row was taken; or some could not be read to their ends, and of the others all rows were taken. No
+-- step has a fault, and the least of these sources is named
+pub record CutShort (words : List (List ℕ)) (before after : ShelfState) (line : EndLine) : Type 0 where
   pub run : Ran words before after
-  pub rows : AllBegin before.shelf run.plan run.names.sources run.journal
-  pub no_fault : fault_in (setting_of run.plan run.names) run.journal ≡ None
-  pub asks : List Ask
-  pub between : asks_between before.shelf after.shelf ≡ given_ask run.names.specification ∷ asks
   pub at : ℕ
-  pub least : first_faulty asks ≡ Some at
-  pub rose : Rose before.shelf.count after.shelf.count
-  pub unless_given : (s : ℕ) (ask : Ask) → slice_get asks s ≡ Some ask → ask.given ≡ false → run.journal ≡ []
-  pub read : AreGiven asks → (map (λ ask. ask.name) asks ≡ run.names.sources) × AllRead before.shelf run.plan run.names.sources asks run.journal
-  pub out : Wrote (grown before.out (verdicts (setting_of run.plan run.names) run.journal)) after.out (end_text (UnreadableSource at))
+  pub least : first_faulty run.asks ≡ Some at
+  pub rose : Rose before.count after.count
+  pub unless_given : (s : ℕ) (ask : Ask) → slice_get run.asks s ≡ Some ask → ask.given ≡ false → run.journal ≡ []
+  pub read : AreGiven run.asks → (map (λ ask. ask.name) run.asks ≡ run.names.sources) × AllRead before run.plan run.names.sources run.asks run.journal
+  pub no_fault : fault_in (setting_of run.plan run.names) run.journal ≡ None
+  pub line_is : line ≡ UnreadableSource at
 
--- a run that broke off: the trace has whole lines and a proper part of one more, and `out` a front of
--- what belongs to these lines
-pub record BrokeOff (words : List (List ℕ)) (before after : Outside) : Type 0 where
-  pub names : Names
-  pub is_command : run_of words ≡ Some names
-  pub plan : Plan
-  pub is_plan : Plans (before.shelf.told names.specification) plan
-  pub accepted : IsAccepted plan
-  pub one_model : HasItsModels plan
-  pub journal : List Entry
-  pub legal : IsLegal names.start journal
-  pub sources : AreOfSources (length names.sources) journal
-  pub rows : AllBegin before.shelf plan names.sources journal
-  pub turns : names.in_turns ≡ true → GoInTurns names.sources plan before.shelf after.shelf journal
-  pub trace : HasLines before.trace after.trace journal
+-- the lines of the rows that were taken were put to the trace, and nothing else
+abbrev pub AreTraced : (c : Call) → List Entry → Type 0
+AreTraced c journal = c.after.trace ≡ grown c.before.trace (trace_text journal)
+
+-- nothing was put to the trace
+abbrev pub IsUntraced : Call → Type 0
+IsUntraced c = c.after.trace ≡ c.before.trace
+
+-- 0: all rows of all sources were taken, and each ends well; the verdicts and the end line were put
+pub record IsDone (c : Call) : Type 0 where
   pub line : EndLine
-  pub out : HasFrontOf before.out after.out (verdicts (setting_of plan names) journal ++ end_text line)
+  pub all : AllWell c.words c.before.shelf c.after.shelf line
+  pub trace : AreTraced c all.run.journal
+  pub out : c.after.out ≡ grown c.before.out (verdicts (setting_of all.run.plan all.run.names) all.run.journal ++ end_text line)
 
--- a put failed, and no settled step has a fault
-pub record IsBroken (words : List (List ℕ)) (before after : Outside) : Type 0 where
-  pub off : BrokeOff words before after
-  pub no_fault : settled_fault_in (setting_of off.plan off.names) off.journal ≡ None
-  pub rose : Rose before.out.count after.out.count ⊎ Rose before.trace.count after.trace.count
+-- the specification was read and has a plan, to be analysed: nothing is traced
+pub record Analysis (words : List (List ℕ)) (before after : ShelfState) : Type 0 where
+  pub name : List ℕ
+  pub is_command : analysed_of words ≡ Some name
+  pub plan : Plan
+  pub is_plan : Plans (before.told name) plan
+  pub asks : asks_between before after ≡ given_ask name ∷ []
+  pub count : after.count ≡ before.count
 
--- no memory before any row
-pub record IsEarly (before after : Outside) : Type 0 where
-  pub trace : after.trace ≡ before.trace
-  pub out : after.out ≡ before.out
+-- what was found of a specification, and how many streams and windows it has
+abbrev pub analysis_text : Plan → List ℕ
+analysis_text plan = report_of plan ++ end_text (Analysed (length plan.spec.streams) (length plan.spec.windows))
+
+-- 0: the whole report was put
+pub record IsAnalysed (c : Call) : Type 0 where
+  pub analysis : Analysis c.words c.before.shelf c.after.shelf
+  pub trace : IsUntraced c
+  pub out : c.after.out ≡ grown c.before.out (analysis_text analysis.plan)
+
+-- 2: the words are no command: nothing is asked, and nothing is traced
+pub record IsUsage (c : Call) : Type 0 where
+  pub no_command : command_of c.words ≡ None
+  pub shelf : c.after.shelf ≡ c.before.shelf
+  pub trace : IsUntraced c
+  pub out : Wrote c.before.out c.after.out (end_text Usage)
+
+-- 3: the specification was read, and is refused
+pub record IsRefused (c : Call) : Type 0 where
+  pub name : List ℕ
+  pub is_command : specification_of c.words ≡ Some name
+  pub refusal : Refusal
+  pub cause : IsRefusedBy (c.before.shelf.told name) refusal
+  pub asks : asks_between c.before.shelf c.after.shelf ≡ given_ask name ∷ []
+  pub count : c.after.shelf.count ≡ c.before.shelf.count
+  pub trace : IsUntraced c
+  pub out : Wrote c.before.out c.after.out (end_text (Refused refusal))
+
+-- 4: some source has a malformed line
+pub record IsMalformed (c : Call) : Type 0 where
+  pub line : EndLine
+  pub some : SomeMalformed c.words c.before.shelf c.after.shelf line
+  pub trace : AreTraced c some.run.journal
+  pub out : c.after.out ≡ grown c.before.out (verdicts (setting_of some.run.plan some.run.names) some.run.journal ++ end_text line)
+
+-- 5: a step has a fault. The sink received all verdicts and the end line or, its count having risen, a proper part of these
+pub record IsFault (c : Call) : Type 0 where
+  pub line : EndLine
+  pub up_to : UpToFault c.words c.before.shelf c.after.shelf line
+  pub trace : AreTraced c up_to.run.journal
+  pub out : Wrote c.before.out c.after.out (verdicts (setting_of up_to.run.plan up_to.run.names) up_to.run.journal ++ end_text line)
+
+-- 6: the specification was not given, or could not be read
+pub record IsUnread (c : Call) : Type 0 where
+  pub name : List ℕ
+  pub is_command : specification_of c.words ≡ Some name
+  pub faulty : first_faulty (asks_between c.before.shelf c.after.shelf) ≡ Some 0
+  pub rose : Rose c.before.shelf.count c.after.shelf.count
+  pub trace : IsUntraced c
+  pub out : Wrote c.before.out c.after.out (end_text UnreadableSpecification)
+
+-- 6: a source was not given, or could not be read. All verdicts were put, and the end line or, the count having risen, a proper part of it
+pub record IsCutShort (c : Call) : Type 0 where
+  pub line : EndLine
+  pub short : CutShort c.words c.before.shelf c.after.shelf line
+  pub trace : AreTraced c short.run.journal
+  pub out : Wrote (grown c.before.out (verdicts (setting_of short.run.plan short.run.names) short.run.journal)) c.after.out (end_text line)
+
+-- the trace was cut within the line of a row, and no step before it has a fault: the verdicts of all rows before it were put
+pub record IsCutInTrace (s : Setting) (before after : Outside) (journal : List Entry) : Type 0 where
+  pub no_fault : settled_fault_in s journal ≡ None
+  pub trace : IsCutInLine s.plan before.trace after.trace journal
+  pub out : after.out ≡ grown before.out (settled_text s journal)
+
+-- the verdicts of the last row were cut, and no step so far has a fault: that row is traced, as all before it
+pub record IsCutInRow (s : Setting) (before after : Outside) (journal : List Entry) : Type 0 where
+  pub no_fault : settled_fault_in s journal ≡ None
+  pub trace : after.trace ≡ grown before.trace (trace_text journal)
+  pub out : IsCutAtRow s before.out after.out journal
+
+-- the verdicts of the deadlines at the last stamp were cut, and no step has a fault: each source was read to its end or has failed
+pub record IsCutInDeadline (s : Setting) (sources : List (List ℕ)) (asks : List Ask) (before after : Outside) (journal : List Entry) : Type 0 where
+  pub no_fault : fault_in s journal ≡ None
+  pub read : AllRead before.shelf s.plan sources asks journal
+  pub trace : after.trace ≡ grown before.trace (trace_text journal)
+  pub out : IsCutAtDeadline s before.out after.out journal
+
+-- where a run was cut before its end line
+abbrev pub CutsOff : Setting → List (List ℕ) → List Ask → Outside → Outside → List Entry → Type 0
+CutsOff s sources asks before after journal = IsCutInTrace s before after journal ⊎ (IsCutInRow s before after journal ⊎ IsCutInDeadline s sources asks before after journal)
+
+-- 7: a put of a trace line or of verdicts failed
+pub record IsCutOff (c : Call) : Type 0 where
+  pub run : Rows c
+  pub given : WereGiven run.names.sources run.asks c.before.shelf c.after.shelf
+  pub cut : CutsOff (setting_of run.plan run.names) run.names.sources run.asks c.before c.after run.journal
+
+-- 7: the end line of a run was cut that is done but for it
+pub record IsCutDone (c : Call) : Type 0 where
+  pub line : EndLine
+  pub all : AllWell c.words c.before.shelf c.after.shelf line
+  pub trace : AreTraced c all.run.journal
+  pub out : PutBroke (grown c.before.out (verdicts (setting_of all.run.plan all.run.names) all.run.journal)) c.after.out (end_text line)
+
+-- 7: the end line of a run was cut some source of which has a malformed line
+pub record IsCutMalformed (c : Call) : Type 0 where
+  pub line : EndLine
+  pub some : SomeMalformed c.words c.before.shelf c.after.shelf line
+  pub trace : AreTraced c some.run.journal
+  pub out : PutBroke (grown c.before.out (verdicts (setting_of some.run.plan some.run.names) some.run.journal)) c.after.out (end_text line)
+
+-- 7: a put of a run failed
+abbrev pub IsBroken : Call → Type 0
+IsBroken c = IsCutOff c ⊎ (IsCutDone c ⊎ IsCutMalformed c)
+
+-- 7: the put of the report failed
+pub record IsCutAnalysis (c : Call) : Type 0 where
+  pub analysis : Analysis c.words c.before.shelf c.after.shelf
+  pub trace : IsUntraced c
+  pub out : PutBroke c.before.out c.after.out (analysis_text analysis.plan)
+
+-- 8: there was no memory, and nothing was put
+pub record IsEarly (c : Call) : Type 0 where
+  pub trace : IsUntraced c
+  pub out : c.after.out ≡ c.before.out
+
+-- 8: there was no memory. The trace has the lines of the rows that were taken, and nothing else; the sink has a front of their
+-- verdicts, or all, and no end line
+pub record IsUnfinished (c : Call) : Type 0 where
+  pub run : Rows c
+  pub trace : AreTraced c run.journal
+  pub out : HasFront (setting_of run.plan run.names) c.before.out c.after.out run.journal ⊎ (c.after.out ≡ grown c.before.out (verdicts (setting_of run.plan run.names) run.journal))
 
 -- no other status comes
 abbrev pub IsStatus : ℕ → Type 0
 IsStatus n = (n ≡ 0) ⊎ ((n < 9) × (1 < n))
 
 -- a run whose specification and sources are told and right, whose rows have no fault, and whose objects have not failed
-pub record IsClean (words : List (List ℕ)) (before after : Outside) : Type 0 where
+pub record IsClean (c : Call) : Type 0 where
   pub names : Names
-  pub is_command : run_of words ≡ Some names
+  pub is_command : run_of c.words ≡ Some names
   pub specification : List ℕ
-  pub specification_is : before.shelf.told names.specification ≡ Some specification
+  pub specification_is : c.before.shelf.told names.specification ≡ Some specification
   pub not_refused : (r : Refusal) → IsRefusalOf specification r → ⊥
-  pub told : (s : ℕ) (name : List ℕ) → slice_get names.sources s ≡ Some name → (bytes : List ℕ) × (before.shelf.told name ≡ Some bytes)
-  pub ends : (s : ℕ) (name bytes : List ℕ) (plan : Plan) → slice_get names.sources s ≡ Some name → before.shelf.told name ≡ Some bytes → IsPlanOf specification plan
+  pub told : (s : ℕ) (name : List ℕ) → slice_get names.sources s ≡ Some name → (bytes : List ℕ) × (c.before.shelf.told name ≡ Some bytes)
+  pub ends : (s : ℕ) (name bytes : List ℕ) (plan : Plan) → slice_get names.sources s ≡ Some name → c.before.shelf.told name ≡ Some bytes → IsPlanOf specification plan
       → (source_rows plan s bytes).end ≡ Whole
-  pub no_fault : (plan : Plan) (journal : List Entry) → IsPlanOf specification plan → after.trace ≡ grown before.trace (trace_text journal) → fault_in (setting_of plan names) journal ≡ None
-  pub shelf : Rose before.shelf.count after.shelf.count → ⊥
-  pub out : Rose before.out.count after.out.count → ⊥
-  pub trace : Rose before.trace.count after.trace.count → ⊥
+  pub no_fault : (plan : Plan) (journal : List Entry) → IsPlanOf specification plan → c.after.trace ≡ grown c.before.trace (trace_text journal) → fault_in (setting_of plan names) journal ≡ None
+  pub shelf : Rose c.before.shelf.count c.after.shelf.count → ⊥
+  pub out : Rose c.before.out.count c.after.out.count → ⊥
+  pub trace : Rose c.before.trace.count c.after.trace.count → ⊥
 
 -- an analysis whose specification is told and not refused, and whose objects have not failed
-pub record IsCleanAnalysis (words : List (List ℕ)) (before after : Outside) : Type 0 where
+pub record IsCleanAnalysis (c : Call) : Type 0 where
   pub name : List ℕ
-  pub is_command : analysed_of words ≡ Some name
+  pub is_command : analysed_of c.words ≡ Some name
   pub specification : List ℕ
-  pub specification_is : before.shelf.told name ≡ Some specification
+  pub specification_is : c.before.shelf.told name ≡ Some specification
   pub not_refused : (r : Refusal) → IsRefusalOf specification r → ⊥
-  pub shelf : Rose before.shelf.count after.shelf.count → ⊥
-  pub out : Rose before.out.count after.out.count → ⊥
+  pub shelf : Rose c.before.shelf.count c.after.shelf.count → ⊥
+  pub out : Rose c.before.out.count c.after.out.count → ⊥
 
 -- a command whose specification is told and has no plan, on a shelf that has not failed
-pub record IsSpoiled (words : List (List ℕ)) (before after : Outside) : Type 0 where
+pub record IsSpoiled (c : Call) : Type 0 where
   pub name : List ℕ
-  pub is_command : specification_of words ≡ Some name
+  pub is_command : specification_of c.words ≡ Some name
   pub specification : List ℕ
-  pub specification_is : before.shelf.told name ≡ Some specification
+  pub specification_is : c.before.shelf.told name ≡ Some specification
   pub no_plan : (plan : Plan) → IsPlanOf specification plan → ⊥
-  pub shelf : Rose before.shelf.count after.shelf.count → ⊥
+  pub shelf : Rose c.before.shelf.count c.after.shelf.count → ⊥

@@ -19,7 +19,7 @@ use Rattle.lola_report.specs.declared.end.EndLine.TheVariants.{Done, Usage, Refu
 use Rattle.lola_feed.specs.Feeding.{Working}
 use Rattle.lola_feed.specs.declared.worker.SourceEnd as worker
 use Rattle.lola_feed.specs.declared.worker.SourceEnd.TheVariants as finish
-use Rattle.lola_run.specs.Verdicts.{AreOfSources, HasFrontOf, HasLines, IsRowFault, Setting, fault_in, settled_fault_in, verdicts}
+use Rattle.lola_run.specs.Verdicts.{AreOfSources, AreTraceable, HasFront, IsRowFault, Setting, fault_in, verdicts}
 use Rattle.lola_run.specs.Running.{Keeping}
 use Rattle.lola_run.specs.declared.stop.Stop.{Stop}
 use Rattle.lola_run.specs.declared.stop.Stop.TheVariants as stop
@@ -27,7 +27,7 @@ use Rattle.lola_shelves.specs.declared.sources.FetchStop.{FetchStop}
 use Rattle.lola_shelves.specs.declared.sources.FetchStop.TheVariants as fetch
 use Rattle.lola_monitor.specs.Command.{specification_of}
 use Rattle.lola_monitor.specs.Drilling.{DrillsTo, OfDrill}
-use Rattle.lola_monitor.specs.Monitor.{AllBegin, AllEnd, AllGiven, AllRead, Analysis, AreGiven, BrokeOff, Ends, GoInTurns, HasItsModels, IsAtDeadline, IsBroken, IsEarly, IsFault, IsFrontOf, IsRefusedBy, MalformedSource, Outside, Plans, Ran, WereGiven, analysis_text, asks_between, done_line, fault_line, first_faulty, first_malformed, is_faulty, setting_of}
+use Rattle.lola_monitor.specs.Monitor.{AllBegin, AllEnd, AllRead, AllWell, Analysis, AreGiven, CutShort, CutsOff, Ends, GoInTurns, HasItsModels, IsAtDeadline, IsCutOff, IsEarly, IsFault, IsFrontOf, IsRefusedBy, IsUnfinished, MalformedSource, Outside, Plans, SomeMalformed, UpToFault, analysis_text, asks_between, call, done_line, fault_line, first_faulty, first_malformed, is_faulty, setting_of}
 use Rattle.lola_monitor.specs.declared.ending.SourcesEnd.{SourcesEnd}
 use Rattle.lola_monitor.specs.declared.ending.SourcesEnd.TheVariants as sources_end
 use Rattle.lola_monitor.specs.declared.outcome.Outcome.{Outcome}
@@ -87,22 +87,28 @@ pub record CameHome (names : List (List ℕ)) (asks : List Ask) (before after : 
   pub failed : (at : ℕ) → first_faulty asks ≡ Some at → Rose before.count after.count
   pub out : after.out ≡ before.out
 
--- the rows that were taken of sources, with their trace and their verdicts
-pub record SourcesRun (in_turns : Bool) (s : Setting) (names : List (List ℕ)) (before after : Outside) : Type 0 where
+-- the rows that were taken of sources
+pub record SourcesRun (in_turns : Bool) (s : Setting) (names : List (List ℕ)) (before after : ShelfState) : Type 0 where
   pub journal : List Entry
   pub legal : IsLegal s.start journal
   pub sources : AreOfSources (length names) journal
-  pub rows : AllBegin before.shelf s.plan names journal
-  pub turns : in_turns ≡ true → GoInTurns names s.plan before.shelf after.shelf journal
+  pub traceable : AreTraceable s.plan journal
+  pub rows : AllBegin before s.plan names journal
+  pub turns : in_turns ≡ true → GoInTurns names s.plan before after journal
+
+-- the lines of a journal were put to the trace, and all of its verdicts to the other sink
+pub record ArePut (s : Setting) (before after : Outside) (journal : List Entry) : Type 0 where
   pub trace : after.trace ≡ grown before.trace (trace_text journal)
   pub out : after.out ≡ grown before.out (verdicts s journal)
 
 -- all sources were run to their ends
 pub record EndedRun (in_turns : Bool) (s : Setting) (names : List (List ℕ)) (before after : Outside) : Type 0 where
-  pub run : SourcesRun in_turns s names before after
-  pub home : AllHome names before.shelf after.shelf
+  pub run : SourcesRun in_turns s names before.shelf after.shelf
+  pub put : ArePut s before after run.journal
+  pub asks : List Ask
+  pub home : CameHome names asks before.shelf after.shelf
+  pub all : AllHome names before.shelf after.shelf
   pub no_fault : fault_in s run.journal ≡ None
-  pub settled : settled_fault_in s run.journal ≡ None
 
 -- each of them ends well
 pub record DoneRun (in_turns : Bool) (line : EndLine) (s : Setting) (names : List (List ℕ)) (before after : Outside) : Type 0 where
@@ -121,34 +127,33 @@ pub record MalformedRun (in_turns : Bool) (line : EndLine) (s : Setting) (names 
 
 -- sources were run to the first fault
 pub record FaultRun (in_turns : Bool) (line : EndLine) (s : Setting) (names : List (List ℕ)) (before after : Outside) : Type 0 where
-  pub run : SourcesRun in_turns s names before after
-  pub fault : RunFault
-  pub is_fault : fault_in s run.journal ≡ Some fault
+  pub run : SourcesRun in_turns s names before.shelf after.shelf
+  pub put : ArePut s before after run.journal
   pub asks : List Ask
   pub home : CameHome names asks before.shelf after.shelf
+  pub fault : RunFault
+  pub is_fault : fault_in s run.journal ≡ Some fault
   pub stands : IsRowFault s run.journal fault ⊎ IsAtDeadline before.shelf s names asks run.journal
   pub line_is : line ≡ fault_line s.plan fault
 
 -- sources were run to the first fault of a row, before whose line a put failed: a proper part of the verdicts was put
 pub record CutFaultRun (in_turns : Bool) (s : Setting) (names : List (List ℕ)) (before after : Outside) : Type 0 where
-  pub journal : List Entry
-  pub legal : IsLegal s.start journal
-  pub sources : AreOfSources (length names) journal
-  pub rows : AllBegin before.shelf s.plan names journal
-  pub turns : in_turns ≡ true → GoInTurns names s.plan before.shelf after.shelf journal
-  pub trace : after.trace ≡ grown before.trace (trace_text journal)
-  pub fault : RunFault
-  pub is_fault : fault_in s journal ≡ Some fault
+  pub run : SourcesRun in_turns s names before.shelf after.shelf
   pub asks : List Ask
   pub home : CameHome names asks before.shelf after.shelf
-  pub stands : IsRowFault s journal fault
-  pub out : PutBroke before.out after.out (verdicts s journal)
+  pub fault : RunFault
+  pub is_fault : fault_in s run.journal ≡ Some fault
+  pub stands : IsRowFault s run.journal fault
+  pub trace : after.trace ≡ grown before.trace (trace_text run.journal)
+  pub out : PutBroke before.out after.out (verdicts s run.journal)
 
 -- a source was not given, and nothing was run; or sources were run, and some could not be read to their ends
 pub record CutRun (in_turns : Bool) (line : EndLine) (s : Setting) (names : List (List ℕ)) (before after : Outside) : Type 0 where
-  pub run : SourcesRun in_turns s names before after
+  pub run : SourcesRun in_turns s names before.shelf after.shelf
+  pub put : ArePut s before after run.journal
   pub no_fault : fault_in s run.journal ≡ None
   pub asked : Grew names before.shelf after.shelf
+  pub home : (run.journal ≡ []) ⊎ CameHome names asked.asks before.shelf after.shelf
   pub at : ℕ
   pub least : first_faulty asked.asks ≡ Some at
   pub rose : Rose before.shelf.count after.shelf.count
@@ -156,27 +161,30 @@ pub record CutRun (in_turns : Bool) (line : EndLine) (s : Setting) (names : List
   pub read : AreGiven asked.asks → (map (λ ask. ask.name) asked.asks ≡ names) × AllRead before.shelf s.plan names asked.asks run.journal
   pub line_is : line ≡ UnreadableSource at
 
--- what stands of a run that was cut short
-pub record CutFacts (in_turns : Bool) (s : Setting) (names : List (List ℕ)) (before after : Outside) : Type 0 where
-  pub journal : List Entry
-  pub legal : IsLegal s.start journal
-  pub sources : AreOfSources (length names) journal
-  pub rows : AllBegin before.shelf s.plan names journal
-  pub turns : in_turns ≡ true → GoInTurns names s.plan before.shelf after.shelf journal
-  pub trace : HasLines before.trace after.trace journal
-  pub out : HasFrontOf before.out after.out (verdicts s journal)
-
 -- sources were run until a put failed
 pub record BrokenRun (in_turns : Bool) (s : Setting) (names : List (List ℕ)) (before after : Outside) : Type 0 where
-  pub shelf : Grew names before.shelf after.shelf
-  pub cut : CutFacts in_turns s names before after
-  pub no_fault : settled_fault_in s cut.journal ≡ None
-  pub rose : Rose before.out.count after.out.count ⊎ Rose before.trace.count after.trace.count
+  pub run : SourcesRun in_turns s names before.shelf after.shelf
+  pub asks : List Ask
+  pub home : CameHome names asks before.shelf after.shelf
+  pub cut : CutsOff s names asks before after run.journal
+
+-- sources were run until there was no memory
+pub record UnfinishedRun (in_turns : Bool) (s : Setting) (names : List (List ℕ)) (before after : Outside) : Type 0 where
+  pub run : SourcesRun in_turns s names before.shelf after.shelf
+  pub asks : List Ask
+  pub home : CameHome names asks before.shelf after.shelf
+  pub trace : after.trace ≡ grown before.trace (trace_text run.journal)
+  pub out : HasFront s before.out after.out run.journal ⊎ (after.out ≡ grown before.out (verdicts s run.journal))
+
+-- nothing was put
+pub record AreUntouched (before after : Outside) : Type 0 where
+  pub trace : after.trace ≡ before.trace
+  pub out : after.out ≡ before.out
 
 -- sources were run, or asked for, until there was no memory
 pub record StoppedRun (in_turns : Bool) (s : Setting) (names : List (List ℕ)) (before after : Outside) : Type 0 where
   pub shelf : Grew names before.shelf after.shelf
-  pub cut : CutFacts in_turns s names before after ⊎ IsEarly before after
+  pub how : UnfinishedRun in_turns s names before after ⊎ AreUntouched before after
 
 -- a run of sources, in turns or not
 abbrev pub RunsSources : Bool → Outcome → Setting → List (List ℕ) → Outside → Outside → Type 0
@@ -290,61 +298,31 @@ OutcomeAfter (Err (stop.CutFault stream kind time)) end plan kept outcome = outc
 OutcomeAfter (Err stop.Put) end plan kept outcome = outcome ≡ Put
 OutcomeAfter (Err stop.Memory) end plan kept outcome = outcome ≡ Memory
 
--- all but the last line: rows were taken
-pub record Stood (words : List (List ℕ)) (before after : Outside) : Type 0 where
-  pub run : Ran words before after
-  pub out : after.out ≡ grown before.out (verdicts (setting_of run.plan run.names) run.journal)
-  pub rows : AllBegin before.shelf run.plan run.names.sources run.journal
-
--- all but the last line: all sources were run to their ends
-pub record StoodEnded (words : List (List ℕ)) (before after : Outside) : Type 0 where
-  pub stood : Stood words before after
-  pub no_fault : fault_in (setting_of stood.run.plan stood.run.names) stood.run.journal ≡ None
-  pub settled : settled_fault_in (setting_of stood.run.plan stood.run.names) stood.run.journal ≡ None
-  pub given : AllGiven stood.run.names before.shelf after.shelf
-
+-- all but the last line: all sources were run to their ends, which are well
 pub record StoodDone (line : EndLine) (words : List (List ℕ)) (before after : Outside) : Type 0 where
-  pub ended : StoodEnded words before after
-  pub rows : (s : ℕ) (name : List ℕ) → slice_get ended.stood.run.names.sources s ≡ Some name → Ends (before.shelf.told name) ended.stood.run.plan s (rows_of s ended.stood.run.journal) Whole
-  pub line_is : line ≡ done_line (setting_of ended.stood.run.plan ended.stood.run.names) ended.stood.run.journal
+  pub all : AllWell words before.shelf after.shelf line
+  pub put : ArePut (setting_of all.run.plan all.run.names) before after all.run.journal
 
+-- all but the last line: some source has a malformed line
 pub record StoodMalformed (line : EndLine) (words : List (List ℕ)) (before after : Outside) : Type 0 where
-  pub ended : StoodEnded words before after
-  pub ends : List SourceEnd
-  pub rows : AllEnd before.shelf ended.stood.run.plan ended.stood.run.names.sources ended.stood.run.journal ends
-  pub at : MalformedSource
-  pub least : first_malformed ends ≡ Some at
-  pub line_is : line ≡ Malformed at.source at.row at.kind
+  pub some : SomeMalformed words before.shelf after.shelf line
+  pub put : ArePut (setting_of some.run.plan some.run.names) before after some.run.journal
 
 -- all but the last line: sources were run to the first fault
 pub record StoodFault (line : EndLine) (words : List (List ℕ)) (before after : Outside) : Type 0 where
-  pub stood : Stood words before after
-  pub fault : RunFault
-  pub is_fault : fault_in (setting_of stood.run.plan stood.run.names) stood.run.journal ≡ Some fault
-  pub asks : List Ask
-  pub given : WereGiven stood.run.names asks before.shelf after.shelf
-  pub stands : IsRowFault (setting_of stood.run.plan stood.run.names) stood.run.journal fault
-      ⊎ IsAtDeadline before.shelf (setting_of stood.run.plan stood.run.names) stood.run.names.sources asks stood.run.journal
-  pub line_is : line ≡ fault_line stood.run.plan fault
+  pub up_to : UpToFault words before.shelf after.shelf line
+  pub put : ArePut (setting_of up_to.run.plan up_to.run.names) before after up_to.run.journal
 
 -- all but the last line: a source was not given, or some could not be read to their ends
 pub record StoodCut (line : EndLine) (words : List (List ℕ)) (before after : Outside) : Type 0 where
-  pub stood : Stood words before after
-  pub no_fault : fault_in (setting_of stood.run.plan stood.run.names) stood.run.journal ≡ None
-  pub asks : List Ask
-  pub between : asks_between before.shelf after.shelf ≡ given_ask stood.run.names.specification ∷ asks
-  pub at : ℕ
-  pub least : first_faulty asks ≡ Some at
-  pub rose : Rose before.shelf.count after.shelf.count
-  pub unless_given : (s : ℕ) (ask : Ask) → slice_get asks s ≡ Some ask → ask.given ≡ false → stood.run.journal ≡ []
-  pub read : AreGiven asks → (map (λ ask. ask.name) asks ≡ stood.run.names.sources) × AllRead before.shelf stood.run.plan stood.run.names.sources asks stood.run.journal
-  pub line_is : line ≡ UnreadableSource at
+  pub short : CutShort words before.shelf after.shelf line
+  pub put : ArePut (setting_of short.run.plan short.run.names) before after short.run.journal
 
 -- all but the last line: the words are no command
 pub record NoCommand (words : List (List ℕ)) (before after : Outside) : Type 0 where
   pub no_command : command_of words ≡ None
   pub shelf : after.shelf ≡ before.shelf
-  pub early : IsEarly before after
+  pub early : AreUntouched before after
 
 -- all but the last line: the specification is refused
 pub record NoPlan (r : Refusal) (words : List (List ℕ)) (before after : Outside) : Type 0 where
@@ -353,7 +331,7 @@ pub record NoPlan (r : Refusal) (words : List (List ℕ)) (before after : Outsid
   pub cause : IsRefusedBy (before.shelf.told name) r
   pub asks : asks_between before.shelf after.shelf ≡ given_ask name ∷ []
   pub count : after.shelf.count ≡ before.shelf.count
-  pub early : IsEarly before after
+  pub early : AreUntouched before after
 
 -- all but the last line: the specification was not read
 pub record NotRead (words : List (List ℕ)) (before after : Outside) : Type 0 where
@@ -361,19 +339,19 @@ pub record NotRead (words : List (List ℕ)) (before after : Outside) : Type 0 w
   pub is_command : specification_of words ≡ Some name
   pub faulty : first_faulty (asks_between before.shelf after.shelf) ≡ Some 0
   pub rose : Rose before.shelf.count after.shelf.count
-  pub early : IsEarly before after
+  pub early : AreUntouched before after
 
 -- all but the report: the specification was analysed
 pub record StoodAnalysed (text : List ℕ) (words : List (List ℕ)) (before after : Outside) : Type 0 where
-  pub analysis : Analysis words before after
+  pub analysis : Analysis words before.shelf after.shelf
   pub text_is : text ≡ analysis_text analysis.plan
-  pub out : after.out ≡ before.out
+  pub early : AreUntouched before after
 
 -- all but the last line: a drill was run
 pub record StoodDrilled (line : EndLine) (words : List (List ℕ)) (before after : Outside) : Type 0 where
-  pub of : OfDrill words before after
+  pub of : OfDrill words before.shelf after.shelf
   pub drills : DrillsTo line of.drill
-  pub out : after.out ≡ before.out
+  pub early : AreUntouched before after
 
 -- all but the last line
 abbrev pub Works : Outcome → List (List ℕ) → Outside → Outside → Type 0
@@ -387,9 +365,9 @@ Works (Line UnreadableSpecification) words before after = NotRead words before a
 Works (Line (Analysed s w)) words before after = ⊥
 Works (Drilled line) words before after = StoodDrilled line words before after
 Works (Report text) words before after = StoodAnalysed text words before after
-Works CutFault words before after = IsFault words before after
-Works Put words before after = IsBroken words before after
-Works Memory words before after = IsEarly before after ⊎ BrokeOff words before after
+Works CutFault words before after = IsFault (call words before after)
+Works Put words before after = IsCutOff (call words before after)
+Works Memory words before after = IsEarly (call words before after) ⊎ IsUnfinished (call words before after)
 
 abbrev pub status_with : EndLine → ℕ
 status_with (Done a l s v) = 0

@@ -1,10 +1,10 @@
 //! The top call.
-ghost use Rattle.std.specs.Prelude.{◌≡◌, ◌⊎◌, ◌<◌, Some, None, map, string_bytes};
+ghost use Rattle.std.specs.Prelude.{◌≡◌, Some, map, string_bytes};
 ghost use Rattle.lola_port.specs.States.{SinkState};
 ghost use Rattle.lola_command.specs.Command.{command_of};
 ghost use Rattle.lola_monitor.specs.Command.{names_asked};
-ghost use Rattle.lola_monitor.specs.Drilling.{IsCleanDrill, IsCutDrill, IsDrilled, IsFaultyDrill, IsMalformedDrill, IsRefusedDrill};
-ghost use Rattle.lola_monitor.specs.Monitor.{Asked, BrokeOff, IsAnalysed, IsBroken, IsClean, IsCleanAnalysis, IsCutAnalysis, IsCutShort, IsDone, IsEarly, IsFault, IsMalformed, IsRefused, IsSpoiled, IsStatus, IsUnread, IsUsage, outside};
+ghost use Rattle.lola_monitor.specs.Monitor.{Asked, call, outside};
+ghost use Rattle.lola_monitor.specs.Statuses.{Decided, Ended};
 ghost use Rattle.lola_monitor.specs.Outcomes.{Works};
 
 use crate::analysing::analysis;
@@ -17,7 +17,7 @@ use crate::words::word_at;
 use lola_command::command::{Command, RunCommand, read_command};
 use lola_port::{Gate, Shelf, Sink};
 use lola_report::end::EndLine;
-use lola_run::law::{puts_add_up, whole_lines_are_lines};
+use lola_run::law::puts_add_up;
 use std::alloc::Global;
 use std::sync::Wait;
 use std::thread::Threads;
@@ -113,16 +113,18 @@ fn work<R: Threads + Wait + Sync, F: Shelf, K: Sink, T: Sink, G: Gate + Sync>(
 /// started through `rt`, which calls the gate before each turn, and the rows may come in any order that keeps that of each source.
 /// A source that ends at a malformed line, or whose read fails, ends alone: the others are read to their ends.
 ///
-/// | Status | Comes |
+/// | Status | What has come, and what was left |
 /// |---|---|
-/// | 0 | all rows of all sources were taken, and each source ends well; or the specification was analysed; or the drill was run |
-/// | 2 | the words are no command |
-/// | 3 | the specification was read, and is refused |
-/// | 4 | all rows of all sources were taken up to their malformed lines; the least source that has one is named |
-/// | 5 | a row, a deadline before it, or the deadline at the last stamp has a fault; whether or not what is put from then on fails |
-/// | 6 | the specification or a source was not given, and no row was taken; or it could not be read, and all rows of the other sources were taken; the least of them is named |
-/// | 7 | a put failed, and no fault was met before |
-/// | 8 | there is no memory |
+/// | 0 | all rows of all sources were taken, and each source ends well: the trace has their lines, `out` their verdicts and the end line; or the specification was analysed, or the drill was run |
+/// | 2 | the words are no command: nothing is asked or traced |
+/// | 3 | the specification was read, and is refused: nothing is traced |
+/// | 4 | all rows of all sources were taken up to their malformed lines; the least source that has one is named. Trace, verdicts and end line were put |
+/// | 5 | a row, a deadline before it, or the deadline at the last stamp has a fault; whether or not what is put to `out` from then on fails |
+/// | 6 | the specification was not given or read, and nothing is traced; or a source was not given, and no row was taken; or it could not be read, and all rows of the other sources were taken. The least of them is named |
+/// | 7 | a put failed, and no fault was met before: within a trace line, and `out` has the verdicts of all rows before it; or within the verdicts of the last row or of the deadlines at the last stamp, and the trace is whole; or within the end line of a run that is done or has a malformed source, or of an analysis or a drill |
+/// | 8 | there is no memory: nothing was put, or the trace has the lines of the rows that were taken, and `out` a front of their verdicts; no end line |
+///
+/// With 2, 3, 5 and 6 the put of the end line may fail: its status stays, and `out` has a part of it.
 ///
 /// Of several the status tells the first of these: what stopped the run (5, 7 or 8), a source that could not be read (6), a
 /// malformed line (4).
@@ -138,34 +140,14 @@ pub fn run_monitor<R: Threads + Wait + Sync, F: Shelf, K: Sink, T: Sink, G: Gate
     requires { (F.state shelf.old).out ≡ 0 }
     // The names asked for are the command's, in order; no other is. Each source is given back.
     ensures asked { Asked (names_asked (map string_bytes words.now)) (F.state shelf.old) (F.state shelf.new) }
-    // A journal that is legal and is the trace; its rows are those of the sources; the verdicts are the model's.
-    ensures done { result ≡ 0 → IsDone (map string_bytes words.now) (outside (F.state shelf.old) (K.state out.old) (T.state trace.old)) (outside (F.state shelf.new) (K.state out.new) (T.state trace.new))
-        ⊎ (IsAnalysed (map string_bytes words.now) (outside (F.state shelf.old) (K.state out.old) (T.state trace.old)) (outside (F.state shelf.new) (K.state out.new) (T.state trace.new))
-        ⊎ IsDrilled (map string_bytes words.now) (outside (F.state shelf.old) (K.state out.old) (T.state trace.old)) (outside (F.state shelf.new) (K.state out.new) (T.state trace.new))) }
-    ensures usage { result ≡ 2 → IsUsage (map string_bytes words.now) (outside (F.state shelf.old) (K.state out.old) (T.state trace.old)) (outside (F.state shelf.new) (K.state out.new) (T.state trace.new)) }
-    ensures refused { result ≡ 3 → IsRefused (map string_bytes words.now) (outside (F.state shelf.old) (K.state out.old) (T.state trace.old)) (outside (F.state shelf.new) (K.state out.new) (T.state trace.new))
-        ⊎ IsRefusedDrill (map string_bytes words.now) (outside (F.state shelf.old) (K.state out.old) (T.state trace.old)) (outside (F.state shelf.new) (K.state out.new) (T.state trace.new)) }
-    ensures malformed { result ≡ 4 → IsMalformed (map string_bytes words.now) (outside (F.state shelf.old) (K.state out.old) (T.state trace.old)) (outside (F.state shelf.new) (K.state out.new) (T.state trace.new))
-        ⊎ IsMalformedDrill (map string_bytes words.now) (outside (F.state shelf.old) (K.state out.old) (T.state trace.old)) (outside (F.state shelf.new) (K.state out.new) (T.state trace.new)) }
-    ensures fault { result ≡ 5 → IsFault (map string_bytes words.now) (outside (F.state shelf.old) (K.state out.old) (T.state trace.old)) (outside (F.state shelf.new) (K.state out.new) (T.state trace.new))
-        ⊎ IsFaultyDrill (map string_bytes words.now) (outside (F.state shelf.old) (K.state out.old) (T.state trace.old)) (outside (F.state shelf.new) (K.state out.new) (T.state trace.new)) }
-    ensures unreadable { result ≡ 6 → IsUnread (map string_bytes words.now) (outside (F.state shelf.old) (K.state out.old) (T.state trace.old)) (outside (F.state shelf.new) (K.state out.new) (T.state trace.new))
-        ⊎ IsCutShort (map string_bytes words.now) (outside (F.state shelf.old) (K.state out.old) (T.state trace.old)) (outside (F.state shelf.new) (K.state out.new) (T.state trace.new)) }
-    ensures broken { result ≡ 7 → IsBroken (map string_bytes words.now) (outside (F.state shelf.old) (K.state out.old) (T.state trace.old)) (outside (F.state shelf.new) (K.state out.new) (T.state trace.new))
-        ⊎ (IsCutAnalysis (map string_bytes words.now) (outside (F.state shelf.old) (K.state out.old) (T.state trace.old)) (outside (F.state shelf.new) (K.state out.new) (T.state trace.new))
-        ⊎ IsCutDrill (map string_bytes words.now) (outside (F.state shelf.old) (K.state out.old) (T.state trace.old)) (outside (F.state shelf.new) (K.state out.new) (T.state trace.new))) }
-    ensures memory { result ≡ 8 → IsEarly (outside (F.state shelf.old) (K.state out.old) (T.state trace.old)) (outside (F.state shelf.new) (K.state out.new) (T.state trace.new))
-        ⊎ BrokeOff (map string_bytes words.now) (outside (F.state shelf.old) (K.state out.old) (T.state trace.old)) (outside (F.state shelf.new) (K.state out.new) (T.state trace.new)) }
-    ensures others { IsStatus result }
+    // What the call leaves, by its status: a line of this record for each line of the table above.
+    ensures ended { Ended result (call (map string_bytes words.now) (outside (F.state shelf.old) (K.state out.old) (T.state trace.old))
+        (outside (F.state shelf.new) (K.state out.new) (T.state trace.new))) }
     // Nothing but want of memory keeps a command from its answer.
-    ensures complete { IsClean (map string_bytes words.now) (outside (F.state shelf.old) (K.state out.old) (T.state trace.old)) (outside (F.state shelf.new) (K.state out.new) (T.state trace.new)) → (result ≡ 0) ⊎ (result ≡ 8) }
-    ensures complete_analysis { IsCleanAnalysis (map string_bytes words.now) (outside (F.state shelf.old) (K.state out.old) (T.state trace.old)) (outside (F.state shelf.new) (K.state out.new) (T.state trace.new)) → (result ≡ 0) ⊎ (result ≡ 8) }
-    ensures complete_drill { IsCleanDrill (map string_bytes words.now) (outside (F.state shelf.old) (K.state out.old) (T.state trace.old)) (outside (F.state shelf.new) (K.state out.new) (T.state trace.new)) → (result ≡ 0) ⊎ (result ≡ 8) }
-    ensures usage_only { command_of (map string_bytes words.now) ≡ None → (result ≡ 2) ⊎ (result ≡ 8) }
-    ensures refused_only { IsSpoiled (map string_bytes words.now) (outside (F.state shelf.old) (K.state out.old) (T.state trace.old)) (outside (F.state shelf.new) (K.state out.new) (T.state trace.new)) → (result ≡ 3) ⊎ (result ≡ 8) }
+    ensures decided { Decided result (call (map string_bytes words.now) (outside (F.state shelf.old) (K.state out.old) (T.state trace.old))
+        (outside (F.state shelf.new) (K.state out.new) (T.state trace.new))) }
 {
     puts_add_up();
-    whole_lines_are_lines();
     let outcome = work(rt, alloc, words, shelf, out, trace, gate);
     conclude(alloc, outcome, out)
 }

@@ -21,7 +21,7 @@ use lola_port::{Gate, Shelf, Sink, Source};
 use lola_report::end::EndLine;
 use lola_rounds::rows::{MOST_ROWS, run_in_turns};
 use lola_rows::EmptyReader;
-use lola_run::law::{no_rows_have_no_verdicts, puts_add_up, whole_lines_are_lines};
+use lola_run::law::{no_rows_have_no_verdicts, puts_add_up};
 use lola_run::run::Run;
 use lola_run::stop::Stop;
 use lola_shelves::rooms::reserve_all;
@@ -128,7 +128,6 @@ fn run_lent<R: Threads + Wait + Sync, F: Shelf, K: Sink, T: Sink, G: Gate + Sync
     );
     let end = end_of(workers.as_slice());
     give_all_back(shelf, workers);
-    whole_lines_are_lines();
     outcome_after(alloc, run, stopped, end)
 }
 

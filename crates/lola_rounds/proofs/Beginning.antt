@@ -1,16 +1,14 @@
 -- Workers that are ready, and a run that has not begun.
 use Rattle.std.proofs.Common.{◌≡◌, ℕ, List, [], Option, None, true, length, sym, ap, ◌∙◌, arith}
-use Rattle.std.proofs.lemmas.List.{append-nil, length-replicate}
+use Rattle.std.proofs.lemmas.List.{length-replicate}
 use Rattle.std.specs.Prelude.{map}
 use Rattle.lola_port.specs.States.{SinkState}
 use Rattle.lola_model.specs.declared.plan.Plan.{Plan}
 use Rattle.lola_merge.specs.Merging.{Merging, opening}
 use Rattle.lola_feed.specs.Feeding.{Working, handed_in}
-use Rattle.lola_run.specs.Verdicts.{settled_text}
 use Rattle.lola_run.specs.Running.{Keeping, Stands, setting_in}
-use Rattle.lola_run.proofs.Entries.{front_of_all, no_part}
-use Rattle.lola_run.proofs.Sinks.{an_entry, some_line}
-use Rattle.lola_rounds.specs.Feeds.{AreReady, Feeding, IsFresh, IsIdle, RanToCut, World, supplies_of, supply_of, world}
+use Rattle.lola_run.proofs.Entries.{all_put}
+use Rattle.lola_rounds.specs.Feeds.{AreReady, Feeding, IsFresh, IsIdle, RanOutOfMemory, World, supplies_of, supply_of, world}
 use Rattle.lola_rounds.specs.Turning.{SoFar}
 use Rattle.lola_rounds.proofs.Going.{begun, in_rounds}
 use Rattle.lola_rounds.proofs.Rounding.{few_sources, fresh_sources}
@@ -35,21 +33,24 @@ ready_idle kept feed sources start stands ready same many made batch = record {
   workers = λ s w is. (ready.new s w is).2;
 }
 
--- a run that was cut short before its first row
-cut_at_first : (first : World) → SoFar first 0 0 first → RanToCut true first first
+-- a run for which there was no memory before its first row
+cut_at_first : (first : World) → SoFar first 0 0 first → RanOutOfMemory true first first
 cut_at_first first so = record {
-  journal = so.journal;
-  legal = so.stands.legal;
-  sources = so.drawn.of_sources;
+  came = record {
+    journal = so.journal;
+    legal = so.stands.legal;
+    sources = so.drawn.of_sources;
+    traceable = so.traceable;
+    rounds = λ turns. in_rounds first 0 0 first.sources so.journal (omega arith) so.drawn;
+  };
   begun = begun first.sources first.sources so.journal so.drawn.fed;
-  rounds = λ turns. in_rounds first 0 0 first.sources so.journal (omega arith) so.drawn;
-  trace = no_part first.trace first.trace so.journal an_entry (some_line an_entry) so.trace;
-  out = front_of_all (setting_in first.kept) so.journal first.out first.out (settled_text (setting_in first.kept) so.journal) [] (sym (append-nil _)) (ap (λ s. s.written) so.out);
+  trace = so.trace;
+  out = all_put (setting_in first.kept) so.journal first.out first.out so.out;
 }
 
 -- a run of ready workers for which there was no memory to begin
 pub never_begun : (kept : Keeping) (workers : List Working) (out trace : SinkState) → Stands [] kept → AreReady kept.desk.plan workers
-    → RanToCut true (world kept (map supply_of workers) out trace) (world kept (map supply_of workers) out trace)
+    → RanOutOfMemory true (world kept (map supply_of workers) out trace) (world kept (map supply_of workers) out trace)
 never_begun kept workers out trace stands ready =
     let feed : Feeding = record { workers = workers; merging = opening 0 None; batch = [] } in
     cut_at_first (world kept (supplies_of feed) out trace)

@@ -1,21 +1,21 @@
 -- The deadlines at the last stamp, behind the rows of a run.
-use Rattle.std.proofs.Common.{◌≡◌, Bool, ℕ, List, [], ◌++◌, length, None, Result, Ok, Err, inl, inr, sym, ap, ◌∙◌, subst, append_assoc}
+use Rattle.std.proofs.Common.{◌≡◌, Bool, ℕ, List, [], ◌++◌, length, None, Result, Ok, Err, inl, inr, sym, ap, ◌∙◌, subst}
 use Rattle.std.proofs.lemmas.List.{append-nil}
-use Rattle.lola_port.specs.States.{PutBroke, Rose, SinkState, grown}
+use Rattle.lola_port.specs.States.{PutBroke, SinkState, grown}
 use Rattle.lola_model.specs.Faults.{RunFault}
 use Rattle.lola_model.specs.Runs.{final_lines, settled_lines, whole_model}
 use Rattle.lola_model.specs.Texts.{text_of}
 use Rattle.lola_model.specs.declared.journal.Entry.{Entry}
 use Rattle.lola_model.proofs.Journals.{text_of-append}
 use Rattle.lola_engine.specs.Engines.{Completes}
-use Rattle.lola_run.specs.Verdicts.{HasFrontOf, Setting, fault_in, settled_fault_in, settled_text, verdicts}
+use Rattle.lola_run.specs.Verdicts.{Setting, fault_in, settled_fault_in, settled_text, verdicts}
 use Rattle.lola_run.specs.Running.{Closed, ClosedByFault, Closes, CutClose, Keeping, setting_in}
 use Rattle.lola_run.specs.declared.stop.Stop.{Stop}
 use Rattle.lola_run.specs.declared.stop.Stop.TheVariants as stop
-use Rattle.lola_run.proofs.Entries.{front_of_all, no_part}
+use Rattle.lola_run.proofs.Entries.{all_put}
 use Rattle.lola_run.proofs.Fronts.{fault_stays, text_stays}
-use Rattle.lola_run.proofs.Sinks.{an_entry, grown_part, more_text, some_line}
-use Rattle.lola_rounds.specs.Feeds.{CameTo, EndedByCutFault, EndedByFault, EndsRun, RanToCut, RanToCutFault, RanToEnd, RanToFault, Runs, Supply, ThroughWell, World, world}
+use Rattle.lola_run.proofs.Sinks.{more_text}
+use Rattle.lola_rounds.specs.Feeds.{CameTo, EndedByCutFault, EndedByFault, EndsRun, RanOutOfMemory, RanToCutFault, RanToEnd, RanToFault, Runs, Supply, ThroughCut, ThroughWell, World, world}
 use Rattle.lola_rounds.proofs.Going.{begun}
 
 -- the lines of the whole model, in a setting
@@ -39,13 +39,14 @@ module _ (in_turns : Bool) (first : World) (k1 k2 : Keeping) (sources : List Sup
   text_all lines completes = all_text (setting_in first.kept) journal lines (subst (λ (s : Setting). CompletesIn s journal lines) ran.setting completes)
 
   abbrev came_last : CameTo in_turns first last
-  came_last = record { journal = journal; legal = ran.came.legal; sources = ran.came.sources; rounds = ran.came.rounds; trace = ran.came.trace }
+  came_last = record { journal = journal; legal = ran.came.legal; sources = ran.came.sources; traceable = ran.came.traceable; rounds = ran.came.rounds }
 
   well : Closed journal k1 k2 o1 o2 → ThroughWell in_turns first last
   well c = record {
     through = record {
       came = came_last;
       begun = begun first.sources sources journal ran.fed;
+      trace = ran.trace;
       out = more_text _ _ _ _ _ _ ran.out c.out (text_all c.lines c.completes);
     };
     fed = ran.fed;
@@ -64,50 +65,43 @@ module _ (in_turns : Bool) (first : World) (k1 k2 : Keeping) (sources : List Sup
     through = record {
       came = came_last;
       begun = begun first.sources sources journal ran.fed;
+      trace = ran.trace;
       out = c.out ∙ (ran.out ∙ ap (grown first.out) (sym (text_all [] c.completes ∙ append-nil _)));
     };
     is_fault = ap (λ (s : Setting). fault_in s journal) (sym ran.setting) ∙ c.is_fault;
     place = inr (record { settled = fine; fed = ran.fed; ended = ran.ended });
   }
 
-  -- a front of the verdicts was put
-  abbrev cut_here : HasFrontOf first.out o2 (verdicts (setting_in first.kept) journal) → RanToCut in_turns first last
-  cut_here out = record {
-    journal = journal;
-    legal = ran.came.legal;
-    sources = ran.came.sources;
-    begun = begun first.sources sources journal ran.fed;
-    rounds = ran.came.rounds;
-    trace = no_part first.trace t1 journal an_entry (some_line an_entry) ran.came.trace;
-    out = out;
-  }
-
-  by_put : CutClose journal k1 o1 o2 → HasFrontOf first.out o2 (verdicts (setting_in first.kept) journal)
+  -- the verdicts of the deadlines were cut short
+  by_put : CutClose journal k1 o1 o2 → ThroughCut in_turns first last
   by_put c = record {
-    part = settled_text (setting_in first.kept) journal ++ c.out.part;
-    rest = c.out.is_part.rest;
-    joined = text_all c.lines c.completes ∙ (ap (λ (l : List ℕ). settled_text (setting_in first.kept) journal ++ l) c.out.is_part.joined ∙ sym (append_assoc _ c.out.part c.out.is_part.rest));
-    written = grown_part first.out o1 o2 _ c.out.part ran.out c.out.written;
+    came = came_last;
+    begun = begun first.sources sources journal ran.fed;
+    no_fault = ap (λ (s : Setting). fault_in s journal) (sym ran.setting) ∙ c.fine;
+    place = record { settled = fine; fed = ran.fed; ended = ran.ended };
+    trace = ran.trace;
+    out = record { brings = text_of c.lines; joined = text_all c.lines c.completes; cut = subst (λ (o : SinkState). PutBroke o o2 (text_of c.lines)) ran.out c.out };
   }
 
-  by_memory : o2 ≡ o1 → HasFrontOf first.out o2 (verdicts (setting_in first.kept) journal)
-  by_memory same = front_of_all (setting_in first.kept) journal first.out o2 (settled_text (setting_in first.kept) journal) [] (sym (append-nil _)) (ap (λ s. s.written) (same ∙ ran.out))
+  by_memory : o2 ≡ o1 → RanOutOfMemory in_turns first last
+  by_memory same = record {
+    came = came_last;
+    begun = begun first.sources sources journal ran.fed;
+    trace = ran.trace;
+    out = all_put (setting_in first.kept) journal first.out o2 (same ∙ ran.out);
+  }
 
   pub closes : (result : Result (Unit {0}) Stop) → Closes result k1 k2 o1 o2 → EndsRun in_turns result first last
   closes (Ok done) did = well (did journal ran.stands)
   closes (Err (stop.Fault stream kind time)) did = by_fault (record { stream = stream; kind = kind; time = time }) (did journal ran.stands)
   closes (Err (stop.CutFault stream kind time)) did = absurd (did journal ran.stands)
-  closes (Err stop.Put) did = record {
-    cut = cut_here (by_put (did.0 journal ran.stands));
-    no_fault = fine;
-    rose = inl (subst (λ n. Rose n o2.count) (ap (λ s. s.count) ran.out) did.1);
-  }
-  closes (Err stop.Memory) did = cut_here (by_memory did)
+  closes (Err stop.Put) did = inr (by_put (did journal ran.stands))
+  closes (Err stop.Memory) did = by_memory did
 
 -- at the fault of a row
 row_fault_ends : (in_turns : Bool) (fault : RunFault) (first final : World) → RanToFault in_turns fault first final → EndedByFault in_turns fault first final
 row_fault_ends in_turns fault first final r = record {
-  through = record { came = r.came; begun = r.begun; out = r.out ∙ ap (grown first.out) (sym (text_stays (setting_in first.kept) r.came.journal fault r.stands.settled)) };
+  through = record { came = r.came; begun = r.begun; trace = r.trace; out = r.out ∙ ap (grown first.out) (sym (text_stays (setting_in first.kept) r.came.journal fault r.stands.settled)) };
   is_fault = fault_stays (setting_in first.kept) r.came.journal fault r.stands.settled;
   place = inl r.stands;
 }
@@ -117,6 +111,7 @@ row_fault_cut : (in_turns : Bool) (fault : RunFault) (first final : World) → R
 row_fault_cut in_turns fault first final r = record {
   came = r.came;
   begun = r.begun;
+  trace = r.trace;
   out = subst (PutBroke first.out final.out) (sym (text_stays (setting_in first.kept) r.came.journal fault r.stands.settled)) r.out;
   is_fault = fault_stays (setting_in first.kept) r.came.journal fault r.stands.settled;
   place = r.stands;
@@ -126,5 +121,5 @@ row_fault_cut in_turns fault first final r = record {
 pub stays_ended : (in_turns : Bool) (how : Stop) (first final : World) → Runs in_turns (Err how) first final → EndsRun in_turns (Err how) first final
 stays_ended in_turns (stop.Fault stream kind time) first final r = row_fault_ends in_turns (record { stream = stream; kind = kind; time = time }) first final r
 stays_ended in_turns (stop.CutFault stream kind time) first final r = row_fault_cut in_turns (record { stream = stream; kind = kind; time = time }) first final r
-stays_ended in_turns stop.Put first final r = r
+stays_ended in_turns stop.Put first final r = inl r
 stays_ended in_turns stop.Memory first final r = r

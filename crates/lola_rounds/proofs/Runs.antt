@@ -1,26 +1,24 @@
 -- How a run goes on, and how its rows end.
-use Rattle.std.proofs.Common.{◌≡◌, ℕ, suc, ◌⊎◌, ◌<◌, ◌≤◌, List, [], ◌∷◌, ◌++◌, Option, None, Some, Ok, Err, Bool, true, false, refl, sym, ap, ◌∙◌, inl, inr, arith, append_assoc, subst, length}
-use Rattle.std.proofs.lemmas.List.{append-nil}
+use Rattle.std.proofs.Common.{◌≡◌, ℕ, suc, ◌⊎◌, ◌<◌, ◌≤◌, List, [], ◌∷◌, ◌++◌, Option, None, Some, Ok, Err, Bool, true, false, sym, ap, ◌∙◌, refl, inl, inr, arith, subst, length}
 use Rattle.std.specs.Prelude.{slice_get}
-use Rattle.std.specs.Io.KnownBytes.{append_known}
-use Rattle.lola_port.specs.States.{PutBroke, Rose, grown}
+use Rattle.lola_port.specs.States.{PutBroke, SinkState, grown}
 use Rattle.lola_model.specs.Journal.{IsLegal}
 use Rattle.lola_model.specs.Faults.{RunFault}
 use Rattle.lola_model.specs.Texts.{text_of}
-use Rattle.lola_model.specs.Trace.{trace_text}
+use Rattle.lola_model.specs.Trace.{IsTraceable, trace_line, trace_text}
 use Rattle.lola_model.specs.declared.journal.Entry.{Entry}
 use Rattle.lola_model.proofs.Journals.{trace_text-append_one}
 use Rattle.lola_engine.specs.Engines.{Brings}
-use Rattle.lola_run.specs.Verdicts.{IsRowFault, Setting, settled_fault_in, settled_text}
+use Rattle.lola_run.specs.Verdicts.{AreTraceable, IsRowFault, Setting, settled_fault_in, settled_text}
 use Rattle.lola_run.specs.Running.{IsAccepted, IsSetAs, Stands, setting_in}
 use Rattle.lola_run.specs.declared.stop.Stop.{Stop}
 use Rattle.lola_run.specs.declared.stop.Stop.TheVariants as stop
-use Rattle.lola_run.proofs.Entries.{BringsIn, accepted_is, front_of_all, no_part, text_more}
+use Rattle.lola_run.proofs.Entries.{BringsIn, accepted_is, all_put, cut_at_row, last_not_put, text_more, told_more}
 use Rattle.lola_run.proofs.Fronts.{nothing_settled}
-use Rattle.lola_run.proofs.Sinks.{broke_behind, grown_nil, grown_part, known_nil, more_text, some_line}
+use Rattle.lola_run.proofs.Sinks.{broke_behind, grown_nil, more_text}
 use Rattle.lola_run.proofs.Taking.{legal_more}
-use Rattle.lola_rounds.specs.Feeds.{CameTo, GoInRounds, HaveEnded, IsSound, RanToCut, RanToCutFault, RanToEnd, RanToFault, RanToPutFault, Runs, Supply, World}
-use Rattle.lola_rounds.specs.Turning.{Drawn, OutCut, OutKept, Passed, SawCutFault, SawFault, SoFar, Stepped, Steps, Touched, TraceCut, Traced}
+use Rattle.lola_rounds.specs.Feeds.{CameTo, GoInRounds, HaveEnded, IsSound, RanOutOfMemory, RanToCutFault, RanToEnd, RanToFault, RanToPutFault, RanToRowCut, RanToTraceCut, Runs, Supply, World}
+use Rattle.lola_rounds.specs.Turning.{Drawn, NotTraced, OutCut, OutKept, Passed, SawCutFault, SawFault, SoFar, Stepped, Steps, Touched, TraceCut, Traced}
 use Rattle.lola_rounds.proofs.Drawing.{drawn_none, draws, round_drawn, sits}
 use Rattle.lola_rounds.proofs.Going.{begun, in_rounds, touched_in_rounds}
 
@@ -33,6 +31,7 @@ started first few fresh none = record {
   stands = fresh;
   drawn = drawn_none first none;
   setting = refl;
+  traceable = tt;
   trace = sym (grown_nil first.trace);
   out = sym (grown_nil first.out) ∙ ap (grown first.out) (sym (nothing_settled (setting_in first.kept)));
 }
@@ -52,6 +51,9 @@ module _ (first : World) (n k : ℕ) (now next : World) (within : k < length fir
   pub rounds_are : GoInRounds first.sources next.sources (so.journal ++ entry ∷ [])
   rounds_are = in_rounds first n (suc k) next.sources (so.journal ++ entry ∷ []) (omega (arith, within)) drawn_is
 
+  pub told_is : AreTraceable first.kept.desk.plan (so.journal ++ entry ∷ [])
+  told_is = told_more first.kept.desk.plan so.journal entry so.traceable (subst (λ (s : Setting). IsTraceable s.plan entry) so.setting traced.traceable)
+
   pub trace_is : next.trace ≡ grown first.trace (trace_text (so.journal ++ entry ∷ []))
   trace_is = more_text _ _ _ _ _ _ so.trace traced.trace (trace_text-append_one so.journal entry)
 
@@ -59,7 +61,7 @@ module _ (first : World) (n k : ℕ) (now next : World) (within : k < length fir
   text_is lines brings = text_more (setting_in first.kept) so.journal entry lines (subst (λ (s : Setting). BringsIn s so.journal entry lines) so.setting brings)
 
   abbrev came_on : CameTo true first next
-  came_on = record { journal = so.journal ++ entry ∷ []; legal = legal_is; sources = drawn_is.of_sources; rounds = λ turns. rounds_are; trace = trace_is }
+  came_on = record { journal = so.journal ++ entry ∷ []; legal = legal_is; sources = drawn_is.of_sources; traceable = told_is; rounds = λ turns. rounds_are }
 
 module _ (first : World) (n k : ℕ) (now next : World) (within : k < length first.sources) (so : SoFar first n k now) where
   steps_on : Stepped k now next → SoFar first n (suc k) next
@@ -71,6 +73,7 @@ module _ (first : World) (n k : ℕ) (now next : World) (within : k < length fir
         stands = after.stands;
         drawn = drawn_is first n k now next within so step.entry step.traced;
         setting = step.setting ∙ so.setting;
+        traceable = told_is first n k now next within so step.entry step.traced;
         trace = trace_is first n k now next within so step.entry step.traced;
         out = more_text _ _ _ _ _ _ so.out after.out (text_is first n k now next within so step.entry step.traced after.lines after.brings);
       }
@@ -82,6 +85,7 @@ module _ (first : World) (n k : ℕ) (now next : World) (within : k < length fir
     stands = subst (Stands so.journal) (sym p.only.kept) so.stands;
     drawn = sits first n k now.sources so.journal so.drawn next.sources p.out_of;
     setting = ap setting_in p.only.kept ∙ so.setting;
+    traceable = so.traceable;
     trace = p.only.trace ∙ so.trace;
     out = p.only.out ∙ so.out;
   }
@@ -98,6 +102,7 @@ next_begins first n now so = record {
   stands = so.stands;
   drawn = round_drawn first n now.sources so.journal so.drawn;
   setting = so.setting;
+  traceable = so.traceable;
   trace = so.trace;
   out = so.out;
 }
@@ -109,12 +114,13 @@ ran_to_end first n last so ended = record {
     journal = so.journal;
     legal = legal_first first last so.journal so.setting so.stands.legal;
     sources = so.drawn.of_sources;
+    traceable = so.traceable;
     rounds = λ turns. in_rounds first n 0 last.sources so.journal (omega arith) so.drawn;
-    trace = so.trace;
   };
   setting = so.setting;
   fed = so.drawn.fed;
   ended = ended;
+  trace = so.trace;
   out = so.out;
   stands = so.stands;
 }
@@ -139,6 +145,7 @@ module _ (first : World) (n k : ℕ) (now last : World) (within : k < length fir
       record {
         came = came_on first n k now last within so saw.entry saw.traced;
         begun = begun first.sources last.sources (so.journal ++ saw.entry ∷ []) (drawn_is first n k now last within so saw.entry saw.traced).fed;
+        trace = trace_is first n k now last within so saw.entry saw.traced;
         out = more_text _ _ _ _ _ _ so.out bad.out (text_is first n k now last within so saw.entry saw.traced bad.lines bad.brings);
         stands = row_fault saw.entry fault saw.accepted bad.is_fault;
       }
@@ -150,14 +157,11 @@ module _ (first : World) (n k : ℕ) (now last : World) (within : k < length fir
       record {
         came = came_on first n k now last within so saw.entry saw.traced;
         begun = begun first.sources last.sources (so.journal ++ saw.entry ∷ []) (drawn_is first n k now last within so saw.entry saw.traced).fed;
+        trace = trace_is first n k now last within so saw.entry saw.traced;
         out = subst (PutBroke first.out last.out) (sym (text_is first n k now last within so saw.entry saw.traced bad.lines bad.brings))
             (broke_behind first.out now.out last.out (settled_text (setting_in first.kept) so.journal) (text_of bad.lines) so.out bad.out);
         stands = row_fault saw.entry fault saw.accepted bad.is_fault;
       }
-
-  rose_since : Rose now.out.count last.out.count ⊎ Rose now.trace.count last.trace.count → Rose first.out.count last.out.count ⊎ Rose first.trace.count last.trace.count
-  rose_since (inl rose) = inl (subst (λ n. Rose n last.out.count) (ap (λ s. s.count) so.out) rose)
-  rose_since (inr rose) = inr (subst (λ n. Rose n last.trace.count) (ap (λ s. s.count) so.trace) rose)
 
   now_in_rounds : GoInRounds first.sources now.sources so.journal
   now_in_rounds = in_rounds first n k now.sources so.journal (omega (arith, within)) so.drawn
@@ -166,55 +170,70 @@ module _ (first : World) (n k : ℕ) (now last : World) (within : k < length fir
   rounds_cut (inl same) = subst (λ l. GoInRounds first.sources l so.journal) (sym same) now_in_rounds
   rounds_cut (inr at) = touched_in_rounds first.sources now.sources last.sources k so.journal at.0 at.1 now_in_rounds
 
-  -- a run that broke off in a trace line
-  abbrev trace_cut : TraceCut k now last → RanToCut true first last
-  trace_cut cut = record {
+  -- the rows up to here, the last of which was not traced whole
+  abbrev came_here : (last.sources ≡ now.sources) ⊎ ((at : Touched k now.sources last.sources) × IsSound at.new) → CameTo true first last
+  came_here touched = record {
     journal = so.journal;
     legal = legal_first first now so.journal so.setting so.stands.legal;
     sources = so.drawn.of_sources;
+    traceable = so.traceable;
+    rounds = λ turns. rounds_cut touched;
+  }
+
+  trace_cut : TraceCut k now last → RanToTraceCut true first last
+  trace_cut cut = record {
+    came = came_here (inr (cut.at, cut.sound));
     begun = begun first.sources now.sources so.journal so.drawn.fed;
-    rounds = λ turns. rounds_cut cut.touched;
-    trace = record { entry = cut.entry; part = cut.part; is_part = cut.is_part; written = grown_part first.trace now.trace last.trace _ cut.part so.trace cut.trace };
-    out = front_of_all (setting_in first.kept) so.journal first.out last.out (settled_text (setting_in first.kept) so.journal) [] (sym (append-nil _)) (ap (λ s. s.written) (cut.out ∙ so.out));
-  }
-
-  -- a run that broke off behind a trace line, where this much of the lines was put
-  abbrev out_cut : (entry : Entry) (traced : Traced k entry now last) (lines : List (List ℕ)) (part rest : List ℕ)
-      → Brings now.kept.desk so.journal entry lines → text_of lines ≡ part ++ rest → last.out.written ≡ append_known now.out.written part → RanToCut true first last
-  out_cut entry traced lines part rest brings joined written = record {
-    journal = so.journal ++ entry ∷ [];
-    legal = legal_is first n k now last within so entry traced;
-    sources = (drawn_is first n k now last within so entry traced).of_sources;
-    begun = begun first.sources last.sources (so.journal ++ entry ∷ []) (drawn_is first n k now last within so entry traced).fed;
-    rounds = λ turns. rounds_are first n k now last within so entry traced;
-    trace = no_part first.trace last.trace (so.journal ++ entry ∷ []) entry (some_line entry) (trace_is first n k now last within so entry traced);
-    out = front_of_all (setting_in first.kept) (so.journal ++ entry ∷ []) first.out last.out (settled_text (setting_in first.kept) so.journal ++ part) rest
-        (text_is first n k now last within so entry traced lines brings ∙ ap (λ (l : List ℕ). settled_text (setting_in first.kept) so.journal ++ l) joined ∙ sym (append_assoc _ part rest))
-        (grown_part first.out now.out last.out _ part so.out written);
-  }
-
-  cuts : TraceCut k now last ⊎ OutKept k now last → RanToCut true first last
-  cuts (inl cut) = trace_cut cut
-  cuts (inr kept) =
-      let c = kept.runs so.journal so.stands in
-      out_cut kept.entry kept.traced c.lines [] (text_of c.lines) c.brings refl (ap (λ s. s.written) c.out ∙ sym (known_nil now.out.written))
-
-  put_fault : TraceCut k now last ⊎ OutCut k now last → (Rose now.out.count last.out.count ⊎ Rose now.trace.count last.trace.count) → RanToPutFault true first last
-  put_fault (inl cut) rose = record {
-    cut = trace_cut cut;
     no_fault = fine_so_far;
-    rose = rose_since rose;
+    trace = record {
+      entry = cut.entry;
+      traceable = subst (λ (s : Setting). IsTraceable s.plan cut.entry) so.setting cut.traceable;
+      cut = subst (λ (t : SinkState). PutBroke t last.trace (trace_line cut.entry)) so.trace cut.trace;
+    };
+    out = cut.out ∙ so.out;
   }
-  put_fault (inr cut) rose =
+
+  row_cut : OutCut k now last → RanToRowCut true first last
+  row_cut cut =
       let c = cut.runs so.journal so.stands in
       record {
-        cut = out_cut cut.entry cut.traced c.lines c.out.part c.out.is_part.rest c.brings c.out.is_part.joined c.out.written;
+        came = came_on first n k now last within so cut.entry cut.traced;
+        begun = begun first.sources last.sources (so.journal ++ cut.entry ∷ []) (drawn_is first n k now last within so cut.entry cut.traced).fed;
         no_fault = ap (λ (s : Setting). settled_fault_in s (so.journal ++ cut.entry ∷ [])) (sym so.setting) ∙ c.fine;
-        rose = rose_since rose;
+        trace = trace_is first n k now last within so cut.entry cut.traced;
+        out = cut_at_row (setting_in first.kept) so.journal cut.entry (text_of c.lines) first.out now.out last.out cut.accepted
+            (text_is first n k now last within so cut.entry cut.traced c.lines c.brings) so.out c.out;
       }
+
+  not_traced : NotTraced k now last → RanOutOfMemory true first last
+  not_traced none = record {
+    came = came_here none.touched;
+    begun = begun first.sources now.sources so.journal so.drawn.fed;
+    trace = none.trace ∙ so.trace;
+    out = all_put (setting_in first.kept) so.journal first.out last.out (none.out ∙ so.out);
+  }
+
+  not_put : OutKept k now last → RanOutOfMemory true first last
+  not_put kept =
+      let c = kept.runs so.journal so.stands in
+      record {
+        came = came_on first n k now last within so kept.entry kept.traced;
+        begun = begun first.sources last.sources (so.journal ++ kept.entry ∷ []) (drawn_is first n k now last within so kept.entry kept.traced).fed;
+        trace = trace_is first n k now last within so kept.entry kept.traced;
+        out = last_not_put (setting_in first.kept) so.journal kept.entry (text_of c.lines) first.out last.out
+            (text_is first n k now last within so kept.entry kept.traced c.lines c.brings) (c.out ∙ so.out);
+      }
+
+  put_fault : TraceCut k now last ⊎ OutCut k now last → RanToPutFault true first last
+  put_fault (inl cut) = inl (trace_cut cut)
+  put_fault (inr cut) = inr (row_cut cut)
+
+  out_of_memory : NotTraced k now last ⊎ OutKept k now last → RanOutOfMemory true first last
+  out_of_memory (inl none) = not_traced none
+  out_of_memory (inr kept) = not_put kept
 
   pub stops : (how : Stop) → Steps (Err how) k now last → Runs true (Err how) first last
   stops (stop.Fault stream kind time) saw = fails (record { stream = stream; kind = kind; time = time }) saw
   stops (stop.CutFault stream kind time) saw = fails_cut (record { stream = stream; kind = kind; time = time }) saw
-  stops stop.Put saw = put_fault saw.cut saw.rose
-  stops stop.Memory saw = cuts saw
+  stops stop.Put saw = put_fault saw
+  stops stop.Memory saw = out_of_memory saw

@@ -4,7 +4,7 @@ use Rattle.std.specs.Option.{option_to_list}
 use Rattle.std.specs.Prelude.{OnOk}
 use Rattle.lola_port.specs.States.{SinkState, grown}
 use Rattle.lola_model.specs.Journal.{merged_from, opening_time, time_after}
-use Rattle.lola_model.specs.Trace.{trace_line}
+use Rattle.lola_model.specs.Trace.{IsTraceable, trace_line}
 use Rattle.lola_model.specs.declared.journal.Entry.{Entry}
 use Rattle.lola_model.proofs.Journals.{merged_from-append}
 use Rattle.lola_merge.specs.Merging.{sources_of}
@@ -15,10 +15,9 @@ use Rattle.lola_run.specs.Verdicts.{Setting}
 use Rattle.lola_run.specs.Running.{IsNext, IsSetAs, Keeping, Puts, Stands, StandsNext, Takes}
 use Rattle.lola_run.specs.declared.stop.Stop.{Stop}
 use Rattle.lola_run.specs.declared.stop.Stop.TheVariants as stop
-use Rattle.lola_run.proofs.Sinks.{an_entry, known_nil, some_line}
 use Rattle.lola_run.proofs.Taking.{merged_is}
 use Rattle.lola_rounds.specs.Feeds.{Feeding, IsIdle, IsSound, Supply, supplies_of, world}
-use Rattle.lola_rounds.specs.Turning.{IsOutOfMemory, IsStanding, Passed, RunsTaken, SatOut, Steps, TookEntry, TookRow, TookTurn, TraceCut, Touched, Traced}
+use Rattle.lola_rounds.specs.Turning.{IsOutOfMemory, IsStanding, NotTraced, Passed, RunsTaken, SatOut, Steps, TookEntry, TookRow, TookTurn, Touched, Traced}
 use Rattle.lola_rounds.proofs.Lists.{some_not}
 use Rattle.lola_rounds.proofs.Turns.{GaveEntry, GaveNone, after_turn, idle_next}
 
@@ -26,34 +25,24 @@ use Rattle.lola_rounds.proofs.Turns.{GaveEntry, GaveNone, after_turn, idle_next}
 sound_on : (source : Supply) → source.end ≡ None → IsSound source
 sound_on source none failed = some_not (sym failed ∙ none)
 
-module _ (k0 : Keeping) (o0 t0 : SinkState) (entry : Entry) (mark : IsNext k0 entry) (s : ℕ) (olds news : List Supply) (took : TookRow k0.desk.plan s entry.row olds news) where
+module _ (k0 : Keeping) (o0 t0 : SinkState) (entry : Entry) (mark : IsNext k0 entry) (told : IsTraceable k0.desk.plan entry) (s : ℕ) (olds news : List Supply) (took : TookRow k0.desk.plan s entry.row olds news) where
   -- a row was taken, and its trace line was not put whole
   pub not_traced : (t1 : SinkState) (how : Stop) → Puts (Err how) (trace_line entry) t0 t1 → Steps (Err how) s (world k0 olds o0 t0) (world k0 news o0 t1)
   not_traced t1 (stop.Fault stream kind time) puts = absurd puts
   not_traced t1 (stop.CutFault stream kind time) puts = absurd puts
-  not_traced t1 stop.Put puts = record {
-    cut = inl (record { touched = inr (took.at, sound_on took.at.new took.goes_on); entry = entry; part = puts.part; is_part = puts.is_part; trace = puts.written; out = refl });
-    rose = inr puts.rose;
-  }
-  not_traced t1 stop.Memory puts = inl (record {
-    touched = inr (took.at, sound_on took.at.new took.goes_on);
-    entry = entry;
-    part = [];
-    is_part = record { rest = trace_line entry; joined = refl; not_whole = some_line entry };
-    trace = ap (λ s. s.written) puts ∙ sym (known_nil t0.written);
-    out = refl;
-  })
+  not_traced t1 stop.Put puts = inl (record { at = took.at; sound = sound_on took.at.new took.goes_on; entry = entry; traceable = told; trace = puts; out = refl })
+  not_traced t1 stop.Memory puts = inl (record { touched = inr (took.at, sound_on took.at.new took.goes_on); trace = puts; out = refl })
 
   -- a row was taken, traced, and given to the run
   module _ (k1 : Keeping) (o1 t1 : SinkState) (trace : t1 ≡ grown t0 (trace_line entry)) where
     abbrev traced : Traced s entry (world k0 olds o0 t0) (world k1 news o1 t1)
-    traced = record { took = took; mark = mark; trace = trace }
+    traced = record { took = took; mark = mark; traceable = told; trace = trace }
 
     pub stepped : (result : Result (Unit {0}) Stop) → Takes result entry k0 k1 o0 o1 → RunsTaken result s (world k0 olds o0 t0) (world k1 news o1 t1)
     stepped (Ok done) takes = record { entry = entry; traced = traced; setting = takes.1; runs = takes.0 }
     stepped (Err (stop.Fault stream kind time)) takes = record { entry = entry; traced = traced; accepted = takes.1; runs = takes.0 }
     stepped (Err (stop.CutFault stream kind time)) takes = record { entry = entry; traced = traced; accepted = takes.1; runs = takes.0 }
-    stepped (Err stop.Put) takes = record { cut = inr (record { entry = entry; traced = traced; runs = takes.0 }); rose = inl takes.1 }
+    stepped (Err stop.Put) takes = inr (record { entry = entry; traced = traced; accepted = takes.1; runs = takes.0 })
     stepped (Err stop.Memory) takes = inr (record { entry = entry; traced = traced; runs = takes.0 })
 
 -- the merged time after an entry
@@ -70,20 +59,13 @@ merged_next (Err how) entry old new o0 o1 standing takes = tt
 
 module _ (s : ℕ) (old mid new : Feeding) (kept : Keeping) (idle : IsIdle old kept) (answer : Turn) (t : TookTurn s answer old mid) where
   -- there was no memory for a row
-  pub out_of_memory : (o t0 : SinkState) → IsOutOfMemory answer → TraceCut s (world kept (supplies_of old) o t0) (world kept (supplies_of mid) o t0)
+  pub out_of_memory : (o t0 : SinkState) → IsOutOfMemory answer → NotTraced s (world kept (supplies_of old) o t0) (world kept (supplies_of mid) o t0)
   out_of_memory o t0 is = by_answer (after_turn s old mid kept idle answer t)
     where
-      cut : (supplies_of mid ≡ supplies_of old) ⊎ ((at : Touched s (supplies_of old) (supplies_of mid)) × IsSound at.new) → TraceCut s (world kept (supplies_of old) o t0) (world kept (supplies_of mid) o t0)
-      cut touched = record {
-        touched = touched;
-        entry = an_entry;
-        part = [];
-        is_part = record { rest = trace_line an_entry; joined = refl; not_whole = some_line an_entry };
-        trace = sym (known_nil t0.written);
-        out = refl;
-      }
+      cut : (supplies_of mid ≡ supplies_of old) ⊎ ((at : Touched s (supplies_of old) (supplies_of mid)) × IsSound at.new) → NotTraced s (world kept (supplies_of old) o t0) (world kept (supplies_of mid) o t0)
+      cut touched = record { touched = touched; trace = refl; out = refl }
 
-      by_answer : GaveEntry s old mid kept ⊎ GaveNone answer s old mid kept → TraceCut s (world kept (supplies_of old) o t0) (world kept (supplies_of mid) o t0)
+      by_answer : GaveEntry s old mid kept ⊎ GaveNone answer s old mid kept → NotTraced s (world kept (supplies_of old) o t0) (world kept (supplies_of mid) o t0)
       by_answer (inl gave) = cut (inr (gave.took.at, sound_on gave.took.at.new gave.took.goes_on))
       by_answer (inr none) = elim none.sat [
         | inl r ↦ cut (inl r.same)

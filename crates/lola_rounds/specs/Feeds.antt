@@ -14,7 +14,7 @@ use Rattle.lola_merge.specs.Merging.{Merging, sources_of}
 use Rattle.lola_feed.specs.Feeding.{Working, beginning, bound_of, handed_in, to_come}
 use Rattle.lola_feed.specs.declared.worker.SourceEnd as worker
 use Rattle.lola_feed.specs.declared.worker.SourceEnd.TheVariants.{End, Malformed, ReadFault, Closed, Memory}
-use Rattle.lola_run.specs.Verdicts.{AreOfSources, HasFrontOf, HasLines, IsRowFault, fault_in, late_count, most_rows, settled_fault_in, settled_text, verdicts}
+use Rattle.lola_run.specs.Verdicts.{AreOfSources, AreTraceable, HasFront, IsCutAtDeadline, IsCutAtRow, IsCutInLine, IsRowFault, fault_in, late_count, most_rows, settled_fault_in, settled_text, verdicts}
 use Rattle.lola_run.specs.Running.{Keeping, IsSetAs, Stands, setting_in}
 use Rattle.lola_rounds.specs.Rounds.{AreFirst}
 use Rattle.lola_run.specs.declared.stop.Stop.{Stop}
@@ -106,13 +106,17 @@ pub record World : Type 0 where
 abbrev pub world : Keeping → List Supply → SinkState → SinkState → World
 world kept sources out trace = record { kept = kept; sources = sources; out = out; trace = trace }
 
--- where a run came to, and what was put to the trace: where its sources are read in turns, their rows came in rounds
+-- where a run came to: where its sources are read in turns, their rows came in rounds
 pub record CameTo (in_turns : Bool) (first last : World) : Type 0 where
   pub journal : List Entry
   pub legal : IsLegal first.kept.desk.option journal
   pub sources : AreOfSources (length first.sources) journal
+  pub traceable : AreTraceable first.kept.desk.plan journal
   pub rounds : in_turns ≡ true → GoInRounds first.sources last.sources journal
-  pub trace : last.trace ≡ grown first.trace (trace_text journal)
+
+-- the trace received the lines of a journal
+abbrev pub AreTraced : World → World → List Entry → Type 0
+AreTraced first last journal = last.trace ≡ grown first.trace (trace_text journal)
 
 -- a run to the end of its sources, each of which may have failed
 pub record RanToEnd (in_turns : Bool) (first last : World) : Type 0 where
@@ -120,6 +124,7 @@ pub record RanToEnd (in_turns : Bool) (first last : World) : Type 0 where
   pub setting : IsSetAs first.kept last.kept
   pub fed : AreFed first.sources last.sources came.journal
   pub ended : HaveEnded last.sources
+  pub trace : AreTraced first last came.journal
   pub out : last.out ≡ grown first.out (settled_text (setting_in first.kept) came.journal)
   pub stands : Stands came.journal last.kept
 
@@ -127,6 +132,7 @@ pub record RanToEnd (in_turns : Bool) (first last : World) : Type 0 where
 pub record RanToFault (in_turns : Bool) (fault : RunFault) (first last : World) : Type 0 where
   pub came : CameTo in_turns first last
   pub begun : HaveBegun first.sources came.journal
+  pub trace : AreTraced first last came.journal
   pub out : last.out ≡ grown first.out (settled_text (setting_in first.kept) came.journal)
   pub stands : IsRowFault (setting_in first.kept) came.journal fault
 
@@ -134,24 +140,36 @@ pub record RanToFault (in_turns : Bool) (fault : RunFault) (first last : World) 
 pub record RanToCutFault (in_turns : Bool) (fault : RunFault) (first last : World) : Type 0 where
   pub came : CameTo in_turns first last
   pub begun : HaveBegun first.sources came.journal
+  pub trace : AreTraced first last came.journal
   pub out : PutBroke first.out last.out (settled_text (setting_in first.kept) came.journal)
   pub stands : IsRowFault (setting_in first.kept) came.journal fault
 
--- a run that was cut short: a front of the verdicts was put
-pub record RanToCut (in_turns : Bool) (first last : World) : Type 0 where
-  pub journal : List Entry
-  pub legal : IsLegal first.kept.desk.option journal
-  pub sources : AreOfSources (length first.sources) journal
-  pub begun : HaveBegun first.sources journal
-  pub rounds : in_turns ≡ true → GoInRounds first.sources last.sources journal
-  pub trace : HasLines first.trace last.trace journal
-  pub out : HasFrontOf first.out last.out (verdicts (setting_in first.kept) journal)
+-- a run without a fault to a row whose trace line was cut short: the verdicts of all rows before it were put
+pub record RanToTraceCut (in_turns : Bool) (first last : World) : Type 0 where
+  pub came : CameTo in_turns first last
+  pub begun : HaveBegun first.sources came.journal
+  pub no_fault : settled_fault_in (setting_in first.kept) came.journal ≡ None
+  pub trace : IsCutInLine first.kept.desk.plan first.trace last.trace came.journal
+  pub out : last.out ≡ grown first.out (settled_text (setting_in first.kept) came.journal)
 
--- a run that a failed put cut short, no settled step of which has a fault
-pub record RanToPutFault (in_turns : Bool) (first last : World) : Type 0 where
-  pub cut : RanToCut in_turns first last
-  pub no_fault : settled_fault_in (setting_in first.kept) cut.journal ≡ None
-  pub rose : Rose first.out.count last.out.count ⊎ Rose first.trace.count last.trace.count
+-- a run without a fault to a row that was traced, and whose verdicts were cut short
+pub record RanToRowCut (in_turns : Bool) (first last : World) : Type 0 where
+  pub came : CameTo in_turns first last
+  pub begun : HaveBegun first.sources came.journal
+  pub no_fault : settled_fault_in (setting_in first.kept) came.journal ≡ None
+  pub trace : AreTraced first last came.journal
+  pub out : IsCutAtRow (setting_in first.kept) first.out last.out came.journal
+
+-- a run that a failed put cut short
+abbrev pub RanToPutFault : Bool → World → World → Type 0
+RanToPutFault in_turns first last = RanToTraceCut in_turns first last ⊎ RanToRowCut in_turns first last
+
+-- a run that ended for want of memory: all its rows were traced, and a front of their verdicts was put
+pub record RanOutOfMemory (in_turns : Bool) (first last : World) : Type 0 where
+  pub came : CameTo in_turns first last
+  pub begun : HaveBegun first.sources came.journal
+  pub trace : AreTraced first last came.journal
+  pub out : HasFront (setting_in first.kept) first.out last.out came.journal
 
 -- all rows of a run
 abbrev pub Runs : Bool → Result (Unit {0}) Stop → World → World → Type 0
@@ -159,12 +177,13 @@ Runs in_turns (Ok done) first last = RanToEnd in_turns first last
 Runs in_turns (Err (stop.Fault stream kind time)) first last = RanToFault in_turns (record { stream = stream; kind = kind; time = time }) first last
 Runs in_turns (Err (stop.CutFault stream kind time)) first last = RanToCutFault in_turns (record { stream = stream; kind = kind; time = time }) first last
 Runs in_turns (Err stop.Put) first last = RanToPutFault in_turns first last
-Runs in_turns (Err stop.Memory) first last = RanToCut in_turns first last
+Runs in_turns (Err stop.Memory) first last = RanOutOfMemory in_turns first last
 
 -- a whole run, with the deadlines at its last stamp: all verdicts were put
 pub record Through (in_turns : Bool) (first last : World) : Type 0 where
   pub came : CameTo in_turns first last
   pub begun : HaveBegun first.sources came.journal
+  pub trace : AreTraced first last came.journal
   pub out : last.out ≡ grown first.out (verdicts (setting_in first.kept) came.journal)
 
 -- a whole run without a fault, to the end of its sources
@@ -195,17 +214,27 @@ pub record EndedByFault (in_turns : Bool) (fault : RunFault) (first last : World
 pub record EndedByCutFault (in_turns : Bool) (fault : RunFault) (first last : World) : Type 0 where
   pub came : CameTo in_turns first last
   pub begun : HaveBegun first.sources came.journal
+  pub trace : AreTraced first last came.journal
   pub out : PutBroke first.out last.out (verdicts (setting_in first.kept) came.journal)
   pub is_fault : fault_in (setting_in first.kept) came.journal ≡ Some fault
   pub place : IsRowFault (setting_in first.kept) came.journal fault
+
+-- a whole run without a fault, where the verdicts of the deadlines at the last stamp were cut short
+pub record ThroughCut (in_turns : Bool) (first last : World) : Type 0 where
+  pub came : CameTo in_turns first last
+  pub begun : HaveBegun first.sources came.journal
+  pub no_fault : fault_in (setting_in first.kept) came.journal ≡ None
+  pub place : IsAtDeadline came.journal first last
+  pub trace : AreTraced first last came.journal
+  pub out : IsCutAtDeadline (setting_in first.kept) first.out last.out came.journal
 
 -- how a whole run ends, whose sources are read in turns or not
 abbrev pub EndsRun : Bool → Result (Unit {0}) Stop → World → World → Type 0
 EndsRun in_turns (Ok done) first last = ThroughWell in_turns first last
 EndsRun in_turns (Err (stop.Fault stream kind time)) first last = EndedByFault in_turns (record { stream = stream; kind = kind; time = time }) first last
 EndsRun in_turns (Err (stop.CutFault stream kind time)) first last = EndedByCutFault in_turns (record { stream = stream; kind = kind; time = time }) first last
-EndsRun in_turns (Err stop.Put) first last = RanToPutFault in_turns first last
-EndsRun in_turns (Err stop.Memory) first last = RanToCut in_turns first last
+EndsRun in_turns (Err stop.Put) first last = RanToPutFault in_turns first last ⊎ ThroughCut in_turns first last
+EndsRun in_turns (Err stop.Memory) first last = RanOutOfMemory in_turns first last
 
 -- workers of some sources before their first turn, of which that of source s reads the rows of source s of a plan
 pub record AreReady (plan : Plan) (workers : List Working) : Type 0 where

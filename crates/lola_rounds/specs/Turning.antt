@@ -1,11 +1,10 @@
 -- What a turn of a source does to a run, and what its turns so far come to.
 use Rattle.std.specs.Prelude.{ℕ, suc, ◌≡◌, ◌⊎◌, ◌+◌, ◌<◌, ◌≤◌, Bool, true, false, List, [], ◌∷◌, ◌++◌, Option, Some, None, IsSome, Result, Ok, Err, length, map, slice_get, slice_set}
-use Rattle.std.specs.Io.KnownBytes.{append_known}
 use Rattle.std.specs.Option.{option_to_list}
-use Rattle.lola_port.specs.States.{IsProperPart, Rose, grown}
+use Rattle.lola_port.specs.States.{PutBroke, Rose, grown}
 use Rattle.lola_model.specs.Journal.{rows_of}
 use Rattle.lola_model.specs.Faults.{RunFault}
-use Rattle.lola_model.specs.Trace.{trace_line, trace_text}
+use Rattle.lola_model.specs.Trace.{IsTraceable, trace_line, trace_text}
 use Rattle.lola_model.specs.declared.plan.Plan.{Plan}
 use Rattle.lola_model.specs.declared.journal.Row.{Row}
 use Rattle.lola_model.specs.declared.journal.Entry.{Entry}
@@ -17,7 +16,7 @@ use Rattle.lola_feed.specs.declared.worker.SourceEnd as worker
 use Rattle.lola_feed.specs.declared.worker.SourceEnd.TheVariants as end
 use Rattle.lola_feed.specs.declared.worker.Turn.{Turn}
 use Rattle.lola_feed.specs.declared.worker.Turn.TheVariants as turn
-use Rattle.lola_run.specs.Verdicts.{AreOfSources, most_rows, settled_text}
+use Rattle.lola_run.specs.Verdicts.{AreOfSources, AreTraceable, most_rows, settled_text}
 use Rattle.lola_run.specs.Running.{CutFaultNext, CutNext, FaultNext, IsAccepted, IsNext, IsRowFor, IsSetAs, Keeping, KeptNext, Stands, StandsNext, setting_in}
 use Rattle.lola_run.specs.declared.stop.Stop.{Stop}
 use Rattle.lola_run.specs.declared.stop.Stop.TheVariants as stop
@@ -105,6 +104,7 @@ pub record OnlySources (old new : World) : Type 0 where
 pub record Traced (s : ℕ) (entry : Entry) (old new : World) : Type 0 where
   pub took : TookRow old.kept.desk.plan s entry.row old.sources new.sources
   pub mark : IsNext old.kept entry
+  pub traceable : IsTraceable old.kept.desk.plan entry
   pub trace : new.trace ≡ grown old.trace (trace_line entry)
 
 -- one row was taken, traced, and run without a fault
@@ -133,19 +133,26 @@ pub record SawCutFault (fault : RunFault) (s : ℕ) (old new : World) : Type 0 w
   pub accepted : IsAccepted entry
   pub runs : (journal : List Entry) → Stands journal old.kept → CutFaultNext fault journal entry old.kept old.out new.out
 
--- a row was not traced whole, or there was no memory for it
+-- a row was taken, and its line was cut short
 pub record TraceCut (s : ℕ) (old new : World) : Type 0 where
-  pub touched : (new.sources ≡ old.sources) ⊎ ((at : Touched s old.sources new.sources) × IsSound at.new)
+  pub at : Touched s old.sources new.sources
+  pub sound : IsSound at.new
   pub entry : Entry
-  pub part : List ℕ
-  pub is_part : IsProperPart part (trace_line entry)
-  pub trace : new.trace.written ≡ append_known old.trace.written part
+  pub traceable : IsTraceable old.kept.desk.plan entry
+  pub trace : PutBroke old.trace new.trace (trace_line entry)
+  pub out : new.out ≡ old.out
+
+-- there was no memory for a row or its line
+pub record NotTraced (s : ℕ) (old new : World) : Type 0 where
+  pub touched : (new.sources ≡ old.sources) ⊎ ((at : Touched s old.sources new.sources) × IsSound at.new)
+  pub trace : new.trace ≡ old.trace
   pub out : new.out ≡ old.out
 
 -- a row was taken and traced, and its lines were cut short
 pub record OutCut (s : ℕ) (old new : World) : Type 0 where
   pub entry : Entry
   pub traced : Traced s entry old new
+  pub accepted : IsAccepted entry
   pub runs : (journal : List Entry) → Stands journal old.kept → CutNext journal entry old.kept old.out new.out
 
 -- a row was taken and traced, and its lines were not put
@@ -154,19 +161,14 @@ pub record OutKept (s : ℕ) (old new : World) : Type 0 where
   pub traced : Traced s entry old new
   pub runs : (journal : List Entry) → Stands journal old.kept → KeptNext journal entry old.kept old.out new.out
 
--- a put failed
-pub record SawPutFault (s : ℕ) (old new : World) : Type 0 where
-  pub cut : TraceCut s old new ⊎ OutCut s old new
-  pub rose : Rose old.out.count new.out.count ⊎ Rose old.trace.count new.trace.count
-
 -- one turn: whether a row was taken
 abbrev pub Steps : Result Bool Stop → ℕ → World → World → Type 0
 Steps (Ok true) s old new = Stepped s old new
 Steps (Ok false) s old new = Passed s old new
 Steps (Err (stop.Fault stream kind time)) s old new = SawFault (record { stream = stream; kind = kind; time = time }) s old new
 Steps (Err (stop.CutFault stream kind time)) s old new = SawCutFault (record { stream = stream; kind = kind; time = time }) s old new
-Steps (Err stop.Put) s old new = SawPutFault s old new
-Steps (Err stop.Memory) s old new = TraceCut s old new ⊎ OutKept s old new
+Steps (Err stop.Put) s old new = TraceCut s old new ⊎ OutCut s old new
+Steps (Err stop.Memory) s old new = NotTraced s old new ⊎ OutKept s old new
 
 -- a row that was taken was traced and run, or what kept it from that
 abbrev pub RunsTaken : Result (Unit {0}) Stop → ℕ → World → World → Type 0
@@ -194,6 +196,7 @@ pub record SoFar (first : World) (round turn : ℕ) (now : World) : Type 0 where
   pub stands : Stands journal now.kept
   pub drawn : Drawn first round turn now.sources journal
   pub setting : IsSetAs first.kept now.kept
+  pub traceable : AreTraceable first.kept.desk.plan journal
   pub trace : now.trace ≡ grown first.trace (trace_text journal)
   pub out : now.out ≡ grown first.out (settled_text (setting_in first.kept) journal)
 

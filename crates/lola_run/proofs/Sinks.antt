@@ -1,12 +1,8 @@
 -- What a sink received, one text after another.
-use Rattle.std.proofs.Common.{◌≡◌, ℕ, ◌<◌, ◌≤◌, List, [], ◌++◌, Option, None, Some, refl, sym, ap, ◌∙◌, subst, arith, append_assoc, length, decimal, length-append}
+use Rattle.std.proofs.Common.{◌≡◌, ℕ, ◌≤◌, List, [], ◌++◌, Option, None, Some, refl, sym, ap, ◌∙◌, subst, append_assoc}
 use Rattle.std.proofs.lemmas.List.{append-nil}
 use Rattle.std.specs.Io.KnownBytes.{append_known}
 use Rattle.lola_port.specs.States.{PutBroke, Rose, SinkState, grown}
-use Rattle.lola_model.specs.Trace.{trace_line, trace_text}
-use Rattle.lola_model.specs.declared.journal.Entry.{Entry}
-use Rattle.lola_model.specs.declared.journal.Mark.TheVariants as mark
-use Rattle.lola_run.specs.Verdicts.{HasLines}
 
 pub known_append : (known : Option (List ℕ)) (xs ys : List ℕ) → append_known (append_known known xs) ys ≡ append_known known (xs ++ ys)
 known_append None xs ys = refl
@@ -18,10 +14,6 @@ known_nil (Some zs) = ap Some (append-nil zs)
 
 pub grown_twice : (s : SinkState) (xs ys : List ℕ) → grown (grown s xs) ys ≡ grown s (xs ++ ys)
 grown_twice s xs ys = ap (λ (o : Option (List ℕ)). record { written = o; count = s.count }) (known_append s.written xs ys)
-
--- a trace line is never empty
-pub some_line : (entry : Entry) → 0 < length (trace_line entry)
-some_line entry = rw (length-append (decimal entry.row.source) _) (omega arith)
 
 pub grown_nil : (s : SinkState) → grown s [] ≡ s
 grown_nil s = ap (λ (o : Option (List ℕ)). record { written = o; count = s.count }) (known_nil s.written)
@@ -46,17 +38,4 @@ broke_behind s0 s1 s2 text more first broke = record {
   written = grown_part s0 s1 s2 text broke.part first broke.written;
   later = subst (λ n. n ≤ s2.count) (ap (λ (s : SinkState). s.count) first) broke.later;
   rose = subst (λ n. Rose n s2.count) (ap (λ (s : SinkState). s.count) first) broke.rose;
-}
-
--- some entry, of whose line nothing was put
-abbrev pub an_entry : Entry
-an_entry = record { row = record { source = 0; number = 0; stamp = 0; fields = [] }; mark = mark.Accepted }
-
--- whole lines, and no part of one more
-pub whole_lines : (old new : SinkState) (journal : List Entry) → new ≡ grown old (trace_text journal) → HasLines old new journal
-whole_lines old new journal is = record {
-  entry = an_entry;
-  part = [];
-  is_part = record { rest = trace_line an_entry; joined = refl; not_whole = some_line an_entry };
-  written = ap (λ s. s.written) is ∙ ap (append_known old.written) (sym (append-nil (trace_text journal)));
 }

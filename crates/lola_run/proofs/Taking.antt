@@ -111,7 +111,7 @@ takes_accepted (Err (stop.CutFault stream kind time)) row old new out0 out1 next
   tt,
   setting,
 )
-takes_accepted (Err stop.Put) row old new out0 out1 next setting ran = (cut_accepted row old new out0 out1 ran.0 ran.1 ran.2, ran.2.rose, setting)
+takes_accepted (Err stop.Put) row old new out0 out1 next setting ran = (cut_accepted row old new out0 out1 ran.0 ran.1 ran.2, tt, setting)
 takes_accepted (Err stop.Memory) row old new out0 out1 next setting ran = (kept_accepted row old new out0 out1 ran.0 ran.1 ran.2, setting)
 
 -- an engine stands for a journal with a late row
@@ -230,12 +230,9 @@ closed_and_put (Ok done) old new out0 out1 text finishes count late puts = λ jo
     record { fine = f.fine; lines = f.lines; completes = f.completes; out = puts ∙ ap (grown out0) f.text; accepted = count; late = late; steps = f.steps; counted = f.counted }
 closed_and_put (Err (stop.Fault stream kind time)) old new out0 out1 text finishes count late puts = absurd puts
 closed_and_put (Err (stop.CutFault stream kind time)) old new out0 out1 text finishes count late puts = absurd puts
-closed_and_put (Err stop.Put) old new out0 out1 text finishes count late puts = (
-  λ journal stands.
-      let f = finishes journal stands.engine in
-      record { lines = f.lines; completes = f.completes; out = subst (PutBroke out0 out1) f.text puts },
-  puts.rose,
-)
+closed_and_put (Err stop.Put) old new out0 out1 text finishes count late puts = λ journal stands.
+    let f = finishes journal stands.engine in
+    record { fine = f.fine; lines = f.lines; completes = f.completes; out = subst (PutBroke out0 out1) f.text puts }
 closed_and_put (Err stop.Memory) old new out0 out1 text finishes count late puts = puts
 
 -- the same from an empty text

@@ -2,7 +2,7 @@
 use Rattle.std.specs.Prelude.{ℕ, ◌≡◌, ◌⊎◌, ◌+◌, ◌^◌, ◌<◌, ◌≤◌, List, [], ◌∷◌, ◌++◌, None, Some, Result, Ok, Err, length}
 use Rattle.std.specs.List.{AllZip}
 use Rattle.lola_value.specs.Times.{latest}
-use Rattle.lola_port.specs.States.{SinkState, PutBroke, Rose, grown}
+use Rattle.lola_port.specs.States.{SinkState, PutBroke, grown}
 use Rattle.lola_port.specs.declared.traits.PutEnd.{PutEnd}
 use Rattle.lola_port.specs.declared.traits.PutEnd.TheVariants as put
 use Rattle.lola_model.specs.Journal.{IsLegal, IsRightlyMarked, accepted}
@@ -119,7 +119,7 @@ Takes (Err (stop.Fault stream kind time)) entry old new out0 out1 =
     ((journal : List Entry) → Stands journal old → FaultNext (record { stream = stream; kind = kind; time = time }) journal entry old out0 out1) × IsAccepted entry × IsSetAs old new
 Takes (Err (stop.CutFault stream kind time)) entry old new out0 out1 =
     ((journal : List Entry) → Stands journal old → CutFaultNext (record { stream = stream; kind = kind; time = time }) journal entry old out0 out1) × IsAccepted entry × IsSetAs old new
-Takes (Err stop.Put) entry old new out0 out1 = ((journal : List Entry) → Stands journal old → CutNext journal entry old out0 out1) × Rose out0.count out1.count × IsSetAs old new
+Takes (Err stop.Put) entry old new out0 out1 = ((journal : List Entry) → Stands journal old → CutNext journal entry old out0 out1) × IsAccepted entry × IsSetAs old new
 Takes (Err stop.Memory) entry old new out0 out1 = ((journal : List Entry) → Stands journal old → KeptNext journal entry old out0 out1) × IsSetAs old new
 
 -- what an engine of a run does with a row that is given an empty text
@@ -175,8 +175,9 @@ pub record ClosedByFault (fault : RunFault) (journal : List Entry) (old : Keepin
   pub completes : Completes old.desk journal []
   pub out : out1 ≡ out0
 
--- their lines were cut short
+-- their lines were cut short, and their step has no fault
 pub record CutClose (journal : List Entry) (old : Keeping) (out0 out1 : SinkState) : Type 0 where
+  pub fine : fault_in (setting_in old) journal ≡ None
   pub lines : List (List ℕ)
   pub completes : Completes old.desk journal lines
   pub out : PutBroke out0 out1 (text_of lines)
@@ -186,7 +187,7 @@ abbrev pub Closes : Result (Unit {0}) Stop → Keeping → Keeping → SinkState
 Closes (Ok done) old new out0 out1 = (journal : List Entry) → Stands journal old → Closed journal old new out0 out1
 Closes (Err (stop.Fault stream kind time)) old new out0 out1 = (journal : List Entry) → Stands journal old → ClosedByFault (record { stream = stream; kind = kind; time = time }) journal old out0 out1
 Closes (Err (stop.CutFault stream kind time)) old new out0 out1 = (journal : List Entry) → Stands journal old → ⊥
-Closes (Err stop.Put) old new out0 out1 = ((journal : List Entry) → Stands journal old → CutClose journal old out0 out1) × Rose out0.count out1.count
+Closes (Err stop.Put) old new out0 out1 = (journal : List Entry) → Stands journal old → CutClose journal old out0 out1
 Closes (Err stop.Memory) old new out0 out1 = out1 ≡ out0
 
 -- bytes were put to a sink

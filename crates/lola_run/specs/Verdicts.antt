@@ -1,11 +1,11 @@
 -- What a journal of rows comes to under a plan, and what of it a sink has.
-use Rattle.std.specs.Prelude.{ℕ, ◌≡◌, ◌+◌, ◌<◌, List, [], ◌∷◌, ◌++◌, Option, None, Some, All}
-use Rattle.std.specs.Io.KnownBytes.{append_known}
-use Rattle.lola_port.specs.States.{IsProperPart, SinkState}
+use Rattle.std.specs.Prelude.{ℕ, ◌≡◌, ◌+◌, ◌<◌, ◌≤◌, List, [], ◌∷◌, ◌++◌, Option, None, Some, All, length}
+use Rattle.std.specs.List.{AllByRecursion}
+use Rattle.lola_port.specs.States.{PutBroke, SinkState, grown}
 use Rattle.lola_model.specs.Faults.{RunFault}
 use Rattle.lola_model.specs.Runs.{final_lines, first_fault, settled_fault, settled_lines}
 use Rattle.lola_model.specs.Texts.{text_of}
-use Rattle.lola_model.specs.Trace.{trace_line, trace_text}
+use Rattle.lola_model.specs.Trace.{IsTraceable, trace_line, trace_text}
 use Rattle.lola_model.specs.declared.plan.Plan.{Plan}
 use Rattle.lola_model.specs.declared.journal.Row.{Row}
 use Rattle.lola_model.specs.declared.journal.Entry.{Entry}
@@ -54,20 +54,46 @@ pub record IsRowFault (s : Setting) (journal : List Entry) (fault : RunFault) : 
   pub none_before : settled_fault_in s front ≡ None
   pub settled : settled_fault_in s journal ≡ Some fault
 
--- the sink received the lines of a journal, and a proper part of one more
-pub record HasLines (old new : SinkState) (journal : List Entry) : Type 0 where
-  pub entry : Entry
-  pub part : List ℕ
-  pub is_part : IsProperPart part (trace_line entry)
-  pub written : new.written ≡ append_known old.written (trace_text journal ++ part)
-
--- the sink received a front of a text
-pub record HasFrontOf (old new : SinkState) (text : List ℕ) : Type 0 where
-  pub part : List ℕ
-  pub rest : List ℕ
-  pub joined : text ≡ part ++ rest
-  pub written : new.written ≡ append_known old.written part
-
 -- the settled verdicts of a journal
 abbrev pub settled_text : Setting → List Entry → List ℕ
 settled_text s journal = text_of (settled_lines s.plan s.start journal s.show)
+
+-- each entry is one that a line of the plan's trace can tell
+abbrev pub AreTraceable : Plan → List Entry → Type 0
+AreTraceable plan journal = AllByRecursion (IsTraceable plan) journal
+
+-- the sink received the lines of a journal and then, a put having failed, a proper part of the line of one more entry, which the
+-- plan's trace can tell
+pub record IsCutInLine (plan : Plan) (old new : SinkState) (journal : List Entry) : Type 0 where
+  pub entry : Entry
+  pub traceable : IsTraceable plan entry
+  pub cut : PutBroke (grown old (trace_text journal)) new (trace_line entry)
+
+-- the sink received the verdicts of all entries of a journal but the last and then, a put having failed, a proper part of those that
+-- the last brings, an accepted row
+pub record IsCutAtRow (s : Setting) (old new : SinkState) (journal : List Entry) : Type 0 where
+  pub front : List Entry
+  pub row : Row
+  pub whole : journal ≡ front ++ record { row = row; mark = mark.Accepted } ∷ []
+  pub brings : List ℕ
+  pub joined : settled_text s journal ≡ settled_text s front ++ brings
+  pub more : List ℕ
+  pub all : verdicts s journal ≡ settled_text s journal ++ more
+  pub cut : PutBroke (grown old (settled_text s front)) new brings
+
+-- the sink received all settled verdicts of a journal and then, a put having failed, a proper part of those of the deadlines at the
+-- last stamp
+pub record IsCutAtDeadline (s : Setting) (old new : SinkState) (journal : List Entry) : Type 0 where
+  pub brings : List ℕ
+  pub joined : verdicts s journal ≡ settled_text s journal ++ brings
+  pub cut : PutBroke (grown old (settled_text s journal)) new brings
+
+-- the sink received a front of the verdicts of a journal and nothing else: the settled ones of all entries, or of all but the last
+pub record HasFront (s : Setting) (old new : SinkState) (journal : List Entry) : Type 0 where
+  pub front : List Entry
+  pub last : List Entry
+  pub whole : journal ≡ front ++ last
+  pub few : length last ≤ 1
+  pub more : List ℕ
+  pub joined : verdicts s journal ≡ settled_text s front ++ more
+  pub put : new ≡ grown old (settled_text s front)

@@ -1,11 +1,11 @@
-//! Laws of what is put to a sink, and of runs that took no row. A law is a function that does nothing: what it ensures is the law,
-//! and its proof is proved with the crate.
+//! Laws of what is put to a sink, of the numbers of an entry, and of runs that took no row. A law is a function that does nothing: what
+//! it ensures is the law, and its proof is proved with the crate.
 
-ghost use Rattle.std.specs.Prelude.{◌≡◌, ℕ, List, [], ◌++◌, None};
+ghost use Rattle.std.specs.Prelude.{◌≡◌, ◌<◌, ◌^◌, ℕ, List, [], ◌++◌, None};
 ghost use Rattle.lola_port.specs.States.{SinkState, grown};
-ghost use Rattle.lola_model.specs.Trace.{trace_text};
-ghost use Rattle.lola_model.specs.declared.journal.Entry.{Entry};
-ghost use Rattle.lola_run.specs.Verdicts.{HasLines, Setting, fault_in, verdicts};
+ghost use Rattle.lola_run.specs.Verdicts.{Setting, fault_in, verdicts};
+
+use lola_model::journal::Entry;
 
 /// A text that is put in two parts is put as one, and to put nothing changes nothing.
 pub fn puts_add_up()
@@ -13,10 +13,14 @@ pub fn puts_add_up()
     ensures nothing { (sink : SinkState) → grown sink [] ≡ sink }
 {}
 
-/// A trace to which whole lines were put has these lines, and no part of one more.
-pub fn whole_lines_are_lines()
-    ensures { (old new : SinkState) (journal : List Entry) → new ≡ grown old (trace_text journal) → HasLines old new journal }
-{}
+/// The source and the number of an entry are in the ranges of their types.
+pub fn numbers_are_in_range(entry: &Entry)
+    ensures source { entry.now.row.source < 2 ^ 32 }
+    ensures number { entry.now.row.number < 2 ^ 64 }
+{
+    let _source = entry.row.source;
+    let _number = entry.row.number;
+}
 
 /// Where no row was taken there is no verdict and no fault.
 pub fn no_rows_have_no_verdicts()

@@ -1,11 +1,12 @@
 //! A run: marked rows are traced, accepted ones are run, and their verdicts put.
 ghost use Rattle.std.specs.Prelude.{◌≡◌, ◌+◌, ◌<◌, ◌≤◌, [], IfOk};
 ghost use Rattle.lola_model.specs.Acceptance.{IsAccepted};
-ghost use Rattle.lola_model.specs.Trace.{trace_line};
+ghost use Rattle.lola_model.specs.Trace.{IsTraceable, trace_line};
 ghost use Rattle.lola_engine.specs.Engines.{IsEngine, IsOptionInTime, StandsFor};
 ghost use Rattle.lola_bounded.specs.Stores.{bounded_remembers, bounded_seen};
 ghost use Rattle.lola_run.specs.Running.{Closes, HasRoom, IsGoing, IsNext, IsRowFor, IsSetAs, Puts, RunsAccepted, Stands, StopsAt, Takes, keeping, setting_at, setting_in};
 
+use crate::law::numbers_are_in_range;
 use crate::putting::{put_entry, put_text};
 use crate::stop::Stop;
 use lola_bounded::law::accepted_is_storable;
@@ -91,11 +92,13 @@ impl Run {
         })
     }
 
-    /// Puts the line of an entry to the trace.
+    /// Puts the line of an entry to the trace. An entry that the run takes is one that a line can tell.
     pub fn trace<T: Sink>(&mut self, entry: &Entry, trace: &mut T) -> Result<(), Stop>
         ensures puts { Puts result (trace_line entry.now) (T.state trace.old) (T.state trace.new) }
+        ensures told { IsGoing (keeping self.old) → IsRowFor (keeping self.old).desk.plan entry.now.row → IsNext (keeping self.old) entry.now → IsTraceable (keeping self.old).desk.plan entry.now }
         ensures kept { keeping self.new ≡ keeping self.old }
     {
+        numbers_are_in_range(entry);
         put_entry(entry, &mut self.line, trace)
     }
 

@@ -2,38 +2,36 @@
 use Rattle.std.proofs.Common.{◌≡◌, ℕ, ◌+◌, ◌<◌, List, [], ◌∷◌, ◌++◌, Option, None, Some, Result, Ok, Err, refl, sym, ap, ◌∙◌, inl, inr, ⊎_elim, arith, append_assoc, subst}
 use Rattle.std.proofs.lemmas.List.{append-nil}
 use Rattle.std.proofs.lemmas.List.Elements.{All-append, All-push}
-use Rattle.std.specs.Io.KnownBytes.{append_known}
-use Rattle.lola_port.specs.States.{IsProperPart, PutBroke, Rose, SinkState, grown}
+use Rattle.lola_port.specs.States.{PutBroke, SinkState, grown}
 use Rattle.lola_model.specs.Journal.{IsLegal, IsLegalFrom, IsRightlyMarked, opening_time}
 use Rattle.lola_model.specs.Faults.{RunFault}
 use Rattle.lola_model.specs.Texts.{text_of}
-use Rattle.lola_model.specs.Trace.{trace_line, trace_text}
+use Rattle.lola_model.specs.Trace.{IsTraceable, trace_line, trace_text}
 use Rattle.lola_model.specs.declared.journal.Entry.{Entry}
 use Rattle.lola_model.specs.declared.journal.Mark.{Mark}
 use Rattle.lola_model.specs.declared.journal.Mark.TheVariants as mark
 use Rattle.lola_model.proofs.Journals.{IsLegalFrom-append_left, IsLegalFrom-append_right, trace_text-append_one}
 use Rattle.lola_engine.specs.Engines.{Brings}
-use Rattle.lola_run.specs.Verdicts.{AreOfSources, IsRowFault, Setting, settled_fault_in, settled_text}
+use Rattle.lola_run.specs.Verdicts.{AreOfSources, AreTraceable, IsRowFault, Setting, settled_fault_in, settled_text}
 use Rattle.lola_run.specs.Running.{CutFaultNext, CutNext, FaultNext, HasRoom, IsAccepted, IsNext, IsSetAs, Keeping, KeptNext, Puts, StandsNext, Takes, setting_in}
 use Rattle.lola_run.specs.declared.stop.Stop.{Stop}
 use Rattle.lola_run.specs.declared.stop.Stop.TheVariants as stop
-use Rattle.lola_run.proofs.Entries.{BringsIn, accepted_is, front_of_all, no_part, text_more}
-use Rattle.lola_run.proofs.Sinks.{broke_behind, grown_part, known_nil, more_text, some_line}
+use Rattle.lola_run.proofs.Entries.{BringsIn, accepted_is, all_put, cut_at_row, last_not_put, text_more, told_more}
+use Rattle.lola_run.proofs.Sinks.{broke_behind, more_text}
 use Rattle.lola_run.proofs.Taking.{merged_is}
-use Rattle.lola_threads.specs.Takings.{HasFailed, HasRun, Halts, IsBroken, IsCut, IsCutAtFault, IsFit, IsStopped, IsUnderWay, Place, RunsOne, most_taken, place}
+use Rattle.lola_threads.specs.Takings.{HasFailed, HasRun, Halts, IsCutAtFault, IsCutInRow, IsFit, IsOutOfMemory, IsStopped, IsUnderWay, Place, RunsOne, StopsBy, most_taken, place}
 use Rattle.lola_threads.specs.declared.halt.Halt.{Halt}
 use Rattle.lola_threads.specs.declared.halt.Halt.TheVariants as halt
 
-module _ (first : Place) (journal : List Entry) (k0 : Keeping) (o0 t0 : SinkState) (so : HasRun first journal (place k0 o0 t0)) (entry : Entry) where
+module _ (first : Place) (journal : List Entry) (k0 : Keeping) (o0 t0 : SinkState) (so : HasRun first journal (place k0 o0 t0)) (entry : Entry) (told : IsTraceable k0.desk.plan entry) where
   fine_so_far : settled_fault_in (setting_in first.kept) journal ≡ None
   fine_so_far = ap (λ (s : Setting). settled_fault_in s journal) (sym so.setting) ∙ so.stands.engine.fine
 
-  -- an entry's line was not put whole
-  cut_in_line : (t1 : SinkState) (part : List ℕ) → IsProperPart part (trace_line entry) → t1.written ≡ append_known t0.written part → IsCut first journal (place k0 o0 t1)
-  cut_in_line t1 part is written = record {
-    trace = record { entry = entry; part = part; is_part = is; written = grown_part first.trace t0 t1 (trace_text journal) part so.trace written };
-    out = front_of_all (setting_in first.kept) journal first.out o0 (settled_text (setting_in first.kept) journal) [] (sym (append-nil _)) (ap (λ s. s.written) so.out);
-  }
+  told_first : IsTraceable first.kept.desk.plan entry
+  told_first = subst (λ (s : Setting). IsTraceable s.plan entry) so.setting told
+
+  all_told : AreTraceable first.kept.desk.plan (journal ++ entry ∷ [])
+  all_told = told_more first.kept.desk.plan journal entry so.traceable told_first
 
   pub not_traced : (t1 : SinkState) (how : Stop) → Puts (Err how) (trace_line entry) t0 t1 → RunsOne (Err how) first journal entry (place k0 o0 t1)
   not_traced t1 (stop.Fault stream kind time) puts = absurd puts
@@ -41,10 +39,17 @@ module _ (first : Place) (journal : List Entry) (k0 : Keeping) (o0 t0 : SinkStat
   not_traced t1 stop.Put puts = (
     journal,
     inl refl,
-    record { cut = cut_in_line t1 puts.part puts.is_part puts.written; no_fault = fine_so_far; rose = inr (subst (λ n. Rose n t1.count) (ap (λ s. s.count) so.trace) puts.rose) },
+    record {
+      traceable = so.traceable;
+      by = inl (record {
+        no_fault = fine_so_far;
+        trace = record { entry = entry; traceable = told_first; cut = subst (λ (t : SinkState). PutBroke t t1 (trace_line entry)) so.trace puts };
+        out = so.out;
+      });
+    },
   )
   not_traced t1 stop.Memory puts =
-      (journal, inl refl, cut_in_line t1 [] (record { rest = trace_line entry; joined = refl; not_whole = some_line entry }) (ap (λ s. s.written) puts ∙ sym (known_nil t0.written)))
+      (journal, inl refl, record { traceable = so.traceable; by = record { trace = puts ∙ so.trace; out = all_put (setting_in first.kept) journal first.out o0 so.out } })
 
   -- an entry's line was put, and it was given to the run
   module _ (k1 : Keeping) (o1 t1 : SinkState) (traced : t1 ≡ grown t0 (trace_line entry)) where
@@ -63,18 +68,8 @@ module _ (first : Place) (journal : List Entry) (k0 : Keeping) (o0 t0 : SinkStat
       settled = ap (λ (s : Setting). settled_fault_in s (journal ++ entry ∷ [])) (sym so.setting) ∙ is;
     }
 
-    -- this much of an entry's verdicts was put
-    cut_behind : (lines : List (List ℕ)) (part rest : List ℕ) → Brings k0.desk journal entry lines → text_of lines ≡ part ++ rest → o1.written ≡ append_known o0.written part
-        → IsCut first (journal ++ entry ∷ []) (place k1 o1 t1)
-    cut_behind lines part rest brings joined written = record {
-      trace = no_part first.trace t1 (journal ++ entry ∷ []) entry (some_line entry) trace_is;
-      out = front_of_all (setting_in first.kept) (journal ++ entry ∷ []) first.out o1 (settled_text (setting_in first.kept) journal ++ part) rest
-          (text_is lines brings ∙ ap (λ (l : List ℕ). settled_text (setting_in first.kept) journal ++ l) joined ∙ sym (append_assoc _ part rest))
-          (grown_part first.out o0 o1 _ part so.out written);
-    }
-
     ran : StandsNext journal entry k0 k1 o0 o1 → IsSetAs k0 k1 → HasRun first (journal ++ entry ∷ []) (place k1 o1 t1)
-    ran next setting = record { stands = next.stands; setting = setting ∙ so.setting; trace = trace_is; out = more_text _ _ _ _ _ _ so.out next.out (text_is next.lines next.brings) }
+    ran next setting = record { stands = next.stands; setting = setting ∙ so.setting; traceable = all_told; trace = trace_is; out = more_text _ _ _ _ _ _ so.out next.out (text_is next.lines next.brings) }
 
     failed : (fault : RunFault) → FaultNext fault journal entry k0 o0 o1 → IsAccepted entry → HasFailed fault first (journal ++ entry ∷ []) (place k1 o1 t1)
     failed fault bad accepted = record { stands = row_fault fault accepted bad.is_fault; trace = trace_is; out = more_text _ _ _ _ _ _ so.out bad.out (text_is bad.lines bad.brings) }
@@ -86,23 +81,25 @@ module _ (first : Place) (journal : List Entry) (k0 : Keeping) (o0 t0 : SinkStat
       out = subst (PutBroke first.out o1) (sym (text_is bad.lines bad.brings)) (broke_behind first.out o0 o1 (settled_text (setting_in first.kept) journal) (text_of bad.lines) so.out bad.out);
     }
 
-    broken : CutNext journal entry k0 o0 o1 → Rose o0.count o1.count → IsBroken first (journal ++ entry ∷ []) (place k1 o1 t1)
-    broken c rose = record {
-      cut = cut_behind c.lines c.out.part c.out.is_part.rest c.brings c.out.is_part.joined c.out.written;
+    broken : CutNext journal entry k0 o0 o1 → IsAccepted entry → IsCutInRow first (journal ++ entry ∷ []) (place k1 o1 t1)
+    broken c accepted = record {
       no_fault = ap (λ (s : Setting). settled_fault_in s (journal ++ entry ∷ [])) (sym so.setting) ∙ c.fine;
-      rose = inl (subst (λ n. Rose n o1.count) (ap (λ s. s.count) so.out) rose);
+      trace = trace_is;
+      out = cut_at_row (setting_in first.kept) journal entry (text_of c.lines) first.out o0 o1 accepted (text_is c.lines c.brings) so.out c.out;
     }
 
-    unput : KeptNext journal entry k0 o0 o1 → IsCut first (journal ++ entry ∷ []) (place k1 o1 t1)
-    unput c = cut_behind c.lines [] (text_of c.lines) c.brings refl (ap (λ s. s.written) c.out ∙ sym (known_nil o0.written))
+    unput : KeptNext journal entry k0 o0 o1 → IsOutOfMemory first (journal ++ entry ∷ []) (place k1 o1 t1)
+    unput c = record { trace = trace_is; out = last_not_put (setting_in first.kept) journal entry (text_of c.lines) first.out o1 (text_is c.lines c.brings) (c.out ∙ so.out) }
+
+    stopped : (how : Stop) → StopsBy how first (journal ++ entry ∷ []) (place k1 o1 t1) → RunsOne (Err how) first journal entry (place k1 o1 t1)
+    stopped how by = (journal ++ entry ∷ [], inr refl, record { traceable = all_told; by = by })
 
     pub ran_one : (result : Result (Unit {0}) Stop) → Takes result entry k0 k1 o0 o1 → RunsOne result first journal entry (place k1 o1 t1)
     ran_one (Ok done) takes = ran (takes.0 journal so.stands) takes.1
-    ran_one (Err (stop.Fault stream kind time)) takes = (journal ++ entry ∷ [], inr refl, failed (record { stream = stream; kind = kind; time = time }) (takes.0 journal so.stands) takes.1)
-    ran_one (Err (stop.CutFault stream kind time)) takes =
-        (journal ++ entry ∷ [], inr refl, failed_cut (record { stream = stream; kind = kind; time = time }) (takes.0 journal so.stands) takes.1)
-    ran_one (Err stop.Put) takes = (journal ++ entry ∷ [], inr refl, broken (takes.0 journal so.stands) takes.1)
-    ran_one (Err stop.Memory) takes = (journal ++ entry ∷ [], inr refl, unput (takes.0 journal so.stands))
+    ran_one (Err (stop.Fault stream kind time)) takes = stopped (stop.Fault stream kind time) (failed (record { stream = stream; kind = kind; time = time }) (takes.0 journal so.stands) takes.1)
+    ran_one (Err (stop.CutFault stream kind time)) takes = stopped (stop.CutFault stream kind time) (failed_cut (record { stream = stream; kind = kind; time = time }) (takes.0 journal so.stands) takes.1)
+    ran_one (Err stop.Put) takes = stopped stop.Put (inr (broken (takes.0 journal so.stands) takes.1))
+    ran_one (Err stop.Memory) takes = stopped stop.Memory (unput (takes.0 journal so.stands))
 
 -- one entry more, of one of so many sources
 of_sources_more : (count : ℕ) (journal : List Entry) (entry : Entry) → AreOfSources count journal → entry.row.source < count → AreOfSources count (journal ++ entry ∷ [])

@@ -1,24 +1,21 @@
 -- How a run ends, from how its rows came.
-use Rattle.std.proofs.Common.{◌≡◌, ℕ, true, false, List, [], Option, None, Some, Err, map, refl, sym, ap, ◌∙◌, arith}
-use Rattle.std.proofs.lemmas.List.{append-nil}
+use Rattle.std.proofs.Common.{◌≡◌, ◌⊎◌, ℕ, true, false, List, Option, None, Some, Err, map, refl, sym, ap, ◌∙◌, inl, inr, arith}
 use Rattle.std.proofs.lemmas.Option.{slice_get_within}
 use Rattle.std.specs.Prelude.{IsSome, slice_get}
-use Rattle.lola_port.specs.States.{SinkState}
 use Rattle.lola_model.specs.declared.journal.Row.{Row}
 use Rattle.lola_model.proofs.Growing.{slice_get_some}
 use Rattle.lola_feed.specs.Feeding.{Working}
 use Rattle.lola_feed.specs.declared.worker.SourceEnd as worker
 use Rattle.lola_feed.specs.declared.worker.SourceEnd.TheVariants as end
-use Rattle.lola_run.specs.Verdicts.{settled_text}
 use Rattle.lola_run.specs.Running.{setting_in}
 use Rattle.lola_run.specs.declared.stop.Stop.{Stop}
 use Rattle.lola_run.specs.declared.stop.Stop.TheVariants as stop
-use Rattle.lola_run.proofs.Sinks.{an_entry, some_line}
-use Rattle.lola_rounds.specs.Feeds.{HasEnded, RanToCut, RanToEnd, Runs, Supply, World, supply_of}
+use Rattle.lola_rounds.specs.Feeds.{CameTo, HasEnded, RanOutOfMemory, RanToEnd, RanToPutFault, Runs, Supply, World, supply_of}
 use Rattle.lola_rounds.proofs.Lists.{from_mapped}
-use Rattle.lola_run.proofs.Entries.{front_of_all, no_part}
-use Rattle.lola_threads.specs.Joining.{AllCame, IsOver, SomeCame}
+use Rattle.lola_run.proofs.Entries.{all_put}
+use Rattle.lola_threads.specs.Joining.{AllCame, IsOver, SomeCame, place_in}
 use Rattle.lola_threads.specs.Seated.{SomeOutOfMemory}
+use Rattle.lola_threads.specs.Takings.{IsCutInRow, IsCutInTrace}
 
 not_in_turns : {A : Type 0} → false ≡ true → A
 not_in_turns e = absurd (cc e)
@@ -48,7 +45,7 @@ module _ (first last : World) (all : AllCame first last) where
   -- no worker had too little memory
   pub all_ran : ((s : ℕ) (new : Supply) → slice_get last.sources s ≡ Some new → new.end ≡ Some end.Memory → ⊥) → RanToEnd false first last
   all_ran enough = record {
-    came = record { journal = all.journal; legal = all.legal; sources = all.sources; rounds = not_in_turns; trace = all.run.trace };
+    came = record { journal = all.journal; legal = all.legal; sources = all.sources; traceable = all.run.traceable; rounds = not_in_turns };
     setting = all.run.setting;
     fed = record {
       many = all.many;
@@ -59,57 +56,50 @@ module _ (first last : World) (all : AllCame first last) where
       };
     };
     ended = λ s new is. let old = before s new is in over_ended new.end old.0 new _ (all.each s old.0 new old.1 is).over;
+    trace = all.run.trace;
     out = all.run.out;
     stands = all.run.stands;
   }
 
   -- one had
-  pub all_cut : RanToCut false first last
+  pub all_cut : RanOutOfMemory false first last
   all_cut = record {
-    journal = all.journal;
-    legal = all.legal;
-    sources = all.sources;
+    came = record { journal = all.journal; legal = all.legal; sources = all.sources; traceable = all.run.traceable; rounds = not_in_turns };
     begun = λ s old was. let new = after s old was in (all.each s old new.0 was new.1).began;
-    rounds = not_in_turns;
-    trace = no_part first.trace last.trace all.journal an_entry (some_line an_entry) all.run.trace;
-    out = front_of_all (setting_in first.kept) all.journal first.out last.out (settled_text (setting_in first.kept) all.journal) [] (sym (append-nil _)) (ap (λ (s : SinkState). s.written) all.run.out);
+    trace = all.run.trace;
+    out = all_put (setting_in first.kept) all.journal first.out last.out all.run.out;
   }
 
--- the run was stopped
+-- where a run was stopped
+abbrev came_so : (how : Stop) (first last : World) → SomeCame how first last → CameTo false first last
+came_so how first last some = record { journal = some.journal; legal = some.legal; sources = some.sources; traceable = some.stops.traceable; rounds = not_in_turns }
+
+-- by a failed put
+cut_so : (first last : World) (some : SomeCame stop.Put first last) → IsCutInTrace (place_in first) some.journal (place_in last) ⊎ IsCutInRow (place_in first) some.journal (place_in last) → RanToPutFault false first last
+cut_so first last some (inl cut) = inl (record { came = came_so stop.Put first last some; begun = some.begun; no_fault = cut.no_fault; trace = cut.trace; out = cut.out })
+cut_so first last some (inr cut) = inr (record { came = came_so stop.Put first last some; begun = some.begun; no_fault = cut.no_fault; trace = cut.trace; out = cut.out })
+
 pub some_stopped : (how : Stop) (first last : World) → SomeCame how first last → Runs false (Err how) first last
 some_stopped (stop.Fault stream kind time) first last some = record {
-  came = record { journal = some.journal; legal = some.legal; sources = some.sources; rounds = not_in_turns; trace = some.stops.trace };
+  came = came_so (stop.Fault stream kind time) first last some;
   begun = some.begun;
-  out = some.stops.out;
-  stands = some.stops.stands;
+  trace = some.stops.by.trace;
+  out = some.stops.by.out;
+  stands = some.stops.by.stands;
 }
 some_stopped (stop.CutFault stream kind time) first last some = record {
-  came = record { journal = some.journal; legal = some.legal; sources = some.sources; rounds = not_in_turns; trace = some.stops.trace };
+  came = came_so (stop.CutFault stream kind time) first last some;
   begun = some.begun;
-  out = some.stops.out;
-  stands = some.stops.stands;
+  trace = some.stops.by.trace;
+  out = some.stops.by.out;
+  stands = some.stops.by.stands;
 }
-some_stopped stop.Put first last some = record {
-  cut = record {
-    journal = some.journal;
-    legal = some.legal;
-    sources = some.sources;
-    begun = some.begun;
-    rounds = not_in_turns;
-    trace = some.stops.cut.trace;
-    out = some.stops.cut.out;
-  };
-  no_fault = some.stops.no_fault;
-  rose = some.stops.rose;
-}
+some_stopped stop.Put first last some = cut_so first last some some.stops.by
 some_stopped stop.Memory first last some = record {
-  journal = some.journal;
-  legal = some.legal;
-  sources = some.sources;
+  came = came_so stop.Memory first last some;
   begun = some.begun;
-  rounds = not_in_turns;
-  trace = some.stops.trace;
-  out = some.stops.out;
+  trace = some.stops.by.trace;
+  out = some.stops.by.out;
 }
 
 -- none of these workers had too little memory
@@ -118,14 +108,11 @@ none_ended_so workers none s new is ended =
     let w = from_mapped supply_of workers s new is in
     none (record { at = s; worker = w.0; is = w.1.0; end = sym (ap (λ (x : Supply). x.end) w.1.1) ∙ ended })
 
--- a run in turns that was cut short is one of which no more is promised
-pub no_turns : (first last : World) → RanToCut true first last → RanToCut false first last
-no_turns first last cut = record {
-  journal = cut.journal;
-  legal = cut.legal;
-  sources = cut.sources;
-  begun = cut.begun;
-  rounds = not_in_turns;
-  trace = cut.trace;
-  out = cut.out;
+-- a run in turns for which there was no memory is one of whose turns nothing is promised
+pub no_turns : (first last : World) → RanOutOfMemory true first last → RanOutOfMemory false first last
+no_turns first last ran = record {
+  came = record { journal = ran.came.journal; legal = ran.came.legal; sources = ran.came.sources; traceable = ran.came.traceable; rounds = not_in_turns };
+  begun = ran.begun;
+  trace = ran.trace;
+  out = ran.out;
 }

@@ -31,6 +31,7 @@ pub not_yet_run : (kept : Keeping) (out trace : SinkState) → Stands [] kept �
 not_yet_run kept out trace stands = record {
   stands = stands;
   setting = refl;
+  traceable = tt;
   trace = sym (grown_nil trace);
   out = sym (grown_nil out) ∙ ap (grown out) (sym (nothing_settled (setting_in kept)));
 }

@@ -1,6 +1,6 @@
 -- What the engine's thread takes out of an intake, and what becomes of it.
 use Rattle.std.specs.Prelude.{◌≡◌, ◌⊎◌, ◌+◌, ◌<◌, ◌^◌, ℕ, Bool, List, [], ◌∷◌, ◌++◌, None, Result, Ok, Err}
-use Rattle.lola_port.specs.States.{PutBroke, Rose, SinkState, grown}
+use Rattle.lola_port.specs.States.{PutBroke, SinkState, grown}
 use Rattle.atomic_table.specs.Seated.{TableId}
 use Rattle.lola_value.specs.declared.value.Kind.{Kind}
 use Rattle.lola_model.specs.Faults.{RunFault}
@@ -8,7 +8,7 @@ use Rattle.lola_model.specs.Journal.{IsLegal}
 use Rattle.lola_model.specs.Trace.{input_kinds, trace_text}
 use Rattle.lola_model.specs.declared.journal.Entry.{Entry}
 use Rattle.lola_intake.specs.Intakes.{Shown}
-use Rattle.lola_run.specs.Verdicts.{AreOfSources, HasFrontOf, HasLines, IsRowFault, settled_fault_in, settled_text, verdicts}
+use Rattle.lola_run.specs.Verdicts.{AreOfSources, AreTraceable, HasFront, IsCutAtRow, IsCutInLine, IsRowFault, settled_fault_in, settled_text}
 use Rattle.lola_run.specs.Running.{IsRowFor, IsSetAs, Keeping, Stands, setting_in}
 use Rattle.lola_run.specs.declared.stop.Stop.{Stop}
 use Rattle.lola_run.specs.declared.stop.Stop.TheVariants as stop
@@ -28,6 +28,7 @@ place kept out trace = record { kept = kept; out = out; trace = trace }
 pub record HasRun (first : Place) (journal : List Entry) (now : Place) : Type 0 where
   pub stands : Stands journal now.kept
   pub setting : IsSetAs first.kept now.kept
+  pub traceable : AreTraceable first.kept.desk.plan journal
   pub trace : now.trace ≡ grown first.trace (trace_text journal)
   pub out : now.out ≡ grown first.out (settled_text (setting_in first.kept) journal)
 
@@ -43,23 +44,34 @@ pub record IsCutAtFault (fault : RunFault) (first : Place) (journal : List Entry
   pub trace : now.trace ≡ grown first.trace (trace_text journal)
   pub out : PutBroke first.out now.out (settled_text (setting_in first.kept) journal)
 
--- their lines were cut short: a part of one more trace line, and a front of their verdicts were put
-pub record IsCut (first : Place) (journal : List Entry) (now : Place) : Type 0 where
-  pub trace : HasLines first.trace now.trace journal
-  pub out : HasFrontOf first.out now.out (verdicts (setting_in first.kept) journal)
-
--- a failed put cut them short, and no settled step of them has a fault
-pub record IsBroken (first : Place) (journal : List Entry) (now : Place) : Type 0 where
-  pub cut : IsCut first journal now
+-- the line of one entry more was cut short: the verdicts of all of them were put, and none has a fault
+pub record IsCutInTrace (first : Place) (journal : List Entry) (now : Place) : Type 0 where
   pub no_fault : settled_fault_in (setting_in first.kept) journal ≡ None
-  pub rose : Rose first.out.count now.out.count ⊎ Rose first.trace.count now.trace.count
+  pub trace : IsCutInLine first.kept.desk.plan first.trace now.trace journal
+  pub out : now.out ≡ grown first.out (settled_text (setting_in first.kept) journal)
+
+-- the verdicts of the last of them were cut short, and none has a fault
+pub record IsCutInRow (first : Place) (journal : List Entry) (now : Place) : Type 0 where
+  pub no_fault : settled_fault_in (setting_in first.kept) journal ≡ None
+  pub trace : now.trace ≡ grown first.trace (trace_text journal)
+  pub out : IsCutAtRow (setting_in first.kept) first.out now.out journal
+
+-- there was no memory: they were traced, and a front of their verdicts was put
+pub record IsOutOfMemory (first : Place) (journal : List Entry) (now : Place) : Type 0 where
+  pub trace : now.trace ≡ grown first.trace (trace_text journal)
+  pub out : HasFront (setting_in first.kept) first.out now.out journal
+
+-- what stopped a run at a journal, and what was put
+abbrev pub StopsBy : Stop → Place → List Entry → Place → Type 0
+StopsBy (stop.Fault stream kind time) first journal now = HasFailed (record { stream = stream; kind = kind; time = time }) first journal now
+StopsBy (stop.CutFault stream kind time) first journal now = IsCutAtFault (record { stream = stream; kind = kind; time = time }) first journal now
+StopsBy stop.Put first journal now = IsCutInTrace first journal now ⊎ IsCutInRow first journal now
+StopsBy stop.Memory first journal now = IsOutOfMemory first journal now
 
 -- how a run is stopped at a journal
-abbrev pub StopsAt : Stop → Place → List Entry → Place → Type 0
-StopsAt (stop.Fault stream kind time) first journal now = HasFailed (record { stream = stream; kind = kind; time = time }) first journal now
-StopsAt (stop.CutFault stream kind time) first journal now = IsCutAtFault (record { stream = stream; kind = kind; time = time }) first journal now
-StopsAt stop.Put first journal now = IsBroken first journal now
-StopsAt stop.Memory first journal now = IsCut first journal now
+pub record StopsAt (how : Stop) (first : Place) (journal : List Entry) (now : Place) : Type 0 where
+  pub traceable : AreTraceable first.kept.desk.plan journal
+  pub by : StopsBy how first journal now
 
 -- an entry behind a journal was traced and run, or what stopped the run at it
 abbrev pub RunsOne : Result (Unit {0}) Stop → Place → List Entry → Entry → Place → Type 0

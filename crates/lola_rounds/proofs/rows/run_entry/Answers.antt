@@ -12,7 +12,7 @@ returns-in-Err-clause-runs g c = λ s olds news took.
     let after = g.T.Sink.state c.trace.new.trace in
     let kept = keeping c.args.run.now in
     subst (λ (k : Keeping). Steps (Err c.in-Err.stop) s (world kept olds out trace) (world k news out after)) (sym c.trace.ensures.kept)
-    (not_traced kept out trace c.args.entry.now c.requires.mark s olds news took after c.in-Err.stop c.in-Err.ensures.puts)
+    (not_traced kept out trace c.args.entry.now c.requires.mark (c.trace.ensures.told c.requires.standing.1.going c.requires.fits c.requires.mark) s olds news took after c.in-Err.stop c.in-Err.ensures.puts)
 
 pub returns-clause-runs : goal.returns-clause-runs
 returns-clause-runs g c = λ s olds news took.
@@ -21,7 +21,7 @@ returns-clause-runs g c = λ s olds news took.
     let new = g.K.Sink.state c.take.new.out in
     let after = g.T.Sink.state c.trace.new.trace in
     let kept = keeping c.args.run.now in
-    stepped kept out trace c.args.entry.now c.requires.mark s olds news took (keeping c.take.new.self) new after c.in_default.ensures.puts c.take.result
+    stepped kept out trace c.args.entry.now c.requires.mark (c.trace.ensures.told c.requires.standing.1.going c.requires.fits c.requires.mark) s olds news took (keeping c.take.new.self) new after c.in_default.ensures.puts c.take.result
     (subst (λ (k : Keeping). Takes c.take.result c.args.entry.now k (keeping c.take.new.self) out new) c.trace.ensures.kept c.take.ensures.takes)
 
 pub returns-clause-merged : goal.returns-clause-merged

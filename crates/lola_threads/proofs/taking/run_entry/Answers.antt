@@ -11,7 +11,7 @@ returns-in-Err-clause-runs g c = λ first journal so.
     let after = g.T.Sink.state c.trace.new.trace in
     let kept = keeping c.args.run.now in
     subst (λ (k : Keeping). RunsOne (Err c.in-Err.stop) first journal c.args.entry.now (place k out after)) (sym c.trace.ensures.kept)
-    (not_traced first journal kept out trace so c.args.entry.now after c.in-Err.stop c.in-Err.ensures.puts)
+    (not_traced first journal kept out trace so c.args.entry.now (c.trace.ensures.told c.requires.going c.requires.fits c.requires.mark) after c.in-Err.stop c.in-Err.ensures.puts)
 
 pub returns-clause-runs : goal.returns-clause-runs
 returns-clause-runs g c = λ first journal so.
@@ -20,5 +20,5 @@ returns-clause-runs g c = λ first journal so.
     let new = g.K.Sink.state c.take.new.out in
     let after = g.T.Sink.state c.trace.new.trace in
     let kept = keeping c.args.run.now in
-    ran_one first journal kept out trace so c.args.entry.now (keeping c.take.new.self) new after c.in_default.ensures.puts c.take.result
+    ran_one first journal kept out trace so c.args.entry.now (c.trace.ensures.told c.requires.going c.requires.fits c.requires.mark) (keeping c.take.new.self) new after c.in_default.ensures.puts c.take.result
     (subst (λ (k : Keeping). Takes c.take.result c.args.entry.now k (keeping c.take.new.self) out new) c.trace.ensures.kept c.take.ensures.takes)
