@@ -104,7 +104,7 @@ fn work<R: Threads + Wait + Sync, F: Shelf, K: Sink, T: Sink, G: Gate + Sync>(
 /// `words` are the words of a command line, as `lola_command` reads them. The specification, and then each source in the order of
 /// the words, is fetched from `shelf`; all are given back. Verdicts and the end line are put to `out`, the trace to `trace`. An
 /// analysis puts its report and end line to `out`, and nothing to `trace`. Where more than one worker is asked for, the instances
-/// of a layer are evaluated by as many threads, started through `rt`, which call the gate; how many there are changes nothing
+/// of a layer are evaluated by at most as many threads, started through `rt`, which call the gate; how many there are changes nothing
 /// that is written. A drill runs two made-up sources in turns under a specification of its own; it asks the shelf for nothing, and
 /// puts its end line to `out` and nothing else.
 ///
