@@ -29,9 +29,9 @@ def test_stacks(checks: Checks) -> None:
     place = len(INPUT + "output b: Int64 := ") + 512
     for kibibytes in KIBIBYTES:
         for what, (expression, value) in DEEP.items():
-            spec = write("deep.lola", f"{INPUT}output b: Int64 := {expression}\n")
-            end = f"0.000000000 b = {value}\n= done accepted 1 late 0 steps 1 lines 1\n"
-            for way in ([], ["--in-turns"]):
+            spec = write("deep.lola", INPUT + "".join(f"output {name}: Int64 := {expression}\n" for name in "bc"))
+            end = f"0.000000000 b = {value}\n0.000000000 c = {value}\n= done accepted 1 late 0 steps 1 lines 2\n"
+            for way in ([], ["--in-turns"], ["--workers", "2"]):
                 came = run_small(kibibytes, "run", "--show", "outputs", *way, spec, row)
                 expect(checks, f"{what} in {kibibytes} KiB {way}", came, 0, end, "0,1,0.000000000,A,0\n")
         expect(checks, f"a megabyte of brackets in {kibibytes} KiB", run_small(kibibytes, "analyse", unclosed), 3, f"= refused E4 TooDeep at {place}\n")
