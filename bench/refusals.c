@@ -1,7 +1,7 @@
 /* Refuses one call of a program: a library to be preloaded, which bench/refusals builds.
  *
  * REFUSE_COUNTS  a file of one number of eight bytes for each sort, into which the calls are counted
- * REFUSE_SORT    memory, read, write, open or thread; without it no call is refused, and all are counted
+ * REFUSE_SORT    memory, read, write, open, thread or random; without it no call is refused, and all are counted
  * REFUSE_NUMBER  which call of this sort is refused, from 1
  * REFUSE_ERROR   what `errno` is set to
  * REFUSE_PART    set: a read or write is not refused, and moves one byte alone
@@ -23,9 +23,9 @@
 #include <sys/uio.h>
 #include <unistd.h>
 
-enum { MEMORY, READ, WRITE, OPEN, THREAD, SORTS };
+enum { MEMORY, READ, WRITE, OPEN, THREAD, RANDOM, SORTS };
 
-static const char *const names[SORTS] = {"memory", "read", "write", "open", "thread"};
+static const char *const names[SORTS] = {"memory", "read", "write", "open", "thread", "random"};
 static _Atomic unsigned long *counts;
 static unsigned long refused_number;
 static int refused_sort = SORTS, refused_error, in_part;
@@ -131,6 +131,11 @@ int open(const char *name, int flags, ...)
     int mode = va_arg(rest, int);
     va_end(rest);
     return openat(AT_FDCWD, name, flags, mode);
+}
+
+int getentropy(void *bytes, size_t size)
+{
+    return !is_refused(RANDOM) && syscall(SYS_getrandom, bytes, size, 0) == (ssize_t)size ? 0 : -1;
 }
 
 int pthread_create(pthread_t *thread, const pthread_attr_t *how, void *(*body)(void *), void *value)

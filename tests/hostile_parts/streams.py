@@ -1,8 +1,11 @@
-"""Devices, folders, readers that have gone, and descriptors that are closed."""
+"""Devices, folders, readers that have gone or are slow, and descriptors that are closed or do not block."""
 from __future__ import annotations
 
+import fcntl
 import os
 import subprocess
+import threading
+import time
 
 from hostile_parts.runs import Came, expect, remove, run
 from terminal_parts.harness import LOLAMON, LONGEST_RUN, Checks, write
@@ -10,6 +13,7 @@ from terminal_parts.harness import LOLAMON, LONGEST_RUN, Checks, write
 SPEC = 'input a: Int64\noutput b: Int64 := a + 1\ntrigger b > 2 "high"\n'
 TRACE = "0,1,0.000000000,A,1\n0,2,1.000000000,A,2\n"
 VERDICTS = '1.000000000 trigger_1 "high"\n= done accepted 2 late 0 steps 2 lines 1\n'
+PAGE = 4096  # bytes, the least that a pipe has room for
 ENDS = {  # commands whose status is none of a write, and stays where the end line cannot be written
     2: ["run", "sum.lola"],
     3: ["run", "unknown.lola", "good.csv"],
@@ -91,6 +95,88 @@ def test_a_reader_that_goes_away(checks: Checks) -> None:
             rest = file.read()
         fronts = whole[read].encode().startswith(came), whole[other].encode().startswith(rest)
         checks.same(f"a reader of {read} that goes away", (7, (True, True), 2000), (status, fronts, len(came)))
+
+
+class SlowReader:
+    """A pipe of one page whose writing end does not block, and a reader that sleeps at first and then between its reads, so that the pipe is full."""
+
+    def __init__(self, first_sleep: float) -> None:
+        self.reading, self.writing = os.pipe()
+        os.set_blocking(self.writing, False)
+        fcntl.fcntl(self.writing, fcntl.F_SETPIPE_SZ, PAGE)
+        self.first_sleep = first_sleep
+        self.came = b""
+        self.thread = threading.Thread(target=self.read)
+        self.thread.start()
+
+    def read(self) -> None:
+        time.sleep(self.first_sleep)
+        while piece := os.read(self.reading, PAGE):
+            self.came += piece
+            time.sleep(0.001)
+
+    def end(self) -> bytes:
+        """All that came, once the caller's writing end was the last one."""
+        os.close(self.writing)
+        self.thread.join(LONGEST_RUN)
+        os.close(self.reading)
+        return self.came
+
+
+def test_pipes_that_do_not_block(checks: Checks) -> None:
+    """A writer of a full pipe is told to come again, where another program has set that: all bytes arrive all the same."""
+    rows = 2000
+    words = ["run", "--show", "outputs", write("each.lola", "input a: Int64\noutput b: Int64 := a\n"),
+             write("many.csv", "time,a\n" + "".join(f"{n},1\n" for n in range(rows)))]
+    out = "".join(f"{n}.000000000 b = 1\n" for n in range(rows)) + f"= done accepted {rows} late 0 steps {rows} lines {rows}\n"
+    trace = "".join(f"0,{n + 1},{n}.000000000,A,1\n" for n in range(rows))
+    for way in ([], ["--in-turns"]):
+        readers = SlowReader(0.2), SlowReader(0.1)
+        came = run(*words[:1], *way, *words[1:], stdout=readers[0].writing, stderr=readers[1].writing)
+        texts = [reader.end() for reader in readers]
+        expect(checks, f"both pipes {way}", came._replace(out=texts[0], trace=texts[1]), 0, out, trace)
+    reader = SlowReader(0.2)
+    came = run(*words, stdout=reader.writing, stderr=reader.writing)
+    text = reader.end()
+    lines = text.decode().splitlines(True)
+    checks.same("one pipe for both", (0, out, trace), (came.status, "".join(line for line in lines if "," not in line),
+                                                       "".join(line for line in lines if "," in line)))
+
+
+def test_a_reader_of_a_full_pipe_goes_away(checks: Checks) -> None:
+    """Nothing is waited for any more once nobody can read it."""
+    good = write_files()
+    for stream, out, trace in (("stdout", "", TRACE), ("stderr", "", "")):
+        reading, writing = os.pipe()
+        os.set_blocking(writing, False)
+        os.write(writing, b"x" * fcntl.fcntl(writing, fcntl.F_GETPIPE_SZ))
+        begun = time.monotonic()
+        gone = threading.Timer(0.1, os.close, [reading])
+        gone.start()
+        expect(checks, f"the reader of {stream} goes away", run(*good, **{stream: writing}), 7, out, trace)
+        checks.same(f"{stream} was waited for until then", True, time.monotonic() - begun >= 0.1)
+        gone.join()
+        os.close(writing)
+
+
+def test_a_source_that_does_not_block(checks: Checks) -> None:
+    """The reading end of standard input does not block; `/dev/stdin` is opened anew, and its reads wait for the bytes."""
+    good = write_files()
+    reading, writing = os.pipe()
+    os.set_blocking(reading, False)
+
+    def feed() -> None:
+        for piece in (b"time,a\n0", b",1\n1,", b"2\n"):
+            time.sleep(0.05)
+            os.write(writing, piece)
+        os.close(writing)
+
+    feeding = threading.Thread(target=feed)
+    feeding.start()
+    came = run(*good[:2], "/dev/stdin", stdin=reading)
+    feeding.join()
+    os.close(reading)
+    expect(checks, "a pipe that does not block as a source", came, 0, VERDICTS, TRACE)
 
 
 def closing(words: list[str], *places: int) -> Came:

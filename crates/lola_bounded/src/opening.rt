@@ -22,6 +22,7 @@ use lola_value::rate::Rate;
 use lola_value::text::Memory;
 use lola_value::value::Kind;
 use std::alloc::Global;
+use std::hash::RandomState;
 
 /// The same windows.
 fn copy_windows(alloc: Global, windows: &Windows) -> Result<Windows, Memory>
@@ -188,6 +189,7 @@ fn places_of(alloc: Global, windows: &[WindowSpec]) -> Result<Vec<usize>, Memory
 /// A stream of a new store.
 fn open(
     alloc: Global,
+    hasher: RandomState,
     number: usize,
     stream: &Stream,
     kept: u32,
@@ -206,6 +208,7 @@ fn open(
     let onto = windows_onto(alloc, number, kind, windows, sizes)?;
     Instances::create(
         alloc,
+        hasher,
         kind,
         parameters,
         has_spawn(stream),
@@ -218,6 +221,7 @@ fn open(
 /// The streams of a new store.
 fn open_all(
     alloc: Global,
+    hasher: RandomState,
     streams: &[Stream],
     kept: &[u32],
     pacings: &[ClausePacings],
@@ -233,7 +237,16 @@ fn open_all(
     let mut made = Vec::new(alloc);
     for (i, stream) in streams.iter().enumerate() {
         let locals = locals_at(alloc, pacings, i)?;
-        let lives = open(alloc, i, stream, kept_at(kept, i), locals, windows, sizes)?;
+        let lives = open(
+            alloc,
+            hasher,
+            i,
+            stream,
+            kept_at(kept, i),
+            locals,
+            windows,
+            sizes,
+        )?;
         made.push(lives)?;
     }
     Ok(made)
@@ -241,8 +254,9 @@ fn open_all(
 
 impl BoundedStore {
     /// A new store for the streams and windows of a plan, with all the memory that instances without a spawn clause will
-    /// ever take. It remembers that no instance has a value yet.
-    pub fn create(alloc: Global, plan: &Plan) -> Result<BoundedStore, Memory>
+    /// ever take. It remembers that no instance has a value yet. Instances are looked up by their parameters under the keys of `hasher`,
+    /// so that nobody who does not know them can choose parameters that collide.
+    pub fn create(alloc: Global, hasher: RandomState, plan: &Plan) -> Result<BoundedStore, Memory>
         requires { IsStorable plan.now }
         ensures seen { IfOk result (λ s. bounded_seen s ≡ new_seen (layout_of plan.now)) }
         ensures past { IfOk result (λ s. (names : Naming) (n i : ℕ) → i < length (instances_seen (bounded_seen s) n) → bounded_remembers s names n i []) }
@@ -252,6 +266,7 @@ impl BoundedStore {
         let places = places_of(alloc, plan.spec.windows.as_slice())?;
         let streams = open_all(
             alloc,
+            hasher,
             plan.spec.streams.as_slice(),
             plan.kept.as_slice(),
             plan.pacings.as_slice(),

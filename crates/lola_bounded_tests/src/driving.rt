@@ -17,6 +17,7 @@ use lola_rows::laws::rows_fit;
 use lola_rows::{RowAnswer, RowReader};
 use lola_store::store::WholeStore;
 use lola_sweep::store::TextStore;
+use lola_text::keys::fixed_keys;
 use lola_value::text::{Memory, Text};
 use std::alloc::Global;
 use std::thread::Threads;
@@ -66,8 +67,9 @@ pub(crate) fn bounded_engine(alloc: Global, plan: Plan) -> Result<Engine<Bounded
     ensures fresh { IfOk result (λ engine. (engine.desk.merged ≡ 0) × (engine.desk.rows ≡ 0)) }
 {
     lola_bounded::law::accepted_is_storable(&plan);
-    let store = BoundedStore::create(alloc, &plan)?;
-    Engine::create(alloc, plan, store, None, Show::Outputs, 1)
+    let hasher = fixed_keys()?;
+    let store = BoundedStore::create(alloc, hasher, &plan)?;
+    Engine::create(alloc, hasher, plan, store, None, Show::Outputs, 1)
 }
 
 /// An engine that keeps all values, and shows outputs.
@@ -79,7 +81,7 @@ pub(crate) fn whole_engine(alloc: Global, plan: Plan) -> Result<Engine<WholeStor
 {
     lola_store::law::accepted_is_storable(&plan);
     let store = WholeStore::create(alloc, &plan)?;
-    Engine::create(alloc, plan, store, None, Show::Outputs, 1)
+    Engine::create(alloc, fixed_keys()?, plan, store, None, Show::Outputs, 1)
 }
 
 /// Gives an engine all rows of a reader that are not late, and the end, and answers how it ended.

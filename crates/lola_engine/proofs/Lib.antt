@@ -13,3 +13,4 @@ pub mod Joining
 pub mod Ranges
 pub mod Opening
 pub mod Sweeping
+pub mod RunsBegun

@@ -50,6 +50,7 @@ use lola_value::rate::Rate;
 use lola_value::text::{Memory, Text};
 use lola_value::value::Outcome;
 use std::alloc::Global;
+use std::hash::RandomState;
 use std::thread::Threads;
 
 /// All of an engine but its store: the plan, the start if one was given, what is shown, how many workers evaluate instances, the clock of
@@ -130,7 +131,7 @@ fn some_of_birth(pacings: &[ClausePacings]) -> bool
 
 /// A table with the texts of a plan's literals, each with the number of its place. Numbers of literals have 32 bits: a plan with more
 /// texts is answered with `Memory`.
-fn new_texts(alloc: Global, plan: &Plan) -> Result<TextTable, Memory>
+fn new_texts(alloc: Global, hasher: RandomState, plan: &Plan) -> Result<TextTable, Memory>
     requires { IsTrue (are_distinct plan.now.spec.texts) }
     ensures texts { IfOk result (λ texts. HasTexts texts.held plan.now.spec.texts) }
     ensures exact { IfOk result (λ texts. texts.held ≡ numbered 0 plan.now.spec.texts) }
@@ -140,7 +141,7 @@ fn new_texts(alloc: Global, plan: &Plan) -> Result<TextTable, Memory>
     if plan.spec.texts.as_slice().len() > u32::MAX as usize {
         return Err(Memory);
     }
-    let mut texts = TextTable::create(alloc);
+    let mut texts = TextTable::create(alloc, hasher);
     name_literals(plan, &mut texts)?;
     Ok(texts)
 }
@@ -148,6 +149,7 @@ fn new_texts(alloc: Global, plan: &Plan) -> Result<TextTable, Memory>
 /// All of a new engine but its store, which is new too.
 fn new_desk(
     alloc: Global,
+    hasher: RandomState,
     plan: Plan,
     option: Option<u64>,
     show: Show,
@@ -161,7 +163,7 @@ fn new_desk(
     let clock = Clock::create(alloc, rates.as_slice())?;
     let local = some_of_birth(plan.pacings.as_slice());
     let scratch = Scratch::create(alloc, &plan)?;
-    let texts = new_texts(alloc, &plan)?;
+    let texts = new_texts(alloc, hasher, &plan)?;
     let swept = texts.len();
     Ok(Desk {
         alloc,
@@ -486,9 +488,11 @@ fn run_last<R: Threads + Sync, S: StreamStore + Sync, G: Gate + Sync>(
 
 impl<S: TextStore + Sync> Engine<S> {
     /// An engine for a plan, over a new store of it, that has run nothing. Where a start is given, time counts from it; else from the
-    /// first row's stamp. The texts of the plan's literals get their numbers.
+    /// first row's stamp. The texts of the plan's literals get their numbers. Texts are looked up under the keys of `hasher`, so that
+    /// nobody who does not know them can choose texts that collide.
     pub fn create(
         alloc: Global,
+        hasher: RandomState,
         plan: Plan,
         store: S,
         start: Option<u64>,
@@ -509,7 +513,7 @@ impl<S: TextStore + Sync> Engine<S> {
         ensures swept { IfOk result (λ engine. engine.desk.swept ≡ length engine.desk.texts.held) }
         ensures stands { IfOk result (λ engine. StandsFor engine.desk (S.seen engine.store) (S.remembers engine.store) []) }
     {
-        let desk = new_desk(alloc, plan, start, show, workers)?;
+        let desk = new_desk(alloc, hasher, plan, start, show, workers)?;
         let mut engine = Engine {
             store,
             desk,

@@ -16,6 +16,7 @@ use lola_rows::laws::rows_fit;
 use lola_rows::{RowAnswer, RowReader};
 use lola_store::law::accepted_is_storable;
 use lola_store::store::WholeStore;
+use lola_text::keys::fixed_keys;
 use lola_value::text::{Memory, Text};
 use lola_value::value::FaultKind;
 use std::alloc::Global;
@@ -87,7 +88,7 @@ fn engine(alloc: Global, plan: Plan) -> Result<Engine<WholeStore>, Memory>
 {
     accepted_is_storable(&plan);
     let store = WholeStore::create(alloc, &plan)?;
-    Engine::create(alloc, plan, store, None, Show::Triggers, 1)
+    Engine::create(alloc, fixed_keys()?, plan, store, None, Show::Triggers, 1)
 }
 
 /// What is answered where the addition leaves its kind.

@@ -42,7 +42,7 @@ module _ (bytes : List ℕ) where
   along : (ts us : List Token) (o : Result (List Declaration) FrontEnd) → ts ≡ us → Read ts o → Read us o
   along ts us o e h = subst (λ (l : List Token). Read l o) e h
 
-  one_reading : (ds es : List Declaration) → IsRead bytes ds → IsRead bytes es → ds ≡ es
+  pub one_reading : (ds es : List Declaration) → IsRead bytes ds → IsRead bytes es → ds ≡ es
   one_reading ds es a b =
       one_tree (lexemes bytes b.tokens) (length bytes) ds es (along a.tokens b.tokens (Ok ds) (same_tokens a.tokens b.tokens a.cut b.cut) a.exact) b.exact
 

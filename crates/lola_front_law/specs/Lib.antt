@@ -1,1 +1,7 @@
 pub mod Decided
+pub mod OneKind
+pub mod OneCycle
+pub mod OneRest
+pub mod OneLine
+pub mod OnePacing
+pub mod OneAnswer

@@ -1,5 +1,5 @@
-//! The law that a text is decided in one way, as far as its names: it has declarations of whose names nothing is refused, or one
-//! refusal before that. A crate of laws has no code; nothing stands on it, so it is checked beside what stands on the compiler.
+//! The laws of the compiler: a text is decided in one way, phase by phase, names are words, and a verdict is one line. A crate of
+//! laws has no code; nothing stands on it, so it is checked beside what stands on the compiler.
 #![tactic(auto)]
 
 pub mod law;

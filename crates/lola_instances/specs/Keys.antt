@@ -1,5 +1,5 @@
--- Parameters as keys: all four places are compared, and all are given to a hash.
-use Rattle.std.specs.Prelude.{◌≡◌, Bool, true, false, ◌&&◌, ◌++◌, nat_eq}
+-- Parameters as keys: all four places are compared, and those that are used are given to a hash.
+use Rattle.std.specs.Prelude.{◌≡◌, Bool, true, false, if◌then◌else◌, ◌&&◌, [], ◌++◌, nat_eq, nat_lt}
 use Rattle.std.proofs.Common.{refl, ap, subst, eq-eqb}
 use Rattle.std.proofs.lemmas.Int.{ints}
 use Rattle.std.proofs.lemmas.Bool.{eqb-true}
@@ -18,15 +18,19 @@ use Rattle.lola_value.proofs.ParamsLemmas.{same_values}
 abbrev pub same_places : Params → Params → Bool
 same_places p q = nat_eq p.count q.count && values_same p.at0 q.at0 && values_same p.at1 q.at1 && values_same p.at2 q.at2 && values_same p.at3 q.at3
 
--- what a place gives to a hash
+-- what a value gives to a hash, in whole words
 abbrev pub value_writes : Value → HashWrites
-value_writes (value.Bool b) = fed.bool b
+value_writes (value.Bool b) = fed.u64 (if b then 1 else 0)
 value_writes (value.Int z) = fed.i128 z
 value_writes (value.Text id) = fed.u64 id.0
 
+-- what a place gives: nothing, where it is not used
+abbrev pub place_writes : Bool → Value → HashWrites
+place_writes is_used v = if is_used then value_writes v else []
+
 -- what all places give
 abbrev pub params_writes : Params → HashWrites
-params_writes p = value_writes p.at0 ++ value_writes p.at1 ++ value_writes p.at2 ++ value_writes p.at3
+params_writes p = place_writes (nat_lt 0 p.count) p.at0 ++ place_writes (nat_lt 1 p.count) p.at1 ++ place_writes (nat_lt 2 p.count) p.at2 ++ place_writes (nat_lt 3 p.count) p.at3
 
 -- a value is the same as itself
 pub same_value : (v : Value) → values_same v v ≡ true

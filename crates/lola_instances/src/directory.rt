@@ -11,6 +11,7 @@ use indexmap::IndexSet;
 use lola_value::text::Memory;
 use lola_value::value::Params;
 use std::alloc::Global;
+use std::hash::RandomState;
 use std::marker::Model;
 
 /// The parameters of the instances of a stream, in their order, so that a place is found in constant time. It is kept
@@ -18,7 +19,7 @@ use std::marker::Model;
 #[derive(Drop)]
 pub struct Directory {
     is_kept: bool,
-    keys: IndexSet<Key>,
+    keys: IndexSet<Key, RandomState>,
 }
 
 impl Model for Directory {
@@ -36,7 +37,7 @@ impl Model for Directory {
 }
 
 // One more key, behind the others, in room that was made.
-fn put(keys: &mut IndexSet<Key>, key: Key)
+fn put(keys: &mut IndexSet<Key, RandomState>, key: Key)
     requires room { 1 ≤ spare keys.old }
     requires absent { list_any (λ k. same_places key.0 k.0) keys.old.keys ≡ false }
     ensures keys { keys.new.keys ≡ keys.old.keys ++ key ∷ [] }
@@ -46,7 +47,7 @@ fn put(keys: &mut IndexSet<Key>, key: Key)
 }
 
 // Takes the key at a place away.
-fn forget(keys: &mut IndexSet<Key>, index: usize)
+fn forget(keys: &mut IndexSet<Key, RandomState>, index: usize)
     ensures keys { keys.new.keys ≡ remove keys.old.keys index }
     ensures room { spare keys.old ≤ spare keys.new }
 {
@@ -54,14 +55,15 @@ fn forget(keys: &mut IndexSet<Key>, index: usize)
 }
 
 impl Directory {
-    /// One with no instance, which takes no memory.
-    pub fn create(alloc: Global, is_kept: bool) -> Directory
+    /// One with no instance, which takes no memory. Parameters are looked up by hashes under the keys of `hasher`: where nobody who
+    /// chooses parameters knows the keys, nobody can choose parameters that collide. The keys change no answer.
+    pub fn create(alloc: Global, hasher: RandomState, is_kept: bool) -> Directory
         ensures kept { result.is_kept ≡ is_kept }
         ensures names { result.names ≡ [] }
     {
         Directory {
             is_kept,
-            keys: IndexSet::new(alloc),
+            keys: IndexSet::with_hasher(alloc, hasher),
         }
     }
 

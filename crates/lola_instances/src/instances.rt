@@ -35,6 +35,7 @@ use lola_value::rate::Rate;
 use lola_value::text::Memory;
 use lola_value::value::{Kind, Outcome, Params, Value};
 use std::alloc::Global;
+use std::hash::RandomState;
 use std::marker::Model;
 
 /// The instances of a stream, in order of birth. The numbers of steps, from 1, say when it was poisoned last and when its
@@ -82,9 +83,12 @@ fn has_parameters(spawns: bool, parameters: &Kinds) -> bool
 
 impl Instances {
     /// The instances of a stream of a new store: one, where there is no spawn clause. Each keeps its last `kept` values
-    /// and the panes of these windows, and has the deadlines of these rates, counted from its birth.
+    /// and the panes of these windows, and has the deadlines of these rates, counted from its birth. Among many with parameters one
+    /// is looked up by a hash under the keys of `hasher`: where nobody who chooses parameters knows the keys, nobody can choose
+    /// parameters that collide. The keys change no answer.
     pub fn create(
         alloc: Global,
+        hasher: RandomState,
         kind: Kind,
         parameters: Kinds,
         spawns: bool,
@@ -101,7 +105,7 @@ impl Instances {
         ensures past { IfOk result (λ l. (start time : ℕ) (names : Naming) (i : ℕ) → i < length l.slots → RemembersAt start time 1 names (slice_get l.slots i) []) }
     {
         let slots = first_slots(alloc, spawns, kept, windows.as_slice())?;
-        let directory = Directory::create(alloc, has_parameters(spawns, &parameters));
+        let directory = Directory::create(alloc, hasher, has_parameters(spawns, &parameters));
         let dues = first_dues(alloc, spawns, locals)?;
         Ok(Instances {
             alloc,

@@ -2,7 +2,7 @@
 
 ghost use Rattle.std.specs.Prelude.{◌≡◌, fold};
 ghost use Rattle.std.proofs.Common.{◌∙◌};
-ghost use Rattle.lola_instances.specs.Keys.{params_writes, places_equiv, same_places, value_writes, writes_alike};
+ghost use Rattle.lola_instances.specs.Keys.{params_writes, place_writes, places_equiv, same_places, writes_alike};
 
 use lola_value::params::equal;
 use lola_value::value::{Params, Value};
@@ -31,14 +31,16 @@ impl Eq for Key {
     ghost laws = { record { refl = λ x. places_equiv.refl x.0; symm = λ x y. places_equiv.symm x.0 y.0; congr = λ x y z. places_equiv.congr x.0 y.0 z.0 } };
 }
 
-// One place of the parameters, to a hash.
-fn feed<H: Hasher>(value: Value, state: &mut H)
-    ensures { state.new ≡ fold H.write state.old (value_writes value) }
+// A place of the parameters, to a hash, where it is used.
+fn feed<H: Hasher>(is_used: bool, value: Value, state: &mut H)
+    ensures { state.new ≡ fold H.write state.old (place_writes is_used value) }
 {
-    match value {
-        Value::Bool(b) => b.hash(state),
-        Value::Int(z) => z.hash(state),
-        Value::Text(id) => id.0.hash(state),
+    if is_used {
+        match value {
+            Value::Bool(b) => (b as u64).hash(state),
+            Value::Int(z) => z.hash(state),
+            Value::Text(id) => id.0.hash(state),
+        }
     }
 }
 
@@ -48,9 +50,10 @@ impl Hash for Key {
     ghost respects_eq = { λ x y h. writes_alike x.0 y.0 h };
 
     fn hash<H: Hasher>(&self, state: &mut H) {
-        feed(self.0.at0, state);
-        feed(self.0.at1, state);
-        feed(self.0.at2, state);
-        feed(self.0.at3, state);
+        let count = self.0.count;
+        feed(0 < count, self.0.at0, state);
+        feed(1 < count, self.0.at1, state);
+        feed(2 < count, self.0.at2, state);
+        feed(3 < count, self.0.at3, state);
     }
 }

@@ -11,9 +11,10 @@ use lola_value::rate::Rate;
 use lola_value::text::Memory;
 use lola_value::value::{Kind, Params, TextId, Value};
 use std::alloc::Global;
+use std::hash::RandomState;
 
 // A stream of truths whose instances have a text as their parameter, and a deadline each second.
-fn named(alloc: Global) -> Result<Instances, Memory>
+fn named(alloc: Global, hasher: RandomState) -> Result<Instances, Memory>
     ensures parameters { IfOk result (λ l. l.layout.parameters ≡ kinds.Text ∷ []) }
     ensures spawns { IfOk result (λ l. l.layout.spawns ≡ true) }
     ensures right { IfOk result (λ l. AreRight true 2 0 l) }
@@ -26,6 +27,7 @@ fn named(alloc: Global) -> Result<Instances, Memory>
     }
     let lives = Instances::create(
         alloc,
+        hasher,
         Kind::Bool,
         parameters,
         true,
@@ -61,7 +63,8 @@ fn close(lives: &mut Instances, index: usize)
 
 #[test]
 fn born_closed_and_born_again(rt: HostRuntime) {
-    let mut lives = named(rt.alloc()).expect(&rt, "memory");
+    let hasher = RandomState::new(&rt).expect(&rt, "random bytes");
+    let mut lives = named(rt.alloc(), hasher).expect(&rt, "memory");
     assert_eq!(rt;
         bear(&mut lives, 7, 5).expect(&rt, "memory"),
         SpawnEnd::Born
@@ -89,7 +92,8 @@ fn born_closed_and_born_again(rt: HostRuntime) {
 
 #[test]
 fn deadlines_from_births(rt: HostRuntime) {
-    let mut lives = named(rt.alloc()).expect(&rt, "memory");
+    let hasher = RandomState::new(&rt).expect(&rt, "random bytes");
+    let mut lives = named(rt.alloc(), hasher).expect(&rt, "memory");
     assert_eq!(rt; lives.local_due(0), None);
     assert_eq!(rt;
         bear(&mut lives, 7, 5).expect(&rt, "memory"),

@@ -9,6 +9,7 @@ use lola_model::spec::Kinds;
 use lola_value::text::Memory;
 use lola_value::value::{Kind, Outcome, Params, Value};
 use std::alloc::Global;
+use std::hash::RandomState;
 
 const NONE: Outcome = Outcome::Missing;
 
@@ -17,7 +18,7 @@ fn truth(b: bool) -> Outcome {
 }
 
 // A stream of truths with no windows, which keeps two values.
-fn truths(alloc: Global) -> Result<Instances, Memory>
+fn truths(alloc: Global, hasher: RandomState) -> Result<Instances, Memory>
     ensures kind { IfOk result (λ l. l.layout.kind ≡ kinds.Bool) }
     ensures kept { IfOk result (λ l. l.layout.kept ≡ 2) }
     ensures one { IfOk result (λ l. length l.slots ≡ 1) }
@@ -26,6 +27,7 @@ fn truths(alloc: Global) -> Result<Instances, Memory>
 {
     let lives = Instances::create(
         alloc,
+        hasher,
         Kind::Bool,
         Kinds::create(alloc),
         false,
@@ -66,7 +68,8 @@ fn tell_next(lives: &mut Instances, step: u64, value: bool)
 #[test]
 fn two_values(rt: HostRuntime) {
     let none = Params::none();
-    let mut lives = truths(rt.alloc()).expect(&rt, "memory");
+    let hasher = RandomState::new(&rt).expect(&rt, "random bytes");
+    let mut lives = truths(rt.alloc(), hasher).expect(&rt, "memory");
     assert_eq!(rt; lives.instances(), 1);
     assert_eq!(rt; lives.newest(1, &none), NONE);
     tell_first(&mut lives, true);
@@ -91,7 +94,8 @@ fn spoil(lives: &mut Instances, step: u64)
 #[test]
 fn poison_lasts_one_step(rt: HostRuntime) {
     let none = Params::none();
-    let mut lives = truths(rt.alloc()).expect(&rt, "memory");
+    let hasher = RandomState::new(&rt).expect(&rt, "random bytes");
+    let mut lives = truths(rt.alloc(), hasher).expect(&rt, "memory");
     spoil(&mut lives, 2);
     assert_eq!(rt; lives.now(2, &none), Outcome::Poison);
     assert_eq!(rt; lives.newest(3, &none), NONE);

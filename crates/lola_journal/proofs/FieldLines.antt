@@ -18,15 +18,9 @@ use Rattle.lola_model.specs.declared.journal.Mark.TheVariants as mark
 use Rattle.lola_model.specs.Trace.{IsFieldOf, IsMarkInTime, IsTraceableText, doubled, field_of_text, field_text, fields_text, is_quotable, mark_text, trace_line}
 use Rattle.lola_csv.specs.Line.{fields_of_line, fields_read, has_line_end}
 use Rattle.lola_csv.proofs.LineFacts.{ends-field, joins-run, line-begins}
+use Rattle.lola_journal.specs.EntryFields.{bytes_of, fields_of_entry}
 use Rattle.lola_journal.proofs.Bytes.{IsBare, IsMild, line-append, mild-bare, no-commas, none-from}
 use Rattle.lola_journal.proofs.Decimals.{integer-bare, time-mild}
-
--- the bytes of a field, which may stand in quotes in the line
-abbrev pub bytes_of : Field → List ℕ
-bytes_of (field.Text t) = t
-bytes_of (field.Int z) = field_text (field.Int z)
-bytes_of (field.Bool b) = field_text (field.Bool b)
-bytes_of field.Absent = codes "#"
 
 -- a field that is written as it is
 bare-run : (fields : List (List ℕ)) (x tail : List ℕ) → IsBare x
@@ -42,7 +36,7 @@ pub bare-field : (fields : List (List ℕ)) (x rest : List ℕ) → IsBare x
     → next_record default_config st.StartField fields [] (x ++ (44 ∷ rest)) ≡ next_record default_config st.StartField (fields ++ (x ∷ [])) [] rest
 bare-field fields x rest bare = bare-run fields x (44 ∷ rest) bare ∙ ends-field fields x rest
 
-doubled-is : (t : List ℕ) → flat_map doubled t ≡ escaped default_writer t
+pub doubled-is : (t : List ℕ) → flat_map doubled t ≡ escaped default_writer t
 unfolding escaped
 doubled-is [] = refl
 doubled-is (b ∷ t) = elim (cases_Bool (nat_eq b 34)) [
@@ -86,10 +80,10 @@ text-one-line t traceable = both t (none-from 13 t traceable.one_line.0) (none-f
         let q = or_parts _ _ b in
         or_from _ _ (or_from _ _ p.0 q.0) (both xs p.1 q.1)
 
-sign-bare : IsBare (codes "#")
+pub sign-bare : IsBare (codes "#")
 sign-bare = record { some = λ e. cc e; unquoted = refl; one_line = refl }
 
-truth-bare : (b : Bool) → IsBare (field_text (field.Bool b))
+pub truth-bare : (b : Bool) → IsBare (field_text (field.Bool b))
 truth-bare true = record { some = λ e. cc e; unquoted = refl; one_line = refl }
 truth-bare false = record { some = λ e. cc e; unquoted = refl; one_line = refl }
 
@@ -131,10 +125,6 @@ line-content e =
     ∙ ap (λ (l : List ℕ). s ++ (44 ∷ l)) (append_assoc n (44 ∷ (t ++ (44 ∷ (m ++ fs)))) end
     ∙ ap (λ (l : List ℕ). n ++ (44 ∷ l)) (append_assoc t (44 ∷ (m ++ fs)) end
     ∙ ap (λ (l : List ℕ). t ++ (44 ∷ l)) (append_assoc m fs end))))
-
--- the fields of the line of an entry
-abbrev pub all_bytes : Entry → List (List ℕ)
-all_bytes e = decimal e.row.source ∷ decimal e.row.number ∷ time_text e.row.stamp ∷ mark_text e.mark ∷ map bytes_of e.row.fields
 
 pub mark-bare : (m : Mark) → IsMarkInTime m → IsBare (mark_text m)
 mark-bare mark.Accepted is = record { some = λ e. cc e; unquoted = refl; one_line = refl }
@@ -195,7 +185,7 @@ mark-run : (fields : List (List ℕ)) (m : List ℕ) (ks : List Kind) (fs : List
     → next_record default_config st.StartField fields [] (m ++ fields_text fs) ≡ Some (fields ++ (m ∷ map bytes_of fs), st.StartRecord, [])
 mark-run fields m ks fs bare fit = bare-run fields m (fields_text fs) bare ∙ fields-run fields m ks fs fit
 
-pub content-fields : (ks : List Kind) (e : Entry) → HasParts ks e → fields_of_line (content e) ≡ all_bytes e
+pub content-fields : (ks : List Kind) (e : Entry) → HasParts ks e → fields_of_line (content e) ≡ fields_of_entry e
 content-fields ks e parts =
     let s = decimal e.row.source in
     let n = decimal e.row.number in

@@ -3,5 +3,6 @@ pub mod Decimals
 pub mod FieldLines
 pub mod Parts
 pub mod ReadBack
+pub mod CsvRows
 pub mod Lines
 pub mod Texts

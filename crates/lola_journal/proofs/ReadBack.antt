@@ -27,9 +27,10 @@ use Rattle.lola_csv.specs.Values.{and_then, in_range, read_number}
 use Rattle.lola_csv.specs.Values as csv
 use Rattle.lola_journal.specs.declared.candidate.Head.{Head}
 use Rattle.lola_journal.specs.Candidates.{candidate_of, entry_with, is_field_text, natural, read_entry, read_field, read_fields, read_head, read_integer, read_mark, read_natural, read_text, text_at}
+use Rattle.lola_journal.specs.EntryFields.{bytes_of, fields_of_entry}
 use Rattle.lola_journal.proofs.Bytes.{absent-from, line-no-cr, line-no-lf}
 use Rattle.lola_journal.proofs.Decimals.{decimal-bare, decimal-spells, natural-back, number-back, number-within, pos-fits, source-within, time-back, time-bare}
-use Rattle.lola_journal.proofs.FieldLines.{HasParts, all_bytes, bytes_of, content, content-fields, content-one-line, line-content, mark-bare, text-one-line}
+use Rattle.lola_journal.proofs.FieldLines.{HasParts, content, content-fields, content-one-line, line-content, mark-bare, text-one-line}
 
 -- complete: what is written is read back
 
@@ -132,7 +133,7 @@ pub record InRange (e : Entry) : Type 0 where
 abbrev head_in : Entry → Head
 head_in e = record { source = e.row.source; number = e.row.number; stamp = e.row.stamp; mark = e.mark }
 
-head-back : (e : Entry) → InRange e → read_head (all_bytes e) ≡ Some (head_in e)
+head-back : (e : Entry) → InRange e → read_head (fields_of_entry e) ≡ Some (head_in e)
 head-back e is =
     head-with _ _ _ _ e.row.source e.row.number e.row.stamp e.mark
     (natural-back kind.UInt32 e.row.source (source-within e.row.source is.source))
@@ -140,11 +141,11 @@ head-back e is =
     (time-back e.row.stamp is.stamp)
     (mark-back e.mark is.mark)
 
-entry-back : (ks : List Kind) (e : Entry) → InRange e → AllZip IsFieldOf ks e.row.fields → read_entry ks (all_bytes e) ≡ Some e
+entry-back : (ks : List Kind) (e : Entry) → InRange e → AllZip IsFieldOf ks e.row.fields → read_entry ks (fields_of_entry e) ≡ Some e
 entry-back ks e is fit =
     let front : List (List ℕ) = decimal e.row.source ∷ decimal e.row.number ∷ time_text e.row.stamp ∷ mark_text e.mark ∷ [] in
-    ap (λ o. and_then o (λ head. option_map (entry_with head) (read_fields (all_bytes e) 4 ks))) (head-back e is)
-    ∙ ap (option_map (entry_with (head_in e))) (fields-back (all_bytes e) front 4 ks e.row.fields fit refl refl)
+    ap (λ o. and_then o (λ head. option_map (entry_with head) (read_fields (fields_of_entry e) 4 ks))) (head-back e is)
+    ∙ ap (option_map (entry_with (head_in e))) (fields-back (fields_of_entry e) front 4 ks e.row.fields fit refl refl)
 
 module _ (plan : Plan) where
   abbrev kinds : List Kind

@@ -59,7 +59,7 @@ read_whole (Some finish.Memory) old new rows some none still ended = absurd ende
 -- ---- two of them
 
 -- what holds of 0 and of 1 holds of each of two
-of_two : (P : ℕ → Type 0) → P 0 → P 1 → (s : ℕ) → s < 2 → P s
+pub of_two : (P : ℕ → Type 0) → P 0 → P 1 → (s : ℕ) → s < 2 → P s
 of_two P zeroth first zero within = zeroth
 of_two P zeroth first (suc zero) within = first
 of_two P zeroth first (suc (suc s)) within = absurd (omega (arith, within))

@@ -15,3 +15,7 @@ pub mod DrillEnds
 pub mod Ends
 pub mod Statuses
 pub mod Drilled
+pub mod SourceNumbers
+pub mod Marking
+pub mod AllRounds
+pub mod WholeDrills

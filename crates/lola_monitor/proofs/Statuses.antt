@@ -19,6 +19,7 @@ use Rattle.lola_monitor.specs.Monitor.{Call, CutsOff, IsAnalysed, IsBroken, IsCl
 use Rattle.lola_monitor.specs.Statuses.{Decided}
 use Rattle.lola_monitor.proofs.Listed.{get_beside}
 use Rattle.lola_monitor.proofs.Means.{Means, by_status}
+use Rattle.lola_monitor.proofs.WholeDrills.{whole_with_fault}
 
 -- two ways to name a command
 same_names : (words : List (List ℕ)) (a b : Names) → run_of words ≡ Some a → run_of words ≡ Some b → a ≡ b
@@ -97,14 +98,7 @@ module _ (c : Call) where
     clean_malformed (inr bad) = clean_drill bad.of.drill bad.of.is_command
 
     clean_fault : IsFault c ⊎ IsFaultyDrill c → ⊥
-    clean_fault (inl bad) =
-        let run = bad.up_to.run in
-        let same = same_names c.words run.names clean.names run.is_command clean.is_command in
-        let none : fault_in (setting_of run.plan run.names) run.journal ≡ None =
-        ap (λ (n : Names). fault_in (setting_of run.plan n) run.journal) same
-        ∙ clean.no_fault run.plan run.journal (run.is_plan clean.specification (told_specification run.names run.is_command)) bad.trace in
-        let some = bad.up_to.is_fault in
-        absurd (cc)
+    clean_fault (inl bad) = let none = clean.no_fault bad.up_to.run bad.trace in let some = bad.up_to.is_fault in absurd (cc)
     clean_fault (inr bad) = clean_drill bad.of.drill bad.of.is_command
 
     clean_refused : IsRefused c ⊎ IsRefusedDrill c → ⊥
@@ -266,7 +260,11 @@ module _ (c : Call) where
         absurd (cc)
 
     ends_faulty : (line : EndLine) → IsDrillFault drill.drill line → ⊥
-    ends_faulty line bad = let none = drill.no_fault bad.run in let some = bad.is_fault in absurd (cc)
+    ends_faulty line bad =
+        let whole = whole_with_fault drill.drill line bad in
+        let none = drill.no_fault whole.run whole.all in
+        let some = whole.is_fault in
+        absurd (cc)
 
     drill_refused : IsRefused c ⊎ IsRefusedDrill c → ⊥
     drill_refused (inl bad) = drill_specification bad.name bad.is_command

@@ -43,6 +43,10 @@ pub record DrillRun (d : DrillCommand) : Type 0 where
   pub sources : AreOfSources 2 journal
   pub turns : AreFirst ((drill_rows plan d 0).rows ∷ (drill_rows plan d 1).rows ∷ []) journal
 
+-- all rows of both were taken
+abbrev pub TookAll : (d : DrillCommand) → DrillRun d → Type 0
+TookAll d run = (s : ℕ) → s < 2 → (drill_rows run.plan d s).rows ≡ rows_of s run.journal
+
 -- all rows of both were taken, each ends well, and no step has a fault
 pub record IsDrillDone (d : DrillCommand) (line : EndLine) : Type 0 where
   pub run : DrillRun d
@@ -53,7 +57,7 @@ pub record IsDrillDone (d : DrillCommand) (line : EndLine) : Type 0 where
 -- all rows of both were taken up to their malformed lines, and the least source that has one is named
 pub record IsDrillMalformed (d : DrillCommand) (line : EndLine) : Type 0 where
   pub run : DrillRun d
-  pub rows : (s : ℕ) → s < 2 → (drill_rows run.plan d s).rows ≡ rows_of s run.journal
+  pub rows : TookAll d run
   pub at : MalformedSource
   pub least : first_malformed ((drill_rows run.plan d 0).end ∷ (drill_rows run.plan d 1).end ∷ []) ≡ Some at
   pub no_fault : fault_in (drill_setting run.plan) run.journal ≡ None
@@ -62,7 +66,7 @@ pub record IsDrillMalformed (d : DrillCommand) (line : EndLine) : Type 0 where
 -- no settled step has a fault: it stands at the deadline of the last stamp, once all rows of both were taken
 pub record IsAtDrillDeadline (d : DrillCommand) (run : DrillRun d) : Type 0 where
   pub settled : settled_fault_in (drill_setting run.plan) run.journal ≡ None
-  pub rows : (s : ℕ) → s < 2 → (drill_rows run.plan d s).rows ≡ rows_of s run.journal
+  pub rows : TookAll d run
 
 -- rows were taken up to the first fault, which stands at the last of them or at the deadline of the last stamp
 pub record IsDrillFault (d : DrillCommand) (line : EndLine) : Type 0 where
@@ -154,11 +158,11 @@ pub record AreDrillWorkers (plan : Plan) (d : DrillCommand) (workers : List Work
   pub many : length workers ≡ 2
   pub each : (s : ℕ) (w : Working) → slice_get workers s ≡ Some w → IsDrillWorker plan d s w
 
--- a drill whose specification is not refused, whose sources end well and whose rows have no fault, and no put of which failed
+-- a drill whose specification is not refused, whose sources end well, whose rows, all of them, have no fault, and no put of which failed
 pub record IsCleanDrill (c : Call) : Type 0 where
   pub drill : DrillCommand
   pub is_command : drill_of c.words ≡ Some drill
   pub not_refused : (r : Refusal) → IsRefusalOf drill_text r → ⊥
   pub ends : (plan : Plan) (s : ℕ) → IsPlanOf drill_text plan → s < 2 → (drill_rows plan drill s).end ≡ Whole
-  pub no_fault : (run : DrillRun drill) → fault_in (drill_setting run.plan) run.journal ≡ None
+  pub no_fault : (run : DrillRun drill) → TookAll drill run → fault_in (drill_setting run.plan) run.journal ≡ None
   pub out : Rose c.before.out.count c.after.out.count → ⊥

@@ -394,7 +394,8 @@ pub record IsUnfinished (c : Call) : Type 0 where
 abbrev pub IsStatus : ℕ → Type 0
 IsStatus n = (n ≡ 0) ⊎ ((n < 9) × (1 < n))
 
--- a run whose specification and sources are told and right, whose rows have no fault, and whose objects have not failed
+-- a run whose specification and sources are told and right, whose rows, those that the trace received, have no fault, and whose objects
+-- have not failed
 pub record IsClean (c : Call) : Type 0 where
   pub names : Names
   pub is_command : run_of c.words ≡ Some names
@@ -404,7 +405,7 @@ pub record IsClean (c : Call) : Type 0 where
   pub told : (s : ℕ) (name : List ℕ) → slice_get names.sources s ≡ Some name → (bytes : List ℕ) × (c.before.shelf.told name ≡ Some bytes)
   pub ends : (s : ℕ) (name bytes : List ℕ) (plan : Plan) → slice_get names.sources s ≡ Some name → c.before.shelf.told name ≡ Some bytes → IsPlanOf specification plan
       → (source_rows plan s bytes).end ≡ Whole
-  pub no_fault : (plan : Plan) (journal : List Entry) → IsPlanOf specification plan → c.after.trace ≡ grown c.before.trace (trace_text journal) → fault_in (setting_of plan names) journal ≡ None
+  pub no_fault : (run : Rows c) → AreTraced c run.journal → fault_in (setting_of run.plan run.names) run.journal ≡ None
   pub shelf : Rose c.before.shelf.count c.after.shelf.count → ⊥
   pub out : Rose c.before.out.count c.after.out.count → ⊥
   pub trace : Rose c.before.trace.count c.after.trace.count → ⊥

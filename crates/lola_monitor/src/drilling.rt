@@ -22,6 +22,7 @@ use lola_rows::RowReader;
 use lola_run::run::Run;
 use lola_value::text::Memory;
 use std::alloc::Global;
+use std::hash::RandomState;
 use std::thread::Threads;
 
 /// Where the lines of a drill go: nowhere. No put fails.
@@ -57,6 +58,7 @@ fn drill_worker(
 // The workers of both sources, and a run of the plan.
 fn drill_room(
     alloc: Global,
+    hasher: RandomState,
     plan: Plan,
     command: &DrillCommand,
 ) -> Result<(Run, Vec<SourceWorker<Drill>>), Memory>
@@ -70,7 +72,7 @@ fn drill_room(
     let mut workers = Vec::with_capacity(alloc, 2)?;
     workers.push_reserved(drill_worker(alloc, &plan, command, 0)?);
     workers.push_reserved(drill_worker(alloc, &plan, command, 1)?);
-    let run = Run::create(alloc, plan, None, Show::Triggers, command.workers)?;
+    let run = Run::create(alloc, hasher, plan, None, Show::Triggers, command.workers)?;
     Ok((run, workers))
 }
 
@@ -88,6 +90,7 @@ fn let_go(workers: Vec<SourceWorker<Drill>>)
 fn run_drill<R: Threads + Sync, G: Gate + Sync>(
     rt: &R,
     alloc: Global,
+    hasher: RandomState,
     plan: Plan,
     command: &DrillCommand,
     gate: &G,
@@ -97,7 +100,7 @@ fn run_drill<R: Threads + Sync, G: Gate + Sync>(
     requires workers { (1 ≤ command.now.workers) × (command.now.workers ≤ 64) }
     ensures { IsPlanOf drill_text plan → HasItsModels plan → DrillsBy result command.now }
 {
-    let (mut run, workers) = match drill_room(alloc, plan, command) {
+    let (mut run, workers) = match drill_room(alloc, hasher, plan, command) {
         Ok(room) => room,
         Err(_) => return Outcome::Memory,
     };
@@ -119,6 +122,7 @@ fn run_drill<R: Threads + Sync, G: Gate + Sync>(
 pub fn drill<R: Threads + Sync, G: Gate + Sync>(
     rt: &R,
     alloc: Global,
+    hasher: RandomState,
     command: &DrillCommand,
     gate: &G,
 ) -> Outcome
@@ -127,7 +131,7 @@ pub fn drill<R: Threads + Sync, G: Gate + Sync>(
     ensures { DrillsBy result command.now }
 {
     match plan_of(alloc, specification().as_bytes()) {
-        Ok(plan) => run_drill(rt, alloc, plan, command, gate),
+        Ok(plan) => run_drill(rt, alloc, hasher, plan, command, gate),
         Err(Unplanned::Refused(refusal)) => Outcome::Drilled(EndLine::Refused(refusal)),
         Err(_) => Outcome::Memory,
     }

@@ -19,6 +19,7 @@ use lola_port::{Gate, Shelf, Sink};
 use lola_report::end::EndLine;
 use lola_run::law::puts_add_up;
 use std::alloc::Global;
+use std::hash::RandomState;
 use std::sync::Wait;
 use std::thread::Threads;
 
@@ -26,6 +27,7 @@ use std::thread::Threads;
 fn run<R: Threads + Wait + Sync, F: Shelf, K: Sink, T: Sink, G: Gate + Sync>(
     rt: &R,
     alloc: Global,
+    hasher: RandomState,
     words: &[String],
     command: &RunCommand,
     shelf: &mut F,
@@ -43,7 +45,9 @@ fn run<R: Threads + Wait + Sync, F: Shelf, K: Sink, T: Sink, G: Gate + Sync>(
         Ok(plan) => plan,
         Err(end) => return without_plan(end),
     };
-    run_sources(rt, alloc, plan, command, words, shelf, out, trace, gate)
+    run_sources(
+        rt, alloc, hasher, plan, command, words, shelf, out, trace, gate,
+    )
 }
 
 // All but the report of an analysis, which puts nothing to the trace.
@@ -72,6 +76,7 @@ fn analyse<F: Shelf>(
 fn work<R: Threads + Wait + Sync, F: Shelf, K: Sink, T: Sink, G: Gate + Sync>(
     rt: &R,
     alloc: Global,
+    hasher: RandomState,
     words: &[String],
     shelf: &mut F,
     out: &mut K,
@@ -85,10 +90,10 @@ fn work<R: Threads + Wait + Sync, F: Shelf, K: Sink, T: Sink, G: Gate + Sync>(
 {
     match read_command(alloc, words) {
         Ok(Some(Command::Run(command))) => {
-            run(rt, alloc, words, &command, shelf, out, trace, gate)
+            run(rt, alloc, hasher, words, &command, shelf, out, trace, gate)
         }
         Ok(Some(Command::Analyse(specification))) => analyse(alloc, words, specification, shelf),
-        Ok(Some(Command::Drill(command))) => drill(rt, alloc, &command, gate),
+        Ok(Some(Command::Drill(command))) => drill(rt, alloc, hasher, &command, gate),
         Ok(None) => Outcome::Line(EndLine::Usage),
         Err(_) => Outcome::Memory,
     }
@@ -107,6 +112,9 @@ fn work<R: Threads + Wait + Sync, F: Shelf, K: Sink, T: Sink, G: Gate + Sync>(
 /// of a layer are evaluated by at most as many threads, started through `rt`, which call the gate; how many there are changes nothing
 /// that is written. A drill runs two made-up sources in turns under a specification of its own; it asks the shelf for nothing, and
 /// puts its end line to `out` and nothing else.
+///
+/// Texts and instances are looked up by hashes under the keys of `hasher`: where nobody who writes the sources knows the keys, nobody
+/// can choose rows whose texts or parameters collide. The keys change nothing that is written.
 ///
 /// A run has 1 to 64 sources, numbered from 0. With `--in-turns` they are read in turns: one row of source 0, one of source 1, and
 /// so on, and then the next round, in which a source that has ended has no turn. Without it each is read on a thread of its own,
@@ -131,6 +139,7 @@ fn work<R: Threads + Wait + Sync, F: Shelf, K: Sink, T: Sink, G: Gate + Sync>(
 pub fn run_monitor<R: Threads + Wait + Sync, F: Shelf, K: Sink, T: Sink, G: Gate + Sync>(
     rt: &R,
     alloc: Global,
+    hasher: RandomState,
     words: &[String],
     shelf: &mut F,
     out: &mut K,
@@ -148,6 +157,6 @@ pub fn run_monitor<R: Threads + Wait + Sync, F: Shelf, K: Sink, T: Sink, G: Gate
         (outside (F.state shelf.new) (K.state out.new) (T.state trace.new))) }
 {
     puts_add_up();
-    let outcome = work(rt, alloc, words, shelf, out, trace, gate);
+    let outcome = work(rt, alloc, hasher, words, shelf, out, trace, gate);
     conclude(alloc, outcome, out)
 }

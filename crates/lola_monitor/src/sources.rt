@@ -29,6 +29,7 @@ use lola_shelves::sources::{FetchStop, fetch_all, give_all_back};
 use lola_threads::run::run_in_threads;
 use lola_value::text::Memory;
 use std::alloc::Global;
+use std::hash::RandomState;
 use std::sync::Wait;
 use std::thread::Threads;
 
@@ -41,7 +42,12 @@ struct Room<S: Source> {
 }
 
 // The room for a run of a plan, as a command says.
-fn reserve<S: Source>(alloc: Global, plan: Plan, command: &RunCommand) -> Result<Room<S>, Memory>
+fn reserve<S: Source>(
+    alloc: Global,
+    hasher: RandomState,
+    plan: Plan,
+    command: &RunCommand,
+) -> Result<Room<S>, Memory>
     requires accepted { IsAccepted plan }
     requires workers { (1 ≤ command.now.workers) × (command.now.workers ≤ 64) }
     requires start { IsOptionInTime command.now.start }
@@ -55,7 +61,8 @@ fn reserve<S: Source>(alloc: Global, plan: Plan, command: &RunCommand) -> Result
     let sources = command.sources.as_slice().len();
     let readers = reserve_all::<S>(alloc, &plan, sources as u32, MOST_ROWS)?;
     let workers = Vec::with_capacity(alloc, sources)?;
-    let run = Run::create(alloc, plan, command.start, command.show, command.workers)?;
+    let start = command.start;
+    let run = Run::create(alloc, hasher, plan, start, command.show, command.workers)?;
     Ok(Room {
         run,
         readers,
@@ -186,6 +193,7 @@ fn run_room<R: Threads + Wait + Sync, F: Shelf, K: Sink, T: Sink, G: Gate + Sync
 pub fn run_sources<R: Threads + Wait + Sync, F: Shelf, K: Sink, T: Sink, G: Gate + Sync>(
     rt: &R,
     alloc: Global,
+    hasher: RandomState,
     plan: Plan,
     command: &RunCommand,
     words: &[String],
@@ -203,7 +211,7 @@ pub fn run_sources<R: Threads + Wait + Sync, F: Shelf, K: Sink, T: Sink, G: Gate
         (outside (F.state shelf.old) (K.state out.old) (T.state trace.old))
         (outside (F.state shelf.new) (K.state out.new) (T.state trace.new)) }
 {
-    let Ok(room) = reserve(alloc, plan, command) else {
+    let Ok(room) = reserve(alloc, hasher, plan, command) else {
         return Outcome::Memory;
     };
     run_room(rt, alloc, room, words, command, shelf, out, trace, gate)

@@ -4,6 +4,7 @@ ghost use Rattle.std.specs.Prelude.{◌≡◌, ◌^◌, ◌≤◌, length, IfOk}
 
 use lola_monitor::run_monitor;
 use lola_port::{IdleGate, MemoryShelf, MemorySink};
+use lola_text::keys::fixed_keys;
 use lola_value::text::Memory;
 use std::alloc::Global;
 use std::sync::Wait;
@@ -77,7 +78,14 @@ pub fn leaves<R: Threads + Wait + Sync>(
     let mut trace = MemorySink::create(alloc, case.failing_trace_puts)?;
     let words = words(alloc, texts)?;
     let status = run_monitor(
-        rt, alloc, &words, &mut shelf, &mut out, &mut trace, &IdleGate,
+        rt,
+        alloc,
+        fixed_keys()?,
+        &words,
+        &mut shelf,
+        &mut out,
+        &mut trace,
+        &IdleGate,
     );
     Ok(
         status == case.status

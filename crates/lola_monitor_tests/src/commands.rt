@@ -3,6 +3,7 @@
 use crate::cases::{Case, holds, leaves, worked};
 use lola_monitor::run_monitor;
 use lola_port::{IdleGate, MemoryShelf, MemorySink};
+use lola_text::keys::fixed_keys;
 use lola_value::text::Memory;
 
 #[test]
@@ -14,7 +15,14 @@ fn usage_line_that_is_not_put(rt: HostRuntime) -> Result<(), Memory> {
     let mut name = Vec::new(alloc);
     name.push(String::from_str(alloc, "lolamon")?)?;
     let status = run_monitor(
-        &rt, alloc, &name, &mut shelf, &mut out, &mut trace, &IdleGate,
+        &rt,
+        alloc,
+        fixed_keys()?,
+        &name,
+        &mut shelf,
+        &mut out,
+        &mut trace,
+        &IdleGate,
     );
     assert!(rt; status == 2 && out.written().is_empty() && trace.written().is_empty());
     Ok(())

@@ -3,6 +3,7 @@ ghost use Rattle.std.specs.Prelude.{◌≡◌, IfOk, MatchOption};
 
 use lola_monitor::run_monitor;
 use lola_port::{IdleGate, MemoryShelf, MemorySink};
+use lola_text::keys::fixed_keys;
 use lola_value::text::Memory;
 use std::alloc::Global;
 use std::sync::Wait;
@@ -44,6 +45,7 @@ fn ends<R: Threads + Wait + Sync>(
     let ended = run_monitor(
         rt,
         alloc,
+        fixed_keys()?,
         &words,
         &mut shelf,
         &mut written,

@@ -3,6 +3,7 @@
 use crate::cases::{Case, shelf_of, words, worked};
 use lola_monitor::run_monitor;
 use lola_port::{Gate, MemorySink};
+use lola_text::keys::fixed_keys;
 use lola_value::text::Memory;
 use std::alloc::Global;
 use std::sync::Wait;
@@ -65,7 +66,16 @@ fn meet<R: Threads + Wait + Sync>(
         alloc,
         &["lolamon", "run", "--workers", workers, "spec", "rows"],
     )?;
-    let status = run_monitor(rt, alloc, &words, &mut shelf, &mut out, &mut trace, &gate);
+    let status = run_monitor(
+        rt,
+        alloc,
+        fixed_keys()?,
+        &words,
+        &mut shelf,
+        &mut out,
+        &mut trace,
+        &gate,
+    );
     Ok(status == 0 && gate.met.load(Ordering::SeqCst))
 }
 

@@ -3,6 +3,7 @@ ghost use Rattle.std.specs.Prelude.{◌≡◌, IfOk, MatchOption};
 
 use lola_monitor::run_monitor;
 use lola_port::{IdleGate, MemoryShelf, MemorySink};
+use lola_text::keys::fixed_keys;
 use lola_value::text::Memory;
 use std::alloc::Global;
 use std::fmt::Write;
@@ -109,7 +110,14 @@ fn leaves<R: Threads + Wait + Sync>(
     let mut out = MemorySink::create(alloc, &[])?;
     let mut trace = MemorySink::create(alloc, &[])?;
     let status = run_monitor(
-        rt, alloc, &words, &mut shelf, &mut out, &mut trace, &IdleGate,
+        rt,
+        alloc,
+        fixed_keys()?,
+        &words,
+        &mut shelf,
+        &mut out,
+        &mut trace,
+        &IdleGate,
     );
     Ok(status == 0 && out.written() == texts.0.as_bytes() && trace.written() == texts.1.as_bytes())
 }

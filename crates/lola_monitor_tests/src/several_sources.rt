@@ -3,6 +3,7 @@ ghost use Rattle.std.specs.Prelude.{◌≡◌, ◌≤◌, ◌^◌, IfOk, IsTrue,
 
 use lola_monitor::run_monitor;
 use lola_port::{Ask, IdleGate, MemoryShelf, MemorySink};
+use lola_text::keys::fixed_keys;
 use lola_value::text::Memory;
 use std::alloc::Global;
 use std::sync::Wait;
@@ -120,7 +121,14 @@ fn leaves<R: Threads + Wait + Sync>(
     let mut trace = MemorySink::create(alloc, &[])?;
     let words = words(alloc, options, case.sources.len())?;
     let status = run_monitor(
-        rt, alloc, &words, &mut shelf, &mut out, &mut trace, &IdleGate,
+        rt,
+        alloc,
+        fixed_keys()?,
+        &words,
+        &mut shelf,
+        &mut out,
+        &mut trace,
+        &IdleGate,
     );
     Ok(
         status == case.status
@@ -273,7 +281,14 @@ fn source_that_is_not_there(rt: HostRuntime) -> Result<(), Memory> {
     let mut trace = MemorySink::create(alloc, &[])?;
     let words = words(alloc, &[], 3)?;
     let status = run_monitor(
-        &rt, alloc, &words, &mut shelf, &mut out, &mut trace, &IdleGate,
+        &rt,
+        alloc,
+        fixed_keys()?,
+        &words,
+        &mut shelf,
+        &mut out,
+        &mut trace,
+        &IdleGate,
     );
     assert!(rt; status == 6 && out.written() == b"= unreadable source 1\n".as_slice());
     assert!(rt; trace.written().is_empty());
@@ -301,7 +316,14 @@ fn as_many_sources_as_there_can_be(rt: HostRuntime) -> Result<(), Memory> {
             words.push(String::from_str(alloc, "first")?)?;
         }
         let status = run_monitor(
-            &rt, alloc, &words, &mut shelf, &mut out, &mut trace, &IdleGate,
+            &rt,
+            alloc,
+            fixed_keys()?,
+            &words,
+            &mut shelf,
+            &mut out,
+            &mut trace,
+            &IdleGate,
         );
         assert!(rt; status == wanted && out.written() == line.as_bytes());
     }

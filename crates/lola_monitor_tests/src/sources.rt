@@ -3,11 +3,13 @@
 use crate::cases::{Case, RUN, holds, leaves, shelf_of, words, worked};
 use lola_monitor::run_monitor;
 use lola_port::{IdleGate, MemoryShelf, MemorySink, OutSink};
+use lola_text::keys::fixed_keys;
 use lola_value::text::Memory;
 use std::fmt::Display;
 use std::fs::{File, OpenOptions};
 use std::io::{self, Write};
 use std::test::Fail;
+use std::time::{Clock, Duration};
 
 #[test]
 fn rows_are_traced_and_judged(rt: HostRuntime) -> Result<(), Memory> {
@@ -145,6 +147,7 @@ fn names_that_are_none(rt: HostRuntime) -> Result<(), Memory> {
     let status = run_monitor(
         &rt,
         alloc,
+        fixed_keys()?,
         &run,
         &mut bare,
         &mut unread,
@@ -301,6 +304,17 @@ impl Print for PrintedFile {
     }
 }
 
+/// It has no clock, and nothing waits for it.
+impl Clock for PrintedFile {
+    fn monotonic(&self) -> io::Result<Duration> {
+        Err(io::Error::from(io::ErrorKind::Unsupported))
+    }
+
+    fn since_1970(&self) -> io::Result<Duration> {
+        Err(io::Error::from(io::ErrorKind::Unsupported))
+    }
+}
+
 /// The trace of the worked run goes to a device that is always full.
 #[test]
 fn trace_to_a_full_device(rt: HostRuntime) -> Result<(), Fail> {
@@ -311,7 +325,14 @@ fn trace_to_a_full_device(rt: HostRuntime) -> Result<(), Fail> {
     let mut out = MemorySink::create(alloc, &[])?;
     let words = words(alloc, RUN)?;
     let status = run_monitor(
-        &rt, alloc, &words, &mut shelf, &mut out, &mut trace, &IdleGate,
+        &rt,
+        alloc,
+        fixed_keys()?,
+        &words,
+        &mut shelf,
+        &mut out,
+        &mut trace,
+        &IdleGate,
     );
     assert!(rt; status == 7 && out.written().is_empty());
     Ok(())

@@ -18,6 +18,7 @@ use lola_model::plan::Plan;
 use lola_port::{Gate, Sink};
 use lola_value::text::{Memory, Text};
 use std::alloc::Global;
+use std::hash::RandomState;
 use std::thread::Threads;
 
 /// What is kept from row to row: the engine, how many rows were accepted and how many late, and the room for lines.
@@ -48,6 +49,7 @@ fn stop_at<K: Sink>(end: EngineEnd, lines: &[u8], out: &mut K) -> Stop
 // An engine for a plan, with a store of its own.
 fn new_engine(
     alloc: Global,
+    hasher: RandomState,
     plan: Plan,
     start: Option<u64>,
     show: Show,
@@ -61,14 +63,16 @@ fn new_engine(
     ensures stands { IfOk result (λ engine. StandsFor engine.desk (bounded_seen engine.store) (bounded_remembers engine.store) []) }
 {
     accepted_is_storable(&plan);
-    let store = BoundedStore::create(alloc, &plan)?;
-    Engine::create(alloc, plan, store, start, show, workers)
+    let store = BoundedStore::create(alloc, hasher, &plan)?;
+    Engine::create(alloc, hasher, plan, store, start, show, workers)
 }
 
 impl Run {
-    /// A run of a plan that has taken no row.
+    /// A run of a plan that has taken no row. Texts and instances are looked up under the keys of `hasher`, so that nobody who does not
+    /// know them can choose rows whose texts or parameters collide. The keys change nothing that is written.
     pub fn create(
         alloc: Global,
+        hasher: RandomState,
         plan: Plan,
         start: Option<u64>,
         show: Show,
@@ -82,7 +86,7 @@ impl Run {
     {
         let line = Text::from_bytes(alloc, b"")?;
         let lines = Text::from_bytes(alloc, b"")?;
-        let engine = new_engine(alloc, plan, start, show, workers)?;
+        let engine = new_engine(alloc, hasher, plan, start, show, workers)?;
         Ok(Run {
             engine,
             accepted: 0,

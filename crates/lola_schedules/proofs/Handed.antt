@@ -20,7 +20,7 @@ use Rattle.lola_engine.specs.declared.engine.Desk.{Desk}
 use Rattle.lola_engine.specs.declared.end.EngineEnd.{EngineEnd}
 use Rattle.lola_engine.specs.declared.end.EngineEnd.TheVariants.{Fault, Memory}
 use Rattle.lola_schedules.specs.Handing.{Hands, HasMet, HasRowFor, HasRunAll, IsCut, IsRowFor, IsSetAs, RunsEntry, TakesEntry, settled_text}
-use Rattle.lola_schedules.proofs.Fronts.{fault_stays, lines_stay, text_front}
+use Rattle.lola_engine.proofs.RunsBegun.{fault_stays, lines_stay, text_front}
 
 -- one entry
 

@@ -2,6 +2,7 @@
 //! compared freely.
 #![tactic(auto)]
 
+pub mod keys;
 mod search;
 mod table;
 #[cfg(test)]

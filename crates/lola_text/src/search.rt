@@ -4,6 +4,7 @@ ghost use Rattle.lola_text.specs.Marks.{IsPlaceOf, NumbersRise, is_same, is_mark
 
 use indexmap::IndexMap;
 use lola_value::value::TextId;
+use std::hash::RandomState;
 
 /// The number of a text, and the mark that the newest sweep left.
 #[derive(Clone, Copy, Debug)]
@@ -13,7 +14,7 @@ pub(crate) struct Held {
 }
 
 /// The texts that are held, in the order in which they got their numbers.
-pub(crate) type Entries = IndexMap<Vec<u8>, Held>;
+pub(crate) type Entries = IndexMap<Vec<u8>, Held, RandomState>;
 
 /// The place of the text with this number.
 pub(crate) fn place_of(texts: &Entries, number: u64) -> Option<usize>

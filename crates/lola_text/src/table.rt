@@ -8,6 +8,7 @@ use indexmap::IndexMap;
 use lola_value::text::Memory;
 use lola_value::value::TextId;
 use std::alloc::Global;
+use std::hash::RandomState;
 use std::marker::Model;
 
 /// Texts with numbers. Equal texts have one number among those held, a new text gets the number of new texts before
@@ -32,13 +33,14 @@ impl Model for TextTable {
 }
 
 impl TextTable {
-    /// A table that holds no text.
-    pub fn create(alloc: Global) -> TextTable
+    /// A table that holds no text. Its texts are looked up by hashes under the keys of `hasher`: where nobody who chooses texts knows
+    /// the keys, nobody can choose texts that collide. The keys change no answer.
+    pub fn create(alloc: Global, hasher: RandomState) -> TextTable
         ensures { result ≡ no_texts }
     {
         TextTable {
             alloc,
-            texts: IndexMap::new(alloc),
+            texts: IndexMap::with_hasher(alloc, hasher),
             given: 0,
             mark: false,
         }

@@ -1,11 +1,15 @@
 //! A table, swept.
 use crate::TextTable;
+use crate::keys::{fixed_keys, random_keys};
 use lola_value::value::TextId;
+use std::hash::{BuildHasher, RandomState};
+use std::io;
+use std::random::RandomSource;
 use std::test::Fail;
 
 #[test]
 fn swept_texts(rt: HostRuntime) -> Result<(), Fail> {
-    let mut table = TextTable::create(rt.alloc());
+    let mut table = TextTable::create(rt.alloc(), RandomState::new(&rt)?);
     assert!(rt; table.is_empty());
     let x = table.intern(b"x")?;
     let y = table.intern(b"y")?;
@@ -18,5 +22,24 @@ fn swept_texts(rt: HostRuntime) -> Result<(), Fail> {
     assert_eq!(rt; table.len(), 1);
     assert_eq!(rt; table.intern(b"x")?, TextId(2));
     assert_eq!(rt; table.intern(b"y")?, y);
+    Ok(())
+}
+
+// A source with no random bytes to give.
+#[derive(Clone, Copy)]
+struct NoBytes;
+
+impl RandomSource for NoBytes {
+    fn fill_bytes(&self, _buf: &mut [u8]) -> io::Result<()> {
+        Err(io::Error::from(io::ErrorKind::Unsupported))
+    }
+}
+
+#[test]
+fn keys_without_random_bytes(rt: HostRuntime) -> Result<(), Fail> {
+    let keys = random_keys(&NoBytes)?;
+    let fixed = fixed_keys()?;
+    assert_eq!(rt; keys.hash_one(7_u64), fixed.hash_one(7_u64));
+    assert!(rt; random_keys(&rt)?.hash_one(7_u64) != fixed.hash_one(7_u64));
     Ok(())
 }

@@ -3,6 +3,7 @@ ghost use Rattle.std.specs.Prelude.{◌≡◌, IfOk, MatchOption};
 
 use lola_monitor::run_monitor;
 use lola_port::{Gate, IdleGate, MemoryShelf, MemorySink};
+use lola_text::keys::fixed_keys;
 use lola_value::text::Memory;
 use std::alloc::Global;
 use std::fmt::Write;
@@ -54,7 +55,16 @@ fn run<R: Threads + Wait + Sync>(
     for text in ["lolamon", "run", "--show", "outputs", "spec", "rows"] {
         words.push(String::from_str(alloc, text)?)?;
     }
-    let status = run_monitor(rt, alloc, &words, &mut shelf, &mut out, &mut trace, gate);
+    let status = run_monitor(
+        rt,
+        alloc,
+        fixed_keys()?,
+        &words,
+        &mut shelf,
+        &mut out,
+        &mut trace,
+        gate,
+    );
     Ok((status, out))
 }
 
@@ -114,7 +124,14 @@ fn crowd<R: Threads + Wait + Sync>(
         return Err(Fail::new("too many rows"));
     };
     let status = run_monitor(
-        rt, alloc, &words, &mut shelf, &mut out, &mut trace, &IdleGate,
+        rt,
+        alloc,
+        fixed_keys()?,
+        &words,
+        &mut shelf,
+        &mut out,
+        &mut trace,
+        &IdleGate,
     );
     let lines = trace
         .written()

@@ -3,6 +3,7 @@ ghost use Rattle.std.specs.Prelude.{◌≡◌, IfOk};
 
 use lola_monitor::run_monitor;
 use lola_port::{FetchEnd, Gate, IdleGate, MemoryShelf, MemorySink, ReadFailed, Shelf, Source};
+use lola_text::keys::fixed_keys;
 use lola_value::text::Memory;
 use std::alloc::Global;
 use std::sync::Wait;
@@ -111,7 +112,16 @@ fn meets_fault<R: Threads + Wait + Sync, F: Shelf, G: Gate + Sync>(
     }
     let mut out = MemorySink::create(alloc, &[])?;
     let mut trace = MemorySink::create(alloc, &[])?;
-    let status = run_monitor(rt, alloc, &texts, shelf, &mut out, &mut trace, gate);
+    let status = run_monitor(
+        rt,
+        alloc,
+        fixed_keys()?,
+        &texts,
+        shelf,
+        &mut out,
+        &mut trace,
+        gate,
+    );
     Ok(
         status == 5
             && out.written() == b"= fault b 2 DivZero at 0.000000000\n".as_slice()

@@ -2,6 +2,7 @@
 
 use lola_monitor::run_monitor;
 use lola_port::{IdleGate, MemoryShelf, MemorySink};
+use lola_text::keys::fixed_keys;
 use lola_value::text::Memory;
 use std::alloc::Global;
 use std::sync::Wait;
@@ -26,7 +27,14 @@ fn output<R: Threads + Wait + Sync>(
         words.push(String::from_str(alloc, text)?)?;
     }
     run_monitor(
-        rt, alloc, &words, &mut shelf, &mut out, &mut trace, &IdleGate,
+        rt,
+        alloc,
+        fixed_keys()?,
+        &words,
+        &mut shelf,
+        &mut out,
+        &mut trace,
+        &IdleGate,
     );
     Ok(out)
 }

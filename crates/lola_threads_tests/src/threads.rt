@@ -3,6 +3,7 @@ ghost use Rattle.std.specs.Prelude.{◌≡◌, IfOk};
 
 use lola_monitor::run_monitor;
 use lola_port::{Gate, IdleGate, MemoryShelf, MemorySink};
+use lola_text::keys::fixed_keys;
 use lola_value::text::Memory;
 use std::alloc::Global;
 use std::fmt::Write;
@@ -66,7 +67,16 @@ fn run<R: Threads + Wait + Sync, G: Gate + Sync>(
     let mut out = MemorySink::create(alloc, &[])?;
     let mut trace = MemorySink::create(alloc, &[])?;
     let words = words(alloc, names)?;
-    let status = run_monitor(rt, alloc, &words, shelf, &mut out, &mut trace, gate);
+    let status = run_monitor(
+        rt,
+        alloc,
+        fixed_keys()?,
+        &words,
+        shelf,
+        &mut out,
+        &mut trace,
+        gate,
+    );
     Ok(Left { status, out, trace })
 }
 

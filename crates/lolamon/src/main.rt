@@ -3,15 +3,18 @@
 
 use lola_monitor::run_monitor;
 use lola_port::{ErrSink, FolderShelf, IdleGate, OutSink};
+use lola_text::keys::random_keys;
 use lola_value::text::Memory;
 use std::alloc::Global;
 use std::env;
 use std::fs::File;
+use std::hash::RandomState;
 use std::io::ErrorKind;
 use std::process::ExitCode;
 use std::rt::{Env, Files};
 use std::sync::Wait;
 use std::thread::{Builder, Promise, Threads};
+use std::time::Clock;
 
 // The stack of the thread that does the work, in bytes. The deepest specifications within the limit of marks take a quarter of it to
 // be read, so that what the system gives a program does not matter.
@@ -35,16 +38,17 @@ fn words(rt: &(impl Env + AllocGlobal)) -> Result<Vec<String>, Memory> {
 }
 
 // Does what the words ask for, and answers the status.
-fn monitor<R: Threads + Wait + Files<File = File> + Print + Sync>(
+fn monitor<R: Threads + Wait + Files<File = File> + Print + Clock + Sync>(
     rt: &R,
     alloc: Global,
+    hasher: RandomState,
     words: &[String],
     mut trace: ErrSink,
 ) -> u8 {
     let mut shelf = FolderShelf::create(rt, alloc);
     let mut out = OutSink::create(rt);
     run_monitor(
-        rt, alloc, words, &mut shelf, &mut out, &mut trace, &IdleGate,
+        rt, alloc, hasher, words, &mut shelf, &mut out, &mut trace, &IdleGate,
     )
 }
 
@@ -53,13 +57,16 @@ fn main(rt: HostRuntime) -> ExitCode {
     let Ok(words) = words(&rt) else {
         return ExitCode::from(8);
     };
+    let Ok(hasher) = random_keys(&rt) else {
+        return ExitCode::from(8);
+    };
     let Ok(own) = rt.clone() else {
         return ExitCode::from(8);
     };
     let Ok(traced) = rt.clone() else {
         return ExitCode::from(8);
     };
-    let work = move || monitor(&own, alloc, &words, ErrSink::create(traced));
+    let work = move || monitor(&own, alloc, hasher, &words, ErrSink::create(traced));
     // where no thread can be started, on the stack that is there
     let status = match Builder::new()
         .stack_size(STACK)

@@ -1,0 +1,6 @@
+mod LeastMoments
+mod RateFormula
+mod NextLocal
+mod PlacesListed
+mod LayoutRates
+mod DeadlineCorners
