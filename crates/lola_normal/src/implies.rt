@@ -31,7 +31,7 @@ fn is_whole_multiple(rate: &Rate, other: &Rate) -> bool
 }
 
 /// Whether one pacing implies another: wherever the first is active, so is the second. A rate implies
-/// its whole multiples, and pacings of the two sorts never imply each other.
+/// its whole multiples, and pacings of different sorts never imply each other.
 pub fn implies(first: &Pacing, second: &Pacing) -> bool
     ensures { IsTrue result ↔ Implies first.now second.now }
 {

@@ -27,6 +27,18 @@ pub trait Source: Drop {
         ensures moved { IfOk result (λ count. Moved (state self.old) (state self.new) (take count buf.new)) }
         ensures end { IfOk result (λ count. count ≡ 0 → 0 < length buf.new → IsAtEnd (state self.new).left) }
         ensures failed { OnErr result (ReadBroke (state self.old) (state self.new)) };
+
+    /// Whether each read answers at once, as those of a file on a disk do, whose bytes are there already. Nobody has to
+    /// wait for a source that does not say so: its next bytes may be long in coming.
+    fn answers_at_once(&self) -> bool {
+        false
+    }
+
+    /// Waits until a read would answer at once, for so many milliseconds at most, and says whether one would. A source
+    /// that cannot know says yes.
+    fn wait_for_bytes(&self, _milliseconds: u16) -> bool {
+        true
+    }
 }
 
 /// One ask of a shelf: for which name, whether a source was given, and how many faults there were: 1 where none was
