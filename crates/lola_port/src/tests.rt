@@ -70,13 +70,25 @@ fn objects_of_the_machine(rt: HostRuntime) -> Result<(), Fail> {
     let mut buf = [0u8; 16];
     assert_eq!(rt; file.read(&mut buf), Ok(7));
     assert_eq!(rt; file.read(&mut buf), Ok(0));
+    assert_eq!(rt;
+        (file.answers_at_once(), file.wait_for_bytes(0)),
+        (true, true)
+    );
     shelf.give_back(file);
     assert_eq!(rt;
         shelf.fetch("no_such_file.csv").err(),
         Some(FetchEnd::Failed)
     );
+    let Ok(device) = shelf.fetch("/dev/null") else {
+        return Err("no device".into());
+    };
+    assert_eq!(rt;
+        (device.answers_at_once(), device.wait_for_bytes(0)),
+        (false, true)
+    );
+    shelf.give_back(device);
     let asks = shelf.asks();
-    assert_eq!(rt; asks.len(), 2);
+    assert_eq!(rt; asks.len(), 3);
     assert_eq!(rt; (asks[0].given, asks[0].count), (true, 0));
     assert_eq!(rt; (asks[1].given, asks[1].count), (false, 1));
     fs::remove_file(&rt, "rows_of_a_test.csv")?;
