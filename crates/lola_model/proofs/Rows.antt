@@ -4,6 +4,7 @@ use Rattle.std.proofs.lemmas.Fmt.{decimal_digit}
 use Rattle.std.proofs.lemmas.Bool.{eq-eqb}
 use Rattle.std.proofs.lemmas.Str.{IsUtf8-from_ascii}
 use Rattle.std.specs.List.{list_any, Contains}
+use Rattle.csv.specs.Writing.{escaped, fields_text, is_blank}
 use Rattle.lola_model.proofs.Strictly.{Contains-none, Contains-cases}
 use Rattle.std.specs.Prelude.{codes, decimal, replicate, length, ◌-◌}
 use Rattle.lola_value.specs.Answer.{Answer, Given, Missing, Failed, Poisoned}
@@ -231,9 +232,11 @@ late_entry = record { row = record { source = 1; number = 1; stamp = second; fie
 
 -- a field with a comma and a double quote is quoted, and the double quote stands twice
 a_text_with_a_quote_is_quoted : trace_line quote_entry ≡ codes "0,1,0.000000000,A,\"x,\"\"y\"\n"
+unfolding escaped fields_text is_blank
 a_text_with_a_quote_is_quoted = rw (decimal_digit 0 (lit< tt), decimal_digit 1 (lit< tt)) refl
 
 a_late_row_tells_the_merged_time : trace_line late_entry ≡ codes "1,1,1.000000000,L5.000000000,1\n"
+unfolding fields_text is_blank
 a_late_row_tells_the_merged_time = rw (decimal_digit 0 (lit< tt), decimal_digit 1 (lit< tt), decimal_digit 5 (lit< tt)) refl
 
 -- a number that no test finds is no member
