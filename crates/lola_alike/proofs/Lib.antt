@@ -1,0 +1,2 @@
+mod PlainExpressions
+mod PlainRows

@@ -1,0 +1,79 @@
+-- What streams do in a step, whatever the addresses of boxes.
+use mathlib.Core.Path.{fun_ext}
+use Rattle.std.proofs.Common.{◌≡◌, refl, ap, ap₂, ◌∙◌, ℕ, zero, suc, ◌+◌, List, [], ◌∷◌, ◌++◌, Option, Some, None, Bool, map, if◌then◌else◌, slice_get, option_map, length}
+use Rattle.lola_value.specs.declared.value.FaultKind.{FaultKind}
+use Rattle.lola_value.specs.Answer.{Answer}
+use Rattle.lola_model.specs.Activity.{is_active, is_active_for}
+use Rattle.lola_model.specs.Content.{Content, content, is_bad, time_of}
+use Rattle.lola_model.specs.Graph.{nodes_from, nodes_of, eval_node, spawn_nodes}
+use Rattle.lola_model.specs.Model.{add_closed, add_fault, answered, asked, asked_to_close, close_answer, close_faults_among, closed_among, closes_from, closing, eval_pacing, evaluated, field_outcome, has_evaluation_fault, input_outcome, is_input, IsRow, last_row, newborn, outcome_of, outcomes_from, spawn_outcome, spawn_pacing, spawned_in, stream_outcome, survivors, the_instance, unknown, unknown_from, unknown_spawned, unknown_stream, with_closes}
+use Rattle.lola_model.specs.Table.{Instance, Living, Spawned, Step, StreamRow, TableRow}
+use Rattle.lola_model.specs.declared.plan.Plan.{Plan}
+use Rattle.lola_model.specs.declared.spec.Clause.{Clause}
+use Rattle.lola_model.specs.declared.spec.Spec.{Spec}
+use Rattle.lola_model.specs.declared.spec.Stream.{Stream}
+use Rattle.lola_alike.specs.Alike.{plain_clause, plain_plan, plain_spec, plain_stream}
+use Rattle.lola_alike.proofs.PlainExpressions.{same_close, same_eval, same_spawn}
+
+-- ---- who lives
+
+born_with : (o : Option Clause) → elim (option_map plain_clause o) as (λ x. List Instance) [ None ↦ the_instance ∷ [] | Some k ↦ [] ] ≡ elim o as (λ x. List Instance) [ None ↦ the_instance ∷ [] | Some k ↦ [] ]
+born_with None = refl
+born_with (Some k) = refl
+
+pub same_survivors : (n : ℕ) (s : Stream) (o : Option TableRow) → survivors n (plain_stream s) o ≡ survivors n s o
+same_survivors n s None = born_with s.spawn
+same_survivors n s (Some row) = refl
+
+-- ---- graph
+
+same_nodes_of : (n : ℕ) (o : Option Clause) → spawn_nodes n (option_map plain_clause o) ≡ spawn_nodes n o
+same_nodes_of n None = refl
+same_nodes_of n (Some k) = refl
+
+same_nodes : (n : ℕ) (ss : List Stream) → nodes_from n (map plain_stream ss) ≡ nodes_from n ss
+same_nodes n [] = refl
+same_nodes n (s ∷ ss) = ap₂ (λ (xs ys : List ℕ). eval_node n ∷ (xs ++ ys)) (same_nodes_of n s.spawn) (same_nodes (n + 1) ss)
+
+-- ---- rows
+
+same_unknown_spawned : (o : Option Clause) → unknown_spawned (option_map plain_clause o) ≡ unknown_spawned o
+same_unknown_spawned None = refl
+same_unknown_spawned (Some k) = refl
+
+module _ (plan : Plan) (start : ℕ) (rows : List TableRow) (step : Step) where
+  same_outcome : (c : Content) (n i : ℕ) (s : Stream) (spawned : Spawned) (x : Instance)
+      → outcome_of (plain_plan plan) start rows step c n i (plain_stream s) spawned x ≡ outcome_of plan start rows step c n i s spawned x
+  same_outcome c n i s spawned x =
+      ap (λ (a : Answer). if is_input s then input_outcome i step.fields else a)
+      (same_eval plan.spec c (is_bad spawned) (is_active_for start (time_of step.time (slice_get rows x.born)) step (eval_pacing (slice_get plan.pacings n))) s.eval x.params)
+
+  -- a stream's row, by what its spawn clause does, how its instances come out, and who lives
+  row_by : Spawned → (Instance → Answer) → Spawned → List Instance → StreamRow
+  row_by did outcome spawned alive =
+      record {
+        spawned = did;
+        living = map (λ x. record { instance = x; outcome = outcome x }) (alive ++ newborn spawned alive (length rows));
+        closed = [];
+        close_faults = [];
+      }
+
+  same_stream : (c : Content) (n i : ℕ) (s : Stream) (spawned : Spawned)
+      → stream_outcome (plain_plan plan) start rows step c n i (plain_stream s) spawned ≡ stream_outcome plan start rows step c n i s spawned
+  unfolding row_by
+  same_stream c n i s spawned =
+      let active = is_active start step (spawn_pacing (slice_get plan.pacings n)) in
+      let after = last_row rows in
+      ap (λ (alive : List Instance). row_by (spawn_outcome (plain_spec plan.spec) c active (option_map plain_clause s.spawn) alive) (outcome_of (plain_plan plan) start rows step c n i (plain_stream s) spawned) spawned alive)
+      (same_survivors n s after)
+      ∙ ap₂ (λ (did : Spawned) (f : Instance → Answer). row_by did f spawned (survivors n s after))
+      (same_spawn plan.spec c active s.spawn (survivors n s after)) (fun_ext (same_outcome c n i s spawned))
+
+  same_outcomes : (row : TableRow) (n i : ℕ) (ss : List Stream) → outcomes_from (plain_plan plan) start rows step row n i (map plain_stream ss) ≡ outcomes_from plan start rows step row n i ss
+  same_outcomes row n i [] = refl
+  same_outcomes row n i (s ∷ ss) =
+      ap₂ (λ (r : StreamRow) (rs : List StreamRow). r ∷ rs) (same_stream (content start rows row) n i s (spawned_in (slice_get row.streams n)))
+      (same_outcomes row (n + 1) (if is_input s then i + 1 else i) ss)
+
+  pub same_evaluated : (row : TableRow) → evaluated (plain_plan plan) start rows step row ≡ evaluated plan start rows step row
+  same_evaluated row = ap (λ (ss : List StreamRow). let r : TableRow = record { step = step; streams = ss } in r) (same_outcomes row 0 0 plan.spec.streams)
