@@ -2,7 +2,7 @@
 use mathlib.Core.Path.{fun_ext}
 use Rattle.std.proofs.Common.{◌≡◌, refl, ap, ap₂, ◌∙◌, ℕ, zero, suc, ◌+◌, List, [], ◌∷◌, ◌++◌, Option, Some, None, Bool, map, if◌then◌else◌, slice_get, option_map, length}
 use Rattle.lola_value.specs.declared.value.FaultKind.{FaultKind}
-use Rattle.lola_value.specs.Answer.{Answer}
+use Rattle.lola_value.specs.Answer.{Answer, Poisoned}
 use Rattle.lola_model.specs.Activity.{is_active, is_active_for}
 use Rattle.lola_model.specs.Content.{Content, content, is_bad, time_of}
 use Rattle.lola_model.specs.Graph.{nodes_from, nodes_of, eval_node, spawn_nodes}
@@ -77,3 +77,55 @@ module _ (plan : Plan) (start : ℕ) (rows : List TableRow) (step : Step) where
 
   pub same_evaluated : (row : TableRow) → evaluated (plain_plan plan) start rows step row ≡ evaluated plan start rows step row
   same_evaluated row = ap (λ (ss : List StreamRow). let r : TableRow = record { step = step; streams = ss } in r) (same_outcomes row 0 0 plan.spec.streams)
+
+  -- where nothing is known
+  same_unknown : (n : ℕ) (s : Stream) → unknown_stream (plain_plan plan) start rows step n (plain_stream s) ≡ unknown_stream plan start rows step n s
+  same_unknown n s =
+      ap₂ (λ (did : Spawned) (alive : List Instance). let r : StreamRow = record { spawned = did; living = map (λ x. record { instance = x; outcome = Poisoned }) alive; closed = []; close_faults = [] } in r)
+      (same_unknown_spawned s.spawn) (same_survivors n s (last_row rows))
+
+  same_unknowns : (n : ℕ) (ss : List Stream) → unknown_from (plain_plan plan) start rows step n (map plain_stream ss) ≡ unknown_from plan start rows step n ss
+  same_unknowns n [] = refl
+  same_unknowns n (s ∷ ss) = ap₂ (λ (r : StreamRow) (rs : List StreamRow). r ∷ rs) (same_unknown n s) (same_unknowns (n + 1) ss)
+
+  same_asked : (depth : ℕ) → asked (plain_plan plan) start rows step depth ≡ asked plan start rows step depth
+  same_asked zero = ap (λ (ss : List StreamRow). let r : TableRow = record { step = step; streams = ss } in r) (same_unknowns 0 plan.spec.streams)
+  same_asked (suc depth) = same_evaluated (asked (plain_plan plan) start rows step depth) ∙ ap (evaluated plan start rows step) (same_asked depth)
+
+-- ---- closes
+
+module _ (spec : Spec) (c : Content) (o : Option Clause) where
+  same_closed : (ls : List Living) → closed_among (plain_spec spec) c (option_map plain_clause o) ls ≡ closed_among spec c o ls
+  same_closed [] = refl
+  same_closed (l ∷ ls) = ap₂ (λ (a : Answer) (is : List Instance). add_closed a l.instance is) (same_close spec c o l.instance.params) (same_closed ls)
+
+  same_faults : (ls : List Living) → close_faults_among (plain_spec spec) c (option_map plain_clause o) ls ≡ close_faults_among spec c o ls
+  same_faults [] = refl
+  same_faults (l ∷ ls) = ap₂ add_fault (same_close spec c o l.instance.params) (same_faults ls)
+
+module _ (plan : Plan) (start : ℕ) (rows : List TableRow) where
+  same_closes : (row : TableRow) (n : ℕ) (ss : List Stream) (rs : List StreamRow) → closes_from (plain_plan plan) start rows row n (map plain_stream ss) rs ≡ closes_from plan start rows row n ss rs
+  same_closes row n [] rs = refl
+  same_closes row n (s ∷ ss) [] = refl
+  same_closes row n (s ∷ ss) (r ∷ rs) =
+      let among = asked_to_close plan start rows row.step n r.living in
+      let c = content start rows row in
+      ap₂ (λ (q : StreamRow) (qs : List StreamRow). q ∷ qs)
+      (ap₂ (λ (is : List Instance) (ks : List FaultKind). record r { closed = is; close_faults = ks }) (same_closed plan.spec c s.close among) (same_faults plan.spec c s.close among))
+      (same_closes row (n + 1) ss rs)
+
+  pub same_closing : (row : TableRow) → closing (plain_plan plan) start rows row ≡ closing plan start rows row
+  same_closing row =
+      ap (λ (ss : List StreamRow). if has_evaluation_fault row.streams then row else record { step = row.step; streams = ss }) (same_closes row 0 plan.spec.streams row.streams)
+
+  -- the equations of a step
+  pub same_row : (step : Step) (row : TableRow) → closing (plain_plan plan) start rows (evaluated (plain_plan plan) start rows step row) ≡ closing plan start rows (evaluated plan start rows step row)
+  same_row step row = same_closing (evaluated (plain_plan plan) start rows step row) ∙ ap (closing plan start rows) (same_evaluated plan start rows step row)
+
+  -- the row that is made on demand
+  pub same_answered : (step : Step) → answered (plain_plan plan) start rows step ≡ answered plan start rows step
+  same_answered step =
+      same_closing (asked (plain_plan plan) start rows step (length (nodes_of (plain_spec plan.spec))))
+      ∙ ap (closing plan start rows)
+      (same_asked plan start rows step (length (nodes_of (plain_spec plan.spec)))
+      ∙ ap (λ (ns : List ℕ). asked plan start rows step (length ns)) (same_nodes 0 plan.spec.streams))
