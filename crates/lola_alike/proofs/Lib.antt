@@ -1,2 +1,5 @@
 mod PlainExpressions
 mod PlainRows
+mod PlainRuns
+mod PlainLines
+mod BothWays

@@ -1,11 +1,22 @@
 //! The laws, about definitions alone.
 
-ghost use Rattle.lola_alike.specs.Alike.{ArePlansAlike};
+ghost use Rattle.lola_alike.specs.Meaning.{EntriesAreSame, ModelsAreSame, VerdictsAreSame};
 
-use lola_model::plan::Plan;
+/// Of plans that differ in addresses alone, the same is read of sources: their streams have the same names, sorts, messages, kinds
+/// and parameters, and an entry of a journal that a line of the trace of the one can tell, a line of the trace of the other can tell.
+pub fn entries_are_same()
+    ensures { EntriesAreSame }
+{}
 
-/// It does not matter which of two plans is named first.
-pub fn either_way(_plan: &Plan, _other: &Plan)
-    requires { ArePlansAlike _plan.now _other.now }
-    ensures { ArePlansAlike _other.now _plan.now }
+/// Of plans that differ in addresses alone, the models are the same: after each table the same step comes next, a table solves the
+/// equations of the one exactly where it solves those of the other, over each list of steps and over each journal, and the same
+/// table is made, with the same instances and outcomes.
+pub fn models_are_same()
+    ensures { ModelsAreSame }
+{}
+
+/// Of plans that differ in addresses alone, the same verdict lines are written of each journal, whatever is shown, up to its last row
+/// and of its whole; and the same fault is told, of the same stream, of the same kind and at the same time.
+pub fn verdicts_are_same()
+    ensures { VerdictsAreSame }
 {}
