@@ -1,23 +1,34 @@
 -- What is the same of a plan and its plain form is the same of two plans that are alike.
-use Rattle.std.proofs.Common.{◌≡◌, sym, ap, subst, ◌∙◌, ◌↔◌, List, [], map}
+use Rattle.std.proofs.Common.{◌≡◌, sym, ap, ap₂, subst, ◌∙◌, ◌↔◌, List, [], map}
 use Rattle.std.specs.List.{AllZip}
 use Rattle.lola_value.specs.declared.value.Kind.{Kind}
-use Rattle.lola_model.specs.Model.{IsModel, model, Next}
+use Rattle.lola_model.specs.Denotation.{den}
+use Rattle.lola_model.specs.Model.{answered, IsModel, IsRow, model, Next}
 use Rattle.lola_model.specs.NextStep.{due, next_settled, next_step}
-use Rattle.lola_model.specs.Runs.{final_lines, first_fault, IsSettledModel, IsWholeModel, settled_fault, settled_lines, settled_model, whole_model}
+use Rattle.lola_model.specs.Runs.{content_after, final_lines, first_fault, IsSettledModel, IsWholeModel, settled_fault, settled_lines, settled_model, whole_model}
+use Rattle.lola_model.specs.Store.{layout_of}
 use Rattle.lola_model.specs.Table.{TableRow}
 use Rattle.lola_model.specs.Texts.{table_lines}
 use Rattle.lola_model.specs.Trace.{input_kinds, IsFieldOf, IsTraceable}
+use Rattle.lola_model.specs.declared.expr.Expr.{Expr}
 use Rattle.lola_model.specs.declared.journal.Entry.{Entry}
 use Rattle.lola_model.specs.declared.plan.Plan.{Plan}
-use Rattle.lola_alike.specs.Alike.{ArePlansAlike, plain_plan}
-use Rattle.lola_alike.specs.Meaning.{HaveSameEntries, HaveSameModels, HaveSameVerdicts, without_clauses}
+use Rattle.lola_model.specs.declared.spec.Spec.{Spec}
+use Rattle.lola_alike.specs.Alike.{ArePlansAlike, AreSpecsAlike, plain_plan}
+use Rattle.lola_alike.specs.Meaning.{HaveSameEntries, HaveSameModels, HaveSameOutcomes, HaveSameStores, HaveSameVerdicts, without_clauses}
+use Rattle.lola_alike.proofs.PlainExpressions.{same_den}
 use Rattle.lola_alike.proofs.PlainLines.{same_fault, same_final_lines, same_heads, same_kinds, same_lines, same_settled_fault, same_settled_lines}
+use Rattle.lola_alike.proofs.PlainRows.{same_answered, same_row}
+use Rattle.lola_alike.proofs.PlainStores.{same_content, same_layout}
 use Rattle.lola_alike.proofs.PlainRuns.{same_due, same_goes, same_model, same_settled, same_settled_models, same_settled_step, same_step, same_whole, same_whole_models}
 
 -- each of two equal facts follows from the other
 either_way : (A B : Type 0) → A ≡ B → A ↔ B
 either_way A B e = (λ a. subst (λ (X : Type 0). X) e a, λ b. subst (λ (X : Type 0). X) (sym e) b)
+
+pub same_outcomes : (s t : Spec) → AreSpecsAlike s t → HaveSameOutcomes s t
+same_outcomes s t specs c params a b exprs =
+    sym (same_den s c params a) ∙ (ap₂ (λ (spec : Spec) (e : Expr). den spec c params e) specs exprs ∙ same_den t c params b)
 
 traceable : (p q : Plan) (e : Entry) → input_kinds p.spec.streams ≡ input_kinds q.spec.streams → IsTraceable p e → IsTraceable q e
 traceable p q e kinds t = record {
@@ -40,8 +51,16 @@ module _ (p q : Plan) (alike : ArePlansAlike p q) where
         entries = λ e. (traceable p q e kinds, traceable q p e (sym kinds));
       }
 
+  pub same_stores : HaveSameStores p q
+  same_stores = record {
+    layouts = both layout_of same_layout;
+    contents = λ start table. both (λ (plan : Plan). content_after plan start table) (λ plan. same_content plan start table);
+  }
+
   pub same_models : HaveSameModels p q
   same_models = record {
+    rows = λ start table step. both (λ (plan : Plan). answered plan start table step) (λ plan. same_answered plan start table step);
+    are_rows = λ start table step row. either_way _ _ (both (λ (plan : Plan). IsRow plan start table step row) (λ plan. ap (λ (r : TableRow). row ≡ r) (same_row plan start table step row)));
     by_rule = λ start next table. either_way _ _ (both (λ (plan : Plan). IsModel plan start next table) (λ plan. same_goes plan start next [] table));
     over_steps = λ start steps. both (λ (plan : Plan). model plan start steps) (λ plan. same_model plan start steps);
     dues = λ start table. both (λ (plan : Plan). due plan table start) (λ plan. same_due plan table start);

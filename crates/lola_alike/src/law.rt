@@ -1,11 +1,23 @@
 //! The laws, about definitions alone.
 
-ghost use Rattle.lola_alike.specs.Meaning.{EntriesAreSame, ModelsAreSame, VerdictsAreSame};
+ghost use Rattle.lola_alike.specs.Meaning.{EntriesAreSame, ModelsAreSame, OutcomesAreSame, StoresAreSame, VerdictsAreSame};
+
+/// Expressions that differ in addresses alone come to the same, whatever they see and whatever the parameters are: the same value,
+/// nothing, or the same fault. So it is under specifications that differ in addresses alone.
+pub fn outcomes_are_same()
+    ensures { OutcomesAreSame }
+{}
 
 /// Of plans that differ in addresses alone, the same is read of sources: their streams have the same names, sorts, messages, kinds
 /// and parameters, and an entry of a journal that a line of the trace of the one can tell, a line of the trace of the other can tell.
 pub fn entries_are_same()
     ensures { EntriesAreSame }
+{}
+
+/// For plans that differ in addresses alone a store has the same layout, and after each table it stands for the same content: the same
+/// instances live, with the same values.
+pub fn stores_are_same()
+    ensures { StoresAreSame }
 {}
 
 /// Of plans that differ in addresses alone, the models are the same: after each table the same step comes next, a table solves the
