@@ -26,9 +26,13 @@ use Rattle.lola_alike.proofs.PlainRuns.{same_due, same_goes, same_model, same_se
 either_way : (A B : Type 0) → A ≡ B → A ↔ B
 either_way A B e = (λ a. subst (λ (X : Type 0). X) e a, λ b. subst (λ (X : Type 0). X) (sym e) b)
 
+-- ---- expressions
+
 pub same_outcomes : (s t : Spec) → AreSpecsAlike s t → HaveSameOutcomes s t
 same_outcomes s t specs c params a b exprs =
     sym (same_den s c params a) ∙ (ap₂ (λ (spec : Spec) (e : Expr). den spec c params e) specs exprs ∙ same_den t c params b)
+
+-- ---- plans
 
 traceable : (p q : Plan) (e : Entry) → input_kinds p.spec.streams ≡ input_kinds q.spec.streams → IsTraceable p e → IsTraceable q e
 traceable p q e kinds t = record {
@@ -40,6 +44,7 @@ traceable p q e kinds t = record {
 }
 
 module _ (p q : Plan) (alike : ArePlansAlike p q) where
+  -- what is the same of each plan and its plain form
   both {ℓ} : {A : Type ℓ} (f : Plan → A) → ((plan : Plan) → f (plain_plan plan) ≡ f plan) → f p ≡ f q
   both f same = sym (same p) ∙ (ap f alike ∙ same q)
 

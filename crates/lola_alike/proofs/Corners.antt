@@ -1,6 +1,6 @@
 -- Corners of likeness: it is less than equality, and not all plans are alike.
 use Rattle.std.specs.Ptr.{block_ptr, null_ptr, Ptr}
-use Rattle.std.proofs.Common.{◌≡◌, ℕ, List, [], ◌∷◌, Option, None, Some, false, pos, refl, ap, arith}
+use Rattle.std.proofs.Common.{◌≡◌, ℕ, List, [], ◌∷◌, None, Some, false, pos, refl, ap, arith}
 use Rattle.lola_value.specs.Answer.{Given}
 use Rattle.lola_value.specs.declared.value.Kind.TheVariants as kind
 use Rattle.lola_value.specs.declared.value.Value.{Value}
@@ -19,7 +19,7 @@ use Rattle.lola_model.specs.declared.spec.Clause.{Clause}
 use Rattle.lola_model.specs.declared.spec.Formula.TheVariants.{Input, And', Or'}
 use Rattle.lola_model.specs.declared.spec.Pace.TheVariants as pace
 use Rattle.lola_model.specs.declared.spec.Stream.{Stream}
-use Rattle.lola_model.proofs.Build.{accepted_all, at_row, direct, gist, here, input, int, num, on_a, output, plan_of, row_at, with}
+use Rattle.lola_model.proofs.Build.{accepted_all, at_row, direct, gist, here, input, int, num, on_a, output, plan_of, row_at}
 use Rattle.lola_alike.specs.Alike.{Address, ArePlansAlike}
 
 -- an address in a block of this number

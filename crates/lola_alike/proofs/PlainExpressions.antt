@@ -1,5 +1,5 @@
 -- What expressions and clauses come to, whatever the addresses of their boxes.
-use Rattle.std.proofs.Common.{◌≡◌, refl, ap, ap₂, ◌∙◌, ℕ, List, [], ◌∷◌, Option, Some, None, Bool, Result, Ok, Err, map, not, ◌&&◌, if◌then◌else◌, slice_get, unwrap_or, option_map, option_and_then}
+use Rattle.std.proofs.Common.{◌≡◌, refl, ap, ap₂, ◌∙◌, List, [], ◌∷◌, Option, Some, None, Bool, Result, Ok, Err, map, not, ◌&&◌, if◌then◌else◌, slice_get, unwrap_or, option_map, option_and_then}
 use Rattle.std.proofs.lemmas.Option.{slice_get-map}
 use Rattle.lola_value.specs.declared.text.Field.{Field}
 use Rattle.lola_value.specs.declared.value.Kind.{Kind}
@@ -9,7 +9,7 @@ use Rattle.lola_model.specs.Content.{Content}
 use Rattle.lola_model.specs.Accesses.{answer_of}
 use Rattle.lola_model.specs.Denotation.{den, den_all, and_then, joined, defaulted, chosen, negated, kind_of, with_argument, with_arguments, target_kind, window_of}
 use Rattle.lola_model.specs.Model.{close_answer, clause_answer, eval_outcome, first_answer, guarded, named_params, naming_outcome, spawn_guarded, spawn_outcome, when_answer}
-use Rattle.lola_model.specs.Table.{Instance, Spawned, Idle}
+use Rattle.lola_model.specs.Table.{Instance, Idle}
 use Rattle.lola_model.specs.Windows.{window_answer}
 use Rattle.lola_model.specs.declared.expr.Expr.{Expr}
 use Rattle.lola_model.specs.declared.expr.Expr.TheVariants.{Literal, Parameter, Read, Window, Defaults', Unary', Both', Choice'}

@@ -5,7 +5,7 @@ use Rattle.lola_value.specs.declared.text.Field.{Field}
 use Rattle.lola_value.specs.declared.text.Field.TheVariants as field
 use Rattle.lola_value.specs.declared.value.Kind.{Kind}
 use Rattle.lola_value.specs.declared.value.Kind.TheVariants as kind
-use Rattle.lola_model.specs.Faults.{fault_of_last, RunFault}
+use Rattle.lola_model.specs.Faults.{fault_of_last}
 use Rattle.lola_model.specs.Model.{has_fault, is_input, last_row}
 use Rattle.lola_model.specs.Runs.{final_lines, first_fault, settled_fault, settled_lines, settled_model, whole_model}
 use Rattle.lola_model.specs.Table.{Living, StreamRow, TableRow}

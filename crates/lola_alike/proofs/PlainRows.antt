@@ -1,12 +1,12 @@
 -- What streams do in a step, whatever the addresses of boxes.
 use mathlib.Core.Path.{fun_ext}
-use Rattle.std.proofs.Common.{◌≡◌, refl, ap, ap₂, ◌∙◌, ℕ, zero, suc, ◌+◌, List, [], ◌∷◌, ◌++◌, Option, Some, None, Bool, map, if◌then◌else◌, slice_get, option_map, length}
+use Rattle.std.proofs.Common.{◌≡◌, refl, ap, ap₂, ◌∙◌, ℕ, zero, suc, ◌+◌, List, [], ◌∷◌, ◌++◌, Option, Some, None, map, if◌then◌else◌, slice_get, option_map, length}
 use Rattle.lola_value.specs.declared.value.FaultKind.{FaultKind}
 use Rattle.lola_value.specs.Answer.{Answer, Poisoned}
 use Rattle.lola_model.specs.Activity.{is_active, is_active_for}
 use Rattle.lola_model.specs.Content.{Content, content, is_bad, time_of}
 use Rattle.lola_model.specs.Graph.{nodes_from, nodes_of, eval_node, spawn_nodes}
-use Rattle.lola_model.specs.Model.{add_closed, add_fault, answered, asked, asked_to_close, close_answer, close_faults_among, closed_among, closes_from, closing, eval_pacing, evaluated, field_outcome, has_evaluation_fault, input_outcome, is_input, IsRow, last_row, newborn, outcome_of, outcomes_from, spawn_outcome, spawn_pacing, spawned_in, stream_outcome, survivors, the_instance, unknown, unknown_from, unknown_spawned, unknown_stream, with_closes}
+use Rattle.lola_model.specs.Model.{add_closed, add_fault, answered, asked, asked_to_close, close_faults_among, closed_among, closes_from, closing, eval_pacing, evaluated, has_evaluation_fault, input_outcome, is_input, last_row, newborn, outcome_of, outcomes_from, spawn_outcome, spawn_pacing, spawned_in, stream_outcome, survivors, the_instance, unknown_from, unknown_spawned, unknown_stream}
 use Rattle.lola_model.specs.Table.{Instance, Living, Spawned, Step, StreamRow, TableRow}
 use Rattle.lola_model.specs.declared.plan.Plan.{Plan}
 use Rattle.lola_model.specs.declared.spec.Clause.{Clause}
@@ -49,7 +49,7 @@ module _ (plan : Plan) (start : ℕ) (rows : List TableRow) (step : Step) where
       (same_eval plan.spec c (is_bad spawned) (is_active_for start (time_of step.time (slice_get rows x.born)) step (eval_pacing (slice_get plan.pacings n))) s.eval x.params)
 
   -- a stream's row, by what its spawn clause does, how its instances come out, and who lives
-  row_by : Spawned → (Instance → Answer) → Spawned → List Instance → StreamRow
+  abbrev row_by : Spawned → (Instance → Answer) → Spawned → List Instance → StreamRow
   row_by did outcome spawned alive =
       record {
         spawned = did;
@@ -60,7 +60,6 @@ module _ (plan : Plan) (start : ℕ) (rows : List TableRow) (step : Step) where
 
   same_stream : (c : Content) (n i : ℕ) (s : Stream) (spawned : Spawned)
       → stream_outcome (plain_plan plan) start rows step c n i (plain_stream s) spawned ≡ stream_outcome plan start rows step c n i s spawned
-  unfolding row_by
   same_stream c n i s spawned =
       let active = is_active start step (spawn_pacing (slice_get plan.pacings n)) in
       let after = last_row rows in

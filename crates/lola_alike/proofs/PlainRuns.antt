@@ -1,9 +1,8 @@
 -- Which step comes next and which tables are models, whatever the addresses of boxes.
 use mathlib.Core.Path.{fun_ext}
-use Rattle.std.proofs.Common.{◌≡◌, refl, ap, ap₂, ◌∙◌, ℕ, zero, suc, ◌+◌, List, [], ◌∷◌, ◌++◌, Option, Some, None, Bool, true, false, map, slice_get, length}
-use Rattle.lola_model.specs.Content.{time_of}
+use Rattle.std.proofs.Common.{◌≡◌, refl, ap, ap₂, ◌∙◌, ℕ, zero, suc, ◌+◌, List, [], ◌∷◌, ◌++◌, Option, Some, None, true, false, map, slice_get, length}
 use Rattle.lola_model.specs.Journal.{accepted}
-use Rattle.lola_model.specs.Model.{answered, GoesOn, has_fault, in_order, IsModel, last_row, made, model, Next, survivors}
+use Rattle.lola_model.specs.Model.{GoesOn, has_fault, in_order, IsModel, last_row, made, model, Next}
 use Rattle.lola_model.specs.NextStep.{after_last, due, due_of_instances, due_of_streams, earlier, first_due, local_rates, most_steps, next_below, next_settled, next_step, open_from, rows_taken, step_before}
 use Rattle.lola_model.specs.Runs.{IsSettledModel, IsWholeModel, run_start, settled_model, whole_model}
 use Rattle.lola_model.specs.Steps.{rates_of}
@@ -56,7 +55,7 @@ module _ (plan : Plan) (start : ℕ) (next : Next) where
       ap₂ (λ (answer : Step → TableRow) (more : TableRow → List TableRow). from_step answer more (next rows))
       (fun_ext (same_answered plan start rows)) (fun_ext (λ row. same_made most (rows ++ row ∷ [])))
 
--- ---- the tables that solve the equations
+  -- ---- the tables that solve the equations
 
   pub same_goes : (rows table : List TableRow) → GoesOn (plain_plan plan) start next rows table ≡ GoesOn plan start next rows table
   same_goes rows [] = refl

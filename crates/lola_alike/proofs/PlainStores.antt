@@ -1,5 +1,5 @@
 -- What a store has to know of a plan, and what it stands for between steps, whatever the addresses of boxes.
-use Rattle.std.proofs.Common.{◌≡◌, refl, ap, ap₂, ◌∙◌, ℕ, ◌+◌, List, [], ◌∷◌, Option, None, Some, Bool, true, false, drop, map, option_map, slice_get, unwrap_or}
+use Rattle.std.proofs.Common.{◌≡◌, refl, ap, ap₂, ℕ, ◌+◌, List, [], ◌∷◌, Option, None, Some, Bool, true, false, drop, map, option_map, slice_get, unwrap_or}
 use Rattle.lola_value.specs.declared.value.Kind.TheVariants as kind
 use Rattle.lola_model.specs.Content.{Content, StreamContent}
 use Rattle.lola_model.specs.Model.{last_row}
@@ -24,13 +24,13 @@ same_layouts : (ss : List Stream) (kept : List ℕ) (pacings : List ClausePacing
 same_layouts [] kept pacings = refl
 same_layouts (s ∷ ss) kept pacings =
     ap₂ (λ (spawns : Bool) (ls : List StreamLayout).
-      let l : StreamLayout = record {
-        kind = unwrap_or s.kind kind.Int64;
-        parameters = s.parameters;
-        spawns = spawns;
-        kept = unwrap_or (slice_get kept 0) 1;
-        locals = local_rates (slice_get pacings 0);
-      } in l ∷ ls)
+    let l : StreamLayout = record {
+      kind = unwrap_or s.kind kind.Int64;
+      parameters = s.parameters;
+      spawns = spawns;
+      kept = unwrap_or (slice_get kept 0) 1;
+      locals = local_rates (slice_get pacings 0);
+    } in l ∷ ls)
     (same_spawns s.spawn) (same_layouts ss (drop 1 kept) (drop 1 pacings))
 
 pub same_layout : (plan : Plan) → layout_of (plain_plan plan) ≡ layout_of plan

@@ -4,7 +4,7 @@ use Rattle.std.specs.Prelude.{ℕ, ◌≡◌, ◌↔◌, List, Option, None, map
 use Rattle.lola_value.specs.declared.text.Field.{Field}
 use Rattle.lola_model.specs.Content.{Content}
 use Rattle.lola_model.specs.Denotation.{den}
-use Rattle.lola_model.specs.Model.{answered, IsModel, IsRow, Next, model}
+use Rattle.lola_model.specs.Model.{answered, IsModel, IsRow, model, Next}
 use Rattle.lola_model.specs.NextStep.{due, next_settled, next_step}
 use Rattle.lola_model.specs.Runs.{content_after, final_lines, first_fault, IsSettledModel, IsWholeModel, settled_fault, settled_lines, settled_model, whole_model}
 use Rattle.lola_model.specs.Store.{layout_of}
@@ -67,19 +67,19 @@ pub record HaveSameVerdicts (p q : Plan) : Type 0 where
   pub fault : (start : Option ℕ) (journal : List Entry) → first_fault p start journal ≡ first_fault q start journal
   pub fault_so_far : (start : Option ℕ) (journal : List Entry) → settled_fault p start journal ≡ settled_fault q start journal
 
--- specifications that differ in addresses alone have the same outcomes
+-- the laws: specifications that differ in addresses alone have the same outcomes
 abbrev pub OutcomesAreSame : Type 0
 OutcomesAreSame = (s t : Spec) → AreSpecsAlike s t → HaveSameOutcomes s t
 
--- plans that do have the same entries
+-- plans that differ in addresses alone have the same entries
 abbrev pub EntriesAreSame : Type 0
 EntriesAreSame = (p q : Plan) → ArePlansAlike p q → HaveSameEntries p q
 
--- stores for them are the same
+-- the same stores
 abbrev pub StoresAreSame : Type 0
 StoresAreSame = (p q : Plan) → ArePlansAlike p q → HaveSameStores p q
 
--- they have the same models
+-- the same models
 abbrev pub ModelsAreSame : Type 0
 ModelsAreSame = (p q : Plan) → ArePlansAlike p q → HaveSameModels p q
 
