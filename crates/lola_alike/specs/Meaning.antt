@@ -20,7 +20,7 @@ use Rattle.lola_model.specs.declared.spec.Spec.{Spec}
 use Rattle.lola_model.specs.declared.spec.Stream.{Stream}
 use Rattle.lola_alike.specs.Alike.{AreExprsAlike, ArePlansAlike, AreSpecsAlike}
 
--- a stream without its clauses: its name, sort, message, kind and parameters
+-- a stream without its clauses: its name, place, sort, message, kind and parameters
 abbrev pub without_clauses : Stream → Stream
 without_clauses s = record s { spawn = None; eval = None; close = None }
 
@@ -29,8 +29,8 @@ without_clauses s = record s { spawn = None; eval = None; close = None }
 abbrev pub HaveSameOutcomes : Spec → Spec → Type 0
 HaveSameOutcomes s t = (c : Content) (params : List Field) (a b : Expr) → AreExprsAlike a b → den s c params a ≡ den t c params b
 
--- their streams are the same but for their clauses, so the same is read of sources; and an entry that a line of the trace of the
--- one can tell, a line of the trace of the other can tell
+-- their streams are the same but for their clauses, and an entry that a line of the trace of the one can tell, a line of the trace of
+-- the other can tell
 pub record HaveSameEntries (p q : Plan) : Type 0 where
   pub streams : map without_clauses p.spec.streams ≡ map without_clauses q.spec.streams
   pub entries : (e : Entry) → IsTraceable p e ↔ IsTraceable q e

@@ -8,8 +8,8 @@ pub fn outcomes_are_same()
     ensures { OutcomesAreSame }
 {}
 
-/// Of plans that differ in addresses alone, the same is read of sources: their streams have the same names, sorts, messages, kinds
-/// and parameters, and an entry of a journal that a line of the trace of the one can tell, a line of the trace of the other can tell.
+/// Of plans that differ in addresses alone, the streams have the same names, places, sorts, messages, kinds and parameters, and an
+/// entry of a journal that a line of the trace of the one can tell, a line of the trace of the other can tell.
 pub fn entries_are_same()
     ensures { EntriesAreSame }
 {}
