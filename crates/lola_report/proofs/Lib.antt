@@ -1,4 +1,7 @@
 pub mod Sequences
 pub mod Runs
+pub mod Mild
 pub mod Plain
+pub mod Joined
+pub mod Rows
 pub mod LineForms

@@ -4,6 +4,7 @@ use Rattle.std.specs.Prelude.{IsTrue}
 use Rattle.std.specs.List.{list_all}
 use Rattle.std.specs.Fmt.{decimal}
 use Rattle.std.proofs.lemmas.List.Folds.{list_all-append}
+use Rattle.csv.specs.Writing.{default_writer, is_blank, row_body}
 use Rattle.lola_value.specs.declared.text.Field.{Field}
 use Rattle.lola_value.specs.declared.front.Code.{Code}
 use Rattle.lola_value.specs.declared.front.Code.TheVariants as code
@@ -18,25 +19,18 @@ use Rattle.lola_model.specs.declared.spec.Sort.TheVariants as sort
 use Rattle.lola_model.specs.declared.spec.Stream.{Stream}
 use Rattle.lola_model.specs.Texts.{quoted, value_text, params_text, trigger_line, output_line, trigger_lines, output_lines}
 use Rattle.lola_model.specs.declared.journal.Show.TheVariants.{Outputs}
-use Rattle.lola_model.specs.Trace.{mark_text, fields_text, trace_line}
+use Rattle.lola_model.specs.Trace.{entry_fields, trace_line}
 use Rattle.lola_report.specs.Names.{code_number, code_name, malformed_number, malformed_name, fault_number, fault_name}
 use Rattle.lola_report.specs.Verdicts.{IsShown, HasVerdict, line_of_sort, verdict_text, shown_lines}
 use Rattle.lola_report.specs.Ends.{end_text}
 use Rattle.lola_report.specs.Lines.{IsLine, is_plain, has_plain_name, is_plain_end}
 use Rattle.lola_report.specs.declared.end.EndLine.{EndLine}
 use Rattle.lola_report.specs.declared.end.EndLine.TheVariants as end
-use Rattle.lola_report.proofs.Plain.{Plain, both, decimal_plain, time_plain, quoted_plain, value_plain, params_plain, fields_plain, mark_plain, ended, before, byte_before}
+use Rattle.lola_report.proofs.Plain.{Plain, both, decimal_plain, time_plain, quoted_plain, value_plain, params_plain, row_plain, entry_plain, ended, before, byte_before}
 
 pub entry_line : (e : Entry) → IsTrue (list_all is_plain e.row.fields) → IsLine (trace_line e)
-entry_line e p =
-    before (decimal e.row.source) _ (decimal_plain _)
-    (byte_before 44 _ refl
-    (before (decimal e.row.number) _ (decimal_plain _)
-    (byte_before 44 _ refl
-    (before (time_text e.row.stamp) _ (time_plain _)
-    (byte_before 44 _ refl
-    (before (mark_text e.mark) _ (mark_plain e.mark)
-    (ended (fields_text e.row.fields) (fields_plain e.row.fields p))))))))
+unfolding is_blank
+entry_line e p = ended (row_body default_writer (entry_fields e)) (row_plain (entry_fields e) (entry_plain e p))
 
 trigger_is_line : (time : ℕ) (s : Stream) → Plain s.name → IsLine (trigger_line time s)
 trigger_is_line time s p =

@@ -1,19 +1,22 @@
 -- Texts without LF, and the lines that they make.
-use Rattle.std.proofs.Common.{◌≡◌, ℕ, ℤ, pos, negsuc, ◌+◌, ◌-◌, ◌/◌, ◌%◌, ◌<◌, zero, suc, List, [], ◌∷◌, ◌++◌, Bool, true, false, cond, Option, Some, None, codes, refl, sym, ap, ◌∙◌, append_assoc, flat_map, length, replicate, arith}
+use Rattle.std.proofs.Common.{◌≡◌, ℕ, ℤ, List, [], ◌∷◌, ◌++◌, Bool, true, cond, Option, Some, None, codes, refl, sym, ap, ◌∙◌, append_assoc, flat_map, map}
 use Rattle.std.specs.Prelude.{nat_eq, not, IsTrue}
-use Rattle.std.specs.List.{list_all, list_any}
-use Rattle.std.specs.Fmt.{decimal, digits, digits_onto, digit_glyph}
-use Rattle.std.proofs.lemmas.Bool.{and_from, and_parts, lt-ltb, ne_eqb, cond_both}
+use Rattle.std.specs.List.{list_all}
+use Rattle.std.specs.Fmt.{decimal}
+use Rattle.std.proofs.lemmas.Bool.{and_from, and_parts, cond_both}
 use Rattle.std.proofs.lemmas.List.Folds.{list_all-append}
+use Rattle.csv.specs.Writing.{default_writer}
+use Rattle.csv.specs.Writing as csv
 use Rattle.lola_value.specs.declared.text.Field.{Field}
 use Rattle.lola_value.specs.declared.text.Field.TheVariants as field
 use Rattle.lola_value.specs.Numbers.{integer_text}
-use Rattle.lola_value.specs.Times.{time_text, nine_digits}
+use Rattle.lola_value.specs.Times.{time_text}
+use Rattle.lola_model.specs.declared.journal.Entry.{Entry}
 use Rattle.lola_model.specs.declared.journal.Mark.{Mark}
-use Rattle.lola_model.specs.declared.journal.Mark.TheVariants as mark
 use Rattle.lola_model.specs.Texts.{escaped, quoted, value_text, commas, params_text}
-use Rattle.lola_model.specs.Trace.{is_quotable, doubled, field_text, fields_text, mark_text}
+use Rattle.lola_model.specs.Trace.{entry_fields, field_bytes, mark_text}
 use Rattle.lola_report.specs.Lines.{is_not_lf, has_no_lf, IsLine, is_plain}
+use Rattle.lola_report.proofs.Mild.{mild_plain, decimal_mild, time_mild, integer_mild, bool_mild, mark_mild}
 
 -- a text without LF
 abbrev pub Plain : List ℕ → Type 0
@@ -27,42 +30,18 @@ both s t p q = list_all-append is_not_lf s t ∙ and_from (has_no_lf s) (has_no_
 pub byte_and : (b : ℕ) (t : List ℕ) → is_not_lf b ≡ true → Plain t → Plain (b ∷ t)
 byte_and b t p q = and_from (is_not_lf b) (has_no_lf t) p q
 
--- a digit
-digit_plain : (d : ℕ) → d < 10 → is_not_lf (digit_glyph false d) ≡ true
-digit_plain d small =
-    let low = lt-ltb d 10 small in
-    let other = ne_eqb (48 + d) 10 (λ e. omega arith) in
-    let glyph : digit_glyph false d ≡ 48 + d = rw low in
-    ap is_not_lf glyph ∙ ap not other
-
-digits_plain : (k n : ℕ) (acc : List ℕ) → Plain acc → Plain (digits_onto k 10 false n acc)
-digits_plain zero n acc p = p
-digits_plain (suc k) n acc p =
-    let digit = digit_glyph false (n % 10) in
-    let more = byte_and digit acc (digit_plain (n % 10) (omega arith)) p in
-    cond_both (nat_eq (n / 10) 0) (digit ∷ acc) (digits_onto k 10 false (n / 10) (digit ∷ acc)) Plain (λ _. more) (λ _. digits_plain k (n / 10) (digit ∷ acc) more)
-
+-- numbers, times and truth values
 pub decimal_plain : (n : ℕ) → Plain (decimal n)
-unfolding digits
-decimal_plain n = digits_plain 64 n [] refl
-
-zeros_plain : (n : ℕ) → Plain (replicate n 48)
-zeros_plain zero = refl
-zeros_plain (suc n) = zeros_plain n
+decimal_plain n = mild_plain (decimal n) (decimal_mild n)
 
 pub time_plain : (t : ℕ) → Plain (time_text t)
-time_plain t =
-    both (decimal (t / 1000000000)) (46 ∷ nine_digits (t % 1000000000)) (decimal_plain (t / 1000000000))
-    (byte_and 46 (nine_digits (t % 1000000000)) refl
-    (both (replicate (9 - length (decimal (t % 1000000000))) 48) (decimal (t % 1000000000)) (zeros_plain (9 - length (decimal (t % 1000000000)))) (decimal_plain (t % 1000000000))))
+time_plain t = mild_plain (time_text t) (time_mild t)
 
 pub integer_plain : (z : ℤ) → Plain (integer_text z)
-integer_plain (pos n) = decimal_plain n
-integer_plain (negsuc n) = byte_and 45 (decimal (n + 1)) refl (decimal_plain (n + 1))
+integer_plain z = mild_plain (integer_text z) (integer_mild z)
 
 bool_plain : (b : Bool) → Plain (cond b (codes "true") (codes "false"))
-bool_plain true = refl
-bool_plain false = refl
+bool_plain b = mild_plain (cond b (codes "true") (codes "false")) (bool_mild b)
 
 -- a line feed is spelled by other bytes
 escaped_plain : (b : ℕ) → Plain (escaped b)
@@ -95,32 +74,61 @@ pub params_plain : (ps : List Field) → Plain (params_text ps)
 params_plain [] = refl
 params_plain (p ∷ ps) = byte_and 40 (commas (p ∷ ps) ++ 41 ∷ []) refl (both (commas (p ∷ ps)) (41 ∷ []) (commas_plain p ps) refl)
 
-doubled_plain : (b : ℕ) → is_not_lf b ≡ true → Plain (doubled b)
-doubled_plain b p = cond_both (nat_eq b 34) (34 ∷ 34 ∷ []) (b ∷ []) Plain (λ _. refl) (λ _. byte_and b [] p refl)
-
-doubles_plain : (t : List ℕ) → Plain t → Plain (flat_map doubled t)
-doubles_plain [] p = refl
-doubles_plain (b ∷ t) p =
+-- between quotes a double quote stands twice
+inside_plain : (t : List ℕ) → Plain t → Plain (csv.escaped default_writer t)
+unfolding csv.escaped
+inside_plain [] p = refl
+inside_plain (b ∷ t) p =
     let parts = and_parts (is_not_lf b) (has_no_lf t) p in
-    both (doubled b) (flat_map doubled t) (doubled_plain b parts.0) (doubles_plain t parts.1)
+    let rest = inside_plain t parts.1 in
+    let once = byte_and b (csv.escaped default_writer t) parts.0 rest in
+    cond_both (nat_eq b 34) (34 ∷ b ∷ csv.escaped default_writer t) (b ∷ csv.escaped default_writer t) Plain
+    (λ _. byte_and 34 (b ∷ csv.escaped default_writer t) refl once) (λ _. once)
 
-pub field_plain : (f : Field) → is_plain f ≡ true → Plain (field_text f)
-field_plain field.Absent p = refl
-field_plain (field.Bool b) p = bool_plain b
-field_plain (field.Int z) p = integer_plain z
-field_plain (field.Text t) p =
-    let inside = both (flat_map doubled t) (34 ∷ []) (doubles_plain t p) refl in
-    cond_both (list_any is_quotable t) (34 ∷ (flat_map doubled t ++ 34 ∷ [])) t Plain (λ _. byte_and 34 (flat_map doubled t ++ 34 ∷ []) refl inside) (λ _. p)
+-- a field of a row, in quotes or not
+field_plain : (t : List ℕ) → Plain t → Plain (csv.field_text default_writer t)
+field_plain t p =
+    let inside = both (csv.escaped default_writer t) (34 ∷ []) (inside_plain t p) refl in
+    cond_both (csv.needs_quotes default_writer t) (34 ∷ (csv.escaped default_writer t ++ 34 ∷ [])) t Plain
+    (λ _. byte_and 34 (csv.escaped default_writer t ++ 34 ∷ []) refl inside) (λ _. p)
 
-pub fields_plain : (fs : List Field) → list_all is_plain fs ≡ true → Plain (fields_text fs)
+fields_plain : (ts : List (List ℕ)) → list_all has_no_lf ts ≡ true → Plain (csv.fields_text default_writer ts)
+unfolding csv.fields_text
 fields_plain [] p = refl
-fields_plain (f ∷ fs) p =
-    let parts = and_parts (is_plain f) (list_all is_plain fs) p in
-    byte_and 44 (field_text f ++ fields_text fs) refl (both (field_text f) (fields_text fs) (field_plain f parts.0) (fields_plain fs parts.1))
+fields_plain (t ∷ ts) p =
+    let parts = and_parts (has_no_lf t) (list_all has_no_lf ts) p in
+    byte_and 44 (csv.field_text default_writer t ++ csv.fields_text default_writer ts) refl
+    (both (csv.field_text default_writer t) (csv.fields_text default_writer ts) (field_plain t parts.0) (fields_plain ts parts.1))
 
-pub mark_plain : (m : Mark) → Plain (mark_text m)
-mark_plain mark.Accepted = refl
-mark_plain (mark.Late merged) = byte_and 76 (time_text merged) refl (time_plain merged)
+-- a row without its end
+pub row_plain : (ts : List (List ℕ)) → list_all has_no_lf ts ≡ true → Plain (csv.row_body default_writer ts)
+row_plain [] p = refl
+row_plain (t ∷ ts) p =
+    let parts = and_parts (has_no_lf t) (list_all has_no_lf ts) p in
+    both (csv.field_text default_writer t) (csv.fields_text default_writer ts) (field_plain t parts.0) (fields_plain ts parts.1)
+
+-- the fields of an entry
+bytes_plain : (f : Field) → is_plain f ≡ true → Plain (field_bytes f)
+bytes_plain field.Absent p = refl
+bytes_plain (field.Bool b) p = bool_plain b
+bytes_plain (field.Int z) p = integer_plain z
+bytes_plain (field.Text t) p = p
+
+each_plain : (fs : List Field) → list_all is_plain fs ≡ true → list_all has_no_lf (map field_bytes fs) ≡ true
+each_plain [] p = refl
+each_plain (f ∷ fs) p =
+    let parts = and_parts (is_plain f) (list_all is_plain fs) p in
+    and_from (has_no_lf (field_bytes f)) (list_all has_no_lf (map field_bytes fs)) (bytes_plain f parts.0) (each_plain fs parts.1)
+
+mark_plain : (m : Mark) → Plain (mark_text m)
+mark_plain m = mild_plain (mark_text m) (mark_mild m)
+
+pub entry_plain : (e : Entry) → list_all is_plain e.row.fields ≡ true → list_all has_no_lf (entry_fields e) ≡ true
+entry_plain e p =
+    and_from _ _ (decimal_plain e.row.source)
+    (and_from _ _ (decimal_plain e.row.number)
+    (and_from _ _ (time_plain e.row.stamp)
+    (and_from _ _ (mark_plain e.mark) (each_plain e.row.fields p))))
 
 -- a text without LF, and LF
 pub ended : (t : List ℕ) → Plain t → IsLine (t ++ 10 ∷ [])

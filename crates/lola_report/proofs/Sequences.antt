@@ -5,7 +5,6 @@ use Rattle.std.proofs.lemmas.List.Concat.{flat_map-append}
 use Rattle.lola_value.specs.declared.text.Field.{Field}
 use Rattle.lola_value.specs.Appending.{AppendsPart}
 use Rattle.lola_model.specs.Texts.{value_text, commas}
-use Rattle.lola_model.specs.Trace.{field_text, fields_text}
 use Rattle.lola_value.proofs.AppendingLemmas.{in_first, in_second}
 
 -- a fact that holds, whatever a call answered
@@ -48,8 +47,3 @@ part_within f xs i x d old mid new within is before part =
 pub more_commas : (p : Field) (ps : List Field) → commas (p ∷ ps) ≡ value_text p ++ flat_map (λ v. 44 ∷ value_text v) ps
 more_commas p [] = sym (append-nil (value_text p))
 more_commas p (q ∷ ps) = ap (λ (l : List ℕ). value_text p ++ (44 ∷ l)) (more_commas q ps)
-
--- fields, each behind a comma
-pub more_fields : (fs : List Field) → fields_text fs ≡ flat_map (λ f. 44 ∷ field_text f) fs
-more_fields [] = refl
-more_fields (f ∷ fs) = ap (λ (l : List ℕ). 44 ∷ (field_text f ++ l)) (more_fields fs)

@@ -1,5 +1,5 @@
 pub mod Names
-pub mod Spellings
+pub mod Rows
 pub mod Pieces
 pub mod Verdicts
 pub mod Ends

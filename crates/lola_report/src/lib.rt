@@ -5,6 +5,7 @@ pub mod end;
 pub mod law;
 mod names;
 mod piece;
+mod row;
 mod spelling;
 #[cfg(test)]
 mod tests;

@@ -1,13 +1,13 @@
 //! Lines put together from pieces.
 
 ghost use Rattle.std.specs.Prelude.{◌≡◌, ◌∷◌, ◌++◌, OnOk, OnErr, decimal, flat_map};
-ghost use Rattle.std.specs.List.{list_any};
 ghost use Rattle.lola_value.specs.Appending.{AppendsPart};
 ghost use Rattle.lola_model.specs.Texts.{value_text, commas, params_text};
-ghost use Rattle.lola_model.specs.Trace.{is_quotable, field_of_text, field_text, mark_text, fields_text};
+ghost use Rattle.lola_model.specs.Trace.{field_bytes, mark_text};
 ghost use Rattle.lola_report.specs.Pieces.{bool_name, piece_text};
+ghost use Rattle.lola_report.specs.Rows.{joined_fields};
 
-use crate::spelling::{Spelling, quote};
+use crate::spelling::quote;
 use itoa::Buffer;
 use lola_model::journal::Mark;
 use lola_value::numbers::{integer_text, number_text};
@@ -33,7 +33,9 @@ pub enum Piece<'a> {
     Params(&'a [Field]),
     /// The mark of a row of the trace.
     Mark(Mark),
-    /// The fields of a row of the trace, each behind a comma.
+    /// A field of a row of the trace as it is.
+    Field(&'a Field),
+    /// The fields of a row of the trace as they are, each behind a comma.
     Fields(&'a [Field]),
 }
 
@@ -61,7 +63,7 @@ fn value_text(value: &Field, to: &mut Text) -> Result<(), Memory>
         Field::Absent => to.append(b"#"),
         Field::Bool(b) => to.append(bool_name(*b).as_bytes()),
         Field::Int(z) => integer_text(*z, to),
-        Field::Text(text) => quote(Spelling::Escaped, text.as_bytes(), to),
+        Field::Text(text) => quote(text.as_bytes(), to),
     }
 }
 
@@ -107,56 +109,32 @@ fn params_text(params: &[Field], to: &mut Text) -> Result<(), Memory>
     to.append(b")")
 }
 
-fn is_quotable(byte: u8) -> bool
-    ensures { result ≡ is_quotable byte }
-{
-    byte == b',' || byte == b'"'
-}
-
-fn needs_quotes(text: &[u8]) -> bool
-    ensures { result ≡ list_any is_quotable text.now }
-{
-    text.iter().any(|byte| is_quotable(*byte))
-}
-
-/// Appends a text as a field of the trace: between quotes exactly where it has a comma or a double quote.
-fn field_of_text(text: &[u8], to: &mut Text) -> Result<(), Memory>
-    ensures ok { OnOk result (to.new ≡ to.old ++ field_of_text text.now) }
-    ensures memory { OnErr result (AppendsPart to.old to.new (field_of_text text.now)) }
-{
-    if needs_quotes(text) {
-        quote(Spelling::Doubled, text, to)
-    } else {
-        to.append(text)
-    }
-}
-
-/// Appends a field of the trace.
-fn field_text(field: &Field, to: &mut Text) -> Result<(), Memory>
-    ensures ok { OnOk result (to.new ≡ to.old ++ field_text field.now) }
-    ensures memory { OnErr result (AppendsPart to.old to.new (field_text field.now)) }
+/// Appends a field of the trace as it is.
+fn field_bytes(field: &Field, to: &mut Text) -> Result<(), Memory>
+    ensures ok { OnOk result (to.new ≡ to.old ++ field_bytes field.now) }
+    ensures memory { OnErr result (AppendsPart to.old to.new (field_bytes field.now)) }
 {
     match field {
         Field::Absent => to.append(b"#"),
         Field::Bool(b) => to.append(bool_name(*b).as_bytes()),
         Field::Int(z) => integer_text(*z, to),
-        Field::Text(text) => field_of_text(text.as_bytes(), to),
+        Field::Text(text) => to.append(text.as_bytes()),
     }
 }
 
 /// Appends a field of the trace behind a comma.
 fn one_more_field(field: &Field, to: &mut Text) -> Result<(), Memory>
-    ensures ok { OnOk result (to.new ≡ to.old ++ 44 ∷ field_text field.now) }
-    ensures memory { OnErr result (AppendsPart to.old to.new (44 ∷ field_text field.now)) }
+    ensures ok { OnOk result (to.new ≡ to.old ++ 44 ∷ field_bytes field.now) }
+    ensures memory { OnErr result (AppendsPart to.old to.new (44 ∷ field_bytes field.now)) }
 {
     to.append(b",")?;
-    field_text(field, to)
+    field_bytes(field, to)
 }
 
-/// Appends the fields of a row of the trace.
-fn fields_text(fields: &[Field], to: &mut Text) -> Result<(), Memory>
-    ensures ok { OnOk result (to.new ≡ to.old ++ fields_text fields.now) }
-    ensures memory { OnErr result (AppendsPart to.old to.new (fields_text fields.now)) }
+/// Appends the fields of a row of the trace as they are.
+fn joined_fields(fields: &[Field], to: &mut Text) -> Result<(), Memory>
+    ensures ok { OnOk result (to.new ≡ to.old ++ joined_fields fields.now) }
+    ensures memory { OnErr result (AppendsPart to.old to.new (joined_fields fields.now)) }
 {
     for field in fields {
         one_more_field(field, to)?;
@@ -179,7 +157,7 @@ fn mark_text(mark: Mark, to: &mut Text) -> Result<(), Memory>
 }
 
 /// Appends a piece.
-fn append_piece(piece: &Piece, to: &mut Text) -> Result<(), Memory>
+pub fn append_piece(piece: &Piece, to: &mut Text) -> Result<(), Memory>
     ensures ok { OnOk result (to.new ≡ to.old ++ piece_text piece.now) }
     ensures memory { OnErr result (AppendsPart to.old to.new (piece_text piece.now)) }
 {
@@ -188,11 +166,12 @@ fn append_piece(piece: &Piece, to: &mut Text) -> Result<(), Memory>
         Piece::Number(n) => number_text(n, to),
         Piece::Wide(n) => wide_number_text(n, to),
         Piece::Time(t) => time_text(t, to),
-        Piece::Quoted(bytes) => quote(Spelling::Escaped, bytes, to),
+        Piece::Quoted(bytes) => quote(bytes, to),
         Piece::Value(value) => value_text(value, to),
         Piece::Params(params) => params_text(params, to),
         Piece::Mark(mark) => mark_text(mark, to),
-        Piece::Fields(fields) => fields_text(fields, to),
+        Piece::Field(field) => field_bytes(field, to),
+        Piece::Fields(fields) => joined_fields(fields, to),
     }
 }
 

@@ -1,47 +1,33 @@
-//! Texts between double quotes: the bytes that do not stand for themselves there.
+//! Texts between double quotes in a verdict line: the bytes that do not stand for themselves there.
 
 ghost use Rattle.std.specs.Prelude.{◌≡◌, [], ◌∷◌, ◌++◌, OnOk, OnErr, MatchOption, flat_map};
 ghost use Rattle.lola_value.specs.Appending.{AppendsPart};
-ghost use Rattle.lola_report.specs.Spellings.{spelled, between_quotes};
+ghost use Rattle.lola_model.specs.Texts.{escaped, quoted};
 
 use lola_value::text::{Memory, Text};
 
-/// How a byte is spelled between double quotes.
-#[derive(Clone, Copy)]
-pub enum Spelling {
-    /// Behind a backslash where it is a quote, a backslash, LF, CR or a tab: in a verdict line.
-    Escaped,
-    /// Twice where it is a double quote: in a field of the trace.
-    Doubled,
-}
-
-/// The two bytes that spell a byte, unless it stands for itself.
-fn pair_for(spelling: Spelling, byte: u8) -> Option<[u8; 2]>
-    ensures { MatchOption result (spelled spelling byte ≡ byte ∷ []) (λ pair. spelled spelling byte ≡ pair) }
+/// The two bytes that spell a byte, unless it stands for itself: a backslash before a double quote or a backslash, and
+/// `\n`, `\r` and `\t` for LF, CR and a tab.
+fn pair_for(byte: u8) -> Option<[u8; 2]>
+    ensures { MatchOption result (escaped byte ≡ byte ∷ []) (λ pair. escaped byte ≡ pair) }
 {
-    match spelling {
-        Spelling::Escaped => match byte {
-            b'"' | b'\\' => Some([b'\\', byte]),
-            b'\n' => Some([b'\\', b'n']),
-            b'\r' => Some([b'\\', b'r']),
-            b'\t' => Some([b'\\', b't']),
-            _ => None,
-        },
-        Spelling::Doubled => match byte {
-            b'"' => Some([byte, byte]),
-            _ => None,
-        },
+    match byte {
+        b'"' | b'\\' => Some([b'\\', byte]),
+        b'\n' => Some([b'\\', b'n']),
+        b'\r' => Some([b'\\', b'r']),
+        b'\t' => Some([b'\\', b't']),
+        _ => None,
     }
 }
 
 /// Appends bytes as they are spelled, in runs of those that stand for themselves.
-fn spell(spelling: Spelling, bytes: &[u8], to: &mut Text) -> Result<(), Memory>
-    ensures ok { OnOk result (to.new ≡ to.old ++ flat_map (spelled spelling) bytes.now) }
-    ensures memory { OnErr result (AppendsPart to.old to.new (flat_map (spelled spelling) bytes.now)) }
+fn spell(bytes: &[u8], to: &mut Text) -> Result<(), Memory>
+    ensures ok { OnOk result (to.new ≡ to.old ++ flat_map escaped bytes.now) }
+    ensures memory { OnErr result (AppendsPart to.old to.new (flat_map escaped bytes.now)) }
 {
     let mut done = 0;
     for (i, byte) in bytes.iter().enumerate() {
-        if let Some(pair) = pair_for(spelling, *byte) {
+        if let Some(pair) = pair_for(*byte) {
             to.append(&bytes[done..i])?;
             to.append(&pair)?;
             done = i + 1;
@@ -51,11 +37,11 @@ fn spell(spelling: Spelling, bytes: &[u8], to: &mut Text) -> Result<(), Memory>
 }
 
 /// Appends bytes between double quotes.
-pub fn quote(spelling: Spelling, bytes: &[u8], to: &mut Text) -> Result<(), Memory>
-    ensures ok { OnOk result (to.new ≡ to.old ++ between_quotes spelling bytes.now) }
-    ensures memory { OnErr result (AppendsPart to.old to.new (between_quotes spelling bytes.now)) }
+pub fn quote(bytes: &[u8], to: &mut Text) -> Result<(), Memory>
+    ensures ok { OnOk result (to.new ≡ to.old ++ quoted bytes.now) }
+    ensures memory { OnErr result (AppendsPart to.old to.new (quoted bytes.now)) }
 {
     to.append(b"\"")?;
-    spell(spelling, bytes, to)?;
+    spell(bytes, to)?;
     to.append(b"\"")
 }

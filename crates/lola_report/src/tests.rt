@@ -38,7 +38,7 @@ fn entry_is(
         fields,
     };
     let mut text = Text::from_bytes(alloc, b"")?;
-    trace_line(&Entry { row, mark }, &mut text)?;
+    trace_line(alloc, &Entry { row, mark }, &mut text)?;
     assert_eq!(rt; text.as_bytes(), want);
     Ok(())
 }
@@ -76,17 +76,6 @@ fn trace_lines(rt: HostRuntime) -> Result<(), Fail> {
         Field::Int(1),
         b"1,1,1.000000000,L5.000000000,1\n",
     )?;
-    let quoted = Text::from_bytes(alloc, b"x,\"y")?;
-    entry_is(
-        &rt,
-        alloc,
-        0,
-        1,
-        0,
-        Mark::Accepted,
-        Field::Text(quoted),
-        b"0,1,0.000000000,A,\"x,\"\"y\"\n",
-    )?;
     entry_is(
         &rt,
         alloc,
@@ -97,6 +86,50 @@ fn trace_lines(rt: HostRuntime) -> Result<(), Fail> {
         Field::Absent,
         b"0,1,0.000000000,A,#\n",
     )?;
+    Ok(())
+}
+
+/// The field of the first row is this text, and stands so in its line.
+fn text_is(rt: &impl Abort, alloc: Global, text: &[u8], want: &[u8]) -> Result<(), Memory> {
+    let field = Field::Text(Text::from_bytes(alloc, text)?);
+    entry_is(rt, alloc, 0, 1, 0, Mark::Accepted, field, want)
+}
+
+#[test]
+fn texts_in_trace_lines(rt: HostRuntime) -> Result<(), Fail> {
+    let alloc = rt.alloc();
+    text_is(&rt, alloc, b"x y", b"0,1,0.000000000,A,x y\n")?;
+    text_is(&rt, alloc, b"x,y", b"0,1,0.000000000,A,\"x,y\"\n")?;
+    text_is(&rt, alloc, b"x\"y", b"0,1,0.000000000,A,\"x\"\"y\"\n")?;
+    text_is(&rt, alloc, b"x,\"y", b"0,1,0.000000000,A,\"x,\"\"y\"\n")?;
+    text_is(&rt, alloc, b"x\ny", b"0,1,0.000000000,A,\"x\ny\"\n")?;
+    text_is(&rt, alloc, b"x\ry", b"0,1,0.000000000,A,\"x\ry\"\n")?;
+    Ok(())
+}
+
+#[test]
+fn a_quoted_field_among_others(rt: HostRuntime) -> Result<(), Fail> {
+    let alloc = rt.alloc();
+    let mut fields = Fields::create(alloc);
+    fields.push(Field::Int(-7))?;
+    fields.push(Field::Text(Text::from_bytes(alloc, b"a,b")?))?;
+    fields.push(Field::Bool(true))?;
+    fields.push(Field::Text(Text::from_bytes(alloc, b"c")?))?;
+    fields.push(Field::Absent)?;
+    let row = Row {
+        source: 2,
+        number: 10,
+        stamp: 1_500_000_000,
+        fields,
+    };
+    let entry = Entry {
+        row,
+        mark: Mark::Late(3_000_000_000),
+    };
+    let mut text = Text::from_bytes(alloc, b"before;")?;
+    trace_line(alloc, &entry, &mut text)?;
+    let want = b"before;2,10,1.500000000,L3.000000000,-7,\"a,b\",true,c,#\n";
+    assert_eq!(rt; text.as_bytes(), want.as_slice());
     Ok(())
 }
 

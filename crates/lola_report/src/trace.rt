@@ -1,22 +1,45 @@
 //! The lines of the trace: one for each row that was taken, in the order of the journal.
 
 ghost use Rattle.std.specs.Prelude.{◌≡◌, ◌++◌, OnOk, OnErr};
+ghost use Rattle.csv.specs.Writing.{default_writer, needs_byte};
 ghost use Rattle.lola_value.specs.Appending.{AppendsPart};
 ghost use Rattle.lola_model.specs.Trace.{trace_line};
+ghost use Rattle.lola_report.specs.Rows.{has_quoted, is_quoted, joined_line};
 
 use crate::piece::{Piece, append_all};
+use crate::row::written_line;
 use lola_model::journal::Entry;
-use lola_value::text::{Memory, Text};
+use lola_value::text::{Field, Memory, Text};
+use std::alloc::Global;
 
-/// Appends the line of an entry: `SOURCE,NUMBER,TIME,MARK` and a field for each input, then LF.
-///
-/// Sources count from 0 and rows from 1, and the time is the row's stamp in seconds with nine decimals. The mark is
-/// `A` for an accepted row, and for a late one `L` and the time that the merge had reached. A field that is absent is
-/// `#`; a text stands as it is, and between double quotes, with those inside it doubled, exactly where it has a comma
-/// or a double quote. After `Memory` a front of the line may stand behind what was there.
-pub fn trace_line(entry: &Entry, to: &mut Text) -> Result<(), Memory>
-    ensures ok { OnOk result (to.new ≡ to.old ++ trace_line entry.now) }
-    ensures memory { OnErr result (AppendsPart to.old to.new (trace_line entry.now)) }
+// Whether a field with this byte is quoted.
+fn calls_for_quotes(byte: u8) -> bool
+    ensures { result ≡ needs_byte default_writer byte }
+{
+    byte == b',' || byte == b'"' || byte == b'\r' || byte == b'\n'
+}
+
+// Whether a field is quoted. Numbers, truth values and `#` are not.
+fn is_quoted(field: &Field) -> bool
+    ensures { result ≡ is_quoted field.now }
+{
+    match field {
+        Field::Text(text) => text.as_bytes().iter().any(|byte| calls_for_quotes(*byte)),
+        _ => false,
+    }
+}
+
+// Whether one of these fields is quoted.
+fn has_quoted(fields: &[Field]) -> bool
+    ensures { result ≡ has_quoted fields.now }
+{
+    fields.iter().any(|field| is_quoted(field))
+}
+
+// Appends the fields of an entry as they are, with commas between them, and then LF.
+fn joined_line(entry: &Entry, to: &mut Text) -> Result<(), Memory>
+    ensures ok { OnOk result (to.new ≡ to.old ++ joined_line entry.now) }
+    ensures memory { OnErr result (AppendsPart to.old to.new (joined_line entry.now)) }
 {
     let row = &entry.row;
     append_all(
@@ -33,4 +56,23 @@ pub fn trace_line(entry: &Entry, to: &mut Text) -> Result<(), Memory>
         ],
         to,
     )
+}
+
+/// Appends the line of an entry, the row of CSV with the fields `SOURCE`, `NUMBER`, `TIME`, `MARK` and one for each
+/// input, its LF included.
+///
+/// Sources count from 0 and rows from 1, and the time is the row's stamp in seconds with nine decimals. The mark is
+/// `A` for an accepted row, and for a late one `L` and the time that the merge had reached. A field that is absent is
+/// `#`, and a text stands as it is. Where a text has a comma, a double quote or a line end, the crate csv writes the row,
+/// in memory of its own, and puts quotes where they are called for; every other row is joined by commas, which is the
+/// same. After `Memory` a front of the line may stand behind what was there.
+pub fn trace_line(alloc: Global, entry: &Entry, to: &mut Text) -> Result<(), Memory>
+    ensures ok { OnOk result (to.new ≡ to.old ++ trace_line entry.now) }
+    ensures memory { OnErr result (AppendsPart to.old to.new (trace_line entry.now)) }
+{
+    if has_quoted(entry.row.fields.as_slice()) {
+        written_line(alloc, entry, to)
+    } else {
+        joined_line(entry, to)
+    }
 }
