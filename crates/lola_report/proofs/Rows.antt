@@ -1,8 +1,8 @@
 -- What a writer of csv has written of a row, field by field.
 use Rattle.std.proofs.Common.{◌≡◌, ◌==◌, ◌||◌, ◌+◌, ◌-◌, ◌^◌, ℕ, zero, suc, List, [], ◌∷◌, ◌++◌, Bool, true, false, refl, sym, ap, ◌∙◌, arith, length, length-append}
-use Rattle.std.specs.Prelude.{◌&&◌, if◌then◌else◌, not, min}
+use Rattle.std.specs.Prelude.{if◌then◌else◌, not, min}
 use Rattle.std.proofs.lemmas.Bool.{ne_eqb}
-use Rattle.csv.specs.Writing.{default_writer, field_text, fields_written, has_written, next_sep, row_body, row_text, tail_text, writer_setup}
+use Rattle.csv.specs.Writing.{default_writer, field_text, fields_written, has_written, next_sep, row_text, tail_text, writer_setup}
 use Rattle.csv.proofs.WriteFacts.{blank-more, row-more}
 use Rattle.lola_report.specs.Rows.{HasFields, RowWriter, counted, written}
 

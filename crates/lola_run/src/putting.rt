@@ -7,6 +7,7 @@ use lola_model::journal::Entry;
 use lola_port::Sink;
 use lola_report::trace::trace_line;
 use lola_value::text::Text;
+use std::alloc::Global;
 
 /// Puts a text, unless it is empty.
 pub fn put_text<K: Sink>(text: &[u8], out: &mut K) -> Result<(), Stop>
@@ -19,11 +20,17 @@ pub fn put_text<K: Sink>(text: &[u8], out: &mut K) -> Result<(), Stop>
     Ok(())
 }
 
-/// Puts the line of an entry to the trace, made in a text that is kept.
-pub fn put_entry<T: Sink>(entry: &Entry, line: &mut Text, trace: &mut T) -> Result<(), Stop>
+/// Puts the line of an entry to the trace, made in a text that is kept. A row with a field to be quoted takes memory of its own
+/// while it is made.
+pub fn put_entry<T: Sink>(
+    alloc: Global,
+    entry: &Entry,
+    line: &mut Text,
+    trace: &mut T,
+) -> Result<(), Stop>
     ensures { Puts result (trace_line entry.now) (T.state trace.old) (T.state trace.new) }
 {
     line.clear();
-    trace_line(entry, line)?;
+    trace_line(alloc, entry, line)?;
     put_text(line.as_bytes(), trace)
 }

@@ -24,6 +24,7 @@ use std::thread::Threads;
 /// What is kept from row to row: the engine, how many rows were accepted and how many late, and the room for lines.
 #[derive(Drop)]
 pub struct Run {
+    alloc: Global,
     engine: Engine<BoundedStore>,
     accepted: u64,
     late: u64,
@@ -88,6 +89,7 @@ impl Run {
         let lines = Text::from_bytes(alloc, b"")?;
         let engine = new_engine(alloc, hasher, plan, start, show, workers)?;
         Ok(Run {
+            alloc,
             engine,
             accepted: 0,
             late: 0,
@@ -103,7 +105,7 @@ impl Run {
         ensures kept { keeping self.new ≡ keeping self.old }
     {
         numbers_are_in_range(entry);
-        put_entry(entry, &mut self.line, trace)
+        put_entry(self.alloc, entry, &mut self.line, trace)
     }
 
     // Runs an accepted row and puts its lines.

@@ -1,4 +1,4 @@
-use Rattle.std.proofs.Common.{[], refl}
+use Rattle.std.proofs.Common.{refl}
 use Rattle.csv.specs.Writing.{is_blank}
 use Rattle.lola_report.proofs.row.row_bytes.Goals as goal
 
