@@ -6,6 +6,7 @@
 //! no memory. Nothing is claimed of how long a caller waits, or of the order of callers that told each other nothing.
 #![tactic(auto)]
 
+mod beds;
 pub mod lock;
 pub mod object;
 mod plays;

@@ -4,15 +4,16 @@
 ghost use Rattle.std.specs.Prelude.{◌≡◌, ◌<◌, [], length, IfOk};
 ghost use Rattle.lola_turns.specs.Turns.{maker, Taken, MayTell, Turned, IsSameSeat, IsIdle, told, one_more, newcomer, taking, Ended};
 
+use crate::beds::Beds;
 use crate::object::{Act, InOrder, Object, Tells};
 use crate::plays::{Another, Draws, Leaves, Looks};
 use crate::view::View;
 use atomic_table::{Refused, Seat, Table};
 use std::alloc::{AllocError, Global};
+use std::hint;
 use std::marker::Brand;
 use std::snapshot::Snapshot;
 use std::sync::Wait;
-use std::{hint, thread};
 
 /// A caller's seat. It has no bytes, and may go to another thread.
 pub type LockSeat<O, K, E> = Seat<O, View<K, E>>;
@@ -26,25 +27,22 @@ const TICKET: usize = 0;
 // The ticket that is served.
 const SERVING: usize = 1;
 
-// How often a caller looks at the ticket in turn before it lets other threads run.
-const SPINS: u32 = 64;
+// So many turns before its own, or fewer, a caller looks again and again for its turn.
+const NEAR: u64 = 3;
 
-// Waits a moment after so many looks, and counts one more look up to the bound.
-fn pause(looks: u32) -> u32 {
-    if looks < SPINS {
-        hint::spin_loop();
-        looks + 1
-    } else {
-        thread::yield_now();
-        looks
-    }
-}
+// How often it looks so before it sleeps.
+const LOOKS: u32 = 64;
+
+// The end of a turn wakes so many of the callers that come next: the one that is served, and the one behind it, which is
+// then awake when its turn comes.
+const WOKEN: u64 = 2;
 
 /// A ticket lock round an object O, which is made by a setting K and changes by events E.
 #[derive(Drop)]
 pub struct TicketLock<O: Object<K, E>, K, E> {
     /// Where the object lies. A call that is lent more than its own values takes it here between `enter` and `leave`.
     pub table: Table<O, View<K, E>, K, InOrder, Global>,
+    beds: Beds,
     ghost sized: { (table.shared.table_id.words ≡ 2) × (table.shared.table_id.slots ≡ 1) },
 }
 
@@ -58,16 +56,56 @@ impl<O: Object<K, E> + Drop, K, E> TicketLock<O, K, E> {
         requires { O.opens setting.now object }
         ensures { IfOk result (λ t. (t.1.table_id ≡ t.0.table.shared.table_id) × (t.1.id ≡ 0) × (t.1.me ≡ (maker setting.now, []))) }
     {
+        let beds = Beds::create(alloc)?;
         let mut slots = Vec::with_capacity(alloc, 1)?;
         slots.push_reserved(object);
         match Table::new(alloc, &[0, 0], slots, setting) {
-            Ok((table, seat)) => Ok((TicketLock { table }, seat)),
+            Ok((table, seat)) => Ok((TicketLock { table, beds }, seat)),
             Err(Refused { slots: _ }) => Err(AllocError),
         }
     }
 }
 
 impl<O: Object<K, E>, K, E> TicketLock<O, K, E> {
+    // How many turns are ended before the one of this ticket, which is drawn and not yet served to its end.
+    fn turns_before(&self, ticket: u64) -> u64 {
+        ticket.wrapping_sub(self.table.shared.peek(SERVING))
+    }
+
+    // Waits until this ticket is served.
+    fn await_turn<R: Wait>(&self, rt: &R, ticket: u64) {
+        let mut looks = 0;
+        for _ in rt.forever() {
+            let before = self.turns_before(ticket);
+            if before == 0 {
+                return;
+            }
+            if before <= NEAR && looks < LOOKS {
+                hint::spin_loop();
+                looks += 1;
+            } else {
+                self.sleep(rt, ticket);
+                looks = 0;
+            }
+        }
+        unreachable!()
+    }
+
+    // Sleeps unless this ticket is served, until a turn ends not long before its own. It may return for no reason.
+    fn sleep<R: Wait>(&self, rt: &R, ticket: u64) {
+        let bed = self.beds.of(ticket);
+        let heard = bed.listen();
+        bed.sleep(rt, heard, self.turns_before(ticket) != 0);
+    }
+
+    // Wakes those that come next, the first of them with this ticket, where they sleep.
+    fn wake_next(&self, served: u64) {
+        let waiting = self.table.shared.peek(TICKET).wrapping_sub(served);
+        for behind in 0..waiting.min(WOKEN) {
+            self.beds.of(served.wrapping_add(behind)).ring();
+        }
+    }
+
     /// Waits for a turn, and takes the object. Whoever has entered must leave: until then nobody else is served.
     pub fn enter<R: Wait>(&self, rt: &R, seat: &mut LockSeat<O, K, E>)
         requires own { seat.old.table_id ≡ self.now.table.shared.table_id }
@@ -77,12 +115,11 @@ impl<O: Object<K, E>, K, E> TicketLock<O, K, E> {
     {
         let shared = &self.table.shared;
         let ticket = shared.fetch_add::<Draws>(seat, TICKET, 1);
-        let mut looks = 0;
         for _ in rt.forever() {
             if shared.load::<Looks>(seat, SERVING) == ticket {
                 return;
             }
-            looks = pause(looks);
+            self.await_turn(rt, ticket);
         }
         unreachable!()
     }
@@ -95,7 +132,8 @@ impl<O: Object<K, E>, K, E> TicketLock<O, K, E> {
         ensures same { IsSameSeat seat.old seat.new }
         ensures told { (e : E) → J.event ≡ Some e → seat.new.me ≡ (told seat.old.me.0 e, []) }
     {
-        self.table.shared.fetch_add::<Leaves<J>>(seat, SERVING, 1);
+        let served = self.table.shared.fetch_add::<Leaves<J>>(seat, SERVING, 1);
+        self.wake_next(served.wrapping_add(1));
     }
 
     /// One turn of a caller: waits for it, makes the call, and ends it. It takes no memory. What the caller then knows
@@ -146,7 +184,7 @@ impl<O: Object<K, E>, K, E> TicketLock<O, K, E> {
         requires back { length first.me.0.known ≡ first.me.0.made }
         ensures { Ended O.opens O.moves result first.me.0 }
     {
-        let TicketLock { table } = self;
+        let TicketLock { table, beds: _ } = self;
         let mut closed = table.close_with(first);
         let object = closed.take(0);
         closed.free();
