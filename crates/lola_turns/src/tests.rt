@@ -2,6 +2,7 @@
 
 ghost use Rattle.std.specs.Prelude.{◌≡◌};
 
+use crate::beds::Beds;
 use crate::{Act, Object, TicketLock};
 use std::mem;
 use std::test::Fail;
@@ -42,5 +43,17 @@ fn two_callers_take_turns(rt: HostRuntime) -> Result<(), Fail> {
     assert_eq!(rt; lock.turn(&rt, &mut first, Put { value: 6 }), 5);
     lock.take_back(&mut first, second);
     assert_eq!(rt; lock.end(first).value, 6);
+    Ok(())
+}
+
+// The sleeps return, since each bed was rung after its caller had listened. Were a ring lost, the test would not end.
+#[test]
+fn a_ring_before_the_sleep_is_not_lost(rt: HostRuntime) -> Result<(), Fail> {
+    let beds = Beds::create(rt.alloc())?;
+    for ticket in 0..130 {
+        let heard = beds.of(ticket).listen();
+        beds.of(ticket).ring();
+        beds.of(ticket).sleep(&rt, heard, true);
+    }
     Ok(())
 }
