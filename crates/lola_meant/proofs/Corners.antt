@@ -77,6 +77,7 @@ unspawned_resolves = record {
   window_numbers = refl;
   texts = refl;
   texts_used = λ i lt. absurd (omega (arith, lt));
+  texts_in_order = refl;
 }
 
 -- nothing of it is refused, and it is not named: that a close clause has a spawn clause cannot be left out
@@ -155,6 +156,7 @@ used_resolves = record {
   window_numbers = refl;
   texts = refl;
   texts_used = λ i lt. absurd (omega (arith, lt));
+  texts_in_order = refl;
 }
 
 -- all that is asked for can be met

@@ -1,6 +1,6 @@
 -- The whole specification.
 use Rattle.std.proofs.Common.{◌≡◌, ℕ, ◌+◌, ◌<◌, ◌≤◌, List, [], ◌∷◌, ◌++◌, Option, Some, None, length, get_or, drop, refl, sym, ap, subst, ◌∙◌, append_assoc, append-nil, arith}
-use Rattle.std.specs.Prelude.{IsTrue, Contains}
+use Rattle.std.specs.Prelude.{IsTrue}
 use Rattle.lola_value.specs.declared.front.Refusal.{Refusal}
 use Rattle.lola_tree.specs.declared.declarations.Declaration.{Declaration}
 use Rattle.lola_tree.specs.declared.declarations.Declaration.TheVariants as d
@@ -11,9 +11,11 @@ use Rattle.lola_model.specs.Named.{are_distinct, counted, window_number, literal
 use Rattle.lola_model.specs.declared.spec.Constant.{Constant}
 use Rattle.lola_model.specs.declared.spec.Stream.{Stream}
 use Rattle.lola_model.specs.declared.spec.WindowSpec.{WindowSpec}
+use Rattle.lola_resolve.specs.Numbered.{IsInOrder}
 use Rattle.lola_resolve.specs.Specification.{AreConstants, AreStreams, Resolves, constants_of, ranges_of}
 use Rattle.lola_resolve.specs.Targets.{targets_of}
 use Rattle.lola_resolve.specs.declared.made.Made.{Made}
+use Rattle.lola_resolve.proofs.Growth.{in_order-used}
 use Rattle.lola_named.specs.Making.{AreStreamsOf, GrowsByStreams, IsGrown, IsNothing}
 use Rattle.lola_named.specs.Ranged.{first_ranges, streams_behind}
 use Rattle.lola_named.proofs.Pieces.{begin_itself, left_more, left_none}
@@ -66,7 +68,7 @@ is_grown a b ss nothing g =
     let none : length a.texts ≡ 0 = ap length nothing.texts in
     record {
       numbers = g.numbered ∙ ap (λ (l : List WindowSpec). counted (length l) (length g.more_windows)) nothing.windows ∙ ap (λ (l : List WindowSpec). counted 0 (length l)) (sym windows);
-      used = λ i within. g.used i (omega arith) within;
+      in_order = subst (λ (n : ℕ). IsInOrder n (listed_streams literal_text ss) (length b.texts)) none g.in_order;
     }
 
 pub resolves : (ds : List Declaration) (made : Made) (ss : List Stream) (cs : List Constant) (texts : List (List ℕ)) (refused : List ℕ)
@@ -76,14 +78,16 @@ resolves ds made ss cs texts refused are grown constants ranged same distinct =
     let P : List (List ℕ) → Type 0 = λ l. AreStreams ds (targets_of ds) l made.windows 0 0 ds ss in
     let Q : List (List ℕ) → Type 0 = λ l. AreConstants l (constants_of ds) cs in
     let R : List (List ℕ) → Type 0 = λ l. IsTrue (are_distinct l) in
-    let S : List (List ℕ) → Type 0 = λ l. (i : ℕ) → i < length l → Contains (listed_streams literal_text ss) i in
+    let S : List (List ℕ) → Type 0 = λ l. IsInOrder 0 (listed_streams literal_text ss) (length l) in
+    let in_order = subst S (sym same) grown.in_order in
     record {
       streams = subst P (sym same) (are made.texts made.windows (begin_itself made));
       constants = subst Q (sym same) constants;
       refused = ranged;
       window_numbers = grown.numbers;
       texts = subst R (sym same) distinct;
-      texts_used = subst S (sym same) grown.used;
+      texts_used = λ i within. in_order-used 0 (length texts) (listed_streams literal_text ss) in_order i (omega arith) within;
+      texts_in_order = in_order;
     }
 
 -- ---- refusals

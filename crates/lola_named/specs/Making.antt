@@ -1,5 +1,5 @@
 -- Clauses and streams that are made while texts and windows grow.
-use Rattle.std.specs.Prelude.{ℕ, ◌≡◌, ◌<◌, ◌+◌, List, [], ◌∷◌, ◌++◌, Option, Some, None, length, map, Contains}
+use Rattle.std.specs.Prelude.{ℕ, ◌≡◌, ◌+◌, List, [], ◌∷◌, ◌++◌, Option, Some, None, length, map}
 use Rattle.lola_tree.specs.declared.literals.Typed.{Typed}
 use Rattle.lola_tree.specs.declared.pacing.Pacing.{Pacing}
 use Rattle.lola_tree.specs.declared.clauses.Part.{Part as TreePart}
@@ -18,6 +18,7 @@ use Rattle.lola_model.specs.declared.spec.Constant.{Constant}
 use Rattle.lola_model.specs.declared.spec.Part.TheVariants as part
 use Rattle.lola_model.specs.declared.spec.Stream.{Stream}
 use Rattle.lola_model.specs.declared.spec.WindowSpec.{WindowSpec}
+use Rattle.lola_resolve.specs.Numbered.{IsInOrder}
 use Rattle.lola_resolve.specs.Targets.{Targets, targets_of, parameter_targets}
 use Rattle.lola_resolve.specs.Resolved.{Standing}
 use Rattle.lola_resolve.specs.Clauses.{IsPacing, IsOptional, IsPart, ArePartsOf, IsSpawn, IsEval, IsClose, IsTriggerClause, IsOutput, IsTrigger, input_stream, place_before}
@@ -176,4 +177,4 @@ pub record IsNothing (made : Made) : Type 0 where
 -- the windows and texts made are those of the streams
 pub record IsGrown (made : Made) (ss : List Stream) : Type 0 where
   pub numbers : listed_streams window_number ss ≡ counted 0 (length made.windows)
-  pub used : (i : ℕ) → i < length made.texts → Contains (listed_streams literal_text ss) i
+  pub in_order : IsInOrder 0 (listed_streams literal_text ss) (length made.texts)

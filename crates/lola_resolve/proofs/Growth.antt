@@ -1,12 +1,12 @@
 -- Texts and windows that grow.
-use Rattle.std.proofs.Common.{◌≡◌, ℕ, zero, suc, ◌+◌, List, [], ◌∷◌, ◌++◌, Some, length, refl, sym, ap, ap₂, subst, ◌∙◌, inl, inr, arith, lit<, append_assoc, append-nil, length-append, add-zero}
+use Rattle.std.proofs.Common.{◌≡◌, ℕ, zero, suc, ◌+◌, ◌<◌, ◌≤◌, List, [], ◌∷◌, ◌++◌, Some, length, refl, sym, ap, ap₂, subst, ◌∙◌, inl, inr, arith, lit<, append_assoc, append-nil, length-append, add-zero}
 use Rattle.std.specs.Prelude.{slice_get, Contains}
 use Rattle.std.proofs.lemmas.Bool.{cases_lt}
 use Rattle.std.proofs.lemmas.List.Elements.{Contains-append_left, Contains-append_right}
 use Rattle.lola_model.specs.Named.{counted}
 use Rattle.lola_model.specs.declared.spec.WindowSpec.{WindowSpec}
 use Rattle.lola_resolve.specs.Made.{Grows, BeginWith, FromNowOn}
-use Rattle.lola_resolve.specs.Numbered.{NumbersText}
+use Rattle.lola_resolve.specs.Numbered.{IsInOrder, NumbersText}
 use Rattle.lola_resolve.specs.declared.made.Made.{Made}
 
 -- ---- lists
@@ -29,6 +29,23 @@ pub got-seam : {A : Type 0} (xs : List A) (y : A) (ys : List A) → slice_get (x
 got-seam [] y ys = refl
 got-seam (x ∷ xs) y ys = got-seam xs y ys
 
+-- ---- numbers in order
+
+-- some numbers, and then some more
+pub in_order-append : (n m k : ℕ) (is js : List ℕ) → IsInOrder n is m → IsInOrder m js k → IsInOrder n (is ++ js) k
+in_order-append n m k [] js e after = subst (λ x. IsInOrder x js k) (sym e) after
+in_order-append n m k (i ∷ is) js (inl (known, rest)) after = inl (known, in_order-append n m k is js rest after)
+in_order-append n m k (i ∷ is) js (inr (next, rest)) after = inr (next, in_order-append (n + 1) m k is js rest after)
+
+-- each new number is used
+pub in_order-used : (n m : ℕ) (is : List ℕ) → IsInOrder n is m → (i : ℕ) → n ≤ i → i < m → Contains is i
+in_order-used n m [] e i low high = absurd (omega arith)
+in_order-used n m (j ∷ is) (inl (known, rest)) i low high = Contains-append_right (j ∷ []) is i (in_order-used n m is rest i low high)
+in_order-used n m (j ∷ is) (inr (next, rest)) i low high = elim (cases_lt n i) [
+  | inl above ↦ let more : n + 1 ≤ i = omega arith in Contains-append_right (j ∷ []) is i (in_order-used (n + 1) m is rest i more high)
+  | inr here ↦ let same : j ≡ i = omega arith in Contains-append_left (j ∷ []) is i (subst (λ x. Contains (j ∷ []) x) same (0, lit< tt, refl))
+]
+
 -- ---- growth
 
 -- nothing is made
@@ -39,7 +56,7 @@ grows_none made = record {
   more_windows = [];
   windows = sym (append-nil made.windows);
   numbered = refl;
-  used = λ i low high. absurd (omega arith);
+  in_order = refl;
 }
 
 -- one growth after another
@@ -53,10 +70,7 @@ grows_then a b c ws ts us vs g h = record {
       ap₂ (λ m n. m ++ n) g.numbered
       (h.numbered ∙ ap (λ n. counted n (length h.more_windows)) (ap length g.windows ∙ length-append a.windows g.more_windows))
       ∙ counted-append (length a.windows) g.more_windows h.more_windows;
-  used = λ i low high. elim (cases_lt i (length b.texts)) [
-    | inl below ↦ Contains-append_left ts vs i (g.used i low below)
-    | inr above ↦ Contains-append_right ts vs i (h.used i above high)
-  ];
+  in_order = in_order-append (length a.texts) (length b.texts) (length c.texts) ts vs g.in_order h.in_order;
 }
 
 -- what begins with all that is made begins with what was made before
@@ -82,7 +96,7 @@ grows_text old new text id n same = record {
   more_windows = [];
   windows = same ∙ sym (append-nil old.windows);
   numbered = refl;
-  used = λ i low high. let e = n.only i low high in subst (λ k. Contains (id ∷ []) k) (sym e) ((0, lit< tt, refl));
+  in_order = n.in_order;
 }
 
 -- a window is numbered
@@ -93,7 +107,7 @@ grows_window old new w same more = record {
   more_windows = w ∷ [];
   windows = more;
   numbered = refl;
-  used = λ i low high. let e = ap length same in absurd (omega arith);
+  in_order = ap length (sym same);
 }
 
 -- a text stands at its number from now on

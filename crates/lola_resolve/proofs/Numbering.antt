@@ -1,5 +1,5 @@
 -- Texts with their numbers.
-use Rattle.std.proofs.Common.{◌≡◌, ℕ, zero, suc, ◌+◌, ◌<◌, ◌≤◌, Bool, true, false, not, ◌&&◌, List, [], ◌∷◌, ◌++◌, Some, None, length, nat_eq, refl, sym, ap, subst, inl, inr, ◌∙◌, arith, length-append}
+use Rattle.std.proofs.Common.{◌≡◌, ℕ, zero, suc, ◌+◌, ◌<◌, ◌≤◌, Bool, true, false, not, ◌&&◌, List, [], ◌∷◌, ◌++◌, Some, None, length, nat_eq, refl, sym, ap, subst, inl, inr, ◌∙◌, arith, append-nil, length-append}
 use Rattle.std.specs.Prelude.{Vec, IsTrue, slice_get, nat_lt}
 use Rattle.std.specs.List.{position, position_or_len, list_any}
 use Rattle.std.specs.Cmp.Lexicographic.{pointwise}
@@ -110,7 +110,22 @@ numbers_new ts t = record {
   there = got-seam ts t [];
   more = t ∷ [];
   grown = refl;
-  only = λ i low high. let all = length-append ts (t ∷ []) in omega arith;
+  in_order = let all = length-append ts (t ∷ []) in inr (refl, omega arith);
+}
+
+-- a text that stands somewhere stands within the list
+got-within : (ts : List (List ℕ)) (t : List ℕ) (i : ℕ) → slice_get ts i ≡ Some t → i < length ts
+got-within [] t i is = absurd (cc is)
+got-within (u ∷ ts) t zero is = omega arith
+got-within (u ∷ ts) t (suc i) is = let less = got-within ts t i is in omega arith
+
+-- a text keeps its number
+pub numbers_known : (ts : List (List ℕ)) (t : List ℕ) (id : ℕ) → slice_get ts id ≡ Some t → NumbersText t id ts ts
+numbers_known ts t id at = record {
+  there = at;
+  more = [];
+  grown = sym (append-nil ts);
+  in_order = inl (got-within ts t id at, refl);
 }
 
 pub texts-pushed : (ks : List Key) (k : Key) → texts_in (ks ++ k ∷ []) ≡ texts_in ks ++ k.items ∷ []

@@ -1,5 +1,5 @@
 -- What is made while expressions are resolved: texts and windows, each with its number.
-use Rattle.std.specs.Prelude.{ℕ, ◌≡◌, ◌<◌, ◌≤◌, List, ◌++◌, Option, Some, length, slice_get, Contains}
+use Rattle.std.specs.Prelude.{ℕ, ◌≡◌, List, ◌++◌, Option, Some, length, slice_get}
 use Rattle.lola_tree.specs.declared.declarations.Declaration.{Declaration}
 use Rattle.lola_tree.specs.declared.declarations.Declaration.TheVariants as d
 use Rattle.lola_tree.specs.declared.expressions.Expr.{Expr as TreeExpr}
@@ -14,6 +14,7 @@ use Rattle.lola_model.specs.declared.spec.Pace.{Pace}
 use Rattle.lola_model.specs.declared.spec.WindowSpec.{WindowSpec}
 use Rattle.lola_resolve.specs.Targets.{Targets, target_of}
 use Rattle.lola_resolve.specs.Tables.{Means}
+use Rattle.lola_resolve.specs.Numbered.{IsInOrder}
 use Rattle.lola_resolve.specs.Resolved.{Standing, IsResolved}
 use Rattle.lola_resolve.specs.Clauses.{IsFormula, IsPace, IsPacing}
 use Rattle.lola_resolve.specs.declared.targets.Target.TheVariants as target
@@ -23,14 +24,14 @@ use Rattle.lola_resolve.specs.declared.scope.Scope.{Scope}
 -- ---- growth
 
 -- Texts and windows were made. The windows among what was resolved meanwhile have the numbers of the new windows, in order, and
--- each new text is used there.
+-- the texts there have known numbers or the numbers of the new texts, in the order of their first uses.
 pub record Grows (old new : Made) (window_numbers text_numbers : List ℕ) : Type 0 where
   pub more_texts : List (List ℕ)
   pub texts : new.texts ≡ old.texts ++ more_texts
   pub more_windows : List WindowSpec
   pub windows : new.windows ≡ old.windows ++ more_windows
   pub numbered : window_numbers ≡ counted (length old.windows) (length more_windows)
-  pub used : (i : ℕ) → length old.texts ≤ i → i < length new.texts → Contains text_numbers i
+  pub in_order : IsInOrder (length old.texts) text_numbers (length new.texts)
 
 -- texts and windows that begin with what is made so far
 pub record BeginWith (made : Made) (texts : List (List ℕ)) (windows : List WindowSpec) : Type 0 where

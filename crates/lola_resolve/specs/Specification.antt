@@ -37,6 +37,7 @@ use Rattle.lola_model.specs.declared.spec.Spec.{Spec}
 use Rattle.lola_names.specs.Quantities.{span_of}
 use Rattle.lola_names.specs.Refused.{refusals_of}
 use Rattle.lola_resolve.specs.Targets.{Targets, targets_of}
+use Rattle.lola_resolve.specs.Numbered.{IsInOrder}
 use Rattle.lola_resolve.specs.Resolved.{kind_spelled, IsValue}
 use Rattle.lola_resolve.specs.Clauses.{IsOutput, IsTrigger, input_stream}
 
@@ -152,7 +153,8 @@ ranges_of (d.Trigger x ∷ ds) (s ∷ ss) = trigger_ranges x s ++ ranges_of ds s
 -- ---- the whole
 
 -- The declarations are resolved to this specification: its streams and constants in the order of the text, its windows numbered in
--- the order in which they stand there, its text literals each once and each used, and the places of what is out of range.
+-- the order in which they stand there, its text literals each once, each used and numbered in the order of their first uses, and
+-- the places of what is out of range.
 pub record Resolves (ds : List Declaration) (spec : Spec) : Type 0 where
   pub streams : AreStreams ds (targets_of ds) spec.texts spec.windows 0 0 ds spec.streams
   pub constants : AreConstants spec.texts (constants_of ds) spec.constants
@@ -160,6 +162,7 @@ pub record Resolves (ds : List Declaration) (spec : Spec) : Type 0 where
   pub window_numbers : listed_spec window_number spec ≡ counted 0 (length spec.windows)
   pub texts : IsTrue (are_distinct spec.texts)
   pub texts_used : (i : ℕ) → i < length spec.texts → Contains (listed_spec literal_text spec) i
+  pub texts_in_order : IsInOrder 0 (listed_spec literal_text spec) (length spec.texts)
 
 -- what resolving answers: the specification where nothing of the names is refused, else the first refusal
 abbrev pub AnswersNames : List Declaration → Result Spec FrontEnd → Type 0

@@ -4,7 +4,7 @@ use Rattle.std.specs.List.{list_any}
 use Rattle.lola_model.specs.Named.{are_distinct}
 use Rattle.lola_resolve.specs.Entries.{texts_in}
 use Rattle.lola_resolve.specs.Numbered.{NumbersText}
-use Rattle.lola_resolve.proofs.Numbering.{is_text, no_key, distinct-pushed, numbers_new, texts-pushed, texts-length}
+use Rattle.lola_resolve.proofs.Numbering.{is_text, no_key, distinct-pushed, numbers_known, numbers_new, texts-pushed, texts-length}
 use Rattle.lola_resolve.proofs.made.TextNumbers.number.Goals as goal
 
 abbrev grown : (c : goal.In_ok-insert) → texts_in c.insert.new.self.keys ≡ c.args.self.now ++ c.args.text.now ∷ []
@@ -23,6 +23,9 @@ invariant_of-self-2 c =
     let nowhere : (i : ℕ) → slice_get c.args.self.now i ≡ Some c.args.text.now → ⊥ = λ i is. c.in_default.ensures i (is ∙ ap Some (sym c.as_bytes.ensures)) in
     let apart : IsTrue (are_distinct c.args.self.now) = subst (λ (l : List (List ℕ)). IsTrue (are_distinct l)) c.self.view_is c.self.invariant in
     subst (λ (l : List (List ℕ)). IsTrue (are_distinct l)) (sym (grown c)) (distinct-pushed c.args.self.now c.args.text.now apart nowhere)
+
+pub returns-in-Some : goal.returns-in-Some
+returns-in-Some c = numbers_known c.args.self.now c.args.text.now c.in-Some.id.0 (c.in-Some.ensures.0 ∙ ap Some c.as_bytes.ensures)
 
 pub returns : goal.returns
 returns c =
