@@ -1,61 +1,33 @@
--- Bytes that stand in a field without quotes, and lists without some byte.
+-- Lists without some byte.
 use Rattle.std.proofs.Common.{◌≡◌, ◌≢◌, ◌<◌, ◌≤◌, ◌+◌, ℕ, suc, List, [], ◌∷◌, ◌++◌, ◌∙◌, inl, inr, Bool, true, false, refl, ap, subst, arith, take, drop, length, add-one}
-use Rattle.std.specs.Prelude.{nat_eq, Contains}
+use Rattle.std.specs.Prelude.{nat_eq, nat_lt, not, Contains}
 use Rattle.std.specs.List.{AllByRecursion, list_all, list_any, position_or_len, before_first, after_first}
 use Rattle.std.proofs.Math.ListN.{get_or-append}
 use Rattle.std.proofs.Math.Seq.{take-append_seam, get_or-append_seam}
-use Rattle.std.proofs.lemmas.Bool.{and_parts, eq-eqb, leb-true, ne_eqb, or_from, or_parts}
+use Rattle.std.proofs.lemmas.Bool.{and_parts, eq-eqb, leb-true, ltb-true, ne_eqb, or_from, or_parts}
 use Rattle.std.proofs.lemmas.List.{length-append}
 use Rattle.std.proofs.lemmas.List.Folds.{list_any-append}
 use Rattle.std.proofs.lemmas.List.Sums.{position_or_len_is}
 use Rattle.std.proofs.lemmas.List.Elements.{Contains-append_left, Contains-append_right, Contains-push}
 use Rattle.lola_model.proofs.Strictly.{Contains-cases, Contains-none}
 use Rattle.lola_value.specs.Times.{is_digit, is_point}
-use Rattle.lola_model.specs.Trace.{is_quotable}
-use Rattle.lola_csv.specs.Line.{ends_line, has_line_end, is_comma}
+use Rattle.lola_report.proofs.Mild.{Mild, is_mild}
+use Rattle.lola_csv.specs.Line.{ends_line, has_line_end}
 use Rattle.lola_csv.proofs.LineFacts.{any-at}
 use Rattle.lola_journal.specs.Journals.{is_lf}
-
--- a byte that is no comma, double quote, blank or line end
-pub record IsMild (b : ℕ) : Type 0 where
-  pub above : 34 < b
-  pub other : b ≢ 44
-
-abbrev pub AreMild : List ℕ → Type 0
-AreMild xs = AllByRecursion IsMild xs
-
-pub mild-any : (q : ℕ → Bool) → ((b : ℕ) → IsMild b → q b ≡ false) → (xs : List ℕ) → AreMild xs → list_any q xs ≡ false
-mild-any q miss [] m = refl
-mild-any q miss (x ∷ xs) m = or_from (q x) (list_any q xs) (miss x m.0) (mild-any q miss xs m.1)
-
-pub mild-append : (xs ys : List ℕ) → AreMild xs → AreMild ys → AreMild (xs ++ ys)
-mild-append [] ys a b = b
-mild-append (x ∷ xs) ys a b = (a.0, mild-append xs ys a.1 b)
 
 digit-range : (b : ℕ) → is_digit b ≡ true → (48 ≤ b) × (b ≤ 57)
 digit-range b h = let p = and_parts _ _ h in (leb-true _ _ p.0, leb-true _ _ p.1)
 
-pub digit-mild : (b : ℕ) → is_digit b ≡ true → IsMild b
-digit-mild b h = let r = digit-range b h in record { above = omega (arith, r.0); other = λ e. absurd (omega (arith, r.0, e)) }
-
-pub digits-mild : (xs : List ℕ) → list_all is_digit xs ≡ true → AreMild xs
-digits-mild [] h = tt
-digits-mild (x ∷ xs) h = let p = and_parts _ _ h in (digit-mild x p.0, digits-mild xs p.1)
-
-mild-quotable : (b : ℕ) → IsMild b → is_quotable b ≡ false
-mild-quotable b m = or_from _ _ (ne_eqb b 44 m.other) (ne_eqb b 34 (λ e. absurd (omega (arith, e, m.above))))
-
-mild-end : (b : ℕ) → IsMild b → ends_line b ≡ false
-mild-end b m = or_from _ _ (ne_eqb b 13 (λ e. absurd (omega (arith, e, m.above)))) (ne_eqb b 10 (λ e. absurd (omega (arith, e, m.above))))
-
--- a field that is written as it is
-pub record IsBare (x : List ℕ) : Type 0 where
-  pub some : x ≢ []
-  pub unquoted : list_any is_quotable x ≡ false
-  pub one_line : has_line_end x ≡ false
-
-pub mild-bare : (xs : List ℕ) → xs ≢ [] → AreMild xs → IsBare xs
-mild-bare xs some m = record { some = some; unquoted = mild-any is_quotable mild-quotable xs m; one_line = mild-any ends_line mild-end xs m }
+-- numbers, times, truth values and marks end no line
+pub mild-one-line : (xs : List ℕ) → Mild xs → has_line_end xs ≡ false
+mild-one-line [] m = refl
+mild-one-line (x ∷ xs) m =
+    let p = and_parts (is_mild x) (list_all is_mild xs) m in
+    let high : 34 < x = ltb-true 34 x (and_parts (nat_lt 34 x) (not (nat_eq x 44)) p.0).0 in
+    or_from (ends_line x) (has_line_end xs)
+    (or_from (nat_eq x 13) (nat_eq x 10) (ne_eqb x 13 (λ e. absurd (omega (arith, e, high)))) (ne_eqb x 10 (λ e. absurd (omega (arith, e, high)))))
+    (mild-one-line xs p.1)
 
 pub digits-no-point : (xs : List ℕ) → list_all is_digit xs ≡ true → list_any is_point xs ≡ false
 digits-no-point [] h = refl
@@ -81,13 +53,6 @@ line-no-cr (x ∷ xs) h =
     let p = or_parts _ _ h in
     let q = or_parts _ _ p.0 in
     or_from _ _ q.0 (line-no-cr xs p.1)
-
-pub no-commas : (xs : List ℕ) → list_any is_quotable xs ≡ false → list_any is_comma xs ≡ false
-no-commas [] h = refl
-no-commas (x ∷ xs) h =
-    let p = or_parts _ _ h in
-    let q = or_parts _ _ p.0 in
-    or_from _ _ q.0 (no-commas xs p.1)
 
 -- the first byte that passes a test, behind bytes that do not
 module _ (p : ℕ → Bool) (xs ys : List ℕ) (c : ℕ) (none : list_any p xs ≡ false) (hit : p c ≡ true) where

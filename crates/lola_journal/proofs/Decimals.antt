@@ -16,7 +16,7 @@ use Rattle.lola_value.proofs.Printing.{nine_at_most}
 use Rattle.lola_value.proofs.Ranges.{small}
 use Rattle.lola_csv.specs.Values.{and_then, in_range, read_digits, read_integer, read_number}
 use Rattle.lola_journal.specs.Candidates.{natural, read_natural}
-use Rattle.lola_journal.proofs.Bytes.{AreMild, IsBare, IsMild, digits-mild, digits-no-point, first-after, first-before, mild-append, mild-bare}
+use Rattle.lola_journal.proofs.Bytes.{digits-no-point, first-after, first-before}
 
 -- digits that spell a number
 pub record Spell (n : ℕ) (ds : List ℕ) : Type 0 where
@@ -45,9 +45,6 @@ decimal-spells = decimal_by_steps (λ n ds. Spell n ds)
 
 pub decimal-some : (n : ℕ) → n < 2 ^ 64 → decimal n ≢ []
 decimal-some n lt e = let some = decimal_nonempty n lt in absurd (omega (arith, ap length e))
-
-pub decimal-bare : (n : ℕ) → n < 2 ^ 64 → IsBare (decimal n)
-decimal-bare n lt = mild-bare (decimal n) (decimal-some n lt) (digits-mild (decimal n) (decimal-spells n lt).all)
 
 -- zeros before digits
 zeros-all : (k : ℕ) (ds : List ℕ) → list_all is_digit ds ≡ true → list_all is_digit (replicate k 48 ++ ds) ≡ true
@@ -114,18 +111,6 @@ module _ (t : ℕ) (in_time : t ≤ latest) where
       ∙ ap (timed w) (first-after is_point w d 46 none refl)
       ∙ timed-is
 
-  pub time-mild : AreMild (time_text t)
-  time-mild =
-      mild-append (decimal (t / 1000000000)) (46 ∷ nine_digits (t % 1000000000)) (digits-mild _ whole-spells.all)
-      (record { above = lit< tt; other = λ e. cc e }, digits-mild _ (nine-all (t % 1000000000) part-fits))
-
-  pub time-bare : IsBare (time_text t)
-  time-bare = mild-bare (time_text t) (λ e. never (decimal (t / 1000000000)) e) time-mild
-    where
-      never : (xs : List ℕ) → xs ++ (46 ∷ nine_digits (t % 1000000000)) ≡ [] → ⊥
-      never [] e = cc e
-      never (x ∷ xs) e = cc e
-
 -- digits without a sign
 digits-integer : (ds : List ℕ) → ds ≢ [] → list_all is_digit ds ≡ true → read_integer ds ≡ Some (pos (number_of ds))
 digits-integer [] some all = absurd (some refl)
@@ -170,16 +155,6 @@ number-back k z within = ap (λ o. and_then o (in_range k)) (integer-read k z wi
 
 pub natural-back : (k : Kind) (n : ℕ) → is_within k (pos n) ≡ true → read_natural k (decimal n) ≡ Some n
 natural-back k n within = ap (λ o. and_then o natural) (number-back k (pos n) within)
-
-minus-mild : IsMild 45
-minus-mild = record { above = lit< tt; other = λ e. cc e }
-
-negative-bare : (n : ℕ) → n < 2 ^ 64 → IsBare (45 ∷ decimal n)
-negative-bare n lt = mild-bare (45 ∷ decimal n) (λ e. cc e) (minus-mild, digits-mild (decimal n) (decimal-spells n lt).all)
-
-pub integer-bare : (k : Kind) (z : ℤ) → is_within k z ≡ true → IsBare (integer_text z)
-integer-bare k (pos n) within = decimal-bare n (pos-fits k n within)
-integer-bare k (negsuc n) within = negative-bare (n + 1) (neg-fits k n within)
 
 -- the numbers of a source and of a row
 pub source-within : (n : ℕ) → n < 2 ^ 32 → is_within kind.UInt32 (pos n) ≡ true

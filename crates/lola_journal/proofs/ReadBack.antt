@@ -20,17 +20,16 @@ use Rattle.lola_model.specs.declared.journal.Entry.{Entry}
 use Rattle.lola_model.specs.declared.journal.Mark.{Mark}
 use Rattle.lola_model.specs.declared.journal.Mark.TheVariants as mark
 use Rattle.lola_model.specs.declared.plan.Plan.{Plan}
-use Rattle.lola_model.specs.Trace.{IsFieldOf, IsMarkInTime, IsTraceable, IsTraceableText, input_kinds, mark_text, trace_line}
+use Rattle.lola_model.specs.Trace.{IsFieldOf, IsMarkInTime, IsTraceable, IsTraceableText, entry_fields, field_bytes, input_kinds, mark_text, trace_line}
 use Rattle.lola_model.proofs.Lookups.{bytes_equal-true}
 use Rattle.lola_csv.specs.Line.{fields_of_line, has_line_end}
 use Rattle.lola_csv.specs.Values.{and_then, in_range, read_number}
 use Rattle.lola_csv.specs.Values as csv
 use Rattle.lola_journal.specs.declared.candidate.Head.{Head}
 use Rattle.lola_journal.specs.Candidates.{candidate_of, entry_with, is_field_text, natural, read_entry, read_field, read_fields, read_head, read_integer, read_mark, read_natural, read_text, text_at}
-use Rattle.lola_journal.specs.EntryFields.{bytes_of, fields_of_entry}
 use Rattle.lola_journal.proofs.Bytes.{absent-from, line-no-cr, line-no-lf}
-use Rattle.lola_journal.proofs.Decimals.{decimal-bare, decimal-spells, natural-back, number-back, number-within, pos-fits, source-within, time-back, time-bare}
-use Rattle.lola_journal.proofs.FieldLines.{HasParts, content, content-fields, content-one-line, line-content, mark-bare, text-one-line}
+use Rattle.lola_journal.proofs.Decimals.{decimal-some, decimal-spells, natural-back, number-back, number-within, pos-fits, source-within, time-back}
+use Rattle.lola_journal.proofs.FieldLines.{HasParts, content, content-fields, content-one-line, line-content, text-one-line}
 
 -- complete: what is written is read back
 
@@ -82,7 +81,7 @@ field-text-yes t is =
 abbrev choice : Bool → Bool → Bool → List ℕ → Kind → Option Field
 choice sign truth text t k = if sign then Some field.Absent else if truth then Some (field.Bool (bytes_equal t (codes "true"))) else if text then read_text t else read_integer k t
 
-field-back : (k : Kind) (f : Field) → IsFieldOf k f → read_field k (bytes_of f) ≡ Some f
+field-back : (k : Kind) (f : Field) → IsFieldOf k f → read_field k (field_bytes f) ≡ Some f
 field-back k field.Absent is = refl
 field-back k (field.Bool true) is = ap (λ b. choice false b (is_text k) (codes "true") k) is
 field-back k (field.Bool false) is = ap (λ b. choice false b (is_text k) (codes "false") k) is
@@ -98,18 +97,18 @@ field-back k (field.Text t) is =
     ∙ ap (λ b. choice false false b t k) is.0
     ∙ rw (field-text-yes t is.1) refl
 
-fields-back : (all front : List (List ℕ)) (place : ℕ) (ks : List Kind) (fs : List Field) → AllZip IsFieldOf ks fs → all ≡ front ++ map bytes_of fs → place ≡ length front
+fields-back : (all front : List (List ℕ)) (place : ℕ) (ks : List Kind) (fs : List Field) → AllZip IsFieldOf ks fs → all ≡ front ++ map field_bytes fs → place ≡ length front
     → read_fields all place ks ≡ Some fs
 fields-back all front place [] [] fit is there = refl
 fields-back all front place [] (f ∷ fs) fit is there = absurd fit
 fields-back all front place (k ∷ ks) [] fit is there = absurd fit
 fields-back all front place (k ∷ ks) (f ∷ fs) fit is there =
-    let rest = map bytes_of fs in
-    let here : text_at all place ≡ bytes_of f =
-    ap (λ (a : List (List ℕ)). text_at a place) is ∙ ap (text_at (front ++ (bytes_of f ∷ rest))) there ∙ text-there front rest (bytes_of f) in
-    let next : all ≡ (front ++ (bytes_of f ∷ [])) ++ rest = is ∙ sym (append_assoc front (bytes_of f ∷ []) rest) in
-    let long = length-append front (bytes_of f ∷ []) in
-    let more = fields-back all (front ++ (bytes_of f ∷ [])) (place + 1) ks fs fit.1 next (omega (arith, there, long)) in
+    let rest = map field_bytes fs in
+    let here : text_at all place ≡ field_bytes f =
+    ap (λ (a : List (List ℕ)). text_at a place) is ∙ ap (text_at (front ++ (field_bytes f ∷ rest))) there ∙ text-there front rest (field_bytes f) in
+    let next : all ≡ (front ++ (field_bytes f ∷ [])) ++ rest = is ∙ sym (append_assoc front (field_bytes f ∷ []) rest) in
+    let long = length-append front (field_bytes f ∷ []) in
+    let more = fields-back all (front ++ (field_bytes f ∷ [])) (place + 1) ks fs fit.1 next (omega (arith, there, long)) in
     ap (λ o. and_then o (λ g. option_map (λ gs. g ∷ gs) (read_fields all (place + 1) ks))) (ap (read_field k) here ∙ field-back k f fit.0)
     ∙ ap (option_map (λ gs. f ∷ gs)) more
 
@@ -133,7 +132,7 @@ pub record InRange (e : Entry) : Type 0 where
 abbrev head_in : Entry → Head
 head_in e = record { source = e.row.source; number = e.row.number; stamp = e.row.stamp; mark = e.mark }
 
-head-back : (e : Entry) → InRange e → read_head (fields_of_entry e) ≡ Some (head_in e)
+head-back : (e : Entry) → InRange e → read_head (entry_fields e) ≡ Some (head_in e)
 head-back e is =
     head-with _ _ _ _ e.row.source e.row.number e.row.stamp e.mark
     (natural-back kind.UInt32 e.row.source (source-within e.row.source is.source))
@@ -141,11 +140,11 @@ head-back e is =
     (time-back e.row.stamp is.stamp)
     (mark-back e.mark is.mark)
 
-entry-back : (ks : List Kind) (e : Entry) → InRange e → AllZip IsFieldOf ks e.row.fields → read_entry ks (fields_of_entry e) ≡ Some e
+entry-back : (ks : List Kind) (e : Entry) → InRange e → AllZip IsFieldOf ks e.row.fields → read_entry ks (entry_fields e) ≡ Some e
 entry-back ks e is fit =
     let front : List (List ℕ) = decimal e.row.source ∷ decimal e.row.number ∷ time_text e.row.stamp ∷ mark_text e.mark ∷ [] in
-    ap (λ o. and_then o (λ head. option_map (entry_with head) (read_fields (fields_of_entry e) 4 ks))) (head-back e is)
-    ∙ ap (option_map (entry_with (head_in e))) (fields-back (fields_of_entry e) front 4 ks e.row.fields fit refl refl)
+    ap (λ o. and_then o (λ head. option_map (entry_with head) (read_fields (entry_fields e) 4 ks))) (head-back e is)
+    ∙ ap (option_map (entry_with (head_in e))) (fields-back (entry_fields e) front 4 ks e.row.fields fit refl refl)
 
 module _ (plan : Plan) where
   abbrev kinds : List Kind
@@ -155,13 +154,7 @@ module _ (plan : Plan) where
   in-range e is = record { source = is.source; number = is.number; stamp = is.stamp; mark = is.mark }
 
   pub parts-of : (e : Entry) → IsTraceable plan e → HasParts (input_kinds plan.spec.streams) e
-  parts-of e is = record {
-    source = let small = is.source in decimal-bare e.row.source (omega arith);
-    number = decimal-bare e.row.number is.number;
-    stamp = time-bare e.row.stamp is.stamp;
-    mark = mark-bare e.mark is.mark;
-    fields = is.fields;
-  }
+  parts-of e is = record { source = let small = is.source in decimal-some e.row.source (omega arith); fields = is.fields }
 
   -- an entry that a trace can tell is the one that its line is taken for
   pub complete : (e : Entry) (body : List ℕ) → IsTraceable plan e → trace_line e ≡ body ++ (10 ∷ []) → candidate_of (input_kinds plan.spec.streams) body ≡ Some e

@@ -1,3 +1,2 @@
 pub mod Journals
 pub mod Candidates
-pub mod EntryFields

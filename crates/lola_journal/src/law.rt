@@ -3,11 +3,9 @@
 ghost use Rattle.std.specs.Prelude.{◌≡◌, ℕ, List, map};
 ghost use Rattle.std.specs.List.{AllByRecursion};
 ghost use Rattle.csv.specs.Reading.{AreRecords, default_config, strip_bom};
-ghost use Rattle.csv.specs.Writing.{default_writer, row_text};
 ghost use Rattle.csv.specs.declared.parser.State.TheVariants as st;
-ghost use Rattle.lola_model.specs.Trace.{IsTraceable, trace_line, trace_text};
+ghost use Rattle.lola_model.specs.Trace.{IsTraceable, entry_fields, trace_line, trace_text};
 ghost use Rattle.lola_model.specs.declared.journal.Entry.{Entry};
-ghost use Rattle.lola_journal.specs.EntryFields.{fields_of_entry};
 ghost use Rattle.lola_journal.specs.Journals.{IsFirstBad, Spells};
 
 use lola_model::plan::Plan;
@@ -38,17 +36,11 @@ pub fn not_both(_plan: &Plan)
     ensures { (bytes : List ℕ) (journal : List Entry) (n : ℕ) → Spells _plan.now bytes journal → ¬ (IsFirstBad _plan.now bytes n) }
 {}
 
-/// The line of an entry that a trace can tell, its LF included, is the row that the default writer of the crate `csv`
-/// writes of the entry's fields.
-pub fn line_is_csv_row(_plan: &Plan)
-    ensures { (e : Entry) → IsTraceable _plan.now e → trace_line e ≡ row_text default_writer (fields_of_entry e) }
-{}
-
 /// The records of a trace text, as the crate `csv` reads them with its default settings and no header row, are the
 /// fields of the entries, line by line, and no others.
 pub fn trace_is_csv(_plan: &Plan)
     ensures read { (told : List Entry) → AllByRecursion (IsTraceable _plan.now) told
-        → AreRecords default_config st.StartRecord (strip_bom (trace_text told)) (map fields_of_entry told) }
+        → AreRecords default_config st.StartRecord (strip_bom (trace_text told)) (map entry_fields told) }
     ensures alone { (told : List Entry) (rows : List (List (List ℕ))) → AllByRecursion (IsTraceable _plan.now) told
-        → AreRecords default_config st.StartRecord (strip_bom (trace_text told)) rows → rows ≡ map fields_of_entry told }
+        → AreRecords default_config st.StartRecord (strip_bom (trace_text told)) rows → rows ≡ map entry_fields told }
 {}

@@ -51,11 +51,11 @@ fn candidate(
 }
 
 // Whether this is the line of an entry, its LF included.
-fn is_line_of(entry: &Entry, line: &[u8], written: &mut Text) -> Result<bool, Memory>
+fn is_line_of(alloc: Global, entry: &Entry, line: &[u8], written: &mut Text) -> Result<bool, Memory>
     ensures { IfOk result (λ same. IsTrue same ↔ trace_line entry.now ≡ line.now) }
 {
     written.clear();
-    trace_line(entry, written)?;
+    trace_line(alloc, entry, written)?;
     Ok(written.as_bytes() == line)
 }
 
@@ -74,7 +74,7 @@ pub(crate) fn entry_of_line(
     let Some(entry) = candidate(alloc, kinds, body, room)? else {
         return Ok(None);
     };
-    if is_line_of(&entry, line, &mut room.written)? {
+    if is_line_of(alloc, &entry, line, &mut room.written)? {
         Ok(Some(entry))
     } else {
         Ok(None)

@@ -255,7 +255,7 @@ fn several_inputs(rt: HostRuntime) -> Result<(), Fail> {
 fn written(alloc: Global, journal: &Journal) -> Result<Text, Memory> {
     let mut text = Text::from_bytes(alloc, b"")?;
     for entry in journal.as_slice() {
-        trace_line(entry, &mut text)?;
+        trace_line(alloc, entry, &mut text)?;
     }
     Ok(text)
 }
