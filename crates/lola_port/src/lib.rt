@@ -2,9 +2,13 @@
 //! of the machine.
 #![tactic(auto)]
 
+mod ahead;
+mod handing;
 mod machine;
 mod memory;
+mod piece;
 mod shelf;
+mod starter;
 #[cfg(test)]
 mod tests;
 mod traits;

@@ -1,0 +1,96 @@
+//! The reader of a source that has a thread of its own.
+
+ghost use Rattle.std.specs.Io.{ReadsAtMost};
+
+use crate::ReadFailed;
+use crate::handing::{Shared, Task};
+use crate::piece::Piece;
+use crate::starter::Starter;
+use lola_value::text::Memory;
+use std::alloc::Global;
+use std::fs::File;
+use std::sync::{Arc, Wait};
+use std::time::Clock;
+
+// A source's reader. Its thread is told when it is dropped.
+pub(crate) struct Ahead<R: Wait + Drop> {
+    rt: R,
+    shared: Arc<Shared, Global>,
+    // The bytes that are moved next, of which there may be none left.
+    front: Option<Piece>,
+}
+
+impl<R: Wait + Drop> Drop for Ahead<R> {
+    fn drop(self) {
+        self.shared.close(&self.rt);
+        let Ahead {
+            rt: _rt,
+            shared: _shared,
+            front: _front,
+        } = self;
+    }
+}
+
+impl<R: Wait + Clone + Drop> Ahead<R> {
+    // The reader of a source whose thread still waits for its file. None where no thread can be started.
+    pub(crate) fn start(
+        rt: &R,
+        alloc: Global,
+        starter: &Starter<R>,
+    ) -> Result<Option<Ahead<R>>, Memory> {
+        let rt = rt.clone()?;
+        let piece = Piece::create(alloc)?;
+        let shared = Arc::new(alloc, Shared::create(Piece::create(alloc)?))?;
+        let theirs = Arc::try_clone(&shared)?;
+        let task = Task {
+            shared: theirs,
+            piece,
+        };
+        if !starter.start(task) {
+            return Ok(None);
+        }
+        Ok(Some(Ahead {
+            rt,
+            shared,
+            front: None,
+        }))
+    }
+}
+
+impl<R: Wait + Clock + Drop> Ahead<R> {
+    // Gives the thread the file that it is to read.
+    pub(crate) fn give(&self, file: File) {
+        self.shared.give(&self.rt, file);
+    }
+
+    // Moves the next bytes into the front of `buf`, once there are any, and says how many. None come only at the end, or
+    // where `buf` has no room.
+    pub(crate) fn read(&mut self, buf: &mut [u8]) -> Result<usize, ReadFailed>
+        ensures { ReadsAtMost result buf.new }
+    {
+        if buf.is_empty() {
+            return Ok(0);
+        }
+        if !self.has_bytes() {
+            let used = self.front.take();
+            self.front = self.shared.next_piece(&self.rt, used)?;
+        }
+        match &mut self.front {
+            Some(piece) => Ok(piece.move_to(buf)),
+            None => Ok(0),
+        }
+    }
+
+    // Whether a read would answer at once, after so many milliseconds at most.
+    pub(crate) fn has_come(&self, milliseconds: u16) -> bool {
+        self.has_bytes() || self.shared.has_come(&self.rt, milliseconds)
+    }
+
+    // Whether there are bytes that can be moved at once.
+    fn has_bytes(&self) -> bool {
+        match &self.front {
+            Some(piece) => !piece.is_used_up(),
+            None => false,
+        }
+    }
+}

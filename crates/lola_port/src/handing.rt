@@ -1,0 +1,203 @@
+//! What a source's thread and its reader share, and what the thread does: it reads one piece ahead of its reader. It is
+//! never joined: where it waits for bytes that do not come it ends with the program, or at the next bytes after the
+//! source was closed.
+
+use crate::ReadFailed;
+use crate::piece::Piece;
+use std::alloc::Global;
+use std::fs::File;
+use std::sync::{Arc, Condvar, Mutex, Wait};
+use std::time::{Clock, Duration};
+
+// How a source ended.
+#[derive(Clone, Copy)]
+enum End {
+    Reached,
+    Failed,
+}
+
+// What a source's thread and its reader share.
+#[derive(Drop)]
+struct Held {
+    // What the thread is to read. It takes it at its start.
+    file: Option<File>,
+    // The next bytes, which are some.
+    next: Option<Piece>,
+    // What the thread may fill next.
+    spare: Option<Piece>,
+    // What stands behind the next bytes, where that is known.
+    end: Option<End>,
+    // Nobody reads the source any more.
+    is_closed: bool,
+}
+
+impl Held {
+    // Whether a read would wait.
+    fn is_silent(&self) -> bool {
+        self.next.is_none() && self.end.is_none()
+    }
+}
+
+// The cell of a source's thread and its reader, and on what each of them waits.
+#[derive(Drop)]
+pub(crate) struct Shared {
+    held: Mutex<Held>,
+    // There are next bytes, or the source ended.
+    came: Condvar,
+    // There is the file, room for the next bytes or a piece to fill, or the source is closed.
+    freed: Condvar,
+}
+
+impl Shared {
+    // The cell of a source that was not read yet, with a piece that is to be filled second.
+    pub(crate) fn create(spare: Piece) -> Shared {
+        Shared {
+            held: Mutex::new(Held {
+                file: None,
+                next: None,
+                spare: Some(spare),
+                end: None,
+                is_closed: false,
+            }),
+            came: Condvar::new(),
+            freed: Condvar::new(),
+        }
+    }
+
+    // What the thread is to read, once it was given. None where the source was closed.
+    fn wait_for_file<R: Wait>(&self, rt: &R) -> Option<File> {
+        let mut held = self.held.lock(rt);
+        for _ in rt.forever() {
+            if held.is_closed {
+                return None;
+            }
+            if let Some(file) = held.file.take() {
+                return Some(file);
+            }
+            held = self.freed.wait(rt, held);
+        }
+        unreachable!()
+    }
+
+    // Gives the thread what it is to read.
+    pub(crate) fn give<R: Wait>(&self, rt: &R, file: File) {
+        self.held.lock(rt).file = Some(file);
+        self.freed.notify_one();
+    }
+
+    // Hands a piece over, once the one before it was taken. False where the source was closed.
+    fn hand_over<R: Wait>(&self, rt: &R, piece: Piece) -> bool {
+        let mut held = self.held.lock(rt);
+        for _ in rt.forever() {
+            if held.is_closed {
+                return false;
+            }
+            if held.next.is_none() {
+                break;
+            }
+            held = self.freed.wait(rt, held);
+        }
+        held.next = Some(piece);
+        drop(held);
+        self.came.notify_all();
+        true
+    }
+
+    // A piece to fill, once there is one. None where the source was closed.
+    fn wait_for_spare<R: Wait>(&self, rt: &R) -> Option<Piece> {
+        let mut held = self.held.lock(rt);
+        for _ in rt.forever() {
+            if held.is_closed {
+                return None;
+            }
+            if let Some(piece) = held.spare.take() {
+                return Some(piece);
+            }
+            held = self.freed.wait(rt, held);
+        }
+        unreachable!()
+    }
+
+    // Says how the source ended, behind the bytes that were handed over.
+    fn finish<R: Wait>(&self, rt: &R, end: End) {
+        self.held.lock(rt).end = Some(end);
+        self.came.notify_all();
+    }
+
+    // The next bytes, once there are any, or none at the end. A piece that was used up goes back to the thread.
+    pub(crate) fn next_piece<R: Wait>(
+        &self,
+        rt: &R,
+        used: Option<Piece>,
+    ) -> Result<Option<Piece>, ReadFailed> {
+        let mut held = self.held.lock(rt);
+        if used.is_some() {
+            held.spare = used;
+            self.freed.notify_one();
+        }
+        for _ in rt.forever() {
+            if let Some(piece) = held.next.take() {
+                drop(held);
+                self.freed.notify_one();
+                return Ok(Some(piece));
+            }
+            match held.end {
+                Some(End::Reached) => return Ok(None),
+                Some(End::Failed) => return Err(ReadFailed),
+                None => held = self.came.wait(rt, held),
+            }
+        }
+        unreachable!()
+    }
+
+    // Whether a read would not wait, after so many milliseconds at most.
+    pub(crate) fn has_come<R: Wait + Clock>(&self, rt: &R, milliseconds: u16) -> bool {
+        let limit = Duration::from_millis(u64::from(milliseconds));
+        let held = self.held.lock(rt);
+        let (_, result) = self
+            .came
+            .wait_timeout_while(rt, held, limit, |held| held.is_silent());
+        !result.timed_out()
+    }
+
+    // Says that nobody reads the source any more.
+    pub(crate) fn close<R: Wait>(&self, rt: &R) {
+        self.held.lock(rt).is_closed = true;
+        self.freed.notify_one();
+    }
+}
+
+// What a source's thread is given: the cell, and the piece that it fills first.
+#[derive(Drop)]
+pub(crate) struct Task {
+    pub(crate) shared: Arc<Shared, Global>,
+    pub(crate) piece: Piece,
+}
+
+// What a source's thread does: it reads pieces one after another, until the source ends, fails or is closed.
+pub(crate) fn read_ahead<R: Wait>(rt: &R, task: Task) {
+    let Task { shared, mut piece } = task;
+    let Some(mut file) = shared.wait_for_file(rt) else {
+        return;
+    };
+    for _ in rt.forever() {
+        match piece.fill(&mut file) {
+            Ok(0) => {
+                shared.finish(rt, End::Reached);
+                return;
+            }
+            Ok(_) => {}
+            Err(ReadFailed) => {
+                shared.finish(rt, End::Failed);
+                return;
+            }
+        }
+        if !shared.hand_over(rt, piece) {
+            return;
+        }
+        match shared.wait_for_spare(rt) {
+            Some(spare) => piece = spare,
+            None => return,
+        }
+    }
+}

@@ -1,0 +1,81 @@
+//! A piece of a source: a buffer of a fixed length, and which of its bytes are still to be moved.
+
+ghost use Rattle.std.specs.Prelude.{◌≡◌, ◌<◌, drop, length, min, take, IfOk, IsFalse, IsTrue, OnErr};
+
+use crate::ReadFailed;
+use crate::machine::read_some;
+use lola_value::text::Memory;
+use std::alloc::Global;
+use std::io::Read;
+use std::marker::Model;
+
+// How many bytes a piece has room for.
+const ROOM: usize = 1 << 16;
+
+// Bytes that were read of a source. Contracts see it as those that are still to be moved, which stand from `at` on and
+// before `end`.
+#[derive(Drop)]
+pub(crate) struct Piece {
+    room: Vec<u8>,
+    at: usize,
+    end: usize,
+}
+
+impl Model for Piece {
+    ghost use Rattle.std.specs.Prelude.{ℕ, ◌-◌, ◌≤◌, List, drop, length, take};
+
+    ghost Value = { List ℕ };
+
+    ghost view = { λ s. take (s.end - s.at) (drop s.at s.room.items) };
+
+    ghost invariant = { λ s. (s.at ≤ s.end) × (s.end ≤ length s.room.items) };
+}
+
+impl Piece {
+    // A piece without bytes.
+    pub(crate) fn create(alloc: Global) -> Result<Piece, Memory>
+        ensures { IfOk result (λ piece. length piece ≡ 0) }
+    {
+        Ok(Piece {
+            room: vec![in alloc; 0; ROOM]?,
+            at: 0,
+            end: 0,
+        })
+    }
+
+    // Whether all of its bytes were moved.
+    pub(crate) fn is_used_up(&self) -> bool
+        ensures yes { IsTrue result → length self.now ≡ 0 }
+        ensures no { IsFalse result → 0 < length self.now }
+    {
+        self.at == self.end
+    }
+
+    // Reads the next bytes in place of those that it had, and says how many there are, which is none at the end alone.
+    pub(crate) fn fill<F: Read>(&mut self, file: &mut F) -> Result<usize, ReadFailed>
+        ensures count { IfOk result (λ count. length self.new ≡ count) }
+        ensures failed { OnErr result (length self.new ≡ 0) }
+    {
+        self.at = 0;
+        self.end = 0;
+        match read_some(file, &mut self.room) {
+            Ok(count) => {
+                self.end = count;
+                Ok(count)
+            }
+            Err(_) => Err(ReadFailed),
+        }
+    }
+
+    // Moves its next bytes into the front of `buf`, as many as there is room for, and says how many.
+    pub(crate) fn move_to(&mut self, buf: &mut [u8]) -> usize
+        ensures count { result ≡ min (length buf.new) (length self.old) }
+        ensures moved { take result buf.new ≡ take result self.old }
+        ensures rest { self.new ≡ drop result self.old }
+    {
+        let count = buf.len().min(self.end - self.at);
+        buf[..count].copy_from_slice(&self.room[self.at..self.at + count]);
+        self.at += count;
+        count
+    }
+}
