@@ -37,15 +37,18 @@ fn words(rt: &(impl Env + AllocGlobal)) -> Result<Vec<String>, Memory> {
     }
 }
 
-// Does what the words ask for, and answers the status.
-fn monitor<R: Threads + Wait + Files<File = File> + Print + Clock + Sync>(
+// Does what the words ask for, over the files that `files` can open, and answers the status.
+fn monitor<
+    R: Threads + Wait + Files<File = File> + Print + Clock + Clone + Send + Sync + Drop + 'static,
+>(
     rt: &R,
+    files: R,
     alloc: Global,
     hasher: RandomState,
     words: &[String],
     mut trace: ErrSink,
 ) -> u8 {
-    let mut shelf = FolderShelf::create(rt, alloc);
+    let mut shelf = FolderShelf::create(files, alloc);
     let mut out = OutSink::create(rt);
     run_monitor(
         rt, alloc, hasher, words, &mut shelf, &mut out, &mut trace, &IdleGate,
@@ -63,10 +66,13 @@ fn main(rt: HostRuntime) -> ExitCode {
     let Ok(own) = rt.clone() else {
         return ExitCode::from(8);
     };
+    let Ok(files) = rt.clone() else {
+        return ExitCode::from(8);
+    };
     let Ok(traced) = rt.clone() else {
         return ExitCode::from(8);
     };
-    let work = move || monitor(&own, alloc, hasher, &words, ErrSink::create(traced));
+    let work = move || monitor(&own, files, alloc, hasher, &words, ErrSink::create(traced));
     // where no thread can be started, on the stack that is there
     let status = match Builder::new()
         .stack_size(STACK)
