@@ -10,8 +10,8 @@ use lola_port::Source;
 /// The longest line, without its line feed.
 pub(crate) const LONGEST_LINE: usize = 65536;
 
-// The most bytes without a line feed that are no line too long: a byte order mark may stand before the first line.
-const MOST_HELD: usize = 65539;
+/// The most bytes without a line feed that are no line too long: a byte order mark may stand before the first line.
+pub(crate) const MOST_HELD: usize = 65539;
 
 /// The shortest buffer that a source is given.
 const LEAST_READ: usize = 4096;

@@ -323,6 +323,28 @@ impl<S: Source> RowReader<S> {
         }
     }
 
+    /// Whether each read of its source answers at once.
+    pub fn answers_at_once(&self) -> bool {
+        self.source.answers_at_once()
+    }
+
+    /// Waits until a read of its source would answer at once, for so many milliseconds at most, and says whether one
+    /// would.
+    pub fn wait_for_bytes(&self, milliseconds: u16) -> bool {
+        self.source.wait_for_bytes(milliseconds)
+    }
+
+    /// Whether the next row, or how the reader ends, is told without a read: a line is held whole, or none is read any
+    /// more.
+    pub fn has_line(&self) -> bool {
+        self.ended.is_some()
+            || match self.stage {
+                Stage::Start | Stage::Heading => false,
+                Stage::Rows => self.window.has_line(),
+                Stage::Over => true,
+            }
+    }
+
     /// The source, with the place that it had.
     pub fn into_source(self) -> S
         ensures { S.state result ≡ self.source }

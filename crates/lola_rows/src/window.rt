@@ -7,6 +7,7 @@ ghost use Rattle.lola_rows.specs.Filling.{Took};
 ghost use Rattle.lola_rows.specs.Lines.{is_line_end, without_mark};
 
 use crate::checks::begins_with_mark;
+use crate::fill::MOST_HELD;
 use lola_port::{ReadFailed, Source};
 use lola_value::text::Memory;
 use memchr::memchr;
@@ -101,6 +102,12 @@ impl Window {
         }
     }
 
+    /// Whether a line that is not empty is held whole, or more than any line has: nothing has to be read to tell what is
+    /// next.
+    pub(crate) fn has_line(&self) -> bool {
+        holds_line(self.as_slice())
+    }
+
     /// Puts the next bytes of a source behind those held, and says how many.
     pub(crate) fn read_from<S: Source>(&mut self, source: &mut S) -> Result<usize, ReadFailed>
         ensures took { IfOk result (λ count. Took count (items self.old) (items self.new) (S.state source.old) (S.state source.new)) }
@@ -112,5 +119,33 @@ impl Window {
         let count = source.read(&mut self.bytes[end..])?;
         self.end = end + count;
         Ok(count)
+    }
+}
+
+// Whether these bytes have a line that is not empty, or behind empty ones more than a line may have.
+fn holds_line(bytes: &[u8]) -> bool {
+    let mut rest = bytes;
+    while let Some(at) = memchr(b'\n', rest) {
+        if has_text(&rest[..at]) {
+            return true;
+        }
+        rest = behind(rest, at);
+    }
+    rest.len() > MOST_HELD
+}
+
+// The bytes behind the one at a place.
+fn behind(bytes: &[u8], place: usize) -> &[u8]
+    requires { place < length bytes.now }
+    ensures { length result.now < length bytes.now }
+{
+    &bytes[place + 1..]
+}
+
+// Whether a line is more than a carriage return.
+fn has_text(line: &[u8]) -> bool {
+    match line {
+        [] | [b'\r'] => false,
+        _ => true,
     }
 }
