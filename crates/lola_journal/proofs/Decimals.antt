@@ -1,5 +1,5 @@
 -- Numbers, times and fields of numbers are read back from what is written of them.
-use Rattle.std.proofs.Common.{lit<, ◌≡◌, ◌≢◌, ◌<◌, ◌≤◌, ◌+◌, ◌-◌, ◌*◌, ◌/◌, ◌%◌, ◌^◌, ℕ, ℤ, zero, suc, pos, negsuc, neg_ℤ, ◌≤ℤ◌, List, [], ◌∷◌, ◌++◌, ◌∙◌, true, false, Option, Some, None, option_map, if◌then◌else◌, refl, ap, subst, arith, take, length, replicate, add-one, decimal}
+use Rattle.std.proofs.Common.{◌≡◌, ◌≢◌, ◌<◌, ◌≤◌, ◌+◌, ◌-◌, ◌*◌, ◌/◌, ◌%◌, ◌^◌, ℕ, ℤ, zero, suc, pos, negsuc, neg_ℤ, ◌≤ℤ◌, List, [], ◌∷◌, ◌++◌, ◌∙◌, true, false, Option, Some, None, option_map, if◌then◌else◌, refl, ap, subst, arith, take, length, replicate, add-one, decimal}
 use Rattle.std.specs.Prelude.{nat_eq, nat_lt}
 use Rattle.std.specs.List.{list_all, after_first}
 use Rattle.std.proofs.Math.Seq.{take-append_seam}
