@@ -1,0 +1,295 @@
+//! The cells, and the beds of those who sleep.
+
+use lola_value::text::Memory;
+use std::alloc::Global;
+use std::sync::Wait;
+use std::sync::atomic::{AtomicBool, AtomicU64, Ordering};
+use std::thread::Parker;
+use std::{hint, thread};
+
+// A cell that is below those of all rows, and one that is above them. That of a row is its stamp and 1.
+const BELOW: u64 = 0;
+
+const ABOVE: u64 = u64::MAX;
+
+// How often a thread looks before it lets others run, how often it does so before it sleeps where each thread has a
+// processor, and where some have not.
+const SPINS: u32 = 64;
+
+const LONG: u32 = 4096;
+
+const SHORT: u32 = 64;
+
+// How often a thread that found no room tries again before it says that it is about to sleep.
+const TRIES: u32 = 4;
+
+// A source on the board, besides its cell: where its thread sleeps, and whether it does, or is about to, until its turn
+// comes or until there is room.
+#[derive(Drop)]
+struct Place {
+    bed: Parker,
+    sleeps: AtomicBool,
+    wants_room: AtomicBool,
+}
+
+/// What the thread of a source saw when it looked at the board: up to which cell it may go on without another look.
+#[derive(Clone, Copy, Debug)]
+pub struct Watch {
+    limit: u64,
+    limit_source: u32,
+    falls: u64,
+}
+
+impl Watch {
+    /// Nothing was seen yet.
+    pub fn new() -> Watch {
+        Watch {
+            limit: BELOW,
+            limit_source: 0,
+            falls: 0,
+        }
+    }
+}
+
+/// The cells of all sources, the beds of their threads, and the bed of the thread that takes their rows.
+#[derive(Drop)]
+pub struct Board {
+    cells: Vec<AtomicU64>,
+    places: Vec<Place>,
+    // How often a cell has fallen: what a thread saw may not hold any more.
+    falls: AtomicU64,
+    // How many threads want room.
+    full: AtomicU64,
+    looks: u32,
+    taker: Parker,
+    taker_sleeps: AtomicBool,
+    // How often the taker has found nothing since rows came.
+    idle: AtomicU64,
+    stopped: AtomicBool,
+}
+
+// Waits a moment after so many looks.
+fn pause(looks: u32) {
+    if looks < SPINS {
+        hint::spin_loop();
+    } else {
+        thread::yield_now();
+    }
+}
+
+// Whether a cell is below another, in the order of cell and source.
+fn is_below(cell: u64, source: u32, other: u64, other_source: u32) -> bool {
+    cell < other || (cell == other && source < other_source)
+}
+
+impl Board {
+    /// A board for so many sources, all of which are below each row until they say otherwise, on a machine with so
+    /// many processors.
+    pub fn create(alloc: Global, sources: u32, processors: usize) -> Result<Board, Memory> {
+        let count = sources as usize;
+        let mut cells = Vec::with_capacity(alloc, count)?;
+        let mut places = Vec::with_capacity(alloc, count)?;
+        for _ in 0..count {
+            cells.push(AtomicU64::new(BELOW))?;
+            places.push(Place {
+                bed: Parker::new(),
+                sleeps: AtomicBool::new(false),
+                wants_room: AtomicBool::new(false),
+            })?;
+        }
+        Ok(Board {
+            cells,
+            places,
+            falls: AtomicU64::new(0),
+            full: AtomicU64::new(0),
+            looks: if count < processors { LONG } else { SHORT },
+            taker: Parker::new(),
+            taker_sleeps: AtomicBool::new(false),
+            idle: AtomicU64::new(0),
+            stopped: AtomicBool::new(false),
+        })
+    }
+
+    // The source with the least cell, and the least of the other cells with its source.
+    fn least(&self) -> (u32, u64, u32) {
+        let mut first = ABOVE;
+        let mut first_source = u32::MAX;
+        let mut second = ABOVE;
+        let mut second_source = u32::MAX;
+        let mut source: u32 = 0;
+        for word in &self.cells {
+            let cell = word.load(Ordering::SeqCst);
+            if cell < first {
+                second = first;
+                second_source = first_source;
+                first = cell;
+                first_source = source;
+            } else if cell < second {
+                second = cell;
+                second_source = source;
+            }
+            source = source.saturating_add(1);
+        }
+        (first_source, second, second_source)
+    }
+
+    // Wakes the thread of a source, where it sleeps or is about to.
+    fn wake(&self, source: u32) {
+        if let Some(place) = self.places.get(source as usize) {
+            if place.sleeps.load(Ordering::SeqCst) {
+                place.bed.unpark();
+            }
+        }
+    }
+
+    // Sets the cell of a source.
+    fn set(&self, source: u32, cell: u64) {
+        if let Some(word) = self.cells.get(source as usize) {
+            if cell < word.swap(cell, Ordering::SeqCst) {
+                self.falls.fetch_add(1, Ordering::SeqCst);
+            }
+        }
+    }
+
+    /// Nobody waits for a source from now on: it has ended, is read by the thread that takes, or reads what somebody
+    /// may yet have to write.
+    pub fn step_aside(&self, source: u32) {
+        self.set(source, ABOVE);
+        let (first, _, _) = self.least();
+        self.wake(first);
+    }
+
+    /// Waits until a row of a source with this stamp may be handed in, which is at once where the run was stopped.
+    pub fn wait_for_turn<R: Wait>(&self, rt: &R, source: u32, stamp: u64, watch: &mut Watch) {
+        let mine = stamp.saturating_add(1);
+        if is_below(mine, source, watch.limit, watch.limit_source)
+            && self.falls.load(Ordering::SeqCst) == watch.falls
+        {
+            return;
+        }
+        self.set(source, mine);
+        let mut looks: u32 = 0;
+        for _ in rt.forever() {
+            let falls = self.falls.load(Ordering::SeqCst);
+            let (first, second, second_source) = self.least();
+            if first == source {
+                *watch = Watch {
+                    limit: second,
+                    limit_source: second_source,
+                    falls,
+                };
+                break;
+            }
+            if self.stopped.load(Ordering::SeqCst) {
+                break;
+            }
+            if looks == 0 {
+                self.wake(first);
+            }
+            self.sleep_soon(rt, source, looks);
+            looks = looks.saturating_add(1);
+        }
+        self.is_up(source, looks);
+    }
+
+    // Waits a moment for a turn after so many looks: at first it goes on, then it says that it is about to sleep, and
+    // then it sleeps.
+    fn sleep_soon<R: Wait>(&self, rt: &R, source: u32, looks: u32) {
+        let Some(place) = self.places.get(source as usize) else {
+            return;
+        };
+        if looks < self.looks {
+            pause(looks);
+        } else if looks == self.looks {
+            place.sleeps.store(true, Ordering::SeqCst);
+        } else {
+            place.bed.park(rt);
+        }
+    }
+
+    // The thread of a source is up again, after so many looks.
+    fn is_up(&self, source: u32, looks: u32) {
+        if looks <= self.looks {
+            return;
+        }
+        if let Some(place) = self.places.get(source as usize) {
+            place.sleeps.store(false, Ordering::SeqCst);
+        }
+    }
+
+    /// There was no room for a row of a source, so many times in a row before this one. After a few times its thread says
+    /// that it is about to sleep, is to try once more, and sleeps from then on until rows are taken.
+    pub fn wait_for_room<R: Wait>(&self, rt: &R, source: u32, times: u32) {
+        let Some(place) = self.places.get(source as usize) else {
+            return;
+        };
+        if times < TRIES {
+            thread::yield_now();
+        } else if times == TRIES {
+            place.wants_room.store(true, Ordering::SeqCst);
+            self.full.fetch_add(1, Ordering::SeqCst);
+        } else if !self.is_stopped() {
+            place.bed.park(rt);
+        }
+    }
+
+    /// A row of a source was handed in, after it had found no room so many times, or the source has ended. The thread
+    /// that takes is woken where it sleeps.
+    pub fn row_is_in(&self, source: u32, times: u32) {
+        if times > TRIES {
+            self.wants_no_room(source);
+        }
+        if self.taker_sleeps.load(Ordering::SeqCst) {
+            self.taker.unpark();
+        }
+    }
+
+    // The thread of a source has said that it wants room, and wants none any more.
+    fn wants_no_room(&self, source: u32) {
+        if let Some(place) = self.places.get(source as usize) {
+            place.wants_room.store(false, Ordering::SeqCst);
+            self.full.fetch_sub(1, Ordering::SeqCst);
+        }
+    }
+
+    /// The thread that takes found nothing. After a few times it sleeps until a row is in.
+    pub fn wait_for_rows<R: Wait>(&self, rt: &R) {
+        let idle = self.idle.load(Ordering::SeqCst);
+        if idle < u64::from(SHORT) {
+            thread::yield_now();
+        } else if idle == u64::from(SHORT) {
+            self.taker_sleeps.store(true, Ordering::SeqCst);
+        } else {
+            self.taker.park(rt);
+            return;
+        }
+        self.idle.store(idle + 1, Ordering::SeqCst);
+    }
+
+    /// The thread that takes has taken rows, so there is room again.
+    pub fn rows_are_out(&self) {
+        self.idle.store(0, Ordering::SeqCst);
+        self.taker_sleeps.store(false, Ordering::SeqCst);
+        if self.full.load(Ordering::SeqCst) == 0 {
+            return;
+        }
+        for place in &self.places {
+            if place.wants_room.load(Ordering::SeqCst) {
+                place.bed.unpark();
+            }
+        }
+    }
+
+    /// The run is stopped, and the intake is closed: nobody waits any more.
+    pub fn stop(&self) {
+        self.stopped.store(true, Ordering::SeqCst);
+        for place in &self.places {
+            place.bed.unpark();
+        }
+    }
+
+    /// Whether the run was stopped.
+    pub fn is_stopped(&self) -> bool {
+        self.stopped.load(Ordering::SeqCst)
+    }
+}
