@@ -43,7 +43,7 @@ offers_at row r old new = (r ≡ offer_reply old.merging row) × (new ≡ record
 abbrev pub finishes_at : StateIs → StateIs → Type 0
 finishes_at old new = new ≡ record { merging = finish_after old.merging old.source; source = old.source }
 
--- a worker: its reader, the row that met a full desk and waits, and how it ended
+-- a worker: its reader, the row that waits in hand, and how it ended
 pub record Working : Type 0 where
   pub reader : Reading
   pub kept : Option Row
@@ -145,6 +145,13 @@ module _ {D : Type 0} (offers : Row → Offer → D → D → Type 0) (finishes 
     pub kept : new.kept ≡ None
     pub end : new.end ≡ Some (end_of how)
 
+  -- the next row waits, and was not offered
+  pub record Holds (row : Row) (old new : Working) : Type 0 where
+    pub next : IsNext row old new.reader
+    pub desk : d1 ≡ d0
+    pub kept : new.kept ≡ Some row
+    pub end : new.end ≡ None
+
   -- a worker that has ended calls nothing
   pub record Rests (end : SourceEnd) (old new : Working) : Type 0 where
     pub ended : old.end ≡ Some end
@@ -158,3 +165,8 @@ module _ {D : Type 0} (offers : Row → Offer → D → D → Type 0) (finishes 
   Turns (turn.Done end) old new =
       Rests end old new
       ⊎ ((old.end ≡ None) × (((end ≡ Closed) × ((row : Row) × IsShut row old new)) ⊎ ((how : Ending) × (end ≡ end_of how) × Finishes how old new)))
+
+  -- a look at the next row, by the stamp that it answers: the row waits, or the worker has ended
+  abbrev pub Looks : Option ℕ → Working → Working → Type 0
+  Looks (Some stamp) old new = (old.end ≡ None) × ((row : Row) × (row.stamp ≡ stamp) × Holds row old new)
+  Looks None old new = ((end : SourceEnd) × Rests end old new) ⊎ ((old.end ≡ None) × ((how : Ending) × Finishes how old new))

@@ -107,6 +107,12 @@ impl Bench {
         self.second.turn(&mut self.desk)
     }
 
+    // A look of the first worker at its next row.
+    fn first_look(&mut self) -> Option<u64> {
+        self.desk.serve(0);
+        self.first.hold(&mut self.desk)
+    }
+
     // A thousand and twenty-four turns of the first worker, and the answer of the last.
     fn fill(&mut self) -> Turn {
         for _ in 0..1023 {
@@ -115,13 +121,15 @@ impl Bench {
         self.first_turn()
     }
 
-    // Turns of the workers, `1` and `2`, or many of the first, `f`; all pending rows are taken, `t`, the desk closes, `c`, or
-    // is one where nothing was called, `n`.
+    // Turns of the workers, `1` and `2`, or many of the first, `f`; the first looks at its next row, `h`, and says whether that
+    // needs a read, `r`; all pending rows are taken, `t`, the desk closes, `c`, or is one where nothing was called, `n`.
     fn act(&mut self, alloc: Global, action: u8, text: &mut String) -> Result<(), Fail> {
         match action {
             b'1' => write!(text, "{:?};", self.first_turn())?,
             b'2' => write!(text, "{:?};", self.second_turn())?,
             b'f' => write!(text, "{:?};", self.fill())?,
+            b'h' => write!(text, "{:?};", self.first_look())?,
+            b'r' => write!(text, "{};", self.first.is_ready())?,
             b't' => push_taken(alloc, &mut self.desk, text)?,
             b'c' => self.desk.close(),
             _ => self.desk = desk(alloc)?,
@@ -210,6 +218,38 @@ fn turns(rt: HostRuntime) -> Result<(), Fail> {
             [9],
             "122n12t",
             "Done(End);Moved;Done(End);Done(End);Done(End);Nothing;",
+        ),
+    ] {
+        let bench = Bench::create(rt.alloc(), bytes.as_bytes(), b"time\n2\n", &fails)?;
+        let text = answers(rt.alloc(), bench, actions)?;
+        assert_eq!(rt; text.as_str(), expected, "at {bytes:?} and {actions}");
+    }
+    Ok(())
+}
+
+// Looks of the first worker, and whether it needs a read: before its heading, in front of empty lines, and at its end. A row
+// that is looked at twice is one.
+#[test]
+fn looks(rt: HostRuntime) -> Result<(), Fail> {
+    for (bytes, fails, actions, expected) in [
+        (
+            "time\n1\n\n\r\n3",
+            [9],
+            "rhrh1rh1rhr1t",
+            "false;Some(1000000000);true;Some(1000000000);Moved;false;Some(3000000000);Moved;true;None;true;Done(End);Rows(2) 0.1 0.2;",
+        ),
+        ("time\n1\n3\n", [9], "1r", "Moved;true;"),
+        (
+            "time\n1\nx\n",
+            [9],
+            "hch1rt",
+            "Some(1000000000);Some(1000000000);Done(Closed);true;Nothing;",
+        ),
+        (
+            "time\n1\n",
+            [0],
+            "hr1t",
+            "None;true;Done(ReadFault);Nothing;",
         ),
     ] {
         let bench = Bench::create(rt.alloc(), bytes.as_bytes(), b"time\n2\n", &fails)?;

@@ -2,7 +2,7 @@
 
 ghost use Rattle.std.specs.Prelude.{◌≡◌, ◌-◌};
 ghost use Rattle.lola_rows.specs.Reading.{IsRowOf, Keeps};
-ghost use Rattle.lola_feed.specs.Feeding.{NextRow, Offers, Turns, beginning, row_or_end};
+ghost use Rattle.lola_feed.specs.Feeding.{Looks, NextRow, Offers, Turns, beginning, row_or_end};
 
 use crate::desk::Desk;
 use lola_merge::state::Offer;
@@ -38,7 +38,8 @@ pub enum Turn {
     Done(SourceEnd),
 }
 
-/// The reader of a source, the row that found no room, and how it ended. Contracts see these three.
+/// The reader of a source, the row that waits in hand, and how it ended. Contracts see these three. A row waits that found
+/// no room, or that was looked at and not offered yet.
 #[derive(Drop)]
 pub struct SourceWorker<S: Source> {
     reader: RowReader<S>,
@@ -76,7 +77,43 @@ impl<S: Source> SourceWorker<S> {
         self.end
     }
 
-    /// Reads a row, or takes the one that found no room, and offers it; where there is none, tells the desk so. It calls the
+    /// Whether each read of its source answers at once.
+    pub fn answers_at_once(&self) -> bool {
+        self.reader.answers_at_once()
+    }
+
+    /// Waits until a read of its source would answer at once, for so many milliseconds at most, and says whether one
+    /// would.
+    pub fn wait_for_bytes(&self, milliseconds: u16) -> bool {
+        self.reader.wait_for_bytes(milliseconds)
+    }
+
+    /// Whether the next turn needs no read: a row waits, the reader holds a whole line or has ended, or the worker has.
+    pub fn is_ready(&self) -> bool {
+        self.kept.is_some() || self.end.is_some() || self.reader.has_line()
+    }
+
+    /// Makes sure that a row waits, and tells its stamp; nothing is offered. Where none is to come the worker has ended,
+    /// and the desk is told so once.
+    pub fn hold<D: Desk>(&mut self, desk: &mut D) -> Option<u64>
+        requires { self.old.reader.shape.index ≡ D.source desk.old }
+        ensures looks { Looks D.offers D.finishes desk.old desk.new result self.old self.new }
+        ensures kept { Keeps self.old.reader self.new.reader }
+        ensures source { D.source desk.new ≡ D.source desk.old }
+    {
+        if let Some(_) = self.end {
+            return None;
+        }
+        match self.next_row() {
+            Ok(row) => Some(self.keep(row)),
+            Err(_) => {
+                tell_end(desk);
+                None
+            }
+        }
+    }
+
+    /// Reads a row, or takes the one that waits, and offers it; where there is none, tells the desk so. It calls the
     /// desk once at most, and not at all once it has ended.
     pub fn turn<D: Desk>(&mut self, desk: &mut D) -> Turn
         requires { self.old.reader.shape.index ≡ D.source desk.old }
@@ -90,7 +127,7 @@ impl<S: Source> SourceWorker<S> {
         match self.next_row() {
             Ok(row) => self.offer(row, desk),
             Err(end) => {
-                desk.finish();
+                tell_end(desk);
                 Turn::Done(end)
             }
         }
@@ -101,6 +138,19 @@ impl<S: Source> SourceWorker<S> {
         ensures { result ≡ self.reader }
     {
         self.reader
+    }
+
+    // A row waits from now on; tells its stamp.
+    fn keep(&mut self, row: Row) -> u64
+        requires end { self.old.end ≡ None }
+        requires given { self.old.reader.given ≡ row.number }
+        requires is_row { IsRowOf self.old.reader.shape (self.old.reader.given - 1) row }
+        ensures stamp { result ≡ row.stamp }
+        ensures kept { self.new ≡ record self.old { kept = Some row } }
+    {
+        let stamp = row.stamp;
+        self.kept = Some(row);
+        stamp
     }
 
     // Offers a row; where there is no room it waits.
@@ -117,7 +167,7 @@ impl<S: Source> SourceWorker<S> {
         match desk.offer(row) {
             Offer::Accepted | Offer::Late(_) => Turn::Moved,
             Offer::Full(row) => {
-                self.kept = Some(row);
+                self.keep(row);
                 Turn::Full
             }
             Offer::Closed(_) => {
@@ -144,6 +194,14 @@ impl<S: Source> SourceWorker<S> {
             }
         }
     }
+}
+
+// Tells a desk that its source has no more rows.
+fn tell_end<D: Desk>(desk: &mut D)
+    ensures finished { D.finishes desk.old desk.new }
+    ensures source { D.source desk.new ≡ D.source desk.old }
+{
+    desk.finish();
 }
 
 // A row, or what a reader that has none is to a worker.
