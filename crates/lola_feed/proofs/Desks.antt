@@ -3,7 +3,7 @@ use Rattle.std.proofs.Common.{◌≡◌, refl, ap, ◌∙◌, inl, inr, length-s
 use Rattle.lola_model.specs.declared.journal.Row.{Row}
 use Rattle.lola_merge.specs.declared.state.Offer.{Offer}
 use Rattle.lola_merge.specs.declared.state.Offer.TheVariants as reply
-use Rattle.lola_merge.specs.Merging.{Merging, finish_after, offer_reply, replied, sources_of}
+use Rattle.lola_merge.specs.Merging.{Merging, offer_reply, replied, sources_of}
 use Rattle.lola_feed.specs.Feeding.{StateIs, Turns, Working, finishes_at, offers_at}
 use Rattle.lola_feed.specs.declared.worker.Turn.{Turn}
 use Rattle.lola_feed.specs.declared.worker.Turn.TheVariants as turn

@@ -1,6 +1,6 @@
 //! A source's worker: it reads rows and hands them in.
 
-ghost use Rattle.std.specs.Prelude.{◌≡◌, ◌-◌};
+ghost use Rattle.std.specs.Prelude.{◌≡◌, ◌-◌, option_map};
 ghost use Rattle.lola_rows.specs.Reading.{IsRowOf, Keeps};
 ghost use Rattle.lola_feed.specs.Feeding.{Looks, NextRow, Offers, Turns, beginning, row_or_end};
 
@@ -91,6 +91,16 @@ impl<S: Source> SourceWorker<S> {
     /// Whether the next turn needs no read: a row waits, the reader holds a whole line or has ended, or the worker has.
     pub fn is_ready(&self) -> bool {
         self.kept.is_some() || self.end.is_some() || self.reader.has_line()
+    }
+
+    /// The stamp of the row that waits, if one does.
+    pub fn waiting(&self) -> Option<u64>
+        ensures { result ≡ option_map (λ row. row.stamp) self.now.kept }
+    {
+        match &self.kept {
+            Some(row) => Some(row.stamp),
+            None => None,
+        }
     }
 
     /// Makes sure that a row waits, and tells its stamp; nothing is offered. Where none is to come the worker has ended,
