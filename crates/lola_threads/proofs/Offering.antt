@@ -19,7 +19,7 @@ use Rattle.lola_intake.specs.declared.event.Event.{Event}
 use Rattle.lola_intake.specs.declared.event.Event.TheVariants.{Offered, Finished, Took, Closed}
 use Rattle.lola_seats.specs.Seating.{finishes_by, offers_by}
 use Rattle.lola_seats.proofs.Turning.{turn-same}
-use Rattle.lola_feed.specs.Feeding.{IsLetIn, IsNext, Turns, Working, end_of, handed_in, led_by, to_come, without}
+use Rattle.lola_feed.specs.Feeding.{IsLetIn, IsNext, Looks, Turns, Working, end_of, handed_in, led_by, to_come, without}
 use Rattle.lola_feed.specs.declared.worker.SourceEnd as worker
 use Rattle.lola_feed.specs.declared.worker.SourceEnd.TheVariants as end
 use Rattle.lola_feed.specs.declared.worker.Turn.{Turn}
@@ -165,15 +165,23 @@ module _ (from old new : Working) (d0 d1 : Shown) (h : HasOffered from (seated o
   lets_in_none : rows_in d1.mine ≡ rows_in d0.mine → HasStopped new.end (supply_of from) (supply_of new) (rows_in d0.mine) → HasTold new.end d1.mine → HasOffered from (seated new d1)
   lets_in_none same stopped told = has_offered from new d1 (rows_in d0.mine) same h.few h.began h.rows stopped told (shape ∙ h.shape)
 
-  -- a row waits
-  keeps : (row : Row) → IsNext row old new.reader → d1.mine ≡ d0.mine ++ Offered row (reply.Full row) ∷ [] → new.kept ≡ Some row → new.end ≡ None → HasOffered from (seated new d1)
-  keeps row next told waits ended =
-      let given : handed_in new ≡ new.reader.given - 1 = ap (λ (k : Option Row). without k new.reader.given) waits in
+  -- a row waits, and no row more was let in
+  waits : (row : Row) → IsNext row old new.reader → rows_in d1.mine ≡ rows_in d0.mine → ((s : ℕ) → has_finish d1.mine s ≡ false) → new.kept ≡ Some row → new.end ≡ None → HasOffered from (seated new d1)
+  waits row next same none_told kept ended =
+      let given : handed_in new ≡ new.reader.given - 1 = ap (λ (k : Option Row). without k new.reader.given) kept in
       let number : handed_in new ≡ length (rows_in d0.mine) = (let b = was.1 in let n = next.given in let m = next.is_row.number in omega arith) in
-      let through : Passes (to_come from) (to_come new) (rows_in d0.mine) = λ all is. let f = was.0 all is in (f.0, waits_before (to_come old) new row waits next.passes f.0 f.1, f.2) in
-      lets_in_none (ap rows_in told ∙ no_more d0.mine (Offered row (reply.Full row)) refl)
+      let through : Passes (to_come from) (to_come new) (rows_in d0.mine) = λ all is. let f = was.0 all is in (f.0, waits_before (to_come old) new row kept next.passes f.0 f.1, f.2) in
+      lets_in_none same
       (subst (λ (e : Option worker.SourceEnd). HasStopped e (supply_of from) (supply_of new) (rows_in d0.mine)) (sym ended) (through, number, next.count ∙ was.2))
-      (subst (λ (e : Option worker.SourceEnd). HasTold e d1.mine) (sym ended) (untold_still row (reply.Full row) told))
+      (subst (λ (e : Option worker.SourceEnd). HasTold e d1.mine) (sym ended) none_told)
+
+  -- a row met a full intake
+  meets_full : (row : Row) → IsNext row old new.reader → d1.mine ≡ d0.mine ++ Offered row (reply.Full row) ∷ [] → new.kept ≡ Some row → new.end ≡ None → HasOffered from (seated new d1)
+  meets_full row next told kept ended = waits row next (ap rows_in told ∙ no_more d0.mine (Offered row (reply.Full row)) refl) (untold_still row (reply.Full row) told) kept ended
+
+  -- a row was looked at
+  looked_at : (row : Row) → IsNext row old new.reader → d1 ≡ d0 → new.kept ≡ Some row → new.end ≡ None → HasOffered from (seated new d1)
+  looked_at row next same kept ended = waits row next (ap (λ (d : Shown). rows_in d.mine) same) (λ s. ap (λ (d : Shown). has_finish d.mine s) same ∙ untold s) kept ended
 
   -- a row met a closed intake
   meets_closed : (row : Row) → d1.mine ≡ d0.mine ++ Offered row (reply.Closed row) ∷ [] → new.end ≡ Some end.Closed → HasOffered from (seated new d1)
@@ -202,7 +210,7 @@ module _ (from old new : Working) (d0 d1 : Shown) (h : HasOffered from (seated o
 module _ (from old new : Working) (d0 d1 : Shown) (h : HasOffered from (seated old d0)) (shape : new.reader.shape ≡ old.reader.shape) where
   offers_next : (t : Turn) → Turns offers_by finishes_by d0 d1 t old new → HasOffered from (seated new d1)
   offers_next turn.Moved t = let m = t.1.2 in lets_in from old new d0 d1 h t.0 shape t.1.0 t.1.1 m.next m.let_in m.offered.0.mine m.kept m.end
-  offers_next turn.Full t = let w = t.1.1 in keeps from old new d0 d1 h t.0 shape t.1.0 w.next w.offered.0.mine w.kept w.end
+  offers_next turn.Full t = let w = t.1.1 in meets_full from old new d0 d1 h t.0 shape t.1.0 w.next w.offered.0.mine w.kept w.end
   offers_next (turn.Done how) (inl rests) = subst (λ (w : Working). HasOffered from (seated w d1)) (sym rests.same) (subst (λ (d : Shown). HasOffered from (seated old d)) (sym rests.desk) h)
   offers_next (turn.Done how) (inr (goes_on, inl shut)) = meets_closed from old new d0 d1 h goes_on shape shut.1.0 shut.1.1.offered.0.mine shut.1.1.end
   offers_next (turn.Done how) (inr (goes_on, inr f)) = finishes from old new d0 d1 h goes_on shape f.0 f.2.none f.2.stops f.2.finished.mine f.2.end
@@ -214,3 +222,19 @@ turn_goes_on t d0 d1 old new turns kept = record {
   kept = kept;
   offers = λ from h. offers_next from old new d0 d1 h kept.shape t turns;
 }
+
+-- a look that found no row is a turn of a worker that had ended, or ends
+no_row : (d0 d1 : Shown) (old new : Working) → Looks offers_by finishes_by d0 d1 None old new → (how : worker.SourceEnd) × Turns offers_by finishes_by d0 d1 (turn.Done how) old new
+no_row d0 d1 old new (inl rested) = (rested.0, inl rested.1)
+no_row d0 d1 old new (inr told) = (end_of told.1.0, inr (told.0, inr (told.1.0, refl, told.1.1)))
+
+-- a seated worker goes on by a look
+pub look_goes_on : (stamp : Option ℕ) (d0 d1 : Shown) (old new : Working) → Looks offers_by finishes_by d0 d1 stamp old new → reader.Keeps old.reader new.reader → WentOn (seated old d0) (seated new d1)
+look_goes_on None d0 d1 old new looks kept = let t = no_row d0 d1 old new looks in turn_goes_on (turn.Done t.0) d0 d1 old new t.1 kept
+look_goes_on (Some stamp) d0 d1 old new looks kept =
+    let same = looks.1.2.desk in
+    record {
+      seat = record { intake = ap (λ (d : Shown). d.intake) same; setting = ap (λ (d : Shown). d.setting) same; caller = ap (λ (d : Shown). d.caller) same; source = ap (λ (d : Shown). d.source) same };
+      kept = kept;
+      offers = λ from h. looked_at from old new d0 d1 h looks.0 kept.shape looks.1.0 looks.1.2.next same looks.1.2.kept looks.1.2.end;
+    }

@@ -3,6 +3,7 @@
 
 mod fit;
 pub mod halt;
+mod here;
 pub mod run;
 mod seated;
 mod sending;

@@ -16,6 +16,7 @@ use crate::halt::Halt;
 use crate::seated::SeatedWorker;
 use crate::sending::send_all;
 use crate::taking::Taker;
+use lola_board::Board;
 use lola_feed::worker::{SourceEnd, SourceWorker};
 use lola_intake::intake::Intake;
 use lola_intake::seats::SourceSeat;
@@ -30,16 +31,18 @@ use lola_value::text::Memory;
 use std::alloc::Global;
 use std::sync::Wait;
 use std::sync::atomic::AtomicBool;
+use std::thread;
 use std::thread::Threads;
 
-/// The room that a run with threads takes before the first is started: the intake with its seats, a flag for each source, room for
-/// the seated workers that wait, for those that no thread could be started for and for those that came back, and for what the
+/// The room that a run with threads takes before the first is started: the intake with its seats, the board at which the threads
+/// wait for each other, a flag for each source, room for the seated workers that wait, for those that no thread could be started for and for those that came back, and for what the
 /// intake has left at its end.
 #[derive(Drop)]
 struct Room<S: Source> {
     intake: Intake,
     seats: Vec<SourceSeat>,
     taker: Taker,
+    board: Board,
     flags: Vec<AtomicBool>,
     waiting: Vec<SeatedWorker<S>>,
     here: Vec<SeatedWorker<S>>,
@@ -48,8 +51,14 @@ struct Room<S: Source> {
 }
 
 impl<S: Source> Room<S> {
-    // Room for so many sources of a plan.
-    fn create(alloc: Global, plan: &Plan, count: u32, start: Option<u64>) -> Result<Room<S>, Memory>
+    // Room for so many sources of a plan, on a machine with so many processors.
+    fn create(
+        alloc: Global,
+        plan: &Plan,
+        count: u32,
+        processors: usize,
+        start: Option<u64>,
+    ) -> Result<Room<S>, Memory>
         requires { (1 ≤ count) × (count ≤ 64) }
         ensures taker { IfOk result (λ room. room.taker ≡ record { seat = new_seat room.intake (setting count start) 0 0; inputs = record { count = count; kinds = input_kinds plan.now.spec.streams }; batch = [] }) }
         ensures seats { IfOk result (λ room. AreNewSeats room.intake (setting count start) count room.seats.items) }
@@ -64,6 +73,7 @@ impl<S: Source> Room<S> {
         let here = Vec::with_capacity(alloc, places)?;
         let back = Vec::with_capacity(alloc, places)?;
         let flags = new_flags(alloc, count)?;
+        let board = Board::create(alloc, count, processors)?;
         let left = Batch::create(alloc)?;
         let batch = Batch::create(alloc)?;
         let inputs = Inputs::create(alloc, plan, count)?;
@@ -72,12 +82,21 @@ impl<S: Source> Room<S> {
             intake,
             seats,
             taker: Taker::create(seat, inputs, batch),
+            board,
             flags,
             waiting,
             here,
             back,
             left,
         })
+    }
+}
+
+// How many processors the machine has; one, where it does not tell.
+fn processors<R: Threads>(rt: &R) -> usize {
+    match thread::available_parallelism(rt) {
+        Ok(count) => count.get(),
+        Err(_) => 1,
     }
 }
 
@@ -208,6 +227,7 @@ fn run_room<R: Threads + Wait + Sync, S: Source + Send, K: Sink, T: Sink, G: Gat
         intake,
         mut seats,
         mut taker,
+        board,
         flags,
         mut waiting,
         here,
@@ -217,7 +237,7 @@ fn run_room<R: Threads + Wait + Sync, S: Source + Send, K: Sink, T: Sink, G: Gat
     let mut workers = workers;
     seat_all(&mut workers, &mut seats, &mut waiting);
     let (back, halted) = send_all(
-        rt, &intake, gate, &flags, waiting, here, back, &mut taker, run, out, trace,
+        rt, &intake, gate, &board, &flags, waiting, here, back, &mut taker, run, out, trace,
     );
     take_apart(back, &mut workers, &mut seats);
     taker.end(intake, seats, &mut left);
@@ -227,8 +247,8 @@ fn run_room<R: Threads + Wait + Sync, S: Source + Send, K: Sink, T: Sink, G: Gat
 
 /// Runs all rows of sources, each of which is read on a thread of its own, and then the deadlines at the last stamp, unless a row
 /// has a fault or the run was cut short. Rows are run in the order in which the threads hand them in, which may be any that keeps the
-/// order of each source. Where no thread can be started for a source it is read by the calling thread, one row between two
-/// takes. The workers come back as their turns left them.
+/// order of each source; they do so in the order of stamp and source, as far as nobody has to wait for a source that is silent.
+/// Where no thread can be started for a source it is read by the calling thread. The workers come back as their turns left them.
 pub fn run_in_threads<R: Threads + Wait + Sync, S: Source + Send, K: Sink, T: Sink, G: Gate + Sync>(
     rt: &R,
     alloc: Global,
@@ -247,7 +267,8 @@ pub fn run_in_threads<R: Threads + Wait + Sync, S: Source + Send, K: Sink, T: Si
     ensures places { AreInPlace workers.items result.0.items }
     ensures plan { (keeping run.new).desk.plan ≡ (keeping run.old).desk.plan }
 {
-    match Room::create(alloc, run.plan(), workers.len() as u32, start) {
+    let processors = processors(rt);
+    match Room::create(alloc, run.plan(), workers.len() as u32, processors, start) {
         Ok(room) => run_room(rt, room, run, workers, out, trace, gate),
         Err(_) => (workers, Err(Stop::Memory)),
     }

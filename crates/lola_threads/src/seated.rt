@@ -2,6 +2,7 @@
 ghost use Rattle.std.specs.Prelude.{◌≡◌};
 ghost use Rattle.lola_threads.specs.Seated.{WentOn, seated};
 
+use lola_board::{Board, Watch};
 use lola_feed::worker::{SourceWorker, Turn};
 use lola_intake::intake::Intake;
 use lola_intake::seats::SourceSeat;
@@ -9,7 +10,9 @@ use lola_port::{Gate, Source};
 use lola_seats::SeatDesk;
 use std::marker::Model;
 use std::sync::Wait;
-use std::thread;
+
+/// How long a thread waits for the bytes of its source before it looks whether the run was stopped, in milliseconds.
+const PIECE: u16 = 100;
 
 /// A source's worker and its seat, which go together to the thread that reads the source.
 #[derive(Drop)]
@@ -29,36 +32,137 @@ impl<S: Source> Model for SeatedWorker<S> {
     ghost invariant = { λ p. p.worker.reader.shape.index ≡ p.seat.source };
 }
 
-// One turn of a source at its desk. The gate is told before it.
-fn turn_at<S: Source, R: Wait + Sync, G: Gate>(
+// Waits until a read of a source answers at once, where it has to be read. It tells whether one would: else the run was stopped.
+fn wait_to_read<S: Source, R: Wait>(
+    rt: &R,
+    worker: &SourceWorker<S>,
+    source: u32,
+    board: &Board,
+) -> bool {
+    if worker.answers_at_once() || worker.is_ready() {
+        return true;
+    }
+    board.step_aside(source);
+    for _ in rt.forever() {
+        if board.is_stopped() {
+            return false;
+        }
+        if worker.wait_for_bytes(PIECE) {
+            return true;
+        }
+    }
+    unreachable!()
+}
+
+// Looks at the next row of a source; where none is to come, its desk is told so.
+fn look_at<S: Source, R: Wait + Sync>(
     worker: &mut SourceWorker<S>,
     desk: &mut SeatDesk<'_, R>,
-    source: u32,
-    gate: &G,
+) -> Option<u64>
+    requires { worker.old.reader.shape.index ≡ desk.old.source }
+    ensures { WentOn (seated worker.old desk.old) (seated worker.new desk.new) }
+{
+    worker.hold(desk)
+}
+
+// One turn of a source at its desk.
+fn turn_at<S: Source, R: Wait + Sync>(
+    worker: &mut SourceWorker<S>,
+    desk: &mut SeatDesk<'_, R>,
 ) -> Turn
     requires { worker.old.reader.shape.index ≡ desk.old.source }
     ensures { WentOn (seated worker.old desk.old) (seated worker.new desk.new) }
 {
-    gate.source_turn(source);
     worker.turn(desk)
 }
 
-// Turns of a source at its desk, until its worker has ended. Where the intake is full, other threads run before the next turn.
+// Nobody waits any more for a source whose worker has ended, after its last row has found no room so many times.
+fn leave(board: &Board, source: u32, times: u32) {
+    board.step_aside(source);
+    board.row_is_in(source, times);
+}
+
+// Hands in the row that waits. Where the intake is full, its thread waits for room before the next turn. It tells whether the
+// worker goes on.
+fn hand_in<S: Source, R: Wait + Sync, G: Gate>(
+    rt: &R,
+    worker: &mut SourceWorker<S>,
+    desk: &mut SeatDesk<'_, R>,
+    source: u32,
+    gate: &G,
+    board: &Board,
+) -> bool
+    requires { worker.old.reader.shape.index ≡ desk.old.source }
+    ensures { WentOn (seated worker.old desk.old) (seated worker.new desk.new) }
+{
+    let mut times: u32 = 0;
+    for _ in rt.forever() {
+        match turn_at(worker, desk) {
+            Turn::Moved => {
+                board.row_is_in(source, times);
+                return true;
+            }
+            Turn::Full => {
+                board.wait_for_room(rt, source, times);
+                times = times.saturating_add(1);
+                gate.source_turn(source);
+            }
+            Turn::Done(_) => {
+                leave(board, source, times);
+                return false;
+            }
+        }
+    }
+    unreachable!()
+}
+
+// The next row of a source, read and handed in once it is the least of those that others have in hand. The gate is told before it
+// is read, and before each further turn. It tells whether the worker goes on: it does not where it has ended, or where the run is
+// stopped while its source is silent.
+fn pass_row<S: Source, R: Wait + Sync, G: Gate>(
+    rt: &R,
+    worker: &mut SourceWorker<S>,
+    desk: &mut SeatDesk<'_, R>,
+    source: u32,
+    gate: &G,
+    board: &Board,
+    watch: &mut Watch,
+) -> bool
+    requires { worker.old.reader.shape.index ≡ desk.old.source }
+    ensures { WentOn (seated worker.old desk.old) (seated worker.new desk.new) }
+{
+    gate.source_turn(source);
+    if !wait_to_read(rt, worker, source, board) {
+        return false;
+    }
+    match look_at(worker, desk) {
+        Some(stamp) => {
+            board.wait_for_turn(rt, source, stamp, watch);
+            hand_in(rt, worker, desk, source, gate, board)
+        }
+        None => {
+            leave(board, source, 0);
+            false
+        }
+    }
+}
+
+// All rows of a source, one after another.
 fn run_at<S: Source, R: Wait + Sync, G: Gate>(
     rt: &R,
     worker: &mut SourceWorker<S>,
     desk: &mut SeatDesk<'_, R>,
     source: u32,
     gate: &G,
+    board: &Board,
 )
     requires { worker.old.reader.shape.index ≡ desk.old.source }
     ensures { WentOn (seated worker.old desk.old) (seated worker.new desk.new) }
 {
+    let mut watch = Watch::new();
     for _ in rt.forever() {
-        match turn_at(worker, desk, source, gate) {
-            Turn::Moved => {}
-            Turn::Full => thread::yield_now(),
-            Turn::Done(_) => return,
+        if !pass_row(rt, worker, desk, source, gate, board, &mut watch) {
+            return;
         }
     }
     unreachable!()
@@ -80,30 +184,74 @@ impl<S: Source> SeatedWorker<S> {
         self.seat.source()
     }
 
-    /// One turn of the source.
-    pub fn turn<R: Wait + Sync, G: Gate>(self, rt: &R, intake: &Intake, gate: &G) -> SeatedWorker<S>
+    /// Whether its worker has ended.
+    pub fn has_ended(&self) -> bool {
+        self.worker.end().is_some()
+    }
+
+    /// The stamp of the row that waits, if one does.
+    pub fn waiting(&self) -> Option<u64> {
+        self.worker.waiting()
+    }
+
+    /// Whether its next row can be looked at, and was not: a read of its source, if one is needed, waits for nobody.
+    pub fn can_look(&self) -> bool {
+        !self.has_ended()
+            && self.waiting().is_none()
+            && (self.worker.answers_at_once()
+                || self.worker.is_ready()
+                || self.worker.wait_for_bytes(0))
+    }
+
+    /// Waits until a read of its source would answer at once, for so many milliseconds at most.
+    pub fn wait_for_bytes(&self, milliseconds: u16) {
+        self.worker.wait_for_bytes(milliseconds);
+    }
+
+    /// Looks at the next row of the source.
+    pub fn look<R: Wait + Sync>(self, rt: &R, intake: &Intake) -> SeatedWorker<S>
         requires { self.seat.intake ≡ intake.now }
         ensures { WentOn self result }
     {
         let SeatedWorker { mut worker, seat } = self;
-        let source = seat.source();
         let mut desk = SeatDesk::create(rt, intake, seat);
-        turn_at(&mut worker, &mut desk, source, gate);
+        look_at(&mut worker, &mut desk);
         SeatedWorker {
             worker,
             seat: desk.into_seat(),
         }
     }
 
-    /// All turns of the source, until its worker has ended.
-    pub fn run<R: Wait + Sync, G: Gate>(self, rt: &R, intake: &Intake, gate: &G) -> SeatedWorker<S>
+    /// One turn of the source. The gate is told before it.
+    pub fn turn<R: Wait + Sync, G: Gate>(self, rt: &R, intake: &Intake, gate: &G) -> SeatedWorker<S>
+        requires { self.seat.intake ≡ intake.now }
+        ensures { WentOn self result }
+    {
+        let SeatedWorker { mut worker, seat } = self;
+        gate.source_turn(seat.source());
+        let mut desk = SeatDesk::create(rt, intake, seat);
+        turn_at(&mut worker, &mut desk);
+        SeatedWorker {
+            worker,
+            seat: desk.into_seat(),
+        }
+    }
+
+    /// All turns of the source, until its worker has ended, or until the run is stopped while the source is silent.
+    pub fn run<R: Wait + Sync, G: Gate>(
+        self,
+        rt: &R,
+        intake: &Intake,
+        gate: &G,
+        board: &Board,
+    ) -> SeatedWorker<S>
         requires { self.seat.intake ≡ intake.now }
         ensures { WentOn self result }
     {
         let SeatedWorker { mut worker, seat } = self;
         let source = seat.source();
         let mut desk = SeatDesk::create(rt, intake, seat);
-        run_at(rt, &mut worker, &mut desk, source, gate);
+        run_at(rt, &mut worker, &mut desk, source, gate, board);
         SeatedWorker {
             worker,
             seat: desk.into_seat(),

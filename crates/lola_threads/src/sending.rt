@@ -13,6 +13,7 @@ ghost use Rattle.lola_threads.specs.Takings.{Halts, HasRun, IsReady, Place, plac
 use crate::halt::Halt;
 use crate::seated::SeatedWorker;
 use crate::taking::Taker;
+use lola_board::Board;
 use lola_intake::intake::Intake;
 use lola_port::{Gate, Sink, Source};
 use lola_run::run::Run;
@@ -32,21 +33,24 @@ impl<S: Source> Promise<SeatedWorker<S>> for ComesBack<S> {
     ghost kept_by = { λ p r. WentOn p.0.value r };
 }
 
-/// What all threads of a run share: the intake, the gate, and a flag for each source. A flag that is set says that no thread
-/// could be started for its source.
+/// What all threads of a run share: the intake, the gate, the board, and a flag for each source. A flag that is set says that no
+/// thread could be started for its source.
 #[derive(Drop)]
 pub struct ThreadContext<'s, R, G> {
     pub rt: &'s R,
     pub intake: &'s Intake,
     pub gate: &'s G,
+    pub board: &'s Board,
     pub flags: &'s [AtomicBool],
 }
 
-// The work of a source's thread: all turns of the source, or none where no thread could be started.
+// The work of a source's thread: all turns of the source, or none where no thread could be started. No thread waits for such a
+// source.
 fn work<S: Source, R: Wait + Sync, G: Gate>(
     rt: &R,
     intake: &Intake,
     gate: &G,
+    board: &Board,
     flag: &AtomicBool,
     seated: SeatedWorker<S>,
 ) -> SeatedWorker<S>
@@ -54,9 +58,10 @@ fn work<S: Source, R: Wait + Sync, G: Gate>(
     ensures { WentOn seated result }
 {
     if flag.load(Ordering::SeqCst) {
+        board.step_aside(seated.source());
         return seated;
     }
-    seated.run(rt, intake, gate)
+    seated.run(rt, intake, gate, board)
 }
 
 // Starts a thread for a seated worker. Where none can be made, the flag of its source is set, and the seated worker comes back.
@@ -74,6 +79,7 @@ fn start<'s, E, S: Source + Send + 's, R: Threads + Wait + Sync, G: Gate + Sync>
         rt,
         intake,
         gate,
+        board,
         flags,
     } = *context;
     let flag = &flags[seated.source() as usize];
@@ -83,7 +89,7 @@ fn start<'s, E, S: Source + Send + 's, R: Threads + Wait + Sync, G: Gate + Sync>
         move || -> SeatedWorker<S>
             requires { seated.seat.intake ≡ intake.now }
             ensures { WentOn seated result }
-        { work(rt, intake, gate, flag, seated) },
+        { work(rt, intake, gate, board, flag, seated) },
     ) {
         Ok(handle) => Ok(handle),
         Err(refused) => {
@@ -151,6 +157,7 @@ fn send_each<
         let (here, halted) = taker.take_all(
             context.rt,
             context.intake,
+            context.board,
             here,
             run,
             out,
@@ -190,6 +197,7 @@ pub fn send_all<S: Source + Send, R: Threads + Wait + Sync, K: Sink, T: Sink, G:
     rt: &R,
     intake: &Intake,
     gate: &G,
+    board: &Board,
     flags: &[AtomicBool],
     waiting: Vec<SeatedWorker<S>>,
     here: Vec<SeatedWorker<S>>,
@@ -219,6 +227,7 @@ pub fn send_all<S: Source + Send, R: Threads + Wait + Sync, K: Sink, T: Sink, G:
         rt,
         intake,
         gate,
+        board,
         flags,
     };
     let (taker, run, out, trace, back, halted) = thread::scope(

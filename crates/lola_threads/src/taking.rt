@@ -14,7 +14,9 @@ ghost use Rattle.lola_threads.specs.Takings.{GoesOn, Halts, HasRun, IsReady, IsU
 
 use crate::fit::Inputs;
 use crate::halt::Halt;
+use crate::here::{have_ended, rest, turn_here};
 use crate::seated::SeatedWorker;
+use lola_board::Board;
 use lola_intake::intake::Intake;
 use lola_intake::seats::{EngineSeat, SourceSeat};
 use lola_merge::batch::Batch;
@@ -25,7 +27,6 @@ use lola_run::run::Run;
 use lola_run::stop::Stop;
 use std::marker::Model;
 use std::sync::Wait;
-use std::thread;
 use std::thread::Threads;
 
 // Traces an entry and runs it.
@@ -104,36 +105,30 @@ fn run_batch<R: Threads + Sync, K: Sink, T: Sink, G: Gate + Sync>(
     Ok(())
 }
 
-// Whether a take was answered that all is done. Where it was answered that there is nothing yet, other threads run.
+// Whether a take was answered that all is done.
 fn is_all_done(take: Take) -> bool
     ensures { IsTrue result ↔ (take ≡ Take.AllDone) }
 {
     match take {
-        Take::Rows(_) => false,
-        Take::Nothing => {
-            thread::yield_now();
-            false
-        }
+        Take::Rows(_) | Take::Nothing => false,
         Take::AllDone => true,
     }
 }
 
-// A turn of each source that no thread could be started for.
-fn turn_all<S: Source, R: Wait + Sync, G: Gate>(
-    rt: &R,
-    intake: &Intake,
-    mut here: Vec<SeatedWorker<S>>,
-    gate: &G,
-) -> Vec<SeatedWorker<S>>
-    requires { AreAt intake.now here.items }
-    ensures here { AllZip WentOn here.items result.items }
-    ensures room { vec_capacity result ≡ vec_capacity here }
-{
-    for _ in 0..here.len() {
-        let seated = here.remove(0).turn(rt, intake, gate);
-        here.push_reserved(seated);
+// What follows a take: rows leave room for others. Where there was nothing yet, the thread sleeps until a row is in, unless sources here
+// have rows to come.
+fn rest_after<S: Source, R: Wait>(rt: &R, board: &Board, here: &[SeatedWorker<S>], take: Take) {
+    match take {
+        Take::Rows(_) => board.rows_are_out(),
+        Take::Nothing => {
+            if have_ended(here) {
+                board.wait_for_rows(rt);
+            } else {
+                rest(here);
+            }
+        }
+        Take::AllDone => {}
     }
-    here
 }
 
 /// What the engine's thread takes rows with: its seat at the intake, what a row is tested by, and room for what is taken.
@@ -165,10 +160,12 @@ impl Taker {
     }
 
     // Takes all pending rows out of the intake, and runs them. It tells whether all is done.
-    fn take_once<R: Threads + Wait + Sync, K: Sink, T: Sink, G: Gate + Sync>(
+    fn take_once<S: Source, R: Threads + Wait + Sync, K: Sink, T: Sink, G: Gate + Sync>(
         &mut self,
         rt: &R,
         intake: &Intake,
+        board: &Board,
+        here: &[SeatedWorker<S>],
         run: &mut Run,
         out: &mut K,
         trace: &mut T,
@@ -187,18 +184,21 @@ impl Taker {
         ensures setting { IsSetAs (keeping run.old) (keeping run.new) }
     {
         let take = intake.try_take(rt, &mut self.seat, &mut self.batch);
+        rest_after(rt, board, here, take);
         if let Err(halt) = run_batch(rt, run, &self.inputs, &mut self.batch, out, trace, gate) {
             return Err(halt);
         }
         Ok(is_all_done(take))
     }
 
-    /// Takes rows out of the intake and runs them, until all sources have finished and all is taken, with a turn of each source
-    /// that no thread could be started for before each take. Where something ends it sooner, the intake is closed.
+    /// Takes rows out of the intake and runs them, until all sources have finished and all is taken, with a turn of a source that
+    /// no thread could be started for before each take. Where something ends it sooner, the intake is closed, and the threads
+    /// that wait at the board are told so.
     pub fn take_all<S: Source, R: Threads + Wait + Sync, K: Sink, T: Sink, G: Gate + Sync>(
         &mut self,
         rt: &R,
         intake: &Intake,
+        board: &Board,
         here: Vec<SeatedWorker<S>>,
         run: &mut Run,
         out: &mut K,
@@ -219,12 +219,13 @@ impl Taker {
     {
         let mut here = here;
         for _ in rt.forever() {
-            here = turn_all(rt, intake, here, gate);
-            match self.take_once(rt, intake, run, out, trace, gate) {
+            here = turn_here(rt, intake, here, gate);
+            match self.take_once(rt, intake, board, &here, run, out, trace, gate) {
                 Ok(false) => {}
                 Ok(true) => return (here, Ok(())),
                 Err(halt) => {
                     intake.close_intake(rt, &mut self.seat);
+                    board.stop();
                     return (here, Err(halt));
                 }
             }

@@ -242,7 +242,7 @@ fn fault_while_sources_wait(rt: HostRuntime) -> Result<(), Fail> {
     let mut shelf = shelf_of(rt.alloc(), specification, rows.as_bytes(), b"time,a\n", &[])?;
     let gate = FullGate {
         turns: 1_000_000,
-        wanted: 2100,
+        wanted: 1030,
         begun: AtomicU32::new(0),
         held: AtomicBool::new(false),
     };
