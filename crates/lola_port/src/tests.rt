@@ -83,7 +83,7 @@ fn objects_of_the_machine(rt: HostRuntime) -> Result<(), Fail> {
         return Err("no device".into());
     };
     assert_eq!(rt;
-        (device.answers_at_once(), device.wait_for_bytes(0)),
+        (device.answers_at_once(), device.wait_for_bytes(60_000)),
         (false, true)
     );
     shelf.give_back(device);
