@@ -1,9 +1,10 @@
 -- A source's worker: which rows are still to come of its source, and what a turn of it does.
-use Rattle.std.specs.Prelude.{◌≡◌, ◌⊎◌, ◌+◌, ◌-◌, ◌<◌, ℕ, [], ◌∷◌, ◌++◌, Option, Some, None, Result, Ok, Err, option_map, length}
+use Rattle.std.specs.Prelude.{◌≡◌, ◌⊎◌, ◌+◌, ◌-◌, ◌<◌, ℕ, Bool, true, false, [], ◌∷◌, ◌++◌, Option, Some, None, Result, Ok, Err, option_map, length}
 use Rattle.std.specs.Option.{option_to_list}
 use Rattle.lola_model.specs.declared.journal.Row.{Row}
 use Rattle.lola_rows.specs.Reading.{IsRowOf, Passes, Reading, Stops, rest_of, size_of}
 use Rattle.lola_rows.specs.Rows.{SourceRows}
+use Rattle.lola_rows.specs.Steps.{Goes}
 use Rattle.lola_rows.specs.declared.answer.Ending.{Ending}
 use Rattle.lola_rows.specs.declared.answer.Ending.TheVariants as ending
 use Rattle.lola_rows.specs.declared.answer.RowAnswer.{RowAnswer}
@@ -170,3 +171,16 @@ module _ {D : Type 0} (offers : Row → Offer → D → D → Type 0) (finishes 
   abbrev pub Looks : Option ℕ → Working → Working → Type 0
   Looks (Some stamp) old new = (old.end ≡ None) × ((row : Row) × (row.stamp ≡ stamp) × Holds row old new)
   Looks None old new = ((end : SourceEnd) × Rests end old new) ⊎ ((old.end ≡ None) × ((how : Ending) × Finishes how old new))
+
+  -- the heading stands behind, and no row was read
+  pub record GoesOn (old new : Working) : Type 0 where
+    pub going : old.end ≡ None
+    pub goes : Goes old.reader new.reader
+    pub desk : d1 ≡ d0
+    pub kept : new.kept ≡ old.kept
+    pub end : new.end ≡ None
+
+  -- the heading was asked for: the worker goes on, or has ended
+  abbrev pub Begun : Bool → Working → Working → Type 0
+  Begun true old new = GoesOn old new
+  Begun false old new = Looks None old new

@@ -107,6 +107,12 @@ impl Bench {
         self.second.turn(&mut self.desk)
     }
 
+    // The first worker reads its heading.
+    fn first_begins(&mut self) -> bool {
+        self.desk.serve(0);
+        self.first.begin(&mut self.desk)
+    }
+
     // A look of the first worker at its next row.
     fn first_look(&mut self) -> Option<u64> {
         self.desk.serve(0);
@@ -121,13 +127,14 @@ impl Bench {
         self.first_turn()
     }
 
-    // Turns of the workers, `1` and `2`, or many of the first, `f`; the first looks at its next row, `h`, and says whether that
-    // needs a read, `r`; all pending rows are taken, `t`, the desk closes, `c`, or is one where nothing was called, `n`.
+    // Turns of the workers, `1` and `2`, or many of the first, `f`; the first reads its heading, `b`, looks at its next row, `h`, and
+    // says whether that needs a read, `r`; all pending rows are taken, `t`, the desk closes, `c`, or is one where nothing was called, `n`.
     fn act(&mut self, alloc: Global, action: u8, text: &mut String) -> Result<(), Fail> {
         match action {
             b'1' => write!(text, "{:?};", self.first_turn())?,
             b'2' => write!(text, "{:?};", self.second_turn())?,
             b'f' => write!(text, "{:?};", self.fill())?,
+            b'b' => write!(text, "{};", self.first_begins())?,
             b'h' => write!(text, "{:?};", self.first_look())?,
             b'r' => write!(text, "{};", self.first.is_ready())?,
             b't' => push_taken(alloc, &mut self.desk, text)?,
@@ -227,8 +234,8 @@ fn turns(rt: HostRuntime) -> Result<(), Fail> {
     Ok(())
 }
 
-// Looks of the first worker, and whether it needs a read: before its heading, in front of empty lines, and at its end. A row
-// that is looked at twice is one.
+// The heading alone, looks of the first worker, and whether it needs a read: before its heading, in front of empty lines, and at
+// its end. A row that is looked at twice is one.
 #[test]
 fn looks(rt: HostRuntime) -> Result<(), Fail> {
     for (bytes, fails, actions, expected) in [

@@ -2,14 +2,14 @@
 
 ghost use Rattle.std.specs.Prelude.{◌≡◌, ◌-◌, option_map};
 ghost use Rattle.lola_rows.specs.Reading.{IsRowOf, Keeps};
-ghost use Rattle.lola_feed.specs.Feeding.{Looks, NextRow, Offers, Turns, beginning, row_or_end};
+ghost use Rattle.lola_feed.specs.Feeding.{Begun, Looks, NextRow, Offers, Turns, beginning, end_of, row_or_end};
 
 use crate::desk::Desk;
 use lola_merge::state::Offer;
 use lola_model::journal::Row;
 use lola_model::source::MalformedKind;
 use lola_port::Source;
-use lola_rows::{RowAnswer, RowReader};
+use lola_rows::{Ending, RowAnswer, RowReader};
 use std::marker::Model;
 
 /// How a source's worker ended.
@@ -91,6 +91,35 @@ impl<S: Source> SourceWorker<S> {
     /// Whether the next turn needs no read: a row waits, the reader holds a whole line or has ended, or the worker has.
     pub fn is_ready(&self) -> bool {
         self.kept.is_some() || self.end.is_some() || self.reader.has_line()
+    }
+
+    /// Whether the heading of its source was read, or the worker has ended.
+    pub fn has_begun(&self) -> bool {
+        self.end.is_some() || self.reader.has_begun()
+    }
+
+    /// Reads the heading of its source, unless it was read, and no row. Where there is none the worker has ended, and the desk
+    /// is told so once. It tells whether the worker goes on.
+    pub fn begin<D: Desk>(&mut self, desk: &mut D) -> bool
+        requires { self.old.reader.shape.index ≡ D.source desk.old }
+        ensures begun { Begun D.offers D.finishes desk.old desk.new result self.old self.new }
+        ensures kept { Keeps self.old.reader self.new.reader }
+        ensures source { D.source desk.new ≡ D.source desk.old }
+    {
+        if let Some(_) = self.end {
+            return false;
+        }
+        if let Some(_) = &self.kept {
+            return true;
+        }
+        match self.reader.begin() {
+            Ok(()) => true,
+            Err(ending) => {
+                self.end = Some(end_of(ending));
+                tell_end(desk);
+                false
+            }
+        }
     }
 
     /// The stamp of the row that waits, if one does.
@@ -212,6 +241,18 @@ fn tell_end<D: Desk>(desk: &mut D)
     ensures source { D.source desk.new ≡ D.source desk.old }
 {
     desk.finish();
+}
+
+// What a reader's end is to a worker.
+fn end_of(ending: Ending) -> SourceEnd
+    ensures { result ≡ end_of ending }
+{
+    match ending {
+        Ending::End => SourceEnd::End,
+        Ending::Malformed { kind, row } => SourceEnd::Malformed { kind, row },
+        Ending::ReadFault => SourceEnd::ReadFault,
+        Ending::Memory => SourceEnd::Memory,
+    }
 }
 
 // A row, or what a reader that has none is to a worker.

@@ -47,6 +47,11 @@ abbrev pub Begins : Result (Unit {0}) Ending → Reading → Reading → Type 0
 Begins (Ok done) old new = Goes old new
 Begins (Err how) old new = Stops how old new
 
+-- the heading stands behind, or how the reader has ended
+abbrev pub Opens : Result (Unit {0}) Ending → Reading → Reading → Type 0
+Opens (Ok done) old new = Goes old new × (new.ended ≡ None)
+Opens (Err how) old new = Stops how old new × (new.ended ≡ Some how)
+
 -- a row was taken, or there is none
 abbrev pub Takes : Result Row Ending → Reading → Reading → Type 0
 Takes (Ok row) old new = GaveRow row old new

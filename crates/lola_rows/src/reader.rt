@@ -123,7 +123,7 @@ impl<S: Source> Model for RowReader<S> {
 impl<S: Source> RowReader<S> {
     ghost use Rattle.lola_rows.specs.Filling.{IsFront};
     ghost use Rattle.lola_rows.specs.Reading.{Answers, Keeps, Repeats, Stops, fresh, rest_of, shape_of};
-    ghost use Rattle.lola_rows.specs.Steps.{Begins, Fills, Seeks, Takes};
+    ghost use Rattle.lola_rows.specs.Steps.{Begins, Fills, Opens, Seeks, Takes};
 
     /// Makes the room that a reader of the source with this index needs, for at most `most` rows.
     pub fn reserve(alloc: Global, plan: &Plan, index: u32, most: u64) -> Result<EmptyReader, Memory>
@@ -157,6 +157,26 @@ impl<S: Source> RowReader<S> {
     {
         let empty = RowReader::<S>::reserve(alloc, plan, index, most)?;
         Ok(empty.with(source))
+    }
+
+    /// Whether the heading was read, or the reader has ended.
+    pub fn has_begun(&self) -> bool {
+        self.ended.is_some() || matches!(self.stage, Stage::Rows | Stage::Over)
+    }
+
+    /// Reads the heading, unless it was read, and no row. Where it answers an ending the reader has ended so.
+    pub fn begin(&mut self) -> Result<(), Ending>
+        requires { self.old.ended ≡ None }
+        ensures opens { Opens result self.old self.new }
+        ensures kept { Keeps self.old self.new }
+    {
+        match self.take_start() {
+            Ok(()) => Ok(()),
+            Err(how) => {
+                self.ended = Some(how);
+                Err(how)
+            }
+        }
     }
 
     /// The next row, or how the reader ended: all rows given, a malformed line, a failed read, or no memory. A reader
@@ -194,6 +214,19 @@ impl<S: Source> RowReader<S> {
         self.drop_mark()?;
         self.take_heading()?;
         self.take_row()
+    }
+
+    // Takes the mark and the heading, unless they were taken.
+    fn take_start(&mut self) -> Result<(), Ending>
+        ensures begins { Begins result self.old self.new }
+        ensures kept { Keeps self.old self.new }
+        ensures ended { self.new.ended ≡ self.old.ended }
+    {
+        if let Stage::Over = self.stage {
+            return Ok(());
+        }
+        self.drop_mark()?;
+        self.take_heading()
     }
 
     // Drops a byte order mark at the very start.

@@ -1,5 +1,5 @@
 -- Seated workers that stay here go on, one after another.
-use Rattle.std.proofs.Common.{◌≡◌, ℕ, zero, suc, ◌<◌, List, [], ◌∷◌, refl, ◌∙◌, arith, length, get_or}
+use Rattle.std.proofs.Common.{◌≡◌, ℕ, zero, suc, ◌<◌, List, [], ◌∷◌, refl, sym, ap, ◌∙◌, subst, arith, length, get_or}
 use Rattle.std.specs.List.{AllZip, insert, remove}
 use Rattle.std.proofs.lemmas.List.Elements.{AllZip-get_or}
 use Rattle.std.proofs.lemmas.Slice.Zip.{AllZip-long}
@@ -51,3 +51,13 @@ pub went_on_at : (ps : List Seated) (k : ℕ) (d q : Seated) → k < length ps �
 went_on_at [] k d q less went = absurd (omega arith)
 went_on_at (p ∷ ps) zero d q less went = (went, all_stay ps)
 went_on_at (p ∷ ps) (suc k) d q less went = (stays_there p, went_on_at ps k d q (omega arith) went)
+
+-- one of them was taken out, went on, and was put back
+pub put_back_on : (ps mid qs : List Seated) (k : ℕ) (p q : Seated) → k < length ps → p ≡ get_or ps k p → mid ≡ remove ps k → WentOn p q → qs ≡ insert mid k q → AllZip WentOn ps qs
+put_back_on ps mid qs k p q less is out went back =
+    subst (λ (l : List Seated). AllZip WentOn ps l) (sym (back ∙ ap (λ (l : List Seated). insert l k q) out))
+    (went_on_at ps k p q less (subst (λ (r : Seated). WentOn r q) is went))
+
+-- there are as many of them
+pub as_many_on : (ps qs : List Seated) → AllZip WentOn ps qs → length qs ≡ length ps
+as_many_on ps qs went = AllZip-long WentOn ps qs went

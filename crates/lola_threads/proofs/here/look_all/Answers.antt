@@ -1,0 +1,9 @@
+use Rattle.std.proofs.Common.{◌∙◌, refl}
+use Rattle.lola_threads.proofs.Passing.{all_go_on_twice, all_stay, as_many_on, still_at}
+use Rattle.lola_threads.proofs.here.look_all.Goals as goal
+
+pub loop-place-init : goal.loop-place-init
+loop-place-init g c = record { many = refl; went = all_stay c.args.here.now.items; room = refl }
+
+pub look_one-requires-clause-here : goal.look_one-requires-clause-here
+look_one-requires-clause-here g c = still_at c.args.intake.now c.args.here.now.items c.loop-place.here.items c.loop-place.invariant.went c.requires
