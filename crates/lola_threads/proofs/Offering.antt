@@ -1,5 +1,5 @@
 -- What a turn of a source at its desk is to what the calls of its seat come to.
-use Rattle.std.proofs.Common.{◌≡◌, ℕ, ◌-◌, ◌≤◌, List, [], ◌∷◌, ◌++◌, true, false, true≢false, cond, All, Option, Some, None, map, length, refl, sym, ap, ◌∙◌, subst, inl, inr, arith, append_assoc, length-append, eqb, eq-eqb}
+use Rattle.std.proofs.Common.{◌≡◌, ℕ, ◌-◌, ◌≤◌, Bool, List, [], ◌∷◌, ◌++◌, true, false, true≢false, cond, All, Option, Some, None, map, length, refl, sym, ap, ◌∙◌, subst, inl, inr, arith, append_assoc, length-append, eqb, eq-eqb}
 use Rattle.std.proofs.lemmas.List.{append-nil, map-append}
 use Rattle.std.proofs.lemmas.List.Elements.{All-append, All-cons, All-nil}
 use Rattle.std.specs.Prelude.{option_map}
@@ -17,9 +17,9 @@ use Rattle.lola_intake.specs.Histories.{FinishesLast, entries, has_finish}
 use Rattle.lola_intake.specs.Intakes.{Shown}
 use Rattle.lola_intake.specs.declared.event.Event.{Event}
 use Rattle.lola_intake.specs.declared.event.Event.TheVariants.{Offered, Finished, Took, Closed}
-use Rattle.lola_seats.specs.Seating.{finishes_by, offers_by}
+use Rattle.lola_seats.specs.Seating.{IsSameSeat, finishes_by, offers_by}
 use Rattle.lola_seats.proofs.Turning.{turn-same}
-use Rattle.lola_feed.specs.Feeding.{IsLetIn, IsNext, Looks, Turns, Working, end_of, handed_in, led_by, to_come, without}
+use Rattle.lola_feed.specs.Feeding.{Begun, IsLetIn, IsNext, Looks, Turns, Working, end_of, handed_in, led_by, to_come, without}
 use Rattle.lola_feed.specs.declared.worker.SourceEnd as worker
 use Rattle.lola_feed.specs.declared.worker.SourceEnd.TheVariants as end
 use Rattle.lola_feed.specs.declared.worker.Turn.{Turn}
@@ -183,6 +183,17 @@ module _ (from old new : Working) (d0 d1 : Shown) (h : HasOffered from (seated o
   looked_at : (row : Row) → IsNext row old new.reader → d1 ≡ d0 → new.kept ≡ Some row → new.end ≡ None → HasOffered from (seated new d1)
   looked_at row next same kept ended = waits row next (ap (λ (d : Shown). rows_in d.mine) same) (λ s. ap (λ (d : Shown). has_finish d.mine s) same ∙ untold s) kept ended
 
+  -- the heading was read, and no row
+  opened : new.reader.given ≡ old.reader.given → reader.rest_of new.reader ≡ reader.rest_of old.reader → new.reader.source.count ≡ old.reader.source.count → d1 ≡ d0 → new.kept ≡ old.kept → new.end ≡ None
+      → HasOffered from (seated new d1)
+  opened given rest count same kept ended =
+      let number : handed_in new ≡ handed_in old = ap (λ (k : Option Row). without k new.reader.given) kept ∙ ap (without old.kept) given in
+      let left : to_come new ≡ to_come old = ap (λ (k : Option Row). option_map (led_by k) (reader.rest_of new.reader)) kept ∙ ap (option_map (led_by old.kept)) rest in
+      lets_in_none (ap (λ (d : Shown). rows_in d.mine) same)
+      (subst (λ (e : Option worker.SourceEnd). HasStopped e (supply_of from) (supply_of new) (rows_in d0.mine)) (sym ended)
+      (subst (λ (to : Option SourceRows). Passes (to_come from) to (rows_in d0.mine)) (sym left) was.0, number ∙ was.1, count ∙ was.2))
+      (subst (λ (e : Option worker.SourceEnd). HasTold e d1.mine) (sym ended) (λ s. ap (λ (d : Shown). has_finish d.mine s) same ∙ untold s))
+
   -- a row met a closed intake
   meets_closed : (row : Row) → d1.mine ≡ d0.mine ++ Offered row (reply.Closed row) ∷ [] → new.end ≡ Some end.Closed → HasOffered from (seated new d1)
   meets_closed row told ended = lets_in_none (ap rows_in told ∙ no_more d0.mine (Offered row (reply.Closed row)) refl)
@@ -228,13 +239,26 @@ no_row : (d0 d1 : Shown) (old new : Working) → Looks offers_by finishes_by d0 
 no_row d0 d1 old new (inl rested) = (rested.0, inl rested.1)
 no_row d0 d1 old new (inr told) = (end_of told.1.0, inr (told.0, inr (told.1.0, refl, told.1.1)))
 
+-- a seat stays the same where it was not called
+same_seat : (d0 d1 : Shown) → d1 ≡ d0 → IsSameSeat d0 d1
+same_seat d0 d1 same = record { intake = ap (λ (d : Shown). d.intake) same; setting = ap (λ (d : Shown). d.setting) same; caller = ap (λ (d : Shown). d.caller) same; source = ap (λ (d : Shown). d.source) same }
+
 -- a seated worker goes on by a look
 pub look_goes_on : (stamp : Option ℕ) (d0 d1 : Shown) (old new : Working) → Looks offers_by finishes_by d0 d1 stamp old new → reader.Keeps old.reader new.reader → WentOn (seated old d0) (seated new d1)
 look_goes_on None d0 d1 old new looks kept = let t = no_row d0 d1 old new looks in turn_goes_on (turn.Done t.0) d0 d1 old new t.1 kept
 look_goes_on (Some stamp) d0 d1 old new looks kept =
-    let same = looks.1.2.desk in
+    let held = looks.1.2 in
     record {
-      seat = record { intake = ap (λ (d : Shown). d.intake) same; setting = ap (λ (d : Shown). d.setting) same; caller = ap (λ (d : Shown). d.caller) same; source = ap (λ (d : Shown). d.source) same };
+      seat = same_seat d0 d1 held.desk;
       kept = kept;
-      offers = λ from h. looked_at from old new d0 d1 h looks.0 kept.shape looks.1.0 looks.1.2.next same looks.1.2.kept looks.1.2.end;
+      offers = λ from h. looked_at from old new d0 d1 h looks.0 kept.shape looks.1.0 held.next held.desk held.kept held.end;
     }
+
+-- and by a heading
+pub begin_goes_on : (on : Bool) (d0 d1 : Shown) (old new : Working) → Begun offers_by finishes_by d0 d1 on old new → reader.Keeps old.reader new.reader → WentOn (seated old d0) (seated new d1)
+begin_goes_on false d0 d1 old new begun kept = look_goes_on None d0 d1 old new begun kept
+begin_goes_on true d0 d1 old new begun kept = record {
+  seat = same_seat d0 d1 begun.desk;
+  kept = kept;
+  offers = λ from h. opened from old new d0 d1 h begun.going kept.shape begun.goes.given begun.goes.rest begun.goes.count begun.desk begun.kept begun.end;
+}

@@ -24,7 +24,7 @@ fn put_back<S: Source>(here: &mut Vec<SeatedWorker<S>>, place: usize, seated: Se
     }
 }
 
-// The seated worker at a place looks at its next row.
+// The seated worker at a place looks at its next row, if it can.
 fn look_one<S: Source, R: Wait + Sync>(
     rt: &R,
     intake: &Intake,
@@ -36,6 +36,9 @@ fn look_one<S: Source, R: Wait + Sync>(
     ensures here { AllZip WentOn here.old.items here.new.items }
     ensures room { vec_capacity here.new ≡ vec_capacity here.old }
 {
+    if !here[place].can_look() {
+        return;
+    }
     let seated = here.remove(place).look(rt, intake);
     put_back(here, place, seated);
 }
@@ -64,9 +67,7 @@ fn look_all<S: Source, R: Wait + Sync>(rt: &R, intake: &Intake, here: &mut Vec<S
     ensures room { vec_capacity here.new ≡ vec_capacity here.old }
 {
     for place in 0..here.len() {
-        if here[place].can_look() {
-            look_one(rt, intake, here, place);
-        }
+        look_one(rt, intake, here, place);
     }
 }
 

@@ -54,6 +54,17 @@ fn wait_to_read<S: Source, R: Wait>(
     unreachable!()
 }
 
+// Reads the heading of a source, unless it was read; where there is none, its desk is told so. It tells whether the worker goes on.
+fn begin_at<S: Source, R: Wait + Sync>(
+    worker: &mut SourceWorker<S>,
+    desk: &mut SeatDesk<'_, R>,
+) -> bool
+    requires { worker.old.reader.shape.index ≡ desk.old.source }
+    ensures { WentOn (seated worker.old desk.old) (seated worker.new desk.new) }
+{
+    worker.begin(desk)
+}
+
 // Looks at the next row of a source; where none is to come, its desk is told so.
 fn look_at<S: Source, R: Wait + Sync>(
     worker: &mut SourceWorker<S>,
@@ -63,6 +74,21 @@ fn look_at<S: Source, R: Wait + Sync>(
     ensures { WentOn (seated worker.old desk.old) (seated worker.new desk.new) }
 {
     worker.hold(desk)
+}
+
+// Looks at the next row of a source, or reads the heading before the first.
+fn begin_or_look_at<S: Source, R: Wait + Sync>(
+    worker: &mut SourceWorker<S>,
+    desk: &mut SeatDesk<'_, R>,
+)
+    requires { worker.old.reader.shape.index ≡ desk.old.source }
+    ensures { WentOn (seated worker.old desk.old) (seated worker.new desk.new) }
+{
+    if worker.has_begun() {
+        look_at(worker, desk);
+    } else {
+        begin_at(worker, desk);
+    }
 }
 
 // One turn of a source at its desk.
@@ -147,7 +173,7 @@ fn pass_row<S: Source, R: Wait + Sync, G: Gate>(
     }
 }
 
-// All rows of a source, one after another.
+// The heading of a source and all its rows, one after another.
 fn run_at<S: Source, R: Wait + Sync, G: Gate>(
     rt: &R,
     worker: &mut SourceWorker<S>,
@@ -159,6 +185,13 @@ fn run_at<S: Source, R: Wait + Sync, G: Gate>(
     requires { worker.old.reader.shape.index ≡ desk.old.source }
     ensures { WentOn (seated worker.old desk.old) (seated worker.new desk.new) }
 {
+    if !wait_to_read(rt, worker, source, board) {
+        return;
+    }
+    if !begin_at(worker, desk) {
+        leave(board, source, 0);
+        return;
+    }
     let mut watch = Watch::new();
     for _ in rt.forever() {
         if !pass_row(rt, worker, desk, source, gate, board, &mut watch) {
@@ -208,14 +241,14 @@ impl<S: Source> SeatedWorker<S> {
         self.worker.wait_for_bytes(milliseconds);
     }
 
-    /// Looks at the next row of the source.
+    /// Looks at the next row of the source, or reads the heading before the first.
     pub fn look<R: Wait + Sync>(self, rt: &R, intake: &Intake) -> SeatedWorker<S>
         requires { self.seat.intake ≡ intake.now }
         ensures { WentOn self result }
     {
         let SeatedWorker { mut worker, seat } = self;
         let mut desk = SeatDesk::create(rt, intake, seat);
-        look_at(&mut worker, &mut desk);
+        begin_or_look_at(&mut worker, &mut desk);
         SeatedWorker {
             worker,
             seat: desk.into_seat(),

@@ -9,24 +9,24 @@ use lola_value::text::Memory;
 use std::alloc::Global;
 use std::fmt::Write;
 use std::sync::Wait;
-use std::sync::atomic::{AtomicBool, Ordering};
+use std::sync::atomic::{AtomicBool, AtomicU32, Ordering};
 use std::test::Fail;
 use std::thread;
 use std::thread::Threads;
 
-/// What the sources of a shelf know of each other: whether a read of the first has come to the end, and whether one of another was
-/// made.
+/// What the sources of a shelf tell of each other: whether a read has come to the end, and how many reads there were of those that are no
+/// files.
 #[derive(Drop)]
 struct Told {
     at_end: AtomicBool,
-    other_read: AtomicBool,
+    reads: AtomicU32,
 }
 
 impl Told {
     fn new() -> Told {
         Told {
             at_end: AtomicBool::new(false),
-            other_read: AtomicBool::new(false),
+            reads: AtomicU32::new(0),
         }
     }
 }
@@ -38,6 +38,8 @@ enum Manner {
     File,
     /// Its bytes come when a read of the first source has come to the end.
     Late,
+    /// The bytes of its first read come, and no others.
+    OnceOnly,
     /// Its bytes never come.
     Silent,
 }
@@ -47,6 +49,7 @@ enum Manner {
 struct MannerSource<'a, S: Source> {
     source: S,
     manner: Manner,
+    was_read: bool,
     told: &'a Told,
 }
 
@@ -55,8 +58,9 @@ impl<'a, S: Source> Source for MannerSource<'a, S> {
 
     fn read(&mut self, buf: &mut [u8]) -> Result<usize, ReadFailed> {
         if self.manner != Manner::File {
-            self.told.other_read.store(true, Ordering::SeqCst);
+            self.told.reads.fetch_add(1, Ordering::SeqCst);
         }
+        self.was_read = true;
         match self.source.read(buf) {
             Ok(0) => {
                 self.told.at_end.store(true, Ordering::SeqCst);
@@ -76,6 +80,7 @@ impl<'a, S: Source> Source for MannerSource<'a, S> {
         match self.manner {
             Manner::File => true,
             Manner::Late => self.told.at_end.load(Ordering::SeqCst),
+            Manner::OnceOnly => !self.was_read,
             Manner::Silent => false,
         }
     }
@@ -103,6 +108,7 @@ impl<'a, F: Shelf + Drop> Shelf for MannerShelf<'a, F> {
                 } else {
                     self.others
                 },
+                was_read: false,
                 told: self.told,
             }),
             Err(end) => Err(end),
@@ -113,6 +119,7 @@ impl<'a, F: Shelf + Drop> Shelf for MannerShelf<'a, F> {
         let MannerSource {
             source,
             manner: _,
+            was_read: _,
             told: _,
         } = source;
         self.shelf.give_back(source);
@@ -133,7 +140,7 @@ fn shelf_of(
     if specification.len() <= 1000 && first.len() <= 10_000 && second.len() <= 10_000 {
         shelf.add("spec", specification.as_bytes(), 512, &[])?;
         shelf.add("first", first.as_bytes(), 64, &[])?;
-        shelf.add("second", second.as_bytes(), 16, fails)?;
+        shelf.add("second", second.as_bytes(), 7, fails)?;
     }
     Ok(shelf)
 }
@@ -188,7 +195,7 @@ fn run<R: Threads + Wait + Sync>(
 const SPECIFICATION: &str = "input a: Int64\noutput b: Int64 := 1 / a";
 
 /// Two files, their trace and the end line: rates that differ, ties, an empty file, one that ends early, one that is malformed in its
-/// middle, one whose second read fails, and one that is out of order, of which alone rows are late.
+/// middle, one whose fourth read fails, and one that is out of order, of which alone rows are late.
 #[test]
 fn two_files(rt: HostRuntime) -> Result<(), Fail> {
     for (first, second, fails, trace, end) in [
@@ -216,8 +223,8 @@ fn two_files(rt: HostRuntime) -> Result<(), Fail> {
         (
             "time,a\n1,1\n3,1\n5,1\n",
             "time,a\n2,1\n4,1\n6,1\n8,1\n",
-            [1],
-            "0,1,1.000000000,A,1\n1,1,2.000000000,A,1\n0,2,3.000000000,A,1\n1,2,4.000000000,A,1\n0,3,5.000000000,A,1\n",
+            [3],
+            "0,1,1.000000000,A,1\n1,1,2.000000000,A,1\n0,2,3.000000000,A,1\n1,2,4.000000000,A,1\n0,3,5.000000000,A,1\n1,3,6.000000000,A,1\n",
             "= unreadable source 1\n",
         ),
         (
@@ -326,15 +333,20 @@ fn file_beside_a_late_pipe(rt: HostRuntime) -> Result<(), Fail> {
     Ok(())
 }
 
-/// A run that is stopped ends although its other sources are silent, and they are not read.
+/// A run that is stopped ends although its other sources are silent, from the start or behind their headings: they are not read while
+/// they are.
 #[test]
 fn fault_beside_silent_pipes(rt: HostRuntime) -> Result<(), Fail> {
-    let told = Told::new();
-    let rows = "time,a\n1,1\n2,0\n3,1\n";
-    let shelf = shelf_of(rt.alloc(), SPECIFICATION, rows, rows, &[])?;
-    let names = ["first", "second", "second", "second"];
-    let left = run(&rt, rt.alloc(), shelf, &names, Manner::Silent, &told)?;
-    assert!(rt; left.trace.written() == b"0,1,1.000000000,A,1\n0,2,2.000000000,A,0\n".as_slice());
-    assert!(rt; left.status == 5 && !told.other_read.load(Ordering::SeqCst));
+    for (manner, most) in [(Manner::Silent, 0), (Manner::OnceOnly, 3)] {
+        let told = Told::new();
+        let rows = "time,a\n1,1\n2,0\n3,1\n";
+        let shelf = shelf_of(rt.alloc(), SPECIFICATION, rows, rows, &[])?;
+        let names = ["first", "second", "second", "second"];
+        let left = run(&rt, rt.alloc(), shelf, &names, manner, &told)?;
+        assert!(rt;
+            left.trace.written() == b"0,1,1.000000000,A,1\n0,2,2.000000000,A,0\n".as_slice()
+        );
+        assert!(rt; left.status == 5 && told.reads.load(Ordering::SeqCst) <= most);
+    }
     Ok(())
 }
