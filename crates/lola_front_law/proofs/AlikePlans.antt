@@ -12,10 +12,11 @@ use Rattle.lola_model.specs.declared.spec.Stream.{Stream}
 use Rattle.lola_model.specs.declared.spec.WindowSpec.{WindowSpec}
 use Rattle.lola_resolve.specs.Specification.{Resolves}
 use Rattle.lola_types.specs.Filled.{IsFilled}
-use Rattle.lola_front_law.proofs.AlikeTrees.{Alike}
+use Rattle.lola_front_law.proofs.AlikeTrees.{Alike, AnyNumbers}
 use Rattle.lola_front_law.proofs.AlikeKinds.{two}
+use Rattle.lola_front_law.proofs.AlikeListed.{listed_of_streams}
 use Rattle.lola_front_law.proofs.AlikeStreams.{AlikeStreams}
-use Rattle.lola_front_law.proofs.PacedExpressions.{IsSamePart, streams_alike, streams_listed}
+use Rattle.lola_front_law.proofs.PacedExpressions.{IsSamePart, streams_listed}
 
 -- ---- windows, which are numbered in the order of the text
 
@@ -70,7 +71,7 @@ by_numbers (w ∷ ws) (v ∷ vs) e h =
 pub same_windows : (x y : Spec) (ds : List Declaration) → Resolves ds x → Resolves ds y → AlikeStreams x.windows y.windows x.streams y.streams → x.windows ≡ y.windows
 same_windows x y ds a b alike =
     let listed =
-    streams_alike x.windows y.windows ℕ window_number (SameNumbers x.windows y.windows) tt (numbers_join x.windows y.windows) (number_each x.windows y.windows) x.streams y.streams alike
+    listed_of_streams AnyNumbers x.windows y.windows ℕ window_number (SameNumbers x.windows y.windows) tt (numbers_join x.windows y.windows) (number_each x.windows y.windows) x.streams y.streams alike
     in
     let left = subst (λ (is : List ℕ). SameNumbers x.windows y.windows is (listed_streams window_number y.streams)) a.window_numbers listed in
     let both = subst (λ (is : List ℕ). SameNumbers x.windows y.windows (counted 0 (length x.windows)) is) b.window_numbers left in
@@ -110,7 +111,7 @@ module _ (onto : ℕ) where
 
   offsets_alike : (ws vs : List WindowSpec) (as' bs : List Stream) → AlikeStreams ws vs as' bs → listed_streams (offset_onto onto) as' ≡ listed_streams (offset_onto onto) bs
   offsets_alike ws vs as' bs h =
-      streams_alike ws vs ℕ (offset_onto onto) (λ (xs ys : List ℕ). xs ≡ ys) refl (λ xs us ys os e g. two (λ (l r : List ℕ). l ++ r) xs ys us os e g) (offset_each ws vs) as' bs h
+      listed_of_streams AnyNumbers ws vs ℕ (offset_onto onto) (λ (xs ys : List ℕ). xs ≡ ys) refl (λ xs us ys os e g. two (λ (l r : List ℕ). l ++ r) xs ys us os e g) (offset_each ws vs) as' bs h
 
   offsets_filled : (spec full : Spec) → IsFilled spec full → offsets_onto onto spec ≡ offsets_onto onto full
   offsets_filled spec full h = streams_listed ℕ (offset_onto onto) offset_kept _ _ spec.streams full.streams h.streams

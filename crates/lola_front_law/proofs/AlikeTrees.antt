@@ -22,49 +22,73 @@ use Rattle.lola_resolve.specs.declared.targets.Target.TheVariants as target
 use Rattle.lola_resolve.specs.Targets.{Targets, target_of}
 use Rattle.lola_resolve.specs.Resolved.{Standing, Where, is_stream, IsValue, IsLiteral, IsConstantUse, IsAccess, IsReference, IsResolved, AreArguments, arguments_in, integer_of, place_at}
 
--- the same value, where texts have numbers of their own
-abbrev pub SameValue : Value → Value → Type 0
-SameValue (value.Int y) (value.Int z) = y ≡ z
-SameValue (value.Bool b) (value.Bool c) = b ≡ c
-SameValue (value.Text i) (value.Text j) = Unit {0}
-SameValue _ _ = ⊥
+-- the same value, where the numbers of texts are related so
+abbrev pub SameValueBy : (ℕ → ℕ → Type 0) → Value → Value → Type 0
+SameValueBy T (value.Int y) (value.Int z) = y ≡ z
+SameValueBy T (value.Bool b) (value.Bool c) = b ≡ c
+SameValueBy T (value.Text i) (value.Text j) = T i.0 j.0
+SameValueBy T _ _ = ⊥
 
-module _ (ws vs : List WindowSpec) where
+module _ (T : ℕ → ℕ → Type 0) (ws vs : List WindowSpec) where
   abbrev mutual
-    -- two expressions over these windows that differ in boxes, in the numbers of texts and in those of equal windows alone
-    pub Alike : Expr → Expr → Type 0
-    Alike (Literal p v) (Literal q w) = (p ≡ q) × SameValue v w
-    Alike (Parameter p i) (Parameter q j) = (p ≡ q) × (i ≡ j)
-    Alike (Read p n how args) (Read q m why brgs) = (p ≡ q) × (n ≡ m) × (how ≡ why) × AlikeAll args brgs
-    Alike (Window p n args) (Window q m brgs) = (p ≡ q) × (slice_get ws n ≡ slice_get vs m) × AlikeAll args brgs
-    Alike (Defaults' p u a v b) (Defaults' q x c y d) = (p ≡ q) × Alike a c × Alike b d
-    Alike (Unary' p s u a) (Unary' q r x c) = (p ≡ q) × (s ≡ r) × Alike a c
-    Alike (Both' p s u a v b) (Both' q r x c y d) = (p ≡ q) × (s ≡ r) × Alike a c × Alike b d
-    Alike (Choice' p u a v b w e) (Choice' q x c y d z f) = (p ≡ q) × Alike a c × Alike b d × Alike e f
-    Alike _ _ = ⊥
+    -- two expressions over these windows that differ in boxes, in numbers of texts that are related so, and in the numbers of equal
+    -- windows alone
+    pub AlikeBy : Expr → Expr → Type 0
+    AlikeBy (Literal p v) (Literal q w) = (p ≡ q) × SameValueBy T v w
+    AlikeBy (Parameter p i) (Parameter q j) = (p ≡ q) × (i ≡ j)
+    AlikeBy (Read p n how args) (Read q m why brgs) = (p ≡ q) × (n ≡ m) × (how ≡ why) × AlikeAllBy args brgs
+    AlikeBy (Window p n args) (Window q m brgs) = (p ≡ q) × (slice_get ws n ≡ slice_get vs m) × AlikeAllBy args brgs
+    AlikeBy (Defaults' p u a v b) (Defaults' q x c y d) = (p ≡ q) × AlikeBy a c × AlikeBy b d
+    AlikeBy (Unary' p s u a) (Unary' q r x c) = (p ≡ q) × (s ≡ r) × AlikeBy a c
+    AlikeBy (Both' p s u a v b) (Both' q r x c y d) = (p ≡ q) × (s ≡ r) × AlikeBy a c × AlikeBy b d
+    AlikeBy (Choice' p u a v b w e) (Choice' q x c y d z f) = (p ≡ q) × AlikeBy a c × AlikeBy b d × AlikeBy e f
+    AlikeBy _ _ = ⊥
 
-    pub AlikeAll : Arguments → Arguments → Type 0
-    AlikeAll End End = Unit {0}
-    AlikeAll (More' u a v rest) (More' x c y more) = Alike a c × AlikeAll rest more
-    AlikeAll _ _ = ⊥
+    pub AlikeAllBy : Arguments → Arguments → Type 0
+    AlikeAllBy End End = Unit {0}
+    AlikeAllBy (More' u a v rest) (More' x c y more) = AlikeBy a c × AlikeAllBy rest more
+    AlikeAllBy _ _ = ⊥
 
-same_values : (x y v w : Value) → v ≡ x → w ≡ y → SameValue x y → SameValue v w
-same_values x y v w h k s = subst (λ (z : Value). SameValue z w) (sym h) (subst (λ (z : Value). SameValue x z) (sym k) s)
+-- whatever numbers texts have
+abbrev pub AnyNumbers : ℕ → ℕ → Type 0
+AnyNumbers i j = Unit {0}
+
+abbrev pub SameValue : Value → Value → Type 0
+SameValue v w = SameValueBy AnyNumbers v w
+
+abbrev pub Alike : List WindowSpec → List WindowSpec → Expr → Expr → Type 0
+Alike ws vs e f = AlikeBy AnyNumbers ws vs e f
+
+abbrev pub AlikeAll : List WindowSpec → List WindowSpec → Arguments → Arguments → Type 0
+AlikeAll ws vs args brgs = AlikeAllBy AnyNumbers ws vs args brgs
+
+-- numbers of one text in two lists are related so
+abbrev pub AreTied : (ℕ → ℕ → Type 0) → List (List ℕ) → List (List ℕ) → Type 0
+AreTied T ts us = (t : List ℕ) (i j : ℕ) → slice_get ts i ≡ Some t → slice_get us j ≡ Some t → T i j
+
+pub any_tied : (ts us : List (List ℕ)) → AreTied AnyNumbers ts us
+any_tied ts us t i j p q = tt
+
+same_values : (T : ℕ → ℕ → Type 0) (x y v w : Value) → v ≡ x → w ≡ y → SameValueBy T x y → SameValueBy T v w
+same_values T x y v w h k s = subst (λ (z : Value). SameValueBy T z w) (sym h) (subst (λ (z : Value). SameValueBy T x z) (sym k) s)
+
+value_alike_by : (T : ℕ → ℕ → Type 0) (ts us : List (List ℕ)) → AreTied T ts us → (w : Written) (v u : Value) → IsValue ts w v → IsValue us w u → SameValueBy T v u
+value_alike_by T ts us tied (written.Integer b n) v u h k = same_values T (value.Int (integer_of b n)) (value.Int (integer_of b n)) v u h k refl
+value_alike_by T ts us tied (written.Truth t) v u h k = same_values T (value.Bool t) (value.Bool t) v u h k refl
+value_alike_by T ts us tied (written.Text t) (value.Text i) (value.Text j) h k = tied t i.0 j.0 h k
+value_alike_by T ts us tied (written.Text t) (value.Text i) _ h k = absurd k
+value_alike_by T ts us tied (written.Text t) _ u h k = absurd h
 
 pub value_alike : (ts us : List (List ℕ)) (w : Written) (v u : Value) → IsValue ts w v → IsValue us w u → SameValue v u
-value_alike ts us (written.Integer b n) v u h k = same_values (value.Int (integer_of b n)) (value.Int (integer_of b n)) v u h k refl
-value_alike ts us (written.Truth t) v u h k = same_values (value.Bool t) (value.Bool t) v u h k refl
-value_alike ts us (written.Text t) (value.Text i) (value.Text j) h k = tt
-value_alike ts us (written.Text t) (value.Text i) _ h k = absurd k
-value_alike ts us (written.Text t) _ u h k = absurd h
+value_alike ts us w v u h k = value_alike_by AnyNumbers ts us (any_tied ts us) w v u h k
 
-module _ (declarations : List Declaration) (targets : Targets) (ts us : List (List ℕ)) (ws vs : List WindowSpec) (here : Standing) where
-  literal_alike : (place : Place) (w : Written) (r s : Expr) → IsLiteral ts place w r → IsLiteral us place w s → Alike ws vs r s
-  literal_alike place w (Literal p v) (Literal q u) h k = (h.0 ∙ sym k.0, value_alike ts us w v u h.1 k.1)
+module _ (T : ℕ → ℕ → Type 0) (declarations : List Declaration) (targets : Targets) (ts us : List (List ℕ)) (tied : AreTied T ts us) (ws vs : List WindowSpec) (here : Standing) where
+  literal_alike : (place : Place) (w : Written) (r s : Expr) → IsLiteral ts place w r → IsLiteral us place w s → AlikeBy T ws vs r s
+  literal_alike place w (Literal p v) (Literal q u) h k = (h.0 ∙ sym k.0, value_alike_by T ts us tied w v u h.1 k.1)
   literal_alike place w (Literal p v) _ h k = absurd k
   literal_alike place w _ s h k = absurd h
 
-  constant_alike : (at : ℕ) (o : Option Declaration) (r s : Expr) → IsConstantUse ts at o r → IsConstantUse us at o s → Alike ws vs r s
+  constant_alike : (at : ℕ) (o : Option Declaration) (r s : Expr) → IsConstantUse ts at o r → IsConstantUse us at o s → AlikeBy T ws vs r s
   constant_alike at None r s h k = absurd h
   constant_alike at (Some (d.Inputs x)) r s h k = absurd h
   constant_alike at (Some (d.Output x)) r s h k = absurd h
@@ -72,7 +96,7 @@ module _ (declarations : List Declaration) (targets : Targets) (ts us : List (Li
   constant_alike at (Some (d.Constant x)) r s h k = literal_alike _ x.literal.value r s h k
 
   access_alike : (name : Name) (n : ℕ) (how : TreeAccess) (r s : Expr) → IsAccess declarations targets ts ws here name n how r → IsAccess declarations targets us vs here name n how s
-      → AlikeAll ws vs (arguments_in r) (arguments_in s) → Alike ws vs r s
+      → AlikeAllBy T ws vs (arguments_in r) (arguments_in s) → AlikeBy T ws vs r s
   access_alike name n (a.Window point exactly over using) (Window p i args) (Window q j brgs) h k all = (h.0 ∙ sym k.0, h.1 ∙ sym k.1, all)
   access_alike name n (a.Window point exactly over using) (Window p i args) _ h k all = absurd k
   access_alike name n (a.Window point exactly over using) _ s h k all = absurd h
@@ -93,16 +117,16 @@ module _ (declarations : List Declaration) (targets : Targets) (ts us : List (Li
   are_there true A h e = h
   are_there false A h e = absurd (cc)
 
-  literals_alike : (place : Place) (b : Bool) (r s : Expr) → r ≡ Literal place (value.Bool b) → s ≡ Literal place (value.Bool b) → Alike ws vs r s
+  literals_alike : (place : Place) (b : Bool) (r s : Expr) → r ≡ Literal place (value.Bool b) → s ≡ Literal place (value.Bool b) → AlikeBy T ws vs r s
   literals_alike place b r s h k =
-      subst (λ (x : Expr). Alike ws vs x s) (sym h) (subst (λ (y : Expr). Alike ws vs (Literal place (value.Bool b)) y) (sym k) (refl, refl))
+      subst (λ (x : Expr). AlikeBy T ws vs x s) (sym h) (subst (λ (y : Expr). AlikeBy T ws vs (Literal place (value.Bool b)) y) (sym k) (refl, refl))
 
-  parameters_alike : (place : Place) (i : ℕ) (r s : Expr) → r ≡ Parameter place i → s ≡ Parameter place i → Alike ws vs r s
+  parameters_alike : (place : Place) (i : ℕ) (r s : Expr) → r ≡ Parameter place i → s ≡ Parameter place i → AlikeBy T ws vs r s
   parameters_alike place i r s h k =
-      subst (λ (x : Expr). Alike ws vs x s) (sym h) (subst (λ (y : Expr). Alike ws vs (Parameter place i) y) (sym k) (refl, refl))
+      subst (λ (x : Expr). AlikeBy T ws vs x s) (sym h) (subst (λ (y : Expr). AlikeBy T ws vs (Parameter place i) y) (sym k) (refl, refl))
 
   reference_alike : (o : Option Target) (name : Name) (how : TreeAccess) (r s : Expr) → IsReference declarations targets ts ws here o name how r → IsReference declarations targets us vs here o name how s
-      → (is_stream o ≡ true → AlikeAll ws vs (arguments_in r) (arguments_in s)) → Alike ws vs r s
+      → (is_stream o ≡ true → AlikeAllBy T ws vs (arguments_in r) (arguments_in s)) → AlikeBy T ws vs r s
   reference_alike None name how r s h k all = literals_alike (place_at name.at) false r s h k
   reference_alike (Some (target.Input n i)) name how r s h k all = access_alike name n how r s h k (all refl)
   reference_alike (Some (target.Output n)) name how r s h k all = access_alike name n how r s h k (all refl)
@@ -110,7 +134,7 @@ module _ (declarations : List Declaration) (targets : Targets) (ts us : List (Li
   reference_alike (Some (target.Parameter i)) name how r s h k all = parameters_alike (place_at name.at) i r s h k
 
   mutual
-    pub resolved_alike : (x : TreeExpr) (r s : Expr) → IsResolved declarations targets ts ws here x r → IsResolved declarations targets us vs here x s → Alike ws vs r s
+    pub resolved_alike : (x : TreeExpr) (r s : Expr) → IsResolved declarations targets ts ws here x r → IsResolved declarations targets us vs here x s → AlikeBy T ws vs r s
     resolved_alike (e.Literal l) r s h k = literal_alike (place_at l.at) l.value r s h k
     resolved_alike (e.Reference' n bracket shape row how) r s h k =
         reference_alike (target_of here.parameters targets n.text) n how r s h.0 k.0
@@ -131,7 +155,7 @@ module _ (declarations : List Declaration) (targets : Targets) (ts us : List (Li
     resolved_alike _ _ _ j k = absurd j
 
     pub arguments_alike : {n : _} (row : Row_of-Expr n) (args brgs : Arguments) → AreArguments declarations targets ts ws here row args → AreArguments declarations targets us vs here row brgs
-        → AlikeAll ws vs args brgs
+        → AlikeAllBy T ws vs args brgs
     arguments_alike end_of-Expr End End h k = tt
     arguments_alike end_of-Expr End (More' f l g more) h k = absurd k
     arguments_alike end_of-Expr (More' b r c rest) brgs h k = absurd h

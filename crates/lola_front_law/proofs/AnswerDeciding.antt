@@ -1,26 +1,26 @@
--- Each text has one refusal, or plans that differ in the addresses and the numbers of texts of their specifications alone.
+-- Each text has one refusal, or plans that differ in addresses alone.
 use Rattle.std.proofs.Common.{◌≡◌, refl, sym, ap, subst, ◌∙◌, ℕ, suc, ◌+◌, List, [], ◌∷◌, Some, length, slice_get, ◌⊎◌, inl, inr}
 use Rattle.lola_value.specs.declared.front.Refusal.{Refusal}
-use Rattle.lola_tree.specs.declared.declarations.Declaration.{Declaration}
 use Rattle.lola_model.specs.Bounds.{ArePanesOf, greatest_offset, offsets_onto, pacing_at}
 use Rattle.lola_model.specs.Graph.{IsLayer, edges_of, layer_of}
 use Rattle.lola_model.specs.Nodes.{node_count}
 use Rattle.lola_model.specs.declared.graph.Edge.{Edge}
 use Rattle.lola_model.specs.declared.pacing.ClausePacings.{ClausePacings}
 use Rattle.lola_model.specs.declared.plan.Plan.{Plan}
+use Rattle.lola_model.specs.declared.spec.Spec.{Spec}
 use Rattle.lola_model.specs.declared.spec.Stream.{Stream}
 use Rattle.lola_model.specs.declared.spec.WindowSpec.{WindowSpec}
-use Rattle.lola_resolve.specs.Specification.{Resolves}
+use Rattle.lola_alike.specs.Alike.{plain_plan}
 use Rattle.lola_front.specs.Front.{IsPlanOf, IsRefusalOf}
 use Rattle.lola_front_law.specs.Decided.{IsDecided, IsEarlyRefusal, IsLateRefusal}
 use Rattle.lola_front_law.specs.OneAnswer.{HasOneAnswer}
-use Rattle.lola_front_law.proofs.AlikePlans.{same_offsets, same_windows}
+use Rattle.lola_front_law.proofs.AlikePlans.{same_offsets}
 use Rattle.lola_front_law.proofs.CycleDeciding.{alike_specs, has_one_graph, same_places}
-use Rattle.lola_front_law.proofs.Deciding.{one_reading}
 use Rattle.lola_front_law.proofs.EdgeLemmas.{places}
 use Rattle.lola_front_law.proofs.KindDeciding.{kinds_decided}
 use Rattle.lola_front_law.proofs.PacingDeciding.{has_one_pacing}
-use Rattle.lola_front_law.proofs.RestLemmas.{by_numbers, by_windows, one_layers}
+use Rattle.lola_front_law.proofs.PlainPlans.{full_plain}
+use Rattle.lola_front_law.proofs.RestLemmas.{all_parts, by_numbers, by_windows, one_layers}
 
 count_of_places : (ss : List Stream) → length (places ss) ≡ length ss
 count_of_places [] = refl
@@ -75,12 +75,7 @@ module _ (bytes : List ℕ) (early : IsDecided bytes) where
       q.accepted.bounds.kept
 
   windows_once : (plan other : Plan) → IsPlanOf bytes plan → IsPlanOf bytes other → plan.spec.windows ≡ other.spec.windows
-  windows_once plan other p q =
-      let ds = q.full.resolved.declarations in
-      let same = one_reading bytes p.full.resolved.declarations ds p.full.resolved.read q.full.resolved.read in
-      let x : Resolves ds p.full.spec = subst (λ (l : List Declaration). Resolves l p.full.spec) same p.full.resolved.resolves in
-      p.full.filled.windows
-      ∙ (same_windows p.full.spec q.full.spec ds x q.full.resolved.resolves (alike_specs bytes plan.spec other.spec p.full q.full) ∙ sym q.full.filled.windows)
+  windows_once plan other p q = ap (λ (s : Spec). s.windows) (full_plain bytes plan.spec other.spec p.full q.full)
 
   pacings_once : (plan other : Plan) → IsPlanOf bytes plan → IsPlanOf bytes other → plan.pacings ≡ other.pacings
   pacings_once plan other p q = (has_one_pacing bytes).one_list plan.spec other.spec plan.pacings other.pacings p.full q.full p.accepted.paced q.accepted.paced
@@ -104,11 +99,7 @@ module _ (bytes : List ℕ) (early : IsDecided bytes) where
   has_one_answer = record {
     is_either = λ plan r p a. not_planned plan r p (sides r a);
     one_refusal = λ r q a b. one_of r q (sides r a) (sides q b);
-    one_plan = λ plan other p q. record {
-      windows = windows_once plan other p q;
-      pacings = pacings_once plan other p q;
-      layers = same_layers plan other p q;
-      kept = same_kept plan other p q;
-      panes = same_panes plan other p q;
-    };
+    one_plan = λ plan other p q.
+        all_parts (plain_plan plan) (plain_plan other) (full_plain bytes plan.spec other.spec p.full q.full) (pacings_once plan other p q) (same_layers plan other p q)
+        (same_kept plan other p q) (same_panes plan other p q);
   }

@@ -8,6 +8,7 @@ mod PlanLines
 mod AlikeTrees
 mod AlikeKinds
 mod AlikeStreams
+mod AlikeListed
 mod OneRate
 mod KindLemmas
 mod KindDeciding
@@ -24,4 +25,10 @@ mod PacedAlike
 mod LowestRates
 mod PacingDeciding
 mod AlikePlans
+mod PlainShapes
+mod PlainKinds
+mod PlainTexts
+mod PlainTrees
+mod PlainSpecs
+mod PlainPlans
 mod AnswerDeciding

@@ -21,63 +21,13 @@ use Rattle.lola_types.specs.Refused.{taken, operand_kind, number_kind}
 use Rattle.lola_types.specs.Filled.{note_part, settled, settled_if, filled, filled_all, filled_whole, SameTree, SameArguments, FilledWhen, FilledWith, FilledClause, FilledClauses, FilledStreams}
 use Rattle.lola_types.specs.declared.found.Found.{Found}
 use Rattle.lola_types.specs.declared.found.Found.TheVariants.{Of, Free, Unknown, Broken}
-use Rattle.lola_front_law.proofs.AlikeTrees.{Alike, AlikeAll}
+use Rattle.lola_front_law.proofs.AlikeTrees.{Alike, AnyNumbers}
 use Rattle.lola_front_law.proofs.AlikeKinds.{two}
-use Rattle.lola_front_law.proofs.AlikeStreams.{AlikeWhen, AlikeWith, AlikeClauses, AlikeStreams}
+use Rattle.lola_front_law.proofs.AlikeListed.{listed_of_clause}
+use Rattle.lola_front_law.proofs.AlikeStreams.{AlikeClauses}
 use Rattle.lola_front_law.proofs.PacedStreams.{SameUses}
 
 -- ---- of what is alike
-
--- a relation of lists that holds of what is listed of parts holds of what is listed of the whole
-module _ (ws vs : List WindowSpec) (A : Type 0) (f : Expr → List A) (S : List A → List A → Type 0) (none : S [] []) (join : (xs us ys os : List A) → S xs ys → S us os → S (xs ++ us) (ys ++ os))
-    (each : (e d : Expr) → Alike ws vs e d → S (f e) (f d)) where
-  mutual
-    listed_alike : (e d : Expr) → Alike ws vs e d → S (listed f e) (listed f d)
-    listed_alike (Literal p v) (Literal q w) h = each (Literal p v) (Literal q w) h
-    listed_alike (Parameter p i) (Parameter q j) h = each (Parameter p i) (Parameter q j) h
-    listed_alike (Read p n how args) (Read q m why brgs) h = join _ _ _ _ (each (Read p n how args) (Read q m why brgs) h) (all_alike args brgs h.3)
-    listed_alike (Window p n args) (Window q m brgs) h = join _ _ _ _ (each (Window p n args) (Window q m brgs) h) (all_alike args brgs h.2)
-    listed_alike (Defaults' p u a v b) (Defaults' q x c y d) h =
-        join _ _ _ _ (each (Defaults' p u a v b) (Defaults' q x c y d) h) (join _ _ _ _ (listed_alike a c h.1) (listed_alike b d h.2))
-    listed_alike (Unary' p s u a) (Unary' q r x c) h = join _ _ _ _ (each (Unary' p s u a) (Unary' q r x c) h) (listed_alike a c h.2)
-    listed_alike (Both' p s u a v b) (Both' q r x c y d) h =
-        join _ _ _ _ (each (Both' p s u a v b) (Both' q r x c y d) h) (join _ _ _ _ (listed_alike a c h.2) (listed_alike b d h.3))
-    listed_alike (Choice' p u a v b w e) (Choice' q x c y d z g) h =
-        join _ _ _ _ (each (Choice' p u a v b w e) (Choice' q x c y d z g) h)
-        (join _ _ _ _ (listed_alike a c h.1) (join _ _ _ _ (listed_alike b d h.2) (listed_alike e g h.3)))
-    listed_alike _ _ h = absurd h
-
-    all_alike : (args brgs : Arguments) → AlikeAll ws vs args brgs → S (listed_all f args) (listed_all f brgs)
-    all_alike End End h = none
-    all_alike (More' u a v rest) (More' x c y more) h = join _ _ _ _ (listed_alike a c h.0) (all_alike rest more h.1)
-    all_alike _ _ h = absurd h
-
-  when_alike : (o u : Option Expr) → AlikeWhen ws vs o u → S (listed_when f o) (listed_when f u)
-  when_alike None None h = none
-  when_alike (Some e) (Some d) h = listed_alike e d h
-  when_alike None (Some d) h = absurd h
-  when_alike (Some e) None h = absurd h
-
-  with_alike : (es ds : List Expr) → AlikeWith ws vs es ds → S (listed_with f es) (listed_with f ds)
-  with_alike [] [] h = none
-  with_alike (e ∷ es) (d ∷ ds) h = join _ _ _ _ (listed_alike e d h.0) (with_alike es ds h.1)
-  with_alike [] (d ∷ ds) h = absurd h
-  with_alike (e ∷ es) [] h = absurd h
-
-  clause_alike : (c d : Option Clause) → AlikeClauses ws vs c d → S (listed_clause f c) (listed_clause f d)
-  clause_alike None None h = none
-  clause_alike (Some c) (Some d) h = join _ _ _ _ (when_alike c.when d.when h.condition) (with_alike c.with d.with h.expressions)
-  clause_alike None (Some d) h = absurd h
-  clause_alike (Some c) None h = absurd h
-
-  pub streams_alike : (as' bs : List Stream) → AlikeStreams ws vs as' bs → S (listed_streams f as') (listed_streams f bs)
-  streams_alike [] [] h = none
-  streams_alike (a ∷ as') (b ∷ bs) h =
-      join _ _ _ _
-      (join _ _ _ _ (clause_alike a.spawn b.spawn h.0.spawn) (join _ _ _ _ (clause_alike a.eval b.eval h.0.eval) (clause_alike a.close b.close h.0.close)))
-      (streams_alike as' bs h.1)
-  streams_alike [] (b ∷ bs) h = absurd h
-  streams_alike (a ∷ as') [] h = absurd h
 
 module _ (ws vs : List WindowSpec) where
   followed_each : (e d : Expr) → Alike ws vs e d → followed e ≡ followed d
@@ -93,7 +43,7 @@ module _ (ws vs : List WindowSpec) where
 
   pub followed_alike : (c d : Option Clause) → AlikeClauses ws vs c d → listed_clause followed c ≡ listed_clause followed d
   followed_alike c d h =
-      clause_alike ws vs ℕ followed (λ (xs ys : List ℕ). xs ≡ ys) refl (λ xs us ys os e g. two (λ (l r : List ℕ). l ++ r) xs ys us os e g) followed_each c d h
+      listed_of_clause AnyNumbers ws vs ℕ followed (λ (xs ys : List ℕ). xs ≡ ys) refl (λ xs us ys os e g. two (λ (l r : List ℕ). l ++ r) xs ys us os e g) followed_each c d h
 
   uses_join : (xs us ys os : List Use) → SameUses ws vs xs ys → SameUses ws vs us os → SameUses ws vs (xs ++ us) (ys ++ os)
   uses_join [] us [] os h k = k
@@ -120,7 +70,7 @@ module _ (ws vs : List WindowSpec) where
   used_each _ _ h = absurd h
 
   pub used_alike : (c d : Option Clause) → AlikeClauses ws vs c d → SameUses ws vs (listed_clause used c) (listed_clause used d)
-  used_alike c d h = clause_alike ws vs Use used (SameUses ws vs) tt uses_join used_each c d h
+  used_alike c d h = listed_of_clause AnyNumbers ws vs Use used (SameUses ws vs) tt uses_join used_each c d h
 
 -- ---- of what kinds are filled in of
 

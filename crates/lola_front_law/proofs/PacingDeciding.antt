@@ -19,7 +19,6 @@ use Rattle.lola_front_law.proofs.KindLemmas.{specs_alike}
 use Rattle.lola_front_law.proofs.OneFinding.{HasLowestRate}
 use Rattle.lola_front_law.proofs.LowestRates.{filled_lowest, owns_lowest, streams_lowest}
 use Rattle.lola_front_law.proofs.PacedAlike.{streams_paced}
-use Rattle.lola_front_law.proofs.WrittenAlike.{streams_written}
 use Rattle.lola_front_law.proofs.PacedRefusals.{same_pacings, same_refusals}
 use Rattle.lola_front_law.proofs.PacedStreams.{PacedStreams, streams_themselves}
 
@@ -60,10 +59,7 @@ module _ (bytes : List ℕ) where
       let x : Resolves ds a.spec = subst (λ (l : List Declaration). Resolves l a.spec) same a.resolved.resolves in
       let y : Resolves ds b.spec = b.resolved.resolves in
       let alike = specs_alike ds a.spec b.spec x y in
-      let written =
-      streams_written ds (targets_of ds) a.spec.texts b.spec.texts a.spec.windows b.spec.windows 0 0 ds a.spec.streams b.spec.streams x.streams y.streams
-      in
-      let paced = streams_paced a.spec.windows b.spec.windows _ _ _ _ a.spec.streams full.streams b.spec.streams other.streams a.filled.streams alike written b.filled.streams in
+      let paced = streams_paced a.spec.windows b.spec.windows _ _ _ _ a.spec.streams full.streams b.spec.streams other.streams a.filled.streams alike b.filled.streams in
       subst (λ (ws : List WindowSpec). PacedStreams ws other.windows full.streams other.streams) (sym a.filled.windows)
       (subst (λ (ws : List WindowSpec). PacedStreams a.spec.windows ws full.streams other.streams) (sym b.filled.windows) paced)
 

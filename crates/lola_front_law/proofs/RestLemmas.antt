@@ -130,7 +130,7 @@ by_windows pacings (w ∷ ws) (p ∷ ps) (q ∷ qs) span e f g h =
 abbrev plan_of : Spec → List ClausePacings → List ℕ → List ℕ → List PaneSize → Plan
 plan_of spec pacings layers kept panes = record { spec = spec; pacings = pacings; layers = layers; kept = kept; panes = panes }
 
-all_parts : (p q : Plan) → p.spec ≡ q.spec → p.pacings ≡ q.pacings → p.layers ≡ q.layers → p.kept ≡ q.kept → p.panes ≡ q.panes → p ≡ q
+pub all_parts : (p q : Plan) → p.spec ≡ q.spec → p.pacings ≡ q.pacings → p.layers ≡ q.layers → p.kept ≡ q.kept → p.panes ≡ q.panes → p ≡ q
 all_parts p q a b c d e =
     ap (λ (x : Spec). plan_of x p.pacings p.layers p.kept p.panes) a
     ∙ (ap (λ (x : List ClausePacings). plan_of q.spec x p.layers p.kept p.panes) b

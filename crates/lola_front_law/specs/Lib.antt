@@ -1,4 +1,5 @@
 pub mod Decided
+pub mod OneSpec
 pub mod OneKind
 pub mod OneCycle
 pub mod OneRest
