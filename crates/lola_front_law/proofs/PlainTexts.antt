@@ -92,9 +92,9 @@ module _ (ts : List (List ℕ)) where
       let same : i.0 ≡ j.0 = elim (cases_lt i.0 (length ts)) [
         | inl below ↦ k.0 i.0 (h.1 below)
         | inr above ↦ elim (cases_lt j.0 (length ts)) [
-            | inl there ↦ sym (h.0 j.0 (k.1 there))
-            | inr past ↦ omega (arith, h.2, k.2)
-          ]
+          | inl there ↦ sym (h.0 j.0 (k.1 there))
+          | inr past ↦ omega (arith, h.2, k.2)
+        ]
       ] in
       ap (λ (n : ℕ). value.Text (record { 0 = n })) same
   one_value (written.Text t) (value.Text i) _ h k = absurd k
