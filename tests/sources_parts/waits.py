@@ -1,0 +1,116 @@
+"""A source that is silent holds nothing up, and waiting takes no processor's time."""
+from __future__ import annotations
+
+import subprocess
+import time
+from typing import Optional
+
+from sources_parts.ends import SILENCES, expect_soon
+from sources_parts.live import SOON, LiveRun
+from sources_parts.merged import SECOND, SPEC, file_text, merged, texts_of
+from terminal_parts.harness import Checks, write
+
+ROWS = 2000
+WARM = 1.0  # seconds until a run waits
+WAITS = 2.0  # seconds for which it is looked at
+MOST_A_SECOND = 0.01  # seconds of a processor
+SUM = 'input a: Int64\noutput b: Int64 := a + 1\ntrigger b > 2 "high"\n'
+
+
+def test_files_beside_silent_pipes(checks: Checks) -> None:
+    """All rows of a file are judged while pipes are silent; then a row of a pipe comes, and is the last."""
+    stamps = [number * SECOND // 100 for number in range(ROWS)]
+    for pipes in (1, 63):
+        for place in (0, pipes):
+            whole = texts_of(merged([[]] * place + [stamps]))
+            sources: list[Optional[str]] = [None] * pipes
+            sources.insert(place, write("rows.csv", file_text(place, stamps)))
+            speaker = 0 if place else pipes
+            for said in ("", "ti", "time,a\n", "time,a\n50"):
+                run = LiveRun(write("mixed.lola", SPEC), sources, ["--show", "outputs"])
+                for source in range(pipes + 1):
+                    if source != place and said:
+                        run.write(source, said)
+                checks.same(f"rows beside {pipes} pipes that have said {said!r}", True, run.has_lines(ROWS, ROWS))
+                checks.same("the file's rows alone", whole.trace, run.text(run.trace))
+                run.write(speaker, "time,a\n5000,7\n"[len(said):])
+                checks.same("the pipe's row", True, run.has_lines(ROWS + 1, ROWS + 1))
+                run.close()
+                checks.same("the trace", whole.trace + f"{speaker},1,5000.000000000,A,7\n", run.end().trace)
+
+
+def test_order_of_arrival(checks: Checks) -> None:
+    """Rows of three pipes, each judged before the next is written; one of them is stamped before its forerunner, and late."""
+    run = LiveRun(write("sum.lola", SUM), [None, None, None])
+    for source in range(3):
+        run.write(source, "time,a\n")
+    arrivals = [(2, 1, 1), (0, 1, 2), (0, 2, 5), (1, 1, 6), (2, 2, 4), (1, 2, 6), (2, 3, 9)]  # source, number, stamp
+    trace, newest = [], 0
+    for count, (source, number, stamp) in enumerate(arrivals, start=1):
+        run.write(source, f"{stamp},0\n")
+        checks.same(f"row {number} of source {source} is judged", True, run.has_lines(0, count))
+        trace.append(f"{source},{number},{stamp}.000000000,{'A' if stamp >= newest else f'L{newest}.000000000'},0\n")
+        newest = max(newest, stamp)
+    run.close()
+    ended = run.end()
+    expect_soon(checks, "the end", ended, 0, "= done accepted 6 late 1 steps 6 lines 0\n")
+    checks.same("the trace", "".join(trace), ended.trace)
+
+
+def test_times_alone(checks: Checks) -> None:
+    """A source of times alone makes deadlines pass while the other is silent."""
+    spec = "input a: Int64\noutput n: UInt64 @1Hz := a.aggregate(over: 2s, using: count)\ntrigger n == 0 \"silent\"\n"
+    run = LiveRun(write("beat.lola", spec), [None, None])
+    run.write(0, "time,a\n0,1\n")
+    checks.same("the first row", True, run.has_lines(0, 1, 10 * SOON))
+    run.write(1, "time\n")
+    for second in range(1, 6):
+        run.write(1, f"{second}.5\n")
+        due = max(0, second - 1)  # the deadlines from 2 on have an empty window
+        checks.same(f"the verdict of second {second}", True, run.has_lines(due, 1 + second))
+        checks.same(f"no further one in second {second}", due, run.lines()[0])
+    run.close()
+    expect_soon(checks, "the end", run.end(), 0)
+
+
+def expect_idle(checks: Checks, runs: dict[str, LiveRun]) -> None:
+    """None of these runs, which wait since a while, takes the processor's time."""
+    time.sleep(WARM)
+    before = [run.processor_seconds() for run in runs.values()]
+    time.sleep(WAITS)
+    for (what, run), seconds in zip(runs.items(), before):
+        taken = run.processor_seconds() - seconds
+        checks.note(taken < MOST_A_SECOND * WAITS, what, f"less than {MOST_A_SECOND * WAITS} s of a processor in {WAITS} s", f"{taken:.4f} s")
+
+
+def test_processor_of_silent_pipes(checks: Checks) -> None:
+    """64 pipes that say nothing, wherever in a line; and one beside 63 files that have ended."""
+    runs = {}
+    for silence, (said, rows) in SILENCES.items():
+        run = LiveRun(write("sum.lola", SUM), [None] * 64)
+        for source in range(64):
+            run.write(source, said)
+        checks.same("the rows before", True, run.has_lines(0, rows * 64, 10 * SOON))
+        runs[f"64 pipes, silent {silence}"] = run
+    names = [write(f"{n}.csv", file_text(n, [n * SECOND])) for n in range(63)]
+    runs["a pipe beside 63 files"] = LiveRun(write("sum.lola", SUM), [*names, None])
+    checks.same("the rows of files", True, runs["a pipe beside 63 files"].has_lines(0, 63, 10 * SOON))
+    expect_idle(checks, runs)
+    for run in runs.values():
+        run.end(0)
+
+
+def test_processor_of_a_full_trace(checks: Checks) -> None:
+    """Nobody reads the trace for a while, so nothing can go on; then all of it is read, and nothing is missing."""
+    runs, traces = {}, []
+    for count in (1, 2, 64):
+        files = [[(number * count + source) * SECOND // 1000 for number in range(64_000 // count)] for source in range(count)]
+        names = [write(f"{source}-of-{count}.csv", file_text(source, stamps)) for source, stamps in enumerate(files)]
+        runs[f"{count} files"] = LiveRun(write("sum.lola", SUM), names, trace=subprocess.PIPE)
+        traces.append(texts_of(merged(files)).trace)
+    expect_idle(checks, runs)
+    for (what, run), wanted in zip(runs.items(), traces):
+        with run.process.stderr as reader:
+            came = reader.read().decode()
+        checks.same(f"the trace of {what}", True, came == wanted)
+        checks.same(f"the status of {what}", 0, run.end().status)
