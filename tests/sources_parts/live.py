@@ -2,20 +2,21 @@
 from __future__ import annotations
 
 import os
+import signal
 import subprocess
 import tempfile
 import time
-from typing import IO, NamedTuple, Optional, Sequence, Union
+from typing import IO, NamedTuple, Optional, Sequence
 
 from sources_parts.program import PROGRAM
 from terminal_parts.harness import LONGEST_RUN
 
-SOON = 1.0  # seconds
+PATIENCE = 10.0  # seconds within which a line comes that should come at once, also where a machine has other work
 GIVEN_UP = 3.0  # seconds after which a run that should have ended is killed
 
 
 class Ended(NamedTuple):
-    """How a run ended (below 0: by a signal; None where it did not end in time), what it wrote, and how long its end took."""
+    """How a run ended (below 0: by a signal; None: it did not, and was killed), what it wrote, and how long its end took."""
 
     status: Optional[int]
     out: str
@@ -24,19 +25,18 @@ class Ended(NamedTuple):
 
 
 class LiveRun:
-    """A run of the program. A source is a name, or None for a pipe, of which this end is kept."""
+    """A run of the program. A source is a name, or None for a pipe, whose writing end is kept here."""
 
-    def __init__(self, spec: str, sources: Sequence[Optional[str]], options: Sequence[str] = (), out: Union[IO[bytes], int, None] = None,
-                 trace: Union[IO[bytes], int, None] = None) -> None:
+    def __init__(self, spec: str, sources: Sequence[Optional[str]], options: Sequence[str] = (), out: Optional[int] = None, trace: Optional[int] = None) -> None:
         pipes = [os.pipe() if source is None else None for source in sources]
-        names = [f"/dev/fd/{pipe[0]}" if pipe else source for pipe, source in zip(pipes, sources)]
-        self.out, self.trace = tempfile.TemporaryFile(), tempfile.TemporaryFile()
-        self.process = subprocess.Popen([PROGRAM, "run", *options, spec, *names], stdin=subprocess.DEVNULL, stdout=self.out if out is None else out,
-                                        stderr=self.trace if trace is None else trace, pass_fds=[pipe[0] for pipe in pipes if pipe])
-        for pipe in pipes:
-            if pipe:
-                os.close(pipe[0])
+        names = [source if pipe is None else f"/dev/fd/{pipe[0]}" for pipe, source in zip(pipes, sources)]
+        readers = [pipe[0] for pipe in pipes if pipe]
         self.ends = [pipe[1] if pipe else -1 for pipe in pipes]
+        self.out, self.trace = tempfile.TemporaryFile(), tempfile.TemporaryFile()
+        self.process = subprocess.Popen([PROGRAM, "run", *options, spec, *names], stdin=subprocess.DEVNULL, pass_fds=readers,
+                                        stdout=self.out if out is None else out, stderr=self.trace if trace is None else trace)
+        for reader in readers:
+            os.close(reader)
         self.begun = time.monotonic()
 
     def write(self, source: int, text: str) -> None:
@@ -51,6 +51,10 @@ class LiveRun:
                 os.close(self.ends[source])
                 self.ends[source] = -1
 
+    def send(self, chosen: signal.Signals) -> None:
+        self.begun = time.monotonic()
+        self.process.send_signal(chosen)
+
     @staticmethod
     def text(file: IO[bytes]) -> str:
         """What stands in a file by now."""
@@ -60,10 +64,11 @@ class LiveRun:
         """How many whole lines the output and the trace have by now."""
         return self.text(self.out).count("\n"), self.text(self.trace).count("\n")
 
-    def has_lines(self, out: int, trace: int, seconds: float = SOON) -> bool:
-        """Whether so many lines are there within a time, counted from the last write or close."""
+    def has_lines(self, out: int, trace: int) -> bool:
+        """Waits until so many lines are there, and tells whether they came."""
+        limit = time.monotonic() + PATIENCE
         while True:
-            is_over = time.monotonic() > self.begun + seconds or self.process.poll() is not None
+            is_over = time.monotonic() > limit or self.process.poll() is not None
             there = self.lines()
             if there[0] >= out and there[1] >= trace:
                 return True
@@ -76,7 +81,7 @@ class LiveRun:
         return time.clock_gettime((~self.process.pid << 3) | 2)
 
     def end(self, seconds: float = GIVEN_UP) -> Ended:
-        """Waits for the end, without a further write, and then closes everything. What it took counts from the last write or close."""
+        """Waits for the end, and then closes everything. What it took counts from the last write, close or signal."""
         try:
             status: Optional[int] = self.process.wait(seconds)
         except subprocess.TimeoutExpired:

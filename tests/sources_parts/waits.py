@@ -5,16 +5,38 @@ import subprocess
 import time
 from typing import Optional
 
-from sources_parts.ends import SILENCES, expect_soon
-from sources_parts.live import SOON, LiveRun
-from sources_parts.merged import SECOND, SPEC, file_text, merged, texts_of
+from sources_parts.ends import SILENCES
+from sources_parts.live import Ended, LiveRun
+from sources_parts.merged import SECOND, SPEC, Texts, difference, file_text, merged, texts_of
 from terminal_parts.harness import Checks, write
 
 ROWS = 2000
 WARM = 1.0  # seconds until a run waits
 WAITS = 2.0  # seconds for which it is looked at
 MOST_A_SECOND = 0.01  # seconds of a processor
+BEAT = 'input a: Int64\noutput n: UInt64 @1Hz := a.aggregate(over: 2s, using: count)\ntrigger n == 0 "silent"\n'
 SUM = 'input a: Int64\noutput b: Int64 := a + 1\ntrigger b > 2 "high"\n'
+
+
+def expect_trace(checks: Checks, what: str, trace: str, ended: Ended, status: int = 0) -> None:
+    """A run has ended so, and its trace is this; where it is not, the first lines that differ are told."""
+    checks.same(what, "no difference", difference(Texts(status, "", trace), Texts(-1 if ended.status is None else ended.status, "", ended.trace)))
+
+
+def run_beside_silent_pipes(checks: Checks, sources: list[Optional[str]], speaker: int, said: str) -> Ended:
+    """A run of which all rows of the file are judged before one of the pipes, which have said something, goes on, to its first row."""
+    run = LiveRun(write("mixed.lola", SPEC), sources, ["--show", "outputs"])
+    for source in range(len(sources)):
+        if sources[source] is None and said:
+            run.write(source, said)
+    what = f"beside {len(sources) - 1} pipes that have said {said!r}"
+    checks.same(f"the file's rows {what}", True, run.has_lines(ROWS, ROWS))
+    run.write(speaker, "time,a\n5000,7\n"[len(said):])
+    checks.same(f"the row of source {speaker} {what}", True, run.has_lines(ROWS + 1, ROWS + 1))
+    run.close(*(source for source in range(len(sources)) if source != speaker))
+    checks.same(f"the end of source {speaker} is waited for {what}", None, run.process.poll())
+    run.close()
+    return run.end()
 
 
 def test_files_beside_silent_pipes(checks: Checks) -> None:
@@ -22,21 +44,14 @@ def test_files_beside_silent_pipes(checks: Checks) -> None:
     stamps = [number * SECOND // 100 for number in range(ROWS)]
     for pipes in (1, 63):
         for place in (0, pipes):
-            whole = texts_of(merged([[]] * place + [stamps]))
+            trace = texts_of(merged([[]] * place + [stamps])).trace
             sources: list[Optional[str]] = [None] * pipes
             sources.insert(place, write("rows.csv", file_text(place, stamps)))
             speaker = 0 if place else pipes
-            for said in ("", "ti", "time,a\n", "time,a\n50"):
-                run = LiveRun(write("mixed.lola", SPEC), sources, ["--show", "outputs"])
-                for source in range(pipes + 1):
-                    if source != place and said:
-                        run.write(source, said)
-                checks.same(f"rows beside {pipes} pipes that have said {said!r}", True, run.has_lines(ROWS, ROWS))
-                checks.same("the file's rows alone", whole.trace, run.text(run.trace))
-                run.write(speaker, "time,a\n5000,7\n"[len(said):])
-                checks.same("the pipe's row", True, run.has_lines(ROWS + 1, ROWS + 1))
-                run.close()
-                checks.same("the trace", whole.trace + f"{speaker},1,5000.000000000,A,7\n", run.end().trace)
+            for said in ("", "time,a\n", "time,a\n50"):
+                ended = run_beside_silent_pipes(checks, sources, speaker, said)
+                status = 0 if said == "time,a\n" or pipes == 1 else 4  # the others have no row, or no heading
+                expect_trace(checks, f"source {place} is the file, {said!r}", trace + f"{speaker},1,5000.000000000,A,7\n", ended, status)
 
 
 def test_order_of_arrival(checks: Checks) -> None:
@@ -53,24 +68,23 @@ def test_order_of_arrival(checks: Checks) -> None:
         newest = max(newest, stamp)
     run.close()
     ended = run.end()
-    expect_soon(checks, "the end", ended, 0, "= done accepted 6 late 1 steps 6 lines 0\n")
-    checks.same("the trace", "".join(trace), ended.trace)
+    checks.same("the end", (0, "= done accepted 6 late 1 steps 6 lines 0\n"), (ended.status, ended.out))
+    expect_trace(checks, "the trace", "".join(trace), ended)
 
 
 def test_times_alone(checks: Checks) -> None:
     """A source of times alone makes deadlines pass while the other is silent."""
-    spec = "input a: Int64\noutput n: UInt64 @1Hz := a.aggregate(over: 2s, using: count)\ntrigger n == 0 \"silent\"\n"
-    run = LiveRun(write("beat.lola", spec), [None, None])
+    run = LiveRun(write("beat.lola", BEAT), [None, None])
     run.write(0, "time,a\n0,1\n")
-    checks.same("the first row", True, run.has_lines(0, 1, 10 * SOON))
+    checks.same("the first row", True, run.has_lines(0, 1))
     run.write(1, "time\n")
     for second in range(1, 6):
         run.write(1, f"{second}.5\n")
-        due = max(0, second - 1)  # the deadlines from 2 on have an empty window
+        due = max(0, second - 1)  # from second 2 on the window is empty
         checks.same(f"the verdict of second {second}", True, run.has_lines(due, 1 + second))
         checks.same(f"no further one in second {second}", due, run.lines()[0])
     run.close()
-    expect_soon(checks, "the end", run.end(), 0)
+    checks.same("the end", 0, run.end().status)
 
 
 def expect_idle(checks: Checks, runs: dict[str, LiveRun]) -> None:
@@ -90,11 +104,11 @@ def test_processor_of_silent_pipes(checks: Checks) -> None:
         run = LiveRun(write("sum.lola", SUM), [None] * 64)
         for source in range(64):
             run.write(source, said)
-        checks.same("the rows before", True, run.has_lines(0, rows * 64, 10 * SOON))
+        checks.same("the rows before", True, run.has_lines(0, rows * 64))
         runs[f"64 pipes, silent {silence}"] = run
     names = [write(f"{n}.csv", file_text(n, [n * SECOND])) for n in range(63)]
     runs["a pipe beside 63 files"] = LiveRun(write("sum.lola", SUM), [*names, None])
-    checks.same("the rows of files", True, runs["a pipe beside 63 files"].has_lines(0, 63, 10 * SOON))
+    checks.same("the rows of files", True, runs["a pipe beside 63 files"].has_lines(0, 63))
     expect_idle(checks, runs)
     for run in runs.values():
         run.end(0)
