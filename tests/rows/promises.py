@@ -1,9 +1,11 @@
-"""What is promised of a run whose sources are read on threads, each on its own: any order between sources, and nothing less.
+"""What a run keeps whose sources are files that are read on threads, each on its own.
 
-Of each source the trace has the same rows in the same order as in turns; a row is late exactly where an accepted row before it has a
-later time; and the end line counts what the trace has.
+Of each source the trace has the same rows in the same order as in turns, and the next one is always the one with the least time of those
+that come next in their sources; a row is late exactly where an accepted row before it has a later time; and the end line counts what the
+trace has.
 """
 
+import heapq
 import re
 from typing import NamedTuple
 
@@ -36,6 +38,22 @@ def rows_by_source(rows: list[TraceRow]) -> dict[str, list[tuple[str, str, str |
     for row in rows:
         by_source.setdefault(row.source, []).append((row.number, row.time, row.fields))
     return by_source
+
+
+def merged_by_time(rows: list[TraceRow]) -> list[tuple[int, int, int]]:
+    """Time, source and number of these rows, as they have to come where sources are merged by time."""
+    by_source: dict[int, list[tuple[int, int, int]]] = {}
+    for row in rows:
+        by_source.setdefault(int(row.source), []).append((int(row.time.replace(".", "")), int(row.source), int(row.number)))
+    heads = [of_source.pop(0) for of_source in by_source.values()]
+    heapq.heapify(heads)
+    order = []
+    while heads:
+        order.append(heapq.heappop(heads))
+        of_source = by_source[order[-1][1]]
+        if of_source:
+            heapq.heappush(heads, of_source.pop(0))
+    return order
 
 
 def right_marks(rows: list[TraceRow]) -> list[str]:
@@ -72,6 +90,8 @@ def complaints_on_threads(expected_out: bytes, expected_trace: bytes, out: bytes
     complaints = []
     if rows_by_source(rows) != rows_by_source(trace_rows(expected_trace)):
         complaints.append(f"on threads: other rows than in turns, or in another order within a source:\n{came}")
+    if [(int(row.source), int(row.number)) for row in rows] != [(source, number) for _, source, number in merged_by_time(rows)]:
+        complaints.append(f"on threads: rows that are not merged by time:\n{came}")
     if [row.mark for row in rows] != right_marks(rows):
         complaints.append(f"on threads: a wrong mark in the trace:\n{came}")
     lines = out.decode("utf-8", "replace").splitlines() or [""]

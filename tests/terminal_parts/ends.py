@@ -177,15 +177,16 @@ def test_late_rows(checks: Checks) -> None:
     checks.has("one source", "2 of source 0, one.csv", told)
     checks.has("it goes back", "So the times of this source go back.", told)
     checks.lacks("no turns for one source", "--in-turns", told)
-    # With --start all rows below it are late, whatever the order in which threads come.
-    told = on_terminal("run", "--start", "100", "sum.lola", "one.csv", "two.csv").terminal
-    checks.has("several on threads", "3 of source 0, one.csv 1 of source 1, two.csv", told)
-    checks.has("what to do", "read them with --in-turns", told)
+    own = ("1,1,1.000000000,A,1\n0,1,5.000000000,A,1\n0,2,4.000000000,L5.000000000,1\n"
+           "0,3,3.000000000,L5.000000000,1\n= done accepted 2 late 2 steps 2 lines 0\n")
+    told = split(on_terminal("run", "sum.lola", "one.csv", "two.csv"), own)
+    checks.has("merged by time", "2 of source 0, one.csv A row", told)
+    checks.has("why", "the times of a file with late rows go back", told)
     own = ("0,1,5.000000000,A,1\n1,1,1.000000000,L5.000000000,1\n0,2,4.000000000,L5.000000000,1\n"
            "0,3,3.000000000,L5.000000000,1\n= done accepted 1 late 3 steps 1 lines 0\n")
     told = split(on_terminal("run", "--in-turns", "sum.lola", "one.csv", "two.csv"), own)
     checks.has("in turns", "2 of source 0, one.csv 1 of source 1, two.csv", told)
-    checks.lacks("in turns already", "read them with", told)
+    checks.has("what to do", "Without --in-turns files are merged by time.", told)
 
 
 def test_late_rows_of_many_sources(checks: Checks) -> None:

@@ -20,7 +20,7 @@ MALFORMED = re.compile(r"= malformed source (\d+) row (\d+) (kind \d+) \w+")
 FAULT = re.compile(r"= fault (\w+) (\d+) \w+ at ([\d.]+)")
 UNREADABLE = re.compile(r"= unreadable (?:specification|source (\d+))")
 LATE_ROWS = "docs/formats.md#trace-lines-on-standard-error"
-TWO_LOGS = "docs/cookbook.md#two-logs"
+SEVERAL = "docs/formats.md#several-sources"
 MOST_LATE_SOURCES = 4  # so many sources with late rows are named
 QUIET_SIGNALS = (signal.SIGINT, signal.SIGTERM, signal.SIGHUP, signal.SIGQUIT, signal.SIGPIPE)
 
@@ -37,7 +37,7 @@ it read to standard error, which is the trace. Its options, each once:
 
   --show outputs   writes the values of outputs too; else: --show triggers
       lolamon run --show outputs height.lola flight.csv
-  --in-turns       takes a row of each source in turn: for files on a disk
+  --in-turns       takes a row of each source in turn, whatever their times
       lolamon run --in-turns zones.lola vehicle.csv ground.csv
   --start T        counts time from T seconds, not from the first row
       lolamon run --start 0 height.lola flight.csv
@@ -217,11 +217,11 @@ class Teller:
         reason = "A row is late where its time is below that of a row that was taken before it, or below --start."
         if not several and "--start" not in self.command.options:
             reason += " So the times of this source go back."
+        if several and "--in-turns" in self.command.options:
+            reason += " In turns the source with fewer rows gets ahead of the others. Without --in-turns files are merged by time."
         if several and "--in-turns" not in self.command.options:
-            reason += " Of files on a disk one gets ahead of the others: read them with --in-turns."
-        if several:
-            reason += " Logs with unequal numbers of rows are put in order of time before a run."
-        return [reason, *self.manual.more(LATE_ROWS), *(self.manual.more(TWO_LOGS) if several else [])]
+            reason += " Files are merged by time, so the times of a file with late rows go back. A late row of a pipe came behind a later one."
+        return [reason, *self.manual.more(LATE_ROWS), *(self.manual.more(SEVERAL) if several else [])]
 
     def source(self, number: str) -> Optional[str]:
         sources = self.command.sources if self.command else []
