@@ -1,7 +1,7 @@
 //! Where callers sleep whose turn is not near.
 //!
 //! A caller sleeps on the bed that its ticket has, by the remainder. No waking is lost. A caller is counted in its bed,
-//! notes how often the bed was rung, and only then looks whether it has to sleep. Whoever ends a turn has written the
+//! notes the number of its rings, and only then looks whether it has to sleep. Whoever ends a turn has written the
 //! ticket that is served next before it looks who has drawn a ticket and who is counted. So either the caller finds its
 //! ticket served, or the other finds the caller and rings: then the count of rings is no longer the one that was noted,
 //! so that the sleep does not begin, or the waking ends it. The sleep compares the low 32 bits of the count. Between the
@@ -25,7 +25,7 @@ const LOW: u64 = 0xffff_ffff;
 pub struct Bed {
     // The callers that sleep here or are about to.
     callers: AtomicU64,
-    // How often it was rung.
+    // How many rings it has had.
     rings: AtomicU64,
 }
 
@@ -43,7 +43,7 @@ impl Bed {
         (self.rings.load(Ordering::SeqCst) & LOW) as u32
     }
 
-    /// Sleeps where it has to, until the bed is rung once more than was heard, and counts the caller out. It may also
+    /// Sleeps where it has to, until the bed has one more ring than was heard, and counts the caller out. It may also
     /// return for no reason.
     pub fn sleep<R: Wait>(&self, rt: &R, heard: u32, has_to: bool) {
         if has_to {

@@ -46,7 +46,7 @@ fn two_callers_take_turns(rt: HostRuntime) -> Result<(), Fail> {
     Ok(())
 }
 
-// The sleeps return, since each bed was rung after its caller had listened. Were a ring lost, the test would not end.
+// The sleeps return, since each bed had a ring after its caller had listened. Were a ring lost, the test would not end.
 #[test]
 fn a_ring_before_the_sleep_is_not_lost(rt: HostRuntime) -> Result<(), Fail> {
     let beds = Beds::create(rt.alloc())?;
