@@ -25,7 +25,6 @@ SILENCES = {  # what a source has said before it is silent, and how many rows th
     "from the beginning": ("", 0),
     "behind its heading": ("time,a\n", 0),
     "behind a row": ("time,a\n0,5\n", 1),
-    "in its heading": ("time", 0),
     "in a row": ("time,a\n0,5\n0,", 1),
 }
 

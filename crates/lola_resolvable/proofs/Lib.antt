@@ -1,0 +1,5 @@
+pub mod RatesWritten
+pub mod Makers
+pub mod TreesMade
+pub mod StreamsMade
+pub mod Made
