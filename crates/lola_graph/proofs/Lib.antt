@@ -1,5 +1,5 @@
 pub mod ReadLemmas
 mod MarkLemmas
 mod NodeLemmas
-pub mod ListLemmas
-pub mod CycleLemmas
+mod ListLemmas
+mod CycleLemmas

@@ -1,2 +1,2 @@
 mod MarkLemmas
-pub mod LeafLemmas
+mod LeafLemmas
