@@ -8,7 +8,7 @@ use Rattle.lola_value.specs.Ratio.{Ratio}
 use Rattle.lola_model.specs.PacingFound.{finding_at, findings_at, rate_of, rates_of, IsAtMost, IsLeastRate}
 use Rattle.lola_model.specs.declared.finding.Finding.{Finding}
 
-at_most_through : (r q s : Ratio) → 0 < q.den → IsAtMost r q → IsAtMost q s → IsAtMost r s
+pub at_most_through : (r q s : Ratio) → 0 < q.den → IsAtMost r q → IsAtMost q s → IsAtMost r s
 at_most_through r q s positive h k =
     let a : r.num * q.den * s.den ≤ q.num * r.den * s.den = mul-le-mul_right s.den h in
     let b : q.num * s.den * r.den ≤ s.num * q.den * r.den = mul-le-mul_right r.den k in

@@ -1,3 +1,3 @@
-mod OffsetLemmas
-mod EndLemmas
-mod PaneLemmas
+pub mod OffsetLemmas
+pub mod EndLemmas
+pub mod PaneLemmas

@@ -1,5 +1,5 @@
 pub mod ReadLemmas
 mod MarkLemmas
 mod NodeLemmas
-mod ListLemmas
-mod CycleLemmas
+pub mod ListLemmas
+pub mod CycleLemmas

@@ -1,2 +1,2 @@
 mod MarkLemmas
-mod LeafLemmas
+pub mod LeafLemmas
