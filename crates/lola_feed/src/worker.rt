@@ -82,10 +82,17 @@ impl<S: Source> SourceWorker<S> {
         self.reader.answers_at_once()
     }
 
-    /// Waits until a read of its source would answer at once, for so many milliseconds at most, and says whether one
-    /// would.
+    /// Waits until the next line of its source can be read at once, for so many milliseconds at most, and says whether it
+    /// can.
     pub fn wait_for_bytes(&self, milliseconds: u16) -> bool {
         self.reader.wait_for_bytes(milliseconds)
+    }
+
+    /// Asks that the bytes of its source be read before they are asked for, by a thread of its own.
+    pub fn read_ahead(&mut self)
+        ensures { self.new ≡ self.old }
+    {
+        self.reader.read_ahead();
     }
 
     /// Whether the next turn needs no read: a row waits, the reader holds a whole line or has ended, or the worker has.

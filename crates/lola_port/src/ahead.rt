@@ -5,7 +5,7 @@ ghost use Rattle.std.specs.Io.{ReadsAtMost};
 use crate::ReadFailed;
 use crate::handing::{Shared, Task};
 use crate::piece::Piece;
-use crate::starter::Starter;
+use crate::starter::Asker;
 use lola_value::text::Memory;
 use std::alloc::Global;
 use std::fs::File;
@@ -33,12 +33,8 @@ impl<R: Wait + Drop> Drop for Ahead<R> {
 
 impl<R: Wait + Clone + Drop> Ahead<R> {
     // The reader of a source whose thread still waits for its file. None where no thread can be started.
-    pub(crate) fn start(
-        rt: &R,
-        alloc: Global,
-        starter: &Starter<R>,
-    ) -> Result<Option<Ahead<R>>, Memory> {
-        let rt = rt.clone()?;
+    pub(crate) fn start(alloc: Global, asker: &Asker<R>) -> Result<Option<Ahead<R>>, Memory> {
+        let rt = asker.runtime().clone()?;
         let piece = Piece::create(alloc)?;
         let shared = Arc::new(alloc, Shared::create(Piece::create(alloc)?))?;
         let theirs = Arc::try_clone(&shared)?;
@@ -46,7 +42,7 @@ impl<R: Wait + Clone + Drop> Ahead<R> {
             shared: theirs,
             piece,
         };
-        if !starter.start(task) {
+        if !asker.start(task) {
             return Ok(None);
         }
         Ok(Some(Ahead {

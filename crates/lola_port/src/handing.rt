@@ -1,11 +1,16 @@
 //! What a source's thread and its reader share, and what the thread does: it reads one piece ahead of its reader. It is
 //! never joined: where it waits for bytes that do not come it ends with the program, or at the next bytes after the
 //! source was closed.
+//!
+//! A piece is handed over once a line has ended in it, so that its reader, who asks for lines, does not wait inside of one;
+//! sooner where it is full, since no line is as long, and where the source ends.
 
 use crate::ReadFailed;
-use crate::piece::Piece;
+use crate::line::Line;
+use crate::piece::{Piece, ROOM};
 use std::alloc::Global;
 use std::fs::File;
+use std::io::Read;
 use std::sync::{Arc, Condvar, Mutex, Wait};
 use std::time::{Clock, Duration};
 
@@ -85,8 +90,11 @@ impl Shared {
         self.freed.notify_one();
     }
 
-    // Hands a piece over, once the one before it was taken. False where the source was closed.
+    // Hands a piece over that has bytes, once the one before it was taken. False where the source was closed.
     fn hand_over<R: Wait>(&self, rt: &R, piece: Piece) -> bool {
+        if piece.is_used_up() {
+            return true;
+        }
         let mut held = self.held.lock(rt);
         for _ in rt.forever() {
             if held.is_closed {
@@ -174,25 +182,40 @@ pub(crate) struct Task {
     pub(crate) piece: Piece,
 }
 
+// Reads a piece: until a line that is not empty has ended in it, until it is full, or until the source ends or fails, which is told.
+fn fill<F: Read>(piece: &mut Piece, file: &mut F, line: &mut Line) -> Option<End> {
+    piece.clear();
+    for _ in 0..ROOM {
+        if !piece.has_room() {
+            break;
+        }
+        match piece.fill(file) {
+            Ok(0) => return Some(End::Reached),
+            Ok(count) => {
+                if line.goes_on(piece.newest(count)) {
+                    break;
+                }
+            }
+            Err(ReadFailed) => return Some(End::Failed),
+        }
+    }
+    None
+}
+
 // What a source's thread does: it reads pieces one after another, until the source ends, fails or is closed.
 pub(crate) fn read_ahead<R: Wait>(rt: &R, task: Task) {
     let Task { shared, mut piece } = task;
     let Some(mut file) = shared.wait_for_file(rt) else {
         return;
     };
+    let mut line = Line::Nothing;
     for _ in rt.forever() {
-        match piece.fill(&mut file) {
-            Ok(0) => {
-                shared.finish(rt, End::Reached);
-                return;
-            }
-            Ok(_) => {}
-            Err(ReadFailed) => {
-                shared.finish(rt, End::Failed);
-                return;
-            }
-        }
+        let end = fill(&mut piece, &mut file, &mut line);
         if !shared.hand_over(rt, piece) {
+            return;
+        }
+        if let Some(end) = end {
+            shared.finish(rt, end);
             return;
         }
         match shared.wait_for_spare(rt) {

@@ -4,6 +4,7 @@
 
 mod ahead;
 mod handing;
+mod line;
 mod machine;
 mod memory;
 mod piece;

@@ -1,6 +1,6 @@
 //! A piece of a source: a buffer of a fixed length, and which of its bytes are still to be moved.
 
-ghost use Rattle.std.specs.Prelude.{◌≡◌, ◌<◌, drop, length, min, take, IfOk, IsFalse, IsTrue, OnErr};
+ghost use Rattle.std.specs.Prelude.{◌≡◌, ◌+◌, ◌<◌, ◌≤◌, drop, length, min, take, IfOk, IsFalse, IsTrue, OnErr};
 
 use crate::ReadFailed;
 use crate::machine::read_some;
@@ -9,8 +9,8 @@ use std::alloc::Global;
 use std::io::Read;
 use std::marker::Model;
 
-// How many bytes a piece has room for.
-const ROOM: usize = 1 << 16;
+// How many bytes a piece has room for, which is more than a line may have.
+pub(crate) const ROOM: usize = 1 << 17;
 
 // Bytes that were read of a source. Contracts see it as those that are still to be moved, which stand from `at` on and
 // before `end`.
@@ -51,20 +51,38 @@ impl Piece {
         self.at == self.end
     }
 
-    // Reads the next bytes in place of those that it had, and says how many there are, which is none at the end alone.
-    pub(crate) fn fill<F: Read>(&mut self, file: &mut F) -> Result<usize, ReadFailed>
-        ensures count { IfOk result (λ count. length self.new ≡ count) }
-        ensures failed { OnErr result (length self.new ≡ 0) }
+    // Forgets the bytes that it had.
+    pub(crate) fn clear(&mut self)
+        ensures { length self.new ≡ 0 }
     {
         self.at = 0;
         self.end = 0;
-        match read_some(file, &mut self.room) {
+    }
+
+    // Whether there is room for more bytes behind those that it has.
+    pub(crate) fn has_room(&self) -> bool {
+        self.end < self.room.len()
+    }
+
+    // Reads the next bytes behind those that it has, and says how many came, which is none at the end, or where there is no room.
+    pub(crate) fn fill<F: Read>(&mut self, file: &mut F) -> Result<usize, ReadFailed>
+        ensures count { IfOk result (λ count. length self.new ≡ length self.old + count) }
+        ensures failed { OnErr result (length self.new ≡ length self.old) }
+    {
+        match read_some(file, &mut self.room[self.end..]) {
             Ok(count) => {
-                self.end = count;
+                self.end += count;
                 Ok(count)
             }
             Err(_) => Err(ReadFailed),
         }
+    }
+
+    // The bytes that came last, so many.
+    pub(crate) fn newest(&self, count: usize) -> &[u8]
+        requires { count ≤ length self.now }
+    {
+        &self.room[self.end - count..self.end]
     }
 
     // Moves its next bytes into the front of `buf`, as many as there is room for, and says how many.

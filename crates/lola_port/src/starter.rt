@@ -54,6 +54,9 @@ impl Desk {
     // Asks for a thread, and waits for the answer whether there is one.
     fn ask<R: Wait>(&self, rt: &R, task: Task) -> bool {
         let mut asked = self.asked.lock(rt);
+        if asked.is_closed {
+            return false;
+        }
         asked.task = Some(task);
         self.changed.notify_all();
         for _ in rt.forever() {
@@ -133,7 +136,29 @@ impl<R: Threads + Wait + Clone + Send + Drop + 'static> Starter<R> {
     }
 }
 
-impl<R: Wait + Drop> Starter<R> {
+impl<R: Wait + Clone + Drop> Starter<R> {
+    // One that asks the thread, for as long as there is one.
+    pub(crate) fn asker(&self) -> Result<Asker<R>, Memory> {
+        Ok(Asker {
+            rt: self.rt.clone()?,
+            desk: Arc::try_clone(&self.desk)?,
+        })
+    }
+}
+
+// One that asks a thread to start others.
+#[derive(Drop)]
+pub(crate) struct Asker<R: Wait + Drop> {
+    rt: R,
+    desk: Arc<Desk, Global>,
+}
+
+impl<R: Wait + Drop> Asker<R> {
+    // The runtime.
+    pub(crate) fn runtime(&self) -> &R {
+        &self.rt
+    }
+
     // Has a task done on a thread of its own, and says whether there is one.
     pub(crate) fn start(&self, task: Task) -> bool {
         self.desk.ask(&self.rt, task)

@@ -1,5 +1,6 @@
 //! Pieces and failures in memory, the objects of the machine once, and calls that are made again.
 
+use crate::line::Line;
 use crate::machine::{put_all, read_some};
 use crate::{
     ErrSink, FetchEnd, FolderShelf, Gate, IdleGate, MemoryShelf, MemorySink, OutSink, PutEnd,
@@ -79,13 +80,16 @@ fn objects_of_the_machine(rt: HostRuntime) -> Result<(), Fail> {
         shelf.fetch("no_such_file.csv").err(),
         Some(FetchEnd::Failed)
     );
-    let Ok(device) = shelf.fetch("/dev/null") else {
+    let Ok(mut device) = shelf.fetch("/dev/null") else {
         return Err("no device".into());
     };
     assert_eq!(rt;
         (device.answers_at_once(), device.wait_for_bytes(60_000)),
         (false, true)
     );
+    device.read_ahead();
+    assert!(rt; device.wait_for_bytes(60_000));
+    assert_eq!(rt; device.read(&mut buf), Ok(0));
     shelf.give_back(device);
     let asks = shelf.asks();
     assert_eq!(rt; asks.len(), 3);
@@ -95,6 +99,68 @@ fn objects_of_the_machine(rt: HostRuntime) -> Result<(), Fail> {
     assert_eq!(rt; OutSink::create(rt).put(b"to output\n"), Ok(()));
     assert_eq!(rt; ErrSink::create(rt).put(b"to error\n"), Ok(()));
     Ok(())
+}
+
+/// Some 300,000 bytes in lines.
+fn many_lines(rt: HostRuntime) -> Result<Vec<u8>, Memory> {
+    let mut bytes = Vec::new(rt.alloc());
+    for line in 0..30_000u32 {
+        bytes.extend_from_slice(b"a line: ")?;
+        bytes.push(b'0' + (line % 10) as u8)?;
+        bytes.push(b'\n')?;
+    }
+    Ok(bytes)
+}
+
+#[test]
+fn a_thread_reads_all_bytes_in_order(rt: HostRuntime) -> Result<(), Fail> {
+    let bytes = many_lines(rt)?;
+    fs::write(&rt, "lines_of_a_test.csv", bytes.as_slice())?;
+    let mut shelf = FolderShelf::create(rt, rt.alloc());
+    let Ok(mut file) = shelf.fetch("lines_of_a_test.csv") else {
+        return Err("no file".into());
+    };
+    let mut buf = [0u8; 1000];
+    let mut read = Vec::new(rt.alloc());
+    for call in 0..1_000u32 {
+        if call == 3 {
+            file.read_ahead();
+        }
+        let Ok(count) = file.read(&mut buf) else {
+            return Err("a read failed".into());
+        };
+        read.extend_from_slice(&buf[..count])?;
+    }
+    assert!(rt; read.as_slice() == bytes.as_slice());
+    assert!(rt; file.answers_at_once());
+    fs::remove_file(&rt, "lines_of_a_test.csv")?;
+    Ok(())
+}
+
+#[test]
+fn a_folder_is_no_source(rt: HostRuntime) -> Result<(), Fail> {
+    let mut shelf = FolderShelf::create(rt, rt.alloc());
+    let Ok(mut folder) = shelf.fetch("/") else {
+        return Err("no folder".into());
+    };
+    folder.read_ahead();
+    assert!(rt; folder.wait_for_bytes(60_000));
+    let mut buf = [0u8; 16];
+    assert_eq!(rt; folder.read(&mut buf), Err(ReadFailed));
+    assert_eq!(rt; folder.read(&mut buf), Err(ReadFailed));
+    shelf.give_back(folder);
+    assert_eq!(rt; shelf.asks()[0].count, 2);
+    Ok(())
+}
+
+#[test]
+fn lines_that_are_not_empty_end(rt: HostRuntime) {
+    let mut line = Line::Nothing;
+    assert!(rt; !line.goes_on(b"\r\n\n1,2"));
+    assert!(rt; line.goes_on(b"\n3"));
+    assert!(rt; line.goes_on(b"\r\n\r"));
+    assert!(rt; !line.goes_on(b"\n\r"));
+    assert!(rt; line.goes_on(b"\r\n"));
 }
 
 /// A pipe of which each fourth call, from the one numbered 3 on, moves at most three bytes. The first of four is

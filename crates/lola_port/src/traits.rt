@@ -34,11 +34,17 @@ pub trait Source: Drop {
         false
     }
 
-    /// Waits until a read would answer at once, for so many milliseconds at most, and says whether one would. A source
-    /// that cannot know says yes.
+    /// Waits until the next line can be read at once, or whatever ends the source, for so many milliseconds at most, and says whether
+    /// it can. A source that cannot know says yes.
     fn wait_for_bytes(&self, _milliseconds: u16) -> bool {
         true
     }
+
+    /// Asks that its bytes be read before they are asked for, by a thread of its own, so that one can wait for them with a limit. A
+    /// source that has no such thread does nothing.
+    fn read_ahead(&mut self)
+        ensures { state self.new ≡ state self.old }
+    {}
 }
 
 /// One ask of a shelf: for which name, whether a source was given, and how many faults there were: 1 where none was

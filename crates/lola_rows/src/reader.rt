@@ -361,10 +361,17 @@ impl<S: Source> RowReader<S> {
         self.source.answers_at_once()
     }
 
-    /// Waits until a read of its source would answer at once, for so many milliseconds at most, and says whether one
-    /// would.
+    /// Waits until the next line of its source can be read at once, for so many milliseconds at most, and says whether it
+    /// can.
     pub fn wait_for_bytes(&self, milliseconds: u16) -> bool {
         self.source.wait_for_bytes(milliseconds)
+    }
+
+    /// Asks that the bytes of its source be read before they are asked for, by a thread of its own.
+    pub fn read_ahead(&mut self)
+        ensures { self.new ≡ self.old }
+    {
+        self.source.read_ahead();
     }
 
     /// Whether the next row, or how the reader ends, is told without a read: a line is held whole, or none is read any
