@@ -24,12 +24,13 @@ const SHORT: u32 = 64;
 const TRIES: u32 = 4;
 
 // A source on the board, besides its cell: where its thread sleeps, and whether it does, or is about to, until its turn
-// comes or until there is room.
+// comes or until there is room; and whether it has no thread, since the one that takes reads it.
 #[derive(Drop)]
 struct Place {
     bed: Parker,
     sleeps: AtomicBool,
     wants_room: AtomicBool,
+    is_here: AtomicBool,
 }
 
 /// What the thread of a source saw when it looked at the board: up to which cell it may go on without another look.
@@ -60,6 +61,8 @@ pub struct Board {
     falls: AtomicU64,
     // How many threads want room.
     full: AtomicU64,
+    // How many sources the thread that takes reads.
+    here: AtomicU64,
     looks: u32,
     taker: Parker,
     taker_sleeps: AtomicBool,
@@ -95,6 +98,7 @@ impl Board {
                 bed: Parker::new(),
                 sleeps: AtomicBool::new(false),
                 wants_room: AtomicBool::new(false),
+                is_here: AtomicBool::new(false),
             })?;
         }
         Ok(Board {
@@ -102,6 +106,7 @@ impl Board {
             places,
             falls: AtomicU64::new(0),
             full: AtomicU64::new(0),
+            here: AtomicU64::new(0),
             looks: if count < processors { LONG } else { SHORT },
             taker: Parker::new(),
             taker_sleeps: AtomicBool::new(false),
@@ -133,13 +138,27 @@ impl Board {
         (first_source, second, second_source)
     }
 
-    // Wakes the thread of a source, where it sleeps or is about to.
+    // Wakes the thread that reads a source, where it sleeps or is about to.
     fn wake(&self, source: u32) {
         if let Some(place) = self.places.get(source as usize) {
-            if place.sleeps.load(Ordering::SeqCst) {
+            if place.is_here.load(Ordering::SeqCst) {
+                self.wake_taker();
+            } else if place.sleeps.load(Ordering::SeqCst) {
                 place.bed.unpark();
             }
         }
+    }
+
+    // Wakes the thread that takes, where it sleeps or is about to.
+    fn wake_taker(&self) {
+        if self.taker_sleeps.load(Ordering::SeqCst) {
+            self.taker.unpark();
+        }
+    }
+
+    // Whether the thread that takes reads all sources: there is nobody to wait for.
+    fn is_alone(&self) -> bool {
+        self.here.load(Ordering::SeqCst) == self.cells.len() as u64
     }
 
     // Sets the cell of a source.
@@ -151,9 +170,39 @@ impl Board {
         }
     }
 
-    /// Nobody waits for a source from now on: it has ended, is read by the thread that takes, or reads what somebody
-    /// may yet have to write.
+    /// The thread that takes reads a source, which has no thread of its own.
+    pub fn reads_here(&self, source: u32) {
+        if let Some(place) = self.places.get(source as usize) {
+            place.is_here.store(true, Ordering::SeqCst);
+            self.here.fetch_add(1, Ordering::SeqCst);
+        }
+    }
+
+    /// The thread that takes has a row of a source in hand, with this stamp.
+    pub fn has_row(&self, source: u32, stamp: u64) {
+        if !self.is_alone() {
+            self.set(source, stamp.saturating_add(1));
+        }
+    }
+
+    /// Whether no other cell is below that of a source which the thread that takes reads. Whoever's is the least is woken.
+    pub fn is_first(&self, source: u32) -> bool {
+        if self.is_alone() {
+            return true;
+        }
+        let (first, _, _) = self.least();
+        if first == source {
+            return true;
+        }
+        self.wake(first);
+        false
+    }
+
+    /// Nobody waits for a source from now on: it has ended, or reads what somebody may yet have to write.
     pub fn step_aside(&self, source: u32) {
+        if self.is_alone() {
+            return;
+        }
         self.set(source, ABOVE);
         let (first, _, _) = self.least();
         self.wake(first);
@@ -239,9 +288,7 @@ impl Board {
         if times > TRIES {
             self.wants_no_room(source);
         }
-        if self.taker_sleeps.load(Ordering::SeqCst) {
-            self.taker.unpark();
-        }
+        self.wake_taker();
     }
 
     // The thread of a source has said that it wants room, and wants none any more.
@@ -252,7 +299,8 @@ impl Board {
         }
     }
 
-    /// The thread that takes found nothing. After a few times it sleeps until a row is in.
+    /// The thread that takes found nothing. After a few times it sleeps until a row is in, or the least cell is that of a source that it
+    /// reads.
     pub fn wait_for_rows<R: Wait>(&self, rt: &R) {
         let idle = self.idle.load(Ordering::SeqCst);
         if idle < u64::from(SHORT) {

@@ -5,7 +5,8 @@
 //! once no other cell is below its own, in the order of stamp and source. The cell of a source whose reads answer at
 //! once stays at the row that was handed in last until the next is in hand, so that the others wait for it; before
 //! its first row it is below all. The cell of any other source is above all while it reads, so that nobody waits for
-//! somebody who writes; so is that of a source that has ended.
+//! somebody who writes; so is that of a source that has ended. The thread that takes rows may read sources too: their
+//! cells are as those of others, and it takes where others wait.
 //!
 //! Nobody waits for ever: the least of the cells belongs to a thread that waits for no other. Whoever has changed its
 //! cell looks for the least then, and wakes its thread; whoever sleeps has said so before it looked.

@@ -1,6 +1,6 @@
 -- Seated workers that stay here go on, one after another.
-use Rattle.std.proofs.Common.{◌≡◌, ℕ, zero, suc, ◌<◌, List, [], ◌∷◌, refl, sym, ap, ◌∙◌, subst, arith, length, get_or}
-use Rattle.std.specs.List.{AllZip, insert, remove}
+use Rattle.std.proofs.Common.{◌≡◌, ℕ, zero, suc, ◌<◌, List, [], ◌∷◌, refl, sym, ap, ◌∙◌, subst, arith, length, get_or, slice_set}
+use Rattle.std.specs.List.{AllZip}
 use Rattle.std.proofs.lemmas.List.Elements.{AllZip-get_or}
 use Rattle.std.proofs.lemmas.Slice.Zip.{AllZip-long}
 use Rattle.atomic_table.specs.Seated.{TableId}
@@ -40,23 +40,11 @@ all_go_on_twice (p ∷ ps) [] rs first second = absurd first
 all_go_on_twice (p ∷ ps) (q ∷ qs) [] first second = absurd second
 all_go_on_twice (p ∷ ps) (q ∷ qs) (r ∷ rs) first second = (goes_on_twice p q r first.0 second.0, all_go_on_twice ps qs rs first.1 second.1)
 
--- seated workers that went on are at the same intake
-pub still_at : (id : TableId) (ps qs : List Seated) → AllZip WentOn ps qs → AreAt id ps → AreAt id qs
-still_at id ps qs went at k d less =
-    let within : k < length ps = let long = AllZip-long WentOn ps qs went in omega arith in
-    (AllZip-get_or WentOn ps qs k d d went within).seat.intake ∙ at k d within
-
 -- one of them went on at its place
-pub went_on_at : (ps : List Seated) (k : ℕ) (d q : Seated) → k < length ps → WentOn (get_or ps k d) q → AllZip WentOn ps (insert (remove ps k) k q)
+pub went_on_at : (ps : List Seated) (k : ℕ) (d q : Seated) → k < length ps → WentOn (get_or ps k d) q → AllZip WentOn ps (slice_set ps k q)
 went_on_at [] k d q less went = absurd (omega arith)
 went_on_at (p ∷ ps) zero d q less went = (went, all_stay ps)
 went_on_at (p ∷ ps) (suc k) d q less went = (stays_there p, went_on_at ps k d q (omega arith) went)
-
--- one of them was taken out, went on, and was put back
-pub put_back_on : (ps mid qs : List Seated) (k : ℕ) (p q : Seated) → k < length ps → p ≡ get_or ps k p → mid ≡ remove ps k → WentOn p q → qs ≡ insert mid k q → AllZip WentOn ps qs
-put_back_on ps mid qs k p q less is out went back =
-    subst (λ (l : List Seated). AllZip WentOn ps l) (sym (back ∙ ap (λ (l : List Seated). insert l k q) out))
-    (went_on_at ps k p q less (subst (λ (r : Seated). WentOn r q) is went))
 
 -- there are as many of them
 pub as_many_on : (ps qs : List Seated) → AllZip WentOn ps qs → length qs ≡ length ps

@@ -1,18 +1,17 @@
 -- Seated workers that were sent away and came back, in the order in which they waited.
 use Rattle.std.proofs.Common.{◌≡◌, ◌∙◌, ℕ, List, [], ◌∷◌, ◌++◌, ◌+◌, ◌<◌, ◌≤◌, Some, ap, append_assoc, arith, length, length-append, subst, sym}
 use Rattle.std.specs.List.{All, AllZip}
-use Rattle.std.proofs.lemmas.List.Elements.{All-pop, All-push, All-same, AllZip-push, length_all_zip}
+use Rattle.std.proofs.lemmas.List.Elements.{All-pop, AllZip-push, length_all_zip}
 use Rattle.atomic_table.specs.Seated.{TableId}
-use Rattle.lola_threads.specs.Seated.{AreAt, Seated, WentOn}
+use Rattle.lola_threads.specs.Seated.{Seated, WentOn}
 
 -- what holds of all that wait holds of the last, and of those before it
 pub of_last : (P : Seated → Type 0) (waiting before : List Seated) (last : Seated) → waiting ≡ before ++ last ∷ [] → All P waiting → All P before × P last
 of_last P waiting before last waited all = All-pop P waiting before (Some last) waited all
 
--- one more here that is at the same intake
-pub more_here : (id : TableId) (here more : List Seated) (mine got : Seated) → more ≡ here ++ got ∷ [] → AreAt id here → mine.seat.intake ≡ id → WentOn mine got → AreAt id more
-more_here id here more mine got put all at went =
-    All-same (λ (p : Seated). p.seat.intake ≡ id) more (here ++ got ∷ []) put (All-push (λ (p : Seated). p.seat.intake ≡ id) here got all (went.seat.intake ∙ at))
+-- a seated worker that went on is at the same intake
+pub still_at : (id : TableId) (mine got : Seated) → mine.seat.intake ≡ id → WentOn mine got → got.seat.intake ≡ id
+still_at id mine got at went = went.seat.intake ∙ at
 
 -- where seated workers went on, so did the last, and those before it
 split_last : (xs ys : List Seated) (x y : Seated) → AllZip WentOn (xs ++ x ∷ []) (ys ++ y ∷ []) → AllZip WentOn xs ys × WentOn x y

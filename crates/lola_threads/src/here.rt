@@ -1,131 +1,173 @@
-//! The sources that no thread could be started for: the calling thread gives them turns, the one with the least row first.
-ghost use Rattle.std.specs.Prelude.{◌≡◌, ◌<◌, ◌≤◌, length, vec_capacity};
-ghost use Rattle.std.specs.List.{AllZip, insert};
-ghost use Rattle.lola_threads.specs.Seated.{AreAt, WentOn};
+//! The sources that the calling thread reads: files, the only source of a run, and those that no thread could be started for. The
+//! one with the least row hands it in first.
+ghost use Rattle.std.specs.Prelude.{◌≡◌, ◌<◌, length, vec_capacity};
+ghost use Rattle.std.specs.List.{AllZip};
+ghost use Rattle.lola_threads.specs.Seated.{WentOn};
 
-use crate::seated::SeatedWorker;
-use lola_intake::intake::Intake;
+use crate::desk::DeskWorker;
+use lola_board::Board;
 use lola_port::{Gate, Source};
 use std::sync::Wait;
-use std::thread;
 
-/// How long the calling thread waits for the bytes of a source here, where it has nothing else to do, in milliseconds.
+/// How long the calling thread waits for the lines of a source here, where it has nothing else to do, in milliseconds.
 const MOMENT: u16 = 1;
 
-// Puts a seated worker at its place, for which there is room.
-fn put_back<S: Source>(here: &mut Vec<SeatedWorker<S>>, place: usize, seated: SeatedWorker<S>)
-    requires within { place ≤ length here.old.items }
-    requires room { length here.old.items < vec_capacity here.old }
-    ensures put { here.new.items ≡ insert here.old.items place seated }
-    ensures room { vec_capacity here.new ≡ vec_capacity here.old }
-{
-    if let Err(_) = here.insert(place, seated) {
-        unreachable!()
-    }
+/// How many rows are handed in here before the rows that are in are taken.
+const MOST_ROWS: u32 = 256;
+
+// Which source here has the least row in hand, and up to which stamp and source its rows remain the least.
+#[derive(Clone, Copy)]
+struct First {
+    place: usize,
+    limit: (u64, u32),
 }
 
-// The seated worker at a place looks at its next row, if it can.
-fn look_one<S: Source, R: Wait + Sync>(
-    rt: &R,
-    intake: &Intake,
-    here: &mut Vec<SeatedWorker<S>>,
-    place: usize,
-)
-    requires within { place < length here.old.items }
-    requires here { AreAt intake.now here.old.items }
+// The source at a place looks at its next row.
+fn look_one<S: Source, R: Wait + Sync>(here: &mut Vec<DeskWorker<'_, S, R>>, place: usize)
+    requires { place < length here.old.items }
     ensures here { AllZip WentOn here.old.items here.new.items }
     ensures room { vec_capacity here.new ≡ vec_capacity here.old }
 {
-    if !here[place].can_look() {
-        return;
-    }
-    let seated = here.remove(place).look(rt, intake);
-    put_back(here, place, seated);
+    here[place].look();
 }
 
-// The one at a place has a turn.
+// The source at a place has a turn. It tells whether a row was handed in.
 fn turn_one<S: Source, R: Wait + Sync, G: Gate>(
-    rt: &R,
-    intake: &Intake,
-    here: &mut Vec<SeatedWorker<S>>,
+    here: &mut Vec<DeskWorker<'_, S, R>>,
     place: usize,
     gate: &G,
-)
-    requires within { place < length here.old.items }
-    requires here { AreAt intake.now here.old.items }
+) -> bool
+    requires { place < length here.old.items }
     ensures here { AllZip WentOn here.old.items here.new.items }
     ensures room { vec_capacity here.new ≡ vec_capacity here.old }
 {
-    let seated = here.remove(place).turn(rt, intake, gate);
-    put_back(here, place, seated);
+    here[place].turn(gate)
 }
 
-// All look at their next rows that can.
-fn look_all<S: Source, R: Wait + Sync>(rt: &R, intake: &Intake, here: &mut Vec<SeatedWorker<S>>)
-    requires { AreAt intake.now here.old.items }
+// What the threads of other sources are told of one here: the row that it has in hand, or that nobody is to wait for it, since it has
+// ended, or its next row is to be waited for.
+fn tell<S: Source, R: Wait + Sync>(board: &Board, worker: &DeskWorker<'_, S, R>) {
+    match worker.waiting() {
+        Some(stamp) => board.has_row(worker.source(), stamp),
+        None => {
+            if !worker.is_at_hand() {
+                board.step_aside(worker.source());
+            }
+        }
+    }
+}
+
+// All look at their next rows whose rows can be read at once.
+fn look_all<S: Source, R: Wait + Sync>(board: &Board, here: &mut Vec<DeskWorker<'_, S, R>>)
     ensures here { AllZip WentOn here.old.items here.new.items }
     ensures room { vec_capacity here.new ≡ vec_capacity here.old }
 {
     for place in 0..here.len() {
-        look_one(rt, intake, here, place);
+        if here[place].comes_within(0) {
+            look_one(here, place);
+            tell(board, &here[place]);
+        }
     }
 }
 
-// The place of the one whose row is the least of those that wait, in the order of stamp and source; their number, where none waits.
-fn least<S: Source>(here: &[SeatedWorker<S>]) -> usize {
+// Whether a row comes before another, in the order of stamp and source.
+fn is_before(one: (u64, u32), other: (u64, u32)) -> bool {
+    one.0 < other.0 || (one.0 == other.0 && one.1 < other.1)
+}
+
+// The one with the least of the rows in hand; the number of all, where none has one.
+fn least<S: Source, R: Wait + Sync>(here: &[DeskWorker<'_, S, R>]) -> First {
     let mut place = here.len();
     let mut first = (u64::MAX, u32::MAX);
-    for (at, seated) in here.iter().enumerate() {
-        if let Some(stamp) = seated.waiting() {
-            let source = seated.source();
-            if stamp < first.0 || (stamp == first.0 && source < first.1) {
-                first = (stamp, source);
+    let mut limit = (u64::MAX, u32::MAX);
+    for (at, worker) in here.iter().enumerate() {
+        if let Some(stamp) = worker.waiting() {
+            let row = (stamp, worker.source());
+            if is_before(row, first) {
+                limit = first;
+                first = row;
                 place = at;
+            } else if is_before(row, limit) {
+                limit = row;
             }
         }
     }
-    place
+    First { place, limit }
 }
 
-/// All here look at their next rows that can without waiting for anybody, and the one with the least row has a turn.
-pub fn turn_here<S: Source, R: Wait + Sync, G: Gate>(
-    rt: &R,
-    intake: &Intake,
-    mut here: Vec<SeatedWorker<S>>,
+// The one that has the least of the rows in hand after this one has handed one in.
+fn next_least<S: Source, R: Wait + Sync>(here: &[DeskWorker<'_, S, R>], first: First) -> First {
+    if let Some(worker) = here.get(first.place) {
+        if let Some(stamp) = worker.waiting() {
+            if is_before((stamp, worker.source()), first.limit) {
+                return first;
+            }
+        }
+    }
+    least(here)
+}
+
+// Whether no thread has a row in hand that comes before the one of the source at a place, if it has one.
+fn is_turn_of<S: Source, R: Wait + Sync>(
+    board: &Board,
+    here: &[DeskWorker<'_, S, R>],
+    place: usize,
+) -> bool {
+    match here.get(place) {
+        Some(worker) => board.is_first(worker.source()),
+        None => false,
+    }
+}
+
+/// All here look at their next rows that can without waiting for anybody, and rows are handed in, the least first, until one
+/// comes later than that of another thread, or there is no room, or many are in.
+pub fn turn_here<'a, S: Source, R: Wait + Sync, G: Gate>(
+    board: &Board,
+    mut here: Vec<DeskWorker<'a, S, R>>,
     gate: &G,
-) -> Vec<SeatedWorker<S>>
-    requires { AreAt intake.now here.items }
+) -> Vec<DeskWorker<'a, S, R>>
     ensures here { AllZip WentOn here.items result.items }
     ensures room { vec_capacity result ≡ vec_capacity here }
 {
-    look_all(rt, intake, &mut here);
-    let place = least(&here);
-    if place < here.len() {
-        turn_one(rt, intake, &mut here, place, gate);
+    look_all(board, &mut here);
+    let mut first = least(&here);
+    for _ in 0..MOST_ROWS {
+        let place = first.place;
+        if place >= here.len() || !is_turn_of(board, &here, place) {
+            break;
+        }
+        if !turn_one(&mut here, place, gate) {
+            break;
+        }
+        if here[place].is_at_hand() {
+            look_one(&mut here, place);
+        }
+        tell(board, &here[place]);
+        first = next_least(&here, first);
     }
     here
 }
 
-/// Whether no source here has rows to come.
-pub fn have_ended<S: Source>(here: &[SeatedWorker<S>]) -> bool {
-    for seated in here {
-        if !seated.has_ended() {
+/// Whether all that is to be done here waits for other threads: no source has rows to come, or one has a row in hand.
+pub fn waits_for_others<S: Source, R: Wait + Sync>(here: &[DeskWorker<'_, S, R>]) -> bool {
+    for worker in here {
+        if worker.waiting().is_some() {
+            return true;
+        }
+    }
+    for worker in here {
+        if !worker.has_ended() {
             return false;
         }
     }
     true
 }
 
-/// Lets other threads run. Where no row waits here, the first source that has not ended is silent, and its bytes are waited for a
-/// moment.
-pub fn rest<S: Source>(here: &[SeatedWorker<S>]) {
-    if least(here) < here.len() {
-        thread::yield_now();
-        return;
-    }
-    for seated in here {
-        if !seated.has_ended() {
-            seated.wait_for_bytes(MOMENT);
+/// Waits a moment for the lines of the first source here that has not ended.
+pub fn rest<S: Source, R: Wait + Sync>(here: &[DeskWorker<'_, S, R>]) {
+    for worker in here {
+        if !worker.has_ended() {
+            worker.comes_within(MOMENT);
             return;
         }
     }

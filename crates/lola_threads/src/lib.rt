@@ -1,6 +1,7 @@
 //! Sources that are read on threads of their own, and the run of their rows on the calling thread.
 #![tactic(auto)]
 
+mod desk;
 mod fit;
 pub mod halt;
 mod here;

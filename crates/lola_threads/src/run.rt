@@ -35,7 +35,7 @@ use std::thread;
 use std::thread::Threads;
 
 /// The room that a run with threads takes before the first is started: the intake with its seats, the board at which the threads
-/// wait for each other, a flag for each source, room for the seated workers that wait, for those that no thread could be started for and for those that came back, and for what the
+/// wait for each other, a flag for each source, room for the seated workers that wait and for those that came back, and for what the
 /// intake has left at its end.
 #[derive(Drop)]
 struct Room<S: Source> {
@@ -45,7 +45,6 @@ struct Room<S: Source> {
     board: Board,
     flags: Vec<AtomicBool>,
     waiting: Vec<SeatedWorker<S>>,
-    here: Vec<SeatedWorker<S>>,
     back: Vec<SeatedWorker<S>>,
     left: Batch,
 }
@@ -64,13 +63,11 @@ impl<S: Source> Room<S> {
         ensures seats { IfOk result (λ room. AreNewSeats room.intake (setting count start) count room.seats.items) }
         ensures flags { IfOk result (λ room. length room.flags.items ≡ count) }
         ensures waiting { IfOk result (λ room. (room.waiting.items ≡ []) × (count ≤ vec_capacity room.waiting)) }
-        ensures here { IfOk result (λ room. (room.here.items ≡ []) × (count ≤ vec_capacity room.here)) }
         ensures back { IfOk result (λ room. (room.back.items ≡ []) × (count ≤ vec_capacity room.back)) }
         ensures left { IfOk result (λ room. room.left ≡ []) }
     {
         let places = count as usize;
         let waiting = Vec::with_capacity(alloc, places)?;
-        let here = Vec::with_capacity(alloc, places)?;
         let back = Vec::with_capacity(alloc, places)?;
         let flags = new_flags(alloc, count)?;
         let board = Board::create(alloc, count, processors)?;
@@ -85,7 +82,6 @@ impl<S: Source> Room<S> {
             board,
             flags,
             waiting,
-            here,
             back,
             left,
         })
@@ -111,6 +107,16 @@ fn new_flags(alloc: Global, count: u32) -> Result<Vec<AtomicBool>, Memory>
     Ok(flags)
 }
 
+// Asks that the bytes of a source be read ahead, unless they are waited for and the source is the only one: its reader then has
+// nothing else to do.
+fn read_ahead<S: Source>(worker: &mut SourceWorker<S>, is_only: bool)
+    ensures { worker.new ≡ worker.old }
+{
+    if !is_only || worker.answers_at_once() {
+        worker.read_ahead();
+    }
+}
+
 // Joins each worker with the seat of its source, the last first.
 fn seat_all<S: Source>(
     workers: &mut Vec<SourceWorker<S>>,
@@ -124,8 +130,10 @@ fn seat_all<S: Source>(
     ensures workers { (workers.new.items ≡ []) × (vec_capacity workers.new ≡ vec_capacity workers.old) }
     ensures seats { (seats.new.items ≡ []) × (vec_capacity seats.new ≡ vec_capacity seats.old) }
 {
-    while let Some(worker) = workers.pop() {
+    let is_only = workers.len() == 1;
+    while let Some(mut worker) = workers.pop() {
         if let Some(seat) = seats.pop() {
+            read_ahead(&mut worker, is_only);
             waiting.push_reserved(SeatedWorker::create(worker, seat));
         }
     }
@@ -202,6 +210,7 @@ fn settle<R: Threads + Sync, S: Source, K: Sink, G: Gate + Sync>(
 // Runs sources on threads of their own, with this room.
 fn run_room<R: Threads + Wait + Sync, S: Source + Send, K: Sink, T: Sink, G: Gate + Sync>(
     rt: &R,
+    alloc: Global,
     room: Room<S>,
     run: &mut Run,
     workers: Vec<SourceWorker<S>>,
@@ -215,7 +224,6 @@ fn run_room<R: Threads + Wait + Sync, S: Source + Send, K: Sink, T: Sink, G: Gat
     requires seats { AreNewSeats room.intake (setting (length workers.items) (keeping run.old).desk.option) (length workers.items) room.seats.items }
     requires flags { length room.flags.items ≡ length workers.items }
     requires waiting { (room.waiting.items ≡ []) × (length workers.items ≤ vec_capacity room.waiting) }
-    requires here { (room.here.items ≡ []) × (length workers.items ≤ vec_capacity room.here) }
     requires back { (room.back.items ≡ []) × (length workers.items ≤ vec_capacity room.back) }
     requires left { room.left ≡ [] }
     ensures run { EndsRun false result.1 (world (keeping run.old) (map supply_of workers.items) (K.state out.old) (T.state trace.old))
@@ -230,10 +238,12 @@ fn run_room<R: Threads + Wait + Sync, S: Source + Send, K: Sink, T: Sink, G: Gat
         board,
         flags,
         mut waiting,
-        here,
         back,
         mut left,
     } = room;
+    let Ok(here) = Vec::with_capacity(alloc, workers.len()) else {
+        return (workers, Err(Stop::Memory));
+    };
     let mut workers = workers;
     seat_all(&mut workers, &mut seats, &mut waiting);
     let (back, halted) = send_all(
@@ -245,10 +255,11 @@ fn run_room<R: Threads + Wait + Sync, S: Source + Send, K: Sink, T: Sink, G: Gat
     (workers, stopped)
 }
 
-/// Runs all rows of sources, each of which is read on a thread of its own, and then the deadlines at the last stamp, unless a row
-/// has a fault or the run was cut short. Rows are run in the order in which the threads hand them in, which may be any that keeps the
-/// order of each source; they do so in the order of stamp and source, as far as nobody has to wait for a source that is silent.
-/// Where no thread can be started for a source it is read by the calling thread. The workers come back as their turns left them.
+/// Runs all rows of sources, and then the deadlines at the last stamp, unless a row has a fault or the run was cut short. Each source that
+/// has to be waited for has a thread, which hands its rows in; those of files, the bytes of which are read ahead, and of the only source
+/// are handed in by the calling thread, and so are those of sources that no thread can be started for. Rows are run in the order in which they are
+/// handed in, which may be any that keeps the order of each source; it is that of stamp and source, as far as nobody has to wait for
+/// a source that is silent. The workers come back as their turns left them.
 pub fn run_in_threads<R: Threads + Wait + Sync, S: Source + Send, K: Sink, T: Sink, G: Gate + Sync>(
     rt: &R,
     alloc: Global,
@@ -269,7 +280,7 @@ pub fn run_in_threads<R: Threads + Wait + Sync, S: Source + Send, K: Sink, T: Si
 {
     let processors = processors(rt);
     match Room::create(alloc, run.plan(), workers.len() as u32, processors, start) {
-        Ok(room) => run_room(rt, room, run, workers, out, trace, gate),
+        Ok(room) => run_room(rt, alloc, room, run, workers, out, trace, gate),
         Err(_) => (workers, Err(Stop::Memory)),
     }
 }

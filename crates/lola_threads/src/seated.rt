@@ -11,8 +11,8 @@ use lola_seats::SeatDesk;
 use std::marker::Model;
 use std::sync::Wait;
 
-/// How long a thread waits for the bytes of its source before it looks whether the run was stopped, in milliseconds.
-const PIECE: u16 = 100;
+/// How long a thread waits for the lines of its source before it looks whether the run was stopped, in milliseconds.
+const PIECE: u16 = 800;
 
 /// A source's worker and its seat, which go together to the thread that reads the source.
 #[derive(Drop)]
@@ -76,8 +76,8 @@ fn look_at<S: Source, R: Wait + Sync>(
     worker.hold(desk)
 }
 
-// Looks at the next row of a source, or reads the heading before the first.
-fn begin_or_look_at<S: Source, R: Wait + Sync>(
+/// Looks at the next row of a source, or reads the heading before the first.
+pub fn begin_or_look_at<S: Source, R: Wait + Sync>(
     worker: &mut SourceWorker<S>,
     desk: &mut SeatDesk<'_, R>,
 )
@@ -91,8 +91,8 @@ fn begin_or_look_at<S: Source, R: Wait + Sync>(
     }
 }
 
-// One turn of a source at its desk.
-fn turn_at<S: Source, R: Wait + Sync>(
+/// One turn of a source at its desk.
+pub fn turn_at<S: Source, R: Wait + Sync>(
     worker: &mut SourceWorker<S>,
     desk: &mut SeatDesk<'_, R>,
 ) -> Turn
@@ -217,57 +217,9 @@ impl<S: Source> SeatedWorker<S> {
         self.seat.source()
     }
 
-    /// Whether its worker has ended.
-    pub fn has_ended(&self) -> bool {
-        self.worker.end().is_some()
-    }
-
-    /// The stamp of the row that waits, if one does.
-    pub fn waiting(&self) -> Option<u64> {
-        self.worker.waiting()
-    }
-
-    /// Whether its next row can be looked at, and was not: a read of its source, if one is needed, waits for nobody.
-    pub fn can_look(&self) -> bool {
-        !self.has_ended()
-            && self.waiting().is_none()
-            && (self.worker.answers_at_once()
-                || self.worker.is_ready()
-                || self.worker.wait_for_bytes(0))
-    }
-
-    /// Waits until a read of its source would answer at once, for so many milliseconds at most.
-    pub fn wait_for_bytes(&self, milliseconds: u16) {
-        self.worker.wait_for_bytes(milliseconds);
-    }
-
-    /// Looks at the next row of the source, or reads the heading before the first.
-    pub fn look<R: Wait + Sync>(self, rt: &R, intake: &Intake) -> SeatedWorker<S>
-        requires { self.seat.intake ≡ intake.now }
-        ensures { WentOn self result }
-    {
-        let SeatedWorker { mut worker, seat } = self;
-        let mut desk = SeatDesk::create(rt, intake, seat);
-        begin_or_look_at(&mut worker, &mut desk);
-        SeatedWorker {
-            worker,
-            seat: desk.into_seat(),
-        }
-    }
-
-    /// One turn of the source. The gate is told before it.
-    pub fn turn<R: Wait + Sync, G: Gate>(self, rt: &R, intake: &Intake, gate: &G) -> SeatedWorker<S>
-        requires { self.seat.intake ≡ intake.now }
-        ensures { WentOn self result }
-    {
-        let SeatedWorker { mut worker, seat } = self;
-        gate.source_turn(seat.source());
-        let mut desk = SeatDesk::create(rt, intake, seat);
-        turn_at(&mut worker, &mut desk);
-        SeatedWorker {
-            worker,
-            seat: desk.into_seat(),
-        }
+    /// Whether each read of its source answers at once.
+    pub fn answers_at_once(&self) -> bool {
+        self.worker.answers_at_once()
     }
 
     /// All turns of the source, until its worker has ended, or until the run is stopped while the source is silent.

@@ -10,6 +10,7 @@ ghost use Rattle.lola_threads.specs.Joining.{HaveFlags};
 ghost use Rattle.lola_threads.specs.Seated.{AreAt, Seated, WentOn};
 ghost use Rattle.lola_threads.specs.Takings.{Halts, HasRun, IsReady, Place, place};
 
+use crate::desk::DeskWorker;
 use crate::halt::Halt;
 use crate::seated::SeatedWorker;
 use crate::taking::Taker;
@@ -44,8 +45,7 @@ pub struct ThreadContext<'s, R, G> {
     pub flags: &'s [AtomicBool],
 }
 
-// The work of a source's thread: all turns of the source, or none where no thread could be started. No thread waits for such a
-// source.
+// The work of a source's thread: all turns of the source, or none where no thread could be started.
 fn work<S: Source, R: Wait + Sync, G: Gate>(
     rt: &R,
     intake: &Intake,
@@ -58,13 +58,19 @@ fn work<S: Source, R: Wait + Sync, G: Gate>(
     ensures { WentOn seated result }
 {
     if flag.load(Ordering::SeqCst) {
-        board.step_aside(seated.source());
         return seated;
     }
     seated.run(rt, intake, gate, board)
 }
 
-// Starts a thread for a seated worker. Where none can be made, the flag of its source is set, and the seated worker comes back.
+// Whether the calling thread reads a source: nobody waits for its reads, or it is the only one. The threads that rows pass
+// through would cost more than they give.
+fn stays<S: Source>(seated: &SeatedWorker<S>, count: usize) -> bool {
+    count == 1 || seated.answers_at_once()
+}
+
+// Starts a thread for a seated worker. Where none is to be, or can be made, the seated worker comes back; in the second case the flag
+// of its source is set, and no thread waits for that source.
 fn start<'s, E, S: Source + Send + 's, R: Threads + Wait + Sync, G: Gate + Sync>(
     context: &ThreadContext<'s, R, G>,
     scope: &Scope<'s, E>,
@@ -82,7 +88,12 @@ fn start<'s, E, S: Source + Send + 's, R: Threads + Wait + Sync, G: Gate + Sync>
         board,
         flags,
     } = *context;
-    let flag = &flags[seated.source() as usize];
+    let source = seated.source();
+    if stays(&seated, flags.len()) {
+        board.reads_here(source);
+        return Err(seated);
+    }
+    let flag = &flags[source as usize];
     let promise = ComesBack(Snapshot::of(&seated));
     match scope.spawn_with(
         promise,
@@ -94,27 +105,32 @@ fn start<'s, E, S: Source + Send + 's, R: Threads + Wait + Sync, G: Gate + Sync>
         Ok(handle) => Ok(handle),
         Err(refused) => {
             flag.store(true, Ordering::SeqCst);
+            board.step_aside(source);
+            board.reads_here(source);
             let work = refused.value;
             Err(work())
         }
     }
 }
 
-// Moves the last of the seated workers here behind those that came back.
-fn move_last<S: Source>(here: &mut Vec<SeatedWorker<S>>, back: &mut Vec<SeatedWorker<S>>)
+// Moves the last of the workers here behind the seated workers that came back.
+fn move_last<S: Source, R: Wait + Sync>(
+    here: &mut Vec<DeskWorker<'_, S, R>>,
+    back: &mut Vec<SeatedWorker<S>>,
+)
     requires some { 0 < length here.old.items }
     requires room { length back.old.items < vec_capacity back.old }
     ensures moved { (last : Seated) × (here.old.items ≡ here.new.items ++ last ∷ []) × (back.new.items ≡ back.old.items ++ last ∷ []) }
     ensures room_here { vec_capacity here.new ≡ vec_capacity here.old }
     ensures room_back { vec_capacity back.new ≡ vec_capacity back.old }
 {
-    if let Some(seated) = here.pop() {
-        back.push_reserved(seated);
+    if let Some(worker) = here.pop() {
+        back.push_reserved(worker.into_seated());
     }
 }
 
 // Starts a thread for each of the seated workers that wait, the last first, and takes rows until all is done or the run is
-// stopped. One that no thread could be started for stays here meanwhile. All come back, in the order in which they waited.
+// stopped. One that gets no thread stays here meanwhile. All come back, in the order in which they waited.
 fn send_each<
     's,
     E,
@@ -127,16 +143,19 @@ fn send_each<
     context: &ThreadContext<'s, R, G>,
     scope: &Scope<'s, E>,
     waiting: Vec<SeatedWorker<S>>,
-    here: Vec<SeatedWorker<S>>,
+    here: Vec<DeskWorker<'s, S, R>>,
     back: Vec<SeatedWorker<S>>,
     taker: &mut Taker,
     run: &mut Run,
     out: &mut K,
     trace: &mut T,
-) -> (Vec<SeatedWorker<S>>, Vec<SeatedWorker<S>>, Result<(), Halt>)
+) -> (
+    Vec<DeskWorker<'s, S, R>>,
+    Vec<SeatedWorker<S>>,
+    Result<(), Halt>,
+)
     requires ready { IsReady taker.old context.now.intake.now (keeping run.old) }
     requires waiting { AreAt context.now.intake.now waiting.items }
-    requires here { AreAt context.now.intake.now here.items }
     requires flags { HaveFlags (length context.now.flags.now) waiting.items }
     requires room_here { length waiting.items + length here.items ≤ vec_capacity here }
     requires room_back { length waiting.items + length back.items ≤ vec_capacity back }
@@ -176,7 +195,7 @@ fn send_each<
         }
         Err(seated) => {
             let mut here = here;
-            here.push_reserved(seated);
+            here.push_reserved(DeskWorker::create(context.rt, context.intake, seated));
             let (mut here, mut back, halted) = send_each(
                 context, scope, waiting, here, back, taker, run, out, trace,
             );
@@ -191,16 +210,16 @@ fn take_back<V>(_lent: &mut V)
     ensures { _lent.new ≡ _lent.old }
 {}
 
-/// Starts a thread for each of the seated workers that wait, the last first, takes rows until all is done or the run is stopped, and joins
-/// all threads. The seated workers come back in the order in which they waited.
-pub fn send_all<S: Source + Send, R: Threads + Wait + Sync, K: Sink, T: Sink, G: Gate + Sync>(
-    rt: &R,
-    intake: &Intake,
-    gate: &G,
-    board: &Board,
-    flags: &[AtomicBool],
+/// Starts a thread for each of the seated workers that wait and has to be waited for, the last first, takes rows, and reads the other
+/// sources, until all is done or the run is stopped, and joins all threads. The seated workers come back in the order in which they waited.
+pub fn send_all<'s, S: Source + Send, R: Threads + Wait + Sync, K: Sink, T: Sink, G: Gate + Sync>(
+    rt: &'s R,
+    intake: &'s Intake,
+    gate: &'s G,
+    board: &'s Board,
+    flags: &'s [AtomicBool],
     waiting: Vec<SeatedWorker<S>>,
-    here: Vec<SeatedWorker<S>>,
+    here: Vec<DeskWorker<'s, S, R>>,
     back: Vec<SeatedWorker<S>>,
     taker: &mut Taker,
     run: &mut Run,

@@ -9,13 +9,13 @@ ghost use Rattle.lola_intake.specs.Intakes.{AreSeatsOf, Whole};
 ghost use Rattle.lola_seats.specs.Seating.{IsSameSeat};
 ghost use Rattle.lola_run.specs.Verdicts.{AreOfSources};
 ghost use Rattle.lola_run.specs.Running.{HasRoom, IsGoing, IsNext, IsRowFor, IsSetAs, keeping};
-ghost use Rattle.lola_threads.specs.Seated.{AreAt, WentOn};
+ghost use Rattle.lola_threads.specs.Seated.{WentOn};
 ghost use Rattle.lola_threads.specs.Takings.{GoesOn, Halts, HasRun, IsReady, IsUnderWay, Place, RunsOne, place, was_taken};
 
+use crate::desk::DeskWorker;
 use crate::fit::Inputs;
 use crate::halt::Halt;
-use crate::here::{have_ended, rest, turn_here};
-use crate::seated::SeatedWorker;
+use crate::here::{rest, turn_here, waits_for_others};
 use lola_board::Board;
 use lola_intake::intake::Intake;
 use lola_intake::seats::{EngineSeat, SourceSeat};
@@ -116,12 +116,17 @@ fn is_all_done(take: Take) -> bool
 }
 
 // What follows a take: rows leave room for others. Where there was nothing yet, the thread sleeps until a row is in, unless sources here
-// have rows to come.
-fn rest_after<S: Source, R: Wait>(rt: &R, board: &Board, here: &[SeatedWorker<S>], take: Take) {
+// may have rows to come that no other thread is to be waited for.
+fn rest_after<S: Source, R: Wait + Sync>(
+    rt: &R,
+    board: &Board,
+    here: &[DeskWorker<'_, S, R>],
+    take: Take,
+) {
     match take {
         Take::Rows(_) => board.rows_are_out(),
         Take::Nothing => {
-            if have_ended(here) {
+            if waits_for_others(here) {
                 board.wait_for_rows(rt);
             } else {
                 rest(here);
@@ -165,7 +170,7 @@ impl Taker {
         rt: &R,
         intake: &Intake,
         board: &Board,
-        here: &[SeatedWorker<S>],
+        here: &[DeskWorker<'_, S, R>],
         run: &mut Run,
         out: &mut K,
         trace: &mut T,
@@ -191,22 +196,20 @@ impl Taker {
         Ok(is_all_done(take))
     }
 
-    /// Takes rows out of the intake and runs them, until all sources have finished and all is taken, with a turn of a source that
-    /// no thread could be started for before each take. Where something ends it sooner, the intake is closed, and the threads
-    /// that wait at the board are told so.
-    pub fn take_all<S: Source, R: Threads + Wait + Sync, K: Sink, T: Sink, G: Gate + Sync>(
+    /// Takes rows out of the intake and runs them, until all sources have finished and all is taken; the sources here hand rows in
+    /// before each take. Where something ends it sooner, the intake is closed, and the threads that wait at the board are told so.
+    pub fn take_all<'a, S: Source, R: Threads + Wait + Sync, K: Sink, T: Sink, G: Gate + Sync>(
         &mut self,
         rt: &R,
         intake: &Intake,
         board: &Board,
-        here: Vec<SeatedWorker<S>>,
+        here: Vec<DeskWorker<'a, S, R>>,
         run: &mut Run,
         out: &mut K,
         trace: &mut T,
         gate: &G,
-    ) -> (Vec<SeatedWorker<S>>, Result<(), Halt>)
+    ) -> (Vec<DeskWorker<'a, S, R>>, Result<(), Halt>)
         requires ready { IsReady self.old intake.now (keeping run.old) }
-        requires here { AreAt intake.now here.items }
         requires run { (first : Place) × HasRun first (taken self.old.seat.mine) (place (keeping run.old) (K.state out.old) (T.state trace.old)) }
         ensures halts { (first : Place) → HasRun first (taken self.old.seat.mine) (place (keeping run.old) (K.state out.old) (T.state trace.old)) → AreOfSources self.old.inputs.count (taken self.old.seat.mine)
             → Halts result.1 self.old.inputs.count first (taken self.new.seat.mine) (place (keeping run.new) (K.state out.new) (T.state trace.new)) }
@@ -219,7 +222,7 @@ impl Taker {
     {
         let mut here = here;
         for _ in rt.forever() {
-            here = turn_here(rt, intake, here, gate);
+            here = turn_here(board, here, gate);
             match self.take_once(rt, intake, board, &here, run, out, trace, gate) {
                 Ok(false) => {}
                 Ok(true) => return (here, Ok(())),

@@ -1,7 +1,7 @@
 use Rattle.std.proofs.Common.{◌≡◌, ◌<◌, arith, length, subst}
 use Rattle.lola_threads.specs.Seated.{WentOn}
 use Rattle.lola_threads.specs.Seated.{Seated}
-use Rattle.lola_threads.proofs.SentWorkers.{came_back, more_here, of_last, room_left, some_here, stayed_here}
+use Rattle.lola_threads.proofs.SentWorkers.{came_back, of_last, room_left, some_here, stayed_here}
 use Rattle.lola_threads.proofs.Passing.{goes_on_twice}
 use Rattle.lola_threads.proofs.sending.+send_each.Goals as goal
 
@@ -36,12 +36,6 @@ returns-in-Ok-clause-back g t c =
 pub send_each-here-requires-in-Err-clause-waiting : goal.send_each-here-requires-in-Err-clause-waiting
 send_each-here-requires-in-Err-clause-waiting g t c κs within =
     (of_last (λ (p : Seated). p.seat.intake ≡ c.args.context.now.intake.now) c.args.waiting.items c.pop.new.self.items c.in-Some.seated c.in-Some.ensures.items c.requires.waiting).0
-
-pub send_each-here-requires-in-Err-clause-here : goal.send_each-here-requires-in-Err-clause-here
-send_each-here-requires-in-Err-clause-here g t c κs within =
-    more_here c.args.context.now.intake.now c.args.here.items c.push_reserved-in-Err.new.self.items c.in-Some.seated c.in-Err.seated c.push_reserved-in-Err.ensures.items c.requires.here
-    (of_last (λ (p : Seated). p.seat.intake ≡ c.args.context.now.intake.now) c.args.waiting.items c.pop.new.self.items c.in-Some.seated c.in-Some.ensures.items c.requires.waiting).1
-    c.in-Err.ensures.kept
 
 pub send_each-here-requires-in-Err-clause-flags : goal.send_each-here-requires-in-Err-clause-flags
 send_each-here-requires-in-Err-clause-flags g t c κs within =

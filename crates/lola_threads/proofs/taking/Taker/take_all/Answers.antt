@@ -4,7 +4,7 @@ use Rattle.lola_intake.specs.declared.event.Setting.{Setting}
 use Rattle.lola_intake.specs.Histories.{taken}
 use Rattle.lola_run.specs.Running.{keeping}
 use Rattle.lola_threads.specs.Takings.{Halts, InputsOf, Taking, place}
-use Rattle.lola_threads.proofs.Passing.{all_go_on_twice, all_stay, still_at}
+use Rattle.lola_threads.proofs.Passing.{all_go_on_twice, all_stay}
 use Rattle.lola_threads.proofs.Took.{closing_took, halts_on, same_seat_twice, still_seat}
 use Rattle.lola_threads.proofs.taking.Taker.take_all.Goals as goal
 
@@ -20,9 +20,6 @@ loop-init g c = record {
   run = c.requires.run;
   halts = λ first run sources. (run, sources);
 }
-
-pub turn_here-here-requires-after_bounds : goal.turn_here-here-requires-after_bounds
-turn_here-here-requires-after_bounds g c κs within = still_at c.args.intake.now c.args.here.items c.loop.here.items c.loop.invariant.here c.requires.here
 
 pub returns-in-Ok-true-clause-halts : goal.returns-in-Ok-true-clause-halts
 returns-in-Ok-true-clause-halts g c = λ first run sources.

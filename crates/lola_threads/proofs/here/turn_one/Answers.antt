@@ -1,7 +1,0 @@
-use Rattle.lola_threads.proofs.Passing.{put_back_on}
-use Rattle.lola_threads.proofs.here.turn_one.Goals as goal
-
-pub returns-clause-here : goal.returns-clause-here
-returns-clause-here g c =
-    put_back_on c.args.here.now.items c.remove.new.self.items c.put_back.new.here.items c.args.place c.remove.result c.turn-seated.result
-    c.requires.within c.remove.ensures.value c.remove.ensures.items c.turn-seated.ensures c.put_back.ensures.put

@@ -1,0 +1,104 @@
+//! A source's worker at its desk, on the calling thread.
+ghost use Rattle.std.specs.Prelude.{◌≡◌};
+ghost use Rattle.lola_threads.specs.Seated.{WentOn};
+
+use crate::seated::{SeatedWorker, begin_or_look_at, turn_at};
+use lola_feed::worker::{SourceWorker, Turn};
+use lola_intake::intake::Intake;
+use lola_port::{Gate, Source};
+use lola_seats::SeatDesk;
+use std::marker::Model;
+use std::sync::Wait;
+
+/// A source's worker at the desk of its seat, for a source that the calling thread reads. Contracts see the worker and its seat.
+#[derive(Drop)]
+pub struct DeskWorker<'a, S: Source, R: Wait + Sync> {
+    worker: SourceWorker<S>,
+    desk: SeatDesk<'a, R>,
+    source: u32,
+}
+
+impl<'a, S: Source, R: Wait + Sync> Model for DeskWorker<'a, S, R> {
+    ghost use Rattle.std.specs.Prelude.{◌≡◌};
+    ghost use Rattle.lola_threads.specs.Seated.{Seated};
+
+    ghost Value = { Seated };
+
+    ghost view = { λ p. record { working = p.worker; seat = p.desk } };
+
+    ghost invariant = { λ p. p.worker.reader.shape.index ≡ p.desk.source };
+}
+
+impl<'a, S: Source, R: Wait + Sync> DeskWorker<'a, S, R> {
+    /// A seated worker at the desk of its seat.
+    pub fn create(rt: &'a R, intake: &'a Intake, seated: SeatedWorker<S>) -> DeskWorker<'a, S, R>
+        requires { seated.seat.intake ≡ intake.now }
+        ensures { result ≡ seated }
+    {
+        let source = seated.source();
+        let (worker, seat) = seated.into_parts();
+        DeskWorker {
+            worker,
+            desk: SeatDesk::create(rt, intake, seat),
+            source,
+        }
+    }
+
+    /// The worker with its seat.
+    pub fn into_seated(self) -> SeatedWorker<S>
+        ensures { result ≡ self }
+    {
+        let DeskWorker {
+            worker,
+            desk,
+            source: _source,
+        } = self;
+        SeatedWorker::create(worker, desk.into_seat())
+    }
+
+    /// The number of its source.
+    pub fn source(&self) -> u32 {
+        self.source
+    }
+
+    /// Whether its worker has ended.
+    pub fn has_ended(&self) -> bool {
+        self.worker.end().is_some()
+    }
+
+    /// The stamp of the row that waits, if one does.
+    pub fn waiting(&self) -> Option<u64> {
+        self.worker.waiting()
+    }
+
+    /// Whether its next row is to be looked at, and a read of its source, if one is needed, waits for nobody.
+    pub fn is_at_hand(&self) -> bool {
+        !self.has_ended()
+            && self.waiting().is_none()
+            && (self.worker.answers_at_once() || self.worker.is_ready())
+    }
+
+    /// Whether its next row is to be looked at, and can be after so many milliseconds at most.
+    pub fn comes_within(&self, milliseconds: u16) -> bool {
+        !self.has_ended()
+            && self.waiting().is_none()
+            && (self.worker.answers_at_once()
+                || self.worker.is_ready()
+                || self.worker.wait_for_bytes(milliseconds))
+    }
+
+    /// Looks at the next row of the source, or reads the heading before the first.
+    pub fn look(&mut self)
+        ensures { WentOn self.old self.new }
+    {
+        begin_or_look_at(&mut self.worker, &mut self.desk);
+    }
+
+    /// One turn of the source. The gate is told before it. It tells whether a row was handed in.
+    pub fn turn<G: Gate>(&mut self, gate: &G) -> bool
+        ensures { WentOn self.old self.new }
+    {
+        gate.source_turn(self.source);
+        matches!(turn_at(&mut self.worker, &mut self.desk), Turn::Moved)
+    }
+}
