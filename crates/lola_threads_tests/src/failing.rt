@@ -1,4 +1,4 @@
-//! A source whose reads fail behind a row that has a fault: on a thread of its own it may have read on.
+//! A source whose reads fail behind a row that has a fault: where it has a thread of its own, beside another source, it may have read on.
 ghost use Rattle.std.specs.Prelude.{◌≡◌, IfOk};
 
 use lola_monitor::run_monitor;
@@ -85,7 +85,7 @@ impl<'a> Gate for FailureGate<'a> {
     fn step_done(&self, _bounded: bool) {}
 }
 
-/// A shelf with a specification and a source whose first row has a fault, and whose second read, behind that row, fails.
+/// A shelf with a specification, a source whose first row has a fault, and whose second read, behind that row, fails, and one without rows.
 fn shelf_of(alloc: Global) -> Result<MemoryShelf, Memory>
     ensures { IfOk result (λ shelf. shelf.out ≡ 0) }
 {
@@ -93,6 +93,7 @@ fn shelf_of(alloc: Global) -> Result<MemoryShelf, Memory>
     let mut shelf = MemoryShelf::create(alloc);
     shelf.add("spec", specification, 512, &[])?;
     shelf.add("first", b"time,a\n0,0\n1,1\n".as_slice(), 11, &[1])?;
+    shelf.add("second", b"time,a\n".as_slice(), 64, &[])?;
     Ok(shelf)
 }
 
@@ -129,10 +130,10 @@ fn meets_fault<R: Threads + Wait + Sync, F: Shelf, G: Gate + Sync>(
     )
 }
 
-/// How often the source that was asked for behind the specification has failed.
+/// How often the source that was asked for first behind the specification has failed.
 fn failures(shelf: &MemoryShelf) -> Option<u64> {
     match shelf.asks() {
-        [_, ask] => Some(ask.count),
+        [_, ask, ..] => Some(ask.count),
         _ => None,
     }
 }
@@ -150,7 +151,7 @@ fn source_fails_behind_its_fault(rt: HostRuntime) -> Result<(), Fail> {
         shelf: shelf_of(rt.alloc())?,
         failed: &failed,
     };
-    let words = ["lolamon", "run", "spec", "first"];
+    let words = ["lolamon", "run", "spec", "first", "second"];
     let met = meets_fault(&rt, rt.alloc(), &words, &mut watched, &gate)?;
     assert!(rt; met && gate.held.load(Ordering::SeqCst));
     assert_eq!(rt; failures(&watched.shelf), Some(1));

@@ -4,6 +4,8 @@
 #[cfg(test)]
 mod bounded;
 #[cfg(test)]
+mod by_time;
+#[cfg(test)]
 mod drills;
 #[cfg(test)]
 mod failing;
