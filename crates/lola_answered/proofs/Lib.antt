@@ -1,0 +1,3 @@
+mod FullFilled
+mod RatedStreams
+mod Phases
