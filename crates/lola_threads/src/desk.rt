@@ -3,6 +3,7 @@ ghost use Rattle.std.specs.Prelude.{◌≡◌};
 ghost use Rattle.lola_threads.specs.Seated.{WentOn};
 
 use crate::seated::{SeatedWorker, begin_or_look_at, turn_at};
+use lola_board::Board;
 use lola_feed::worker::{SourceWorker, Turn};
 use lola_intake::intake::Intake;
 use lola_port::{Gate, Source};
@@ -46,7 +47,7 @@ impl<'a, S: Source, R: Wait + Sync> DeskWorker<'a, S, R> {
 
     /// The worker with its seat.
     pub fn into_seated(self) -> SeatedWorker<S>
-        ensures { result ≡ self }
+        ensures { result ≡ self.entry }
     {
         let DeskWorker {
             worker,
@@ -71,8 +72,8 @@ impl<'a, S: Source, R: Wait + Sync> DeskWorker<'a, S, R> {
         self.worker.waiting()
     }
 
-    /// Whether its next row is to be looked at, and a read of its source, if one is needed, waits for nobody.
-    pub fn is_at_hand(&self) -> bool {
+    // Whether its next row is to be looked at, and a read of its source, if one is needed, waits for nobody.
+    fn is_at_hand(&self) -> bool {
         !self.has_ended()
             && self.waiting().is_none()
             && (self.worker.answers_at_once() || self.worker.is_ready())
@@ -87,18 +88,55 @@ impl<'a, S: Source, R: Wait + Sync> DeskWorker<'a, S, R> {
                 || self.worker.wait_for_bytes(milliseconds))
     }
 
-    /// Looks at the next row of the source, or reads the heading before the first.
-    pub fn look(&mut self)
+    // What other threads are told of it: the row that it has in hand, or that nobody is to wait for it, since it has ended, or its
+    // next row is to be waited for.
+    fn tell(&self, board: &Board) {
+        match self.waiting() {
+            Some(stamp) => board.has_row(self.source, stamp),
+            None => {
+                if !self.is_at_hand() {
+                    board.step_aside(self.source);
+                }
+            }
+        }
+    }
+
+    // Looks at the next row of the source, or reads the heading before the first.
+    fn look(&mut self, board: &Board)
         ensures { WentOn self.old self.new }
     {
         begin_or_look_at(&mut self.worker, &mut self.desk);
+        self.tell(board);
     }
 
-    /// One turn of the source. The gate is told before it. It tells whether a row was handed in.
-    pub fn turn<G: Gate>(&mut self, gate: &G) -> bool
+    /// Looks at the next row of the source, where it was not looked at and can be read at once.
+    pub fn look_ahead(&mut self, board: &Board)
+        ensures { WentOn self.old self.new }
+    {
+        if self.comes_within(0) {
+            self.look(board);
+        }
+    }
+
+    // One turn of the source. It tells whether a row was handed in.
+    fn hand_in(&mut self) -> bool
+        ensures { WentOn self.old self.new }
+    {
+        matches!(turn_at(&mut self.worker, &mut self.desk), Turn::Moved)
+    }
+
+    /// One turn of the source, and a look at its next row where that is at hand. The gate is told before the turn. It tells whether a
+    /// row was handed in.
+    pub fn turn<G: Gate>(&mut self, board: &Board, gate: &G) -> bool
         ensures { WentOn self.old self.new }
     {
         gate.source_turn(self.source);
-        matches!(turn_at(&mut self.worker, &mut self.desk), Turn::Moved)
+        let is_in = self.hand_in();
+        if is_in && self.is_at_hand() {
+            self.look(board);
+        } else {
+            self.tell(board);
+        }
+        is_in
     }
 }

@@ -22,17 +22,22 @@ struct First {
     limit: (u64, u32),
 }
 
-// The source at a place looks at its next row.
-fn look_one<S: Source, R: Wait + Sync>(here: &mut Vec<DeskWorker<'_, S, R>>, place: usize)
+// The source at a place looks at its next row, where it can be read at once.
+fn look_one<S: Source, R: Wait + Sync>(
+    board: &Board,
+    here: &mut Vec<DeskWorker<'_, S, R>>,
+    place: usize,
+)
     requires { place < length here.old.items }
     ensures here { AllZip WentOn here.old.items here.new.items }
     ensures room { vec_capacity here.new ≡ vec_capacity here.old }
 {
-    here[place].look();
+    here[place].look_ahead(board);
 }
 
 // The source at a place has a turn. It tells whether a row was handed in.
 fn turn_one<S: Source, R: Wait + Sync, G: Gate>(
+    board: &Board,
     here: &mut Vec<DeskWorker<'_, S, R>>,
     place: usize,
     gate: &G,
@@ -41,20 +46,7 @@ fn turn_one<S: Source, R: Wait + Sync, G: Gate>(
     ensures here { AllZip WentOn here.old.items here.new.items }
     ensures room { vec_capacity here.new ≡ vec_capacity here.old }
 {
-    here[place].turn(gate)
-}
-
-// What the threads of other sources are told of one here: the row that it has in hand, or that nobody is to wait for it, since it has
-// ended, or its next row is to be waited for.
-fn tell<S: Source, R: Wait + Sync>(board: &Board, worker: &DeskWorker<'_, S, R>) {
-    match worker.waiting() {
-        Some(stamp) => board.has_row(worker.source(), stamp),
-        None => {
-            if !worker.is_at_hand() {
-                board.step_aside(worker.source());
-            }
-        }
-    }
+    here[place].turn(board, gate)
 }
 
 // All look at their next rows whose rows can be read at once.
@@ -63,10 +55,7 @@ fn look_all<S: Source, R: Wait + Sync>(board: &Board, here: &mut Vec<DeskWorker<
     ensures room { vec_capacity here.new ≡ vec_capacity here.old }
 {
     for place in 0..here.len() {
-        if here[place].comes_within(0) {
-            look_one(here, place);
-            tell(board, &here[place]);
-        }
+        look_one(board, here, place);
     }
 }
 
@@ -119,33 +108,58 @@ fn is_turn_of<S: Source, R: Wait + Sync>(
     }
 }
 
+// Hands in a row of the one that has the least, unless that comes later than one of another thread, and tells who has the least then. None
+// where no row was handed in.
+fn hand_in<S: Source, R: Wait + Sync, G: Gate>(
+    board: &Board,
+    here: &mut Vec<DeskWorker<'_, S, R>>,
+    first: First,
+    gate: &G,
+) -> Option<First>
+    ensures here { AllZip WentOn here.old.items here.new.items }
+    ensures room { vec_capacity here.new ≡ vec_capacity here.old }
+{
+    let place = first.place;
+    if place >= here.len() || !is_turn_of(board, here, place) {
+        return None;
+    }
+    if turn_one(board, here, place, gate) {
+        Some(next_least(here, first))
+    } else {
+        None
+    }
+}
+
+// Hands rows in, until one comes later than that of another thread, or there is no room, or many are in.
+fn hand_in_many<S: Source, R: Wait + Sync, G: Gate>(
+    board: &Board,
+    here: &mut Vec<DeskWorker<'_, S, R>>,
+    gate: &G,
+)
+    ensures here { AllZip WentOn here.old.items here.new.items }
+    ensures room { vec_capacity here.new ≡ vec_capacity here.old }
+{
+    let mut first = least(here);
+    for _ in 0..MOST_ROWS {
+        match hand_in(board, here, first, gate) {
+            Some(next) => first = next,
+            None => return,
+        }
+    }
+}
+
 /// All here look at their next rows that can without waiting for anybody, and rows are handed in, the least first, until one
 /// comes later than that of another thread, or there is no room, or many are in.
-pub fn turn_here<'a, S: Source, R: Wait + Sync, G: Gate>(
+pub fn turn_here<S: Source, R: Wait + Sync, G: Gate>(
     board: &Board,
-    mut here: Vec<DeskWorker<'a, S, R>>,
+    here: &mut Vec<DeskWorker<'_, S, R>>,
     gate: &G,
-) -> Vec<DeskWorker<'a, S, R>>
-    ensures here { AllZip WentOn here.items result.items }
-    ensures room { vec_capacity result ≡ vec_capacity here }
+)
+    ensures here { AllZip WentOn here.old.items here.new.items }
+    ensures room { vec_capacity here.new ≡ vec_capacity here.old }
 {
-    look_all(board, &mut here);
-    let mut first = least(&here);
-    for _ in 0..MOST_ROWS {
-        let place = first.place;
-        if place >= here.len() || !is_turn_of(board, &here, place) {
-            break;
-        }
-        if !turn_one(&mut here, place, gate) {
-            break;
-        }
-        if here[place].is_at_hand() {
-            look_one(&mut here, place);
-        }
-        tell(board, &here[place]);
-        first = next_least(&here, first);
-    }
-    here
+    look_all(board, here);
+    hand_in_many(board, here, gate);
 }
 
 /// Whether all that is to be done here waits for other threads: no source has rows to come, or one has a row in hand.

@@ -166,9 +166,9 @@ fn send_each<
     ensures marked { IsLegalFrom (opening_time taker.old.seat.setting.start) (taken taker.new.seat.mine) }
     ensures seat { IsSameSeat taker.old.seat taker.new.seat }
     ensures plan { (keeping run.new).desk.plan ≡ (keeping run.old).desk.plan }
-    ensures here { AllZip WentOn here.items result.0.items }
+    ensures here { AllZip WentOn here.entry.items result.0.items }
     ensures back { (sent : List Seated) × (result.1.items ≡ back.items ++ sent) × AllZip WentOn waiting.items sent }
-    ensures room_here { vec_capacity result.0 ≡ vec_capacity here }
+    ensures room_here { vec_capacity result.0 ≡ vec_capacity here.entry }
     ensures room_back { vec_capacity result.1 ≡ vec_capacity back }
 {
     let mut waiting = waiting;

@@ -216,13 +216,13 @@ impl Taker {
         ensures done { OnOk result.1 (EndsDone self.new.seat.mine false) }
         ensures marked { IsLegalFrom (opening_time self.old.seat.setting.start) (taken self.new.seat.mine) }
         ensures seat { IsSameSeat self.old.seat self.new.seat }
-        ensures here { AllZip WentOn here.items result.0.items }
-        ensures room { vec_capacity result.0 ≡ vec_capacity here }
+        ensures here { AllZip WentOn here.entry.items result.0.items }
+        ensures room { vec_capacity result.0 ≡ vec_capacity here.entry }
         ensures plan { (keeping run.new).desk.plan ≡ (keeping run.old).desk.plan }
     {
         let mut here = here;
         for _ in rt.forever() {
-            here = turn_here(board, here, gate);
+            turn_here(board, &mut here, gate);
             match self.take_once(rt, intake, board, &here, run, out, trace, gate) {
                 Ok(false) => {}
                 Ok(true) => return (here, Ok(())),

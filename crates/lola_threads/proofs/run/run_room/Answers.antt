@@ -7,6 +7,8 @@ use Rattle.lola_threads.proofs.Places.{zip_long}
 use Rattle.lola_threads.specs.Seated.{WentOn}
 use Rattle.lola_threads.proofs.Seating.{as_many, at_intake, have_flags, in_pairs}
 use Rattle.lola_threads.proofs.Threading.{backs_many, ends_with, goes_on, has_joined, has_run_none, is_fit, places_kept, seats_back}
+use Rattle.lola_rounds.proofs.Beginning.{never_begun}
+use Rattle.lola_threads.proofs.Settling.{no_turns}
 use Rattle.lola_threads.proofs.run.run_room.Goals as goal
 
 pub seat_all-requires-clause-pairs : goal.seat_all-requires-clause-pairs
@@ -24,7 +26,7 @@ send_all-back-requires-clause-flags g c κs within =
 pub send_all-back-requires-clause-room_here : goal.send_all-back-requires-clause-room_here
 send_all-back-requires-clause-room_here g c κs within =
     let many = as_many (keeping c.args.run.now).desk.plan (keeping c.args.run.now).desk.option c.args.room.intake c.args.workers.items c.args.room.seats.items c.requires.ready c.requires.seats c.seat_all.new.waiting.items c.seat_all.ensures.seated in
-    omega (arith, c.requires.here.1, many)
+    omega (arith, c.in-Ok.ensures.capacity, c.len.ensures, c.args.workers.ok.0, many)
 
 pub send_all-back-requires-clause-room_back : goal.send_all-back-requires-clause-room_back
 send_all-back-requires-clause-room_back g c κs within =
@@ -68,6 +70,9 @@ settle-stopped-requires-clause-fit g c κs within =
     c.args.room.taker c.requires.taker c.send_all-back.new.taker.seat c.send_all-back.ensures.seat c.end.new.left c.end.ensures
     (keeping c.send_all-back.new.run) (g.K.Sink.state c.args.out.now) (g.K.Sink.state c.send_all-back.new.out) (g.T.Sink.state c.args.trace.now) (g.T.Sink.state c.send_all-back.new.trace)
     c.send_all-back.result.1 c.send_all-back.ensures.halts c.send_all-back.ensures.done c.requires.stands
+
+pub returns-in_default-clause-run : goal.returns-in_default-clause-run
+returns-in_default-clause-run g c = no_turns _ _ (never_begun (keeping c.args.run.now) c.args.workers.items (g.K.Sink.state c.args.out.now) (g.T.Sink.state c.args.trace.now) c.requires.stands c.requires.ready)
 
 pub returns-clause-run : goal.returns-clause-run
 returns-clause-run g c =

@@ -1,10 +1,13 @@
-use Rattle.std.proofs.Common.{rules, arith}
+use Rattle.std.proofs.Common.{◌∙◌, ap, arith, rules, subst, sym}
+use Rattle.lola_feed.specs.Feeding.{Working}
+use Rattle.lola_threads.specs.Seated.{seated}
 use Rattle.lola_threads.proofs.Pairing.{IsPair, joined_last, last_pair}
 use Rattle.lola_threads.proofs.Places.{zip_long}
 use Rattle.lola_threads.proofs.run.seat_all.Goals as goal
 
 pub create-requires : goal.create-requires
 create-requires g c =
+    subst (λ (w : Working). IsPair w c.in-Some-pop.seat) (sym c.read_ahead.ensures)
     (last_pair c.loop-worker.workers.items c.pop.new.self.items c.loop-worker.seats.items c.pop-in-Some.new.self.items c.in-Some.worker c.in-Some-pop.seat c.loop-worker.invariant.pairs c.in-Some.ensures.items c.in-Some-pop.ensures.items).1
 
 pub loop-worker-preserved-in-Some-pop : goal.loop-worker-preserved-in-Some-pop
@@ -13,7 +16,7 @@ loop-worker-preserved-in-Some-pop g c =
     record {
       pairs = (last_pair c.loop-worker.workers.items c.pop.new.self.items c.loop-worker.seats.items c.pop-in-Some.new.self.items c.in-Some.worker c.in-Some-pop.seat inv.pairs c.in-Some.ensures.items c.in-Some-pop.ensures.items).0;
       seated = joined_last c.loop-worker.workers.items c.pop.new.self.items c.loop-worker.seats.items c.pop-in-Some.new.self.items c.in-Some.worker c.in-Some-pop.seat inv.pairs c.in-Some.ensures.items c.in-Some-pop.ensures.items
-          c.loop-worker.waiting.items c.push_reserved.new.self.items _ c.create.result c.push_reserved.ensures.items c.create.ensures inv.seated;
+          c.loop-worker.waiting.items c.push_reserved.new.self.items _ c.create.result c.push_reserved.ensures.items (c.create.ensures ∙ ap (λ (w : Working). seated w c.in-Some-pop.seat) c.read_ahead.ensures) inv.seated;
       room = search rules;
       workers = cc (c.pop.ensures.capacity, inv.workers);
       seats = cc (c.pop-in-Some.ensures.capacity, inv.seats);

@@ -33,7 +33,7 @@ pub returns-in-Ok-true-clause-done : goal.returns-in-Ok-true-clause-done
 returns-in-Ok-true-clause-done g c = c.in-Ok-true.ensures.done c.in-Ok-true.field-0-test
 
 pub returns-in-Ok-true-clause-here : goal.returns-in-Ok-true-clause-here
-returns-in-Ok-true-clause-here g c = all_go_on_twice c.args.here.items c.loop.here.items c.turn_here-here.result.items c.loop.invariant.here c.turn_here-here.ensures.here
+returns-in-Ok-true-clause-here g c = all_go_on_twice c.args.here.items c.loop.here.items c.turn_here.new.here.items c.loop.invariant.here c.turn_here.ensures.here
 
 pub loop-preserved : goal.loop-preserved
 loop-preserved g c =
@@ -43,8 +43,8 @@ loop-preserved g c =
     record {
       turns = (tt, tt);
       ready = c.in-Ok-false.ensures.ready;
-      here = all_go_on_twice c.args.here.items c.loop.here.items c.turn_here-here.result.items inv.here c.turn_here-here.ensures.here;
-      room = c.turn_here-here.ensures.room ∙ inv.room;
+      here = all_go_on_twice c.args.here.items c.loop.here.items c.turn_here.new.here.items inv.here c.turn_here.ensures.here;
+      room = c.turn_here.ensures.room ∙ inv.room;
       seat = same_seat_twice c.args.self.now.seat c.loop.self.seat c.take_once.new.self.seat inv.seat c.take_once.ensures.seat;
       inputs = c.take_once.ensures.inputs ∙ inv.inputs;
       setting = c.take_once.ensures.setting ∙ inv.setting;
@@ -70,4 +70,4 @@ returns-in-Err-clause-marked g c =
     (subst (λ (k : Setting). IsLegalFrom (opening_time k.start) (taken c.take_once.new.self.seat.mine)) c.loop.invariant.seat.setting c.take_once.ensures.marked)
 
 pub returns-in-Err-clause-here : goal.returns-in-Err-clause-here
-returns-in-Err-clause-here g c = all_go_on_twice c.args.here.items c.loop.here.items c.turn_here-here.result.items c.loop.invariant.here c.turn_here-here.ensures.here
+returns-in-Err-clause-here g c = all_go_on_twice c.args.here.items c.loop.here.items c.turn_here.new.here.items c.loop.invariant.here c.turn_here.ensures.here

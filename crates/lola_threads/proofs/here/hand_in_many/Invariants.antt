@@ -1,11 +1,10 @@
-use Rattle.std.proofs.Common.{◌≡◌, length, vec_capacity}
+use Rattle.std.proofs.Common.{◌≡◌, vec_capacity}
 use Rattle.std.specs.List.{AllZip}
 use Rattle.lola_threads.specs.Seated.{WentOn}
-use Rattle.lola_threads.proofs.here.turn_here.Given as goal
+use Rattle.lola_threads.proofs.here.hand_in_many.Given as goal
 
 abbrev pub invariant-loop : goal.invariant-loop
 invariant-loop g l = record {
-  many : length l.here.items ≡ length l.fn.here.items;
   went : AllZip WentOn l.fn.here.items l.here.items;
   room : vec_capacity l.here ≡ vec_capacity l.fn.here;
 }
