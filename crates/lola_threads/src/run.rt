@@ -88,8 +88,24 @@ impl<S: Source> Room<S> {
     }
 }
 
-// How many processors the machine has; one, where it does not tell.
-fn processors<R: Threads>(rt: &R) -> usize {
+// Whether the calling thread reads all sources: there is one, or nobody has to wait for any of them.
+fn are_read_here<S: Source>(workers: &[SourceWorker<S>]) -> bool {
+    if workers.len() == 1 {
+        return true;
+    }
+    for worker in workers {
+        if !worker.answers_at_once() {
+            return false;
+        }
+    }
+    true
+}
+
+// How many processors threads of these sources can have; one, where the machine does not tell, or there are no such threads.
+fn processors<R: Threads, S: Source>(rt: &R, workers: &[SourceWorker<S>]) -> usize {
+    if are_read_here(workers) {
+        return 1;
+    }
     match thread::available_parallelism(rt) {
         Ok(count) => count.get(),
         Err(_) => 1,
@@ -278,7 +294,7 @@ pub fn run_in_threads<R: Threads + Wait + Sync, S: Source + Send, K: Sink, T: Si
     ensures places { AreInPlace workers.items result.0.items }
     ensures plan { (keeping run.new).desk.plan ≡ (keeping run.old).desk.plan }
 {
-    let processors = processors(rt);
+    let processors = processors(rt, workers.as_slice());
     match Room::create(alloc, run.plan(), workers.len() as u32, processors, start) {
         Ok(room) => run_room(rt, alloc, room, run, workers, out, trace, gate),
         Err(_) => (workers, Err(Stop::Memory)),
