@@ -40,8 +40,14 @@ class LiveRun:
         self.begun = time.monotonic()
 
     def write(self, source: int, text: str) -> None:
+        """Says this on a pipe, if it is something. Where the run has ended nobody reads it; how it ended is told in the end."""
+        if not text:
+            return
         self.begun = time.monotonic()
-        os.write(self.ends[source], text.encode())
+        try:
+            os.write(self.ends[source], text.encode())
+        except BrokenPipeError:
+            pass
 
     def close(self, *sources: int) -> None:
         """Closes the pipes of these sources, or of all."""
@@ -75,6 +81,11 @@ class LiveRun:
             if is_over:
                 return False
             time.sleep(0.001)
+
+    def expect_lines(self, out: int, trace: int) -> None:
+        """Waits until so many lines are there. Where they do not come the test is broken off."""
+        if not self.has_lines(out, trace):
+            raise TimeoutError(f"{out} lines and {trace} of the trace were waited for; there are {self.lines()}")
 
     def processor_seconds(self) -> float:
         """The processor's time that the process has taken so far, by its own clock."""

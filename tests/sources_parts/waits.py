@@ -12,8 +12,9 @@ from terminal_parts.harness import Checks, write
 
 ROWS = 2000
 WARM = 1.0  # seconds until a run waits
-WAITS = 2.0  # seconds for which it is looked at
-MOST_A_SECOND = 0.25  # seconds of a processor, beside other work; each of 64 threads looks ten times a second whether the run was stopped
+WAITS = 4.0  # seconds for which it is looked at
+LOOKS = 3  # how often at most: beside other work on the machine a run that waits may take longer for the little that it does
+MOST_A_SECOND = 0.01  # seconds of a processor, also for 64 silent pipes, each of whose threads looks every 0.8 s whether the run was stopped
 BEAT = 'input a: Int64\noutput n: UInt64 @1Hz := a.aggregate(over: 2s, using: count)\ntrigger n == 0 "silent"\n'
 SUM = 'input a: Int64\noutput b: Int64 := a + 1\ntrigger b > 2 "high"\n'
 
@@ -48,7 +49,7 @@ def test_files_beside_silent_pipes(checks: Checks) -> None:
             sources: list[Optional[str]] = [None] * pipes
             sources.insert(place, write("rows.csv", file_text(place, stamps)))
             speaker = 0 if place else pipes
-            for said in ("", "time,a\n", "time,a\n50"):
+            for said in ("", "tim", "time,a\n", "time,a\n50"):
                 ended = run_beside_silent_pipes(checks, sources, speaker, said)
                 status = 0 if said == "time,a\n" or pipes == 1 else 4  # the others have no row, or no heading
                 expect_trace(checks, f"source {place} is the file, {said!r}", trace + f"{speaker},1,5000.000000000,A,7\n", ended, status)
@@ -87,28 +88,41 @@ def test_times_alone(checks: Checks) -> None:
     checks.same("the end", 0, run.end().status)
 
 
+def taken_by(runs: dict[str, LiveRun]) -> dict[str, float]:
+    """How many seconds of a processor each of these runs takes while it is looked at."""
+    before = {what: run.processor_seconds() for what, run in runs.items()}
+    time.sleep(WAITS)
+    return {what: run.processor_seconds() - before[what] for what, run in runs.items()}
+
+
 def expect_idle(checks: Checks, runs: dict[str, LiveRun]) -> None:
     """None of these runs, which wait since a while, takes much of a processor's time."""
     time.sleep(WARM)
-    before = [run.processor_seconds() for run in runs.values()]
-    time.sleep(WAITS)
-    for (what, run), seconds in zip(runs.items(), before):
-        taken = run.processor_seconds() - seconds
-        checks.note(taken < MOST_A_SECOND * WAITS, what, f"less than {MOST_A_SECOND * WAITS} s of a processor in {WAITS} s", f"{taken:.4f} s")
+    least = taken_by(runs)
+    for _ in range(1, LOOKS):
+        if max(least.values()) >= MOST_A_SECOND * WAITS:
+            least = {what: min(seconds, least[what]) for what, seconds in taken_by(runs).items()}
+    for what, seconds in least.items():
+        checks.note(seconds < MOST_A_SECOND * WAITS, what, f"less than {MOST_A_SECOND * WAITS} s of a processor in {WAITS} s", f"{seconds:.4f} s")
 
 
 def test_processor_of_silent_pipes(checks: Checks) -> None:
-    """64 pipes that say nothing, wherever in a line; and one beside 63 files that have ended."""
+    """64 pipes that say nothing, wherever in a line; one beside 63 files that have ended; and one alone."""
     runs = {}
-    for silence, (said, rows) in SILENCES.items():
+    for name, silence in SILENCES.items():
         run = LiveRun(write("sum.lola", SUM), [None] * 64)
         for source in range(64):
-            run.write(source, said)
-        checks.same("the rows before", True, run.has_lines(0, rows * 64))
-        runs[f"64 pipes, silent {silence}"] = run
+            run.write(source, silence.said)
+        run.expect_lines(0, silence.rows * 64)
+        for source in range(64):
+            run.write(source, silence.later)
+        runs[f"64 pipes, silent {name}"] = run
     names = [write(f"{n}.csv", file_text(n, [n * SECOND])) for n in range(63)]
     runs["a pipe beside 63 files"] = LiveRun(write("sum.lola", SUM), [*names, None])
-    checks.same("the rows of files", True, runs["a pipe beside 63 files"].has_lines(0, 63))
+    runs["a pipe beside 63 files"].expect_lines(0, 63)
+    runs["a pipe alone"] = LiveRun("sum.lola", [None])
+    runs["a pipe alone"].write(0, "time,a\n0,5\n0,")
+    runs["a pipe alone"].expect_lines(0, 1)
     expect_idle(checks, runs)
     for run in runs.values():
         run.end(0)
