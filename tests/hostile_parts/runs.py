@@ -54,7 +54,7 @@ def expect_malformed(checks: Checks, what: str, content: bytes, row: int, kind: 
 
 
 def expect_rows(checks: Checks, what: str, content: bytes, trace: bytes, spec: str = "") -> None:
-    """The rows of the source are accepted and have this trace, in turns and on a thread; no line is written of them."""
+    """The rows of the source are accepted and have this trace, with and without `--in-turns`; no line is written of them."""
     words = ["run", write("good.lola", spec or "input a: Int64\n"), write("good.csv", content)]
     count = trace.count(b"\n")
     for way in ([], ["--in-turns"]):

@@ -1,4 +1,4 @@
-"""What a run keeps whose sources are files that are read on threads, each on its own.
+"""What a run keeps whose sources are files that are merged by time.
 
 Of each source the trace has the same rows in the same order as in turns, and the next one is always the one with the least time of those
 that come next in their sources; a row is late exactly where an accepted row before it has a later time; and the end line counts what the
@@ -80,24 +80,23 @@ def end_line_complaint(expected_end: str, end: str, rows: list[TraceRow], verdic
     return None
 
 
-def complaints_on_threads(expected_out: bytes, expected_trace: bytes, out: bytes, trace: bytes, is_merged: bool = True) -> list[str]:
-    """What a run on threads did not keep of the above, compared with what the run in turns has to write. Where no thread could be started for a
-    source nobody waits for it, so rows need not be merged by time."""
+def complaints_of_merging(expected_out: bytes, expected_trace: bytes, out: bytes, trace: bytes) -> list[str]:
+    """What a run over files that are merged did not keep of the above, compared with what the run in turns has to write."""
     came = trace.decode(errors="replace")[:CHARACTERS_SHOWN]
     try:
         rows = trace_rows(trace)
     except ValueError as error:
-        return [f"on threads: {error}:\n{came}"]
+        return [f"merged: {error}:\n{came}"]
     complaints = []
     if rows_by_source(rows) != rows_by_source(trace_rows(expected_trace)):
-        complaints.append(f"on threads: other rows than in turns, or in another order within a source:\n{came}")
-    if is_merged and [(int(row.source), int(row.number)) for row in rows] != [(source, number) for _, source, number in merged_by_time(rows)]:
-        complaints.append(f"on threads: rows that are not merged by time:\n{came}")
+        complaints.append(f"merged: other rows than in turns, or in another order within a source:\n{came}")
+    if [(int(row.source), int(row.number)) for row in rows] != [(source, number) for _, source, number in merged_by_time(rows)]:
+        complaints.append(f"merged: rows that are not merged by time:\n{came}")
     if [row.mark for row in rows] != right_marks(rows):
-        complaints.append(f"on threads: a wrong mark in the trace:\n{came}")
+        complaints.append(f"merged: a wrong mark in the trace:\n{came}")
     lines = out.decode("utf-8", "replace").splitlines() or [""]
     expected_end = (expected_out.decode("utf-8", "replace").splitlines() or [""])[-1]
     wrong_end = end_line_complaint(expected_end, lines[-1], rows, len(lines) - 1)
     if wrong_end:
-        complaints.append(f"on threads: {wrong_end}")
+        complaints.append(f"merged: {wrong_end}")
     return complaints
