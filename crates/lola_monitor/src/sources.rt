@@ -1,4 +1,4 @@
-//! The sources of a run: fetched, run in turns or on threads of their own, and given back.
+//! The sources of a run: fetched, run in turns or as their rows come, and given back.
 ghost use Rattle.std.specs.Prelude.{◌≡◌, ◌≤◌, ℕ, List, [], IfOk, length, map, string_bytes};
 ghost use Rattle.std.specs.Vec.{vec_capacity};
 ghost use Rattle.lola_port.specs.States.{ShelfState};
@@ -80,7 +80,7 @@ fn not_fetched(stop: FetchStop) -> Outcome
     }
 }
 
-// Runs sources, in turns or on threads of their own.
+// Runs sources, in turns or as their rows come.
 fn run_workers<R: Threads + Wait + Sync, S: Source + Send, K: Sink, T: Sink, G: Gate + Sync>(
     rt: &R,
     alloc: Global,
@@ -186,7 +186,7 @@ fn run_room<R: Threads + Wait + Sync, F: Shelf, K: Sink, T: Sink, G: Gate + Sync
     )
 }
 
-/// Fetches the sources of a command, runs their rows by a plan, in turns where the command says so and else on threads of their own,
+/// Fetches the sources of a command, runs their rows by a plan, in turns where the command says so and else as their rows come,
 /// and gives them back. The room that the plan alone decides is made before the first source is fetched, and that for what the
 /// sources share before the first row is read; the heading's columns and the room for a line's fields are made when the first
 /// lines of each are read.

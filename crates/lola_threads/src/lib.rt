@@ -1,4 +1,4 @@
-//! Sources that are read on threads of their own, and the run of their rows on the calling thread.
+//! Sources that are read by the calling thread or on threads of their own, and the run of their rows on the calling thread.
 #![tactic(auto)]
 
 mod desk;

@@ -1,4 +1,4 @@
-//! A run whose sources are read on threads of their own.
+//! A run whose sources are read by the calling thread or on threads of their own.
 ghost use Rattle.std.specs.Prelude.{◌≡◌, ◌≤◌, ◌↔◌, [], Err, Some, IfOk, IsTrue, OnOk, false, length, map, reverse, vec_capacity};
 ghost use Rattle.std.specs.List.{AllZip};
 ghost use Rattle.lola_port.specs.States.{SinkState};
@@ -223,7 +223,7 @@ fn settle<R: Threads + Sync, S: Source, K: Sink, G: Gate + Sync>(
     }
 }
 
-// Runs sources on threads of their own, with this room.
+// Runs sources with this room.
 fn run_room<R: Threads + Wait + Sync, S: Source + Send, K: Sink, T: Sink, G: Gate + Sync>(
     rt: &R,
     alloc: Global,
