@@ -118,6 +118,35 @@ def test_faults(checks: Checks) -> None:
         for count in PIPES for silence in silences(count) for behind in BEHIND])
 
 
+def many_rows(size: int, begin: str) -> str:
+    """So many bytes: this, rows of one time, of which the first may have blanks, and the front of one more."""
+    rest = size - len(begin) - len("0,")
+    return begin + "0,5" + " " * (rest % 4) + "\n" + "0,5\n" * (rest // 4 - 1) + "0,"
+
+
+def full_reader(more: int) -> Ended:
+    """A run of two pipes, of which the first says so much that its reader, which holds 131,072 bytes, is full in the midst of a row that
+    never ends, but for so many bytes of it."""
+    run = LiveRun("divides.lola", [None, None])
+    run.write(1, "time,a\n")
+    rows = 0
+    for size, begin in ((60_000, "time,a\n"), (60_000, "5\n"), (131_072 - 120_000 + more, "5\n")):
+        said = many_rows(size, begin)
+        rows += said.count("\n") - begin.startswith("time")
+        run.write(0, said)
+        run.expect_lines(0, rows)
+    run.write(1, "1,0\n")
+    return run.end()
+
+
+def test_full_readers(checks: Checks) -> None:
+    """Where the silence begins within a row for which a reader had no room, the run ends as soon."""
+    write("divides.lola", DIVIDES)
+    expect_soon(checks, [
+        Case(f"{more} bytes more than a reader has room for", lambda more=more: full_reader(more), 5, "= fault b 2 DivZero at 1.000000000\n")
+        for more in (0, 1, 2, 3)])
+
+
 def beside_a_file(place: int, silence: str) -> Ended:
     """A run over a file with a row that divides by zero, and 63 pipes that say this and no more. Some of what they say may come too late."""
     sources: list[Optional[str]] = [None] * 63
