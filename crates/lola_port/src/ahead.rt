@@ -77,9 +77,18 @@ impl<R: Wait + Clock + Drop> Ahead<R> {
         }
     }
 
-    // Whether a read would answer at once, after so many milliseconds at most.
+    // Whether the next line can be moved at once, or whatever ends the source, after so many milliseconds at most. The bytes that are left
+    // of a piece may have no end of a line: that stands in the next piece then.
     pub(crate) fn has_come(&self, milliseconds: u16) -> bool {
-        self.has_bytes() || self.shared.has_come(&self.rt, milliseconds)
+        self.has_line() || self.shared.has_come(&self.rt, milliseconds)
+    }
+
+    // Whether a line ends among the bytes that can be moved at once.
+    fn has_line(&self) -> bool {
+        match &self.front {
+            Some(piece) => piece.has_line(),
+            None => false,
+        }
     }
 
     // Whether there are bytes that can be moved at once.

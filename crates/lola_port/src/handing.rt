@@ -184,7 +184,7 @@ pub(crate) struct Task {
 
 // Reads a piece: until a line that is not empty has ended in it, until it is full, or until the source ends or fails, which is told.
 fn fill<F: Read>(piece: &mut Piece, file: &mut F, line: &mut Line) -> Option<End> {
-    piece.clear();
+    piece.clear(*line);
     for _ in 0..ROOM {
         if !piece.has_room() {
             break;
@@ -208,7 +208,7 @@ pub(crate) fn read_ahead<R: Wait>(rt: &R, task: Task) {
     let Some(mut file) = shared.wait_for_file(rt) else {
         return;
     };
-    let mut line = Line::Nothing;
+    let mut line = Line::Start;
     for _ in rt.forever() {
         let end = fill(&mut piece, &mut file, &mut line);
         if !shared.hand_over(rt, piece) {

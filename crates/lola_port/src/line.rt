@@ -3,6 +3,11 @@
 // What has come of a line that has not ended.
 #[derive(Clone, Copy)]
 pub(crate) enum Line {
+    // Nothing, at the very start, where a byte order mark is dropped.
+    Start,
+    // The first byte of such a mark, or the first two: they are text where the others do not follow.
+    Mark,
+    MarkGoesOn,
     Nothing,
     // A carriage return, which is dropped where the line ends behind it.
     Return,
@@ -15,16 +20,24 @@ impl Line {
     fn behind(self, byte: u8) -> Line {
         match (self, byte) {
             (_, b'\n') => Line::Nothing,
-            (Line::Nothing, b'\r') => Line::Return,
+            (Line::Nothing | Line::Start, b'\r') => Line::Return,
+            (Line::Start, 0xEF) => Line::Mark,
+            (Line::Mark, 0xBB) => Line::MarkGoesOn,
+            (Line::MarkGoesOn, 0xBF) => Line::Nothing,
             _ => Line::Text,
         }
+    }
+
+    // Whether a line feed ends a line that is not empty.
+    fn has_text(self) -> bool {
+        matches!(self, Line::Text | Line::Mark | Line::MarkGoesOn)
     }
 
     // Goes on with the next bytes, and tells whether a line that is not empty has ended among them.
     pub(crate) fn goes_on(&mut self, bytes: &[u8]) -> bool {
         let mut has_ended = false;
         for byte in bytes {
-            if *byte == b'\n' && matches!(self, Line::Text) {
+            if *byte == b'\n' && self.has_text() {
                 has_ended = true;
             }
             *self = self.behind(*byte);

@@ -3,6 +3,7 @@
 ghost use Rattle.std.specs.Prelude.{◌≡◌, ◌+◌, ◌<◌, ◌≤◌, drop, length, min, take, IfOk, IsFalse, IsTrue, OnErr};
 
 use crate::ReadFailed;
+use crate::line::Line;
 use crate::machine::read_some;
 use lola_value::text::Memory;
 use std::alloc::Global;
@@ -19,6 +20,8 @@ pub(crate) struct Piece {
     room: Vec<u8>,
     at: usize,
     end: usize,
+    // What stands before its first byte of a line.
+    before: Line,
 }
 
 impl Model for Piece {
@@ -40,6 +43,7 @@ impl Piece {
             room: vec![in alloc; 0; ROOM]?,
             at: 0,
             end: 0,
+            before: Line::Start,
         })
     }
 
@@ -51,12 +55,20 @@ impl Piece {
         self.at == self.end
     }
 
-    // Forgets the bytes that it had.
-    pub(crate) fn clear(&mut self)
+    // Forgets the bytes that it had. So much of a line stands before those that come.
+    pub(crate) fn clear(&mut self, before: Line)
         ensures { length self.new ≡ 0 }
     {
         self.at = 0;
         self.end = 0;
+        self.before = before;
+    }
+
+    // Whether a line that is not empty ends among the bytes that are still to be moved.
+    pub(crate) fn has_line(&self) -> bool {
+        let mut line = self.before;
+        line.goes_on(&self.room[..self.at]);
+        line.goes_on(&self.room[self.at..self.end])
     }
 
     // Whether there is room for more bytes behind those that it has.

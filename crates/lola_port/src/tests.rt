@@ -2,6 +2,7 @@
 
 use crate::line::Line;
 use crate::machine::{put_all, read_some};
+use crate::piece::Piece;
 use crate::{
     ErrSink, FetchEnd, FolderShelf, Gate, IdleGate, MemoryShelf, MemorySink, OutSink, PutEnd,
     ReadFailed, Shelf, Sink, Source,
@@ -155,12 +156,33 @@ fn a_folder_is_no_source(rt: HostRuntime) -> Result<(), Fail> {
 
 #[test]
 fn lines_that_are_not_empty_end(rt: HostRuntime) {
-    let mut line = Line::Nothing;
-    assert!(rt; !line.goes_on(b"\r\n\n1,2"));
+    let mut line = Line::Start;
+    assert!(rt; !line.goes_on(b"\xEF\xBB"));
+    assert!(rt; !line.goes_on(b"\xBF\r\n\n1,2"));
     assert!(rt; line.goes_on(b"\n3"));
     assert!(rt; line.goes_on(b"\r\n\r"));
     assert!(rt; !line.goes_on(b"\n\r"));
     assert!(rt; line.goes_on(b"\r\n"));
+    let mut no_mark = Line::Start;
+    assert!(rt; no_mark.goes_on(b"\xEF\xBB\n"));
+}
+
+#[test]
+fn what_is_left_of_a_piece_may_end_no_line(rt: HostRuntime) -> Result<(), Memory> {
+    let mut piece = Piece::create(rt.alloc())?;
+    let mut bytes = b"1,2\n3\n\n4".as_slice();
+    assert_eq!(rt; piece.fill(&mut bytes).ok(), Some(8));
+    let mut buf = [0u8; 3];
+    assert!(rt; piece.has_line());
+    for (moved, has_line) in [(3, true), (3, false), (2, false)] {
+        assert_eq!(rt; piece.move_to(&mut buf), moved);
+        assert_eq!(rt; piece.has_line(), has_line);
+    }
+    assert!(rt; piece.is_used_up());
+    piece.clear(Line::Text);
+    assert_eq!(rt; piece.fill(&mut b"\n".as_slice()).ok(), Some(1));
+    assert!(rt; piece.has_line());
+    Ok(())
 }
 
 /// A pipe of which each fourth call, from the one numbered 3 on, moves at most three bytes. The first of four is
