@@ -14,6 +14,7 @@ ghost use Rattle.lola_value.specs.Times.{latest};
 ghost use Rattle.lola_model.specs.Store.{Seen, Fits, CanBegin, IsNew, IsStarted, IsRunning, start_seen, time_seen, max_offset, target_of, pane_of, never_spawns, instances_seen, place_of, now_of, now_seen, is_silent, is_of_kind, is_outcome_of, are_of_kinds, is_well_formed, parameters_of, kind_in, spawns_in, after_start, after_prepare, after_begin, after_outcome, after_poison_stream, after_spawn, after_close, window_kind, has_spawned};
 ghost use Rattle.lola_model.specs.Reading.{held_answer, window_reading, KeepsAll, KeepsOthers, IsHeldBy};
 ghost use Rattle.lola_model.specs.Spawning.{has_room, spawn_end};
+ghost use Rattle.lola_model.specs.Whereabouts.{StandsOnlyAt};
 ghost use Rattle.lola_model.specs.Dues.{due_places, due_seen};
 ghost use Rattle.lola_model.specs.Accesses.{from_end, one_more};
 
@@ -29,6 +30,17 @@ pub enum SpawnEnd {
     Living,
     /// 65,536 instances of the stream live, and nothing has changed.
     TooMany,
+}
+
+/// Where an instance stands that is looked for by its parameters, among the instances of its stream in order of birth.
+#[derive(Clone, Copy, Debug, PartialEq, Eq)]
+pub enum Whereabouts {
+    /// At this place, and at no other.
+    At(u32),
+    /// It does not live.
+    Nowhere,
+    /// Nothing is said of it.
+    Unknown,
 }
 
 /// The values of all streams so far, or as much of them as accesses need.
@@ -139,6 +151,16 @@ pub trait StreamStore: Drop {
         requires room { length (instances_seen (seen self.now) stream) ≤ vec_capacity places.old }
         ensures places { places.new.items ≡ due_places (seen self.now) stream time }
         ensures capacity { vec_capacity places.new ≡ vec_capacity places.old };
+
+    /// Where the instance of a stream with these parameters stands, if it lives. A store that keeps no table of its instances does not
+    /// say.
+    fn find(&self, _stream: u32, _params: &Params) -> Whereabouts
+        requires stream { _stream < length (seen self.now).layout.streams }
+        requires places { IsTrue (is_well_formed _params.now) }
+        ensures { StandsOnlyAt result _params.now (instances_seen (seen self.now) _stream) }
+    {
+        Whereabouts::Unknown
+    }
 
     /// Gives an instance its value of this step.
     fn push(&mut self, stream: u32, index: u32, value: Value)
