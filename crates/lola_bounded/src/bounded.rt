@@ -2,7 +2,7 @@
 
 use crate::store::BoundedStore;
 use crate::{begin, changes, prepare, reading};
-use lola_model::store::{SpawnEnd, StreamStore};
+use lola_model::store::{SpawnEnd, StreamStore, Whereabouts};
 use lola_value::text::Memory;
 use lola_value::value::{Outcome, Params, Value};
 
@@ -65,6 +65,10 @@ impl StreamStore for BoundedStore {
 
     fn list_due(&self, stream: u32, time: u64, places: &mut Vec<u32>) {
         reading::list_due(self, stream, time, places)
+    }
+
+    fn find(&self, stream: u32, params: &Params) -> Whereabouts {
+        reading::find(self, stream, params)
     }
 
     fn push(&mut self, stream: u32, index: u32, value: Value) {

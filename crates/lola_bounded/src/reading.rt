@@ -10,6 +10,7 @@ ghost use Rattle.lola_model.specs.Store.{Fits, IsRunning, instances_seen, place_
 ghost use Rattle.lola_model.specs.Accesses.{from_end};
 ghost use Rattle.lola_model.specs.Dues.{due_places, due_seen};
 ghost use Rattle.lola_model.specs.Reading.{held_answer, window_reading};
+ghost use Rattle.lola_model.specs.Whereabouts.{StandsOnlyAt};
 ghost use Rattle.lola_instances.specs.Dues.{in_time};
 ghost use Rattle.lola_bounded.specs.Dues.{due_of_crowds};
 ghost use Rattle.lola_bounded.specs.Stores.{bounded_seen, bounded_remembers, panes_kept, values_kept};
@@ -19,6 +20,7 @@ use crate::store::BoundedStore;
 use lola_instances::due::earlier;
 use lola_instances::instances::Instances;
 use lola_model::spec::WindowSpec;
+use lola_model::store::Whereabouts;
 use lola_value::value::{Outcome, Params};
 
 /// The instances of a stream.
@@ -121,6 +123,15 @@ pub fn list_due(s: &BoundedStore, stream: u32, time: u64, places: &mut Vec<u32>)
     ensures capacity { vec_capacity places.new ≡ vec_capacity places.old }
 {
     lives_of(s, stream).list_due(time, places);
+}
+
+/// Where the instance of a stream with these parameters stands, where a table of the stream's instances is kept.
+pub fn find(s: &BoundedStore, stream: u32, params: &Params) -> Whereabouts
+    requires stream { stream < length (bounded_seen s.now).layout.streams }
+    requires places { IsTrue (is_well_formed params.now) }
+    ensures { StandsOnlyAt result params.now (instances_seen (bounded_seen s.now) stream) }
+{
+    lives_of(s, stream).find(params)
 }
 
 /// What a window is.

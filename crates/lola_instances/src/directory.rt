@@ -1,9 +1,10 @@
 //! The places of the instances of a stream by their parameters.
 
-ghost use Rattle.std.specs.Prelude.{◌≡◌, ◌≤◌, ◌+◌, ◌++◌, ◌∷◌, [], None, false, true, position, remove, IsTrue, OnOk};
+ghost use Rattle.std.specs.Prelude.{◌≡◌, ℕ, ◌≤◌, ◌+◌, ◌++◌, ◌∷◌, [], Some, None, false, true, position, remove, slice_get, IsTrue, OnOk};
 ghost use Rattle.std.specs.List.{list_any};
 ghost use Rattle.indexmap.specs.IndexSet.{spare};
 ghost use Rattle.lola_value.specs.Kinds.{is_well_formed, same_params};
+ghost use Rattle.lola_value.specs.declared.value.Params.{Params};
 ghost use Rattle.lola_instances.specs.Keys.{same_places};
 
 use crate::key::Key;
@@ -27,13 +28,13 @@ impl Model for Directory {
     ghost use Rattle.indexmap.specs.IndexSet.{spare};
     ghost use Rattle.lola_value.specs.Kinds.{is_well_formed};
     ghost use Rattle.lola_instances.specs.Each.{Each};
-    ghost use Rattle.lola_instances.specs.Listings.{Listing};
+    ghost use Rattle.lola_instances.specs.Listings.{Listing, StandOnce};
 
     ghost Value = { Listing };
 
     ghost view = { λ d. record { is_kept = d.is_kept; names = map (λ k. k.0) d.keys.keys; room = spare d.keys } };
 
-    ghost invariant = { λ d. Each (λ k. IsTrue (is_well_formed k.0)) d.keys.keys };
+    ghost invariant = { λ d. Each (λ k. IsTrue (is_well_formed k.0)) d.keys.keys × StandOnce (map (λ k. k.0) d.keys.keys) };
 }
 
 // One more key, behind the others, in room that was made.
@@ -74,10 +75,11 @@ impl Directory {
         self.is_kept
     }
 
-    /// The place of the instance with these parameters.
+    /// The place of the instance with these parameters, which no other has.
     pub fn find(&self, params: &Params) -> Option<usize>
         requires { IsTrue (is_well_formed params.now) }
-        ensures { result ≡ position (same_params params.now) self.now.names }
+        ensures place { result ≡ position (same_params params.now) self.now.names }
+        ensures alone { (i : ℕ) (p : Params) → slice_get self.now.names i ≡ Some p → same_params params.now p ≡ true → result ≡ Some i }
     {
         let key = Key(*params);
         self.keys.get_index_of(&key)

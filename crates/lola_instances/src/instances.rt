@@ -17,6 +17,8 @@ ghost use Rattle.lola_instance.specs.Unborn.{AllOnto, AllSound};
 ghost use Rattle.lola_instances.specs.Births.{births_of, firsts, newborn};
 ghost use Rattle.lola_instances.specs.Crowds.{RemembersAt, crowd, crowd_seen, now_in, place_in, shown_at};
 ghost use Rattle.lola_instances.specs.Dues.{due_at_births, due_since, in_time};
+ghost use Rattle.lola_instances.specs.Listings.{StandsOnly};
+ghost use Rattle.lola_model.specs.Whereabouts.{may_stand_at};
 ghost use Rattle.lola_instances.specs.Rights.{AreRight, AreSteady, AreTimely, CrowdRight};
 ghost use Rattle.lola_instances.specs.Texts.{crowd_texts};
 ghost use Rattle.lola_instances.specs.Windowed.{IsWhole, windowed};
@@ -29,7 +31,7 @@ use lola_instance::instance::Instance;
 use lola_instance::window::WindowPanes;
 use lola_instances_due::times::DueTimes;
 use lola_model::spec::Kinds;
-use lola_model::store::SpawnEnd;
+use lola_model::store::{SpawnEnd, Whereabouts};
 use lola_sweep::ids::Ids;
 use lola_value::rate::Rate;
 use lola_value::text::Memory;
@@ -79,6 +81,16 @@ fn has_parameters(spawns: bool, parameters: &Kinds) -> bool
     ensures { result ≡ true → spawns ≡ true }
 {
     spawns && !parameters.as_slice().is_empty()
+}
+
+// A place as a store tells it; one past all numbers of instances is not told.
+fn place_of(place: usize) -> Whereabouts
+    ensures { may_stand_at result place ≡ true }
+{
+    match u32::try_from(place) {
+        Ok(index) => Whereabouts::At(index),
+        Err(_) => Whereabouts::Unknown,
+    }
 }
 
 impl Instances {
@@ -147,6 +159,20 @@ impl Instances {
             self.directory.find(params)
         } else {
             place(self.slots.as_slice(), params)
+        }
+    }
+
+    /// Where the instance with these parameters stands, where a table of them is kept; else nothing is said.
+    pub fn find(&self, params: &Params) -> Whereabouts
+        requires { IsTrue (is_well_formed params.now) }
+        ensures { StandsOnly result params.now self.now.slots }
+    {
+        if !self.directory.is_kept() {
+            return Whereabouts::Unknown;
+        }
+        match self.directory.find(params) {
+            None => Whereabouts::Nowhere,
+            Some(place) => place_of(place),
         }
     }
 

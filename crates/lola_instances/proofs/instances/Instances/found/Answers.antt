@@ -7,7 +7,7 @@ use Rattle.lola_instances.proofs.instances.Instances.found.Goals as goal
 pub returns-then-is_kept : goal.returns-then-is_kept
 returns-then-is_kept c =
     let p = c.args.params.now in
-    c.find.ensures
+    c.find.ensures.place
     ∙ ap (position (same_params p)) (c.self.invariant.1.names (sym c.is_kept.ensures ∙ c.if-is_kept.true))
     ∙ place_named p c.self.inside.slots.items
     ∙ ap (λ (k : Crowd). place_in p k.slots 0) c.self.view_is
