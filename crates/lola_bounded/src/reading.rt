@@ -129,7 +129,7 @@ pub fn list_due(s: &BoundedStore, stream: u32, time: u64, places: &mut Vec<u32>)
 pub fn find(s: &BoundedStore, stream: u32, params: &Params) -> Whereabouts
     requires stream { stream < length (bounded_seen s.now).layout.streams }
     requires places { IsTrue (is_well_formed params.now) }
-    ensures { StandsOnlyAt result params.now (instances_seen (bounded_seen s.now) stream) }
+    ensures { StandsOnlyAt result (parameters_of (slice_get (bounded_seen s.now).layout.streams stream)) params.now (instances_seen (bounded_seen s.now) stream) }
 {
     lives_of(s, stream).find(params)
 }

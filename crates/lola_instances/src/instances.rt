@@ -164,8 +164,9 @@ impl Instances {
 
     /// Where the instance with these parameters stands, where a table of them is kept; else nothing is said.
     pub fn find(&self, params: &Params) -> Whereabouts
-        requires { IsTrue (is_well_formed params.now) }
-        ensures { StandsOnly result params.now self.now.slots }
+        requires places { IsTrue (is_well_formed params.now) }
+        requires steady { AreSteady self.now }
+        ensures { StandsOnly result self.now.layout.parameters params.now self.now.slots }
     {
         if !self.directory.is_kept() {
             return Whereabouts::Unknown;

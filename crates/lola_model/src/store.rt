@@ -157,7 +157,7 @@ pub trait StreamStore: Drop {
     fn find(&self, _stream: u32, _params: &Params) -> Whereabouts
         requires stream { _stream < length (seen self.now).layout.streams }
         requires places { IsTrue (is_well_formed _params.now) }
-        ensures { StandsOnlyAt result _params.now (instances_seen (seen self.now) _stream) }
+        ensures { StandsOnlyAt result (parameters_of (slice_get (seen self.now).layout.streams _stream)) _params.now (instances_seen (seen self.now) _stream) }
     {
         Whereabouts::Unknown
     }

@@ -1,0 +1,110 @@
+-- The keys of a condition: comparisons of parameters with what is the same for all instances.
+use Rattle.std.specs.Prelude.{ℕ, ◌≡◌, ◌<◌, ◌⊎◌, List, Option, Some, None, Bool, true, false, IsTrue, length, slice_get}
+use Rattle.lola_value.specs.declared.text.Field.{Field}
+use Rattle.lola_value.specs.declared.value.Kind.{Kind}
+use Rattle.lola_value.specs.declared.value.Params.{Params}
+use Rattle.lola_value.specs.declared.value.Value.{Value}
+use Rattle.lola_value.specs.Answer.{Given}
+use Rattle.lola_value.specs.Arithmetic.{fields_equal}
+use Rattle.lola_value.specs.Naming.{Naming, AreHeld, IsHeld, read, read_params, the_values}
+use Rattle.lola_model.specs.Content.{Content}
+use Rattle.lola_model.specs.Denotation.{den, joined, truth}
+use Rattle.lola_model.specs.Store.{Memories, Seen, SeenInstance}
+use Rattle.lola_model.specs.Typing.{each_argument, each_part}
+use Rattle.lola_model.specs.Whereabouts.{may_stand_at}
+use Rattle.lola_model.specs.declared.expr.Arguments.{Arguments}
+use Rattle.lola_model.specs.declared.expr.Binary.TheVariants.{Equal}
+use Rattle.lola_model.specs.declared.expr.Expr.{Expr}
+use Rattle.lola_model.specs.declared.expr.Expr.TheVariants.{Parameter}
+use Rattle.lola_model.specs.declared.expr.Place.{Place}
+use Rattle.lola_model.specs.declared.plan.Plan.{Plan}
+use Rattle.lola_model.specs.declared.spec.Spec.{Spec}
+use Rattle.lola_model.specs.declared.store.Whereabouts.{Whereabouts}
+use Rattle.lola_expr.specs.Evaluation.{Sees, is_named}
+use Rattle.lola_keys.specs.declared.keys.Reach.{Reach}
+use Rattle.lola_keys.specs.declared.keys.Reach.TheVariants as reach
+
+-- no parameter
+abbrev pub is_no_parameter : Expr → Bool
+is_no_parameter (Parameter place i) = false
+is_no_parameter _ = true
+
+-- an expression in which no parameter stands
+abbrev pub is_fixed : Expr → Bool
+is_fixed e = each_part is_no_parameter e
+
+-- arguments in which none stands
+abbrev pub are_fixed : Arguments → Bool
+are_fixed args = each_argument is_no_parameter args
+
+-- the parameter of a number
+abbrev pub IsParameter : Option ℕ → Expr → Type 0
+IsParameter None e = Unit {0}
+IsParameter (Some i) e = (place : Place) × (e ≡ Parameter place i)
+
+-- what is noted was noted before, or is the value of this parameter
+abbrev pub AddsAt : ℕ → Value → List (Option Value) → List (Option Value) → Type 0
+AddsAt number value old new =
+    (i : ℕ) (v : Value) → slice_get new i ≡ Some (Some v) → (slice_get old i ≡ Some (Some v)) ⊎ ((i ≡ number) × (v ≡ value))
+
+-- the comparison of two expressions, whose outcome it is
+abbrev pub IsComparison : Spec → Content → Expr → Expr → Expr → Type 0
+IsComparison spec c a b e = (k : Kind) × ((q : List Field) → den spec c q e ≡ joined Equal k (den spec c q a) (den spec c q b))
+
+module _ (spec : Spec) (names : Naming) (c : Content) (count : ℕ) where
+  -- a condition that is true or false for all instances with so many parameters
+  abbrev pub IsDecided : Expr → Type 0
+  IsDecided e = (q : List Field) → length q ≡ count → (b : Bool) × (den spec c q e ≡ truth b)
+
+  -- a condition that is false for each of them whose parameter i is not this value, whichever stands left
+  pub record RulesOut (e : Expr) (i : ℕ) (v : Value) : Type 0 where
+    pub held : IsHeld names v
+    pub others : (q : List Field) (w : Field) → length q ≡ count → slice_get q i ≡ Some w → fields_equal w (read names v) ≡ false → fields_equal (read names v) w ≡ false
+        → den spec c q e ≡ truth false
+
+  -- what is noted was noted before, or the condition is false for those with another value
+  abbrev pub AddsKeys : Expr → List (Option Value) → List (Option Value) → Type 0
+  AddsKeys e old new = (i : ℕ) (v : Value) → slice_get new i ≡ Some (Some v) → (slice_get old i ≡ Some (Some v)) ⊎ RulesOut e i v
+
+  -- what is known by how far its keys were found
+  abbrev pub Binds : Reach → Expr → List (Option Value) → List (Option Value) → Type 0
+  Binds reach.Whole e old new = IsDecided e × AddsKeys e old new
+  Binds reach.Part e old new = AddsKeys e old new
+  Binds reach.Nowhere e old new = Unit {0}
+
+  -- a key that has this value for all instances
+  pub record HasValue (e : Expr) (v : Value) : Type 0 where
+    pub held : IsHeld names v
+    pub same : (q : List Field) → den spec c q e ≡ Given (read names v)
+
+  -- what is known of the key of a parameter
+  abbrev pub BindsKey : Reach → ℕ → Expr → List (Option Value) → List (Option Value) → Type 0
+  BindsKey reach.Whole number e old new = (v : Value) × (HasValue e v × (number < count) × AddsAt number v old new)
+  BindsKey reach.Part number e old new = new ≡ old
+  BindsKey reach.Nowhere number e old new = Unit {0}
+
+module _ (remembers : Memories) (s : Seen) (p : Params) where
+  -- the same, whatever the store stands for
+  abbrev pub IsKey : ℕ → Expr → Reach → List (Option Value) → List (Option Value) → Type 0
+  IsKey number e r old new =
+      (plan : Plan) (names : Naming) (c : Content) → Sees plan names c remembers s p → IsTrue (is_named names plan.spec.texts e)
+      → BindsKey plan.spec names c p.count r number e old new
+
+  -- of the comparison of two expressions
+  abbrev pub IsCompared : Expr → Expr → Reach → List (Option Value) → List (Option Value) → Type 0
+  IsCompared a b r old new =
+      (plan : Plan) (names : Naming) (c : Content) → Sees plan names c remembers s p → IsTrue (is_named names plan.spec.texts a) → IsTrue (is_named names plan.spec.texts b)
+      → (e : Expr) → IsComparison plan.spec c a b e → Binds plan.spec names c p.count r e old new
+
+  -- of a condition
+  abbrev pub IsBound : Expr → Reach → List (Option Value) → List (Option Value) → Type 0
+  IsBound e r old new =
+      (plan : Plan) (names : Naming) (c : Content) → Sees plan names c remembers s p → IsTrue (is_named names plan.spec.texts e)
+      → Binds plan.spec names c p.count r e old new
+
+  -- whatever the store stands for, the condition is false for each of these instances that does not stand at these whereabouts
+  abbrev pub IsFalseElsewhere : Expr → List SeenInstance → Whereabouts → Type 0
+  IsFalseElsewhere e xs w =
+      (plan : Plan) (names : Naming) (c : Content) → Sees plan names c remembers s p → IsTrue (is_named names plan.spec.texts e)
+      → (i : ℕ) (x : SeenInstance) → slice_get xs i ≡ Some x → AreHeld names (the_values x.params) → may_stand_at w i ≡ false
+      → den plan.spec c (read_params names x.params) e ≡ truth false

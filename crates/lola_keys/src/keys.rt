@@ -1,0 +1,125 @@
+//! The keys of a condition, and their values.
+
+ghost use Rattle.std.specs.Prelude.{◌≡◌, ◌<◌, ◌≤◌, IsTrue, MatchOption, Option, length};
+ghost use Rattle.lola_value.specs.declared.value.Value.{Value};
+ghost use Rattle.lola_model.specs.Store.{IsRunning};
+ghost use Rattle.lola_model.specs.Typing.{can_ask};
+ghost use Rattle.lola_keys.specs.Keys.{AddsAt, IsBound, IsCompared, IsParameter, IsKey};
+
+use crate::fixed::is_fixed;
+use lola_expr::evaluation::eval;
+use lola_model::expr::{Binary, Expr};
+use lola_model::store::StreamStore;
+use lola_value::value::{Outcome, Params, Value};
+
+/// How far the keys of a condition were found.
+#[derive(Clone, Copy, Debug, PartialEq, Eq)]
+pub enum Reach {
+    /// The whole of it is keys that have values.
+    Whole,
+    /// Its first part is.
+    Part,
+    /// A key has no value: the condition has that outcome for some instances, and it is to be asked of all.
+    Nowhere,
+}
+
+/// The number of the parameter that an expression is.
+fn parameter_of(expr: &Expr) -> Option<u32>
+    ensures { IsParameter result expr.now }
+{
+    match expr {
+        Expr::Parameter(_, number) => Some(*number),
+        _ => None,
+    }
+}
+
+/// Notes the value that a parameter is compared with, where none is noted yet.
+fn note(bound: &mut [Option<Value>], number: u32, value: Value)
+    requires { number < length bound.old }
+    ensures { AddsAt number value bound.old bound.new }
+{
+    let i = number as usize;
+    match bound[i] {
+        None => bound[i] = Some(value),
+        Some(_) => {}
+    }
+}
+
+/// Notes the value of a key: of the expression that the parameter of a number is compared with. One in which a parameter stands is no
+/// key.
+fn bind_key<S: StreamStore>(
+    number: u32,
+    expr: &Expr,
+    params: &Params,
+    store: &S,
+    bound: &mut [Option<Value>],
+) -> Reach
+    requires running { IsRunning (S.seen store.now) }
+    requires count { params.now.count ≤ 4 }
+    requires places { params.now.count ≤ length bound.old }
+    requires asks { IsTrue (can_ask (S.seen store.now) params.now expr.now) }
+    ensures { IsKey (S.remembers store.now) (S.seen store.now) params.now number expr.now result bound.old bound.new }
+{
+    if number >= params.count as u32 || !is_fixed(expr) {
+        return Reach::Part;
+    }
+    match eval(expr, *params, store) {
+        Outcome::Value(value) => {
+            note(bound, number, value);
+            Reach::Whole
+        }
+        _ => Reach::Nowhere,
+    }
+}
+
+/// The same of a comparison, of which either side may be the parameter.
+fn bind_equal<S: StreamStore>(
+    a: &Expr,
+    b: &Expr,
+    params: &Params,
+    store: &S,
+    bound: &mut [Option<Value>],
+) -> Reach
+    requires running { IsRunning (S.seen store.now) }
+    requires count { params.now.count ≤ 4 }
+    requires places { params.now.count ≤ length bound.old }
+    requires left { IsTrue (can_ask (S.seen store.now) params.now a.now) }
+    requires right { IsTrue (can_ask (S.seen store.now) params.now b.now) }
+    ensures { IsCompared (S.remembers store.now) (S.seen store.now) params.now a.now b.now result bound.old bound.new }
+{
+    if let Some(number) = parameter_of(a) {
+        return bind_key(number, b, params, store, bound);
+    }
+    match parameter_of(b) {
+        Some(number) => bind_key(number, a, params, store, bound),
+        None => Reach::Part,
+    }
+}
+
+/// Notes the values of the keys of a condition, which is asked for an instance with these parameters: of each comparison of a
+/// parameter with an expression without parameters, as long as what stands before it in the conjunction is such a comparison too.
+#[cycle(bind)]
+pub fn bind<S: StreamStore>(
+    expr: &Expr,
+    params: &Params,
+    store: &S,
+    bound: &mut [Option<Value>],
+) -> Reach
+    requires running { IsRunning (S.seen store.now) }
+    requires count { params.now.count ≤ 4 }
+    requires places { params.now.count ≤ length bound.old }
+    requires asks { IsTrue (can_ask (S.seen store.now) params.now expr.now) }
+    ensures { IsBound (S.remembers store.now) (S.seen store.now) params.now expr.now result bound.old bound.new }
+{
+    match expr {
+        Expr::Both(_, sign, a, b) => match *sign {
+            Binary::And => match bind(a, params, store, bound) {
+                Reach::Whole => bind(b, params, store, bound),
+                reach => reach,
+            },
+            Binary::Equal => bind_equal(a, b, params, store, bound),
+            _ => Reach::Part,
+        },
+        _ => Reach::Part,
+    }
+}

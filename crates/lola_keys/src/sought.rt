@@ -1,0 +1,58 @@
+//! Which instances of a stream a condition may be true for.
+
+ghost use Rattle.std.specs.Prelude.{◌≡◌, ◌<◌, ◌≤◌, Some, IfSome, IsTrue, length, map, slice_get};
+ghost use Rattle.lola_value.specs.Kinds.{are_of_kinds, is_well_formed};
+ghost use Rattle.lola_value.specs.Naming.{the_values};
+ghost use Rattle.lola_model.specs.Store.{IsRunning, instances_seen, parameters_of};
+ghost use Rattle.lola_model.specs.Typing.{can_ask};
+ghost use Rattle.lola_keys.specs.Keys.{IsFalseElsewhere};
+
+use crate::keys::{Reach, bind};
+use lola_model::expr::Expr;
+use lola_model::store::{StreamStore, Whereabouts};
+use lola_value::value::{Params, Value};
+
+/// The parameters that are bound, if each is.
+fn params_bound(bound: &[Option<Value>]) -> Option<Params>
+    requires { length bound.now ≤ 4 }
+    ensures values { IfSome result (λ p. map Some (the_values p) ≡ bound.now) }
+    ensures count { IfSome result (λ p. p.count ≡ length bound.now) }
+    ensures places { IfSome result (λ p. IsTrue (is_well_formed p)) }
+{
+    match bound.split_first() {
+        None => Some(Params::none()),
+        Some((first, others)) => match *first {
+            None => None,
+            Some(value) => match params_bound(others) {
+                None => None,
+                Some(params) => Some(params.led_by(value)),
+            },
+        },
+    }
+}
+
+/// Where the one instance of a stream stands that a condition may be true for, where the condition compares each parameter with
+/// something that has a value; else nothing is said. The parameters are those of some instance. For each instance that stands elsewhere
+/// the condition is false, whatever the store stands for. Nothing else is evaluated, and no memory is taken.
+pub fn whereabouts<S: StreamStore>(
+    when: &Expr,
+    params: &Params,
+    stream: u32,
+    store: &S,
+) -> Whereabouts
+    requires running { IsRunning (S.seen store.now) }
+    requires count { params.now.count ≤ 4 }
+    requires stream { stream < length (S.seen store.now).layout.streams }
+    requires kinds { IsTrue (are_of_kinds (parameters_of (slice_get (S.seen store.now).layout.streams stream)) (the_values params.now)) }
+    requires asks { IsTrue (can_ask (S.seen store.now) params.now when.now) }
+    ensures { IsFalseElsewhere (S.remembers store.now) (S.seen store.now) params.now when.now (instances_seen (S.seen store.now) stream) result }
+{
+    let mut bound = [None; 4];
+    if let Reach::Nowhere = bind(when, params, store, &mut bound) {
+        return Whereabouts::Unknown;
+    }
+    match params_bound(&bound[..params.count as usize]) {
+        Some(wanted) => store.find(stream, &wanted),
+        None => Whereabouts::Unknown,
+    }
+}
