@@ -28,5 +28,6 @@ pub mod Elements
 pub mod Faulty
 pub mod Leaving
 pub mod ClosesDue
+pub mod Alone
 pub mod Standing
 pub mod Valued

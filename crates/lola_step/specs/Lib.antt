@@ -16,3 +16,4 @@ pub mod Beginnings
 pub mod Given
 pub mod Found
 pub mod Closings
+pub mod Sought

@@ -1,6 +1,6 @@
 //! The close clauses of a step.
 
-ghost use Rattle.std.specs.Prelude.{◌≡◌, ◌+◌, ◌<◌, ◌≤◌, [], ◌++◌, IsTrue, Some, length, reverse, slice_get, true, vec_len};
+ghost use Rattle.std.specs.Prelude.{◌≡◌, ◌+◌, ◌<◌, ◌≤◌, [], ◌++◌, IsTrue, Some, length, reverse, slice_get, true, false, vec_len};
 ghost use Rattle.std.specs.Vec.{vec_capacity};
 ghost use Rattle.lola_value.specs.Naming.{Naming};
 ghost use Rattle.lola_value.specs.Times.{latest};
@@ -18,18 +18,21 @@ ghost use Rattle.lola_step.specs.Found.{add_fault};
 ghost use Rattle.lola_step.specs.Moments.{IsListedIn, active_for_in, born_seen, may_be_active_in};
 ghost use Rattle.lola_step.specs.Notes.{AreClosable, places_of};
 ghost use Rattle.lola_step.specs.Progress.{IsMomentOf, IsOf};
+ghost use Rattle.lola_model.specs.declared.store.Whereabouts.TheVariants as whereabouts;
+ghost use Rattle.lola_step.specs.Sought.{IsFalseElsewhere};
 ghost use Rattle.lola_step.specs.Rooms.{rooms, total};
 ghost use Rattle.lola_step.specs.Tasks.{params_seen};
 
 use crate::clauses::close_outcome;
 use crate::ends::with_fault;
 use crate::moment::{Moment, is_active_for, may_be_active};
+use crate::seek::seek;
 use crate::tasks::Task;
 use lola_contents::calls::close;
 use lola_model::pacing::{ClausePacings, Pacing};
 use lola_model::plan::Plan;
 use lola_model::spec::{Clause, Stream};
-use lola_model::store::StreamStore;
+use lola_model::store::{StreamStore, Whereabouts};
 use lola_value::value::{FaultKind, Outcome, Value};
 
 /// The pacing of the close clause of stream `n`.
@@ -119,6 +122,76 @@ fn find_among<S: StreamStore>(
     least
 }
 
+/// The same where the condition is false for all instances but one: it is asked of that one alone.
+fn find_one<S: StreamStore>(
+    plan: &Plan,
+    moment: &Moment,
+    clause: &Clause,
+    pacing: &Option<Pacing>,
+    store: &S,
+    stream: u32,
+    index: u32,
+    closing: &mut Vec<Task>,
+) -> Option<FaultKind>
+    requires in_time { moment.now.time ≤ latest }
+    requires may { may_be_active_in moment.now pacing.now ≡ true }
+    requires running { IsRunning (S.seen store.now) }
+    requires layout { (S.seen store.now).layout ≡ layout_of plan.now }
+    requires asks { MayAskClosing plan.now moment.now pacing.now (S.seen store.now) stream clause.now }
+    requires stream { stream < length (S.seen store.now).layout.streams }
+    requires spawns { IsTrue (spawns_in (slice_get (S.seen store.now).layout.streams stream)) }
+    requires closable { AreUpTo (S.seen store.now) (record { stream = stream; index = 0 }) closing.old.items }
+    requires lives { index < length (instances_seen (S.seen store.now) stream) }
+    requires alone { IsFalseElsewhere plan.now (S.remembers store.now) (S.seen store.now) stream clause.now (whereabouts.At index) }
+    requires room { vec_len closing.old < vec_capacity closing.old }
+    ensures closable { AreUpTo (S.seen store.now) (record { stream = stream + 1; index = 0 }) closing.new.items }
+    ensures finds { FindsAmong plan.now moment.now pacing.now (S.remembers store.now) (S.seen store.now) (Some clause.now) stream result closing.old.items closing.new.items }
+    ensures count { vec_len closing.new ≤ vec_len closing.old + length (instances_seen (S.seen store.now) stream) }
+    ensures capacity { vec_capacity closing.new ≡ vec_capacity closing.old }
+{
+    let condition = close_condition(plan, moment, clause, pacing, store, stream, index);
+    note_condition(condition, Task { stream, index }, None, closing)
+}
+
+/// The same of a clause that is active for all instances alike: the condition is asked of the one instance that it may be true for,
+/// where its first comparisons tell which that is, and else of all.
+fn find_asked<S: StreamStore>(
+    plan: &Plan,
+    moment: &Moment,
+    clause: &Clause,
+    pacing: &Option<Pacing>,
+    store: &S,
+    stream: u32,
+    closing: &mut Vec<Task>,
+) -> Option<FaultKind>
+    requires global { is_local pacing.now ≡ false }
+    requires in_time { moment.now.time ≤ latest }
+    requires may { may_be_active_in moment.now pacing.now ≡ true }
+    requires running { IsRunning (S.seen store.now) }
+    requires layout { (S.seen store.now).layout ≡ layout_of plan.now }
+    requires asks { MayAskClosing plan.now moment.now pacing.now (S.seen store.now) stream clause.now }
+    requires stream { stream < length (S.seen store.now).layout.streams }
+    requires spawns { IsTrue (spawns_in (slice_get (S.seen store.now).layout.streams stream)) }
+    requires closable { AreUpTo (S.seen store.now) (record { stream = stream; index = 0 }) closing.old.items }
+    requires room { vec_len closing.old + length (instances_seen (S.seen store.now) stream) ≤ vec_capacity closing.old }
+    ensures closable { AreUpTo (S.seen store.now) (record { stream = stream + 1; index = 0 }) closing.new.items }
+    ensures finds { FindsAmong plan.now moment.now pacing.now (S.remembers store.now) (S.seen store.now) (Some clause.now) stream result closing.old.items closing.new.items }
+    ensures count { vec_len closing.new ≤ vec_len closing.old + length (instances_seen (S.seen store.now) stream) }
+    ensures capacity { vec_capacity closing.new ≡ vec_capacity closing.old }
+{
+    match seek(plan, clause, store, stream) {
+        Whereabouts::Unknown => find_among(plan, moment, clause, pacing, store, stream, closing),
+        Whereabouts::Nowhere => None,
+        Whereabouts::At(index) => {
+            if index < store.instances(stream) {
+                find_one(plan, moment, clause, pacing, store, stream, index, closing)
+            } else {
+                None
+            }
+        }
+    }
+}
+
 /// The same for a clause that counts from the birth of each instance: the condition is asked of the instances that have a deadline.
 fn find_due<S: StreamStore>(
     plan: &Plan,
@@ -193,7 +266,7 @@ fn find_in_stream<S: StreamStore>(
         Some(Pacing::Local(_)) => find_due(
             plan, moment, clause, pacing, store, number, places, closing,
         ),
-        _ => find_among(plan, moment, clause, pacing, store, number, closing),
+        _ => find_asked(plan, moment, clause, pacing, store, number, closing),
     }
 }
 

@@ -10,6 +10,7 @@ mod inputs;
 pub mod mark;
 pub mod moment;
 pub mod scratch;
+mod seek;
 mod spawns;
 pub mod step;
 pub mod tasks;

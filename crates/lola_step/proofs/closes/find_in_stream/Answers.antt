@@ -26,18 +26,18 @@ returns-then-not-may_be_active-clause-finds g c =
     none_active c.args.plan.now c.args.moment.now (g.S.StreamStore.remembers c.args.store.now) (g.S.StreamStore.seen c.args.store.now) c.args.number c.args.stream.now
     c.args.closing.now.items (sym (ap (may_be_active_in c.args.moment.now) pacing) ∙ (sym c.may_be_active.ensures ∙ c.if-not-may_be_active.true))
 
-pub find_among-requires-clause-asks : goal.find_among-requires-clause-asks
-find_among-requires-clause-asks g c =
+pub find_asked-requires-clause-asks : goal.find_asked-requires-clause-asks
+find_asked-requires-clause-asks g c =
     closes_asked c.args.plan.now c.requires.accepted (g.S.StreamStore.seen c.args.store.now) c.requires.of c.args.number c.args.stream.now c.requires.there c.in-Some.clause c.in-Some.is
     c.args.moment.now c.requires.moment c.requires.running c.close_pacing_at-pacing.result.now
     (c.close_pacing_at-pacing.ensures ∙ ap (λ ps. close_pacing (slice_get ps c.args.number)) c.as_slice.ensures)
 
-pub find_among-requires-clause-stream : goal.find_among-requires-clause-stream
-find_among-requires-clause-stream g c =
+pub find_asked-requires-clause-stream : goal.find_asked-requires-clause-stream
+find_asked-requires-clause-stream g c =
     laid_out c.args.plan.now c.requires.accepted (g.S.StreamStore.seen c.args.store.now) c.requires.of c.args.number c.args.stream.now c.requires.there
 
-pub find_among-requires-clause-spawns : goal.find_among-requires-clause-spawns
-find_among-requires-clause-spawns g c =
+pub find_asked-requires-clause-spawns : goal.find_asked-requires-clause-spawns
+find_asked-requires-clause-spawns g c =
     closes_spawned c.args.plan.now c.requires.accepted (g.S.StreamStore.seen c.args.store.now) c.requires.of c.args.number c.args.stream.now c.requires.there c.in-Some.clause c.in-Some.is
 
 pub find_due-requires-clause-listed : goal.find_due-requires-clause-listed
@@ -73,5 +73,5 @@ returns-in-Some-Local-clause-finds g c =
 pub returns-in_default-pacing-clause-finds : goal.returns-in_default-pacing-clause-finds
 returns-in_default-pacing-clause-finds g c =
     found_in c.args.plan.now c.args.moment.now (g.S.StreamStore.remembers c.args.store.now) (g.S.StreamStore.seen c.args.store.now) c.args.number c.args.stream.now
-    c.args.closing.now.items c.close_pacing_at-pacing.result.now c.in-Some.clause c.find_among.result c.find_among.new.closing.items
-    (c.close_pacing_at-pacing.ensures ∙ ap (λ ps. close_pacing (slice_get ps c.args.number)) c.as_slice.ensures) c.in-Some.is c.find_among.ensures.finds
+    c.args.closing.now.items c.close_pacing_at-pacing.result.now c.in-Some.clause c.find_asked.result c.find_asked.new.closing.items
+    (c.close_pacing_at-pacing.ensures ∙ ap (λ ps. close_pacing (slice_get ps c.args.number)) c.as_slice.ensures) c.in-Some.is c.find_asked.ensures.finds

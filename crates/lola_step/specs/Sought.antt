@@ -1,0 +1,31 @@
+-- Which instances a clause is to be asked for.
+use Rattle.std.specs.Prelude.{ℕ, ◌≡◌, List, Some, true, false, IsTrue, slice_get, unwrap_or}
+use Rattle.lola_value.specs.declared.value.Params.{Params}
+use Rattle.lola_value.specs.Answer.{Missing}
+use Rattle.lola_value.specs.Kinds.{are_of_kinds}
+use Rattle.lola_value.specs.Naming.{Naming, read_params, the_values}
+use Rattle.lola_model.specs.Content.{Content}
+use Rattle.lola_model.specs.Denotation.{truth}
+use Rattle.lola_model.specs.Model.{eval_pacing, when_answer}
+use Rattle.lola_model.specs.Store.{Memories, Seen, SeenInstance, instances_seen, parameters_of}
+use Rattle.lola_model.specs.Whereabouts.{may_stand_at}
+use Rattle.lola_model.specs.declared.plan.Plan.{Plan}
+use Rattle.lola_model.specs.declared.spec.Clause.{Clause}
+use Rattle.lola_model.specs.declared.spec.Stream.{Stream}
+use Rattle.lola_model.specs.declared.store.Whereabouts.{Whereabouts}
+use Rattle.lola_ready.specs.Ready.{IsWhenAskable}
+use Rattle.lola_step.specs.Clauses.{eval_answer}
+use Rattle.lola_step.specs.Closings.{IsShown}
+use Rattle.lola_step.specs.Moments.{active_for_in}
+use Rattle.lola_step.specs.declared.moment.Moment.{Moment}
+
+-- the condition of a clause of stream n may be asked for each instance
+abbrev pub MayAskWhen : Plan → Seen → ℕ → Clause → Type 0
+MayAskWhen plan s n k =
+    (p : Params) → IsTrue (are_of_kinds (parameters_of (slice_get s.layout.streams n)) (the_values p)) → IsWhenAskable s p plan.spec.texts k.when
+
+-- whatever the store stands for, the condition is false for each instance of stream n that does not stand at these whereabouts
+abbrev pub IsFalseElsewhere : Plan → Memories → Seen → ℕ → Clause → Whereabouts → Type 0
+IsFalseElsewhere plan remembers s n k w =
+    (names : Naming) (c : Content) → IsShown plan names c remembers s → (i : ℕ) (x : SeenInstance) → slice_get (instances_seen s n) i ≡ Some x → may_stand_at w i ≡ false
+    → when_answer plan.spec c (read_params names x.params) k.when ≡ truth false
