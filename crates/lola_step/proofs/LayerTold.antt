@@ -14,11 +14,13 @@ use Rattle.lola_model.specs.Model.{eval_outcome, eval_pacing, is_input, spawned_
 use Rattle.lola_model.specs.NextStep.{is_local}
 use Rattle.lola_model.specs.Store.{Memories, Seen, SeenInstance, SeenStream, StandForLives, StandForStreams, StreamLayout, instances_of, instances_seen, spawns_in}
 use Rattle.lola_model.specs.Table.{Idle, Instance, Living, Named, SpawnFailed, SpawnPoisoned, Spawned, Step, StreamRow, TableRow}
+use Rattle.lola_model.specs.Whereabouts.{may_stand_at}
 use Rattle.lola_model.specs.declared.pacing.Pacing.{Pacing}
 use Rattle.lola_model.specs.declared.plan.Plan.{Plan}
 use Rattle.lola_model.specs.declared.spec.Clause.{Clause}
 use Rattle.lola_model.specs.declared.spec.Spec.{Spec}
 use Rattle.lola_model.specs.declared.spec.Stream.{Stream}
+use Rattle.lola_model.specs.declared.store.Whereabouts.{Whereabouts}
 use Rattle.lola_contents.specs.Changed.{lives_in, told}
 use Rattle.lola_expr.specs.Evaluation.{Sees}
 use Rattle.lola_stages.specs.Nexts.{EvalIs, EvalsGo, Told, is_run_in, living_in, told_each, told_from, told_in_layer}
@@ -29,8 +31,9 @@ use Rattle.lola_step.specs.Clauses.{IsAnswer, eval_answer}
 use Rattle.lola_step.specs.Evals.{IsReadyFor}
 use Rattle.lola_step.specs.Given.{AreHeldIn, AreResults, told_outcomes}
 use Rattle.lola_step.specs.Moments.{active_for_in, birth_at, born_seen}
-use Rattle.lola_step.specs.Notes.{AreMarks, AreOfStream, AreSilent, ReadEach, ShowLiving, ShowResults, asked_in, done_of, in_span, is_fine, layer_tasks, mark_of, runs_in, stream_tasks, tasks_at}
+use Rattle.lola_step.specs.Notes.{AreMarks, AreOfStream, AreSilent, ReadEach, ShowLiving, ShowResults, asked_in, done_of, in_span, is_fine, layer_tasks, mark_of, runs_in, sought_at, stream_tasks, tasks_at}
 use Rattle.lola_step.specs.Progress.{IsAt, IsRunAt}
+use Rattle.lola_step.specs.Sought.{AreSought, IsSilentElsewhere}
 use Rattle.lola_step.specs.Tasks.{IsResult, params_at}
 use Rattle.lola_step.specs.declared.mark.Mark.{Mark}
 use Rattle.lola_step.specs.declared.moment.Moment.{Moment}
@@ -40,7 +43,7 @@ use Rattle.lola_step.proofs.Activities.{active_for_is, may_be_is, never_active}
 use Rattle.lola_step.proofs.Asking.{evals_locally}
 use Rattle.lola_step.proofs.Gathering.{asked_tasks, run_is_to_come}
 use Rattle.lola_step.proofs.LayerNotes.{as_many_spans, same_asked_in, same_in_span, span_of, spans_after}
-use Rattle.lola_step.proofs.Places.{asked_of_stream, asked_where, asks_of, of_stream_where, places_where, task_at, unasked_is_inactive}
+use Rattle.lola_step.proofs.Places.{asked_of_stream, asked_where, asks_of, of_stream_where, paced_for, places_where, task_at, unasked_so, unpaced_is_inactive}
 use Rattle.lola_step.proofs.Quiet.{IsQuiet, held_of_stream, quiet_lives, quiet_same, read_asked, read_past, told_else, told_stream}
 use Rattle.lola_step.proofs.Results.{SpanOf, count_results, split_results}
 use Rattle.lola_step.proofs.Undue.{evals_listed}
@@ -131,7 +134,7 @@ module _ (names : Naming) where
   held_in_parts (suc k) [] h g = tt
   held_in_parts (suc k) (r ∷ rs) h g = (h.0, held_in_parts k rs h.1 g)
 
-module _ (plan : Plan) (m : Moment) (marks : List Mark) (remembers : Memories) (s : Seen) (layer : ℕ) (accepted : IsAccepted plan)
+module _ (plan : Plan) (m : Moment) (marks : List Mark) (sought : List Whereabouts) (remembers : Memories) (s : Seen) (layer : ℕ) (accepted : IsAccepted plan)
     (names : Naming) (rows : List TableRow) (step : Step) where
   abbrev count : ℕ
   count = length plan.spec.streams
@@ -154,7 +157,8 @@ module _ (plan : Plan) (m : Moment) (marks : List Mark) (remembers : Memories) (
   go : EvalsGo plan m.start rows step layer
   go = evals_go plan accepted m.start rows step layer
 
-  module _ (layout_at : IsAt plan now s) (run : IsRunAt plan m now remembers s names rows step) (marked : AreMarks plan full now marks) where
+  module _ (layout_at : IsAt plan now s) (run : IsRunAt plan m now remembers s names rows step) (marked : AreMarks plan full now marks)
+      (seeks : AreSought plan m marks sought remembers s layer) where
     module _ (n : ℕ) (x : Stream) (at : slice_get plan.spec.streams n ≡ Some x) where
       abbrev did : Spawned
       did = spawned_in (slice_get full n)
@@ -197,7 +201,7 @@ module _ (plan : Plan) (m : Moment) (marks : List Mark) (remembers : Memories) (
         pub quiet_here : is_input x ≡ false → layer_of plan.layers (eval_node n) ≡ layer → IsQuiet content_now n 0
         quiet_here i l =
             quiet_lives names remembers n (instances_seen s n) content_now stands_here
-            (λ j. layout_at.silent n j x at (run_is_to_come plan m marks s layer n x (record { no_input = i; layer_is = l })))
+            (λ j. layout_at.silent n j x at (run_is_to_come plan m marks sought s layer n x (record { no_input = i; layer_is = l })))
 
         births_here : is_local pacing ≡ true → map (λ (y : SeenInstance). y.born) (instances_seen s n) ≡ map (λ (l : Living). time_of_birth l.instance) (living n)
         births_here local =
@@ -224,7 +228,7 @@ module _ (plan : Plan) (m : Moment) (marks : List Mark) (remembers : Memories) (
         outcome_of y = eval_outcome plan.spec content_now false (active y) x.eval y.params
 
         abbrev asks : ℕ → Bool
-        asks i = asks_of pacing m s n i
+        asks i = asks_of (sought_at sought n) pacing m s n i
 
         -- what is known of an instance at a place
         record KnownAt (i : ℕ) (y : SeenInstance) (l : Living) : Type 0 where
@@ -253,37 +257,47 @@ module _ (plan : Plan) (m : Moment) (marks : List Mark) (remembers : Memories) (
               given.1,
             )
 
-        -- one that is not asked is not active, and silent
-        unasked_silent : (i : ℕ) (y : SeenInstance) (l : Living) → KnownAt i y l → asks i ≡ false → l.outcome ≡ Missing
-        unasked_silent i y l k e =
-            let idle : active_for_in m (born_seen s n i) pacing ≡ false = unasked_is_inactive pacing m s n i (evals_listed plan s layout_at.of n x at) e in
-            let born : born_seen s n i ≡ y.born = ap birth_at k.there in
-            let off : active l.instance ≡ false = sym (active_here i y l k) ∙ (ap (λ t. active_for_in m t pacing) (sym born) ∙ idle) in
-            k.outcome ∙ missing_where plan.spec content_now false (active l.instance) x.eval l.instance.params (ap (λ b. b && true) off)
+        -- one that is not asked is not active or has a false condition, and is silent
+        unasked_silent : IsSilentElsewhere plan m remembers s n (sought_at sought n) → (i : ℕ) (y : SeenInstance) (l : Living) → KnownAt i y l → asks i ≡ false → l.outcome ≡ Missing
+        unasked_silent elsewhere i y l k e = by (unasked_so (sought_at sought n) pacing m s n i e)
+          where
+            by : (may_stand_at (sought_at sought n) i ≡ false) ⊎ (paced_for pacing m s n i ≡ false) → l.outcome ≡ Missing
+            by (inl out) =
+                let none = elsewhere names content_now (record { naming = run.run.naming; texts = run.run.texts; stands = run.stands }) i y k.there out in
+                k.outcome
+                ∙ (sym (ap (λ o. eval_answer plan.spec (active_for_in m y.born pacing) o content_now (read_params names y.params)) at
+                ∙ (ap (λ b. eval_outcome plan.spec content_now false b x.eval (read_params names y.params)) (active_here i y l k)
+                ∙ ap (λ p. eval_outcome plan.spec content_now false (active l.instance) x.eval p) k.params))
+                ∙ none)
+            by (inr rests) =
+                let idle : active_for_in m (born_seen s n i) pacing ≡ false = unpaced_is_inactive pacing m s n i (evals_listed plan s layout_at.of n x at) rests in
+                let born : born_seen s n i ≡ y.born = ap birth_at k.there in
+                let off : active l.instance ≡ false = sym (active_here i y l k) ∙ (ap (λ t. active_for_in m t pacing) (sym born) ∙ idle) in
+                k.outcome ∙ missing_where plan.spec content_now false (active l.instance) x.eval l.instance.params (ap (λ b. b && true) off)
 
         abbrev Reads : ℕ → List ℕ → List Living → Type 0
         Reads i ps ls = (rs : List Outcome) → AreResults plan m remembers s (tasks_at n ps) rs → ReadEach names i (tasks_at n ps) rs ls
 
-        reads_one : (i k : ℕ) (y : SeenInstance) (l : Living) (ls : List Living) (ps : List ℕ) → KnownAt i y l → AreOfStream n (i + 1) k (tasks_at n ps) → Reads (i + 1) ps ls
+        reads_one : IsSilentElsewhere plan m remembers s n (sought_at sought n) → (i k : ℕ) (y : SeenInstance) (l : Living) (ls : List Living) (ps : List ℕ) → KnownAt i y l → AreOfStream n (i + 1) k (tasks_at n ps) → Reads (i + 1) ps ls
             → (b : Bool) → asks i ≡ b → Reads i (if b then i ∷ ps else ps) (l ∷ ls)
-        reads_one i k y l ls ps known o rest true e [] h = absurd h
-        reads_one i k y l ls ps known o rest true e (r ∷ rs) h =
+        reads_one elsewhere i k y l ls ps known o rest true e [] h = absurd h
+        reads_one elsewhere i k y l ls ps known o rest true e (r ∷ rs) h =
             let own = asked_reads i y l r known h.0 in
             read_asked names n i (tasks_at n ps) r rs l ls (own.0, own.1, rest rs h.1)
-        reads_one i k y l ls ps known o rest false e rs h = read_past names n i k (tasks_at n ps) rs l ls o (unasked_silent i y l known e, rest rs h)
+        reads_one elsewhere i k y l ls ps known o rest false e rs h = read_past names n i k (tasks_at n ps) rs l ls o (unasked_silent elsewhere i y l known e, rest rs h)
 
-        read_each : (i : ℕ) (xs : List SeenInstance) (vs : List Life) (ls : List Living)
+        read_each : IsSilentElsewhere plan m remembers s n (sought_at sought n) → (i : ℕ) (xs : List SeenInstance) (vs : List Life) (ls : List Living)
             → ((j : ℕ) → slice_get (instances_seen s n) (i + j) ≡ slice_get xs j)
             → StandForLives names remembers n i xs vs → map (λ l. l.params) vs ≡ map (λ l. l.instance.params) ls
             → (is_local pacing ≡ true → map (λ (z : SeenInstance). z.born) xs ≡ map (λ (z : Living). time_of_birth z.instance) ls)
             → AreOutcomes outcome_of ls → Reads i (places_where asks i (length xs)) ls
-        read_each i [] [] [] shown stand same births are [] results = tt
-        read_each i [] [] [] shown stand same births are (r ∷ rs) results = absurd results
-        read_each i [] [] (l ∷ ls) shown stand same births are rs results = absurd (cc)
-        read_each i [] (v ∷ vs) ls shown stand same births are rs results = absurd stand
-        read_each i (y ∷ xs) [] ls shown stand same births are rs results = absurd stand
-        read_each i (y ∷ xs) (v ∷ vs) [] shown stand same births are rs results = absurd (cc)
-        read_each i (y ∷ xs) (v ∷ vs) (l ∷ ls) shown stand same births are rs results =
+        read_each elsewhere i [] [] [] shown stand same births are [] results = tt
+        read_each elsewhere i [] [] [] shown stand same births are (r ∷ rs) results = absurd results
+        read_each elsewhere i [] [] (l ∷ ls) shown stand same births are rs results = absurd (cc)
+        read_each elsewhere i [] (v ∷ vs) ls shown stand same births are rs results = absurd stand
+        read_each elsewhere i (y ∷ xs) [] ls shown stand same births are rs results = absurd stand
+        read_each elsewhere i (y ∷ xs) (v ∷ vs) [] shown stand same births are rs results = absurd (cc)
+        read_each elsewhere i (y ∷ xs) (v ∷ vs) (l ∷ ls) shown stand same births are rs results =
             let params : v.params ≡ l.instance.params = cc in
             let rest : map (λ (z : Life). z.params) vs ≡ map (λ (z : Living). z.instance.params) ls = cc in
             let known : KnownAt i y l = record {
@@ -293,19 +307,19 @@ module _ (plan : Plan) (m : Moment) (marks : List Mark) (remembers : Memories) (
               born = λ local. (let e = births local in cc);
               outcome = are.0;
             } in
-            reads_one i ((i + 1) + length xs) y l ls (places_where asks (i + 1) (length xs)) known
+            reads_one elsewhere i ((i + 1) + length xs) y l ls (places_where asks (i + 1) (length xs)) known
             (of_stream_where asks n (i + 1) (length xs) ((i + 1) + length xs) (omega arith))
-            (read_each (i + 1) xs vs ls (λ j. ap (λ k. slice_get (instances_seen s n) k) (same_place i j) ∙ shown (suc j)) stand.1 rest (λ local. (let e = births local in cc)) are.1)
+            (read_each elsewhere (i + 1) xs vs ls (λ j. ap (λ k. slice_get (instances_seen s n) k) (same_place i j) ∙ shown (suc j)) stand.1 rest (λ local. (let e = births local in cc)) are.1)
             (asks i) refl rs results
           where
             same_place : (a b : ℕ) → (a + 1) + b ≡ a + suc b
             same_place a b = omega arith
 
-        read_here : is_bad did ≡ false → (rs : List Outcome) → AreResults plan m remembers s (asked_tasks plan m marks s layer n) rs
-            → ReadEach names 0 (asked_tasks plan m marks s layer n) rs (living n)
-        read_here b rs =
-            subst (λ ps. AreResults plan m remembers s (tasks_at n ps) rs → ReadEach names 0 (tasks_at n ps) rs (living n)) (sym (asked_where pacing m s n))
-            (read_each 0 (instances_seen s n) (lives_in (slice_get content_now.streams n)) (living n)
+        read_here : IsSilentElsewhere plan m remembers s n (sought_at sought n) → is_bad did ≡ false → (rs : List Outcome) → AreResults plan m remembers s (asked_tasks plan m marks sought s layer n) rs
+            → ReadEach names 0 (asked_tasks plan m marks sought s layer n) rs (living n)
+        read_here elsewhere b rs =
+            subst (λ ps. AreResults plan m remembers s (tasks_at n ps) rs → ReadEach names 0 (tasks_at n ps) rs (living n)) (sym (asked_where (sought_at sought n) pacing m s n))
+            (read_each elsewhere 0 (instances_seen s n) (lives_in (slice_get content_now.streams n)) (living n)
             (λ j. ap (λ k. slice_get (instances_seen s n) k) (zero-add j)) stands_here here.lives births_here (answers_here b) rs)
 
       -- all that is known of a stream that runs
@@ -328,9 +342,9 @@ module _ (plan : Plan) (m : Moment) (marks : List Mark) (remembers : Memories) (
             layer_is = eqb-true (layer_of plan.layers (eval_node n)) layer b.0;
           }
 
-      pub read_stream : runs_in plan m marks layer n x ≡ true → (rs : List Outcome) → AreResults plan m remembers s (asked_tasks plan m marks s layer n) rs
-          → ReadEach names 0 (asked_tasks plan m marks s layer n) rs (living n)
-      read_stream e rs h = let k = reads e in read_here k.here k.is_good rs h
+      pub read_stream : runs_in plan m marks layer n x ≡ true → (rs : List Outcome) → AreResults plan m remembers s (asked_tasks plan m marks sought s layer n) rs
+          → ReadEach names 0 (asked_tasks plan m marks sought s layer n) rs (living n)
+      read_stream e rs h = let k = reads e in read_here k.here (seeks n x at e) k.is_good rs h
 
       pub quiet_stream : runs_in plan m marks layer n x ≡ true → IsQuiet content_now n 0
       quiet_stream e = let k = reads e in quiet_here k.here k.no_input k.layer_is
@@ -351,7 +365,7 @@ module _ (plan : Plan) (m : Moment) (marks : List Mark) (remembers : Memories) (
       pub held : AreHeldIn names rs
 
     abbrev asked : ℕ → List Task
-    asked n = asked_tasks plan m marks s layer n
+    asked n = asked_tasks plan m marks sought s layer n
 
     tells_stream : (n : ℕ) (x : Stream) → slice_get plan.spec.streams n ≡ Some x → (d : Content) (rs : List Outcome) (b e : Bool) → runs_in plan m marks layer n x ≡ b → e ≡ b
         → (runs_in plan m marks layer n x ≡ true → IsQuiet d n 0)
@@ -364,7 +378,7 @@ module _ (plan : Plan) (m : Moment) (marks : List Mark) (remembers : Memories) (
     tells_stream n x at d rs true true r q quiet h =
         let each = read_stream n x at r rs h in
         record {
-          same = told_stream names n (length (instances_seen s n)) (asked n) rs (living n) d (asked_of_stream (eval_pacing (slice_get plan.pacings n)) m s n) (quiet r) each;
+          same = told_stream names n (length (instances_seen s n)) (asked n) rs (living n) d (asked_of_stream (sought_at sought n) (eval_pacing (slice_get plan.pacings n)) m s n) (quiet r) each;
           held = held_of_stream names (asked n) rs (living n) each;
         }
 
@@ -373,13 +387,13 @@ module _ (plan : Plan) (m : Moment) (marks : List Mark) (remembers : Memories) (
     AreQuiet n d = (k : ℕ) (x : Stream) → n ≤ k → slice_get plan.spec.streams k ≡ Some x → runs_in plan m marks layer k x ≡ true → IsQuiet d k 0
 
     tells_streams : (n : ℕ) (xs : List Stream) → ((i : ℕ) → slice_get plan.spec.streams (n + i) ≡ slice_get xs i) → (d : Content) (rs : List Outcome) → AreQuiet n d
-        → AreResults plan m remembers s (layer_tasks plan m marks s layer n xs) rs
-        → TellsSame d (layer_tasks plan m marks s layer n xs) rs (told_in_layer plan m.start step full layer n xs)
+        → AreResults plan m remembers s (layer_tasks plan m marks sought s layer n xs) rs
+        → TellsSame d (layer_tasks plan m marks sought s layer n xs) rs (told_in_layer plan m.start step full layer n xs)
     tells_streams n [] at d [] quiet h = record { same = refl; held = tt }
     tells_streams n [] at d (r ∷ rs) quiet h = absurd h
     tells_streams n (x ∷ xs) at d rs quiet h =
-        let ts = stream_tasks plan m marks s layer n x in
-        let us = layer_tasks plan m marks s layer (n + 1) xs in
+        let ts = stream_tasks plan m marks sought s layer n x in
+        let us = layer_tasks plan m marks sought s layer (n + 1) xs in
         let size = length ts in
         let here : slice_get plan.spec.streams n ≡ Some x = ap (λ k. slice_get plan.spec.streams k) (sym (add-zero n)) ∙ at 0 in
         let run_here = is_run_in plan m.start step full layer n x in
@@ -404,8 +418,8 @@ module _ (plan : Plan) (m : Moment) (marks : List Mark) (remembers : Memories) (
         same_place : (a b : ℕ) → (a + 1) + b ≡ a + suc b
         same_place a b = omega arith
 
-    module _ (fresh : List Outcome) (results : AreResults plan m remembers s (layer_tasks plan m marks s layer 0 plan.spec.streams) fresh) where
-      tells_all : TellsSame content_now (layer_tasks plan m marks s layer 0 plan.spec.streams) fresh (told_in_layer plan m.start step full layer 0 plan.spec.streams)
+    module _ (fresh : List Outcome) (results : AreResults plan m remembers s (layer_tasks plan m marks sought s layer 0 plan.spec.streams) fresh) where
+      tells_all : TellsSame content_now (layer_tasks plan m marks sought s layer 0 plan.spec.streams) fresh (told_in_layer plan m.start step full layer 0 plan.spec.streams)
       tells_all =
           tells_streams 0 plan.spec.streams (λ i. ap (λ k. slice_get plan.spec.streams k) (zero-add i)) content_now fresh (λ k x le there runs. quiet_stream k x there runs) results
 
@@ -413,7 +427,7 @@ module _ (plan : Plan) (m : Moment) (marks : List Mark) (remembers : Memories) (
       pub held_all : AreHeldIn names fresh
       held_all = tells_all.held
 
-      pub next_content : told_outcomes names content_now (layer_tasks plan m marks s layer 0 plan.spec.streams) fresh ≡ content_so_far plan m.start rows step next
+      pub next_content : told_outcomes names content_now (layer_tasks plan m marks sought s layer 0 plan.spec.streams) fresh ≡ content_so_far plan m.start rows step next
       next_content = tells_all.same ∙ sym go.next
 
       -- the spans show them
@@ -421,13 +435,13 @@ module _ (plan : Plan) (m : Moment) (marks : List Mark) (remembers : Memories) (
       module _ (before : List Task) (first : List Outcome) (each : length before ≡ length first) (spans : List Span) (ready : IsReadyFor plan now s before first spans)
           (shown : ShowResults plan full now names spans before first) where
         abbrev tasks : List Task
-        tasks = before ++ layer_tasks plan m marks s layer 0 plan.spec.streams
+        tasks = before ++ layer_tasks plan m marks sought s layer 0 plan.spec.streams
 
         abbrev all : List Outcome
         all = first ++ fresh
 
         abbrev later : List Span
-        later = spans_after plan m marks remembers s layer before first fresh spans
+        later = spans_after plan m marks sought remembers s layer before first fresh spans
 
         abbrev ShownSo : ℕ → Option Span → Type 0
         ShownSo n o = ShowLiving names (asked_in tasks o) (in_span all o) (living n)
@@ -440,7 +454,7 @@ module _ (plan : Plan) (m : Moment) (marks : List Mark) (remembers : Memories) (
             let P : List Outcome → Type 0 = λ os. ShowLiving names (asked_in before (Some p)) os (living n) in
             let Q : Option Span → Type 0 = λ o. ShowLiving names (asked_in before o) (in_span first o) (living n) in
             let R : List Task → Type 0 = λ ts. ShowLiving names ts (in_span all (Some p)) (living n) in
-            subst R (sym (same_asked_in before (layer_tasks plan m marks s layer 0 plan.spec.streams) p (omega (arith, within, each))))
+            subst R (sym (same_asked_in before (layer_tasks plan m marks sought s layer 0 plan.spec.streams) p (omega (arith, within, each))))
             (subst P (sym (same_in_span first fresh p within)) (subst Q g (shown n x e i d)))
 
         -- nothing of a silent one
@@ -463,7 +477,7 @@ module _ (plan : Plan) (m : Moment) (marks : List Mark) (remembers : Memories) (
             absurd (let f : is_evaluated plan.layers now n x ≡ true = evaluated_by now x n i ∙ (same_behind (layer_of plan.layers (eval_node n)) n layer l ∙ (sym (evaluated_by next x n i) ∙ d)) in cc)
 
         shown_by : (n : ℕ) (x : Stream) (p : Span) → slice_get plan.spec.streams n ≡ Some x → is_input x ≡ false → is_evaluated plan.layers next n x ≡ true
-            → SpanOf plan m remembers s marks layer n x (slice_get spans n) p tasks all → ShownSo n (Some p)
+            → SpanOf plan m remembers s marks sought layer n x (slice_get spans n) p tasks all → ShownSo n (Some p)
         shown_by n x p e i d (inl h) =
             let P : List Task → Type 0 = λ ts. ShowLiving names ts (in_span all (Some p)) (living n) in
             subst P (sym h.asked_are) (read_stream n x e h.runs (in_span all (Some p)) h.results_are)
@@ -471,8 +485,8 @@ module _ (plan : Plan) (m : Moment) (marks : List Mark) (remembers : Memories) (
 
         pub shows_more : ShowResults plan full next names later tasks all
         shows_more n x e i d =
-            let within : n < length later = omega (arith, slice_get_within plan.spec.streams n x e, as_many_spans plan m marks remembers s layer before first fresh spans each results ready) in
+            let within : n < length later = omega (arith, slice_get_within plan.spec.streams n x e, as_many_spans plan m marks sought remembers s layer before first fresh spans each results ready) in
             let p = get_or later n (record { from = 0; count = 0 }) in
             let there : slice_get later n ≡ Some p = slice_get-get_or later n (record { from = 0; count = 0 }) within in
             let P : Option Span → Type 0 = λ o. ShownSo n o in
-            subst P (sym there) (shown_by n x p e i d (span_of plan m marks remembers s layer before first fresh spans each results n x p e there))
+            subst P (sym there) (shown_by n x p e i d (span_of plan m marks sought remembers s layer before first fresh spans each results n x p e there))

@@ -29,5 +29,6 @@ pub mod Faulty
 pub mod Leaving
 pub mod ClosesDue
 pub mod Alone
+pub mod Seeking
 pub mod Standing
 pub mod Valued

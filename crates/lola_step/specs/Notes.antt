@@ -1,5 +1,5 @@
 -- What is noted of a step: what spawn clauses did, and the outcomes of instances.
-use Rattle.std.specs.Prelude.{ℕ, ◌≡◌, ◌+◌, ◌≤◌, ◌<◌, ◌⊎◌, List, [], ◌∷◌, ◌++◌, Option, Some, None, Bool, true, false, not, ◌&&◌, if◌then◌else◌, length, slice_get, map, take, drop, nat_eq, zero, suc, IsTrue}
+use Rattle.std.specs.Prelude.{ℕ, ◌≡◌, ◌+◌, ◌≤◌, ◌<◌, ◌⊎◌, List, [], ◌∷◌, ◌++◌, Option, Some, None, Bool, true, false, not, ◌&&◌, if◌then◌else◌, length, slice_get, map, take, drop, nat_eq, nat_lt, unwrap_or, zero, suc, IsTrue}
 use Rattle.lola_value.specs.declared.value.FaultKind.{FaultKind}
 use Rattle.lola_value.specs.declared.value.Outcome.{Outcome}
 use Rattle.lola_value.specs.Answer.{Missing}
@@ -16,6 +16,8 @@ use Rattle.lola_model.specs.declared.pacing.Pacing.{Pacing}
 use Rattle.lola_model.specs.declared.pacing.Pacing.TheVariants.{Local}
 use Rattle.lola_model.specs.declared.plan.Plan.{Plan}
 use Rattle.lola_model.specs.declared.spec.Stream.{Stream}
+use Rattle.lola_model.specs.declared.store.Whereabouts.{Whereabouts}
+use Rattle.lola_model.specs.declared.store.Whereabouts.TheVariants.{At, Nowhere, Unknown}
 use Rattle.lola_stages.specs.Ends.{RowValue, Place}
 use Rattle.lola_stages.specs.Nexts.{living_in}
 use Rattle.lola_stages.specs.Stages.{Stage, is_evaluated, is_spawned}
@@ -140,11 +142,22 @@ abbrev pub places_from : ℕ → ℕ → List ℕ
 places_from i zero = []
 places_from i (suc k) = i ∷ places_from (i + 1) k
 
--- the places of the instances of stream n that are asked for a clause with a pacing: where it is local, of those that have a deadline
+-- the places of the instances of stream n that a clause with a pacing may be active for: where it is local, of those that have a deadline
 -- at the moment, and else of all
-abbrev pub places_asked : Option Pacing → Moment → Seen → ℕ → List ℕ
-places_asked (Some (Local r)) m s n = due_places s n m.time
-places_asked _ m s n = places_from 0 (length (instances_seen s n))
+abbrev pub places_paced : Option Pacing → Moment → Seen → ℕ → List ℕ
+places_paced (Some (Local r)) m s n = due_places s n m.time
+places_paced _ m s n = places_from 0 (length (instances_seen s n))
+
+-- where the instances of stream n stand that are to be asked, if that was noted
+abbrev pub sought_at : List Whereabouts → ℕ → Whereabouts
+sought_at sought n = unwrap_or (slice_get sought n) Unknown
+
+-- the places of those that are asked: of the one that stands at these whereabouts, if it lives, and where nothing is known of all that
+-- the clause may be active for
+abbrev pub places_asked : Whereabouts → Option Pacing → Moment → Seen → ℕ → List ℕ
+places_asked Unknown p m s n = places_paced p m s n
+places_asked Nowhere p m s n = []
+places_asked (At i) p m s n = if nat_lt i (length (instances_seen s n)) then i ∷ [] else []
 
 -- the instances of stream n at places
 abbrev pub tasks_at : ℕ → List ℕ → List Task
@@ -152,26 +165,26 @@ tasks_at n [] = []
 tasks_at n (i ∷ is) = record { stream = n; index = i } ∷ tasks_at n is
 
 -- the tasks of stream n in a layer
-abbrev pub stream_tasks : Plan → Moment → List Mark → Seen → ℕ → ℕ → Stream → List Task
-stream_tasks plan m marks s layer n x =
-    if runs_in plan m marks layer n x then tasks_at n (places_asked (eval_pacing (slice_get plan.pacings n)) m s n) else []
+abbrev pub stream_tasks : Plan → Moment → List Mark → List Whereabouts → Seen → ℕ → ℕ → Stream → List Task
+stream_tasks plan m marks sought s layer n x =
+    if runs_in plan m marks layer n x then tasks_at n (places_asked (sought_at sought n) (eval_pacing (slice_get plan.pacings n)) m s n) else []
 
 -- of the streams from number n on
-abbrev pub layer_tasks : Plan → Moment → List Mark → Seen → ℕ → ℕ → List Stream → List Task
-layer_tasks plan m marks s layer n [] = []
-layer_tasks plan m marks s layer n (x ∷ xs) = stream_tasks plan m marks s layer n x ++ layer_tasks plan m marks s layer (n + 1) xs
+abbrev pub layer_tasks : Plan → Moment → List Mark → List Whereabouts → Seen → ℕ → ℕ → List Stream → List Task
+layer_tasks plan m marks sought s layer n [] = []
+layer_tasks plan m marks sought s layer n (x ∷ xs) = stream_tasks plan m marks sought s layer n x ++ layer_tasks plan m marks sought s layer (n + 1) xs
 
 -- where the outcomes of stream n stand that begin at a place of the results, if it runs in a layer
-abbrev pub span_after : Plan → Moment → List Mark → Seen → ℕ → ℕ → ℕ → Stream → Span → Span
-span_after plan m marks s layer from n x p =
-    if runs_in plan m marks layer n x then record { from = from; count = length (stream_tasks plan m marks s layer n x) } else p
+abbrev pub span_after : Plan → Moment → List Mark → List Whereabouts → Seen → ℕ → ℕ → ℕ → Stream → Span → Span
+span_after plan m marks sought s layer from n x p =
+    if runs_in plan m marks layer n x then record { from = from; count = length (stream_tasks plan m marks sought s layer n x) } else p
 
 -- the spans after the tasks of a layer, whose outcomes begin at a place of the results
-abbrev pub layer_spans : Plan → Moment → List Mark → Seen → ℕ → ℕ → ℕ → List Stream → List Span → List Span
-layer_spans plan m marks s layer from n (x ∷ xs) (p ∷ ps) =
-    span_after plan m marks s layer from n x p
-    ∷ layer_spans plan m marks s layer (from + length (stream_tasks plan m marks s layer n x)) (n + 1) xs ps
-layer_spans plan m marks s layer from n _ ps = ps
+abbrev pub layer_spans : Plan → Moment → List Mark → List Whereabouts → Seen → ℕ → ℕ → ℕ → List Stream → List Span → List Span
+layer_spans plan m marks sought s layer from n (x ∷ xs) (p ∷ ps) =
+    span_after plan m marks sought s layer from n x p
+    ∷ layer_spans plan m marks sought s layer (from + length (stream_tasks plan m marks sought s layer n x)) (n + 1) xs ps
+layer_spans plan m marks sought s layer from n _ ps = ps
 
 -- verdicts
 

@@ -17,6 +17,8 @@ use Rattle.lola_ready.specs.Ready.{IsWhenAskable}
 use Rattle.lola_step.specs.Clauses.{eval_answer}
 use Rattle.lola_step.specs.Closings.{IsShown}
 use Rattle.lola_step.specs.Moments.{active_for_in}
+use Rattle.lola_step.specs.Notes.{runs_in, sought_at}
+use Rattle.lola_step.specs.declared.mark.Mark.{Mark}
 use Rattle.lola_step.specs.declared.moment.Moment.{Moment}
 
 -- the condition of a clause of stream n may be asked for each instance
@@ -29,3 +31,14 @@ abbrev pub IsFalseElsewhere : Plan → Memories → Seen → ℕ → Clause → 
 IsFalseElsewhere plan remembers s n k w =
     (names : Naming) (c : Content) → IsShown plan names c remembers s → (i : ℕ) (x : SeenInstance) → slice_get (instances_seen s n) i ≡ Some x → may_stand_at w i ≡ false
     → when_answer plan.spec c (read_params names x.params) k.when ≡ truth false
+
+-- whatever the store stands for, the eval clause of stream n has no outcome for an instance that does not stand at these whereabouts
+abbrev pub IsSilentElsewhere : Plan → Moment → Memories → Seen → ℕ → Whereabouts → Type 0
+IsSilentElsewhere plan m remembers s n w =
+    (names : Naming) (c : Content) → IsShown plan names c remembers s → (i : ℕ) (x : SeenInstance) → slice_get (instances_seen s n) i ≡ Some x → may_stand_at w i ≡ false
+    → eval_answer plan.spec (active_for_in m x.born (eval_pacing (slice_get plan.pacings n))) (slice_get plan.spec.streams n) c (read_params names x.params) ≡ Missing
+
+-- of each stream that runs in a layer
+abbrev pub AreSought : Plan → Moment → List Mark → List Whereabouts → Memories → Seen → ℕ → Type 0
+AreSought plan m marks sought remembers s layer =
+    (n : ℕ) (x : Stream) → slice_get plan.spec.streams n ≡ Some x → runs_in plan m marks layer n x ≡ true → IsSilentElsewhere plan m remembers s n (sought_at sought n)

@@ -1,6 +1,6 @@
 //! The instances of a layer.
 
-ghost use Rattle.std.specs.Prelude.{◌≡◌, ◌+◌, ◌<◌, ◌≤◌, ◌^◌, ◌++◌, drop, if◌then◌else◌, length, replicate, slice_set, take, vec_len, Some};
+ghost use Rattle.std.specs.Prelude.{◌≡◌, ◌+◌, ◌<◌, ◌≤◌, ◌^◌, ◌++◌, drop, if◌then◌else◌, length, replicate, slice_get, slice_set, take, true, vec_len, Some};
 ghost use Rattle.std.specs.Vec.{vec_capacity};
 ghost use Rattle.lola_value.specs.Naming.{Naming, IsHeldIn, read_outcome};
 ghost use Rattle.lola_value.specs.Times.{latest};
@@ -12,20 +12,22 @@ ghost use Rattle.lola_contents.specs.Changed.{told};
 ghost use Rattle.lola_stages.specs.Stages.{eval_stage, layer_stage};
 ghost use Rattle.lola_step.specs.Evals.{EvalsTake, HasRooms, IsReadyFor, ShowsMore};
 ghost use Rattle.lola_step.specs.Given.{AreHeldIn, AreResults, CanGive, CanGiveAll, after_all, after_giving, told_outcomes};
-ghost use Rattle.lola_step.specs.Notes.{is_fine as is_fine_mark, layer_spans, layer_tasks, places_asked, places_from, runs_in, stream_tasks, tasks_at};
+ghost use Rattle.lola_step.specs.Notes.{is_fine as is_fine_mark, layer_spans, layer_tasks, places_asked, places_from, places_paced, runs_in, sought_at, stream_tasks, tasks_at};
 ghost use Rattle.lola_step.specs.Progress.{GoesOn, IsAt, IsMomentOf, IsOf};
+ghost use Rattle.lola_step.specs.Sought.{AreSought, IsSilentElsewhere};
 ghost use Rattle.lola_step.specs.Tasks.{AreTasks};
 
 use crate::mark::Mark;
 use crate::moment::{Moment, may_be_active};
 use crate::scratch::Span;
+use crate::seek::seek;
 use crate::spawns::layer_at;
 use crate::tasks::{Task, eval_pacing_at, run_tasks};
 use lola_contents::calls::{poison, push};
 use lola_model::pacing::Pacing;
 use lola_model::plan::Plan;
 use lola_model::spec::Stream;
-use lola_model::store::StreamStore;
+use lola_model::store::{StreamStore, Whereabouts};
 use lola_port::Gate;
 use lola_value::value::Outcome;
 use std::thread::Threads;
@@ -54,6 +56,69 @@ fn runs(plan: &Plan, moment: &Moment, marks: &[Mark], layer: u32, n: usize, stre
         return false;
     }
     may_be_active(moment, eval_pacing_at(plan.pacings.as_slice(), n)) && is_fine(marks[n])
+}
+
+/// Where the one instance of stream `n` stands that its eval clause is to be asked for, if the stream runs in a layer and the clause is
+/// active for all instances alike; else nothing is said.
+fn seek_stream<S: StreamStore>(
+    plan: &Plan,
+    moment: &Moment,
+    store: &S,
+    layer: u32,
+    marks: &[Mark],
+    n: usize,
+    stream: &Stream,
+) -> Whereabouts
+    requires few { n ≤ 1024 }
+    requires accepted { IsAccepted plan.now }
+    requires at { IsAt plan.now (eval_stage (length plan.now.spec.streams) layer) (S.seen store.now) }
+    requires moment { IsMomentOf moment.now (S.seen store.now) }
+    requires marks { length marks.now ≡ length plan.now.spec.streams }
+    requires there { slice_get plan.now.spec.streams n ≡ Some stream.now }
+    ensures { runs_in plan.now moment.now marks.now layer n stream.now ≡ true
+        → IsSilentElsewhere plan.now moment.now (S.remembers store.now) (S.seen store.now) n result }
+{
+    let Some(clause) = &stream.eval else {
+        return Whereabouts::Unknown;
+    };
+    if stream.parameters.as_slice().is_empty() || !runs(plan, moment, marks, layer, n, stream) {
+        return Whereabouts::Unknown;
+    }
+    match eval_pacing_at(plan.pacings.as_slice(), n) {
+        Some(Pacing::Local(_)) => Whereabouts::Unknown,
+        _ => seek(plan, clause, store, n as u32),
+    }
+}
+
+/// Notes of each stream that runs in a layer where the one instance stands that is to be asked, where that is known.
+fn seek_layer<S: StreamStore>(
+    plan: &Plan,
+    moment: &Moment,
+    store: &S,
+    layer: u32,
+    marks: &[Mark],
+    sought: &mut [Whereabouts],
+)
+    requires accepted { IsAccepted plan.now }
+    requires at { IsAt plan.now (eval_stage (length plan.now.spec.streams) layer) (S.seen store.now) }
+    requires moment { IsMomentOf moment.now (S.seen store.now) }
+    requires marks { length marks.now ≡ length plan.now.spec.streams }
+    requires sought { length sought.old ≡ length plan.now.spec.streams }
+    ensures { AreSought plan.now moment.now marks.now sought.new (S.remembers store.now) (S.seen store.now) layer }
+{
+    for (n, stream) in plan.spec.streams.as_slice().iter().enumerate() {
+        sought[n] = seek_stream(plan, moment, store, layer, marks, n, stream);
+    }
+}
+
+/// Where the instances of stream `n` stand that are to be asked; nothing is said past the end of the list.
+fn sought_of(sought: &[Whereabouts], n: usize) -> Whereabouts
+    ensures { result ≡ sought_at sought.now n }
+{
+    match sought.get(n) {
+        Some(whereabouts) => *whereabouts,
+        None => Whereabouts::Unknown,
+    }
 }
 
 /// A task for each of the first instances of a stream, with a place for its outcome.
@@ -87,8 +152,8 @@ fn add_listed(stream: u32, places: &[u32], tasks: &mut Vec<Task>, results: &mut 
     }
 }
 
-/// A task for each instance of a stream that is asked at a moment for a clause with a pacing.
-fn add_asked<S: StreamStore>(
+/// A task for each instance of a stream that a clause with a pacing may be active for at a moment.
+fn add_paced<S: StreamStore>(
     moment: &Moment,
     pacing: &Option<Pacing>,
     store: &S,
@@ -100,10 +165,10 @@ fn add_asked<S: StreamStore>(
     requires in_time { moment.now.time ≤ latest }
     requires store { stream < length (S.seen store.now).layout.streams }
     requires places_room { length (instances_seen (S.seen store.now) stream) ≤ vec_capacity places.old }
-    requires tasks_room { vec_len tasks.old + length (places_asked pacing.now moment.now (S.seen store.now) stream) ≤ vec_capacity tasks.old }
-    requires results_room { vec_len results.old + length (places_asked pacing.now moment.now (S.seen store.now) stream) ≤ vec_capacity results.old }
-    ensures tasks { tasks.new.items ≡ tasks.old.items ++ tasks_at stream (places_asked pacing.now moment.now (S.seen store.now) stream) }
-    ensures results { results.new.items ≡ results.old.items ++ replicate (length (places_asked pacing.now moment.now (S.seen store.now) stream)) outcome.Missing }
+    requires tasks_room { vec_len tasks.old + length (places_paced pacing.now moment.now (S.seen store.now) stream) ≤ vec_capacity tasks.old }
+    requires results_room { vec_len results.old + length (places_paced pacing.now moment.now (S.seen store.now) stream) ≤ vec_capacity results.old }
+    ensures tasks { tasks.new.items ≡ tasks.old.items ++ tasks_at stream (places_paced pacing.now moment.now (S.seen store.now) stream) }
+    ensures results { results.new.items ≡ results.old.items ++ replicate (length (places_paced pacing.now moment.now (S.seen store.now) stream)) outcome.Missing }
     ensures places { vec_capacity places.new ≡ vec_capacity places.old }
     ensures capacities { (vec_capacity tasks.new ≡ vec_capacity tasks.old) × (vec_capacity results.new ≡ vec_capacity results.old) }
 {
@@ -116,6 +181,40 @@ fn add_asked<S: StreamStore>(
     }
 }
 
+/// A task for each instance of a stream that is asked at a moment for a clause with a pacing: for the one that stands at these
+/// whereabouts, if it lives, and where nothing is known of all that the clause may be active for.
+fn add_asked<S: StreamStore>(
+    moment: &Moment,
+    sought: Whereabouts,
+    pacing: &Option<Pacing>,
+    store: &S,
+    stream: u32,
+    places: &mut Vec<u32>,
+    tasks: &mut Vec<Task>,
+    results: &mut Vec<Outcome>,
+)
+    requires in_time { moment.now.time ≤ latest }
+    requires store { stream < length (S.seen store.now).layout.streams }
+    requires places_room { length (instances_seen (S.seen store.now) stream) ≤ vec_capacity places.old }
+    requires tasks_room { vec_len tasks.old + length (places_asked sought pacing.now moment.now (S.seen store.now) stream) ≤ vec_capacity tasks.old }
+    requires results_room { vec_len results.old + length (places_asked sought pacing.now moment.now (S.seen store.now) stream) ≤ vec_capacity results.old }
+    ensures tasks { tasks.new.items ≡ tasks.old.items ++ tasks_at stream (places_asked sought pacing.now moment.now (S.seen store.now) stream) }
+    ensures results { results.new.items ≡ results.old.items ++ replicate (length (places_asked sought pacing.now moment.now (S.seen store.now) stream)) outcome.Missing }
+    ensures places { vec_capacity places.new ≡ vec_capacity places.old }
+    ensures capacities { (vec_capacity tasks.new ≡ vec_capacity tasks.old) × (vec_capacity results.new ≡ vec_capacity results.old) }
+{
+    match sought {
+        Whereabouts::Unknown => add_paced(moment, pacing, store, stream, places, tasks, results),
+        Whereabouts::Nowhere => {}
+        Whereabouts::At(index) => {
+            if index < store.instances(stream) {
+                tasks.push_reserved(Task { stream, index });
+                results.push_reserved(Outcome::Missing);
+            }
+        }
+    }
+}
+
 /// Lists the tasks of stream `n` in a layer, if it runs there, one for each instance that is asked in order of birth, and notes where
 /// their outcomes will stand.
 fn gather_stream<S: StreamStore>(
@@ -124,6 +223,7 @@ fn gather_stream<S: StreamStore>(
     store: &S,
     layer: u32,
     marks: &[Mark],
+    sought: &[Whereabouts],
     n: usize,
     stream: &Stream,
     places: &mut Vec<u32>,
@@ -139,19 +239,22 @@ fn gather_stream<S: StreamStore>(
     requires spans { n < length spans.old }
     requires store { n < length (S.seen store.now).layout.streams }
     requires places_room { length (instances_seen (S.seen store.now) n) ≤ vec_capacity places.old }
-    requires tasks_room { vec_len tasks.old + length (stream_tasks plan.now moment.now marks.now (S.seen store.now) layer n stream.now) ≤ vec_capacity tasks.old }
-    requires results_room { vec_len results.old + length (stream_tasks plan.now moment.now marks.now (S.seen store.now) layer n stream.now) ≤ vec_capacity results.old }
-    ensures tasks { tasks.new.items ≡ tasks.old.items ++ stream_tasks plan.now moment.now marks.now (S.seen store.now) layer n stream.now }
-    ensures results { results.new.items ≡ results.old.items ++ replicate (length (stream_tasks plan.now moment.now marks.now (S.seen store.now) layer n stream.now)) outcome.Missing }
+    requires tasks_room { vec_len tasks.old + length (stream_tasks plan.now moment.now marks.now sought.now (S.seen store.now) layer n stream.now) ≤ vec_capacity tasks.old }
+    requires results_room { vec_len results.old + length (stream_tasks plan.now moment.now marks.now sought.now (S.seen store.now) layer n stream.now) ≤ vec_capacity results.old }
+    ensures tasks { tasks.new.items ≡ tasks.old.items ++ stream_tasks plan.now moment.now marks.now sought.now (S.seen store.now) layer n stream.now }
+    ensures results { results.new.items ≡ results.old.items ++ replicate (length (stream_tasks plan.now moment.now marks.now sought.now (S.seen store.now) layer n stream.now)) outcome.Missing }
     ensures spans { spans.new ≡ (if runs_in plan.now moment.now marks.now layer n stream.now
-        then slice_set spans.old n (record { from = vec_len tasks.old; count = length (stream_tasks plan.now moment.now marks.now (S.seen store.now) layer n stream.now) }) else spans.old) }
+        then slice_set spans.old n (record { from = vec_len tasks.old; count = length (stream_tasks plan.now moment.now marks.now sought.now (S.seen store.now) layer n stream.now) }) else spans.old) }
     ensures places { vec_capacity places.new ≡ vec_capacity places.old }
     ensures capacities { (vec_capacity tasks.new ≡ vec_capacity tasks.old) × (vec_capacity results.new ≡ vec_capacity results.old) }
 {
     if runs(plan, moment, marks, layer, n, stream) {
         let from = tasks.len();
         let pacing = eval_pacing_at(plan.pacings.as_slice(), n);
-        add_asked(moment, pacing, store, n as u32, places, tasks, results);
+        let whereabouts = sought_of(sought, n);
+        add_asked(
+            moment, whereabouts, pacing, store, n as u32, places, tasks, results,
+        );
         spans[n] = Span {
             from,
             count: tasks.len() - from,
@@ -167,6 +270,7 @@ fn gather<S: StreamStore>(
     store: &S,
     layer: u32,
     marks: &[Mark],
+    sought: &[Whereabouts],
     places: &mut Vec<u32>,
     tasks: &mut Vec<Task>,
     results: &mut Vec<Outcome>,
@@ -178,16 +282,16 @@ fn gather<S: StreamStore>(
     requires marks { length marks.now ≡ length plan.now.spec.streams }
     requires spans { length spans.old ≡ length plan.now.spec.streams }
     requires rooms { HasRooms plan.now (eval_stage (length plan.now.spec.streams) layer) (S.seen store.now) places.old tasks.old results.old }
-    ensures tasks { tasks.new.items ≡ tasks.old.items ++ layer_tasks plan.now moment.now marks.now (S.seen store.now) layer 0 plan.now.spec.streams }
+    ensures tasks { tasks.new.items ≡ tasks.old.items ++ layer_tasks plan.now moment.now marks.now sought.now (S.seen store.now) layer 0 plan.now.spec.streams }
     ensures results { results.new.items ≡ results.old.items
-        ++ replicate (length (layer_tasks plan.now moment.now marks.now (S.seen store.now) layer 0 plan.now.spec.streams)) outcome.Missing }
-    ensures spans { spans.new ≡ layer_spans plan.now moment.now marks.now (S.seen store.now) layer (length tasks.old.items) 0 plan.now.spec.streams spans.old }
+        ++ replicate (length (layer_tasks plan.now moment.now marks.now sought.now (S.seen store.now) layer 0 plan.now.spec.streams)) outcome.Missing }
+    ensures spans { spans.new ≡ layer_spans plan.now moment.now marks.now sought.now (S.seen store.now) layer (length tasks.old.items) 0 plan.now.spec.streams spans.old }
     ensures places { vec_capacity places.new ≡ vec_capacity places.old }
     ensures capacities { (vec_capacity tasks.new ≡ vec_capacity tasks.old) × (vec_capacity results.new ≡ vec_capacity results.old) }
 {
     for (n, stream) in plan.spec.streams.as_slice().iter().enumerate() {
         gather_stream(
-            plan, moment, store, layer, marks, n, stream, places, tasks, results, spans,
+            plan, moment, store, layer, marks, sought, n, stream, places, tasks, results, spans,
         );
     }
 }
@@ -267,7 +371,8 @@ fn give_all<S: StreamStore>(store: &mut S, tasks: &[Task], results: &[Outcome])
     }
 }
 
-/// Evaluates the instances of a layer that are asked, shared out among at most so many threads, and then gives each its outcome. The
+/// Finds which instances of a layer are to be asked, evaluates these, shared out among at most so many threads, and then gives each its
+/// outcome. The
 /// tasks and their outcomes are kept behind those of the layers before, those of a stream where its span says.
 pub(crate) fn eval_layer<R: Threads + Sync, S: StreamStore + Sync, G: Gate + Sync>(
     rt: &R,
@@ -281,6 +386,7 @@ pub(crate) fn eval_layer<R: Threads + Sync, S: StreamStore + Sync, G: Gate + Syn
     tasks: &mut Vec<Task>,
     results: &mut Vec<Outcome>,
     spans: &mut [Span],
+    sought: &mut [Whereabouts],
     workers: u32,
     is_first: bool,
 )
@@ -290,6 +396,7 @@ pub(crate) fn eval_layer<R: Threads + Sync, S: StreamStore + Sync, G: Gate + Syn
     requires moment { IsMomentOf moment.now (S.seen store.old) }
     requires marks { length marks.now ≡ length plan.now.spec.streams }
     requires rooms { HasRooms plan.now (eval_stage (length plan.now.spec.streams) layer) (S.seen store.old) places.old tasks.old results.old }
+    requires sought { length sought.old ≡ length plan.now.spec.streams }
     requires spans { IsReadyFor plan.now (eval_stage (length plan.now.spec.streams) layer) (S.seen store.old) tasks.old.items results.old.items spans.old }
     ensures at { IsAt plan.now (layer_stage (length plan.now.spec.streams) (layer + 1)) (S.seen store.new) }
     ensures goes_on { GoesOn (S.seen store.old) (S.seen store.new) }
@@ -301,8 +408,9 @@ pub(crate) fn eval_layer<R: Threads + Sync, S: StreamStore + Sync, G: Gate + Syn
     ensures shows { ShowsMore plan.now moment.now layer marks.now (S.remembers store.old) (S.seen store.old) spans.old tasks.old.items results.old.items spans.new tasks.new.items results.new.items }
 {
     let from = tasks.len();
+    seek_layer(plan, moment, store, layer, marks, sought);
     gather(
-        plan, moment, store, layer, marks, places, tasks, results, spans,
+        plan, moment, store, layer, marks, sought, places, tasks, results, spans,
     );
     let sharers = sharers_of(workers, tasks.len() - from, is_first);
     answer_tasks(

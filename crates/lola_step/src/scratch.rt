@@ -12,7 +12,7 @@ use crate::mark::Mark;
 use crate::tasks::Task;
 use crate::verdict::Verdict;
 use lola_model::plan::Plan;
-use lola_model::store::StreamStore;
+use lola_model::store::{StreamStore, Whereabouts};
 use lola_value::text::Memory;
 use lola_value::value::Outcome;
 use std::alloc::Global;
@@ -30,6 +30,8 @@ pub struct Span {
 pub struct Scratch {
     pub(crate) marks: Vec<Mark>,
     pub(crate) spans: Vec<Span>,
+    // where the instances stand that are to be asked
+    pub(crate) sought: Vec<Whereabouts>,
     pub(crate) places: Vec<u32>,
     pub(crate) tasks: Vec<Task>,
     pub(crate) results: Vec<Outcome>,
@@ -77,9 +79,11 @@ impl Scratch {
         let room = 2 * count;
         let marks = vec![in alloc; Mark::Fine; count]?;
         let spans = vec![in alloc; Span { from: 0, count: 0 }; count]?;
+        let sought = vec![in alloc; Whereabouts::Unknown; count]?;
         Ok(Scratch {
             marks,
             spans,
+            sought,
             places: Vec::with_capacity(alloc, room)?,
             tasks: Vec::with_capacity(alloc, room)?,
             results: Vec::with_capacity(alloc, room)?,

@@ -94,6 +94,7 @@ fn evaluate<R: Threads + Sync, S: StreamStore + Sync, G: Gate + Sync>(
             &mut scratch.tasks,
             &mut scratch.results,
             &mut scratch.spans,
+            &mut scratch.sought,
             workers,
             scratch.is_first,
         );

@@ -26,23 +26,23 @@ answer_tasks-requires-clause-numbered g c κs within =
     let P : List Task → Type 0 = λ ts. length ts < 2 ^ 32 in
     subst P
     (sym (behind_is c.deref.result.now c.args.tasks.now.items
-    (layer_tasks c.args.plan.now c.args.moment.now c.args.marks.now (g.S.StreamStore.seen c.args.store.now) c.args.layer 0 c.args.plan.now.spec.streams) c.len-from.result
+    (layer_tasks c.args.plan.now c.args.moment.now c.args.marks.now c.seek_layer.new.sought (g.S.StreamStore.seen c.args.store.now) c.args.layer 0 c.args.plan.now.spec.streams) c.len-from.result
     (c.deref.ensures.value ∙ c.gather.ensures.tasks) (c.len-from.ensures ∙ c.args.tasks.now.ok.0)))
-    (numbered c.args.plan.now c.args.moment.now c.args.marks.now (g.S.StreamStore.seen c.args.store.now) c.args.layer c.requires.accepted c.requires.at c.requires.moment)
+    (numbered c.args.plan.now c.args.moment.now c.args.marks.now c.seek_layer.new.sought (g.S.StreamStore.seen c.args.store.now) c.args.layer c.requires.accepted c.requires.at c.requires.moment)
 
 pub answer_tasks-requires-clause-ready : goal.answer_tasks-requires-clause-ready
 answer_tasks-requires-clause-ready g c κs within =
     let P : List Task → Type 0 = λ ts. AreTasks c.args.plan.now c.args.moment.now (g.S.StreamStore.seen c.args.store.now) ts in
     subst P
     (sym (behind_is c.deref.result.now c.args.tasks.now.items
-    (layer_tasks c.args.plan.now c.args.moment.now c.args.marks.now (g.S.StreamStore.seen c.args.store.now) c.args.layer 0 c.args.plan.now.spec.streams) c.len-from.result
+    (layer_tasks c.args.plan.now c.args.moment.now c.args.marks.now c.seek_layer.new.sought (g.S.StreamStore.seen c.args.store.now) c.args.layer 0 c.args.plan.now.spec.streams) c.len-from.result
     (c.deref.ensures.value ∙ c.gather.ensures.tasks) (c.len-from.ensures ∙ c.args.tasks.now.ok.0)))
-    (are_tasks c.args.plan.now c.args.moment.now c.args.marks.now (g.S.StreamStore.seen c.args.store.now) c.args.layer c.requires.accepted c.requires.at c.requires.moment)
+    (are_tasks c.args.plan.now c.args.moment.now c.args.marks.now c.seek_layer.new.sought (g.S.StreamStore.seen c.args.store.now) c.args.layer c.requires.accepted c.requires.at c.requires.moment)
 
 pub give_all-requires-clause-can : goal.give_all-requires-clause-can
 give_all-requires-clause-can g c =
     let shown = g.S.StreamStore.seen c.args.store.now in
-    let tasks = layer_tasks c.args.plan.now c.args.moment.now c.args.marks.now shown c.args.layer 0 c.args.plan.now.spec.streams in
+    let tasks = layer_tasks c.args.plan.now c.args.moment.now c.args.marks.now c.seek_layer.new.sought shown c.args.layer 0 c.args.plan.now.spec.streams in
     let fresh = drop c.len-from.result c.answer_tasks.new.results in
     let from = c.len-from.ensures ∙ c.args.tasks.now.ok.0 in
     let A : List Task → Type 0 = λ ts. AreResults c.args.plan.now c.args.moment.now (g.S.StreamStore.remembers c.args.store.now) shown ts fresh in
@@ -55,7 +55,7 @@ give_all-requires-clause-can g c =
     let Q : List Outcome → Type 0 = λ rs. CanGiveAll shown (take (length c.deref-2.result.now - c.len-from.result) (drop c.len-from.result c.deref-2.result.now)) rs in
     subst Q same
     (subst P (sym (behind_is c.deref-2.result.now c.args.tasks.now.items tasks c.len-from.result (c.deref-2.ensures.value ∙ c.gather.ensures.tasks) from))
-    (can_give_layer c.args.plan.now c.args.moment.now c.args.marks.now shown c.args.layer c.requires.accepted c.requires.at c.requires.moment (g.S.StreamStore.remembers c.args.store.now) fresh are))
+    (can_give_layer c.args.plan.now c.args.moment.now c.args.marks.now c.seek_layer.new.sought shown c.args.layer c.requires.accepted c.requires.at c.requires.moment (g.S.StreamStore.remembers c.args.store.now) fresh are))
 
 module _ (g : Over) (c : After-give_all g) where
   abbrev shown : Seen
@@ -65,7 +65,7 @@ module _ (g : Over) (c : After-give_all g) where
   remembers = g.S.StreamStore.remembers c.args.store.now
 
   abbrev tasks : List Task
-  tasks = layer_tasks c.args.plan.now c.args.moment.now c.args.marks.now shown c.args.layer 0 c.args.plan.now.spec.streams
+  tasks = layer_tasks c.args.plan.now c.args.moment.now c.args.marks.now c.seek_layer.new.sought shown c.args.layer 0 c.args.plan.now.spec.streams
 
   abbrev before : List Task
   before = c.args.tasks.now.items
@@ -111,27 +111,27 @@ module _ (g : Over) (c : After-give_all g) where
       sym (kept ∙ answered_is c.len-from.result first (replicate (length tasks) outcome.Missing) c.gather.new.results.items c.answer_tasks.new.results
       (from_is ∙ c.requires.rooms.each) c.gather.ensures.results (c.answer_tasks.ensures.before ∙ ap (take c.len-from.result) c.as_mut_slice.ensures.value))
 
-  spans_is : spans_after c.args.plan.now c.args.moment.now c.args.marks.now remembers shown c.args.layer before first fresh c.args.spans.now ≡ c.gather.new.spans
+  spans_is : spans_after c.args.plan.now c.args.moment.now c.args.marks.now c.seek_layer.new.sought remembers shown c.args.layer before first fresh c.args.spans.now ≡ c.gather.new.spans
   spans_is = sym c.gather.ensures.spans
 
 pub returns-clause-at : goal.returns-clause-at
 returns-clause-at g c =
     let P : Seen → Type 0 = λ s. IsAt c.args.plan.now (layer_stage (length c.args.plan.now.spec.streams) (c.args.layer + 1)) s in
     subst P (seen_is g c)
-    (at_after c.args.plan.now c.args.moment.now c.args.marks.now (shown g c) c.args.layer c.requires.accepted c.requires.at c.requires.moment (fresh g c))
+    (at_after c.args.plan.now c.args.moment.now c.args.marks.now c.seek_layer.new.sought (shown g c) c.args.layer c.requires.accepted c.requires.at c.requires.moment (fresh g c))
 
 pub returns-clause-goes_on : goal.returns-clause-goes_on
 returns-clause-goes_on g c =
     let P : Seen → Type 0 = λ s. GoesOn (shown g c) s in
     subst P (seen_is g c)
-    (goes_on c.args.plan.now c.args.moment.now c.args.marks.now (shown g c) c.args.layer c.requires.accepted c.requires.at c.requires.moment (fresh g c))
+    (goes_on c.args.plan.now c.args.moment.now c.args.marks.now c.seek_layer.new.sought (shown g c) c.args.layer c.requires.accepted c.requires.at c.requires.moment (fresh g c))
 
 pub returns-clause-rooms : goal.returns-clause-rooms
 returns-clause-rooms g c =
     let asked : length c.gather.new.tasks.items ≡ length (before g c) + length (tasks g c) = ap length c.gather.ensures.tasks ∙ length-append (before g c) (tasks g c) in
     let counted : length c.gather.new.results.items ≡ length (first g c) + length (tasks g c) =
     ap length c.gather.ensures.results ∙ (length-append (first g c) _ ∙ ap (λ k. length (first g c) + k) (length-replicate (length (tasks g c)) outcome.Missing)) in
-    rooms_after c.args.plan.now c.args.moment.now c.args.marks.now (shown g c) (g.S.StreamStore.seen c.give_all.new.store) c.args.layer
+    rooms_after c.args.plan.now c.args.moment.now c.args.marks.now c.seek_layer.new.sought (shown g c) (g.S.StreamStore.seen c.give_all.new.store) c.args.layer
     c.args.places.now c.gather.new.places c.args.tasks.now c.gather.new.tasks c.args.results.now (with_items c.gather.new.results c.answer_tasks.new.results) c.requires.at c.requires.rooms
     (returns-clause-goes_on g c).rooms c.gather.ensures.places c.gather.ensures.capacities.0 c.gather.ensures.capacities.1
     (omega (arith, asked, c.gather.new.tasks.ok.0, c.args.tasks.now.ok.0))
@@ -141,7 +141,7 @@ pub returns-clause-spans : goal.returns-clause-spans
 returns-clause-spans g c =
     let plan = c.args.plan.now in
     let next = layer_stage (length plan.spec.streams) (c.args.layer + 1) in
-    let spans = spans_after plan c.args.moment.now c.args.marks.now (remembers g c) (shown g c) c.args.layer (before g c) (first g c) (fresh g c) c.args.spans.now in
+    let spans = spans_after plan c.args.moment.now c.args.marks.now c.seek_layer.new.sought (remembers g c) (shown g c) c.args.layer (before g c) (first g c) (fresh g c) c.args.spans.now in
     let new = g.S.StreamStore.seen c.give_all.new.store in
     let results = (with_items c.gather.new.results c.answer_tasks.new.results).items in
     let P : Seen → Type 0 = λ s. IsReadyFor plan next s (before g c ++ tasks g c) (first g c ++ fresh g c) spans in
@@ -149,13 +149,13 @@ returns-clause-spans g c =
     let Q : List Outcome → Type 0 = λ rs. IsReadyFor plan next new c.gather.new.tasks.items rs spans in
     let R : List Span → Type 0 = λ ps. IsReadyFor plan next new c.gather.new.tasks.items results ps in
     subst R (spans_is g c) (subst Q (results_is g c) (subst T (tasks_are g c) (subst P (seen_is g c)
-    (ready_after plan c.args.moment.now c.args.marks.now (remembers g c) (shown g c) c.args.layer (before g c) (first g c) (fresh g c) c.args.spans.now c.requires.rooms.each (are_results g c) c.requires.spans))))
+    (ready_after plan c.args.moment.now c.args.marks.now c.seek_layer.new.sought (remembers g c) (shown g c) c.args.layer (before g c) (first g c) (fresh g c) c.args.spans.now c.requires.rooms.each (are_results g c) c.requires.spans))))
 
 pub returns-clause-takes : goal.returns-clause-takes
 returns-clause-takes g c names rows step run marked =
     let now = content_so_far c.args.plan.now c.args.moment.now.start rows step (eval_stage (length c.args.plan.now.spec.streams) c.args.layer) in
-    let held = held_all c.args.plan.now c.args.moment.now c.args.marks.now (remembers g c) (shown g c) c.args.layer c.requires.accepted names rows step c.requires.at run marked (fresh g c) (are_results g c) in
-    let told = next_content c.args.plan.now c.args.moment.now c.args.marks.now (remembers g c) (shown g c) c.args.layer c.requires.accepted names rows step c.requires.at run marked (fresh g c) (are_results g c) in
+    let held = held_all c.args.plan.now c.args.moment.now c.args.marks.now c.seek_layer.new.sought (remembers g c) (shown g c) c.args.layer c.requires.accepted names rows step c.requires.at run marked c.seek_layer.ensures (fresh g c) (are_results g c) in
+    let told = next_content c.args.plan.now c.args.moment.now c.args.marks.now c.seek_layer.new.sought (remembers g c) (shown g c) c.args.layer c.requires.accepted names rows step c.requires.at run marked c.seek_layer.ensures (fresh g c) (are_results g c) in
     let H : List Outcome → Type 0 = λ rs. AreHeldIn names rs in
     let P : Content → Type 0 = λ d. Stands names (g.S.StreamStore.remembers c.give_all.new.store) (g.S.StreamStore.seen c.give_all.new.store) d in
     record {
@@ -174,5 +174,5 @@ returns-clause-shows g c names rows step run marked earlier =
     let T : List Task → Type 0 = λ ts. ShowResults plan full next names c.gather.new.spans ts (first g c ++ fresh g c) in
     let Q : List Outcome → Type 0 = λ rs. ShowResults plan full next names c.gather.new.spans c.gather.new.tasks.items rs in
     subst Q (results_is g c) (subst T (tasks_are g c) (subst P (spans_is g c)
-    (shows_more plan c.args.moment.now c.args.marks.now (remembers g c) (shown g c) c.args.layer c.requires.accepted names rows step c.requires.at run marked
+    (shows_more plan c.args.moment.now c.args.marks.now c.seek_layer.new.sought (remembers g c) (shown g c) c.args.layer c.requires.accepted names rows step c.requires.at run marked c.seek_layer.ensures
     (fresh g c) (are_results g c) (before g c) (first g c) c.requires.rooms.each c.args.spans.now c.requires.spans earlier)))

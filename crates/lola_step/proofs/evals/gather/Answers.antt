@@ -14,6 +14,7 @@ gather_stream-requires g c =
     let plan = c.args.plan.now in
     let m = c.args.moment.now in
     let marks = c.args.marks.now in
+    let sought = c.args.sought.now in
     let layer = c.args.layer in
     let streams = plan.spec.streams in
     let n = c.loop-n.n in
@@ -23,12 +24,12 @@ gather_stream-requires g c =
     let within : n < length streams = subst P c.as_slice-stream-items.ensures c.loop-n-test.true in
     let Q : List Stream → Type 0 = λ xs. drop n xs ≡ x ∷ drop (n + 1) xs in
     let at : drop n streams ≡ x ∷ drop (n + 1) streams = subst Q c.as_slice-stream-items.ensures (drop_here c.as_slice-stream-items.result.now n x c.loop-n-test.true c.stream-item.is) in
-    let all = layer_tasks plan m marks seen layer 0 streams in
-    let rest = layer_tasks plan m marks seen layer n (drop n streams) in
-    let here = stream_tasks plan m marks seen layer n x in
-    let fits = layer_fits plan m marks seen layer 0 streams (rooms seen) (omega arith) (all_rooms plan m marks seen layer c.requires.of.streams) in
+    let all = layer_tasks plan m marks sought seen layer 0 streams in
+    let rest = layer_tasks plan m marks sought seen layer n (drop n streams) in
+    let here = stream_tasks plan m marks sought seen layer n x in
+    let fits = layer_fits plan m marks sought seen layer 0 streams (rooms seen) (omega arith) (all_rooms plan m marks sought seen layer c.requires.of.streams) in
     let few : length here ≤ length rest =
-    omega (arith, ap (λ xs. length (layer_tasks plan m marks seen layer n xs)) at, length-append here (layer_tasks plan m marks seen layer (n + 1) (drop (n + 1) streams))) in
+    omega (arith, ap (λ xs. length (layer_tasks plan m marks sought seen layer n xs)) at, length-append here (layer_tasks plan m marks sought seen layer (n + 1) (drop (n + 1) streams))) in
     let counted : length c.loop-n.tasks.items + length rest ≡ length c.args.tasks.now.items + length all =
     sym (length-append c.loop-n.tasks.items rest) ∙ (ap length c.loop-n.invariant.tasks ∙ length-append c.args.tasks.now.items all) in
     let places : length c.loop-n.results.items + length rest ≡ length c.args.results.now.items + length all =
@@ -53,6 +54,7 @@ loop-n-preserved g c =
     let plan = c.args.plan.now in
     let m = c.args.moment.now in
     let marks = c.args.marks.now in
+    let sought = c.args.sought.now in
     let layer = c.args.layer in
     let streams = plan.spec.streams in
     let n = c.loop-n.n in
@@ -63,12 +65,12 @@ loop-n-preserved g c =
     let Q : List Stream → Type 0 = λ xs. drop n xs ≡ x ∷ drop (n + 1) xs in
     let at : drop n streams ≡ x ∷ drop (n + 1) streams = subst Q c.as_slice-stream-items.ensures (drop_here c.as_slice-stream-items.result.now n x c.loop-n-test.true c.stream-item.is) in
     record {
-      tasks = gathers_tasks plan m marks seen layer n x streams _ _ _ at c.gather_stream.ensures.tasks c.loop-n.invariant.tasks;
-      results = gathers_places plan m marks seen layer n x streams _ _ _ at c.gather_stream.ensures.results c.loop-n.invariant.results;
-      spans = gathers_spans plan m marks seen layer n x streams (length c.loop-n.tasks.items) (length c.gather_stream.new.tasks.items)
+      tasks = gathers_tasks plan m marks sought seen layer n x streams _ _ _ at c.gather_stream.ensures.tasks c.loop-n.invariant.tasks;
+      results = gathers_places plan m marks sought seen layer n x streams _ _ _ at c.gather_stream.ensures.results c.loop-n.invariant.results;
+      spans = gathers_spans plan m marks sought seen layer n x streams (length c.loop-n.tasks.items) (length c.gather_stream.new.tasks.items)
           (vec_len c.loop-n.tasks) c.loop-n.spans c.gather_stream.new.spans _
           (omega (arith, within, c.loop-n.auto.spans, c.requires.spans)) at
-          (ap length c.gather_stream.ensures.tasks ∙ length-append c.loop-n.tasks.items (stream_tasks plan m marks seen layer n x))
+          (ap length c.gather_stream.ensures.tasks ∙ length-append c.loop-n.tasks.items (stream_tasks plan m marks sought seen layer n x))
           c.loop-n.tasks.ok.0 c.gather_stream.ensures.spans c.loop-n.invariant.spans;
       places_room = c.gather_stream.ensures.places ∙ c.loop-n.invariant.places_room;
       tasks_room = c.gather_stream.ensures.capacities.0 ∙ c.loop-n.invariant.tasks_room;
