@@ -1,5 +1,5 @@
 -- The condition is false for each instance whose parameters are not those that its keys have.
-use Rattle.std.proofs.Common.{◌≡◌, refl, ap, sym, ◌∙◌, subst, ℕ, zero, suc, ◌<◌, ◌≤◌, ◌⊎◌, inl, inr, List, [], ◌∷◌, Option, Some, None, Bool, true, false, ◌&&◌, length, map, slice_get, take, arith, eq-eqb}
+use Rattle.std.proofs.Common.{◌≡◌, refl, ap, sym, ◌∙◌, subst, ℕ, zero, suc, ◌≤◌, ◌⊎◌, inl, inr, List, [], ◌∷◌, Option, Some, Bool, true, false, ◌&&◌, length, map, slice_get, take, arith, eq-eqb}
 use Rattle.std.proofs.lemmas.Int.{ints}
 use Rattle.std.proofs.lemmas.Option.{slice_get-map}
 use Rattle.std.specs.Option.{option_map}
@@ -7,7 +7,6 @@ use Rattle.lola_value.specs.declared.value.Kind.{Kind}
 use Rattle.lola_value.specs.declared.value.Params.{Params}
 use Rattle.lola_value.specs.declared.value.Value.{Value}
 use Rattle.lola_value.specs.declared.value.Value.TheVariants as value
-use Rattle.lola_value.specs.Arithmetic.{fields_equal}
 use Rattle.lola_value.specs.Kinds.{all_same, are_of_kinds, is_of_kind, same_params, values_same}
 use Rattle.lola_value.specs.Naming.{Naming, AreHeld, IsHeld, IsNaming, read, read_params, the_values}
 use Rattle.lola_value.proofs.ParamsLemmas.{same_values}

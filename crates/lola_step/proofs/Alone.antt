@@ -1,19 +1,17 @@
 -- The close conditions of a stream where all but one of its instances have a false one.
-use Rattle.std.proofs.Common.{◌≡◌, refl, ap, ◌∙◌, sym, subst, ℕ, zero, suc, ◌+◌, ◌<◌, List, [], ◌∷◌, ◌++◌, Option, Some, None, Bool, true, false, slice_get, length, arith, append_assoc, append-nil, eq-eqb, nat_eq, IsTrue}
+use Rattle.std.proofs.Common.{◌≡◌, refl, ap, ◌∙◌, sym, subst, ℕ, zero, suc, ◌+◌, ◌<◌, List, [], ◌∷◌, ◌++◌, Option, Some, None, Bool, true, false, slice_get, length, arith, append-nil, nat_eq}
 use Rattle.std.proofs.lemmas.Bool.{eqb-true}
 use Rattle.std.proofs.lemmas.List.{map-append}
-use Rattle.lola_value.specs.Answer.{Answer, Missing}
-use Rattle.lola_value.specs.Kinds.{are_of_kinds}
-use Rattle.lola_value.specs.Naming.{Naming, AreHeld, read_outcome, read_params, the_values}
+use Rattle.lola_value.specs.Answer.{Answer}
+use Rattle.lola_value.specs.Naming.{Naming, read_outcome, read_params}
 use Rattle.lola_value.specs.declared.value.FaultKind.{FaultKind}
 use Rattle.lola_value.specs.declared.value.Outcome.{Outcome}
-use Rattle.lola_value.specs.declared.value.Params.{Params}
 use Rattle.lola_model.specs.Content.{Content}
 use Rattle.lola_model.specs.Denotation.{truth}
 use Rattle.lola_model.specs.Faults.{add_failed}
 use Rattle.lola_model.specs.Model.{when_answer}
 use Rattle.lola_model.specs.NextStep.{is_local}
-use Rattle.lola_model.specs.Store.{Memories, Seen, SeenInstance, instances_seen, layout_of, parameters_of}
+use Rattle.lola_model.specs.Store.{Memories, Seen, SeenInstance, instances_seen, layout_of}
 use Rattle.lola_model.specs.Whereabouts.{may_stand_at}
 use Rattle.lola_model.specs.declared.pacing.Pacing.{Pacing}
 use Rattle.lola_model.specs.declared.pacing.Pacing.TheVariants.{Event, Local, Periodic}
@@ -24,7 +22,7 @@ use Rattle.lola_model.specs.declared.store.Whereabouts.TheVariants.{At}
 use Rattle.lola_expr.specs.Evaluation.{Sees}
 use Rattle.lola_stages.specs.Ends.{Place, add_place}
 use Rattle.lola_step.specs.Clauses.{IsAnswer, closing_answer}
-use Rattle.lola_step.specs.Closings.{FindsAmong, IsShown, MayAskClosing, closed_by, condition_of, least_condition, places_true}
+use Rattle.lola_step.specs.Closings.{FindsAmong, MayAskClosing, closed_by, condition_of, least_condition, places_true}
 use Rattle.lola_step.specs.Found as found
 use Rattle.lola_step.specs.Moments.{active_for_in, birth_at, born_seen, may_be_active_in}
 use Rattle.lola_step.specs.Notes.{place_of_task, places_of}
@@ -33,7 +31,7 @@ use Rattle.lola_step.specs.Tasks.{params_at, params_seen}
 use Rattle.lola_step.specs.declared.moment.Moment.{Moment}
 use Rattle.lola_step.specs.declared.tasks.Task.{Task}
 use Rattle.lola_step.proofs.Conditions.{place_listed}
-use Rattle.lola_step.proofs.Elements.{AreFrom, Element, element, from_first, from_here, from_later}
+use Rattle.lola_step.proofs.Elements.{Element, element}
 use Rattle.lola_step.proofs.Faulty.{same_kind}
 use Rattle.lola_step.proofs.Standing.{params_held}
 

@@ -1,5 +1,5 @@
 -- Which instances of a layer are asked: the others have no outcome.
-use Rattle.std.proofs.Common.{◌≡◌, refl, ap, ◌∙◌, sym, subst, ℕ, zero, suc, ◌+◌, ◌<◌, ◌≤◌, ◌⊎◌, inl, inr, List, [], ◌∷◌, Option, Some, None, Bool, true, false, IsTrue, slice_get, slice_set, length, arith}
+use Rattle.std.proofs.Common.{◌≡◌, refl, ap, ◌∙◌, sym, subst, ℕ, zero, suc, ◌+◌, ◌<◌, ◌≤◌, ◌⊎◌, inl, inr, List, [], ◌∷◌, Option, Some, Bool, true, false, IsTrue, slice_get, slice_set, length, arith}
 use Rattle.std.proofs.lemmas.Bool.{cases_eq, cases_lt}
 use Rattle.lola_value.specs.declared.value.Kind.{Kind}
 use Rattle.lola_value.specs.declared.text.Field.{Field}
@@ -12,7 +12,6 @@ use Rattle.lola_model.specs.Denotation.{truth}
 use Rattle.lola_model.specs.Model.{eval_outcome, eval_pacing, first_answer, guarded, when_answer}
 use Rattle.lola_model.specs.NextStep.{is_local}
 use Rattle.lola_model.specs.Store.{Layout, Memories, Seen, parameters_of}
-use Rattle.lola_model.specs.declared.pacing.Pacing.{Pacing}
 use Rattle.lola_model.specs.declared.plan.Plan.{Plan}
 use Rattle.lola_model.specs.declared.spec.Clause.{Clause}
 use Rattle.lola_model.specs.declared.spec.Spec.{Spec}
@@ -21,7 +20,7 @@ use Rattle.lola_model.specs.declared.store.Whereabouts.{Whereabouts}
 use Rattle.lola_ready.proofs.Clauses.{eval_may_ask}
 use Rattle.lola_stages.specs.Stages.{eval_stage}
 use Rattle.lola_step.specs.Clauses.{eval_answer}
-use Rattle.lola_step.specs.Moments.{active_for_in, may_be_active_in}
+use Rattle.lola_step.specs.Moments.{active_for_in}
 use Rattle.lola_step.specs.Notes.{runs_in, sought_at}
 use Rattle.lola_step.specs.Progress.{IsAt, IsMomentOf}
 use Rattle.lola_step.specs.Sought.{AreSought, IsFalseElsewhere, IsSilentElsewhere, MayAskWhen}

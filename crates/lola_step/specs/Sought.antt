@@ -1,5 +1,5 @@
 -- Which instances a clause is to be asked for.
-use Rattle.std.specs.Prelude.{ℕ, ◌≡◌, List, Some, true, false, IsTrue, slice_get, unwrap_or}
+use Rattle.std.specs.Prelude.{ℕ, ◌≡◌, List, Some, true, false, IsTrue, slice_get}
 use Rattle.lola_value.specs.declared.value.Params.{Params}
 use Rattle.lola_value.specs.Answer.{Missing}
 use Rattle.lola_value.specs.Kinds.{are_of_kinds}

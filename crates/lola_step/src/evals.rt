@@ -253,7 +253,14 @@ fn gather_stream<S: StreamStore>(
         let pacing = eval_pacing_at(plan.pacings.as_slice(), n);
         let whereabouts = sought_of(sought, n);
         add_asked(
-            moment, whereabouts, pacing, store, n as u32, places, tasks, results,
+            moment,
+            whereabouts,
+            pacing,
+            store,
+            n as u32,
+            places,
+            tasks,
+            results,
         );
         spans[n] = Span {
             from,

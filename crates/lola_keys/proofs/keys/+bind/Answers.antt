@@ -1,4 +1,4 @@
-use Rattle.std.proofs.Common.{◌≡◌, ◌∙◌, ap, subst, sym, true, refl}
+use Rattle.std.proofs.Common.{◌∙◌, ap, subst, refl}
 use Rattle.lola_model.specs.Typing.{can_ask}
 use Rattle.lola_model.specs.Denotation.{kind_of}
 use Rattle.lola_model.specs.declared.expr.Binary.TheVariants.{And, Equal}

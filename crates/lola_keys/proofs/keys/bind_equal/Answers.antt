@@ -1,4 +1,4 @@
-use Rattle.std.proofs.Common.{◌≡◌, Some, subst}
+use Rattle.std.proofs.Common.{subst}
 use Rattle.lola_keys.specs.Keys.{IsParameter}
 use Rattle.lola_keys.proofs.Laws.{binds_key_left, binds_key_right}
 use Rattle.lola_keys.proofs.keys.bind_equal.Goals as goal

@@ -1,7 +1,5 @@
-use Rattle.std.proofs.Common.{◌≡◌, ◌∙◌, ◌<◌, ap, arith, sym, subst}
-use Rattle.lola_value.specs.declared.value.Outcome.{Outcome}
-use Rattle.lola_value.specs.declared.value.Outcome.TheVariants as outcome
-use Rattle.lola_value.specs.Naming.{IsHeldIn, read_outcome, read_params}
+use Rattle.std.proofs.Common.{◌∙◌, ◌<◌, arith, sym}
+use Rattle.lola_value.specs.Naming.{read_params}
 use Rattle.lola_keys.proofs.Laws.{fixed_same}
 use Rattle.lola_keys.proofs.keys.bind_key.Goals as goal
 

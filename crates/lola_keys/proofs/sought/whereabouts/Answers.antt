@@ -1,4 +1,4 @@
-use Rattle.std.proofs.Common.{◌≡◌, ◌∙◌, ◌-◌, ◌≤◌, ap, arith, sym, length, take, List, Option, Some, None, ℕ, zero, suc, slice_get, [], ◌∷◌, refl, map, drop}
+use Rattle.std.proofs.Common.{◌∙◌, ◌≤◌, arith, sym, length, List, Option, None, zero, suc, slice_get, [], ◌∷◌}
 use Rattle.lola_value.specs.declared.value.Value.{Value}
 use Rattle.lola_value.specs.Naming.{the_values}
 use Rattle.lola_model.specs.Store.{parameters_of}

@@ -1,4 +1,4 @@
-use Rattle.std.proofs.Common.{◌≡◌, ◌∙◌, ◌<◌, refl, subst, Bool, true, false, nat_eq, arith, ℕ, sym, length}
+use Rattle.std.proofs.Common.{◌≡◌, ◌<◌, refl, subst, Bool, true, false, nat_eq, arith, ℕ, sym, length}
 use Rattle.std.proofs.lemmas.Bool.{eqb-true}
 use Rattle.lola_model.specs.Store.{instances_seen}
 use Rattle.lola_model.specs.declared.store.Whereabouts.{Whereabouts}

@@ -1,8 +1,8 @@
-use Rattle.std.proofs.Common.{◌≡◌, ◌∙◌, ◌<◌, ap, sym, subst, arith, Option, Some, None, MatchOption, slice_get, length}
+use Rattle.std.proofs.Common.{◌≡◌, ◌∙◌, ap, sym, subst, arith, Option, MatchOption}
 use Rattle.lola_value.specs.Naming.{AreHeld, read_params, the_values}
 use Rattle.lola_value.specs.declared.value.Params.{Params}
 use Rattle.lola_model.specs.Model.{when_answer}
-use Rattle.lola_model.specs.Store.{SeenInstance, instances_seen, layout_of}
+use Rattle.lola_model.specs.Store.{SeenInstance, instances_seen}
 use Rattle.lola_model.specs.declared.expr.Expr.{Expr}
 use Rattle.lola_ready.specs.Ready.{IsWhenAskable}
 use Rattle.lola_step.proofs.Elements.{Element, element}

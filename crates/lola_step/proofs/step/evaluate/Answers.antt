@@ -15,6 +15,7 @@ loop-layer-init g c = record {
       c.requires.at c.requires.made.marks c.requires.fresh.marks c.requires.made.spans c.requires.fresh.spans
       c.requires.fresh.tasks c.requires.fresh.results c.requires.fresh.places_room c.requires.fresh.tasks_room c.requires.fresh.results_room;
   marks = refl;
+  sought = refl;
   layers = refl;
   closing = refl;
   verdicts = refl;
@@ -31,6 +32,10 @@ eval_layer-requires-clause-spans g c κs within =
     (spans_then c.args.plan.now c.loop-layer.layer (g.S.StreamStore.seen c.loop-layer.store) (g.S.StreamStore.seen c.spawn_layer.new.store)
     c.loop-layer.scratch.tasks.items c.loop-layer.scratch.results.items c.loop-layer.scratch.spans.items c.spawn_layer.ensures.goes_on c.loop-layer.invariant.so_far.ready)
 
+pub eval_layer-requires-clause-sought : goal.eval_layer-requires-clause-sought
+eval_layer-requires-clause-sought g c κs within =
+    ap length c.deref_mut-in-loop-layer-2.ensures.value ∙ (c.loop-layer.invariant.sought ∙ c.requires.made.sought)
+
 pub loop-layer-preserved : goal.loop-layer-preserved
 loop-layer-preserved g c =
     let plan = c.args.plan.now in
@@ -44,6 +49,9 @@ loop-layer-preserved g c =
     take_at c.spawn_layer.new.marks (drop (length c.spawn_layer.new.marks) now.marks.items) now.marks.len length_marks in
     let spans_back : take now.spans.len (c.eval_layer.new.spans ++ drop (length c.eval_layer.new.spans) now.spans.items) ≡ c.eval_layer.new.spans =
     take_at c.eval_layer.new.spans (drop (length c.eval_layer.new.spans) now.spans.items) now.spans.len length_spans in
+    let length_sought : length c.eval_layer.new.sought ≡ now.sought.len = c.eval_layer.auto.sought ∙ c.deref_mut-in-loop-layer-2.ensures.len in
+    let sought_back : take now.sought.len (c.eval_layer.new.sought ++ drop (length c.eval_layer.new.sought) now.sought.items) ≡ c.eval_layer.new.sought =
+    take_at c.eval_layer.new.sought (drop (length c.eval_layer.new.sought) now.sought.items) now.sought.len length_sought in
     let lent : c.deref.result.now ≡ c.spawn_layer.new.marks = c.deref.ensures.value ∙ marks_back in
     let at : List Mark → List Span → Type 0 =
     λ ms ps. IsSoFar plan m (c.loop-layer.layer + 1) (remembers c.args.store.now) (seen c.args.store.now) (remembers c.eval_layer.new.store) (seen c.eval_layer.new.store) ms ps c.eval_layer.new.places c.eval_layer.new.tasks c.eval_layer.new.results in
@@ -65,6 +73,7 @@ loop-layer-preserved g c =
           (λ ms. ShowsMore plan m c.loop-layer.layer ms (remembers c.spawn_layer.new.store) (seen c.spawn_layer.new.store) c.deref_mut-in-loop-layer.result.now now.tasks.items now.results.items c.eval_layer.new.spans c.eval_layer.new.tasks.items c.eval_layer.new.results.items)
           lent c.eval_layer.ensures.shows)));
       marks = ap length marks_back ∙ (length_marks ∙ (now.marks.ok.0 ∙ c.loop-layer.invariant.marks));
+      sought = ap length sought_back ∙ (length_sought ∙ (now.sought.ok.0 ∙ c.loop-layer.invariant.sought));
       layers = c.loop-layer.invariant.layers;
       closing = c.loop-layer.invariant.closing;
       verdicts = c.loop-layer.invariant.verdicts;

@@ -8,6 +8,7 @@ invariant-loop-layer g l = record {
   so_far : IsSoFar l.plan l.moment l.layer (g.S.StreamStore.remembers l.initial.store) (g.S.StreamStore.seen l.initial.store) (g.S.StreamStore.remembers l.store) (g.S.StreamStore.seen l.store)
       l.scratch.marks.items l.scratch.spans.items l.scratch.places l.scratch.tasks l.scratch.results;
   marks : length l.scratch.marks.items ≡ length l.initial.scratch.marks.items;
+  sought : length l.scratch.sought.items ≡ length l.initial.scratch.sought.items;
   layers : l.scratch.layers ≡ l.layer-end;
   closing : l.scratch.closing ≡ l.initial.scratch.closing;
   verdicts : l.scratch.verdicts ≡ l.initial.scratch.verdicts;
