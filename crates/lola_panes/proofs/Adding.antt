@@ -1,5 +1,5 @@
 -- One more value.
-use Rattle.std.proofs.Common.{◌≡◌, ◌≢◌, ℕ, ◌+◌, ◌-◌, ◌≤◌, ◌<◌, ◌^◌, List, [], ◌∷◌, ◌++◌, length, drop, refl, ap, sym, ◌∙◌, subst, arith, Option, Some, None, ℤ, pos, negsuc, ◌+ℤ◌, ◌≤ℤ◌, length-append, append_assoc, Bool, true, false, inl, inr, FitsSigned, IsTrue}
+use Rattle.std.proofs.Common.{◌≡◌, ◌≢◌, ℕ, ◌+◌, ◌-◌, ◌≤◌, ◌<◌, ◌^◌, List, [], ◌∷◌, ◌++◌, length, drop, refl, ap, sym, ◌∙◌, subst, arith, Option, Some, None, ℤ, pos, negsuc, ◌+ℤ◌, ◌≤ℤ◌, length-append, append_assoc, Bool, true, false, inl, inr, FitsSigned, IsTrue, if◌then◌else◌}
 use Rattle.std.specs.Int.{w128}
 use Rattle.std.proofs.lemmas.List.{map-append, length-map}
 use Rattle.std.proofs.lemmas.Int.{ints}
@@ -18,13 +18,15 @@ use Rattle.lola_value.specs.declared.text.Field.{Field}
 use Rattle.lola_value.specs.Naming.{Naming, read, the_text, text_at}
 use Rattle.lola_panes.specs.declared.pane.Pane.{Pane}
 use Rattle.lola_panes.specs.Weights.{number_at, weight_of, weight_of_value, number_of_value, truth_of_value, as_number}
-use Rattle.lola_panes.specs.Rings.{new_pane, with_value, noted, AllUpTo}
-use Rattle.lola_panes.specs.Holding.{weights, AllLeft, AllSmall, Grouped, Holds}
+use Rattle.lola_panes.specs.Rings.{new_pane, with_value, noted, unbeaten, left_by, Rising, AllUpTo}
+use Rattle.lola_panes.specs.Answers.{is_extreme}
+use Rattle.lola_panes.specs.Holding.{weights, AllLeft, AllSmall, Grouped, HoldsTotals, HoldsBy, Holds}
 use Rattle.lola_panes.proofs.Folds.{total-append}
 use Rattle.lola_panes.proofs.Offsets.{number_monotone}
 use Rattle.lola_panes.proofs.Reading.{total-fits}
-use Rattle.lola_panes.proofs.Rising.{AllUpTo-later, AllUpTo-append, AllUpTo-front, AllUpTo-last, AllUpTo-drop}
+use Rattle.lola_panes.proofs.Rising.{AllUpTo-later, AllUpTo-append, AllUpTo-front, AllUpTo-last, AllUpTo-drop, noted-rising}
 use Rattle.lola_panes.proofs.Noting.{noted-same, noted-other}
+use Rattle.lola_panes.proofs.Extremes.{best-add, Rising-unbeaten, AllUpTo-unbeaten}
 use Rattle.lola_panes.proofs.Grouping.{grouped-new, grouped-same, grouped-below, drops, AllLeft-append, AllLeft-later}
 
 -- values, and what they are read as, weigh the same
@@ -135,8 +137,8 @@ module _ (how : Agg) (pane : ℕ) where
 
   -- panes that hold some values hold one more after it was noted
   pub holds-add : (most newest : ℕ) (sum : ℤ) (added : ℕ) (ring : List Pane) (all : List (ℕ × Field)) (v : ℕ × Field)
-      → 1 ≤ pane → 1 ≤ most → newest ≤ v.0 → IsSmall (weight_of how v.1) → Holds how pane most newest sum added ring all
-      → Holds how pane most v.0 (sum +ℤ weight_of how v.1) (added + 1) (keep_last most (noted how (number_at pane v.0) added sum (weight_of how v.1) ring)) (all ++ v ∷ [])
+      → 1 ≤ pane → 1 ≤ most → newest ≤ v.0 → IsSmall (weight_of how v.1) → HoldsTotals how pane most newest sum added ring all
+      → HoldsTotals how pane most v.0 (sum +ℤ weight_of how v.1) (added + 1) (keep_last most (noted how (number_at pane v.0) added sum (weight_of how v.1) ring)) (all ++ v ∷ [])
   holds-add most newest sum added ring all v g m l s h =
       let p = h.2 in
       let n = number_at pane v.0 in
@@ -158,21 +160,40 @@ module _ (how : Agg) (pane : ℕ) where
         },
       )
 
--- the same of what the code has: its total is exact, since 128 bits hold it
+-- the same of what the code has, whether the panes hold the best or the totals: a total is exact, since 128 bits hold it
 pub add-stands : (how : Agg) (k : Kind) (pane most newest : ℕ) (sum : ℤ) (added : ℕ) (ring : List Pane) (all : List (ℕ × Field)) (offset number : ℕ) (names : Naming) (v : Value) (w z : ℤ) (capacity : ℕ) (ring' : Buffer Pane)
-    → 1 ≤ pane → 1 ≤ most → capacity ≡ most → newest ≤ offset → added < 2 ^ 63 → IsTrue (is_of_kind k v) → number ≡ number_at pane offset → w ≡ weight_of_value how v
-    → ring' ≡ buffer (keep_last capacity (noted how number added sum w ring)) capacity → (FitsSigned w128 (sum +ℤ w) → z ≡ sum +ℤ w)
+    → 1 ≤ pane → 1 ≤ most → capacity ≡ most → newest ≤ offset → added < 2 ^ 63 → IsTrue (is_of_kind k v) → Rising 0 ring → AllUpTo (number_at pane newest) ring
+    → number ≡ number_at pane offset → w ≡ weight_of_value how v
+    → ring' ≡ buffer (keep_last capacity (noted how number added sum w (left_by how w ring))) capacity → (FitsSigned w128 (sum +ℤ w) → z ≡ sum +ℤ w)
     → Holds how pane most newest sum added ring all → Holds how pane most offset z (added + 1) ring'.items (all ++ (offset, read names v) ∷ [])
-add-stands how k pane most newest sum added ring all offset number names v w z capacity ring' g m cap l a kd nu we r t h =
-    let f = read names v in
-    let wf : w ≡ weight_of how f = we ∙ sym (weight_read how names v) in
-    let s : IsSmall (weight_of how f) = subst IsSmall (sym (weight_read how names v)) (weight_small how k v kd) in
-    let on = holds-add how pane most newest sum added ring all (offset, f) g m l s h in
-    let fits : FitsSigned w128 (sum +ℤ weight_of how f) =
-    subst (FitsSigned w128) on.2.total (total-fits (weights how (all ++ (offset, f) ∷ [])) on.2.small
-    (let n = h.2.count in omega (arith, length-map (all ++ (offset, f) ∷ []) (λ (x : ℕ × Field). weight_of how x.1), length-append all ((offset, f) ∷ [])))) in
-    let ze : z ≡ sum +ℤ weight_of how f = t (subst (λ x. FitsSigned w128 (sum +ℤ x)) (sym wf) fits) ∙ ap (λ x. sum +ℤ x) wf in
-    let re : ring'.items ≡ keep_last most (noted how (number_at pane offset) added sum (weight_of how f) ring) =
-    ap (λ (b : Buffer Pane). b.items) r ∙ (λ i. keep_last (cap i) (noted how (nu i) added sum (wf i) ring)) in
-    subst (λ x. Holds how pane most offset x (added + 1) ring'.items (all ++ (offset, f) ∷ [])) (sym ze)
-    (subst (λ (rs : List Pane). Holds how pane most offset (sum +ℤ weight_of how f) (added + 1) rs (all ++ (offset, f) ∷ [])) (sym re) on)
+add-stands how k pane most newest sum added ring all offset number names v w z capacity ring' g m cap l a kd rising up_to nu we r t h =
+    by (is_extreme how) h (ap (λ (b : Buffer Pane). b.items) r ∙ (λ i. keep_last (cap i) (noted how (nu i) added sum (wf i) (left_by how (wf i) ring))))
+  where
+    wf : w ≡ weight_of how (read names v)
+    wf = we ∙ sym (weight_read how names v)
+
+    fits : HoldsTotals how pane most offset (sum +ℤ weight_of how (read names v)) (added + 1) (keep_last most (noted how (number_at pane offset) added sum (weight_of how (read names v)) ring)) (all ++ (offset, read names v) ∷ []) → z ≡ sum +ℤ weight_of how (read names v)
+    fits on =
+        let x = read names v in
+        let fit : FitsSigned w128 (sum +ℤ weight_of how x) =
+        subst (FitsSigned w128) on.2.total (total-fits (weights how (all ++ (offset, x) ∷ [])) on.2.small
+        (let n = on.2.count in omega (arith, length-map (all ++ (offset, x) ∷ []) (λ (y : ℕ × Field). weight_of how y.1)))) in
+        t (subst (λ y. FitsSigned w128 (sum +ℤ y)) (sym wf) fit) ∙ ap (λ y. sum +ℤ y) wf
+
+    by : (b : Bool) → HoldsBy b how pane most newest sum added ring all
+        → ring'.items ≡ keep_last most (noted how (number_at pane offset) added sum (weight_of how (read names v)) (if b then unbeaten how (weight_of how (read names v)) ring else ring))
+        → HoldsBy b how pane most offset z (added + 1) ring'.items (all ++ (offset, read names v) ∷ [])
+    by true hb re =
+        let x = read names v in
+        let n = number_at pane offset in
+        let c = weight_of how x in
+        let later : number_at pane newest ≤ n = number_monotone pane newest offset g l in
+        let on = noted-rising how n added sum c 0 (unbeaten how c ring) (omega arith) (Rising-unbeaten how c 0 ring rising) (AllUpTo-later (number_at pane newest) n (unbeaten how c ring) (AllUpTo-unbeaten how c (number_at pane newest) ring up_to) later) in
+        subst (λ (rs : List Pane). HoldsBy true how pane most offset z (added + 1) rs (all ++ (offset, x) ∷ [])) (sym re)
+        (best-add how pane most newest added sum ring all (offset, x) g m l on.0 on.1 up_to hb)
+    by false hb re =
+        let x = read names v in
+        let s : IsSmall (weight_of how x) = subst IsSmall (sym (weight_read how names v)) (weight_small how k v kd) in
+        let on = holds-add how pane most newest sum added ring all (offset, x) g m l s hb in
+        subst (λ y. HoldsBy false how pane most offset y (added + 1) ring'.items (all ++ (offset, x) ∷ [])) (sym (fits on))
+        (subst (λ (rs : List Pane). HoldsTotals how pane most offset (sum +ℤ weight_of how x) (added + 1) rs (all ++ (offset, x) ∷ [])) (sym re) on)

@@ -1,5 +1,5 @@
 -- Panes and the lists of values that they are of.
-use Rattle.std.proofs.Common.{◌≡◌, ℕ, zero, suc, ◌+◌, ◌*◌, ◌≤◌, ◌<◌, List, [], ◌∷◌, ◌++◌, length, drop, refl, ap, sym, ◌∙◌, subst, arith, Some, ℤ, ◌+ℤ◌, length-append, append_assoc, append-nil, add-one, inl, inr}
+use Rattle.std.proofs.Common.{◌≡◌, ℕ, zero, suc, ◌+◌, ◌*◌, ◌≤◌, ◌<◌, List, [], ◌∷◌, ◌++◌, length, drop, refl, ap, sym, ◌∙◌, subst, arith, ℤ, ◌+ℤ◌, length-append, append_assoc, append-nil, add-one, inl, inr}
 use Rattle.std.specs.Prelude.{filter}
 use Rattle.std.proofs.lemmas.List.{map-append}
 use Rattle.std.proofs.lemmas.List.Elements.{filter-append}
@@ -9,10 +9,10 @@ use Rattle.lola_model.specs.declared.spec.Agg.{Agg}
 use Rattle.lola_model.specs.Windows.{total, is_within_window}
 use Rattle.lola_value.specs.declared.text.Field.{Field}
 use Rattle.lola_panes.specs.declared.pane.Pane.{Pane}
-use Rattle.lola_panes.specs.Weights.{number_at, weight_of, best_of, best_after}
-use Rattle.lola_panes.specs.Rings.{new_pane, with_value, left_count, best_pane, AllUpTo}
+use Rattle.lola_panes.specs.Weights.{number_at, weight_of}
+use Rattle.lola_panes.specs.Rings.{new_pane, with_value, left_count, AllUpTo}
 use Rattle.lola_panes.specs.Holding.{weights, AllOf, AllLeft, Grouped}
-use Rattle.lola_panes.proofs.Folds.{total-append, best-append}
+use Rattle.lola_panes.proofs.Folds.{total-append}
 use Rattle.lola_panes.proofs.Offsets.{left_window, in_window}
 use Rattle.lola_panes.proofs.Noting.{le_yes, le_no, lt_yes, lt_no}
 
@@ -33,7 +33,7 @@ module _ (how : Agg) (pane : ℕ) where
   weaker sum added low low' [] vs l h = h
   weaker sum added low low' (r ∷ rs) vs l h =
       let p = h.3 in
-      (h.0, h.1, h.2, record { low_le = let k = p.low_le in omega arith; own = p.own; extreme = p.extreme; total = p.total; before = p.before }, h.4)
+      (h.0, h.1, h.2, record { low_le = let k = p.low_le in omega arith; own = p.own; total = p.total; before = p.before }, h.4)
 
   -- a value in a new pane
   pub grouped-new : (sum : ℤ) (added low number : ℕ) (rs : List Pane) (vs : List (ℕ × Field)) (v : ℕ × Field)
@@ -41,13 +41,13 @@ module _ (how : Agg) (pane : ℕ) where
       → Grouped how pane (sum +ℤ weight_of how v.1) (added + 1) low (rs ++ new_pane number added sum (weight_of how v.1) ∷ []) (vs ++ v ∷ [])
   grouped-new sum added low number [] vs v h b l e =
       subst (λ (ws : List (ℕ × Field)). Grouped how pane (sum +ℤ weight_of how v.1) (added + 1) low (new_pane number added sum (weight_of how v.1) ∷ []) (ws ++ v ∷ [])) (sym h)
-      (v ∷ [], [], refl, record { low_le = l; own = (e, tt); extreme = refl; total = ap (λ z. sum +ℤ z) (+ℤ_idr (weight_of how v.1)); before = refl }, refl)
+      (v ∷ [], [], refl, record { low_le = l; own = (e, tt); total = ap (λ z. sum +ℤ z) (+ℤ_idr (weight_of how v.1)); before = refl }, refl)
   grouped-new sum added low number (r ∷ rs) vs v h b l e =
       let p = h.3 in (
         h.0,
         h.1 ++ v ∷ [],
         ap (λ ws. ws ++ v ∷ []) h.2 ∙ append_assoc h.0 h.1 (v ∷ []),
-        record { low_le = p.low_le; own = p.own; extreme = p.extreme; total = weights-more vs v r.total_before sum p.total; before = (let k = p.before in omega (arith, length-append vs (v ∷ []))) },
+        record { low_le = p.low_le; own = p.own; total = weights-more vs v r.total_before sum p.total; before = (let k = p.before in omega (arith, length-append vs (v ∷ []))) },
         grouped-new sum added (r.number + 1) number rs h.1 v h.4 b.1 (let k = b.0 in omega arith) e,
       )
 
@@ -68,7 +68,6 @@ module _ (how : Agg) (pane : ℕ) where
         record {
           low_le = p.low_le;
           own = AllOf-more r.number h.0 v p.own e;
-          extreme = ap (best_of how) (map-append (λ (x : ℕ × Field). weight_of how x.1) h.0 (v ∷ [])) ∙ best-append how (weights how h.0) (weight_of how v.1 ∷ []) r.extreme p.extreme;
           total = weights-more vs v r.total_before sum p.total;
           before = (let k = p.before in omega (arith, length-append vs (v ∷ [])));
         },
@@ -79,7 +78,7 @@ module _ (how : Agg) (pane : ℕ) where
         h.0,
         h.1 ++ v ∷ [],
         ap (λ ws. ws ++ v ∷ []) h.2 ∙ append_assoc h.0 h.1 (v ∷ []),
-        record { low_le = p.low_le; own = p.own; extreme = p.extreme; total = weights-more vs v u.total_before sum p.total; before = (let k = p.before in omega (arith, length-append vs (v ∷ []))) },
+        record { low_le = p.low_le; own = p.own; total = weights-more vs v u.total_before sum p.total; before = (let k = p.before in omega (arith, length-append vs (v ∷ []))) },
         grouped-same sum added (u.number + 1) us r h.1 v h.4 e,
       )
 
@@ -161,7 +160,7 @@ module _ (how : Agg) (pane : ℕ) where
         | inl l ↦
             rw (le_no (r.number + most) k l) (
               vs,
-              all_here sum added r.number most k g (r ∷ rs) vs (h.0, h.1, h.2, record { low_le = (omega arith); own = p.own; extreme = p.extreme; total = p.total; before = p.before }, h.4) l,
+              all_here sum added r.number most k g (r ∷ rs) vs (h.0, h.1, h.2, record { low_le = (omega arith); own = p.own; total = p.total; before = p.before }, h.4) l,
               weaker sum added low 0 (r ∷ rs) vs (omega arith) h,
             )
         | inr l ↦
@@ -169,12 +168,3 @@ module _ (how : Agg) (pane : ℕ) where
             rw (le_yes (r.number + most) k l, add-one)
             (on.0, ap (filter f) h.2 ∙ (filter-append f h.0 h.1 ∙ (λ i. all_gone most k g h.0 (AllLeft-of most k r.number h.0 p.own l) i ++ on.1 i)), on.2)
       ]
-
-  -- the best of the panes is that of the values
-  pub best_here : (sum : ℤ) (added low : ℕ) (rs : List Pane) (vs : List (ℕ × Field)) → Grouped how pane sum added low rs vs → best_pane how rs ≡ best_of how (weights how vs)
-  best_here sum added low [] vs h = sym (ap (λ ws. best_of how (weights how ws)) h)
-  best_here sum added low (r ∷ rs) vs h =
-      let p = h.3 in
-      ap (λ o. Some (best_after how r.extreme o)) (best_here sum added (r.number + 1) rs h.1 h.4)
-      ∙ (sym (best-append how (weights how h.0) (weights how h.1) r.extreme p.extreme)
-      ∙ (sym (ap (best_of how) (map-append (λ (x : ℕ × Field). weight_of how x.1) h.0 h.1)) ∙ ap (λ ws. best_of how (weights how ws)) (sym h.2)))

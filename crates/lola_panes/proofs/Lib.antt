@@ -3,6 +3,7 @@ pub mod Folds
 pub mod Noting
 pub mod Rising
 pub mod Grouping
+pub mod Extremes
 pub mod Adding
 pub mod Reading
 pub mod Ranges

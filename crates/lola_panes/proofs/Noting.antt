@@ -1,13 +1,12 @@
 -- Lemmas on what is done to a ring of panes.
-use Rattle.std.proofs.Common.{◌≡◌, ◌≢◌, ℕ, zero, suc, ◌+◌, ◌-◌, ◌≤◌, ◌<◌, List, [], ◌∷◌, ◌++◌, length, take, drop, refl, ap, sym, ◌∙◌, arith, Option, Some, None, ℤ, slice_get, add-one, length-append, take_at, eq-eqb, subst, nat_le, nat_lt, true, false}
+use Rattle.std.proofs.Common.{◌≡◌, ◌≢◌, ℕ, ◌-◌, ◌≤◌, ◌<◌, List, [], ◌∷◌, ◌++◌, length, take, refl, ap, sym, ◌∙◌, arith, Some, None, ℤ, length-append, take_at, eq-eqb, subst, nat_eq, nat_le, nat_lt, true, false}
 use Rattle.std.proofs.lemmas.Bool.Decides.{nat_tests}
 use Rattle.std.proofs.lemmas.Bool.{ne_eqb}
 use Rattle.circular_buffer.specs.Buffer.{last_item, Buffer, buffer, keep_last}
 use Rattle.circular_buffer.proofs.Places.{cut_end, slice_get-last}
 use Rattle.lola_model.specs.declared.spec.Agg.{Agg}
 use Rattle.lola_panes.specs.declared.pane.Pane.{Pane}
-use Rattle.lola_panes.specs.Rings.{new_pane, with_value, noted, best_pane}
-use Rattle.lola_panes.specs.Weights.{best_after}
+use Rattle.lola_panes.specs.Rings.{new_pane, with_value, noted}
 
 -- one more value behind a list with a last pane: in it, or in a new one
 module _ (how : Agg) (number added : ℕ) (sum weight : ℤ) where
@@ -35,6 +34,12 @@ lt_yes a b h = grind (arith, nat_tests)
 pub lt_no : (a b : ℕ) → b ≤ a → nat_lt a b ≡ false
 lt_no a b h = grind (arith, nat_tests)
 
+eq_yes : (a b : ℕ) → nat_eq a b ≡ true → a ≡ b
+eq_yes a b h = grind (arith, nat_tests)
+
+eq_no : (a b : ℕ) → nat_eq a b ≡ false → a ≢ b
+eq_no a b h = λ e. grind (arith, nat_tests)
+
 -- a list with a last item is what is before it and that item
 pub last_cut : (rs : List Pane) (r : Pane) → last_item rs ≡ Some r → rs ≡ take (length rs - 1) rs ++ r ∷ []
 last_cut [] r e = absurd (cc)
@@ -59,25 +64,19 @@ no_last (x ∷ xs) e =
     let e' : last_item all ≡ None = subst (λ l. last_item l ≡ None) on.2 e in
     absurd (cc)
 
--- what is left from a place on begins with the item there
-pub drop_got : (rs : List Pane) (i : ℕ) (r : Pane) → slice_get rs i ≡ Some r → drop i rs ≡ r ∷ drop (i + 1) rs
-drop_got [] i r e = absurd (cc)
-drop_got (x ∷ xs) zero r e = let q : x ≡ r = cc in ap (λ y. y ∷ xs) q
-drop_got (x ∷ xs) (suc i) r e = rw add-one (drop_got xs i r e ∙ ap (λ n. r ∷ drop n xs) (add-one i))
-
 -- what the ring's calls come to, in the last pane, in a new one, and in the first one
 module _ (how : Agg) (number added : ℕ) (sum weight : ℤ) where
-  pub note_same : (items : List Pane) (capacity : ℕ) (r q : Pane) (popped pushed : Buffer Pane) → last_item items ≡ Some r → r.number ≡ number → q ≡ with_value how weight r
+  pub note_same : (items : List Pane) (capacity : ℕ) (r q : Pane) (popped pushed : Buffer Pane) → last_item items ≡ Some r → nat_eq r.number number ≡ true → q ≡ with_value how weight r
       → popped ≡ buffer (take (length items - 1) items) capacity → pushed ≡ buffer (keep_last popped.capacity (popped.items ++ q ∷ [])) popped.capacity
       → pushed ≡ buffer (keep_last capacity (noted how number added sum weight items)) capacity
   note_same items capacity r q popped pushed e n w p h =
       h ∙ (ap (λ (b : Buffer Pane). buffer (keep_last b.capacity (b.items ++ q ∷ [])) b.capacity) p
       ∙ ap (λ l. buffer (keep_last capacity l) capacity)
       (ap (λ z. take (length items - 1) items ++ z ∷ []) w
-      ∙ (sym (noted-same how number added sum weight (take (length items - 1) items) r n)
+      ∙ (sym (noted-same how number added sum weight (take (length items - 1) items) r (eq_yes r.number number n))
       ∙ ap (noted how number added sum weight) (sym (last_cut items r e)))))
 
-  pub note_other : (items : List Pane) (capacity : ℕ) (r q : Pane) (pushed : Buffer Pane) → last_item items ≡ Some r → r.number ≢ number → q ≡ new_pane number added sum weight
+  pub note_other : (items : List Pane) (capacity : ℕ) (r q : Pane) (pushed : Buffer Pane) → last_item items ≡ Some r → nat_eq r.number number ≡ false → q ≡ new_pane number added sum weight
       → pushed ≡ buffer (keep_last capacity (items ++ q ∷ [])) capacity
       → pushed ≡ buffer (keep_last capacity (noted how number added sum weight items)) capacity
   note_other items capacity r q pushed e n w h =
@@ -85,7 +84,7 @@ module _ (how : Agg) (number added : ℕ) (sum weight : ℤ) where
       h ∙ ap (λ l. buffer (keep_last capacity l) capacity)
       (ap (λ z. items ++ z ∷ []) w
       ∙ (ap (λ l. l ++ new_pane number added sum weight ∷ []) cut
-      ∙ (sym (noted-other how number added sum weight (take (length items - 1) items) r n)
+      ∙ (sym (noted-other how number added sum weight (take (length items - 1) items) r (eq_no r.number number n))
       ∙ ap (noted how number added sum weight) (sym cut))))
 
   pub note_first : (items : List Pane) (capacity : ℕ) (q : Pane) (pushed : Buffer Pane) → last_item items ≡ None → q ≡ new_pane number added sum weight
@@ -97,13 +96,3 @@ module _ (how : Agg) (number added : ℕ) (sum weight : ℤ) where
       (ap (λ z. items ++ z ∷ []) w
       ∙ (ap (λ l. l ++ new_pane number added sum weight ∷ []) none
       ∙ ap (noted how number added sum weight) (sym none)))
-
--- the best from one place further in front
-pub best_more : (how : Agg) (rs : List Pane) (i j : ℕ) (r : Pane) (o : Option ℤ) → slice_get rs i ≡ Some r → j ≡ i + 1 → o ≡ best_pane how (drop j rs) → Some (best_after how r.extreme o) ≡ best_pane how (drop i rs)
-best_more how rs i j r o e k h = rw (drop_got rs i r e) (ap (λ p. Some (best_after how r.extreme p)) (h ∙ ap (λ n. best_pane how (drop n rs)) k))
-
--- there is an item at each place below the length
-pub not_past : (rs : List Pane) (i : ℕ) → slice_get rs i ≡ None → i < length rs → ⊥
-not_past [] i e h = omega arith
-not_past (x ∷ xs) zero e h = cc
-not_past (x ∷ xs) (suc i) e h = not_past xs i e (omega arith)

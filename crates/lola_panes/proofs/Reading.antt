@@ -19,12 +19,13 @@ use Rattle.lola_value.specs.Arithmetic.{within}
 use Rattle.lola_panes.specs.declared.pane.Pane.{Pane}
 use Rattle.lola_panes.specs.Weights.{number_at, weight_of, best_of, best_after, as_number}
 use Rattle.lola_panes.specs.Answers.{best_answer, total_answer, is_extreme, same_number}
-use Rattle.lola_panes.specs.Rings.{left_count, best_pane, since_count, IsSinceTotal}
-use Rattle.lola_panes.specs.Holding.{weights, AllSmall, AllWithin, Grouped, Holds}
+use Rattle.lola_panes.specs.Rings.{left_count, extreme_of, since_count, IsSinceTotal}
+use Rattle.lola_panes.specs.Holding.{weights, AllSmall, AllWithin, Grouped, HoldsTotals, HoldsBy, Holds}
 use Rattle.lola_panes.proofs.Ranges.{AllIn, given, best_in, mean_in, AllIn-numbers, AllWithin-filter}
 use Rattle.lola_panes.proofs.Folds.{least_is, greatest_is}
 use Rattle.lola_panes.proofs.Offsets.{number_le}
-use Rattle.lola_panes.proofs.Grouping.{all_gone, AllLeft-later, window_here, best_here}
+use Rattle.lola_panes.proofs.Grouping.{all_gone, AllLeft-later, window_here}
+use Rattle.lola_panes.proofs.Extremes.{first-best}
 
 -- totals of small numbers
 
@@ -49,7 +50,7 @@ AllSmall-filter how f (v ∷ vs) h =
 
 -- the values in the window
 module _ (how : Agg) (pane : ℕ) where
-  pub here_in : (most newest : ℕ) (sum : ℤ) (added k : ℕ) (ring : List Pane) (all : List (ℕ × Field)) → 1 ≤ pane → newest ≤ k * pane → Holds how pane most newest sum added ring all
+  pub here_in : (most newest : ℕ) (sum : ℤ) (added k : ℕ) (ring : List Pane) (all : List (ℕ × Field)) → 1 ≤ pane → newest ≤ k * pane → HoldsTotals how pane most newest sum added ring all
       → (here : List (ℕ × Field)) × (values_within (most * pane) (k * pane) all ≡ map (λ v. v.1) here) × Grouped how pane sum added 0 (drop (left_count most k ring) ring) here × AllSmall (weights how here) × (filter (is_within_window (most * pane) (k * pane)) all ≡ here)
   here_in most newest sum added k ring all g l h =
       let p = h.2 in
@@ -176,20 +177,22 @@ total-answers agg.Exists kind vs w e =
     ∙ ap (λ b. Given (field.Bool b)) (ap (λ z. int_lt (pos 0) z) (total-trues fs) ∙ (below_pos (trues fs) ∙ sym (some-trues fs)))
 
 module _ (how : Agg) (kind : Kind) (pane most newest : ℕ) (sum : ℤ) (added k : ℕ) (ring : List Pane) (all : List (ℕ × Field)) (n : ℕ) where
-  -- from the best of the panes in the window
-  pub read-best : (best : Option ℤ) → 1 ≤ pane → newest ≤ k * pane → n ≡ left_count most k ring → best ≡ best_pane how (drop n ring) → is_extreme how ≡ true
+  -- from the first of the panes in the window
+  pub read-best : (best : Option ℤ) → 1 ≤ pane → newest ≤ k * pane → n ≡ left_count most k ring → best ≡ extreme_of (slice_get ring n) → is_extreme how ≡ true
       → AllWithin kind all → Holds how pane most newest sum added ring all → best_answer kind best ≡ aggregated how kind (values_within (most * pane) (k * pane) all)
   read-best best g l e b t i h =
-      let on = here_in how pane most newest sum added k ring all g l h in
-      let r : AllWithin kind on.0 = subst (AllWithin kind) on.4 (AllWithin-filter kind (is_within_window (most * pane) (k * pane)) all i) in
-      ap (best_answer kind) (b ∙ (ap (λ m. best_pane how (drop m ring)) e ∙ best_here how pane sum added 0 (drop (left_count most k ring) ring) on.0 on.2))
-      ∙ (best-answers how kind on.0 r t ∙ ap (aggregated how kind) (sym on.1))
+      let f = is_within_window (most * pane) (k * pane) in
+      let hb : HoldsBy true how pane most newest sum added ring all = subst (λ c. HoldsBy c how pane most newest sum added ring all) t h in
+      let is : best ≡ best_of how (weights how (filter f all)) =
+      b ∙ (ap (λ m. extreme_of (slice_get ring m)) e ∙ (first-best how most k ring hb.worsening ∙ sym (hb.best k (number_le pane k newest g l)))) in
+      ap (best_answer kind) is ∙ best-answers how kind (filter f all) (AllWithin-filter kind f all i) t
 
   -- from the totals at its first pane
   pub read-total : (count : ℕ) (z : ℤ) → 1 ≤ pane → newest ≤ k * pane → added ≤ 2 ^ 63 → n ≡ left_count most k ring → count ≡ since_count added (slice_get ring n) → IsSinceTotal sum (slice_get ring n) z → is_extreme how ≡ false
       → AllWithin kind all → Holds how pane most newest sum added ring all → total_answer how kind count z ≡ aggregated how kind (values_within (most * pane) (k * pane) all)
   read-total count z g l a e c s t i h =
-      let on = here_in how pane most newest sum added k ring all g l h in
+      let ht : HoldsBy false how pane most newest sum added ring all = subst (λ c. HoldsBy c how pane most newest sum added ring all) t h in
+      let on = here_in how pane most newest sum added k ring all g l ht in
       let rs = drop (left_count most k ring) ring in
       let first : slice_get rs 0 ≡ slice_get ring n = slice_get-drop (left_count most k ring) ring 0 n (omega arith) in
       let ce : count ≡ length on.0 = c ∙ (ap (since_count added) (sym first) ∙ since_count-is how pane sum added 0 rs on.0 on.2) in

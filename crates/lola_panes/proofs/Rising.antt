@@ -1,5 +1,5 @@
 -- Panes whose numbers rise, and how many of them have left a window.
-use Rattle.std.proofs.Common.{◌≡◌, ◌≢◌, ℕ, zero, suc, ◌+◌, ◌≤◌, List, [], ◌∷◌, ◌++◌, length, drop, refl, ap, sym, ◌∙◌, arith, Some, ℤ, slice_get, nat_le, nat_lt, nat_eq, Bool, true, false, if◌then◌else◌, subst}
+use Rattle.std.proofs.Common.{◌≡◌, ◌≢◌, ℕ, zero, suc, ◌+◌, ◌≤◌, ◌<◌, List, [], ◌∷◌, ◌++◌, length, drop, refl, ap, sym, ◌∙◌, arith, Some, ℤ, slice_get, nat_le, nat_lt, nat_eq, Bool, true, false, if◌then◌else◌, subst}
 use Rattle.std.proofs.lemmas.Bool.Decides.{nat_tests}
 use Rattle.lola_model.specs.declared.spec.Agg.{Agg}
 use Rattle.lola_panes.specs.declared.pane.Pane.{Pane}
@@ -38,6 +38,12 @@ pub Rising-drop : (low d : ℕ) (rs : List Pane) → Rising low rs → Rising lo
 Rising-drop low zero rs h = h
 Rising-drop low (suc d) [] h = tt
 Rising-drop low (suc d) (r ∷ rs) h = let k = h.0 in Rising-drop low d rs (Rising-lower (r.number + 1) low rs (omega arith) h.1)
+
+-- many panes span as many numbers
+pub rising-span : (low last : ℕ) (rs : List Pane) → Rising low rs → AllUpTo last rs → 0 < length rs → low + length rs ≤ last + 1
+rising-span low last [] h u l = absurd (omega arith)
+rising-span low last (r ∷ []) h u l = let k = h.0 in let m = u.0 in omega arith
+rising-span low last (r ∷ q ∷ rs) h u l = let k = h.0 in let m = rising-span (r.number + 1) last (q ∷ rs) h.1 u.1 (omega arith) in omega arith
 
 -- with one more value, whose pane is none before the last
 module _ (how : Agg) (number added : ℕ) (sum weight : ℤ) where

@@ -1,12 +1,13 @@
 -- Which lists of values, each with its offset, some panes stand for.
-use Rattle.std.specs.Prelude.{ℕ, ◌+◌, ◌≤◌, ◌≡◌, ℤ, pos, negsuc, ◌+ℤ◌, ◌≤ℤ◌, List, [], ◌∷◌, ◌++◌, map, length, Some, IsTrue}
+use Rattle.std.specs.Prelude.{ℕ, ◌+◌, ◌*◌, ◌≤◌, ◌≡◌, ℤ, pos, negsuc, ◌+ℤ◌, ◌≤ℤ◌, List, [], ◌∷◌, ◌++◌, map, filter, length, Bool, true, false, IsTrue}
 use Rattle.lola_model.specs.declared.spec.Agg.{Agg}
-use Rattle.lola_model.specs.Windows.{total, number_of}
+use Rattle.lola_model.specs.Windows.{total, number_of, is_within_window}
 use Rattle.lola_value.specs.declared.value.Kind.{Kind}
 use Rattle.lola_value.specs.Arithmetic.{is_within}
 use Rattle.lola_value.specs.declared.text.Field.{Field}
 use Rattle.lola_panes.specs.declared.pane.Pane.{Pane}
-use Rattle.lola_panes.specs.Rings.{AllUpTo}
+use Rattle.lola_panes.specs.Answers.{is_extreme}
+use Rattle.lola_panes.specs.Rings.{AllUpTo, Worsening, staying, best_pane}
 use Rattle.lola_panes.specs.Weights.{number_at, weight_of, best_of}
 
 -- what the values count for
@@ -32,7 +33,6 @@ AllSmall (z ∷ zs) = ((negsuc 18446744073709551614 ≤ℤ z) × (z ≤ℤ pos 1
 pub record IsPane (how : Agg) (pane : ℕ) (sum : ℤ) (added low : ℕ) (r : Pane) (vs front : List (ℕ × Field)) : Type 0 where
   pub low_le : low ≤ r.number
   pub own : AllOf pane r.number front
-  pub extreme : best_of how (weights how front) ≡ Some r.extreme
   pub total : r.total_before +ℤ total (weights how vs) ≡ sum
   pub before : r.count_before + length vs ≡ added
 
@@ -54,9 +54,25 @@ pub record HoldsAll (how : Agg) (pane most newest : ℕ) (sum : ℤ) (added : �
   pub count : length all ≡ added
 
 -- the panes hold these values, and some of them have left for good
-abbrev pub Holds : Agg → ℕ → ℕ → ℕ → ℤ → ℕ → List Pane → List (ℕ × Field) → Type 0
-Holds how pane most newest sum added ring all =
+abbrev pub HoldsTotals : Agg → ℕ → ℕ → ℕ → ℤ → ℕ → List Pane → List (ℕ × Field) → Type 0
+HoldsTotals how pane most newest sum added ring all =
     (gone : List (ℕ × Field)) × (here : List (ℕ × Field)) × HoldsAll how pane most newest sum added ring all gone here
+
+-- the best of the values in each window to come is the best of the panes that have not left it, and each pane is
+-- better than all later ones: so the first that has not left is the best
+pub record HoldsBest (how : Agg) (pane most newest : ℕ) (ring : List Pane) (all : List (ℕ × Field)) : Type 0 where
+  pub best : (k : ℕ) → number_at pane newest ≤ k
+      → best_of how (weights how (filter (is_within_window (most * pane) (k * pane)) all)) ≡ best_pane how (staying most k ring)
+  pub worsening : Worsening how ring
+
+-- the panes hold these values: by the best of them, where the answer is one of the values, and else by their totals
+abbrev pub HoldsBy : Bool → Agg → ℕ → ℕ → ℕ → ℤ → ℕ → List Pane → List (ℕ × Field) → Type 0
+HoldsBy true how pane most newest sum added ring all = HoldsBest how pane most newest ring all
+HoldsBy false how pane most newest sum added ring all = HoldsTotals how pane most newest sum added ring all
+
+-- the panes hold these values as their aggregation needs it
+abbrev pub Holds : Agg → ℕ → ℕ → ℕ → ℤ → ℕ → List Pane → List (ℕ × Field) → Type 0
+Holds how pane most newest sum added ring all = HoldsBy (is_extreme how) how pane most newest sum added ring all
 
 -- the numbers are within the kind
 abbrev pub AllWithin : Kind → List (ℕ × Field) → Type 0

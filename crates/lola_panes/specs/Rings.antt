@@ -1,9 +1,10 @@
 -- What is done to a ring of panes.
-use Rattle.std.specs.Prelude.{ℕ, ◌+◌, ℤ, if◌then◌else◌, nat_eq, nat_le, List, [], ◌∷◌, Option, Some, None, pos, ◌-◌, ◌-ℤ◌, ◌≡◌, ◌≤◌, FitsSigned}
+use Rattle.std.specs.Prelude.{ℕ, ◌+◌, ℤ, Bool, true, false, not, if◌then◌else◌, nat_eq, nat_le, List, [], ◌∷◌, Option, Some, None, pos, ◌-◌, ◌-ℤ◌, ◌≡◌, ◌≤◌, FitsSigned}
 use Rattle.std.specs.Int.{w128}
 use Rattle.lola_model.specs.declared.spec.Agg.{Agg}
 use Rattle.lola_panes.specs.declared.pane.Pane.{Pane}
-use Rattle.lola_panes.specs.Weights.{better, best_after}
+use Rattle.lola_panes.specs.Weights.{better, is_better, best_after}
+use Rattle.lola_panes.specs.Answers.{is_extreme}
 
 -- a pane with one value, behind this many values of this total
 abbrev pub new_pane : ℕ → ℕ → ℤ → ℤ → Pane
@@ -24,6 +25,35 @@ noted how number added total weight [] = new_pane number added total weight ∷ 
 noted how number added total weight (r ∷ []) = noted_last how number added total weight r
 noted how number added total weight (r ∷ q ∷ rs) = r ∷ noted how number added total weight (q ∷ rs)
 
+-- the last pane is not better than a number
+abbrev pub is_last_beaten : Agg → ℤ → Option Pane → Bool
+is_last_beaten how z None = false
+is_last_beaten how z (Some r) = not (is_better how r.extreme z)
+
+-- a pane and what is left behind it: where nothing is left, the pane itself has to be better than the number
+abbrev pub front_of : Agg → ℤ → Pane → List Pane → List Pane
+front_of how z r [] = if is_better how r.extreme z then r ∷ [] else []
+front_of how z r (q ∷ qs) = r ∷ q ∷ qs
+
+-- these panes without those at the end that are not better than a number
+abbrev pub unbeaten : Agg → ℤ → List Pane → List Pane
+unbeaten how z [] = []
+unbeaten how z (r ∷ rs) = front_of how z r (unbeaten how z rs)
+
+-- what a new value leaves of the panes: where the answer is one of the values, those that are better than it
+abbrev pub left_by : Agg → ℤ → List Pane → List Pane
+left_by how z rs = if is_extreme how then unbeaten how z rs else rs
+
+-- a number is better than the extreme of each pane
+abbrev pub AllWorse : Agg → ℤ → List Pane → Type 0
+AllWorse how z [] = Unit {0}
+AllWorse how z (r ∷ rs) = (is_better how z r.extreme ≡ true) × AllWorse how z rs
+
+-- each pane is better than all later ones
+abbrev pub Worsening : Agg → List Pane → Type 0
+Worsening how [] = Unit {0}
+Worsening how (r ∷ rs) = AllWorse how r.extreme rs × Worsening how rs
+
 -- the numbers of these panes rise, from low on
 abbrev pub Rising : ℕ → List Pane → Type 0
 Rising low [] = Unit {0}
@@ -38,6 +68,16 @@ AllUpTo last (r ∷ rs) = (r.number ≤ last) × AllUpTo last rs
 abbrev pub left_count : ℕ → ℕ → List Pane → ℕ
 left_count most k [] = 0
 left_count most k (r ∷ rs) = if nat_le (r.number + most) k then left_count most k rs + 1 else 0
+
+-- the panes that have not left the window that ends with pane k
+abbrev pub staying : ℕ → ℕ → List Pane → List Pane
+staying most k [] = []
+staying most k (r ∷ rs) = if nat_le (r.number + most) k then staying most k rs else r ∷ staying most k rs
+
+-- the extreme of a pane
+abbrev pub extreme_of : Option Pane → Option ℤ
+extreme_of None = None
+extreme_of (Some r) = Some r.extreme
 
 -- the best of the panes' extremes
 abbrev pub best_pane : Agg → List Pane → Option ℤ

@@ -1,5 +1,5 @@
 -- Numbers of panes, what a value counts for, and the best of some numbers.
-use Rattle.std.specs.Prelude.{ℕ, ◌+◌, ◌-◌, ◌/◌, ℤ, pos, Bool, true, false, if◌then◌else◌, nat_eq, List, [], ◌∷◌, Option, Some, None}
+use Rattle.std.specs.Prelude.{ℕ, ◌+◌, ◌-◌, ◌/◌, ℤ, pos, Bool, true, false, if◌then◌else◌, nat_eq, List, [], ◌∷◌, Option, Some, None, int_lt}
 use Rattle.lola_model.specs.declared.spec.Agg.{Agg}
 use Rattle.lola_model.specs.declared.spec.Agg.TheVariants as agg
 use Rattle.lola_value.specs.declared.text.Field.{Field}
@@ -42,6 +42,11 @@ weight_of_value how v = number_of_value v
 abbrev pub better : Agg → ℤ → ℤ → ℤ
 better agg.Max a b = greater a b
 better how a b = lesser a b
+
+-- the first of two is the better one, and they are not the same
+abbrev pub is_better : Agg → ℤ → ℤ → Bool
+is_better agg.Max a b = int_lt b a
+is_better how a b = int_lt a b
 
 -- the better of a number and the best of others
 abbrev pub best_after : Agg → ℤ → Option ℤ → ℤ

@@ -1,13 +1,14 @@
 //! A pane, and what a value counts for in it.
 
 ghost use Rattle.std.specs.Prelude.{◌≡◌, ◌≤◌, ◌+◌, nat_le};
-ghost use Rattle.lola_panes.specs.Weights.{number_at, weight_of_value, better};
+ghost use Rattle.lola_panes.specs.Weights.{number_at, weight_of_value, better, is_better};
 
 use lola_model::spec::Agg;
 use lola_value::value::Value;
 
 /// What a window needs of the values of one pane, which are those whose offset from the start is above
-/// `(number - 1)` times the length of a pane and at most `number` times that.
+/// `(number - 1)` times the length of a pane and at most `number` times that. Where the answer is one of the values, a
+/// pane stands only for those that no later value is as good as.
 #[derive(Clone, Copy)]
 pub struct Pane {
     pub number: u64,
@@ -61,5 +62,15 @@ pub fn better_of(aggregation: Agg, a: i128, b: i128) -> i128
     match aggregation {
         Agg::Max => if a <= b { b } else { a },
         _ => if a <= b { a } else { b },
+    }
+}
+
+/// Whether the first of two numbers is better than the second: equal ones are not.
+pub fn beats(aggregation: Agg, a: i128, b: i128) -> bool
+    ensures { result ≡ is_better aggregation a b }
+{
+    match aggregation {
+        Agg::Max => b < a,
+        _ => a < b,
     }
 }

@@ -13,7 +13,7 @@ ghost use Rattle.lola_panes.specs.Standing.{StandFor, SameWindow, no_values};
 
 use crate::answer::{best_answer, is_early, is_extreme, minus, plus, total_answer};
 use crate::pane::{Pane, pane_number, weight};
-use crate::ring::{best_from, left, note};
+use crate::ring::{extreme_at, left, make_way, note};
 use circular_buffer::HeapCircularBuffer;
 use lola_model::spec::Agg;
 use lola_value::text::Memory;
@@ -22,6 +22,8 @@ use std::alloc::Global;
 use std::marker::Model;
 
 /// The values of a window, by panes: only the last panes that have a value are kept, at most as many as the window has.
+/// Where the answer is one of the values, a pane is kept only while no later one is as good: the panes that are left
+/// then get worse from the first on, and the first in a window is its answer.
 #[derive(Drop)]
 pub struct Panes {
     aggregation: Agg,
@@ -101,6 +103,7 @@ impl Panes {
         let weight = weight(self.aggregation, value);
         let total = self.total;
         let added = self.added;
+        make_way(&mut self.ring, self.aggregation, weight);
         note(
             &mut self.ring,
             self.aggregation,
@@ -137,7 +140,7 @@ impl Panes {
     {
         let first = left(&self.ring, self.count, k);
         if is_extreme(self.aggregation) {
-            best_answer(self.kind, best_from(&self.ring, self.aggregation, first))
+            best_answer(self.kind, extreme_at(&self.ring, first))
         } else {
             let since = self.since(first);
             total_answer(self.aggregation, self.kind, since.count, since.total)

@@ -1,11 +1,11 @@
 //! A ring of panes, the oldest first.
 
-ghost use Rattle.std.specs.Prelude.{◌≡◌, ◌≤◌, ◌<◌, length, drop, nat_lt};
-ghost use Rattle.circular_buffer.specs.Buffer.{buffer, keep_last};
-ghost use Rattle.lola_panes.specs.Weights.{best_after};
-ghost use Rattle.lola_panes.specs.Rings.{new_pane, with_value, noted, left_count, best_pane, Rising};
+ghost use Rattle.std.specs.Prelude.{◌≡◌, ◌<◌, length, nat_eq, nat_lt, slice_get};
+ghost use Rattle.circular_buffer.specs.Buffer.{buffer, keep_last, last_item};
+ghost use Rattle.lola_panes.specs.Rings.{new_pane, with_value, noted, is_last_beaten, unbeaten, left_by, left_count, extreme_of, Rising};
 
-use crate::pane::{Pane, better_of, is_past};
+use crate::answer::is_extreme;
+use crate::pane::{Pane, beats, better_of, is_past};
 use circular_buffer::HeapCircularBuffer;
 use lola_model::spec::Agg;
 
@@ -33,6 +33,13 @@ fn pane_and(aggregation: Agg, p: Pane, weight: i128) -> Pane
     }
 }
 
+// Whether a value of the pane with this number goes into a pane.
+fn is_of(p: Pane, number: u64) -> bool
+    ensures { result ≡ nat_eq p.number number }
+{
+    p.number == number
+}
+
 /// Puts one more value in the last pane, or in a new one where that has another number. The oldest pane goes where
 /// there is no room.
 pub fn note(
@@ -50,13 +57,42 @@ pub fn note(
             ring.push_back(pane_with(number, added, total, weight));
         }
         Some(last) => {
-            if last.number == number {
+            if is_of(last, number) {
                 ring.pop_back();
                 ring.push_back(pane_and(aggregation, last, weight));
             } else {
                 ring.push_back(pane_with(number, added, total, weight));
             }
         }
+    }
+}
+
+// Whether there is a last pane, and its extreme is not better than a number.
+fn is_end_beaten(ring: &HeapCircularBuffer<Pane>, aggregation: Agg, weight: i128) -> bool
+    ensures { result ≡ is_last_beaten aggregation weight (last_item ring.now.items) }
+{
+    match ring.back().copied() {
+        None => false,
+        Some(last) => !beats(aggregation, last.extreme, weight),
+    }
+}
+
+// Takes away the panes at the end that are not better than a number, which outlives them in each window.
+fn drop_beaten(ring: &mut HeapCircularBuffer<Pane>, aggregation: Agg, weight: i128)
+    ensures { ring.new ≡ buffer (unbeaten aggregation weight ring.old.items) ring.old.capacity }
+{
+    while is_end_beaten(ring, aggregation, weight) {
+        ring.pop_back();
+    }
+}
+
+/// Takes away the panes that no window needs once it has one more value. Each pane goes once, so that on average this
+/// takes as long however many there are.
+pub fn make_way(ring: &mut HeapCircularBuffer<Pane>, aggregation: Agg, weight: i128)
+    ensures { ring.new ≡ buffer (left_by aggregation weight ring.old.items) ring.old.capacity }
+{
+    if is_extreme(aggregation) {
+        drop_beaten(ring, aggregation, weight);
     }
 }
 
@@ -90,28 +126,12 @@ pub fn left(ring: &HeapCircularBuffer<Pane>, count: u32, k: u64) -> usize
     low
 }
 
-/// The better of a number and the best so far.
-fn best_and(aggregation: Agg, z: i128, best: Option<i128>) -> i128
-    ensures { result ≡ best_after aggregation z best }
+/// The extreme of the pane at a place; `None` past the end.
+pub fn extreme_at(ring: &HeapCircularBuffer<Pane>, place: usize) -> Option<i128>
+    ensures { result ≡ extreme_of (slice_get ring.now.items place) }
 {
-    match best {
-        None => z,
-        Some(b) => better_of(aggregation, z, b),
+    match ring.get(place) {
+        None => None,
+        Some(p) => Some(p.extreme),
     }
-}
-
-/// The best of the panes from one on; `None` of none.
-pub fn best_from(ring: &HeapCircularBuffer<Pane>, aggregation: Agg, from: usize) -> Option<i128>
-    requires { from ≤ length ring.now.items }
-    ensures { result ≡ best_pane aggregation (drop from ring.now.items) }
-{
-    let mut best = None;
-    let mut i = ring.len();
-    while i > from {
-        i -= 1;
-        if let Some(p) = ring.get(i) {
-            best = Some(best_and(aggregation, p.extreme, best));
-        }
-    }
-    best
 }

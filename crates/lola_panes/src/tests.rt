@@ -1,8 +1,13 @@
 //! Worked windows from outside: each aggregation over none, one and many values, and the edges of panes and kinds.
 
+ghost use Rattle.std.specs.Prelude.{IsTrue};
+ghost use Rattle.lola_model.specs.Typing.{takes};
+
 use crate::panes::Panes;
 use lola_model::spec::Agg;
 use lola_value::value::{FaultKind, Kind, Outcome, Value};
+use std::alloc::Global;
+use std::process::Abort;
 
 const NONE: Outcome = Outcome::Missing;
 
@@ -137,4 +142,104 @@ fn many_panes_pass(rt: HostRuntime) {
     assert_eq!(rt; panes.read(1_000_000), number(1));
     assert_eq!(rt; panes.read(1_000_030), number(1));
     assert_eq!(rt; panes.read(1_000_040), NONE);
+}
+
+#[test]
+fn extremes_at_the_edges_of_windows(rt: HostRuntime) {
+    let mut panes = Panes::create(rt.alloc(), Agg::Max, Kind::Int64, 10, 3, false).expect(
+        &rt, "memory",
+    );
+    // the last offset of pane 1, and the first one of pane 2
+    panes.add(10, Value::Int(9));
+    panes.add(11, Value::Int(5));
+    panes.add(21, Value::Int(7));
+    assert_eq!(rt; panes.read(30), number(9));
+    assert_eq!(rt; panes.read(40), number(7));
+    assert_eq!(rt; panes.read(50), number(7));
+    assert_eq!(rt; panes.read(60), NONE);
+    assert_eq!(rt; panes.len(), 2);
+}
+
+#[test]
+fn the_later_of_equal_extremes_stays(rt: HostRuntime) {
+    for aggregation in [Agg::Min, Agg::Max] {
+        let mut panes = Panes::create(rt.alloc(), aggregation, Kind::Int64, 10, 2, false).expect(
+            &rt, "memory",
+        );
+        panes.add(10, Value::Int(5));
+        panes.add(20, Value::Int(5));
+        assert_eq!(rt; panes.len(), 1);
+        assert_eq!(rt; panes.read(20), number(5));
+        assert_eq!(rt; panes.read(30), number(5));
+        assert_eq!(rt; panes.read(40), NONE);
+    }
+}
+
+// The best of some numbers, by a plain fold.
+fn plain_best(aggregation: Agg, values: &[i8]) -> Outcome {
+    let best = match aggregation {
+        Agg::Max => values.iter().copied().max(),
+        _ => values.iter().copied().min(),
+    };
+    match best {
+        None => NONE,
+        Some(z) => number(z as i128),
+    }
+}
+
+// Adds a number at the end of each pane, and reads the window of four panes that ends there, and that two panes later.
+fn reads_as_the_fold(rt: &impl Abort, alloc: Global, aggregation: Agg, run: &[i8])
+    requires { IsTrue (takes aggregation Kind.Int8) }
+{
+    let mut panes = Panes::create(alloc, aggregation, Kind::Int8, 10, 4, false).expect(
+        rt, "memory",
+    );
+    for place in 0..run.len().min(12) {
+        let offset = 10 * (place as u64 + 1);
+        panes.add(offset, Value::Int(run[place] as i128));
+        assert_eq!(rt;
+            panes.read(offset),
+            plain_best(aggregation, &run[place.saturating_sub(3)..place + 1])
+        );
+        assert_eq!(rt;
+            panes.read(offset + 20),
+            plain_best(aggregation, &run[place.saturating_sub(1)..place + 1])
+        );
+    }
+}
+
+#[test]
+fn runs_against_a_plain_fold(rt: HostRuntime) {
+    for aggregation in [Agg::Min, Agg::Max] {
+        reads_as_the_fold(
+            &rt,
+            rt.alloc(),
+            aggregation,
+            &[-3, -2, 0, 1, 2, 5, 6, 7, 8, 9, 10, 11],
+        );
+        reads_as_the_fold(
+            &rt,
+            rt.alloc(),
+            aggregation,
+            &[9, 8, 7, 6, 4, 3, 2, 1, 0, -1, -2, -9],
+        );
+        reads_as_the_fold(
+            &rt,
+            rt.alloc(),
+            aggregation,
+            &[4, 4, 4, 4, 4, 4, 4, 4, 4, 4, 4, 4],
+        );
+        reads_as_the_fold(
+            &rt,
+            rt.alloc(),
+            aggregation,
+            &[5, 1, 4, 1, 5, 9, 2, 6, 5, 3, 5, 8],
+        );
+        reads_as_the_fold(
+            &rt,
+            rt.alloc(),
+            aggregation,
+            &[0, 7, 7, 1, 1, 1, 7, 2, 2, 0, 0, 7],
+        );
+    }
 }

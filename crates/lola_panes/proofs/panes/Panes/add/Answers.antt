@@ -1,9 +1,10 @@
-use Rattle.std.proofs.Common.{rules, ◌≡◌, ◌∙◌, ◌+ℤ◌, ℤ, sym, subst, FitsSigned, ◌++◌, ◌∷◌, [], ◌+◌, ◌≤◌, ◌<◌, ◌^◌, IsTrue}
+use Rattle.std.proofs.Common.{rules, ◌≡◌, ◌∙◌, ◌+ℤ◌, ℤ, ap, sym, subst, FitsSigned, ◌++◌, ◌∷◌, [], ◌+◌, ◌≤◌, ◌<◌, ◌^◌, IsTrue}
 use Rattle.std.proofs.lemmas.Int.{to_z-of_z}
-use Rattle.circular_buffer.specs.Buffer.{buffer, keep_last}
+use Rattle.circular_buffer.specs.Buffer.{buffer, keep_last, Buffer}
+use Rattle.lola_panes.specs.declared.pane.Pane.{Pane}
 use mir.Syntax.{w128}
 use mir.Val.{SFits, to_z, of_z}
-use Rattle.lola_panes.specs.Rings.{noted}
+use Rattle.lola_panes.specs.Rings.{noted, left_by}
 use Rattle.lola_panes.specs.Holding.{Holds}
 use Rattle.lola_panes.specs.Standing.{Partials, StandFor}
 use Rattle.lola_value.specs.Naming.{read}
@@ -28,11 +29,15 @@ returns-clause-all c = λ names all h0.
     let fz : SFits w128 c.plus-self-inside.result = record { sfits = c.plus-self-inside.type_inv } in
     let et = to_z-of_z w128 p.total ft in
     let ew = to_z-of_z w128 w fw in
-    let note = c.note.ensures ∙ (λ i. buffer (keep_last p.ring.capacity (noted p.aggregation c.pane_number-number.result p.added (et i) (ew i) p.ring.items)) p.ring.capacity) in
+    let way = c.make_way.ensures in
+    let note =
+    c.note.ensures
+    ∙ (ap (λ (b : Buffer Pane). buffer (keep_last b.capacity (noted p.aggregation c.pane_number-number.result p.added (to_z w128 (of_z w128 p.total)) (to_z w128 (of_z w128 w)) b.items)) b.capacity) way
+    ∙ (λ i. buffer (keep_last p.ring.capacity (noted p.aggregation c.pane_number-number.result p.added (et i) (ew i) (left_by p.aggregation (ew i) p.ring.items))) p.ring.capacity)) in
     let plus : FitsSigned w128 (p.total +ℤ w) → c.plus-self-inside.result ≡ p.total +ℤ w = subst (λ (z : ℤ). FitsSigned w128 z → c.plus-self-inside.result ≡ z) (λ i. et i +ℤ ew i) c.plus-self-inside.ensures in (
       subst (λ (z : ℤ). Holds p.aggregation p.pane p.count c.args.offset z (p.added + 1) c.note.new.ring.items (all ++ (c.args.offset, read names c.args.value) ∷ [])) (sym (to_z-of_z w128 c.plus-self-inside.result fz))
           (add-stands p.aggregation p.kind p.pane p.count p.newest p.total p.added p.ring.items all c.args.offset c.pane_number-number.result names c.args.value w c.plus-self-inside.result p.ring.capacity c.note.new.ring
-          i.pane i.count i.capacity_is offset added kind c.pane_number-number.ensures c.weight-weight.ensures note plus h.0),
+          i.pane i.count i.capacity_is offset added kind i.rising i.up_to c.pane_number-number.ensures c.weight-weight.ensures note plus h.0),
       AllWithin-more p.kind all (c.args.offset, read names c.args.value) h.1 (value_in p.kind c.args.value (read names c.args.value) kind (number_read names c.args.value)),
     )
 
@@ -42,4 +47,6 @@ invariant_of-self c =
     let offset : p.newest ≤ c.args.offset = subst (λ (q : Partials). q.newest ≤ c.args.offset) (sym c.self.view_is) c.requires.offset in
     let added : p.added < 2 ^ 63 = subst (λ (q : Partials). q.added < 2 ^ 63) (sym c.self.view_is) c.requires.added in
     order-added p.aggregation p.kind p.pane p.count p.exact p.newest p.added p.total (to_z w128 (of_z w128 p.total)) (to_z w128 (of_z w128 c.weight-weight.result)) (to_z w128 (of_z w128 c.plus-self-inside.result))
-    p.ring.items c.note.new.ring p.ring.capacity c.args.offset c.pane_number-number.result c.self.invariant offset added c.pane_number-number.ensures c.note.ensures
+    p.ring.items c.note.new.ring p.ring.capacity c.args.offset c.pane_number-number.result c.self.invariant offset added c.pane_number-number.ensures
+    (c.note.ensures
+    ∙ ap (λ (b : Buffer Pane). buffer (keep_last b.capacity (noted p.aggregation c.pane_number-number.result p.added (to_z w128 (of_z w128 p.total)) (to_z w128 (of_z w128 c.weight-weight.result)) b.items)) b.capacity) c.make_way.ensures)

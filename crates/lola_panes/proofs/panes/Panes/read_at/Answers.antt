@@ -1,16 +1,12 @@
-use Rattle.std.proofs.Common.{rules, ◌∙◌, sym, ap, subst, arith, drop}
+use Rattle.std.proofs.Common.{rules, ◌∙◌, sym, ap, subst, slice_get}
 use Rattle.std.proofs.lemmas.Int.{to_z-of_z}
 use mir.Syntax.{w128}
 use mir.Val.{SFits}
-use Rattle.lola_panes.specs.Rings.{left_count, best_pane}
+use Rattle.lola_panes.specs.Rings.{left_count, extreme_of}
 use Rattle.lola_panes.specs.Answers.{total_answer, best_answer, is_extreme}
 use Rattle.lola_panes.specs.Standing.{Partials, AreInOrder}
 use Rattle.lola_panes.proofs.Reading.{read-best, read-total}
-use Rattle.lola_panes.proofs.Rising.{left_le}
 use Rattle.lola_panes.proofs.panes.Panes.read_at.Goals as goal
-
-pub best_from-requires : goal.best_from-requires
-best_from-requires c = let s = c.self.inside in omega (arith, c.left-first.ensures, left_le s.count c.args.k s.ring.items)
 
 pub returns-then-is_extreme-clause-value : goal.returns-then-is_extreme-clause-value
 returns-then-is_extreme-clause-value c = λ names all h.
@@ -18,10 +14,10 @@ returns-then-is_extreme-clause-value c = λ names all h.
     let v = c.self.view_is in
     let o : AreInOrder p c.self.inside.ring.capacity = subst (λ (w : Partials). AreInOrder w c.self.inside.ring.capacity) v c.self.invariant in
     c.best_answer.ensures.value names
-    ∙ (ap (λ (w : Partials). best_answer w.kind c.best_from.result) v
-    ∙ read-best p.aggregation p.kind p.pane p.count p.newest p.whole p.added c.args.k p.panes all c.left-first.result c.best_from.result o.pane c.requires
+    ∙ (ap (λ (w : Partials). best_answer w.kind c.extreme_at.result) v
+    ∙ read-best p.aggregation p.kind p.pane p.count p.newest p.whole p.added c.args.k p.panes all c.left-first.result c.extreme_at.result o.pane c.requires
     (c.left-first.ensures ∙ ap (λ (w : Partials). left_count w.count c.args.k w.panes) v)
-    (c.best_from.ensures ∙ ap (λ (w : Partials). best_pane w.aggregation (drop c.left-first.result w.panes)) v)
+    (c.extreme_at.ensures ∙ ap (λ (w : Partials). extreme_of (slice_get w.panes c.left-first.result)) v)
     (ap (λ (w : Partials). is_extreme w.aggregation) (sym v) ∙ (sym c.is_extreme.ensures ∙ c.if-is_extreme.true)) h.1 h.0)
 
 pub returns-else-is_extreme-clause-value : goal.returns-else-is_extreme-clause-value
