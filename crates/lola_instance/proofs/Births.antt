@@ -6,6 +6,7 @@ use Rattle.lola_value.specs.declared.value.Params.{Params}
 use Rattle.lola_value.specs.declared.value.Outcome.TheVariants as outcome
 use Rattle.lola_value.specs.Naming.{Naming, read_outcome, IsHeldIn}
 use Rattle.lola_model.specs.Accesses.{one_more}
+use Rattle.lola_panes.proofs.Adding.{holds-none}
 use Rattle.lola_instance.specs.declared.window.WindowPanes.{WindowPanes}
 use Rattle.lola_instance.specs.Holdings.{Holdings, shown}
 use Rattle.lola_instance.specs.Memories.{shifted, AllSince, AllStandFor, life_values, Remembers, RemembersNothing}
@@ -36,7 +37,7 @@ no_front (x ∷ xs) ys e = cc
 
 empty_stand : (ws : List WindowPanes) → AllStandFor (map empty_panes ws) []
 empty_stand [] = tt
-empty_stand (w ∷ ws) = ((([], [], record { split = refl; left = tt; grouped = refl; up_to = tt; small = tt; total = refl; count = refl }), tt), empty_stand ws)
+empty_stand (w ∷ ws) = ((holds-none w.aggregation w.pane w.count, tt), empty_stand ws)
 
 -- an instance that was just made
 

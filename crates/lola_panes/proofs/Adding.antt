@@ -197,3 +197,11 @@ add-stands how k pane most newest sum added ring all offset number names v w z c
         let on = holds-add how pane most newest sum added ring all (offset, x) g m l s hb in
         subst (λ y. HoldsBy false how pane most offset y (added + 1) ring'.items (all ++ (offset, x) ∷ [])) (sym (fits on))
         (subst (λ (rs : List Pane). HoldsTotals how pane most offset (sum +ℤ weight_of how x) (added + 1) rs (all ++ (offset, x) ∷ [])) (sym re) on)
+
+-- panes that were given no value hold none
+pub holds-none : (how : Agg) (pane most : ℕ) → Holds how pane most 0 (pos 0) 0 [] []
+holds-none how pane most = by (is_extreme how)
+  where
+    by : (b : Bool) → HoldsBy b how pane most 0 (pos 0) 0 [] []
+    by true = record { best = λ k l. refl; worsening = tt }
+    by false = ([], [], record { split = refl; left = tt; grouped = refl; up_to = tt; small = tt; total = refl; count = refl })
