@@ -1,12 +1,12 @@
 -- The texts that are held and their numbers, as texts come and go.
-use Rattle.std.proofs.Common.{◌≡◌, ℕ, ◌+◌, ◌≤◌, Bool, true, false, List, [], ◌∷◌, ◌++◌, Some, None, option_map, filter, nat_eq, refl, sym, ap, ◌∙◌, arith, inl, inr, ◌⊎◌}
+use Rattle.std.proofs.Common.{◌≡◌, ℕ, ◌+◌, ◌≤◌, Bool, true, false, List, [], ◌∷◌, ◌++◌, Option, Some, None, option_map, filter, nat_eq, refl, sym, ap, ◌∙◌, arith, inl, inr, ◌⊎◌}
 use Rattle.std.specs.Cmp.Lexicographic.{pointwise}
 use Rattle.std.specs.Map.{lookup}
 use Rattle.std.proofs.lemmas.Bool.{cases_Bool, eqb-true, eq-eqb, ne_eqb}
 use Rattle.lola_value.specs.Arithmetic.{bytes_equal}
 use Rattle.lola_value.specs.Naming.{IsNaming, Naming, text_at}
 use Rattle.lola_text.specs.Marks.{Entry, RiseFrom, naming_of}
-use Rattle.lola_text.specs.Texts.{AreBetween, IsTable, Texts, number_in, with_text}
+use Rattle.lola_text.specs.Texts.{AreBetween, Gives, Interns, IsTable, Texts, number_in, with_text}
 
 equal-self : (xs : List ℕ) → bytes_equal xs xs ≡ true
 equal-self [] = refl
@@ -136,3 +136,39 @@ table-fewer p t table = record {
 pub naming-pushed : (es : List Entry) (e : Entry) → naming_of (es ++ e ∷ []) ≡ naming_of es ++ (e.1.number, e.0.items) ∷ []
 naming-pushed [] e = refl
 naming-pushed (x ∷ xs) e = ap (λ (l : Naming). (x.1.number, x.0.items) ∷ l) (naming-pushed xs e)
+
+-- texts that pass for equal are one
+equal-means : (xs ys : List ℕ) → bytes_equal xs ys ≡ true → xs ≡ ys
+equal-means [] [] is = refl
+equal-means [] (y ∷ ys) is = absurd (cc is)
+equal-means (x ∷ xs) [] is = absurd (cc is)
+equal-means (x ∷ xs) (y ∷ ys) is = elim (cases_Bool (nat_eq x y)) [
+  | inl hit ↦
+      let is' = rw hit at is in
+      let first = eqb-true x y hit in
+      ap (λ z. z ∷ xs) first ∙ ap (λ zs. y ∷ zs) (equal-means xs ys is')
+  | inr miss ↦ let is' = rw miss at is in absurd (cc is')
+]
+
+-- the number of a text that is held is one at which that text stands
+number-has : (low high : ℕ) (names : Naming) (text : List ℕ) (number : ℕ) → AreBetween low names high → number_in names text ≡ Some number → text_at names number ≡ Some text
+number-has low high [] text number all is = absurd (cc is)
+number-has low high (e ∷ es) text number all is = elim (cases_Bool (bytes_equal text e.1)) [
+  | inl hit ↦
+      let is' = rw hit at is in
+      let same : e.0 ≡ number = cc is' in
+      rw (eq-eqb e.0 number same) (ap Some (sym (equal-means text e.1 hit)))
+  | inr miss ↦
+      let is' = rw miss at is in
+      let there = number-has (e.0 + 1) high es text number all.1 is' in
+      let above = at-least (e.0 + 1) high es number text all.1 there in
+      rw (ne_eqb e.0 number (λ same. absurd (omega (arith, same, above)))) there
+]
+
+-- asked for a text that stands at a number, a table stays, and that number is the answer
+pub again : (t : Texts) (text : List ℕ) (id : ℕ) → IsTable t → text_at t.held id ≡ Some text → Interns text id t t
+again t text id table there = by (number_in t.held text) refl
+  where
+    by : (o : Option ℕ) → number_in t.held text ≡ o → Gives o text id t t
+    by None none = absurd (absent t.held text id none there)
+    by (Some number) some = (table.naming.one_text id number text there (number-has 0 t.given t.held text number table.numbers some), refl)

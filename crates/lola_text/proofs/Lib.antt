@@ -1,3 +1,4 @@
 pub mod Held
+pub mod Entering
 pub mod Marking
 pub mod Finding

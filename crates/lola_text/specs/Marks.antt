@@ -1,6 +1,8 @@
 -- The entries of a table, and the marks of a sweep.
-use Rattle.std.specs.Prelude.{ℕ, ◌≡◌, ◌<◌, ◌≤◌, ◌+◌, List, [], ◌∷◌, Bool, true, false, not, Option, Some, None, length, if◌then◌else◌, nat_eq, map}
+use Rattle.std.specs.Prelude.{ℕ, ◌≡◌, ◌<◌, ◌≤◌, ◌+◌, List, [], ◌∷◌, ◌++◌, Bool, true, false, not, Option, Some, None, length, if◌then◌else◌, nat_eq, map}
+use Rattle.std.specs.Cmp.Lexicographic.{pointwise}
 use Rattle.std.specs.List.{HoldsAt, list_any}
+use Rattle.std.specs.Map.{lookup}
 use Rattle.std.specs.declared.alloc.Global.{Global}
 use Rattle.std.specs.Prelude.{Vec}
 use Rattle.lola_value.specs.Naming.{Naming}
@@ -14,6 +16,15 @@ Entry = Vec ℕ Global × Held
 -- the numbers with their texts
 abbrev pub naming_of : List Entry → Naming
 naming_of es = map (λ e. (e.1.number, e.0.items)) es
+
+-- what is held for a text
+abbrev pub held_as : List ℕ → List Entry → Option Held
+held_as text es = lookup (λ k. pointwise nat_eq text k.items) es
+
+-- asked for a text with what is held for it: the entries stay, or it goes behind them as a fresh one
+abbrev pub IsFoundOrNew : Option Held → Vec ℕ Global → Held → ℕ → List Entry → List Entry → Type 0
+IsFoundOrNew (Some held) text fresh number old new = (number ≡ held.number) × (new ≡ old)
+IsFoundOrNew None text fresh number old new = (number ≡ fresh.number) × (new ≡ old ++ (text, fresh) ∷ [])
 
 -- the number of an entry is this one
 abbrev pub has_number : ℕ → Entry → Bool

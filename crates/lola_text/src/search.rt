@@ -1,8 +1,9 @@
 //! Texts by their numbers, and the marks of a sweep, over the entries of a table.
-ghost use Rattle.std.specs.Prelude.{◌≡◌, map, filter};
-ghost use Rattle.lola_text.specs.Marks.{IsPlaceOf, NumbersRise, is_same, is_marked, marked_all, marked_at};
+ghost use Rattle.std.specs.Prelude.{◌≡◌, IfOk, OnErr, map, filter};
+ghost use Rattle.lola_text.specs.Marks.{IsFoundOrNew, IsPlaceOf, NumbersRise, held_as, is_same, is_marked, marked_all, marked_at};
 
 use indexmap::IndexMap;
+use lola_value::text::Memory;
 use lola_value::value::TextId;
 use std::hash::RandomState;
 
@@ -24,6 +25,16 @@ pub(crate) fn place_of(texts: &Entries, number: u64) -> Option<usize>
     texts
         .binary_search_by(|_text, held| held.number.cmp(&number))
         .ok()
+}
+
+/// The number of a text. Where it is not held it goes behind all others, as `fresh`. It is hashed once; where there is no memory, nothing
+/// has changed.
+pub(crate) fn number_or_new(texts: &mut Entries, text: Vec<u8>, fresh: Held) -> Result<u64, Memory>
+    ensures ok { IfOk result (λ number. IsFoundOrNew (held_as text.items texts.old.entries) text fresh number texts.old.entries texts.new.entries) }
+    ensures err { OnErr result (texts.new.entries ≡ texts.old.entries) }
+{
+    let held = texts.entry(text)?.or_insert(fresh);
+    Ok(held.number)
 }
 
 // Marks the text with this number, where it is held.

@@ -1,15 +1,27 @@
 //! The table of texts.
-ghost use Rattle.std.specs.Prelude.{◌≡◌, ◌<◌, ◌==◌, ◌^◌, IfOk, OnErr, length, option_map};
+ghost use Rattle.std.specs.Prelude.{◌≡◌, ◌+◌, ◌<◌, ◌==◌, ◌^◌, IfOk, IsTrue, OnErr, if◌then◌else◌, length, nat_eq, option_map};
 ghost use Rattle.lola_value.specs.Naming.{text_at};
 ghost use Rattle.lola_text.specs.Texts.{Interns, IsTable, no_texts, swept};
 
-use crate::search::{Entries, Held, keep_marked, mark_all, place_of};
+use crate::search::{Entries, Held, keep_marked, mark_all, number_or_new, place_of};
 use indexmap::IndexMap;
 use lola_value::text::Memory;
 use lola_value::value::TextId;
 use std::alloc::Global;
 use std::hash::RandomState;
 use std::marker::Model;
+
+// From this length on a text is copied before it is looked up, and hashed once. A shorter one is looked up first, so that one that is held
+// takes no memory; where it is new it is hashed twice, which at that length costs less than a copy.
+const LONG: usize = 256;
+
+/// How many numbers were given, once this one was.
+fn given_after(given: u64, number: u64) -> u64
+    requires { given < 2 ^ 63 }
+    ensures { result ≡ (if nat_eq number given then given + 1 else given) }
+{
+    if number == given { given + 1 } else { given }
+}
 
 /// Texts with numbers. Equal texts have one number among those held, a new text gets the number of new texts before
 /// it, and no number is ever given to another text.
@@ -54,17 +66,54 @@ impl TextTable {
         ensures err { OnErr result (self.new ≡ self.old) }
         ensures table { IsTable self.new }
     {
-        if let Some(held) = self.texts.get(bytes) {
-            return Ok(TextId(held.number));
+        if bytes.len() < LONG {
+            if let Some(held) = self.texts.get(bytes) {
+                return Ok(TextId(held.number));
+            }
         }
+        self.number_of(bytes)
+    }
+
+    /// The same as `intern`, for a text that is likely to be the one with the number `before`, as that of the same input in the row before:
+    /// if it is, it is compared and not hashed. Any number may be given.
+    pub fn intern_again(&mut self, bytes: &[u8], before: TextId) -> Result<TextId, Memory>
+        requires { self.old.given < 2 ^ 63 }
+        ensures ok { IfOk result (λ id. Interns bytes.now id.0 self.old self.new) }
+        ensures err { OnErr result (self.new ≡ self.old) }
+        ensures table { IsTable self.new }
+    {
+        if self.is_text(before, bytes) {
+            return Ok(before);
+        }
+        self.intern(bytes)
+    }
+
+    // Whether the text with a number is this one.
+    fn is_text(&self, id: TextId, bytes: &[u8]) -> bool
+        ensures text { IsTrue result → text_at self.now.held id.0 ≡ Some bytes.now }
+        ensures table { IsTable self.now }
+    {
+        match self.get(id) {
+            None => false,
+            Some(text) => text == bytes,
+        }
+    }
+
+    // The number of a text, which is copied before it is looked up.
+    fn number_of(&mut self, bytes: &[u8]) -> Result<TextId, Memory>
+        requires { self.old.given < 2 ^ 63 }
+        ensures ok { IfOk result (λ id. Interns bytes.now id.0 self.old self.new) }
+        ensures err { OnErr result (self.new ≡ self.old) }
+        ensures table { IsTable self.new }
+    {
         let text = Vec::from_slice(self.alloc, bytes)?;
-        let held = Held {
+        let fresh = Held {
             number: self.given,
             mark: self.mark,
         };
-        self.texts.insert(text, held)?;
-        self.given += 1;
-        Ok(TextId(held.number))
+        let number = number_or_new(&mut self.texts, text, fresh)?;
+        self.given = given_after(self.given, number);
+        Ok(TextId(number))
     }
 
     /// The text of a number. There is none exactly where the number is not held.

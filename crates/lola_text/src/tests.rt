@@ -25,6 +25,21 @@ fn swept_texts(rt: HostRuntime) -> Result<(), Fail> {
     Ok(())
 }
 
+#[test]
+fn long_texts_and_texts_again(rt: HostRuntime) -> Result<(), Fail> {
+    let mut table = TextTable::create(rt.alloc(), RandomState::new(&rt)?);
+    let long = table.intern(&[7; 300])?;
+    assert_eq!(rt; table.intern(&[7; 300])?, long);
+    // as long as the text before, and another one
+    let other = table.intern_again(&[8; 300], long)?;
+    assert_eq!(rt; other, TextId(1));
+    assert_eq!(rt; table.intern_again(&[8; 300], other)?, other);
+    assert_eq!(rt; table.intern_again(&[7; 300], other)?, long);
+    assert_eq!(rt; table.intern_again(b"x", TextId(9))?, TextId(2));
+    assert_eq!(rt; table.len(), 3);
+    Ok(())
+}
+
 // A source with no random bytes to give.
 #[derive(Clone, Copy)]
 struct NoBytes;
