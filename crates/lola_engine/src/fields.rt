@@ -1,6 +1,6 @@
 //! Rows and literals, with texts by their numbers.
 
-ghost use Rattle.std.specs.Prelude.{◌≡◌, ◌+◌, ◌<◌, ◌≤◌, ◌^◌, [], ◌∷◌, IsTrue, length, IfOk, OnOk};
+ghost use Rattle.std.specs.Prelude.{◌≡◌, ◌+◌, ◌<◌, ◌≤◌, ◌^◌, [], ◌∷◌, ◌++◌, IsTrue, length, take, vec_len, IfOk, OnOk};
 ghost use Rattle.std.specs.List.{AllZip};
 ghost use Rattle.lola_model.specs.Named.{are_distinct};
 ghost use Rattle.lola_model.specs.Reading.{IsHeldBy};
@@ -15,10 +15,32 @@ ghost use Rattle.lola_engine.specs.Sweeps.{AddsTexts};
 use lola_model::plan::Plan;
 use lola_text::TextTable;
 use lola_value::text::{Field, Memory};
-use lola_value::value::{Outcome, Value};
+use lola_value::value::{Outcome, TextId, Value};
 
-/// A field as an input's outcome: missing where it is absent.
-fn outcome_of(field: &Field, texts: &mut TextTable) -> Result<Outcome, Memory>
+// The number of the text that stands at a place. Where none does, it is a number that no text has.
+fn text_at_place(inputs: &[Outcome], place: usize) -> TextId {
+    match inputs.get(place) {
+        Some(Outcome::Value(Value::Text(id))) => *id,
+        _ => TextId(u64::MAX),
+    }
+}
+
+// Puts an outcome at a place: over the one that stands there, or behind all others.
+fn put(inputs: &mut Vec<Outcome>, place: usize, outcome: Outcome) -> Result<(), Memory>
+    requires { place ≤ vec_len inputs.old }
+    ensures there { OnOk result (place + 1 ≤ vec_len inputs.new) }
+    ensures ok { OnOk result (take (place + 1) inputs.new.items ≡ take place inputs.old.items ++ outcome ∷ []) }
+{
+    if place < inputs.len() {
+        inputs[place] = outcome;
+    } else {
+        inputs.push(outcome)?;
+    }
+    Ok(())
+}
+
+/// A field as an input's outcome: missing where it is absent. A text is compared with the one of the number `before` first.
+fn outcome_of(field: &Field, before: TextId, texts: &mut TextTable) -> Result<Outcome, Memory>
     requires table { IsTable texts.old }
     requires few { texts.old.given < 2 ^ 63 }
     ensures ok { IfOk result (λ o. IsOutcomeOf texts.new.held o field.now) }
@@ -32,14 +54,15 @@ fn outcome_of(field: &Field, texts: &mut TextTable) -> Result<Outcome, Memory>
         Field::Bool(b) => Ok(Outcome::Value(Value::Bool(*b))),
         Field::Int(z) => Ok(Outcome::Value(Value::Int(*z))),
         Field::Text(t) => {
-            let id = texts.intern(t.as_bytes())?;
+            let id = texts.intern_again(t.as_bytes(), before)?;
             Ok(Outcome::Value(Value::Text(id)))
         }
     }
 }
 
-/// Reads the fields of a row as outcomes of the inputs, in place of those that stood in the list. Texts get numbers in the table; those
-/// that have one keep it, also where there is no memory.
+/// Reads the fields of a row as outcomes of the inputs, in place of those that stood in the list, which are best those of the row before:
+/// a text that the same input had there is not hashed. Texts get numbers in the table; those that have one keep it, also where there is no
+/// memory.
 pub(crate) fn read_fields(
     plan: &Plan,
     fields: &[Field],
@@ -57,11 +80,12 @@ pub(crate) fn read_fields(
 {
     // A row may have no text to ask for: this call alone tells that the table is one.
     let _held = texts.len();
-    inputs.clear();
-    for field in fields {
-        let outcome = outcome_of(field, texts)?;
-        inputs.push(outcome)?;
+    for (place, field) in fields.iter().enumerate() {
+        let before = text_at_place(inputs.as_slice(), place);
+        let outcome = outcome_of(field, before, texts)?;
+        put(inputs, place, outcome)?;
     }
+    inputs.truncate(fields.len());
     Ok(())
 }
 

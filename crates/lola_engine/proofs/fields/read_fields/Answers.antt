@@ -1,33 +1,38 @@
 -- One field more, and then all.
-use Rattle.std.proofs.Common.{arith}
+use Rattle.std.proofs.Common.{◌≡◌, ◌∙◌, ◌+◌, ap, sym, length, take, arith}
 use Rattle.std.proofs.lemmas.List.{take_all}
 use Rattle.lola_engine.proofs.Interned.{held-on}
 use Rattle.lola_engine.proofs.RowsRead.{of-inputs, one-read, read-as}
 use Rattle.lola_engine.proofs.Sweeping.{one_adds}
 use Rattle.lola_engine.proofs.fields.read_fields.Goals as goal
 
-pub loop-field-preserved : goal.loop-field-preserved
-loop-field-preserved c = record {
-  read = one-read c.loop-field.texts.held c.outcome_of.new.texts.held c.loop-field.inputs.items c.push.new.self.items c.args.fields.now c.loop-field.field-index c.in_ok-outcome.outcome c.field-item.result
-      (omega arith) c.field-item.is c.in_ok-push.ensures.items c.in_ok-outcome.ensures.held c.loop-field.invariant.read c.in_ok-outcome.ensures.ok;
-  adds = one_adds c.args.fields.now c.loop-field.field-index c.field-item.result c.args.texts.now.held c.loop-field.texts.held c.outcome_of.new.texts.held
-      (omega arith) c.field-item.is c.loop-field.invariant.adds c.in_ok-outcome.ensures.adds;
+pub loop-place-preserved : goal.loop-place-preserved
+loop-place-preserved c = record {
+  read = one-read c.loop-place.texts.held c.outcome_of.new.texts.held (take c.loop-place.place c.loop-place.inputs.items) (take (c.loop-place.place + 1) c.put.new.inputs.items) c.args.fields.now c.loop-place.place c.in_ok-outcome.outcome c.index-fields-place.result
+      (omega arith) c.index-fields-place.is c.in_ok-put.ensures.ok c.in_ok-outcome.ensures.held c.loop-place.invariant.read c.in_ok-outcome.ensures.ok;
+  there = c.in_ok-put.ensures.there;
+  adds = one_adds c.args.fields.now c.loop-place.place c.index-fields-place.result c.args.texts.now.held c.loop-place.texts.held c.outcome_of.new.texts.held
+      (omega arith) c.index-fields-place.is c.loop-place.invariant.adds c.in_ok-outcome.ensures.adds;
   table = c.in_ok-outcome.ensures.table;
-  held = held-on c.args.texts.now.held c.loop-field.texts.held c.outcome_of.new.texts.held c.loop-field.invariant.held c.in_ok-outcome.ensures.held;
+  held = held-on c.args.texts.now.held c.loop-place.texts.held c.outcome_of.new.texts.held c.loop-place.invariant.held c.in_ok-outcome.ensures.held;
   given = omega (arith, c.in_ok-outcome.ensures.given);
 }
 
 pub returns-clause-ok : goal.returns-clause-ok
 returns-clause-ok c =
-    let all = take_all c.loop-field.field-index c.args.fields.now (omega arith) in
-    read-as c.loop-field.texts.held c.loop-field.inputs.items c.args.fields.now (rw all at c.loop-field.invariant.read)
+    let all = take_all c.loop-place.place c.args.fields.now (omega arith) in
+    let end : c.loop-place.place ≡ length c.args.fields.now = omega arith in
+    let front : c.truncate.new.self.items ≡ take c.loop-place.place c.loop-place.inputs.items = c.truncate.ensures.items ∙ ap (λ n. take n c.loop-place.inputs.items) (sym end) in
+    rw front (read-as c.loop-place.texts.held (take c.loop-place.place c.loop-place.inputs.items) c.args.fields.now (rw all at c.loop-place.invariant.read))
 
 pub returns-clause-kinds : goal.returns-clause-kinds
 returns-clause-kinds c =
-    let all = take_all c.loop-field.field-index c.args.fields.now (omega arith) in
-    of-inputs c.loop-field.texts.held c.args.plan.now.spec.streams c.loop-field.inputs.items c.args.fields.now c.requires.kinds (rw all at c.loop-field.invariant.read)
+    let all = take_all c.loop-place.place c.args.fields.now (omega arith) in
+    let end : c.loop-place.place ≡ length c.args.fields.now = omega arith in
+    let front : c.truncate.new.self.items ≡ take c.loop-place.place c.loop-place.inputs.items = c.truncate.ensures.items ∙ ap (λ n. take n c.loop-place.inputs.items) (sym end) in
+    rw front (of-inputs c.loop-place.texts.held c.args.plan.now.spec.streams (take c.loop-place.place c.loop-place.inputs.items) c.args.fields.now c.requires.kinds (rw all at c.loop-place.invariant.read))
 
 pub returns-clause-adds : goal.returns-clause-adds
 returns-clause-adds c =
-    let all = take_all c.loop-field.field-index c.args.fields.now (omega arith) in
-    rw all at c.loop-field.invariant.adds
+    let all = take_all c.loop-place.place c.args.fields.now (omega arith) in
+    rw all at c.loop-place.invariant.adds
