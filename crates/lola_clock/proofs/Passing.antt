@@ -1,5 +1,5 @@
 -- The loop that sets timers, one by one.
-use Rattle.std.proofs.Common.{◌≡◌, ℕ, ◌+◌, ◌<◌, ◌≤◌, List, [], ◌∷◌, length, get_or, set, map, min, suc, zero, refl, ap, arith, sym, ◌∙◌, subst}
+use Rattle.std.proofs.Common.{◌≡◌, ℕ, ◌+◌, ◌<◌, ◌≤◌, List, [], ◌∷◌, length, get_or, set, map, min, suc, zero, Bool, refl, ap, arith, sym, ◌∙◌, subst}
 use Rattle.std.proofs.Math.Numerals.{add-one}
 use Rattle.lola_model.specs.StepOrder.{IsRate, AreRates}
 use Rattle.lola_clock.specs.declared.timers.Timer.{Timer}
@@ -18,9 +18,9 @@ behind (suc n) [] = []
 behind (suc n) (k ∷ timers) = behind n timers
 
 -- what the loop keeps, after so many timers
-pub record IsSetUpTo (start to : ℕ) (initial timers : List Timer) (n least : ℕ) : Type 0 where
+pub record IsSetUpTo (known : Bool) (start to : ℕ) (initial timers : List Timer) (n least : ℕ) : Type 0 where
   pub front : timers ≡ set_front start to n initial
-  pub usable : AreUsable start to (behind n initial)
+  pub usable : AreUsable known start to (behind n initial)
   pub rates : AreRates (timer_rates (behind n initial)) → AreRates (timer_rates initial)
   pub first : min least (earliest (map (set_timer start to) (behind n initial))) ≡ earliest (map (set_timer start to) initial)
   pub most : least ≤ too_late
@@ -31,8 +31,8 @@ earliest_most [] = omega arith
 earliest_most (k ∷ timers) = let rest = earliest_most timers in omega arith
 
 -- before the first
-pub none_set : (start to : ℕ) (timers : List Timer) → AreUsable start to timers → IsSetUpTo start to timers timers 0 too_late
-none_set start to timers usable = record {
+pub none_set : (known : Bool) (start to : ℕ) (timers : List Timer) → AreUsable known start to timers → IsSetUpTo known start to timers timers 0 too_late
+none_set known start to timers usable = record {
   front = refl;
   usable = usable;
   rates = λ h. h;
@@ -79,25 +79,25 @@ front_length start to zero timers = refl
 front_length start to (suc n) [] = refl
 front_length start to (suc n) (k ∷ timers) = let rest = front_length start to n timers in omega arith
 
-module _ (start to : ℕ) (initial timers : List Timer) (n least : ℕ) (d : Timer) (h : IsSetUpTo start to initial timers n least) where
+module _ (known : Bool) (start to : ℕ) (initial timers : List Timer) (n least : ℕ) (d : Timer) (h : IsSetUpTo known start to initial timers n least) where
   -- the next timer may be set
-  pub next_usable : n < length timers → IsUsable start to (get_or timers n d)
+  pub next_usable : n < length timers → IsUsable known start to (get_or timers n d)
   next_usable lt =
       let size : length timers ≡ length initial = ap length h.front ∙ front_length start to n initial in
       let same : get_or timers n d ≡ get_or initial n d = ap (λ (ks : List Timer). get_or ks n d) h.front ∙ front_at start to n initial d in
-      let all : AreUsable start to (get_or initial n d ∷ behind (suc n) initial) = subst (AreUsable start to) (behind_at n initial d (omega arith)) h.usable in
-      subst (IsUsable start to) (sym same) all.0
+      let all : AreUsable known start to (get_or initial n d ∷ behind (suc n) initial) = subst (AreUsable known start to) (behind_at n initial d (omega arith)) h.usable in
+      subst (IsUsable known start to) (sym same) all.0
 
   -- and then one more is set
   pub more_set : (k : Timer) → n < length timers → IsRate (get_or timers n d).rate → k ≡ set_timer start to (get_or timers n d)
-      → IsSetUpTo start to initial (set timers n k) (n + 1) (min least k.due)
+      → IsSetUpTo known start to initial (set timers n k) (n + 1) (min least k.due)
   more_set k lt rate e =
       let size : length timers ≡ length initial = ap length h.front ∙ front_length start to n initial in
       let same : get_or timers n d ≡ get_or initial n d = ap (λ (ks : List Timer). get_or ks n d) h.front ∙ front_at start to n initial d in
       let e' : k ≡ set_timer start to (get_or initial n d) = e ∙ ap (set_timer start to) same in
       let due : k.due ≡ (set_timer start to (get_or initial n d)).due = ap (λ (t : Timer). t.due) e' in
       let split : behind n initial ≡ get_or initial n d ∷ behind (suc n) initial = behind_at n initial d (omega arith) in
-      let all : AreUsable start to (get_or initial n d ∷ behind (suc n) initial) = subst (AreUsable start to) split h.usable in
+      let all : AreUsable known start to (get_or initial n d ∷ behind (suc n) initial) = subst (AreUsable known start to) split h.usable in
       let rate' : IsRate (get_or initial n d).rate = subst (λ (t : Timer). IsRate t.rate) same rate in
       let first : min least (earliest (map (set_timer start to) (get_or initial n d ∷ behind (suc n) initial))) ≡ earliest (map (set_timer start to) initial) =
       subst (λ ks. min least (earliest (map (set_timer start to) ks)) ≡ earliest (map (set_timer start to) initial)) split h.first in
@@ -111,9 +111,9 @@ module _ (start to : ℕ) (initial timers : List Timer) (n least : ℕ) (d : Tim
       })
 
 -- at the end all are
-pub all_set : (start to : ℕ) (initial timers : List Timer) (n least : ℕ) → IsSetUpTo start to initial timers n least → length timers ≤ n
+pub all_set : (known : Bool) (start to : ℕ) (initial timers : List Timer) (n least : ℕ) → IsSetUpTo known start to initial timers n least → length timers ≤ n
     → (timers ≡ map (set_timer start to) initial) × AreRates (timer_rates initial) × (least ≡ earliest timers)
-all_set start to initial timers n least h end =
+all_set known start to initial timers n least h end =
     let size : length timers ≡ length initial = ap length h.front ∙ front_length start to n initial in
     let new : timers ≡ map (set_timer start to) initial = h.front ∙ front_all start to initial n (omega arith) in
     let none : behind n initial ≡ [] = behind_all initial n (omega arith) in

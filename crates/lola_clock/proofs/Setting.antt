@@ -1,16 +1,18 @@
 -- How timers are set: those that stand above a moment are right for it, and all are right once each was set.
-use Rattle.std.proofs.Common.{◌≡◌, ℕ, ◌<◌, ◌≤◌, List, [], ◌∷◌, map, refl, ap, arith, sym, ◌∙◌, subst}
+use Rattle.std.proofs.Common.{◌≡◌, ℕ, ◌-◌, ◌<◌, ◌≤◌, List, [], ◌∷◌, true, false, map, refl, ap, arith, sym, ◌∙◌, subst}
 use Rattle.lola_value.specs.Ratio.{Ratio}
+use Rattle.lola_value.specs.Rate.{next_number}
 use Rattle.lola_value.specs.Times.{latest}
 use Rattle.lola_model.specs.StepOrder.{IsRate, AreRates}
 use Rattle.lola_clock.specs.declared.timers.Timer.{Timer}
-use Rattle.lola_clock.specs.Timers.{due_of, set_timer, new_timer, timer_rates, earliest, IsUsable, AreUsable, AreSet}
-use Rattle.lola_clock.proofs.Moments.{due_kept}
+use Rattle.lola_clock.specs.Timers.{due_of, rest_of, timer_at, set_timer, new_timer, timer_rates, earliest, IsUsable, AreUsable, AreSet}
+use Rattle.lola_clock.proofs.Moments.{due_kept, rest_kept, set_stands}
 
 -- timers that were never set are behind every moment
-pub new_usable : (start to : ℕ) (rates : List Ratio) → AreUsable start to (map new_timer rates)
+pub new_usable : (start to : ℕ) (rates : List Ratio) → AreUsable false start to (map new_timer rates)
 new_usable start to [] = tt
-new_usable start to (r ∷ rates) = ((λ above. absurd (omega arith)), new_usable start to rates)
+new_usable start to (r ∷ rates) =
+    (record { period = record { whole = refl; part = refl }; above = λ above. absurd (omega arith); stands = λ known. absurd (cc (known)) }, new_usable start to rates)
 
 -- setting keeps the rates
 pub set_rates : (start to : ℕ) (timers : List Timer) → timer_rates (map (set_timer start to) timers) ≡ timer_rates timers
@@ -27,18 +29,27 @@ set_again start to [] = refl
 set_again start to (k ∷ timers) = ap (λ ks. set_timer start to k ∷ ks) (set_again start to timers)
 
 module _ (start passed to : ℕ) (order : start ≤ passed) (later : passed ≤ to) (in_time : to ≤ latest) where
-  -- a timer that was set for one moment, and stands above another
-  one_usable : (k : Timer) → IsRate k.rate → k ≡ set_timer start passed k → IsUsable start to k
-  one_usable k h e above =
+  -- a timer that was set for one moment, seen from another
+  one_usable : (k : Timer) → IsRate k.rate → k ≡ set_timer start passed k → IsUsable true start to k
+  one_usable k h e =
       let due : k.due ≡ due_of start passed k.rate = ap (λ (t : Timer). t.due) e in
-      let above' : to < due_of start passed k.rate = omega arith in
-      let same : due_of start passed k.rate ≡ due_of start to k.rate = due_kept start passed to k.rate h order later in_time above' in (
-        h,
-        e ∙ ap (λ (d : ℕ). record { rate = k.rate; due = d }) same,
-      )
+      let rest : k.rest ≡ rest_of start passed k.rate = ap (λ (t : Timer). t.rest) e in
+      record {
+        period = record { whole = ap (λ (t : Timer). t.whole) e; part = ap (λ (t : Timer). t.part) e };
+        above = λ above.
+            let above' : to < due_of start passed k.rate = omega arith in (
+              h,
+              e ∙ (λ i. timer_at k.rate (due_kept start passed to k.rate h order later above' i) (rest_kept start passed to k.rate h order later above' i)),
+            );
+        stands = λ known le. (
+          next_number k.rate (passed - start),
+          let m = set_stands start passed to k.rate in_time (omega arith) in
+              record { due_is = due ∙ m.due_is; rest_is = rest ∙ m.rest_is },
+        );
+      }
 
   -- timers that were set for one moment, seen from another
-  pub set_usable : (timers : List Timer) → AreRates (timer_rates timers) → timers ≡ map (set_timer start passed) timers → AreUsable start to timers
+  pub set_usable : (timers : List Timer) → AreRates (timer_rates timers) → timers ≡ map (set_timer start passed) timers → AreUsable true start to timers
   set_usable [] h e = tt
   set_usable (k ∷ timers) h e =
       let one : k ≡ set_timer start passed k = cc in
@@ -46,10 +57,10 @@ module _ (start passed to : ℕ) (order : start ≤ passed) (later : passed ≤ 
       (one_usable k h.0 one, set_usable timers h.1 rest)
 
 -- timers that all stand above a moment are set for it
-all_above : (start to : ℕ) (timers : List Timer) → to < earliest timers → AreUsable start to timers → timers ≡ map (set_timer start to) timers
+all_above : (start to : ℕ) (timers : List Timer) → to < earliest timers → AreUsable true start to timers → timers ≡ map (set_timer start to) timers
 all_above start to [] above h = refl
 all_above start to (k ∷ timers) above h =
-    let one : k ≡ set_timer start to k = (h.0 (omega arith)).1 in
+    let one : k ≡ set_timer start to k = (h.0.above (omega arith)).1 in
     let rest : timers ≡ map (set_timer start to) timers = all_above start to timers (omega arith) h.1 in
     ap (λ t. t ∷ timers) one ∙ ap (λ ts. set_timer start to k ∷ ts) rest
 

@@ -57,7 +57,7 @@ impl Clock {
         requires in_time { start ≤ latest }
         ensures { self.new ≡ record self.old { start = Some start; passed = start } }
     {
-        self.least = set_timers(&mut self.timers, start, start);
+        self.least = set_timers(&mut self.timers, false, start, start);
         self.start = Some(start);
         self.passed = start;
     }
@@ -92,7 +92,7 @@ impl Clock {
             self.passed = to;
             return;
         }
-        self.least = set_timers(&mut self.timers, start, to);
+        self.least = set_timers(&mut self.timers, true, start, to);
         self.passed = to;
     }
 }

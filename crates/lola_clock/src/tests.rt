@@ -62,6 +62,21 @@ fn deadlines_of_all_rates(rt: HostRuntime) -> Result<(), Fail> {
 }
 
 #[test]
+fn steps_add_up_to_deadlines(rt: HostRuntime) -> Result<(), Fail> {
+    let seven = Rate::create(7, 1).expect(&rt, "7 Hz");
+    let mut clock = Clock::create(rt.alloc(), &[seven, seven])?;
+    clock.start_at(0);
+    for k in 1..=21 {
+        assert_eq!(rt; pass_next(&mut clock), seven.deadline(k));
+    }
+    clock.advance(100_000_000_000);
+    for k in 701..=715 {
+        assert_eq!(rt; pass_next(&mut clock), seven.deadline(k));
+    }
+    Ok(())
+}
+
+#[test]
 fn many_deadlines_at_once(rt: HostRuntime) -> Result<(), Fail> {
     let fast = Rate::create(1_000_000, 1).expect(&rt, "1 MHz");
     let mut clock = Clock::create(rt.alloc(), &[fast])?;
