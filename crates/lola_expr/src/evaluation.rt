@@ -23,7 +23,7 @@ use lola_value::value::{Kind, Outcome, Params};
 // own, and an access without arguments one that has no room for parameters that are gathered.
 
 /// The kind that a part notes; `Int64` where it notes none.
-fn kind_at(place: &Place) -> Kind
+pub fn kind_at(place: &Place) -> Kind
     ensures { result ≡ kind_of place.now }
 {
     match place.kind {
@@ -33,7 +33,7 @@ fn kind_at(place: &Place) -> Kind
 }
 
 /// The parameter of a number, from 0; missing where there are fewer.
-fn parameter(params: &Params, number: u32) -> Outcome
+pub fn parameter(params: &Params, number: u32) -> Outcome
     requires { params.now.count ≤ 4 }
     ensures { result ≡ value_or_missing (slice_get (the_values params.now) number) }
 {
@@ -185,7 +185,7 @@ fn choice<S: StreamStore>(test: &Expr, a: &Expr, b: &Expr, params: &Params, stor
 
 /// An access of a stream without parameters.
 #[inline(never)]
-fn access_plain<S: StreamStore>(stream: u32, how: Access, store: &S) -> Outcome
+pub fn access_plain<S: StreamStore>(stream: u32, how: Access, store: &S) -> Outcome
     requires running { IsRunning (S.seen store.now) }
     requires stream { stream < length (S.seen store.now).layout.streams }
     requires none { parameters_of (slice_get (S.seen store.now).layout.streams stream) ≡ [] }

@@ -1,8 +1,8 @@
 //! The evaluation of expressions over a store, and an evaluation as a job.
 #![tactic(auto)]
 
-mod access;
+pub mod access;
 pub mod evaluation;
 pub mod job;
 pub mod law;
-mod operators;
+pub mod operators;

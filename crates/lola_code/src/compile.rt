@@ -1,0 +1,196 @@
+//! From expressions to instructions. The code is made from its end, so that a jump knows how much it passes, and then turned round.
+
+ghost use Rattle.std.specs.Prelude.{◌≡◌, [], ◌∷◌, ◌++◌, IfOk, OnOk};
+ghost use Rattle.lola_code.specs.Code.{asking, back_arguments, back_code, code_of, joining, literal_of, plain_of, with_sign};
+
+use crate::instr::Instr;
+use lola_expr::evaluation::kind_at;
+use lola_model::expr::{Access, Arguments, Binary, Expr};
+use lola_value::text::Memory;
+use lola_value::value::Value;
+use std::alloc::Global;
+
+/// What arguments name an instance of.
+#[derive(Clone, Copy)]
+pub(crate) enum Target {
+    /// The stream of this number, which is accessed so.
+    Stream(u32, Access),
+    /// The target of the window of this number.
+    Window(u32),
+}
+
+/// How the operands of a sign are evaluated.
+#[derive(Clone, Copy)]
+pub(crate) enum Joining {
+    /// The right one where the left one is true.
+    WhereTrue,
+    /// The right one where the left one is false.
+    WhereFalse,
+    /// Both.
+    Both,
+}
+
+/// How the operands of this sign are evaluated.
+fn joining_of(sign: Binary) -> Joining
+    ensures { result ≡ joining sign }
+{
+    match sign {
+        Binary::And => Joining::WhereTrue,
+        Binary::Or => Joining::WhereFalse,
+        _ => Joining::Both,
+    }
+}
+
+/// The instruction that asks a stream or a window, of the instance that so many arguments name.
+fn asking_of(target: Target, count: u32) -> Instr
+    ensures { result ≡ asking target count }
+{
+    match target {
+        Target::Stream(stream, how) => {
+            if count == 0 {
+                Instr::Read(stream, how)
+            } else {
+                Instr::ReadAt(stream, how, count)
+            }
+        }
+        Target::Window(number) => Instr::Window(number, count),
+    }
+}
+
+/// The value that an expression is, if it is a literal.
+fn literal(e: &Expr) -> Option<Value>
+    ensures { result ≡ literal_of e.now }
+{
+    match e {
+        Expr::Literal(_, v) => Some(*v),
+        _ => None,
+    }
+}
+
+/// The stream and the access, of an access without arguments.
+fn plain(e: &Expr) -> Option<(u32, Access)>
+    ensures { result ≡ plain_of e.now }
+{
+    match e {
+        Expr::Read(_, stream, how, args) => match args {
+            Arguments::End => Some((*stream, *how)),
+            Arguments::More(_, _) => None,
+        },
+        _ => None,
+    }
+}
+
+/// Puts one instruction behind the others.
+fn put(code: &mut Vec<Instr>, instr: Instr) -> Result<(), Memory>
+    ensures { OnOk result (code.new.items ≡ code.old.items ++ instr ∷ []) }
+{
+    code.push(instr)?;
+    Ok(())
+}
+
+/// Puts the code of an expression behind other code, from its last instruction to its first.
+#[cycle(emit)]
+fn emit(code: &mut Vec<Instr>, e: &Expr) -> Result<(), Memory>
+    ensures { OnOk result (code.new.items ≡ code.old.items ++ back_code e.now) }
+{
+    match e {
+        Expr::Literal(_, v) => put(code, Instr::Give(*v)),
+        Expr::Parameter(_, number) => put(code, Instr::Parameter(*number)),
+        Expr::Read(_, stream, how, args) => {
+            emit_arguments(code, Target::Stream(*stream, *how), 0, args)
+        }
+        Expr::Window(_, number, args) => emit_arguments(code, Target::Window(*number), 0, args),
+        Expr::Defaults(_, a, b) => {
+            if let Some(v) = literal(b) {
+                if let Some((stream, how)) = plain(a) {
+                    return put(code, Instr::ReadOr(stream, how, v));
+                }
+            }
+            let start = code.len();
+            emit(code, b)?;
+            let passed = code.len() - start;
+            put(code, Instr::Otherwise(passed))?;
+            emit(code, a)
+        }
+        Expr::Unary(place, sign, a) => {
+            put(code, Instr::Prefix(*sign, kind_at(place)))?;
+            emit(code, a)
+        }
+        Expr::Both(place, sign, a, b) => match joining_of(*sign) {
+            Joining::WhereTrue => {
+                let start = code.len();
+                emit(code, b)?;
+                let passed = code.len() - start;
+                put(code, Instr::WhereTrue(passed))?;
+                emit(code, a)
+            }
+            Joining::WhereFalse => {
+                let start = code.len();
+                emit(code, b)?;
+                let passed = code.len() - start;
+                put(code, Instr::WhereFalse(passed))?;
+                emit(code, a)
+            }
+            Joining::Both => {
+                if let Some(v) = literal(b) {
+                    put(code, Instr::SignGiven(*sign, kind_at(place), v))?;
+                    return emit(code, a);
+                }
+                let start = code.len();
+                put(code, Instr::Sign(*sign, kind_at(place)))?;
+                emit(code, b)?;
+                let passed = code.len() - start;
+                put(code, Instr::Keep(passed))?;
+                emit(code, a)
+            }
+        },
+        Expr::Choice(_, test, a, b) => {
+            let start = code.len();
+            emit(code, b)?;
+            let second = code.len() - start;
+            put(code, Instr::Jump(second))?;
+            let middle = code.len();
+            emit(code, a)?;
+            let first = code.len() - middle;
+            let all = code.len() - start;
+            put(code, Instr::Test(first + 1, all))?;
+            emit(code, test)
+        }
+    }
+}
+
+/// Puts the code of arguments, behind so many others, and of what is asked with all of them behind other code.
+#[cycle(emit)]
+fn emit_arguments(
+    code: &mut Vec<Instr>,
+    target: Target,
+    count: u32,
+    args: &Arguments,
+) -> Result<(), Memory>
+    ensures { OnOk result (code.new.items ≡ code.old.items ++ back_arguments target count args.now) }
+{
+    match args {
+        Arguments::End => put(code, asking_of(target, count)),
+        Arguments::More(a, rest) => {
+            // there is no memory for more arguments than that
+            if count == u32::MAX {
+                return Err(Memory);
+            }
+            let start = code.len();
+            emit_arguments(code, target, count + 1, rest)?;
+            let passed = code.len() - start;
+            put(code, Instr::KeepArgument(passed, count))?;
+            emit(code, a)
+        }
+    }
+}
+
+/// The code of an expression, which `machine::run` takes.
+pub fn compile(alloc: Global, e: &Expr) -> Result<Vec<Instr>, Memory>
+    ensures { IfOk result (λ code. code.items ≡ code_of e.now) }
+{
+    let mut code = Vec::new(alloc);
+    emit(&mut code, e)?;
+    code.reverse();
+    Ok(code)
+}

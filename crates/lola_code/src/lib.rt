@@ -1,0 +1,6 @@
+//! Expressions as flat lists of instructions: each is compiled once, and its code comes to what the expression does.
+#![tactic(auto)]
+
+pub mod compile;
+pub mod instr;
+pub mod machine;
