@@ -1,8 +1,7 @@
 -- What the machine does, and what its instructions may be told.
-use Rattle.std.specs.Prelude.{ℕ, zero, suc, ◌≡◌, ◌+◌, ◌<◌, ◌≤◌, List, [], ◌∷◌, Bool, true, false, length, map, take, drop, reverse, slice_get, MatchOption}
+use Rattle.std.specs.Prelude.{ℕ, zero, suc, ◌≡◌, ◌+◌, ◌<◌, ◌≤◌, List, [], ◌∷◌, Bool, true, false, not, length, map, take, drop, reverse, slice_get, MatchOption}
 use Rattle.lola_value.specs.declared.value.Kind.{Kind}
 use Rattle.lola_value.specs.declared.value.Value.{Value}
-use Rattle.lola_value.specs.declared.value.Value.TheVariants as value
 use Rattle.lola_value.specs.declared.value.Outcome.{Outcome}
 use Rattle.lola_value.specs.declared.value.Outcome.TheVariants as outcome
 use Rattle.lola_value.specs.declared.value.Params.{Params}
@@ -18,7 +17,7 @@ use Rattle.lola_model.specs.declared.expr.Access.{Access}
 use Rattle.lola_model.specs.declared.expr.Binary.{Binary}
 use Rattle.lola_model.specs.declared.expr.Prefix.{Prefix}
 use Rattle.lola_expr.specs.Evaluation.{value_or_missing}
-use Rattle.lola_expr.specs.Operands.{operand_fits, operands_fit}
+use Rattle.lola_expr.specs.Operands.{operand_fits, operands_fit, truth_in}
 use Rattle.lola_code.specs.declared.instr.Instr.{Instr}
 use Rattle.lola_code.specs.declared.instr.Instr.TheVariants as instr
 
@@ -78,20 +77,24 @@ abbrev pub Otherwise : ℕ → Next → Outcome → List Value → Type 0
 Otherwise n next outcome.Missing stack = next 0 outcome.Missing stack
 Otherwise n next o stack = next n o stack
 
+-- where this holds one goes on, and else passes so many instructions
+abbrev pub Turned : Bool → ℕ → Next → Outcome → List Value → Type 0
+Turned true n next o stack = next 0 o stack
+Turned false n next o stack = next n o stack
+
 -- true goes on, and anything else passes so many instructions
 abbrev pub WhereTrue : ℕ → Next → Outcome → List Value → Type 0
-WhereTrue n next (outcome.Value (value.Bool true)) stack = next 0 (outcome.Value (value.Bool true)) stack
+WhereTrue n next (outcome.Value v) stack = Turned (truth_in v) n next (outcome.Value v) stack
 WhereTrue n next o stack = next n o stack
 
 -- false goes on, and anything else passes so many instructions
 abbrev pub WhereFalse : ℕ → Next → Outcome → List Value → Type 0
-WhereFalse n next (outcome.Value (value.Bool false)) stack = next 0 (outcome.Value (value.Bool false)) stack
+WhereFalse n next (outcome.Value v) stack = Turned (not (truth_in v)) n next (outcome.Value v) stack
 WhereFalse n next o stack = next n o stack
 
 -- true goes on, another value passes the first number of instructions, and what is no value the second
 abbrev pub Tested : ℕ → ℕ → Next → Outcome → List Value → Type 0
-Tested n m next (outcome.Value (value.Bool true)) stack = next 0 (outcome.Value (value.Bool true)) stack
-Tested n m next (outcome.Value v) stack = next n (outcome.Value v) stack
+Tested n m next (outcome.Value v) stack = Turned (truth_in v) n next (outcome.Value v) stack
 Tested n m next o stack = next m o stack
 
 module _ (remembers : Memories) (s : Seen) where

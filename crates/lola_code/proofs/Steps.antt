@@ -1,0 +1,141 @@
+-- Instructions that are passed are left out, and values are taken off a stack from its end.
+use Rattle.std.proofs.Common.{◌≡◌, ℕ, zero, suc, ◌-◌, ◌<◌, ◌≤◌, arith, Bool, true, false, not, refl, sym, ap, ◌∙◌, subst, List, [], ◌∷◌, ◌++◌, length, take, drop, reverse, append_assoc}
+use Rattle.std.proofs.lemmas.List.{reverse-append, length-drop}
+use Rattle.lola_value.specs.declared.value.Value.{Value}
+use Rattle.lola_value.specs.declared.value.Outcome.{Outcome}
+use Rattle.lola_value.specs.declared.value.Outcome.TheVariants as outcome
+use Rattle.lola_value.specs.declared.value.Params.{Params}
+use Rattle.lola_model.specs.Store.{Memories, Seen}
+use Rattle.lola_expr.specs.Operands.{truth_in}
+use Rattle.lola_code.specs.declared.instr.Instr.{Instr}
+use Rattle.lola_code.specs.declared.instr.Instr.TheVariants as instr
+use Rattle.lola_code.specs.Machine.{Leads, Turned, top}
+
+pub drop_shorter : (n : ℕ) (is : List Instr) → length (drop n is) ≤ length is
+drop_shorter n is = omega (arith, length-drop n is)
+
+-- what was pushed last is the newest
+pub push_turned : (items : List Value) (v : Value) → reverse (items ++ v ∷ []) ≡ v ∷ reverse items
+push_turned items v = reverse-append items (v ∷ [])
+
+-- and what is popped was
+pub pop_turned : (old new : List Value) (v : Value) → old ≡ new ++ v ∷ [] → reverse old ≡ v ∷ reverse new
+pop_turned old new v e = ap reverse e ∙ push_turned new v
+
+-- to pass instructions is to leave them out
+pub leads_drop : (remembers : Memories) (s : Seen) (p : Params) (wanted : Outcome → Type 0) (is : List Instr) (n : ℕ) (o : Outcome) (st : List Value)
+    → Leads remembers s p wanted is n o st → Leads remembers s p wanted (drop n is) 0 o st
+leads_drop remembers s p wanted [] zero o st h = h
+leads_drop remembers s p wanted [] (suc n) o st h = h
+leads_drop remembers s p wanted (i ∷ is) zero o st h = h
+leads_drop remembers s p wanted (i ∷ is) (suc n) o st h = leads_drop remembers s p wanted is n o st h
+
+-- one value less is to be taken off
+pub taken : (n m : ℕ) (v : Value) (vs st : List Value) → n ≡ suc m → top n (v ∷ st) ++ vs ≡ top m st ++ (v ∷ vs)
+taken n m v vs st e =
+    let f : top n (v ∷ st) ≡ reverse (v ∷ take m st) = ap (λ k. top k (v ∷ st)) e in
+    let g : reverse (v ∷ take m st) ≡ top m st ++ v ∷ [] = reverse-append (v ∷ []) (take m st) in
+    ap (λ l. l ++ vs) (f ∙ g) ∙ append_assoc (top m st) (v ∷ []) vs
+
+pub gone : (n m : ℕ) (v : Value) (st : List Value) → n ≡ suc m → drop n (v ∷ st) ≡ drop m st
+gone n m v st e = ap (λ k. drop k (v ∷ st)) e
+
+-- nothing is taken off where nothing stands
+pub taken_none : (n : ℕ) (vs : List Value) → top n [] ++ vs ≡ vs
+taken_none zero vs = refl
+taken_none (suc n) vs = refl
+
+pub gone_none : (n : ℕ) → drop n (reverse {A = Value} []) ≡ []
+gone_none zero = refl
+gone_none (suc n) = refl
+
+module _ (remembers : Memories) (s : Seen) (p : Params) (wanted : Outcome → Type 0) where
+  abbrev Goes : List Instr → ℕ → Outcome → List Value → Type 0
+  Goes is n o st = Leads remembers s p wanted is n o st
+
+  -- at the end what is in hand is wanted
+  pub ended : (code : List Instr) (o : Outcome) (st : List Value) → length code ≡ 0 → Goes code 0 o st → wanted o
+  ended [] o st e h = h
+  ended (i ∷ is) o st e h = absurd (omega (arith, e))
+
+  -- an instruction that passes others
+  pub jumps : (code rest js : List Instr) (i : Instr) (n : ℕ) (o : Outcome) (st st' : List Value) → code ≡ i ∷ rest → js ≡ drop n rest
+      → (Goes (i ∷ rest) 0 o st → Goes rest n o st') → Goes code 0 o st → Goes js 0 o st'
+  jumps code rest js i n o st st' e d f h = subst (λ l. Goes l 0 o st') (sym d) (leads_drop remembers s p wanted rest n o st' (f (subst (λ l. Goes l 0 o st) e h)))
+
+  -- a value that is not there is not kept
+  pub none_kept : (rest : List Instr) (i : Instr) (n : ℕ) (o : Outcome) (st : List Value) → i ≡ instr.Keep n → ((v : Value) → o ≡ outcome.Value v → ⊥) → Goes (i ∷ rest) 0 o st → Goes rest n o st
+  none_kept rest i n o st e ne h = by_hand o ne (subst (λ i. Goes (i ∷ rest) 0 o st) e h)
+    where
+      by_hand : (o : Outcome) → ((v : Value) → o ≡ outcome.Value v → ⊥) → Goes (instr.Keep n ∷ rest) 0 o st → Goes rest n o st
+      by_hand (outcome.Value v) ne h = absurd (ne v refl)
+      by_hand outcome.Missing ne h = h
+      by_hand (outcome.Fault k) ne h = h
+      by_hand outcome.Poison ne h = h
+
+  pub no_argument : (rest : List Instr) (i : Instr) (n k : ℕ) (o : Outcome) (st st' : List Value) → i ≡ instr.KeepArgument n k → st' ≡ drop k st
+      → ((v : Value) → o ≡ outcome.Value v → ⊥) → Goes (i ∷ rest) 0 o st → Goes rest n o st'
+  no_argument rest i n k o st st' e d ne h = subst (λ l. Goes rest n o l) (sym d) (by_hand o ne (subst (λ i. Goes (i ∷ rest) 0 o st) e h))
+    where
+      by_hand : (o : Outcome) → ((v : Value) → o ≡ outcome.Value v → ⊥) → Goes (instr.KeepArgument n k ∷ rest) 0 o st → Goes rest n o (drop k st)
+      by_hand (outcome.Value v) ne h = absurd (ne v refl)
+      by_hand outcome.Missing ne h = h
+      by_hand (outcome.Fault k) ne h = h
+      by_hand outcome.Poison ne h = h
+
+  -- what is not missing needs no default
+  pub there_already : (rest : List Instr) (i : Instr) (n : ℕ) (o : Outcome) (st : List Value) → i ≡ instr.Otherwise n → (o ≡ outcome.Missing → ⊥) → Goes (i ∷ rest) 0 o st → Goes rest n o st
+  there_already rest i n o st e ne h = by_hand o ne (subst (λ i. Goes (i ∷ rest) 0 o st) e h)
+    where
+      by_hand : (o : Outcome) → (o ≡ outcome.Missing → ⊥) → Goes (instr.Otherwise n ∷ rest) 0 o st → Goes rest n o st
+      by_hand (outcome.Value v) ne h = h
+      by_hand outcome.Missing ne h = absurd (ne refl)
+      by_hand (outcome.Fault k) ne h = h
+      by_hand outcome.Poison ne h = h
+
+  -- what is no value passes the right operand
+  pub none_true : (rest : List Instr) (i : Instr) (n : ℕ) (o : Outcome) (st : List Value) → i ≡ instr.WhereTrue n → ((v : Value) → o ≡ outcome.Value v → ⊥) → Goes (i ∷ rest) 0 o st → Goes rest n o st
+  none_true rest i n o st e ne h = by_hand o ne (subst (λ i. Goes (i ∷ rest) 0 o st) e h)
+    where
+      by_hand : (o : Outcome) → ((v : Value) → o ≡ outcome.Value v → ⊥) → Goes (instr.WhereTrue n ∷ rest) 0 o st → Goes rest n o st
+      by_hand (outcome.Value v) ne h = absurd (ne v refl)
+      by_hand outcome.Missing ne h = h
+      by_hand (outcome.Fault k) ne h = h
+      by_hand outcome.Poison ne h = h
+
+  pub none_false : (rest : List Instr) (i : Instr) (n : ℕ) (o : Outcome) (st : List Value) → i ≡ instr.WhereFalse n → ((v : Value) → o ≡ outcome.Value v → ⊥) → Goes (i ∷ rest) 0 o st → Goes rest n o st
+  none_false rest i n o st e ne h = by_hand o ne (subst (λ i. Goes (i ∷ rest) 0 o st) e h)
+    where
+      by_hand : (o : Outcome) → ((v : Value) → o ≡ outcome.Value v → ⊥) → Goes (instr.WhereFalse n ∷ rest) 0 o st → Goes rest n o st
+      by_hand (outcome.Value v) ne h = absurd (ne v refl)
+      by_hand outcome.Missing ne h = h
+      by_hand (outcome.Fault k) ne h = h
+      by_hand outcome.Poison ne h = h
+
+  -- and both branches
+  pub none_tested : (rest : List Instr) (i : Instr) (n m : ℕ) (o : Outcome) (st : List Value) → i ≡ instr.Test n m → ((v : Value) → o ≡ outcome.Value v → ⊥) → Goes (i ∷ rest) 0 o st → Goes rest m o st
+  none_tested rest i n m o st e ne h = by_hand o ne (subst (λ i. Goes (i ∷ rest) 0 o st) e h)
+    where
+      by_hand : (o : Outcome) → ((v : Value) → o ≡ outcome.Value v → ⊥) → Goes (instr.Test n m ∷ rest) 0 o st → Goes rest m o st
+      by_hand (outcome.Value v) ne h = absurd (ne v refl)
+      by_hand outcome.Missing ne h = h
+      by_hand (outcome.Fault k) ne h = h
+      by_hand outcome.Poison ne h = h
+
+  -- what is not true passes the right operand of `&&`
+  pub not_true : (rest : List Instr) (i : Instr) (n : ℕ) (v : Value) (o : Outcome) (st : List Value) → i ≡ instr.WhereTrue n → o ≡ outcome.Value v → truth_in v ≡ false → Goes (i ∷ rest) 0 o st → Goes rest n o st
+  not_true rest i n v o st e d w h =
+      let q : Goes (instr.WhereTrue n ∷ rest) 0 (outcome.Value v) st = subst (λ o. Goes (instr.WhereTrue n ∷ rest) 0 o st) d (subst (λ i. Goes (i ∷ rest) 0 o st) e h) in
+      subst (λ o. Goes rest n o st) (sym d) (subst (λ b. Turned b n (Leads remembers s p wanted rest) (outcome.Value v) st) w q)
+
+  -- what is true passes that of `||`
+  pub not_false : (rest : List Instr) (i : Instr) (n : ℕ) (v : Value) (o : Outcome) (st : List Value) → i ≡ instr.WhereFalse n → o ≡ outcome.Value v → truth_in v ≡ true → Goes (i ∷ rest) 0 o st → Goes rest n o st
+  not_false rest i n v o st e d w h =
+      let q : Goes (instr.WhereFalse n ∷ rest) 0 (outcome.Value v) st = subst (λ o. Goes (instr.WhereFalse n ∷ rest) 0 o st) d (subst (λ i. Goes (i ∷ rest) 0 o st) e h) in
+      subst (λ o. Goes rest n o st) (sym d) (subst (λ b. Turned (not b) n (Leads remembers s p wanted rest) (outcome.Value v) st) w q)
+
+  -- what is not true passes the first branch
+  pub not_chosen : (rest : List Instr) (i : Instr) (n m : ℕ) (v : Value) (o : Outcome) (st : List Value) → i ≡ instr.Test n m → o ≡ outcome.Value v → truth_in v ≡ false → Goes (i ∷ rest) 0 o st → Goes rest n o st
+  not_chosen rest i n m v o st e d w h =
+      let q : Goes (instr.Test n m ∷ rest) 0 (outcome.Value v) st = subst (λ o. Goes (instr.Test n m ∷ rest) 0 o st) d (subst (λ i. Goes (i ∷ rest) 0 o st) e h) in
+      subst (λ o. Goes rest n o st) (sym d) (subst (λ b. Turned b n (Leads remembers s p wanted rest) (outcome.Value v) st) w q)

@@ -1,0 +1,15 @@
+use Rattle.std.proofs.Common.{◌≡◌, ◌+◌, ◌≤◌, length, reverse}
+use Rattle.std.specs.Vec.{vec_capacity}
+use Rattle.lola_code.specs.Machine.{Leads}
+use Rattle.lola_code.proofs.Means.{Means}
+use Rattle.lola_code.proofs.machine.run.Given as goal
+
+-- what is left of the code leads to what the expression means, and there is room for a value of each instruction that is left
+abbrev pub invariant-run : goal.invariant-run
+invariant-run g l =
+    Leads (g.S.StreamStore.remembers l.store) (g.S.StreamStore.seen l.store) l.params (λ r. Means (g.S.StreamStore.remembers l.store) (g.S.StreamStore.seen l.store) l.params l.fn._expr r)
+        l.code 0 l.hand (reverse l.stack.items)
+    × (length l.stack.items + length l.code ≤ vec_capacity l.stack) × (vec_capacity l.stack ≡ vec_capacity l.initial.stack)
+
+abbrev pub decreases-run : goal.decreases-run
+decreases-run g l = length l.code
