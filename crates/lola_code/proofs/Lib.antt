@@ -1,3 +1,4 @@
 pub mod Means
 pub mod Runs
 pub mod Steps
+mod Codes

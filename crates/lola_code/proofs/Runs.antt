@@ -142,15 +142,17 @@ module _ (remembers : Memories) (s : Seen) (p : Params) (wanted : Outcome → Ty
     where
       count : (k + 1) + count_of more ≡ k + (count_of more + 1)
       count = omega arith
+
       none : (r : Outcome) → ((v : Value) → r ≡ outcome.Value v → ⊥) → IsMeant a r → Goes (reverse xs ++ rest) (length xs) r (drop k (ws ++ st))
       none r ne d = past xs rest 0 (length xs) r (drop k (ws ++ st)) (omega arith)
           (subst (λ l. Goes rest 0 r l) (sym (dropped ws st k e)) (err r (here_means remembers s p u w a more r ne d)))
+
       kept : (r : Outcome) → IsMeant a r → Goes (instr.KeepArgument (length xs) k ∷ (reverse xs ++ rest)) 0 r (ws ++ st)
       kept (outcome.Value v) d =
           all (v ∷ ws) rest (outcome.Value v) st (omega (arith, e))
           (λ vs hand m.
-              subst (λ l. Goes (asking t ((k + 1) + count_of more) ∷ rest) 0 hand l) (onto v vs (ws ++ st))
-              (subst (λ n. Goes (asking t n ∷ rest) 0 hand (reverse (v ∷ vs) ++ (ws ++ st))) (sym count) (ok (v ∷ vs) hand (more_means remembers s p u w a more v vs d m))))
+          subst (λ l. Goes (asking t ((k + 1) + count_of more) ∷ rest) 0 hand l) (onto v vs (ws ++ st))
+          (subst (λ n. Goes (asking t n ∷ rest) 0 hand (reverse (v ∷ vs) ++ (ws ++ st))) (sym count) (ok (v ∷ vs) hand (more_means remembers s p u w a more v vs d m))))
           (λ r m. err r (later_means remembers s p u w a more v r d m))
       kept outcome.Missing d = none outcome.Missing (λ v q. absurd (cc)) d
       kept (outcome.Fault f) d = none (outcome.Fault f) (λ v q. absurd (cc)) d
@@ -171,15 +173,14 @@ module _ (remembers : Memories) (s : Seen) (p : Params) (wanted : Outcome → Ty
       let f = read_facts s p (Read place n how args) place n how args refl h in
       all [] rest o st refl
       (λ vs hand m.
-          let z : 0 + count_of args ≡ count_of args = omega arith in
-          let few : 0 + count_of args ≤ 4 = omega (arith, z, f.reference.few) in
-          reading_leads n how (0 + count_of args) vs rest hand st (as_many args vs m.kinds ∙ sym z) few
-          (
-            record { stream = f.reference.stream; kinds = subst (λ (ks : List Kind). are_of_kinds ks vs ≡ true) f.reference.kinds m.kinds },
-            few,
-            f.kept,
-            λ r a. fin r (read_means remembers s p (Read place n how args) place n how args vs r refl h m a),
-          ))
+      let z : 0 + count_of args ≡ count_of args = omega arith in
+      let few : 0 + count_of args ≤ 4 = omega (arith, z, f.reference.few) in
+      reading_leads n how (0 + count_of args) vs rest hand st (as_many args vs m.kinds ∙ sym z) few (
+        record { stream = f.reference.stream; kinds = subst (λ (ks : List Kind). are_of_kinds ks vs ≡ true) f.reference.kinds m.kinds },
+        few,
+        f.kept,
+        λ r a. fin r (read_means remembers s p (Read place n how args) place n how args vs r refl h m a),
+      ))
       (λ r m. fin r (read_none remembers s p place n how args r m))
 
   window_gives : (place : Place) (n : ℕ) (args : Arguments) (xs : List Instr) → can_ask s p (Window place n args) ≡ true
@@ -188,17 +189,16 @@ module _ (remembers : Memories) (s : Seen) (p : Params) (wanted : Outcome → Ty
       let f = window_facts s p (Window place n args) place n args refl h in
       all [] rest o st refl
       (λ vs hand m.
-          let z : 0 + count_of args ≡ count_of args = omega arith in
-          let few : 0 + count_of args ≤ 4 = omega (arith, z, f.reference.few) in
-          let e = as_many args vs m.kinds ∙ sym z in
-          subst (λ ts. Folded remembers s n (0 + count_of args) ts (λ r. Goes rest 0 r (drop (0 + count_of args) (reverse vs ++ st)))) (sym (tops vs st (0 + count_of args) e))
-          (
-            f.window,
-            record { stream = f.reference.stream; kinds = subst (λ (ks : List Kind). are_of_kinds ks vs ≡ true) f.reference.kinds m.kinds },
-            few,
-            f.whole,
-            λ r a. subst (λ l. Goes rest 0 r l) (sym (dropped (reverse vs) st (0 + count_of args) (length-reverse vs ∙ e))) (fin r (window_means remembers s p place n args vs r h m a)),
-          ))
+      let z : 0 + count_of args ≡ count_of args = omega arith in
+      let few : 0 + count_of args ≤ 4 = omega (arith, z, f.reference.few) in
+      let e = as_many args vs m.kinds ∙ sym z in
+      subst (λ ts. Folded remembers s n (0 + count_of args) ts (λ r. Goes rest 0 r (drop (0 + count_of args) (reverse vs ++ st)))) (sym (tops vs st (0 + count_of args) e)) (
+        f.window,
+        record { stream = f.reference.stream; kinds = subst (λ (ks : List Kind). are_of_kinds ks vs ≡ true) f.reference.kinds m.kinds },
+        few,
+        f.whole,
+        λ r a. subst (λ l. Goes rest 0 r l) (sym (dropped (reverse vs) st (0 + count_of args) (length-reverse vs ∙ e))) (fin r (window_means remembers s p place n args vs r h m a)),
+      ))
       (λ r m. fin r (window_none remembers s p place n args r m))
 
   -- a default
@@ -209,6 +209,7 @@ module _ (remembers : Memories) (s : Seen) (p : Params) (wanted : Outcome → Ty
     where
       there : (r : Outcome) → (r ≡ outcome.Missing → ⊥) → IsMeant a r → Goes (reverse cb ++ rest) (length cb) r st
       there r ne d = past cb rest 0 (length cb) r st (omega arith) (fin r (first_means remembers s p place u v a b ask r ne d))
+
       goes : (r : Outcome) → IsMeant a r → Goes (instr.Otherwise (length cb) ∷ (reverse cb ++ rest)) 0 r st
       goes (outcome.Value x) d = there (outcome.Value x) (λ q. absurd (cc)) d
       goes outcome.Missing d = h rest outcome.Missing st (λ r e. fin r (second_means remembers s p place u v a b ask r d e))
@@ -227,6 +228,7 @@ module _ (remembers : Memories) (s : Seen) (p : Params) (wanted : Outcome → Ty
       given =
           let d = defaults_facts s p (Defaults' place u a v b) place u v a b refl ask in
           subst (λ e. IsMeant e (outcome.Value x)) (sym t.is) (literal_means remembers s p t.place x (ap (can_ask s p) (sym t.is) ∙ d.right))
+
       by_answer : (r : Outcome) → IsMeant a r → Goes rest 0 (or_value r x) st
       by_answer (outcome.Value y) m = fin (outcome.Value y) (first_means remembers s p place u v a b ask (outcome.Value y) (λ q. absurd (cc)) m)
       by_answer outcome.Missing m = fin (outcome.Value x) (second_means remembers s p place u v a b ask (outcome.Value x) m given)
@@ -263,8 +265,10 @@ module _ (remembers : Memories) (s : Seen) (p : Params) (wanted : Outcome → Ty
         signed x d outcome.Missing e = fin outcome.Missing (right_none remembers s p place sign u v a b ask x outcome.Missing (nd x) (λ v q. absurd (cc)) d e)
         signed x d (outcome.Fault f) e = fin (outcome.Fault f) (right_none remembers s p place sign u v a b ask x (outcome.Fault f) (nd x) (λ v q. absurd (cc)) d e)
         signed x d outcome.Poison e = fin outcome.Poison (right_none remembers s p place sign u v a b ask x outcome.Poison (nd x) (λ v q. absurd (cc)) d e)
+
         none : (r : Outcome) → ((v : Value) → r ≡ outcome.Value v → ⊥) → IsMeant a r → Goes (reverse (instr.Sign sign (kind_of place) ∷ cb) ++ rest) (length cb + 1) r st
         none r ne d = past (instr.Sign sign (kind_of place) ∷ cb) rest 0 (length cb + 1) r st (omega arith) (fin r (left_none remembers s p place sign u v a b ask r ne d))
+
         goes : (r : Outcome) → IsMeant a r → Goes (instr.Keep (length cb + 1) ∷ (reverse (instr.Sign sign (kind_of place) ∷ cb) ++ rest)) 0 r st
         goes (outcome.Value x) d = behind (instr.Sign sign (kind_of place)) cb b rest (outcome.Value x) (x ∷ st) h (signed x d)
         goes outcome.Missing d = none outcome.Missing (λ v q. absurd (cc)) d
@@ -280,6 +284,7 @@ module _ (remembers : Memories) (s : Seen) (p : Params) (wanted : Outcome → Ty
         given =
             let facts = both_facts s p (Both' place sign u a v b) place sign u v a b refl ask in
             subst (λ e. IsMeant e (outcome.Value y)) (sym t.is) (literal_means remembers s p t.place y (ap (can_ask s p) (sym t.is) ∙ facts.right))
+
         goes : (r : Outcome) → IsMeant a r → Goes (instr.SignGiven sign (kind_of place) y ∷ rest) 0 r st
         goes (outcome.Value x) d = (operands_taken remembers s p place sign u v a b ask x y d given, λ r w. fin r (operated_means remembers s p place sign u v a b ask x y r (nd x) d given w))
         goes outcome.Missing d = fin outcome.Missing (left_none remembers s p place sign u v a b ask outcome.Missing (λ v q. absurd (cc)) d)
@@ -298,6 +303,7 @@ module _ (remembers : Memories) (s : Seen) (p : Params) (wanted : Outcome → Ty
     where
       there : (r : Outcome) → IsMeant (Both' place binary.And u a v b) r → Goes (reverse cb ++ rest) (length cb) r st
       there r m = past cb rest 0 (length cb) r st (omega arith) (fin r m)
+
       goes : (r : Outcome) → IsMeant a r → Goes (instr.WhereTrue (length cb) ∷ (reverse cb ++ rest)) 0 r st
       goes (outcome.Value (value.Bool true)) d = h rest (outcome.Value (value.Bool true)) st (λ r e. fin r (goes_on_means remembers s p place binary.And u v a b ask (λ k j l. refl) true r (λ k y. refl) d e))
       goes (outcome.Value (value.Bool false)) d = there (outcome.Value (value.Bool false)) (decided_means remembers s p place binary.And u v a b ask (λ k j l. refl) false (λ k y. refl) d)
@@ -314,6 +320,7 @@ module _ (remembers : Memories) (s : Seen) (p : Params) (wanted : Outcome → Ty
     where
       there : (r : Outcome) → IsMeant (Both' place binary.Or u a v b) r → Goes (reverse cb ++ rest) (length cb) r st
       there r m = past cb rest 0 (length cb) r st (omega arith) (fin r m)
+
       goes : (r : Outcome) → IsMeant a r → Goes (instr.WhereFalse (length cb) ∷ (reverse cb ++ rest)) 0 r st
       goes (outcome.Value (value.Bool true)) d = there (outcome.Value (value.Bool true)) (decided_means remembers s p place binary.Or u v a b ask (λ k j l. refl) true (λ k y. refl) d)
       goes (outcome.Value (value.Bool false)) d = h rest (outcome.Value (value.Bool false)) st (λ r e. fin r (goes_on_means remembers s p place binary.Or u v a b ask (λ k j l. refl) false r (λ k y. refl) d e))
@@ -348,12 +355,16 @@ module _ (remembers : Memories) (s : Seen) (p : Params) (wanted : Outcome → Ty
     where
       j : Instr
       j = instr.Jump (length cb)
+
       i : Instr
       i = instr.Test (length ca + 1) (length cb + 1 + length ca)
+
       there : (r : Outcome) → IsMeant (Choice' place u t v a w b) r → Goes (reverse cb ++ rest) (length cb) r st
       there r m = past cb rest 0 (length cb) r st (omega arith) (fin r m)
+
       none : (r : Outcome) → IsMeant (Choice' place u t v a w b) r → Goes (reverse ca ++ (instr.Jump (length cb) ∷ (reverse cb ++ rest))) (length cb + 1 + length ca) r st
       none r m = past ca (instr.Jump (length cb) ∷ (reverse cb ++ rest)) (suc (length cb)) _ r st (omega arith) (there r m)
+
       goes : (r : Outcome) → IsMeant t r → Goes (instr.Test (length ca + 1) (length cb + 1 + length ca) ∷ (reverse ca ++ (instr.Jump (length cb) ∷ (reverse cb ++ rest)))) 0 r st
       goes (outcome.Value (value.Bool true)) d = ga (instr.Jump (length cb) ∷ (reverse cb ++ rest)) (outcome.Value (value.Bool true)) st (λ r e. there r (true_means remembers s p place u v w t a b ask r d e))
       goes (outcome.Value (value.Bool false)) d = past ca (instr.Jump (length cb) ∷ (reverse cb ++ rest)) 1 _ (outcome.Value (value.Bool false)) st refl (gb rest (outcome.Value (value.Bool false)) st (λ r e. fin r (false_means remembers s p place u v w t a b ask r d e)))

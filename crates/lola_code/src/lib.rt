@@ -4,3 +4,5 @@
 pub mod compile;
 pub mod instr;
 pub mod machine;
+pub mod plan;
+mod stack;

@@ -1,7 +1,6 @@
 //! The machine that runs code: it has one outcome in hand, and the values of operands and arguments on a stack.
 
-ghost use Rattle.std.specs.Prelude.{◌≡◌, ◌≤◌, [], drop, length, reverse, IsTrue};
-ghost use Rattle.std.specs.Vec.{vec_capacity};
+ghost use Rattle.std.specs.Prelude.{◌≡◌, ◌≤◌, [], drop, length, IfSome, IsTrue};
 ghost use Rattle.lola_value.specs.Kinds.{is_outcome_of, is_well_formed};
 ghost use Rattle.lola_value.specs.Naming.{the_values};
 ghost use Rattle.lola_model.specs.Store.{IsRunning};
@@ -11,8 +10,9 @@ ghost use Rattle.lola_code.specs.Code.{code_of};
 ghost use Rattle.lola_code.specs.Machine.{or_value, top};
 
 use crate::instr::Instr;
+use crate::stack::Stack;
 use lola_expr::access::{read, window};
-use lola_expr::evaluation::{access_plain, parameter};
+use lola_expr::evaluation::{access_plain, eval, parameter};
 use lola_expr::operators::{negate, operate, truth};
 use lola_model::expr::{Access, Expr};
 use lola_model::store::StreamStore;
@@ -41,13 +41,11 @@ fn or_given(o: Outcome, v: Value) -> Outcome
 }
 
 /// Takes so many values off the stack, as parameters.
-fn take_params(stack: &mut Vec<Value>, count: u32) -> Params
+fn take_params(stack: &mut Stack, count: u32) -> Params
     requires { count ≤ 4 }
-    ensures values { the_values result ≡ top count (reverse stack.old.items) }
+    ensures values { the_values result ≡ top count stack.old }
     ensures places { IsTrue (is_well_formed result) }
-    ensures rest { reverse stack.new.items ≡ drop count (reverse stack.old.items) }
-    ensures shorter { length stack.new.items ≤ length stack.old.items }
-    ensures capacity { vec_capacity stack.new ≡ vec_capacity stack.old }
+    ensures rest { stack.new ≡ drop count stack.old }
 {
     let mut params = Params::none();
     let mut left = count;
@@ -61,10 +59,8 @@ fn take_params(stack: &mut Vec<Value>, count: u32) -> Params
 }
 
 /// Takes so many values off the stack, and lets go of them.
-fn let_go(stack: &mut Vec<Value>, count: u32)
-    ensures rest { reverse stack.new.items ≡ drop count (reverse stack.old.items) }
-    ensures shorter { length stack.new.items ≤ length stack.old.items }
-    ensures capacity { vec_capacity stack.new ≡ vec_capacity stack.old }
+fn let_go(stack: &mut Stack, count: u32)
+    ensures rest { stack.new ≡ drop count stack.old }
 {
     let mut left = count;
     while left > 0 {
@@ -73,26 +69,22 @@ fn let_go(stack: &mut Vec<Value>, count: u32)
     }
 }
 
-/// Runs the code of an expression, with nothing on the stack: the outcome is one that the evaluation of the expression may have
-/// (`lola_expr::evaluation::eval`). It takes no memory and cannot fail. As each instruction puts one value on the stack at most, and
-/// none runs twice, room for as many values as there are instructions is enough.
-pub fn run<S: StreamStore>(
+// Runs the code of an expression, with nothing on the stack: the outcome is one that the evaluation of the expression may have. It takes
+// no memory. None where the stack has no room.
+fn run_code<S: StreamStore>(
     _expr: &Expr,
     code: &[Instr],
-    stack: &mut Vec<Value>,
     params: &Params,
     store: &S,
-) -> Outcome
+) -> Option<Outcome>
     requires code { code.now ≡ code_of _expr.now }
-    requires room { length code.now ≤ vec_capacity stack.old }
     requires running { IsRunning (S.seen store.now) }
     requires count { params.now.count ≤ 4 }
     requires asks { IsTrue (can_ask (S.seen store.now) params.now _expr.now) }
-    ensures value { IsDenoted (S.remembers store.now) (S.seen store.now) params.now _expr.now result }
-    ensures kind { IsTrue (is_outcome_of (noted _expr.now) result) }
-    ensures capacity { vec_capacity stack.new ≡ vec_capacity stack.old }
+    ensures value { IfSome result (IsDenoted (S.remembers store.now) (S.seen store.now) params.now _expr.now) }
+    ensures kind { IfSome result (λ o. IsTrue (is_outcome_of (noted _expr.now) o)) }
 {
-    stack.clear();
+    let mut stack = Stack::create();
     let mut code = code;
     let mut hand = Outcome::Missing;
     'run: while let Some((instr, rest)) = code.split_first() {
@@ -103,21 +95,29 @@ pub fn run<S: StreamStore>(
             Instr::Read(stream, how) => hand = access_plain(stream, how, store),
             Instr::ReadOr(stream, how, v) => hand = or_given(access_plain(stream, how, store), v),
             Instr::ReadAt(stream, how, count) => {
-                let named = take_params(stack, count);
+                let named = take_params(&mut stack, count);
                 hand = read(store, stream, how, &named);
             }
             Instr::Window(number, count) => {
-                let named = take_params(stack, count);
+                let named = take_params(&mut stack, count);
                 hand = window(store, number, &named);
             }
             Instr::Keep(n) => match hand {
-                Outcome::Value(v) => stack.push_reserved(v),
+                Outcome::Value(v) => {
+                    if !stack.push(v) {
+                        return None;
+                    }
+                }
                 _ => code = past(code, n),
             },
             Instr::KeepArgument(n, count) => match hand {
-                Outcome::Value(v) => stack.push_reserved(v),
+                Outcome::Value(v) => {
+                    if !stack.push(v) {
+                        return None;
+                    }
+                }
                 _ => {
-                    let_go(stack, count);
+                    let_go(&mut stack, count);
                     code = past(code, n);
                 }
             },
@@ -167,5 +167,21 @@ pub fn run<S: StreamStore>(
             Instr::Jump(n) => code = past(code, n),
         }
     }
-    hand
+    Some(hand)
+}
+
+/// What an expression comes to, whose code this is, for an instance with these parameters: the code is run, or the expression evaluated
+/// (`lola_expr::evaluation::eval`) where the code wants more room than there is. It takes no memory and cannot fail.
+pub fn run<S: StreamStore>(expr: &Expr, code: &[Instr], params: &Params, store: &S) -> Outcome
+    requires code { code.now ≡ code_of expr.now }
+    requires running { IsRunning (S.seen store.now) }
+    requires count { params.now.count ≤ 4 }
+    requires asks { IsTrue (can_ask (S.seen store.now) params.now expr.now) }
+    ensures value { IsDenoted (S.remembers store.now) (S.seen store.now) params.now expr.now result }
+    ensures kind { IsTrue (is_outcome_of (noted expr.now) result) }
+{
+    match run_code(expr, code, params, store) {
+        Some(outcome) => outcome,
+        None => eval(expr, *params, store),
+    }
 }

@@ -7,16 +7,13 @@ use Rattle.lola_code.proofs.machine.take_params.Goals as goal
 pub loop-left-preserved-in-Some : goal.loop-left-preserved-in-Some
 loop-left-preserved-in-Some c =
     let i = c.loop-left.invariant in
-    let e = pop_turned c.loop-left.stack.items c.pop.new.self.items c.in-Some.v c.in-Some.ensures.items in
-    let n : c.loop-left.left ≡ suc (c.loop-left.left - 1) = omega (arith, c.loop-left-test.true) in
-    (
-      ap (λ l. top (c.loop-left.left - 1) (reverse c.pop.new.self.items) ++ l) c.led_by-params.ensures.values
-          ∙ sym (taken c.loop-left.left (c.loop-left.left - 1) c.in-Some.v (the_values c.loop-left.params) (reverse c.pop.new.self.items) n)
+    let e = c.in-Some.ensures in
+    let n : c.loop-left.left ≡ suc (c.loop-left.left - 1) = omega (arith, c.loop-left-test.true) in (
+      ap (λ l. top (c.loop-left.left - 1) c.pop.new.self ++ l) c.led_by-params.ensures.values
+          ∙ sym (taken c.loop-left.left (c.loop-left.left - 1) c.in-Some.v (the_values c.loop-left.params) c.pop.new.self n)
           ∙ ap (λ l. top c.loop-left.left l ++ the_values c.loop-left.params) (sym e)
           ∙ i.0,
-      sym (gone c.loop-left.left (c.loop-left.left - 1) c.in-Some.v (reverse c.pop.new.self.items) n) ∙ ap (λ l. drop c.loop-left.left l) (sym e) ∙ i.1,
+      sym (gone c.loop-left.left (c.loop-left.left - 1) c.in-Some.v c.pop.new.self n) ∙ ap (λ l. drop c.loop-left.left l) (sym e) ∙ i.1,
       omega (arith, c.led_by-params.ensures.count, i.2, n),
       c.led_by-params.ensures.well_formed i.3,
-      omega (arith, c.in-Some.ensures.len, i.4),
-      c.in-Some.ensures.capacity ∙ i.5,
     )
