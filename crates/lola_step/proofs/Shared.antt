@@ -35,6 +35,8 @@ use Rattle.lola_model.proofs.plan.Layers.TheSendSync as layers_crosses
 use Rattle.lola_model.proofs.plan.Numbers.TheSendSync as numbers_crosses
 use Rattle.lola_model.proofs.plan.PaneSizes.TheSendSync as sizes_crosses
 use Rattle.lola_value.proofs.value.Value.TheSendSync as value_crosses
+use Rattle.lola_code.specs.contracts.plan.PlanCode as plan_code
+use Rattle.lola_code.proofs.plan.EvalCode.TheSendSync as code_crosses
 use Rattle.lola_model.specs.declared.store.StreamStore.{Ghosts}
 use Rattle.lola_step.specs.contracts.moment.Moment as moment
 use Rattle.lola_step.specs.contracts.tasks.Task as task
@@ -96,6 +98,10 @@ spec_sync = search (sendable, crosses, streams_sync) depth 40
 pub plan_sync : IsSync plan.the_row
 plan_sync = declared_sync plan.the_type (spec_sync, (pacings_crosses.the_sync, (layers_crosses.the_sync, (numbers_crosses.the_sync, (sizes_crosses.the_sync, tt)))))
 
+-- the code of a specification
+code_sync : IsSync plan_code.the_row
+code_sync = search (sendable, crosses, code_crosses.the_sync) depth 40
+
 -- a moment
 moment_sync : IsSync moment.the_row
 moment_sync = search (sendable, crosses) depth 40
@@ -106,7 +112,10 @@ job_sync κ S store s =
     declared_sync (job.the_type κ S store) (
       as_row_sync (shr_ref_field κ plan.the_row tt) (shr_sync _ _ plan.the_row plan_sync),
       (
-        as_row_sync (shr_ref_field κ moment.the_row tt) (shr_sync _ _ moment.the_row moment_sync),
-        (as_row_sync (row_field (ShrRef κ.mir κ.lft S)) (shr_sync _ _ S s), (as_row_sync (shr_slice_field κ task.the_row tt) (shr_slice_sync _ _ task.the_row (search sendable)), tt)),
+        as_row_sync (shr_ref_field κ plan_code.the_row tt) (shr_sync _ _ plan_code.the_row code_sync),
+        (
+          as_row_sync (shr_ref_field κ moment.the_row tt) (shr_sync _ _ moment.the_row moment_sync),
+          (as_row_sync (row_field (ShrRef κ.mir κ.lft S)) (shr_sync _ _ S s), (as_row_sync (shr_slice_field κ task.the_row tt) (shr_slice_sync _ _ task.the_row (search sendable)), tt)),
+        ),
       ),
     )

@@ -28,13 +28,15 @@ pub record HasRoom (n : Scratch) (room : ℕ) : Type 0 where
 abbrev pub least_room : Plan → ℕ
 least_room plan = 2 * length plan.spec.streams
 
--- notes of a plan: a mark, a span and whereabouts for each stream, more layers than that of any node, and at least the least room
+-- notes of a plan: a mark, a span and whereabouts for each stream, more layers than that of any node, the code of its specification,
+-- and at least the least room
 pub record IsScratchOf (plan : Plan) (n : Scratch) : Type 0 where
   pub marks : length n.marks.items ≡ length plan.spec.streams
   pub spans : length n.spans.items ≡ length plan.spec.streams
   pub sought : length n.sought.items ≡ length plan.spec.streams
   pub layers : (node : ℕ) → layer_of plan.layers node < n.layers
   pub few_layers : n.layers ≤ 2 ^ 32
+  pub code : n.code ≡ plan.spec
   pub room : HasRoom n (least_room plan)
 
 -- as many instances as a step may have of these streams

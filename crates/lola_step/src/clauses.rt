@@ -1,6 +1,6 @@
 //! What clauses come to.
 
-ghost use Rattle.std.specs.Prelude.{◌≡◌, ◌≤◌, List, ℕ, [], ◌∷◌, Ok, Err, IfOk, IfErr, IsTrue, unwrap_or, length, map};
+ghost use Rattle.std.specs.Prelude.{◌≡◌, ◌≤◌, List, ℕ, [], ◌∷◌, Ok, Err, Some, IfOk, IfErr, IsTrue, unwrap_or, length, map};
 ghost use Rattle.lola_value.specs.Kinds.{are_of_kinds, is_outcome_of, is_well_formed};
 ghost use Rattle.lola_value.specs.Naming.{Naming, AreHeld, IsHeldIn, read_outcome, read_params, the_values};
 ghost use Rattle.lola_value.specs.declared.value.Kind.{Kind};
@@ -9,10 +9,13 @@ ghost use Rattle.lola_model.specs.Content.{Content};
 ghost use Rattle.lola_model.specs.Model.{clause_answer, first_answer, named_params, when_answer};
 ghost use Rattle.lola_model.specs.Store.{IsRunning, no_params};
 ghost use Rattle.lola_model.specs.Typing.{can_ask, noted};
+ghost use Rattle.lola_code.specs.Plans.{IsCodeOf, IsEvalCode, first_of};
 ghost use Rattle.lola_expr.specs.Evaluation.{IsDenoted, Sees, is_no_value};
 ghost use Rattle.lola_ready.specs.Ready.{AreAskable, HasTexts, IsClauseAskable, IsWhenAskable};
 ghost use Rattle.lola_step.specs.Clauses.{IsAnswer, IsSpawning, IsWellNamed, AreExpressions, AreNamed};
 
+use lola_code::machine::run;
+use lola_code::plan::{Code, EvalCode};
 use lola_expr::evaluation::eval;
 use lola_model::expr::Expr;
 use lola_model::plan::Plan;
@@ -64,14 +67,56 @@ fn condition<S: StreamStore>(
     }
 }
 
-/// What the first of these expressions comes to, missing where there is none.
+/// The same of an expression with this code, which is run where there is any.
+fn coded_outcome<S: StreamStore>(
+    expr: &Expr,
+    code: &Option<Code>,
+    params: &Params,
+    store: &S,
+) -> Outcome
+    requires code { IsCodeOf (Some expr.now) code.now }
+    requires running { IsRunning (S.seen store.now) }
+    requires count { params.now.count ≤ 4 }
+    requires asks { IsTrue (can_ask (S.seen store.now) params.now expr.now) }
+    ensures value { IsDenoted (S.remembers store.now) (S.seen store.now) params.now expr.now result }
+    ensures kind { IsTrue (is_outcome_of (noted expr.now) result) }
+{
+    match code {
+        Some(code) => run(expr, code.as_slice(), params, store),
+        None => outcome_of(expr, params, store),
+    }
+}
+
+/// What the condition of a clause comes to that has this code.
+fn coded_condition<S: StreamStore>(
+    plan: &Plan,
+    when: &Option<Expr>,
+    code: &Option<Code>,
+    params: &Params,
+    store: &S,
+) -> Outcome
+    requires code { IsCodeOf when.now code.now }
+    requires running { IsRunning (S.seen store.now) }
+    requires count { params.now.count ≤ 4 }
+    requires asks { IsWhenAskable (S.seen store.now) params.now plan.now.spec.texts when.now }
+    ensures answer { IsAnswer plan.now (S.remembers store.now) (S.seen store.now) params.now (λ c p. when_answer plan.now.spec c p when.now) result }
+{
+    match when {
+        None => Outcome::Value(Value::Bool(true)),
+        Some(expr) => coded_outcome(expr, code, params, store),
+    }
+}
+
+/// What the first of these expressions comes to, which has this code; missing where there is none.
 fn first_outcome<S: StreamStore>(
     plan: &Plan,
     stream: &Stream,
     exprs: &[Expr],
+    code: &Option<Code>,
     params: &Params,
     store: &S,
 ) -> Outcome
+    requires code { IsCodeOf (first_of exprs.now) code.now }
     requires running { IsRunning (S.seen store.now) }
     requires count { params.now.count ≤ 4 }
     requires asks { AreAskable (S.seen store.now) params.now plan.now.spec.texts (unwrap_or stream.now.kind kind.Int64 ∷ []) exprs.now }
@@ -79,31 +124,38 @@ fn first_outcome<S: StreamStore>(
     ensures answer { IsAnswer plan.now (S.remembers store.now) (S.seen store.now) params.now (λ c p. first_answer plan.now.spec c p exprs.now) result }
 {
     match exprs.first() {
-        Some(expr) => outcome_of(expr, params, store),
+        Some(expr) => coded_outcome(expr, code, params, store),
         None => Outcome::Missing,
     }
 }
 
 /// What an eval clause of a stream comes to, for the instance with these parameters: its expression is evaluated where its
-/// condition is true.
+/// condition is true. Both have code.
 pub(crate) fn instance_outcome<S: StreamStore>(
     plan: &Plan,
     stream: &Stream,
     clause: &Clause,
+    code: &EvalCode,
     params: &Params,
     store: &S,
 ) -> Outcome
+    requires code { IsEvalCode (Some clause.now) code.now }
     requires running { IsRunning (S.seen store.now) }
     requires count { params.now.count ≤ 4 }
     requires asks { IsClauseAskable (S.seen store.now) params.now plan.now.spec.texts (unwrap_or stream.now.kind kind.Int64 ∷ []) clause.now }
     ensures kind { IsTrue (is_outcome_of (unwrap_or stream.now.kind kind.Int64) result) }
     ensures answer { IsAnswer plan.now (S.remembers store.now) (S.seen store.now) params.now (λ c p. clause_answer plan.now.spec c p clause.now) result }
 {
-    let tested = condition(plan, &clause.when, params, store);
+    let tested = coded_condition(plan, &clause.when, &code.when, params, store);
     match tested {
-        Outcome::Value(Value::Bool(true)) => {
-            first_outcome(plan, stream, clause.with.as_slice(), params, store)
-        }
+        Outcome::Value(Value::Bool(true)) => first_outcome(
+            plan,
+            stream,
+            clause.with.as_slice(),
+            &code.with,
+            params,
+            store,
+        ),
         Outcome::Value(_) => Outcome::Missing,
         _ => tested,
     }

@@ -23,6 +23,7 @@ use crate::scratch::Span;
 use crate::seek::seek;
 use crate::spawns::layer_at;
 use crate::tasks::{Task, eval_pacing_at, run_tasks};
+use lola_code::plan::PlanCode;
 use lola_contents::calls::{poison, push};
 use lola_model::pacing::Pacing;
 use lola_model::plan::Plan;
@@ -330,6 +331,7 @@ fn answer_tasks<R: Threads + Sync, S: StreamStore + Sync, G: Gate + Sync>(
     rt: &R,
     gate: &G,
     plan: &Plan,
+    code: &PlanCode,
     moment: &Moment,
     store: &S,
     tasks: &[Task],
@@ -337,6 +339,7 @@ fn answer_tasks<R: Threads + Sync, S: StreamStore + Sync, G: Gate + Sync>(
     from: usize,
     workers: u32,
 )
+    requires code { code.now ≡ plan.now.spec }
     requires workers { (1 ≤ workers) × (workers ≤ 64) }
     requires places { length results.old ≡ from + length tasks.now }
     requires numbered { length tasks.now < 2 ^ 32 }
@@ -348,7 +351,7 @@ fn answer_tasks<R: Threads + Sync, S: StreamStore + Sync, G: Gate + Sync>(
     ensures results { AreResults plan.now moment.now (S.remembers store.now) (S.seen store.now) tasks.now (drop from results.new) }
 {
     let (_, places) = results.split_at_mut(from);
-    run_tasks(rt, gate, plan, moment, store, tasks, places, workers);
+    run_tasks(rt, gate, plan, code, moment, store, tasks, places, workers);
 }
 
 /// Gives an instance its outcome: others see a fault as poison.
@@ -385,6 +388,7 @@ pub(crate) fn eval_layer<R: Threads + Sync, S: StreamStore + Sync, G: Gate + Syn
     rt: &R,
     gate: &G,
     plan: &Plan,
+    code: &PlanCode,
     moment: &Moment,
     store: &mut S,
     layer: u32,
@@ -397,6 +401,7 @@ pub(crate) fn eval_layer<R: Threads + Sync, S: StreamStore + Sync, G: Gate + Syn
     workers: u32,
     is_first: bool,
 )
+    requires code { code.now ≡ plan.now.spec }
     requires workers { (1 ≤ workers) × (workers ≤ 64) }
     requires accepted { IsAccepted plan.now }
     requires at { IsAt plan.now (eval_stage (length plan.now.spec.streams) layer) (S.seen store.old) }
@@ -424,6 +429,7 @@ pub(crate) fn eval_layer<R: Threads + Sync, S: StreamStore + Sync, G: Gate + Syn
         rt,
         gate,
         plan,
+        code,
         moment,
         store,
         &tasks[from..],

@@ -11,6 +11,7 @@ ghost use Rattle.lola_step.specs.declared.mark.Mark.TheVariants as mark;
 use crate::mark::Mark;
 use crate::tasks::Task;
 use crate::verdict::Verdict;
+use lola_code::plan::PlanCode;
 use lola_model::plan::Plan;
 use lola_model::store::{StreamStore, Whereabouts};
 use lola_value::text::Memory;
@@ -24,7 +25,7 @@ pub struct Span {
     pub count: usize,
 }
 
-/// What steps of a plan note: what spawn clauses did, the places of a stream's instances that are asked, the instances that were asked with
+/// The code of a plan's eval clauses, and what its steps note: what spawn clauses did, the places of a stream's instances that are asked, the instances that were asked with
 /// their outcomes, which instances are closed, and the values.
 #[derive(Drop)]
 pub struct Scratch {
@@ -38,6 +39,8 @@ pub struct Scratch {
     pub(crate) closing: Vec<Task>,
     pub(crate) verdicts: Vec<Verdict>,
     pub(crate) layers: u64,
+    // the code of the plan's eval clauses, which is never changed
+    pub(crate) code: PlanCode,
     // no step was evaluated yet
     pub(crate) is_first: bool,
 }
@@ -90,6 +93,7 @@ impl Scratch {
             closing: Vec::with_capacity(alloc, room)?,
             verdicts: Vec::with_capacity(alloc, room)?,
             layers: layer_count(plan.layers.as_slice()),
+            code: PlanCode::create(alloc, &plan.spec)?,
             is_first: true,
         })
     }

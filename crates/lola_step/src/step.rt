@@ -86,6 +86,7 @@ fn evaluate<R: Threads + Sync, S: StreamStore + Sync, G: Gate + Sync>(
             rt,
             gate,
             plan,
+            &scratch.code,
             moment,
             store,
             layer as u32,

@@ -9,6 +9,7 @@ ghost use Rattle.lola_step.specs.Tasks.{AreReady, AreTasks, IsActiveTask, IsOutc
 
 use crate::clauses::instance_outcome;
 use crate::moment::{Moment, is_active_for};
+use lola_code::plan::PlanCode;
 use lola_model::job::Job;
 use lola_model::pacing::{ClausePacings, Pacing};
 use lola_model::plan::Plan;
@@ -37,9 +38,11 @@ pub(crate) fn eval_pacing_at(pacings: &[ClausePacings], n: usize) -> &Option<Pac
 #[derive(Drop)]
 pub(crate) struct LayerJob<'a, S: StreamStore> {
     plan: &'a Plan,
+    code: &'a PlanCode,
     moment: &'a Moment,
     store: &'a S,
     tasks: &'a [Task],
+    ghost coded: { code.now ≡ plan.now.spec },
     ghost in_time: { moment.now.time ≤ latest },
     ghost running: { IsRunning (S.seen store.now) },
     ghost layout: { (S.seen store.now).layout ≡ layout_of plan.now },
@@ -54,6 +57,7 @@ impl<'a, S: StreamStore> Job for LayerJob<'a, S> {
     fn answer(&self, task: u32) -> Outcome {
         task_outcome(
             self.plan,
+            self.code,
             self.moment,
             self.store,
             self.tasks[task as usize],
@@ -62,7 +66,14 @@ impl<'a, S: StreamStore> Job for LayerJob<'a, S> {
 }
 
 /// What the eval clause of a task's stream comes to, for its instance: missing where it is not active for it.
-fn task_outcome<S: StreamStore>(plan: &Plan, moment: &Moment, store: &S, task: Task) -> Outcome
+fn task_outcome<S: StreamStore>(
+    plan: &Plan,
+    code: &PlanCode,
+    moment: &Moment,
+    store: &S,
+    task: Task,
+) -> Outcome
+    requires code { code.now ≡ plan.now.spec }
     requires in_time { moment.now.time ≤ latest }
     requires running { IsRunning (S.seen store.now) }
     requires layout { (S.seen store.now).layout ≡ layout_of plan.now }
@@ -71,14 +82,15 @@ fn task_outcome<S: StreamStore>(plan: &Plan, moment: &Moment, store: &S, task: T
 {
     let pacing = eval_pacing_at(plan.pacings.as_slice(), task.stream as usize);
     if is_active_for(moment, pacing, store, task.stream, task.index) {
-        active_outcome(plan, store, task)
+        active_outcome(plan, code, store, task)
     } else {
         Outcome::Missing
     }
 }
 
 /// What it comes to where it is active.
-fn active_outcome<S: StreamStore>(plan: &Plan, store: &S, task: Task) -> Outcome
+fn active_outcome<S: StreamStore>(plan: &Plan, code: &PlanCode, store: &S, task: Task) -> Outcome
+    requires code { code.now ≡ plan.now.spec }
     requires running { IsRunning (S.seen store.now) }
     requires layout { (S.seen store.now).layout ≡ layout_of plan.now }
     requires ready { IsActiveTask plan.now (S.seen store.now) task }
@@ -87,8 +99,9 @@ fn active_outcome<S: StreamStore>(plan: &Plan, store: &S, task: Task) -> Outcome
     let stream = &plan.spec.streams.as_slice()[task.stream as usize];
     match &stream.eval {
         Some(clause) => {
+            let code = code.eval_of(task.stream as usize);
             let params = store.params_of(task.stream, task.index);
-            instance_outcome(plan, stream, clause, &params, store)
+            instance_outcome(plan, stream, clause, code, &params, store)
         }
         None => Outcome::Missing,
     }
@@ -100,12 +113,14 @@ pub(crate) fn run_tasks<R: Threads + Sync, S: StreamStore + Sync, G: Gate + Sync
     rt: &R,
     gate: &G,
     plan: &Plan,
+    code: &PlanCode,
     moment: &Moment,
     store: &S,
     tasks: &[Task],
     results: &mut [Outcome],
     workers: u32,
 )
+    requires code { code.now ≡ plan.now.spec }
     requires workers { (1 ≤ workers) × (workers ≤ 64) }
     requires places { length results.old ≡ length tasks.now }
     requires numbered { length tasks.now < 2 ^ 32 }
@@ -118,6 +133,7 @@ pub(crate) fn run_tasks<R: Threads + Sync, S: StreamStore + Sync, G: Gate + Sync
 {
     let job = LayerJob {
         plan,
+        code,
         moment,
         store,
         tasks,

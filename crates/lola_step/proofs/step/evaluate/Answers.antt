@@ -17,6 +17,7 @@ loop-layer-init g c = record {
   marks = refl;
   sought = refl;
   layers = refl;
+  code = refl;
   closing = refl;
   verdicts = refl;
   places_room = refl;
@@ -35,6 +36,9 @@ eval_layer-requires-clause-spans g c κs within =
 pub eval_layer-requires-clause-sought : goal.eval_layer-requires-clause-sought
 eval_layer-requires-clause-sought g c κs within =
     ap length c.deref_mut-in-loop-layer-2.ensures.value ∙ (c.loop-layer.invariant.sought ∙ c.requires.made.sought)
+
+pub eval_layer-requires-clause-code : goal.eval_layer-requires-clause-code
+eval_layer-requires-clause-code g c κs within = c.loop-layer.invariant.code ∙ c.requires.made.code
 
 pub loop-layer-preserved : goal.loop-layer-preserved
 loop-layer-preserved g c =
@@ -75,6 +79,7 @@ loop-layer-preserved g c =
       marks = ap length marks_back ∙ (length_marks ∙ (now.marks.ok.0 ∙ c.loop-layer.invariant.marks));
       sought = ap length sought_back ∙ (length_sought ∙ (now.sought.ok.0 ∙ c.loop-layer.invariant.sought));
       layers = c.loop-layer.invariant.layers;
+      code = c.loop-layer.invariant.code;
       closing = c.loop-layer.invariant.closing;
       verdicts = c.loop-layer.invariant.verdicts;
       places_room = c.eval_layer.ensures.places ∙ c.loop-layer.invariant.places_room;

@@ -10,6 +10,7 @@ invariant-loop-layer g l = record {
   marks : length l.scratch.marks.items ≡ length l.initial.scratch.marks.items;
   sought : length l.scratch.sought.items ≡ length l.initial.scratch.sought.items;
   layers : l.scratch.layers ≡ l.layer-end;
+  code : l.scratch.code ≡ l.initial.scratch.code;
   closing : l.scratch.closing ≡ l.initial.scratch.closing;
   verdicts : l.scratch.verdicts ≡ l.initial.scratch.verdicts;
   places_room : vec_capacity l.scratch.places ≡ vec_capacity l.initial.scratch.places;

@@ -8,6 +8,7 @@ use Rattle.lola_step.proofs.tasks.run_tasks.Goals as goal
 pub invariant_of-job : goal.invariant_of-job
 invariant_of-job g c =
     record {
+      coded = c.requires.code;
       in_time = c.requires.in_time;
       running = c.requires.running;
       layout = c.requires.layout;
