@@ -17,8 +17,6 @@ use Rattle.lola_model.specs.declared.spec.Spec.{Spec}
 use Rattle.lola_model.proofs.Lookups.{values_same-read}
 use Rattle.lola_expr.proofs.OperandLemmas.{second}
 use Rattle.lola_keys.specs.Keys.{AddsKeys, Binds, RulesOut}
-use Rattle.lola_keys.specs.declared.keys.Reach.{Reach}
-use Rattle.lola_keys.specs.declared.keys.Reach.TheVariants as reach
 
 -- values that are not the same, either way round
 
@@ -95,11 +93,9 @@ taken_at (suc n) (y ∷ xs) (suc i) x e = taken_at n xs i x e
 abbrev pub NoneBound : List (Option Value) → Type 0
 NoneBound old = (i : ℕ) (v : Value) → slice_get old i ≡ Some (Some v) → ⊥
 
-pub adds_of : (spec : Spec) (names : Naming) (c : Content) (count : ℕ) (e : Expr) (r : Reach) (old new : List (Option Value)) → (r ≡ reach.Nowhere → ⊥) → Binds spec names c count r e old new
-    → AddsKeys spec names c count e old new
-adds_of spec names c count e reach.Whole old new ne h = h.1
-adds_of spec names c count e reach.Part old new ne h = h
-adds_of spec names c count e reach.Nowhere old new ne h = absurd (ne refl)
+pub adds_of : (spec : Spec) (names : Naming) (c : Content) (count : ℕ) (e : Expr) (r : Bool) (old new : List (Option Value)) → Binds spec names c count r e old new → AddsKeys spec names c count e old new
+adds_of spec names c count e true old new h = h.1
+adds_of spec names c count e false old new h = h
 
 -- as many values as kinds
 pub as_many : (ks : List Kind) (vs : List Value) → are_of_kinds ks vs ≡ true → length vs ≡ length ks

@@ -19,8 +19,6 @@ use Rattle.lola_model.specs.declared.expr.Place.{Place}
 use Rattle.lola_model.specs.declared.spec.Spec.{Spec}
 use Rattle.lola_expr.proofs.OperandLemmas.{first, second}
 use Rattle.lola_keys.specs.Keys.{AddsAt, AddsKeys, Binds, BindsKey, HasValue, IsComparison, IsDecided, RulesOut, are_fixed, is_fixed}
-use Rattle.lola_keys.specs.declared.keys.Reach.{Reach}
-use Rattle.lola_keys.specs.declared.keys.Reach.TheVariants as reach
 
 -- what a box has beside what it holds
 abbrev Around : Type 0
@@ -116,16 +114,13 @@ module _ (spec : Spec) (names : Naming) (c : Content) (count : ℕ) where
         by q (true, x) (t, y) = (t, is.1 q ∙ (left_true is.0 (den spec c q a) (den spec c q b) x ∙ y))
         by q (false, x) (t, y) = (false, is.1 q ∙ left_false is.0 (den spec c q a) (den spec c q b) x)
 
-    pub binds_both : (r : Reach) (old mid new : List (Option Value)) → Binds spec names c count reach.Whole a old mid → Binds spec names c count r b mid new → Binds spec names c count r e old new
-    binds_both reach.Whole old mid new h g = (decided_both h.0 g.0, adds_right h.0 old mid new h.1 g.1)
-    binds_both reach.Part old mid new h g = adds_right h.0 old mid new h.1 g
-    binds_both reach.Nowhere old mid new h g = tt
+    pub binds_both : (r : Bool) (old mid new : List (Option Value)) → Binds spec names c count true a old mid → Binds spec names c count r b mid new → Binds spec names c count r e old new
+    binds_both true old mid new h g = (decided_both h.0 g.0, adds_right h.0 old mid new h.1 g.1)
+    binds_both false old mid new h g = adds_right h.0 old mid new h.1 g
 
     -- where the left side is more than keys, what stands behind it is not looked at
-    pub binds_left : (r : Reach) (old new : List (Option Value)) → (r ≡ reach.Whole → ⊥) → Binds spec names c count r a old new → Binds spec names c count r e old new
-    binds_left reach.Whole old new ne h = absurd (ne refl)
-    binds_left reach.Part old new ne h = adds_left old new h
-    binds_left reach.Nowhere old new ne h = tt
+    pub binds_left : (old new : List (Option Value)) → Binds spec names c count false a old new → Binds spec names c count false e old new
+    binds_left old new h = adds_left old new h
 
   -- a comparison
 
@@ -183,15 +178,13 @@ module _ (spec : Spec) (names : Naming) (c : Content) (count : ℕ) where
     adds_same : (old new : List (Option Value)) → new ≡ old → AddsKeys spec names c count x old new
     adds_same old new e = subst (AddsKeys spec names c count x old) (sym e) (adds_none x old)
 
-    pub binds_key_left : IsComparison spec c a e x → (r : Reach) (old new : List (Option Value)) → BindsKey spec names c count r number e old new → Binds spec names c count r x old new
-    binds_key_left compares reach.Whole old new (v, h) = (decided_left v h.0 h.1 compares, adds_at v old new (rules_at_left v h.0 h.1 compares) h.2)
-    binds_key_left compares reach.Part old new h = adds_same old new h
-    binds_key_left compares reach.Nowhere old new h = tt
+    pub binds_key_left : IsComparison spec c a e x → (r : Bool) (old new : List (Option Value)) → BindsKey spec names c count r number e old new → Binds spec names c count r x old new
+    binds_key_left compares true old new (v, h) = (decided_left v h.0 h.1 compares, adds_at v old new (rules_at_left v h.0 h.1 compares) h.2)
+    binds_key_left compares false old new h = adds_same old new h
 
-    pub binds_key_right : IsComparison spec c e a x → (r : Reach) (old new : List (Option Value)) → BindsKey spec names c count r number e old new → Binds spec names c count r x old new
-    binds_key_right compares reach.Whole old new (v, h) = (decided_right v h.0 h.1 compares, adds_at v old new (rules_at_right v h.0 h.1 compares) h.2)
-    binds_key_right compares reach.Part old new h = adds_same old new h
-    binds_key_right compares reach.Nowhere old new h = tt
+    pub binds_key_right : IsComparison spec c e a x → (r : Bool) (old new : List (Option Value)) → BindsKey spec names c count r number e old new → Binds spec names c count r x old new
+    binds_key_right compares true old new (v, h) = (decided_right v h.0 h.1 compares, adds_at v old new (rules_at_right v h.0 h.1 compares) h.2)
+    binds_key_right compares false old new h = adds_same old new h
 
 -- what a sign between two operands is, where the sign and the operands are read apart
 pub sign_is : (spec : Spec) (c : Content) (e : Expr) (place : Place) (sign want : Binary) (u v : Around) (a b x y : Expr) → e ≡ Both' place sign u a v b → sign ≡ want → x ≡ a → y ≡ b

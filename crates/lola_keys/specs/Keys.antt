@@ -21,8 +21,6 @@ use Rattle.lola_model.specs.declared.plan.Plan.{Plan}
 use Rattle.lola_model.specs.declared.spec.Spec.{Spec}
 use Rattle.lola_model.specs.declared.store.Whereabouts.{Whereabouts}
 use Rattle.lola_expr.specs.Evaluation.{Sees, is_named}
-use Rattle.lola_keys.specs.declared.keys.Reach.{Reach}
-use Rattle.lola_keys.specs.declared.keys.Reach.TheVariants as reach
 
 -- no parameter
 abbrev pub is_no_parameter : Expr → Bool
@@ -66,38 +64,36 @@ module _ (spec : Spec) (names : Naming) (c : Content) (count : ℕ) where
   abbrev pub AddsKeys : Expr → List (Option Value) → List (Option Value) → Type 0
   AddsKeys e old new = (i : ℕ) (v : Value) → slice_get new i ≡ Some (Some v) → (slice_get old i ≡ Some (Some v)) ⊎ RulesOut e i v
 
-  -- what is known by how far its keys were found
-  abbrev pub Binds : Reach → Expr → List (Option Value) → List (Option Value) → Type 0
-  Binds reach.Whole e old new = IsDecided e × AddsKeys e old new
-  Binds reach.Part e old new = AddsKeys e old new
-  Binds reach.Nowhere e old new = Unit {0}
+  -- what is known where the whole of it is keys, or not
+  abbrev pub Binds : Bool → Expr → List (Option Value) → List (Option Value) → Type 0
+  Binds true e old new = IsDecided e × AddsKeys e old new
+  Binds false e old new = AddsKeys e old new
 
   -- a key that has this value for all instances
   pub record HasValue (e : Expr) (v : Value) : Type 0 where
     pub held : IsHeld names v
     pub same : (q : List Field) → den spec c q e ≡ Given (read names v)
 
-  -- what is known of the key of a parameter
-  abbrev pub BindsKey : Reach → ℕ → Expr → List (Option Value) → List (Option Value) → Type 0
-  BindsKey reach.Whole number e old new = (v : Value) × (HasValue e v × (number < count) × AddsAt number v old new)
-  BindsKey reach.Part number e old new = new ≡ old
-  BindsKey reach.Nowhere number e old new = Unit {0}
+  -- what is known where an expression is the key of a parameter, or not
+  abbrev pub BindsKey : Bool → ℕ → Expr → List (Option Value) → List (Option Value) → Type 0
+  BindsKey true number e old new = (v : Value) × (HasValue e v × (number < count) × AddsAt number v old new)
+  BindsKey false number e old new = new ≡ old
 
 module _ (remembers : Memories) (s : Seen) (p : Params) where
   -- the same, whatever the store stands for
-  abbrev pub IsKey : ℕ → Expr → Reach → List (Option Value) → List (Option Value) → Type 0
+  abbrev pub IsKey : ℕ → Expr → Bool → List (Option Value) → List (Option Value) → Type 0
   IsKey number e r old new =
       (plan : Plan) (names : Naming) (c : Content) → Sees plan names c remembers s p → IsTrue (is_named names plan.spec.texts e)
       → BindsKey plan.spec names c p.count r number e old new
 
   -- of the comparison of two expressions
-  abbrev pub IsCompared : Expr → Expr → Reach → List (Option Value) → List (Option Value) → Type 0
+  abbrev pub IsCompared : Expr → Expr → Bool → List (Option Value) → List (Option Value) → Type 0
   IsCompared a b r old new =
       (plan : Plan) (names : Naming) (c : Content) → Sees plan names c remembers s p → IsTrue (is_named names plan.spec.texts a) → IsTrue (is_named names plan.spec.texts b)
       → (e : Expr) → IsComparison plan.spec c a b e → Binds plan.spec names c p.count r e old new
 
   -- of a condition
-  abbrev pub IsBound : Expr → Reach → List (Option Value) → List (Option Value) → Type 0
+  abbrev pub IsBound : Expr → Bool → List (Option Value) → List (Option Value) → Type 0
   IsBound e r old new =
       (plan : Plan) (names : Naming) (c : Content) → Sees plan names c remembers s p → IsTrue (is_named names plan.spec.texts e)
       → Binds plan.spec names c p.count r e old new

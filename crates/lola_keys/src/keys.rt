@@ -1,9 +1,10 @@
 //! The keys of a condition, and their values.
 
-ghost use Rattle.std.specs.Prelude.{◌≡◌, ◌<◌, ◌≤◌, IsTrue, MatchOption, Option, length};
+ghost use Rattle.std.specs.Prelude.{◌≡◌, ◌<◌, ◌≤◌, IsTrue, MatchOption, Option, length, true};
 ghost use Rattle.lola_value.specs.declared.value.Value.{Value};
 ghost use Rattle.lola_model.specs.Store.{IsRunning};
 ghost use Rattle.lola_model.specs.Typing.{can_ask};
+ghost use Rattle.lola_model.specs.declared.expr.Binary.TheVariants as binary;
 ghost use Rattle.lola_keys.specs.Keys.{AddsAt, IsBound, IsCompared, IsParameter, IsKey};
 
 use crate::fixed::is_fixed;
@@ -11,17 +12,6 @@ use lola_expr::evaluation::eval;
 use lola_model::expr::{Binary, Expr};
 use lola_model::store::StreamStore;
 use lola_value::value::{Outcome, Params, Value};
-
-/// How far the keys of a condition were found.
-#[derive(Clone, Copy, Debug, PartialEq, Eq)]
-pub enum Reach {
-    /// The whole of it is keys that have values.
-    Whole,
-    /// Its first part is.
-    Part,
-    /// A key has no value: the condition has that outcome for some instances, and it is to be asked of all.
-    Nowhere,
-}
 
 /// The number of the parameter that an expression is.
 fn parameter_of(expr: &Expr) -> Option<u32>
@@ -45,15 +35,15 @@ fn note(bound: &mut [Option<Value>], number: u32, value: Value)
     }
 }
 
-/// Notes the value of a key: of the expression that the parameter of a number is compared with. One in which a parameter stands is no
-/// key.
+/// Notes the value of a key: of the expression that the parameter of a number is compared with. One in which a parameter stands, or that
+/// has no value, is no key.
 fn bind_key<S: StreamStore>(
     number: u32,
     expr: &Expr,
     params: &Params,
     store: &S,
     bound: &mut [Option<Value>],
-) -> Reach
+) -> bool
     requires running { IsRunning (S.seen store.now) }
     requires count { params.now.count ≤ 4 }
     requires places { params.now.count ≤ length bound.old }
@@ -61,14 +51,14 @@ fn bind_key<S: StreamStore>(
     ensures { IsKey (S.remembers store.now) (S.seen store.now) params.now number expr.now result bound.old bound.new }
 {
     if number >= params.count as u32 || !is_fixed(expr) {
-        return Reach::Part;
+        return false;
     }
     match eval(expr, *params, store) {
         Outcome::Value(value) => {
             note(bound, number, value);
-            Reach::Whole
+            true
         }
-        _ => Reach::Nowhere,
+        Outcome::Missing | Outcome::Fault(_) | Outcome::Poison => false,
     }
 }
 
@@ -79,7 +69,7 @@ fn bind_equal<S: StreamStore>(
     params: &Params,
     store: &S,
     bound: &mut [Option<Value>],
-) -> Reach
+) -> bool
     requires running { IsRunning (S.seen store.now) }
     requires count { params.now.count ≤ 4 }
     requires places { params.now.count ≤ length bound.old }
@@ -92,19 +82,40 @@ fn bind_equal<S: StreamStore>(
     }
     match parameter_of(b) {
         Some(number) => bind_key(number, a, params, store, bound),
-        None => Reach::Part,
+        None => false,
+    }
+}
+
+/// Whether a sign joins two conditions of which both have to hold.
+fn is_conjunction(sign: Binary) -> bool
+    ensures { result ≡ true → sign ≡ binary.And }
+{
+    match sign {
+        Binary::And => true,
+        _ => false,
+    }
+}
+
+/// Whether a sign compares for equality.
+fn is_equality(sign: Binary) -> bool
+    ensures { result ≡ true → sign ≡ binary.Equal }
+{
+    match sign {
+        Binary::Equal => true,
+        _ => false,
     }
 }
 
 /// Notes the values of the keys of a condition, which is asked for an instance with these parameters: of each comparison of a
-/// parameter with an expression without parameters, as long as what stands before it in the conjunction is such a comparison too.
+/// parameter with an expression without parameters, as long as what stands before it in the conjunction is such a comparison too, and
+/// has a value. Answers whether the whole condition is keys.
 #[cycle(bind)]
 pub fn bind<S: StreamStore>(
     expr: &Expr,
     params: &Params,
     store: &S,
     bound: &mut [Option<Value>],
-) -> Reach
+) -> bool
     requires running { IsRunning (S.seen store.now) }
     requires count { params.now.count ≤ 4 }
     requires places { params.now.count ≤ length bound.old }
@@ -112,14 +123,15 @@ pub fn bind<S: StreamStore>(
     ensures { IsBound (S.remembers store.now) (S.seen store.now) params.now expr.now result bound.old bound.new }
 {
     match expr {
-        Expr::Both(_, sign, a, b) => match *sign {
-            Binary::And => match bind(a, params, store, bound) {
-                Reach::Whole => bind(b, params, store, bound),
-                reach => reach,
-            },
-            Binary::Equal => bind_equal(a, b, params, store, bound),
-            _ => Reach::Part,
-        },
-        _ => Reach::Part,
+        Expr::Both(_, sign, a, b) => {
+            if is_conjunction(*sign) {
+                bind(a, params, store, bound) && bind(b, params, store, bound)
+            } else if is_equality(*sign) {
+                bind_equal(a, b, params, store, bound)
+            } else {
+                false
+            }
+        }
+        _ => false,
     }
 }

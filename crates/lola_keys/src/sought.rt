@@ -7,7 +7,7 @@ ghost use Rattle.lola_model.specs.Store.{IsRunning, instances_seen, parameters_o
 ghost use Rattle.lola_model.specs.Typing.{can_ask};
 ghost use Rattle.lola_keys.specs.Keys.{IsFalseElsewhere};
 
-use crate::keys::{Reach, bind};
+use crate::keys::bind;
 use lola_model::expr::Expr;
 use lola_model::store::{StreamStore, Whereabouts};
 use lola_value::value::{Params, Value};
@@ -48,9 +48,7 @@ pub fn whereabouts<S: StreamStore>(
     ensures { IsFalseElsewhere (S.remembers store.now) (S.seen store.now) params.now when.now (instances_seen (S.seen store.now) stream) result }
 {
     let mut bound = [None; 4];
-    if let Reach::Nowhere = bind(when, params, store, &mut bound) {
-        return Whereabouts::Unknown;
-    }
+    let _is_whole = bind(when, params, store, &mut bound);
     match params_bound(&bound[..params.count as usize]) {
         Some(wanted) => store.find(stream, &wanted),
         None => Whereabouts::Unknown,

@@ -17,9 +17,9 @@ returns-in-Some g c = λ plan names c' sees named i x at held out.
     let count = c.args.params.now.count in
     let kinds = parameters_of (slice_get (g.S.StreamStore.seen c.args.store.now).layout.streams c.args.stream) in
     let old : List (Option Value) = None ∷ None ∷ None ∷ None ∷ [] in
-    let new = c.bind.new.bound in
-    let adds = adds_of plan.spec names c' count c.args.when.now c.bind.result old new c.in_default.not-Nowhere (c.bind.ensures plan names c' sees named) in
-    let room : count ≤ length new = omega (arith, c.requires.count, c.bind.auto.bound) in
+    let new = c.bind-is_whole.new.bound in
+    let adds = adds_of plan.spec names c' count c.args.when.now c.bind-is_whole.result old new (c.bind-is_whole.ensures plan names c' sees named) in
+    let room : count ≤ length new = omega (arith, c.requires.count, c.bind-is_whole.auto.bound) in
     let others = c.find.ensures i x at out in
     let long = as_many kinds (the_values x.params) others.kinds_are ∙ (sym (as_many kinds (the_values c.args.params.now) c.requires.kinds) ∙ long_values c.args.params.now c.requires.count) in
     false_elsewhere plan.spec names c' count c.args.when.now old new sees.naming four_none adds c.in-Some.wanted c.in-Some.ensures.values c.in-Some.ensures.count c.requires.count room
