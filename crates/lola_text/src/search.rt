@@ -1,5 +1,5 @@
 //! Texts by their numbers, and the marks of a sweep, over the entries of a table.
-ghost use Rattle.std.specs.Prelude.{◌≡◌, IfOk, OnErr, map, filter};
+ghost use Rattle.std.specs.Prelude.{◌≡◌, IfOk, IsTrue, OnErr, map, filter};
 ghost use Rattle.lola_text.specs.Marks.{IsFoundOrNew, IsPlaceOf, NumbersRise, held_as, is_same, is_marked, marked_all, marked_at};
 
 use indexmap::IndexMap;
@@ -17,11 +17,24 @@ pub(crate) struct Held {
 /// The texts that are held, in the order in which they got their numbers.
 pub(crate) type Entries = IndexMap<Vec<u8>, Held, RandomState>;
 
-/// The place of the text with this number.
+// Whether the text with this number stands at a place.
+fn is_at(texts: &Entries, number: u64, place: usize) -> bool
+    ensures { IsTrue result → IsPlaceOf number texts.now.entries (Some place) }
+{
+    match texts.get_index(place) {
+        None => false,
+        Some((_text, held)) => held.number == number,
+    }
+}
+
+/// The place of the text with this number: the number itself, as long as no text was dropped, or else it is searched for.
 pub(crate) fn place_of(texts: &Entries, number: u64) -> Option<usize>
     requires { NumbersRise texts.now.entries }
     ensures { IsPlaceOf number texts.now.entries result }
 {
+    if is_at(texts, number, number as usize) {
+        return Some(number as usize);
+    }
     texts
         .binary_search_by(|_text, held| held.number.cmp(&number))
         .ok()
