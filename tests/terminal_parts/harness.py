@@ -5,6 +5,7 @@ import fcntl
 import os
 import pty
 import select
+import signal
 import struct
 import subprocess
 import sys
@@ -19,6 +20,11 @@ EXPLAIN = os.path.join(CHECKOUT, "tools", "explain")
 LONGEST_RUN = 60.0  # seconds
 
 SUM = 'input a: Int64\noutput b: Int64 := a + 1\ntrigger b > 2 "high"\n'
+
+
+# A shell starts what it leaves in the background with SIGINT ignored, and whoever is started by that ignores it too. Programs that are tested
+# have it as a shell's command has.
+signal.signal(signal.SIGINT, signal.default_int_handler)
 
 
 class Ended(NamedTuple):
