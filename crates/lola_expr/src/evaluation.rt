@@ -183,7 +183,7 @@ fn choice<S: StreamStore>(test: &Expr, a: &Expr, b: &Expr, params: &Params, stor
     }
 }
 
-/// An access of a stream without parameters.
+/// An access of a stream without parameters: none are made for it.
 #[inline(never)]
 pub fn access_plain<S: StreamStore>(stream: u32, how: Access, store: &S) -> Outcome
     requires running { IsRunning (S.seen store.now) }
@@ -194,7 +194,12 @@ pub fn access_plain<S: StreamStore>(stream: u32, how: Access, store: &S) -> Outc
         → (read_outcome names result ≡ answer_of c how stream []) × IsHeldIn names result }
     ensures kind { IsTrue (is_outcome_of (kind_in (slice_get (S.seen store.now).layout.streams stream)) result) }
 {
-    read(store, stream, how, &Params::none())
+    match how {
+        Access::Direct => store.now_alone(stream),
+        Access::Get => store.now_alone(stream),
+        Access::Hold => store.newest_alone(stream),
+        Access::Offset(k) => store.back_alone(stream, k),
+    }
 }
 
 /// An access of a stream.

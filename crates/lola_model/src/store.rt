@@ -11,7 +11,7 @@ ghost use Rattle.lola_value.specs.declared.text.Field.{Field};
 ghost use Rattle.lola_value.specs.declared.value.Outcome.TheVariants as outcome;
 ghost use Rattle.lola_value.specs.Naming.{Naming, read_outcome, the_values, IsHeld, IsHeldIn};
 ghost use Rattle.lola_value.specs.Times.{latest};
-ghost use Rattle.lola_model.specs.Store.{Seen, Fits, CanBegin, IsNew, IsStarted, IsRunning, start_seen, time_seen, max_offset, target_of, pane_of, never_spawns, instances_seen, place_of, now_of, now_seen, is_silent, is_of_kind, is_outcome_of, are_of_kinds, is_well_formed, parameters_of, kind_in, spawns_in, after_start, after_prepare, after_begin, after_outcome, after_poison_stream, after_spawn, after_close, window_kind, has_spawned};
+ghost use Rattle.lola_model.specs.Store.{Seen, Fits, CanBegin, IsNew, IsStarted, IsRunning, start_seen, time_seen, max_offset, target_of, pane_of, never_spawns, instances_seen, place_of, now_of, now_seen, is_silent, is_of_kind, is_outcome_of, are_of_kinds, is_well_formed, parameters_of, kind_in, spawns_in, after_start, after_prepare, after_begin, after_outcome, after_poison_stream, after_spawn, after_close, window_kind, has_spawned, no_params};
 ghost use Rattle.lola_model.specs.Reading.{held_answer, window_reading, KeepsAll, KeepsOthers, IsHeldBy};
 ghost use Rattle.lola_model.specs.Spawning.{has_room, spawn_end};
 ghost use Rattle.lola_model.specs.Whereabouts.{StandsOnlyAt};
@@ -41,6 +41,20 @@ pub enum Whereabouts {
     Nowhere,
     /// Nothing is said of it.
     Unknown,
+}
+
+// No parameters, each unused place as `no_params` has it.
+fn without_parameters() -> Params
+    ensures { result ≡ no_params }
+{
+    let unused = Value::Bool(false);
+    Params {
+        count: 0,
+        at0: unused,
+        at1: unused,
+        at2: unused,
+        at3: unused,
+    }
 }
 
 /// The values of all streams so far, or as much of them as accesses need.
@@ -107,6 +121,49 @@ pub trait StreamStore: Drop {
             (λ i. (names : Naming) (values : List (ℕ × Field)) → remembers self.now names stream i values
             → (read_outcome names result ≡ from_end values k) × IsHeldIn names result) }
         ensures kind { IsTrue (is_outcome_of (kind_in (slice_get (seen self.now).layout.streams stream)) result) };
+
+    /// The value at this step of a stream that has no parameters, as `now` has it: no parameters are made, handed down or compared
+    /// by a store that knows where the one instance stands.
+    fn now_alone(&self, stream: u32) -> Outcome
+        requires running { IsRunning (seen self.now) }
+        requires stream { stream < length (seen self.now).layout.streams }
+        requires none { parameters_of (slice_get (seen self.now).layout.streams stream) ≡ [] }
+        ensures value { result ≡ now_of (seen self.now) stream no_params }
+        ensures kind { IsTrue (is_outcome_of (kind_in (slice_get (seen self.now).layout.streams stream)) result) }
+    {
+        self.now(stream, &without_parameters())
+    }
+
+    /// The newest value at this step or before of a stream that has no parameters, as `newest` has it.
+    fn newest_alone(&self, stream: u32) -> Outcome
+        requires running { IsRunning (seen self.now) }
+        requires stream { stream < length (seen self.now).layout.streams }
+        requires none { parameters_of (slice_get (seen self.now).layout.streams stream) ≡ [] }
+        ensures living { MatchOption (place_of (seen self.now) stream no_params)
+            (result ≡ now_of (seen self.now) stream no_params)
+            (λ i. (names : Naming) (values : List (ℕ × Field)) → remembers self.now names stream i values
+            → IsHeldIn names (now_of (seen self.now) stream no_params)
+            → (read_outcome names result ≡ held_answer (read_outcome names (now_of (seen self.now) stream no_params)) values) × IsHeldIn names result) }
+        ensures kind { IsTrue (is_outcome_of (kind_in (slice_get (seen self.now).layout.streams stream)) result) }
+    {
+        self.newest(stream, &without_parameters())
+    }
+
+    /// The k-th value before this step from the newest, from 1, of a stream that has no parameters, as `back` has it.
+    fn back_alone(&self, stream: u32, k: u32) -> Outcome
+        requires running { IsRunning (seen self.now) }
+        requires stream { stream < length (seen self.now).layout.streams }
+        requires none { parameters_of (slice_get (seen self.now).layout.streams stream) ≡ [] }
+        requires k_low { 1 ≤ k }
+        requires k_high { k ≤ max_offset (seen self.now) stream }
+        ensures living { MatchOption (place_of (seen self.now) stream no_params)
+            (result ≡ outcome.Missing)
+            (λ i. (names : Naming) (values : List (ℕ × Field)) → remembers self.now names stream i values
+            → (read_outcome names result ≡ from_end values k) × IsHeldIn names result) }
+        ensures kind { IsTrue (is_outcome_of (kind_in (slice_get (seen self.now).layout.streams stream)) result) }
+    {
+        self.back(stream, &without_parameters(), k)
+    }
 
     /// The answer of a window at this step, whose time is a whole number of panes after the start.
     fn window(&self, window: u32, params: &Params) -> Outcome
