@@ -1,11 +1,14 @@
 -- Instances by their parameters and places.
-use Rattle.std.proofs.Common.{◌≡◌, ℕ, ◌+◌, ◌≤◌, ◌<◌, List, [], ◌∷◌, length, map, refl, ap, ◌∙◌, arith, Option, Some, None, slice_get, if◌then◌else◌, Bool, true, false, IsTrue, ◌&&◌}
+use Rattle.std.proofs.Common.{◌≡◌, ℕ, ◌+◌, ◌≤◌, ◌<◌, List, [], ◌∷◌, length, map, refl, ap, ◌∙◌, arith, Option, Some, None, slice_get, if◌then◌else◌, Bool, true, false, IsTrue, ◌&&◌, subst}
 use Rattle.std.specs.Option.{option_map}
 use Rattle.std.proofs.lemmas.Bool.{leb-true}
 use Rattle.std.proofs.lemmas.Option.{slice_get-map}
 use Rattle.lola_value.specs.declared.value.Params.{Params}
-use Rattle.lola_value.specs.Kinds.{is_well_formed, same_params}
-use Rattle.lola_model.specs.Store.{now_at, place_among}
+use Rattle.lola_value.specs.declared.value.Kind.{Kind}
+use Rattle.lola_value.specs.declared.value.Value.{Value}
+use Rattle.lola_value.specs.Kinds.{all_same, are_of_kinds, is_well_formed, same_params}
+use Rattle.lola_value.specs.Naming.{the_values}
+use Rattle.lola_model.specs.Store.{no_params, now_at, place_among}
 use Rattle.lola_instance.specs.Holdings.{Holdings, slot_seen}
 use Rattle.lola_instances.specs.Crowds.{place_in, shown_at}
 
@@ -40,3 +43,16 @@ seen_at step ss i = ap now_at (slice_get-map (slot_seen step) ss i) ∙ of_slot 
     of_slot : (o : Option Holdings) → now_at (option_map (slot_seen step) o) ≡ shown_at step o
     of_slot None = refl
     of_slot (Some s) = refl
+
+-- the first instance of a stream without parameters has none
+pub alone_first : (ks : List Kind) (ss : List Holdings) → ks ≡ [] → 0 < length ss
+    → ((i : ℕ) (s : Holdings) → slice_get ss i ≡ Some s → IsTrue (are_of_kinds ks (the_values s.params)))
+    → place_in no_params ss 0 ≡ Some 0
+alone_first ks [] e l h = absurd (omega arith)
+alone_first ks (s ∷ ss) e l h =
+    ap (λ (b : Bool). if b then Some 0 else place_in no_params ss 1)
+    (nothing (the_values s.params) (subst (λ (ks : List Kind). IsTrue (are_of_kinds ks (the_values s.params))) e (h 0 s refl)))
+  where
+    nothing : (vs : List Value) → IsTrue (are_of_kinds [] vs) → all_same [] vs ≡ true
+    nothing [] h = refl
+    nothing (v ∷ vs) h = absurd (cc)

@@ -10,7 +10,7 @@ ghost use Rattle.lola_value.specs.Times.{latest};
 ghost use Rattle.lola_model.specs.Accesses.{from_end};
 ghost use Rattle.lola_model.specs.Reading.{held_answer};
 ghost use Rattle.lola_model.specs.Spawning.{has_room, spawn_end};
-ghost use Rattle.lola_model.specs.Store.{gives_kind, is_silent, opened, told_at};
+ghost use Rattle.lola_model.specs.Store.{gives_kind, is_silent, no_params, opened, told_at};
 ghost use Rattle.lola_model.specs.Typing.{takes};
 ghost use Rattle.lola_instance.specs.Holdings.{slot_seen};
 ghost use Rattle.lola_instance.specs.Unborn.{AllOnto, AllSound};
@@ -162,6 +162,15 @@ impl Instances {
         }
     }
 
+    // The place of the instance of a stream without parameters: the first, if one lives. Nothing is searched or compared.
+    fn alone(&self) -> Option<usize>
+        requires none { self.now.layout.parameters ≡ [] }
+        requires steady { AreSteady self.now }
+        ensures { result ≡ place_in no_params self.now.slots 0 }
+    {
+        if self.instances() > 0 { Some(0) } else { None }
+    }
+
     /// Where the instance with these parameters stands, where a table of them is kept; else nothing is said.
     pub fn find(&self, params: &Params) -> Whereabouts
         requires places { IsTrue (is_well_formed params.now) }
@@ -266,6 +275,59 @@ impl Instances {
         match self.found(params) {
             None => Outcome::Missing,
             Some(i) => self.slot(i).back(step, k),
+        }
+    }
+
+    /// The value in the step of a number, of a stream without parameters.
+    pub fn now_alone(&self, step: u64) -> Outcome
+        requires none { self.now.layout.parameters ≡ [] }
+        requires steady { AreSteady self.now }
+        ensures value { result ≡ now_in step self.now no_params }
+        ensures kind { IsTrue (is_outcome_of self.now.layout.kind result) }
+    {
+        if self.is_bad(step) {
+            return Outcome::Poison;
+        }
+        match self.alone() {
+            None => Outcome::Missing,
+            Some(first) => self.slot(first).now(step),
+        }
+    }
+
+    /// The newest value in this step or before, of a stream without parameters.
+    pub fn newest_alone(&self, step: u64) -> Outcome
+        requires none { self.now.layout.parameters ≡ [] }
+        requires steady { AreSteady self.now }
+        ensures living { MatchOption (place_in no_params self.now.slots 0)
+            (result ≡ now_in step self.now no_params)
+            (λ i. (start time : ℕ) (names : Naming) (values : List (ℕ × Field)) → RemembersAt start time step names (slice_get self.now.slots i) values
+            → (read_outcome names result ≡ held_answer (read_outcome names (now_in step self.now no_params)) values) × IsHeldIn names result) }
+        ensures kind { IsTrue (is_outcome_of self.now.layout.kind result) }
+    {
+        if self.is_bad(step) {
+            return Outcome::Poison;
+        }
+        match self.alone() {
+            None => Outcome::Missing,
+            Some(first) => self.slot(first).newest(step),
+        }
+    }
+
+    /// The k-th value before this step from the newest, from 1 to one less than how many it keeps, of a stream without parameters.
+    pub fn back_alone(&self, step: u64, k: u32) -> Outcome
+        requires none { self.now.layout.parameters ≡ [] }
+        requires steady { AreSteady self.now }
+        requires k_low { 1 ≤ k }
+        requires k_high { k ≤ self.now.layout.kept - 1 }
+        ensures living { MatchOption (place_in no_params self.now.slots 0)
+            (result ≡ outcome.Missing)
+            (λ i. (start time : ℕ) (names : Naming) (values : List (ℕ × Field)) → RemembersAt start time step names (slice_get self.now.slots i) values
+            → (read_outcome names result ≡ from_end values k) × IsHeldIn names result) }
+        ensures kind { IsTrue (is_outcome_of self.now.layout.kind result) }
+    {
+        match self.alone() {
+            None => Outcome::Missing,
+            Some(first) => self.slot(first).back(step, k),
         }
     }
 
