@@ -122,8 +122,7 @@ fn both<S: StreamStore>(
     ensures { IfOk result (λ o. IsTrue (is_outcome_of (noted expr.now) o.0)) }
 {
     let code = compile(alloc, expr)?;
-    let mut stack = Vec::with_capacity(alloc, code.len())?;
-    let by_code = run(expr, code.as_slice(), &mut stack, params, store);
+    let by_code = run(expr, code.as_slice(), params, store);
     Ok((eval(expr, *params, store), by_code))
 }
 
