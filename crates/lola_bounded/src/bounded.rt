@@ -43,6 +43,18 @@ impl StreamStore for BoundedStore {
         reading::back(self, stream, params, k)
     }
 
+    fn now_alone(&self, stream: u32) -> Outcome {
+        reading::now_alone(self, stream)
+    }
+
+    fn newest_alone(&self, stream: u32) -> Outcome {
+        reading::newest_alone(self, stream)
+    }
+
+    fn back_alone(&self, stream: u32, k: u32) -> Outcome {
+        reading::back_alone(self, stream, k)
+    }
+
     fn window(&self, window: u32, params: &Params) -> Outcome {
         reading::window(self, window, params)
     }

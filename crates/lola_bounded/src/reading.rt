@@ -6,7 +6,7 @@ ghost use Rattle.lola_value.specs.declared.text.Field.{Field};
 ghost use Rattle.lola_value.specs.declared.value.Outcome.TheVariants as outcome;
 ghost use Rattle.lola_value.specs.Naming.{Naming, read_outcome, the_values, IsHeldIn};
 ghost use Rattle.lola_value.specs.Times.{latest};
-ghost use Rattle.lola_model.specs.Store.{Fits, IsRunning, instances_seen, place_of, now_of, max_offset, target_of, pane_of, kept_in, start_seen, time_seen, kind_in, window_kind, is_outcome_of, are_of_kinds, is_well_formed, parameters_of};
+ghost use Rattle.lola_model.specs.Store.{Fits, IsRunning, instances_seen, place_of, now_of, max_offset, target_of, pane_of, kept_in, start_seen, time_seen, kind_in, window_kind, is_outcome_of, are_of_kinds, is_well_formed, no_params, parameters_of};
 ghost use Rattle.lola_model.specs.Accesses.{from_end};
 ghost use Rattle.lola_model.specs.Dues.{due_places, due_seen};
 ghost use Rattle.lola_model.specs.Reading.{held_answer, window_reading};
@@ -68,6 +68,45 @@ pub fn back(s: &BoundedStore, stream: u32, params: &Params, k: u32) -> Outcome
     ensures kind { IsTrue (is_outcome_of (kind_in (slice_get (bounded_seen s.now).layout.streams stream)) result) }
 {
     lives_of(s, stream).back(s.step, params, k)
+}
+
+/// The value at this step of a stream without parameters.
+pub fn now_alone(s: &BoundedStore, stream: u32) -> Outcome
+    requires stream { stream < length (bounded_seen s.now).layout.streams }
+    requires none { parameters_of (slice_get (bounded_seen s.now).layout.streams stream) ≡ [] }
+    ensures value { result ≡ now_of (bounded_seen s.now) stream no_params }
+    ensures kind { IsTrue (is_outcome_of (kind_in (slice_get (bounded_seen s.now).layout.streams stream)) result) }
+{
+    lives_of(s, stream).now_alone(s.step)
+}
+
+/// The newest value at this step or before of a stream without parameters.
+pub fn newest_alone(s: &BoundedStore, stream: u32) -> Outcome
+    requires stream { stream < length (bounded_seen s.now).layout.streams }
+    requires none { parameters_of (slice_get (bounded_seen s.now).layout.streams stream) ≡ [] }
+    ensures living { MatchOption (place_of (bounded_seen s.now) stream no_params)
+        (result ≡ now_of (bounded_seen s.now) stream no_params)
+        (λ i. (names : Naming) (values : List (ℕ × Field)) → bounded_remembers s.now names stream i values
+        → IsHeldIn names (now_of (bounded_seen s.now) stream no_params)
+        → (read_outcome names result ≡ held_answer (read_outcome names (now_of (bounded_seen s.now) stream no_params)) values) × IsHeldIn names result) }
+    ensures kind { IsTrue (is_outcome_of (kind_in (slice_get (bounded_seen s.now).layout.streams stream)) result) }
+{
+    lives_of(s, stream).newest_alone(s.step)
+}
+
+/// The k-th value before this step from the newest, from 1, of a stream without parameters.
+pub fn back_alone(s: &BoundedStore, stream: u32, k: u32) -> Outcome
+    requires stream { stream < length (bounded_seen s.now).layout.streams }
+    requires none { parameters_of (slice_get (bounded_seen s.now).layout.streams stream) ≡ [] }
+    requires k_low { 1 ≤ k }
+    requires k_high { k ≤ max_offset (bounded_seen s.now) stream }
+    ensures living { MatchOption (place_of (bounded_seen s.now) stream no_params)
+        (result ≡ outcome.Missing)
+        (λ i. (names : Naming) (values : List (ℕ × Field)) → bounded_remembers s.now names stream i values
+        → (read_outcome names result ≡ from_end values k) × IsHeldIn names result) }
+    ensures kind { IsTrue (is_outcome_of (kind_in (slice_get (bounded_seen s.now).layout.streams stream)) result) }
+{
+    lives_of(s, stream).back_alone(s.step, k)
 }
 
 /// How many instances of a stream live.
