@@ -1,11 +1,10 @@
 //! The keys of a condition, and their values.
 
-ghost use Rattle.std.specs.Prelude.{◌≡◌, ◌<◌, ◌≤◌, IsTrue, MatchOption, Option, length, true};
+ghost use Rattle.std.specs.Prelude.{◌≡◌, ◌<◌, ◌≤◌, [], ◌∷◌, IsTrue, Some, length, slice_get};
 ghost use Rattle.lola_value.specs.declared.value.Value.{Value};
 ghost use Rattle.lola_model.specs.Store.{IsRunning};
 ghost use Rattle.lola_model.specs.Typing.{can_ask};
-ghost use Rattle.lola_model.specs.declared.expr.Binary.TheVariants as binary;
-ghost use Rattle.lola_keys.specs.Keys.{AddsAt, IsBound, IsCompared, IsParameter, IsKey};
+ghost use Rattle.lola_keys.specs.Keys.{AddsAt, FindsKeys, IsBound, IsCompared, IsKey, IsParameter, Stay, is_and, is_equal, is_keys, is_some_key, key_between, keys_of, own_key};
 
 use crate::fixed::is_fixed;
 use lola_expr::evaluation::eval;
@@ -26,7 +25,9 @@ fn parameter_of(expr: &Expr) -> Option<u32>
 /// Notes the value that a parameter is compared with, where none is noted yet.
 fn note(bound: &mut [Option<Value>], number: u32, value: Value)
     requires { number < length bound.old }
-    ensures { AddsAt number value bound.old bound.new }
+    ensures adds { AddsAt number value bound.old bound.new }
+    ensures stays { Stay bound.old bound.new }
+    ensures there { (v : Value) × (slice_get bound.new number ≡ Some (Some v)) }
 {
     let i = number as usize;
     match bound[i] {
@@ -48,7 +49,9 @@ fn bind_key<S: StreamStore>(
     requires count { params.now.count ≤ 4 }
     requires places { params.now.count ≤ length bound.old }
     requires asks { IsTrue (can_ask (S.seen store.now) params.now expr.now) }
-    ensures { IsKey (S.remembers store.now) (S.seen store.now) params.now number expr.now result bound.old bound.new }
+    ensures key { IsKey (S.remembers store.now) (S.seen store.now) params.now number expr.now result bound.old bound.new }
+    ensures finds { let keys = own_key params.now.count number expr.now in
+        FindsKeys (S.remembers store.now) (S.seen store.now) params.now keys (is_some_key keys) (expr.now ∷ []) result bound.old bound.new }
 {
     if number >= params.count as u32 || !is_fixed(expr) {
         return false;
@@ -75,7 +78,9 @@ fn bind_equal<S: StreamStore>(
     requires places { params.now.count ≤ length bound.old }
     requires left { IsTrue (can_ask (S.seen store.now) params.now a.now) }
     requires right { IsTrue (can_ask (S.seen store.now) params.now b.now) }
-    ensures { IsCompared (S.remembers store.now) (S.seen store.now) params.now a.now b.now result bound.old bound.new }
+    ensures compared { IsCompared (S.remembers store.now) (S.seen store.now) params.now a.now b.now result bound.old bound.new }
+    ensures finds { let keys = key_between params.now.count a.now b.now in
+        FindsKeys (S.remembers store.now) (S.seen store.now) params.now keys (is_some_key keys) (a.now ∷ b.now ∷ []) result bound.old bound.new }
 {
     if let Some(number) = parameter_of(a) {
         return bind_key(number, b, params, store, bound);
@@ -88,7 +93,7 @@ fn bind_equal<S: StreamStore>(
 
 /// Whether a sign joins two conditions of which both have to hold.
 fn is_conjunction(sign: Binary) -> bool
-    ensures { result ≡ true → sign ≡ binary.And }
+    ensures { result ≡ is_and sign }
 {
     match sign {
         Binary::And => true,
@@ -98,7 +103,7 @@ fn is_conjunction(sign: Binary) -> bool
 
 /// Whether a sign compares for equality.
 fn is_equality(sign: Binary) -> bool
-    ensures { result ≡ true → sign ≡ binary.Equal }
+    ensures { result ≡ is_equal sign }
 {
     match sign {
         Binary::Equal => true,
@@ -120,7 +125,9 @@ pub fn bind<S: StreamStore>(
     requires count { params.now.count ≤ 4 }
     requires places { params.now.count ≤ length bound.old }
     requires asks { IsTrue (can_ask (S.seen store.now) params.now expr.now) }
-    ensures { IsBound (S.remembers store.now) (S.seen store.now) params.now expr.now result bound.old bound.new }
+    ensures bound { IsBound (S.remembers store.now) (S.seen store.now) params.now expr.now result bound.old bound.new }
+    ensures finds { FindsKeys (S.remembers store.now) (S.seen store.now) params.now
+        (keys_of params.now.count expr.now) (is_keys params.now.count expr.now) (expr.now ∷ []) result bound.old bound.new }
 {
     match expr {
         Expr::Both(_, sign, a, b) => {
