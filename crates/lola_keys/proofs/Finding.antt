@@ -1,6 +1,6 @@
 -- The keys that a condition begins with are found.
-use Rattle.std.proofs.Common.{◌≡◌, refl, ap, sym, ◌∙◌, subst, ℕ, zero, suc, ◌<◌, ◌≤◌, List, [], ◌∷◌, ◌++◌, Option, Some, None, Bool, true, false, ◌&&◌, nat_lt, if◌then◌else◌, length, slice_get, slice_set, arith, Box, Global}
-use Rattle.std.proofs.lemmas.Bool.{le-ltb, lt-ltb}
+use Rattle.std.proofs.Common.{◌≡◌, refl, ap, sym, ◌∙◌, subst, ℕ, zero, suc, ◌<◌, ◌≤◌, List, [], ◌∷◌, ◌++◌, Option, Some, None, Bool, true, false, ◌&&◌, ◌||◌, nat_eq, nat_lt, if◌then◌else◌, length, slice_get, slice_set, take, arith, Box, Global}
+use Rattle.std.proofs.lemmas.Bool.{eqb-true, le-ltb, lt-ltb}
 use Rattle.lola_value.specs.declared.text.Field.{Field}
 use Rattle.lola_value.specs.declared.value.Outcome.{Outcome}
 use Rattle.lola_value.specs.declared.value.Outcome.TheVariants as outcome
@@ -15,7 +15,7 @@ use Rattle.lola_model.specs.declared.expr.Expr.{Expr}
 use Rattle.lola_model.specs.declared.expr.Expr.TheVariants.{Literal, Parameter, Read, Window, Defaults', Unary', Both', Choice'}
 use Rattle.lola_model.specs.declared.expr.Place.{Place}
 use Rattle.lola_model.specs.declared.spec.Spec.{Spec}
-use Rattle.lola_keys.specs.Keys.{AllBound, AllGiven, Finds, Stay, is_and, is_equal, is_fixed, is_keys, is_no_parameter, is_some_key, key_between, key_if, keys_of, own_key, right_key}
+use Rattle.lola_keys.specs.Keys.{AllBound, AllGiven, Finds, Stay, all_noted, has_key, is_and, is_equal, is_fixed, is_keys, is_no_parameter, is_some_key, key_between, key_if, keys_of, own_key, right_key}
 
 abbrev Around : Type 0
 Around = Box (Unit {0}) Global
@@ -206,3 +206,25 @@ module _ (count : ℕ) (e : Expr) (place : Place) (sign : Binary) (u v : Around)
       by binary.GreaterEqual p q = (refl, refl)
       by binary.Different p q = (refl, refl)
       by binary.Or p q = (refl, refl)
+
+-- where each parameter has a key whose value is noted, all are noted
+
+noted_by : (ks : List (ℕ × Expr)) (new : List (Option Value)) → AllBound ks new → (i : ℕ) → has_key ks i ≡ true → (v : Value) × (slice_get new i ≡ Some (Some v))
+noted_by [] new h i e = absurd (cc)
+noted_by (k ∷ ks) new h i e = by (nat_eq k.0 i) refl e (noted_by ks new h.1 i)
+  where
+    by : (b : Bool) → nat_eq k.0 i ≡ b → (b || has_key ks i) ≡ true → (has_key ks i ≡ true → (v : Value) × (slice_get new i ≡ Some (Some v))) → (v : Value) × (slice_get new i ≡ Some (Some v))
+    by true q p rest = subst (λ j. (v : Value) × (slice_get new j ≡ Some (Some v))) (eqb-true k.0 i q) h.0
+    by false q p rest = rest p
+
+noted_from : (n : ℕ) (xs : List (Option Value)) → n ≤ length xs → ((i : ℕ) → i < n → (v : Value) × (slice_get xs i ≡ Some (Some v))) → all_noted (take n xs) ≡ true
+noted_from zero xs h each = refl
+noted_from (suc n) [] h each = refl
+noted_from (suc n) (x ∷ xs) h each = by x (each 0 (omega arith)) (noted_from n xs (omega (arith, h)) (λ i l. each (suc i) (omega (arith, l))))
+  where
+    by : (o : Option Value) → ((v : Value) × (Some o ≡ Some (Some v))) → all_noted (take n xs) ≡ true → all_noted (o ∷ take n xs) ≡ true
+    by None g rest = absurd (let e = g.1 in cc)
+    by (Some v) g rest = rest
+
+pub all_are_noted : (count : ℕ) (ks : List (ℕ × Expr)) (new : List (Option Value)) → count ≤ length new → AllBound ks new → ((i : ℕ) → i < count → has_key ks i ≡ true) → all_noted (take count new) ≡ true
+all_are_noted count ks new room h each = noted_from count new room (λ i l. noted_by ks new h i (each i l))

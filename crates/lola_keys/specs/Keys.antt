@@ -1,11 +1,12 @@
 -- The keys of a condition: comparisons of parameters with what is the same for all instances.
-use Rattle.std.specs.Prelude.{ℕ, ◌≡◌, ◌<◌, ◌⊎◌, ◌++◌, ◌&&◌, if◌then◌else◌, nat_lt, List, [], ◌∷◌, Option, Some, None, Bool, true, false, IsTrue, length, slice_get}
+use Rattle.std.specs.Prelude.{ℕ, ◌≡◌, ◌<◌, ◌⊎◌, ◌++◌, ◌&&◌, ◌||◌, if◌then◌else◌, nat_eq, nat_lt, List, [], ◌∷◌, Option, Some, None, Bool, true, false, IsTrue, length, slice_get}
 use Rattle.lola_value.specs.declared.text.Field.{Field}
 use Rattle.lola_value.specs.declared.value.Kind.{Kind}
 use Rattle.lola_value.specs.declared.value.Params.{Params}
 use Rattle.lola_value.specs.declared.value.Value.{Value}
 use Rattle.lola_value.specs.Answer.{Given}
 use Rattle.lola_value.specs.Arithmetic.{fields_equal}
+use Rattle.lola_value.specs.Kinds.{same_params}
 use Rattle.lola_value.specs.Naming.{Naming, AreHeld, IsHeld, read, read_params, the_values}
 use Rattle.lola_model.specs.Content.{Content}
 use Rattle.lola_model.specs.Denotation.{den, joined, truth}
@@ -90,6 +91,17 @@ abbrev pub AllBound : List (ℕ × Expr) → List (Option Value) → Type 0
 AllBound [] new = Unit {0}
 AllBound (k ∷ ks) new = ((v : Value) × (slice_get new k.0 ≡ Some (Some v))) × AllBound ks new
 
+-- a value is noted for each of these parameters
+abbrev pub all_noted : List (Option Value) → Bool
+all_noted [] = true
+all_noted (None ∷ vs) = false
+all_noted (Some v ∷ vs) = all_noted vs
+
+-- the parameter of a number has a key
+abbrev pub has_key : List (ℕ × Expr) → ℕ → Bool
+has_key [] i = false
+has_key (k ∷ ks) i = nat_eq k.0 i || has_key ks i
+
 -- each has a value for an instance with these parameters
 abbrev pub AllGiven : Spec → Content → List Field → List (ℕ × Expr) → Type 0
 AllGiven spec c q [] = Unit {0}
@@ -172,6 +184,19 @@ module _ (remembers : Memories) (s : Seen) (p : Params) where
   IsBound e r old new =
       (plan : Plan) (names : Naming) (c : Content) → Sees plan names c remembers s p → IsTrue (is_named names plan.spec.texts e)
       → Binds plan.spec names c p.count r e old new
+
+  -- whatever the store stands for, the condition is false for each instance that has other parameters than these
+  abbrev pub IsFalseForOthers : Expr → Params → Type 0
+  IsFalseForOthers e w =
+      (plan : Plan) (names : Naming) (c : Content) → Sees plan names c remembers s p → IsTrue (is_named names plan.spec.texts e)
+      → (x : Params) → length (the_values x) ≡ p.count → AreHeld names (the_values x) → same_params w x ≡ false
+      → den plan.spec c (read_params names x) e ≡ truth false
+
+  -- each parameter has a key, and each key has a value
+  abbrev pub IsKeyed : Expr → Type 0
+  IsKeyed e =
+      (plan : Plan) × (names : Naming) × (c : Content) × (Sees plan names c remembers s p × IsTrue (is_named names plan.spec.texts e)
+      × AllGiven plan.spec c (read_params names p) (keys_of p.count e) × ((i : ℕ) → i < p.count → has_key (keys_of p.count e) i ≡ true))
 
   -- whatever the store stands for, the condition is false for each of these instances that does not stand at these whereabouts
   abbrev pub IsFalseElsewhere : Expr → List SeenInstance → Whereabouts → Type 0

@@ -1,4 +1,4 @@
-use Rattle.std.proofs.Common.{◌≡◌, ◌∙◌, ap, sym, subst, true, false, refl, Bool}
+use Rattle.std.proofs.Common.{◌∙◌, ap, sym, subst, false, refl, Bool}
 use Rattle.lola_value.specs.Naming.{read_params}
 use Rattle.lola_model.specs.Typing.{can_ask}
 use Rattle.lola_model.specs.Denotation.{kind_of}
