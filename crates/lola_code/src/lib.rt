@@ -1,6 +1,7 @@
 //! Expressions as flat lists of instructions: each is compiled once, and its code comes to what the expression does.
 #![tactic(auto)]
 
+mod asking;
 pub mod compile;
 pub mod instr;
 pub mod machine;

@@ -1,20 +1,19 @@
 //! The machine that runs code: it has one outcome in hand, and the values of operands and arguments on a stack.
 
 ghost use Rattle.std.specs.Prelude.{◌≡◌, ◌≤◌, [], drop, length, IfSome, IsTrue};
-ghost use Rattle.lola_value.specs.Kinds.{is_outcome_of, is_well_formed};
-ghost use Rattle.lola_value.specs.Naming.{the_values};
+ghost use Rattle.lola_value.specs.Kinds.{is_outcome_of};
 ghost use Rattle.lola_model.specs.Store.{IsRunning};
 ghost use Rattle.lola_model.specs.Typing.{can_ask, noted};
 ghost use Rattle.lola_expr.specs.Evaluation.{IsDenoted};
 ghost use Rattle.lola_code.specs.Code.{code_of};
-ghost use Rattle.lola_code.specs.Machine.{or_value, top};
+ghost use Rattle.lola_code.specs.Machine.{or_value};
 
+use crate::asking::{read_at, window_at};
 use crate::instr::Instr;
 use crate::stack::Stack;
-use lola_expr::access::{read, window};
 use lola_expr::evaluation::{access_plain, eval, parameter};
 use lola_expr::operators::{negate, operate, truth};
-use lola_model::expr::{Access, Expr};
+use lola_model::expr::Expr;
 use lola_model::store::StreamStore;
 use lola_value::value::{Outcome, Params, Value};
 
@@ -38,24 +37,6 @@ fn or_given(o: Outcome, v: Value) -> Outcome
         Outcome::Missing => Outcome::Value(v),
         _ => o,
     }
-}
-
-/// Takes so many values off the stack, as parameters.
-fn take_params(stack: &mut Stack, count: u32) -> Params
-    requires { count ≤ 4 }
-    ensures values { the_values result ≡ top count stack.old }
-    ensures places { IsTrue (is_well_formed result) }
-    ensures rest { stack.new ≡ drop count stack.old }
-{
-    let mut params = Params::none();
-    let mut left = count;
-    while left > 0 {
-        left -= 1;
-        if let Some(v) = stack.pop() {
-            params = params.led_by(v);
-        }
-    }
-    params
 }
 
 /// Takes so many values off the stack, and lets go of them.
@@ -95,13 +76,9 @@ fn run_code<S: StreamStore>(
             Instr::Read(stream, how) => hand = access_plain(stream, how, store),
             Instr::ReadOr(stream, how, v) => hand = or_given(access_plain(stream, how, store), v),
             Instr::ReadAt(stream, how, count) => {
-                let named = take_params(&mut stack, count);
-                hand = read(store, stream, how, &named);
+                hand = read_at(store, stream, how, &mut stack, count);
             }
-            Instr::Window(number, count) => {
-                let named = take_params(&mut stack, count);
-                hand = window(store, number, &named);
-            }
+            Instr::Window(number, count) => hand = window_at(store, number, &mut stack, count),
             Instr::Keep(n) => match hand {
                 Outcome::Value(v) => {
                     if !stack.push(v) {

@@ -2,7 +2,7 @@ use Rattle.std.proofs.Common.{rules, ◌≡◌, ◌+◌, ◌-◌, ◌≤◌, ◌
 use Rattle.lola_value.specs.Naming.{the_values}
 use Rattle.lola_code.specs.Machine.{top}
 use Rattle.lola_code.proofs.Steps.{gone, pop_turned, taken}
-use Rattle.lola_code.proofs.machine.take_params.Goals as goal
+use Rattle.lola_code.proofs.asking.take_params.Goals as goal
 
 pub loop-left-preserved-in-Some : goal.loop-left-preserved-in-Some
 loop-left-preserved-in-Some c =

@@ -2,7 +2,7 @@ use Rattle.std.proofs.Common.{◌≡◌, ◌+◌, ◌≤◌, ◌++◌, length, d
 use Rattle.lola_value.specs.Kinds.{is_well_formed}
 use Rattle.lola_value.specs.Naming.{the_values}
 use Rattle.lola_code.specs.Machine.{top}
-use Rattle.lola_code.proofs.machine.take_params.Given as goal
+use Rattle.lola_code.proofs.asking.take_params.Given as goal
 
 -- what is left to be taken and what was taken are together what was to be taken
 abbrev pub invariant-loop-left : goal.invariant-loop-left

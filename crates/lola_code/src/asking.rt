@@ -1,0 +1,75 @@
+//! What a store is asked: by the numbers that stand in an instruction, and the parameters that stand on the stack.
+
+ghost use Rattle.std.specs.Prelude.{◌≡◌, ◌<◌, ◌≤◌, drop, length, slice_get, IsTrue};
+ghost use Rattle.lola_value.specs.Kinds.{is_well_formed};
+ghost use Rattle.lola_value.specs.Naming.{the_values};
+ghost use Rattle.lola_model.specs.Store.{IsRunning, pane_of, target_of};
+ghost use Rattle.lola_model.specs.Typing.{is_kept, is_whole_pane};
+ghost use Rattle.lola_code.specs.Machine.{Answers, Folds, Names, top};
+
+use crate::stack::Stack;
+use lola_expr::access::{read, window};
+use lola_model::expr::Access;
+use lola_model::store::StreamStore;
+use lola_value::value::{Outcome, Params};
+
+// A function writes zeros over the room of its values when it is entered, and the parameters that are gathered are the largest: so what
+// gathers them are functions of their own.
+
+/// Takes so many values off the stack, as parameters.
+fn take_params(stack: &mut Stack, count: u32) -> Params
+    requires { count ≤ 4 }
+    ensures values { the_values result ≡ top count stack.old }
+    ensures places { IsTrue (is_well_formed result) }
+    ensures rest { stack.new ≡ drop count stack.old }
+{
+    let mut params = Params::none();
+    let mut left = count;
+    while left > 0 {
+        left -= 1;
+        if let Some(v) = stack.pop() {
+            params = params.led_by(v);
+        }
+    }
+    params
+}
+
+/// What an access answers, of the instance that so many values on the stack name, which are taken off.
+#[inline(never)]
+pub(crate) fn read_at<S: StreamStore>(
+    store: &S,
+    stream: u32,
+    how: Access,
+    stack: &mut Stack,
+    count: u32,
+) -> Outcome
+    requires running { IsRunning (S.seen store.now) }
+    requires few { count ≤ 4 }
+    requires named { Names (S.seen store.now) stream (top count stack.old) }
+    requires kept { IsTrue (is_kept (slice_get (S.seen store.now).layout.streams stream) how) }
+    ensures value { Answers (S.remembers store.now) (S.seen store.now) stream how (top count stack.old) result }
+    ensures rest { stack.new ≡ drop count stack.old }
+{
+    let named = take_params(stack, count);
+    read(store, stream, how, &named)
+}
+
+/// What a window answers, over the instance that so many values on the stack name, which are taken off.
+#[inline(never)]
+pub(crate) fn window_at<S: StreamStore>(
+    store: &S,
+    number: u32,
+    stack: &mut Stack,
+    count: u32,
+) -> Outcome
+    requires running { IsRunning (S.seen store.now) }
+    requires window { number < length (S.seen store.now).layout.windows }
+    requires few { count ≤ 4 }
+    requires named { Names (S.seen store.now) (target_of (slice_get (S.seen store.now).layout.windows number)) (top count stack.old) }
+    requires whole { IsTrue (is_whole_pane (S.seen store.now) (pane_of (slice_get (S.seen store.now).layout.panes number))) }
+    ensures value { Folds (S.remembers store.now) (S.seen store.now) number (top count stack.old) result }
+    ensures rest { stack.new ≡ drop count stack.old }
+{
+    let named = take_params(stack, count);
+    window(store, number, &named)
+}
