@@ -1,5 +1,5 @@
 -- A table of parameters beside the instances that have them.
-use Rattle.std.proofs.Common.{◌≡◌, ℕ, zero, suc, ◌+◌, List, [], ◌∷◌, ◌++◌, length, map, refl, ap, sym, ◌∙◌, Some, None, slice_get, slice_set, position, nat_lt, cond, Bool, true, false, not, ◌||◌, ◌&&◌, if◌then◌else◌, IsTrue, add-zero, arith, subst}
+use Rattle.std.proofs.Common.{◌≡◌, ℕ, zero, suc, ◌+◌, List, [], ◌∷◌, ◌++◌, length, map, refl, ap, sym, ◌∙◌, Some, None, slice_get, slice_set, position, nat_lt, cond, Bool, true, false, not, ◌||◌, ◌&&◌, if◌then◌else◌, IsTrue, arith, subst}
 use Rattle.std.specs.List.{position_from, position_or_len, list_any}
 use Rattle.std.specs.Prelude.{remove}
 use Rattle.std.proofs.lemmas.Iterator.Adapters.{position_from-zero}
