@@ -11,7 +11,7 @@ from typing import Callable, NamedTuple, Optional, Sequence
 from sources_parts.live import Ended, LiveRun
 from terminal_parts.harness import Checks, write
 
-SOON = 1.0  # seconds; the thread of a silent source looks each 0.8 seconds whether the run was stopped
+SOON = 1.0  # seconds; the thread of a silent source looks after 0.8 seconds at most whether the run was stopped
 TRIES = 3
 AT_ONCE = 4  # runs, which wait most of their time
 DIVIDES = 'input a: Int64\noutput b: Int64 := 10 / a\ntrigger b > 4 "high"\n'
