@@ -375,6 +375,19 @@ fn two_files(mut sources: Sources, mut answers: Answers) -> io::Result<()> {
     }
 }
 
+/// The stamp of a row of numbers alone, and whether it was accepted; its trace line is written, and its values are noted.
+fn numbers_of(row: &Row, now: &mut [Option<i64>], answers: &mut Answers) -> io::Result<(u64, bool)> {
+    let mut fields = row.line.split(|byte| *byte == b',');
+    let stamp = nanoseconds(fields.next().unwrap());
+    let is_accepted = answers.begin(row, stamp);
+    for value in now {
+        *value = number(fields.next().unwrap());
+        answers.number(*value);
+    }
+    answers.end_trace()?;
+    Ok((stamp, is_accepted))
+}
+
 fn outputs(mut sources: Sources, mut answers: Answers) -> io::Result<()> {
     let mut deadlines = Deadlines::each(SECOND / 5);
     // of each input its newest value, and the ones before it
@@ -384,15 +397,9 @@ fn outputs(mut sources: Sources, mut answers: Answers) -> io::Result<()> {
         let row = sources.next()?;
         let (mut stamp, mut now) = (answers.merged + 1, [None; 4]);
         if let Some(row) = &row {
-            let mut fields = row.line.split(|byte| *byte == b',');
-            stamp = nanoseconds(fields.next().unwrap());
-            let accepted = answers.begin(row, stamp);
-            for value in &mut now {
-                *value = number(fields.next().unwrap());
-                answers.number(*value);
-            }
-            answers.end_trace()?;
-            if !accepted {
+            let (came, is_accepted) = numbers_of(row, &mut now, &mut answers)?;
+            stamp = came;
+            if !is_accepted {
                 continue;
             }
         }
@@ -430,15 +437,9 @@ fn windows(mut sources: Sources, mut answers: Answers) -> io::Result<()> {
         let row = sources.next()?;
         let (mut stamp, mut now) = (answers.merged + 1, [None; 2]);
         if let Some(row) = &row {
-            let mut fields = row.line.split(|byte| *byte == b',');
-            stamp = nanoseconds(fields.next().unwrap());
-            let accepted = answers.begin(row, stamp);
-            for value in &mut now {
-                *value = number(fields.next().unwrap());
-                answers.number(*value);
-            }
-            answers.end_trace()?;
-            if !accepted {
+            let (came, is_accepted) = numbers_of(row, &mut now, &mut answers)?;
+            stamp = came;
+            if !is_accepted {
                 continue;
             }
         }
