@@ -10,7 +10,7 @@ use Rattle.lola_instances_due.specs.Dues.{due_births, is_timed}
 use Rattle.lola_instances.specs.Births.{births_of, firsts}
 use Rattle.lola_instances.specs.Changes.{IsChangedAt}
 use Rattle.lola_instances.specs.Dues.{due_at_births, due_since, in_time}
-use Rattle.lola_instances.proofs.Directories.{map_set}
+use Rattle.lola_instances.proofs.Lists.{map_set}
 
 -- the earlier of moments
 

@@ -5,6 +5,7 @@ pub mod Newborns
 pub mod Beginnings
 pub mod Answering
 pub mod Keys
-pub mod Directories
 pub mod Dues
 pub mod Needing
+pub mod Taken
+pub mod Known

@@ -1,5 +1,5 @@
 -- Items of lists that are changed at one place.
-use Rattle.std.proofs.Common.{◌≡◌, ℕ, zero, suc, ◌≤◌, ◌<◌, List, [], ◌∷◌, ◌++◌, length, map, refl, ap, subst, arith, Some, slice_get, slice_set}
+use Rattle.std.proofs.Common.{◌≡◌, ℕ, zero, suc, ◌≤◌, ◌<◌, List, [], ◌∷◌, ◌++◌, length, map, refl, ap, ◌∙◌, subst, arith, Some, slice_get, slice_set}
 use Rattle.std.specs.Prelude.{remove}
 
 module _ {X : Type 0} where
@@ -76,3 +76,11 @@ remove_map f [] zero = refl
 remove_map f [] (suc n) = refl
 remove_map f (a ∷ xs) zero = refl
 remove_map f (a ∷ xs) (suc n) = ap (λ l. f a ∷ l) (remove_map f xs n)
+
+-- what is said of an item that changes stays
+pub map_set : {X Y : Type 0} (f : X → Y) (xs : List X) (i : ℕ) (x y : X) → slice_get xs i ≡ Some x → f y ≡ f x → map f (slice_set xs i y) ≡ map f xs
+map_set f [] i x y e q = refl
+map_set f (a ∷ xs) zero x y e q =
+    let w : x ≡ a = cc in
+    ap (λ z. z ∷ map f xs) (q ∙ ap f w)
+map_set f (a ∷ xs) (suc i) x y e q = ap (λ l. f a ∷ l) (map_set f xs i x y e q)

@@ -1,3 +1,4 @@
+pub mod Cells
 pub mod Births
 pub mod Changes
 pub mod Crowds

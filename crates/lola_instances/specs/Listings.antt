@@ -1,28 +1,32 @@
--- The parameters of the instances of a stream, in their order, as a table of them has them.
-use Rattle.std.specs.Prelude.{ℕ, ◌≡◌, ◌≤◌, Bool, true, false, List, [], ◌∷◌, Some, map, length, slice_get}
-use Rattle.std.specs.List.{list_any}
+-- Tables of the instances of a stream by their parameters.
+use Rattle.std.specs.Prelude.{ℕ, ◌≡◌, Bool, false, cond, List, Option, Some, slice_get, nat_le, length, if◌then◌else◌}
+use Rattle.std.specs.Map.{lookup}
+use Rattle.lola_bits.specs.Bits.{rank}
 use Rattle.lola_value.specs.declared.value.Kind.{Kind}
 use Rattle.lola_value.specs.declared.value.Params.{Params}
-use Rattle.lola_value.specs.Kinds.{same_params}
 use Rattle.lola_model.specs.Whereabouts.{AreOthers, may_stand_at}
 use Rattle.lola_model.specs.declared.store.Whereabouts.{Whereabouts}
 use Rattle.lola_instance.specs.Holdings.{Holdings}
+use Rattle.lola_instances.specs.declared.key.Key.{Key}
+use Rattle.lola_instances.specs.Keys.{same_places}
 
--- whether the table is kept, whose instances it has, and how many more there is room for
+-- whether the table is kept, which cell it has for each key, and how many more there is room for
 pub record Listing : Type 0 where
   pub is_kept : Bool
-  pub names : List Params
+  pub entries : List (Key × ℕ)
   pub room : ℕ
 
--- no two of these are the same parameters
-abbrev pub StandOnce : List Params → Type 0
-StandOnce [] = Unit {0}
-StandOnce (p ∷ ps) = (list_any (same_params p) ps ≡ false) × StandOnce ps
+-- the cell that a table has for these parameters
+abbrev pub cell_of : Params → List (Key × ℕ) → Option ℕ
+cell_of p entries = lookup (λ (k : Key). same_places p k.0) entries
 
--- where it is kept, it has the parameters of these instances, and room for as many as were made ahead
-pub record IsListed (slots spares : List Holdings) (l : Listing) : Type 0 where
-  pub names : l.is_kept ≡ true → l.names ≡ map (λ s. s.params) slots
-  pub room : l.is_kept ≡ true → length spares ≤ l.room
+-- a table has this for these parameters, and for all others what it had
+abbrev pub HasCell : Params → Option ℕ → List (Key × ℕ) → List (Key × ℕ) → Type 0
+HasCell p cell old new = (q : Params) → cell_of q new ≡ cond (same_places p q) cell (cell_of q old)
+
+-- where a cell comes to stand when all before it that are not set move together
+abbrev pub packed : List Bool → ℕ → ℕ
+packed bits cell = if nat_le cell (length bits) then rank bits cell else cell
 
 -- each of these instances that stands elsewhere has other parameters than these, of these kinds
 abbrev pub StandsOnly : Whereabouts → List Kind → Params → List Holdings → Type 0

@@ -9,6 +9,7 @@ use Rattle.lola_instance.specs.Holdings.{Holdings, AllOf}
 use Rattle.lola_instance.specs.Telling.{AllGiven}
 use Rattle.lola_instance.specs.Texts.{KeepsOutcome}
 use Rattle.lola_instance.specs.Unborn.{AllOnto, AllPanesOf, AllSound, unborn}
+use Rattle.lola_instances.specs.Cells.{Line}
 use Rattle.lola_instances.specs.Crowds.{Crowd}
 use Rattle.lola_instances.specs.Each.{Each}
 
@@ -72,3 +73,7 @@ pub record IsSettled (kind : Kind) (kept : ℕ) (windows : List WindowPanes) (sp
   pub sound : AllSound windows
   pub onto : AllOnto kind windows
   pub blank : Each (λ s. s ≡ unborn kept windows) spares
+
+-- a table of those that live has room for as many as were made ahead, where one is kept
+abbrev pub HasPlaces : List Holdings → Line → Type 0
+HasPlaces spares slots = slots.is_kept ≡ true → length spares ≤ slots.room

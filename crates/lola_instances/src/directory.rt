@@ -1,58 +1,78 @@
-//! The places of the instances of a stream by their parameters.
+//! The cells of the instances of a stream by their parameters.
 
-ghost use Rattle.std.specs.Prelude.{◌≡◌, ℕ, ◌≤◌, ◌+◌, ◌++◌, ◌∷◌, [], Some, None, false, true, position, remove, slice_get, IsTrue, OnOk};
-ghost use Rattle.std.specs.List.{list_any};
-ghost use Rattle.indexmap.specs.IndexSet.{spare};
-ghost use Rattle.lola_value.specs.Kinds.{is_well_formed, same_params};
-ghost use Rattle.lola_value.specs.declared.value.Params.{Params};
+ghost use Rattle.std.specs.Prelude.{◌≡◌, ℕ, ◌≤◌, ◌<◌, ◌+◌, [], Some, None, true, map, length, nat_le, if◌then◌else◌, IsTrue, OnOk};
+ghost use Rattle.indexmap.specs.IndexMap.{spare};
+ghost use Rattle.lola_bits.specs.Bits.{rank};
+ghost use Rattle.lola_value.specs.Kinds.{is_well_formed};
 ghost use Rattle.lola_instances.specs.Keys.{same_places};
+ghost use Rattle.lola_instances.specs.Listings.{HasCell, cell_of, packed};
 
 use crate::key::Key;
-use indexmap::IndexSet;
+use indexmap::IndexMap;
+use lola_bits::bits::BitVector;
 use lola_value::text::Memory;
 use lola_value::value::Params;
 use std::alloc::Global;
 use std::hash::RandomState;
 use std::marker::Model;
 
-/// The parameters of the instances of a stream, in their order, so that a place is found in constant time. It is kept
-/// for some streams alone: for a stream with one instance a look at that one is as good.
+/// The cells of the instances of a stream by their parameters, so that one is found in constant time. It is kept for some streams
+/// alone: for a stream with one instance a look at that one is as good.
 #[derive(Drop)]
 pub struct Directory {
     is_kept: bool,
-    keys: IndexSet<Key, RandomState>,
+    cells: IndexMap<Key, usize, RandomState>,
 }
 
 impl Model for Directory {
-    ghost use Rattle.std.specs.Prelude.{map, IsTrue};
-    ghost use Rattle.indexmap.specs.IndexSet.{spare};
-    ghost use Rattle.lola_value.specs.Kinds.{is_well_formed};
-    ghost use Rattle.lola_instances.specs.Each.{Each};
-    ghost use Rattle.lola_instances.specs.Listings.{Listing, StandOnce};
+    ghost use Rattle.indexmap.specs.IndexMap.{spare};
+    ghost use Rattle.lola_instances.specs.Listings.{Listing};
 
     ghost Value = { Listing };
 
-    ghost view = { λ d. record { is_kept = d.is_kept; names = map (λ k. k.0) d.keys.keys; room = spare d.keys } };
-
-    ghost invariant = { λ d. Each (λ k. IsTrue (is_well_formed k.0)) d.keys.keys × StandOnce (map (λ k. k.0) d.keys.keys) };
+    ghost view = { λ d. record { is_kept = d.is_kept; entries = d.cells.entries; room = spare d.cells } };
 }
 
-// One more key, behind the others, in room that was made.
-fn put(keys: &mut IndexSet<Key, RandomState>, key: Key)
-    requires room { 1 ≤ spare keys.old }
-    requires absent { list_any (λ k. same_places key.0 k.0) keys.old.keys ≡ false }
-    ensures keys { keys.new.keys ≡ keys.old.keys ++ key ∷ [] }
-    ensures room { spare keys.old ≤ spare keys.new + 1 }
+// The cell of a key, in room that was made.
+fn put(cells: &mut IndexMap<Key, usize, RandomState>, key: Key, cell: usize)
+    requires { 1 ≤ spare cells.old }
+    ensures cell { HasCell key.0 (Some cell) cells.old.entries cells.new.entries }
+    ensures room { spare cells.old ≤ spare cells.new + 1 }
 {
-    let _added = keys.insert(key);
+    match cells.insert(key, cell) {
+        Ok(_) => {}
+        Err(_) => {}
+    }
 }
 
-// Takes the key at a place away.
-fn forget(keys: &mut IndexSet<Key, RandomState>, index: usize)
-    ensures keys { keys.new.keys ≡ remove keys.old.keys index }
-    ensures room { spare keys.old ≤ spare keys.new }
+// Takes a key away.
+fn forget(cells: &mut IndexMap<Key, usize, RandomState>, key: Key)
+    ensures cell { HasCell key.0 None cells.old.entries cells.new.entries }
+    ensures room { spare cells.old ≤ spare cells.new }
 {
-    let _gone = keys.shift_remove_index(index);
+    let _gone = cells.swap_remove(&key);
+}
+
+// Where a cell comes to stand when all before it that are not set move together.
+fn moved(marks: &BitVector, cell: usize) -> usize
+    ensures { result ≡ packed marks.now cell }
+{
+    if cell <= marks.len() {
+        marks.rank(cell)
+    } else {
+        cell
+    }
+}
+
+// Each key has the cell where its own comes to stand.
+fn renumber(cells: &mut IndexMap<Key, usize, RandomState>, marks: &BitVector)
+    ensures entries { cells.new.entries ≡ map (λ e. (e.0, packed marks.now e.1)) cells.old.entries }
+    ensures room { spare cells.old ≤ spare cells.new }
+{
+    cells.retain(|_key, cell| {
+        *cell = moved(marks, *cell);
+        true
+    });
 }
 
 impl Directory {
@@ -60,11 +80,11 @@ impl Directory {
     /// chooses parameters knows the keys, nobody can choose parameters that collide. The keys change no answer.
     pub fn create(alloc: Global, hasher: RandomState, is_kept: bool) -> Directory
         ensures kept { result.is_kept ≡ is_kept }
-        ensures names { result.names ≡ [] }
+        ensures entries { result.entries ≡ [] }
     {
         Directory {
             is_kept,
-            keys: IndexSet::with_hasher(alloc, hasher),
+            cells: IndexMap::with_hasher(alloc, hasher),
         }
     }
 
@@ -75,54 +95,61 @@ impl Directory {
         self.is_kept
     }
 
-    /// The place of the instance with these parameters, which no other has.
+    /// The cell that it has for these parameters.
     pub fn find(&self, params: &Params) -> Option<usize>
-        requires { IsTrue (is_well_formed params.now) }
-        ensures place { result ≡ position (same_params params.now) self.now.names }
-        ensures alone { (i : ℕ) (p : Params) → slice_get self.now.names i ≡ Some p → same_params params.now p ≡ true → result ≡ Some i }
+        ensures { result ≡ cell_of params.now self.now.entries }
     {
         let key = Key(*params);
-        self.keys.get_index_of(&key)
+        self.cells.get(&key).copied()
     }
 
     /// Makes room for so many more instances, where it is kept.
     pub fn make_room(&mut self, more: usize) -> Result<(), Memory>
         ensures kept { self.new.is_kept ≡ self.old.is_kept }
-        ensures names { self.new.names ≡ self.old.names }
+        ensures entries { self.new.entries ≡ self.old.entries }
         ensures room { self.old.room ≤ self.new.room }
         ensures ok { OnOk result (self.old.is_kept ≡ true → more ≤ self.new.room) }
     {
         if !self.is_kept {
             return Ok(());
         }
-        match self.keys.reserve(more) {
+        match self.cells.reserve(more) {
             Ok(()) => Ok(()),
             Err(_) => Err(Memory),
         }
     }
 
-    /// One more instance, behind the others, in room that was made.
-    pub fn add(&mut self, params: Params)
-        requires formed { IsTrue (is_well_formed params) }
-        requires room { self.old.is_kept ≡ true → 1 ≤ self.old.room }
-        requires absent { self.old.is_kept ≡ true → position (same_params params) self.old.names ≡ None }
+    /// The cell of one more instance, in room that was made.
+    pub fn add(&mut self, params: Params, cell: usize)
+        requires { self.old.is_kept ≡ true → 1 ≤ self.old.room }
         ensures kept { self.new.is_kept ≡ self.old.is_kept }
-        ensures names { self.old.is_kept ≡ true → self.new.names ≡ self.old.names ++ params ∷ [] }
+        ensures cell { self.old.is_kept ≡ true → HasCell params (Some cell) self.old.entries self.new.entries }
         ensures room { self.old.room ≤ self.new.room + 1 }
     {
         if self.is_kept {
-            put(&mut self.keys, Key(params));
+            put(&mut self.cells, Key(params), cell);
         }
     }
 
-    /// Takes the instance at a place away; later ones move up by one.
-    pub fn remove(&mut self, index: usize)
+    /// Takes the instance with these parameters away, in constant time.
+    pub fn remove(&mut self, params: Params)
         ensures kept { self.new.is_kept ≡ self.old.is_kept }
-        ensures names { self.old.is_kept ≡ true → self.new.names ≡ remove self.old.names index }
+        ensures cell { self.old.is_kept ≡ true → HasCell params None self.old.entries self.new.entries }
         ensures room { self.old.room ≤ self.new.room }
     {
         if self.is_kept {
-            forget(&mut self.keys, index);
+            forget(&mut self.cells, Key(params));
+        }
+    }
+
+    /// The cells whose bits are set move together, and each instance is listed where its cell comes to stand.
+    pub fn pack(&mut self, marks: &BitVector)
+        ensures kept { self.new.is_kept ≡ self.old.is_kept }
+        ensures entries { self.old.is_kept ≡ true → self.new.entries ≡ map (λ e. (e.0, packed marks.now e.1)) self.old.entries }
+        ensures room { self.old.room ≤ self.new.room }
+    {
+        if self.is_kept {
+            renumber(&mut self.cells, marks);
         }
     }
 }

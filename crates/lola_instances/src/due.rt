@@ -4,7 +4,7 @@ ghost use Rattle.std.specs.Prelude.{◌≡◌, ◌≤◌, [], ◌∷◌, true, I
 ghost use Rattle.lola_model.specs.NextStep.{earlier};
 ghost use Rattle.lola_instances_due.specs.Dues.{is_timed};
 
-use crate::directory::Directory;
+use crate::cells::Cells;
 use lola_instances_due::times::DueTimes;
 use lola_value::rate::Rate;
 use lola_value::text::Memory;
@@ -36,21 +36,16 @@ pub(crate) fn first_dues(alloc: Global, spawns: bool, locals: Vec<Rate>) -> Resu
 }
 
 /// Room for so many more instances, by their parameters and by their births.
-pub(crate) fn make_places(
-    directory: &mut Directory,
-    dues: &mut DueTimes,
-    more: usize,
-) -> Result<(), Memory>
-    ensures kept { directory.new.is_kept ≡ directory.old.is_kept }
-    ensures names { directory.new.names ≡ directory.old.names }
-    ensures room { directory.old.room ≤ directory.new.room }
+pub(crate) fn make_places(slots: &mut Cells, dues: &mut DueTimes, more: usize) -> Result<(), Memory>
+    ensures slots { slots.new ≡ record slots.old { room = slots.new.room } }
+    ensures room { slots.old.room ≤ slots.new.room }
     ensures rates { dues.new.rates ≡ dues.old.rates }
     ensures births { dues.new.births ≡ dues.old.births }
     ensures dues_room { dues.old.room ≤ dues.new.room }
-    ensures ok { OnOk result (directory.old.is_kept ≡ true → more ≤ directory.new.room) }
+    ensures ok { OnOk result (slots.old.is_kept ≡ true → more ≤ slots.new.room) }
     ensures dues_ok { OnOk result (is_timed dues.old.rates ≡ true → more ≤ dues.new.room) }
 {
-    match directory.make_room(more) {
+    match slots.make_places(more) {
         Err(memory) => Err(memory),
         Ok(()) => dues.make_room(more),
     }

@@ -23,10 +23,10 @@ ghost use Rattle.lola_instances.specs.Rights.{AreRight, AreSteady, AreTimely, Cr
 ghost use Rattle.lola_instances.specs.Texts.{crowd_texts};
 ghost use Rattle.lola_instances.specs.Windowed.{IsWhole, windowed};
 
-use crate::directory::Directory;
+use crate::cells::Cells;
 use crate::due::{first_dues, make_places};
 use crate::nothing::without_values;
-use crate::slots::{bear, fill_spares, first_slots, make_room, place, poison, tell};
+use crate::slots::{bear, fill_spares, first_slots};
 use lola_instance::instance::Instance;
 use lola_instance::window::WindowPanes;
 use lola_instances_due::times::DueTimes;
@@ -54,26 +54,22 @@ pub struct Instances {
     windows: Vec<WindowPanes>,
     bad_at: u64,
     spawned_at: u64,
-    slots: Vec<Instance>,
-    // the places of instances with parameters
-    directory: Directory,
+    slots: Cells,
     // made ahead, for instances that are still to be born
     spares: Vec<Instance>,
 }
 
 impl Model for Instances {
     ghost use Rattle.std.specs.Prelude.{length};
-    ghost use Rattle.std.specs.Vec.{vec_capacity};
     ghost use Rattle.lola_instances.specs.Crowds.{Crowd, crowd};
-    ghost use Rattle.lola_instances.specs.Listings.{IsListed};
     ghost use Rattle.lola_instances.specs.Dues.{IsDated};
-    ghost use Rattle.lola_instances.specs.Rights.{IsSettled};
+    ghost use Rattle.lola_instances.specs.Rights.{HasPlaces, IsSettled};
 
     ghost Value = { Crowd };
 
-    ghost view = { λ l. crowd (record { kind = l.kind; parameters = l.parameters; spawns = l.spawns; kept = l.kept; locals = l.dues.rates }) l.windows.items l.bad_at l.spawned_at l.slots.items (vec_capacity l.slots) (length l.spares.items) };
+    ghost view = { λ l. crowd (record { kind = l.kind; parameters = l.parameters; spawns = l.spawns; kept = l.kept; locals = l.dues.rates }) l.windows.items l.bad_at l.spawned_at l.slots.items l.slots.capacity (length l.spares.items) };
 
-    ghost invariant = { λ l. IsSettled l.kind l.kept l.windows.items l.spares.items × IsListed l.slots.items l.spares.items l.directory × IsDated l.slots.items l.spares.items l.dues };
+    ghost invariant = { λ l. IsSettled l.kind l.kept l.windows.items l.spares.items × HasPlaces l.spares.items l.slots × IsDated l.slots.items l.spares.items l.dues };
 }
 
 // Whether the instances have parameters: a stream with no spawn clause has one instance with none.
@@ -116,8 +112,8 @@ impl Instances {
         ensures right { IfOk result (λ l. (spawns ≡ false → parameters ≡ []) → CrowdRight false false 1 0 l) }
         ensures past { IfOk result (λ l. (start time : ℕ) (names : Naming) (i : ℕ) → i < length l.slots → RemembersAt start time 1 names (slice_get l.slots i) []) }
     {
-        let slots = first_slots(alloc, spawns, kept, windows.as_slice())?;
-        let directory = Directory::create(alloc, hasher, has_parameters(spawns, &parameters));
+        let is_kept = has_parameters(spawns, &parameters);
+        let slots = first_slots(alloc, hasher, is_kept, spawns, kept, windows.as_slice())?;
         let dues = first_dues(alloc, spawns, locals)?;
         Ok(Instances {
             alloc,
@@ -130,7 +126,6 @@ impl Instances {
             bad_at: 0,
             spawned_at: 0,
             slots,
-            directory,
             spares: Vec::new(alloc),
         })
     }
@@ -147,7 +142,7 @@ impl Instances {
         requires { index < length self.now.slots }
         ensures { slice_get self.now.slots index ≡ Some result.now }
     {
-        &self.slots[index]
+        self.slots.get(index)
     }
 
     // The place of the instance with these parameters: one instance is looked at, and among many it is looked up.
@@ -155,11 +150,7 @@ impl Instances {
         requires { IsTrue (is_well_formed params.now) }
         ensures { result ≡ place_in params.now self.now.slots 0 }
     {
-        if self.directory.is_kept() {
-            self.directory.find(params)
-        } else {
-            place(self.slots.as_slice(), params)
-        }
+        self.slots.place(params)
     }
 
     // The place of the instance of a stream without parameters: the first, if one lives. Nothing is searched or compared.
@@ -177,10 +168,10 @@ impl Instances {
         requires steady { AreSteady self.now }
         ensures { StandsOnly result self.now.layout.parameters params.now self.now.slots }
     {
-        if !self.directory.is_kept() {
+        if !self.slots.is_kept() {
             return Whereabouts::Unknown;
         }
-        match self.directory.find(params) {
+        match self.slots.find(params) {
             None => Whereabouts::Nowhere,
             Some(place) => place_of(place),
         }
@@ -418,7 +409,7 @@ impl Instances {
             return Ok(());
         }
         self.dues.pass(passed);
-        match make_room(&mut self.slots) {
+        match self.slots.make_room() {
             Err(memory) => Err(memory),
             Ok(()) => self.make_spares(),
         }
@@ -431,7 +422,7 @@ impl Instances {
         ensures ready { OnOk result (2 ≤ self.new.spares) }
     {
         let more = self.spares.len() + 2;
-        match make_places(&mut self.directory, &mut self.dues, more) {
+        match make_places(&mut self.slots, &mut self.dues, more) {
             Err(memory) => Err(memory),
             Ok(()) => fill_spares(
                 &mut self.spares,
@@ -457,7 +448,7 @@ impl Instances {
         ensures past { (start time : ℕ) (names : Naming) (i : ℕ) (values : List (ℕ × Field)) → offset ≡ time - start → start ≤ time → IsHeld names value
             → RemembersAt start time step names (slice_get self.old.slots i) values → RemembersAt start time step names (slice_get self.new.slots i) values }
     {
-        tell(&mut self.slots, index, step, offset, value);
+        self.slots.tell(index, step, offset, value);
     }
 
     /// Poisons the instance at a place in this step.
@@ -472,7 +463,7 @@ impl Instances {
         ensures past { (start time : ℕ) (names : Naming) (i : ℕ) (values : List (ℕ × Field))
             → RemembersAt start time step names (slice_get self.old.slots i) values → RemembersAt start time step names (slice_get self.new.slots i) values }
     {
-        poison(&mut self.slots, index, step);
+        self.slots.poison(index, step);
     }
 
     /// Poisons the stream in this step.
@@ -502,7 +493,6 @@ impl Instances {
             self.kept,
             self.windows.as_slice(),
         );
-        self.directory.add(params);
         self.dues.add(time);
     }
 
@@ -541,8 +531,7 @@ impl Instances {
         requires { index < length self.old.slots }
         ensures { self.new ≡ record self.old { slots = remove self.old.slots index } }
     {
-        let _gone = self.slots.remove(index);
-        self.directory.remove(index);
+        self.slots.remove(index);
         self.dues.remove(index);
     }
 }

@@ -2,6 +2,7 @@
 //! stream.
 #![tactic(auto)]
 
+mod cells;
 mod directory;
 pub mod due;
 pub mod instances;

@@ -90,6 +90,79 @@ fn born_closed_and_born_again(rt: HostRuntime) {
     assert_eq!(rt; lives.instances(), 2);
 }
 
+// Births in step 2 with the texts of so many numbers from 0 on. Answers how many were born.
+fn bear_many(lives: &mut Instances, count: u64) -> Result<usize, Memory>
+    requires parameters { lives.old.layout.parameters ≡ kinds.Text ∷ [] }
+    requires spawns { lives.old.layout.spawns ≡ true }
+    requires right { AreRight true 2 0 lives.old }
+    ensures layout { lives.new.layout ≡ lives.old.layout }
+    ensures right { AreRight true 2 0 lives.new }
+{
+    for number in 0..count {
+        match bear(lives, number, 5) {
+            Err(memory) => return Err(memory),
+            Ok(_) => {}
+        }
+    }
+    Ok(lives.instances())
+}
+
+// Closes the second instance, if there are two.
+fn close_one(lives: &mut Instances)
+    requires right { AreRight true 2 0 lives.old }
+    ensures layout { lives.new.layout ≡ lives.old.layout }
+    ensures right { AreRight true 2 0 lives.new }
+{
+    if lives.instances() > 1 {
+        close(lives, 1);
+    }
+}
+
+// Closes the second instance so many times.
+fn close_second(lives: &mut Instances, times: u64)
+    requires right { AreRight true 2 0 lives.old }
+    ensures layout { lives.new.layout ≡ lives.old.layout }
+    ensures right { AreRight true 2 0 lives.new }
+{
+    for _turn in 0..times {
+        close_one(lives);
+    }
+}
+
+#[test]
+fn most_are_closed(rt: HostRuntime) {
+    let hasher = RandomState::new(&rt).expect(&rt, "random bytes");
+    let mut lives = named(rt.alloc(), hasher).expect(&rt, "memory");
+    assert_eq!(rt; bear_many(&mut lives, 200).expect(&rt, "memory"), 200);
+    close_second(&mut lives, 100);
+    assert_eq!(rt; lives.instances(), 100);
+    assert_eq!(rt;
+        bear(&mut lives, 101, 9).expect(&rt, "memory"),
+        SpawnEnd::Living
+    );
+    assert_eq!(rt;
+        bear(&mut lives, 100, 9).expect(&rt, "memory"),
+        SpawnEnd::Born
+    );
+    close_second(&mut lives, 90);
+    assert_eq!(rt; lives.instances(), 11);
+    assert_eq!(rt; lives.born(1), 5);
+    assert_eq!(rt; lives.born(10), 9);
+    assert_eq!(rt;
+        bear(&mut lives, 190, 9).expect(&rt, "memory"),
+        SpawnEnd::Born
+    );
+    assert_eq!(rt;
+        bear(&mut lives, 191, 9).expect(&rt, "memory"),
+        SpawnEnd::Living
+    );
+    assert_eq!(rt;
+        bear(&mut lives, 0, 9).expect(&rt, "memory"),
+        SpawnEnd::Living
+    );
+    assert_eq!(rt; lives.instances(), 12);
+}
+
 #[test]
 fn deadlines_from_births(rt: HostRuntime) {
     let hasher = RandomState::new(&rt).expect(&rt, "random bytes");

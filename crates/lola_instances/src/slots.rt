@@ -1,86 +1,41 @@
-//! Lists of instances: one that is found, given an outcome, or made ahead.
+//! Instances that are made ahead, and those that a stream begins with.
 
-ghost use Rattle.std.specs.Prelude.{◌≡◌, ◌≤◌, ◌<◌, ◌+◌, ◌++◌, ◌∷◌, [], length, slice_get, IfOk, OnOk, IsTrue, MatchOption};
-ghost use Rattle.std.specs.Vec.{vec_capacity};
+ghost use Rattle.std.specs.Prelude.{◌≡◌, ◌≤◌, ◌<◌, ◌+◌, ◌++◌, ◌∷◌, [], None, true, length, IfOk, OnOk, IsTrue};
 ghost use Rattle.lola_value.specs.Kinds.{is_well_formed};
-ghost use Rattle.lola_instance.specs.Telling.{AllReady};
 ghost use Rattle.lola_instance.specs.Unborn.{AllSound, unborn};
 ghost use Rattle.lola_instances.specs.Births.{firsts, newborn};
-ghost use Rattle.lola_instances.specs.Changes.{HasTold, HasFailed, IsChangedAt};
 ghost use Rattle.lola_instances.specs.Crowds.{place_in};
 ghost use Rattle.lola_instances.specs.Each.{Each};
 
+use crate::cells::Cells;
 use lola_instance::instance::Instance;
 use lola_instance::window::WindowPanes;
 use lola_value::text::Memory;
-use lola_value::value::{Params, Value};
+use lola_value::value::Params;
 use std::alloc::Global;
-
-/// The place of the instance with these parameters, if it lives. A stream without a spawn clause has one instance, so
-/// it is looked at once.
-pub fn place(slots: &[Instance], params: &Params) -> Option<usize>
-    requires { IsTrue (is_well_formed params.now) }
-    ensures { result ≡ place_in params.now slots.now 0 }
-{
-    for (i, slot) in slots.iter().enumerate() {
-        let own = slot.params();
-        if params.is_same(&own) {
-            return Some(i);
-        }
-    }
-    None
-}
-
-/// A value of this step, for the instance at a place.
-pub fn tell(slots: &mut Vec<Instance>, index: usize, step: u64, offset: u64, value: Value)
-    requires index { index < length slots.old.items }
-    requires ready { MatchOption (slice_get slots.old.items index) ⊥ (λ s. AllReady offset value s.panes) }
-    ensures changed { IsChangedAt (HasTold step offset value) index slots.old.items slots.new.items }
-    ensures capacity { vec_capacity slots.new ≡ vec_capacity slots.old }
-{
-    let slot = &mut slots[index];
-    slot.tell(step, offset, value);
-}
-
-/// Poison in this step, for the instance at a place.
-pub fn poison(slots: &mut Vec<Instance>, index: usize, step: u64)
-    requires { index < length slots.old.items }
-    ensures changed { IsChangedAt (HasFailed step) index slots.old.items slots.new.items }
-    ensures capacity { vec_capacity slots.new ≡ vec_capacity slots.old }
-{
-    let slot = &mut slots[index];
-    slot.poison(step);
-}
+use std::hash::RandomState;
 
 /// The first instances of a stream: one, where it has no spawn clause.
 pub fn first_slots(
     alloc: Global,
+    hasher: RandomState,
+    is_kept: bool,
     spawns: bool,
     kept: u32,
     windows: &[WindowPanes],
-) -> Result<Vec<Instance>, Memory>
+) -> Result<Cells, Memory>
+    requires spawns { is_kept ≡ true → spawns ≡ true }
     requires kept { 1 ≤ kept }
     requires windows { AllSound windows.now }
     ensures { IfOk result (λ slots. slots.items ≡ firsts spawns kept windows.now) }
 {
-    let mut slots = Vec::new(alloc);
+    let mut slots = Cells::create(alloc, hasher, is_kept);
     if !spawns {
         let slot = Instance::create(alloc, kept, windows)?;
-        slots.push(slot)?;
+        slots.make_room()?;
+        slots.add(slot);
     }
     Ok(slots)
-}
-
-/// Room for two more instances.
-pub fn make_room(slots: &mut Vec<Instance>) -> Result<(), Memory>
-    ensures items { slots.new.items ≡ slots.old.items }
-    ensures capacity { vec_capacity slots.old ≤ vec_capacity slots.new }
-    ensures ok { OnOk result (length slots.new.items + 2 ≤ vec_capacity slots.new) }
-{
-    match slots.reserve(2) {
-        Ok(()) => Ok(()),
-        Err(_) => Err(Memory),
-    }
 }
 
 /// One more instance that is made ahead.
@@ -134,7 +89,7 @@ pub fn fill_spares(
 
 /// An instance that was made ahead is born at a time, in room that was made.
 pub fn bear(
-    slots: &mut Vec<Instance>,
+    slots: &mut Cells,
     spares: &mut Vec<Instance>,
     params: Params,
     time: u64,
@@ -143,16 +98,18 @@ pub fn bear(
 )
     requires formed { IsTrue (is_well_formed params) }
     requires spare { 1 ≤ length spares.old.items }
-    requires room { length slots.old.items < vec_capacity slots.old }
+    requires room { length slots.old.items < slots.old.capacity }
+    requires listed { slots.old.is_kept ≡ true → 1 ≤ slots.old.room }
+    requires absent { place_in params slots.old.items 0 ≡ None }
     requires blank { Each (λ s. s ≡ unborn _kept _windows.now) spares.old.items }
-    ensures slots { slots.new.items ≡ slots.old.items ++ newborn _kept _windows.now time params ∷ [] }
-    ensures capacity { vec_capacity slots.new ≡ vec_capacity slots.old }
+    ensures slots { slots.new ≡ record slots.old { items = slots.old.items ++ newborn _kept _windows.now time params ∷ []; room = slots.new.room } }
+    ensures room { slots.old.room ≤ slots.new.room + 1 }
     ensures spares { length spares.new.items + 1 ≡ length spares.old.items }
     ensures rest { Each (λ s. s ≡ unborn _kept _windows.now) spares.new.items }
 {
     if let Some(spare) = spares.pop() {
         let mut born = spare;
         born.begin_life(params, time);
-        slots.push_reserved(born);
+        slots.add(born);
     }
 }

@@ -11,8 +11,9 @@ returns-in-Some-clause-slots c =
     let s = c.in-Some.spare in
     let g : c.args.spares.now.items ≡ new ++ s ∷ [] = c.in-Some.ensures.items in
     let e : s ≡ unborn c.args._kept c.args._windows.now = c.requires.blank (length new) s (ap (λ xs. slice_get xs (length new)) g ∙ got_last new s) in
-    c.push_reserved.ensures.items
-    ∙ ap (λ (x : Holdings). c.args.slots.now.items ++ x ∷ []) (c.begin_life.ensures.slot ∙ ap (λ (x : Holdings). record x { params = c.args.params; born = c.args.time }) e)
+    let old = c.args.slots.now in
+    c.add.ensures.rest
+    ∙ ap (λ (x : Holdings). record old { items = old.items ++ x ∷ []; room = c.add.new.self.room }) (c.begin_life.ensures.slot ∙ ap (λ (x : Holdings). record x { params = c.args.params; born = c.args.time }) e)
 
 pub returns-in-Some-clause-rest : goal.returns-in-Some-clause-rest
 returns-in-Some-clause-rest c =

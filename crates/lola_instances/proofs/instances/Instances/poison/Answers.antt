@@ -4,9 +4,8 @@ use Rattle.lola_model.specs.Store.{StreamLayout, is_silent, told_at}
 use Rattle.lola_instance.specs.Holdings.{Holdings, shown, slot_seen}
 use Rattle.lola_instances.specs.Changes.{HasFailed}
 use Rattle.lola_instances.specs.Crowds.{Crowd, RemembersAt, shown_at}
-use Rattle.lola_instances.specs.Rights.{AreRight, SlotRight}
+use Rattle.lola_instances.specs.Rights.{AreRight, HasPlaces, SlotRight}
 use Rattle.lola_instances.proofs.Outcomes.{changed_each, changed_seen, changed_past, changed_silent, is_missing, failed_right, failed_seen}
-use Rattle.lola_instances.proofs.Directories.{changed_names}
 use Rattle.lola_instances.proofs.Dues.{changed_births}
 use Rattle.lola_instances.proofs.instances.Instances.poison.Goals as goal
 
@@ -17,7 +16,7 @@ returns-clause-right c =
     let layout : StreamLayout = record { kind = c.self.inside.kind; parameters = c.self.inside.parameters; spawns = c.self.inside.spawns; kept = c.self.inside.kept; locals = c.self.inside.dues.rates } in
     let windows = c.self.inside.windows.items in
     let xs = c.self.inside.slots.items in
-    let ys = c.poison.new.slots.items in
+    let ys = c.poison.new.self.items in
     let h = c.poison.ensures.changed in
     let silent = changed_silent (HasFailed c.args.step) c.args.index xs ys h c.args.step (subst (λ (k : Crowd). IsTrue (is_silent (shown_at c.args.step (slice_get k.slots c.args.index)))) (sym w) c.requires.silent) in
     changed_each (HasFailed c.args.step) c.args.index xs ys h (SlotRight layout windows true c.args.step off) (subst (AreRight true c.args.step off) (sym w) c.requires.right)
@@ -27,14 +26,14 @@ pub returns-clause-seen : goal.returns-clause-seen
 returns-clause-seen c =
     let w = c.self.view_is in
     let h = c.poison.ensures.changed in
-    changed_seen (HasFailed c.args.step) c.args.index c.self.inside.slots.items c.poison.new.slots.items h c.args.step outcome.Poison (failed_seen c.args.step h.x h.y h.related)
+    changed_seen (HasFailed c.args.step) c.args.index c.self.inside.slots.items c.poison.new.self.items h c.args.step outcome.Poison (failed_seen c.args.step h.x h.y h.related)
     ∙ ap (λ (k : Crowd). told_at (map (slot_seen c.args.step) k.slots) c.args.index outcome.Poison) w
 
 pub returns-clause-past : goal.returns-clause-past
 returns-clause-past c = λ start time names i values m.
     let w = c.self.view_is in
     let xs = c.self.inside.slots.items in
-    let ys = c.poison.new.slots.items in
+    let ys = c.poison.new.self.items in
     let h = c.poison.ensures.changed in
     let silent = changed_silent (HasFailed c.args.step) c.args.index xs ys h c.args.step (subst (λ (k : Crowd). IsTrue (is_silent (shown_at c.args.step (slice_get k.slots c.args.index)))) (sym w) c.requires.silent) in
     let none = is_missing (shown c.args.step h.x) silent in
@@ -44,15 +43,12 @@ returns-clause-past c = λ start time names i values m.
 pub invariant_of-self : goal.invariant_of-self
 invariant_of-self c =
     let h = c.poison.ensures.changed in
-    let listed = c.self.invariant.1 in
+    let listed = subst (HasPlaces c.self.inside.spares.items) (sym c.poison.ensures.rest) c.self.invariant.1 in
     let dated = c.self.invariant.2 in (
       c.self.invariant.0,
+      listed,
       record {
-        names = λ kept. listed.names kept ∙ sym (changed_names (HasFailed c.args.step) c.args.index c.self.inside.slots.items c.poison.new.slots.items h (ap (λ (s : Holdings). s.params) h.related.slot));
-        room = listed.room;
-      },
-      record {
-        births = λ timed. dated.births timed ∙ sym (changed_births (HasFailed c.args.step) c.args.index c.self.inside.slots.items c.poison.new.slots.items h (ap (λ (s : Holdings). s.born) h.related.slot));
+        births = λ timed. dated.births timed ∙ sym (changed_births (HasFailed c.args.step) c.args.index c.self.inside.slots.items c.poison.new.self.items h (ap (λ (s : Holdings). s.born) h.related.slot));
         room = dated.room;
       },
     )

@@ -5,9 +5,8 @@ use Rattle.lola_model.specs.Store.{StreamLayout, is_silent, told_at}
 use Rattle.lola_instance.specs.Holdings.{shown, slot_seen}
 use Rattle.lola_instances.specs.Changes.{HasTold}
 use Rattle.lola_instances.specs.Crowds.{Crowd, RemembersAt, shown_at}
-use Rattle.lola_instances.specs.Rights.{AreRight, SlotRight}
+use Rattle.lola_instances.specs.Rights.{AreRight, HasPlaces, SlotRight}
 use Rattle.lola_instances.proofs.Outcomes.{changed_each, changed_seen, changed_past, changed_silent, is_missing, told_right, told_seen, ready_at}
-use Rattle.lola_instances.proofs.Directories.{changed_names}
 use Rattle.lola_instances.proofs.Dues.{changed_births}
 use Rattle.lola_instances.proofs.instances.Instances.push.Goals as goal
 
@@ -18,7 +17,7 @@ returns-clause-right c =
     let layout : StreamLayout = record { kind = c.self.inside.kind; parameters = c.self.inside.parameters; spawns = c.self.inside.spawns; kept = c.self.inside.kept; locals = c.self.inside.dues.rates } in
     let windows = c.self.inside.windows.items in
     let xs = c.self.inside.slots.items in
-    let ys = c.tell.new.slots.items in
+    let ys = c.tell.new.self.items in
     let h = c.tell.ensures.changed in
     let silent = changed_silent (HasTold c.args.step c.args.offset c.args.value) c.args.index xs ys h c.args.step (subst (λ (k : Crowd). IsTrue (is_silent (shown_at c.args.step (slice_get k.slots c.args.index)))) (sym w) c.requires.silent) in
     let kind = subst (λ (k : Crowd). IsTrue (is_of_kind k.layout.kind c.args.value)) (sym w) c.requires.kind in
@@ -29,14 +28,14 @@ pub returns-clause-seen : goal.returns-clause-seen
 returns-clause-seen c =
     let w = c.self.view_is in
     let h = c.tell.ensures.changed in
-    changed_seen (HasTold c.args.step c.args.offset c.args.value) c.args.index c.self.inside.slots.items c.tell.new.slots.items h c.args.step (outcome.Value c.args.value) (told_seen c.args.step c.args.offset c.args.value h.x h.y h.related)
+    changed_seen (HasTold c.args.step c.args.offset c.args.value) c.args.index c.self.inside.slots.items c.tell.new.self.items h c.args.step (outcome.Value c.args.value) (told_seen c.args.step c.args.offset c.args.value h.x h.y h.related)
     ∙ ap (λ (k : Crowd). told_at (map (slot_seen c.args.step) k.slots) c.args.index (outcome.Value c.args.value)) w
 
 pub returns-clause-past : goal.returns-clause-past
 returns-clause-past c = λ start time names i values o l held m.
     let w = c.self.view_is in
     let xs = c.self.inside.slots.items in
-    let ys = c.tell.new.slots.items in
+    let ys = c.tell.new.self.items in
     let h = c.tell.ensures.changed in
     let silent = changed_silent (HasTold c.args.step c.args.offset c.args.value) c.args.index xs ys h c.args.step (subst (λ (k : Crowd). IsTrue (is_silent (shown_at c.args.step (slice_get k.slots c.args.index)))) (sym w) c.requires.silent) in
     let none = is_missing (shown c.args.step h.x) silent in
@@ -57,15 +56,12 @@ tell-requires-clause-ready c =
 pub invariant_of-self : goal.invariant_of-self
 invariant_of-self c =
     let h = c.tell.ensures.changed in
-    let listed = c.self.invariant.1 in
+    let listed = subst (HasPlaces c.self.inside.spares.items) (sym c.tell.ensures.rest) c.self.invariant.1 in
     let dated = c.self.invariant.2 in (
       c.self.invariant.0,
+      listed,
       record {
-        names = λ kept. listed.names kept ∙ sym (changed_names (HasTold c.args.step c.args.offset c.args.value) c.args.index c.self.inside.slots.items c.tell.new.slots.items h (h.related.params));
-        room = listed.room;
-      },
-      record {
-        births = λ timed. dated.births timed ∙ sym (changed_births (HasTold c.args.step c.args.offset c.args.value) c.args.index c.self.inside.slots.items c.tell.new.slots.items h h.related.born);
+        births = λ timed. dated.births timed ∙ sym (changed_births (HasTold c.args.step c.args.offset c.args.value) c.args.index c.self.inside.slots.items c.tell.new.self.items h h.related.born);
         room = dated.room;
       },
     )
