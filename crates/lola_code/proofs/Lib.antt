@@ -1,4 +1,5 @@
 pub mod Means
 pub mod Runs
 pub mod Steps
+pub mod Shorts
 mod Codes

@@ -1,5 +1,5 @@
 -- What an expression means of the outcomes of its parts.
-use Rattle.std.proofs.Common.{◌≡◌, ℕ, zero, suc, ◌+◌, refl, sym, ap, ◌∙◌, subst, arith, Bool, true, false, ◌&&◌, List, [], ◌∷◌, length, map, Option, Some, None, slice_get, Ok, Err, Result, Box, Global}
+use Rattle.std.proofs.Common.{◌≡◌, ℕ, refl, sym, ap, ◌∙◌, subst, arith, Bool, true, false, ◌&&◌, List, [], ◌∷◌, length, map, Option, Some, None, slice_get, Ok, Err, Result, Box, Global}
 use Rattle.lola_value.specs.declared.text.Field.{Field}
 use Rattle.lola_value.specs.declared.text.Field.TheVariants as field
 use Rattle.lola_value.specs.declared.value.Kind.{Kind}
@@ -14,20 +14,19 @@ use Rattle.lola_value.specs.Kinds.{are_of_kinds, is_bool, is_of_kind, is_outcome
 use Rattle.lola_value.specs.Naming.{Naming, AreHeld, IsHeldIn, read, read_outcome, read_params, the_values}
 use Rattle.lola_model.specs.Accesses.{answer_of}
 use Rattle.lola_model.specs.Content.{Content}
-use Rattle.lola_model.specs.Denotation.{and_then, chosen, conjoined, defaulted, den, den_all, disjoined, joined, kind_of, negated, operated, with_argument, with_arguments, with_right, window_of}
+use Rattle.lola_model.specs.Denotation.{chosen, den, den_all, kind_of, negated, with_argument, with_arguments, with_right, window_of}
 use Rattle.lola_model.specs.Store.{Memories, Seen, window_kind}
 use Rattle.lola_model.specs.Typing.{binary_row, can_ask, count_of, is_value_of, noted, noted_all, same_kind, truth_row}
 use Rattle.lola_model.specs.declared.expr.Access.{Access}
 use Rattle.lola_model.specs.declared.expr.Arguments.{Arguments}
 use Rattle.lola_model.specs.declared.expr.Arguments.TheVariants.{End, More'}
 use Rattle.lola_model.specs.declared.expr.Binary.{Binary}
-use Rattle.lola_model.specs.declared.expr.Binary.TheVariants as binary
 use Rattle.lola_model.specs.declared.expr.Expr.{Expr}
 use Rattle.lola_model.specs.declared.expr.Expr.TheVariants.{Literal, Parameter, Read, Window, Defaults', Unary', Both', Choice'}
 use Rattle.lola_model.specs.declared.expr.Place.{Place}
 use Rattle.lola_model.specs.declared.expr.Prefix.{Prefix}
 use Rattle.lola_model.specs.declared.plan.Plan.{Plan}
-use Rattle.lola_expr.specs.Evaluation.{Sees, IsDenoted, are_named, is_named, is_no_value, literal_is_named, part_is_named, value_or_missing}
+use Rattle.lola_expr.specs.Evaluation.{Sees, IsDenoted, are_named, part_is_named, value_or_missing}
 use Rattle.lola_expr.specs.Operands.{decides, is_truth, operand_fits, operands_fit}
 use Rattle.lola_expr.proofs.OperandLemmas.{both, first, second, held_by_kind}
 use Rattle.lola_expr.proofs.Parts.{same_kind-true, both_facts, choice_facts, defaults_facts, each_both, each_choice, each_defaults, each_more, each_read, each_window, read_facts, unary_facts, window_facts}

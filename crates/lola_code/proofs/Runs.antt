@@ -1,5 +1,5 @@
 -- The code of an expression leads to what it means, from anything in hand and any stack.
-use Rattle.std.proofs.Common.{◌≡◌, ℕ, zero, suc, ◌+◌, ◌≤◌, refl, sym, ap, ◌∙◌, subst, arith, Bool, true, false, List, [], ◌∷◌, ◌++◌, length, take, drop, reverse, Option, Some, None, slice_get, append_assoc, append-nil, drop_at}
+use Rattle.std.proofs.Common.{◌≡◌, ℕ, zero, suc, ◌+◌, ◌≤◌, refl, sym, ap, ◌∙◌, subst, arith, true, false, List, [], ◌∷◌, ◌++◌, length, drop, reverse, Option, Some, None, append_assoc, append-nil, drop_at}
 use Rattle.std.proofs.lemmas.List.{reverse-append, reverse-reverse, length-reverse, take_at}
 use Rattle.lola_value.specs.declared.value.Kind.{Kind}
 use Rattle.lola_value.specs.declared.value.Value.{Value}
@@ -9,8 +9,8 @@ use Rattle.lola_value.specs.declared.value.Outcome.TheVariants as outcome
 use Rattle.lola_value.specs.declared.value.Params.{Params}
 use Rattle.lola_value.specs.Kinds.{are_of_kinds}
 use Rattle.lola_model.specs.Denotation.{kind_of}
-use Rattle.lola_model.specs.Store.{Memories, Seen, parameters_of, target_of}
-use Rattle.lola_model.specs.Typing.{can_ask, can_ask_all, count_of, noted_all, part_can_ask}
+use Rattle.lola_model.specs.Store.{Memories, Seen}
+use Rattle.lola_model.specs.Typing.{can_ask, can_ask_all, count_of, part_can_ask}
 use Rattle.lola_model.specs.declared.expr.Access.{Access}
 use Rattle.lola_model.specs.declared.expr.Arguments.{Arguments}
 use Rattle.lola_model.specs.declared.expr.Arguments.TheVariants.{End, More'}
@@ -21,14 +21,13 @@ use Rattle.lola_model.specs.declared.expr.Expr.TheVariants.{Literal, Parameter, 
 use Rattle.lola_model.specs.declared.expr.Place.{Place}
 use Rattle.lola_model.specs.declared.expr.Prefix.{Prefix}
 use Rattle.lola_expr.specs.Operands.{decides}
-use Rattle.lola_expr.proofs.OperandLemmas.{first, second}
 use Rattle.lola_expr.proofs.Parts.{both_facts, choice_facts, defaults_facts, each_more, read_facts, unary_facts, window_facts}
 use Rattle.lola_code.specs.declared.instr.Instr.{Instr}
 use Rattle.lola_code.specs.declared.instr.Instr.TheVariants as instr
 use Rattle.lola_code.specs.declared.compile.Target.{Target}
 use Rattle.lola_code.specs.declared.compile.Target.TheVariants as target
 use Rattle.lola_code.specs.Code.{asking, back_arguments, back_code, code_of, joining, literal_of, plain_of, reading, with_argument, with_branches, with_default, with_operands, with_sign}
-use Rattle.lola_code.specs.Machine.{Answers, AskedOf, Folded, Folds, Kept, Leads, Names, Negates, Operates, Otherwise, Prefixed, Signed, SignedWith, Tested, WhereFalse, WhereTrue, or_value, top}
+use Rattle.lola_code.specs.Machine.{AskedOf, Folded, Leads, or_value, top}
 use Rattle.lola_code.proofs.Means.{Around, Means, MeansAll, MeansNone, as_many, decided_means, end_means, false_means, first_means, goes_on_means, here_means, later_means, left_none, left_truth, literal_means, more_means, negated_means, operand_none, operand_taken, operands_taken, operated_means, parameter_means, read_means, read_none, right_none, second_means, test_none, test_truth, true_means, window_means, window_none}
 
 -- code that was made from its end, turned round

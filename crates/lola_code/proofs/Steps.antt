@@ -1,15 +1,20 @@
 -- Instructions that are passed are left out, and values are taken off a stack from its end.
-use Rattle.std.proofs.Common.{◌≡◌, ℕ, zero, suc, ◌-◌, ◌<◌, ◌≤◌, arith, Bool, true, false, not, refl, sym, ap, ◌∙◌, subst, List, [], ◌∷◌, ◌++◌, length, take, drop, reverse, append_assoc}
+use Rattle.std.proofs.Common.{◌≡◌, ℕ, zero, suc, ◌≤◌, arith, true, false, refl, sym, ap, ◌∙◌, subst, List, [], ◌∷◌, ◌++◌, length, take, drop, reverse, append_assoc}
 use Rattle.std.proofs.lemmas.List.{reverse-append, length-drop}
 use Rattle.lola_value.specs.declared.value.Value.{Value}
 use Rattle.lola_value.specs.declared.value.Outcome.{Outcome}
 use Rattle.lola_value.specs.declared.value.Outcome.TheVariants as outcome
 use Rattle.lola_value.specs.declared.value.Params.{Params}
 use Rattle.lola_model.specs.Store.{Memories, Seen}
-use Rattle.lola_expr.specs.Operands.{truth_in}
+use Rattle.lola_model.specs.declared.expr.Binary.{Binary}
+use Rattle.lola_value.specs.declared.value.Kind.{Kind}
+use Rattle.lola_expr.specs.Operands.{operands_fit, truth_in}
 use Rattle.lola_code.specs.declared.instr.Instr.{Instr}
 use Rattle.lola_code.specs.declared.instr.Instr.TheVariants as instr
-use Rattle.lola_code.specs.Machine.{Leads, Turned, top}
+use Rattle.lola_code.specs.Machine.{Leads, Operates, top}
+use Rattle.lola_code.specs.Shorts.{has_value, value_in, widened}
+use Rattle.lola_code.specs.declared.short.Short.{Short}
+use Rattle.lola_code.specs.declared.short.Short.TheVariants as short
 
 pub drop_shorter : (n : ℕ) (is : List Instr) → length (drop n is) ≤ length is
 drop_shorter n is = omega (arith, length-drop n is)
@@ -93,49 +98,96 @@ module _ (remembers : Memories) (s : Seen) (p : Params) (wanted : Outcome → Ty
       by_hand (outcome.Fault k) ne h = h
       by_hand outcome.Poison ne h = h
 
-  -- what is no value passes the right operand
-  pub none_true : (rest : List Instr) (i : Instr) (n : ℕ) (o : Outcome) (st : List Value) → i ≡ instr.WhereTrue n → ((v : Value) → o ≡ outcome.Value v → ⊥) → Goes (i ∷ rest) 0 o st → Goes rest n o st
-  none_true rest i n o st e ne h = by_hand o ne (subst (λ i. Goes (i ∷ rest) 0 o st) e h)
+  -- the same instruction, with the value that is in hand
+  with_value : (rest : List Instr) (i j : Instr) (v : Value) (o : Outcome) (st : List Value) → i ≡ j → o ≡ outcome.Value v → Goes (i ∷ rest) 0 o st → Goes (j ∷ rest) 0 (outcome.Value v) st
+  with_value rest i j v o st e d h = subst (λ o. Goes (j ∷ rest) 0 o st) d (subst (λ i. Goes (i ∷ rest) 0 o st) e h)
+
+  -- a sign between two values takes them
+  pub sign_taken : (rest : List Instr) (i : Instr) (sign : Binary) (k : Kind) (x y : Value) (o : Outcome) (st st' : List Value) → i ≡ instr.Sign sign k → o ≡ outcome.Value y → st ≡ x ∷ st' → Goes (i ∷ rest) 0 o st
+      → (operands_fit sign k x y ≡ true) × ((r : Outcome) → Operates sign k x y r → Goes rest 0 r st')
+  sign_taken rest i sign k x y o st st' e d q h = with_value rest i (instr.Sign sign k) y o (x ∷ st') e d (subst (λ l. Goes (i ∷ rest) 0 o l) q h)
+
+  -- a sign between a value and a literal takes them
+  pub given_taken : (rest : List Instr) (i : Instr) (sign : Binary) (k : Kind) (y x : Value) (o : Outcome) (st : List Value) → i ≡ instr.SignGiven sign k y → o ≡ outcome.Value x → Goes (i ∷ rest) 0 o st
+      → (operands_fit sign k x y ≡ true) × ((r : Outcome) → Operates sign k x y r → Goes rest 0 r st)
+  given_taken rest i sign k y x o st e d h = with_value rest i (instr.SignGiven sign k y) x o st e d h
+
+  -- and anything else passes it
+  pub true_off : (rest : List Instr) (i : Instr) (n : ℕ) (s : Short) (st : List Value) → i ≡ instr.WhereTrue n → truth_in (value_in s) ≡ false → Goes (i ∷ rest) 0 (widened s) st → Goes rest n (widened s) st
+  true_off rest i n s st e t h = by_hand s t (subst (λ i. Goes (i ∷ rest) 0 (widened s) st) e h)
     where
-      by_hand : (o : Outcome) → ((v : Value) → o ≡ outcome.Value v → ⊥) → Goes (instr.WhereTrue n ∷ rest) 0 o st → Goes rest n o st
-      by_hand (outcome.Value v) ne h = absurd (ne v refl)
-      by_hand outcome.Missing ne h = h
-      by_hand (outcome.Fault k) ne h = h
-      by_hand outcome.Poison ne h = h
+      by_hand : (s : Short) → truth_in (value_in s) ≡ false → Goes (instr.WhereTrue n ∷ rest) 0 (widened s) st → Goes rest n (widened s) st
+      by_hand short.False t h = h
+      by_hand short.True t h = absurd (cc)
+      by_hand (short.Int z) t h = h
+      by_hand (short.Large l) t h = h
+      by_hand (short.Text id) t h = h
+      by_hand short.Missing t h = h
+      by_hand short.Overflow t h = h
+      by_hand short.DivZero t h = h
+      by_hand short.TooManyInstances t h = h
+      by_hand short.Poison t h = h
 
-  pub none_false : (rest : List Instr) (i : Instr) (n : ℕ) (o : Outcome) (st : List Value) → i ≡ instr.WhereFalse n → ((v : Value) → o ≡ outcome.Value v → ⊥) → Goes (i ∷ rest) 0 o st → Goes rest n o st
-  none_false rest i n o st e ne h = by_hand o ne (subst (λ i. Goes (i ∷ rest) 0 o st) e h)
+  -- true passes it
+  pub false_off : (rest : List Instr) (i : Instr) (n : ℕ) (s : Short) (st : List Value) → i ≡ instr.WhereFalse n → truth_in (value_in s) ≡ true → Goes (i ∷ rest) 0 (widened s) st → Goes rest n (widened s) st
+  false_off rest i n s st e t h = by_hand s t (subst (λ i. Goes (i ∷ rest) 0 (widened s) st) e h)
     where
-      by_hand : (o : Outcome) → ((v : Value) → o ≡ outcome.Value v → ⊥) → Goes (instr.WhereFalse n ∷ rest) 0 o st → Goes rest n o st
-      by_hand (outcome.Value v) ne h = absurd (ne v refl)
-      by_hand outcome.Missing ne h = h
-      by_hand (outcome.Fault k) ne h = h
-      by_hand outcome.Poison ne h = h
+      by_hand : (s : Short) → truth_in (value_in s) ≡ true → Goes (instr.WhereFalse n ∷ rest) 0 (widened s) st → Goes rest n (widened s) st
+      by_hand short.False t h = absurd (cc)
+      by_hand short.True t h = h
+      by_hand (short.Int z) t h = absurd (cc)
+      by_hand (short.Large l) t h = absurd (cc)
+      by_hand (short.Text id) t h = absurd (cc)
+      by_hand short.Missing t h = absurd (cc)
+      by_hand short.Overflow t h = absurd (cc)
+      by_hand short.DivZero t h = absurd (cc)
+      by_hand short.TooManyInstances t h = absurd (cc)
+      by_hand short.Poison t h = absurd (cc)
 
-  -- and both branches
-  pub none_tested : (rest : List Instr) (i : Instr) (n m : ℕ) (o : Outcome) (st : List Value) → i ≡ instr.Test n m → ((v : Value) → o ≡ outcome.Value v → ⊥) → Goes (i ∷ rest) 0 o st → Goes rest m o st
-  none_tested rest i n m o st e ne h = by_hand o ne (subst (λ i. Goes (i ∷ rest) 0 o st) e h)
+  -- as what is no value does
+  pub false_none : (rest : List Instr) (i : Instr) (n : ℕ) (s : Short) (st : List Value) → i ≡ instr.WhereFalse n → has_value s ≡ false → Goes (i ∷ rest) 0 (widened s) st → Goes rest n (widened s) st
+  false_none rest i n s st e v h = by_hand s v (subst (λ i. Goes (i ∷ rest) 0 (widened s) st) e h)
     where
-      by_hand : (o : Outcome) → ((v : Value) → o ≡ outcome.Value v → ⊥) → Goes (instr.Test n m ∷ rest) 0 o st → Goes rest m o st
-      by_hand (outcome.Value v) ne h = absurd (ne v refl)
-      by_hand outcome.Missing ne h = h
-      by_hand (outcome.Fault k) ne h = h
-      by_hand outcome.Poison ne h = h
+      by_hand : (s : Short) → has_value s ≡ false → Goes (instr.WhereFalse n ∷ rest) 0 (widened s) st → Goes rest n (widened s) st
+      by_hand short.False v h = absurd (cc)
+      by_hand short.True v h = absurd (cc)
+      by_hand (short.Int z) v h = absurd (cc)
+      by_hand (short.Large l) v h = absurd (cc)
+      by_hand (short.Text id) v h = absurd (cc)
+      by_hand short.Missing v h = h
+      by_hand short.Overflow v h = h
+      by_hand short.DivZero v h = h
+      by_hand short.TooManyInstances v h = h
+      by_hand short.Poison v h = h
 
-  -- what is not true passes the right operand of `&&`
-  pub not_true : (rest : List Instr) (i : Instr) (n : ℕ) (v : Value) (o : Outcome) (st : List Value) → i ≡ instr.WhereTrue n → o ≡ outcome.Value v → truth_in v ≡ false → Goes (i ∷ rest) 0 o st → Goes rest n o st
-  not_true rest i n v o st e d w h =
-      let q : Goes (instr.WhereTrue n ∷ rest) 0 (outcome.Value v) st = subst (λ o. Goes (instr.WhereTrue n ∷ rest) 0 o st) d (subst (λ i. Goes (i ∷ rest) 0 o st) e h) in
-      subst (λ o. Goes rest n o st) (sym d) (subst (λ b. Turned b n (Leads remembers s p wanted rest) (outcome.Value v) st) w q)
+  -- another value passes it
+  pub test_off : (rest : List Instr) (i : Instr) (n m : ℕ) (s : Short) (st : List Value) → i ≡ instr.Test n m → has_value s ≡ true → truth_in (value_in s) ≡ false → Goes (i ∷ rest) 0 (widened s) st → Goes rest n (widened s) st
+  test_off rest i n m s st e v t h = by_hand s v t (subst (λ i. Goes (i ∷ rest) 0 (widened s) st) e h)
+    where
+      by_hand : (s : Short) → has_value s ≡ true → truth_in (value_in s) ≡ false → Goes (instr.Test n m ∷ rest) 0 (widened s) st → Goes rest n (widened s) st
+      by_hand short.False v t h = h
+      by_hand short.True v t h = absurd (cc)
+      by_hand (short.Int z) v t h = h
+      by_hand (short.Large l) v t h = h
+      by_hand (short.Text id) v t h = h
+      by_hand short.Missing v t h = absurd (cc)
+      by_hand short.Overflow v t h = absurd (cc)
+      by_hand short.DivZero v t h = absurd (cc)
+      by_hand short.TooManyInstances v t h = absurd (cc)
+      by_hand short.Poison v t h = absurd (cc)
 
-  -- what is true passes that of `||`
-  pub not_false : (rest : List Instr) (i : Instr) (n : ℕ) (v : Value) (o : Outcome) (st : List Value) → i ≡ instr.WhereFalse n → o ≡ outcome.Value v → truth_in v ≡ true → Goes (i ∷ rest) 0 o st → Goes rest n o st
-  not_false rest i n v o st e d w h =
-      let q : Goes (instr.WhereFalse n ∷ rest) 0 (outcome.Value v) st = subst (λ o. Goes (instr.WhereFalse n ∷ rest) 0 o st) d (subst (λ i. Goes (i ∷ rest) 0 o st) e h) in
-      subst (λ o. Goes rest n o st) (sym d) (subst (λ b. Turned (not b) n (Leads remembers s p wanted rest) (outcome.Value v) st) w q)
-
-  -- what is not true passes the first branch
-  pub not_chosen : (rest : List Instr) (i : Instr) (n m : ℕ) (v : Value) (o : Outcome) (st : List Value) → i ≡ instr.Test n m → o ≡ outcome.Value v → truth_in v ≡ false → Goes (i ∷ rest) 0 o st → Goes rest n o st
-  not_chosen rest i n m v o st e d w h =
-      let q : Goes (instr.Test n m ∷ rest) 0 (outcome.Value v) st = subst (λ o. Goes (instr.Test n m ∷ rest) 0 o st) d (subst (λ i. Goes (i ∷ rest) 0 o st) e h) in
-      subst (λ o. Goes rest n o st) (sym d) (subst (λ b. Turned b n (Leads remembers s p wanted rest) (outcome.Value v) st) w q)
+  -- and what is no value passes both
+  pub test_none : (rest : List Instr) (i : Instr) (n m : ℕ) (s : Short) (st : List Value) → i ≡ instr.Test n m → has_value s ≡ false → Goes (i ∷ rest) 0 (widened s) st → Goes rest m (widened s) st
+  test_none rest i n m s st e v h = by_hand s v (subst (λ i. Goes (i ∷ rest) 0 (widened s) st) e h)
+    where
+      by_hand : (s : Short) → has_value s ≡ false → Goes (instr.Test n m ∷ rest) 0 (widened s) st → Goes rest m (widened s) st
+      by_hand short.False v h = absurd (cc)
+      by_hand short.True v h = absurd (cc)
+      by_hand (short.Int z) v h = absurd (cc)
+      by_hand (short.Large l) v h = absurd (cc)
+      by_hand (short.Text id) v h = absurd (cc)
+      by_hand short.Missing v h = h
+      by_hand short.Overflow v h = h
+      by_hand short.DivZero v h = h
+      by_hand short.TooManyInstances v h = h
+      by_hand short.Poison v h = h

@@ -1,17 +1,19 @@
 //! What a store is asked: by the numbers that stand in an instruction, and the parameters that stand on the stack.
 
-ghost use Rattle.std.specs.Prelude.{◌≡◌, ◌<◌, ◌≤◌, drop, length, slice_get, IsTrue};
+ghost use Rattle.std.specs.Prelude.{◌≡◌, ◌<◌, ◌≤◌, [], drop, length, slice_get, IsTrue};
 ghost use Rattle.lola_value.specs.Kinds.{is_well_formed};
 ghost use Rattle.lola_value.specs.Naming.{the_values};
-ghost use Rattle.lola_model.specs.Store.{IsRunning, pane_of, target_of};
+ghost use Rattle.lola_model.specs.Store.{IsRunning, pane_of, parameters_of, target_of};
 ghost use Rattle.lola_model.specs.Typing.{is_kept, is_whole_pane};
 ghost use Rattle.lola_code.specs.Machine.{Answers, Folds, Names, top};
+ghost use Rattle.lola_code.specs.Shorts.{widened};
 
+use crate::short::{Short, narrow, value_of};
 use crate::stack::Stack;
 use lola_expr::access::{read, window};
 use lola_model::expr::Access;
 use lola_model::store::StreamStore;
-use lola_value::value::{Outcome, Params};
+use lola_value::value::Params;
 
 // A function writes zeros over the room of its values when it is entered, and the parameters that are gathered are the largest: so what
 // gathers them are functions of their own.
@@ -28,10 +30,28 @@ fn take_params(stack: &mut Stack, count: u32) -> Params
     while left > 0 {
         left -= 1;
         if let Some(v) = stack.pop() {
-            params = params.led_by(v);
+            let first = value_of(v);
+            params = params.led_by(first);
         }
     }
     params
+}
+
+/// What an access of a stream without parameters answers.
+#[inline(never)]
+pub(crate) fn read_alone<S: StreamStore>(store: &S, stream: u32, how: Access) -> Short
+    requires running { IsRunning (S.seen store.now) }
+    requires stream { stream < length (S.seen store.now).layout.streams }
+    requires none { parameters_of (slice_get (S.seen store.now).layout.streams stream) ≡ [] }
+    requires kept { IsTrue (is_kept (slice_get (S.seen store.now).layout.streams stream) how) }
+    ensures { Answers (S.remembers store.now) (S.seen store.now) stream how [] (widened result) }
+{
+    match how {
+        Access::Direct => narrow(store.now_alone(stream)),
+        Access::Get => narrow(store.now_alone(stream)),
+        Access::Hold => narrow(store.newest_alone(stream)),
+        Access::Offset(k) => narrow(store.back_alone(stream, k)),
+    }
 }
 
 /// What an access answers, of the instance that so many values on the stack name, which are taken off.
@@ -42,16 +62,16 @@ pub(crate) fn read_at<S: StreamStore>(
     how: Access,
     stack: &mut Stack,
     count: u32,
-) -> Outcome
+) -> Short
     requires running { IsRunning (S.seen store.now) }
     requires few { count ≤ 4 }
     requires named { Names (S.seen store.now) stream (top count stack.old) }
     requires kept { IsTrue (is_kept (slice_get (S.seen store.now).layout.streams stream) how) }
-    ensures value { Answers (S.remembers store.now) (S.seen store.now) stream how (top count stack.old) result }
+    ensures value { Answers (S.remembers store.now) (S.seen store.now) stream how (top count stack.old) (widened result) }
     ensures rest { stack.new ≡ drop count stack.old }
 {
     let named = take_params(stack, count);
-    read(store, stream, how, &named)
+    narrow(read(store, stream, how, &named))
 }
 
 /// What a window answers, over the instance that so many values on the stack name, which are taken off.
@@ -61,15 +81,15 @@ pub(crate) fn window_at<S: StreamStore>(
     number: u32,
     stack: &mut Stack,
     count: u32,
-) -> Outcome
+) -> Short
     requires running { IsRunning (S.seen store.now) }
     requires window { number < length (S.seen store.now).layout.windows }
     requires few { count ≤ 4 }
     requires named { Names (S.seen store.now) (target_of (slice_get (S.seen store.now).layout.windows number)) (top count stack.old) }
     requires whole { IsTrue (is_whole_pane (S.seen store.now) (pane_of (slice_get (S.seen store.now).layout.panes number))) }
-    ensures value { Folds (S.remembers store.now) (S.seen store.now) number (top count stack.old) result }
+    ensures value { Folds (S.remembers store.now) (S.seen store.now) number (top count stack.old) (widened result) }
     ensures rest { stack.new ≡ drop count stack.old }
 {
     let named = take_params(stack, count);
-    window(store, number, &named)
+    narrow(window(store, number, &named))
 }

@@ -1,18 +1,21 @@
 //! The machine that runs code: it has one outcome in hand, and the values of operands and arguments on a stack.
 
-ghost use Rattle.std.specs.Prelude.{◌≡◌, ◌≤◌, [], drop, length, IfSome, IsTrue};
+ghost use Rattle.std.specs.Prelude.{◌≡◌, ◌≤◌, [], drop, length, slice_get, IfSome, IsTrue};
 ghost use Rattle.lola_value.specs.Kinds.{is_outcome_of};
+ghost use Rattle.lola_value.specs.Naming.{the_values};
 ghost use Rattle.lola_model.specs.Store.{IsRunning};
 ghost use Rattle.lola_model.specs.Typing.{can_ask, noted};
-ghost use Rattle.lola_expr.specs.Evaluation.{IsDenoted};
+ghost use Rattle.lola_expr.specs.Evaluation.{IsDenoted, value_or_missing};
 ghost use Rattle.lola_code.specs.Code.{code_of};
 ghost use Rattle.lola_code.specs.Machine.{or_value};
+ghost use Rattle.lola_code.specs.Shorts.{widened};
 
-use crate::asking::{read_at, window_at};
+use crate::asking::{read_alone, read_at, window_at};
 use crate::instr::Instr;
+use crate::short::{Short, is_true, is_value, short_outcome, short_value, widen};
+use crate::signs::{joined, prefixed};
 use crate::stack::Stack;
-use lola_expr::evaluation::{access_plain, eval, parameter};
-use lola_expr::operators::{negate, operate, truth};
+use lola_expr::evaluation::{eval, parameter};
 use lola_model::expr::Expr;
 use lola_model::store::StreamStore;
 use lola_value::value::{Outcome, Params, Value};
@@ -29,14 +32,24 @@ fn past(code: &[Instr], count: usize) -> &[Instr]
     }
 }
 
-/// The outcome, or a value where it is missing.
-fn or_given(o: Outcome, v: Value) -> Outcome
-    ensures { result ≡ or_value o v }
+/// The outcome, or a value where it is missing. None where that is a number that no kind has.
+fn or_given(o: Short, v: Value) -> Option<Short>
+    ensures { IfSome result (λ r. widened r ≡ or_value (widened o) v) }
 {
     match o {
-        Outcome::Missing => Outcome::Value(v),
-        _ => o,
+        Short::Missing => short_value(v),
+        _ => Some(o),
     }
+}
+
+/// The parameter of a number. None where that is a number that no kind has. It is a function of its own, so that the machine has no
+/// registers for the places of parameters.
+#[inline(never)]
+fn given(params: &Params, number: u32) -> Option<Short>
+    requires { params.now.count ≤ 4 }
+    ensures { IfSome result (λ r. widened r ≡ value_or_missing (slice_get (the_values params.now) number)) }
+{
+    short_outcome(parameter(params, number))
 }
 
 /// Takes so many values off the stack, and lets go of them.
@@ -51,7 +64,7 @@ fn let_go(stack: &mut Stack, count: u32)
 }
 
 // Runs the code of an expression, with nothing on the stack: the outcome is one that the evaluation of the expression may have. It takes
-// no memory. None where the stack has no room.
+// no memory. None where the stack has no room, or where a literal or a parameter is a number that no kind has.
 fn run_code<S: StreamStore>(
     _expr: &Expr,
     code: &[Instr],
@@ -67,84 +80,98 @@ fn run_code<S: StreamStore>(
 {
     let mut stack = Stack::create();
     let mut code = code;
-    let mut hand = Outcome::Missing;
+    let mut hand = Short::Missing;
     'run: while let Some((instr, rest)) = code.split_first() {
         code = rest;
         match *instr {
-            Instr::Give(v) => hand = Outcome::Value(v),
-            Instr::Parameter(number) => hand = parameter(params, number),
-            Instr::Read(stream, how) => hand = access_plain(stream, how, store),
-            Instr::ReadOr(stream, how, v) => hand = or_given(access_plain(stream, how, store), v),
+            Instr::Give(v) => match short_value(v) {
+                Some(made) => hand = made,
+                None => return None,
+            },
+            Instr::Parameter(number) => match given(params, number) {
+                Some(made) => hand = made,
+                None => return None,
+            },
+            Instr::Read(stream, how) => hand = read_alone(store, stream, how),
+            Instr::ReadOr(stream, how, v) => match or_given(read_alone(store, stream, how), v) {
+                Some(made) => hand = made,
+                None => return None,
+            },
             Instr::ReadAt(stream, how, count) => {
                 hand = read_at(store, stream, how, &mut stack, count);
             }
             Instr::Window(number, count) => hand = window_at(store, number, &mut stack, count),
-            Instr::Keep(n) => match hand {
-                Outcome::Value(v) => {
-                    if !stack.push(v) {
+            Instr::Keep(n) => {
+                if is_value(hand) {
+                    if !stack.push(hand) {
                         return None;
                     }
+                } else {
+                    code = past(code, n);
                 }
-                _ => code = past(code, n),
-            },
-            Instr::KeepArgument(n, count) => match hand {
-                Outcome::Value(v) => {
-                    if !stack.push(v) {
+            }
+            Instr::KeepArgument(n, count) => {
+                if is_value(hand) {
+                    if !stack.push(hand) {
                         return None;
                     }
-                }
-                _ => {
+                } else {
                     let_go(&mut stack, count);
                     code = past(code, n);
                 }
-            },
-            Instr::Prefix(sign, kind) => match hand {
-                Outcome::Value(v) => hand = negate(sign, kind, v),
-                _ => {}
-            },
+            }
+            Instr::Prefix(sign, kind) => {
+                if is_value(hand) {
+                    hand = prefixed(sign, kind, hand);
+                }
+            }
             Instr::Sign(sign, kind) => match stack.pop() {
-                Some(left) => match hand {
-                    Outcome::Value(right) => hand = operate(sign, kind, left, right),
-                    _ => {}
-                },
+                Some(left) => {
+                    if is_value(hand) {
+                        hand = joined(sign, kind, left, hand);
+                    }
+                }
                 None => {}
             },
-            Instr::SignGiven(sign, kind, right) => match hand {
-                Outcome::Value(left) => hand = operate(sign, kind, left, right),
-                _ => {}
-            },
+            Instr::SignGiven(sign, kind, v) => {
+                if is_value(hand) {
+                    match short_value(v) {
+                        Some(right) => hand = joined(sign, kind, hand, right),
+                        None => return None,
+                    }
+                }
+            }
             Instr::Otherwise(n) => match hand {
-                Outcome::Missing => {}
+                Short::Missing => {}
                 _ => code = past(code, n),
             },
-            Instr::WhereTrue(n) => match hand {
-                Outcome::Value(v) => {
-                    if !truth(v) {
+            Instr::WhereTrue(n) => {
+                if !is_true(hand) {
+                    code = past(code, n);
+                }
+            }
+            Instr::WhereFalse(n) => {
+                if is_value(hand) {
+                    if is_true(hand) {
                         code = past(code, n);
                     }
+                } else {
+                    code = past(code, n);
                 }
-                _ => code = past(code, n),
-            },
-            Instr::WhereFalse(n) => match hand {
-                Outcome::Value(v) => {
-                    if truth(v) {
+            }
+            Instr::Test(n, more) => {
+                if is_value(hand) {
+                    if !is_true(hand) {
                         code = past(code, n);
                     }
+                } else {
+                    code = past(code, more);
                 }
-                _ => code = past(code, n),
-            },
-            Instr::Test(n, more) => match hand {
-                Outcome::Value(v) => {
-                    if !truth(v) {
-                        code = past(code, n);
-                    }
-                }
-                _ => code = past(code, more),
-            },
+            }
             Instr::Jump(n) => code = past(code, n),
         }
     }
-    Some(hand)
+    Some(widen(hand))
 }
 
 /// What an expression comes to, whose code this is, for an instance with these parameters: the code is run, or the expression evaluated

@@ -1,8 +1,9 @@
 //! The stack of values that an expression's code works with. It lies in the value itself, so it takes no memory of its own.
 
 ghost use Rattle.std.specs.Prelude.{◌≡◌, ◌∷◌, [], IsTrue, MatchOption};
+ghost use Rattle.lola_code.specs.Shorts.{value_in};
 
-use lola_value::value::Value;
+use crate::short::Short;
 use std::marker::Model;
 
 // How many values there is room for. The code of an expression that wants more is not run.
@@ -11,17 +12,18 @@ const DEPTH: usize = 8;
 // So many values. Contracts see them as a list, the newest first.
 #[derive(Drop)]
 pub(crate) struct Stack {
-    values: [Value; DEPTH],
+    values: [Short; DEPTH],
     count: usize,
 }
 
 impl Model for Stack {
-    ghost use Rattle.std.specs.Prelude.{◌≡◌, ◌≤◌, List, length, reverse, take};
+    ghost use Rattle.std.specs.Prelude.{◌≡◌, ◌≤◌, List, length, map, reverse, take};
     ghost use Rattle.lola_value.specs.declared.value.Value.{Value as Element};
+    ghost use Rattle.lola_code.specs.Shorts.{value_in};
 
     ghost Value = { List Element };
 
-    ghost view = { λ s. reverse (take s.count s.values) };
+    ghost view = { λ s. reverse (map value_in (take s.count s.values)) };
 
     ghost invariant = { λ s. (s.count ≤ 8) × (length s.values ≡ 8) };
 }
@@ -32,14 +34,14 @@ impl Stack {
         ensures { result ≡ [] }
     {
         Stack {
-            values: [Value::Bool(false); DEPTH],
+            values: [Short::False; DEPTH],
             count: 0,
         }
     }
 
     // Puts a value on top, and tells whether there was room for it.
-    pub(crate) fn push(&mut self, value: Value) -> bool
-        ensures { IsTrue result → self.new ≡ value ∷ self.old }
+    pub(crate) fn push(&mut self, value: Short) -> bool
+        ensures { IsTrue result → self.new ≡ value_in value ∷ self.old }
     {
         if self.count >= DEPTH {
             return false;
@@ -50,8 +52,8 @@ impl Stack {
     }
 
     // Takes the newest value off.
-    pub(crate) fn pop(&mut self) -> Option<Value>
-        ensures { MatchOption result ((self.old ≡ []) × (self.new ≡ [])) (λ v. self.old ≡ v ∷ self.new) }
+    pub(crate) fn pop(&mut self) -> Option<Short>
+        ensures { MatchOption result ((self.old ≡ []) × (self.new ≡ [])) (λ v. self.old ≡ value_in v ∷ self.new) }
     {
         if self.count == 0 {
             return None;

@@ -1,15 +1,20 @@
 -- How many instances a step may have.
-use Rattle.std.proofs.Common.{◌≡◌, ap, ◌∙◌, sym, subst, ℕ, zero, suc, ◌+◌, ◌*◌, ◌<◌, ◌≤◌, ◌^◌, ◌⊎◌, inl, inr, List, [], ◌∷◌, Some, None, IsTrue, true, false, length, drop, slice_get, arith}
+use Rattle.std.proofs.Common.{◌≡◌, ap, ◌∙◌, sym, subst, ℕ, zero, suc, ◌+◌, ◌*◌, ◌<◌, ◌≤◌, ◌^◌, ◌⊎◌, inl, inr, List, [], ◌∷◌, Some, None, IsTrue, Bool, Option, true, false, if◌then◌else◌, length, drop, slice_get, arith, refl}
 use Rattle.std.proofs.lemmas.List.{at_drop_more}
 use Rattle.std.proofs.lemmas.Option.{slice_get-get_or}
 use Rattle.lola_model.specs.Model.{most_instances}
 use Rattle.lola_model.specs.Store.{Layout, Seen, SeenStream, instances_of, instances_seen, layouts_from, never_spawns}
+use Rattle.lola_model.specs.Named.{has_clause}
 use Rattle.lola_model.specs.declared.plan.Plan.{Plan}
+use Rattle.lola_model.specs.declared.spec.Clause.{Clause}
 use Rattle.lola_model.specs.declared.spec.Stream.{Stream}
 use Rattle.lola_stages.proofs.Places.{stream_or_none}
 use Rattle.lola_step.specs.Progress.{IsOf}
 use Rattle.lola_step.specs.Scratches.{HasRoom, IsScratchOf, instances_to_come, least_room, of_streams}
+use Rattle.lola_step.specs.Schedules.{has_turn, numbers_of, turns_of}
+use Rattle.lola_step.specs.declared.schedule.Turn.TheVariants as turn
 use Rattle.lola_step.specs.declared.scratch.Scratch.{Scratch}
+use Rattle.lola_step.proofs.Elements.{element}
 use Rattle.lola_step.proofs.Layouts.{layouts_length, never_there}
 
 -- a stream of a store that was made for a plan
@@ -70,6 +75,44 @@ few_single plan s of never =
     let e : length s.streams ≡ length plan.spec.streams = of.streams in
     let a : of_streams s.streams ≤ 2 * length s.streams =
     two_of_each s.streams (λ n lt. one_of plan s n of none (stream_or_none plan.spec.streams n) (omega (arith, lt, e))) in
+    omega arith
+
+-- and where the list of those that have one is empty, exactly that
+
+passing_none : (b : Bool) (n : ℕ) (rest : List ℕ) → (if b then n ∷ rest else rest) ≡ [] → (b ≡ false) × (rest ≡ [])
+passing_none true n rest e = absurd (cc)
+passing_none false n rest e = (refl, e)
+
+none_born : (plan : Plan) (n : ℕ) (xs : List Stream) → numbers_of (has_turn plan turn.Birth) n xs ≡ [] → (i : ℕ) (x : Stream) → slice_get xs i ≡ Some x → has_clause x.spawn ≡ false
+none_born plan n [] e i x at = absurd (cc)
+none_born plan n (y ∷ ys) e zero x at =
+    let q : y ≡ x = cc in
+    subst (λ (z : Stream). has_clause z.spawn ≡ false) q (passing_none (has_clause y.spawn) n (numbers_of (has_turn plan turn.Birth) (n + 1) ys) e).0
+none_born plan n (y ∷ ys) e (suc i) x at =
+    none_born plan (n + 1) ys (passing_none (has_clause y.spawn) n (numbers_of (has_turn plan turn.Birth) (n + 1) ys) e).1 i x at
+
+no_spawn : (o : Option Clause) → has_clause o ≡ false → o ≡ None
+no_spawn None e = refl
+no_spawn (Some k) e = absurd (cc)
+
+two_in_each : (ss : List SeenStream) → ((n : ℕ) → n < length ss → length (instances_of (slice_get ss n)) ≡ 1) → of_streams ss ≡ 2 * length ss
+two_in_each [] one = omega arith
+two_in_each (s ∷ ss) one =
+    let a : of_streams ss ≡ 2 * length ss = two_in_each ss (λ n lt. one (suc n) (omega (arith, lt))) in
+    let b : length s.instances ≡ 1 = one 0 (omega arith) in
+    omega arith
+
+nothing_listed : (ns : List ℕ) → length ns ≡ 0 → ns ≡ []
+nothing_listed [] e = refl
+nothing_listed (n ∷ ns) e = absurd (omega (arith, e))
+
+pub two_exactly : (plan : Plan) (s : Seen) (births : List ℕ) → IsOf plan s → births ≡ turns_of plan turn.Birth → length births ≡ 0 → instances_to_come s ≡ 2 * length plan.spec.streams
+two_exactly plan s births of listed empty =
+    let none : turns_of plan turn.Birth ≡ [] = sym listed ∙ nothing_listed births empty in
+    let e : length s.streams ≡ length plan.spec.streams = of.streams in
+    let a : of_streams s.streams ≡ 2 * length s.streams =
+    two_in_each s.streams (λ n lt. (let x = element plan.spec.streams n (omega (arith, lt, e)) in
+    of.single n x.at x.is (no_spawn x.at.spawn (none_born plan 0 plan.spec.streams none n x.at x.is)))) in
     omega arith
 
 pub room_is_there : (plan : Plan) (s : Seen) (n : Scratch) → IsOf plan s → IsTrue (never_spawns s.layout.streams) → IsScratchOf plan n → HasRoom n (instances_to_come s)

@@ -32,3 +32,6 @@ pub mod Alone
 pub mod Seeking
 pub mod Standing
 pub mod Valued
+pub mod Turns
+pub mod Between
+pub mod Faultless

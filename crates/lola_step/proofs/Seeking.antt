@@ -106,5 +106,18 @@ module _ (plan : Plan) (m : Moment) (marks : List Mark) (remembers : Memories) (
           let Q : Whereabouts → Type 0 = λ v. IsSilentElsewhere plan m remembers s n v in
           subst Q (sym (read_else sought k n w ne)) (h n x (under n k ne below) at runs)
 
+  -- where a stream does not run nothing is to be noted of it
+  pub sought_none : (k : ℕ) (y : Stream) (sought : List Whereabouts) → slice_get plan.spec.streams k ≡ Some y → runs_in plan m marks layer k y ≡ false
+      → SoughtUpTo k sought → SoughtUpTo (k + 1) sought
+  sought_none k y sought there idle h n x below at runs = by (cases_eq n k)
+    where
+      by : (n ≡ k) ⊎ (n ≡ k → ⊥) → IsSilentElsewhere plan m remembers s n (sought_at sought n)
+      by (inl e) =
+          let same : x ≡ y = one_stream x y (slice_get plan.spec.streams k) (ap (λ i. slice_get plan.spec.streams i) (sym e) ∙ at) there in
+          let R : ℕ → Type 0 = λ i. runs_in plan m marks layer i y ≡ true in
+          let run : runs_in plan m marks layer k y ≡ true = subst R e (subst (λ (z : Stream). runs_in plan m marks layer n z ≡ true) same runs) in
+          absurd (cc)
+      by (inr ne) = h n x (under n k ne below) at runs
+
   pub sought_all : (k : ℕ) (sought : List Whereabouts) → length plan.spec.streams ≤ k → SoughtUpTo k sought → AreSought plan m marks sought remembers s layer
   sought_all k sought past h n x at runs = h n x (omega (arith, past, within plan.spec.streams n x at)) at runs

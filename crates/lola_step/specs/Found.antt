@@ -1,5 +1,5 @@
 -- What is found among the outcomes that are noted: faults and values.
-use Rattle.std.specs.Prelude.{ℕ, ◌≡◌, ◌+◌, List, [], ◌∷◌, ◌++◌, Option, Some, None, true, if◌then◌else◌, slice_get}
+use Rattle.std.specs.Prelude.{ℕ, ◌≡◌, ◌+◌, List, [], ◌∷◌, ◌++◌, Option, Some, None, Bool, true, false, ◌||◌, if◌then◌else◌, slice_get}
 use Rattle.lola_value.specs.declared.value.FaultKind.{FaultKind}
 use Rattle.lola_value.specs.declared.value.Outcome.{Outcome}
 use Rattle.lola_value.specs.declared.value.Outcome.TheVariants as outcome
@@ -49,6 +49,29 @@ fault_or n (Some k) rest = Some (n, k)
 abbrev pub first_among : List Outcome → ℕ → List Mark → List Span → Option (ℕ × FaultKind)
 first_among results n (m ∷ ms) (p ∷ ps) = fault_or n (fault_of m (in_span results (Some p))) (first_among results (n + 1) ms ps)
 first_among results n _ _ = None
+
+-- whether a spawn clause failed
+abbrev pub is_failed : Mark → Bool
+is_failed (mark.Failed k) = true
+is_failed _ = false
+
+-- none did
+abbrev pub NoneFailed : List Mark → Type 0
+NoneFailed marks = (n : ℕ) (k : Mark) → slice_get marks n ≡ Some k → is_failed k ≡ false
+
+-- whether an outcome is a fault
+abbrev pub is_fault : Outcome → Bool
+is_fault (outcome.Fault k) = true
+is_fault _ = false
+
+-- whether one of these is
+abbrev pub has_fault : List Outcome → Bool
+has_fault [] = false
+has_fault (o ∷ os) = is_fault o || has_fault os
+
+-- no spawn clause failed, and no outcome is a fault
+abbrev pub IsFaultless : List Mark → List Outcome → Type 0
+IsFaultless marks results = NoneFailed marks × (has_fault results ≡ false)
 
 -- values
 

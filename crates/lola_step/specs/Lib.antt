@@ -10,6 +10,7 @@ pub mod Inputs
 pub mod Spawns
 pub mod Evals
 pub mod Ends
+pub mod Schedules
 pub mod Scratches
 pub mod Conclusions
 pub mod Beginnings

@@ -11,6 +11,7 @@ use Rattle.lola_stages.specs.Stages.{full_row, layer_stage}
 use Rattle.lola_step.specs.Notes.{AreNoted}
 use Rattle.lola_step.specs.Progress.{IsRunAt}
 use Rattle.lola_step.specs.Rooms.{total}
+use Rattle.lola_step.specs.Schedules.{IsScheduleOf}
 use Rattle.lola_step.specs.declared.mark.Mark.TheVariants as mark
 use Rattle.lola_step.specs.declared.moment.Moment.{Moment}
 use Rattle.lola_step.specs.declared.scratch.Scratch.{Scratch}
@@ -28,14 +29,16 @@ pub record HasRoom (n : Scratch) (room : ℕ) : Type 0 where
 abbrev pub least_room : Plan → ℕ
 least_room plan = 2 * length plan.spec.streams
 
--- notes of a plan: a mark, a span and whereabouts for each stream, more layers than that of any node, the code of its specification,
--- and at least the least room
+-- notes of a plan: a mark, a span and whereabouts for each stream, more layers than that of any node, the turns of its streams in each of
+-- them, the code of its specification, and at least the least room
 pub record IsScratchOf (plan : Plan) (n : Scratch) : Type 0 where
   pub marks : length n.marks.items ≡ length plan.spec.streams
   pub spans : length n.spans.items ≡ length plan.spec.streams
   pub sought : length n.sought.items ≡ length plan.spec.streams
   pub layers : (node : ℕ) → layer_of plan.layers node < n.layers
   pub few_layers : n.layers ≤ 2 ^ 32
+  pub scheduled : length n.schedule.layers.items ≡ n.layers
+  pub schedule : IsScheduleOf plan n.schedule
   pub code : n.code ≡ plan.spec
   pub room : HasRoom n (least_room plan)
 

@@ -19,13 +19,16 @@ ghost use Rattle.lola_step.specs.Moments.{IsListedIn, active_for_in, born_seen, 
 ghost use Rattle.lola_step.specs.Notes.{AreClosable, places_of};
 ghost use Rattle.lola_step.specs.Progress.{IsMomentOf, IsOf};
 ghost use Rattle.lola_model.specs.declared.store.Whereabouts.TheVariants as whereabouts;
+ghost use Rattle.lola_step.specs.Schedules.{turns_of};
 ghost use Rattle.lola_step.specs.Sought.{IsFalseElsewhere};
 ghost use Rattle.lola_step.specs.Rooms.{rooms, total};
 ghost use Rattle.lola_step.specs.Tasks.{params_seen};
+ghost use Rattle.lola_step.specs.declared.schedule.Turn.TheVariants as turn;
 
 use crate::clauses::close_outcome;
 use crate::ends::with_fault;
 use crate::moment::{Moment, is_active_for, may_be_active};
+use crate::schedule::stream_at;
 use crate::seek::seek;
 use crate::tasks::Task;
 use lola_contents::calls::close;
@@ -271,14 +274,16 @@ fn find_in_stream<S: StreamStore>(
 }
 
 /// Lists the instances whose close condition is true, by the streams' numbers and in the order of birth; or answers the first stream of
-/// which a condition has a fault, with the least kind.
+/// which a condition has a fault, with the least kind. Those that have a close clause are told.
 pub(crate) fn find_closings<S: StreamStore>(
     plan: &Plan,
+    turns: &[u32],
     moment: &Moment,
     store: &S,
     places: &mut Vec<u32>,
     closing: &mut Vec<Task>,
 ) -> Option<(u32, FaultKind)>
+    requires turns { turns.now ≡ turns_of plan.now turn.Close }
     requires accepted { IsAccepted plan.now }
     requires of { IsOf plan.now (S.seen store.now) }
     requires running { IsRunning (S.seen store.now) }
@@ -291,9 +296,11 @@ pub(crate) fn find_closings<S: StreamStore>(
     ensures places { vec_capacity places.new ≡ vec_capacity places.old }
     ensures capacity { vec_capacity closing.new ≡ vec_capacity closing.old }
 {
-    for (n, stream) in plan.spec.streams.as_slice().iter().enumerate() {
-        if let Some(kind) = find_in_stream(plan, moment, stream, n as u32, store, places, closing) {
-            return Some((n as u32, kind));
+    for number in turns {
+        let n = *number;
+        let stream = stream_at(plan, n);
+        if let Some(kind) = find_in_stream(plan, moment, stream, n, store, places, closing) {
+            return Some((n, kind));
         }
     }
     None

@@ -1,13 +1,13 @@
 //! What a step comes to once its streams are evaluated: its fault, or its values.
 
-ghost use Rattle.std.specs.Prelude.{◌≡◌, ◌+◌, ◌<◌, ◌≤◌, List, [], ◌++◌, if◌then◌else◌, length, vec_len, Some};
+ghost use Rattle.std.specs.Prelude.{◌≡◌, ◌+◌, ◌<◌, ◌≤◌, List, [], ◌++◌, if◌then◌else◌, false, length, slice_get, true, vec_len, Some};
 ghost use Rattle.std.specs.Vec.{vec_capacity};
 ghost use Rattle.lola_model.specs.Acceptance.{IsAccepted};
 ghost use Rattle.lola_model.specs.Faults.{lesser_kind};
 ghost use Rattle.lola_model.specs.Model.{is_input as is_input_of};
-ghost use Rattle.lola_model.specs.Store.{IsRunning, instances_seen};
+ghost use Rattle.lola_model.specs.Store.{IsRunning, instances_seen, parameters_of};
 ghost use Rattle.lola_step.specs.Ends.{CollectsVerdicts, FindsFault};
-ghost use Rattle.lola_step.specs.Found.{FitLayout, add_fault, add_verdict, fault_of, least_among, verdicts_among};
+ghost use Rattle.lola_step.specs.Found.{FitLayout, IsFaultless, add_fault, add_verdict, fault_of, least_among, verdicts_among};
 ghost use Rattle.lola_step.specs.Notes.{AreOfStream, AreSpans, AreVerdicts, AreWithin, asked_in, in_span};
 ghost use Rattle.lola_step.specs.Progress.{IsOf};
 ghost use Rattle.lola_step.specs.Rooms.{rooms, total};
@@ -16,7 +16,7 @@ ghost use Rattle.lola_step.specs.declared.tasks.Task.{Task};
 
 use crate::mark::Mark;
 use crate::scratch::Span;
-use crate::tasks::Task;
+use crate::tasks::{Task, is_alone, own_params};
 use crate::verdict::Verdict;
 use lola_model::plan::Plan;
 use lola_model::spec::Stream;
@@ -83,7 +83,7 @@ fn tasks_of(tasks: &[Task], span: Span) -> &[Task]
 }
 
 /// The first stream of which a spawn clause or an instance has a fault, with the fault's kind.
-pub(crate) fn first_fault(
+fn first_fault(
     plan: &Plan,
     marks: &[Mark],
     spans: &[Span],
@@ -103,14 +103,38 @@ pub(crate) fn first_fault(
     None
 }
 
+/// The same, where it is known whether there may be one.
+pub(crate) fn fault_of_step(
+    plan: &Plan,
+    is_faulty: bool,
+    marks: &[Mark],
+    spans: &[Span],
+    results: &[Outcome],
+) -> Option<(u32, FaultKind)>
+    requires accepted { IsAccepted plan.now }
+    requires faultless { is_faulty ≡ false → IsFaultless marks.now results.now }
+    requires marks { length marks.now ≡ length plan.now.spec.streams }
+    requires spans { length spans.now ≡ length plan.now.spec.streams }
+    requires within { AreWithin results.now spans.now }
+    ensures { (tasks : List Task) → FindsFault plan.now marks.now spans.now tasks results.now result }
+{
+    if is_faulty {
+        first_fault(plan, marks, spans, results)
+    } else {
+        None
+    }
+}
+
 /// The value of an instance, if it has one.
 fn add_value<S: StreamStore>(
     store: &S,
     stream: u32,
     index: u32,
+    is_alone: bool,
     outcome: Outcome,
     verdicts: &mut Vec<Verdict>,
 )
+    requires alone { is_alone ≡ true → parameters_of (slice_get (S.seen store.now).layout.streams stream) ≡ [] }
     requires lives { index < length (instances_seen (S.seen store.now) stream) }
     requires room { vec_len verdicts.old < vec_capacity verdicts.old }
     ensures items { verdicts.new.items ≡ verdicts.old.items ++ add_verdict stream (params_seen (S.seen store.now) stream index) outcome [] }
@@ -121,7 +145,7 @@ fn add_value<S: StreamStore>(
     if let Outcome::Value(value) = outcome {
         verdicts.push_reserved(Verdict {
             stream,
-            params: store.params_of(stream, index),
+            params: own_params(store, stream, index, is_alone),
             value,
         });
     }
@@ -131,10 +155,12 @@ fn add_value<S: StreamStore>(
 fn add_values<S: StreamStore>(
     store: &S,
     stream: u32,
+    is_alone: bool,
     tasks: &[Task],
     results: &[Outcome],
     verdicts: &mut Vec<Verdict>,
 )
+    requires alone { is_alone ≡ true → parameters_of (slice_get (S.seen store.now).layout.streams stream) ≡ [] }
     requires each { length tasks.now ≡ length results.now }
     requires asked { AreOfStream stream 0 (length (instances_seen (S.seen store.now) stream)) tasks.now }
     requires room { vec_len verdicts.old + length results.now ≤ vec_capacity verdicts.old }
@@ -144,7 +170,7 @@ fn add_values<S: StreamStore>(
     ensures capacity { vec_capacity verdicts.new ≡ vec_capacity verdicts.old }
 {
     for (i, task) in tasks.iter().enumerate() {
-        add_value(store, stream, task.index, results[i], verdicts);
+        add_value(store, stream, task.index, is_alone, results[i], verdicts);
     }
 }
 
@@ -157,6 +183,7 @@ fn add_outputs<S: StreamStore>(
     results: &[Outcome],
     verdicts: &mut Vec<Verdict>,
 )
+    requires layout { parameters_of (slice_get (S.seen store.now).layout.streams number) ≡ stream.now.parameters }
     requires each { length tasks.now ≡ length results.now }
     requires asked { AreOfStream number 0 (length (instances_seen (S.seen store.now) number)) tasks.now }
     requires room { vec_len verdicts.old + length results.now ≤ vec_capacity verdicts.old }
@@ -167,7 +194,7 @@ fn add_outputs<S: StreamStore>(
     ensures capacity { vec_capacity verdicts.new ≡ vec_capacity verdicts.old }
 {
     if !stream.is_input() {
-        add_values(store, number, tasks, results, verdicts);
+        add_values(store, number, is_alone(stream), tasks, results, verdicts);
     }
 }
 

@@ -1,6 +1,6 @@
 //! The instances of a layer.
 
-ghost use Rattle.std.specs.Prelude.{◌≡◌, ◌+◌, ◌<◌, ◌≤◌, ◌^◌, ◌++◌, drop, if◌then◌else◌, length, replicate, slice_get, slice_set, take, true, vec_len, Some};
+ghost use Rattle.std.specs.Prelude.{ℕ, ◌≡◌, ◌+◌, ◌<◌, ◌≤◌, ◌^◌, ◌++◌, ◌||◌, drop, false, if◌then◌else◌, length, replicate, slice_get, slice_set, take, true, vec_len, Some};
 ghost use Rattle.std.specs.Vec.{vec_capacity};
 ghost use Rattle.lola_value.specs.Naming.{Naming, IsHeldIn, read_outcome};
 ghost use Rattle.lola_value.specs.Times.{latest};
@@ -8,20 +8,24 @@ ghost use Rattle.lola_value.specs.declared.value.Outcome.TheVariants as outcome;
 ghost use Rattle.lola_model.specs.Acceptance.{IsAccepted};
 ghost use Rattle.lola_model.specs.Content.{Content, seen};
 ghost use Rattle.lola_model.specs.Store.{IsRunning, Stands, instances_seen, layout_of};
+ghost use Rattle.lola_model.specs.declared.spec.Stream.{Stream};
 ghost use Rattle.lola_contents.specs.Changed.{told};
 ghost use Rattle.lola_stages.specs.Stages.{eval_stage, layer_stage};
 ghost use Rattle.lola_step.specs.Evals.{EvalsTake, HasRooms, IsReadyFor, ShowsMore};
+ghost use Rattle.lola_step.specs.Found.{has_fault, is_fault};
 ghost use Rattle.lola_step.specs.Given.{AreHeldIn, AreResults, CanGive, CanGiveAll, after_all, after_giving, told_outcomes};
 ghost use Rattle.lola_step.specs.Notes.{is_fine as is_fine_mark, layer_spans, layer_tasks, places_asked, places_from, places_paced, runs_in, sought_at, stream_tasks, tasks_at};
 ghost use Rattle.lola_step.specs.Progress.{GoesOn, IsAt, IsMomentOf, IsOf};
+ghost use Rattle.lola_step.specs.Schedules.{has_turn, turns_of};
 ghost use Rattle.lola_step.specs.Sought.{AreSought, IsSilentElsewhere};
 ghost use Rattle.lola_step.specs.Tasks.{AreTasks};
+ghost use Rattle.lola_step.specs.declared.schedule.Turn.TheVariants as turn;
 
 use crate::mark::Mark;
 use crate::moment::{Moment, may_be_active};
+use crate::schedule::stream_at;
 use crate::scratch::Span;
 use crate::seek::seek;
-use crate::spawns::layer_at;
 use crate::tasks::{Task, eval_pacing_at, run_tasks};
 use lola_code::plan::PlanCode;
 use lola_contents::calls::{poison, push};
@@ -43,19 +47,15 @@ fn is_fine(mark: Mark) -> bool
     }
 }
 
-/// Whether a stream runs in a layer: it is no input, its instances belong to the layer, its clause may be active for some of them and
-/// its spawn clause did not fail.
-fn runs(plan: &Plan, moment: &Moment, marks: &[Mark], layer: u32, n: usize, stream: &Stream) -> bool
-    requires few { n ≤ 1024 }
+/// Whether a stream that has a turn in a layer runs in it: its clause may be active for some of its instances and its spawn clause did
+/// not fail.
+fn runs(plan: &Plan, moment: &Moment, marks: &[Mark], n: usize) -> bool
     requires pacings { n < length plan.now.pacings }
     requires marks { n < length marks.now }
     requires in_time { moment.now.time ≤ latest }
     requires order { moment.now.start ≤ moment.now.time }
-    ensures { result ≡ runs_in plan.now moment.now marks.now layer n stream.now }
+    ensures { (layer : ℕ) (stream : Stream) → has_turn plan.now (turn.Eval layer) n stream ≡ true → result ≡ runs_in plan.now moment.now marks.now layer n stream }
 {
-    if stream.is_input() || layer_at(plan.layers.as_slice(), 2 * n) != layer {
-        return false;
-    }
     may_be_active(moment, eval_pacing_at(plan.pacings.as_slice(), n)) && is_fine(marks[n])
 }
 
@@ -71,6 +71,7 @@ fn seek_stream<S: StreamStore>(
     stream: &Stream,
 ) -> Whereabouts
     requires few { n ≤ 1024 }
+    requires turn { has_turn plan.now (turn.Eval layer) n stream.now ≡ true }
     requires accepted { IsAccepted plan.now }
     requires at { IsAt plan.now (eval_stage (length plan.now.spec.streams) layer) (S.seen store.now) }
     requires moment { IsMomentOf moment.now (S.seen store.now) }
@@ -82,7 +83,7 @@ fn seek_stream<S: StreamStore>(
     let Some(clause) = &stream.eval else {
         return Whereabouts::Unknown;
     };
-    if stream.parameters.as_slice().is_empty() || !runs(plan, moment, marks, layer, n, stream) {
+    if stream.parameters.as_slice().is_empty() || !runs(plan, moment, marks, n) {
         return Whereabouts::Unknown;
     }
     match eval_pacing_at(plan.pacings.as_slice(), n) {
@@ -91,15 +92,18 @@ fn seek_stream<S: StreamStore>(
     }
 }
 
-/// Notes of each stream that runs in a layer where the one instance stands that is to be asked, where that is known.
+/// Notes of each stream that runs in a layer where the one instance stands that is to be asked, where that is known. Those that have a
+/// turn in it are told.
 fn seek_layer<S: StreamStore>(
     plan: &Plan,
+    turns: &[u32],
     moment: &Moment,
     store: &S,
     layer: u32,
     marks: &[Mark],
     sought: &mut [Whereabouts],
 )
+    requires turns { turns.now ≡ turns_of plan.now (turn.Eval layer) }
     requires accepted { IsAccepted plan.now }
     requires at { IsAt plan.now (eval_stage (length plan.now.spec.streams) layer) (S.seen store.now) }
     requires moment { IsMomentOf moment.now (S.seen store.now) }
@@ -107,7 +111,9 @@ fn seek_layer<S: StreamStore>(
     requires sought { length sought.old ≡ length plan.now.spec.streams }
     ensures { AreSought plan.now moment.now marks.now sought.new (S.remembers store.now) (S.seen store.now) layer }
 {
-    for (n, stream) in plan.spec.streams.as_slice().iter().enumerate() {
+    for number in turns {
+        let n = *number as usize;
+        let stream = stream_at(plan, *number);
         sought[n] = seek_stream(plan, moment, store, layer, marks, n, stream);
     }
 }
@@ -233,6 +239,7 @@ fn gather_stream<S: StreamStore>(
     spans: &mut [Span],
 )
     requires few { n ≤ 1024 }
+    requires turn { has_turn plan.now (turn.Eval layer) n stream.now ≡ true }
     requires pacings { n < length plan.now.pacings }
     requires marks { n < length marks.now }
     requires in_time { moment.now.time ≤ latest }
@@ -249,7 +256,7 @@ fn gather_stream<S: StreamStore>(
     ensures places { vec_capacity places.new ≡ vec_capacity places.old }
     ensures capacities { (vec_capacity tasks.new ≡ vec_capacity tasks.old) × (vec_capacity results.new ≡ vec_capacity results.old) }
 {
-    if runs(plan, moment, marks, layer, n, stream) {
+    if runs(plan, moment, marks, n) {
         let from = tasks.len();
         let pacing = eval_pacing_at(plan.pacings.as_slice(), n);
         let whereabouts = sought_of(sought, n);
@@ -271,9 +278,10 @@ fn gather_stream<S: StreamStore>(
 }
 
 /// Lists the tasks of a layer behind those of the layers before: for each stream that runs in it, by the streams' numbers, one for each
-/// instance that is asked in order of birth. Each gets a place for its outcome.
+/// instance that is asked in order of birth. Each gets a place for its outcome. Those that have a turn in it are told.
 fn gather<S: StreamStore>(
     plan: &Plan,
+    turns: &[u32],
     moment: &Moment,
     store: &S,
     layer: u32,
@@ -284,6 +292,7 @@ fn gather<S: StreamStore>(
     results: &mut Vec<Outcome>,
     spans: &mut [Span],
 )
+    requires turns { turns.now ≡ turns_of plan.now (turn.Eval layer) }
     requires accepted { IsAccepted plan.now }
     requires of { IsOf plan.now (S.seen store.now) }
     requires moment { IsMomentOf moment.now (S.seen store.now) }
@@ -297,9 +306,21 @@ fn gather<S: StreamStore>(
     ensures places { vec_capacity places.new ≡ vec_capacity places.old }
     ensures capacities { (vec_capacity tasks.new ≡ vec_capacity tasks.old) × (vec_capacity results.new ≡ vec_capacity results.old) }
 {
-    for (n, stream) in plan.spec.streams.as_slice().iter().enumerate() {
+    for number in turns {
+        let n = *number as usize;
         gather_stream(
-            plan, moment, store, layer, marks, sought, n, stream, places, tasks, results, spans,
+            plan,
+            moment,
+            store,
+            layer,
+            marks,
+            sought,
+            n,
+            stream_at(plan, *number),
+            places,
+            tasks,
+            results,
+            spans,
         );
     }
 }
@@ -368,26 +389,42 @@ fn give<S: StreamStore>(store: &mut S, task: Task, outcome: Outcome)
     }
 }
 
-/// Gives each task's instance its outcome.
-fn give_all<S: StreamStore>(store: &mut S, tasks: &[Task], results: &[Outcome])
+/// Whether there was a fault so far, or an outcome is one.
+fn or_fault(faulty: bool, outcome: Outcome) -> bool
+    ensures { result ≡ (is_fault outcome || faulty) }
+{
+    match outcome {
+        Outcome::Fault(_) => true,
+        _ => faulty,
+    }
+}
+
+/// Gives each task's instance its outcome, and answers whether one of them is a fault.
+fn give_all<S: StreamStore>(store: &mut S, tasks: &[Task], results: &[Outcome]) -> bool
     requires places { length tasks.now ≡ length results.now }
     requires can { CanGiveAll (S.seen store.old) tasks.now results.now }
     ensures seen { S.seen store.new ≡ after_all (S.seen store.old) tasks.now results.now }
     ensures stands { (names : Naming) (c : Content) → AreHeldIn names results.now → Stands names (S.remembers store.old) (S.seen store.old) c
         → Stands names (S.remembers store.new) (S.seen store.new) (told_outcomes names c tasks.now results.now) }
+    ensures faulty { result ≡ has_fault results.now }
 {
+    let mut faulty = false;
     for (i, task) in tasks.iter().enumerate() {
         give(store, *task, results[i]);
+        faulty = or_fault(faulty, results[i]);
     }
+    faulty
 }
 
 /// Finds which instances of a layer are to be asked, evaluates these, shared out among at most so many threads, and then gives each its
 /// outcome. The
-/// tasks and their outcomes are kept behind those of the layers before, those of a stream where its span says.
+/// tasks and their outcomes are kept behind those of the layers before, those of a stream where its span says. The streams that have a
+/// turn in the layer are told. Answers whether an outcome is a fault.
 pub(crate) fn eval_layer<R: Threads + Sync, S: StreamStore + Sync, G: Gate + Sync>(
     rt: &R,
     gate: &G,
     plan: &Plan,
+    turns: &[u32],
     code: &PlanCode,
     moment: &Moment,
     store: &mut S,
@@ -400,7 +437,8 @@ pub(crate) fn eval_layer<R: Threads + Sync, S: StreamStore + Sync, G: Gate + Syn
     sought: &mut [Whereabouts],
     workers: u32,
     is_first: bool,
-)
+) -> bool
+    requires turns { turns.now ≡ turns_of plan.now (turn.Eval layer) }
     requires code { code.now ≡ plan.now.spec }
     requires workers { (1 ≤ workers) × (workers ≤ 64) }
     requires accepted { IsAccepted plan.now }
@@ -418,11 +456,12 @@ pub(crate) fn eval_layer<R: Threads + Sync, S: StreamStore + Sync, G: Gate + Syn
     ensures capacities { (vec_capacity tasks.new ≡ vec_capacity tasks.old) × (vec_capacity results.new ≡ vec_capacity results.old) }
     ensures takes { EvalsTake plan.now moment.now layer marks.now (S.remembers store.old) (S.seen store.old) (S.remembers store.new) (S.seen store.new) }
     ensures shows { ShowsMore plan.now moment.now layer marks.now (S.remembers store.old) (S.seen store.old) spans.old tasks.old.items results.old.items spans.new tasks.new.items results.new.items }
+    ensures faultless { result ≡ false → has_fault results.old.items ≡ false → has_fault results.new.items ≡ false }
 {
     let from = tasks.len();
-    seek_layer(plan, moment, store, layer, marks, sought);
+    seek_layer(plan, turns, moment, store, layer, marks, sought);
     gather(
-        plan, moment, store, layer, marks, sought, places, tasks, results, spans,
+        plan, turns, moment, store, layer, marks, sought, places, tasks, results, spans,
     );
     let sharers = sharers_of(workers, tasks.len() - from, is_first);
     answer_tasks(
@@ -437,5 +476,5 @@ pub(crate) fn eval_layer<R: Threads + Sync, S: StreamStore + Sync, G: Gate + Syn
         from,
         sharers,
     );
-    give_all(store, &tasks[from..], &results[from..]);
+    give_all(store, &tasks[from..], &results[from..])
 }

@@ -9,6 +9,7 @@ mod evals;
 mod inputs;
 pub mod mark;
 pub mod moment;
+mod schedule;
 pub mod scratch;
 mod seek;
 mod spawns;

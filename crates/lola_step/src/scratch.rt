@@ -6,9 +6,12 @@ ghost use Rattle.lola_model.specs.Acceptance.{IsAccepted};
 ghost use Rattle.lola_model.specs.Graph.{layer_of};
 ghost use Rattle.lola_step.specs.Progress.{IsOf};
 ghost use Rattle.lola_step.specs.Scratches.{HasRoom, IsFresh, IsScratchOf, instances_to_come, no_span};
+ghost use Rattle.lola_step.specs.Schedules.{turns_of};
 ghost use Rattle.lola_step.specs.declared.mark.Mark.TheVariants as mark;
+ghost use Rattle.lola_step.specs.declared.schedule.Turn.TheVariants as turn;
 
 use crate::mark::Mark;
+use crate::schedule::Schedule;
 use crate::tasks::Task;
 use crate::verdict::Verdict;
 use lola_code::plan::PlanCode;
@@ -39,10 +42,14 @@ pub struct Scratch {
     pub(crate) closing: Vec<Task>,
     pub(crate) verdicts: Vec<Verdict>,
     pub(crate) layers: u64,
+    // which streams have a turn in a step, which is never changed
+    pub(crate) schedule: Schedule,
     // the code of the plan's eval clauses, which is never changed
     pub(crate) code: PlanCode,
     // no step was evaluated yet
     pub(crate) is_first: bool,
+    // in the last step that was evaluated a spawn clause failed or an outcome was a fault
+    pub(crate) is_faulty: bool,
 }
 
 /// How many layers there are, at least one.
@@ -60,7 +67,7 @@ fn layer_count(layers: &[u32]) -> u64
 }
 
 /// How many instances a step may have: those that live, and one more of each stream.
-fn instances_in_step<S: StreamStore>(plan: &Plan, store: &S) -> usize
+fn count_instances<S: StreamStore>(plan: &Plan, store: &S) -> usize
     requires accepted { IsAccepted plan.now }
     requires of { IsOf plan.now (S.seen store.now) }
     ensures { result ≡ instances_to_come (S.seen store.now) }
@@ -70,6 +77,21 @@ fn instances_in_step<S: StreamStore>(plan: &Plan, store: &S) -> usize
         count += store.instances(n as u32) as usize + 1;
     }
     count
+}
+
+/// The same, where the streams that have a spawn clause are told: where there are none, each stream has its one instance.
+#[tactic(auto, using(crate::proofs::Counts::two_exactly))]
+fn instances_in_step<S: StreamStore>(plan: &Plan, births: &[u32], store: &S) -> usize
+    requires births { births.now ≡ turns_of plan.now turn.Birth }
+    requires accepted { IsAccepted plan.now }
+    requires of { IsOf plan.now (S.seen store.now) }
+    ensures { result ≡ instances_to_come (S.seen store.now) }
+{
+    if births.is_empty() {
+        2 * plan.spec.streams.as_slice().len()
+    } else {
+        count_instances(plan, store)
+    }
 }
 
 impl Scratch {
@@ -83,6 +105,8 @@ impl Scratch {
         let marks = vec![in alloc; Mark::Fine; count]?;
         let spans = vec![in alloc; Span { from: 0, count: 0 }; count]?;
         let sought = vec![in alloc; Whereabouts::Unknown; count]?;
+        let layers = layer_count(plan.layers.as_slice());
+        let schedule = Schedule::create(alloc, plan, layers)?;
         Ok(Scratch {
             marks,
             spans,
@@ -92,9 +116,11 @@ impl Scratch {
             results: Vec::with_capacity(alloc, room)?,
             closing: Vec::with_capacity(alloc, room)?,
             verdicts: Vec::with_capacity(alloc, room)?,
-            layers: layer_count(plan.layers.as_slice()),
+            layers,
+            schedule,
             code: PlanCode::create(alloc, &plan.spec)?,
             is_first: true,
+            is_faulty: false,
         })
     }
 
@@ -119,7 +145,7 @@ pub(crate) fn make_room<S: StreamStore>(
     ensures fresh { OnOk result (IsFresh scratch.new (instances_to_come (S.seen store.now))) }
     ensures enough { HasRoom scratch.old (instances_to_come (S.seen store.now)) → IsOk result }
 {
-    let room = instances_in_step(plan, store);
+    let room = instances_in_step(plan, scratch.schedule.births.as_slice(), store);
     forget_marks(&mut scratch.marks);
     forget_spans(&mut scratch.spans);
     clear_for(&mut scratch.places, room)?;

@@ -1,20 +1,24 @@
 //! The spawn clauses of a layer.
 
-ghost use Rattle.std.specs.Prelude.{◌≡◌, ◌<◌, List, length, slice_get, Some};
+ghost use Rattle.std.specs.Prelude.{◌≡◌, ◌<◌, ◌||◌, List, false, length, slice_get, Some};
 ghost use Rattle.lola_value.specs.Naming.{Naming};
 ghost use Rattle.lola_model.specs.Acceptance.{IsAccepted};
 ghost use Rattle.lola_model.specs.Graph.{layer_of};
 ghost use Rattle.lola_model.specs.Model.{spawn_pacing};
 ghost use Rattle.lola_model.specs.Table.{Step, TableRow};
 ghost use Rattle.lola_stages.specs.Stages.{eval_stage, full_row, layer_stage, spawn_stage};
+ghost use Rattle.lola_step.specs.Found.{NoneFailed, is_failed};
 ghost use Rattle.lola_step.specs.Notes.{AreMarks};
 ghost use Rattle.lola_step.specs.Progress.{GoesOn, IsAt, IsMomentOf, IsRunAt, TakesTo};
+ghost use Rattle.lola_step.specs.Schedules.{turns_of};
 ghost use Rattle.lola_step.specs.Spawns.{IsAfterClause, IsFor, IsNextSpawn, IsTaken, MaySpawn};
 ghost use Rattle.lola_step.specs.declared.clauses.Spawning.TheVariants as spawning;
+ghost use Rattle.lola_step.specs.declared.schedule.Turn.TheVariants as turn;
 
 use crate::clauses::{Spawning, spawning_of};
 use crate::mark::Mark;
 use crate::moment::{Moment, is_active};
+use crate::schedule::stream_at;
 use lola_contents::calls::{poison_stream, spawn};
 use lola_model::pacing::{ClausePacings, Pacing};
 use lola_model::plan::Plan;
@@ -110,14 +114,27 @@ fn spawn_stream<S: StreamStore>(
     }
 }
 
-/// Runs the spawn clauses of a layer that are active, by the streams' numbers, and marks what they did.
+/// Whether a spawn clause failed so far, or this one did.
+fn or_failed(failed: bool, mark: Mark) -> bool
+    ensures { result ≡ (is_failed mark || failed) }
+{
+    match mark {
+        Mark::Failed(_) => true,
+        _ => failed,
+    }
+}
+
+/// Runs the spawn clauses of a layer that are active, by the streams' numbers, and marks what they did. The streams whose spawn clause
+/// belongs to the layer are told. Answers whether one of them failed.
 pub(crate) fn spawn_layer<S: StreamStore>(
     plan: &Plan,
+    turns: &[u32],
     moment: &Moment,
     store: &mut S,
     layer: u32,
     marks: &mut [Mark],
-)
+) -> bool
+    requires turns { turns.now ≡ turns_of plan.now (turn.Spawn layer) }
     requires accepted { IsAccepted plan.now }
     requires at { IsAt plan.now (layer_stage (length plan.now.spec.streams) layer) (S.seen store.old) }
     requires moment { IsMomentOf moment.now (S.seen store.old) }
@@ -130,8 +147,15 @@ pub(crate) fn spawn_layer<S: StreamStore>(
         → IsRunAt plan.now moment.now (layer_stage (length plan.now.spec.streams) layer) (S.remembers store.old) (S.seen store.old) names rows step
         → AreMarks plan.now (full_row plan.now moment.now.start rows step).streams (layer_stage (length plan.now.spec.streams) layer) marks.old
         → AreMarks plan.now (full_row plan.now moment.now.start rows step).streams (eval_stage (length plan.now.spec.streams) layer) marks.new }
+    ensures fine { result ≡ false → NoneFailed marks.old → NoneFailed marks.new }
 {
-    for (n, stream) in plan.spec.streams.as_slice().iter().enumerate() {
-        marks[n] = spawn_stream(plan, moment, store, layer, n, stream, marks[n]);
+    let mut failed = false;
+    for number in turns {
+        let n = *number as usize;
+        let stream = stream_at(plan, *number);
+        let mark = spawn_stream(plan, moment, store, layer, n, stream, marks[n]);
+        failed = or_failed(failed, mark);
+        marks[n] = mark;
     }
+    failed
 }

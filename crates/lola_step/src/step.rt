@@ -1,6 +1,6 @@
 //! A step: the inputs, then layer by layer the spawn clauses and the instances, and then the close clauses.
 
-ghost use Rattle.std.specs.Prelude.{◌≡◌, ◌<◌, ◌≤◌, ◌^◌, [], List, length, IsOk, IsTrue, OnOk, OnErr};
+ghost use Rattle.std.specs.Prelude.{◌≡◌, ◌<◌, ◌≤◌, ◌^◌, [], List, false, ◌||◌, length, IsOk, IsTrue, OnOk, OnErr};
 ghost use Rattle.std.specs.Vec.{vec_capacity};
 ghost use Rattle.lola_value.specs.Naming.{Naming};
 ghost use Rattle.lola_value.specs.Times.{latest};
@@ -14,6 +14,7 @@ ghost use Rattle.lola_stages.specs.Stages.{layer_stage};
 ghost use Rattle.lola_step.specs.Beginnings.{moment_at};
 ghost use Rattle.lola_step.specs.Conclusions.{Concludes, ShowsConcluded};
 ghost use Rattle.lola_step.specs.Evals.{IsReadyFor};
+ghost use Rattle.lola_step.specs.Found.{IsFaultless};
 ghost use Rattle.lola_step.specs.Notes.{AreSpans, AreVerdicts};
 ghost use Rattle.lola_step.specs.Progress.{GoesOn, IsAt, IsMomentOf, IsOf, IsRun};
 ghost use Rattle.lola_step.specs.Scratches.{EvaluatesAll, IsFresh, IsScratchOf, instances_to_come};
@@ -23,7 +24,7 @@ ghost use Rattle.lola_step.specs.declared.end.StepEnd.TheVariants as end;
 
 use crate::closes::{close_all, find_closings};
 use crate::end::StepEnd;
-use crate::ends::{collect, first_fault};
+use crate::ends::{collect, fault_of_step};
 use crate::evals::eval_layer;
 use crate::inputs::tell_inputs;
 use crate::moment::{Moment, present_inputs};
@@ -54,6 +55,13 @@ fn moment_of(start: u64, time: u64, is_row: bool, inputs: &[Outcome]) -> Moment
     }
 }
 
+/// Whether one of three holds.
+fn one_of(first: bool, second: bool, third: bool) -> bool
+    ensures { result ≡ (first || (second || third)) }
+{
+    first || second || third
+}
+
 /// Evaluates all streams, layer by layer.
 fn evaluate<R: Threads + Sync, S: StreamStore + Sync, G: Gate + Sync>(
     rt: &R,
@@ -78,14 +86,24 @@ fn evaluate<R: Threads + Sync, S: StreamStore + Sync, G: Gate + Sync>(
     ensures each { length scratch.new.tasks.items ≡ length scratch.new.results.items }
     ensures places { vec_capacity scratch.new.places ≡ vec_capacity scratch.old.places }
     ensures kept { (scratch.new.closing ≡ scratch.old.closing) × (scratch.new.verdicts ≡ scratch.old.verdicts) }
+    ensures faultless { scratch.new.is_faulty ≡ false → IsFaultless scratch.new.marks.items scratch.new.results.items }
     ensures evaluates { EvaluatesAll plan.now moment.now (S.remembers store.old) (S.seen store.old) (S.remembers store.new) (S.seen store.new) scratch.new }
 {
+    let mut faulty = false;
     for layer in 0..scratch.layers {
-        spawn_layer(plan, moment, store, layer as u32, &mut scratch.marks);
-        eval_layer(
+        let failed = spawn_layer(
+            plan,
+            scratch.schedule.spawns_in(layer),
+            moment,
+            store,
+            layer as u32,
+            &mut scratch.marks,
+        );
+        let given = eval_layer(
             rt,
             gate,
             plan,
+            scratch.schedule.evals_in(layer),
             &scratch.code,
             moment,
             store,
@@ -99,8 +117,10 @@ fn evaluate<R: Threads + Sync, S: StreamStore + Sync, G: Gate + Sync>(
             workers,
             scratch.is_first,
         );
+        faulty = one_of(faulty, failed, given);
     }
     scratch.is_first = false;
+    scratch.is_faulty = faulty;
 }
 
 /// Ends a step whose streams are evaluated: its fault, or its values and its close clauses.
@@ -117,6 +137,7 @@ fn conclude<S: StreamStore>(
     requires made { IsScratchOf plan.now scratch.old }
     requires each { length scratch.old.tasks.items ≡ length scratch.old.results.items }
     requires within { AreSpans (S.seen store.old) scratch.old.tasks.items scratch.old.results.items scratch.old.spans.items }
+    requires faultless { scratch.old.is_faulty ≡ false → IsFaultless scratch.old.marks.items scratch.old.results.items }
     requires none { (scratch.old.closing.items ≡ []) × (scratch.old.verdicts.items ≡ []) }
     requires places_room { total (rooms (S.seen store.old)) ≤ vec_capacity scratch.old.places }
     requires closing_room { total (rooms (S.seen store.old)) ≤ vec_capacity scratch.old.closing }
@@ -127,8 +148,9 @@ fn conclude<S: StreamStore>(
     ensures concludes { Concludes plan.now moment.now scratch.old.marks.items scratch.old.spans.items scratch.old.tasks.items scratch.old.results.items (S.remembers store.old) (S.seen store.old)
         result (S.remembers store.new) (S.seen store.new) scratch.new.verdicts.items }
 {
-    if let Some((stream, kind)) = first_fault(
+    if let Some((stream, kind)) = fault_of_step(
         plan,
+        scratch.is_faulty,
         &scratch.marks,
         &scratch.spans,
         &scratch.results,
@@ -137,6 +159,7 @@ fn conclude<S: StreamStore>(
     }
     if let Some((stream, kind)) = find_closings(
         plan,
+        scratch.schedule.closes.as_slice(),
         moment,
         store,
         &mut scratch.places,
@@ -219,7 +242,13 @@ pub fn step<R: Threads + Sync, S: StreamStore + Sync, G: Gate + Sync>(
     }
     begin(store, time);
     let moment = moment_of(start, time, is_row, inputs);
-    tell_inputs(plan, store, is_row, inputs);
+    tell_inputs(
+        plan,
+        scratch.schedule.inputs.as_slice(),
+        store,
+        is_row,
+        inputs,
+    );
     evaluate(rt, gate, plan, &moment, store, scratch, workers);
     conclude(plan, &moment, store, scratch)
 }

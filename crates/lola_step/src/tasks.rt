@@ -1,9 +1,11 @@
 //! The tasks of a layer.
 
-ghost use Rattle.std.specs.Prelude.{◌≡◌, ◌≤◌, ◌<◌, ◌^◌, ℕ, IsSomeAnd, length, slice_get, true};
+ghost use Rattle.std.specs.Prelude.{◌≡◌, ◌≤◌, ◌<◌, ◌^◌, ℕ, [], IsSomeAnd, IsTrue, MatchOption, length, slice_get, true};
+ghost use Rattle.lola_value.specs.Kinds.{are_of_kinds, is_well_formed};
+ghost use Rattle.lola_value.specs.Naming.{the_values};
 ghost use Rattle.lola_value.specs.Times.{latest};
 ghost use Rattle.lola_model.specs.Model.{eval_pacing};
-ghost use Rattle.lola_model.specs.Store.{IsRunning, layout_of};
+ghost use Rattle.lola_model.specs.Store.{IsRunning, instances_seen, layout_of, parameters_of};
 ghost use Rattle.lola_step.specs.Once.{AreReady-prop};
 ghost use Rattle.lola_step.specs.Tasks.{AreReady, AreTasks, IsActiveTask, IsOutcome, IsTask, IsResult, IsResultAt};
 
@@ -13,9 +15,10 @@ use lola_code::plan::PlanCode;
 use lola_model::job::Job;
 use lola_model::pacing::{ClausePacings, Pacing};
 use lola_model::plan::Plan;
+use lola_model::spec::Stream;
 use lola_model::store::StreamStore;
 use lola_port::Gate;
-use lola_value::value::Outcome;
+use lola_value::value::{Outcome, Params};
 use lola_workers::run_layer;
 use std::thread::Threads;
 
@@ -88,6 +91,33 @@ fn task_outcome<S: StreamStore>(
     }
 }
 
+/// Whether a stream has no parameters.
+pub(crate) fn is_alone(stream: &Stream) -> bool
+    ensures { result ≡ true → stream.now.parameters ≡ [] }
+{
+    stream.parameters.as_slice().is_empty()
+}
+
+/// The parameters of an instance. Where its stream has none they are not copied from the store.
+pub(crate) fn own_params<S: StreamStore>(
+    store: &S,
+    stream: u32,
+    index: u32,
+    is_alone: bool,
+) -> Params
+    requires lives { index < length (instances_seen (S.seen store.now) stream) }
+    requires alone { is_alone ≡ true → parameters_of (slice_get (S.seen store.now).layout.streams stream) ≡ [] }
+    ensures value { MatchOption (slice_get (instances_seen (S.seen store.now) stream) index) ⊥ (λ x. result ≡ x.params) }
+    ensures kinds { IsTrue (are_of_kinds (parameters_of (slice_get (S.seen store.now).layout.streams stream)) (the_values result)) }
+    ensures places { IsTrue (is_well_formed result) }
+{
+    if is_alone {
+        let _own = store.params_of(stream, index);
+        return Params::none();
+    }
+    store.params_of(stream, index)
+}
+
 /// What it comes to where it is active.
 fn active_outcome<S: StreamStore>(plan: &Plan, code: &PlanCode, store: &S, task: Task) -> Outcome
     requires code { code.now ≡ plan.now.spec }
@@ -100,7 +130,7 @@ fn active_outcome<S: StreamStore>(plan: &Plan, code: &PlanCode, store: &S, task:
     match &stream.eval {
         Some(clause) => {
             let code = code.eval_of(task.stream as usize);
-            let params = store.params_of(task.stream, task.index);
+            let params = own_params(store, task.stream, task.index, is_alone(stream));
             instance_outcome(plan, stream, clause, code, &params, store)
         }
         None => Outcome::Missing,

@@ -1,4 +1,4 @@
-use Rattle.std.proofs.Common.{◌≡◌, ◌+◌, ◌≤◌, ◌++◌, length, drop, reverse, IsTrue}
+use Rattle.std.proofs.Common.{◌≡◌, ◌+◌, ◌≤◌, ◌++◌, drop, IsTrue}
 use Rattle.lola_value.specs.Kinds.{is_well_formed}
 use Rattle.lola_value.specs.Naming.{the_values}
 use Rattle.lola_code.specs.Machine.{top}

@@ -1,4 +1,4 @@
-use Rattle.std.proofs.Common.{◌≡◌, ◌≤◌, length, drop, reverse}
+use Rattle.std.proofs.Common.{◌≡◌, drop}
 use Rattle.lola_code.proofs.machine.let_go.Given as goal
 
 abbrev pub invariant-loop-left : goal.invariant-loop-left

@@ -1,10 +1,15 @@
-use Rattle.std.proofs.Common.{rules, ◌≡◌, ◌+◌, ◌≤◌, ◌∙◌, sym, ap, subst, refl, [], ◌∷◌, drop, length, reverse, arith}
+use Rattle.std.proofs.Common.{◌≡◌, ◌∙◌, true, sym, subst, [], ◌∷◌}
 use Rattle.lola_value.specs.declared.value.Outcome.{Outcome}
 use Rattle.lola_value.specs.declared.value.Outcome.TheVariants as outcome
+use Rattle.lola_value.specs.declared.value.Value.{Value}
+use Rattle.lola_expr.specs.Evaluation.{IsDenoted}
+use Rattle.lola_expr.specs.Operands.{operands_fit}
 use Rattle.lola_code.specs.Machine.{Leads}
+use Rattle.lola_code.specs.Shorts.{value_in, widened}
 use Rattle.lola_code.proofs.Means.{Means}
 use Rattle.lola_code.proofs.Runs.{comes_to}
-use Rattle.lola_code.proofs.Steps.{ended, jumps, none_kept, no_argument, there_already, none_true, none_false, none_tested, not_true, not_false, not_chosen}
+use Rattle.lola_code.proofs.Shorts.{is_no_value, is_the_value, not_missing, the_value}
+use Rattle.lola_code.proofs.Steps.{ended, false_none, false_off, given_taken, jumps, no_argument, none_kept, sign_taken, test_none, test_off, there_already, true_off}
 use Rattle.lola_code.proofs.machine.run_code.Goals as goal
 
 pub run-init : goal.run-init
@@ -22,8 +27,49 @@ returns-clause-value g c =
     let remembers = g.S.StreamStore.remembers c.args.store.now in
     let seen = g.S.StreamStore.seen c.args.store.now in
     let wanted : Outcome → Type 0 = λ r. Means remembers seen c.args.params.now c.args._expr.now r in
-    let made = ended remembers seen c.args.params.now wanted c.run.code.now c.run.hand c.run.stack c.in_default.ensures.cases c.run.invariant in
-    made.value
+    let i = c.run.invariant in
+    let made = ended remembers seen c.args.params.now wanted c.run.code.now (widened c.run.hand) c.run.stack c.in_default.ensures.cases i in
+    subst (λ (o : Outcome). IsDenoted remembers seen c.args.params.now c.args._expr.now o) (sym c.widen.ensures) made.value
+
+pub run-preserved-else-is_value : goal.run-preserved-else-is_value
+run-preserved-else-is_value g c =
+    let remembers = g.S.StreamStore.remembers c.args.store.now in
+    let seen = g.S.StreamStore.seen c.args.store.now in
+    let wanted : Outcome → Type 0 = λ r. Means remembers seen c.args.params.now c.args._expr.now r in
+    let i = c.run.invariant in
+    jumps remembers seen c.args.params.now wanted c.run.code.now c.in-Some.rest.now c.past-code.result.now c.in-Some.instr.now c.in-Keep.n (widened c.run.hand) c.run.stack c.run.stack c.in-Some.ensures.cases.0 c.past-code.ensures.rest
+    (none_kept remembers seen c.args.params.now wanted c.in-Some.rest.now c.in-Some.instr.now c.in-Keep.n (widened c.run.hand) c.run.stack c.in-Keep.is (is_no_value c.run.hand (sym c.is_value.ensures ∙ c.if-is_value.false))) i
+
+pub run-preserved-else-is_value-2 : goal.run-preserved-else-is_value-2
+run-preserved-else-is_value-2 g c =
+    let remembers = g.S.StreamStore.remembers c.args.store.now in
+    let seen = g.S.StreamStore.seen c.args.store.now in
+    let wanted : Outcome → Type 0 = λ r. Means remembers seen c.args.params.now c.args._expr.now r in
+    let i = c.run.invariant in
+    jumps remembers seen c.args.params.now wanted c.run.code.now c.in-Some.rest.now c.past-code-else-is_value-2.result.now c.in-Some.instr.now c.in-KeepArgument.n (widened c.run.hand) c.run.stack c.let_go.new.stack c.in-Some.ensures.cases.0 c.past-code-else-is_value-2.ensures.rest
+    (no_argument remembers seen c.args.params.now wanted c.in-Some.rest.now c.in-Some.instr.now c.in-KeepArgument.n c.in-KeepArgument.count (widened c.run.hand) c.run.stack c.let_go.new.stack c.in-KeepArgument.is c.let_go.ensures.rest (is_no_value c.run.hand (sym c.is_value-in-KeepArgument.ensures ∙ c.if-is_value-2.false))) i
+
+-- the operands that a sign takes
+pub joined-hand-requires : goal.joined-hand-requires
+joined-hand-requires g c =
+    let remembers = g.S.StreamStore.remembers c.args.store.now in
+    let seen = g.S.StreamStore.seen c.args.store.now in
+    let wanted : Outcome → Type 0 = λ r. Means remembers seen c.args.params.now c.args._expr.now r in
+    let i = c.run.invariant in
+    let h = subst (λ l. Leads remembers seen c.args.params.now wanted l 0 (widened c.run.hand) c.run.stack) c.in-Some.ensures.cases.0 i in
+    (sign_taken remembers seen c.args.params.now wanted c.in-Some.rest.now c.in-Some.instr.now c.in-Sign.sign c.in-Sign.kind (value_in c.in-Some-pop.left) (value_in c.run.hand) (widened c.run.hand) c.run.stack c.pop.new.self c.in-Sign.is
+    (is_the_value c.run.hand (sym c.is_value-in-Some-pop.ensures ∙ c.if-is_value-4.true)) c.in-Some-pop.ensures h).0
+
+pub joined-hand-requires-in-Some-short_value-2 : goal.joined-hand-requires-in-Some-short_value-2
+joined-hand-requires-in-Some-short_value-2 g c =
+    let remembers = g.S.StreamStore.remembers c.args.store.now in
+    let seen = g.S.StreamStore.seen c.args.store.now in
+    let wanted : Outcome → Type 0 = λ r. Means remembers seen c.args.params.now c.args._expr.now r in
+    let i = c.run.invariant in
+    let h = subst (λ l. Leads remembers seen c.args.params.now wanted l 0 (widened c.run.hand) c.run.stack) c.in-Some.ensures.cases.0 i in
+    let fits = (given_taken remembers seen c.args.params.now wanted c.in-Some.rest.now c.in-Some.instr.now c.in-SignGiven.sign c.in-SignGiven.kind c.in-SignGiven.v (value_in c.run.hand) (widened c.run.hand) c.run.stack c.in-SignGiven.is
+    (is_the_value c.run.hand (sym c.is_value-in-SignGiven.ensures ∙ c.if-is_value-5.true)) h).0 in
+    subst (λ (v : Value). operands_fit c.in-SignGiven.sign c.in-SignGiven.kind (value_in c.run.hand) v ≡ true) (sym (the_value c.in-Some-short_value-2.right c.in-SignGiven.v c.in-Some-short_value-2.ensures)) fits
 
 pub run-preserved-in_default-hand : goal.run-preserved-in_default-hand
 run-preserved-in_default-hand g c =
@@ -31,83 +77,53 @@ run-preserved-in_default-hand g c =
     let seen = g.S.StreamStore.seen c.args.store.now in
     let wanted : Outcome → Type 0 = λ r. Means remembers seen c.args.params.now c.args._expr.now r in
     let i = c.run.invariant in
-    jumps remembers seen c.args.params.now wanted c.run.code.now c.in-Some.rest.now c.past-code.result.now c.in-Some.instr.now c.in-Keep.n c.run.hand c.run.stack c.run.stack c.in-Some.ensures.cases.0 c.past-code.ensures.rest
-    (none_kept remembers seen c.args.params.now wanted c.in-Some.rest.now c.in-Some.instr.now c.in-Keep.n c.run.hand c.run.stack c.in-Keep.is c.in_default-hand.not-Value) i
+    jumps remembers seen c.args.params.now wanted c.run.code.now c.in-Some.rest.now c.past-code-in_default-hand.result.now c.in-Some.instr.now c.in-Otherwise.n (widened c.run.hand) c.run.stack c.run.stack c.in-Some.ensures.cases.0 c.past-code-in_default-hand.ensures.rest
+    (there_already remembers seen c.args.params.now wanted c.in-Some.rest.now c.in-Some.instr.now c.in-Otherwise.n (widened c.run.hand) c.run.stack c.in-Otherwise.is (not_missing c.run.hand c.in_default-hand.not-Missing)) i
 
-pub run-preserved-in_default-hand-2 : goal.run-preserved-in_default-hand-2
-run-preserved-in_default-hand-2 g c =
+pub run-preserved-then-not-is_true : goal.run-preserved-then-not-is_true
+run-preserved-then-not-is_true g c =
     let remembers = g.S.StreamStore.remembers c.args.store.now in
     let seen = g.S.StreamStore.seen c.args.store.now in
     let wanted : Outcome → Type 0 = λ r. Means remembers seen c.args.params.now c.args._expr.now r in
     let i = c.run.invariant in
-    jumps remembers seen c.args.params.now wanted c.run.code.now c.in-Some.rest.now c.past-code-in_default-hand-2.result.now c.in-Some.instr.now c.in-KeepArgument.n c.run.hand c.run.stack c.let_go.new.stack c.in-Some.ensures.cases.0 c.past-code-in_default-hand-2.ensures.rest
-    (no_argument remembers seen c.args.params.now wanted c.in-Some.rest.now c.in-Some.instr.now c.in-KeepArgument.n c.in-KeepArgument.count c.run.hand c.run.stack c.let_go.new.stack c.in-KeepArgument.is c.let_go.ensures.rest c.in_default-hand-2.not-Value) i
+    jumps remembers seen c.args.params.now wanted c.run.code.now c.in-Some.rest.now c.past-code-then-not-is_true.result.now c.in-Some.instr.now c.in-WhereTrue.n (widened c.run.hand) c.run.stack c.run.stack c.in-Some.ensures.cases.0 c.past-code-then-not-is_true.ensures.rest
+    (true_off remembers seen c.args.params.now wanted c.in-Some.rest.now c.in-Some.instr.now c.in-WhereTrue.n c.run.hand c.run.stack c.in-WhereTrue.is (sym c.is_true.ensures ∙ c.if-not-is_true.true)) i
 
-pub run-preserved-in_default-hand-6 : goal.run-preserved-in_default-hand-6
-run-preserved-in_default-hand-6 g c =
+pub run-preserved-then-is_true : goal.run-preserved-then-is_true
+run-preserved-then-is_true g c =
     let remembers = g.S.StreamStore.remembers c.args.store.now in
     let seen = g.S.StreamStore.seen c.args.store.now in
     let wanted : Outcome → Type 0 = λ r. Means remembers seen c.args.params.now c.args._expr.now r in
     let i = c.run.invariant in
-    jumps remembers seen c.args.params.now wanted c.run.code.now c.in-Some.rest.now c.past-code-in_default-hand-6.result.now c.in-Some.instr.now c.in-Otherwise.n c.run.hand c.run.stack c.run.stack c.in-Some.ensures.cases.0 c.past-code-in_default-hand-6.ensures.rest
-    (there_already remembers seen c.args.params.now wanted c.in-Some.rest.now c.in-Some.instr.now c.in-Otherwise.n c.run.hand c.run.stack c.in-Otherwise.is c.in_default-hand-6.not-Missing) i
+    jumps remembers seen c.args.params.now wanted c.run.code.now c.in-Some.rest.now c.past-code-then-is_true.result.now c.in-Some.instr.now c.in-WhereFalse.n (widened c.run.hand) c.run.stack c.run.stack c.in-Some.ensures.cases.0 c.past-code-then-is_true.ensures.rest
+    (false_off remembers seen c.args.params.now wanted c.in-Some.rest.now c.in-Some.instr.now c.in-WhereFalse.n c.run.hand c.run.stack c.in-WhereFalse.is (sym c.is_true-then-is_value-6.ensures ∙ c.if-is_true.true)) i
 
-pub run-preserved-then-not-truth : goal.run-preserved-then-not-truth
-run-preserved-then-not-truth g c =
+pub run-preserved-else-is_value-6 : goal.run-preserved-else-is_value-6
+run-preserved-else-is_value-6 g c =
     let remembers = g.S.StreamStore.remembers c.args.store.now in
     let seen = g.S.StreamStore.seen c.args.store.now in
     let wanted : Outcome → Type 0 = λ r. Means remembers seen c.args.params.now c.args._expr.now r in
     let i = c.run.invariant in
-    subst (λ o. Leads remembers seen c.args.params.now wanted c.past-code-then-not-truth.result.now 0 o c.run.stack) c.in-Value-hand-5.is
-    (jumps remembers seen c.args.params.now wanted c.run.code.now c.in-Some.rest.now c.past-code-then-not-truth.result.now c.in-Some.instr.now c.in-WhereTrue.n c.run.hand c.run.stack c.run.stack c.in-Some.ensures.cases.0 c.past-code-then-not-truth.ensures.rest
-    (not_true remembers seen c.args.params.now wanted c.in-Some.rest.now c.in-Some.instr.now c.in-WhereTrue.n c.in-Value-hand-5.v c.run.hand c.run.stack c.in-WhereTrue.is c.in-Value-hand-5.is (sym c.truth.ensures ∙ c.if-not-truth.true)) i)
+    jumps remembers seen c.args.params.now wanted c.run.code.now c.in-Some.rest.now c.past-code-else-is_value-6.result.now c.in-Some.instr.now c.in-WhereFalse.n (widened c.run.hand) c.run.stack c.run.stack c.in-Some.ensures.cases.0 c.past-code-else-is_value-6.ensures.rest
+    (false_none remembers seen c.args.params.now wanted c.in-Some.rest.now c.in-Some.instr.now c.in-WhereFalse.n c.run.hand c.run.stack c.in-WhereFalse.is (sym c.is_value-in-WhereFalse.ensures ∙ c.if-is_value-6.false)) i
 
-pub run-preserved-in_default-hand-7 : goal.run-preserved-in_default-hand-7
-run-preserved-in_default-hand-7 g c =
+pub run-preserved-then-not-is_true-2 : goal.run-preserved-then-not-is_true-2
+run-preserved-then-not-is_true-2 g c =
     let remembers = g.S.StreamStore.remembers c.args.store.now in
     let seen = g.S.StreamStore.seen c.args.store.now in
     let wanted : Outcome → Type 0 = λ r. Means remembers seen c.args.params.now c.args._expr.now r in
     let i = c.run.invariant in
-    jumps remembers seen c.args.params.now wanted c.run.code.now c.in-Some.rest.now c.past-code-in_default-hand-7.result.now c.in-Some.instr.now c.in-WhereTrue.n c.run.hand c.run.stack c.run.stack c.in-Some.ensures.cases.0 c.past-code-in_default-hand-7.ensures.rest
-    (none_true remembers seen c.args.params.now wanted c.in-Some.rest.now c.in-Some.instr.now c.in-WhereTrue.n c.run.hand c.run.stack c.in-WhereTrue.is c.in_default-hand-7.not-Value) i
+    jumps remembers seen c.args.params.now wanted c.run.code.now c.in-Some.rest.now c.past-code-then-not-is_true-2.result.now c.in-Some.instr.now c.in-Test.n (widened c.run.hand) c.run.stack c.run.stack c.in-Some.ensures.cases.0 c.past-code-then-not-is_true-2.ensures.rest
+    (test_off remembers seen c.args.params.now wanted c.in-Some.rest.now c.in-Some.instr.now c.in-Test.n c.in-Test.more c.run.hand c.run.stack c.in-Test.is (sym c.is_value-in-Test.ensures ∙ c.if-is_value-7.true) (sym c.is_true-then-is_value-7.ensures ∙ c.if-not-is_true-2.true)) i
 
-pub run-preserved-then-truth : goal.run-preserved-then-truth
-run-preserved-then-truth g c =
+pub run-preserved-else-is_value-7 : goal.run-preserved-else-is_value-7
+run-preserved-else-is_value-7 g c =
     let remembers = g.S.StreamStore.remembers c.args.store.now in
     let seen = g.S.StreamStore.seen c.args.store.now in
     let wanted : Outcome → Type 0 = λ r. Means remembers seen c.args.params.now c.args._expr.now r in
     let i = c.run.invariant in
-    subst (λ o. Leads remembers seen c.args.params.now wanted c.past-code-then-truth.result.now 0 o c.run.stack) c.in-Value-hand-6.is
-    (jumps remembers seen c.args.params.now wanted c.run.code.now c.in-Some.rest.now c.past-code-then-truth.result.now c.in-Some.instr.now c.in-WhereFalse.n c.run.hand c.run.stack c.run.stack c.in-Some.ensures.cases.0 c.past-code-then-truth.ensures.rest
-    (not_false remembers seen c.args.params.now wanted c.in-Some.rest.now c.in-Some.instr.now c.in-WhereFalse.n c.in-Value-hand-6.v c.run.hand c.run.stack c.in-WhereFalse.is c.in-Value-hand-6.is (sym c.truth-in-Value-hand-6.ensures ∙ c.if-truth.true)) i)
-
-pub run-preserved-in_default-hand-8 : goal.run-preserved-in_default-hand-8
-run-preserved-in_default-hand-8 g c =
-    let remembers = g.S.StreamStore.remembers c.args.store.now in
-    let seen = g.S.StreamStore.seen c.args.store.now in
-    let wanted : Outcome → Type 0 = λ r. Means remembers seen c.args.params.now c.args._expr.now r in
-    let i = c.run.invariant in
-    jumps remembers seen c.args.params.now wanted c.run.code.now c.in-Some.rest.now c.past-code-in_default-hand-8.result.now c.in-Some.instr.now c.in-WhereFalse.n c.run.hand c.run.stack c.run.stack c.in-Some.ensures.cases.0 c.past-code-in_default-hand-8.ensures.rest
-    (none_false remembers seen c.args.params.now wanted c.in-Some.rest.now c.in-Some.instr.now c.in-WhereFalse.n c.run.hand c.run.stack c.in-WhereFalse.is c.in_default-hand-8.not-Value) i
-
-pub run-preserved-then-not-truth-2 : goal.run-preserved-then-not-truth-2
-run-preserved-then-not-truth-2 g c =
-    let remembers = g.S.StreamStore.remembers c.args.store.now in
-    let seen = g.S.StreamStore.seen c.args.store.now in
-    let wanted : Outcome → Type 0 = λ r. Means remembers seen c.args.params.now c.args._expr.now r in
-    let i = c.run.invariant in
-    subst (λ o. Leads remembers seen c.args.params.now wanted c.past-code-then-not-truth-2.result.now 0 o c.run.stack) c.in-Value-hand-7.is
-    (jumps remembers seen c.args.params.now wanted c.run.code.now c.in-Some.rest.now c.past-code-then-not-truth-2.result.now c.in-Some.instr.now c.in-Test.n c.run.hand c.run.stack c.run.stack c.in-Some.ensures.cases.0 c.past-code-then-not-truth-2.ensures.rest
-    (not_chosen remembers seen c.args.params.now wanted c.in-Some.rest.now c.in-Some.instr.now c.in-Test.n c.in-Test.more c.in-Value-hand-7.v c.run.hand c.run.stack c.in-Test.is c.in-Value-hand-7.is (sym c.truth-in-Value-hand-7.ensures ∙ c.if-not-truth-2.true)) i)
-
-pub run-preserved-in_default-hand-9 : goal.run-preserved-in_default-hand-9
-run-preserved-in_default-hand-9 g c =
-    let remembers = g.S.StreamStore.remembers c.args.store.now in
-    let seen = g.S.StreamStore.seen c.args.store.now in
-    let wanted : Outcome → Type 0 = λ r. Means remembers seen c.args.params.now c.args._expr.now r in
-    let i = c.run.invariant in
-    jumps remembers seen c.args.params.now wanted c.run.code.now c.in-Some.rest.now c.past-code-in_default-hand-9.result.now c.in-Some.instr.now c.in-Test.more c.run.hand c.run.stack c.run.stack c.in-Some.ensures.cases.0 c.past-code-in_default-hand-9.ensures.rest
-    (none_tested remembers seen c.args.params.now wanted c.in-Some.rest.now c.in-Some.instr.now c.in-Test.n c.in-Test.more c.run.hand c.run.stack c.in-Test.is c.in_default-hand-9.not-Value) i
+    jumps remembers seen c.args.params.now wanted c.run.code.now c.in-Some.rest.now c.past-code-else-is_value-7.result.now c.in-Some.instr.now c.in-Test.more (widened c.run.hand) c.run.stack c.run.stack c.in-Some.ensures.cases.0 c.past-code-else-is_value-7.ensures.rest
+    (test_none remembers seen c.args.params.now wanted c.in-Some.rest.now c.in-Some.instr.now c.in-Test.n c.in-Test.more c.run.hand c.run.stack c.in-Test.is (sym c.is_value-in-Test.ensures ∙ c.if-is_value-7.false)) i
 
 pub run-preserved : goal.run-preserved
 run-preserved g c =
@@ -115,5 +131,5 @@ run-preserved g c =
     let seen = g.S.StreamStore.seen c.args.store.now in
     let wanted : Outcome → Type 0 = λ r. Means remembers seen c.args.params.now c.args._expr.now r in
     let i = c.run.invariant in
-    jumps remembers seen c.args.params.now wanted c.run.code.now c.in-Some.rest.now c.past-code-in-Jump.result.now c.in-Some.instr.now c.in-Jump.n c.run.hand c.run.stack c.run.stack c.in-Some.ensures.cases.0 c.past-code-in-Jump.ensures.rest
-    (λ h. subst (λ i. Leads remembers seen c.args.params.now wanted (i ∷ c.in-Some.rest.now) 0 c.run.hand c.run.stack) c.in-Jump.is h) i
+    jumps remembers seen c.args.params.now wanted c.run.code.now c.in-Some.rest.now c.past-code-in-Jump.result.now c.in-Some.instr.now c.in-Jump.n (widened c.run.hand) c.run.stack c.run.stack c.in-Some.ensures.cases.0 c.past-code-in-Jump.ensures.rest
+    (λ h. subst (λ i. Leads remembers seen c.args.params.now wanted (i ∷ c.in-Some.rest.now) 0 (widened c.run.hand) c.run.stack) c.in-Jump.is h) i

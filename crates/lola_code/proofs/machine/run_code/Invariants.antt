@@ -1,5 +1,6 @@
 use Rattle.std.proofs.Common.{length}
 use Rattle.lola_code.specs.Machine.{Leads}
+use Rattle.lola_code.specs.Shorts.{widened}
 use Rattle.lola_code.proofs.Means.{Means}
 use Rattle.lola_code.proofs.machine.run_code.Given as goal
 
@@ -7,7 +8,7 @@ use Rattle.lola_code.proofs.machine.run_code.Given as goal
 abbrev pub invariant-run : goal.invariant-run
 invariant-run g l =
     Leads (g.S.StreamStore.remembers l.store) (g.S.StreamStore.seen l.store) l.params (λ r. Means (g.S.StreamStore.remembers l.store) (g.S.StreamStore.seen l.store) l.params l.fn._expr r)
-    l.code 0 l.hand l.stack
+    l.code 0 (widened l.hand) l.stack
 
 abbrev pub decreases-run : goal.decreases-run
 decreases-run g l = length l.code

@@ -1,17 +1,15 @@
-use Rattle.std.proofs.Common.{◌≡◌, ◌+◌, ◌≤◌, drop, vec_len}
+use Rattle.std.proofs.Common.{◌≡◌, drop}
 use Rattle.std.specs.Vec.{vec_capacity}
-use Rattle.lola_step.specs.Closings.{AreUpTo}
-use Rattle.lola_step.specs.Rooms.{rooms, total}
-use Rattle.lola_step.proofs.Conditions.{FoundBefore}
+use Rattle.lola_step.specs.Schedules.{has_turn}
+use Rattle.lola_step.specs.declared.schedule.Turn.TheVariants as turn
+use Rattle.lola_step.proofs.Between.{AreFoundBelow}
+use Rattle.lola_step.proofs.Turns.{IsWalk}
 use Rattle.lola_step.proofs.closes.find_closings.Given as goal
 
 -- no stream so far has a fault, and their places are listed
-abbrev pub invariant-loop-n : goal.invariant-loop-n
-invariant-loop-n g l =
-    let s = g.S.StreamStore.seen l.store in
-    record {
-      closable : AreUpTo s (record { stream = l.n; index = 0 }) l.closing.items;
-      found : FoundBefore l.plan l.moment (g.S.StreamStore.remembers l.store) s l.n l.closing.items;
-      count : vec_len l.closing + total (drop l.n (rooms s)) ≤ total (rooms s);
-      capacity : vec_capacity l.closing ≡ vec_capacity l.initial.closing;
-    }
+abbrev pub invariant-loop-number : goal.invariant-loop-number
+invariant-loop-number g l = record {
+  walk : IsWalk (has_turn l.plan turn.Close) l.plan.spec.streams
+      (AreFoundBelow l.plan l.moment (g.S.StreamStore.remembers l.store) (g.S.StreamStore.seen l.store) l.closing) (drop l.number-index l.turns);
+  capacity : vec_capacity l.closing ≡ vec_capacity l.initial.closing;
+}

@@ -1,9 +1,10 @@
 use Rattle.std.proofs.Common.{◌≡◌, ◌∙◌, ◌<◌, ◌≤◌, Some, ap, arith, length, slice_get, slice_index_or, subst, sym}
 use Rattle.std.proofs.lemmas.Option.{slice_get-get_or}
-use Rattle.lola_model.specs.Store.{instances_seen}
+use Rattle.lola_model.specs.Store.{Layout, instances_seen, parameters_of}
 use Rattle.lola_step.specs.Notes.{AreOfStream, IsSpan}
 use Rattle.lola_step.specs.declared.scratch.Span.{Span}
 use Rattle.lola_step.proofs.Elements.{read_below, read_is}
+use Rattle.lola_step.proofs.Layouts.{parameters_there}
 use Rattle.lola_step.proofs.Standing.{room_there}
 use Rattle.lola_step.proofs.Valued.{collects_end, streams_step, verdicts_end}
 use Rattle.lola_step.proofs.ends.collect.Goals as goal
@@ -22,6 +23,14 @@ tasks_of-requires g c = omega (arith, (here g (goal.at.tasks_of-requires g c).Af
 
 pub outcomes_of-requires : goal.outcomes_of-requires
 outcomes_of-requires g c = (here g (goal.at.outcomes_of-requires g c).After-stream-item).within
+
+pub add_outputs-requires-clause-layout : goal.add_outputs-requires-clause-layout
+add_outputs-requires-clause-layout g c =
+    let plan = c.args.plan.now in
+    let at : slice_get plan.spec.streams c.loop-n.n ≡ Some c.stream-item.result
+    = read_is c.as_slice-stream-items.result.now plan.spec.streams c.loop-n.n c.as_slice-stream-items.ensures c.loop-n-test.true c.stream-item.result c.stream-item.is in
+    ap (λ (l : Layout). parameters_of (slice_get l.streams c.loop-n.n)) c.requires.of.layout
+    ∙ parameters_there plan.spec.streams plan.kept plan.pacings c.loop-n.n c.stream-item.result at
 
 pub add_outputs-requires-clause-each : goal.add_outputs-requires-clause-each
 add_outputs-requires-clause-each g c = omega (arith, c.tasks_of.ensures.count, c.outcomes_of.ensures.count)

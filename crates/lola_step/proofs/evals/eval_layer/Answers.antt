@@ -7,12 +7,14 @@ use Rattle.lola_model.specs.Content.{Content}
 use Rattle.lola_model.specs.Store.{Memories, Seen, Stands}
 use Rattle.lola_stages.specs.Stages.{content_so_far, eval_stage, full_row, layer_stage}
 use Rattle.lola_step.specs.Evals.{IsReadyFor}
+use Rattle.lola_step.specs.Found.{has_fault}
 use Rattle.lola_step.specs.Given.{AreHeldIn, AreResults, CanGiveAll, after_all, told_outcomes}
 use Rattle.lola_step.specs.Notes.{ShowResults, layer_tasks}
 use Rattle.lola_step.specs.Progress.{GoesOn, IsAt}
 use Rattle.lola_step.specs.Tasks.{AreTasks}
 use Rattle.lola_step.specs.declared.scratch.Span.{Span}
 use Rattle.lola_step.specs.declared.tasks.Task.{Task}
+use Rattle.lola_step.proofs.Faultless.{faultless_more}
 use Rattle.lola_step.proofs.LayerNotes.{ready_after, rooms_after, spans_after}
 use Rattle.lola_step.proofs.LayerTasks.{are_tasks, at_after, can_give_layer, goes_on, numbered}
 use Rattle.lola_step.proofs.LayerTold.{held_all, next_content, shows_more}
@@ -176,3 +178,8 @@ returns-clause-shows g c names rows step run marked earlier =
     subst Q (results_is g c) (subst T (tasks_are g c) (subst P (spans_is g c)
     (shows_more plan c.args.moment.now c.args.marks.now c.seek_layer.new.sought (remembers g c) (shown g c) c.args.layer c.requires.accepted names rows step c.requires.at run marked c.seek_layer.ensures
     (fresh g c) (are_results g c) (before g c) (first g c) c.requires.rooms.each c.args.spans.now c.requires.spans earlier)))
+
+pub returns-clause-faultless : goal.returns-clause-faultless
+returns-clause-faultless g c none before_none =
+    faultless_more (first g c) (fresh g c) (with_items c.gather.new.results c.answer_tasks.new.results).items (results_is g c) before_none
+    (ap has_fault (sym (gives_are g c)) ∙ (sym c.give_all.ensures.faulty ∙ none))

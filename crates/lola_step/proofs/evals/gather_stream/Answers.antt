@@ -8,14 +8,14 @@ pub add_asked-requires-clause-tasks_room : goal.add_asked-requires-clause-tasks_
 add_asked-requires-clause-tasks_room g c =
     let counted =
     count_asked c.args.plan.now c.args.moment.now c.args.marks.now c.args.sought.now (g.S.StreamStore.seen c.args.store.now) c.args.layer c.args.n c.args.stream.now c.sought_of-whereabouts.result c.eval_pacing_at-pacing.result.now
-    (sym c.runs.ensures ∙ c.if-runs.true) c.sought_of-whereabouts.ensures (c.eval_pacing_at-pacing.ensures ∙ ap (λ ps. eval_pacing (slice_get ps c.args.n)) c.as_slice.ensures) in
+    (sym (c.runs.ensures c.args.layer c.args.stream.now c.requires.turn) ∙ c.if-runs.true) c.sought_of-whereabouts.ensures (c.eval_pacing_at-pacing.ensures ∙ ap (λ ps. eval_pacing (slice_get ps c.args.n)) c.as_slice.ensures) in
     omega (arith, c.requires.tasks_room, counted)
 
 pub add_asked-requires-clause-results_room : goal.add_asked-requires-clause-results_room
 add_asked-requires-clause-results_room g c =
     let counted =
     count_asked c.args.plan.now c.args.moment.now c.args.marks.now c.args.sought.now (g.S.StreamStore.seen c.args.store.now) c.args.layer c.args.n c.args.stream.now c.sought_of-whereabouts.result c.eval_pacing_at-pacing.result.now
-    (sym c.runs.ensures ∙ c.if-runs.true) c.sought_of-whereabouts.ensures (c.eval_pacing_at-pacing.ensures ∙ ap (λ ps. eval_pacing (slice_get ps c.args.n)) c.as_slice.ensures) in
+    (sym (c.runs.ensures c.args.layer c.args.stream.now c.requires.turn) ∙ c.if-runs.true) c.sought_of-whereabouts.ensures (c.eval_pacing_at-pacing.ensures ∙ ap (λ ps. eval_pacing (slice_get ps c.args.n)) c.as_slice.ensures) in
     omega (arith, c.requires.results_room, counted)
 
 pub returns-then-runs-clause-results : goal.returns-then-runs-clause-results
@@ -23,4 +23,4 @@ returns-then-runs-clause-results g c =
     c.add_asked.ensures.results
     ∙ ap (λ k. c.args.results.now.items ++ replicate k outcome.Missing)
     (count_asked c.args.plan.now c.args.moment.now c.args.marks.now c.args.sought.now (g.S.StreamStore.seen c.args.store.now) c.args.layer c.args.n c.args.stream.now c.sought_of-whereabouts.result c.eval_pacing_at-pacing.result.now
-    (sym c.runs.ensures ∙ c.if-runs.true) c.sought_of-whereabouts.ensures (c.eval_pacing_at-pacing.ensures ∙ ap (λ ps. eval_pacing (slice_get ps c.args.n)) c.as_slice.ensures))
+    (sym (c.runs.ensures c.args.layer c.args.stream.now c.requires.turn) ∙ c.if-runs.true) c.sought_of-whereabouts.ensures (c.eval_pacing_at-pacing.ensures ∙ ap (λ ps. eval_pacing (slice_get ps c.args.n)) c.as_slice.ensures))

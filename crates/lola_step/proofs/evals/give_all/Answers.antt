@@ -4,6 +4,7 @@ use Rattle.std.proofs.lemmas.Option.{slice_get-get_or}
 use Rattle.lola_model.specs.Content.{Content}
 use Rattle.lola_model.specs.Store.{Seen, Stands}
 use Rattle.lola_step.specs.Given.{after_all, after_giving, told_outcomes, CanGiveAll}
+use Rattle.lola_step.proofs.Faultless.{fault_end, fault_step}
 use Rattle.lola_step.proofs.Giving.{all_more, can_first, held_at, first_outcome, first_task, told_more}
 use Rattle.lola_step.proofs.evals.give_all.Goals as goal
 
@@ -36,7 +37,12 @@ loop-i-preserved g c =
           let S : Content → Type 0 = λ e. Stands names (g.S.StreamStore.remembers c.give.new.store) (g.S.StreamStore.seen c.give.new.store) e in
           subst S (sym (told_more names d tasks results i t r at with'))
           (c.give.ensures.stands names (told_outcomes names d (take i tasks) (take i results)) (held_at names results i r with' held) (c.loop-i.invariant.stands names d held h));
+      faulty = fault_step results i first_outcome c.loop-i.faulty c.or_fault-faulty.result within c.or_fault-faulty.ensures c.loop-i.invariant.faulty;
     }
+
+pub returns-clause-faulty : goal.returns-clause-faulty
+returns-clause-faulty g c =
+    fault_end c.args.results.now c.loop-i.i c.loop-i.faulty (omega (arith, c.loop-i-test.false, c.requires.places)) c.loop-i.invariant.faulty
 
 pub returns-clause-seen : goal.returns-clause-seen
 returns-clause-seen g c =

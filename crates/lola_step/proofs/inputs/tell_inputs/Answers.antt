@@ -1,74 +1,67 @@
 -- Input by input, from stage to stage.
-use Rattle.std.proofs.Common.{◌≡◌, sym, ap, ◌∙◌, slice_get, subst, length, arith, ◌+◌}
+use Rattle.std.proofs.Common.{sym, ap, ◌∙◌, slice_get, arith, ◌+◌, drop, get_or}
 use Rattle.lola_model.specs.Store.{kind_in}
 use Rattle.lola_step.specs.Inputs.{input_outcome_at}
+use Rattle.lola_step.specs.Schedules.{has_turn}
 use Rattle.lola_step.specs.Steps.{is_input_outcome}
-use Rattle.lola_step.proofs.Layouts.{stream_of_turn}
+use Rattle.lola_step.specs.declared.schedule.Turn.TheVariants as turn
+use Rattle.lola_step.proofs.Between.{told_end, told_turn}
 use Rattle.lola_step.proofs.Shown.{goes_on_same}
-use Rattle.lola_step.proofs.Telling.{AreTold, before_few, before_first, kind_of_input, none_told, one_instance, one_more_told, silent_before}
+use Rattle.lola_step.proofs.Telling.{AreTold, before_first, kind_of_input, one_instance, one_more_told, silent_before}
+use Rattle.lola_step.proofs.Turns.{walk_first, walk_on}
 use Rattle.lola_step.proofs.inputs.tell_inputs.Goals as goal
-use Rattle.lola_step.proofs.inputs.tell_inputs.Goals.{then-is_input, else-is_input}
 
-pub loop-n-init : goal.loop-n-init
-loop-n-init g c = record {
-  input_is = sym (before_first c.args.plan.now.spec.streams);
-  at = c.requires.at;
-  goes_on = goes_on_same (g.S.StreamStore.seen c.args.store.now);
-  takes = λ names rows step run reads begins. begins;
-}
+pub loop-number-init : goal.loop-number-init
+loop-number-init g c =
+    let plan = c.args.plan.now in
+    let remembers = g.S.StreamStore.remembers c.args.store.now in
+    let s = g.S.StreamStore.seen c.args.store.now in
+    record {
+      counted = omega arith;
+      walk = walk_first (has_turn plan turn.Input) plan.spec.streams (λ n. AreTold plan c.args.is_row c.args.inputs.now n 0 remembers s remembers s) c.args.turns.now c.requires.turns (record {
+        input_is = sym (before_first plan.spec.streams);
+        at = c.requires.at;
+        goes_on = goes_on_same s;
+        takes = λ names rows step run reads begins. begins;
+      });
+    }
+
+pub tell-requires-clause-running : goal.tell-requires-clause-running
+tell-requires-clause-running g c = (told_turn c.args.plan.now c.requires.accepted c.args.is_row c.args.inputs.now c.requires.inputs c.loop-number.input (g.S.StreamStore.remembers c.args.store.now) (g.S.StreamStore.seen c.args.store.now) (g.S.StreamStore.remembers c.loop-number.store) (g.S.StreamStore.seen c.loop-number.store) c.args.turns.now c.loop-number.number-index c.loop-number.invariant.walk c.loop-number-test.true).holds.at.running
 
 pub tell-requires-clause-index : goal.tell-requires-clause-index
 tell-requires-clause-index g c =
-    let plan = c.args.plan.now in
-    let at = stream_of_turn c.as_slice-stream-items.result.now plan.spec.streams c.loop-n.n c.stream-item.result c.as_slice-stream-items.ensures c.loop-n-test.true c.stream-item.is in
-    one_instance plan c.requires.accepted c.loop-n.n c.stream-item.result at (g.S.StreamStore.seen c.loop-n.store) c.loop-n.invariant.at (sym c.is_input.ensures ∙ c.if-is_input.true)
+    let t = told_turn c.args.plan.now c.requires.accepted c.args.is_row c.args.inputs.now c.requires.inputs c.loop-number.input (g.S.StreamStore.remembers c.args.store.now) (g.S.StreamStore.seen c.args.store.now) (g.S.StreamStore.remembers c.loop-number.store) (g.S.StreamStore.seen c.loop-number.store) c.args.turns.now c.loop-number.number-index c.loop-number.invariant.walk c.loop-number-test.true in
+    one_instance c.args.plan.now c.requires.accepted (get_or c.args.turns.now c.loop-number.number-index 0) t.at t.is (g.S.StreamStore.seen c.loop-number.store) t.holds.at t.passes
 
 pub tell-requires-clause-silent : goal.tell-requires-clause-silent
 tell-requires-clause-silent g c =
-    let plan = c.args.plan.now in
-    let at = stream_of_turn c.as_slice-stream-items.result.now plan.spec.streams c.loop-n.n c.stream-item.result c.as_slice-stream-items.ensures c.loop-n-test.true c.stream-item.is in
-    silent_before plan c.requires.accepted c.loop-n.n c.stream-item.result at (g.S.StreamStore.seen c.loop-n.store) c.loop-n.invariant.at (sym c.is_input.ensures ∙ c.if-is_input.true)
+    let t = told_turn c.args.plan.now c.requires.accepted c.args.is_row c.args.inputs.now c.requires.inputs c.loop-number.input (g.S.StreamStore.remembers c.args.store.now) (g.S.StreamStore.seen c.args.store.now) (g.S.StreamStore.remembers c.loop-number.store) (g.S.StreamStore.seen c.loop-number.store) c.args.turns.now c.loop-number.number-index c.loop-number.invariant.walk c.loop-number-test.true in
+    silent_before c.args.plan.now c.requires.accepted (get_or c.args.turns.now c.loop-number.number-index 0) t.at t.is (g.S.StreamStore.seen c.loop-number.store) t.holds.at t.passes
 
 pub tell-requires-clause-kind : goal.tell-requires-clause-kind
 tell-requires-clause-kind g c =
-    let plan = c.args.plan.now in
-    let at = stream_of_turn c.as_slice-stream-items.result.now plan.spec.streams c.loop-n.n c.stream-item.result c.as_slice-stream-items.ensures c.loop-n-test.true c.stream-item.is in
-    let s = g.S.StreamStore.seen c.loop-n.store in
-    let is = c.outcome_at.ensures ∙ ap (input_outcome_at c.args.inputs.now) c.loop-n.invariant.input_is in
-    ap (is_input_outcome (kind_in (slice_get s.layout.streams c.loop-n.n))) is
-    ∙ kind_of_input plan c.requires.accepted c.loop-n.n c.stream-item.result at s c.args.is_row c.args.inputs.now c.loop-n.invariant.at c.requires.inputs (sym c.is_input.ensures ∙ c.if-is_input.true)
+    let n = get_or c.args.turns.now c.loop-number.number-index 0 in
+    let t = told_turn c.args.plan.now c.requires.accepted c.args.is_row c.args.inputs.now c.requires.inputs c.loop-number.input (g.S.StreamStore.remembers c.args.store.now) (g.S.StreamStore.seen c.args.store.now) (g.S.StreamStore.remembers c.loop-number.store) (g.S.StreamStore.seen c.loop-number.store) c.args.turns.now c.loop-number.number-index c.loop-number.invariant.walk c.loop-number-test.true in
+    let s = g.S.StreamStore.seen c.loop-number.store in
+    let is = c.outcome_at.ensures ∙ ap (input_outcome_at c.args.inputs.now) t.holds.input_is in
+    ap (is_input_outcome (kind_in (slice_get s.layout.streams n))) is
+    ∙ kind_of_input c.args.plan.now c.requires.accepted n t.at t.is s c.args.is_row c.args.inputs.now t.holds.at c.requires.inputs t.passes
 
-pub overflow_add-input : goal.overflow_add-input
-overflow_add-input g c =
-    let streams = c.args.plan.now.spec.streams in
-    let few = before_few streams c.loop-n.n in
-    let is = c.loop-n.invariant.input_is in
-    let all : length c.as_slice-stream-items.result.now ≡ length streams = ap length c.as_slice-stream-items.ensures in
-    let most = c.requires.accepted.named.few_streams in
-    let below = c.loop-n-test.true in
-    omega (arith, few, is, all, most, below)
-
-pub loop-n-preserved : goal.loop-n-preserved
-loop-n-preserved g c =
+pub loop-number-preserved : goal.loop-number-preserved
+loop-number-preserved g c =
     let plan = c.args.plan.now in
-    let n = c.loop-n.n in
-    let is_row = c.args.is_row in
-    let inputs = c.args.inputs.now in
-    let stream = c.stream-item.result in
-    let at = stream_of_turn c.as_slice-stream-items.result.now plan.spec.streams n stream c.as_slice-stream-items.ensures c.loop-n-test.true c.stream-item.is in
-    let first = g.S.StreamStore.remembers c.args.store.now in
-    let s = g.S.StreamStore.seen c.args.store.now in
-    let before = g.S.StreamStore.remembers c.loop-n.store in
-    let t = g.S.StreamStore.seen c.loop-n.store in
-    let so_far = c.loop-n.invariant in
-    elim c.if-is_input.branch [
-      | then-is_input w ↦
-          let next = one_more_told plan c.requires.accepted is_row inputs c.requires.inputs n c.loop-n.input stream at first s before t so_far
-          (g.S.StreamStore.remembers w.tell.new.store) (g.S.StreamStore.seen w.tell.new.store) w.outcome_at.result (sym c.is_input.ensures ∙ w.if-is_input.true) w.outcome_at.ensures w.tell.ensures.seen w.tell.ensures.stands in
-          subst (λ k. AreTold plan is_row inputs (n + 1) k first s (g.S.StreamStore.remembers c.if-is_input.store) (g.S.StreamStore.seen c.if-is_input.store)) (sym w.input-is)
-          (subst (λ x. AreTold plan is_row inputs (n + 1) (c.loop-n.input + 1) first s (g.S.StreamStore.remembers x) (g.S.StreamStore.seen x)) (sym w.store-is) next)
-      | else-is_input w ↦
-          let next = none_told plan c.requires.accepted is_row inputs c.requires.inputs n c.loop-n.input stream at first s before t so_far (sym c.is_input.ensures ∙ w.if-is_input.false) in
-          subst (λ k. AreTold plan is_row inputs (n + 1) k first s (g.S.StreamStore.remembers c.if-is_input.store) (g.S.StreamStore.seen c.if-is_input.store)) (sym w.input-is)
-          (subst (λ x. AreTold plan is_row inputs (n + 1) c.loop-n.input first s (g.S.StreamStore.remembers x) (g.S.StreamStore.seen x)) (sym w.store-is) next)
-    ]
+    let n = get_or c.args.turns.now c.loop-number.number-index 0 in
+    let t = told_turn c.args.plan.now c.requires.accepted c.args.is_row c.args.inputs.now c.requires.inputs c.loop-number.input (g.S.StreamStore.remembers c.args.store.now) (g.S.StreamStore.seen c.args.store.now) (g.S.StreamStore.remembers c.loop-number.store) (g.S.StreamStore.seen c.loop-number.store) c.args.turns.now c.loop-number.number-index c.loop-number.invariant.walk c.loop-number-test.true in
+    record {
+      counted = ap (λ k. k + 1) c.loop-number.invariant.counted;
+      walk = walk_on (has_turn plan turn.Input) plan.spec.streams _ _ n (drop (c.loop-number.number-index + 1) c.args.turns.now) t
+          (one_more_told plan c.requires.accepted c.args.is_row c.args.inputs.now c.requires.inputs n c.loop-number.input t.at t.is
+          (g.S.StreamStore.remembers c.args.store.now) (g.S.StreamStore.seen c.args.store.now) (g.S.StreamStore.remembers c.loop-number.store) (g.S.StreamStore.seen c.loop-number.store) t.holds
+          (g.S.StreamStore.remembers c.tell.new.store) (g.S.StreamStore.seen c.tell.new.store) c.outcome_at.result t.passes c.outcome_at.ensures c.tell.ensures.seen c.tell.ensures.stands);
+    }
+
+pub returns : goal.returns
+returns g c =
+    let e = told_end c.args.plan.now c.requires.accepted c.args.is_row c.args.inputs.now c.requires.inputs c.loop-number.input (g.S.StreamStore.remembers c.args.store.now) (g.S.StreamStore.seen c.args.store.now) (g.S.StreamStore.remembers c.loop-number.store) (g.S.StreamStore.seen c.loop-number.store) c.args.turns.now c.loop-number.number-index c.loop-number.invariant.walk (omega arith) in
+    record { at = e.at; goes_on = e.goes_on; takes = e.takes }

@@ -1,32 +1,61 @@
 -- Stream by stream, from stage to stage.
-use Rattle.std.proofs.Common.{◌≡◌, ◌∙◌, length, arith, get_or}
-use Rattle.std.proofs.lemmas.Option.{slice_get-get_or, slice_get_within}
+use Rattle.std.proofs.Common.{◌≡◌, ◌∙◌, ◌+◌, arith, drop, get_or, length, sym}
+use Rattle.std.proofs.lemmas.Option.{slice_get-get_or}
+use Rattle.lola_step.specs.Found.{is_failed}
+use Rattle.lola_step.specs.Schedules.{has_turn}
 use Rattle.lola_step.specs.declared.mark.Mark.TheVariants as mark
+use Rattle.lola_step.specs.declared.schedule.Turn.TheVariants as turn
 use Rattle.lola_step.proofs.Activities.{moment_later}
-use Rattle.lola_step.proofs.Layouts.{stream_of_turn}
+use Rattle.lola_step.proofs.Between.{spawned_end, spawned_turn}
+use Rattle.lola_step.proofs.Faultless.{fine_next, neither}
 use Rattle.lola_step.proofs.Shown.{goes_on_same}
-use Rattle.lola_step.proofs.SpawnTurns.{one_more_spawned}
+use Rattle.lola_step.proofs.SpawnTurns.{AreSpawned, one_more_spawned}
+use Rattle.lola_step.proofs.Turns.{walk_first, walk_on}
 use Rattle.lola_step.proofs.spawns.spawn_layer.Goals as goal
 
-pub loop-n-init : goal.loop-n-init
-loop-n-init g c = record {
-  at = c.requires.at;
-  goes_on = goes_on_same (g.S.StreamStore.seen c.args.store.now);
-  takes = λ names rows step run. run;
-  marked = λ names rows step run marked. marked;
-}
-
-pub spawn_stream-requires-clause-moment : goal.spawn_stream-requires-clause-moment
-spawn_stream-requires-clause-moment g c = moment_later c.args.plan.now c.args.moment.now (g.S.StreamStore.seen c.args.store.now) c.requires.moment (g.S.StreamStore.seen c.loop-n.store) c.loop-n.invariant.goes_on
-
-pub loop-n-preserved : goal.loop-n-preserved
-loop-n-preserved g c =
+pub loop-number-init : goal.loop-number-init
+loop-number-init g c =
     let plan = c.args.plan.now in
-    let n = c.loop-n.n in
-    let marks = c.loop-n.marks in
-    let at = stream_of_turn c.as_slice-stream-items.result.now plan.spec.streams n c.stream-item.result c.as_slice-stream-items.ensures c.loop-n-test.true c.stream-item.is in
-    let below = slice_get_within plan.spec.streams n c.stream-item.result at in
-    let long : length marks ≡ length plan.spec.streams = c.loop-n.auto.marks ∙ c.requires.marks in
-    one_more_spawned plan c.args.moment.now c.args.layer n c.args.marks.now marks (g.S.StreamStore.remembers c.args.store.now) (g.S.StreamStore.seen c.args.store.now)
-    (g.S.StreamStore.remembers c.loop-n.store) (g.S.StreamStore.seen c.loop-n.store) (g.S.StreamStore.remembers c.spawn_stream.new.store) (g.S.StreamStore.seen c.spawn_stream.new.store)
-    (get_or marks n mark.Fine) c.spawn_stream.result c.loop-n.invariant long below (slice_get-get_or marks n mark.Fine (omega (arith, long, below))) c.spawn_stream.ensures
+    let remembers = g.S.StreamStore.remembers c.args.store.now in
+    let s = g.S.StreamStore.seen c.args.store.now in
+    record {
+      fine = λ none fine. fine;
+      walk = walk_first (has_turn plan (turn.Spawn c.args.layer)) plan.spec.streams (λ n. AreSpawned plan c.args.moment.now c.args.layer n c.args.marks.now c.args.marks.now remembers s remembers s)
+          c.args.turns.now c.requires.turns (record {
+            at = c.requires.at;
+            goes_on = goes_on_same s;
+            takes = λ names rows step run. run;
+            marked = λ names rows step run marked. marked;
+          });
+    }
+
+pub stream_at-stream-requires : goal.stream_at-stream-requires
+stream_at-stream-requires g c = (spawned_turn c.args.plan.now c.requires.accepted c.args.moment.now c.args.layer c.args.marks.now c.loop-number.marks (g.S.StreamStore.remembers c.args.store.now) (g.S.StreamStore.seen c.args.store.now) (g.S.StreamStore.remembers c.loop-number.store) (g.S.StreamStore.seen c.loop-number.store) (c.loop-number.auto.marks ∙ c.requires.marks) c.args.turns.now c.loop-number.number-index c.loop-number.invariant.walk c.loop-number-test.true).below
+
+pub spawn_stream-mark-requires-clause-at : goal.spawn_stream-mark-requires-clause-at
+spawn_stream-mark-requires-clause-at g c = (spawned_turn c.args.plan.now c.requires.accepted c.args.moment.now c.args.layer c.args.marks.now c.loop-number.marks (g.S.StreamStore.remembers c.args.store.now) (g.S.StreamStore.seen c.args.store.now) (g.S.StreamStore.remembers c.loop-number.store) (g.S.StreamStore.seen c.loop-number.store) (c.loop-number.auto.marks ∙ c.requires.marks) c.args.turns.now c.loop-number.number-index c.loop-number.invariant.walk c.loop-number-test.true).holds.at
+
+pub spawn_stream-mark-requires-clause-moment : goal.spawn_stream-mark-requires-clause-moment
+spawn_stream-mark-requires-clause-moment g c =
+    let t = spawned_turn c.args.plan.now c.requires.accepted c.args.moment.now c.args.layer c.args.marks.now c.loop-number.marks (g.S.StreamStore.remembers c.args.store.now) (g.S.StreamStore.seen c.args.store.now) (g.S.StreamStore.remembers c.loop-number.store) (g.S.StreamStore.seen c.loop-number.store) (c.loop-number.auto.marks ∙ c.requires.marks) c.args.turns.now c.loop-number.number-index c.loop-number.invariant.walk c.loop-number-test.true in
+    moment_later c.args.plan.now c.args.moment.now (g.S.StreamStore.seen c.args.store.now) c.requires.moment (g.S.StreamStore.seen c.loop-number.store) t.holds.goes_on
+
+pub loop-number-preserved : goal.loop-number-preserved
+loop-number-preserved g c =
+    let plan = c.args.plan.now in
+    let n = get_or c.args.turns.now c.loop-number.number-index 0 in
+    let marks = c.loop-number.marks in
+    let t = spawned_turn c.args.plan.now c.requires.accepted c.args.moment.now c.args.layer c.args.marks.now c.loop-number.marks (g.S.StreamStore.remembers c.args.store.now) (g.S.StreamStore.seen c.args.store.now) (g.S.StreamStore.remembers c.loop-number.store) (g.S.StreamStore.seen c.loop-number.store) (c.loop-number.auto.marks ∙ c.requires.marks) c.args.turns.now c.loop-number.number-index c.loop-number.invariant.walk c.loop-number-test.true in
+    let long : length marks ≡ length plan.spec.streams = c.loop-number.auto.marks ∙ c.requires.marks in
+    record {
+      fine = λ none fine.
+          let p = neither (is_failed c.spawn_stream-mark.result) c.loop-number.failed (sym c.or_failed-failed.ensures ∙ none) in
+          fine_next marks n c.spawn_stream-mark.result (omega (arith, long, t.below)) p.0 (c.loop-number.invariant.fine p.1 fine);
+      walk = walk_on (has_turn plan (turn.Spawn c.args.layer)) plan.spec.streams _ _ n (drop (c.loop-number.number-index + 1) c.args.turns.now) t
+          (one_more_spawned plan c.args.moment.now c.args.layer n c.args.marks.now marks (g.S.StreamStore.remembers c.args.store.now) (g.S.StreamStore.seen c.args.store.now)
+          (g.S.StreamStore.remembers c.loop-number.store) (g.S.StreamStore.seen c.loop-number.store) (g.S.StreamStore.remembers c.spawn_stream-mark.new.store) (g.S.StreamStore.seen c.spawn_stream-mark.new.store)
+          (get_or marks n mark.Fine) c.spawn_stream-mark.result t.holds long t.below (slice_get-get_or marks n mark.Fine (omega (arith, long, t.below))) c.spawn_stream-mark.ensures);
+    }
+
+pub returns : goal.returns
+returns g c = let e = spawned_end c.args.plan.now c.requires.accepted c.args.moment.now c.args.layer c.args.marks.now c.loop-number.marks (g.S.StreamStore.remembers c.args.store.now) (g.S.StreamStore.seen c.args.store.now) (g.S.StreamStore.remembers c.loop-number.store) (g.S.StreamStore.seen c.loop-number.store) (c.loop-number.auto.marks ∙ c.requires.marks) c.args.turns.now c.loop-number.number-index c.loop-number.invariant.walk (omega arith) in record { at = e.at; goes_on = e.goes_on; takes = e.takes; marked = e.marked; fine = c.loop-number.invariant.fine }

@@ -1,12 +1,20 @@
-use Rattle.std.proofs.Common.{Some, None}
+use Rattle.std.proofs.Common.{◌∙◌, Some, None, ap, subst, sym}
 use Rattle.lola_step.specs.Ends.{FindsClosings, FindsFault}
+use Rattle.lola_step.specs.Found.{NoneFailed, has_fault}
 use Rattle.lola_step.proofs.Endings.{fails_by_closing, fails_by_evaluation, is_done, same_fault, same_spans, same_verdicts, same_within}
 use Rattle.lola_step.proofs.step.conclude.Goals as goal
 
-pub first_fault-requires-clause-within : goal.first_fault-requires-clause-within
-first_fault-requires-clause-within g c =
+pub fault_of_step-requires-clause-within : goal.fault_of_step-requires-clause-within
+fault_of_step-requires-clause-within g c =
     same_within c.args.scratch.now.results.items c.deref-3.result.now c.args.scratch.now.spans.items c.deref-2.result.now c.deref-3.ensures.value c.deref-2.ensures.value
     (λ n p at. (c.requires.within n p at).within)
+
+pub fault_of_step-requires-clause-faultless : goal.fault_of_step-requires-clause-faultless
+fault_of_step-requires-clause-faultless g c none =
+    let faultless = c.requires.faultless none in (
+      subst NoneFailed (sym c.deref.ensures.value) faultless.0,
+      ap has_fault c.deref-3.ensures.value ∙ faultless.1,
+    )
 
 pub returns-in-Some-clause-concludes : goal.returns-in-Some-clause-concludes
 returns-in-Some-clause-concludes g c names rows step run moment noted stands =

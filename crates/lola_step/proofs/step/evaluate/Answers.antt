@@ -1,10 +1,14 @@
-use Rattle.std.proofs.Common.{◌≡◌, ◌+◌, ◌++◌, refl, ap, sym, subst, ◌∙◌, List, length, take, drop, arith}
+use Rattle.std.proofs.Common.{◌≡◌, ◌+◌, ◌++◌, ◌||◌, refl, ap, sym, subst, ◌∙◌, List, length, take, drop, arith}
 use Rattle.std.proofs.lemmas.List.{take_at}
 use Rattle.lola_stages.specs.Stages.{eval_stage}
 use Rattle.lola_step.specs.Evals.{EvalsTake, IsReadyFor, ShowsMore}
+use Rattle.lola_step.specs.Found.{NoneFailed, has_fault}
+use Rattle.lola_step.specs.Schedules.{IsScheduleOf}
 use Rattle.lola_step.specs.declared.mark.Mark.{Mark}
+use Rattle.lola_step.specs.declared.schedule.Schedule.{Schedule}
 use Rattle.lola_step.specs.declared.scratch.Span.{Span}
 use Rattle.lola_step.proofs.Evaluation.{IsSoFar, all_layers, first_layer, next_layer, spans_then}
+use Rattle.lola_step.proofs.Faultless.{fine_first, neither}
 use Rattle.lola_step.proofs.step.evaluate.Goals as goal
 
 pub loop-layer-init : goal.loop-layer-init
@@ -14,9 +18,11 @@ loop-layer-init g c = record {
       c.args.scratch.now.marks.items c.args.scratch.now.spans.items c.args.scratch.now.places c.args.scratch.now.tasks c.args.scratch.now.results
       c.requires.at c.requires.made.marks c.requires.fresh.marks c.requires.made.spans c.requires.fresh.spans
       c.requires.fresh.tasks c.requires.fresh.results c.requires.fresh.places_room c.requires.fresh.tasks_room c.requires.fresh.results_room;
+  faultless = λ none. (fine_first c.args.scratch.now.marks.items c.requires.fresh.marks, ap has_fault c.requires.fresh.results);
   marks = refl;
   sought = refl;
   layers = refl;
+  schedule = refl;
   code = refl;
   closing = refl;
   verdicts = refl;
@@ -25,20 +31,36 @@ loop-layer-init g c = record {
   results_room = refl;
 }
 
-pub eval_layer-requires-clause-spans : goal.eval_layer-requires-clause-spans
-eval_layer-requires-clause-spans g c κs within =
+pub eval_layer-given-requires-clause-spans : goal.eval_layer-given-requires-clause-spans
+eval_layer-given-requires-clause-spans g c κs within =
     subst
-    (λ ps. IsReadyFor c.args.plan.now (eval_stage (length c.args.plan.now.spec.streams) c.loop-layer.layer) (g.S.StreamStore.seen c.spawn_layer.new.store) c.loop-layer.scratch.tasks.items c.loop-layer.scratch.results.items ps)
+    (λ ps. IsReadyFor c.args.plan.now (eval_stage (length c.args.plan.now.spec.streams) c.loop-layer.layer) (g.S.StreamStore.seen c.spawn_layer-failed.new.store) c.loop-layer.scratch.tasks.items c.loop-layer.scratch.results.items ps)
     (sym c.deref_mut-in-loop-layer.ensures.value)
-    (spans_then c.args.plan.now c.loop-layer.layer (g.S.StreamStore.seen c.loop-layer.store) (g.S.StreamStore.seen c.spawn_layer.new.store)
-    c.loop-layer.scratch.tasks.items c.loop-layer.scratch.results.items c.loop-layer.scratch.spans.items c.spawn_layer.ensures.goes_on c.loop-layer.invariant.so_far.ready)
+    (spans_then c.args.plan.now c.loop-layer.layer (g.S.StreamStore.seen c.loop-layer.store) (g.S.StreamStore.seen c.spawn_layer-failed.new.store)
+    c.loop-layer.scratch.tasks.items c.loop-layer.scratch.results.items c.loop-layer.scratch.spans.items c.spawn_layer-failed.ensures.goes_on c.loop-layer.invariant.so_far.ready)
 
-pub eval_layer-requires-clause-sought : goal.eval_layer-requires-clause-sought
-eval_layer-requires-clause-sought g c κs within =
+pub eval_layer-given-requires-clause-sought : goal.eval_layer-given-requires-clause-sought
+eval_layer-given-requires-clause-sought g c κs within =
     ap length c.deref_mut-in-loop-layer-2.ensures.value ∙ (c.loop-layer.invariant.sought ∙ c.requires.made.sought)
 
-pub eval_layer-requires-clause-code : goal.eval_layer-requires-clause-code
-eval_layer-requires-clause-code g c κs within = c.loop-layer.invariant.code ∙ c.requires.made.code
+pub spawns_in-requires : goal.spawns_in-requires
+spawns_in-requires g c =
+    omega (arith, c.loop-layer-test.true, c.loop-layer.invariant.layers, c.requires.made.scheduled, ap (λ (s : Schedule). length s.layers.items) c.loop-layer.invariant.schedule)
+
+pub spawn_layer-failed-requires-clause-turns : goal.spawn_layer-failed-requires-clause-turns
+spawn_layer-failed-requires-clause-turns g c =
+    c.spawns_in.ensures c.args.plan.now (subst (IsScheduleOf c.args.plan.now) (sym c.loop-layer.invariant.schedule) c.requires.made.schedule)
+
+pub evals_in-requires : goal.evals_in-requires
+evals_in-requires g c =
+    omega (arith, c.loop-layer-test.true, c.loop-layer.invariant.layers, c.requires.made.scheduled, ap (λ (s : Schedule). length s.layers.items) c.loop-layer.invariant.schedule)
+
+pub eval_layer-given-requires-clause-turns : goal.eval_layer-given-requires-clause-turns
+eval_layer-given-requires-clause-turns g c κs within =
+    c.evals_in.ensures c.args.plan.now (subst (IsScheduleOf c.args.plan.now) (sym c.loop-layer.invariant.schedule) c.requires.made.schedule)
+
+pub eval_layer-given-requires-clause-code : goal.eval_layer-given-requires-clause-code
+eval_layer-given-requires-clause-code g c κs within = c.loop-layer.invariant.code ∙ c.requires.made.code
 
 pub loop-layer-preserved : goal.loop-layer-preserved
 loop-layer-preserved g c =
@@ -47,44 +69,52 @@ loop-layer-preserved g c =
     let now = c.loop-layer.scratch in
     let seen = g.S.StreamStore.seen in
     let remembers = g.S.StreamStore.remembers in
-    let length_marks : length c.spawn_layer.new.marks ≡ now.marks.len = c.spawn_layer.auto.marks ∙ c.deref_mut.ensures.len in
-    let length_spans : length c.eval_layer.new.spans ≡ now.spans.len = c.eval_layer.auto.spans ∙ c.deref_mut-in-loop-layer.ensures.len in
-    let marks_back : take now.marks.len (c.spawn_layer.new.marks ++ drop (length c.spawn_layer.new.marks) now.marks.items) ≡ c.spawn_layer.new.marks =
-    take_at c.spawn_layer.new.marks (drop (length c.spawn_layer.new.marks) now.marks.items) now.marks.len length_marks in
-    let spans_back : take now.spans.len (c.eval_layer.new.spans ++ drop (length c.eval_layer.new.spans) now.spans.items) ≡ c.eval_layer.new.spans =
-    take_at c.eval_layer.new.spans (drop (length c.eval_layer.new.spans) now.spans.items) now.spans.len length_spans in
-    let length_sought : length c.eval_layer.new.sought ≡ now.sought.len = c.eval_layer.auto.sought ∙ c.deref_mut-in-loop-layer-2.ensures.len in
-    let sought_back : take now.sought.len (c.eval_layer.new.sought ++ drop (length c.eval_layer.new.sought) now.sought.items) ≡ c.eval_layer.new.sought =
-    take_at c.eval_layer.new.sought (drop (length c.eval_layer.new.sought) now.sought.items) now.sought.len length_sought in
-    let lent : c.deref.result.now ≡ c.spawn_layer.new.marks = c.deref.ensures.value ∙ marks_back in
+    let length_marks : length c.spawn_layer-failed.new.marks ≡ now.marks.len = c.spawn_layer-failed.auto.marks ∙ c.deref_mut.ensures.len in
+    let length_spans : length c.eval_layer-given.new.spans ≡ now.spans.len = c.eval_layer-given.auto.spans ∙ c.deref_mut-in-loop-layer.ensures.len in
+    let marks_back : take now.marks.len (c.spawn_layer-failed.new.marks ++ drop (length c.spawn_layer-failed.new.marks) now.marks.items) ≡ c.spawn_layer-failed.new.marks =
+    take_at c.spawn_layer-failed.new.marks (drop (length c.spawn_layer-failed.new.marks) now.marks.items) now.marks.len length_marks in
+    let spans_back : take now.spans.len (c.eval_layer-given.new.spans ++ drop (length c.eval_layer-given.new.spans) now.spans.items) ≡ c.eval_layer-given.new.spans =
+    take_at c.eval_layer-given.new.spans (drop (length c.eval_layer-given.new.spans) now.spans.items) now.spans.len length_spans in
+    let length_sought : length c.eval_layer-given.new.sought ≡ now.sought.len = c.eval_layer-given.auto.sought ∙ c.deref_mut-in-loop-layer-2.ensures.len in
+    let sought_back : take now.sought.len (c.eval_layer-given.new.sought ++ drop (length c.eval_layer-given.new.sought) now.sought.items) ≡ c.eval_layer-given.new.sought =
+    take_at c.eval_layer-given.new.sought (drop (length c.eval_layer-given.new.sought) now.sought.items) now.sought.len length_sought in
+    let lent : c.deref.result.now ≡ c.spawn_layer-failed.new.marks = c.deref.ensures.value ∙ marks_back in
     let at : List Mark → List Span → Type 0 =
-    λ ms ps. IsSoFar plan m (c.loop-layer.layer + 1) (remembers c.args.store.now) (seen c.args.store.now) (remembers c.eval_layer.new.store) (seen c.eval_layer.new.store) ms ps c.eval_layer.new.places c.eval_layer.new.tasks c.eval_layer.new.results in
+    λ ms ps. IsSoFar plan m (c.loop-layer.layer + 1) (remembers c.args.store.now) (seen c.args.store.now) (remembers c.eval_layer-given.new.store) (seen c.eval_layer-given.new.store) ms ps c.eval_layer-given.new.places c.eval_layer-given.new.tasks c.eval_layer-given.new.results in
     let before : List Mark → List Span → Type 0 =
     λ ms ps. IsSoFar plan m c.loop-layer.layer (remembers c.args.store.now) (seen c.args.store.now) (remembers c.loop-layer.store) (seen c.loop-layer.store) ms ps now.places now.tasks now.results in
     record {
       so_far =
-          subst (λ ms. at ms (take now.spans.len (c.eval_layer.new.spans ++ drop (length c.eval_layer.new.spans) now.spans.items))) (sym marks_back)
-          (subst (λ ps. at c.spawn_layer.new.marks ps) (sym spans_back)
+          subst (λ ms. at ms (take now.spans.len (c.eval_layer-given.new.spans ++ drop (length c.eval_layer-given.new.spans) now.spans.items))) (sym marks_back)
+          (subst (λ ps. at c.spawn_layer-failed.new.marks ps) (sym spans_back)
           (next_layer plan m c.loop-layer.layer (remembers c.args.store.now) (seen c.args.store.now)
-          (remembers c.loop-layer.store) (seen c.loop-layer.store) (remembers c.spawn_layer.new.store) (seen c.spawn_layer.new.store) (remembers c.eval_layer.new.store) (seen c.eval_layer.new.store)
-          c.deref_mut.result.now c.spawn_layer.new.marks c.deref_mut-in-loop-layer.result.now c.eval_layer.new.spans now.places c.eval_layer.new.places now.tasks c.eval_layer.new.tasks now.results c.eval_layer.new.results
+          (remembers c.loop-layer.store) (seen c.loop-layer.store) (remembers c.spawn_layer-failed.new.store) (seen c.spawn_layer-failed.new.store) (remembers c.eval_layer-given.new.store) (seen c.eval_layer-given.new.store)
+          c.deref_mut.result.now c.spawn_layer-failed.new.marks c.deref_mut-in-loop-layer.result.now c.eval_layer-given.new.spans now.places c.eval_layer-given.new.places now.tasks c.eval_layer-given.new.tasks now.results c.eval_layer-given.new.results
           (subst (λ ms. before ms c.deref_mut-in-loop-layer.result.now) (sym c.deref_mut.ensures.value)
           (subst (λ ps. before now.marks.items ps) (sym c.deref_mut-in-loop-layer.ensures.value) c.loop-layer.invariant.so_far))
-          c.spawn_layer.ensures.goes_on c.spawn_layer.ensures.takes c.spawn_layer.ensures.marked
-          c.eval_layer.ensures.at c.eval_layer.ensures.goes_on c.eval_layer.ensures.rooms c.eval_layer.ensures.spans
-          (subst (λ ms. EvalsTake plan m c.loop-layer.layer ms (remembers c.spawn_layer.new.store) (seen c.spawn_layer.new.store) (remembers c.eval_layer.new.store) (seen c.eval_layer.new.store)) lent c.eval_layer.ensures.takes)
+          c.spawn_layer-failed.ensures.goes_on c.spawn_layer-failed.ensures.takes c.spawn_layer-failed.ensures.marked
+          c.eval_layer-given.ensures.at c.eval_layer-given.ensures.goes_on c.eval_layer-given.ensures.rooms c.eval_layer-given.ensures.spans
+          (subst (λ ms. EvalsTake plan m c.loop-layer.layer ms (remembers c.spawn_layer-failed.new.store) (seen c.spawn_layer-failed.new.store) (remembers c.eval_layer-given.new.store) (seen c.eval_layer-given.new.store)) lent c.eval_layer-given.ensures.takes)
           (subst
-          (λ ms. ShowsMore plan m c.loop-layer.layer ms (remembers c.spawn_layer.new.store) (seen c.spawn_layer.new.store) c.deref_mut-in-loop-layer.result.now now.tasks.items now.results.items c.eval_layer.new.spans c.eval_layer.new.tasks.items c.eval_layer.new.results.items)
-          lent c.eval_layer.ensures.shows)));
+          (λ ms. ShowsMore plan m c.loop-layer.layer ms (remembers c.spawn_layer-failed.new.store) (seen c.spawn_layer-failed.new.store) c.deref_mut-in-loop-layer.result.now now.tasks.items now.results.items c.eval_layer-given.new.spans c.eval_layer-given.new.tasks.items c.eval_layer-given.new.results.items)
+          lent c.eval_layer-given.ensures.shows)));
+      faultless = λ none.
+          let p = neither c.loop-layer.faulty (c.spawn_layer-failed.result || c.eval_layer-given.result) (sym c.one_of-faulty.ensures ∙ none) in
+          let q = neither c.spawn_layer-failed.result c.eval_layer-given.result p.1 in
+          let before_it = c.loop-layer.invariant.faultless p.0 in (
+            subst NoneFailed (sym marks_back) (c.spawn_layer-failed.ensures.fine q.0 (subst NoneFailed (sym c.deref_mut.ensures.value) before_it.0)),
+            c.eval_layer-given.ensures.faultless q.1 before_it.1,
+          );
       marks = ap length marks_back ∙ (length_marks ∙ (now.marks.ok.0 ∙ c.loop-layer.invariant.marks));
       sought = ap length sought_back ∙ (length_sought ∙ (now.sought.ok.0 ∙ c.loop-layer.invariant.sought));
       layers = c.loop-layer.invariant.layers;
+      schedule = c.loop-layer.invariant.schedule;
       code = c.loop-layer.invariant.code;
       closing = c.loop-layer.invariant.closing;
       verdicts = c.loop-layer.invariant.verdicts;
-      places_room = c.eval_layer.ensures.places ∙ c.loop-layer.invariant.places_room;
-      tasks_room = c.eval_layer.ensures.capacities.0 ∙ c.loop-layer.invariant.tasks_room;
-      results_room = c.eval_layer.ensures.capacities.1 ∙ c.loop-layer.invariant.results_room;
+      places_room = c.eval_layer-given.ensures.places ∙ c.loop-layer.invariant.places_room;
+      tasks_room = c.eval_layer-given.ensures.capacities.0 ∙ c.loop-layer.invariant.tasks_room;
+      results_room = c.eval_layer-given.ensures.capacities.1 ∙ c.loop-layer.invariant.results_room;
     }
 
 pub returns-clause-evaluates : goal.returns-clause-evaluates

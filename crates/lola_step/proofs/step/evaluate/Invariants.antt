@@ -1,5 +1,6 @@
-use Rattle.std.proofs.Common.{◌≡◌, length}
+use Rattle.std.proofs.Common.{◌≡◌, false, length}
 use Rattle.std.specs.Vec.{vec_capacity}
+use Rattle.lola_step.specs.Found.{IsFaultless}
 use Rattle.lola_step.proofs.Evaluation.{IsSoFar}
 use Rattle.lola_step.proofs.step.evaluate.Given as goal
 
@@ -7,9 +8,11 @@ abbrev pub invariant-loop-layer : goal.invariant-loop-layer
 invariant-loop-layer g l = record {
   so_far : IsSoFar l.plan l.moment l.layer (g.S.StreamStore.remembers l.initial.store) (g.S.StreamStore.seen l.initial.store) (g.S.StreamStore.remembers l.store) (g.S.StreamStore.seen l.store)
       l.scratch.marks.items l.scratch.spans.items l.scratch.places l.scratch.tasks l.scratch.results;
+  faultless : l.faulty ≡ false → IsFaultless l.scratch.marks.items l.scratch.results.items;
   marks : length l.scratch.marks.items ≡ length l.initial.scratch.marks.items;
   sought : length l.scratch.sought.items ≡ length l.initial.scratch.sought.items;
   layers : l.scratch.layers ≡ l.layer-end;
+  schedule : l.scratch.schedule ≡ l.initial.scratch.schedule;
   code : l.scratch.code ≡ l.initial.scratch.code;
   closing : l.scratch.closing ≡ l.initial.scratch.closing;
   verdicts : l.scratch.verdicts ≡ l.initial.scratch.verdicts;

@@ -1,4 +1,4 @@
-use Rattle.std.proofs.Common.{ap, arith, length, sym, subst}
+use Rattle.std.proofs.Common.{ap, arith, length, subst}
 use Rattle.std.proofs.lemmas.Slice.Zip.{AllZip-long}
 use Rattle.std.specs.Prelude.{slice_get}
 use Rattle.lola_model.specs.declared.spec.Spec.{Spec}

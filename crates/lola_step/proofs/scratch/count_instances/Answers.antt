@@ -2,7 +2,7 @@ use Rattle.std.proofs.Common.{◌≡◌, ◌+◌, ◌<◌, ◌≤◌, ◌^◌, l
 use Rattle.lola_model.specs.Store.{instances_seen}
 use Rattle.lola_step.specs.Scratches.{instances_to_come, of_streams}
 use Rattle.lola_step.proofs.Counts.{counts_next, few_to_come, has_layout}
-use Rattle.lola_step.proofs.scratch.instances_in_step.Goals as goal
+use Rattle.lola_step.proofs.scratch.count_instances.Goals as goal
 
 pub instances-requires : goal.instances-requires
 instances-requires g c =

@@ -1,0 +1,181 @@
+//! Outcomes of 16 bytes, with which the machine works.
+
+ghost use Rattle.std.specs.Prelude.{◌≡◌, IfSome};
+ghost use Rattle.lola_value.specs.Arithmetic.{is_within};
+ghost use Rattle.lola_value.specs.declared.value.Outcome.TheVariants as outcome;
+ghost use Rattle.lola_value.specs.declared.value.Value.TheVariants as value;
+ghost use Rattle.lola_expr.specs.Operands.{truth_in};
+ghost use Rattle.lola_code.specs.Shorts.{IsShort, IsShortValue, has_value, numbered, value_in, widened};
+
+use lola_value::value::{FaultKind, Kind, Outcome, TextId, Value};
+
+/// An outcome in 16 bytes: one that says its sort, and a number of 64 bits, of which no kind has more. An `Outcome` has 48, since its
+/// numbers have 128 bits, in which all arithmetic is exact. Truth values and faults are sorts of their own, so that a copy is two words.
+#[derive(Clone, Copy, Debug, PartialEq, Eq)]
+pub(crate) enum Short {
+    False,
+    True,
+    /// A number from the least to the greatest of `i64`.
+    Int(i64),
+    /// A number above these.
+    Large(u64),
+    Text(TextId),
+    Missing,
+    Overflow,
+    DivZero,
+    TooManyInstances,
+    Poison,
+}
+
+/// The outcome that it stands for.
+pub(crate) fn widen(o: Short) -> Outcome
+    ensures { result ≡ widened o }
+{
+    match o {
+        Short::False => Outcome::Value(Value::Bool(false)),
+        Short::True => Outcome::Value(Value::Bool(true)),
+        Short::Int(z) => Outcome::Value(Value::Int(z as i128)),
+        Short::Large(z) => Outcome::Value(Value::Int(z as i128)),
+        Short::Text(id) => Outcome::Value(Value::Text(id)),
+        Short::Missing => Outcome::Missing,
+        Short::Overflow => Outcome::Fault(FaultKind::Overflow),
+        Short::DivZero => Outcome::Fault(FaultKind::DivZero),
+        Short::TooManyInstances => Outcome::Fault(FaultKind::TooManyInstances),
+        Short::Poison => Outcome::Poison,
+    }
+}
+
+/// The value that it is; false for what is none.
+pub(crate) fn value_of(o: Short) -> Value
+    ensures { result ≡ value_in o }
+{
+    match o {
+        Short::True => Value::Bool(true),
+        Short::Int(z) => Value::Int(z as i128),
+        Short::Large(z) => Value::Int(z as i128),
+        Short::Text(id) => Value::Text(id),
+        _ => Value::Bool(false),
+    }
+}
+
+/// Whether it is a value.
+pub(crate) fn is_value(o: Short) -> bool
+    ensures { result ≡ has_value o }
+{
+    match o {
+        Short::Missing => false,
+        Short::Overflow => false,
+        Short::DivZero => false,
+        Short::TooManyInstances => false,
+        Short::Poison => false,
+        _ => true,
+    }
+}
+
+/// The truth value that it is; false for what is none.
+pub(crate) fn is_true(o: Short) -> bool
+    ensures { result ≡ truth_in (value_in o) }
+{
+    match o {
+        Short::True => true,
+        _ => false,
+    }
+}
+
+/// A truth value.
+pub(crate) fn verdict(b: bool) -> Short
+    ensures { widened result ≡ outcome.Value (value.Bool b) }
+{
+    if b { Short::True } else { Short::False }
+}
+
+/// A value in short.
+pub(crate) fn narrow_value(v: Value) -> Short
+    requires { IsShortValue v }
+    ensures { widened result ≡ outcome.Value v }
+{
+    match v {
+        Value::Bool(b) => verdict(b),
+        Value::Int(z) => {
+            if z > 9223372036854775807 {
+                Short::Large(z as u64)
+            } else {
+                Short::Int(z as i64)
+            }
+        }
+        Value::Text(id) => Short::Text(id),
+    }
+}
+
+/// An outcome in short.
+pub(crate) fn narrow(o: Outcome) -> Short
+    requires { IsShort o }
+    ensures { widened result ≡ o }
+{
+    match o {
+        Outcome::Value(v) => narrow_value(v),
+        Outcome::Missing => Short::Missing,
+        Outcome::Fault(FaultKind::Overflow) => Short::Overflow,
+        Outcome::Fault(FaultKind::DivZero) => Short::DivZero,
+        Outcome::Fault(FaultKind::TooManyInstances) => Short::TooManyInstances,
+        Outcome::Poison => Short::Poison,
+    }
+}
+
+/// A value in short, whatever it is. None for a number that no kind has.
+pub(crate) fn short_value(v: Value) -> Option<Short>
+    ensures { IfSome result (λ s. widened s ≡ outcome.Value v) }
+{
+    match v {
+        Value::Bool(b) => Some(verdict(b)),
+        Value::Int(z) => {
+            if -9223372036854775808 <= z && z <= 9223372036854775807 {
+                Some(Short::Int(z as i64))
+            } else if 0 <= z && z <= 18446744073709551615 {
+                Some(Short::Large(z as u64))
+            } else {
+                None
+            }
+        }
+        Value::Text(id) => Some(Short::Text(id)),
+    }
+}
+
+/// The same of an outcome.
+pub(crate) fn short_outcome(o: Outcome) -> Option<Short>
+    ensures { IfSome result (λ s. widened s ≡ o) }
+{
+    match o {
+        Outcome::Value(v) => short_value(v),
+        _ => Some(narrow(o)),
+    }
+}
+
+// Whether the kind has a number.
+fn has(kind: Kind, z: i64) -> bool
+    ensures { result ≡ is_within kind z }
+{
+    match kind {
+        Kind::Int64 => true,
+        Kind::Int8 => -128 <= z && z <= 127,
+        Kind::Int16 => -32768 <= z && z <= 32767,
+        Kind::Int32 => -2147483648 <= z && z <= 2147483647,
+        Kind::UInt8 => 0 <= z && z <= 255,
+        Kind::UInt16 => 0 <= z && z <= 65535,
+        Kind::UInt32 => 0 <= z && z <= 4294967295,
+        Kind::UInt64 => 0 <= z,
+        Kind::Bool => 0 <= z && z <= 0,
+        Kind::Text => 0 <= z && z <= 0,
+    }
+}
+
+/// A number, if the kind has it, and else a fault.
+pub(crate) fn tested(kind: Kind, z: i64) -> Short
+    ensures { widened result ≡ numbered kind z }
+{
+    if has(kind, z) {
+        Short::Int(z)
+    } else {
+        Short::Overflow
+    }
+}

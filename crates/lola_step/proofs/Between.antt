@@ -1,0 +1,237 @@
+-- What holds of the streams below a number in each loop over those that have a turn, and that it goes on past a stream that has none.
+use Rattle.std.proofs.Common.{◌≡◌, refl, ap, ◌∙◌, sym, subst, ℕ, ◌+◌, ◌<◌, ◌≤◌, List, [], ◌∷◌, ◌++◌, Option, Some, None, Bool, true, false, not, ◌&&◌, if◌then◌else◌, nat_eq, get_or, set, length, slice_get, take, drop, replicate, vec_len, arith, append-nil}
+use Rattle.std.proofs.lemmas.Bool.{eq-eqb}
+use Rattle.std.proofs.lemmas.List.{set-get_or, take-append-drop}
+use Rattle.std.proofs.lemmas.Option.{slice_get-get_or, slice_get_within}
+use Rattle.std.specs.Global.{Vec}
+use Rattle.lola_value.specs.declared.value.Outcome.{Outcome}
+use Rattle.lola_value.specs.declared.value.Outcome.TheVariants as outcome
+use Rattle.lola_model.specs.Acceptance.{IsAccepted}
+use Rattle.lola_model.specs.Graph.{eval_node, layer_of, spawn_node}
+use Rattle.lola_model.specs.Model.{eval_pacing, is_input}
+use Rattle.lola_model.specs.Named.{has_clause}
+use Rattle.lola_model.specs.Store.{Memories, Seen}
+use Rattle.lola_model.specs.declared.plan.Plan.{Plan}
+use Rattle.lola_model.specs.declared.spec.Clause.{Clause}
+use Rattle.lola_model.specs.declared.spec.Stream.{Stream}
+use Rattle.lola_model.specs.declared.store.Whereabouts.{Whereabouts}
+use Rattle.lola_step.specs.Closings.{AreUpTo, all_places}
+use Rattle.lola_step.specs.Moments.{may_be_active_in}
+use Rattle.lola_step.specs.Notes.{is_fine, layer_spans, layer_tasks, places_of, runs_in, stream_tasks}
+use Rattle.lola_step.specs.Rooms.{rooms, total}
+use Rattle.lola_step.specs.Schedules.{has_turn}
+use Rattle.lola_step.specs.Spawns.{IsNextSpawn}
+use Rattle.lola_step.specs.Steps.{AreInputs}
+use Rattle.lola_step.specs.declared.mark.Mark.{Mark}
+use Rattle.lola_step.specs.declared.mark.Mark.TheVariants as mark
+use Rattle.lola_step.specs.declared.moment.Moment.{Moment}
+use Rattle.lola_step.specs.declared.schedule.Turn.{Turn}
+use Rattle.lola_step.specs.declared.schedule.Turn.TheVariants as turn
+use Rattle.lola_step.specs.declared.scratch.Span.{Span}
+use Rattle.lola_step.specs.declared.tasks.Task.{Task}
+use Rattle.lola_step.proofs.Closable.{up_to_first, up_to_stream}
+use Rattle.lola_step.proofs.Conditions.{FoundBefore, found_stream, none_without}
+use Rattle.lola_step.proofs.Elements.{cut, drop_past}
+use Rattle.lola_step.proofs.Gathering.{asked_tasks, gathers_places, gathers_spans, gathers_tasks}
+use Rattle.lola_step.proofs.Seeking.{SoughtUpTo, sought_none}
+use Rattle.lola_step.proofs.SpawnTurns.{AreSpawned, no_clause_next, one_more_spawned, other_layer_next}
+use Rattle.lola_step.proofs.Standing.{room_there}
+use Rattle.lola_step.proofs.Telling.{AreTold, none_told}
+use Rattle.lola_step.proofs.Turns.{IsTurn, IsWalk, walk_done, walk_item}
+
+-- a stream has its turn, whichever way it is known
+pub has_turn_there : (plan : Plan) (t : Turn) (n : ℕ) (x y : Stream) → slice_get plan.spec.streams n ≡ Some x → slice_get plan.spec.streams n ≡ Some y → has_turn plan t n x ≡ true → has_turn plan t n y ≡ true
+has_turn_there plan t n x y e f h = let q : Some x ≡ Some y = sym e ∙ f in let p : x ≡ y = cc in subst (λ (z : Stream). has_turn plan t n z ≡ true) p h
+
+-- what a stream without a turn is
+
+pub no_clause : (o : Option Clause) → has_clause o ≡ false → o ≡ None
+no_clause None e = refl
+no_clause (Some k) e = absurd (cc)
+
+not_equal : (a b : ℕ) → nat_eq a b ≡ false → a ≡ b → ⊥
+not_equal a b q e = let t : nat_eq a b ≡ true = eq-eqb a b e in cc
+
+not_both : (a b : Bool) → a ≡ true → b ≡ true → (a && b) ≡ false → ⊥
+not_both true true e f g = cc
+not_both true false e f g = cc
+not_both false b e f g = cc
+
+not_first : (a b c : Bool) → (a && b) ≡ false → (a && (b && c)) ≡ false
+not_first true true c e = absurd (cc)
+not_first true false c e = refl
+not_first false b c e = refl
+
+module _ (plan : Plan) (m : Moment) (marks : List Mark) (layer n : ℕ) (x : Stream) where
+  abbrev paced : Bool
+  paced = may_be_active_in m (eval_pacing (slice_get plan.pacings n)) && is_fine (slice_get marks n)
+
+  -- a stream without a turn in a layer does not run in it
+  pub never_runs : has_turn plan (turn.Eval layer) n x ≡ false → runs_in plan m marks layer n x ≡ false
+  never_runs e = not_first (not (is_input x)) (nat_eq (layer_of plan.layers (eval_node n)) layer) paced e
+
+-- close clauses
+
+-- no stream below a number has a fault, and the places of their instances that are closed are listed
+pub record AreFoundBelow (plan : Plan) (m : Moment) (remembers : Memories) (s : Seen) (closing : Vec Task) (n : ℕ) : Type 0 where
+  pub closable : AreUpTo s (record { stream = n; index = 0 }) closing.items
+  pub found : FoundBefore plan m remembers s n closing.items
+  pub count : vec_len closing + total (drop n (rooms s)) ≤ total (rooms s)
+
+-- below the first there is none
+pub found_first : (plan : Plan) (m : Moment) (remembers : Memories) (s : Seen) (closing : Vec Task) → closing.items ≡ [] → AreFoundBelow plan m remembers s closing 0
+found_first plan m remembers s closing none = record {
+  closable = up_to_first s (record { stream = 0; index = 0 }) closing.items none;
+  found = λ names c shown. (refl, ap (λ ts. places_of ts ++ all_places plan names c m s 0 plan.spec.streams) none);
+  count = omega (arith, closing.ok.0, ap length none);
+}
+
+pub found_past : (plan : Plan) (m : Moment) (remembers : Memories) (s : Seen) (closing : Vec Task) (n : ℕ) (x : Stream) → slice_get plan.spec.streams n ≡ Some x
+    → has_turn plan turn.Close n x ≡ false → AreFoundBelow plan m remembers s closing n → AreFoundBelow plan m remembers s closing (n + 1)
+found_past plan m remembers s closing n x at none h = record {
+  closable = up_to_stream s n 0 closing.items h.closable;
+  found = found_stream plan m remembers s n x at closing.items closing.items h.found (none_without plan m remembers s n x closing.items (no_clause x.close none));
+  count = omega (arith, room_there s n, h.count);
+}
+
+module _ (plan : Plan) (m : Moment) (remembers : Memories) (s : Seen) (closing : Vec Task) (turns : List ℕ) (k : ℕ)
+    (walk : IsWalk (has_turn plan turn.Close) plan.spec.streams (AreFoundBelow plan m remembers s closing) (drop k turns)) where
+  -- the next of them
+  pub found_turn : k < length turns → IsTurn (has_turn plan turn.Close) plan.spec.streams (AreFoundBelow plan m remembers s closing) (get_or turns k 0) (drop (k + 1) turns)
+  found_turn lt = walk_item (has_turn plan turn.Close) plan.spec.streams (AreFoundBelow plan m remembers s closing) (found_past plan m remembers s closing) turns k lt walk
+
+  -- all of them
+  pub found_end : length turns ≤ k → AreFoundBelow plan m remembers s closing (length plan.spec.streams)
+  found_end past = walk_done (has_turn plan turn.Close) plan.spec.streams (AreFoundBelow plan m remembers s closing) (found_past plan m remembers s closing) turns k past walk
+
+-- instances of a layer
+
+module _ (plan : Plan) (m : Moment) (marks : List Mark) (sought : List Whereabouts) (s : Seen) (layer : ℕ) where
+  -- the tasks of the streams below a number are listed, with a place for each outcome, and their spans are noted
+  pub record AreGathered (old : List Task) (places : List Outcome) (spans : List Span) (new : List Task) (places' : List Outcome) (spans' : List Span) (n : ℕ) : Type 0 where
+    pub tasks : new ++ layer_tasks plan m marks sought s layer n (drop n plan.spec.streams) ≡ old ++ layer_tasks plan m marks sought s layer 0 plan.spec.streams
+    pub results : places' ++ replicate (length (layer_tasks plan m marks sought s layer n (drop n plan.spec.streams))) outcome.Missing
+        ≡ places ++ replicate (length (layer_tasks plan m marks sought s layer 0 plan.spec.streams)) outcome.Missing
+    pub noted : take n spans' ++ layer_spans plan m marks sought s layer (length new) n (drop n plan.spec.streams) (drop n spans')
+        ≡ layer_spans plan m marks sought s layer (length old) 0 plan.spec.streams spans
+
+  -- below the first there are none
+  pub gathered_first : (old : List Task) (places : List Outcome) (spans : List Span) → AreGathered old places spans old places spans 0
+  gathered_first old places spans = record { tasks = refl; results = refl; noted = refl }
+
+  pub gathered_past : (old : List Task) (places : List Outcome) (spans : List Span) (new : List Task) (places' : List Outcome) (spans' : List Span) → length spans' ≡ length plan.spec.streams
+      → (n : ℕ) (x : Stream) → slice_get plan.spec.streams n ≡ Some x → has_turn plan (turn.Eval layer) n x ≡ false
+      → AreGathered old places spans new places' spans' n → AreGathered old places spans new places' spans' (n + 1)
+  gathered_past old places spans new places' spans' long n x at none h =
+      let idle : runs_in plan m marks layer n x ≡ false = never_runs plan m marks layer n x none in
+      let empty : stream_tasks plan m marks sought s layer n x ≡ [] = ap (λ b. if b then asked_tasks plan m marks sought s layer n else []) idle in
+      let there : drop n plan.spec.streams ≡ x ∷ drop (n + 1) plan.spec.streams = cut plan.spec.streams n x at in
+      let below : n < length spans' = omega (arith, long, slice_get_within plan.spec.streams n x at) in
+      record {
+        tasks = gathers_tasks plan m marks sought s layer n x plan.spec.streams new new _ there (sym (append-nil new) ∙ ap (λ ts. new ++ ts) (sym empty)) h.tasks;
+        results = gathers_places plan m marks sought s layer n x plan.spec.streams places' places' _ there
+            (sym (append-nil places') ∙ ap (λ (ts : List Task). places' ++ replicate (length ts) outcome.Missing) (sym empty)) h.results;
+        noted = gathers_spans plan m marks sought s layer n x plan.spec.streams (length new) (length new) (length new) spans' spans' _ below there
+            (omega (arith, ap length empty)) refl
+            (sym (ap (λ b. if b then set spans' n (record { from = length new; count = length (stream_tasks plan m marks sought s layer n x) }) else spans') idle)) h.noted;
+      }
+
+  -- and past the last that is all
+  pub record IsGathered (old : List Task) (places : List Outcome) (spans : List Span) (new : List Task) (places' : List Outcome) (spans' : List Span) : Type 0 where
+    pub tasks : new ≡ old ++ layer_tasks plan m marks sought s layer 0 plan.spec.streams
+    pub results : places' ≡ places ++ replicate (length (layer_tasks plan m marks sought s layer 0 plan.spec.streams)) outcome.Missing
+    pub noted : spans' ≡ layer_spans plan m marks sought s layer (length old) 0 plan.spec.streams spans
+
+  pub gathered_all : (old : List Task) (places : List Outcome) (spans : List Span) (new : List Task) (places' : List Outcome) (spans' : List Span)
+      → AreGathered old places spans new places' spans' (length plan.spec.streams) → IsGathered old places spans new places' spans'
+  gathered_all old places spans new places' spans' h =
+      let n : ℕ = length plan.spec.streams in
+      let none : drop n plan.spec.streams ≡ [] = drop_past plan.spec.streams n (omega arith) in
+      record {
+        tasks = sym (append-nil new) ∙ (ap (λ xs. new ++ layer_tasks plan m marks sought s layer n xs) (sym none) ∙ h.tasks);
+        results = sym (append-nil places') ∙ (ap (λ xs. places' ++ replicate (length (layer_tasks plan m marks sought s layer n xs)) outcome.Missing) (sym none) ∙ h.results);
+        noted = sym (take-append-drop n spans') ∙ (ap (λ xs. take n spans' ++ layer_spans plan m marks sought s layer (length new) n xs (drop n spans')) (sym none) ∙ h.noted);
+      }
+
+  module _ (old : List Task) (places : List Outcome) (spans : List Span) (new : List Task) (places' : List Outcome) (spans' : List Span) (long : length spans' ≡ length plan.spec.streams)
+      (turns : List ℕ) (k : ℕ) (walk : IsWalk (has_turn plan (turn.Eval layer)) plan.spec.streams (AreGathered old places spans new places' spans') (drop k turns)) where
+    -- the next of them
+    pub gathered_turn : k < length turns → IsTurn (has_turn plan (turn.Eval layer)) plan.spec.streams (AreGathered old places spans new places' spans') (get_or turns k 0) (drop (k + 1) turns)
+    gathered_turn lt =
+        walk_item (has_turn plan (turn.Eval layer)) plan.spec.streams (AreGathered old places spans new places' spans') (gathered_past old places spans new places' spans' long) turns k lt walk
+
+    -- all of them
+    pub gathered_end : length turns ≤ k → IsGathered old places spans new places' spans'
+    gathered_end past =
+        gathered_all old places spans new places' spans'
+        (walk_done (has_turn plan (turn.Eval layer)) plan.spec.streams (AreGathered old places spans new places' spans') (gathered_past old places spans new places' spans' long) turns k past walk)
+
+-- below the first nothing is to be noted
+pub sought_first : (plan : Plan) (m : Moment) (marks : List Mark) (remembers : Memories) (s : Seen) (layer : ℕ) (sought : List Whereabouts) → SoughtUpTo plan m marks remembers s layer 0 sought
+sought_first plan m marks remembers s layer sought n x below = absurd (omega (arith, below))
+
+pub sought_past : (plan : Plan) (m : Moment) (marks : List Mark) (remembers : Memories) (s : Seen) (layer : ℕ) (sought : List Whereabouts) (n : ℕ) (x : Stream)
+    → slice_get plan.spec.streams n ≡ Some x → has_turn plan (turn.Eval layer) n x ≡ false
+    → SoughtUpTo plan m marks remembers s layer n sought → SoughtUpTo plan m marks remembers s layer (n + 1) sought
+sought_past plan m marks remembers s layer sought n x at none h = sought_none plan m marks remembers s layer n x sought at (never_runs plan m marks layer n x none) h
+
+module _ (plan : Plan) (m : Moment) (marks : List Mark) (remembers : Memories) (s : Seen) (layer : ℕ) (sought : List Whereabouts) (turns : List ℕ) (k : ℕ)
+    (walk : IsWalk (has_turn plan (turn.Eval layer)) plan.spec.streams (λ n. SoughtUpTo plan m marks remembers s layer n sought) (drop k turns)) where
+  -- the next of them
+  pub sought_turn : k < length turns
+      → IsTurn (has_turn plan (turn.Eval layer)) plan.spec.streams (λ n. SoughtUpTo plan m marks remembers s layer n sought) (get_or turns k 0) (drop (k + 1) turns)
+  sought_turn lt =
+      walk_item (has_turn plan (turn.Eval layer)) plan.spec.streams (λ n. SoughtUpTo plan m marks remembers s layer n sought) (sought_past plan m marks remembers s layer sought) turns k lt walk
+
+  -- all of them
+  pub sought_end : length turns ≤ k → SoughtUpTo plan m marks remembers s layer (length plan.spec.streams) sought
+  sought_end past =
+      walk_done (has_turn plan (turn.Eval layer)) plan.spec.streams (λ n. SoughtUpTo plan m marks remembers s layer n sought) (sought_past plan m marks remembers s layer sought) turns k past walk
+
+-- spawn clauses
+
+module _ (plan : Plan) (accepted : IsAccepted plan) (m : Moment) (layer : ℕ) (marks marks' : List Mark) (remembers : Memories) (s : Seen) (remembers' : Memories) (s' : Seen)
+    (long : length marks' ≡ length plan.spec.streams) where
+  pub spawned_past : (n : ℕ) (x : Stream) → slice_get plan.spec.streams n ≡ Some x → has_turn plan (turn.Spawn layer) n x ≡ false
+      → AreSpawned plan m layer n marks marks' remembers s remembers' s' → AreSpawned plan m layer (n + 1) marks marks' remembers s remembers' s'
+  spawned_past n x at none h =
+      let k : Mark = get_or marks' n mark.Fine in
+      let below : n < length plan.spec.streams = slice_get_within plan.spec.streams n x at in
+      let P : List Mark → Type 0 = λ ms. AreSpawned plan m layer (n + 1) marks ms remembers s remembers' s' in
+      subst P (set-get_or marks' n mark.Fine)
+      (one_more_spawned plan m layer n marks marks' remembers s remembers' s' remembers' s' k k h long below (slice_get-get_or marks' n mark.Fine (omega (arith, long, below)))
+      (by k (has_clause x.spawn) (nat_eq (layer_of plan.layers (spawn_node n)) layer) refl refl none))
+    where
+      by : (k : Mark) (b c : Bool) → has_clause x.spawn ≡ b → nat_eq (layer_of plan.layers (spawn_node n)) layer ≡ c → (has_clause x.spawn && nat_eq (layer_of plan.layers (spawn_node n)) layer) ≡ false
+          → IsNextSpawn plan m layer n k k remembers' s' remembers' s'
+      by k false c e f g = no_clause_next plan accepted m layer n x at k remembers' s' h.at (no_clause x.spawn e)
+      by k true false e f g = other_layer_next plan accepted m layer n x at k remembers' s' h.at (not_equal (layer_of plan.layers (spawn_node n)) layer f)
+      by k true true e f g = absurd (not_both (has_clause x.spawn) (nat_eq (layer_of plan.layers (spawn_node n)) layer) e f g)
+
+  module _ (turns : List ℕ) (k : ℕ) (walk : IsWalk (has_turn plan (turn.Spawn layer)) plan.spec.streams (λ n. AreSpawned plan m layer n marks marks' remembers s remembers' s') (drop k turns)) where
+    -- the next of them
+    pub spawned_turn : k < length turns
+        → IsTurn (has_turn plan (turn.Spawn layer)) plan.spec.streams (λ n. AreSpawned plan m layer n marks marks' remembers s remembers' s') (get_or turns k 0) (drop (k + 1) turns)
+    spawned_turn lt = walk_item (has_turn plan (turn.Spawn layer)) plan.spec.streams (λ n. AreSpawned plan m layer n marks marks' remembers s remembers' s') spawned_past turns k lt walk
+
+    -- all of them
+    pub spawned_end : length turns ≤ k → AreSpawned plan m layer (length plan.spec.streams) marks marks' remembers s remembers' s'
+    spawned_end past = walk_done (has_turn plan (turn.Spawn layer)) plan.spec.streams (λ n. AreSpawned plan m layer n marks marks' remembers s remembers' s') spawned_past turns k past walk
+
+-- inputs
+
+module _ (plan : Plan) (accepted : IsAccepted plan) (is_row : Bool) (inputs : List Outcome) (given : AreInputs is_row plan.spec.streams inputs) (k : ℕ)
+    (remembers : Memories) (s : Seen) (remembers' : Memories) (s' : Seen) where
+  pub told_past : (n : ℕ) (x : Stream) → slice_get plan.spec.streams n ≡ Some x → has_turn plan turn.Input n x ≡ false
+      → AreTold plan is_row inputs n k remembers s remembers' s' → AreTold plan is_row inputs (n + 1) k remembers s remembers' s'
+  told_past n x at none h = none_told plan accepted is_row inputs given n k x at remembers s remembers' s' h none
+
+  module _ (turns : List ℕ) (i : ℕ) (walk : IsWalk (has_turn plan turn.Input) plan.spec.streams (λ n. AreTold plan is_row inputs n k remembers s remembers' s') (drop i turns)) where
+    -- the next of them
+    pub told_turn : i < length turns
+        → IsTurn (has_turn plan turn.Input) plan.spec.streams (λ n. AreTold plan is_row inputs n k remembers s remembers' s') (get_or turns i 0) (drop (i + 1) turns)
+    told_turn lt = walk_item (has_turn plan turn.Input) plan.spec.streams (λ n. AreTold plan is_row inputs n k remembers s remembers' s') told_past turns i lt walk
+
+    -- all of them
+    pub told_end : length turns ≤ i → AreTold plan is_row inputs (length plan.spec.streams) k remembers s remembers' s'
+    told_end past = walk_done (has_turn plan turn.Input) plan.spec.streams (λ n. AreTold plan is_row inputs n k remembers s remembers' s') told_past turns i past walk

@@ -1,0 +1,154 @@
+//! Which streams have a turn in a step, and when: found once for a plan, so that a step walks only those that it concerns.
+
+ghost use Rattle.std.specs.Prelude.{ℕ, ◌≡◌, ◌<◌, ◌≤◌, ◌^◌, IfOk, Some, length, slice_get};
+ghost use Rattle.lola_model.specs.Acceptance.{IsAccepted};
+ghost use Rattle.lola_model.specs.Named.{has_clause as has_clause_of};
+ghost use Rattle.lola_model.specs.declared.plan.Plan.{Plan};
+ghost use Rattle.lola_step.specs.declared.schedule.Layer.{Layer};
+ghost use Rattle.lola_step.specs.Schedules.{IsLayerOf, IsScheduleOf, has_turn as has_turn_of, turns_of};
+ghost use Rattle.lola_step.specs.declared.schedule.Turn.TheVariants as turn;
+
+use crate::spawns::layer_at;
+use lola_model::plan::Plan;
+use lola_model::spec::{Clause, Stream};
+use lola_value::text::Memory;
+use std::alloc::Global;
+
+/// What a stream may have a turn for.
+#[derive(Clone, Copy, Debug, PartialEq, Eq)]
+pub enum Turn {
+    /// It is an input.
+    Input,
+    /// It has a spawn clause.
+    Birth,
+    /// It has a spawn clause, which belongs to this layer.
+    Spawn(u32),
+    /// It is no input, and its instances belong to this layer.
+    Eval(u32),
+    /// It has a close clause.
+    Close,
+}
+
+/// The streams that have a turn in a layer, by their numbers.
+#[derive(Drop)]
+pub struct Layer {
+    pub(crate) spawns: Vec<u32>,
+    pub(crate) evals: Vec<u32>,
+}
+
+/// The streams of a plan that have a turn, by their numbers.
+#[derive(Drop)]
+pub struct Schedule {
+    pub(crate) inputs: Vec<u32>,
+    pub(crate) births: Vec<u32>,
+    pub(crate) layers: Vec<Layer>,
+    pub(crate) closes: Vec<u32>,
+}
+
+/// Whether there is a clause.
+fn has_clause(clause: &Option<Clause>) -> bool
+    ensures { result ≡ has_clause_of clause.now }
+{
+    clause.is_some()
+}
+
+/// Whether stream `n` has a turn.
+fn has_turn(plan: &Plan, turn: Turn, n: usize, stream: &Stream) -> bool
+    requires few { n ≤ 1024 }
+    ensures { result ≡ has_turn_of plan.now turn n stream.now }
+{
+    match turn {
+        Turn::Input => stream.is_input(),
+        Turn::Birth => has_clause(&stream.spawn),
+        Turn::Spawn(layer) => {
+            has_clause(&stream.spawn) && layer_at(plan.layers.as_slice(), 2 * n + 1) == layer
+        }
+        Turn::Eval(layer) => {
+            !stream.is_input() && layer_at(plan.layers.as_slice(), 2 * n) == layer
+        }
+        Turn::Close => has_clause(&stream.close),
+    }
+}
+
+/// The streams that have a turn, by their numbers.
+fn turns(alloc: Global, plan: &Plan, turn: Turn) -> Result<Vec<u32>, Memory>
+    requires accepted { IsAccepted plan.now }
+    ensures { IfOk result (λ numbers. numbers.items ≡ turns_of plan.now turn) }
+{
+    let mut numbers = Vec::new(alloc);
+    for (n, stream) in plan.spec.streams.as_slice().iter().enumerate() {
+        if has_turn(plan, turn, n, stream) {
+            numbers.push(n as u32)?;
+        }
+    }
+    Ok(numbers)
+}
+
+/// The streams that have a turn in a layer.
+fn layer_turns(alloc: Global, plan: &Plan, layer: u32) -> Result<Layer, Memory>
+    requires accepted { IsAccepted plan.now }
+    ensures { IfOk result (IsLayerOf plan.now layer) }
+{
+    let spawns = turns(alloc, plan, Turn::Spawn(layer))?;
+    let evals = turns(alloc, plan, Turn::Eval(layer))?;
+    Ok(Layer { spawns, evals })
+}
+
+/// The streams that have a turn in each of so many layers.
+fn layers_turns(alloc: Global, plan: &Plan, count: u64) -> Result<Vec<Layer>, Memory>
+    requires accepted { IsAccepted plan.now }
+    requires few { count ≤ 2 ^ 32 }
+    ensures count { IfOk result (λ layers. length layers.items ≡ count) }
+    ensures each { IfOk result (λ layers. (layer : ℕ) (l : Layer) → slice_get layers.items layer ≡ Some l → IsLayerOf plan.now layer l) }
+{
+    let mut layers = Vec::new(alloc);
+    for layer in 0..count {
+        layers.push(layer_turns(alloc, plan, layer as u32)?)?;
+    }
+    Ok(layers)
+}
+
+impl Schedule {
+    /// That of a plan, for so many layers.
+    pub(crate) fn create(alloc: Global, plan: &Plan, count: u64) -> Result<Schedule, Memory>
+        requires accepted { IsAccepted plan.now }
+        requires few { count ≤ 2 ^ 32 }
+        ensures count { IfOk result (λ s. length s.layers.items ≡ count) }
+        ensures of { IfOk result (IsScheduleOf plan.now) }
+    {
+        let inputs = turns(alloc, plan, Turn::Input)?;
+        let births = turns(alloc, plan, Turn::Birth)?;
+        let layers = layers_turns(alloc, plan, count)?;
+        let closes = turns(alloc, plan, Turn::Close)?;
+        Ok(Schedule {
+            inputs,
+            births,
+            layers,
+            closes,
+        })
+    }
+
+    /// The streams whose spawn clause belongs to a layer.
+    pub(crate) fn spawns_in(&self, layer: u64) -> &[u32]
+        requires { layer < length self.now.layers.items }
+        ensures { (plan : Plan) → IsScheduleOf plan self.now → result.now ≡ turns_of plan (turn.Spawn layer) }
+    {
+        self.layers[layer as usize].spawns.as_slice()
+    }
+
+    /// The streams whose instances belong to a layer.
+    pub(crate) fn evals_in(&self, layer: u64) -> &[u32]
+        requires { layer < length self.now.layers.items }
+        ensures { (plan : Plan) → IsScheduleOf plan self.now → result.now ≡ turns_of plan (turn.Eval layer) }
+    {
+        self.layers[layer as usize].evals.as_slice()
+    }
+}
+
+/// The stream of a number.
+pub(crate) fn stream_at(plan: &Plan, n: u32) -> &Stream
+    requires { n < length plan.now.spec.streams }
+    ensures { slice_get plan.now.spec.streams n ≡ Some result.now }
+{
+    &plan.spec.streams.as_slice()[n as usize]
+}
