@@ -4,3 +4,4 @@ pub mod BlankFacts
 pub mod NumeralFacts
 pub mod ValueFacts
 pub mod Utf8Facts
+pub mod Searches

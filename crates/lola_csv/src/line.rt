@@ -8,10 +8,14 @@ ghost use Rattle.csv.specs.Machine.{next_record};
 ghost use Rattle.csv.specs.Reading.{default_config, strip_bom};
 ghost use Rattle.csv.specs.Records.{fields_of, partial_of};
 ghost use Rattle.csv.specs.declared.parser.State.TheVariants as st;
-ghost use Rattle.lola_csv.specs.Line.{IsField, fields_of_line, has_line_end, is_comma};
+ghost use Rattle.lola_csv.specs.Line.{IsField, fields_of_line, has_line_end, is_comma, is_quote};
 
 use csv::{ByteRecord, Error, ReaderBuilder};
+use memchr::memchr;
 use std::alloc::{AllocError, Global};
+
+// Most fields end within so many bytes, where looking at each costs less than a search by vectors.
+const NEAR: usize = 16;
 
 // The place of the first comma from here on, or the end of the line.
 fn comma_from(line: &[u8], start: usize) -> usize
@@ -20,12 +24,63 @@ fn comma_from(line: &[u8], start: usize) -> usize
     ensures run { list_any is_comma (take (result - start) (drop start line.now)) ≡ false }
     ensures comma { result < length line.now → get_or line.now result 0 ≡ 44 }
 {
-    for at in start..line.len() {
+    let near = near_end(line, start);
+    for at in start..near {
         if line[at] == b',' {
             return at;
         }
     }
-    line.len()
+    far_comma(line, near)
+}
+
+// Where to stop looking at each byte.
+fn near_end(line: &[u8], start: usize) -> usize
+    requires { start ≤ length line.now }
+    ensures { (start ≤ result) × (result ≤ length line.now) }
+{
+    if line.len() - start > NEAR {
+        start + NEAR
+    } else {
+        line.len()
+    }
+}
+
+// The same as `comma_from`, by a search for the byte.
+fn far_comma(line: &[u8], start: usize) -> usize
+    requires { start ≤ length line.now }
+    ensures bounds { (start ≤ result) × (result ≤ length line.now) }
+    ensures run { list_any is_comma (take (result - start) (drop start line.now)) ≡ false }
+    ensures comma { result < length line.now → get_or line.now result 0 ≡ 44 }
+{
+    match memchr(b',', &line[start..]) {
+        Some(at) => start + at,
+        None => line.len(),
+    }
+}
+
+// The place of the first double quote from here on, or the end of the line.
+fn quote_from(line: &[u8], start: usize) -> usize
+    requires { start ≤ length line.now }
+    ensures bounds { (start ≤ result) × (result ≤ length line.now) }
+    ensures run { list_any is_quote (take (result - start) (drop start line.now)) ≡ false }
+{
+    match memchr(b'"', &line[start..]) {
+        Some(at) => start + at,
+        None => line.len(),
+    }
+}
+
+// Appends the byte here and those behind it up to a double quote or the end of the line, and returns the place after them.
+fn copy_run(line: &[u8], start: usize, field: &mut Vec<u8>) -> Result<usize, AllocError>
+    requires within { start < length line.now }
+    requires plain { is_quote (get_or line.now start 0) ≡ false }
+    ensures bounds { IfOk result (λ end. (start < end) × (end ≤ length line.now)) }
+    ensures run { IfOk result (λ end. list_any is_quote (take (end - start) (drop start line.now)) ≡ false) }
+    ensures field { IfOk result (λ end. field.new.items ≡ field.old.items ++ take (end - start) (drop start line.now)) }
+{
+    let end = quote_from(line, start + 1);
+    field.extend_from_slice(&line[start..end])?;
+    Ok(end)
 }
 
 // Reads the field that starts with the double quote here, and returns the place after it.
@@ -47,12 +102,12 @@ fn quoted_field(line: &[u8], start: usize, field: &mut Vec<u8>) -> Result<usize,
                 field.push(byte)?;
             }
             inside = !inside;
+            at += 1;
         } else if inside {
-            field.push(byte)?;
+            at = copy_run(line, at, field)?;
         } else {
             break;
         }
-        at += 1;
     }
     let end = comma_from(line, at);
     field.extend_from_slice(&line[at..end])?;

@@ -5,3 +5,4 @@ pub mod Plain
 pub mod Joined
 pub mod Rows
 pub mod LineForms
+pub mod Marks

@@ -104,6 +104,20 @@ fn texts_in_trace_lines(rt: HostRuntime) -> Result<(), Fail> {
     text_is(&rt, alloc, b"x,\"y", b"0,1,0.000000000,A,\"x,\"\"y\"\n")?;
     text_is(&rt, alloc, b"x\ny", b"0,1,0.000000000,A,\"x\ny\"\n")?;
     text_is(&rt, alloc, b"x\ry", b"0,1,0.000000000,A,\"x\ry\"\n")?;
+    let long = b"0123456789abcdef 0123456789abcdef";
+    text_is(
+        &rt,
+        alloc,
+        long,
+        b"0,1,0.000000000,A,0123456789abcdef 0123456789abcdef\n",
+    )?;
+    let long = b"0123456789abcdef 0123456789abcdef,";
+    text_is(
+        &rt,
+        alloc,
+        long,
+        b"0,1,0.000000000,A,\"0123456789abcdef 0123456789abcdef,\"\n",
+    )?;
     Ok(())
 }
 

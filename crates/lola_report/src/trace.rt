@@ -1,7 +1,9 @@
 //! The lines of the trace: one for each row that was taken, in the order of the journal.
 
 ghost use Rattle.std.specs.Prelude.{◌≡◌, ◌++◌, OnOk, OnErr};
-ghost use Rattle.csv.specs.Writing.{default_writer, needs_byte};
+ghost use Rattle.std.specs.List.{list_any};
+ghost use Rattle.csv.specs.Writing.{default_writer, needs_quotes};
+ghost use Rattle.memchr.specs.Find.{is_byte2};
 ghost use Rattle.lola_value.specs.Appending.{AppendsPart};
 ghost use Rattle.lola_model.specs.Trace.{trace_line};
 ghost use Rattle.lola_report.specs.Rows.{has_quoted, is_quoted, joined_line};
@@ -10,13 +12,28 @@ use crate::piece::{Piece, append_all};
 use crate::row::written_line;
 use lola_model::journal::Entry;
 use lola_value::text::{Field, Memory, Text};
+use memchr::memchr2;
 use std::alloc::Global;
 
-// Whether a field with this byte is quoted.
-fn calls_for_quotes(byte: u8) -> bool
-    ensures { result ≡ needs_byte default_writer byte }
+// Whether a text has a comma or a double quote.
+fn has_mark(text: &[u8]) -> bool
+    ensures { result ≡ list_any (is_byte2 44 34) text.now }
 {
-    byte == b',' || byte == b'"' || byte == b'\r' || byte == b'\n'
+    memchr2(b',', b'"', text).is_some()
+}
+
+// Whether a text has a line end.
+fn has_line_end(text: &[u8]) -> bool
+    ensures { result ≡ list_any (is_byte2 13 10) text.now }
+{
+    memchr2(b'\r', b'\n', text).is_some()
+}
+
+// Whether a text is quoted.
+fn calls_for_quotes(text: &[u8]) -> bool
+    ensures { result ≡ needs_quotes default_writer text.now }
+{
+    has_mark(text) || has_line_end(text)
 }
 
 // Whether a field is quoted. Numbers, truth values and `#` are not.
@@ -24,7 +41,7 @@ fn is_quoted(field: &Field) -> bool
     ensures { result ≡ is_quoted field.now }
 {
     match field {
-        Field::Text(text) => text.as_bytes().iter().any(|byte| calls_for_quotes(*byte)),
+        Field::Text(text) => calls_for_quotes(text.as_bytes()),
         _ => false,
     }
 }

@@ -9,6 +9,7 @@ ghost use Rattle.lola_rows.specs.Steps.{Tells};
 
 use crate::fill::LONGEST_LINE;
 use lola_model::source::MalformedKind;
+use memchr::memchr;
 use std::str::from_utf8;
 
 /// Whether bytes begin with a byte order mark.
@@ -22,7 +23,7 @@ pub(crate) fn begins_with_mark(bytes: &[u8]) -> bool
 fn has_return(text: &[u8]) -> bool
     ensures { result ≡ list_any is_return text.now }
 {
-    text.iter().any(|b| *b == b'\r')
+    memchr(b'\r', text).is_some()
 }
 
 // Whether a line is UTF-8.

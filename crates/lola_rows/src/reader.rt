@@ -14,7 +14,7 @@ use crate::window::Window;
 use lola_model::journal::Row;
 use lola_model::plan::Plan;
 use lola_model::source::MalformedKind;
-use lola_port::Source;
+use lola_port::{Bell, Source};
 use lola_value::text::Memory;
 use std::alloc::Global;
 use std::marker::Model;
@@ -367,11 +367,17 @@ impl<S: Source> RowReader<S> {
         self.source.wait_for_bytes(milliseconds)
     }
 
-    /// Asks that the bytes of its source be read before they are asked for, by a thread of its own.
-    pub fn read_ahead(&mut self)
+    /// Asks that the bytes of its source be read before they are asked for, by a thread of its own, which rings this bell whenever
+    /// what a read would have waited for has come.
+    pub fn read_ahead(&mut self, bell: &Bell)
         ensures { self.new ≡ self.old }
     {
-        self.source.read_ahead();
+        self.source.read_ahead(bell);
+    }
+
+    /// Whether a thread reads the bytes of its source ahead and rings a bell.
+    pub fn rings(&self) -> bool {
+        self.source.rings()
     }
 
     /// Whether the next row, or how the reader ends, is told without a read: a line is held whole, or none is read any

@@ -54,7 +54,7 @@ pub text-nowhere : (es : List Entry) (number : ℕ) → list_any (has_number num
 text-nowhere [] number none = refl
 text-nowhere (e ∷ es) number none = let two = or_parts (has_number number e) (list_any (has_number number) es) none in rw two.0 (text-nowhere es number two.1)
 
-pub text-there : (low : ℕ) (es : List Entry) (number i : ℕ) (d : Entry) → RiseFrom low es → i < length es → (get_or es i d).1.number ≡ number → text_at (naming_of es) number ≡ Some (get_or es i d).0.items
+pub text-there : (low : ℕ) (es : List Entry) (number i : ℕ) (d : Entry) → RiseFrom low es → i < length es → (get_or es i d).1.number ≡ number → text_at (naming_of es) number ≡ Some (get_or es i d).0
 text-there low [] number i d rise within is = absurd (omega arith)
 text-there low (e ∷ es) number zero d rise within is = rw (eq-eqb e.1.number number is) refl
 text-there low (e ∷ es) number (suc i) d rise within is =
@@ -68,6 +68,6 @@ entry-at (x ∷ xs) zero d e is = cc is
 entry-at (x ∷ xs) (suc i) d e is = entry-at xs i d e is
 
 -- the text of an entry whose number is this one
-pub text-place : (es : List Entry) (number i : ℕ) (e : Entry) → NumbersRise es → IsPlaceOf number es (Some i) → slice_get es i ≡ Some e → text_at (naming_of es) number ≡ Some e.0.items
+pub text-place : (es : List Entry) (number i : ℕ) (e : Entry) → NumbersRise es → IsPlaceOf number es (Some i) → slice_get es i ≡ Some e → text_at (naming_of es) number ≡ Some e.0
 text-place es number i e rise place is =
-    text-there 0 es number i e rise place.0 (place.1 e) ∙ ap (λ (x : Entry). Some x.0.items) (entry-at es i e e is)
+    text-there 0 es number i e rise place.0 (place.1 e) ∙ ap (λ (x : Entry). Some x.0) (entry-at es i e e is)

@@ -16,9 +16,9 @@ equal-same : (xs ys : List ℕ) → xs ≡ ys → bytes_equal xs ys ≡ true
 equal-same xs ys is = ap (bytes_equal xs) (sym is) ∙ equal-self xs
 
 -- a look-up by the text gives its number
-pub number-looked_up : (es : List Entry) (text : List ℕ) → number_in (naming_of es) text ≡ option_map (λ h. h.number) (lookup (λ k. pointwise nat_eq text k.items) es)
+pub number-looked_up : (es : List Entry) (text : List ℕ) → number_in (naming_of es) text ≡ option_map (λ h. h.number) (lookup (λ k. pointwise nat_eq text k) es)
 number-looked_up [] text = refl
-number-looked_up (e ∷ es) text = elim (cases_Bool (bytes_equal text e.0.items)) [
+number-looked_up (e ∷ es) text = elim (cases_Bool (bytes_equal text e.0)) [
   | inl hit ↦ rw hit refl
   | inr miss ↦ rw miss (number-looked_up es text)
 ]
@@ -133,9 +133,9 @@ table-fewer p t table = record {
   numbers = between-fewer p 0 t.given t.held table.numbers;
 }
 
-pub naming-pushed : (es : List Entry) (e : Entry) → naming_of (es ++ e ∷ []) ≡ naming_of es ++ (e.1.number, e.0.items) ∷ []
+pub naming-pushed : (es : List Entry) (e : Entry) → naming_of (es ++ e ∷ []) ≡ naming_of es ++ (e.1.number, e.0) ∷ []
 naming-pushed [] e = refl
-naming-pushed (x ∷ xs) e = ap (λ (l : Naming). (x.1.number, x.0.items) ∷ l) (naming-pushed xs e)
+naming-pushed (x ∷ xs) e = ap (λ (l : Naming). (x.1.number, x.0) ∷ l) (naming-pushed xs e)
 
 -- texts that pass for equal are one
 equal-means : (xs ys : List ℕ) → bytes_equal xs ys ≡ true → xs ≡ ys

@@ -128,7 +128,7 @@ kept-names ids mark (e ∷ es) all =
     ∙ elim (cases_Bool (is_among ids e.1.number)) [
       | inl hit ↦
           let hit' = now ∙ hit in
-          rw (hit, hit', one-number ids mark e, one-text ids mark e) (ap (λ (l : Naming). (e.1.number, e.0.items) ∷ l) more)
+          rw (hit, hit', one-number ids mark e, one-text ids mark e) (ap (λ (l : Naming). (e.1.number, e.0) ∷ l) more)
       | inr miss ↦ let miss' = now ∙ miss in rw (miss, miss') more
     ]
 

@@ -3,26 +3,24 @@ use Rattle.std.specs.Prelude.{ℕ, ◌≡◌, ◌<◌, ◌≤◌, ◌+◌, List,
 use Rattle.std.specs.Cmp.Lexicographic.{pointwise}
 use Rattle.std.specs.List.{HoldsAt, list_any}
 use Rattle.std.specs.Map.{lookup}
-use Rattle.std.specs.declared.alloc.Global.{Global}
-use Rattle.std.specs.Prelude.{Vec}
 use Rattle.lola_value.specs.Naming.{Naming}
 use Rattle.lola_value.specs.declared.value.TextId.{TextId}
 use Rattle.lola_text.specs.declared.search.Held.{Held}
 
 -- a text as the table keeps it, with its number and mark
 abbrev pub Entry : Type 0
-Entry = Vec ℕ Global × Held
+Entry = List ℕ × Held
 
 -- the numbers with their texts
 abbrev pub naming_of : List Entry → Naming
-naming_of es = map (λ e. (e.1.number, e.0.items)) es
+naming_of es = map (λ e. (e.1.number, e.0)) es
 
 -- what is held for a text
 abbrev pub held_as : List ℕ → List Entry → Option Held
-held_as text es = lookup (λ k. pointwise nat_eq text k.items) es
+held_as text es = lookup (λ k. pointwise nat_eq text k) es
 
 -- asked for a text with what is held for it: the entries stay, or it goes behind them as a fresh one
-abbrev pub IsFoundOrNew : Option Held → Vec ℕ Global → Held → ℕ → List Entry → List Entry → Type 0
+abbrev pub IsFoundOrNew : Option Held → List ℕ → Held → ℕ → List Entry → List Entry → Type 0
 IsFoundOrNew (Some held) text fresh number old new = (number ≡ held.number) × (new ≡ old)
 IsFoundOrNew None text fresh number old new = (number ≡ fresh.number) × (new ≡ old ++ (text, fresh) ∷ [])
 

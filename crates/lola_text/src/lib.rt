@@ -7,5 +7,6 @@ mod search;
 mod table;
 #[cfg(test)]
 mod tests;
+mod text_key;
 
 pub use table::TextTable;

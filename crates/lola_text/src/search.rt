@@ -2,6 +2,7 @@
 ghost use Rattle.std.specs.Prelude.{◌≡◌, IfOk, IsTrue, OnErr, map, filter};
 ghost use Rattle.lola_text.specs.Marks.{IsFoundOrNew, IsPlaceOf, NumbersRise, held_as, is_same, is_marked, marked_all, marked_at};
 
+use crate::text_key::TextKey;
 use indexmap::IndexMap;
 use lola_value::text::Memory;
 use lola_value::value::TextId;
@@ -15,7 +16,7 @@ pub(crate) struct Held {
 }
 
 /// The texts that are held, in the order in which they got their numbers.
-pub(crate) type Entries = IndexMap<Vec<u8>, Held, RandomState>;
+pub(crate) type Entries = IndexMap<TextKey, Held, RandomState>;
 
 // Whether the text with this number stands at a place.
 fn is_at(texts: &Entries, number: u64, place: usize) -> bool
@@ -42,8 +43,8 @@ pub(crate) fn place_of(texts: &Entries, number: u64) -> Option<usize>
 
 /// The number of a text. Where it is not held it goes behind all others, as `fresh`. It is hashed once; where there is no memory, nothing
 /// has changed.
-pub(crate) fn number_or_new(texts: &mut Entries, text: Vec<u8>, fresh: Held) -> Result<u64, Memory>
-    ensures ok { IfOk result (λ number. IsFoundOrNew (held_as text.items texts.old.entries) text fresh number texts.old.entries texts.new.entries) }
+pub(crate) fn number_or_new(texts: &mut Entries, text: TextKey, fresh: Held) -> Result<u64, Memory>
+    ensures ok { IfOk result (λ number. IsFoundOrNew (held_as text texts.old.entries) text fresh number texts.old.entries texts.new.entries) }
     ensures err { OnErr result (texts.new.entries ≡ texts.old.entries) }
 {
     let held = texts.entry(text)?.or_insert(fresh);
@@ -77,7 +78,7 @@ pub(crate) fn keep_marked(texts: &mut Entries, mark: bool)
     ensures { texts.new.entries ≡ filter (is_marked mark) texts.old.entries }
 {
     texts.retain(
-        |_text: &Vec<u8>, held: &mut Held| -> bool
+        |_text: &TextKey, held: &mut Held| -> bool
             ensures { (result ≡ is_same held.old.mark mark) × (held.new ≡ held.old) }
         { held.mark == mark },
     );

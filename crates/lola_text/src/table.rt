@@ -4,6 +4,7 @@ ghost use Rattle.lola_value.specs.Naming.{text_at};
 ghost use Rattle.lola_text.specs.Texts.{Interns, IsTable, no_texts, swept};
 
 use crate::search::{Entries, Held, keep_marked, mark_all, number_or_new, place_of};
+use crate::text_key::TextKey;
 use indexmap::IndexMap;
 use lola_value::text::Memory;
 use lola_value::value::TextId;
@@ -13,7 +14,7 @@ use std::marker::Model;
 
 // From this length on a text is copied before it is looked up, and hashed once. A shorter one is looked up first, so that one that is held
 // takes no memory; where it is new it is hashed twice, which at that length costs less than a copy.
-const LONG: usize = 256;
+const LONG: usize = 128;
 
 /// How many numbers were given, once this one was.
 fn given_after(given: u64, number: u64) -> u64
@@ -29,6 +30,8 @@ fn given_after(given: u64, number: u64) -> u64
 pub struct TextTable {
     alloc: Global,
     texts: Entries,
+    // The text that is looked up, in room that is kept.
+    asked: TextKey,
     given: u64,
     mark: bool,
 }
@@ -53,6 +56,7 @@ impl TextTable {
         TextTable {
             alloc,
             texts: IndexMap::with_hasher(alloc, hasher),
+            asked: TextKey::empty(alloc),
             given: 0,
             mark: false,
         }
@@ -67,7 +71,8 @@ impl TextTable {
         ensures table { IsTable self.new }
     {
         if bytes.len() < LONG {
-            if let Some(held) = self.texts.get(bytes) {
+            self.asked.set(bytes)?;
+            if let Some(held) = self.texts.get(&self.asked) {
                 return Ok(TextId(held.number));
             }
         }
@@ -106,7 +111,7 @@ impl TextTable {
         ensures err { OnErr result (self.new ≡ self.old) }
         ensures table { IsTable self.new }
     {
-        let text = Vec::from_slice(self.alloc, bytes)?;
+        let text = TextKey::copied(self.alloc, bytes)?;
         let fresh = Held {
             number: self.given,
             mark: self.mark,

@@ -37,6 +37,12 @@ fn long_texts_and_texts_again(rt: HostRuntime) -> Result<(), Fail> {
     assert_eq!(rt; table.intern_again(&[7; 300], other)?, long);
     assert_eq!(rt; table.intern_again(b"x", TextId(9))?, TextId(2));
     assert_eq!(rt; table.len(), 3);
+    // the longest that is looked up first, the shortest that is copied first, and a front of both
+    assert_eq!(rt; table.intern(&[9; 127])?, TextId(3));
+    assert_eq!(rt; table.intern(&[9; 128])?, TextId(4));
+    assert_eq!(rt; table.intern(&[9; 5])?, TextId(5));
+    assert_eq!(rt; table.intern(&[9; 127])?, TextId(3));
+    assert_eq!(rt; table.intern(&[9; 128])?, TextId(4));
     Ok(())
 }
 

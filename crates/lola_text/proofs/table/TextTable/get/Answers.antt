@@ -17,6 +17,6 @@ returns-in_err-place-clause-value c =
 pub returns-clause-value : goal.returns-clause-value
 returns-clause-value c =
     let es = c.self.inside.texts.entries in
-    ap Some c.as_slice.ensures.value
+    ap Some c.as_slice.ensures
     ∙ sym (text-place es c.args.id.0 c.in_ok-place.place (c.in_ok-text.text.now, c.in_ok-text._held.now) (rise-of 0 c.self.inside.given es c.self.invariant.0.numbers) c.in_ok-place.ensures (sym c.in_ok-text.ensures.entry))
     ∙ ap (λ (t : Texts). text_at t.held c.args.id.0) c.self.view_is
