@@ -1,4 +1,4 @@
-"""Whatever ends a run ends it soon, although its sources are silent."""
+"""Whatever ends a run ends it at once, although its sources are silent."""
 from __future__ import annotations
 
 import os
@@ -11,7 +11,7 @@ from typing import Callable, NamedTuple, Optional, Sequence
 from sources_parts.live import Ended, LiveRun
 from terminal_parts.harness import Checks, write
 
-SOON = 1.0  # seconds; the thread of a silent source looks after 0.8 seconds at most whether the run was stopped
+SOON = 0.2  # seconds, which is what a machine may need that starts and ends other runs meanwhile; nothing is waited for
 TRIES = 3
 AT_ONCE = 4  # runs, which wait most of their time
 DIVIDES = 'input a: Int64\noutput b: Int64 := 10 / a\ntrigger b > 4 "high"\n'
@@ -74,7 +74,7 @@ def tried(case: Case) -> Ended:
 
 
 def expect_soon(checks: Checks, cases: Sequence[Case]) -> list[Ended]:
-    """Each of these runs has ended within a second, as its case says. Some are run at the same time."""
+    """Each of these runs has ended at once, as its case says. Some are run at the same time."""
     with ThreadPoolExecutor(AT_ONCE) as pool:
         ends = list(pool.map(tried, cases))
     for case, ended in zip(cases, ends):

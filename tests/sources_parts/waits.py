@@ -14,7 +14,7 @@ ROWS = 2000
 WARM = 1.0  # seconds until a run waits
 WAITS = 4.0  # seconds for which it is looked at
 LOOKS = 3  # how often at most: beside other work on the machine a run that waits may take longer for the little that it does
-MOST_A_SECOND = 0.01  # seconds of a processor, also for 64 silent pipes, each of whose threads looks every 0.8 s whether the run was stopped
+MOST_A_SECOND = 0.001  # seconds of a processor, also for 64 silent pipes: nobody looks at anything
 BEAT = 'input a: Int64\noutput n: UInt64 @1Hz := a.aggregate(over: 2s, using: count)\ntrigger n == 0 "silent"\n'
 SUM = 'input a: Int64\noutput b: Int64 := a + 1\ntrigger b > 2 "high"\n'
 

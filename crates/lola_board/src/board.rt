@@ -1,5 +1,6 @@
-//! The cells, and the beds of those who sleep.
+//! The cells, the beds of those who sleep, and the bell of the thread that takes rows.
 
+use lola_port::Bell;
 use lola_value::text::Memory;
 use std::alloc::Global;
 use std::sync::Wait;
@@ -52,7 +53,7 @@ impl Watch {
     }
 }
 
-/// The cells of all sources, the beds of their threads, and the bed of the thread that takes their rows.
+/// The cells of all sources, the beds of their threads, and the bell of the thread that takes their rows.
 #[derive(Drop)]
 pub struct Board {
     cells: Vec<AtomicU64>,
@@ -64,7 +65,7 @@ pub struct Board {
     // How many sources the thread that takes reads.
     here: AtomicU64,
     looks: u32,
-    taker: Parker,
+    bell: Bell,
     taker_sleeps: AtomicBool,
     // How often the taker has found nothing since rows came.
     idle: AtomicU64,
@@ -86,9 +87,8 @@ fn is_below(cell: u64, source: u32, other: u64, other_source: u32) -> bool {
 }
 
 impl Board {
-    /// A board for so many sources, all of which are below each row until they say otherwise, on a machine with so
-    /// many processors.
-    pub fn create(alloc: Global, sources: u32, processors: usize) -> Result<Board, Memory> {
+    /// A board for so many sources, all of which are below each row until they say otherwise.
+    pub fn create(alloc: Global, sources: u32) -> Result<Board, Memory> {
         let count = sources as usize;
         let mut cells = Vec::with_capacity(alloc, count)?;
         let mut places = Vec::with_capacity(alloc, count)?;
@@ -107,12 +107,24 @@ impl Board {
             falls: AtomicU64::new(0),
             full: AtomicU64::new(0),
             here: AtomicU64::new(0),
-            looks: if count < processors { LONG } else { SHORT },
-            taker: Parker::new(),
+            looks: SHORT,
+            bell: Bell::create(alloc)?,
             taker_sleeps: AtomicBool::new(false),
             idle: AtomicU64::new(0),
             stopped: AtomicBool::new(false),
         })
+    }
+
+    /// The threads of the sources, and the one that takes rows, have so many processors.
+    pub fn has_processors(&mut self, count: usize) {
+        if self.cells.len() < count {
+            self.looks = LONG;
+        }
+    }
+
+    /// What the thread that takes sleeps on. Whoever has something for it that is not said at the board rings it.
+    pub fn bell(&self) -> &Bell {
+        &self.bell
     }
 
     // The source with the least cell, and the least of the other cells with its source.
@@ -152,7 +164,7 @@ impl Board {
     // Wakes the thread that takes, where it sleeps or is about to.
     fn wake_taker(&self) {
         if self.taker_sleeps.load(Ordering::SeqCst) {
-            self.taker.unpark();
+            self.bell.ring();
         }
     }
 
@@ -299,8 +311,8 @@ impl Board {
         }
     }
 
-    /// The thread that takes found nothing. After a few times it sleeps until a row is in, or the least cell is that of a source that it
-    /// reads.
+    /// The thread that takes found nothing. After a few times it sleeps until a row is in, the least cell is that of a source that it
+    /// reads, or somebody else rings its bell.
     pub fn wait_for_rows<R: Wait>(&self, rt: &R) {
         let idle = self.idle.load(Ordering::SeqCst);
         if idle < u64::from(SHORT) {
@@ -308,7 +320,7 @@ impl Board {
         } else if idle == u64::from(SHORT) {
             self.taker_sleeps.store(true, Ordering::SeqCst);
         } else {
-            self.taker.park(rt);
+            self.bell.wait(rt);
             return;
         }
         self.idle.store(idle + 1, Ordering::SeqCst);

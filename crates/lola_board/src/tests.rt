@@ -5,7 +5,8 @@ use lola_value::text::Memory;
 
 #[test]
 fn the_least_goes(rt: HostRuntime) -> Result<(), Memory> {
-    let board = Board::create(rt.alloc(), 2, 4)?;
+    let mut board = Board::create(rt.alloc(), 2)?;
+    board.has_processors(4);
     let mut watch = Watch::new();
     board.step_aside(1);
     board.wait_for_turn(&rt, 0, 5, &mut watch);
@@ -18,7 +19,7 @@ fn the_least_goes(rt: HostRuntime) -> Result<(), Memory> {
 /// Source 1 waits for source 0, which has no row in hand yet, until the run is stopped.
 #[test]
 fn a_stop_ends_waiting(rt: HostRuntime) -> Result<(), Memory> {
-    let board = Board::create(rt.alloc(), 2, 4)?;
+    let board = Board::create(rt.alloc(), 2)?;
     board.stop();
     board.wait_for_turn(&rt, 1, 5, &mut Watch::new());
     for times in 0..9 {
@@ -31,7 +32,7 @@ fn a_stop_ends_waiting(rt: HostRuntime) -> Result<(), Memory> {
 /// A source that found no room seven times, while rows were taken; and a taker that found nothing, while a row came.
 #[test]
 fn no_waking_is_lost(rt: HostRuntime) -> Result<(), Memory> {
-    let board = Board::create(rt.alloc(), 1, 4)?;
+    let board = Board::create(rt.alloc(), 1)?;
     for times in 0..7 {
         board.wait_for_room(&rt, 0, times);
         board.rows_are_out();
@@ -41,6 +42,20 @@ fn no_waking_is_lost(rt: HostRuntime) -> Result<(), Memory> {
         board.wait_for_rows(&rt);
         board.row_is_in(0, 0);
     }
+    assert_eq!(rt; board.is_stopped(), false);
+    Ok(())
+}
+
+/// A ring that comes before the taker sleeps ends that sleep.
+#[test]
+fn no_ring_is_lost(rt: HostRuntime) -> Result<(), Memory> {
+    let board = Board::create(rt.alloc(), 2)?;
+    let bell = board.bell().share()?;
+    for _ in 0..100 {
+        bell.ring();
+        board.wait_for_rows(&rt);
+    }
+    board.rows_are_out();
     assert_eq!(rt; board.is_stopped(), false);
     Ok(())
 }

@@ -8,7 +8,7 @@ use crate::desk::Desk;
 use lola_merge::state::Offer;
 use lola_model::journal::Row;
 use lola_model::source::MalformedKind;
-use lola_port::Source;
+use lola_port::{Bell, Source};
 use lola_rows::{Ending, RowAnswer, RowReader};
 use std::marker::Model;
 
@@ -88,11 +88,17 @@ impl<S: Source> SourceWorker<S> {
         self.reader.wait_for_bytes(milliseconds)
     }
 
-    /// Asks that the bytes of its source be read before they are asked for, by a thread of its own.
-    pub fn read_ahead(&mut self)
+    /// Asks that the bytes of its source be read before they are asked for, by a thread of its own, which rings this bell whenever
+    /// what a read would have waited for has come.
+    pub fn read_ahead(&mut self, bell: &Bell)
         ensures { self.new ≡ self.old }
     {
-        self.reader.read_ahead();
+        self.reader.read_ahead(bell);
+    }
+
+    /// Whether a thread reads the bytes of its source ahead and rings a bell.
+    pub fn rings(&self) -> bool {
+        self.reader.rings()
     }
 
     /// Whether the next turn needs no read: a row waits, the reader holds a whole line or has ended, or the worker has.

@@ -3,6 +3,7 @@
 ghost use Rattle.std.specs.Io.{ReadsAtMost};
 
 use crate::ReadFailed;
+use crate::bell::Bell;
 use crate::handing::{Shared, Task};
 use crate::piece::Piece;
 use crate::starter::Asker;
@@ -16,7 +17,7 @@ use std::time::Clock;
 pub(crate) struct Ahead<R: Wait + Drop> {
     rt: R,
     shared: Arc<Shared, Global>,
-    // The bytes that are moved next, of which there may be none left.
+    // The bytes that are moved next, of which there are some left.
     front: Option<Piece>,
 }
 
@@ -32,11 +33,16 @@ impl<R: Wait + Drop> Drop for Ahead<R> {
 }
 
 impl<R: Wait + Clone + Drop> Ahead<R> {
-    // The reader of a source whose thread still waits for its file. None where no thread can be started.
-    pub(crate) fn start(alloc: Global, asker: &Asker<R>) -> Result<Option<Ahead<R>>, Memory> {
+    // The reader of a source whose thread still waits for its file, and will ring this bell. None where no thread can be started.
+    pub(crate) fn start(
+        alloc: Global,
+        asker: &Asker<R>,
+        bell: &Bell,
+    ) -> Result<Option<Ahead<R>>, Memory> {
         let rt = asker.runtime().clone()?;
         let piece = Piece::create(alloc)?;
-        let shared = Arc::new(alloc, Shared::create(Piece::create(alloc)?))?;
+        let spare = Piece::create(alloc)?;
+        let shared = Arc::new(alloc, Shared::create(spare, bell.share()?))?;
         let theirs = Arc::try_clone(&shared)?;
         let task = Task {
             shared: theirs,
@@ -67,13 +73,28 @@ impl<R: Wait + Clock + Drop> Ahead<R> {
         if buf.is_empty() {
             return Ok(0);
         }
-        if !self.has_bytes() {
-            let used = self.front.take();
-            self.front = self.shared.next_piece(&self.rt, used)?;
+        let Some(mut piece) = self.take_piece()? else {
+            return Ok(0);
+        };
+        let count = piece.move_to(buf);
+        self.put_piece(piece);
+        Ok(count)
+    }
+
+    // The bytes that are moved next, once there are any, or none at the end.
+    fn take_piece(&mut self) -> Result<Option<Piece>, ReadFailed> {
+        match self.front.take() {
+            Some(piece) => Ok(Some(piece)),
+            None => self.shared.next_piece(&self.rt),
         }
-        match &mut self.front {
-            Some(piece) => Ok(piece.move_to(buf)),
-            None => Ok(0),
+    }
+
+    // What is left of a piece is moved next. One that was used up goes back to the thread, which then has it before the next bytes come.
+    fn put_piece(&mut self, piece: Piece) {
+        if piece.is_used_up() {
+            self.shared.give_back(&self.rt, piece);
+        } else {
+            self.front = Some(piece);
         }
     }
 
@@ -87,14 +108,6 @@ impl<R: Wait + Clock + Drop> Ahead<R> {
     fn has_line(&self) -> bool {
         match &self.front {
             Some(piece) => piece.has_line(),
-            None => false,
-        }
-    }
-
-    // Whether there are bytes that can be moved at once.
-    fn has_bytes(&self) -> bool {
-        match &self.front {
-            Some(piece) => !piece.is_used_up(),
             None => false,
         }
     }

@@ -3,6 +3,7 @@
 #![tactic(auto)]
 
 mod ahead;
+mod bell;
 mod handing;
 mod line;
 mod machine;
@@ -14,6 +15,7 @@ mod starter;
 mod tests;
 mod traits;
 
+pub use bell::Bell;
 pub use machine::{ErrSink, FileSource, FolderShelf, OutSink};
 pub use memory::{IdleGate, MemorySink, MemorySource};
 pub use shelf::MemoryShelf;

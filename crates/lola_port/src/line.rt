@@ -33,15 +33,15 @@ impl Line {
         matches!(self, Line::Text | Line::Mark | Line::MarkGoesOn)
     }
 
-    // Goes on with the next bytes, and tells whether a line that is not empty has ended among them.
-    pub(crate) fn goes_on(&mut self, bytes: &[u8]) -> bool {
-        let mut has_ended = false;
-        for byte in bytes {
+    // Goes on with the next bytes, and tells behind how many of them the last line has ended that is not empty, if one has.
+    pub(crate) fn goes_on(&mut self, bytes: &[u8]) -> Option<usize> {
+        let mut last = None;
+        for (at, byte) in bytes.iter().enumerate() {
             if *byte == b'\n' && self.has_text() {
-                has_ended = true;
+                last = Some(at.saturating_add(1));
             }
             *self = self.behind(*byte);
         }
-        has_ended
+        last
     }
 }

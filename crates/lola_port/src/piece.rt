@@ -20,8 +20,8 @@ pub(crate) struct Piece {
     room: Vec<u8>,
     at: usize,
     end: usize,
-    // What stands before its first byte of a line.
-    before: Line,
+    // Behind how many of its bytes the last line ends that is not empty; none, where none ends.
+    lines: usize,
 }
 
 impl Model for Piece {
@@ -43,7 +43,7 @@ impl Piece {
             room: vec![in alloc; 0; ROOM]?,
             at: 0,
             end: 0,
-            before: Line::Start,
+            lines: 0,
         })
     }
 
@@ -55,20 +55,18 @@ impl Piece {
         self.at == self.end
     }
 
-    // Forgets the bytes that it had. So much of a line stands before those that come.
-    pub(crate) fn clear(&mut self, before: Line)
+    // Forgets the bytes that it had.
+    pub(crate) fn clear(&mut self)
         ensures { length self.new ≡ 0 }
     {
         self.at = 0;
         self.end = 0;
-        self.before = before;
+        self.lines = 0;
     }
 
     // Whether a line that is not empty ends among the bytes that are still to be moved.
     pub(crate) fn has_line(&self) -> bool {
-        let mut line = self.before;
-        line.goes_on(&self.room[..self.at]);
-        line.goes_on(&self.room[self.at..self.end])
+        self.at < self.lines
     }
 
     // Whether there is room for more bytes behind those that it has.
@@ -90,11 +88,17 @@ impl Piece {
         }
     }
 
-    // The bytes that came last, so many.
-    pub(crate) fn newest(&self, count: usize) -> &[u8]
-        requires { count ≤ length self.now }
+    // Goes on with a line over so many bytes, which came last, and tells whether a line that is not empty ends among them.
+    pub(crate) fn goes_on(&mut self, count: usize, line: &mut Line) -> bool
+        requires { count ≤ length self.old }
+        ensures { self.new ≡ self.old }
     {
-        &self.room[self.end - count..self.end]
+        let start = self.end - count;
+        let Some(behind) = line.goes_on(&self.room[start..self.end]) else {
+            return false;
+        };
+        self.lines = start.saturating_add(behind);
+        true
     }
 
     // Moves its next bytes into the front of `buf`, as many as there is room for, and says how many.

@@ -4,7 +4,7 @@ use crate::line::Line;
 use crate::machine::{put_all, read_some};
 use crate::piece::Piece;
 use crate::{
-    ErrSink, FetchEnd, FolderShelf, Gate, IdleGate, MemoryShelf, MemorySink, OutSink, PutEnd,
+    Bell, ErrSink, FetchEnd, FolderShelf, Gate, IdleGate, MemoryShelf, MemorySink, OutSink, PutEnd,
     ReadFailed, Shelf, Sink, Source,
 };
 use lola_value::text::Memory;
@@ -88,8 +88,14 @@ fn objects_of_the_machine(rt: HostRuntime) -> Result<(), Fail> {
         (device.answers_at_once(), device.wait_for_bytes(60_000)),
         (false, true)
     );
-    device.read_ahead();
-    assert!(rt; device.wait_for_bytes(60_000));
+    let Ok(bell) = Bell::create(rt.alloc()) else {
+        return Err("no bell".into());
+    };
+    assert!(rt; !device.rings());
+    device.read_ahead(&bell);
+    assert!(rt; device.rings());
+    bell.wait(&rt);
+    assert!(rt; device.wait_for_bytes(0));
     assert_eq!(rt; device.read(&mut buf), Ok(0));
     shelf.give_back(device);
     let asks = shelf.asks();
@@ -121,11 +127,12 @@ fn a_thread_reads_all_bytes_in_order(rt: HostRuntime) -> Result<(), Fail> {
     let Ok(mut file) = shelf.fetch("lines_of_a_test.csv") else {
         return Err("no file".into());
     };
+    let bell = Bell::create(rt.alloc())?;
     let mut buf = [0u8; 1000];
     let mut read = Vec::new(rt.alloc());
     for call in 0..1_000u32 {
         if call == 3 {
-            file.read_ahead();
+            file.read_ahead(&bell);
         }
         let Ok(count) = file.read(&mut buf) else {
             return Err("a read failed".into());
@@ -144,7 +151,7 @@ fn a_folder_is_no_source(rt: HostRuntime) -> Result<(), Fail> {
     let Ok(mut folder) = shelf.fetch("/") else {
         return Err("no folder".into());
     };
-    folder.read_ahead();
+    folder.read_ahead(&Bell::create(rt.alloc())?);
     assert!(rt; folder.wait_for_bytes(60_000));
     let mut buf = [0u8; 16];
     assert_eq!(rt; folder.read(&mut buf), Err(ReadFailed));
@@ -157,21 +164,23 @@ fn a_folder_is_no_source(rt: HostRuntime) -> Result<(), Fail> {
 #[test]
 fn lines_that_are_not_empty_end(rt: HostRuntime) {
     let mut line = Line::Start;
-    assert!(rt; !line.goes_on(b"\xEF\xBB"));
-    assert!(rt; !line.goes_on(b"\xBF\r\n\n1,2"));
-    assert!(rt; line.goes_on(b"\n3"));
-    assert!(rt; line.goes_on(b"\r\n\r"));
-    assert!(rt; !line.goes_on(b"\n\r"));
-    assert!(rt; line.goes_on(b"\r\n"));
+    assert_eq!(rt; line.goes_on(b"\xEF\xBB"), None);
+    assert_eq!(rt; line.goes_on(b"\xBF\r\n\n1,2"), None);
+    assert_eq!(rt; line.goes_on(b"\n3"), Some(1));
+    assert_eq!(rt; line.goes_on(b"\r\n4\n\n\r"), Some(4));
+    assert_eq!(rt; line.goes_on(b"\n\r"), None);
+    assert_eq!(rt; line.goes_on(b"\r\n"), Some(2));
     let mut no_mark = Line::Start;
-    assert!(rt; no_mark.goes_on(b"\xEF\xBB\n"));
+    assert_eq!(rt; no_mark.goes_on(b"\xEF\xBB\n"), Some(3));
 }
 
 #[test]
 fn what_is_left_of_a_piece_may_end_no_line(rt: HostRuntime) -> Result<(), Memory> {
     let mut piece = Piece::create(rt.alloc())?;
     let mut bytes = b"1,2\n3\n\n4".as_slice();
+    let mut line = Line::Start;
     assert_eq!(rt; piece.fill(&mut bytes).ok(), Some(8));
+    assert!(rt; piece.goes_on(8, &mut line));
     let mut buf = [0u8; 3];
     assert!(rt; piece.has_line());
     for (moved, has_line) in [(3, true), (3, false), (2, false)] {
@@ -179,8 +188,10 @@ fn what_is_left_of_a_piece_may_end_no_line(rt: HostRuntime) -> Result<(), Memory
         assert_eq!(rt; piece.has_line(), has_line);
     }
     assert!(rt; piece.is_used_up());
-    piece.clear(Line::Text);
+    piece.clear();
+    assert!(rt; !piece.has_line());
     assert_eq!(rt; piece.fill(&mut b"\n".as_slice()).ok(), Some(1));
+    assert!(rt; piece.goes_on(1, &mut line));
     assert!(rt; piece.has_line());
     Ok(())
 }

@@ -6,6 +6,7 @@ ghost use Rattle.std.specs.Prelude.{◌≡◌, ◌<◌, length, take, IfOk, OnOk
 ghost use Rattle.std.specs.Io.{ReadsAtMost};
 ghost use Rattle.std.specs.Io.KnownBytes.{IsAtEnd};
 
+use crate::bell::Bell;
 use lola_value::text::Text;
 
 /// A read that failed: no bytes were moved, and the source's count rose.
@@ -40,11 +41,17 @@ pub trait Source: Drop {
         true
     }
 
-    /// Asks that its bytes be read before they are asked for, by a thread of its own, so that one can wait for them with a limit. A
-    /// source that has no such thread does nothing.
-    fn read_ahead(&mut self)
+    /// Asks that its bytes be read before they are asked for, by a thread of its own, which rings this bell whenever what a read would
+    /// have waited for has come. A source that has no such thread does nothing.
+    fn read_ahead(&mut self, _bell: &Bell)
         ensures { state self.new ≡ state self.old }
     {}
+
+    /// Whether a thread reads its bytes ahead and rings a bell. It can then be told at the cost of a look whether the next line has come:
+    /// `wait_for_bytes` takes no lock and makes no call of the system where it is to wait for no time.
+    fn rings(&self) -> bool {
+        false
+    }
 }
 
 /// One ask of a shelf: for which name, whether a source was given, and how many faults there were: 1 where none was

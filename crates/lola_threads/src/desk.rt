@@ -67,6 +67,11 @@ impl<'a, S: Source, R: Wait + Sync> DeskWorker<'a, S, R> {
         self.worker.end().is_some()
     }
 
+    /// Whether its source has a thread that wakes the calling thread when bytes have come.
+    pub fn rings(&self) -> bool {
+        self.worker.rings()
+    }
+
     /// The stamp of the row that waits, if one does.
     pub fn waiting(&self) -> Option<u64> {
         self.worker.waiting()
@@ -76,7 +81,9 @@ impl<'a, S: Source, R: Wait + Sync> DeskWorker<'a, S, R> {
     fn is_at_hand(&self) -> bool {
         !self.has_ended()
             && self.waiting().is_none()
-            && (self.worker.answers_at_once() || self.worker.is_ready())
+            && (self.worker.answers_at_once()
+                || self.worker.is_ready()
+                || (self.rings() && self.worker.wait_for_bytes(0)))
     }
 
     /// Whether its next row is to be looked at, and can be after so many milliseconds at most.
@@ -101,11 +108,29 @@ impl<'a, S: Source, R: Wait + Sync> DeskWorker<'a, S, R> {
         }
     }
 
-    // Looks at the next row of the source, or reads the heading before the first.
-    fn look(&mut self, board: &Board)
+    // Reads the heading of the source, or looks at its next row behind that.
+    fn read_on(&mut self)
         ensures { WentOn self.old self.new }
     {
         begin_or_look_at(&mut self.worker, &mut self.desk);
+    }
+
+    // Looks at the next row of the source, behind the heading too where that is read first. So no look is left to be made that can be: whoever
+    // sleeps until the source rings does so for bytes that have not come.
+    fn look_on(&mut self)
+        ensures { WentOn self.old self.new }
+    {
+        self.read_on();
+        if self.is_at_hand() {
+            self.read_on();
+        }
+    }
+
+    // Looks at the next row of the source, and tells the others of it.
+    fn look(&mut self, board: &Board)
+        ensures { WentOn self.old self.new }
+    {
+        self.look_on();
         self.tell(board);
     }
 

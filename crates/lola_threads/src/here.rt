@@ -1,15 +1,16 @@
-//! The sources that the calling thread reads: files, the only source of a run, and those that no thread could be started for. The
-//! one with the least row hands it in first.
+//! The sources that the calling thread reads: files, those whose bytes are read ahead, which ring when these have come, the only source of a
+//! run, and those that no thread could be started for. The one with the least row hands it in first.
 ghost use Rattle.std.specs.Prelude.{◌≡◌, ◌<◌, length, vec_capacity};
 ghost use Rattle.std.specs.List.{AllZip};
 ghost use Rattle.lola_threads.specs.Seated.{WentOn};
 
 use crate::desk::DeskWorker;
+use crate::seated::SeatedWorker;
 use lola_board::Board;
 use lola_port::{Gate, Source};
 use std::sync::Wait;
 
-/// How long the calling thread waits for the lines of a source here, where it has nothing else to do, in milliseconds.
+/// How long the calling thread waits for the lines of a source here that rings no bell, where it has nothing else to do, in milliseconds.
 const MOMENT: u16 = 1;
 
 /// How many rows are handed in here before the rows that are in are taken.
@@ -148,6 +149,22 @@ fn hand_in_many<S: Source, R: Wait + Sync, G: Gate>(
     }
 }
 
+/// Whether the calling thread reads a source of so many: nobody waits for its reads, it rings when its bytes have come, or it is the only
+/// one. The threads that rows pass through would cost more than they give.
+pub fn is_here<S: Source>(seated: &SeatedWorker<S>, count: usize) -> bool {
+    count == 1 || seated.answers_at_once() || seated.rings()
+}
+
+/// Whether it reads each of these, which are all sources.
+pub fn are_all_here<S: Source>(waiting: &[SeatedWorker<S>]) -> bool {
+    for seated in waiting {
+        if !is_here(seated, waiting.len()) {
+            return false;
+        }
+    }
+    true
+}
+
 /// All here look at their next rows that can without waiting for anybody, and rows are handed in, the least first, until one
 /// comes later than that of another thread, or there is no room, or many are in.
 pub fn turn_here<S: Source, R: Wait + Sync, G: Gate>(
@@ -162,7 +179,8 @@ pub fn turn_here<S: Source, R: Wait + Sync, G: Gate>(
     hand_in_many(board, here, gate);
 }
 
-/// Whether all that is to be done here waits for other threads: no source has rows to come, or one has a row in hand.
+/// Whether all that is to be done here waits for other threads, which wake the calling thread: one has a row in hand, or no source has rows
+/// to come but those that ring.
 pub fn waits_for_others<S: Source, R: Wait + Sync>(here: &[DeskWorker<'_, S, R>]) -> bool {
     for worker in here {
         if worker.waiting().is_some() {
@@ -170,17 +188,17 @@ pub fn waits_for_others<S: Source, R: Wait + Sync>(here: &[DeskWorker<'_, S, R>]
         }
     }
     for worker in here {
-        if !worker.has_ended() {
+        if !worker.has_ended() && !worker.rings() {
             return false;
         }
     }
     true
 }
 
-/// Waits a moment for the lines of the first source here that has not ended.
+/// Waits a moment for the lines of the first source here that has not ended, and does not ring.
 pub fn rest<S: Source, R: Wait + Sync>(here: &[DeskWorker<'_, S, R>]) {
     for worker in here {
-        if !worker.has_ended() {
+        if !worker.has_ended() && !worker.rings() {
             worker.comes_within(MOMENT);
             return;
         }

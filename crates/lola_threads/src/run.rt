@@ -13,6 +13,7 @@ ghost use Rattle.lola_threads.specs.declared.halt.Halt.TheVariants as halt;
 
 use crate::fit::Inputs;
 use crate::halt::Halt;
+use crate::here::are_all_here;
 use crate::seated::SeatedWorker;
 use crate::sending::send_all;
 use crate::taking::Taker;
@@ -22,7 +23,7 @@ use lola_intake::intake::Intake;
 use lola_intake::seats::SourceSeat;
 use lola_merge::batch::Batch;
 use lola_model::plan::Plan;
-use lola_port::{Gate, Sink, Source};
+use lola_port::{Bell, Gate, Sink, Source};
 use lola_rounds::law::stopped_runs_end;
 use lola_rounds::rows::run_out;
 use lola_run::run::Run;
@@ -50,14 +51,8 @@ struct Room<S: Source> {
 }
 
 impl<S: Source> Room<S> {
-    // Room for so many sources of a plan, on a machine with so many processors.
-    fn create(
-        alloc: Global,
-        plan: &Plan,
-        count: u32,
-        processors: usize,
-        start: Option<u64>,
-    ) -> Result<Room<S>, Memory>
+    // Room for so many sources of a plan.
+    fn create(alloc: Global, plan: &Plan, count: u32, start: Option<u64>) -> Result<Room<S>, Memory>
         requires { (1 ≤ count) × (count ≤ 64) }
         ensures taker { IfOk result (λ room. room.taker ≡ record { seat = new_seat room.intake (setting count start) 0 0; inputs = record { count = count; kinds = input_kinds plan.now.spec.streams }; batch = [] }) }
         ensures seats { IfOk result (λ room. AreNewSeats room.intake (setting count start) count room.seats.items) }
@@ -70,7 +65,7 @@ impl<S: Source> Room<S> {
         let waiting = Vec::with_capacity(alloc, places)?;
         let back = Vec::with_capacity(alloc, places)?;
         let flags = new_flags(alloc, count)?;
-        let board = Board::create(alloc, count, processors)?;
+        let board = Board::create(alloc, count)?;
         let left = Batch::create(alloc)?;
         let batch = Batch::create(alloc)?;
         let inputs = Inputs::create(alloc, plan, count)?;
@@ -88,27 +83,17 @@ impl<S: Source> Room<S> {
     }
 }
 
-// Whether the calling thread reads all sources: there is one, or nobody has to wait for any of them.
-fn are_read_here<S: Source>(workers: &[SourceWorker<S>]) -> bool {
-    if workers.len() == 1 {
-        return true;
+// Tells the board how many processors the threads of these sources can have, if there are such threads, and the machine tells.
+fn tell_processors<R: Threads, S: Source>(
+    rt: &R,
+    waiting: &Vec<SeatedWorker<S>>,
+    board: &mut Board,
+) {
+    if are_all_here(waiting.as_slice()) {
+        return;
     }
-    for worker in workers {
-        if !worker.answers_at_once() {
-            return false;
-        }
-    }
-    true
-}
-
-// How many processors threads of these sources can have; one, where the machine does not tell, or there are no such threads.
-fn processors<R: Threads, S: Source>(rt: &R, workers: &[SourceWorker<S>]) -> usize {
-    if are_read_here(workers) {
-        return 1;
-    }
-    match thread::available_parallelism(rt) {
-        Ok(count) => count.get(),
-        Err(_) => 1,
+    if let Ok(count) = thread::available_parallelism(rt) {
+        board.has_processors(count.get());
     }
 }
 
@@ -125,19 +110,20 @@ fn new_flags(alloc: Global, count: u32) -> Result<Vec<AtomicBool>, Memory>
 
 // Asks that the bytes of a source be read ahead, unless they are waited for and the source is the only one: its reader then has
 // nothing else to do.
-fn read_ahead<S: Source>(worker: &mut SourceWorker<S>, is_only: bool)
+fn read_ahead<S: Source>(worker: &mut SourceWorker<S>, is_only: bool, bell: &Bell)
     ensures { worker.new ≡ worker.old }
 {
     if !is_only || worker.answers_at_once() {
-        worker.read_ahead();
+        worker.read_ahead(bell);
     }
 }
 
-// Joins each worker with the seat of its source, the last first.
+// Joins each worker with the seat of its source, the last first, and asks that its bytes be read ahead.
 fn seat_all<S: Source>(
     workers: &mut Vec<SourceWorker<S>>,
     seats: &mut Vec<SourceSeat>,
     waiting: &mut Vec<SeatedWorker<S>>,
+    bell: &Bell,
 )
     requires pairs { AllZip (λ (w : Working) (p : Shown). w.reader.shape.index ≡ p.source) workers.old.items seats.old.items }
     requires none { waiting.old.items ≡ [] }
@@ -149,7 +135,7 @@ fn seat_all<S: Source>(
     let is_only = workers.len() == 1;
     while let Some(mut worker) = workers.pop() {
         if let Some(seat) = seats.pop() {
-            read_ahead(&mut worker, is_only);
+            read_ahead(&mut worker, is_only, bell);
             waiting.push_reserved(SeatedWorker::create(worker, seat));
         }
     }
@@ -251,7 +237,7 @@ fn run_room<R: Threads + Wait + Sync, S: Source + Send, K: Sink, T: Sink, G: Gat
         intake,
         mut seats,
         mut taker,
-        board,
+        mut board,
         flags,
         mut waiting,
         back,
@@ -261,7 +247,8 @@ fn run_room<R: Threads + Wait + Sync, S: Source + Send, K: Sink, T: Sink, G: Gat
         return (workers, Err(Stop::Memory));
     };
     let mut workers = workers;
-    seat_all(&mut workers, &mut seats, &mut waiting);
+    seat_all(&mut workers, &mut seats, &mut waiting, board.bell());
+    tell_processors(rt, &waiting, &mut board);
     let (back, halted) = send_all(
         rt, &intake, gate, &board, &flags, waiting, here, back, &mut taker, run, out, trace,
     );
@@ -271,11 +258,12 @@ fn run_room<R: Threads + Wait + Sync, S: Source + Send, K: Sink, T: Sink, G: Gat
     (workers, stopped)
 }
 
-/// Runs all rows of sources, and then the deadlines at the last stamp, unless a row has a fault or the run was cut short. Each source that
-/// has to be waited for has a thread, which hands its rows in; those of files, the bytes of which are read ahead, and of the only source
-/// are handed in by the calling thread, and so are those of sources that no thread can be started for. Rows are run in the order in which they are
-/// handed in, which may be any that keeps the order of each source; it is that of stamp and source, as far as nobody has to wait for
-/// a source that is silent. The workers come back as their turns left them.
+/// Runs all rows of sources, and then the deadlines at the last stamp, unless a row has a fault or the run was cut short. The calling thread
+/// reads the rows of files, of each source whose bytes a thread reads ahead, which wakes it when they have come, and of the only source. Each
+/// other source has a thread, which hands its rows in; where none can be started the calling thread reads that source too. Rows are run in the
+/// order in which they are handed in, which may be any that keeps the order of each source; it is that of stamp and source, as far as nobody
+/// has to wait for a source that is silent. What ends the run ends it at once, also where sources are silent, but for a source whose thread waits
+/// in a read. The workers come back as their turns left them.
 pub fn run_in_threads<R: Threads + Wait + Sync, S: Source + Send, K: Sink, T: Sink, G: Gate + Sync>(
     rt: &R,
     alloc: Global,
@@ -294,8 +282,7 @@ pub fn run_in_threads<R: Threads + Wait + Sync, S: Source + Send, K: Sink, T: Si
     ensures places { AreInPlace workers.items result.0.items }
     ensures plan { (keeping run.new).desk.plan ≡ (keeping run.old).desk.plan }
 {
-    let processors = processors(rt, workers.as_slice());
-    match Room::create(alloc, run.plan(), workers.len() as u32, processors, start) {
+    match Room::create(alloc, run.plan(), workers.len() as u32, start) {
         Ok(room) => run_room(rt, alloc, room, run, workers, out, trace, gate),
         Err(_) => (workers, Err(Stop::Memory)),
     }

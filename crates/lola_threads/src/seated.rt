@@ -11,11 +11,8 @@ use lola_seats::SeatDesk;
 use std::marker::Model;
 use std::sync::Wait;
 
-/// How long a thread waits for the lines of its source at first before it looks whether the run was stopped, and how long at most, in
-/// milliseconds. Each time is twice as long as the one before.
-const FIRST_PIECE: u16 = 50;
-
-const LONGEST_PIECE: u16 = 800;
+/// How long a thread waits for the lines of its source before it looks whether the run was stopped, in milliseconds.
+const PIECE: u16 = 100;
 
 /// A source's worker and its seat, which go together to the thread that reads the source.
 #[derive(Drop)]
@@ -46,15 +43,13 @@ fn wait_to_read<S: Source, R: Wait>(
         return true;
     }
     board.step_aside(source);
-    let mut piece = FIRST_PIECE;
     for _ in rt.forever() {
         if board.is_stopped() {
             return false;
         }
-        if worker.wait_for_bytes(piece) {
+        if worker.wait_for_bytes(PIECE) {
             return true;
         }
-        piece = piece.saturating_mul(2).min(LONGEST_PIECE);
     }
     unreachable!()
 }
@@ -225,6 +220,11 @@ impl<S: Source> SeatedWorker<S> {
     /// Whether each read of its source answers at once.
     pub fn answers_at_once(&self) -> bool {
         self.worker.answers_at_once()
+    }
+
+    /// Whether its source has a thread that wakes the calling thread when bytes have come.
+    pub fn rings(&self) -> bool {
+        self.worker.rings()
     }
 
     /// All turns of the source, until its worker has ended, or until the run is stopped while the source is silent.

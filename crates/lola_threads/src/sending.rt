@@ -1,4 +1,4 @@
-//! The threads of the sources: each is started by a call that then goes on to the next source, and joined when that has come back.
+//! The threads of the sources that have one: each is started by a call that then goes on to the next source, and joined when that has come back.
 ghost use Rattle.std.specs.Prelude.{◌≡◌, ◌+◌, ◌≤◌, ◌<◌, ◌++◌, ◌∷◌, [], IfErr, IfOk, List, OnOk, false, length, vec_capacity};
 ghost use Rattle.std.specs.List.{AllZip};
 ghost use Rattle.lola_model.specs.Journal.{IsLegalFrom, opening_time};
@@ -12,6 +12,7 @@ ghost use Rattle.lola_threads.specs.Takings.{Halts, HasRun, IsReady, Place, plac
 
 use crate::desk::DeskWorker;
 use crate::halt::Halt;
+use crate::here::is_here;
 use crate::seated::SeatedWorker;
 use crate::taking::Taker;
 use lola_board::Board;
@@ -63,12 +64,6 @@ fn work<S: Source, R: Wait + Sync, G: Gate>(
     seated.run(rt, intake, gate, board)
 }
 
-// Whether the calling thread reads a source: nobody waits for its reads, or it is the only one. The threads that rows pass
-// through would cost more than they give.
-fn stays<S: Source>(seated: &SeatedWorker<S>, count: usize) -> bool {
-    count == 1 || seated.answers_at_once()
-}
-
 // Starts a thread for a seated worker. Where none is to be, or can be made, the seated worker comes back; in the second case the flag
 // of its source is set, and no thread waits for that source.
 fn start<'s, E, S: Source + Send + 's, R: Threads + Wait + Sync, G: Gate + Sync>(
@@ -89,7 +84,10 @@ fn start<'s, E, S: Source + Send + 's, R: Threads + Wait + Sync, G: Gate + Sync>
         flags,
     } = *context;
     let source = seated.source();
-    if stays(&seated, flags.len()) {
+    if is_here(&seated, flags.len()) {
+        if !seated.answers_at_once() {
+            board.step_aside(source);
+        }
         board.reads_here(source);
         return Err(seated);
     }
@@ -210,8 +208,8 @@ fn take_back<V>(_lent: &mut V)
     ensures { _lent.new ≡ _lent.old }
 {}
 
-/// Starts a thread for each of the seated workers that wait and has to be waited for, the last first, takes rows, and reads the other
-/// sources, until all is done or the run is stopped, and joins all threads. The seated workers come back in the order in which they waited.
+/// Starts a thread for each of the seated workers that wait, but for those that the calling thread reads, the last first, takes rows, and reads
+/// the other sources, until all is done or the run is stopped, and joins all threads. The seated workers come back in the order in which they waited.
 pub fn send_all<'s, S: Source + Send, R: Threads + Wait + Sync, K: Sink, T: Sink, G: Gate + Sync>(
     rt: &'s R,
     intake: &'s Intake,

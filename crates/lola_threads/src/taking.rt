@@ -115,8 +115,8 @@ fn is_all_done(take: Take) -> bool
     }
 }
 
-// What follows a take: rows leave room for others. Where there was nothing yet, the thread sleeps until a row is in, unless sources here
-// may have rows to come that no other thread is to be waited for.
+// What follows a take: rows leave room for others. Where there was nothing yet, the thread sleeps until a row is in or bytes have come, unless
+// sources here may have rows to come that nobody wakes it for.
 fn rest_after<S: Source, R: Wait + Sync>(
     rt: &R,
     board: &Board,
