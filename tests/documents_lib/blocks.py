@@ -7,8 +7,8 @@ What is to be done with a block is told by its language and by the comment direc
     <!-- not run: REASON -->  nothing is done with the block
     language console          the block's commands are run, and their transcript is the block
 
-A document that is strict has no other blocks. All blocks of a document share the folder, in which ./lolamon and
-examples/ are those of the checkout; "lolamon" without a folder is the same program.
+A document that is strict has no other blocks. All blocks of a document share the folder, in which ./lolamon, the tools
+beside it and examples/ are those of the checkout; "lolamon" without a folder is the same program.
 """
 
 import difflib
@@ -19,7 +19,7 @@ from .markdown import Block, Document
 from .tally import Tally
 from .transcripts import failed_in_silence, read_commands, run_commands
 
-# What the commands of documents find in their folder, beside what the document's own blocks write there.
+# What the commands of documents find in their folder, beside tools and what the document's own blocks write there.
 LENT = ("lolamon", "examples")
 
 
@@ -82,8 +82,8 @@ def run_blocks(name: str, document: Document, checkout: Path, strict: bool, tall
     with tempfile.TemporaryDirectory(prefix="lolamon-documents-") as made:
         folder = Path(made, "folder")
         folder.mkdir()
-        for lent in LENT:
-            (folder / lent).symlink_to(checkout / lent)
+        for lent in [*map(checkout.joinpath, LENT), *checkout.glob("tools/lolamon-*")]:
+            (folder / lent.name).symlink_to(lent)
         runner = BlockRunner(name, folder, Path(made, "statuses"), strict, tally)
         for block in document.blocks:
             runner.run_block(block)

@@ -1,0 +1,64 @@
+"""What the commands that read answers have in common: how they read their words, speak and end."""
+from __future__ import annotations
+
+import argparse
+import os
+import sys
+from typing import Callable, List, NoReturn
+
+from answers.lines import Unfit, reason
+
+UNFIT = 1
+USAGE = 2
+WRITE_FAILED = 7
+INTERRUPTED = 130
+
+
+class Words(argparse.ArgumentParser):
+    """Reads a command's words. What is wrong with them is told in one line, and what --help tells is a module's text."""
+
+    def __init__(self, tool: str, manual: str) -> None:
+        super().__init__(prog=tool, add_help=False, allow_abbrev=False)
+        self.manual = manual
+
+    def read(self, arguments: List[str]) -> argparse.Namespace:
+        if "--help" in arguments or "-h" in arguments:
+            write(self.manual)
+            sys.exit(0)
+        return self.parse_args(arguments)
+
+    def error(self, message: str) -> NoReturn:
+        say(self.prog, f"{message}; --help tells the words")
+        sys.exit(USAGE)
+
+
+def say(tool: str, text: str) -> None:
+    print(f"{tool}: {text}", file=sys.stderr, flush=True)
+
+
+def write(text: str) -> None:
+    """Writes to standard output at once."""
+    sys.stdout.buffer.write(text.encode())
+    sys.stdout.buffer.flush()
+
+
+def abandon_output() -> None:
+    """What could not be written is not tried again when Python ends."""
+    os.dup2(os.open(os.devnull, os.O_WRONLY), 1)
+
+
+def run(tool: str, main: Callable[[List[str]], int], arguments: List[str]) -> int:
+    """The status of a command, however it ends. A reader that has enough is no reason to say anything."""
+    try:
+        return main(arguments)
+    except Unfit as unfit:
+        say(tool, str(unfit))
+        return UNFIT
+    except KeyboardInterrupt:
+        return INTERRUPTED
+    except BrokenPipeError:
+        abandon_output()
+    except OSError as failure:
+        abandon_output()
+        say(tool, f"what was to be written cannot be: {reason(failure)}")
+    return WRITE_FAILED

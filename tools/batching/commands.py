@@ -1,0 +1,69 @@
+"""Prints a script that runs the logs of a batch on several machines: by GNU parallel, or as an array of jobs of Slurm."""
+from __future__ import annotations
+
+import os
+import shlex
+from typing import List, NamedTuple
+
+ENGINES = ("parallel", "slurm")
+MOST_TASKS = 1000
+MOST_JOBS = 200  # where there are more logs, a job has several: it costs less to start
+MOST_TOGETHER = 50
+
+
+class Batch(NamedTuple):
+    """What the script is to run: the options of each call, the specification, the folder, and how many logs are left."""
+
+    options: List[str]
+    specification: str
+    results: str
+    left_file: str
+    left: int
+
+    def call(self) -> List[str]:
+        return ["lolamon-batch", "--part", *self.options, "--results", self.results]
+
+
+def quoted(words: List[str]) -> str:
+    return " ".join(map(shlex.quote, words))
+
+
+def parallel_script(batch: Batch) -> str:
+    together = max(1, min(MOST_TOGETHER, batch.left // MOST_JOBS))
+    call = quoted([*batch.call(), "--jobs", "1", "--", batch.specification])
+    return f"""\
+#!/bin/sh
+# Runs the logs of {batch.left_file} by GNU parallel on all of HOSTS, such as HOSTS=one,two; ":" is this machine.
+# On each host lolamon-batch is installed, and this folder is there under the same path. Where hosts see no common folder,
+# take paths below this one, and set TRANSFER to yes: then files are copied there, and results back.
+cd {shlex.quote(os.getcwd())} || exit
+if [ "${{TRANSFER:-}}" = yes ]; then
+    set -- --workdir ... --cleanup --transferfile {shlex.quote(batch.specification)} --transferfile {{}} --return {shlex.quote(batch.results + "/{}")}
+else
+    set -- --workdir . --max-args {together}
+fi
+parallel --sshlogin "${{HOSTS:-:}}" --joblog {shlex.quote(batch.results + "/jobs.txt")} --quote "$@" \\
+    {call} {{}} :::: {shlex.quote(batch.left_file)}
+lolamon-batch --collect {shlex.quote(batch.results)}
+"""
+
+
+def slurm_script(batch: Batch) -> str:
+    tasks = max(1, min(MOST_TASKS, batch.left))
+    pick = f"NR % {tasks} == task % {tasks}"
+    return f"""\
+#!/bin/sh
+# Give this to sbatch. On each node lolamon-batch is installed, and this folder is there under the same path.
+# Afterwards: lolamon-batch --collect {batch.results}
+#SBATCH --job-name=lolamon
+#SBATCH --array=1-{tasks}
+#SBATCH --cpus-per-task=1
+#SBATCH --output={batch.results}/slurm-%a.txt
+cd {shlex.quote(os.getcwd())} || exit
+awk -v task="$SLURM_ARRAY_TASK_ID" {shlex.quote(pick)} {shlex.quote(batch.left_file)} |
+    {quoted([*batch.call(), "--jobs", "1", "--", batch.specification])} -
+"""
+
+
+def script(engine: str, batch: Batch) -> str:
+    return parallel_script(batch) if engine == "parallel" else slurm_script(batch)

@@ -1,0 +1,1 @@
+autocmd BufNewFile,BufRead *.lola set filetype=lola

@@ -1,0 +1,223 @@
+"""A picture as PNG or SVG, by matplotlib.
+
+All is laid out in inches from the top. Places are numbers behind the first time, since matplotlib computes with those;
+what is written at an axis is exact.
+"""
+from __future__ import annotations
+
+import warnings
+from typing import Any, List, Tuple
+
+from answers.lines import Unfit
+from plotting.axes import Tick, time_ticks, value_ticks
+from plotting.picture import Panel, Picture
+from plotting.series import Point
+
+WIDTH = 9.0
+RIGHT = 0.2
+TITLE = 0.44
+HEADER = 0.27
+FOOT = 0.5
+GAP = 0.1
+NUMBER = 0.95
+TRUTH = 0.4
+NAME = 0.19
+STRIP = 0.38
+DIGIT = 0.068
+PIXELS = 600
+FEW = 60  # a line of so many points has a dot at each, and so many marks of triggers a line through all panels
+LONGEST = 24
+
+TEXT, FAINT, GRID, FRAME = "#1f2328", "#5b6470", "#e4e7eb", "#b9c0c8"
+INPUT, OUTPUT, ALARM, LATE = "#0072b2", "#00805c", "#c43d00", "#8a4b8f"
+PALETTE = ["#0072b2", "#d55e00", "#009e73", "#cc79a7", "#e69f00", "#56b4e9", "#7f7f7f", "#8c564b", "#b59a00", "#9467bd",
+           "#17a2b8", "#c23b22"]
+SETTINGS = {"font.size": 8.5, "font.family": "sans-serif", "svg.hashsalt": "lolamon", "svg.fonttype": "none",
+            "axes.edgecolor": FRAME, "axes.linewidth": 0.8, "xtick.color": FRAME, "ytick.color": FRAME,
+            "xtick.labelcolor": FAINT, "ytick.labelcolor": FAINT, "text.color": TEXT, "path.simplify": True}
+
+
+def load() -> Any:
+    """matplotlib, without a screen."""
+    try:
+        import matplotlib
+        matplotlib.use("agg")
+        from matplotlib import figure
+    except ImportError:
+        raise Unfit("PNG and SVG need matplotlib, which is not installed (Debian: apt-get install python3-matplotlib); "
+                    "an .html needs nothing") from None
+    matplotlib.rcParams.update(SETTINGS)
+    return figure
+
+
+def shown(text: str, most: int = 200) -> str:
+    """A text as matplotlib shows it: no sign that would begin a formula, and none that is no letter."""
+    signs = "".join(sign if sign.isprintable() else sign.encode("unicode_escape").decode() for sign in text)
+    return (signs if len(signs) <= most else signs[:most - 1] + "\u2026").replace("$", r"\$")
+
+
+def height_of(panel: Panel) -> float:
+    if panel.sort == "number":
+        return NUMBER
+    return TRUTH if panel.sort == "truth" else max(NAME * len(panel.names), TRUTH)
+
+
+def range_of(panel: Panel, lines: List[List[Point]]) -> Tuple[int, int]:
+    if panel.sort == "truth":
+        return 0, 1
+    if panel.sort == "text":
+        return 0, max(len(panel.names) - 1, 0)
+    values = [value for points in [*lines, panel.late.all()] for _, value in points]
+    low, high = min(values, default=0), max(values, default=1)
+    return (low, high) if low < high else (low - 1, low + 1)
+
+
+def ticks_of(panel: Panel, low: int, high: int) -> List[Tick]:
+    if panel.sort == "truth":
+        return [Tick(0, "false"), Tick(1, "true")]
+    if panel.sort == "text":
+        return [Tick(place, shown(name, LONGEST)) for name, place in panel.names.items()]
+    room = (high - low) // 10
+    return value_ticks(low - room, high + room, 4)
+
+
+class Canvas:
+    """A figure that is filled from the top."""
+
+    def __init__(self, picture: Picture) -> None:
+        self.picture = picture
+        self.first, self.last = picture.bounds()
+        self.marks = [(trigger.title, trigger.marks.all(), ALARM) for trigger in picture.triggers_in_order()]
+        if picture.late.counts:
+            self.marks.append(("late rows", picture.late.all(), LATE))
+        self.drawn = [[(name, holds, line.few(self.first, self.last, PIXELS)) for name, holds, line in panel.drawn()]
+                      for panel in picture.panels]
+        self.ranges = [range_of(panel, [points for _, _, points in lines])
+                       for panel, lines in zip(picture.panels, self.drawn)]
+        self.ticks = [ticks_of(panel, *bounds) for panel, bounds in zip(picture.panels, self.ranges)]
+        longest = max((len(tick.label) for ticks in self.ticks for tick in ticks), default=0)
+        self.left = max(0.35, DIGIT * longest + 0.18)
+        self.height = TITLE + sum(HEADER + height_of(panel) + GAP for panel in picture.panels) + STRIP * len(self.marks) + FOOT
+        self.figure = load().Figure(figsize=(WIDTH, self.height), dpi=100, facecolor="white")
+        self.top = 0.0
+
+    def x(self, time: int) -> int:
+        return time - self.first
+
+    def axes(self, height: float) -> Any:
+        """An axis of this height below what is there already."""
+        self.top += height
+        width = WIDTH - self.left - RIGHT
+        place = (self.left / WIDTH, 1 - self.top / self.height, width / WIDTH, height / self.height)
+        axes = self.figure.add_axes(place)
+        margin = (self.last - self.first) * 0.012
+        axes.set_xlim(-margin, self.last - self.first + margin)
+        axes.set_xticks([])
+        return axes
+
+    def text(self, left: float, down: float, text: str, **look: Any) -> Any:
+        """A text, its middle so many inches below the present top."""
+        place = (left / WIDTH, 1 - (self.top + down) / self.height)
+        return self.figure.text(*place, text, va="center", **look)
+
+    def title(self) -> None:
+        self.text(self.left, TITLE / 2, shown(self.picture.title), weight="bold", size=10.5)
+        self.text(WIDTH - RIGHT, TITLE / 2, shown(self.picture.end or ""), color=FAINT, size=7.5, ha="right")
+        self.top += TITLE
+
+    def header(self, panel: Panel, names: List[str]) -> None:
+        """The panel's name, and where it has several lines, their names in their colours."""
+        self.text(self.left, HEADER * 0.55, shown(panel.title, 80), weight="bold")
+        if len(names) < 2:
+            self.text(WIDTH - RIGHT, HEADER * 0.55, panel.kind, color=FAINT, size=7.5, ha="right")
+        else:
+            left = WIDTH - RIGHT
+            for place in reversed(range(len(names))):
+                name = shown(names[place], LONGEST)
+                self.text(left, HEADER * 0.55, name, color=PALETTE[place % len(PALETTE)], ha="right", size=7.5)
+                left -= len(name) * 0.062 + 0.16
+        self.top += HEADER
+
+    def line(self, axes: Any, panel: Panel, points: List[Point], color: str, holds: bool) -> None:
+        places = [self.x(time) for time, _ in points]
+        values = [value for _, value in points]
+        if panel.sort != "text":
+            held = ([*places, self.x(self.last)], [*values, values[-1]]) if holds else (places, values)
+            axes.plot(*held, color=color, linewidth=1.2, drawstyle="steps-post", solid_joinstyle="miter")
+        if panel.sort == "text" or len(points) <= FEW:
+            axes.plot(places, values, color=color, linestyle="", marker="o", markersize=3, zorder=3)
+
+    def panel(self, number: int) -> None:
+        panel, lines = self.picture.panels[number], self.drawn[number]
+        self.header(panel, [name for name, _, _ in lines])
+        axes = self.axes(height_of(panel))
+        low, high = self.ranges[number]
+        room = (high - low) * 0.1 if panel.sort == "number" else 0.5
+        axes.set_ylim(low - room, high + room)
+        axes.set_yticks([float(tick.place) for tick in self.ticks[number]], [tick.label for tick in self.ticks[number]])
+        axes.grid(axis="y", color=GRID, linewidth=0.7)
+        axes.set_axisbelow(True)
+        for place, (_, holds, points) in enumerate(lines):
+            alone = INPUT if panel.has_inputs else OUTPUT
+            self.line(axes, panel, points, PALETTE[place % len(PALETTE)] if len(lines) > 1 else alone, holds)
+        late = panel.late.all()
+        axes.plot([self.x(time) for time, _ in late], [value for _, value in late], linestyle="", marker="x", markersize=6,
+                  markeredgewidth=1.6, color=LATE)
+        self.through(axes)
+        self.top += GAP
+
+    def through(self, axes: Any) -> None:
+        """Thin lines where triggers are true, unless they are many, and one where the run had its fault."""
+        alarms = [time for _, marks, color in self.marks if color == ALARM for time, _ in marks]
+        for time in alarms if len(alarms) <= FEW else []:
+            axes.axvline(self.x(time), color=ALARM, linewidth=0.7, alpha=0.35, zorder=0.5)
+        if self.picture.fault:
+            axes.axvline(self.x(self.picture.fault[0]), color=ALARM, linewidth=1.2, linestyle="--")
+
+    def strip(self, title: str, marks: List[Point], color: str) -> None:
+        """The marks of a trigger or of late rows, below its name."""
+        self.text(self.left, STRIP * 0.3, shown(title, 110), size=8)
+        self.top += STRIP * 0.5
+        axes = self.axes(STRIP * 0.5)
+        axes.axis("off")
+        axes.set_ylim(-1, 1)
+        axes.axhline(0, color=GRID, linewidth=0.8)
+        places = sorted({round(self.x(time) * PIXELS / (self.last - self.first)) for time, _ in marks})
+        if len(places) > FEW:
+            marks = [(self.first + place * (self.last - self.first) // PIXELS, 1) for place in places]
+        axes.plot([self.x(time) for time, _ in marks], [0] * len(marks), linestyle="", marker="|", markersize=10,
+                  markeredgewidth=2, color=color)
+
+    def times(self) -> None:
+        """The axis of time, below all, with lines through the panels."""
+        ticks, name = time_ticks(self.first, self.last, 9)
+        places = [float(self.x(tick.place)) for tick in ticks]
+        for axes in self.figure.axes:
+            for place in places:
+                axes.axvline(place, color=GRID, linewidth=0.7, zorder=0)
+        axes = self.axes(0.04)
+        axes.set_yticks([])
+        for side in ("left", "right", "bottom"):
+            axes.spines[side].set_visible(False)
+        axes.set_xticks(places, [tick.label for tick in ticks])
+        self.text(WIDTH - RIGHT, FOOT - 0.14, name, color=FAINT, ha="right")
+        if self.picture.fault:
+            self.text(self.left, FOOT - 0.14, "fault " + shown(self.picture.fault[1]), color=ALARM)
+
+    def draw(self) -> Any:
+        self.title()
+        for number in range(len(self.picture.panels)):
+            self.panel(number)
+        for title, marks, color in self.marks:
+            self.strip(title, marks, color)
+        self.times()
+        return self.figure
+
+
+def draw(picture: Picture, path: str, form: str) -> None:
+    """Writes the picture. The same picture is written with the same bytes."""
+    load()
+    metadata = {"Date": None, "Creator": None} if form == "svg" else {"Software": None}
+    with warnings.catch_warnings():
+        warnings.simplefilter("ignore")
+        Canvas(picture).draw().savefig(path, format=form, metadata=metadata, facecolor="white")
