@@ -43,14 +43,17 @@ impl StreamStore for BoundedStore {
         reading::back(self, stream, params, k)
     }
 
+    #[inline(always)]
     fn now_alone(&self, stream: u32) -> Outcome {
         reading::now_alone(self, stream)
     }
 
+    #[inline(always)]
     fn newest_alone(&self, stream: u32) -> Outcome {
         reading::newest_alone(self, stream)
     }
 
+    #[inline(always)]
     fn back_alone(&self, stream: u32, k: u32) -> Outcome {
         reading::back_alone(self, stream, k)
     }

@@ -71,6 +71,7 @@ pub fn back(s: &BoundedStore, stream: u32, params: &Params, k: u32) -> Outcome
 }
 
 /// The value at this step of a stream without parameters.
+#[inline(always)]
 pub fn now_alone(s: &BoundedStore, stream: u32) -> Outcome
     requires stream { stream < length (bounded_seen s.now).layout.streams }
     requires none { parameters_of (slice_get (bounded_seen s.now).layout.streams stream) ≡ [] }
@@ -81,6 +82,7 @@ pub fn now_alone(s: &BoundedStore, stream: u32) -> Outcome
 }
 
 /// The newest value at this step or before of a stream without parameters.
+#[inline(always)]
 pub fn newest_alone(s: &BoundedStore, stream: u32) -> Outcome
     requires stream { stream < length (bounded_seen s.now).layout.streams }
     requires none { parameters_of (slice_get (bounded_seen s.now).layout.streams stream) ≡ [] }
@@ -95,6 +97,7 @@ pub fn newest_alone(s: &BoundedStore, stream: u32) -> Outcome
 }
 
 /// The k-th value before this step from the newest, from 1, of a stream without parameters.
+#[inline(always)]
 pub fn back_alone(s: &BoundedStore, stream: u32, k: u32) -> Outcome
     requires stream { stream < length (bounded_seen s.now).layout.streams }
     requires none { parameters_of (slice_get (bounded_seen s.now).layout.streams stream) ≡ [] }

@@ -26,8 +26,11 @@ use Rattle.lola_code.specs.declared.instr.Instr.{Instr}
 use Rattle.lola_code.specs.declared.instr.Instr.TheVariants as instr
 use Rattle.lola_code.specs.declared.compile.Target.{Target}
 use Rattle.lola_code.specs.declared.compile.Target.TheVariants as target
-use Rattle.lola_code.specs.Code.{asking, back_arguments, back_code, code_of, joining, literal_of, plain_of, reading, with_argument, with_branches, with_default, with_operands, with_sign}
-use Rattle.lola_code.specs.Machine.{AskedOf, Folded, Leads, or_value, top}
+use Rattle.lola_code.specs.Code.{asking, back_arguments, back_code, code_of, defaulted_of, giving, joining, literal_of, plain_of, reading, together, with_argument, with_branches, with_default, with_operands, with_sign}
+use Rattle.lola_code.specs.Machine.{AskedOf, Folded, Leads, or_short, top}
+use Rattle.lola_code.specs.Shorts.{short_of, value_in, widened}
+use Rattle.lola_code.specs.declared.short.Short.{Short}
+use Rattle.lola_code.proofs.Shorts.{is_wide, the_value}
 use Rattle.lola_code.proofs.Means.{Around, Means, MeansAll, MeansNone, as_many, decided_means, end_means, false_means, first_means, goes_on_means, here_means, later_means, left_none, left_truth, literal_means, more_means, negated_means, operand_none, operand_taken, operands_taken, operated_means, parameter_means, read_means, read_none, right_none, second_means, test_none, test_truth, true_means, window_means, window_none}
 
 -- code that was made from its end, turned round
@@ -74,12 +77,16 @@ is_plain (Both' place sign u a v b) q h = absurd (cc)
 is_plain (Choice' place u a v b w d) q h = absurd (cc)
 
 -- a literal
-record IsLiteral (e : Expr) (v : Value) : Type 0 where
+record IsLiteral (e : Expr) (v : Short) : Type 0 where
   place : Place
-  is : e ≡ Literal place v
+  is : e ≡ Literal place (value_in v)
+  wide : widened v ≡ outcome.Value (value_in v)
 
-is_literal : (e : Expr) (v : Value) → literal_of e ≡ Some v → IsLiteral e v
-is_literal (Literal place w) v h = let e : w ≡ v = cc in record { place = place; is = ap (λ x. Literal place x) e }
+is_literal : (e : Expr) (v : Short) → literal_of e ≡ Some v → IsLiteral e v
+is_literal (Literal place w) v h =
+    let wide : widened v ≡ outcome.Value w = is_wide w v h in
+    let same : value_in v ≡ w = the_value v w wide in
+    record { place = place; is = ap (λ x. Literal place x) (sym same); wide = wide ∙ ap (λ x. outcome.Value x) (sym same) }
 is_literal (Parameter place i) v h = absurd (cc)
 is_literal (Read place n how args) v h = absurd (cc)
 is_literal (Window place n args) v h = absurd (cc)
@@ -87,6 +94,35 @@ is_literal (Defaults' place u a w b) v h = absurd (cc)
 is_literal (Unary' place sign u a) v h = absurd (cc)
 is_literal (Both' place sign u a w b) v h = absurd (cc)
 is_literal (Choice' place u a w b x d) v h = absurd (cc)
+
+-- a plain access with a literal for a default
+record IsDefaulted (e : Expr) (d : ℕ × (Access × Short)) : Type 0 where
+  place : Place
+  u : Around
+  v : Around
+  a : Expr
+  b : Expr
+  is : e ≡ Defaults' place u a v b
+  plain : IsPlain a (d.0, d.1.0)
+  literal : IsLiteral b d.1.1
+
+is_defaulted : (e : Expr) (d : ℕ × (Access × Short)) → defaulted_of e ≡ Some d → IsDefaulted e d
+is_defaulted (Literal place w) d h = absurd (cc)
+is_defaulted (Parameter place i) d h = absurd (cc)
+is_defaulted (Read place n how args) d h = absurd (cc)
+is_defaulted (Window place n args) d h = absurd (cc)
+is_defaulted (Unary' place sign u a) d h = absurd (cc)
+is_defaulted (Both' place sign u a w b) d h = absurd (cc)
+is_defaulted (Choice' place u a w b x c) d h = absurd (cc)
+is_defaulted (Defaults' place u a w b) d h = by_parts (plain_of a) (literal_of b) refl refl h
+  where
+    by_parts : (q : Option (ℕ × Access)) (x : Option Short) → plain_of a ≡ q → literal_of b ≡ x → together q x ≡ Some d → IsDefaulted (Defaults' place u a w b) d
+    by_parts (Some q) (Some x) l t h =
+        let e : (q.0, (q.1, x)) ≡ d = cc in
+        subst (IsDefaulted (Defaults' place u a w b)) e (record { place = place; u = u; v = w; a = a; b = b; is = refl; plain = is_plain a q l; literal = is_literal b x t })
+    by_parts (Some q) None l t h = absurd (cc)
+    by_parts None (Some x) l t h = absurd (cc)
+    by_parts None None l t h = absurd (cc)
 
 module _ (remembers : Memories) (s : Seen) (p : Params) (wanted : Outcome → Type 0) where
   abbrev Goes : List Instr → ℕ → Outcome → List Value → Type 0
@@ -216,26 +252,27 @@ module _ (remembers : Memories) (s : Seen) (p : Params) (wanted : Outcome → Ty
       goes outcome.Poison d = there outcome.Poison (λ q. absurd (cc)) d
 
   -- of a plain access and a literal
-  fused_gives : (place : Place) (u v : Around) (a b : Expr) (q : ℕ × Access) (x : Value) → can_ask s p (Defaults' place u a v b) ≡ true → IsPlain a q → IsLiteral b x
+  fused_gives : (place : Place) (u v : Around) (a b : Expr) (q : ℕ × Access) (x : Short) → can_ask s p (Defaults' place u a v b) ≡ true → IsPlain a q → IsLiteral b x
       → Gives (instr.ReadOr q.0 q.1 x ∷ []) (Defaults' place u a v b)
   fused_gives place u v a b q x ask l t rest o st fin =
       let d = defaults_facts s p (Defaults' place u a v b) place u v a b refl ask in
       let f = read_facts s p a l.place q.0 q.1 End l.is d.left in
       (f.reference.stream, sym f.reference.kinds, f.kept, λ r e. by_answer r (read_means remembers s p a l.place q.0 q.1 End [] r l.is d.left (end_means remembers s p) e))
     where
-      given : IsMeant b (outcome.Value x)
+      given : IsMeant b (widened x)
       given =
           let d = defaults_facts s p (Defaults' place u a v b) place u v a b refl ask in
-          subst (λ e. IsMeant e (outcome.Value x)) (sym t.is) (literal_means remembers s p t.place x (ap (can_ask s p) (sym t.is) ∙ d.right))
+          subst (IsMeant b) (sym t.wide)
+          (subst (λ e. IsMeant e (outcome.Value (value_in x))) (sym t.is) (literal_means remembers s p t.place (value_in x) (ap (can_ask s p) (sym t.is) ∙ d.right)))
 
-      by_answer : (r : Outcome) → IsMeant a r → Goes rest 0 (or_value r x) st
+      by_answer : (r : Outcome) → IsMeant a r → Goes rest 0 (or_short r x) st
       by_answer (outcome.Value y) m = fin (outcome.Value y) (first_means remembers s p place u v a b ask (outcome.Value y) (λ q. absurd (cc)) m)
-      by_answer outcome.Missing m = fin (outcome.Value x) (second_means remembers s p place u v a b ask (outcome.Value x) m given)
+      by_answer outcome.Missing m = fin (widened x) (second_means remembers s p place u v a b ask (widened x) m given)
       by_answer (outcome.Fault k) m = fin (outcome.Fault k) (first_means remembers s p place u v a b ask (outcome.Fault k) (λ q. absurd (cc)) m)
       by_answer outcome.Poison m = fin outcome.Poison (first_means remembers s p place u v a b ask outcome.Poison (λ q. absurd (cc)) m)
 
   default_gives : (place : Place) (u v : Around) (a b : Expr) (ca cb : List Instr) → can_ask s p (Defaults' place u a v b) ≡ true → Gives ca a → Gives cb b
-      → (q : Option (ℕ × Access)) (x : Option Value) → plain_of a ≡ q → literal_of b ≡ x → Gives (with_default ca cb q x) (Defaults' place u a v b)
+      → (q : Option (ℕ × Access)) (x : Option Short) → plain_of a ≡ q → literal_of b ≡ x → Gives (with_default ca cb q x) (Defaults' place u a v b)
   default_gives place u v a b ca cb ask g h (Some q) (Some x) l t = fused_gives place u v a b q x ask (is_plain a q l) (is_literal b x t)
   default_gives place u v a b ca cb ask g h (Some q) None l t = otherwise_gives place u v a b ca cb ask g h
   default_gives place u v a b ca cb ask g h None (Some x) l t = otherwise_gives place u v a b ca cb ask g h
@@ -254,46 +291,66 @@ module _ (remembers : Memories) (s : Seen) (p : Params) (wanted : Outcome → Ty
 
   -- a sign between two operands
   module _ (place : Place) (sign : Binary) (u v : Around) (a b : Expr) (ask : can_ask s p (Both' place sign u a v b) ≡ true) where
+    -- between a value and what the right one means
+    signed : (rest : List Instr) (st : List Value) → ((r : Outcome) → IsMeant (Both' place sign u a v b) r → Goes rest 0 r st) → ((x : Value) → decides sign x ≡ false)
+        → (x : Value) → IsMeant a (outcome.Value x) → (r : Outcome) → IsMeant b r → Goes (instr.Sign sign (kind_of place) ∷ rest) 0 r (x ∷ st)
+    signed rest st fin nd x d (outcome.Value y) e = (operands_taken remembers s p place sign u v a b ask x y d e, λ r w. fin r (operated_means remembers s p place sign u v a b ask x y r (nd x) d e w))
+    signed rest st fin nd x d outcome.Missing e = fin outcome.Missing (right_none remembers s p place sign u v a b ask x outcome.Missing (nd x) (λ v q. absurd (cc)) d e)
+    signed rest st fin nd x d (outcome.Fault f) e = fin (outcome.Fault f) (right_none remembers s p place sign u v a b ask x (outcome.Fault f) (nd x) (λ v q. absurd (cc)) d e)
+    signed rest st fin nd x d outcome.Poison e = fin outcome.Poison (right_none remembers s p place sign u v a b ask x outcome.Poison (nd x) (λ v q. absurd (cc)) d e)
+
     -- of which both are evaluated
     kept_gives : (ca cb : List Instr) → ((x : Value) → decides sign x ≡ false) → Gives ca a → Gives cb b
         → Gives (instr.Sign sign (kind_of place) ∷ (cb ++ (instr.Keep (length cb + 1) ∷ ca))) (Both' place sign u a v b)
     kept_gives ca cb nd g h rest o st fin = between (instr.Sign sign (kind_of place) ∷ cb) (instr.Keep (length cb + 1)) ca a rest o st g goes
       where
-        signed : (x : Value) → IsMeant a (outcome.Value x) → (r : Outcome) → IsMeant b r → Goes (instr.Sign sign (kind_of place) ∷ rest) 0 r (x ∷ st)
-        signed x d (outcome.Value y) e = (operands_taken remembers s p place sign u v a b ask x y d e, λ r w. fin r (operated_means remembers s p place sign u v a b ask x y r (nd x) d e w))
-        signed x d outcome.Missing e = fin outcome.Missing (right_none remembers s p place sign u v a b ask x outcome.Missing (nd x) (λ v q. absurd (cc)) d e)
-        signed x d (outcome.Fault f) e = fin (outcome.Fault f) (right_none remembers s p place sign u v a b ask x (outcome.Fault f) (nd x) (λ v q. absurd (cc)) d e)
-        signed x d outcome.Poison e = fin outcome.Poison (right_none remembers s p place sign u v a b ask x outcome.Poison (nd x) (λ v q. absurd (cc)) d e)
-
         none : (r : Outcome) → ((v : Value) → r ≡ outcome.Value v → ⊥) → IsMeant a r → Goes (reverse (instr.Sign sign (kind_of place) ∷ cb) ++ rest) (length cb + 1) r st
         none r ne d = past (instr.Sign sign (kind_of place) ∷ cb) rest 0 (length cb + 1) r st (omega arith) (fin r (left_none remembers s p place sign u v a b ask r ne d))
 
         goes : (r : Outcome) → IsMeant a r → Goes (instr.Keep (length cb + 1) ∷ (reverse (instr.Sign sign (kind_of place) ∷ cb) ++ rest)) 0 r st
-        goes (outcome.Value x) d = behind (instr.Sign sign (kind_of place)) cb b rest (outcome.Value x) (x ∷ st) h (signed x d)
+        goes (outcome.Value x) d = behind (instr.Sign sign (kind_of place)) cb b rest (outcome.Value x) (x ∷ st) h (signed rest st fin nd x d)
         goes outcome.Missing d = none outcome.Missing (λ v q. absurd (cc)) d
         goes (outcome.Fault f) d = none (outcome.Fault f) (λ v q. absurd (cc)) d
         goes outcome.Poison d = none outcome.Poison (λ v q. absurd (cc)) d
 
     -- of which the right one is a literal
-    given_gives : (ca : List Instr) (y : Value) → ((x : Value) → decides sign x ≡ false) → Gives ca a → IsLiteral b y
+    given_gives : (ca : List Instr) (y : Short) → ((x : Value) → decides sign x ≡ false) → Gives ca a → IsLiteral b y
         → Gives (instr.SignGiven sign (kind_of place) y ∷ ca) (Both' place sign u a v b)
     given_gives ca y nd g t rest o st fin = behind (instr.SignGiven sign (kind_of place) y) ca a rest o st g goes
       where
-        given : IsMeant b (outcome.Value y)
+        given : IsMeant b (outcome.Value (value_in y))
         given =
             let facts = both_facts s p (Both' place sign u a v b) place sign u v a b refl ask in
-            subst (λ e. IsMeant e (outcome.Value y)) (sym t.is) (literal_means remembers s p t.place y (ap (can_ask s p) (sym t.is) ∙ facts.right))
+            subst (λ e. IsMeant e (outcome.Value (value_in y))) (sym t.is) (literal_means remembers s p t.place (value_in y) (ap (can_ask s p) (sym t.is) ∙ facts.right))
 
         goes : (r : Outcome) → IsMeant a r → Goes (instr.SignGiven sign (kind_of place) y ∷ rest) 0 r st
-        goes (outcome.Value x) d = (operands_taken remembers s p place sign u v a b ask x y d given, λ r w. fin r (operated_means remembers s p place sign u v a b ask x y r (nd x) d given w))
+        goes (outcome.Value x) d = (operands_taken remembers s p place sign u v a b ask x (value_in y) d given, λ r w. fin r (operated_means remembers s p place sign u v a b ask x (value_in y) r (nd x) d given w))
         goes outcome.Missing d = fin outcome.Missing (left_none remembers s p place sign u v a b ask outcome.Missing (λ v q. absurd (cc)) d)
         goes (outcome.Fault f) d = fin (outcome.Fault f) (left_none remembers s p place sign u v a b ask (outcome.Fault f) (λ v q. absurd (cc)) d)
         goes outcome.Poison d = fin outcome.Poison (left_none remembers s p place sign u v a b ask outcome.Poison (λ v q. absurd (cc)) d)
 
-    operands_give : (ca cb : List Instr) → ((x : Value) → decides sign x ≡ false) → Gives ca a → Gives cb b → (y : Option Value) → literal_of b ≡ y
-        → Gives (with_operands sign (kind_of place) ca cb y) (Both' place sign u a v b)
-    operands_give ca cb nd g h (Some y) t = given_gives ca y nd g (is_literal b y t)
-    operands_give ca cb nd g h None t = kept_gives ca cb nd g h
+    -- of which the right one is a plain access with a literal for a default
+    defaulted_gives : (ca : List Instr) (f : ℕ × (Access × Short)) → ((x : Value) → decides sign x ≡ false) → Gives ca a → IsDefaulted b f
+        → Gives (instr.SignReadOr sign (kind_of place) f.0 f.1.0 f.1.1 ∷ ca) (Both' place sign u a v b)
+    defaulted_gives ca f nd g t rest o st fin = behind (instr.SignReadOr sign (kind_of place) f.0 f.1.0 f.1.1) ca a rest o st g goes
+      where
+        asked : Gives (instr.ReadOr f.0 f.1.0 f.1.1 ∷ []) b
+        asked =
+            let facts = both_facts s p (Both' place sign u a v b) place sign u v a b refl ask in
+            subst (Gives (instr.ReadOr f.0 f.1.0 f.1.1 ∷ [])) (sym t.is)
+            (fused_gives t.place t.u t.v t.a t.b (f.0, f.1.0) f.1.1 (ap (can_ask s p) (sym t.is) ∙ facts.right) t.plain t.literal)
+
+        goes : (r : Outcome) → IsMeant a r → Goes (instr.SignReadOr sign (kind_of place) f.0 f.1.0 f.1.1 ∷ rest) 0 r st
+        goes (outcome.Value x) d = asked (instr.Sign sign (kind_of place) ∷ rest) (outcome.Value x) (x ∷ st) (signed rest st fin nd x d)
+        goes outcome.Missing d = fin outcome.Missing (left_none remembers s p place sign u v a b ask outcome.Missing (λ v q. absurd (cc)) d)
+        goes (outcome.Fault k) d = fin (outcome.Fault k) (left_none remembers s p place sign u v a b ask (outcome.Fault k) (λ v q. absurd (cc)) d)
+        goes outcome.Poison d = fin outcome.Poison (left_none remembers s p place sign u v a b ask outcome.Poison (λ v q. absurd (cc)) d)
+
+    operands_give : (ca cb : List Instr) → ((x : Value) → decides sign x ≡ false) → Gives ca a → Gives cb b → (y : Option Short) (f : Option (ℕ × (Access × Short))) → literal_of b ≡ y → defaulted_of b ≡ f
+        → Gives (with_operands sign (kind_of place) ca cb y f) (Both' place sign u a v b)
+    operands_give ca cb nd g h (Some y) f t q = given_gives ca y nd g (is_literal b y t)
+    operands_give ca cb nd g h None (Some f) t q = defaulted_gives ca f nd g (is_defaulted b f q)
+    operands_give ca cb nd g h None None t q = kept_gives ca cb nd g h
 
   -- `&&`
   and_gives : (place : Place) (u v : Around) (a b : Expr) → can_ask s p (Both' place binary.And u a v b) ≡ true → (ca cb : List Instr) → Gives ca a → Gives cb b
@@ -331,20 +388,20 @@ module _ (remembers : Memories) (s : Seen) (p : Params) (wanted : Outcome → Ty
 
   -- a sign between operands, by the sign
   sign_gives : (sign : Binary) (place : Place) (u v : Around) (a b : Expr) → can_ask s p (Both' place sign u a v b) ≡ true → (ca cb : List Instr) → Gives ca a → Gives cb b
-      → Gives (with_sign (joining sign) sign (kind_of place) ca cb (literal_of b)) (Both' place sign u a v b)
+      → Gives (with_sign (joining sign) sign (kind_of place) ca cb (literal_of b) (defaulted_of b)) (Both' place sign u a v b)
   sign_gives binary.And place u v a b ask ca cb g h = and_gives place u v a b ask ca cb g h
   sign_gives binary.Or place u v a b ask ca cb g h = or_gives place u v a b ask ca cb g h
-  sign_gives binary.Add place u v a b ask ca cb g h = operands_give place binary.Add u v a b ask ca cb (λ x. refl) g h (literal_of b) refl
-  sign_gives binary.Sub place u v a b ask ca cb g h = operands_give place binary.Sub u v a b ask ca cb (λ x. refl) g h (literal_of b) refl
-  sign_gives binary.Mul place u v a b ask ca cb g h = operands_give place binary.Mul u v a b ask ca cb (λ x. refl) g h (literal_of b) refl
-  sign_gives binary.Div place u v a b ask ca cb g h = operands_give place binary.Div u v a b ask ca cb (λ x. refl) g h (literal_of b) refl
-  sign_gives binary.Rem place u v a b ask ca cb g h = operands_give place binary.Rem u v a b ask ca cb (λ x. refl) g h (literal_of b) refl
-  sign_gives binary.Less place u v a b ask ca cb g h = operands_give place binary.Less u v a b ask ca cb (λ x. refl) g h (literal_of b) refl
-  sign_gives binary.LessEqual place u v a b ask ca cb g h = operands_give place binary.LessEqual u v a b ask ca cb (λ x. refl) g h (literal_of b) refl
-  sign_gives binary.Greater place u v a b ask ca cb g h = operands_give place binary.Greater u v a b ask ca cb (λ x. refl) g h (literal_of b) refl
-  sign_gives binary.GreaterEqual place u v a b ask ca cb g h = operands_give place binary.GreaterEqual u v a b ask ca cb (λ x. refl) g h (literal_of b) refl
-  sign_gives binary.Equal place u v a b ask ca cb g h = operands_give place binary.Equal u v a b ask ca cb (λ x. refl) g h (literal_of b) refl
-  sign_gives binary.Different place u v a b ask ca cb g h = operands_give place binary.Different u v a b ask ca cb (λ x. refl) g h (literal_of b) refl
+  sign_gives binary.Add place u v a b ask ca cb g h = operands_give place binary.Add u v a b ask ca cb (λ x. refl) g h (literal_of b) (defaulted_of b) refl refl
+  sign_gives binary.Sub place u v a b ask ca cb g h = operands_give place binary.Sub u v a b ask ca cb (λ x. refl) g h (literal_of b) (defaulted_of b) refl refl
+  sign_gives binary.Mul place u v a b ask ca cb g h = operands_give place binary.Mul u v a b ask ca cb (λ x. refl) g h (literal_of b) (defaulted_of b) refl refl
+  sign_gives binary.Div place u v a b ask ca cb g h = operands_give place binary.Div u v a b ask ca cb (λ x. refl) g h (literal_of b) (defaulted_of b) refl refl
+  sign_gives binary.Rem place u v a b ask ca cb g h = operands_give place binary.Rem u v a b ask ca cb (λ x. refl) g h (literal_of b) (defaulted_of b) refl refl
+  sign_gives binary.Less place u v a b ask ca cb g h = operands_give place binary.Less u v a b ask ca cb (λ x. refl) g h (literal_of b) (defaulted_of b) refl refl
+  sign_gives binary.LessEqual place u v a b ask ca cb g h = operands_give place binary.LessEqual u v a b ask ca cb (λ x. refl) g h (literal_of b) (defaulted_of b) refl refl
+  sign_gives binary.Greater place u v a b ask ca cb g h = operands_give place binary.Greater u v a b ask ca cb (λ x. refl) g h (literal_of b) (defaulted_of b) refl refl
+  sign_gives binary.GreaterEqual place u v a b ask ca cb g h = operands_give place binary.GreaterEqual u v a b ask ca cb (λ x. refl) g h (literal_of b) (defaulted_of b) refl refl
+  sign_gives binary.Equal place u v a b ask ca cb g h = operands_give place binary.Equal u v a b ask ca cb (λ x. refl) g h (literal_of b) (defaulted_of b) refl refl
+  sign_gives binary.Different place u v a b ask ca cb g h = operands_give place binary.Different u v a b ask ca cb (λ x. refl) g h (literal_of b) (defaulted_of b) refl refl
 
   -- a choice
   choice_gives : (place : Place) (u v w : Around) (t a b : Expr) (ct ca cb : List Instr) → can_ask s p (Choice' place u t v a w b) ≡ true → Gives ct t → Gives ca a → Gives cb b
@@ -373,10 +430,15 @@ module _ (remembers : Memories) (s : Seen) (p : Params) (wanted : Outcome → Ty
       goes (outcome.Fault f) d = none (outcome.Fault f) (test_none remembers s p place u v w t a b ask (outcome.Fault f) (λ v q. absurd (cc)) d)
       goes outcome.Poison d = none outcome.Poison (test_none remembers s p place u v w t a b ask outcome.Poison (λ v q. absurd (cc)) d)
 
+  -- a literal
+  literal_gives : (place : Place) (v : Value) → can_ask s p (Literal place v) ≡ true → (x : Option Short) → short_of v ≡ x → Gives (giving x ∷ []) (Literal place v)
+  literal_gives place v h (Some x) e rest o st fin = fin (widened x) (subst (IsMeant (Literal place v)) (sym (is_wide v x e)) (literal_means remembers s p place v h))
+  literal_gives place v h None e rest o st fin = tt
+
   -- the code of an expression gives what it means
   mutual
     gives : (e : Expr) → can_ask s p e ≡ true → Gives (back_code e) e
-    gives (Literal place v) h rest o st fin = fin (outcome.Value v) (literal_means remembers s p place v h)
+    gives (Literal place v) h rest o st fin = literal_gives place v h (short_of v) refl rest o st fin
     gives (Parameter place i) h rest o st fin = fin _ (parameter_means remembers s p place i h)
     gives (Read place n how args) h rest o st fin = read_gives place n how args (back_arguments (target.Stream n how) 0 args) h (gives_all (target.Stream n how) 0 args (read_facts s p (Read place n how args) place n how args refl h).arguments) rest o st fin
     gives (Window place n args) h rest o st fin = window_gives place n args (back_arguments (target.Window n) 0 args) h (gives_all (target.Window n) 0 args (window_facts s p (Window place n args) place n args refl h).arguments) rest o st fin

@@ -1,6 +1,7 @@
 -- Short outcomes and the wide ones that they stand for.
-use Rattle.std.proofs.Common.{◌≡◌, IfSome, Option, Some, None, ℤ, refl, sym, ap, ◌∙◌, subst, Bool, true, false, if◌then◌else◌, []}
+use Rattle.std.proofs.Common.{◌≡◌, IfSome, Option, Some, None, ℤ, pos, negsuc, refl, sym, ap, ◌∙◌, subst, Bool, true, false, if◌then◌else◌, []}
 use Rattle.lola_value.specs.declared.value.Kind.{Kind}
+use Rattle.lola_value.specs.declared.value.Kind.TheVariants as kind
 use Rattle.lola_value.specs.declared.value.Value.{Value}
 use Rattle.lola_value.specs.declared.value.Value.TheVariants as value
 use Rattle.lola_value.specs.declared.value.Outcome.{Outcome}
@@ -16,7 +17,7 @@ use Rattle.lola_model.specs.Denotation.{operated}
 use Rattle.lola_model.specs.declared.expr.Binary.{Binary}
 use Rattle.lola_expr.proofs.OperandLemmas.{second, of_within}
 use Rattle.lola_code.specs.Machine.{Operates}
-use Rattle.lola_code.specs.Shorts.{IsShort, has_value, numbered, value_in, widened}
+use Rattle.lola_code.specs.Shorts.{IsShort, has_value, numbered, short_by, short_of, value_in, widened}
 use Rattle.lola_code.specs.declared.short.Short.{Short}
 use Rattle.lola_code.specs.declared.short.Short.TheVariants as short
 
@@ -45,6 +46,19 @@ is_no_value short.Overflow h v e = absurd (cc)
 is_no_value short.DivZero h v e = absurd (cc)
 is_no_value short.TooManyInstances h v e = absurd (cc)
 is_no_value short.Poison h v e = absurd (cc)
+
+-- the short value of a value stands for it
+pub is_wide : (v : Value) (s : Short) → short_of v ≡ Some s → widened s ≡ outcome.Value v
+is_wide (value.Bool true) s h = let e : short.True ≡ s = cc in ap widened (sym e)
+is_wide (value.Bool false) s h = let e : short.False ≡ s = cc in ap widened (sym e)
+is_wide (value.Text id) s h = let e : short.Text id ≡ s = cc in ap widened (sym e)
+is_wide (value.Int z) s h = by_hand (is_within kind.Int64 z) (is_within kind.UInt64 z) z refl h
+  where
+    by_hand : (w l : Bool) (z : ℤ) → is_within kind.UInt64 z ≡ l → short_by w l z ≡ Some s → widened s ≡ outcome.Value (value.Int z)
+    by_hand true l z q h = let e : short.Int z ≡ s = cc in ap widened (sym e)
+    by_hand false true (pos n) q h = let e : short.Large n ≡ s = cc in ap widened (sym e)
+    by_hand false true (negsuc n) q h = absurd (cc)
+    by_hand false false z q h = absurd (cc)
 
 -- an outcome of a kind can be short
 pub short_of_kind : (k : Kind) (o : Outcome) → is_outcome_of k o ≡ true → IsShort o

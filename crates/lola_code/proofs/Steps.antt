@@ -6,12 +6,13 @@ use Rattle.lola_value.specs.declared.value.Outcome.{Outcome}
 use Rattle.lola_value.specs.declared.value.Outcome.TheVariants as outcome
 use Rattle.lola_value.specs.declared.value.Params.{Params}
 use Rattle.lola_model.specs.Store.{Memories, Seen}
+use Rattle.lola_model.specs.declared.expr.Access.{Access}
 use Rattle.lola_model.specs.declared.expr.Binary.{Binary}
 use Rattle.lola_value.specs.declared.value.Kind.{Kind}
 use Rattle.lola_expr.specs.Operands.{operands_fit, truth_in}
 use Rattle.lola_code.specs.declared.instr.Instr.{Instr}
 use Rattle.lola_code.specs.declared.instr.Instr.TheVariants as instr
-use Rattle.lola_code.specs.Machine.{Leads, Operates, top}
+use Rattle.lola_code.specs.Machine.{Asked, Leads, Operates, or_short, top}
 use Rattle.lola_code.specs.Shorts.{has_value, value_in, widened}
 use Rattle.lola_code.specs.declared.short.Short.{Short}
 use Rattle.lola_code.specs.declared.short.Short.TheVariants as short
@@ -108,9 +109,21 @@ module _ (remembers : Memories) (s : Seen) (p : Params) (wanted : Outcome → Ty
   sign_taken rest i sign k x y o st st' e d q h = with_value rest i (instr.Sign sign k) y o (x ∷ st') e d (subst (λ l. Goes (i ∷ rest) 0 o l) q h)
 
   -- a sign between a value and a literal takes them
-  pub given_taken : (rest : List Instr) (i : Instr) (sign : Binary) (k : Kind) (y x : Value) (o : Outcome) (st : List Value) → i ≡ instr.SignGiven sign k y → o ≡ outcome.Value x → Goes (i ∷ rest) 0 o st
-      → (operands_fit sign k x y ≡ true) × ((r : Outcome) → Operates sign k x y r → Goes rest 0 r st)
+  pub given_taken : (rest : List Instr) (i : Instr) (sign : Binary) (k : Kind) (y : Short) (x : Value) (o : Outcome) (st : List Value) → i ≡ instr.SignGiven sign k y → o ≡ outcome.Value x → Goes (i ∷ rest) 0 o st
+      → (operands_fit sign k x (value_in y) ≡ true) × ((r : Outcome) → Operates sign k x (value_in y) r → Goes rest 0 r st)
   given_taken rest i sign k y x o st e d h = with_value rest i (instr.SignGiven sign k y) x o st e d h
+
+  -- a sign between a value and what a store answers, or a literal: what stands for the right operand is there
+  pub asked_taken : (rest : List Instr) (i : Instr) (sign : Binary) (k : Kind) (n : ℕ) (how : Access) (v : Short) (x : Value) (o : Outcome) (st : List Value) → i ≡ instr.SignReadOr sign k n how v → o ≡ outcome.Value x
+      → Goes (i ∷ rest) 0 o st → Asked remembers s n how (λ r. Goes (instr.Sign sign k ∷ rest) 0 (or_short r v) (x ∷ st))
+  asked_taken rest i sign k n how v x o st e d h = with_value rest i (instr.SignReadOr sign k n how v) x o st e d h
+
+  -- a right operand that is no value stays in hand
+  pub no_operand : (rest : List Instr) (sign : Binary) (k : Kind) (x : Value) (o : Outcome) (st : List Value) → ((v : Value) → o ≡ outcome.Value v → ⊥) → Goes (instr.Sign sign k ∷ rest) 0 o (x ∷ st) → Goes rest 0 o st
+  no_operand rest sign k x (outcome.Value v) st ne h = absurd (ne v refl)
+  no_operand rest sign k x outcome.Missing st ne h = h
+  no_operand rest sign k x (outcome.Fault f) st ne h = h
+  no_operand rest sign k x outcome.Poison st ne h = h
 
   -- and anything else passes it
   pub true_off : (rest : List Instr) (i : Instr) (n : ℕ) (s : Short) (st : List Value) → i ≡ instr.WhereTrue n → truth_in (value_in s) ≡ false → Goes (i ∷ rest) 0 (widened s) st → Goes rest n (widened s) st

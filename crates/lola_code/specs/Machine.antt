@@ -18,6 +18,8 @@ use Rattle.lola_model.specs.declared.expr.Binary.{Binary}
 use Rattle.lola_model.specs.declared.expr.Prefix.{Prefix}
 use Rattle.lola_expr.specs.Evaluation.{value_or_missing}
 use Rattle.lola_expr.specs.Operands.{operand_fits, operands_fit, truth_in}
+use Rattle.lola_code.specs.declared.short.Short.{Short}
+use Rattle.lola_code.specs.Shorts.{value_in, widened}
 use Rattle.lola_code.specs.declared.instr.Instr.{Instr}
 use Rattle.lola_code.specs.declared.instr.Instr.TheVariants as instr
 
@@ -38,10 +40,10 @@ pub record Names (s : Seen) (n : ℕ) (vs : List Value) : Type 0 where
   pub stream : n < length s.layout.streams
   pub kinds : are_of_kinds (parameters_of (slice_get s.layout.streams n)) vs ≡ true
 
--- the first, and a value where it is missing
-abbrev pub or_value : Outcome → Value → Outcome
-or_value outcome.Missing v = outcome.Value v
-or_value o v = o
+-- the first, and another where it is missing
+abbrev pub or_short : Outcome → Short → Outcome
+or_short outcome.Missing v = widened v
+or_short o v = o
 
 -- the values that stand at the top of a stack, the newest of them last
 abbrev pub top : ℕ → List Value → List Value
@@ -116,6 +118,11 @@ module _ (remembers : Memories) (s : Seen) where
       (n < length s.layout.streams) × (parameters_of (slice_get s.layout.streams n) ≡ []) × (is_kept (slice_get s.layout.streams n) how ≡ true)
       × ((r : Outcome) → Answers n how [] r → next r)
 
+  -- a sign between the value in hand and what a stream without parameters may answer, or another where that is missing
+  abbrev pub SignedAsked : Binary → Kind → ℕ → Access → Short → Next → Outcome → List Value → Type 0
+  SignedAsked sign k n how v next (outcome.Value x) stack = Asked n how (λ r. Signed sign k next (or_short r v) (x ∷ stack))
+  SignedAsked sign k n how v next o stack = next 0 o stack
+
   -- the same of the instance that these few values name
   abbrev pub AskedOf : ℕ → Access → ℕ → List Value → (Outcome → Type 0) → Type 0
   AskedOf n how k vs next =
@@ -132,17 +139,19 @@ module _ (remembers : Memories) (s : Seen) where
   module _ (p : Params) (wanted : Outcome → Type 0) where
     -- one instruction
     abbrev pub Acts : Instr → Next → Outcome → List Value → Type 0
-    Acts (instr.Give v) next o stack = next 0 (outcome.Value v) stack
+    Acts (instr.Give v) next o stack = next 0 (widened v) stack
+    Acts instr.Leave next o stack = Unit {0}
     Acts (instr.Parameter i) next o stack = next 0 (value_or_missing (slice_get (the_values p) i)) stack
     Acts (instr.Read n how) next o stack = Asked n how (λ r. next 0 r stack)
-    Acts (instr.ReadOr n how v) next o stack = Asked n how (λ r. next 0 (or_value r v) stack)
+    Acts (instr.ReadOr n how v) next o stack = Asked n how (λ r. next 0 (or_short r v) stack)
     Acts (instr.ReadAt n how k) next o stack = AskedOf n how k (top k stack) (λ r. next 0 r (drop k stack))
     Acts (instr.Window n k) next o stack = Folded n k (top k stack) (λ r. next 0 r (drop k stack))
     Acts (instr.Keep n) next o stack = Kept n 0 next o stack
     Acts (instr.KeepArgument n k) next o stack = Kept n k next o stack
     Acts (instr.Prefix sign k) next o stack = Prefixed sign k next o stack
     Acts (instr.Sign sign k) next o stack = Signed sign k next o stack
-    Acts (instr.SignGiven sign k v) next o stack = SignedWith sign k v next o stack
+    Acts (instr.SignGiven sign k v) next o stack = SignedWith sign k (value_in v) next o stack
+    Acts (instr.SignReadOr sign k n how v) next o stack = SignedAsked sign k n how v next o stack
     Acts (instr.Otherwise n) next o stack = Otherwise n next o stack
     Acts (instr.WhereTrue n) next o stack = WhereTrue n next o stack
     Acts (instr.WhereFalse n) next o stack = WhereFalse n next o stack

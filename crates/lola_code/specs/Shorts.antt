@@ -1,6 +1,7 @@
 -- Outcomes of 16 bytes, and what they stand for.
-use Rattle.std.specs.Prelude.{ℤ, pos, negsuc, ◌≤ℤ◌, Bool, true, false, if◌then◌else◌}
+use Rattle.std.specs.Prelude.{ℕ, ℤ, pos, negsuc, ◌≤ℤ◌, Bool, true, false, Option, Some, None, if◌then◌else◌}
 use Rattle.lola_value.specs.declared.value.Kind.{Kind}
+use Rattle.lola_value.specs.declared.value.Kind.TheVariants as kind
 use Rattle.lola_value.specs.declared.value.Value.{Value}
 use Rattle.lola_value.specs.declared.value.Value.TheVariants as value
 use Rattle.lola_value.specs.declared.value.Outcome.{Outcome}
@@ -39,6 +40,24 @@ has_value short.DivZero = false
 has_value short.TooManyInstances = false
 has_value short.Poison = false
 has_value _ = true
+
+-- how many a number is that is not below 0
+abbrev pub count_in : ℤ → ℕ
+count_in (pos n) = n
+count_in (negsuc n) = 0
+
+-- a number in short, by whether 64 bits hold it with a sign, and without one
+abbrev pub short_by : Bool → Bool → ℤ → Option Short
+short_by true large z = Some (short.Int z)
+short_by false true z = Some (short.Large (count_in z))
+short_by false false z = None
+
+-- the short value that stands for a value; none for a number that no kind has
+abbrev pub short_of : Value → Option Short
+short_of (value.Bool true) = Some short.True
+short_of (value.Bool false) = Some short.False
+short_of (value.Int z) = short_by (is_within kind.Int64 z) (is_within kind.UInt64 z) z
+short_of (value.Text id) = Some (short.Text id)
 
 -- a value that can be short: a number is one of 64 bits, with or without a sign
 abbrev pub IsShortValue : Value → Type 0

@@ -1,10 +1,11 @@
 //! What a store is asked: by the numbers that stand in an instruction, and the parameters that stand on the stack.
 
 ghost use Rattle.std.specs.Prelude.{◌≡◌, ◌<◌, ◌≤◌, [], drop, length, slice_get, IsTrue};
-ghost use Rattle.lola_value.specs.Kinds.{is_well_formed};
+ghost use Rattle.lola_value.specs.Kinds.{is_outcome_of, is_well_formed};
 ghost use Rattle.lola_value.specs.Naming.{the_values};
-ghost use Rattle.lola_model.specs.Store.{IsRunning, pane_of, parameters_of, target_of};
+ghost use Rattle.lola_model.specs.Store.{IsRunning, kind_in, no_params, now_of, pane_of, parameters_of, target_of};
 ghost use Rattle.lola_model.specs.Typing.{is_kept, is_whole_pane};
+ghost use Rattle.lola_model.specs.declared.expr.Access.TheVariants as access;
 ghost use Rattle.lola_code.specs.Machine.{Answers, Folds, Names, top};
 ghost use Rattle.lola_code.specs.Shorts.{widened};
 
@@ -37,8 +38,44 @@ fn take_params(stack: &mut Stack, count: u32) -> Params
     params
 }
 
-/// What an access of a stream without parameters answers.
+/// The value at this step of a stream without parameters. Each way to read is a function of its own, so that what the store answers
+/// is made short where it lies.
 #[inline(never)]
+fn read_now<S: StreamStore>(store: &S, stream: u32) -> Short
+    requires running { IsRunning (S.seen store.now) }
+    requires stream { stream < length (S.seen store.now).layout.streams }
+    requires none { parameters_of (slice_get (S.seen store.now).layout.streams stream) ≡ [] }
+    ensures value { widened result ≡ now_of (S.seen store.now) stream no_params }
+    ensures kind { IsTrue (is_outcome_of (kind_in (slice_get (S.seen store.now).layout.streams stream)) (widened result)) }
+{
+    narrow(store.now_alone(stream))
+}
+
+/// The newest value at this step or before of a stream without parameters.
+#[inline(never)]
+fn read_newest<S: StreamStore>(store: &S, stream: u32) -> Short
+    requires running { IsRunning (S.seen store.now) }
+    requires stream { stream < length (S.seen store.now).layout.streams }
+    requires none { parameters_of (slice_get (S.seen store.now).layout.streams stream) ≡ [] }
+    ensures { Answers (S.remembers store.now) (S.seen store.now) stream access.Hold [] (widened result) }
+{
+    narrow(store.newest_alone(stream))
+}
+
+/// The k-th value before this step from the newest, from 1, of a stream without parameters.
+#[inline(never)]
+fn read_back<S: StreamStore>(store: &S, stream: u32, k: u32) -> Short
+    requires running { IsRunning (S.seen store.now) }
+    requires stream { stream < length (S.seen store.now).layout.streams }
+    requires none { parameters_of (slice_get (S.seen store.now).layout.streams stream) ≡ [] }
+    requires kept { IsTrue (is_kept (slice_get (S.seen store.now).layout.streams stream) (access.Offset k)) }
+    ensures { Answers (S.remembers store.now) (S.seen store.now) stream (access.Offset k) [] (widened result) }
+{
+    narrow(store.back_alone(stream, k))
+}
+
+/// What an access of a stream without parameters answers.
+#[inline(always)]
 pub(crate) fn read_alone<S: StreamStore>(store: &S, stream: u32, how: Access) -> Short
     requires running { IsRunning (S.seen store.now) }
     requires stream { stream < length (S.seen store.now).layout.streams }
@@ -47,10 +84,10 @@ pub(crate) fn read_alone<S: StreamStore>(store: &S, stream: u32, how: Access) ->
     ensures { Answers (S.remembers store.now) (S.seen store.now) stream how [] (widened result) }
 {
     match how {
-        Access::Direct => narrow(store.now_alone(stream)),
-        Access::Get => narrow(store.now_alone(stream)),
-        Access::Hold => narrow(store.newest_alone(stream)),
-        Access::Offset(k) => narrow(store.back_alone(stream, k)),
+        Access::Direct => read_now(store, stream),
+        Access::Get => read_now(store, stream),
+        Access::Hold => read_newest(store, stream),
+        Access::Offset(k) => read_back(store, stream, k),
     }
 }
 

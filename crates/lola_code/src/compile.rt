@@ -1,9 +1,11 @@
 //! From expressions to instructions. The code is made from its end, so that a jump knows how much it passes, and then turned round.
 
 ghost use Rattle.std.specs.Prelude.{◌≡◌, [], ◌∷◌, ◌++◌, IfOk, OnOk};
-ghost use Rattle.lola_code.specs.Code.{asking, back_arguments, back_code, code_of, joining, literal_of, plain_of, with_sign};
+ghost use Rattle.lola_code.specs.Code.{asking, back_arguments, back_code, code_of, defaulted_of, giving, joining, literal_of, plain_of, with_sign};
+ghost use Rattle.lola_code.specs.Shorts.{short_of};
 
 use crate::instr::Instr;
+use crate::short::{Short, short_value};
 use lola_expr::evaluation::kind_at;
 use lola_model::expr::{Access, Arguments, Binary, Expr};
 use lola_value::text::Memory;
@@ -57,12 +59,22 @@ fn asking_of(target: Target, count: u32) -> Instr
     }
 }
 
-/// The value that an expression is, if it is a literal.
-fn literal(e: &Expr) -> Option<Value>
+/// The instruction that gives a value. A number that no kind has is left to the evaluation.
+fn giving_of(v: Value) -> Instr
+    ensures { result ≡ giving (short_of v) }
+{
+    match short_value(v) {
+        Some(made) => Instr::Give(made),
+        None => Instr::Leave,
+    }
+}
+
+/// The value that an expression is, if it is a literal of a number that a kind has, or of another value.
+fn literal(e: &Expr) -> Option<Short>
     ensures { result ≡ literal_of e.now }
 {
     match e {
-        Expr::Literal(_, v) => Some(*v),
+        Expr::Literal(_, v) => short_value(*v),
         _ => None,
     }
 }
@@ -75,6 +87,22 @@ fn plain(e: &Expr) -> Option<(u32, Access)>
         Expr::Read(_, stream, how, args) => match args {
             Arguments::End => Some((*stream, *how)),
             Arguments::More(_, _) => None,
+        },
+        _ => None,
+    }
+}
+
+/// The stream, the access and the default, of an access without arguments that has a literal for a default.
+fn defaulted(e: &Expr) -> Option<(u32, (Access, Short))>
+    ensures { result ≡ defaulted_of e.now }
+{
+    match e {
+        Expr::Defaults(_, a, b) => match plain(a) {
+            Some((stream, how)) => match literal(b) {
+                Some(v) => Some((stream, (how, v))),
+                None => None,
+            },
+            None => None,
         },
         _ => None,
     }
@@ -94,7 +122,7 @@ fn emit(code: &mut Vec<Instr>, e: &Expr) -> Result<(), Memory>
     ensures { OnOk result (code.new.items ≡ code.old.items ++ back_code e.now) }
 {
     match e {
-        Expr::Literal(_, v) => put(code, Instr::Give(*v)),
+        Expr::Literal(_, v) => put(code, giving_of(*v)),
         Expr::Parameter(_, number) => put(code, Instr::Parameter(*number)),
         Expr::Read(_, stream, how, args) => {
             emit_arguments(code, Target::Stream(*stream, *how), 0, args)
@@ -134,6 +162,13 @@ fn emit(code: &mut Vec<Instr>, e: &Expr) -> Result<(), Memory>
             Joining::Both => {
                 if let Some(v) = literal(b) {
                     put(code, Instr::SignGiven(*sign, kind_at(place), v))?;
+                    return emit(code, a);
+                }
+                if let Some((stream, (how, v))) = defaulted(b) {
+                    put(
+                        code,
+                        Instr::SignReadOr(*sign, kind_at(place), stream, how, v),
+                    )?;
                     return emit(code, a);
                 }
                 let start = code.len();

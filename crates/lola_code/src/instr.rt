@@ -1,20 +1,23 @@
 //! Instructions.
 
+use crate::short::Short;
 use lola_model::expr::{Access, Binary, Prefix};
-use lola_value::value::{Kind, Value};
+use lola_value::value::Kind;
 
 /// One instruction of a machine that has one outcome in hand, and values on a stack. All that it needs stands in it: numbers of
 /// streams, windows and parameters, signs, kinds and literals. A jump says how many of the instructions behind it are passed.
 #[derive(Clone, Copy, Debug, PartialEq, Eq)]
 pub enum Instr {
     /// This value.
-    Give(Value),
+    Give(Short),
+    /// Leaves the code: the expression is to be evaluated.
+    Leave,
     /// The parameter of this number, from 0.
     Parameter(u32),
     /// What an access of a stream without parameters answers.
     Read(u32, Access),
     /// The same, or this value where that is missing.
-    ReadOr(u32, Access, Value),
+    ReadOr(u32, Access, Short),
     /// What an access answers, of the instance that so many values on the stack name, which are taken off.
     ReadAt(u32, Access, u32),
     /// What a window answers, over the instance that so many values on the stack name, which are taken off.
@@ -28,7 +31,9 @@ pub enum Instr {
     /// A sign between the newest value on the stack, which is taken off, and the one in hand.
     Sign(Binary, Kind),
     /// A sign between the value in hand and this one.
-    SignGiven(Binary, Kind, Value),
+    SignGiven(Binary, Kind, Short),
+    /// A sign between the value in hand and what an access of a stream without parameters answers, or the last value where that is missing.
+    SignReadOr(Binary, Kind, u32, Access, Short),
     /// Jumps unless what is in hand is missing.
     Otherwise(usize),
     /// Jumps unless true is in hand.

@@ -7,18 +7,18 @@ ghost use Rattle.lola_model.specs.Store.{IsRunning};
 ghost use Rattle.lola_model.specs.Typing.{can_ask, noted};
 ghost use Rattle.lola_expr.specs.Evaluation.{IsDenoted, value_or_missing};
 ghost use Rattle.lola_code.specs.Code.{code_of};
-ghost use Rattle.lola_code.specs.Machine.{or_value};
+ghost use Rattle.lola_code.specs.Machine.{or_short};
 ghost use Rattle.lola_code.specs.Shorts.{widened};
 
 use crate::asking::{read_alone, read_at, window_at};
 use crate::instr::Instr;
-use crate::short::{Short, is_true, is_value, short_outcome, short_value, widen};
+use crate::short::{Short, is_true, is_value, short_outcome, widen};
 use crate::signs::{joined, prefixed};
 use crate::stack::Stack;
 use lola_expr::evaluation::{eval, parameter};
 use lola_model::expr::Expr;
 use lola_model::store::StreamStore;
-use lola_value::value::{Outcome, Params, Value};
+use lola_value::value::{Outcome, Params};
 
 /// What is left of the code behind so many instructions.
 #[tactic(auto, using(crate::proofs::Steps::drop_shorter))]
@@ -32,13 +32,14 @@ fn past(code: &[Instr], count: usize) -> &[Instr]
     }
 }
 
-/// The outcome, or a value where it is missing. None where that is a number that no kind has.
-fn or_given(o: Short, v: Value) -> Option<Short>
-    ensures { IfSome result (λ r. widened r ≡ or_value (widened o) v) }
+/// The outcome, or a value where it is missing.
+#[inline(always)]
+fn or_given(o: Short, v: Short) -> Short
+    ensures { widened result ≡ or_short (widened o) v }
 {
     match o {
-        Short::Missing => short_value(v),
-        _ => Some(o),
+        Short::Missing => v,
+        _ => o,
     }
 }
 
@@ -84,19 +85,14 @@ fn run_code<S: StreamStore>(
     'run: while let Some((instr, rest)) = code.split_first() {
         code = rest;
         match *instr {
-            Instr::Give(v) => match short_value(v) {
-                Some(made) => hand = made,
-                None => return None,
-            },
+            Instr::Give(v) => hand = v,
+            Instr::Leave => return None,
             Instr::Parameter(number) => match given(params, number) {
                 Some(made) => hand = made,
                 None => return None,
             },
             Instr::Read(stream, how) => hand = read_alone(store, stream, how),
-            Instr::ReadOr(stream, how, v) => match or_given(read_alone(store, stream, how), v) {
-                Some(made) => hand = made,
-                None => return None,
-            },
+            Instr::ReadOr(stream, how, v) => hand = or_given(read_alone(store, stream, how), v),
             Instr::ReadAt(stream, how, count) => {
                 hand = read_at(store, stream, how, &mut stack, count);
             }
@@ -135,9 +131,16 @@ fn run_code<S: StreamStore>(
             },
             Instr::SignGiven(sign, kind, v) => {
                 if is_value(hand) {
-                    match short_value(v) {
-                        Some(right) => hand = joined(sign, kind, hand, right),
-                        None => return None,
+                    hand = joined(sign, kind, hand, v);
+                }
+            }
+            Instr::SignReadOr(sign, kind, stream, how, v) => {
+                if is_value(hand) {
+                    let right = or_given(read_alone(store, stream, how), v);
+                    if is_value(right) {
+                        hand = joined(sign, kind, hand, right);
+                    } else {
+                        hand = right;
                     }
                 }
             }

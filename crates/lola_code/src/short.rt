@@ -2,17 +2,18 @@
 
 ghost use Rattle.std.specs.Prelude.{◌≡◌, IfSome};
 ghost use Rattle.lola_value.specs.Arithmetic.{is_within};
+ghost use Rattle.lola_value.specs.declared.value.Kind.TheVariants as kind;
 ghost use Rattle.lola_value.specs.declared.value.Outcome.TheVariants as outcome;
 ghost use Rattle.lola_value.specs.declared.value.Value.TheVariants as value;
 ghost use Rattle.lola_expr.specs.Operands.{truth_in};
-ghost use Rattle.lola_code.specs.Shorts.{IsShort, IsShortValue, has_value, numbered, value_in, widened};
+ghost use Rattle.lola_code.specs.Shorts.{IsShort, IsShortValue, has_value, numbered, short_by, short_of, value_in, widened};
 
 use lola_value::value::{FaultKind, Kind, Outcome, TextId, Value};
 
 /// An outcome in 16 bytes: one that says its sort, and a number of 64 bits, of which no kind has more. An `Outcome` has 48, since its
 /// numbers have 128 bits, in which all arithmetic is exact. Truth values and faults are sorts of their own, so that a copy is two words.
 #[derive(Clone, Copy, Debug, PartialEq, Eq)]
-pub(crate) enum Short {
+pub enum Short {
     False,
     True,
     /// A number from the least to the greatest of `i64`.
@@ -122,21 +123,41 @@ pub(crate) fn narrow(o: Outcome) -> Short
     }
 }
 
+// Whether 64 bits hold a number with a sign.
+fn is_word(z: i128) -> bool
+    ensures { result ≡ is_within kind.Int64 z }
+{
+    -9223372036854775808 <= z && z <= 9223372036854775807
+}
+
+// Whether 64 bits hold it without one.
+fn is_count(z: i128) -> bool
+    ensures { result ≡ is_within kind.UInt64 z }
+{
+    0 <= z && z <= 18446744073709551615
+}
+
+// A number in short. None for one that no kind has.
+fn short_number(z: i128) -> Option<Short>
+    ensures { result ≡ short_by (is_within kind.Int64 z) (is_within kind.UInt64 z) z }
+{
+    if is_word(z) {
+        Some(Short::Int(z as i64))
+    } else if is_count(z) {
+        Some(Short::Large(z as u64))
+    } else {
+        None
+    }
+}
+
 /// A value in short, whatever it is. None for a number that no kind has.
 pub(crate) fn short_value(v: Value) -> Option<Short>
-    ensures { IfSome result (λ s. widened s ≡ outcome.Value v) }
+    ensures { result ≡ short_of v }
 {
     match v {
-        Value::Bool(b) => Some(verdict(b)),
-        Value::Int(z) => {
-            if -9223372036854775808 <= z && z <= 9223372036854775807 {
-                Some(Short::Int(z as i64))
-            } else if 0 <= z && z <= 18446744073709551615 {
-                Some(Short::Large(z as u64))
-            } else {
-                None
-            }
-        }
+        Value::Bool(true) => Some(Short::True),
+        Value::Bool(false) => Some(Short::False),
+        Value::Int(z) => short_number(z),
         Value::Text(id) => Some(Short::Text(id)),
     }
 }
@@ -169,13 +190,24 @@ fn has(kind: Kind, z: i64) -> bool
     }
 }
 
-/// A number, if the kind has it, and else a fault.
-pub(crate) fn tested(kind: Kind, z: i64) -> Short
+// A number, if the kind has it, and else a fault.
+fn tested_by(kind: Kind, z: i64) -> Short
     ensures { widened result ≡ numbered kind z }
 {
     if has(kind, z) {
         Short::Int(z)
     } else {
         Short::Overflow
+    }
+}
+
+/// A number, if the kind has it, and else a fault. The kind of 64 bits has it, and is asked about first.
+#[inline(always)]
+pub(crate) fn tested(kind: Kind, z: i64) -> Short
+    ensures { widened result ≡ numbered kind z }
+{
+    match kind {
+        Kind::Int64 => Short::Int(z),
+        _ => tested_by(kind, z),
     }
 }

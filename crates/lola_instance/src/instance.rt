@@ -54,6 +54,7 @@ impl Model for Instance {
 }
 
 // The value, if there is one.
+#[inline(always)]
 pub(crate) fn or_missing(value: Option<Value>) -> Outcome
     ensures { result ≡ value_or_missing value }
 {
@@ -82,14 +83,27 @@ fn give(panes: &mut Panes, offset: u64, value: Value)
     panes.add(offset, value);
 }
 
-// The value, to each window's panes.
-fn tell_panes(panes: &mut Vec<Panes>, offset: u64, value: Value)
+// The value, to each window's panes, of which there is one at least. It is a function of its own, so that a stream with no window onto it has
+// no registers for them.
+#[inline(never)]
+fn tell_each(panes: &mut Vec<Panes>, offset: u64, value: Value)
     requires { AllReady offset value panes.old.items }
     ensures { ToldAll offset value panes.old.items panes.new.items }
 {
     for i in 0..panes.len() {
         let p = &mut panes[i];
         give(p, offset, value);
+    }
+}
+
+// The value, to each window's panes.
+#[inline(always)]
+fn tell_panes(panes: &mut Vec<Panes>, offset: u64, value: Value)
+    requires { AllReady offset value panes.old.items }
+    ensures { ToldAll offset value panes.old.items panes.new.items }
+{
+    if panes.len() > 0 {
+        tell_each(panes, offset, value);
     }
 }
 
@@ -169,6 +183,7 @@ impl Instance {
     }
 
     /// The outcome in the step of this number, missing where it was told none.
+    #[inline(always)]
     pub fn now(&self, step: u64) -> Outcome
         ensures { result ≡ shown step self.now }
     {
@@ -180,6 +195,7 @@ impl Instance {
     }
 
     /// The newest value, that of this step included.
+    #[inline(always)]
     pub fn newest(&self, step: u64) -> Outcome
         ensures value { (start time : ℕ) (names : Naming) (values : List (ℕ × Field)) → Remembers start time step names self.now values
             → (read_outcome names result ≡ held_answer (read_outcome names (shown step self.now)) values) × IsHeldIn names result }
@@ -192,6 +208,7 @@ impl Instance {
     }
 
     /// The k-th value before this step, from 1 to one less than the number of values that it keeps.
+    #[inline(always)]
     pub fn back(&self, step: u64, k: u32) -> Outcome
         requires low { 1 ≤ k }
         requires high { k ≤ self.now.ring.capacity - 1 }

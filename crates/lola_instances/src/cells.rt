@@ -1,8 +1,8 @@
 //! Instances in their cells, in order of birth, so that one is closed in constant time.
 
-ghost use Rattle.std.specs.Prelude.{◌≡◌, ℕ, ◌≤◌, ◌<◌, ◌+◌, ◌++◌, ◌∷◌, [], Some, None, true, false, length, filter, slice_get, slice_set, remove, IfSome, OnOk, IsTrue, MatchOption, is_some};
+ghost use Rattle.std.specs.Prelude.{◌≡◌, ℕ, ◌≤◌, ◌<◌, ◌+◌, ◌++◌, ◌∷◌, [], Some, None, true, false, length, filter, slice_get, slice_index_or, slice_set, remove, IfSome, OnOk, IsTrue, MatchOption, is_some};
 ghost use Rattle.std.specs.Vec.{vec_capacity};
-ghost use Rattle.lola_bits.specs.Bits.{Extends};
+ghost use Rattle.lola_bits.specs.Bits.{Extends, ones, rank};
 ghost use Rattle.lola_value.specs.Kinds.{is_well_formed, same_params};
 ghost use Rattle.lola_instance.specs.Holdings.{Holdings};
 ghost use Rattle.lola_instance.specs.Telling.{AllReady};
@@ -44,7 +44,20 @@ impl Model for Cells {
     ghost invariant = { λ l. IsLine l.cells.items l.marks l.table l.empty l.capacity (vec_capacity l.cells) };
 }
 
+// The place of the set bit before which so many are set. It is a function of its own, so that a stream of which no instance was closed
+// has no registers for the search.
+#[inline(never)]
+fn nth_marked(marks: &BitVector, before: usize) -> usize
+    requires { before < ones marks.now }
+    ensures within { result < length marks.now }
+    ensures set { slice_index_or marks.now result false ≡ true }
+    ensures rank { rank marks.now result ≡ before }
+{
+    marks.select(before)
+}
+
 // The cell of the instance at a place among those that live.
+#[inline(always)]
 fn cell_at(_cells: &Vec<Option<Instance>>, marks: &BitVector, empty: usize, place: usize) -> usize
     requires place { place < length (living _cells.now.items) }
     requires marked { AreMarked _cells.now.items marks.now }
@@ -54,7 +67,7 @@ fn cell_at(_cells: &Vec<Option<Instance>>, marks: &BitVector, empty: usize, plac
     if empty == 0 {
         place
     } else {
-        marks.select(place)
+        nth_marked(marks, place)
     }
 }
 

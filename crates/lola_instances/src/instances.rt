@@ -270,6 +270,7 @@ impl Instances {
     }
 
     /// The value in the step of a number, of a stream without parameters.
+    #[inline(always)]
     pub fn now_alone(&self, step: u64) -> Outcome
         requires none { self.now.layout.parameters ≡ [] }
         requires steady { AreSteady self.now }
@@ -286,6 +287,7 @@ impl Instances {
     }
 
     /// The newest value in this step or before, of a stream without parameters.
+    #[inline(always)]
     pub fn newest_alone(&self, step: u64) -> Outcome
         requires none { self.now.layout.parameters ≡ [] }
         requires steady { AreSteady self.now }
@@ -305,6 +307,7 @@ impl Instances {
     }
 
     /// The k-th value before this step from the newest, from 1 to one less than how many it keeps, of a stream without parameters.
+    #[inline(always)]
     pub fn back_alone(&self, step: u64, k: u32) -> Outcome
         requires none { self.now.layout.parameters ≡ [] }
         requires steady { AreSteady self.now }

@@ -4,55 +4,46 @@ use Rattle.lola_value.specs.declared.value.Outcome.{Outcome}
 use Rattle.lola_value.specs.Naming.{IsHeldIn, read_outcome}
 use Rattle.lola_model.specs.Accesses.{answer_of}
 use Rattle.lola_model.specs.Store.{no_params}
-use Rattle.lola_model.proofs.Lookups.{back_answers}
-use Rattle.lola_expr.proofs.Located.{now_answers, newest_answers}
+use Rattle.lola_model.specs.declared.expr.Access.{Access}
+use Rattle.lola_expr.proofs.Located.{now_answers}
 use Rattle.lola_code.specs.Machine.{Answers}
+use Rattle.lola_code.specs.Shorts.{widened}
 use Rattle.lola_code.proofs.asking.read_alone.Goals as goal
 
 pub returns-in-Direct : goal.returns-in-Direct
 returns-in-Direct g c =
     let remembers = g.S.StreamStore.remembers c.args.store.now in
     let seen = g.S.StreamStore.seen c.args.store.now in
-    subst (λ (o : Outcome). Answers remembers seen c.args.stream c.args.how [] o) (sym c.narrow.ensures) (record {
+    record {
       value = λ names c' h a s.
           let w = now_answers names h remembers seen c' s c.args.stream no_params tt in (
-            ap (read_outcome names) c.now_alone.ensures.value ∙ (w.value ∙ ap (λ how. answer_of c' how c.args.stream []) (sym c.in-Direct.is)),
-            subst (λ (o : Outcome). IsHeldIn names o) (sym c.now_alone.ensures.value) w.held,
+            ap (read_outcome names) c.read_now.ensures.value ∙ (w.value ∙ ap (λ how. answer_of c' how c.args.stream []) (sym c.in-Direct.is)),
+            subst (λ (o : Outcome). IsHeldIn names o) (sym c.read_now.ensures.value) w.held,
           );
-      kind = c.now_alone.ensures.kind;
-    })
+      kind = c.read_now.ensures.kind;
+    }
 
 pub returns-in-Get : goal.returns-in-Get
 returns-in-Get g c =
     let remembers = g.S.StreamStore.remembers c.args.store.now in
     let seen = g.S.StreamStore.seen c.args.store.now in
-    subst (λ (o : Outcome). Answers remembers seen c.args.stream c.args.how [] o) (sym c.narrow-in-Get.ensures) (record {
+    record {
       value = λ names c' h a s.
           let w = now_answers names h remembers seen c' s c.args.stream no_params tt in (
-            ap (read_outcome names) c.now_alone-in-Get.ensures.value ∙ (w.value ∙ ap (λ how. answer_of c' how c.args.stream []) (sym c.in-Get.is)),
-            subst (λ (o : Outcome). IsHeldIn names o) (sym c.now_alone-in-Get.ensures.value) w.held,
+            ap (read_outcome names) c.read_now-in-Get.ensures.value ∙ (w.value ∙ ap (λ how. answer_of c' how c.args.stream []) (sym c.in-Get.is)),
+            subst (λ (o : Outcome). IsHeldIn names o) (sym c.read_now-in-Get.ensures.value) w.held,
           );
-      kind = c.now_alone-in-Get.ensures.kind;
-    })
+      kind = c.read_now-in-Get.ensures.kind;
+    }
 
 pub returns-in-Hold : goal.returns-in-Hold
 returns-in-Hold g c =
     let remembers = g.S.StreamStore.remembers c.args.store.now in
     let seen = g.S.StreamStore.seen c.args.store.now in
-    subst (λ (o : Outcome). Answers remembers seen c.args.stream c.args.how [] o) (sym c.narrow-in-Hold.ensures) (record {
-      value = λ names c' h a s.
-          let w = newest_answers names h remembers seen c' s c.args.stream no_params tt c.newest_alone.result c.newest_alone.ensures.living in
-          (w.value ∙ ap (λ how. answer_of c' how c.args.stream []) (sym c.in-Hold.is), w.held);
-      kind = c.newest_alone.ensures.kind;
-    })
+    subst (λ (how : Access). Answers remembers seen c.args.stream how [] (widened c.read_newest.result)) (sym c.in-Hold.is) c.read_newest.ensures
 
 pub returns-in-Offset : goal.returns-in-Offset
 returns-in-Offset g c =
     let remembers = g.S.StreamStore.remembers c.args.store.now in
     let seen = g.S.StreamStore.seen c.args.store.now in
-    subst (λ (o : Outcome). Answers remembers seen c.args.stream c.args.how [] o) (sym c.narrow-in-Offset.ensures) (record {
-      value = λ names c' h a s.
-          let w = back_answers names h remembers seen c' s c.args.stream no_params tt c.in-Offset.k c.back_alone.result c.back_alone.ensures.living in
-          (w.0 ∙ ap (λ how. answer_of c' how c.args.stream []) (sym c.in-Offset.is), w.1);
-      kind = c.back_alone.ensures.kind;
-    })
+    subst (λ (how : Access). Answers remembers seen c.args.stream how [] (widened c.read_back.result)) (sym c.in-Offset.is) c.read_back.ensures

@@ -1,15 +1,14 @@
-use Rattle.std.proofs.Common.{◌≡◌, ◌∙◌, true, sym, subst, [], ◌∷◌}
+use Rattle.std.proofs.Common.{◌∙◌, refl, sym, subst, [], ◌∷◌}
 use Rattle.lola_value.specs.declared.value.Outcome.{Outcome}
 use Rattle.lola_value.specs.declared.value.Outcome.TheVariants as outcome
-use Rattle.lola_value.specs.declared.value.Value.{Value}
 use Rattle.lola_expr.specs.Evaluation.{IsDenoted}
-use Rattle.lola_expr.specs.Operands.{operands_fit}
 use Rattle.lola_code.specs.Machine.{Leads}
+use Rattle.lola_code.specs.declared.instr.Instr.TheVariants as instr
 use Rattle.lola_code.specs.Shorts.{value_in, widened}
 use Rattle.lola_code.proofs.Means.{Means}
 use Rattle.lola_code.proofs.Runs.{comes_to}
-use Rattle.lola_code.proofs.Shorts.{is_no_value, is_the_value, not_missing, the_value}
-use Rattle.lola_code.proofs.Steps.{ended, false_none, false_off, given_taken, jumps, no_argument, none_kept, sign_taken, test_none, test_off, there_already, true_off}
+use Rattle.lola_code.proofs.Shorts.{is_no_value, is_the_value, not_missing}
+use Rattle.lola_code.proofs.Steps.{asked_taken, ended, false_none, false_off, given_taken, jumps, no_argument, no_operand, none_kept, sign_taken, test_none, test_off, there_already, true_off}
 use Rattle.lola_code.proofs.machine.run_code.Goals as goal
 
 pub run-init : goal.run-init
@@ -60,16 +59,44 @@ joined-hand-requires g c =
     (sign_taken remembers seen c.args.params.now wanted c.in-Some.rest.now c.in-Some.instr.now c.in-Sign.sign c.in-Sign.kind (value_in c.in-Some-pop.left) (value_in c.run.hand) (widened c.run.hand) c.run.stack c.pop.new.self c.in-Sign.is
     (is_the_value c.run.hand (sym c.is_value-in-Some-pop.ensures ∙ c.if-is_value-4.true)) c.in-Some-pop.ensures h).0
 
-pub joined-hand-requires-in-Some-short_value-2 : goal.joined-hand-requires-in-Some-short_value-2
-joined-hand-requires-in-Some-short_value-2 g c =
+pub joined-hand-requires-then-is_value-5 : goal.joined-hand-requires-then-is_value-5
+joined-hand-requires-then-is_value-5 g c =
     let remembers = g.S.StreamStore.remembers c.args.store.now in
     let seen = g.S.StreamStore.seen c.args.store.now in
     let wanted : Outcome → Type 0 = λ r. Means remembers seen c.args.params.now c.args._expr.now r in
     let i = c.run.invariant in
     let h = subst (λ l. Leads remembers seen c.args.params.now wanted l 0 (widened c.run.hand) c.run.stack) c.in-Some.ensures.cases.0 i in
-    let fits = (given_taken remembers seen c.args.params.now wanted c.in-Some.rest.now c.in-Some.instr.now c.in-SignGiven.sign c.in-SignGiven.kind c.in-SignGiven.v (value_in c.run.hand) (widened c.run.hand) c.run.stack c.in-SignGiven.is
-    (is_the_value c.run.hand (sym c.is_value-in-SignGiven.ensures ∙ c.if-is_value-5.true)) h).0 in
-    subst (λ (v : Value). operands_fit c.in-SignGiven.sign c.in-SignGiven.kind (value_in c.run.hand) v ≡ true) (sym (the_value c.in-Some-short_value-2.right c.in-SignGiven.v c.in-Some-short_value-2.ensures)) fits
+    (given_taken remembers seen c.args.params.now wanted c.in-Some.rest.now c.in-Some.instr.now c.in-SignGiven.sign c.in-SignGiven.kind c.in-SignGiven.v (value_in c.run.hand) (widened c.run.hand) c.run.stack c.in-SignGiven.is
+    (is_the_value c.run.hand (sym c.is_value-in-SignGiven.ensures ∙ c.if-is_value-5.true)) h).0
+
+-- and where the right one is what a stream answers, or a literal
+pub joined-hand-requires-then-is_value-7 : goal.joined-hand-requires-then-is_value-7
+joined-hand-requires-then-is_value-7 g c =
+    let remembers = g.S.StreamStore.remembers c.args.store.now in
+    let seen = g.S.StreamStore.seen c.args.store.now in
+    let wanted : Outcome → Type 0 = λ r. Means remembers seen c.args.params.now c.args._expr.now r in
+    let i = c.run.invariant in
+    let h = subst (λ l. Leads remembers seen c.args.params.now wanted l 0 (widened c.run.hand) c.run.stack) c.in-Some.ensures.cases.0 i in
+    let asked = asked_taken remembers seen c.args.params.now wanted c.in-Some.rest.now c.in-Some.instr.now c.in-SignReadOr.sign c.in-SignReadOr.kind c.in-SignReadOr.stream c.in-SignReadOr.how c.in-SignReadOr.v (value_in c.run.hand) (widened c.run.hand) c.run.stack c.in-SignReadOr.is
+    (is_the_value c.run.hand (sym c.is_value-in-SignReadOr.ensures ∙ c.if-is_value-6.true)) h in
+    let right = subst (λ (o : Outcome). Leads remembers seen c.args.params.now wanted (instr.Sign c.in-SignReadOr.sign c.in-SignReadOr.kind ∷ c.in-Some.rest.now) 0 o (value_in c.run.hand ∷ c.run.stack)) (sym c.or_given-right.ensures)
+    (asked.3 (widened c.read_alone-then-is_value-6.result) c.read_alone-then-is_value-6.ensures) in
+    (sign_taken remembers seen c.args.params.now wanted c.in-Some.rest.now (instr.Sign c.in-SignReadOr.sign c.in-SignReadOr.kind) c.in-SignReadOr.sign c.in-SignReadOr.kind (value_in c.run.hand) (value_in c.or_given-right.result) (widened c.or_given-right.result)
+    (value_in c.run.hand ∷ c.run.stack) c.run.stack refl (is_the_value c.or_given-right.result (sym c.is_value-then-is_value-6.ensures ∙ c.if-is_value-7.true)) refl right).0
+
+pub run-preserved-else-is_value-7 : goal.run-preserved-else-is_value-7
+run-preserved-else-is_value-7 g c =
+    let remembers = g.S.StreamStore.remembers c.args.store.now in
+    let seen = g.S.StreamStore.seen c.args.store.now in
+    let wanted : Outcome → Type 0 = λ r. Means remembers seen c.args.params.now c.args._expr.now r in
+    let i = c.run.invariant in
+    let h = subst (λ l. Leads remembers seen c.args.params.now wanted l 0 (widened c.run.hand) c.run.stack) c.in-Some.ensures.cases.0 i in
+    let asked = asked_taken remembers seen c.args.params.now wanted c.in-Some.rest.now c.in-Some.instr.now c.in-SignReadOr.sign c.in-SignReadOr.kind c.in-SignReadOr.stream c.in-SignReadOr.how c.in-SignReadOr.v (value_in c.run.hand) (widened c.run.hand) c.run.stack c.in-SignReadOr.is
+    (is_the_value c.run.hand (sym c.is_value-in-SignReadOr.ensures ∙ c.if-is_value-6.true)) h in
+    let right = subst (λ (o : Outcome). Leads remembers seen c.args.params.now wanted (instr.Sign c.in-SignReadOr.sign c.in-SignReadOr.kind ∷ c.in-Some.rest.now) 0 o (value_in c.run.hand ∷ c.run.stack)) (sym c.or_given-right.ensures)
+    (asked.3 (widened c.read_alone-then-is_value-6.result) c.read_alone-then-is_value-6.ensures) in
+    no_operand remembers seen c.args.params.now wanted c.in-Some.rest.now c.in-SignReadOr.sign c.in-SignReadOr.kind (value_in c.run.hand) (widened c.or_given-right.result) c.run.stack
+    (is_no_value c.or_given-right.result (sym c.is_value-then-is_value-6.ensures ∙ c.if-is_value-7.false)) right
 
 pub run-preserved-in_default-hand : goal.run-preserved-in_default-hand
 run-preserved-in_default-hand g c =
@@ -96,16 +123,16 @@ run-preserved-then-is_true g c =
     let wanted : Outcome → Type 0 = λ r. Means remembers seen c.args.params.now c.args._expr.now r in
     let i = c.run.invariant in
     jumps remembers seen c.args.params.now wanted c.run.code.now c.in-Some.rest.now c.past-code-then-is_true.result.now c.in-Some.instr.now c.in-WhereFalse.n (widened c.run.hand) c.run.stack c.run.stack c.in-Some.ensures.cases.0 c.past-code-then-is_true.ensures.rest
-    (false_off remembers seen c.args.params.now wanted c.in-Some.rest.now c.in-Some.instr.now c.in-WhereFalse.n c.run.hand c.run.stack c.in-WhereFalse.is (sym c.is_true-then-is_value-6.ensures ∙ c.if-is_true.true)) i
+    (false_off remembers seen c.args.params.now wanted c.in-Some.rest.now c.in-Some.instr.now c.in-WhereFalse.n c.run.hand c.run.stack c.in-WhereFalse.is (sym c.is_true-then-is_value-8.ensures ∙ c.if-is_true.true)) i
 
-pub run-preserved-else-is_value-6 : goal.run-preserved-else-is_value-6
-run-preserved-else-is_value-6 g c =
+pub run-preserved-else-is_value-8 : goal.run-preserved-else-is_value-8
+run-preserved-else-is_value-8 g c =
     let remembers = g.S.StreamStore.remembers c.args.store.now in
     let seen = g.S.StreamStore.seen c.args.store.now in
     let wanted : Outcome → Type 0 = λ r. Means remembers seen c.args.params.now c.args._expr.now r in
     let i = c.run.invariant in
-    jumps remembers seen c.args.params.now wanted c.run.code.now c.in-Some.rest.now c.past-code-else-is_value-6.result.now c.in-Some.instr.now c.in-WhereFalse.n (widened c.run.hand) c.run.stack c.run.stack c.in-Some.ensures.cases.0 c.past-code-else-is_value-6.ensures.rest
-    (false_none remembers seen c.args.params.now wanted c.in-Some.rest.now c.in-Some.instr.now c.in-WhereFalse.n c.run.hand c.run.stack c.in-WhereFalse.is (sym c.is_value-in-WhereFalse.ensures ∙ c.if-is_value-6.false)) i
+    jumps remembers seen c.args.params.now wanted c.run.code.now c.in-Some.rest.now c.past-code-else-is_value-8.result.now c.in-Some.instr.now c.in-WhereFalse.n (widened c.run.hand) c.run.stack c.run.stack c.in-Some.ensures.cases.0 c.past-code-else-is_value-8.ensures.rest
+    (false_none remembers seen c.args.params.now wanted c.in-Some.rest.now c.in-Some.instr.now c.in-WhereFalse.n c.run.hand c.run.stack c.in-WhereFalse.is (sym c.is_value-in-WhereFalse.ensures ∙ c.if-is_value-8.false)) i
 
 pub run-preserved-then-not-is_true-2 : goal.run-preserved-then-not-is_true-2
 run-preserved-then-not-is_true-2 g c =
@@ -114,16 +141,16 @@ run-preserved-then-not-is_true-2 g c =
     let wanted : Outcome → Type 0 = λ r. Means remembers seen c.args.params.now c.args._expr.now r in
     let i = c.run.invariant in
     jumps remembers seen c.args.params.now wanted c.run.code.now c.in-Some.rest.now c.past-code-then-not-is_true-2.result.now c.in-Some.instr.now c.in-Test.n (widened c.run.hand) c.run.stack c.run.stack c.in-Some.ensures.cases.0 c.past-code-then-not-is_true-2.ensures.rest
-    (test_off remembers seen c.args.params.now wanted c.in-Some.rest.now c.in-Some.instr.now c.in-Test.n c.in-Test.more c.run.hand c.run.stack c.in-Test.is (sym c.is_value-in-Test.ensures ∙ c.if-is_value-7.true) (sym c.is_true-then-is_value-7.ensures ∙ c.if-not-is_true-2.true)) i
+    (test_off remembers seen c.args.params.now wanted c.in-Some.rest.now c.in-Some.instr.now c.in-Test.n c.in-Test.more c.run.hand c.run.stack c.in-Test.is (sym c.is_value-in-Test.ensures ∙ c.if-is_value-9.true) (sym c.is_true-then-is_value-9.ensures ∙ c.if-not-is_true-2.true)) i
 
-pub run-preserved-else-is_value-7 : goal.run-preserved-else-is_value-7
-run-preserved-else-is_value-7 g c =
+pub run-preserved-else-is_value-9 : goal.run-preserved-else-is_value-9
+run-preserved-else-is_value-9 g c =
     let remembers = g.S.StreamStore.remembers c.args.store.now in
     let seen = g.S.StreamStore.seen c.args.store.now in
     let wanted : Outcome → Type 0 = λ r. Means remembers seen c.args.params.now c.args._expr.now r in
     let i = c.run.invariant in
-    jumps remembers seen c.args.params.now wanted c.run.code.now c.in-Some.rest.now c.past-code-else-is_value-7.result.now c.in-Some.instr.now c.in-Test.more (widened c.run.hand) c.run.stack c.run.stack c.in-Some.ensures.cases.0 c.past-code-else-is_value-7.ensures.rest
-    (test_none remembers seen c.args.params.now wanted c.in-Some.rest.now c.in-Some.instr.now c.in-Test.n c.in-Test.more c.run.hand c.run.stack c.in-Test.is (sym c.is_value-in-Test.ensures ∙ c.if-is_value-7.false)) i
+    jumps remembers seen c.args.params.now wanted c.run.code.now c.in-Some.rest.now c.past-code-else-is_value-9.result.now c.in-Some.instr.now c.in-Test.more (widened c.run.hand) c.run.stack c.run.stack c.in-Some.ensures.cases.0 c.past-code-else-is_value-9.ensures.rest
+    (test_none remembers seen c.args.params.now wanted c.in-Some.rest.now c.in-Some.instr.now c.in-Test.n c.in-Test.more c.run.hand c.run.stack c.in-Test.is (sym c.is_value-in-Test.ensures ∙ c.if-is_value-9.false)) i
 
 pub run-preserved : goal.run-preserved
 run-preserved g c =

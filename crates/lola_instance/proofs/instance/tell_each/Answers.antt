@@ -1,7 +1,7 @@
 use Rattle.std.proofs.Common.{◌≡◌, ◌<◌, length, Some, slice_get, slice_set, refl, arith, add-one, subst, ℕ, sym}
 use Rattle.std.proofs.lemmas.Option.{slice_get_read}
 use Rattle.lola_instance.proofs.Passing.{ToldUpTo, told_more, told_ready, told_length, told_all}
-use Rattle.lola_instance.proofs.instance.tell_panes.Goals as goal
+use Rattle.lola_instance.proofs.instance.tell_each.Goals as goal
 
 pub give-requires : goal.give-requires
 give-requires c =
