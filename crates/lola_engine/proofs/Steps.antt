@@ -124,7 +124,7 @@ module _ (t : Tally) (start : ℕ) (x : Step) (m0 : Memories) (s0 : Seen) (x0 x1
       }
 
   module _ (time : ℕ) (at : x.time ≡ time) (m1 : Memories) (s1 : Seen) (verdicts : List Verdict)
-      (ends : (table : List TableRow) → IsRun t.plan t.names table → StandsBetween t.names m0 s0 (content_after t.plan start table) → IsDoneStep t.plan start table x t.names m1 s1 verdicts) where
+      (ends : (table : List TableRow) → IsRun t.plan t.names table → StandsBetween t.names m0 s0 (content_after t.plan start table) → IsDoneStep t.plan t.show start table x t.names m1 s1 verdicts) where
     abbrev ls : List (List ℕ)
     ls = lines_of t.show time t.plan.spec.streams (map (read_verdict t.names) verdicts)
 
@@ -133,7 +133,7 @@ module _ (t : Tally) (start : ℕ) (x : Step) (m0 : Memories) (s0 : Seen) (x0 x1
         let d = ends (rows steps) h.run h.stands in
         ap (table_lines t.show t.plan.spec.streams) (more steps m0 s0 h)
         ∙ (table_lines-append_one t.show t.plan.spec.streams (rows steps) (row steps)
-        ∙ (ap (λ (ks : List (List ℕ)). lines_after t start steps ++ ks) (d.lines t.show)
+        ∙ (ap (λ (ks : List (List ℕ)). lines_after t start steps ++ ks) d.lines
         ∙ ap (λ n. lines_after t start steps ++ lines_of t.show n t.plan.spec.streams (map (read_verdict t.names) verdicts)) at))
 
     -- it is done, but for its lines

@@ -221,6 +221,7 @@ fn run_step<R: Threads + Sync, S: StreamStore + Sync, G: Gate + Sync>(
         time,
         is_row,
         inputs,
+        desk.show,
         desk.workers,
     ) {
         StepEnd::Memory => return Err(EngineEnd::Memory),

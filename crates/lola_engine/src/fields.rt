@@ -9,7 +9,7 @@ ghost use Rattle.lola_ready.specs.Ready.{HasTexts};
 ghost use Rattle.lola_step.specs.Moments.{ReadAs};
 ghost use Rattle.lola_step.specs.Steps.{AreOfInputs};
 ghost use Rattle.lola_text.specs.Texts.{IsTable, no_texts};
-ghost use Rattle.lola_engine.specs.Read.{IsOutcomeOf, numbered};
+ghost use Rattle.lola_engine.specs.Read.{IsOutcomeOf, IsReadAt, numbered};
 ghost use Rattle.lola_engine.specs.Sweeps.{AddsTexts};
 
 use lola_model::plan::Plan;
@@ -60,6 +60,32 @@ fn outcome_of(field: &Field, before: TextId, texts: &mut TextTable) -> Result<Ou
     }
 }
 
+/// Reads a field as the outcome of the input at its place, over the outcome that stands there or behind all others. Of many inputs most
+/// are absent in a row: such a field asks for no text.
+fn read_field(
+    field: &Field,
+    place: usize,
+    texts: &mut TextTable,
+    inputs: &mut Vec<Outcome>,
+) -> Result<(), Memory>
+    requires place { place ≤ vec_len inputs.old }
+    requires table { IsTable texts.old }
+    requires few { texts.old.given < 2 ^ 63 }
+    ensures there { OnOk result (place + 1 ≤ vec_len inputs.new) }
+    ensures ok { OnOk result (IsReadAt texts.new.held field.now place inputs.old.items inputs.new.items) }
+    ensures table { IsTable texts.new }
+    ensures held { IsHeldBy texts.old.held texts.new.held }
+    ensures given { texts.new.given ≤ texts.old.given + 1 }
+    ensures adds { OnOk result (AddsTexts (field.now ∷ []) texts.old.held texts.new.held) }
+{
+    if let Field::Absent = field {
+        return put(inputs, place, Outcome::Missing);
+    }
+    let before = text_at_place(inputs.as_slice(), place);
+    let outcome = outcome_of(field, before, texts)?;
+    put(inputs, place, outcome)
+}
+
 /// Reads the fields of a row as outcomes of the inputs, in place of those that stood in the list, which are best those of the row before:
 /// a text that the same input had there is not hashed. Texts get numbers in the table; those that have one keep it, also where there is no
 /// memory.
@@ -81,9 +107,7 @@ pub(crate) fn read_fields(
     // A row may have no text to ask for: this call alone tells that the table is one.
     let _held = texts.len();
     for (place, field) in fields.iter().enumerate() {
-        let before = text_at_place(inputs.as_slice(), place);
-        let outcome = outcome_of(field, before, texts)?;
-        put(inputs, place, outcome)?;
+        read_field(field, place, texts, inputs)?;
     }
     inputs.truncate(fields.len());
     Ok(())

@@ -16,6 +16,7 @@ use Rattle.lola_model.specs.Runs.{begun, content_after}
 use Rattle.lola_model.specs.Standing.{StandsBetween}
 use Rattle.lola_model.specs.Store.{Memories, Seen, SeenInstance, SeenStream, Stands, after_begin, after_prepare, has_spawned, instances_of, is_silent, layout_of, now_at, quiet, silent, start_seen, time_seen}
 use Rattle.lola_model.specs.Table.{Step, TableRow}
+use Rattle.lola_model.specs.declared.journal.Show.{Show}
 use Rattle.lola_model.specs.declared.plan.Plan.{Plan}
 use Rattle.lola_model.specs.declared.spec.Stream.{Stream}
 use Rattle.lola_stages.specs.Stages.{content_so_far, first_stage, layer_stage}
@@ -169,7 +170,7 @@ first_room s time = quiet_rooms s.streams
 
 -- what the whole step comes to
 
-module _ (plan : Plan) (start time : ℕ) (is_row : Bool) (inputs : List Outcome) (m : Moment) (same : m ≡ moment_at start time is_row inputs) where
+module _ (plan : Plan) (show : Show) (start time : ℕ) (is_row : Bool) (inputs : List Outcome) (m : Moment) (same : m ≡ moment_at start time is_row inputs) where
   -- in a run
   moment_in : (names : Naming) (step : Step) → step.time ≡ time → ReadFields names inputs is_row step.fields → IsMoment m.start step m
   moment_in names step e h = subst (λ (k : Moment). IsMoment k.start step k) (sym same) (moment_reads start time is_row inputs names step e h)
@@ -184,10 +185,10 @@ module _ (plan : Plan) (start time : ℕ) (is_row : Bool) (inputs : List Outcome
       → start_seen s2 ≡ start → s2.layout ≡ layout_of plan
       → TakesInputs plan is_row inputs r2 s2 r3 s3
       → EvaluatesAll plan m r3 s3 r4 s4 n
-      → Concludes plan m n.marks.items n.spans.items n.tasks.items n.results.items r4 s4 end r5 s5 verdicts
+      → Concludes plan show m n.marks.items n.spans.items n.tasks.items n.results.items r4 s4 end r5 s5 verdicts
       → (names : Naming) (rows : List TableRow) (step : Step) → IsRun plan names rows → step.time ≡ time → ReadFields names inputs is_row step.fields
       → StandsBetween names r0 s0 (content_after plan start rows)
-      → StepEnds end plan start rows step names r5 s5 verdicts
+      → StepEnds end plan show start rows step names r5 s5 verdicts
   whole_step r0 s0 r1 s1 r2 s2 r3 s3 r4 s4 r5 s5 n end verdicts prepares begins_so at_start layout takes evaluates concludes names rows step run e reads between =
       let whole : Content = between.0 in
       let begun_there : Stands names r2 s2 (begun whole step.time) =
@@ -203,4 +204,4 @@ module _ (plan : Plan) (start time : ℕ) (is_row : Bool) (inputs : List Outcome
         stands = subst (λ a. Stands names r3 s3 (content_so_far plan a rows step (layer_stage (length plan.spec.streams) 0))) (at_start ∙ sym starts) told;
       } in
       let done = evaluates names rows step there in
-      subst (λ a. StepEnds end plan a rows step names r5 s5 verdicts) starts (concludes names rows step run moment done.0 done.1)
+      subst (λ a. StepEnds end plan show a rows step names r5 s5 verdicts) starts (concludes names rows step run moment done.0 done.1)

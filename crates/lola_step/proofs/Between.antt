@@ -1,11 +1,10 @@
 -- What holds of the streams below a number in each loop over those that have a turn, and that it goes on past a stream that has none.
-use Rattle.std.proofs.Common.{◌≡◌, refl, ap, ◌∙◌, sym, subst, ℕ, ◌+◌, ◌<◌, ◌≤◌, List, [], ◌∷◌, ◌++◌, Option, Some, None, Bool, true, false, not, ◌&&◌, if◌then◌else◌, nat_eq, get_or, set, length, slice_get, take, drop, replicate, vec_len, arith, append-nil}
+use Rattle.std.proofs.Common.{◌≡◌, refl, ap, ◌∙◌, sym, subst, ℕ, ◌+◌, ◌<◌, ◌≤◌, List, [], ◌∷◌, ◌++◌, Option, Some, None, Bool, true, false, not, ◌&&◌, if◌then◌else◌, nat_eq, get_or, set, length, slice_get, take, drop, vec_len, arith, append-nil}
 use Rattle.std.proofs.lemmas.Bool.{eq-eqb}
 use Rattle.std.proofs.lemmas.List.{set-get_or, take-append-drop}
 use Rattle.std.proofs.lemmas.Option.{slice_get-get_or, slice_get_within}
 use Rattle.std.specs.Global.{Vec}
 use Rattle.lola_value.specs.declared.value.Outcome.{Outcome}
-use Rattle.lola_value.specs.declared.value.Outcome.TheVariants as outcome
 use Rattle.lola_model.specs.Acceptance.{IsAccepted}
 use Rattle.lola_model.specs.Graph.{eval_node, layer_of, spawn_node}
 use Rattle.lola_model.specs.Model.{eval_pacing, is_input}
@@ -32,7 +31,7 @@ use Rattle.lola_step.specs.declared.tasks.Task.{Task}
 use Rattle.lola_step.proofs.Closable.{up_to_first, up_to_stream}
 use Rattle.lola_step.proofs.Conditions.{FoundBefore, found_stream, none_without}
 use Rattle.lola_step.proofs.Elements.{cut, drop_past}
-use Rattle.lola_step.proofs.Gathering.{asked_tasks, gathers_places, gathers_spans, gathers_tasks}
+use Rattle.lola_step.proofs.Gathering.{asked_tasks, gathers_spans, gathers_tasks}
 use Rattle.lola_step.proofs.Seeking.{SoughtUpTo, sought_none}
 use Rattle.lola_step.proofs.SpawnTurns.{AreSpawned, no_clause_next, one_more_spawned, other_layer_next}
 use Rattle.lola_step.proofs.Standing.{room_there}
@@ -107,64 +106,58 @@ module _ (plan : Plan) (m : Moment) (remembers : Memories) (s : Seen) (closing :
 -- instances of a layer
 
 module _ (plan : Plan) (m : Moment) (marks : List Mark) (sought : List Whereabouts) (s : Seen) (layer : ℕ) where
-  -- the tasks of the streams below a number are listed, with a place for each outcome, and their spans are noted
-  pub record AreGathered (old : List Task) (places : List Outcome) (spans : List Span) (new : List Task) (places' : List Outcome) (spans' : List Span) (n : ℕ) : Type 0 where
+  -- the tasks of the streams below a number are listed, and their spans are noted
+  pub record AreGathered (old : List Task) (spans : List Span) (new : List Task) (spans' : List Span) (n : ℕ) : Type 0 where
     pub tasks : new ++ layer_tasks plan m marks sought s layer n (drop n plan.spec.streams) ≡ old ++ layer_tasks plan m marks sought s layer 0 plan.spec.streams
-    pub results : places' ++ replicate (length (layer_tasks plan m marks sought s layer n (drop n plan.spec.streams))) outcome.Missing
-        ≡ places ++ replicate (length (layer_tasks plan m marks sought s layer 0 plan.spec.streams)) outcome.Missing
     pub noted : take n spans' ++ layer_spans plan m marks sought s layer (length new) n (drop n plan.spec.streams) (drop n spans')
         ≡ layer_spans plan m marks sought s layer (length old) 0 plan.spec.streams spans
 
   -- below the first there are none
-  pub gathered_first : (old : List Task) (places : List Outcome) (spans : List Span) → AreGathered old places spans old places spans 0
-  gathered_first old places spans = record { tasks = refl; results = refl; noted = refl }
+  pub gathered_first : (old : List Task) (spans : List Span) → AreGathered old spans old spans 0
+  gathered_first old spans = record { tasks = refl; noted = refl }
 
-  pub gathered_past : (old : List Task) (places : List Outcome) (spans : List Span) (new : List Task) (places' : List Outcome) (spans' : List Span) → length spans' ≡ length plan.spec.streams
+  pub gathered_past : (old : List Task) (spans : List Span) (new : List Task) (spans' : List Span) → length spans' ≡ length plan.spec.streams
       → (n : ℕ) (x : Stream) → slice_get plan.spec.streams n ≡ Some x → has_turn plan (turn.Eval layer) n x ≡ false
-      → AreGathered old places spans new places' spans' n → AreGathered old places spans new places' spans' (n + 1)
-  gathered_past old places spans new places' spans' long n x at none h =
+      → AreGathered old spans new spans' n → AreGathered old spans new spans' (n + 1)
+  gathered_past old spans new spans' long n x at none h =
       let idle : runs_in plan m marks layer n x ≡ false = never_runs plan m marks layer n x none in
       let empty : stream_tasks plan m marks sought s layer n x ≡ [] = ap (λ b. if b then asked_tasks plan m marks sought s layer n else []) idle in
       let there : drop n plan.spec.streams ≡ x ∷ drop (n + 1) plan.spec.streams = cut plan.spec.streams n x at in
       let below : n < length spans' = omega (arith, long, slice_get_within plan.spec.streams n x at) in
       record {
         tasks = gathers_tasks plan m marks sought s layer n x plan.spec.streams new new _ there (sym (append-nil new) ∙ ap (λ ts. new ++ ts) (sym empty)) h.tasks;
-        results = gathers_places plan m marks sought s layer n x plan.spec.streams places' places' _ there
-            (sym (append-nil places') ∙ ap (λ (ts : List Task). places' ++ replicate (length ts) outcome.Missing) (sym empty)) h.results;
         noted = gathers_spans plan m marks sought s layer n x plan.spec.streams (length new) (length new) (length new) spans' spans' _ below there
             (omega (arith, ap length empty)) refl
             (sym (ap (λ b. if b then set spans' n (record { from = length new; count = length (stream_tasks plan m marks sought s layer n x) }) else spans') idle)) h.noted;
       }
 
   -- and past the last that is all
-  pub record IsGathered (old : List Task) (places : List Outcome) (spans : List Span) (new : List Task) (places' : List Outcome) (spans' : List Span) : Type 0 where
+  pub record IsGathered (old : List Task) (spans : List Span) (new : List Task) (spans' : List Span) : Type 0 where
     pub tasks : new ≡ old ++ layer_tasks plan m marks sought s layer 0 plan.spec.streams
-    pub results : places' ≡ places ++ replicate (length (layer_tasks plan m marks sought s layer 0 plan.spec.streams)) outcome.Missing
     pub noted : spans' ≡ layer_spans plan m marks sought s layer (length old) 0 plan.spec.streams spans
 
-  pub gathered_all : (old : List Task) (places : List Outcome) (spans : List Span) (new : List Task) (places' : List Outcome) (spans' : List Span)
-      → AreGathered old places spans new places' spans' (length plan.spec.streams) → IsGathered old places spans new places' spans'
-  gathered_all old places spans new places' spans' h =
+  pub gathered_all : (old : List Task) (spans : List Span) (new : List Task) (spans' : List Span)
+      → AreGathered old spans new spans' (length plan.spec.streams) → IsGathered old spans new spans'
+  gathered_all old spans new spans' h =
       let n : ℕ = length plan.spec.streams in
       let none : drop n plan.spec.streams ≡ [] = drop_past plan.spec.streams n (omega arith) in
       record {
         tasks = sym (append-nil new) ∙ (ap (λ xs. new ++ layer_tasks plan m marks sought s layer n xs) (sym none) ∙ h.tasks);
-        results = sym (append-nil places') ∙ (ap (λ xs. places' ++ replicate (length (layer_tasks plan m marks sought s layer n xs)) outcome.Missing) (sym none) ∙ h.results);
         noted = sym (take-append-drop n spans') ∙ (ap (λ xs. take n spans' ++ layer_spans plan m marks sought s layer (length new) n xs (drop n spans')) (sym none) ∙ h.noted);
       }
 
-  module _ (old : List Task) (places : List Outcome) (spans : List Span) (new : List Task) (places' : List Outcome) (spans' : List Span) (long : length spans' ≡ length plan.spec.streams)
-      (turns : List ℕ) (k : ℕ) (walk : IsWalk (has_turn plan (turn.Eval layer)) plan.spec.streams (AreGathered old places spans new places' spans') (drop k turns)) where
+  module _ (old : List Task) (spans : List Span) (new : List Task) (spans' : List Span) (long : length spans' ≡ length plan.spec.streams)
+      (turns : List ℕ) (k : ℕ) (walk : IsWalk (has_turn plan (turn.Eval layer)) plan.spec.streams (AreGathered old spans new spans') (drop k turns)) where
     -- the next of them
-    pub gathered_turn : k < length turns → IsTurn (has_turn plan (turn.Eval layer)) plan.spec.streams (AreGathered old places spans new places' spans') (get_or turns k 0) (drop (k + 1) turns)
+    pub gathered_turn : k < length turns → IsTurn (has_turn plan (turn.Eval layer)) plan.spec.streams (AreGathered old spans new spans') (get_or turns k 0) (drop (k + 1) turns)
     gathered_turn lt =
-        walk_item (has_turn plan (turn.Eval layer)) plan.spec.streams (AreGathered old places spans new places' spans') (gathered_past old places spans new places' spans' long) turns k lt walk
+        walk_item (has_turn plan (turn.Eval layer)) plan.spec.streams (AreGathered old spans new spans') (gathered_past old spans new spans' long) turns k lt walk
 
     -- all of them
-    pub gathered_end : length turns ≤ k → IsGathered old places spans new places' spans'
+    pub gathered_end : length turns ≤ k → IsGathered old spans new spans'
     gathered_end past =
-        gathered_all old places spans new places' spans'
-        (walk_done (has_turn plan (turn.Eval layer)) plan.spec.streams (AreGathered old places spans new places' spans') (gathered_past old places spans new places' spans' long) turns k past walk)
+        gathered_all old spans new spans'
+        (walk_done (has_turn plan (turn.Eval layer)) plan.spec.streams (AreGathered old spans new spans') (gathered_past old spans new spans' long) turns k past walk)
 
 -- below the first nothing is to be noted
 pub sought_first : (plan : Plan) (m : Moment) (marks : List Mark) (remembers : Memories) (s : Seen) (layer : ℕ) (sought : List Whereabouts) → SoughtUpTo plan m marks remembers s layer 0 sought

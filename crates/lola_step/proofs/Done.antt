@@ -11,7 +11,7 @@ use Rattle.lola_value.specs.Kinds.{are_of_kinds, is_outcome_of}
 use Rattle.lola_value.specs.Naming.{read_params, the_values}
 use Rattle.lola_model.specs.Content.{Content}
 use Rattle.lola_model.specs.Model.{clause_answer, eval_outcome, eval_pacing}
-use Rattle.lola_model.specs.Store.{Layout, Memories, Seen, SeenInstance, instances_seen, kind_in, layout_of, parameters_of}
+use Rattle.lola_model.specs.Store.{Layout, Memories, Seen, SeenInstance, instances_seen, kind_in, layout_of, parameters_of, spawns_in}
 use Rattle.lola_model.specs.declared.pacing.ClausePacings.{ClausePacings}
 use Rattle.lola_model.specs.declared.pacing.Pacing.{Pacing}
 use Rattle.lola_model.specs.declared.plan.Plan.{Plan}
@@ -20,7 +20,7 @@ use Rattle.lola_model.specs.declared.spec.Stream.{Stream}
 use Rattle.lola_ready.specs.Ready.{IsClauseAskable}
 use Rattle.lola_step.specs.Clauses.{IsAnswer, eval_answer}
 use Rattle.lola_step.specs.Moments.{active_for_in, born_seen}
-use Rattle.lola_step.specs.Tasks.{AreReady, AreTasks, IsActiveTask, IsEvalReady, IsOutcome, IsReady, IsTask, is_active_task, params_at, params_seen}
+use Rattle.lola_step.specs.Tasks.{AreReady, AreTasks, IsActiveTask, IsEvalReady, IsOutcome, IsReady, IsTask, is_active_task, params_at, params_given}
 use Rattle.lola_step.specs.declared.moment.Moment.{Moment}
 use Rattle.lola_step.specs.declared.tasks.Task.{Task}
 use Rattle.lola_step.proofs.Layouts.{kind_there, parameters_there}
@@ -30,17 +30,17 @@ pub params_are : (o : Option SeenInstance) (p : Params) → MatchOption o ⊥ (�
 params_are None p m = absurd m
 params_are (Some x) p m = m
 
--- the clause of a task may be asked for the parameters that the store shows, which are of the stream's kinds
+-- the clause of a task may be asked for the parameters that are given, which are of the stream's kinds where it has a spawn clause
 pub may_ask : (plan : Plan) (s : Seen) (t : Task) (x : IsActiveTask plan s t) (stream : Stream) (clause : Clause) (p : Params) → s.layout ≡ layout_of plan
-    → slice_get plan.spec.streams t.stream ≡ Some stream → stream.eval ≡ Some clause → p ≡ params_seen s t.stream t.index
-    → IsTrue (are_of_kinds (parameters_of (slice_get s.layout.streams t.stream)) (the_values p))
+    → slice_get plan.spec.streams t.stream ≡ Some stream → stream.eval ≡ Some clause → p ≡ params_given s t.stream t.index
+    → (IsTrue (spawns_in (slice_get s.layout.streams t.stream)) → IsTrue (are_of_kinds (parameters_of (slice_get s.layout.streams t.stream)) (the_values p)))
     → IsClauseAskable s p plan.spec.texts (unwrap_or stream.kind kind.Int64 ∷ []) clause
 may_ask plan s t x stream clause p layout stream_is clause_is params_is of_kinds =
     subst (λ (k : Clause). IsClauseAskable s p plan.spec.texts (unwrap_or stream.kind kind.Int64 ∷ []) k) same_clause
     (subst (λ (y : Stream). IsClauseAskable s p plan.spec.texts (unwrap_or y.kind kind.Int64 ∷ []) x.clause) same_stream
     (subst (λ (q : Params). IsClauseAskable s q plan.spec.texts (unwrap_or x.stream.kind kind.Int64 ∷ []) x.clause) (sym params_is)
-    (x.asks (subst (λ (q : Params). IsTrue (are_of_kinds x.stream.parameters (the_values q))) params_is
-    (subst (λ (ks : List Kind). IsTrue (are_of_kinds ks (the_values p))) laid_out of_kinds)))))
+    (x.asks (λ spawns. subst (λ (q : Params). IsTrue (are_of_kinds x.stream.parameters (the_values q))) params_is
+    (subst (λ (ks : List Kind). IsTrue (are_of_kinds ks (the_values p))) laid_out (of_kinds spawns))))))
   where
     same_stream : x.stream ≡ stream
     same_stream = let e : Some x.stream ≡ Some stream = sym x.stream_is ∙ stream_is in cc
@@ -53,13 +53,13 @@ may_ask plan s t x stream clause p layout stream_is clause_is params_is of_kinds
 
 -- what the eval clause of the stream comes to is the outcome of a task for which it is active
 pub is_result : (plan : Plan) (remembers : Memories) (s : Seen) (t : Task) (stream : Stream) (clause : Clause) (p : Params) (r : Outcome) → s.layout ≡ layout_of plan
-    → slice_get plan.spec.streams t.stream ≡ Some stream → stream.eval ≡ Some clause → p ≡ params_seen s t.stream t.index
+    → slice_get plan.spec.streams t.stream ≡ Some stream → stream.eval ≡ Some clause → p ≡ params_given s t.stream t.index
     → is_outcome_of (unwrap_or stream.kind kind.Int64) r ≡ true
     → IsAnswer plan remembers s p (λ c q. clause_answer plan.spec c q clause) r → IsOutcome plan true remembers s t r
 is_result plan remembers s t stream clause p r layout stream_is clause_is params_is of_kind answer =
     record {
       kind = subst (λ (k : Kind). is_outcome_of k r ≡ true) (sym (ap (λ (l : Layout). kind_in (slice_get l.streams t.stream)) layout ∙ kind_there plan.spec.streams plan.kept plan.pacings t.stream stream stream_is)) of_kind;
-      answer = subst (λ (f : Content → List Field → Answer). IsAnswer plan remembers s (params_seen s t.stream t.index) f r) answers
+      answer = subst (λ (f : Content → List Field → Answer). IsAnswer plan remembers s (params_given s t.stream t.index) f r) answers
           (subst (λ (q : Params). IsAnswer plan remembers s q (λ c q. clause_answer plan.spec c q clause) r) params_is answer);
     }
   where
@@ -74,7 +74,7 @@ is_so plan m s t read p test answer reads is tests answers =
 
 -- where it is not, there is none
 pub no_result : (plan : Plan) (remembers : Memories) (s : Seen) (t : Task) → IsOutcome plan false remembers s t outcome.Missing
-no_result plan remembers s t = record { kind = refl; answer = λ names c sees texts. (sym (none (slice_get plan.spec.streams t.stream) c (read_params names (params_seen s t.stream t.index))), tt) }
+no_result plan remembers s t = record { kind = refl; answer = λ names c sees texts. (sym (none (slice_get plan.spec.streams t.stream) c (read_params names (params_given s t.stream t.index))), tt) }
   where
     by_clause : (o : Option Clause) (c : Content) (q : List Field) → eval_outcome plan.spec c false false o q ≡ Missing
     by_clause None c q = refl
@@ -104,18 +104,18 @@ module _ (plan : Plan) (m : Moment) (s : Seen) where
         λ active. ready t (x.active active),
       )
     where
-      ready : (t : Task) → IsActiveTask plan s t → IsReady s (params_seen s t.stream t.index) plan.spec.texts (slice_get plan.spec.streams t.stream)
+      ready : (t : Task) → IsActiveTask plan s t → IsReady s (spawns_in (slice_get s.layout.streams t.stream)) (params_given s t.stream t.index) plan.spec.texts (slice_get plan.spec.streams t.stream)
       ready t x =
-          subst (λ (o : Option Stream). IsReady s (params_seen s t.stream t.index) plan.spec.texts o) (sym x.stream_is)
-          (subst (λ (o : Option Clause). IsEvalReady s (params_seen s t.stream t.index) plan.spec.texts x.stream.parameters (unwrap_or x.stream.kind kind.Int64) o) (sym x.clause_is) x.asks)
+          subst (λ (o : Option Stream). IsReady s (spawns_in (slice_get s.layout.streams t.stream)) (params_given s t.stream t.index) plan.spec.texts o) (sym x.stream_is)
+          (subst (λ (o : Option Clause). IsEvalReady s (spawns_in (slice_get s.layout.streams t.stream)) (params_given s t.stream t.index) plan.spec.texts x.stream.parameters (unwrap_or x.stream.kind kind.Int64) o) (sym x.clause_is) x.asks)
 
   module _ (t : Task) (lives : t.index < length (instances_seen s t.stream)) where
     by_clause : (stream : Stream) (o : Option Clause) → slice_get plan.spec.streams t.stream ≡ Some stream → stream.eval ≡ o
-        → IsEvalReady s (params_seen s t.stream t.index) plan.spec.texts stream.parameters (unwrap_or stream.kind kind.Int64) o → IsActiveTask plan s t
+        → IsEvalReady s (spawns_in (slice_get s.layout.streams t.stream)) (params_given s t.stream t.index) plan.spec.texts stream.parameters (unwrap_or stream.kind kind.Int64) o → IsActiveTask plan s t
     by_clause stream None e f r = absurd r
     by_clause stream (Some clause) e f r = record { stream = stream; stream_is = e; clause = clause; clause_is = f; lives = lives; asks = r }
 
-    by_stream : (o : Option Stream) → slice_get plan.spec.streams t.stream ≡ o → IsReady s (params_seen s t.stream t.index) plan.spec.texts o → IsActiveTask plan s t
+    by_stream : (o : Option Stream) → slice_get plan.spec.streams t.stream ≡ o → IsReady s (spawns_in (slice_get s.layout.streams t.stream)) (params_given s t.stream t.index) plan.spec.texts o → IsActiveTask plan s t
     by_stream None e r = absurd r
     by_stream (Some stream) e r = by_clause stream stream.eval e refl r
 

@@ -8,6 +8,7 @@ use Rattle.lola_model.specs.Standing.{IsFaulty, content_left}
 use Rattle.lola_model.specs.Model.{answered}
 use Rattle.lola_model.specs.Store.{Memories, Seen, Stands}
 use Rattle.lola_model.specs.Table.{Step, TableRow}
+use Rattle.lola_model.specs.declared.journal.Show.{Show}
 use Rattle.lola_model.specs.declared.plan.Plan.{Plan}
 use Rattle.lola_stages.specs.Ends.{IsFine, closed_each, closings, evaluation_fault, full_content, lines_of}
 use Rattle.lola_stages.specs.Stages.{full_row}
@@ -22,6 +23,7 @@ use Rattle.lola_step.specs.declared.moment.Moment.{Moment}
 use Rattle.lola_step.specs.declared.scratch.Span.{Span}
 use Rattle.lola_step.specs.declared.tasks.Task.{Task}
 use Rattle.lola_step.specs.declared.verdict.Verdict.{Verdict}
+use Rattle.lola_step.proofs.Silenced.{hidden_left_out}
 
 -- what was found of lists holds of equal ones
 
@@ -40,12 +42,12 @@ same_fault plan marks marks' spans spans' tasks results results' found e f g h =
     (subst (λ ps. FindsFault plan marks' ps tasks results found) f
     (subst (λ os. FindsFault plan marks' spans' tasks os found) g h))
 
-pub same_verdicts : (plan : Plan) (spans spans' : List Span) (tasks tasks' : List Task) (results results' : List Outcome) (remembers : Memories) (s : Seen) (verdicts : List Verdict)
-    → spans' ≡ spans → tasks' ≡ tasks → results' ≡ results → CollectsVerdicts plan spans' tasks' results' remembers s verdicts → CollectsVerdicts plan spans tasks results remembers s verdicts
-same_verdicts plan spans spans' tasks tasks' results results' remembers s verdicts e f g h =
-    subst (λ ps. CollectsVerdicts plan ps tasks results remembers s verdicts) e
-    (subst (λ ts. CollectsVerdicts plan spans' ts results remembers s verdicts) f
-    (subst (λ os. CollectsVerdicts plan spans' tasks' os remembers s verdicts) g h))
+pub same_verdicts : (plan : Plan) (show : Show) (spans spans' : List Span) (tasks tasks' : List Task) (results results' : List Outcome) (remembers : Memories) (s : Seen) (verdicts : List Verdict)
+    → spans' ≡ spans → tasks' ≡ tasks → results' ≡ results → CollectsVerdicts plan show spans' tasks' results' remembers s verdicts → CollectsVerdicts plan show spans tasks results remembers s verdicts
+same_verdicts plan show spans spans' tasks tasks' results results' remembers s verdicts e f g h =
+    subst (λ ps. CollectsVerdicts plan show ps tasks results remembers s verdicts) e
+    (subst (λ ts. CollectsVerdicts plan show spans' ts results remembers s verdicts) f
+    (subst (λ os. CollectsVerdicts plan show spans' tasks' os remembers s verdicts) g h))
 
 module _ (plan : Plan) (m : Moment) (marks : List Mark) (spans : List Span) (tasks : List Task) (results : List Outcome) where
   -- by the fault of a spawn clause or of an instance
@@ -68,15 +70,15 @@ module _ (plan : Plan) (m : Moment) (marks : List Mark) (spans : List Span) (tas
         (sym (none names m.start rows step run noted)) (sym (finds names rows step run moment stands).0)
 
     -- or done: its lines are those of the values, and instances are closed
-    pub is_done : (remembers' : Memories) (s' : Seen) (closing closed : List Task) (verdicts : List Verdict)
+    pub is_done : (show : Show) (remembers' : Memories) (s' : Seen) (closing closed : List Task) (verdicts : List Verdict)
         → FindsClosings plan m remembers s None closing → closed ≡ closing
-        → CollectsVerdicts plan spans tasks results remembers s verdicts
+        → CollectsVerdicts plan show spans tasks results remembers s verdicts
         → ((names : Naming) (c : Content) → Stands names remembers s c → Stands names remembers' s' (closed_each c (reverse (places_of closed))))
         → (names : Naming) (rows : List TableRow) (step : Step) → IsRun plan names rows → IsMoment m.start step m
         → AreNoted plan (full_row plan m.start rows step).streams names marks spans tasks results
         → Stands names remembers s (content m.start rows (full_row plan m.start rows step))
-        → IsDoneStep plan m.start rows step names remembers' s' verdicts
-    is_done remembers' s' closing closed verdicts finds same collects closes names rows step run moment noted stands =
+        → IsDoneStep plan show m.start rows step names remembers' s' verdicts
+    is_done show remembers' s' closing closed verdicts finds same collects closes names rows step run moment noted stands =
         let no_fault : evaluation_fault plan m.start rows step ≡ None = sym (none names m.start rows step run noted) in
         let found = finds names rows step run moment stands in
         let fine : IsFine plan m.start rows step = (each_step_ends plan m.start rows step).none no_fault (sym found.0) in
@@ -86,7 +88,7 @@ module _ (plan : Plan) (m : Moment) (marks : List Mark) (spans : List Span) (tas
         ap (λ ps. closed_each (full_content plan m.start rows step) (reverse ps)) places ∙ sym fine.left in
         record {
           fine = fine.fine;
-          lines = λ show. fine.lines show ∙ ap (lines_of show step.time plan.spec.streams) (sym values.0);
+          lines = fine.lines show ∙ (hidden_left_out show step.time plan.spec.streams (full_row plan m.start rows step).streams ∙ ap (lines_of show step.time plan.spec.streams) (sym values.0));
           held = values.1;
           stands = subst (λ c. Stands names remembers' s' c) left (closes names (full_content plan m.start rows step) stands);
         }

@@ -1,10 +1,8 @@
 -- How the tasks of a layer are listed, stream by stream.
-use Rattle.std.proofs.Common.{◌≡◌, refl, ap, ◌∙◌, sym, ℕ, suc, ◌+◌, ◌<◌, ◌≤◌, ◌⊎◌, inl, inr, List, [], ◌∷◌, ◌++◌, Option, Bool, true, false, not, ◌||◌, nat_eq, nat_lt, if◌then◌else◌, get_or, length, map, slice_get, take, drop, arith, append_assoc, length-append, replicate, add-zero, zero-add}
+use Rattle.std.proofs.Common.{◌≡◌, refl, ap, ◌∙◌, sym, ℕ, suc, ◌+◌, ◌<◌, ◌≤◌, ◌⊎◌, inl, inr, List, [], ◌∷◌, ◌++◌, Option, Bool, true, false, not, ◌||◌, nat_eq, nat_lt, if◌then◌else◌, get_or, length, map, slice_get, take, drop, arith, append_assoc, length-append, add-zero, zero-add}
 use Rattle.std.proofs.Math.ListN.{set}
 use Rattle.std.proofs.lemmas.Bool.{and_parts, cases_eq, eqb-true, le-ltb, lt-ltb, not-true}
-use Rattle.std.proofs.lemmas.List.{drop_more, drop-set-lt, replicate-append-replicate, take_more, take_more_set}
-use Rattle.lola_value.specs.declared.value.Outcome.{Outcome}
-use Rattle.lola_value.specs.declared.value.Outcome.TheVariants as outcome
+use Rattle.std.proofs.lemmas.List.{drop_more, drop-set-lt, take_more, take_more_set}
 use Rattle.lola_model.specs.Graph.{eval_node, layer_of}
 use Rattle.lola_model.specs.Model.{eval_pacing, is_input}
 use Rattle.lola_model.specs.Store.{Seen, SeenStream, instances_of, instances_seen}
@@ -186,19 +184,6 @@ module _ (plan : Plan) (m : Moment) (marks : List Mark) (sought : List Whereabou
       ap (λ ts. ts ++ layer_tasks plan m marks sought s layer (n + 1) (drop (n + 1) streams)) is
       ∙ (append_assoc old (stream_tasks plan m marks sought s layer n x) (layer_tasks plan m marks sought s layer (n + 1) (drop (n + 1) streams))
       ∙ (ap (λ xs. old ++ layer_tasks plan m marks sought s layer n xs) (sym at) ∙ so))
-
-  -- with a place for each outcome
-  pub gathers_places : (n : ℕ) (x : Stream) (streams : List Stream) (old new all : List Outcome) → drop n streams ≡ x ∷ drop (n + 1) streams
-      → new ≡ old ++ replicate (length (stream_tasks plan m marks sought s layer n x)) outcome.Missing
-      → old ++ replicate (length (layer_tasks plan m marks sought s layer n (drop n streams))) outcome.Missing ≡ all
-      → new ++ replicate (length (layer_tasks plan m marks sought s layer (n + 1) (drop (n + 1) streams))) outcome.Missing ≡ all
-  gathers_places n x streams old new all at is so =
-      let ts = stream_tasks plan m marks sought s layer n x in
-      let us = layer_tasks plan m marks sought s layer (n + 1) (drop (n + 1) streams) in
-      ap (λ rs. rs ++ replicate (length us) outcome.Missing) is
-      ∙ (append_assoc old (replicate (length ts) outcome.Missing) (replicate (length us) outcome.Missing)
-      ∙ (ap (λ rs. old ++ rs) (replicate-append-replicate (length ts) (length us) outcome.Missing ∙ ap (λ k. replicate k outcome.Missing) (sym (length-append ts us)))
-      ∙ (ap (λ xs. old ++ replicate (length (layer_tasks plan m marks sought s layer n xs)) outcome.Missing) (sym at) ∙ so)))
 
   pub gathers_spans : (n : ℕ) (x : Stream) (streams : List Stream) (from later noted : ℕ) (old new all : List Span) → n < length old → drop n streams ≡ x ∷ drop (n + 1) streams
       → later ≡ from + length (stream_tasks plan m marks sought s layer n x) → noted ≡ from

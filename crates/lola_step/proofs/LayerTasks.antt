@@ -24,7 +24,7 @@ use Rattle.lola_step.specs.Given.{AreResults, CanGiveAll, after_all}
 use Rattle.lola_step.specs.Moments.{born_seen, may_be_active_in}
 use Rattle.lola_step.specs.Notes.{AreOfStream, is_fine, layer_tasks, runs_in, sought_at, stream_tasks}
 use Rattle.lola_step.specs.Progress.{GoesOn, IsAt, IsMomentOf, IsOf}
-use Rattle.lola_step.specs.Tasks.{AreTasks, IsActiveTask, IsTask, is_active_task, pacing_of_task, params_seen}
+use Rattle.lola_step.specs.Tasks.{AreTasks, IsActiveTask, IsTask, is_active_task, pacing_of_task, params_given}
 use Rattle.lola_step.specs.declared.mark.Mark.{Mark}
 use Rattle.lola_step.specs.declared.moment.Moment.{Moment}
 use Rattle.lola_step.specs.declared.tasks.Task.{Task}
@@ -33,6 +33,7 @@ use Rattle.lola_step.proofs.Asking.{evals_locally}
 use Rattle.lola_step.proofs.Gathering.{asked_tasks, done_stays, few_tasks, run_is_done, run_is_to_come, runs_so}
 use Rattle.lola_step.proofs.Layouts.{pacings_length}
 use Rattle.lola_step.proofs.Places.{asked_of_stream}
+use Rattle.lola_step.proofs.Single.{kinds_given}
 use Rattle.lola_step.proofs.Keeping.{AreGivable, EachTask, IsFrom, Keeps, OrderedFrom, can_give_all, each_at, each_both, each_so, keeps_given, now_given}
 
 -- a stream that is no input has an eval clause
@@ -171,8 +172,9 @@ module _ (plan : Plan) (m : Moment) (marks : List Mark) (sought : List Whereabou
           clause = clause.0;
           clause_is = clause.1;
           lives = h.lives;
-          asks = λ kinds. eval_may_ask plan m.start moment.step s t.stream h.stream clause.0 (params_seen s t.stream t.index) accepted at_step h.stream_is clause.1
-              born (sym (active_for_is m.start moment.step m moment.is born born (pacing_of_task plan t) (λ l. refl)) ∙ active) kinds;
+          asks = λ kinds. eval_may_ask plan m.start moment.step s t.stream h.stream clause.0 (params_given s t.stream t.index) accepted at_step h.stream_is clause.1
+              born (sym (active_for_is m.start moment.step m moment.is born born (pacing_of_task plan t) (λ l. refl)) ∙ active)
+              (kinds_given plan s at.of.layout t.stream h.stream h.stream_is accepted t.index kinds);
         }
 
     of_task : (t : Task) → OfLayer t → IsTask plan m s t

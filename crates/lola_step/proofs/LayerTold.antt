@@ -11,6 +11,7 @@ use Rattle.lola_model.specs.Activity.{is_active_for, may_be_active}
 use Rattle.lola_model.specs.Content.{Content, Life, StreamContent, is_bad, seen, time_of}
 use Rattle.lola_model.specs.Graph.{eval_node, layer_of}
 use Rattle.lola_model.specs.Model.{eval_outcome, eval_pacing, is_input, spawned_in}
+use Rattle.lola_model.specs.Named.{has_clause}
 use Rattle.lola_model.specs.NextStep.{is_local}
 use Rattle.lola_model.specs.Store.{Memories, Seen, SeenInstance, SeenStream, StandForLives, StandForStreams, StreamLayout, instances_of, instances_seen, spawns_in}
 use Rattle.lola_model.specs.Table.{Idle, Instance, Living, Named, SpawnFailed, SpawnPoisoned, Spawned, Step, StreamRow, TableRow}
@@ -34,7 +35,7 @@ use Rattle.lola_step.specs.Moments.{active_for_in, birth_at, born_seen}
 use Rattle.lola_step.specs.Notes.{AreMarks, AreOfStream, AreSilent, ReadEach, ShowLiving, ShowResults, asked_in, done_of, in_span, is_fine, layer_tasks, mark_of, runs_in, sought_at, stream_tasks, tasks_at}
 use Rattle.lola_step.specs.Progress.{IsAt, IsRunAt}
 use Rattle.lola_step.specs.Sought.{AreSought, IsSilentElsewhere}
-use Rattle.lola_step.specs.Tasks.{IsResult, params_at}
+use Rattle.lola_step.specs.Tasks.{IsResult, params_given}
 use Rattle.lola_step.specs.declared.mark.Mark.{Mark}
 use Rattle.lola_step.specs.declared.moment.Moment.{Moment}
 use Rattle.lola_step.specs.declared.scratch.Span.{Span}
@@ -46,6 +47,7 @@ use Rattle.lola_step.proofs.LayerNotes.{as_many_spans, same_asked_in, same_in_sp
 use Rattle.lola_step.proofs.Places.{asked_of_stream, asked_where, asks_of, of_stream_where, paced_for, places_where, task_at, unasked_so, unpaced_is_inactive}
 use Rattle.lola_step.proofs.Quiet.{IsQuiet, held_of_stream, quiet_lives, quiet_same, read_asked, read_past, told_else, told_stream}
 use Rattle.lola_step.proofs.Results.{SpanOf, count_results, split_results}
+use Rattle.lola_step.proofs.Single.{AreBare, bare_living, given_reads}
 use Rattle.lola_step.proofs.Undue.{evals_listed}
 
 -- what stands for lives
@@ -236,6 +238,7 @@ module _ (plan : Plan) (m : Moment) (marks : List Mark) (sought : List Whereabou
           pub params : read_params names y.params ≡ l.instance.params
           pub held : AreHeld names (the_values y.params)
           pub born : is_local pacing ≡ true → y.born ≡ time_of_birth l.instance
+          pub bare : has_clause x.spawn ≡ false → l.instance.params ≡ []
           pub outcome : l.outcome ≡ outcome_of l.instance
 
         active_here : (i : ℕ) (y : SeenInstance) (l : Living) → KnownAt i y l → active_for_in m y.born pacing ≡ active l.instance
@@ -245,14 +248,16 @@ module _ (plan : Plan) (m : Moment) (marks : List Mark) (sought : List Whereabou
         asked_reads : (i : ℕ) (y : SeenInstance) (l : Living) (r : Outcome) → KnownAt i y l → IsResult plan m remembers s (task_at n i) r
             → (read_outcome names r ≡ l.outcome) × IsHeldIn names r
         asked_reads i y l r k result =
-            let P : Option SeenInstance → Type 0 = λ o. IsAnswer plan remembers s (params_at o) (eval_answer plan.spec (active_for_in m (birth_at o) pacing) (slice_get plan.spec.streams n)) r in
+            let q = params_given s n i in
+            let reads = given_reads plan s layout_at.of.layout n x at names i y l k.there k.params k.held k.bare in
+            let P : Option SeenInstance → Type 0 = λ o. IsAnswer plan remembers s q (eval_answer plan.spec (active_for_in m (birth_at o) pacing) (slice_get plan.spec.streams n)) r in
             let answer : P (Some y) = subst P k.there result.answer in
-            let sees : Sees plan names content_now remembers s y.params = record { naming = run.run.naming; layout = layout_at.of.layout; held = k.held; stands = run.stands } in
+            let sees : Sees plan names content_now remembers s q = record { naming = run.run.naming; layout = layout_at.of.layout; held = reads.1; stands = run.stands } in
             let given = answer names content_now sees run.run.texts in (
               given.0
-                  ∙ (ap (λ o. eval_answer plan.spec (active_for_in m y.born pacing) o content_now (read_params names y.params)) at
-                  ∙ (ap (λ b. eval_outcome plan.spec content_now false b x.eval (read_params names y.params)) (active_here i y l k)
-                  ∙ (ap (λ p. eval_outcome plan.spec content_now false (active l.instance) x.eval p) k.params
+                  ∙ (ap (λ o. eval_answer plan.spec (active_for_in m y.born pacing) o content_now (read_params names q)) at
+                  ∙ (ap (λ b. eval_outcome plan.spec content_now false b x.eval (read_params names q)) (active_here i y l k)
+                  ∙ (ap (λ p. eval_outcome plan.spec content_now false (active l.instance) x.eval p) reads.0
                   ∙ sym k.outcome))),
               given.1,
             )
@@ -290,14 +295,14 @@ module _ (plan : Plan) (m : Moment) (marks : List Mark) (sought : List Whereabou
             → ((j : ℕ) → slice_get (instances_seen s n) (i + j) ≡ slice_get xs j)
             → StandForLives names remembers n i xs vs → map (λ l. l.params) vs ≡ map (λ l. l.instance.params) ls
             → (is_local pacing ≡ true → map (λ (z : SeenInstance). z.born) xs ≡ map (λ (z : Living). time_of_birth z.instance) ls)
-            → AreOutcomes outcome_of ls → Reads i (places_where asks i (length xs)) ls
-        read_each elsewhere i [] [] [] shown stand same births are [] results = tt
-        read_each elsewhere i [] [] [] shown stand same births are (r ∷ rs) results = absurd results
-        read_each elsewhere i [] [] (l ∷ ls) shown stand same births are rs results = absurd (cc)
-        read_each elsewhere i [] (v ∷ vs) ls shown stand same births are rs results = absurd stand
-        read_each elsewhere i (y ∷ xs) [] ls shown stand same births are rs results = absurd stand
-        read_each elsewhere i (y ∷ xs) (v ∷ vs) [] shown stand same births are rs results = absurd (cc)
-        read_each elsewhere i (y ∷ xs) (v ∷ vs) (l ∷ ls) shown stand same births are rs results =
+            → (has_clause x.spawn ≡ false → AreBare ls) → AreOutcomes outcome_of ls → Reads i (places_where asks i (length xs)) ls
+        read_each elsewhere i [] [] [] shown stand same births bare are [] results = tt
+        read_each elsewhere i [] [] [] shown stand same births bare are (r ∷ rs) results = absurd results
+        read_each elsewhere i [] [] (l ∷ ls) shown stand same births bare are rs results = absurd (cc)
+        read_each elsewhere i [] (v ∷ vs) ls shown stand same births bare are rs results = absurd stand
+        read_each elsewhere i (y ∷ xs) [] ls shown stand same births bare are rs results = absurd stand
+        read_each elsewhere i (y ∷ xs) (v ∷ vs) [] shown stand same births bare are rs results = absurd (cc)
+        read_each elsewhere i (y ∷ xs) (v ∷ vs) (l ∷ ls) shown stand same births bare are rs results =
             let params : v.params ≡ l.instance.params = cc in
             let rest : map (λ (z : Life). z.params) vs ≡ map (λ (z : Living). z.instance.params) ls = cc in
             let known : KnownAt i y l = record {
@@ -305,22 +310,23 @@ module _ (plan : Plan) (m : Moment) (marks : List Mark) (sought : List Whereabou
               params = stand.0.params ∙ params;
               held = stand.0.params_held;
               born = λ local. (let e = births local in cc);
+              bare = λ e. (bare e).0;
               outcome = are.0;
             } in
             reads_one elsewhere i ((i + 1) + length xs) y l ls (places_where asks (i + 1) (length xs)) known
             (of_stream_where asks n (i + 1) (length xs) ((i + 1) + length xs) (omega arith))
-            (read_each elsewhere (i + 1) xs vs ls (λ j. ap (λ k. slice_get (instances_seen s n) k) (same_place i j) ∙ shown (suc j)) stand.1 rest (λ local. (let e = births local in cc)) are.1)
+            (read_each elsewhere (i + 1) xs vs ls (λ j. ap (λ k. slice_get (instances_seen s n) k) (same_place i j) ∙ shown (suc j)) stand.1 rest (λ local. (let e = births local in cc)) (λ e. (bare e).1) are.1)
             (asks i) refl rs results
           where
             same_place : (a b : ℕ) → (a + 1) + b ≡ a + suc b
             same_place a b = omega arith
 
-        read_here : IsSilentElsewhere plan m remembers s n (sought_at sought n) → is_bad did ≡ false → (rs : List Outcome) → AreResults plan m remembers s (asked_tasks plan m marks sought s layer n) rs
+        read_here : IsSilentElsewhere plan m remembers s n (sought_at sought n) → is_input x ≡ false → is_bad did ≡ false → (rs : List Outcome) → AreResults plan m remembers s (asked_tasks plan m marks sought s layer n) rs
             → ReadEach names 0 (asked_tasks plan m marks sought s layer n) rs (living n)
-        read_here elsewhere b rs =
+        read_here elsewhere no_input b rs =
             subst (λ ps. AreResults plan m remembers s (tasks_at n ps) rs → ReadEach names 0 (tasks_at n ps) rs (living n)) (sym (asked_where (sought_at sought n) pacing m s n))
             (read_each elsewhere 0 (instances_seen s n) (lives_in (slice_get content_now.streams n)) (living n)
-            (λ j. ap (λ k. slice_get (instances_seen s n) k) (zero-add j)) stands_here here.lives births_here (answers_here b) rs)
+            (λ j. ap (λ k. slice_get (instances_seen s n) k) (zero-add j)) stands_here here.lives births_here (bare_living plan accepted m.start rows step run.run.settled n x at no_input) (answers_here b) rs)
 
       -- all that is known of a stream that runs
       record KnownToRun : Type 0 where
@@ -344,7 +350,7 @@ module _ (plan : Plan) (m : Moment) (marks : List Mark) (sought : List Whereabou
 
       pub read_stream : runs_in plan m marks layer n x ≡ true → (rs : List Outcome) → AreResults plan m remembers s (asked_tasks plan m marks sought s layer n) rs
           → ReadEach names 0 (asked_tasks plan m marks sought s layer n) rs (living n)
-      read_stream e rs h = let k = reads e in read_here k.here (seeks n x at e) k.is_good rs h
+      read_stream e rs h = let k = reads e in read_here k.here (seeks n x at e) k.no_input k.is_good rs h
 
       pub quiet_stream : runs_in plan m marks layer n x ≡ true → IsQuiet content_now n 0
       quiet_stream e = let k = reads e in quiet_here k.here k.no_input k.layer_is

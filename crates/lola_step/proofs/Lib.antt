@@ -30,7 +30,9 @@ pub mod Leaving
 pub mod ClosesDue
 pub mod Alone
 pub mod Seeking
+pub mod Single
 pub mod Standing
+pub mod Silenced
 pub mod Valued
 pub mod Turns
 pub mod Between

@@ -4,6 +4,7 @@ use Rattle.std.proofs.lemmas.Bool.{cases_lt, eqb-true, le-ltb, lt-ltb}
 use Rattle.std.proofs.lemmas.List.{take_more}
 use Rattle.lola_value.specs.Ratio.{Ratio}
 use Rattle.lola_model.specs.Dues.{due_from, is_due, locals_of}
+use Rattle.lola_model.specs.NextStep.{is_local}
 use Rattle.lola_model.specs.Store.{Seen, SeenInstance, instances_seen}
 use Rattle.lola_model.specs.declared.pacing.Pacing.{Pacing}
 use Rattle.lola_model.specs.declared.pacing.Pacing.TheVariants.{Event, Periodic, Local}
@@ -196,3 +197,10 @@ pub asked_of_stream : (w : Whereabouts) (p : Option Pacing) (m : Moment) (s : Se
 asked_of_stream w p m s n =
     subst (λ ps. AreOfStream n 0 (length (instances_seen s n)) (tasks_at n ps)) (sym (asked_where w p m s n))
     (of_stream_where (asks_of w p m s n) n 0 (length (instances_seen s n)) (length (instances_seen s n)) (omega arith))
+
+-- the place of a single instance, where a clause is active for all alike
+pub paced_single : (p : Option Pacing) (m : Moment) (s : Seen) (n : ℕ) → is_local p ≡ false → length (instances_seen s n) ≡ 1 → places_paced p m s n ≡ 0 ∷ []
+paced_single None m s n e one = ap (places_from 0) one
+paced_single (Some (Event sets)) m s n e one = ap (places_from 0) one
+paced_single (Some (Periodic r)) m s n e one = ap (places_from 0) one
+paced_single (Some (Local r)) m s n e one = absurd (cc)

@@ -1,6 +1,6 @@
 -- What the outcomes of a layer's tasks are.
-use Rattle.std.proofs.Common.{◌≡◌, refl, ap, ◌∙◌, sym, subst, ℕ, zero, suc, ◌+◌, ◌-◌, ◌<◌, ◌≤◌, ◌⊎◌, inl, inr, List, [], ◌∷◌, ◌++◌, Bool, true, false, if◌then◌else◌, Option, Some, IsSomeAnd, IsTrue, length, slice_get, take, drop, arith, append_assoc, length-append}
-use Rattle.std.proofs.lemmas.List.{drop_at, take-append-drop, take_at, take_rest}
+use Rattle.std.proofs.Common.{◌≡◌, refl, ap, ◌∙◌, sym, subst, ℕ, zero, suc, ◌+◌, ◌-◌, ◌<◌, ◌≤◌, ◌⊎◌, inl, inr, List, [], ◌∷◌, ◌++◌, Bool, true, false, if◌then◌else◌, Option, Some, IsSomeAnd, IsTrue, length, slice_get, take, drop, arith, append_assoc, append-nil, get_or, length-append}
+use Rattle.std.proofs.lemmas.List.{drop_at, take-append-drop, take_at, take_more, take_rest}
 use Rattle.std.proofs.lemmas.Option.{same_Some}
 use Rattle.lola_value.specs.Kinds.{is_outcome_of}
 use Rattle.lola_value.specs.declared.value.Outcome.{Outcome}
@@ -8,9 +8,9 @@ use Rattle.lola_model.specs.Store.{Memories, Seen, instances_seen, kind_in}
 use Rattle.lola_model.specs.declared.plan.Plan.{Plan}
 use Rattle.lola_model.specs.declared.spec.Stream.{Stream}
 use Rattle.lola_model.specs.declared.store.Whereabouts.{Whereabouts}
-use Rattle.lola_step.specs.Given.{AreResults}
+use Rattle.lola_step.specs.Given.{AreAnswered, AreResults}
 use Rattle.lola_step.specs.Notes.{AreOfStream, AreOutcomesOf, asked_in, in_span, layer_spans, layer_tasks, runs_in, span_after, stream_tasks}
-use Rattle.lola_step.specs.Tasks.{IsResultAt}
+use Rattle.lola_step.specs.Tasks.{IsResult, IsResultAt}
 use Rattle.lola_step.specs.declared.mark.Mark.{Mark}
 use Rattle.lola_step.specs.declared.moment.Moment.{Moment}
 use Rattle.lola_step.specs.declared.scratch.Span.{Span}
@@ -31,6 +31,26 @@ module _ (plan : Plan) (m : Moment) (remembers : Memories) (s : Seen) where
   count_results [] (r ∷ rs) h = absurd h
   count_results (t ∷ ts) [] h = absurd h
   count_results (t ∷ ts) (r ∷ rs) h = ap suc (count_results ts rs h.1)
+
+  -- one more task with its outcome
+  are_more : (ts : List Task) (rs : List Outcome) (t : Task) (r : Outcome) → AreResults plan m remembers s ts rs → IsResult plan m remembers s t r → AreResults plan m remembers s (ts ++ t ∷ []) (rs ++ r ∷ [])
+  are_more [] [] t r h k = (k, tt)
+  are_more [] (q ∷ rs) t r h k = absurd h
+  are_more (u ∷ ts) [] t r h k = absurd h
+  are_more (u ∷ ts) (q ∷ rs) t r h k = (h.0, are_more ts rs t r h.1 k)
+
+  pub answered_first : (before : List Outcome) → AreAnswered plan m remembers s [] before before
+  answered_first before = record { fresh = []; is = sym (append-nil before); are = tt }
+
+  pub answered_more : (ts : List Task) (i : ℕ) (d : Task) (before after more : List Outcome) (r : Outcome) → i < length ts → AreAnswered plan m remembers s (take i ts) before after
+      → IsResult plan m remembers s (get_or ts i d) r → more ≡ after ++ r ∷ [] → AreAnswered plan m remembers s (take (i + 1) ts) before more
+  answered_more ts i d before after more r below h k e =
+      let P : List Task → Type 0 = λ us. AreAnswered plan m remembers s us before more in
+      subst P (sym (take_more ts i d below)) (record {
+        fresh = h.fresh ++ r ∷ [];
+        is = e ∙ (ap (λ rs. rs ++ r ∷ []) h.is ∙ append_assoc before h.fresh (r ∷ []));
+        are = are_more (take i ts) h.fresh (get_or ts i d) r h.are k;
+      })
 
   -- of tasks that are listed in two parts
   pub split_results : (ts us : List Task) (rs : List Outcome) → AreResults plan m remembers s (ts ++ us) rs

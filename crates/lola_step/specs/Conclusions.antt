@@ -5,6 +5,7 @@ use Rattle.lola_value.specs.Naming.{Naming}
 use Rattle.lola_model.specs.Content.{content}
 use Rattle.lola_model.specs.Store.{Memories, Seen, Stands}
 use Rattle.lola_model.specs.Table.{Step, TableRow}
+use Rattle.lola_model.specs.declared.journal.Show.{Show}
 use Rattle.lola_model.specs.declared.plan.Plan.{Plan}
 use Rattle.lola_stages.specs.Stages.{full_row}
 use Rattle.lola_step.specs.Moments.{IsMoment}
@@ -32,9 +33,9 @@ ShowsConcluded (end.Fault stream kind) plan old new = Unit {0}
 ShowsConcluded end.Memory plan old new = ⊥
 
 -- in each run of which all is noted so, and for whose row the store stood, the step ends so
-abbrev pub Concludes : Plan → Moment → List Mark → List Span → List Task → List Outcome → Memories → Seen → StepEnd → Memories → Seen → List Verdict → Type 0
-Concludes plan m marks spans tasks results remembers s e remembers' s' verdicts =
+abbrev pub Concludes : Plan → Show → Moment → List Mark → List Span → List Task → List Outcome → Memories → Seen → StepEnd → Memories → Seen → List Verdict → Type 0
+Concludes plan show m marks spans tasks results remembers s e remembers' s' verdicts =
     (names : Naming) (rows : List TableRow) (step : Step) → IsRun plan names rows → IsMoment m.start step m
     → AreNoted plan (full_row plan m.start rows step).streams names marks spans tasks results
     → Stands names remembers s (content m.start rows (full_row plan m.start rows step))
-    → StepEnds e plan m.start rows step names remembers' s' verdicts
+    → StepEnds e plan show m.start rows step names remembers' s' verdicts

@@ -1,14 +1,17 @@
 -- What is found once the streams of a step are evaluated.
-use Rattle.std.specs.Prelude.{ℕ, ◌≡◌, List, Option, map, None}
+use Rattle.std.specs.Prelude.{ℕ, ◌≡◌, ◌+◌, List, [], ◌∷◌, ◌++◌, Option, map, None, if◌then◌else◌}
 use Rattle.lola_value.specs.declared.value.FaultKind.{FaultKind}
 use Rattle.lola_value.specs.declared.value.Outcome.{Outcome}
 use Rattle.lola_value.specs.Naming.{Naming}
 use Rattle.lola_model.specs.Content.{content}
 use Rattle.lola_model.specs.Store.{Memories, Seen, Stands}
-use Rattle.lola_model.specs.Table.{Step, TableRow}
+use Rattle.lola_model.specs.Table.{Step, StreamRow, TableRow}
+use Rattle.lola_model.specs.declared.journal.Show.{Show}
 use Rattle.lola_model.specs.declared.plan.Plan.{Plan}
-use Rattle.lola_stages.specs.Ends.{closing_fault, closings, evaluation_fault, row_values}
+use Rattle.lola_model.specs.declared.spec.Stream.{Stream}
+use Rattle.lola_stages.specs.Ends.{RowValue, closing_fault, closings, evaluation_fault, values_among}
 use Rattle.lola_stages.specs.Stages.{full_row}
+use Rattle.lola_step.specs.Found.{is_hidden}
 use Rattle.lola_step.specs.Moments.{IsMoment}
 use Rattle.lola_step.specs.Notes.{AreNoted, AreVerdictsHeld, places_of, read_fault, read_verdict}
 use Rattle.lola_step.specs.Progress.{IsRun}
@@ -25,13 +28,18 @@ FindsFault plan marks spans tasks results found =
     → AreNoted plan (full_row plan start rows step).streams names marks spans tasks results
     → read_fault found ≡ evaluation_fault plan start rows step
 
--- in each run of which all is noted so, and for whose row the store stands, these are its values, and their texts are held
-abbrev pub CollectsVerdicts : Plan → List Span → List Task → List Outcome → Memories → Seen → List Verdict → Type 0
-CollectsVerdicts plan spans tasks results remembers s verdicts =
+-- the values of a row that may have lines, by the streams' numbers and in the order of birth, from stream n on
+abbrev pub shown_values : Show → ℕ → List Stream → List StreamRow → List RowValue
+shown_values show n (s ∷ ss) (y ∷ ys) = (if is_hidden show s then [] else values_among n y.living) ++ shown_values show (n + 1) ss ys
+shown_values show n _ _ = []
+
+-- in each run of which all is noted so, and for whose row the store stands, these are its values that may have lines, and their texts are held
+abbrev pub CollectsVerdicts : Plan → Show → List Span → List Task → List Outcome → Memories → Seen → List Verdict → Type 0
+CollectsVerdicts plan show spans tasks results remembers s verdicts =
     (names : Naming) (start : ℕ) (rows : List TableRow) (step : Step) (marks : List Mark) → IsRun plan names rows
     → AreNoted plan (full_row plan start rows step).streams names marks spans tasks results
     → Stands names remembers s (content start rows (full_row plan start rows step))
-    → (map (read_verdict names) verdicts ≡ row_values 0 plan.spec.streams (full_row plan start rows step).streams) × AreVerdictsHeld names verdicts
+    → (map (read_verdict names) verdicts ≡ shown_values show 0 plan.spec.streams (full_row plan start rows step).streams) × AreVerdictsHeld names verdicts
 
 -- in each run for whose row the store stands, that is the fault of close clauses; and without one these instances are to be closed
 abbrev pub FindsClosings : Plan → Moment → Memories → Seen → Option (ℕ × FaultKind) → List Task → Type 0

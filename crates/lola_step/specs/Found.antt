@@ -7,11 +7,13 @@ use Rattle.lola_value.specs.declared.value.Params.{Params}
 use Rattle.lola_value.specs.Kinds.{are_of_kinds, is_well_formed}
 use Rattle.lola_value.specs.Naming.{the_values}
 use Rattle.lola_model.specs.Faults.{lesser_kind}
-use Rattle.lola_model.specs.Model.{is_input}
 use Rattle.lola_model.specs.Store.{Layout, Seen, parameters_of}
+use Rattle.lola_model.specs.declared.journal.Show.{Show}
+use Rattle.lola_model.specs.declared.journal.Show.TheVariants.{Outputs, Triggers}
+use Rattle.lola_model.specs.declared.spec.Sort.TheVariants as sort
 use Rattle.lola_model.specs.declared.spec.Stream.{Stream}
 use Rattle.lola_step.specs.Notes.{asked_in, in_span}
-use Rattle.lola_step.specs.Tasks.{params_seen}
+use Rattle.lola_step.specs.Tasks.{params_given}
 use Rattle.lola_step.specs.declared.mark.Mark.{Mark}
 use Rattle.lola_step.specs.declared.mark.Mark.TheVariants as mark
 use Rattle.lola_step.specs.declared.scratch.Span.{Span}
@@ -75,21 +77,35 @@ IsFaultless marks results = NoneFailed marks × (has_fault results ≡ false)
 
 -- values
 
+-- whether the values of outputs have no lines
+abbrev pub hides_outputs : Show → Bool
+hides_outputs Triggers = true
+hides_outputs Outputs = false
+
+-- whether the values of a stream have no lines: those of inputs, and those of outputs where triggers alone are shown
+abbrev pub is_hidden : Show → Stream → Bool
+is_hidden show s = elim s.sort [ sort.Input ↦ true | sort.Output ↦ hides_outputs show | sort.Trigger ↦ false ]
+
 -- adds the value of an instance of stream n with these parameters
 abbrev pub add_verdict : ℕ → Params → Outcome → List Verdict → List Verdict
 add_verdict n p (outcome.Value v) rest = record { stream = n; params = p; value = v } ∷ rest
 add_verdict n p _ rest = rest
 
--- the values of instances of stream n that have these outcomes, each of the instance that was asked
+-- the values of instances of stream n that have these outcomes, each with the same parameters
+abbrev pub verdicts_with : ℕ → Params → List Outcome → List Verdict
+verdicts_with n p [] = []
+verdicts_with n p (o ∷ os) = add_verdict n p o (verdicts_with n p os)
+
+-- each with those of the instance that was asked
 abbrev pub verdicts_among : Seen → ℕ → List Task → List Outcome → List Verdict
-verdicts_among s n (t ∷ ts) (o ∷ os) = add_verdict n (params_seen s n t.index) o (verdicts_among s n ts os)
+verdicts_among s n (t ∷ ts) (o ∷ os) = add_verdict n (params_given s n t.index) o (verdicts_among s n ts os)
 verdicts_among s n _ _ = []
 
--- of the streams from number n on, but inputs
-abbrev pub all_verdicts : Seen → List Task → List Outcome → ℕ → List Stream → List Span → List Verdict
-all_verdicts s tasks results n (x ∷ xs) (p ∷ ps) =
-    (if is_input x then [] else verdicts_among s n (asked_in tasks (Some p)) (in_span results (Some p))) ++ all_verdicts s tasks results (n + 1) xs ps
-all_verdicts s tasks results n _ _ = []
+-- of the streams from number n on that may have lines
+abbrev pub all_verdicts : Show → Seen → List Task → List Outcome → ℕ → List Stream → List Span → List Verdict
+all_verdicts show s tasks results n (x ∷ xs) (p ∷ ps) =
+    (if is_hidden show x then [] else verdicts_among s n (asked_in tasks (Some p)) (in_span results (Some p))) ++ all_verdicts show s tasks results (n + 1) xs ps
+all_verdicts show s tasks results n _ _ = []
 
 -- parameters of the kinds that a layout has for the stream
 pub record FitsLayout (l : Layout) (v : Verdict) : Type 0 where

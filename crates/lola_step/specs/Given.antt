@@ -1,5 +1,5 @@
 -- How instances are given their outcomes, one after another.
-use Rattle.std.specs.Prelude.{◌<◌, List, [], ◌∷◌, length, slice_get, IsTrue}
+use Rattle.std.specs.Prelude.{◌≡◌, ◌<◌, List, [], ◌∷◌, ◌++◌, length, slice_get, IsTrue}
 use Rattle.lola_value.specs.declared.value.Outcome.{Outcome}
 use Rattle.lola_value.specs.declared.value.Outcome.TheVariants as outcome
 use Rattle.lola_value.specs.Kinds.{is_outcome_of}
@@ -17,6 +17,12 @@ abbrev pub AreResults : Plan → Moment → Memories → Seen → List Task → 
 AreResults plan m remembers s [] [] = Unit {0}
 AreResults plan m remembers s (t ∷ ts) (r ∷ rs) = IsResult plan m remembers s t r × AreResults plan m remembers s ts rs
 AreResults plan m remembers s _ _ = ⊥
+
+-- behind these outcomes others were put, one for each task in order
+pub record AreAnswered (plan : Plan) (m : Moment) (remembers : Memories) (s : Seen) (tasks : List Task) (before after : List Outcome) : Type 0 where
+  pub fresh : List Outcome
+  pub is : after ≡ before ++ fresh
+  pub are : AreResults plan m remembers s tasks fresh
 
 -- an instance has its outcome: others see a fault as poison
 abbrev pub after_giving : Seen → Task → Outcome → Seen

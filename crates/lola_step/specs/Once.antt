@@ -1,5 +1,5 @@
 -- That a clause may be asked is said in at most one way.
-use Rattle.std.specs.Prelude.{ℕ, ◌≡◌, List, [], ◌∷◌, Option, Some, None, IsTrue, unwrap_or, drop}
+use Rattle.std.specs.Prelude.{ℕ, ◌≡◌, List, [], ◌∷◌, Option, Some, None, Bool, IsTrue, unwrap_or, drop}
 use Rattle.std.specs.Coded.{Coded, Coded-set, coded_ℕ}
 use Rattle.std.proofs.Props.{props}
 use Rattle.std.proofs.lemmas.Bool.{eq-eqb}
@@ -52,14 +52,14 @@ module _ (s : Seen) (p : Params) (texts : List (List ℕ)) where
       λ i. record { when = when x.when y.when i; with = with x.with y.with i }
 
   -- the eval clause of a stream
-  eval-prop : (kinds : List Kind) (want : Kind) (o : Option Clause) → IsProp (IsEvalReady s p texts kinds want o)
-  eval-prop kinds want None = hlevel props
-  eval-prop kinds want (Some k) = hlevel (props, clause-prop (want ∷ []) k)
+  eval-prop : (spawns : Bool) (kinds : List Kind) (want : Kind) (o : Option Clause) → IsProp (IsEvalReady s spawns p texts kinds want o)
+  eval-prop spawns kinds want None = hlevel props
+  eval-prop spawns kinds want (Some k) = hlevel (props, clause-prop (want ∷ []) k)
 
   -- a stream
-  stream-prop : (o : Option Stream) → IsProp (IsReady s p texts o)
-  stream-prop None = hlevel props
-  stream-prop (Some stream) = eval-prop stream.parameters (unwrap_or stream.kind kind.Int64) stream.eval
+  stream-prop : (spawns : Bool) (o : Option Stream) → IsProp (IsReady s spawns p texts o)
+  stream-prop spawns None = hlevel props
+  stream-prop spawns (Some stream) = eval-prop spawns stream.parameters (unwrap_or stream.kind kind.Int64) stream.eval
 
 -- of each task
 pub AreReady-prop : (plan : Plan) (m : Moment) (s : Seen) (tasks : List Task) → IsProp (AreReady plan m s tasks)

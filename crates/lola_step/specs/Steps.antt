@@ -53,17 +53,17 @@ ReadFields names inputs false None = Unit {0}
 ReadFields names inputs _ _ = ⊥
 
 -- a step that is done: the next row of the model has no fault, its lines are those of the verdicts, and the store stands for what is left
-pub record IsDoneStep (plan : Plan) (start : ℕ) (rows : List TableRow) (step : Step) (names : Naming) (remembers : Memories) (s : Seen) (verdicts : List Verdict) : Type 0 where
+pub record IsDoneStep (plan : Plan) (show : Show) (start : ℕ) (rows : List TableRow) (step : Step) (names : Naming) (remembers : Memories) (s : Seen) (verdicts : List Verdict) : Type 0 where
   pub fine : has_fault (answered plan start rows step) ≡ false
-  pub lines : (show : Show) → row_lines show plan.spec.streams (answered plan start rows step) ≡ lines_of show step.time plan.spec.streams (map (read_verdict names) verdicts)
+  pub lines : row_lines show plan.spec.streams (answered plan start rows step) ≡ lines_of show step.time plan.spec.streams (map (read_verdict names) verdicts)
   pub held : AreVerdictsHeld names verdicts
   pub stands : Stands names remembers s (content_left start rows (answered plan start rows step))
 
 -- by the end of a step: done; the fault of the next row of the model; or without memory, and as before
-abbrev pub StepEnds : StepEnd → Plan → ℕ → List TableRow → Step → Naming → Memories → Seen → List Verdict → Type 0
-StepEnds end.Done plan start rows step names remembers s verdicts = IsDoneStep plan start rows step names remembers s verdicts
-StepEnds (end.Fault stream kind) plan start rows step names remembers s verdicts = IsFaulty plan start rows step stream kind
-StepEnds end.Memory plan start rows step names remembers s verdicts = StandsBetween names remembers s (content_after plan start rows)
+abbrev pub StepEnds : StepEnd → Plan → Show → ℕ → List TableRow → Step → Naming → Memories → Seen → List Verdict → Type 0
+StepEnds end.Done plan show start rows step names remembers s verdicts = IsDoneStep plan show start rows step names remembers s verdicts
+StepEnds (end.Fault stream kind) plan show start rows step names remembers s verdicts = IsFaulty plan start rows step stream kind
+StepEnds end.Memory plan show start rows step names remembers s verdicts = StandsBetween names remembers s (content_after plan start rows)
 
 -- what the store shows after a step at a time
 pub record IsStepped (plan : Plan) (time : ℕ) (old new : Seen) : Type 0 where

@@ -1,5 +1,5 @@
 -- The tasks of a layer.
-use Rattle.std.specs.Prelude.{ℕ, ◌≡◌, ◌<◌, List, [], ◌∷◌, Option, Some, None, Bool, true, length, slice_get, unwrap_or, IsTrue}
+use Rattle.std.specs.Prelude.{ℕ, ◌≡◌, ◌<◌, List, [], ◌∷◌, Option, Some, None, Bool, true, if◌then◌else◌, length, slice_get, unwrap_or, IsTrue}
 use Rattle.lola_value.specs.declared.value.Kind.{Kind}
 use Rattle.lola_value.specs.declared.value.Kind.TheVariants as kind
 use Rattle.lola_value.specs.declared.value.Params.{Params}
@@ -28,15 +28,19 @@ params_at (Some x) = x.params
 abbrev pub params_seen : Seen → ℕ → ℕ → Params
 params_seen s n i = params_at (slice_get (instances_seen s n) i)
 
--- an instance that lives, and the eval clause of its stream, which may be asked for it where its parameters are of their kinds
+-- the parameters that an instance is evaluated with: its own, and none where its stream has no spawn clause
+abbrev pub params_given : Seen → ℕ → ℕ → Params
+params_given s n i = if spawns_in (slice_get s.layout.streams n) then params_seen s n i else no_params
+
+-- an instance that lives, and the eval clause of its stream, which may be asked for it where parameters of its own are of their kinds
 pub record IsActiveTask (plan : Plan) (s : Seen) (t : Task) : Type 0 where
   pub stream : Stream
   pub stream_is : slice_get plan.spec.streams t.stream ≡ Some stream
   pub clause : Clause
   pub clause_is : stream.eval ≡ Some clause
   pub lives : t.index < length (instances_seen s t.stream)
-  pub asks : IsTrue (are_of_kinds stream.parameters (the_values (params_seen s t.stream t.index)))
-      → IsClauseAskable s (params_seen s t.stream t.index) plan.spec.texts (unwrap_or stream.kind kind.Int64 ∷ []) clause
+  pub asks : (IsTrue (spawns_in (slice_get s.layout.streams t.stream)) → IsTrue (are_of_kinds stream.parameters (the_values (params_given s t.stream t.index))))
+      → IsClauseAskable s (params_given s t.stream t.index) plan.spec.texts (unwrap_or stream.kind kind.Int64 ∷ []) clause
 
 -- the pacing of the eval clause of a task's stream
 abbrev pub pacing_of_task : Plan → Task → Option Pacing
@@ -58,15 +62,15 @@ pub record IsTask (plan : Plan) (m : Moment) (s : Seen) (t : Task) : Type 0 wher
 abbrev pub AreTasks : Plan → Moment → Seen → List Task → Type 0
 AreTasks plan m s tasks = (i : ℕ) (t : Task) → slice_get tasks i ≡ Some t → IsTask plan m s t
 
--- the same, in a form that is said in at most one way, so that a job can hold it: of the eval clause of a stream
-abbrev pub IsEvalReady : Seen → Params → List (List ℕ) → List Kind → Kind → Option Clause → Type 0
-IsEvalReady s p texts kinds want None = ⊥
-IsEvalReady s p texts kinds want (Some clause) = IsTrue (are_of_kinds kinds (the_values p)) → IsClauseAskable s p texts (want ∷ []) clause
+-- the same, in a form that is said in at most one way, so that a job can hold it: of the eval clause of a stream, which has a spawn clause or not
+abbrev pub IsEvalReady : Seen → Bool → Params → List (List ℕ) → List Kind → Kind → Option Clause → Type 0
+IsEvalReady s spawns p texts kinds want None = ⊥
+IsEvalReady s spawns p texts kinds want (Some clause) = (IsTrue spawns → IsTrue (are_of_kinds kinds (the_values p))) → IsClauseAskable s p texts (want ∷ []) clause
 
 -- of a stream
-abbrev pub IsReady : Seen → Params → List (List ℕ) → Option Stream → Type 0
-IsReady s p texts None = ⊥
-IsReady s p texts (Some stream) = IsEvalReady s p texts stream.parameters (unwrap_or stream.kind kind.Int64) stream.eval
+abbrev pub IsReady : Seen → Bool → Params → List (List ℕ) → Option Stream → Type 0
+IsReady s spawns p texts None = ⊥
+IsReady s spawns p texts (Some stream) = IsEvalReady s spawns p texts stream.parameters (unwrap_or stream.kind kind.Int64) stream.eval
 
 -- of each task
 abbrev pub AreReady : Plan → Moment → Seen → List Task → Type 0
@@ -74,12 +78,12 @@ AreReady plan m s tasks =
     (i : ℕ) (t : Task) → slice_get tasks i ≡ Some t
     → (t.index < length (instances_seen s t.stream)) × (t.stream < length plan.pacings) × IsTrue (may_be_active_in m (pacing_of_task plan t))
     × (IsTrue (is_local (pacing_of_task plan t)) → IsTrue (spawns_in (slice_get s.layout.streams t.stream)))
-    × (IsTrue (is_active_task plan m s t) → IsReady s (params_seen s t.stream t.index) plan.spec.texts (slice_get plan.spec.streams t.stream))
+    × (IsTrue (is_active_task plan m s t) → IsReady s (spawns_in (slice_get s.layout.streams t.stream)) (params_given s t.stream t.index) plan.spec.texts (slice_get plan.spec.streams t.stream))
 
 -- an outcome of a task: of the stream's kind, and the answer of its clause for the instance, where it is active or not
 pub record IsOutcome (plan : Plan) (active : Bool) (remembers : Memories) (s : Seen) (t : Task) (r : Outcome) : Type 0 where
   pub kind : IsTrue (is_outcome_of (kind_in (slice_get s.layout.streams t.stream)) r)
-  pub answer : IsAnswer plan remembers s (params_seen s t.stream t.index) (eval_answer plan.spec active (slice_get plan.spec.streams t.stream)) r
+  pub answer : IsAnswer plan remembers s (params_given s t.stream t.index) (eval_answer plan.spec active (slice_get plan.spec.streams t.stream)) r
 
 -- at a moment
 abbrev pub IsResult : Plan → Moment → Memories → Seen → Task → Outcome → Type 0

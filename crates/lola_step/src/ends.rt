@@ -1,27 +1,29 @@
 //! What a step comes to once its streams are evaluated: its fault, or its values.
 
-ghost use Rattle.std.specs.Prelude.{◌≡◌, ◌+◌, ◌<◌, ◌≤◌, List, [], ◌++◌, if◌then◌else◌, false, length, slice_get, true, vec_len, Some};
+ghost use Rattle.std.specs.Prelude.{◌≡◌, ◌+◌, ◌<◌, ◌≤◌, List, [], ◌++◌, IsTrue, if◌then◌else◌, false, true, length, slice_get, vec_len, Some};
 ghost use Rattle.std.specs.Vec.{vec_capacity};
 ghost use Rattle.lola_model.specs.Acceptance.{IsAccepted};
 ghost use Rattle.lola_model.specs.Faults.{lesser_kind};
-ghost use Rattle.lola_model.specs.Model.{is_input as is_input_of};
-ghost use Rattle.lola_model.specs.Store.{IsRunning, instances_seen, parameters_of};
+ghost use Rattle.lola_model.specs.Named.{has_clause as has_clause_of};
+ghost use Rattle.lola_model.specs.Store.{IsRunning, instances_seen, no_params, parameters_of, spawns_in};
 ghost use Rattle.lola_step.specs.Ends.{CollectsVerdicts, FindsFault};
-ghost use Rattle.lola_step.specs.Found.{FitLayout, IsFaultless, add_fault, add_verdict, fault_of, least_among, verdicts_among};
+ghost use Rattle.lola_step.specs.Found.{FitLayout, IsFaultless, add_fault, add_verdict, fault_of, is_hidden as is_hidden_of, least_among, verdicts_among, verdicts_with};
 ghost use Rattle.lola_step.specs.Notes.{AreOfStream, AreSpans, AreVerdicts, AreWithin, asked_in, in_span};
 ghost use Rattle.lola_step.specs.Progress.{IsOf};
 ghost use Rattle.lola_step.specs.Rooms.{rooms, total};
-ghost use Rattle.lola_step.specs.Tasks.{params_seen};
+ghost use Rattle.lola_step.specs.Tasks.{params_given};
 ghost use Rattle.lola_step.specs.declared.tasks.Task.{Task};
 
 use crate::mark::Mark;
+use crate::schedule::has_clause;
 use crate::scratch::Span;
-use crate::tasks::{Task, is_alone, own_params};
+use crate::tasks::{Task, no_parameters};
 use crate::verdict::Verdict;
+use lola_model::journal::Show;
 use lola_model::plan::Plan;
-use lola_model::spec::Stream;
+use lola_model::spec::{Sort, Stream};
 use lola_model::store::StreamStore;
-use lola_value::value::{FaultKind, Outcome};
+use lola_value::value::{FaultKind, Outcome, Value};
 
 /// The lesser of two kinds, by their numbers.
 fn lesser(kind: FaultKind, other: Option<FaultKind>) -> FaultKind
@@ -125,19 +127,60 @@ pub(crate) fn fault_of_step(
     }
 }
 
-/// The value of an instance, if it has one.
+/// A verdict without parameters, to be filled in.
+fn bare_verdict() -> Verdict
+    ensures { result.params ≡ no_params }
+{
+    Verdict {
+        stream: 0,
+        params: no_parameters(),
+        value: Value::Bool(false),
+    }
+}
+
+/// The value of an instance that has the parameters of a verdict that is lent, if it has one. The verdict is filled in, so that its
+/// parameters are not made anew for each.
+fn add_bare(bare: &mut Verdict, stream: u32, outcome: &Outcome, verdicts: &mut Vec<Verdict>)
+    requires room { vec_len verdicts.old < vec_capacity verdicts.old }
+    ensures bare { bare.new.params ≡ bare.old.params }
+    ensures items { verdicts.new.items ≡ verdicts.old.items ++ add_verdict stream bare.old.params outcome.now [] }
+    ensures count { vec_len verdicts.new ≤ vec_len verdicts.old + 1 }
+    ensures capacity { vec_capacity verdicts.new ≡ vec_capacity verdicts.old }
+{
+    if let Outcome::Value(value) = outcome {
+        bare.stream = stream;
+        bare.value = *value;
+        verdicts.push_reserved(*bare);
+    }
+}
+
+/// The values of a stream's instances, which have these outcomes and the parameters of a verdict that is lent.
+fn add_alone(bare: &mut Verdict, stream: u32, results: &[Outcome], verdicts: &mut Vec<Verdict>)
+    requires room { vec_len verdicts.old + length results.now ≤ vec_capacity verdicts.old }
+    ensures bare { bare.new.params ≡ bare.old.params }
+    ensures items { verdicts.new.items ≡ verdicts.old.items ++ verdicts_with stream bare.old.params results.now }
+    ensures count { vec_len verdicts.new ≤ vec_len verdicts.old + length results.now }
+    ensures capacity { vec_capacity verdicts.new ≡ vec_capacity verdicts.old }
+{
+    for outcome in results {
+        add_bare(bare, stream, outcome, verdicts);
+    }
+}
+
+/// The value of an instance with parameters of its own, if it has a value. It is a function of its own, so that no room for parameters is
+/// made where there are none.
+#[inline(never)]
 fn add_value<S: StreamStore>(
     store: &S,
     stream: u32,
     index: u32,
-    is_alone: bool,
     outcome: Outcome,
     verdicts: &mut Vec<Verdict>,
 )
-    requires alone { is_alone ≡ true → parameters_of (slice_get (S.seen store.now).layout.streams stream) ≡ [] }
+    requires spawns { IsTrue (spawns_in (slice_get (S.seen store.now).layout.streams stream)) }
     requires lives { index < length (instances_seen (S.seen store.now) stream) }
     requires room { vec_len verdicts.old < vec_capacity verdicts.old }
-    ensures items { verdicts.new.items ≡ verdicts.old.items ++ add_verdict stream (params_seen (S.seen store.now) stream index) outcome [] }
+    ensures items { verdicts.new.items ≡ verdicts.old.items ++ add_verdict stream (params_given (S.seen store.now) stream index) outcome [] }
     ensures fit { FitLayout (S.seen store.now).layout verdicts.old.items → FitLayout (S.seen store.now).layout verdicts.new.items }
     ensures count { vec_len verdicts.new ≤ vec_len verdicts.old + 1 }
     ensures capacity { vec_capacity verdicts.new ≡ vec_capacity verdicts.old }
@@ -145,22 +188,21 @@ fn add_value<S: StreamStore>(
     if let Outcome::Value(value) = outcome {
         verdicts.push_reserved(Verdict {
             stream,
-            params: own_params(store, stream, index, is_alone),
+            params: store.params_of(stream, index),
             value,
         });
     }
 }
 
-/// The values of a stream's instances that were asked, of which these are the outcomes.
+/// The values of the instances that were asked of a stream with a spawn clause, of which these are the outcomes.
 fn add_values<S: StreamStore>(
     store: &S,
     stream: u32,
-    is_alone: bool,
     tasks: &[Task],
     results: &[Outcome],
     verdicts: &mut Vec<Verdict>,
 )
-    requires alone { is_alone ≡ true → parameters_of (slice_get (S.seen store.now).layout.streams stream) ≡ [] }
+    requires spawns { IsTrue (spawns_in (slice_get (S.seen store.now).layout.streams stream)) }
     requires each { length tasks.now ≡ length results.now }
     requires asked { AreOfStream stream 0 (length (instances_seen (S.seen store.now) stream)) tasks.now }
     requires room { vec_len verdicts.old + length results.now ≤ vec_capacity verdicts.old }
@@ -170,38 +212,103 @@ fn add_values<S: StreamStore>(
     ensures capacity { vec_capacity verdicts.new ≡ vec_capacity verdicts.old }
 {
     for (i, task) in tasks.iter().enumerate() {
-        add_value(store, stream, task.index, is_alone, results[i], verdicts);
+        add_value(store, stream, task.index, results[i], verdicts);
     }
 }
 
-/// The values of a stream, if it is no input.
-fn add_outputs<S: StreamStore>(
+/// The values of a stream, whose outcomes stand in a span. Where it has no spawn clause it has no parameters either, and the store is
+/// not asked for any.
+fn add_evaluated<S: StreamStore>(
     store: &S,
     stream: &Stream,
     number: u32,
+    span: Span,
     tasks: &[Task],
     results: &[Outcome],
+    bare: &mut Verdict,
     verdicts: &mut Vec<Verdict>,
 )
-    requires layout { parameters_of (slice_get (S.seen store.now).layout.streams number) ≡ stream.now.parameters }
+    requires spawns { spawns_in (slice_get (S.seen store.now).layout.streams number) ≡ has_clause_of stream.now.spawn }
+    requires unnamed { has_clause_of stream.now.spawn ≡ false → parameters_of (slice_get (S.seen store.now).layout.streams number) ≡ [] }
+    requires bare { bare.old.params ≡ no_params }
     requires each { length tasks.now ≡ length results.now }
-    requires asked { AreOfStream number 0 (length (instances_seen (S.seen store.now) number)) tasks.now }
-    requires room { vec_len verdicts.old + length results.now ≤ vec_capacity verdicts.old }
-    ensures items { verdicts.new.items ≡ verdicts.old.items
-        ++ (if is_input_of stream.now then [] else verdicts_among (S.seen store.now) number tasks.now results.now) }
+    requires within { span.from + span.count ≤ length results.now }
+    requires asked { AreOfStream number 0 (length (instances_seen (S.seen store.now) number)) (asked_in tasks.now (Some span)) }
+    requires room { vec_len verdicts.old + span.count ≤ vec_capacity verdicts.old }
+    ensures bare { bare.new.params ≡ no_params }
+    ensures items { verdicts.new.items ≡ verdicts.old.items ++ verdicts_among (S.seen store.now) number (asked_in tasks.now (Some span)) (in_span results.now (Some span)) }
     ensures fit { FitLayout (S.seen store.now).layout verdicts.old.items → FitLayout (S.seen store.now).layout verdicts.new.items }
-    ensures count { vec_len verdicts.new ≤ vec_len verdicts.old + length results.now }
+    ensures count { vec_len verdicts.new ≤ vec_len verdicts.old + span.count }
     ensures capacity { vec_capacity verdicts.new ≡ vec_capacity verdicts.old }
 {
-    if !stream.is_input() {
-        add_values(store, number, is_alone(stream), tasks, results, verdicts);
+    let outcomes = outcomes_of(results, span);
+    if has_clause(&stream.spawn) {
+        add_values(store, number, tasks_of(tasks, span), outcomes, verdicts);
+    } else {
+        add_alone(bare, number, outcomes, verdicts);
     }
 }
 
-/// The values of all streams but inputs, by the streams' numbers and in the order of birth.
+/// Whether a span has no outcome.
+fn is_empty(span: Span) -> bool
+    ensures { result ≡ true → span.count ≡ 0 }
+{
+    span.count == 0
+}
+
+/// Whether the values of a stream have no lines: those of inputs, and those of outputs where triggers alone are shown.
+fn is_hidden(show: Show, stream: &Stream) -> bool
+    ensures { result ≡ is_hidden_of show stream.now }
+{
+    match stream.sort {
+        Sort::Input => true,
+        Sort::Output => match show {
+            Show::Triggers => true,
+            Show::Outputs => false,
+        },
+        Sort::Trigger => false,
+    }
+}
+
+/// The values of a stream, if they may have lines. A stream of which no instance was asked is passed over at once.
+fn add_shown<S: StreamStore>(
+    store: &S,
+    show: Show,
+    stream: &Stream,
+    number: u32,
+    span: Span,
+    tasks: &[Task],
+    results: &[Outcome],
+    bare: &mut Verdict,
+    verdicts: &mut Vec<Verdict>,
+)
+    requires spawns { spawns_in (slice_get (S.seen store.now).layout.streams number) ≡ has_clause_of stream.now.spawn }
+    requires unnamed { has_clause_of stream.now.spawn ≡ false → parameters_of (slice_get (S.seen store.now).layout.streams number) ≡ [] }
+    requires bare { bare.old.params ≡ no_params }
+    requires each { length tasks.now ≡ length results.now }
+    requires within { span.from + span.count ≤ length results.now }
+    requires asked { AreOfStream number 0 (length (instances_seen (S.seen store.now) number)) (asked_in tasks.now (Some span)) }
+    requires room { vec_len verdicts.old + span.count ≤ vec_capacity verdicts.old }
+    ensures bare { bare.new.params ≡ no_params }
+    ensures items { verdicts.new.items ≡ verdicts.old.items
+        ++ (if is_hidden_of show stream.now then [] else verdicts_among (S.seen store.now) number (asked_in tasks.now (Some span)) (in_span results.now (Some span))) }
+    ensures fit { FitLayout (S.seen store.now).layout verdicts.old.items → FitLayout (S.seen store.now).layout verdicts.new.items }
+    ensures count { vec_len verdicts.new ≤ vec_len verdicts.old + span.count }
+    ensures capacity { vec_capacity verdicts.new ≡ vec_capacity verdicts.old }
+{
+    if is_empty(span) {
+        return;
+    }
+    if !is_hidden(show, stream) {
+        add_evaluated(store, stream, number, span, tasks, results, bare, verdicts);
+    }
+}
+
+/// The values of all streams that may have lines, by the streams' numbers and in the order of birth.
 pub(crate) fn collect<S: StreamStore>(
     plan: &Plan,
     store: &S,
+    show: Show,
     spans: &[Span],
     tasks: &[Task],
     results: &[Outcome],
@@ -216,17 +323,13 @@ pub(crate) fn collect<S: StreamStore>(
     requires none { verdicts.old.items ≡ [] }
     requires room { total (rooms (S.seen store.now)) ≤ vec_capacity verdicts.old }
     ensures verdicts { AreVerdicts plan.now verdicts.new.items }
-    ensures values { CollectsVerdicts plan.now spans.now tasks.now results.now (S.remembers store.now) (S.seen store.now) verdicts.new.items }
+    ensures values { CollectsVerdicts plan.now show spans.now tasks.now results.now (S.remembers store.now) (S.seen store.now) verdicts.new.items }
     ensures capacity { vec_capacity verdicts.new ≡ vec_capacity verdicts.old }
 {
+    let mut bare = bare_verdict();
     for (n, stream) in plan.spec.streams.as_slice().iter().enumerate() {
-        add_outputs(
-            store,
-            stream,
-            n as u32,
-            tasks_of(tasks, spans[n]),
-            outcomes_of(results, spans[n]),
-            verdicts,
+        add_shown(
+            store, show, stream, n as u32, spans[n], tasks, results, &mut bare, verdicts,
         );
     }
 }

@@ -7,15 +7,19 @@ ghost use Rattle.lola_value.specs.Times.{latest};
 ghost use Rattle.lola_value.specs.declared.value.Outcome.TheVariants as outcome;
 ghost use Rattle.lola_model.specs.Acceptance.{IsAccepted};
 ghost use Rattle.lola_model.specs.Content.{Content, seen};
-ghost use Rattle.lola_model.specs.Store.{IsRunning, Stands, instances_seen, layout_of};
+ghost use Rattle.lola_model.specs.Model.{eval_pacing};
+ghost use Rattle.lola_model.specs.Named.{has_clause as has_clause_of};
+ghost use Rattle.lola_model.specs.NextStep.{is_local};
+ghost use Rattle.lola_model.specs.Store.{IsRunning, Stands, instances_seen, layout_of, no_params};
 ghost use Rattle.lola_model.specs.declared.spec.Stream.{Stream};
 ghost use Rattle.lola_contents.specs.Changed.{told};
 ghost use Rattle.lola_stages.specs.Stages.{eval_stage, layer_stage};
 ghost use Rattle.lola_step.specs.Evals.{EvalsTake, HasRooms, IsReadyFor, ShowsMore};
 ghost use Rattle.lola_step.specs.Found.{has_fault, is_fault};
-ghost use Rattle.lola_step.specs.Given.{AreHeldIn, AreResults, CanGive, CanGiveAll, after_all, after_giving, told_outcomes};
+ghost use Rattle.lola_step.specs.Given.{AreAnswered, AreHeldIn, AreResults, CanGive, CanGiveAll, after_all, after_giving, told_outcomes};
 ghost use Rattle.lola_step.specs.Notes.{is_fine as is_fine_mark, layer_spans, layer_tasks, places_asked, places_from, places_paced, runs_in, sought_at, stream_tasks, tasks_at};
 ghost use Rattle.lola_step.specs.Progress.{GoesOn, IsAt, IsMomentOf, IsOf};
+ghost use Rattle.lola_step.specs.Rooms.{rooms, to_come, total};
 ghost use Rattle.lola_step.specs.Schedules.{has_turn, turns_of};
 ghost use Rattle.lola_step.specs.Sought.{AreSought, IsSilentElsewhere};
 ghost use Rattle.lola_step.specs.Tasks.{AreTasks};
@@ -23,10 +27,10 @@ ghost use Rattle.lola_step.specs.declared.schedule.Turn.TheVariants as turn;
 
 use crate::mark::Mark;
 use crate::moment::{Moment, may_be_active};
-use crate::schedule::stream_at;
+use crate::schedule::{has_clause, stream_at};
 use crate::scratch::Span;
 use crate::seek::seek;
-use crate::tasks::{Task, eval_pacing_at, run_tasks};
+use crate::tasks::{Task, eval_pacing_at, run_tasks, task_outcome};
 use lola_code::plan::PlanCode;
 use lola_contents::calls::{poison, push};
 use lola_model::pacing::Pacing;
@@ -34,7 +38,7 @@ use lola_model::plan::Plan;
 use lola_model::spec::Stream;
 use lola_model::store::{StreamStore, Whereabouts};
 use lola_port::Gate;
-use lola_value::value::Outcome;
+use lola_value::value::{Outcome, Params};
 use std::thread::Threads;
 
 /// Whether a spawn clause did not fail.
@@ -128,34 +132,28 @@ fn sought_of(sought: &[Whereabouts], n: usize) -> Whereabouts
     }
 }
 
-/// A task for each of the first instances of a stream, with a place for its outcome.
-fn add_all(stream: u32, count: u32, tasks: &mut Vec<Task>, results: &mut Vec<Outcome>)
-    requires tasks_room { vec_len tasks.old + count ≤ vec_capacity tasks.old }
-    requires results_room { vec_len results.old + count ≤ vec_capacity results.old }
+/// A task for each of the first instances of a stream.
+fn add_all(stream: u32, count: u32, tasks: &mut Vec<Task>)
+    requires { vec_len tasks.old + count ≤ vec_capacity tasks.old }
     ensures tasks { tasks.new.items ≡ tasks.old.items ++ tasks_at stream (places_from 0 count) }
-    ensures results { results.new.items ≡ results.old.items ++ replicate count outcome.Missing }
-    ensures capacities { (vec_capacity tasks.new ≡ vec_capacity tasks.old) × (vec_capacity results.new ≡ vec_capacity results.old) }
+    ensures capacity { vec_capacity tasks.new ≡ vec_capacity tasks.old }
 {
     for index in 0..count {
         tasks.push_reserved(Task { stream, index });
-        results.push_reserved(Outcome::Missing);
     }
 }
 
-/// A task for each of these instances of a stream, with a place for its outcome.
-fn add_listed(stream: u32, places: &[u32], tasks: &mut Vec<Task>, results: &mut Vec<Outcome>)
-    requires tasks_room { vec_len tasks.old + length places.now ≤ vec_capacity tasks.old }
-    requires results_room { vec_len results.old + length places.now ≤ vec_capacity results.old }
+/// A task for each of these instances of a stream.
+fn add_listed(stream: u32, places: &[u32], tasks: &mut Vec<Task>)
+    requires { vec_len tasks.old + length places.now ≤ vec_capacity tasks.old }
     ensures tasks { tasks.new.items ≡ tasks.old.items ++ tasks_at stream places.now }
-    ensures results { results.new.items ≡ results.old.items ++ replicate (length places.now) outcome.Missing }
-    ensures capacities { (vec_capacity tasks.new ≡ vec_capacity tasks.old) × (vec_capacity results.new ≡ vec_capacity results.old) }
+    ensures capacity { vec_capacity tasks.new ≡ vec_capacity tasks.old }
 {
     for index in places {
         tasks.push_reserved(Task {
             stream,
             index: *index,
         });
-        results.push_reserved(Outcome::Missing);
     }
 }
 
@@ -167,24 +165,48 @@ fn add_paced<S: StreamStore>(
     stream: u32,
     places: &mut Vec<u32>,
     tasks: &mut Vec<Task>,
-    results: &mut Vec<Outcome>,
 )
     requires in_time { moment.now.time ≤ latest }
     requires store { stream < length (S.seen store.now).layout.streams }
     requires places_room { length (instances_seen (S.seen store.now) stream) ≤ vec_capacity places.old }
     requires tasks_room { vec_len tasks.old + length (places_paced pacing.now moment.now (S.seen store.now) stream) ≤ vec_capacity tasks.old }
-    requires results_room { vec_len results.old + length (places_paced pacing.now moment.now (S.seen store.now) stream) ≤ vec_capacity results.old }
     ensures tasks { tasks.new.items ≡ tasks.old.items ++ tasks_at stream (places_paced pacing.now moment.now (S.seen store.now) stream) }
-    ensures results { results.new.items ≡ results.old.items ++ replicate (length (places_paced pacing.now moment.now (S.seen store.now) stream)) outcome.Missing }
     ensures places { vec_capacity places.new ≡ vec_capacity places.old }
-    ensures capacities { (vec_capacity tasks.new ≡ vec_capacity tasks.old) × (vec_capacity results.new ≡ vec_capacity results.old) }
+    ensures capacity { vec_capacity tasks.new ≡ vec_capacity tasks.old }
 {
     match pacing {
         Some(Pacing::Local(_)) => {
             store.list_due(stream, moment.time, places);
-            add_listed(stream, places.as_slice(), tasks, results);
+            add_listed(stream, places.as_slice(), tasks);
         }
-        _ => add_all(stream, store.instances(stream), tasks, results),
+        _ => add_all(stream, store.instances(stream), tasks),
+    }
+}
+
+/// The same of a stream with a spawn clause or without one: without one its pacing is not local, and it has one instance, of which the
+/// store is not asked.
+fn add_active<S: StreamStore>(
+    moment: &Moment,
+    pacing: &Option<Pacing>,
+    store: &S,
+    spawns: bool,
+    stream: u32,
+    places: &mut Vec<u32>,
+    tasks: &mut Vec<Task>,
+)
+    requires in_time { moment.now.time ≤ latest }
+    requires store { stream < length (S.seen store.now).layout.streams }
+    requires single { spawns ≡ false → (is_local pacing.now ≡ false) × (length (instances_seen (S.seen store.now) stream) ≡ 1) }
+    requires places_room { length (instances_seen (S.seen store.now) stream) ≤ vec_capacity places.old }
+    requires tasks_room { vec_len tasks.old + length (places_paced pacing.now moment.now (S.seen store.now) stream) ≤ vec_capacity tasks.old }
+    ensures tasks { tasks.new.items ≡ tasks.old.items ++ tasks_at stream (places_paced pacing.now moment.now (S.seen store.now) stream) }
+    ensures places { vec_capacity places.new ≡ vec_capacity places.old }
+    ensures capacity { vec_capacity tasks.new ≡ vec_capacity tasks.old }
+{
+    if spawns {
+        add_paced(moment, pacing, store, stream, places, tasks);
+    } else {
+        tasks.push_reserved(Task { stream, index: 0 });
     }
 }
 
@@ -195,28 +217,26 @@ fn add_asked<S: StreamStore>(
     sought: Whereabouts,
     pacing: &Option<Pacing>,
     store: &S,
+    spawns: bool,
     stream: u32,
     places: &mut Vec<u32>,
     tasks: &mut Vec<Task>,
-    results: &mut Vec<Outcome>,
 )
     requires in_time { moment.now.time ≤ latest }
+    requires single { spawns ≡ false → (is_local pacing.now ≡ false) × (length (instances_seen (S.seen store.now) stream) ≡ 1) }
     requires store { stream < length (S.seen store.now).layout.streams }
     requires places_room { length (instances_seen (S.seen store.now) stream) ≤ vec_capacity places.old }
     requires tasks_room { vec_len tasks.old + length (places_asked sought pacing.now moment.now (S.seen store.now) stream) ≤ vec_capacity tasks.old }
-    requires results_room { vec_len results.old + length (places_asked sought pacing.now moment.now (S.seen store.now) stream) ≤ vec_capacity results.old }
     ensures tasks { tasks.new.items ≡ tasks.old.items ++ tasks_at stream (places_asked sought pacing.now moment.now (S.seen store.now) stream) }
-    ensures results { results.new.items ≡ results.old.items ++ replicate (length (places_asked sought pacing.now moment.now (S.seen store.now) stream)) outcome.Missing }
     ensures places { vec_capacity places.new ≡ vec_capacity places.old }
-    ensures capacities { (vec_capacity tasks.new ≡ vec_capacity tasks.old) × (vec_capacity results.new ≡ vec_capacity results.old) }
+    ensures capacity { vec_capacity tasks.new ≡ vec_capacity tasks.old }
 {
     match sought {
-        Whereabouts::Unknown => add_paced(moment, pacing, store, stream, places, tasks, results),
+        Whereabouts::Unknown => add_active(moment, pacing, store, spawns, stream, places, tasks),
         Whereabouts::Nowhere => {}
         Whereabouts::At(index) => {
             if index < store.instances(stream) {
                 tasks.push_reserved(Task { stream, index });
-                results.push_reserved(Outcome::Missing);
             }
         }
     }
@@ -235,7 +255,6 @@ fn gather_stream<S: StreamStore>(
     stream: &Stream,
     places: &mut Vec<u32>,
     tasks: &mut Vec<Task>,
-    results: &mut Vec<Outcome>,
     spans: &mut [Span],
 )
     requires few { n ≤ 1024 }
@@ -244,17 +263,16 @@ fn gather_stream<S: StreamStore>(
     requires marks { n < length marks.now }
     requires in_time { moment.now.time ≤ latest }
     requires order { moment.now.start ≤ moment.now.time }
+    requires single { has_clause_of stream.now.spawn ≡ false → (is_local (eval_pacing (slice_get plan.now.pacings n)) ≡ false) × (length (instances_seen (S.seen store.now) n) ≡ 1) }
     requires spans { n < length spans.old }
     requires store { n < length (S.seen store.now).layout.streams }
     requires places_room { length (instances_seen (S.seen store.now) n) ≤ vec_capacity places.old }
     requires tasks_room { vec_len tasks.old + length (stream_tasks plan.now moment.now marks.now sought.now (S.seen store.now) layer n stream.now) ≤ vec_capacity tasks.old }
-    requires results_room { vec_len results.old + length (stream_tasks plan.now moment.now marks.now sought.now (S.seen store.now) layer n stream.now) ≤ vec_capacity results.old }
     ensures tasks { tasks.new.items ≡ tasks.old.items ++ stream_tasks plan.now moment.now marks.now sought.now (S.seen store.now) layer n stream.now }
-    ensures results { results.new.items ≡ results.old.items ++ replicate (length (stream_tasks plan.now moment.now marks.now sought.now (S.seen store.now) layer n stream.now)) outcome.Missing }
     ensures spans { spans.new ≡ (if runs_in plan.now moment.now marks.now layer n stream.now
         then slice_set spans.old n (record { from = vec_len tasks.old; count = length (stream_tasks plan.now moment.now marks.now sought.now (S.seen store.now) layer n stream.now) }) else spans.old) }
     ensures places { vec_capacity places.new ≡ vec_capacity places.old }
-    ensures capacities { (vec_capacity tasks.new ≡ vec_capacity tasks.old) × (vec_capacity results.new ≡ vec_capacity results.old) }
+    ensures capacity { vec_capacity tasks.new ≡ vec_capacity tasks.old }
 {
     if runs(plan, moment, marks, n) {
         let from = tasks.len();
@@ -265,10 +283,10 @@ fn gather_stream<S: StreamStore>(
             whereabouts,
             pacing,
             store,
+            has_clause(&stream.spawn),
             n as u32,
             places,
             tasks,
-            results,
         );
         spans[n] = Span {
             from,
@@ -278,7 +296,7 @@ fn gather_stream<S: StreamStore>(
 }
 
 /// Lists the tasks of a layer behind those of the layers before: for each stream that runs in it, by the streams' numbers, one for each
-/// instance that is asked in order of birth. Each gets a place for its outcome. Those that have a turn in it are told.
+/// instance that is asked in order of birth. Those that have a turn in it are told.
 fn gather<S: StreamStore>(
     plan: &Plan,
     turns: &[u32],
@@ -289,7 +307,6 @@ fn gather<S: StreamStore>(
     sought: &[Whereabouts],
     places: &mut Vec<u32>,
     tasks: &mut Vec<Task>,
-    results: &mut Vec<Outcome>,
     spans: &mut [Span],
 )
     requires turns { turns.now ≡ turns_of plan.now (turn.Eval layer) }
@@ -298,13 +315,12 @@ fn gather<S: StreamStore>(
     requires moment { IsMomentOf moment.now (S.seen store.now) }
     requires marks { length marks.now ≡ length plan.now.spec.streams }
     requires spans { length spans.old ≡ length plan.now.spec.streams }
-    requires rooms { HasRooms plan.now (eval_stage (length plan.now.spec.streams) layer) (S.seen store.now) places.old tasks.old results.old }
+    requires places_room { total (rooms (S.seen store.now)) ≤ vec_capacity places.old }
+    requires tasks_room { vec_len tasks.old + to_come plan.now.layers (eval_stage (length plan.now.spec.streams) layer) 0 plan.now.spec.streams (rooms (S.seen store.now)) ≤ vec_capacity tasks.old }
     ensures tasks { tasks.new.items ≡ tasks.old.items ++ layer_tasks plan.now moment.now marks.now sought.now (S.seen store.now) layer 0 plan.now.spec.streams }
-    ensures results { results.new.items ≡ results.old.items
-        ++ replicate (length (layer_tasks plan.now moment.now marks.now sought.now (S.seen store.now) layer 0 plan.now.spec.streams)) outcome.Missing }
     ensures spans { spans.new ≡ layer_spans plan.now moment.now marks.now sought.now (S.seen store.now) layer (length tasks.old.items) 0 plan.now.spec.streams spans.old }
     ensures places { vec_capacity places.new ≡ vec_capacity places.old }
-    ensures capacities { (vec_capacity tasks.new ≡ vec_capacity tasks.old) × (vec_capacity results.new ≡ vec_capacity results.old) }
+    ensures capacity { vec_capacity tasks.new ≡ vec_capacity tasks.old }
 {
     for number in turns {
         let n = *number as usize;
@@ -319,7 +335,6 @@ fn gather<S: StreamStore>(
             stream_at(plan, *number),
             places,
             tasks,
-            results,
             spans,
         );
     }
@@ -348,7 +363,7 @@ fn sharers_of(workers: u32, tasks: usize, is_first: bool) -> u32
 }
 
 /// Evaluates each task, split among so many threads, and leaves its outcome behind the first `from` results.
-fn answer_tasks<R: Threads + Sync, S: StreamStore + Sync, G: Gate + Sync>(
+fn share_tasks<R: Threads + Sync, S: StreamStore + Sync, G: Gate + Sync>(
     rt: &R,
     gate: &G,
     plan: &Plan,
@@ -373,6 +388,122 @@ fn answer_tasks<R: Threads + Sync, S: StreamStore + Sync, G: Gate + Sync>(
 {
     let (_, places) = results.split_at_mut(from);
     run_tasks(rt, gate, plan, code, moment, store, tasks, places, workers);
+}
+
+/// Places for so many outcomes behind those that stand there.
+fn add_places(results: &mut Vec<Outcome>, count: usize)
+    requires room { vec_len results.old + count ≤ vec_capacity results.old }
+    ensures items { results.new.items ≡ results.old.items ++ replicate count outcome.Missing }
+    ensures more { vec_len results.new ≡ vec_len results.old + count }
+    ensures capacity { vec_capacity results.new ≡ vec_capacity results.old }
+{
+    for _made in 0..count {
+        results.push_reserved(Outcome::Missing);
+    }
+}
+
+/// Evaluates each task, split among so many threads, and puts their outcomes behind those that stand there.
+fn answer_shared<R: Threads + Sync, S: StreamStore + Sync, G: Gate + Sync>(
+    rt: &R,
+    gate: &G,
+    plan: &Plan,
+    code: &PlanCode,
+    moment: &Moment,
+    store: &S,
+    tasks: &[Task],
+    results: &mut Vec<Outcome>,
+    workers: u32,
+)
+    requires code { code.now ≡ plan.now.spec }
+    requires workers { (1 ≤ workers) × (workers ≤ 64) }
+    requires room { vec_len results.old + length tasks.now ≤ vec_capacity results.old }
+    requires numbered { length tasks.now < 2 ^ 32 }
+    requires in_time { moment.now.time ≤ latest }
+    requires running { IsRunning (S.seen store.now) }
+    requires layout { (S.seen store.now).layout ≡ layout_of plan.now }
+    requires ready { AreTasks plan.now moment.now (S.seen store.now) tasks.now }
+    ensures answered { AreAnswered plan.now moment.now (S.remembers store.now) (S.seen store.now) tasks.now results.old.items results.new.items }
+    ensures more { vec_len results.new ≡ vec_len results.old + length tasks.now }
+    ensures capacity { vec_capacity results.new ≡ vec_capacity results.old }
+{
+    let from = results.len();
+    add_places(results, tasks.len());
+    share_tasks(
+        rt,
+        gate,
+        plan,
+        code,
+        moment,
+        store,
+        tasks,
+        results.as_mut_slice(),
+        from,
+        workers,
+    );
+}
+
+/// Evaluates each task, one after the other, and puts their outcomes behind those that stand there. Of each task the gate hears before it
+/// is done.
+fn answer_in_turn<S: StreamStore, G: Gate>(
+    gate: &G,
+    plan: &Plan,
+    code: &PlanCode,
+    moment: &Moment,
+    none: &Params,
+    store: &S,
+    tasks: &[Task],
+    results: &mut Vec<Outcome>,
+)
+    requires code { code.now ≡ plan.now.spec }
+    requires none { none.now ≡ no_params }
+    requires room { vec_len results.old + length tasks.now ≤ vec_capacity results.old }
+    requires numbered { length tasks.now < 2 ^ 32 }
+    requires in_time { moment.now.time ≤ latest }
+    requires running { IsRunning (S.seen store.now) }
+    requires layout { (S.seen store.now).layout ≡ layout_of plan.now }
+    requires ready { AreTasks plan.now moment.now (S.seen store.now) tasks.now }
+    ensures answered { AreAnswered plan.now moment.now (S.remembers store.now) (S.seen store.now) tasks.now results.old.items results.new.items }
+    ensures more { vec_len results.new ≡ vec_len results.old + length tasks.now }
+    ensures capacity { vec_capacity results.new ≡ vec_capacity results.old }
+{
+    for (i, task) in tasks.iter().enumerate() {
+        gate.enter(i as u32);
+        results.push_reserved(task_outcome(plan, code, moment, none, store, *task));
+    }
+}
+
+/// Evaluates each task, split among so many workers, and puts their outcomes behind those that stand there. One worker is the caller,
+/// who makes no places first.
+fn answer_tasks<R: Threads + Sync, S: StreamStore + Sync, G: Gate + Sync>(
+    rt: &R,
+    gate: &G,
+    plan: &Plan,
+    code: &PlanCode,
+    moment: &Moment,
+    none: &Params,
+    store: &S,
+    tasks: &[Task],
+    results: &mut Vec<Outcome>,
+    workers: u32,
+)
+    requires code { code.now ≡ plan.now.spec }
+    requires none { none.now ≡ no_params }
+    requires workers { (1 ≤ workers) × (workers ≤ 64) }
+    requires room { vec_len results.old + length tasks.now ≤ vec_capacity results.old }
+    requires numbered { length tasks.now < 2 ^ 32 }
+    requires in_time { moment.now.time ≤ latest }
+    requires running { IsRunning (S.seen store.now) }
+    requires layout { (S.seen store.now).layout ≡ layout_of plan.now }
+    requires ready { AreTasks plan.now moment.now (S.seen store.now) tasks.now }
+    ensures answered { AreAnswered plan.now moment.now (S.remembers store.now) (S.seen store.now) tasks.now results.old.items results.new.items }
+    ensures more { vec_len results.new ≡ vec_len results.old + length tasks.now }
+    ensures capacity { vec_capacity results.new ≡ vec_capacity results.old }
+{
+    if workers == 1 {
+        answer_in_turn(gate, plan, code, moment, none, store, tasks, results);
+    } else {
+        answer_shared(rt, gate, plan, code, moment, store, tasks, results, workers);
+    }
 }
 
 /// Gives an instance its outcome: others see a fault as poison.
@@ -427,6 +558,7 @@ pub(crate) fn eval_layer<R: Threads + Sync, S: StreamStore + Sync, G: Gate + Syn
     turns: &[u32],
     code: &PlanCode,
     moment: &Moment,
+    none: &Params,
     store: &mut S,
     layer: u32,
     marks: &[Mark],
@@ -440,6 +572,7 @@ pub(crate) fn eval_layer<R: Threads + Sync, S: StreamStore + Sync, G: Gate + Syn
 ) -> bool
     requires turns { turns.now ≡ turns_of plan.now (turn.Eval layer) }
     requires code { code.now ≡ plan.now.spec }
+    requires none { none.now ≡ no_params }
     requires workers { (1 ≤ workers) × (workers ≤ 64) }
     requires accepted { IsAccepted plan.now }
     requires at { IsAt plan.now (eval_stage (length plan.now.spec.streams) layer) (S.seen store.old) }
@@ -459,9 +592,10 @@ pub(crate) fn eval_layer<R: Threads + Sync, S: StreamStore + Sync, G: Gate + Syn
     ensures faultless { result ≡ false → has_fault results.old.items ≡ false → has_fault results.new.items ≡ false }
 {
     let from = tasks.len();
+    let done = results.len();
     seek_layer(plan, turns, moment, store, layer, marks, sought);
     gather(
-        plan, turns, moment, store, layer, marks, sought, places, tasks, results, spans,
+        plan, turns, moment, store, layer, marks, sought, places, tasks, spans,
     );
     let sharers = sharers_of(workers, tasks.len() - from, is_first);
     answer_tasks(
@@ -470,11 +604,11 @@ pub(crate) fn eval_layer<R: Threads + Sync, S: StreamStore + Sync, G: Gate + Syn
         plan,
         code,
         moment,
+        none,
         store,
         &tasks[from..],
-        results.as_mut_slice(),
-        from,
+        results,
         sharers,
     );
-    give_all(store, &tasks[from..], &results[from..])
+    give_all(store, &tasks[from..], &results[done..])
 }

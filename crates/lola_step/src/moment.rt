@@ -102,6 +102,7 @@ pub(crate) fn may_be_active(moment: &Moment, pacing: &Option<Pacing>) -> bool
 }
 
 /// Whether a moment is a deadline of a local rate for an instance that was born at a time.
+#[inline(never)]
 fn is_deadline_since(moment: &Moment, born: u64, rate: &Rate) -> bool
     requires in_time { moment.now.time ≤ latest }
     ensures { result ≡ active_since moment.now born rate.now }
@@ -113,6 +114,7 @@ fn is_deadline_since(moment: &Moment, born: u64, rate: &Rate) -> bool
 }
 
 /// Whether a pacing that may be active is so for an instance. The store is asked for its birth only where the rate is local.
+#[inline(always)]
 pub(crate) fn is_active_for<S: StreamStore>(
     moment: &Moment,
     pacing: &Option<Pacing>,

@@ -46,7 +46,7 @@ pub struct Schedule {
 }
 
 /// Whether there is a clause.
-fn has_clause(clause: &Option<Clause>) -> bool
+pub(crate) fn has_clause(clause: &Option<Clause>) -> bool
     ensures { result ≡ has_clause_of clause.now }
 {
     clause.is_some()

@@ -8,7 +8,7 @@ ghost use Rattle.lola_model.specs.Acceptance.{IsAccepted};
 ghost use Rattle.lola_model.specs.Content.{Content};
 ghost use Rattle.lola_model.specs.Runs.{content_after};
 ghost use Rattle.lola_model.specs.Standing.{StandsBetween};
-ghost use Rattle.lola_model.specs.Store.{IsRunning, IsStarted, Stands, after_prepare, never_spawns, start_seen, time_seen};
+ghost use Rattle.lola_model.specs.Store.{IsRunning, IsStarted, Stands, after_prepare, never_spawns, no_params, start_seen, time_seen};
 ghost use Rattle.lola_model.specs.Table.{Step, TableRow};
 ghost use Rattle.lola_stages.specs.Stages.{layer_stage};
 ghost use Rattle.lola_step.specs.Beginnings.{moment_at};
@@ -30,12 +30,14 @@ use crate::inputs::tell_inputs;
 use crate::moment::{Moment, present_inputs};
 use crate::scratch::{Scratch, make_room};
 use crate::spawns::spawn_layer;
+use crate::tasks::no_parameters;
 use lola_contents::calls::{begin, prepare};
+use lola_model::journal::Show;
 use lola_model::plan::Plan;
 use lola_model::store::StreamStore;
 use lola_port::Gate;
 use lola_value::text::Memory;
-use lola_value::value::Outcome;
+use lola_value::value::{Outcome, Params};
 use std::thread::Threads;
 
 /// The moment of a step.
@@ -62,12 +64,13 @@ fn one_of(first: bool, second: bool, third: bool) -> bool
     first || second || third
 }
 
-/// Evaluates all streams, layer by layer.
+/// Evaluates all streams, layer by layer. No parameters are lent to it, for instances that have none.
 fn evaluate<R: Threads + Sync, S: StreamStore + Sync, G: Gate + Sync>(
     rt: &R,
     gate: &G,
     plan: &Plan,
     moment: &Moment,
+    none: &Params,
     store: &mut S,
     scratch: &mut Scratch,
     workers: u32,
@@ -76,6 +79,7 @@ fn evaluate<R: Threads + Sync, S: StreamStore + Sync, G: Gate + Sync>(
     requires accepted { IsAccepted plan.now }
     requires at { IsAt plan.now (layer_stage (length plan.now.spec.streams) 0) (S.seen store.old) }
     requires moment { IsMomentOf moment.now (S.seen store.old) }
+    requires none { none.now ≡ no_params }
     requires made { IsScratchOf plan.now scratch.old }
     requires fresh { IsFresh scratch.old (total (rooms (S.seen store.old))) }
     ensures of { IsOf plan.now (S.seen store.new) }
@@ -106,6 +110,7 @@ fn evaluate<R: Threads + Sync, S: StreamStore + Sync, G: Gate + Sync>(
             scratch.schedule.evals_in(layer),
             &scratch.code,
             moment,
+            none,
             store,
             layer as u32,
             &scratch.marks,
@@ -123,9 +128,10 @@ fn evaluate<R: Threads + Sync, S: StreamStore + Sync, G: Gate + Sync>(
     scratch.is_faulty = faulty;
 }
 
-/// Ends a step whose streams are evaluated: its fault, or its values and its close clauses.
+/// Ends a step whose streams are evaluated: its fault, or the values that may have lines and its close clauses.
 fn conclude<S: StreamStore>(
     plan: &Plan,
+    show: Show,
     moment: &Moment,
     store: &mut S,
     scratch: &mut Scratch,
@@ -145,7 +151,7 @@ fn conclude<S: StreamStore>(
     ensures made { IsScratchOf plan.now scratch.new }
     ensures verdicts { result ≡ end.Done → AreVerdicts plan.now scratch.new.verdicts.items }
     ensures seen { ShowsConcluded result plan.now (S.seen store.old) (S.seen store.new) }
-    ensures concludes { Concludes plan.now moment.now scratch.old.marks.items scratch.old.spans.items scratch.old.tasks.items scratch.old.results.items (S.remembers store.old) (S.seen store.old)
+    ensures concludes { Concludes plan.now show moment.now scratch.old.marks.items scratch.old.spans.items scratch.old.tasks.items scratch.old.results.items (S.remembers store.old) (S.seen store.old)
         result (S.remembers store.new) (S.seen store.new) scratch.new.verdicts.items }
 {
     if let Some((stream, kind)) = fault_of_step(
@@ -170,6 +176,7 @@ fn conclude<S: StreamStore>(
     collect(
         plan,
         store,
+        show,
         &scratch.spans,
         &scratch.tasks,
         &scratch.results,
@@ -203,9 +210,9 @@ fn make_all_room<S: StreamStore>(
 /// Runs one step: of a row, with an outcome for each input, missing where the field is absent; or of the deadlines of a moment, with no
 /// inputs. Times are in nanoseconds. Instances are evaluated by at most so many workers, from 1 to 64. Others see a fault as poison; the
 /// step's fault is that of the first stream that has one, of its spawn clause or else the least kind among its instances, and if there is
-/// none, of the first stream whose close condition has one. Where it is done, the values stand in the notes; an instance that is closed
-/// has its value there, and is gone from the store. All room is made before anything changes. Over a bounded store a step never lacks
-/// memory where no stream has a spawn clause.
+/// none, of the first stream whose close condition has one. Where it is done, the values that may have lines stand in the notes: of
+/// triggers, and of outputs where these are shown; an instance that is closed has its value there, and is gone from the store. All room
+/// is made before anything changes. Over a bounded store a step never lacks memory where no stream has a spawn clause.
 pub fn step<R: Threads + Sync, S: StreamStore + Sync, G: Gate + Sync>(
     rt: &R,
     gate: &G,
@@ -216,6 +223,7 @@ pub fn step<R: Threads + Sync, S: StreamStore + Sync, G: Gate + Sync>(
     time: u64,
     is_row: bool,
     inputs: &[Outcome],
+    show: Show,
     workers: u32,
 ) -> StepEnd
     requires accepted { IsAccepted plan.now }
@@ -235,7 +243,7 @@ pub fn step<R: Threads + Sync, S: StreamStore + Sync, G: Gate + Sync>(
     ensures ends { (names : Naming) (rows : List TableRow) (of : Step) → IsRun plan.now names rows → of.time ≡ time
         → ReadFields names inputs.now is_row of.fields
         → StandsBetween names (S.remembers store.old) (S.seen store.old) (content_after plan.now start rows)
-        → StepEnds result plan.now start rows of names (S.remembers store.new) (S.seen store.new) scratch.new.verdicts.items }
+        → StepEnds result plan.now show start rows of names (S.remembers store.new) (S.seen store.new) scratch.new.verdicts.items }
 {
     if let Err(Memory) = make_all_room(plan, store, scratch) {
         return StepEnd::Memory;
@@ -249,6 +257,15 @@ pub fn step<R: Threads + Sync, S: StreamStore + Sync, G: Gate + Sync>(
         is_row,
         inputs,
     );
-    evaluate(rt, gate, plan, &moment, store, scratch, workers);
-    conclude(plan, &moment, store, scratch)
+    evaluate(
+        rt,
+        gate,
+        plan,
+        &moment,
+        &no_parameters(),
+        store,
+        scratch,
+        workers,
+    );
+    conclude(plan, show, &moment, store, scratch)
 }

@@ -1,21 +1,26 @@
 //! The tasks of a layer.
 
-ghost use Rattle.std.specs.Prelude.{◌≡◌, ◌≤◌, ◌<◌, ◌^◌, ℕ, [], IsSomeAnd, IsTrue, MatchOption, length, slice_get, true};
-ghost use Rattle.lola_value.specs.Kinds.{are_of_kinds, is_well_formed};
+ghost use Rattle.std.specs.Prelude.{◌≡◌, ◌≤◌, ◌<◌, ◌^◌, ℕ, [], ◌∷◌, IsSomeAnd, IsTrue, MatchOption, Some, length, slice_get, true, unwrap_or};
+ghost use Rattle.lola_value.specs.Kinds.{are_of_kinds, is_outcome_of, is_well_formed};
+ghost use Rattle.lola_value.specs.declared.value.Kind.TheVariants as kind;
 ghost use Rattle.lola_value.specs.Naming.{the_values};
 ghost use Rattle.lola_value.specs.Times.{latest};
-ghost use Rattle.lola_model.specs.Model.{eval_pacing};
-ghost use Rattle.lola_model.specs.Store.{IsRunning, instances_seen, layout_of, parameters_of};
+ghost use Rattle.lola_model.specs.Model.{clause_answer, eval_pacing};
+ghost use Rattle.lola_model.specs.Store.{IsRunning, instances_seen, layout_of, no_params, parameters_of};
+ghost use Rattle.lola_code.specs.Plans.{IsEvalCode};
+ghost use Rattle.lola_ready.specs.Ready.{IsClauseAskable};
+ghost use Rattle.lola_step.specs.Clauses.{IsAnswer};
 ghost use Rattle.lola_step.specs.Once.{AreReady-prop};
-ghost use Rattle.lola_step.specs.Tasks.{AreReady, AreTasks, IsActiveTask, IsOutcome, IsTask, IsResult, IsResultAt};
+ghost use Rattle.lola_step.specs.Tasks.{AreReady, AreTasks, IsActiveTask, IsOutcome, IsTask, IsResult, IsResultAt, params_seen};
 
 use crate::clauses::instance_outcome;
 use crate::moment::{Moment, is_active_for};
-use lola_code::plan::PlanCode;
+use crate::schedule::has_clause;
+use lola_code::plan::{EvalCode, PlanCode};
 use lola_model::job::Job;
 use lola_model::pacing::{ClausePacings, Pacing};
 use lola_model::plan::Plan;
-use lola_model::spec::Stream;
+use lola_model::spec::{Clause, Stream};
 use lola_model::store::StreamStore;
 use lola_port::Gate;
 use lola_value::value::{Outcome, Params};
@@ -62,21 +67,32 @@ impl<'a, S: StreamStore> Job for LayerJob<'a, S> {
             self.plan,
             self.code,
             self.moment,
+            &no_parameters(),
             self.store,
             self.tasks[task as usize],
         )
     }
 }
 
-/// What the eval clause of a task's stream comes to, for its instance: missing where it is not active for it.
-fn task_outcome<S: StreamStore>(
+/// No parameters.
+pub(crate) fn no_parameters() -> Params
+    ensures { result ≡ no_params }
+{
+    Params::none()
+}
+
+/// What the eval clause of a task's stream comes to, for its instance: missing where it is not active for it. No parameters are lent to
+/// it, for an instance that has none.
+pub(crate) fn task_outcome<S: StreamStore>(
     plan: &Plan,
     code: &PlanCode,
     moment: &Moment,
+    none: &Params,
     store: &S,
     task: Task,
 ) -> Outcome
     requires code { code.now ≡ plan.now.spec }
+    requires none { none.now ≡ no_params }
     requires in_time { moment.now.time ≤ latest }
     requires running { IsRunning (S.seen store.now) }
     requires layout { (S.seen store.now).layout ≡ layout_of plan.now }
@@ -85,42 +101,45 @@ fn task_outcome<S: StreamStore>(
 {
     let pacing = eval_pacing_at(plan.pacings.as_slice(), task.stream as usize);
     if is_active_for(moment, pacing, store, task.stream, task.index) {
-        active_outcome(plan, code, store, task)
+        active_outcome(plan, code, none, store, task)
     } else {
         Outcome::Missing
     }
 }
 
-/// Whether a stream has no parameters.
-pub(crate) fn is_alone(stream: &Stream) -> bool
-    ensures { result ≡ true → stream.now.parameters ≡ [] }
-{
-    stream.parameters.as_slice().is_empty()
-}
-
-/// The parameters of an instance. Where its stream has none they are not copied from the store.
-pub(crate) fn own_params<S: StreamStore>(
+/// What the eval clause of a stream comes to for an instance with parameters of its own, which are copied from the store. It is a
+/// function of its own, so that no room for them is made where there are none.
+#[inline(never)]
+fn own_outcome<S: StreamStore>(
+    plan: &Plan,
+    stream: &Stream,
+    clause: &Clause,
+    code: &EvalCode,
     store: &S,
-    stream: u32,
-    index: u32,
-    is_alone: bool,
-) -> Params
-    requires lives { index < length (instances_seen (S.seen store.now) stream) }
-    requires alone { is_alone ≡ true → parameters_of (slice_get (S.seen store.now).layout.streams stream) ≡ [] }
-    ensures value { MatchOption (slice_get (instances_seen (S.seen store.now) stream) index) ⊥ (λ x. result ≡ x.params) }
-    ensures kinds { IsTrue (are_of_kinds (parameters_of (slice_get (S.seen store.now).layout.streams stream)) (the_values result)) }
-    ensures places { IsTrue (is_well_formed result) }
+    task: Task,
+) -> Outcome
+    requires code { IsEvalCode (Some clause.now) code.now }
+    requires running { IsRunning (S.seen store.now) }
+    requires lives { task.index < length (instances_seen (S.seen store.now) task.stream) }
+    requires asks { IsTrue (are_of_kinds (parameters_of (slice_get (S.seen store.now).layout.streams task.stream)) (the_values (params_seen (S.seen store.now) task.stream task.index)))
+        → IsClauseAskable (S.seen store.now) (params_seen (S.seen store.now) task.stream task.index) plan.now.spec.texts (unwrap_or stream.now.kind kind.Int64 ∷ []) clause.now }
+    ensures kind { IsTrue (is_outcome_of (unwrap_or stream.now.kind kind.Int64) result) }
+    ensures answer { IsAnswer plan.now (S.remembers store.now) (S.seen store.now) (params_seen (S.seen store.now) task.stream task.index) (λ c p. clause_answer plan.now.spec c p clause.now) result }
 {
-    if is_alone {
-        let _own = store.params_of(stream, index);
-        return Params::none();
-    }
-    store.params_of(stream, index)
+    let params = store.params_of(task.stream, task.index);
+    instance_outcome(plan, stream, clause, code, &params, store)
 }
 
-/// What it comes to where it is active.
-fn active_outcome<S: StreamStore>(plan: &Plan, code: &PlanCode, store: &S, task: Task) -> Outcome
+/// What it comes to where it is active. A stream without a spawn clause has no parameters, and its instance is not asked for any.
+fn active_outcome<S: StreamStore>(
+    plan: &Plan,
+    code: &PlanCode,
+    none: &Params,
+    store: &S,
+    task: Task,
+) -> Outcome
     requires code { code.now ≡ plan.now.spec }
+    requires none { none.now ≡ no_params }
     requires running { IsRunning (S.seen store.now) }
     requires layout { (S.seen store.now).layout ≡ layout_of plan.now }
     requires ready { IsActiveTask plan.now (S.seen store.now) task }
@@ -130,8 +149,11 @@ fn active_outcome<S: StreamStore>(plan: &Plan, code: &PlanCode, store: &S, task:
     match &stream.eval {
         Some(clause) => {
             let code = code.eval_of(task.stream as usize);
-            let params = own_params(store, task.stream, task.index, is_alone(stream));
-            instance_outcome(plan, stream, clause, code, &params, store)
+            if has_clause(&stream.spawn) {
+                own_outcome(plan, stream, clause, code, store, task)
+            } else {
+                instance_outcome(plan, stream, clause, code, none, store)
+            }
         }
         None => Outcome::Missing,
     }

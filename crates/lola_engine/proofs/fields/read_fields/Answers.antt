@@ -7,16 +7,18 @@ use Rattle.lola_engine.proofs.Sweeping.{one_adds}
 use Rattle.lola_engine.proofs.fields.read_fields.Goals as goal
 
 pub loop-place-preserved : goal.loop-place-preserved
-loop-place-preserved c = record {
-  read = one-read c.loop-place.texts.held c.outcome_of.new.texts.held (take c.loop-place.place c.loop-place.inputs.items) (take (c.loop-place.place + 1) c.put.new.inputs.items) c.args.fields.now c.loop-place.place c.in_ok-outcome.outcome c.index-fields-place.result
-      (omega arith) c.index-fields-place.is c.in_ok-put.ensures.ok c.in_ok-outcome.ensures.held c.loop-place.invariant.read c.in_ok-outcome.ensures.ok;
-  there = c.in_ok-put.ensures.there;
-  adds = one_adds c.args.fields.now c.loop-place.place c.index-fields-place.result c.args.texts.now.held c.loop-place.texts.held c.outcome_of.new.texts.held
-      (omega arith) c.index-fields-place.is c.loop-place.invariant.adds c.in_ok-outcome.ensures.adds;
-  table = c.in_ok-outcome.ensures.table;
-  held = held-on c.args.texts.now.held c.loop-place.texts.held c.outcome_of.new.texts.held c.loop-place.invariant.held c.in_ok-outcome.ensures.held;
-  given = omega (arith, c.in_ok-outcome.ensures.given);
-}
+loop-place-preserved c =
+    let put = c.in_ok-read_field.ensures.ok in
+    record {
+      read = one-read c.loop-place.texts.held c.read_field.new.texts.held (take c.loop-place.place c.loop-place.inputs.items) (take (c.loop-place.place + 1) c.read_field.new.inputs.items) c.args.fields.now c.loop-place.place put.outcome c.index-fields-place.result
+          (omega arith) c.index-fields-place.is put.pushed c.in_ok-read_field.ensures.held c.loop-place.invariant.read put.is;
+      there = c.in_ok-read_field.ensures.there;
+      adds = one_adds c.args.fields.now c.loop-place.place c.index-fields-place.result c.args.texts.now.held c.loop-place.texts.held c.read_field.new.texts.held
+          (omega arith) c.index-fields-place.is c.loop-place.invariant.adds c.in_ok-read_field.ensures.adds;
+      table = c.in_ok-read_field.ensures.table;
+      held = held-on c.args.texts.now.held c.loop-place.texts.held c.read_field.new.texts.held c.loop-place.invariant.held c.in_ok-read_field.ensures.held;
+      given = omega (arith, c.in_ok-read_field.ensures.given);
+    }
 
 pub returns-clause-ok : goal.returns-clause-ok
 returns-clause-ok c =

@@ -1,10 +1,13 @@
-use Rattle.std.proofs.Common.{◌≡◌, ◌∙◌, ◌<◌, ◌≤◌, Some, ap, arith, length, slice_get, slice_index_or, subst, sym}
+use Rattle.std.proofs.Common.{◌≡◌, ◌∙◌, ◌<◌, ◌≤◌, Some, ap, arith, length, refl, slice_get, slice_index_or}
 use Rattle.std.proofs.lemmas.Option.{slice_get-get_or}
-use Rattle.lola_model.specs.Store.{Layout, instances_seen, parameters_of}
-use Rattle.lola_step.specs.Notes.{AreOfStream, IsSpan}
+use Rattle.lola_model.specs.Named.{is_well_shaped}
+use Rattle.lola_model.specs.Store.{Layout, parameters_of}
+use Rattle.lola_stages.proofs.Shapes.{passes_at}
+use Rattle.lola_step.specs.Notes.{IsSpan}
 use Rattle.lola_step.specs.declared.scratch.Span.{Span}
 use Rattle.lola_step.proofs.Elements.{read_below, read_is}
 use Rattle.lola_step.proofs.Layouts.{parameters_there}
+use Rattle.lola_step.proofs.Single.{spawns_here, without}
 use Rattle.lola_step.proofs.Standing.{room_there}
 use Rattle.lola_step.proofs.Valued.{collects_end, streams_step, verdicts_end}
 use Rattle.lola_step.proofs.ends.collect.Goals as goal
@@ -18,34 +21,32 @@ here g c =
     = read_below c.as_slice-stream-items.result.now c.args.plan.now.spec.streams c.loop-n.n c.as_slice-stream-items.ensures c.loop-n-test.true in
     c.requires.within c.loop-n.n _ (slice_get-get_or c.args.spans.now c.loop-n.n _ (omega arith))
 
-pub tasks_of-requires : goal.tasks_of-requires
-tasks_of-requires g c = omega (arith, (here g (goal.at.tasks_of-requires g c).After-stream-item).within)
+pub add_shown-requires-clause-spawns : goal.add_shown-requires-clause-spawns
+add_shown-requires-clause-spawns g c =
+    let plan = c.args.plan.now in
+    spawns_here plan (g.S.StreamStore.seen c.args.store.now) c.requires.of.layout c.loop-n.n c.stream-item.result
+    (read_is c.as_slice-stream-items.result.now plan.spec.streams c.loop-n.n c.as_slice-stream-items.ensures c.loop-n-test.true c.stream-item.result c.stream-item.is)
 
-pub outcomes_of-requires : goal.outcomes_of-requires
-outcomes_of-requires g c = (here g (goal.at.outcomes_of-requires g c).After-stream-item).within
-
-pub add_outputs-requires-clause-layout : goal.add_outputs-requires-clause-layout
-add_outputs-requires-clause-layout g c =
+pub add_shown-requires-clause-unnamed : goal.add_shown-requires-clause-unnamed
+add_shown-requires-clause-unnamed g c none =
     let plan = c.args.plan.now in
     let at : slice_get plan.spec.streams c.loop-n.n ≡ Some c.stream-item.result
     = read_is c.as_slice-stream-items.result.now plan.spec.streams c.loop-n.n c.as_slice-stream-items.ensures c.loop-n-test.true c.stream-item.result c.stream-item.is in
     ap (λ (l : Layout). parameters_of (slice_get l.streams c.loop-n.n)) c.requires.of.layout
-    ∙ parameters_there plan.spec.streams plan.kept plan.pacings c.loop-n.n c.stream-item.result at
+    ∙ (parameters_there plan.spec.streams plan.kept plan.pacings c.loop-n.n c.stream-item.result at
+    ∙ without c.stream-item.result (passes_at is_well_shaped plan.spec.streams c.loop-n.n c.stream-item.result c.requires.accepted.named.shapes at) none)
 
-pub add_outputs-requires-clause-each : goal.add_outputs-requires-clause-each
-add_outputs-requires-clause-each g c = omega (arith, c.tasks_of.ensures.count, c.outcomes_of.ensures.count)
+pub add_shown-requires-clause-within : goal.add_shown-requires-clause-within
+add_shown-requires-clause-within g c = (here g (goal.at.add_shown-requires-clause-within g c).After-stream-item).within
 
-pub add_outputs-requires-clause-asked : goal.add_outputs-requires-clause-asked
-add_outputs-requires-clause-asked g c =
-    let s = g.S.StreamStore.seen c.args.store.now in
-    subst (AreOfStream c.loop-n.n 0 (length (instances_seen s c.loop-n.n))) (sym c.tasks_of.ensures.value) (here g (goal.at.add_outputs-requires-clause-asked g c).After-stream-item).asked
+pub add_shown-requires-clause-asked : goal.add_shown-requires-clause-asked
+add_shown-requires-clause-asked g c = (here g (goal.at.add_shown-requires-clause-asked g c).After-stream-item).asked
 
-pub add_outputs-requires-clause-room : goal.add_outputs-requires-clause-room
-add_outputs-requires-clause-room g c =
+pub add_shown-requires-clause-room : goal.add_shown-requires-clause-room
+add_shown-requires-clause-room g c =
     omega (
       arith,
-      c.outcomes_of.ensures.count,
-      (here g (goal.at.add_outputs-requires-clause-room g c).After-stream-item).few,
+      (here g (goal.at.add_shown-requires-clause-room g c).After-stream-item).few,
       room_there (g.S.StreamStore.seen c.args.store.now) c.loop-n.n,
       c.loop-n.invariant.count,
       c.loop-n.invariant.capacity,
@@ -64,23 +65,24 @@ loop-n-preserved g c =
     let within : n < length spans = omega arith in
     let span : IsSpan s c.args.tasks.now c.args.results.now n (slice_index_or spans n none) = here g (goal.at.loop-n-preserved g c).After-stream-item in
     record {
-      items = streams_step s c.args.tasks.now c.args.results.now streams spans n c.loop-n.verdicts.items c.loop-n.invariant.items x none c.tasks_of.result.now c.outcomes_of.result.now
-          c.add_outputs.new.verdicts.items at within c.tasks_of.ensures.value c.outcomes_of.ensures.value c.add_outputs.ensures.items;
-      fit = c.add_outputs.ensures.fit c.loop-n.invariant.fit;
-      count = omega (arith, c.add_outputs.ensures.count, c.outcomes_of.ensures.count, span.few, room_there s n, c.loop-n.invariant.count);
-      capacity = c.add_outputs.ensures.capacity ∙ c.loop-n.invariant.capacity;
+      items = streams_step c.args.show s c.args.tasks.now c.args.results.now streams spans n c.loop-n.verdicts.items c.loop-n.invariant.items x none _ _
+          c.add_shown.new.verdicts.items at within refl refl c.add_shown.ensures.items;
+      bare = c.add_shown.ensures.bare;
+      fit = c.add_shown.ensures.fit c.loop-n.invariant.fit;
+      count = omega (arith, c.add_shown.ensures.count, span.few, room_there s n, c.loop-n.invariant.count);
+      capacity = c.add_shown.ensures.capacity ∙ c.loop-n.invariant.capacity;
     }
 
 pub returns-clause-verdicts : goal.returns-clause-verdicts
 returns-clause-verdicts g c =
     let plan = c.args.plan.now in
     let past : length plan.spec.streams ≤ c.loop-n.n = omega (arith, ap length c.as_slice-stream-items.ensures) in
-    verdicts_end plan c.args.spans.now c.args.tasks.now c.args.results.now (g.S.StreamStore.seen c.args.store.now) c.loop-n.n c.loop-n.verdicts.items c.loop-n.invariant.items past
+    verdicts_end plan c.args.show c.args.spans.now c.args.tasks.now c.args.results.now (g.S.StreamStore.seen c.args.store.now) c.loop-n.n c.loop-n.verdicts.items c.loop-n.invariant.items past
     c.requires.of.layout c.requires.within c.loop-n.invariant.fit
 
 pub returns-clause-values : goal.returns-clause-values
 returns-clause-values g c =
     let plan = c.args.plan.now in
     let past : length plan.spec.streams ≤ c.loop-n.n = omega (arith, ap length c.as_slice-stream-items.ensures) in
-    collects_end plan c.args.spans.now c.args.tasks.now c.args.results.now (g.S.StreamStore.seen c.args.store.now) c.loop-n.n c.loop-n.verdicts.items c.loop-n.invariant.items past
-    (g.S.StreamStore.remembers c.args.store.now) c.requires.accepted c.requires.spans
+    collects_end plan c.args.show c.args.spans.now c.args.tasks.now c.args.results.now (g.S.StreamStore.seen c.args.store.now) c.loop-n.n c.loop-n.verdicts.items c.loop-n.invariant.items past
+    (g.S.StreamStore.remembers c.args.store.now) c.requires.accepted c.requires.of.layout c.requires.spans

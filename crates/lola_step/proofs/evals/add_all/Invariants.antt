@@ -1,16 +1,12 @@
--- The tasks so far, and as many places.
-use Rattle.std.proofs.Common.{◌≡◌, ◌+◌, ◌++◌, replicate, vec_len}
+-- The tasks so far.
+use Rattle.std.proofs.Common.{◌≡◌, ◌+◌, ◌++◌, vec_len}
 use Rattle.std.specs.Vec.{vec_capacity}
-use Rattle.lola_value.specs.declared.value.Outcome.TheVariants as outcome
 use Rattle.lola_step.specs.Notes.{places_from, tasks_at}
 use Rattle.lola_step.proofs.evals.add_all.Given as goal
 
 abbrev pub invariant-loop-index : goal.invariant-loop-index
 invariant-loop-index l = record {
   tasks : l.tasks.items ≡ l.initial.tasks.items ++ tasks_at l.stream (places_from 0 l.index);
-  results : l.results.items ≡ l.initial.results.items ++ replicate l.index outcome.Missing;
   tasks_len : vec_len l.tasks ≡ vec_len l.initial.tasks + l.index;
-  results_len : vec_len l.results ≡ vec_len l.initial.results + l.index;
   tasks_room : vec_capacity l.tasks ≡ vec_capacity l.initial.tasks;
-  results_room : vec_capacity l.results ≡ vec_capacity l.initial.results;
 }

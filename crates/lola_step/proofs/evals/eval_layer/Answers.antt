@@ -1,8 +1,5 @@
-use Rattle.std.proofs.Common.{◌≡◌, ◌∙◌, ◌++◌, ◌+◌, ◌-◌, ◌^◌, ◌<◌, List, ap, arith, drop, length, length-append, replicate, subst, sym, take}
-use Rattle.std.proofs.lemmas.List.{length-replicate, take_rest, with_items_is}
-use Rattle.std.specs.Vec.{with_items}
+use Rattle.std.proofs.Common.{◌≡◌, ◌∙◌, ◌++◌, ◌+◌, ◌-◌, ◌^◌, ◌<◌, List, ap, arith, drop, length, length-append, subst, sym, take}
 use Rattle.lola_value.specs.declared.value.Outcome.{Outcome}
-use Rattle.lola_value.specs.declared.value.Outcome.TheVariants as outcome
 use Rattle.lola_model.specs.Content.{Content}
 use Rattle.lola_model.specs.Store.{Memories, Seen, Stands}
 use Rattle.lola_stages.specs.Stages.{content_so_far, eval_stage, full_row, layer_stage}
@@ -11,14 +8,16 @@ use Rattle.lola_step.specs.Found.{has_fault}
 use Rattle.lola_step.specs.Given.{AreHeldIn, AreResults, CanGiveAll, after_all, told_outcomes}
 use Rattle.lola_step.specs.Notes.{ShowResults, layer_tasks}
 use Rattle.lola_step.specs.Progress.{GoesOn, IsAt}
+use Rattle.lola_step.specs.Rooms.{rooms}
 use Rattle.lola_step.specs.Tasks.{AreTasks}
 use Rattle.lola_step.specs.declared.scratch.Span.{Span}
 use Rattle.lola_step.specs.declared.tasks.Task.{Task}
 use Rattle.lola_step.proofs.Faultless.{faultless_more}
+use Rattle.lola_step.proofs.Gathering.{all_rooms, layer_fits}
 use Rattle.lola_step.proofs.LayerNotes.{ready_after, rooms_after, spans_after}
 use Rattle.lola_step.proofs.LayerTasks.{are_tasks, at_after, can_give_layer, goes_on, numbered}
 use Rattle.lola_step.proofs.LayerTold.{held_all, next_content, shows_more}
-use Rattle.lola_step.proofs.Results.{answered_is, behind_is}
+use Rattle.lola_step.proofs.Results.{behind_is}
 use Rattle.lola_step.proofs.evals.eval_layer.Given.{Over}
 use Rattle.lola_step.proofs.evals.eval_layer.Goals as goal
 use Rattle.lola_step.proofs.evals.eval_layer.Goals.{After-give_all}
@@ -41,23 +40,31 @@ answer_tasks-requires-clause-ready g c κs within =
     (c.deref.ensures.value ∙ c.gather.ensures.tasks) (c.len-from.ensures ∙ c.args.tasks.now.ok.0)))
     (are_tasks c.args.plan.now c.args.moment.now c.args.marks.now c.seek_layer.new.sought (g.S.StreamStore.seen c.args.store.now) c.args.layer c.requires.accepted c.requires.at c.requires.moment)
 
+pub answer_tasks-requires-clause-room : goal.answer_tasks-requires-clause-room
+answer_tasks-requires-clause-room g c κs within =
+    let plan = c.args.plan.now in
+    let seen = g.S.StreamStore.seen c.args.store.now in
+    let tasks = layer_tasks plan c.args.moment.now c.args.marks.now c.seek_layer.new.sought seen c.args.layer 0 plan.spec.streams in
+    let asked = behind_is c.deref.result.now c.args.tasks.now.items tasks c.len-from.result (c.deref.ensures.value ∙ c.gather.ensures.tasks) (c.len-from.ensures ∙ c.args.tasks.now.ok.0) in
+    let fits = layer_fits plan c.args.moment.now c.args.marks.now c.seek_layer.new.sought seen c.args.layer 0 plan.spec.streams (rooms seen) (omega arith)
+    (all_rooms plan c.args.moment.now c.args.marks.now c.seek_layer.new.sought seen c.args.layer c.requires.at.of.streams) in
+    omega (arith, ap length asked, fits, c.requires.rooms.results_room)
+
 pub give_all-requires-clause-can : goal.give_all-requires-clause-can
 give_all-requires-clause-can g c =
     let shown = g.S.StreamStore.seen c.args.store.now in
     let tasks = layer_tasks c.args.plan.now c.args.moment.now c.args.marks.now c.seek_layer.new.sought shown c.args.layer 0 c.args.plan.now.spec.streams in
-    let fresh = drop c.len-from.result c.answer_tasks.new.results in
+    let answered = c.answer_tasks.ensures.answered in
     let from = c.len-from.ensures ∙ c.args.tasks.now.ok.0 in
-    let A : List Task → Type 0 = λ ts. AreResults c.args.plan.now c.args.moment.now (g.S.StreamStore.remembers c.args.store.now) shown ts fresh in
-    let are : A tasks = subst A (behind_is c.deref.result.now c.args.tasks.now.items tasks c.len-from.result (c.deref.ensures.value ∙ c.gather.ensures.tasks) from) c.answer_tasks.ensures.results in
-    let kept : c.deref-3.result.now ≡ c.answer_tasks.new.results =
-    c.deref-3.ensures.value ∙ with_items_is c.gather.new.results c.answer_tasks.new.results (c.answer_tasks.auto.results ∙ c.as_mut_slice.ensures.len) in
-    let same : fresh ≡ take (length c.deref-3.result.now - c.len-from.result) (drop c.len-from.result c.deref-3.result.now) =
-    sym (take_rest c.deref-3.result.now c.len-from.result ∙ ap (drop c.len-from.result) kept) in
-    let P : List Task → Type 0 = λ ts. CanGiveAll shown ts fresh in
+    let A : List Task → Type 0 = λ ts. AreResults c.args.plan.now c.args.moment.now (g.S.StreamStore.remembers c.args.store.now) shown ts answered.fresh in
+    let are : A tasks = subst A (behind_is c.deref.result.now c.args.tasks.now.items tasks c.len-from.result (c.deref.ensures.value ∙ c.gather.ensures.tasks) from) answered.are in
+    let same : answered.fresh ≡ take (length c.deref-3.result.now - c.len-done.result) (drop c.len-done.result c.deref-3.result.now) =
+    sym (behind_is c.deref-3.result.now c.args.results.now.items answered.fresh c.len-done.result (c.deref-3.ensures.value ∙ answered.is) (c.len-done.ensures ∙ c.args.results.now.ok.0)) in
+    let P : List Task → Type 0 = λ ts. CanGiveAll shown ts answered.fresh in
     let Q : List Outcome → Type 0 = λ rs. CanGiveAll shown (take (length c.deref-2.result.now - c.len-from.result) (drop c.len-from.result c.deref-2.result.now)) rs in
     subst Q same
     (subst P (sym (behind_is c.deref-2.result.now c.args.tasks.now.items tasks c.len-from.result (c.deref-2.ensures.value ∙ c.gather.ensures.tasks) from))
-    (can_give_layer c.args.plan.now c.args.moment.now c.args.marks.now c.seek_layer.new.sought shown c.args.layer c.requires.accepted c.requires.at c.requires.moment (g.S.StreamStore.remembers c.args.store.now) fresh are))
+    (can_give_layer c.args.plan.now c.args.moment.now c.args.marks.now c.seek_layer.new.sought shown c.args.layer c.requires.accepted c.requires.at c.requires.moment (g.S.StreamStore.remembers c.args.store.now) answered.fresh are))
 
 module _ (g : Over) (c : After-give_all g) where
   abbrev shown : Seen
@@ -76,13 +83,13 @@ module _ (g : Over) (c : After-give_all g) where
   first = c.args.results.now.items
 
   abbrev fresh : List Outcome
-  fresh = drop c.len-from.result c.answer_tasks.new.results
+  fresh = c.answer_tasks.ensures.answered.fresh
 
   abbrev given : List Task
   given = take (length c.deref-2.result.now - c.len-from.result) (drop c.len-from.result c.deref-2.result.now)
 
   abbrev gives : List Outcome
-  gives = take (length c.deref-3.result.now - c.len-from.result) (drop c.len-from.result c.deref-3.result.now)
+  gives = take (length c.deref-3.result.now - c.len-done.result) (drop c.len-done.result c.deref-3.result.now)
 
   from_is : c.len-from.result ≡ length before
   from_is = c.len-from.ensures ∙ c.args.tasks.now.ok.0
@@ -97,21 +104,16 @@ module _ (g : Over) (c : After-give_all g) where
   given_are = behind_is c.deref-2.result.now before tasks c.len-from.result (c.deref-2.ensures.value ∙ c.gather.ensures.tasks) from_is
 
   are_results : AreResults c.args.plan.now c.args.moment.now remembers shown tasks fresh
-  are_results = subst (λ ts. AreResults c.args.plan.now c.args.moment.now remembers shown ts fresh) asked_are c.answer_tasks.ensures.results
-
-  kept : (with_items c.gather.new.results c.answer_tasks.new.results).items ≡ c.answer_tasks.new.results
-  kept = with_items_is c.gather.new.results c.answer_tasks.new.results (c.answer_tasks.auto.results ∙ c.as_mut_slice.ensures.len)
+  are_results = subst (λ ts. AreResults c.args.plan.now c.args.moment.now remembers shown ts fresh) asked_are c.answer_tasks.ensures.answered.are
 
   gives_are : gives ≡ fresh
-  gives_are = take_rest c.deref-3.result.now c.len-from.result ∙ ap (drop c.len-from.result) (c.deref-3.ensures.value ∙ kept)
+  gives_are = behind_is c.deref-3.result.now first fresh c.len-done.result (c.deref-3.ensures.value ∙ c.answer_tasks.ensures.answered.is) (c.len-done.ensures ∙ c.args.results.now.ok.0)
 
   seen_is : after_all shown tasks fresh ≡ g.S.StreamStore.seen c.give_all.new.store
   seen_is = sym (c.give_all.ensures.seen ∙ (ap (λ ts. after_all shown ts gives) given_are ∙ ap (λ rs. after_all shown tasks rs) gives_are))
 
-  results_is : first ++ fresh ≡ (with_items c.gather.new.results c.answer_tasks.new.results).items
-  results_is =
-      sym (kept ∙ answered_is c.len-from.result first (replicate (length tasks) outcome.Missing) c.gather.new.results.items c.answer_tasks.new.results
-      (from_is ∙ c.requires.rooms.each) c.gather.ensures.results (c.answer_tasks.ensures.before ∙ ap (take c.len-from.result) c.as_mut_slice.ensures.value))
+  results_is : first ++ fresh ≡ c.answer_tasks.new.results.items
+  results_is = sym c.answer_tasks.ensures.answered.is
 
   spans_is : spans_after c.args.plan.now c.args.moment.now c.args.marks.now c.seek_layer.new.sought remembers shown c.args.layer before first fresh c.args.spans.now ≡ c.gather.new.spans
   spans_is = sym c.gather.ensures.spans
@@ -131,13 +133,11 @@ returns-clause-goes_on g c =
 pub returns-clause-rooms : goal.returns-clause-rooms
 returns-clause-rooms g c =
     let asked : length c.gather.new.tasks.items ≡ length (before g c) + length (tasks g c) = ap length c.gather.ensures.tasks ∙ length-append (before g c) (tasks g c) in
-    let counted : length c.gather.new.results.items ≡ length (first g c) + length (tasks g c) =
-    ap length c.gather.ensures.results ∙ (length-append (first g c) _ ∙ ap (λ k. length (first g c) + k) (length-replicate (length (tasks g c)) outcome.Missing)) in
     rooms_after c.args.plan.now c.args.moment.now c.args.marks.now c.seek_layer.new.sought (shown g c) (g.S.StreamStore.seen c.give_all.new.store) c.args.layer
-    c.args.places.now c.gather.new.places c.args.tasks.now c.gather.new.tasks c.args.results.now (with_items c.gather.new.results c.answer_tasks.new.results) c.requires.at c.requires.rooms
-    (returns-clause-goes_on g c).rooms c.gather.ensures.places c.gather.ensures.capacities.0 c.gather.ensures.capacities.1
+    c.args.places.now c.gather.new.places c.args.tasks.now c.gather.new.tasks c.args.results.now c.answer_tasks.new.results c.requires.at c.requires.rooms
+    (returns-clause-goes_on g c).rooms c.gather.ensures.places c.gather.ensures.capacity c.answer_tasks.ensures.capacity
     (omega (arith, asked, c.gather.new.tasks.ok.0, c.args.tasks.now.ok.0))
-    (omega (arith, counted, c.gather.new.results.ok.0, c.args.results.now.ok.0))
+    (omega (arith, ap length (asked_are g c), c.answer_tasks.ensures.more))
 
 pub returns-clause-spans : goal.returns-clause-spans
 returns-clause-spans g c =
@@ -145,7 +145,7 @@ returns-clause-spans g c =
     let next = layer_stage (length plan.spec.streams) (c.args.layer + 1) in
     let spans = spans_after plan c.args.moment.now c.args.marks.now c.seek_layer.new.sought (remembers g c) (shown g c) c.args.layer (before g c) (first g c) (fresh g c) c.args.spans.now in
     let new = g.S.StreamStore.seen c.give_all.new.store in
-    let results = (with_items c.gather.new.results c.answer_tasks.new.results).items in
+    let results = c.answer_tasks.new.results.items in
     let P : Seen → Type 0 = λ s. IsReadyFor plan next s (before g c ++ tasks g c) (first g c ++ fresh g c) spans in
     let T : List Task → Type 0 = λ ts. IsReadyFor plan next new ts (first g c ++ fresh g c) spans in
     let Q : List Outcome → Type 0 = λ rs. IsReadyFor plan next new c.gather.new.tasks.items rs spans in
@@ -181,5 +181,5 @@ returns-clause-shows g c names rows step run marked earlier =
 
 pub returns-clause-faultless : goal.returns-clause-faultless
 returns-clause-faultless g c none before_none =
-    faultless_more (first g c) (fresh g c) (with_items c.gather.new.results c.answer_tasks.new.results).items (results_is g c) before_none
+    faultless_more (first g c) (fresh g c) c.answer_tasks.new.results.items (results_is g c) before_none
     (ap has_fault (sym (gives_are g c)) ∙ (sym c.give_all.ensures.faulty ∙ none))

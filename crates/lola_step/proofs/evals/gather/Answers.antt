@@ -1,14 +1,13 @@
-use Rattle.std.proofs.Common.{◌≡◌, ◌∙◌, ◌<◌, ◌≤◌, ◌+◌, ◌∷◌, ap, arith, drop, get_or, length, length-append, refl, sym, vec_len, replicate}
-use Rattle.std.proofs.lemmas.List.{length-replicate}
-use Rattle.lola_value.specs.declared.value.Outcome.TheVariants as outcome
+use Rattle.std.proofs.Common.{◌≡◌, ◌∙◌, ◌<◌, ◌≤◌, ◌+◌, ◌∷◌, ap, arith, drop, get_or, length, length-append, refl, sym, vec_len}
 use Rattle.lola_step.specs.Notes.{layer_tasks, stream_tasks}
 use Rattle.lola_step.specs.Rooms.{rooms}
 use Rattle.lola_step.specs.Schedules.{has_turn}
 use Rattle.lola_step.specs.declared.schedule.Turn.TheVariants as turn
 use Rattle.lola_step.proofs.Between.{AreGathered, gathered_end, gathered_first, gathered_turn, has_turn_there}
 use Rattle.lola_step.proofs.Elements.{cut}
-use Rattle.lola_step.proofs.Gathering.{all_rooms, gathers_places, gathers_spans, gathers_tasks, layer_fits}
+use Rattle.lola_step.proofs.Gathering.{all_rooms, gathers_spans, gathers_tasks, layer_fits}
 use Rattle.lola_step.proofs.Layouts.{layouts_length, pacings_length}
+use Rattle.lola_step.proofs.Single.{never_local, no_clause}
 use Rattle.lola_step.proofs.Standing.{room_alone}
 use Rattle.lola_step.proofs.Turns.{walk_first, walk_on}
 use Rattle.lola_step.proofs.evals.gather.Goals as goal
@@ -19,16 +18,15 @@ loop-number-init g c =
     record {
       walk = walk_first (has_turn plan (turn.Eval c.args.layer)) plan.spec.streams
           (AreGathered plan c.args.moment.now c.args.marks.now c.args.sought.now (g.S.StreamStore.seen c.args.store.now) c.args.layer
-          c.args.tasks.now.items c.args.results.now.items c.args.spans.now c.args.tasks.now.items c.args.results.now.items c.args.spans.now)
+          c.args.tasks.now.items c.args.spans.now c.args.tasks.now.items c.args.spans.now)
           c.args.turns.now c.requires.turns
-          (gathered_first plan c.args.moment.now c.args.marks.now c.args.sought.now (g.S.StreamStore.seen c.args.store.now) c.args.layer c.args.tasks.now.items c.args.results.now.items c.args.spans.now);
+          (gathered_first plan c.args.moment.now c.args.marks.now c.args.sought.now (g.S.StreamStore.seen c.args.store.now) c.args.layer c.args.tasks.now.items c.args.spans.now);
       places_room = refl;
       tasks_room = refl;
-      results_room = refl;
     }
 
 pub stream_at-requires : goal.stream_at-requires
-stream_at-requires g c = (gathered_turn c.args.plan.now c.args.moment.now c.args.marks.now c.args.sought.now (g.S.StreamStore.seen c.args.store.now) c.args.layer c.args.tasks.now.items c.args.results.now.items c.args.spans.now c.loop-number.tasks.items c.loop-number.results.items c.loop-number.spans (c.loop-number.auto.spans ∙ c.requires.spans) c.args.turns.now c.loop-number.number-index c.loop-number.invariant.walk c.loop-number-test.true).below
+stream_at-requires g c = (gathered_turn c.args.plan.now c.args.moment.now c.args.marks.now c.args.sought.now (g.S.StreamStore.seen c.args.store.now) c.args.layer c.args.tasks.now.items c.args.spans.now c.loop-number.tasks.items c.loop-number.spans (c.loop-number.auto.spans ∙ c.requires.spans) c.args.turns.now c.loop-number.number-index c.loop-number.invariant.walk c.loop-number-test.true).below
 
 pub gather_stream-requires : goal.gather_stream-requires
 gather_stream-requires g c =
@@ -41,7 +39,7 @@ gather_stream-requires g c =
     let n = get_or c.args.turns.now c.loop-number.number-index 0 in
     let x = c.stream_at.result.now in
     let seen = g.S.StreamStore.seen c.args.store.now in
-    let t = gathered_turn c.args.plan.now c.args.moment.now c.args.marks.now c.args.sought.now (g.S.StreamStore.seen c.args.store.now) c.args.layer c.args.tasks.now.items c.args.results.now.items c.args.spans.now c.loop-number.tasks.items c.loop-number.results.items c.loop-number.spans (c.loop-number.auto.spans ∙ c.requires.spans) c.args.turns.now c.loop-number.number-index c.loop-number.invariant.walk c.loop-number-test.true in
+    let t = gathered_turn c.args.plan.now c.args.moment.now c.args.marks.now c.args.sought.now (g.S.StreamStore.seen c.args.store.now) c.args.layer c.args.tasks.now.items c.args.spans.now c.loop-number.tasks.items c.loop-number.spans (c.loop-number.auto.spans ∙ c.requires.spans) c.args.turns.now c.loop-number.number-index c.loop-number.invariant.walk c.loop-number-test.true in
     let within : n < length streams = t.below in
     let at : drop n streams ≡ x ∷ drop (n + 1) streams = cut streams n x c.stream_at.ensures in
     let all = layer_tasks plan m marks sought seen layer 0 streams in
@@ -52,10 +50,6 @@ gather_stream-requires g c =
     omega (arith, ap (λ xs. length (layer_tasks plan m marks sought seen layer n xs)) at, length-append now (layer_tasks plan m marks sought seen layer (n + 1) (drop (n + 1) streams))) in
     let counted : length c.loop-number.tasks.items + length rest ≡ length c.args.tasks.now.items + length all =
     sym (length-append c.loop-number.tasks.items rest) ∙ (ap length t.holds.tasks ∙ length-append c.args.tasks.now.items all) in
-    let places : length c.loop-number.results.items + length rest ≡ length c.args.results.now.items + length all =
-    sym (length-append c.loop-number.results.items (replicate (length rest) outcome.Missing) ∙ ap (λ k. length c.loop-number.results.items + k) (length-replicate (length rest) outcome.Missing))
-    ∙ (ap length t.holds.results
-    ∙ (length-append c.args.results.now.items (replicate (length all) outcome.Missing) ∙ ap (λ k. length c.args.results.now.items + k) (length-replicate (length all) outcome.Missing))) in
     record {
       few = omega (arith, within, c.requires.accepted.named.few_streams);
       turn = has_turn_there plan (turn.Eval layer) n t.at x t.is c.stream_at.ensures t.passes;
@@ -63,11 +57,11 @@ gather_stream-requires g c =
       marks = omega (arith, within, c.requires.marks);
       in_time = omega (arith, c.requires.moment.time_is, c.requires.of.in_time);
       order = omega (arith, c.requires.moment.time_is, c.requires.moment.start_is, c.requires.of.order);
+      single = λ none. (never_local plan seen c.requires.of.layout n x c.stream_at.ensures c.requires.accepted c.requires.of none, c.requires.of.single n x c.stream_at.ensures (no_clause x.spawn none));
       spans = omega (arith, within, c.loop-number.auto.spans, c.requires.spans);
       store = omega (arith, within, ap (λ l. length l.streams) c.requires.of.layout, layouts_length streams plan.kept plan.pacings);
-      places_room = omega (arith, room_alone seen n, c.loop-number.invariant.places_room, c.requires.rooms.places_room);
-      tasks_room = omega (arith, counted, few, fits, c.loop-number.tasks.ok.0, c.args.tasks.now.ok.0, c.loop-number.invariant.tasks_room, c.requires.rooms.tasks_room);
-      results_room = omega (arith, places, few, fits, c.loop-number.results.ok.0, c.args.results.now.ok.0, c.loop-number.invariant.results_room, c.requires.rooms.results_room);
+      places_room = omega (arith, room_alone seen n, c.loop-number.invariant.places_room, c.requires.places_room);
+      tasks_room = omega (arith, counted, few, fits, c.loop-number.tasks.ok.0, c.args.tasks.now.ok.0, c.loop-number.invariant.tasks_room, c.requires.tasks_room);
     }
 
 pub loop-number-preserved : goal.loop-number-preserved
@@ -81,14 +75,13 @@ loop-number-preserved g c =
     let n = get_or c.args.turns.now c.loop-number.number-index 0 in
     let x = c.stream_at.result.now in
     let seen = g.S.StreamStore.seen c.args.store.now in
-    let t = gathered_turn c.args.plan.now c.args.moment.now c.args.marks.now c.args.sought.now (g.S.StreamStore.seen c.args.store.now) c.args.layer c.args.tasks.now.items c.args.results.now.items c.args.spans.now c.loop-number.tasks.items c.loop-number.results.items c.loop-number.spans (c.loop-number.auto.spans ∙ c.requires.spans) c.args.turns.now c.loop-number.number-index c.loop-number.invariant.walk c.loop-number-test.true in
+    let t = gathered_turn c.args.plan.now c.args.moment.now c.args.marks.now c.args.sought.now (g.S.StreamStore.seen c.args.store.now) c.args.layer c.args.tasks.now.items c.args.spans.now c.loop-number.tasks.items c.loop-number.spans (c.loop-number.auto.spans ∙ c.requires.spans) c.args.turns.now c.loop-number.number-index c.loop-number.invariant.walk c.loop-number-test.true in
     let at : drop n streams ≡ x ∷ drop (n + 1) streams = cut streams n x c.stream_at.ensures in
-    let P = AreGathered plan m marks sought seen layer c.args.tasks.now.items c.args.results.now.items c.args.spans.now c.loop-number.tasks.items c.loop-number.results.items c.loop-number.spans in
-    let Q = AreGathered plan m marks sought seen layer c.args.tasks.now.items c.args.results.now.items c.args.spans.now c.gather_stream.new.tasks.items c.gather_stream.new.results.items c.gather_stream.new.spans in
+    let P = AreGathered plan m marks sought seen layer c.args.tasks.now.items c.args.spans.now c.loop-number.tasks.items c.loop-number.spans in
+    let Q = AreGathered plan m marks sought seen layer c.args.tasks.now.items c.args.spans.now c.gather_stream.new.tasks.items c.gather_stream.new.spans in
     record {
       walk = walk_on (has_turn plan (turn.Eval layer)) streams P Q n (drop (c.loop-number.number-index + 1) c.args.turns.now) t (record {
         tasks = gathers_tasks plan m marks sought seen layer n x streams _ _ _ at c.gather_stream.ensures.tasks t.holds.tasks;
-        results = gathers_places plan m marks sought seen layer n x streams _ _ _ at c.gather_stream.ensures.results t.holds.results;
         noted = gathers_spans plan m marks sought seen layer n x streams (length c.loop-number.tasks.items) (length c.gather_stream.new.tasks.items)
             (vec_len c.loop-number.tasks) c.loop-number.spans c.gather_stream.new.spans _
             (omega (arith, t.below, c.loop-number.auto.spans, c.requires.spans)) at
@@ -96,8 +89,7 @@ loop-number-preserved g c =
             c.loop-number.tasks.ok.0 c.gather_stream.ensures.spans t.holds.noted;
       });
       places_room = c.gather_stream.ensures.places ∙ c.loop-number.invariant.places_room;
-      tasks_room = c.gather_stream.ensures.capacities.0 ∙ c.loop-number.invariant.tasks_room;
-      results_room = c.gather_stream.ensures.capacities.1 ∙ c.loop-number.invariant.results_room;
+      tasks_room = c.gather_stream.ensures.capacity ∙ c.loop-number.invariant.tasks_room;
     }
 
 pub returns : goal.returns
@@ -107,12 +99,11 @@ returns g c =
     let marks = c.args.marks.now in
     let sought = c.args.sought.now in
     let seen = g.S.StreamStore.seen c.args.store.now in
-    let all = gathered_end plan m marks sought seen c.args.layer c.args.tasks.now.items c.args.results.now.items c.args.spans.now c.loop-number.tasks.items c.loop-number.results.items c.loop-number.spans
+    let all = gathered_end plan m marks sought seen c.args.layer c.args.tasks.now.items c.args.spans.now c.loop-number.tasks.items c.loop-number.spans
     (c.loop-number.auto.spans ∙ c.requires.spans) c.args.turns.now c.loop-number.number-index c.loop-number.invariant.walk (omega arith) in
     record {
       tasks = all.tasks;
-      results = all.results;
       spans = all.noted;
       places = c.loop-number.invariant.places_room;
-      capacities = (c.loop-number.invariant.tasks_room, c.loop-number.invariant.results_room);
+      capacity = c.loop-number.invariant.tasks_room;
     }

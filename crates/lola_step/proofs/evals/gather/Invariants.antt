@@ -10,9 +10,8 @@ use Rattle.lola_step.proofs.evals.gather.Given as goal
 abbrev pub invariant-loop-number : goal.invariant-loop-number
 invariant-loop-number g l = record {
   walk : IsWalk (has_turn l.plan (turn.Eval l.layer)) l.plan.spec.streams
-      (AreGathered l.plan l.moment l.marks l.sought (g.S.StreamStore.seen l.store) l.layer l.initial.tasks.items l.initial.results.items l.initial.spans l.tasks.items l.results.items l.spans)
+      (AreGathered l.plan l.moment l.marks l.sought (g.S.StreamStore.seen l.store) l.layer l.initial.tasks.items l.initial.spans l.tasks.items l.spans)
       (drop l.number-index l.turns);
   places_room : vec_capacity l.places ≡ vec_capacity l.initial.places;
   tasks_room : vec_capacity l.tasks ≡ vec_capacity l.initial.tasks;
-  results_room : vec_capacity l.results ≡ vec_capacity l.initial.results;
 }

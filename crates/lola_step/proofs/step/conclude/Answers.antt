@@ -54,9 +54,9 @@ returns-clause-concludes g c names rows step run moment noted stands =
     (g.S.StreamStore.remembers c.args.store.now) (g.S.StreamStore.seen c.args.store.now)
     (same_fault c.args.plan.now now.marks.items c.deref.result.now now.spans.items c.deref-2.result.now now.tasks.items now.results.items c.deref-3.result.now None
     c.deref.ensures.value c.deref-2.ensures.value c.deref-3.ensures.value none)
-    (g.S.StreamStore.remembers c.close_all.new.store) (g.S.StreamStore.seen c.close_all.new.store)
+    c.args.show (g.S.StreamStore.remembers c.close_all.new.store) (g.S.StreamStore.seen c.close_all.new.store)
     c.find_closings.new.closing.items c.deref-7.result.now c.collect.new.verdicts.items finds c.deref-7.ensures.value
-    (same_verdicts c.args.plan.now now.spans.items c.deref-4.result.now now.tasks.items c.deref-5.result.now now.results.items c.deref-6.result.now
+    (same_verdicts c.args.plan.now c.args.show now.spans.items c.deref-4.result.now now.tasks.items c.deref-5.result.now now.results.items c.deref-6.result.now
     (g.S.StreamStore.remembers c.args.store.now) (g.S.StreamStore.seen c.args.store.now) c.collect.new.verdicts.items
     c.deref-4.ensures.value c.deref-5.ensures.value c.deref-6.ensures.value c.collect.ensures.values)
     c.close_all.ensures.stands names rows step run moment noted stands

@@ -100,7 +100,7 @@ returns-clause-ends g c =
     c.begin.ensures.seen ∙ ap (λ t. after_begin t c.args.time) c.in_default.ensures.ok in
     let seen = g.S.StreamStore.seen in
     let remembers = g.S.StreamStore.remembers in
-    whole_step c.args.plan.now c.args.start c.args.time c.args.is_row c.args.inputs.now c.moment_of-moment.result c.moment_of-moment.ensures
+    whole_step c.args.plan.now c.args.show c.args.start c.args.time c.args.is_row c.args.inputs.now c.moment_of-moment.result c.moment_of-moment.ensures
     (remembers c.args.store.now) (seen c.args.store.now) (remembers c.make_all_room.new.store) (seen c.make_all_room.new.store)
     (remembers c.begin.new.store) (seen c.begin.new.store) (remembers c.tell_inputs.new.store) (seen c.tell_inputs.new.store)
     (remembers c.evaluate.new.store) (seen c.evaluate.new.store) (remembers c.conclude.new.store) (seen c.conclude.new.store)

@@ -1,39 +1,75 @@
 -- Where its clause is active, a task has the outcome of the clause.
-use Rattle.std.proofs.Common.{◌≡◌, ◌∙◌, ap, subst, refl, slice_get, length, get_or, List}
+use Rattle.std.proofs.Common.{◌≡◌, ap, subst, refl, slice_get, length, get_or, List, Option, sym, ◌∙◌}
 use Rattle.std.proofs.lemmas.Option.{slice_get_read, slice_get_within}
-use Rattle.lola_model.specs.Store.{Layout, instances_seen, parameters_of}
+use Rattle.lola_code.specs.Plans.{IsCodeIn, IsEvalCode}
+use Rattle.lola_model.specs.declared.spec.Clause.{Clause}
+use Rattle.lola_model.specs.declared.spec.Spec.{Spec}
 use Rattle.lola_model.specs.declared.spec.Stream.{Stream}
-use Rattle.lola_step.proofs.Done.{is_result, may_ask, never_without, params_are}
-use Rattle.lola_step.proofs.Layouts.{parameters_there}
+use Rattle.lola_step.specs.Tasks.{params_given, params_seen}
+use Rattle.lola_step.proofs.Done.{is_result, may_ask, never_without}
+use Rattle.lola_step.proofs.Single.{none_given, own_given, spawns_here}
 use Rattle.lola_step.proofs.tasks.active_outcome.Goals as goal
 
-pub own_params-params-requires-clause-alone : goal.own_params-params-requires-clause-alone
-own_params-params-requires-clause-alone g c none =
+pub own_outcome-requires-clause-asks : goal.own_outcome-requires-clause-asks
+own_outcome-requires-clause-asks g c kinds =
     let plan = c.args.plan.now in
+    let s = g.S.StreamStore.seen c.args.store.now in
+    let t = c.args.task in
     let streams = plan.spec.streams in
-    let read = slice_get_read streams (length streams) c.args.task.stream c.index-as_slice-task.result refl (slice_get_within streams c.args.task.stream c.requires.ready.stream c.requires.ready.stream_is)
-    (subst (λ (xs : List Stream). c.index-as_slice-task.result ≡ get_or xs c.args.task.stream c.index-as_slice-task.result) c.as_slice.ensures c.index-as_slice-task.is) in
-    ap (λ (l : Layout). parameters_of (slice_get l.streams c.args.task.stream)) c.requires.layout
-    ∙ (parameters_there streams plan.kept plan.pacings c.args.task.stream c.index-as_slice-task.result read ∙ c.is_alone.ensures none)
+    let x = c.index-as_slice-task.result in
+    let read = slice_get_read streams (length streams) t.stream x refl (slice_get_within streams t.stream c.requires.ready.stream c.requires.ready.stream_is)
+    (subst (λ (xs : List Stream). x ≡ get_or xs t.stream x) c.as_slice.ensures c.index-as_slice-task.is) in
+    let own : params_given s t.stream t.index ≡ params_seen s t.stream t.index = own_given plan s c.requires.layout t.stream x read t.index (sym c.has_clause.ensures ∙ c.if-has_clause.true) in
+    may_ask plan s t c.requires.ready x c.in-Some.clause (params_seen s t.stream t.index) c.requires.layout read c.in-Some.is (sym own) (λ spawns. kinds)
+
+pub instance_outcome-requires-clause-code : goal.instance_outcome-requires-clause-code
+instance_outcome-requires-clause-code g c =
+    let t = c.args.task in
+    let streams = c.args.plan.now.spec.streams in
+    let x = c.index-as_slice-task.result in
+    let read = slice_get_read streams (length streams) t.stream x refl (slice_get_within streams t.stream c.requires.ready.stream c.requires.ready.stream_is)
+    (subst (λ (xs : List Stream). x ≡ get_or xs t.stream x) c.as_slice.ensures c.index-as_slice-task.is) in
+    subst (λ (o : Option Clause). IsEvalCode o c.eval_of-code.result.now) c.in-Some.is
+    (subst (λ (o : Option Stream). IsCodeIn o c.eval_of-code.result.now) (ap (λ (y : Spec). slice_get y.streams t.stream) c.requires.code ∙ read) c.eval_of-code.ensures)
 
 pub instance_outcome-requires-clause-asks : goal.instance_outcome-requires-clause-asks
 instance_outcome-requires-clause-asks g c =
+    let plan = c.args.plan.now in
     let s = g.S.StreamStore.seen c.args.store.now in
-    let streams = c.args.plan.now.spec.streams in
-    let read = slice_get_read streams (length streams) c.args.task.stream c.index-as_slice-task.result refl (slice_get_within streams c.args.task.stream c.requires.ready.stream c.requires.ready.stream_is)
-    (subst (λ (xs : List Stream). c.index-as_slice-task.result ≡ get_or xs c.args.task.stream c.index-as_slice-task.result) c.as_slice.ensures c.index-as_slice-task.is) in
-    may_ask c.args.plan.now s c.args.task c.requires.ready c.index-as_slice-task.result c.in-Some.clause c.own_params-params.result
-    c.requires.layout read c.in-Some.is (params_are (slice_get (instances_seen s c.args.task.stream) c.args.task.index) c.own_params-params.result c.own_params-params.ensures.value)
-    c.own_params-params.ensures.kinds
+    let t = c.args.task in
+    let streams = plan.spec.streams in
+    let x = c.index-as_slice-task.result in
+    let read = slice_get_read streams (length streams) t.stream x refl (slice_get_within streams t.stream c.requires.ready.stream c.requires.ready.stream_is)
+    (subst (λ (xs : List Stream). x ≡ get_or xs t.stream x) c.as_slice.ensures c.index-as_slice-task.is) in
+    let without = sym c.has_clause.ensures ∙ c.if-has_clause.false in
+    may_ask plan s t c.requires.ready x c.in-Some.clause c.args.none.now c.requires.layout read c.in-Some.is
+    (c.requires.none ∙ sym (none_given plan s c.requires.layout t.stream x read t.index without))
+    (λ spawns. absurd (let e = sym spawns ∙ (spawns_here plan s c.requires.layout t.stream x read ∙ without) in cc))
 
-pub returns-in-Some : goal.returns-in-Some
-returns-in-Some g c =
+pub returns-then-has_clause : goal.returns-then-has_clause
+returns-then-has_clause g c =
+    let plan = c.args.plan.now in
     let s = g.S.StreamStore.seen c.args.store.now in
-    let streams = c.args.plan.now.spec.streams in
-    let read = slice_get_read streams (length streams) c.args.task.stream c.index-as_slice-task.result refl (slice_get_within streams c.args.task.stream c.requires.ready.stream c.requires.ready.stream_is)
-    (subst (λ (xs : List Stream). c.index-as_slice-task.result ≡ get_or xs c.args.task.stream c.index-as_slice-task.result) c.as_slice.ensures c.index-as_slice-task.is) in
-    is_result c.args.plan.now (g.S.StreamStore.remembers c.args.store.now) s c.args.task c.index-as_slice-task.result c.in-Some.clause c.own_params-params.result c.instance_outcome.result
-    c.requires.layout read c.in-Some.is (params_are (slice_get (instances_seen s c.args.task.stream) c.args.task.index) c.own_params-params.result c.own_params-params.ensures.value)
+    let t = c.args.task in
+    let streams = plan.spec.streams in
+    let x = c.index-as_slice-task.result in
+    let read = slice_get_read streams (length streams) t.stream x refl (slice_get_within streams t.stream c.requires.ready.stream c.requires.ready.stream_is)
+    (subst (λ (xs : List Stream). x ≡ get_or xs t.stream x) c.as_slice.ensures c.index-as_slice-task.is) in
+    let own : params_given s t.stream t.index ≡ params_seen s t.stream t.index = own_given plan s c.requires.layout t.stream x read t.index (sym c.has_clause.ensures ∙ c.if-has_clause.true) in
+    is_result plan (g.S.StreamStore.remembers c.args.store.now) s t x c.in-Some.clause (params_seen s t.stream t.index) c.own_outcome.result
+    c.requires.layout read c.in-Some.is (sym own) c.own_outcome.ensures.kind c.own_outcome.ensures.answer
+
+pub returns-else-has_clause : goal.returns-else-has_clause
+returns-else-has_clause g c =
+    let plan = c.args.plan.now in
+    let s = g.S.StreamStore.seen c.args.store.now in
+    let t = c.args.task in
+    let streams = plan.spec.streams in
+    let x = c.index-as_slice-task.result in
+    let read = slice_get_read streams (length streams) t.stream x refl (slice_get_within streams t.stream c.requires.ready.stream c.requires.ready.stream_is)
+    (subst (λ (xs : List Stream). x ≡ get_or xs t.stream x) c.as_slice.ensures c.index-as_slice-task.is) in
+    is_result plan (g.S.StreamStore.remembers c.args.store.now) s t x c.in-Some.clause c.args.none.now c.instance_outcome.result
+    c.requires.layout read c.in-Some.is (c.requires.none ∙ sym (none_given plan s c.requires.layout t.stream x read t.index (sym c.has_clause.ensures ∙ c.if-has_clause.false)))
     c.instance_outcome.ensures.kind c.instance_outcome.ensures.answer
 
 pub returns-in-None : goal.returns-in-None

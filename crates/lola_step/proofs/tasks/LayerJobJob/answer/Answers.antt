@@ -12,6 +12,9 @@ task_outcome-requires-clause-ready g c =
     let read = slice_get-get_or job.tasks.now c.args.task (record { stream = 0; index = 0 }) c.requires in
     is_task job.plan.now job.moment.now (g.S.StreamStore.seen job.store.now) job.tasks.now job.ready c.args.task _ read
 
+pub task_outcome-requires-clause-none : goal.task_outcome-requires-clause-none
+task_outcome-requires-clause-none g c = c.no_parameters.ensures
+
 pub returns : goal.returns
 returns g c =
     let job = c.args.self.now in

@@ -3,7 +3,7 @@ use Rattle.std.proofs.lemmas.List.{drop_at}
 use Rattle.lola_value.specs.declared.value.Outcome.{Outcome}
 use Rattle.lola_step.specs.Given.{AreResults}
 use Rattle.lola_step.proofs.Results.{each_is_result}
-use Rattle.lola_step.proofs.evals.answer_tasks.Goals as goal
+use Rattle.lola_step.proofs.evals.share_tasks.Goals as goal
 
 pub returns-clause-results : goal.returns-clause-results
 returns-clause-results g c =
