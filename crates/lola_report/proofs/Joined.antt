@@ -36,7 +36,7 @@ fields_as_they_are (f ∷ fs) none =
 
 -- five texts with commas between the first four, and an end
 five_joined : (a b c d e p q r s t end : List ℕ) → p ≡ a → q ≡ b → r ≡ c → s ≡ d → t ≡ e
-    → (p ++ (44 ∷ (q ++ (44 ∷ (r ++ (44 ∷ (s ++ t))))))) ++ end ≡ a ++ (44 ∷ (b ++ (44 ∷ (c ++ (44 ∷ (d ++ (e ++ end)))))))
+    → (p ++ (44 ∷ (q ++ (44 ∷ (r ++ (44 ∷ (s ++ t))))))) ++ end ≡ (a ++ (44 ∷ (b ++ (44 ∷ (c ++ (44 ∷ [])))))) ++ (d ++ (e ++ end))
 five_joined a b c d e p q r s t end i j k l m = rw (i, j, k, l, m) (simp append_assoc)
 
 pub joined_is : (e : Entry) → has_quoted e.row.fields ≡ false → joined_line e ≡ trace_line e

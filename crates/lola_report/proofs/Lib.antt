@@ -6,3 +6,4 @@ pub mod Joined
 pub mod Rows
 pub mod LineForms
 pub mod Marks
+pub mod Heads

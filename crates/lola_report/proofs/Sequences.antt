@@ -47,3 +47,8 @@ part_within f xs i x d old mid new within is before part =
 pub more_commas : (p : Field) (ps : List Field) → commas (p ∷ ps) ≡ value_text p ++ flat_map (λ v. 44 ∷ value_text v) ps
 more_commas p [] = sym (append-nil (value_text p))
 more_commas p (q ∷ ps) = ap (λ (l : List ℕ). value_text p ++ (44 ∷ l)) (more_commas q ps)
+
+-- what follows from what holds where a call finds no memory
+pub on_err_by : {T E P Q : Type 0} (r : Result T E) → OnErr r P → (P → Q) → OnErr r Q
+on_err_by (Ok _) p f = tt
+on_err_by (Err _) p f = f p

@@ -3,7 +3,6 @@ use Rattle.std.specs.Prelude.{ℕ, List, Bool, codes, decimal, if◌then◌else�
 use Rattle.lola_value.specs.Times.{time_text}
 use Rattle.lola_model.specs.Texts.{quoted, value_text, params_text}
 use Rattle.lola_model.specs.Trace.{field_bytes, mark_text}
-use Rattle.lola_report.specs.Rows.{joined_fields}
 use Rattle.lola_report.specs.declared.piece.Piece.{Piece}
 use Rattle.lola_report.specs.declared.piece.Piece.TheVariants as piece
 
@@ -22,4 +21,3 @@ piece_text (piece.Value value) = value_text value.now
 piece_text (piece.Params params) = params_text params.now
 piece_text (piece.Mark mark) = mark_text mark
 piece_text (piece.Field field) = field_bytes field.now
-piece_text (piece.Fields fields) = joined_fields fields.now

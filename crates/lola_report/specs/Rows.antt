@@ -7,6 +7,7 @@ use Rattle.csv.specs.declared.writer.Writer.{Writer}
 use Rattle.lola_value.specs.declared.text.Field.{Field}
 use Rattle.lola_value.specs.Times.{time_text}
 use Rattle.lola_model.specs.declared.journal.Entry.{Entry}
+use Rattle.lola_model.specs.declared.journal.Row.{Row}
 use Rattle.lola_model.specs.Trace.{field_bytes, mark_text}
 
 -- a field that calls for quotes
@@ -21,10 +22,17 @@ has_quoted fs = list_any is_quoted fs
 abbrev pub joined_fields : List Field → List ℕ
 joined_fields fs = flat_map (λ f. 44 ∷ field_bytes f) fs
 
+-- the source, the number and the time of a row, each with a comma behind it
+abbrev pub head_text : Row → List ℕ
+head_text r = decimal r.source ++ (44 ∷ (decimal r.number ++ (44 ∷ (time_text r.stamp ++ (44 ∷ [])))))
+
+-- the mark and the fields of an entry as they are, with commas between them, and then LF
+abbrev pub marked_line : Entry → List ℕ
+marked_line e = mark_text e.mark ++ (joined_fields e.row.fields ++ 10 ∷ [])
+
 -- the fields of an entry as they are, with commas between them, and then LF
 abbrev pub joined_line : Entry → List ℕ
-joined_line e =
-    decimal e.row.source ++ (44 ∷ (decimal e.row.number ++ (44 ∷ (time_text e.row.stamp ++ (44 ∷ (mark_text e.mark ++ (joined_fields e.row.fields ++ 10 ∷ [])))))))
+joined_line e = head_text e.row ++ marked_line e
 
 -- what stands before the fields of the inputs
 abbrev pub head_fields : Entry → List (List ℕ)

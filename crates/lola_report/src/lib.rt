@@ -2,6 +2,7 @@
 #![tactic(auto)]
 
 pub mod end;
+mod head;
 pub mod law;
 mod names;
 mod piece;

@@ -35,8 +35,6 @@ pub enum Piece<'a> {
     Mark(Mark),
     /// A field of a row of the trace as it is.
     Field(&'a Field),
-    /// The fields of a row of the trace as they are, each behind a comma.
-    Fields(&'a [Field]),
 }
 
 /// Appends a number of up to 128 bits in decimal. Where there is no memory the text is as it was.
@@ -122,8 +120,9 @@ fn field_bytes(field: &Field, to: &mut Text) -> Result<(), Memory>
     }
 }
 
-/// Appends a field of the trace behind a comma.
-fn one_more_field(field: &Field, to: &mut Text) -> Result<(), Memory>
+/// Appends a comma and then a field of the trace.
+#[inline(never)]
+fn comma_and_field(field: &Field, to: &mut Text) -> Result<(), Memory>
     ensures ok { OnOk result (to.new ≡ to.old ++ 44 ∷ field_bytes field.now) }
     ensures memory { OnErr result (AppendsPart to.old to.new (44 ∷ field_bytes field.now)) }
 {
@@ -131,8 +130,19 @@ fn one_more_field(field: &Field, to: &mut Text) -> Result<(), Memory>
     field_bytes(field, to)
 }
 
-/// Appends the fields of a row of the trace as they are.
-fn joined_fields(fields: &[Field], to: &mut Text) -> Result<(), Memory>
+/// Appends a field of the trace behind a comma. Of many inputs most are absent in a row: such a field is one write.
+fn one_more_field(field: &Field, to: &mut Text) -> Result<(), Memory>
+    ensures ok { OnOk result (to.new ≡ to.old ++ 44 ∷ field_bytes field.now) }
+    ensures memory { OnErr result (AppendsPart to.old to.new (44 ∷ field_bytes field.now)) }
+{
+    match field {
+        Field::Absent => to.append(b",#"),
+        _ => comma_and_field(field, to),
+    }
+}
+
+/// Appends the fields of a row of the trace as they are, each behind a comma.
+pub(crate) fn joined_fields(fields: &[Field], to: &mut Text) -> Result<(), Memory>
     ensures ok { OnOk result (to.new ≡ to.old ++ joined_fields fields.now) }
     ensures memory { OnErr result (AppendsPart to.old to.new (joined_fields fields.now)) }
 {
@@ -143,7 +153,7 @@ fn joined_fields(fields: &[Field], to: &mut Text) -> Result<(), Memory>
 }
 
 /// Appends the mark of a row of the trace.
-fn mark_text(mark: Mark, to: &mut Text) -> Result<(), Memory>
+pub(crate) fn mark_text(mark: Mark, to: &mut Text) -> Result<(), Memory>
     ensures ok { OnOk result (to.new ≡ to.old ++ mark_text mark) }
     ensures memory { OnErr result (AppendsPart to.old to.new (mark_text mark)) }
 {
@@ -171,7 +181,6 @@ pub fn append_piece(piece: &Piece, to: &mut Text) -> Result<(), Memory>
         Piece::Params(params) => params_text(params, to),
         Piece::Mark(mark) => mark_text(mark, to),
         Piece::Field(field) => field_bytes(field, to),
-        Piece::Fields(fields) => joined_fields(fields, to),
     }
 }
 

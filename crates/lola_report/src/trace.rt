@@ -6,9 +6,10 @@ ghost use Rattle.csv.specs.Writing.{default_writer, needs_quotes};
 ghost use Rattle.memchr.specs.Find.{is_byte2};
 ghost use Rattle.lola_value.specs.Appending.{AppendsPart};
 ghost use Rattle.lola_model.specs.Trace.{trace_line};
-ghost use Rattle.lola_report.specs.Rows.{has_quoted, is_quoted, joined_line};
+ghost use Rattle.lola_report.specs.Rows.{has_quoted, is_quoted, joined_line, marked_line};
 
-use crate::piece::{Piece, append_all};
+use crate::head::head_text;
+use crate::piece::{joined_fields, mark_text};
 use crate::row::written_line;
 use lola_model::journal::Entry;
 use lola_value::text::{Field, Memory, Text};
@@ -53,26 +54,23 @@ fn has_quoted(fields: &[Field]) -> bool
     fields.iter().any(|field| is_quoted(field))
 }
 
+// Appends the mark and the fields of an entry, and then LF.
+fn marked_line(entry: &Entry, to: &mut Text) -> Result<(), Memory>
+    ensures ok { OnOk result (to.new ≡ to.old ++ marked_line entry.now) }
+    ensures memory { OnErr result (AppendsPart to.old to.new (marked_line entry.now)) }
+{
+    mark_text(entry.mark, to)?;
+    joined_fields(entry.row.fields.as_slice(), to)?;
+    to.append(b"\n")
+}
+
 // Appends the fields of an entry as they are, with commas between them, and then LF.
 fn joined_line(entry: &Entry, to: &mut Text) -> Result<(), Memory>
     ensures ok { OnOk result (to.new ≡ to.old ++ joined_line entry.now) }
     ensures memory { OnErr result (AppendsPart to.old to.new (joined_line entry.now)) }
 {
-    let row = &entry.row;
-    append_all(
-        &[
-            Piece::Number(u64::from(row.source)),
-            Piece::Words(b","),
-            Piece::Number(row.number),
-            Piece::Words(b","),
-            Piece::Time(row.stamp),
-            Piece::Words(b","),
-            Piece::Mark(entry.mark),
-            Piece::Fields(row.fields.as_slice()),
-            Piece::Words(b"\n"),
-        ],
-        to,
-    )
+    head_text(&entry.row, to)?;
+    marked_line(entry, to)
 }
 
 /// Appends the line of an entry, the row of CSV with the fields `SOURCE`, `NUMBER`, `TIME`, `MARK` and one for each

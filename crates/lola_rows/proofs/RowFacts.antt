@@ -1,5 +1,5 @@
 -- The row of a line, by its parts.
-use Rattle.std.proofs.Common.{◌≡◌, ℕ, zero, suc, ◌+◌, ◌<◌, ◌≤◌, false, List, [], ◌∷◌, ◌++◌, Option, Some, None, option_map, length, drop, get_or, slice_get, refl, sym, ap, ◌∙◌, append_assoc, Result, Ok, Err, MatchResult, IfOk, nat_lt, is_ok, inl, inr}
+use Rattle.std.proofs.Common.{◌≡◌, ℕ, zero, suc, ◌+◌, ◌<◌, ◌≤◌, true, false, List, [], ◌∷◌, ◌++◌, Option, Some, None, option_map, length, drop, get_or, slice_get, refl, sym, ap, ◌∙◌, append_assoc, Result, Ok, Err, MatchResult, IfOk, nat_lt, is_ok, inl, inr}
 use Rattle.std.specs.List.{list_any}
 use Rattle.std.proofs.lemmas.List.{append-nil, drop_all, drop_more}
 use Rattle.std.proofs.lemmas.Bool.{cases_Bool, ltb-false, or_parts}
@@ -9,14 +9,15 @@ use Rattle.csv.specs.Records.{field_at}
 use Rattle.lola_value.specs.declared.text.Field.{Field}
 use Rattle.lola_value.specs.declared.text.Field.TheVariants as field
 use Rattle.lola_value.specs.declared.text.Memory.{Memory}
+use Rattle.lola_value.specs.declared.value.Kind.{Kind}
 use Rattle.lola_value.specs.Times.{read_time}
 use Rattle.lola_model.specs.declared.source.MalformedKind.{MalformedKind}
 use Rattle.lola_csv.specs.Blanks.{trimmed}
 use Rattle.lola_csv.specs.Values.{and_then, read_value}
 use Rattle.lola_csv.specs.Line.{has_line_end}
-use Rattle.lola_rows.specs.Steps.{Tells}
+use Rattle.lola_rows.specs.Steps.{Pushes, Tells}
 use Rattle.lola_rows.specs.Lines.{Line, is_line_end, is_return, longest_line}
-use Rattle.lola_rows.specs.Rows.{flaw_of_line, time_of, value_at, value_in, value_of, values_of}
+use Rattle.lola_rows.specs.Rows.{flaw_of_line, time_of, value_at, value_of, values_of}
 use Rattle.lola_rows.specs.declared.columns.Column.{Column}
 
 pub field-get : (fields : List (List ℕ)) (i : ℕ) → field_at fields i ≡ slice_get fields i
@@ -52,16 +53,14 @@ time-there fields place text is = ap (λ o. and_then o (λ t. read_time (trimmed
 pub time-none : (fields : List (List ℕ)) (place : ℕ) → None ≡ field_at fields place → None ≡ time_of fields place
 time-none fields place is = ap (λ (o : Option (List ℕ)). and_then o (λ t. read_time (trimmed t))) (is ∙ field-get fields place)
 
--- the value of a column
-pub value-made : (fields : List (List ℕ)) (column : Column) (place : ℕ) (text : List ℕ) (r : Result (Option Field) Memory) → column.place ≡ Some place → Some text ≡ field_at fields place
-    → IfOk r (λ v. v ≡ read_value column.kind text) → IfOk r (λ v. v ≡ value_of fields column)
-value-made fields column place text (Ok v) placed is made =
-    made ∙ ap (value_at column.kind) (is ∙ field-get fields place) ∙ ap (value_in fields column.kind) (sym placed)
-value-made fields column place text (Err e) placed is made = made
+-- the value at a place
+pub value-made : (fields : List (List ℕ)) (kind : Kind) (place : ℕ) (text : List ℕ) (r : Result (Option Field) Memory) → Some text ≡ field_at fields place
+    → IfOk r (λ v. v ≡ read_value kind text) → IfOk r (λ v. v ≡ value_at kind (slice_get fields place))
+value-made fields kind place text (Ok v) is made = made ∙ ap (value_at kind) (is ∙ field-get fields place)
+value-made fields kind place text (Err e) is made = made
 
-pub value-none : (fields : List (List ℕ)) (column : Column) (place : ℕ) → column.place ≡ Some place → None ≡ field_at fields place → Some field.Absent ≡ value_of fields column
-value-none fields column place placed is =
-    ap (value_at column.kind) (is ∙ field-get fields place) ∙ ap (value_in fields column.kind) (sym placed)
+pub value-none : (fields : List (List ℕ)) (kind : Kind) (place : ℕ) → None ≡ field_at fields place → Some field.Absent ≡ value_at kind (slice_get fields place)
+value-none fields kind place is = ap (value_at kind) (is ∙ field-get fields place)
 
 -- a line of which nothing is wrong has no carriage return, and is UTF-8
 pub record IsSound (line : Line) : Type 0 where
@@ -97,16 +96,17 @@ led-more front v (Some vs) = ap (λ (l : List Field). Some l) (append_assoc fron
 abbrev next_values : List (List ℕ) → List Field → List Column → Option Field → Option (List Field)
 next_values fields front later o = led_values front (and_then o (λ v. option_map (λ vs. v ∷ vs) (values_of fields later)))
 
-pub values-more : (fields : List (List ℕ)) (columns : List Column) (i : ℕ) (d : Column) (front : List Field) (v : Field) → i < length columns → Some v ≡ value_of fields (get_or columns i d)
-    → led_values front (values_of fields (drop i columns)) ≡ values_of fields columns → led_values (front ++ v ∷ []) (values_of fields (drop (i + 1) columns)) ≡ values_of fields columns
-values-more fields columns i d front v within is so_far =
-    led-more front v (values_of fields (drop (i + 1) columns)) ∙ ap (next_values fields front (drop (i + 1) columns)) is
+pub values-more : (fields : List (List ℕ)) (columns : List Column) (i : ℕ) (d : Column) (front new : List Field) → i < length columns → Pushes true (value_of fields (get_or columns i d)) front new
+    → led_values front (values_of fields (drop i columns)) ≡ values_of fields columns → led_values new (values_of fields (drop (i + 1) columns)) ≡ values_of fields columns
+values-more fields columns i d front new within (v, is, pushed) so_far =
+    ap (λ l. led_values l (values_of fields (drop (i + 1) columns))) pushed
+    ∙ led-more front v (values_of fields (drop (i + 1) columns)) ∙ ap (next_values fields front (drop (i + 1) columns)) (sym is)
     ∙ sym (ap (λ l. led_values front (values_of fields l)) (drop_more columns i d within)) ∙ so_far
 
-pub values-fail : (fields : List (List ℕ)) (columns : List Column) (i : ℕ) (d : Column) (front : List Field) → i < length columns → None ≡ value_of fields (get_or columns i d)
+pub values-fail : (fields : List (List ℕ)) (columns : List Column) (i : ℕ) (d : Column) (front : List Field) → i < length columns → value_of fields (get_or columns i d) ≡ None
     → led_values front (values_of fields (drop i columns)) ≡ values_of fields columns → None ≡ values_of fields columns
 values-fail fields columns i d front within is so_far =
-    ap (next_values fields front (drop (i + 1) columns)) is ∙ sym (ap (λ l. led_values front (values_of fields l)) (drop_more columns i d within)) ∙ so_far
+    ap (next_values fields front (drop (i + 1) columns)) (sym is) ∙ sym (ap (λ l. led_values front (values_of fields l)) (drop_more columns i d within)) ∙ so_far
 
 pub values-done : (fields : List (List ℕ)) (columns : List Column) (i : ℕ) (front : List Field) → length columns ≤ i → led_values front (values_of fields (drop i columns)) ≡ values_of fields columns → Some front ≡ values_of fields columns
 values-done fields columns i front past so_far =

@@ -1,5 +1,6 @@
 -- What the steps of one call of a reader do.
-use Rattle.std.specs.Prelude.{ℕ, ◌≡◌, ◌≤◌, ◌⊎◌, List, [], ◌++◌, length, true, Option, Some, None, Result, Ok, Err}
+use Rattle.std.specs.Prelude.{ℕ, ◌≡◌, ◌≤◌, ◌⊎◌, List, [], ◌∷◌, ◌++◌, length, Bool, true, false, Option, Some, None, Result, Ok, Err}
+use Rattle.lola_value.specs.declared.text.Field.{Field}
 use Rattle.lola_model.specs.declared.journal.Row.{Row}
 use Rattle.lola_model.specs.declared.source.MalformedKind.{MalformedKind}
 use Rattle.lola_rows.specs.declared.answer.Ending.{Ending}
@@ -67,6 +68,11 @@ Makes view (Err flaw.Memory) made = Unit {0}
 abbrev pub Tells : Result (Unit {0}) MalformedKind → Option MalformedKind → Type 0
 Tells (Ok done) wrong = wrong ≡ None
 Tells (Err kind) wrong = wrong ≡ Some kind
+
+-- a value was put behind others, or there is none
+abbrev pub Pushes : Bool → Option Field → List Field → List Field → Type 0
+Pushes true value old new = (field : Field) × (value ≡ Some field) × (new ≡ old ++ field ∷ [])
+Pushes false value old new = value ≡ None
 
 -- how a reader ends at a flaw of the row with this number
 abbrev pub ending_of : Flaw → ℕ → Ending

@@ -1,12 +1,12 @@
 //! What one line gives: the columns of a heading, or a row.
-ghost use Rattle.std.specs.Prelude.{◌≡◌, false, IfOk, OnOk, option_map};
+ghost use Rattle.std.specs.Prelude.{◌≡◌, false, slice_get, IfOk, OnOk, option_map};
 ghost use Rattle.std.specs.List.{list_any};
 ghost use Rattle.csv.specs.Records.{fields_of};
 ghost use Rattle.lola_csv.specs.Line.{fields_of_line, has_line_end};
 ghost use Rattle.lola_rows.specs.Lines.{is_line_end};
 ghost use Rattle.lola_rows.specs.Places.{layout_columns};
-ghost use Rattle.lola_rows.specs.Rows.{columns_of_line, row_of_fields, row_of_line, time_of, value_of, values_of};
-ghost use Rattle.lola_rows.specs.Steps.{Makes};
+ghost use Rattle.lola_rows.specs.Rows.{columns_of_line, row_of_fields, row_of_line, time_of, value_at, value_of, values_of};
+ghost use Rattle.lola_rows.specs.Steps.{Makes, Pushes};
 
 use crate::checks::{begins_with_mark, check_line};
 use crate::columns::{Column, Input, Layout, read_layout};
@@ -19,6 +19,7 @@ use lola_model::journal::Row;
 use lola_model::source::MalformedKind;
 use lola_value::text::{Field, Fields, Memory};
 use lola_value::times::time_read;
+use lola_value::value::Kind;
 use std::alloc::Global;
 
 /// What the rows of a source have to be: the number of the source, and the most rows.
@@ -148,23 +149,44 @@ fn values_of(
 {
     let mut values = Fields::create(alloc);
     for column in columns {
-        let Some(value) = value_of(alloc, *column, fields)? else {
+        if !push_value(alloc, column, fields, &mut values)? {
             return Ok(None);
-        };
-        values.push(value)?;
+        }
     }
     Ok(Some(values))
 }
 
-// The value of an input, absent where the heading has no column for it.
-fn value_of(alloc: Global, column: Column, fields: &ByteRecord) -> Result<Option<Field>, Memory>
-    ensures { IfOk result (λ value. value ≡ value_of (fields_of fields.now) column) }
+// Puts the value of an input behind others, unless its field is none. Where the heading has no column for it no field is looked at.
+fn push_value(
+    alloc: Global,
+    column: &Column,
+    fields: &ByteRecord,
+    values: &mut Fields,
+) -> Result<bool, Memory>
+    ensures { IfOk result (λ there. Pushes there (value_of (fields_of fields.now) column.now) values.old values.new) }
 {
     let Some(place) = column.place else {
-        return Ok(Some(Field::Absent));
+        values.push(Field::Absent)?;
+        return Ok(true);
     };
+    let Some(value) = value_at(alloc, column.kind, fields, place)? else {
+        return Ok(false);
+    };
+    values.push(value)?;
+    Ok(true)
+}
+
+// The value of a kind at a place, absent where there is no field.
+fn value_at(
+    alloc: Global,
+    kind: Kind,
+    fields: &ByteRecord,
+    place: usize,
+) -> Result<Option<Field>, Memory>
+    ensures { IfOk result (λ value. value ≡ value_at kind (slice_get (fields_of fields.now) place)) }
+{
     match fields.get(place) {
-        Some(text) => value(alloc, column.kind, text),
+        Some(text) => value(alloc, kind, text),
         None => Ok(Some(Field::Absent)),
     }
 }
