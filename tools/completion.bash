@@ -1,38 +1,56 @@
-# Completes the words of lolamon in bash: commands, options, their values, and files.
+# Completes the words of lolamon and of the tools beside it in bash: commands, options, their values, and files.
 
+# Tells the options of the command $1. A tool, which is called as $2, tells its own with --help: in its usage, and where
+# lines begin with one.
 _lolamon_options() {
+    case $1 in
+        lolamon) echo --show --workers --start --in-turns ;;
+        *) "$2" --help 2>/dev/null | sed -n '/^lolamon-/p; /^  --/p' | grep -o -e '--[a-z][a-z-]*' | sort -u ;;
+    esac
+}
+
+# Tells those of them that are not there yet, or may come several times.
+_lolamon_free_options() {
     local used=" ${COMP_WORDS[*]:0:COMP_CWORD} " option
-    for option in --show --workers --start --in-turns; do
-        if [[ $used != *" $option "* ]]; then echo "$option"; fi
+    for option in $(_lolamon_options "$@"); do
+        if [[ $used != *" $option "* || $option == --@(scale|rename|fail-on) ]]; then echo "$option"; fi
     done
 }
 
-_lolamon_value() {
+# Tells values of the option $1, none of one whose value nobody can guess. The status is 1 where a file follows, or no value.
+_lolamon_values() {
     case $1 in
         --show) echo triggers outputs ;;
-        --workers) echo 1 2 4 8 16 32 64 ;;
+        --workers | --jobs) echo 1 2 4 8 16 32 64 ;;
+        --unit) echo s ms us ns ;;
+        --commands) echo parallel slurm ;;
+        --rate) echo 1Hz 10Hz 100Hz ;;
+        --behind | --for) echo 100ms 500ms 1s 1min ;;
+        --fail-on) echo any ;;
+        --start | --scale | --rename | --streams | --from | --to | --pid) ;;
+        *) return 1 ;;
     esac
 }
 
 _lolamon() {
-    local word=${COMP_WORDS[COMP_CWORD]} before=${COMP_WORDS[COMP_CWORD - 1]} command=${COMP_WORDS[1]}
-    local behind_all_options=
-    if [[ " ${COMP_WORDS[*]:0:COMP_CWORD} " == *" -- "* ]]; then behind_all_options=yes; fi
+    local word=${COMP_WORDS[COMP_CWORD]} before=${COMP_WORDS[COMP_CWORD - 1]} command=${COMP_WORDS[0]} values
+    local name=${command##*/} has_options=yes
+    if [[ " ${COMP_WORDS[*]:0:COMP_CWORD} " == *" -- "* || $name == lolamon && ${COMP_WORDS[1]} != run ]]; then has_options=; fi
     # Bash cuts --show=outputs into three words.
     if [[ $word == = ]]; then word=; elif [[ $before == = ]]; then before=${COMP_WORDS[COMP_CWORD - 2]}; fi
     COMPREPLY=()
-    if ((COMP_CWORD == 1)); then
+    if [[ $name == lolamon ]] && ((COMP_CWORD == 1)); then
         mapfile -t COMPREPLY < <(compgen -W 'run analyse drill' -- "$word")
-    elif [[ $command == drill || -z $behind_all_options && $before == --start ]]; then
+    elif [[ $name == lolamon && ${COMP_WORDS[1]} == drill ]]; then
         return
-    elif [[ -z $behind_all_options && $command == run && $before == --@(show|workers) ]]; then
-        mapfile -t COMPREPLY < <(compgen -W "$(_lolamon_value "$before")" -- "$word")
-    elif [[ -z $behind_all_options && $command == run && $word == -* ]]; then
-        mapfile -t COMPREPLY < <(compgen -W "$(_lolamon_options)" -- "$word")
-    else
+    elif [[ -n $has_options ]] && values=$(_lolamon_values "$before"); then
+        mapfile -t COMPREPLY < <(compgen -W "$values" -- "$word")
+    elif [[ -n $has_options && $word == -* ]]; then
+        mapfile -t COMPREPLY < <(compgen -W "$(_lolamon_free_options "$name" "$command")" -- "$word")
+    elif [[ $name != lolamon-tick ]]; then
         compopt -o filenames 2>/dev/null
         mapfile -t COMPREPLY < <(compgen -f -- "$word")
     fi
 }
 
-complete -F _lolamon lolamon
+complete -F _lolamon lolamon lolamon-batch lolamon-doctor lolamon-plot lolamon-table lolamon-tick lolamon-where

@@ -222,7 +222,7 @@ def test_each_code_is_told(checks: Checks) -> None:
     with open(os.path.join(CHECKOUT, "tools", "messages.tsv"), encoding="utf-8") as file:
         rows = [line.rstrip("\n").split("\t") for line in file][1:]
     lines = {"E": (3, "= refused {} {} at 0"), "k": (4, "= malformed source 0 row 0 {} {}"), "f": (5, "= {} {} at 0.5")}
-    manual = Manual(os.path.join(CHECKOUT, "tools", "messages.tsv"), CHECKOUT)
+    manual = Manual()
     examples = os.path.exists(os.path.join(CHECKOUT, "docs", "errors.md"))
     for code, name, sentence, section in rows:
         if code[0] in lines:

@@ -7,10 +7,12 @@ import sys
 from typing import Callable, List, NoReturn
 
 from answers.lines import Unfit, reason
+from explaining.program import NoProgram
 
 UNFIT = 1
 USAGE = 2
 WRITE_FAILED = 7
+NO_PROGRAM = 70
 INTERRUPTED = 130
 
 
@@ -54,6 +56,9 @@ def run(tool: str, main: Callable[[List[str]], int], arguments: List[str]) -> in
     except Unfit as unfit:
         say(tool, str(unfit))
         return UNFIT
+    except NoProgram as why:
+        say(tool, str(why))
+        return NO_PROGRAM
     except KeyboardInterrupt:
         return INTERRUPTED
     except BrokenPipeError:

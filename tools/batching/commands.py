@@ -49,16 +49,19 @@ lolamon-batch --collect {shlex.quote(batch.results)}
 
 
 def slurm_script(batch: Batch) -> str:
+    """Slurm reads quotes in its lines as a shell does, and takes %% for % in the name of an output."""
     tasks = max(1, min(MOST_TASKS, batch.left))
     pick = f"NR % {tasks} == task % {tasks}"
+    output = os.path.join(batch.results.replace("%", "%%"), "slurm-%a.txt")
     return f"""\
 #!/bin/sh
 # Give this to sbatch. On each node lolamon-batch is installed, and this folder is there under the same path.
-# Afterwards: lolamon-batch --collect {batch.results}
+# Afterwards: lolamon-batch --collect {shlex.quote(batch.results)}
 #SBATCH --job-name=lolamon
 #SBATCH --array=1-{tasks}
 #SBATCH --cpus-per-task=1
-#SBATCH --output={batch.results}/slurm-%a.txt
+#SBATCH --chdir={shlex.quote(os.getcwd())}
+#SBATCH --output={shlex.quote(output)}
 cd {shlex.quote(os.getcwd())} || exit
 awk -v task="$SLURM_ARRAY_TASK_ID" {shlex.quote(pick)} {shlex.quote(batch.left_file)} |
     {quoted([*batch.call(), "--jobs", "1", "--", batch.specification])} -

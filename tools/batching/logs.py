@@ -66,8 +66,6 @@ def find_logs(words: Iterable[str], lines: Iterable[bytes], join: bool) -> List[
                 raise WrongWords(f"the log {shown_name(log.name)} stands twice")
             seen.add(path)
             found.append(log)
-    if not found:
-        raise WrongWords("there is no log")
     return found
 
 

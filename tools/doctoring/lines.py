@@ -1,158 +1,86 @@
 """Lines of a source, their fields, and what a heading has, by the rules of docs/formats.md."""
 from __future__ import annotations
 
+import csv
 import os
 import re
-import sys
-import time
-from typing import BinaryIO, Dict, Iterator, List, NamedTuple, Optional, Set, Tuple
+from functools import partial
+from typing import BinaryIO, Dict, Iterator, List, Set, Tuple
 
+from answers.lines import Progress
 from doctoring.values import BLANKS
-from explaining.places import shown_name
 
 MARK = b"\xef\xbb\xbf"  # the byte order mark
 SIGN = "\ufeff"  # the same, decoded
 LONGEST = 65_536
-PATIENCE = 4096  # so many lines pass between two looks at the clock
+BLOCK = MOST_READ = LONGEST + 1  # so much at once, and of a line; one that is longer is too long
 TIME_NAMES = ("time", "ts", "timestamp")
 SEPARATORS = (",", ";", "\t", "|")
 BAD_HEADING, FIELD_COUNT, BAD_TIME, BAD_VALUE, BAD_TEXT, BARE_CR, ROW_TOO_LONG = range(1, 8)
 
+UTF_16 = "the file is in UTF-16; 'iconv -f utf-16 -t utf-8' makes UTF-8 of it"
+FOREIGN = {"ÿþ": UTF_16, "þÿ": UTF_16, "PK\x03\x04": "the file is a spreadsheet's own, or an archive; have the spreadsheet save it as CSV"}  # how it begins
+
 UNIT = r"n(?:ano)?s(?:ec(?:ond)?s?)?|nanos|us(?:ecs?)?|µs|micros(?:econds?)?|ms(?:ecs?)?|millis(?:econds?)?|s(?:ec(?:ond)?s?)?"
 NAMED_TIME = re.compile(rf"(?:time|timestamp|ts|t|date|datetime|epoch|clock|utc)?[\W_]*(?:in[\W_]+)?({UNIT})?[\W_]*")
+UNIT_POWERS = {"n": 9, "us": 6, "µs": 6, "mic": 6, "m": 3}  # by how its name begins
 
 
-def field_pattern(separator: str) -> "re.Pattern[str]":
-    bare = f"[^{re.escape(separator)}]*"
-    return re.compile(rf'"((?:[^"]+|"")*)(?:"({bare})|\Z)|({bare})')
+def open_source(name: str) -> BinaryIO:
+    """A source by its name; `-` is standard input."""
+    return os.fdopen(os.dup(0), "rb") if name == "-" else open(name, "rb")
 
 
-PATTERNS = {separator: field_pattern(separator) for separator in SEPARATORS}
+def read_blocks(file: BinaryIO) -> Iterator[bytes]:
+    """Lines, many at a time. Of one that is too long only the front is kept."""
+    for block in iter(partial(file.read, BLOCK), b""):
+        rest = file.readline(MOST_READ)
+        yield block + rest
+        while len(rest) == MOST_READ and not rest.endswith(b"\n"):
+            rest = file.readline(MOST_READ)
 
 
-class Line(NamedTuple):
-    """A line that is not empty: its number in the file, from 1, and its text; or the kind that makes it malformed."""
+def read_lines(file: BinaryIO, progress: Progress) -> Iterator[Tuple[int, str, int]]:
+    """The lines that are not empty: each one's number in the file, from 1, its text, and the kind that makes it malformed, or 0.
 
-    number: int
-    text: str
-    kind: int
-
-
-class Progress:
-    """Says to standard error every two seconds how far the reading has come, first after less than one."""
-
-    def __init__(self, what: str, unit: str = "lines") -> None:
-        self.what = what
-        self.unit = unit
-        self.due = time.monotonic() + 0.8
-
-    def tell(self, count: int) -> None:
-        if time.monotonic() > self.due:
-            print(f"lolamon-doctor: {shown_name(self.what)}, {count:,} {self.unit} so far ..", file=sys.stderr, flush=True)
-            self.due = time.monotonic() + 2
-
-
-def kind_of(data: bytes, ended: bool) -> Tuple[bytes, int]:
-    """The line without its CR, and its kind of malformed lines."""
-    if len(data) > LONGEST:
-        return data, ROW_TOO_LONG
-    if ended and data.endswith(b"\r"):
-        data = data[:-1]
-    return data, BARE_CR if b"\r" in data else 0
-
-
-def read_lines(file: BinaryIO, progress: Progress) -> Iterator[Line]:
-    """The lines that have a number, without a mark at the start of the file. Of one that is too long only the front is kept."""
+    A mark at the start of the file is dropped, and a line that is no UTF-8 is shown as Latin-1, which each byte is.
+    """
     number = 0
-    while True:
-        data = file.readline(LONGEST + len(MARK) + 1)
-        if not data:
-            return
-        number += 1
-        if number % PATIENCE == 0:
-            progress.tell(number)
-        ended = data.endswith(b"\n")
-        while not ended:
-            rest = file.readline(LONGEST)
-            if not rest:
-                break
-            data, ended = (data + rest)[:LONGEST + 2 * len(MARK)], rest.endswith(b"\n")
-        if number == 1 and data.startswith(MARK):
-            data = data[len(MARK):]
-        data, kind = kind_of(data[:-1] if data.endswith(b"\n") else data, ended)
-        if data:
-            yield decoded(number, data, kind)
-
-
-def decoded(number: int, data: bytes, kind: int) -> Line:
-    """A line that is no UTF-8 is shown as Latin-1, which each byte is."""
-    try:
-        return Line(number, data.decode("utf-8"), kind)
-    except UnicodeDecodeError:
-        return Line(number, data.decode("latin-1"), kind or BAD_TEXT)
+    for block in read_blocks(file):
+        if number == 0 and block.startswith(MARK):
+            block = block[len(MARK):]
+        lines = block.split(b"\n")
+        ends = len(lines) - 1  # so many have an LF
+        for index, data in enumerate(lines[:ends] if not lines[ends] else lines):
+            kind = ROW_TOO_LONG if len(data) > LONGEST else 0
+            if b"\r" in data:
+                if index < ends and data.endswith(b"\r"):
+                    data = data[:-1]
+                kind = kind or (BARE_CR if b"\r" in data else 0)
+            if not data:
+                continue
+            try:
+                yield number + index + 1, data.decode(), kind
+            except UnicodeDecodeError:
+                yield number + index + 1, data.decode("latin-1"), kind or BAD_TEXT
+        number += ends + bool(lines[ends])
+        progress.add(ends)
 
 
 def split(line: str, separator: str = ",") -> List[str]:
-    """The fields of a line."""
-    if '"' not in line:
-        return line.split(separator)
-    fields = []
-    at = 0
-    while True:
-        match = PATTERNS[separator].match(line, at)
-        assert match is not None  # each place has a field, if an empty one
-        quoted, behind, bare = match.groups()
-        fields.append(bare if bare is not None else quoted.replace('""', '"') + (behind or ""))
-        at = match.end()
-        if at >= len(line):
-            return fields
-        at += 1
+    """The fields of a line. Where it has a sign that no right line has, quotes do not count."""
+    if '"' in line:
+        try:
+            return next(csv.reader([line], delimiter=separator))
+        except (csv.Error, StopIteration):
+            pass
+    return line.split(separator)
 
 
 def join(fields: List[str]) -> str:
     """A line of these fields."""
     return ",".join('"' + text.replace('"', '""') + '"' if "," in text or '"' in text or text.startswith(SIGN) else text
                     for text in fields)
-
-
-class Heading(NamedTuple):
-    """A heading: its names, what separates them, its columns of times, and whether it is as the program wants it."""
-
-    number: int
-    text: str
-    separator: str
-    names: List[str]
-    times: List[int]  # the columns called time, ts or timestamp
-    time: Optional[int]  # the column that the times seem to stand in
-    unit: int  # its unit by its name, as a power of ten
-    right: bool
-    whole: bool  # it is a line as the program takes one, but perhaps for its characters
-
-    def pointed(self, text: str) -> str:
-        """A number with a decimal point. Where commas do not separate fields one is taken for the point."""
-        return text if self.separator == "," else text.replace(",", ".")
-
-    def columns(self, inputs: Dict[str, str]) -> List[Tuple[int, str]]:
-        """The columns that inputs have. A second one of a name is none."""
-        found: Dict[str, int] = {}
-        for index, name in enumerate(self.names):
-            if name in inputs and name not in TIME_NAMES:
-                found.setdefault(name, index)
-        return [(index, name) for name, index in found.items()]
-
-    def mended(self) -> str:
-        """The heading as it has to be: one column `time`, commas, and no name twice."""
-        names = list(self.names)
-        for index in self.times:
-            names[index] += "_too"
-        if self.time is not None:
-            names[self.time] = self.names[self.time] if self.time in self.times else "time"
-        seen: Set[str] = set()
-        for index, name in enumerate(names):
-            if name in seen:
-                names[index] = f"{name}_{index + 1}"
-            seen.add(name)
-        return join(names)
 
 
 def separator_of(text: str) -> str:
@@ -163,26 +91,54 @@ def separator_of(text: str) -> str:
     return max(SEPARATORS, key=lambda separator: len(split(text, separator)))
 
 
-def read_heading(line: Line, inputs: Dict[str, str]) -> Heading:
-    text = line.text.lstrip(SIGN)
-    separator = separator_of(text)
-    names = [name.strip(BLANKS) for name in split(text, separator)]
-    times = [index for index, name in enumerate(names) if name in TIME_NAMES]
-    matches = [NAMED_TIME.fullmatch(name.lower()) if name else None for name in names]
-    likely = times or [index for index, match in enumerate(matches) if match]
-    twice = any(names.count(name) > 1 for name in inputs if name not in TIME_NAMES)
-    right = not line.kind and separator == "," and len(times) == 1 and not twice and text == line.text
-    unit = unit_by_name(matches[likely[0]]) if likely else 0
-    whole = line.kind not in (BARE_CR, ROW_TOO_LONG)
-    return Heading(line.number, line.text, separator, names, times, likely[0] if likely else None, unit, right, whole)
+class Heading:
+    """A heading: its names, what separates them, and its columns."""
 
+    def __init__(self, number: int, text: str, kind: int, kinds: Dict[str, str], new_names: Dict[str, str]) -> None:
+        bare = text.lstrip(SIGN)
+        self.number = number
+        self.text = text
+        self.separator = separator_of(bare)
+        self.old_names = [name.strip(BLANKS) for name in split(bare, self.separator)]
+        self.names = [new_names.get(name, name) for name in self.old_names]
+        self.times = [index for index, name in enumerate(self.names) if name in TIME_NAMES]
+        likely = self.times or [index for index, name in enumerate(self.names) if name and NAMED_TIME.fullmatch(name.lower())]
+        self.time = likely[0] if likely else None  # the column that the times seem to stand in
+        self.inputs: Dict[str, int] = {}  # the columns that inputs have; a second one of a name is none
+        for index, name in enumerate(self.names):
+            if name in kinds and name not in TIME_NAMES:
+                self.inputs.setdefault(name, index)
+        self.numbers = likely[:1] + [index for name, index in self.inputs.items() if kinds[name] != "String"]
+        twice = any(self.names.count(name) > 1 for name in self.inputs)
+        self.is_right = not kind and self.separator == "," and len(self.times) == 1 and not twice and text == bare
+        self.foreign = next((why for begin, why in FOREIGN.items() if text.startswith(begin)), "")
+        self.is_whole = kind not in (BARE_CR, ROW_TOO_LONG) and not self.foreign  # a line that the program takes, but perhaps for its characters
 
-def unit_by_name(match: "Optional[re.Match[str]]") -> int:
-    name = (match[1] if match else None) or "s"
-    powers = {"s": 0, "ms": 3, "mil": 3, "us": 6, "µs": 6, "mic": 6, "n": 9}
-    return next(power for front, power in powers.items() if name.startswith(front))
+    def unit(self) -> int:
+        """The unit of the times, as a power of ten, by the name of their column."""
+        match = NAMED_TIME.fullmatch(self.names[self.time or 0].lower())
+        name = (match[1] if match else None) or "s"
+        return next((power for front, power in UNIT_POWERS.items() if name.startswith(front)), 0)
 
+    def fields(self, line: str) -> List[str]:
+        """The fields of a line. Where commas do not separate them, one in a number is taken for the decimal point."""
+        fields = split(line, self.separator)
+        if self.separator != ",":
+            for index in self.numbers:
+                if index < len(fields):
+                    fields[index] = fields[index].replace(",", ".")
+        return fields
 
-def open_source(name: str) -> BinaryIO:
-    """A source by its name; `-` is standard input."""
-    return os.fdopen(os.dup(0), "rb") if name == "-" else open(name, "rb")
+    def mended(self, new_names: Dict[int, str]) -> str:
+        """The heading as it has to be, with some columns renamed: one column `time`, commas, and no name twice."""
+        names = [new_names.get(index, name) for index, name in enumerate(self.names)]
+        for index in self.times:
+            names[index] += "_too"
+        if self.time is not None:
+            names[self.time] = self.names[self.time] if self.time in self.times else "time"
+        seen: Set[str] = set()
+        for index, name in enumerate(names):
+            if name in seen:
+                names[index] = f"{name}_{index + 1}"
+            seen.add(names[index])
+        return join(names)

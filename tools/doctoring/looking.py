@@ -3,164 +3,154 @@ from __future__ import annotations
 
 import heapq
 import os
-import re
 import stat
-from dataclasses import dataclass, field
-from typing import BinaryIO, Dict, Iterator, List, Optional, Sequence, Tuple
+from dataclasses import dataclass
+from itertools import chain, repeat, zip_longest
+from typing import BinaryIO, Dict, Iterator, List, NamedTuple, Optional, Set, Tuple
 
+from answers.lines import Progress, reason
 from doctoring import lines
-from doctoring.lines import Heading, Line, Progress, read_heading, read_lines, split
-from doctoring.values import BLANKS, NOTHING, SECOND, date_of, range_of, read_number, time_of, wrong_value
+from doctoring.lines import Heading, open_source, read_lines
+from doctoring.values import BLANKS, NOTHING, RANGES, read_number, time_of, wrong_time, wrong_value
+from explaining.places import shown_name
 
-GAPS = 1000  # the usual gap is the median of so many
-MOST_PLAIN = 1000  # columns of a heading for whose rows there is a pattern
-FAR = 100  # a jump is a gap of more than so many usual ones
+TOOL = "lolamon-doctor"
+STEPS = 1000  # the usual step from row to row is the median of so many
+FAR = 100  # a jump is a step of more than so many usual ones
+MOST_TEXT = 200  # characters of a line that is kept
+MOST_KNOWN = 1000
 
 
 @dataclass
 class Problem:
-    """Lines that have one thing wrong: how many, and the number and text of the first."""
+    """Lines that have one thing wrong: how many, and of the first one its number, its text and the field."""
 
     count: int
     number: int
     text: str
-    field: str = ""
+    field: str
 
 
-@dataclass
+class Problems(Dict[str, Problem]):
+    """What is wrong, by its sort."""
+
+    def note(self, sort: str, number: int, text: str, wrong_field: str = "") -> None:
+        if sort in self:
+            self[sort].count += 1
+        else:
+            self[sort] = Problem(1, number, text, wrong_field)
+
+
 class Column:
-    """The column of an input: what is wrong in it, by its sort, and how many digits its numbers have."""
+    """The column of an input: what is wrong in it, and how many digits its numbers have."""
 
-    index: int
-    name: str
-    kind: str
-    valued: bool = False
-    places: int = 0  # before the point, at most
-    decimals: int = 0
-    problems: Dict[str, Problem] = field(default_factory=dict)
+    def __init__(self, name: str, kind: str, index: int) -> None:
+        self.name = name
+        self.kind = kind
+        self.index = index
+        self.room = len(str(RANGES[kind][1])) - 1 if kind in RANGES else 0  # so many digits are in the range, whichever they are
+        self.places = 0  # the most characters of a right value, and digits before the point of others
+        self.decimals = 0
+        self.known: Set[str] = set()  # values that are right
+        self.problems = Problems()
 
-    def look(self, text: str, line: Line) -> bool:
+    def look(self, text: str, number: int, line: str) -> bool:
         """Whether a field is a value of the kind, or none."""
-        if self.kind != "String":
-            text = text.strip(BLANKS)
-        elif text not in NOTHING and text.strip(BLANKS) != text:
-            note(self.problems, "blanks", line, text)
-        wrong = wrong_value(text, self.kind)
+        if text.isdigit() and len(text) <= min(self.places, self.room) and text.isascii():
+            return True
+        bare = text.strip(BLANKS)
+        wrong = "blanks" if self.kind == "String" and bare != text else wrong_value(bare, self.kind)
+        is_right = wrong in ("", "blanks")
         if wrong:
-            note(self.problems, wrong, line, text)
-            if wrong == "decimals":
-                self.measure(text)
-            return False
-        if text not in NOTHING:
-            self.valued = True
-            self.places = max(self.places, len(text))
-        return True
-
-    def measure(self, text: str) -> None:
-        number = read_number(text)
-        if number:
-            self.valued = True
-            self.places = max(self.places, number.places())
-            self.decimals = max(self.decimals, number.decimals())
+            self.problems.note(wrong, number, line, text)
+        elif len(self.known) < MOST_KNOWN:
+            self.known.add(text)
+        else:
+            self.known.clear()
+        spelt = read_number(bare) if wrong == "decimals" else None
+        if spelt is not None:
+            self.places = max(self.places, spelt.adjusted() + 1, 1)
+            self.decimals = max(self.decimals, -int(spelt.as_tuple().exponent))
+        elif is_right and bare not in NOTHING:
+            self.places = max(self.places, len(bare))
+        return is_right
 
 
-def note(problems: Dict[str, Problem], sort: str, line: Line, text: str = "") -> None:
-    if sort in problems:
-        problems[sort].count += 1
-    else:
-        problems[sort] = Problem(1, line.number, line.text, text)
+class Step(NamedTuple):
+    """A step to a time that is greater than all before: its length, and the time, the line and the line's text that it leads to."""
 
-
-# Fields in their plainest form, which most rows have. All others are looked at one by one.
-PLAIN_TIME = r"([0-3]?[0-9]{1,9})(?:\.([0-9]{0,9}))?"
-PLAIN_TEXT = r"""[^,"# \t](?:[^,"]*[^," \t])?"""
-
-
-def plain_field(kind: str) -> str:
-    if kind == "String":
-        return PLAIN_TEXT
-    if kind == "Bool":
-        return "true|false"
-    return ("" if kind.startswith("U") else "-?") + f"[0-9]{{1,{len(str(range_of(kind)[1])) - 1}}}"
-
-
-def plain_row(heading: Heading, columns: List[Column]) -> "re.Pattern[str]":
-    """Rows with a plain value for each input: they have two groups for the time, which comes first or behind, and one for each column."""
-    fields = ['[^,"]*'] * len(heading.names)
-    fields[heading.time or 0] = PLAIN_TIME
-    for column in columns:
-        fields[column.index] = f"({plain_field(column.kind)})"
-    return re.compile(",".join(fields))
+    length: int
+    time: int
+    number: int
+    text: str
 
 
 class Clock:
-    """How the times of a source go on. Times are nanoseconds, and lines are told by their numbers."""
+    """How the times of a source go on: where they go back and where they jump. Times are nanoseconds."""
 
     def __init__(self) -> None:
+        self.problems = Problems()  # of the sorts `back` and `jump`
         self.first: Optional[int] = None
         self.greatest = -1
         self.greatest_line = 0
-        self.backs = 0
         self.furthest_back = 0
-        self.first_back = (0, 0)  # its line, and that of the later time before it
-        self.whole = True  # no time has decimals
-        self.gaps: List[Tuple[int, int]] = []
-        self.usual = 0  # 0 until so many gaps are known
-        self.jumps = 0
-        self.first_jump = 0
-        self.longest_jump = (0, 0)  # its length and its line
+        self.line_ahead = 0  # of the time that the first row which goes back is behind
+        self.steps: List[Step] = []  # until so many are known that one is usual
+        self.usual = self.far = 0  # 0 until then
+        self.longest = Step(0, 0, 0, "")
 
-    def tick(self, time: int, line: int) -> None:
-        if self.first is None:
-            self.first = time
-        elif time < self.greatest:
-            self.backs += 1
-            self.furthest_back = max(self.furthest_back, self.greatest - time)
-            self.first_back = self.first_back if self.first_back[0] else (line, self.greatest_line)
-        elif time > self.greatest:
-            self.gap(time - self.greatest, line)
-        self.whole = self.whole and time % SECOND == 0
-        if time > self.greatest:
-            self.greatest, self.greatest_line = time, line
-
-    def gap(self, length: int, line: int) -> None:
-        if self.usual:
-            self.judge(length, line)
+    def tick(self, time: int, number: int, text: str) -> None:
+        length = time - self.greatest
+        if length > self.far:
+            self.take(Step(length, time, number, text[:MOST_TEXT]))
+        elif length < 0:
+            self.problems.note("back", number, text)
+            self.furthest_back = max(self.furthest_back, -length)
+            self.line_ahead = self.line_ahead or self.greatest_line
             return
-        self.gaps.append((length, line))
-        if len(self.gaps) == GAPS:
-            self.settle()
+        self.greatest, self.greatest_line = time, number
+
+    def take(self, step: Step) -> None:
+        """Takes a step that is a jump, or one from before it is known how far a jump is."""
+        if self.first is None:
+            self.first = step.time
+        elif self.usual:
+            self.problems.note("jump", step.number, step.text)
+            self.longest = max(self.longest, step)
+        else:
+            self.steps.append(step)
+            if len(self.steps) == STEPS:
+                self.settle()
 
     def settle(self) -> None:
-        """Takes the median of the gaps so far as the usual one."""
-        if self.usual or not self.gaps:
-            return
-        self.usual = sorted(self.gaps)[(len(self.gaps) - 1) // 2][0]
-        for length, line in self.gaps:
-            self.judge(length, line)
-
-    def judge(self, length: int, line: int) -> None:
-        if length > FAR * self.usual:
-            self.jumps += 1
-            self.first_jump = self.first_jump or line
-            self.longest_jump = max(self.longest_jump, (length, line))
+        """Takes the median of the steps so far as the usual one."""
+        if self.steps and not self.usual:
+            self.usual = sorted(self.steps)[(len(self.steps) - 1) // 2].length
+            self.far = FAR * self.usual
+            for step in self.steps:
+                if step.length > self.far:
+                    self.take(step)
 
 
 class Source:
     """A source that is looked at once, from its first line to its last, while its rows are taken."""
 
-    def __init__(self, name: str, file: Optional[BinaryIO], inputs: Dict[str, str]) -> None:
+    def __init__(self, name: str, kinds: Dict[str, str], new_names: Dict[str, str], file: Optional[BinaryIO] = None) -> None:
         self.name = name
-        self.file = file
-        self.inputs = inputs
+        self.kinds = kinds  # of the inputs
+        self.new_names = new_names  # of columns
         self.heading: Optional[Heading] = None
         self.columns: List[Column] = []
-        self.plain: "Optional[re.Pattern[str]]" = None
-        self.problems: Dict[str, Problem] = {}  # of whole lines and of times
+        self.problems = Problems()  # of whole lines and of times
         self.clock = Clock()
         self.rows = 0
         self.end: Optional[Tuple[int, int, int]] = None  # of a malformed source the row, the kind and the line's number
-        self.failure: Optional[OSError] = None
+        self.failure = ""
+        self.file = file
+        try:
+            self.file = file or open_source(name)
+        except (OSError, ValueError) as failure:
+            self.failure = reason(failure)
 
     def is_read_ahead(self, most: int, several: bool) -> bool:
         """Whether a thread reads its bytes: those of a file of more than so many, and of what is no file beside other sources."""
@@ -173,125 +163,80 @@ class Source:
         """The times of the rows that a run takes. What stands behind a malformed line is looked at too."""
         try:
             if self.file:
-                yield from self.look()
+                yield from self.look(self.file)
         except OSError as failure:
-            self.failure = failure
+            self.failure = reason(failure)
         self.clock.settle()
 
-    def look(self) -> Iterator[int]:
-        assert self.file is not None
-        for line in read_lines(self.file, Progress(self.name)):
-            if self.heading is None:
-                self.look_at_heading(line)
+    def look(self, file: BinaryIO) -> Iterator[int]:
+        heading = None
+        for number, text, kind in read_lines(file, Progress(TOOL, f"looking at {shown_name(self.name)}")):
+            if heading is None:
+                heading = self.heading = Heading(number, text, kind, self.kinds, self.new_names)
+                self.columns = [Column(name, self.kinds[name], index) for name, index in heading.inputs.items()]
+                self.end = None if heading.is_right else (0, kind or lines.BAD_HEADING, number)
                 continue
             self.rows += 1
-            kind, time = self.look_at_row(line)
-            if kind and not self.end:
-                self.end = (self.rows, kind, line.number)
-            elif not self.end and time is not None:
+            kind, time = self.look_at_row(heading, number, text, kind)
+            if self.end:
+                continue
+            if kind:
+                self.end = (self.rows, kind, number)
+            elif time is not None:
                 yield time
-        if self.heading is None:
+        if heading is None:
             self.end = (0, lines.BAD_HEADING, 1)
 
-    def look_at_heading(self, line: Line) -> None:
-        self.heading = read_heading(line, self.inputs)
-        self.columns = [Column(index, name, self.inputs[name]) for index, name in self.heading.columns(self.inputs)]
-        if not self.heading.right:
-            self.end = (0, line.kind or lines.BAD_HEADING, line.number)
-        elif len(self.heading.names) <= MOST_PLAIN:
-            self.plain = plain_row(self.heading, self.columns)
-            self.time_group = sum(column.index < self.heading.times[0] for column in self.columns)
-
-    def look_at_plain(self, groups: Sequence[str], line: Line) -> int:
-        """The time of a row in which all is plain."""
-        values = [text for place, text in enumerate(groups) if place not in (self.time_group, self.time_group + 1)]
-        for column, text in zip(self.columns, values):
-            column.valued = True
-            if len(text) > column.places:
-                column.places = len(text)
-        whole, decimals = groups[self.time_group], groups[self.time_group + 1]
-        time = int(whole) * SECOND + (int(decimals.ljust(9, "0")) if decimals else 0)
-        self.clock.tick(time, line.number)
-        return time
-
-    def look_at_row(self, line: Line) -> Tuple[int, Optional[int]]:
-        """The kind of a malformed line or 0, and the row's time."""
-        assert self.heading is not None
-        kind = line.kind or (lines.BAD_TEXT if line.text.startswith(lines.SIGN) else 0)
-        if kind:
-            note(self.problems, f"kind {kind}", line)
+    def look_at_row(self, heading: Heading, number: int, text: str, kind: int) -> Tuple[int, Optional[int]]:
+        """The kind of a malformed row or 0, and its time."""
+        if kind or text.startswith(lines.SIGN):
+            kind = kind or lines.BAD_TEXT
+            self.problems.note(f"kind {kind}", number, text)
             return kind, None
-        plain = self.plain.fullmatch(line.text) if self.plain else None
-        if plain:
-            return 0, self.look_at_plain(plain.groups(), line)
-        fields = split(line.text, self.heading.separator)
-        if len(fields) != len(self.heading.names):
-            note(self.problems, "quote" if line.text.count('"') % 2 else "fields", line)
+        fields = heading.fields(text)
+        if len(fields) != len(heading.names):
+            self.problems.note("quote" if text.count('"') % 2 else "fields", number, text)
             return lines.FIELD_COUNT, None
-        if line.text == self.heading.text:
-            note(self.problems, "heading", line)
+        if text == heading.text:
+            self.problems.note("heading", number, text)
             return lines.BAD_TIME, None
-        time = self.look_at_time(fields, line)
-        right = True
-        for column in self.columns:
-            text = fields[column.index]
-            right = column.look(text if column.kind == "String" else self.heading.pointed(text), line) and right
-        return (lines.BAD_TIME if time is None else 0 if right else lines.BAD_VALUE), time
-
-    def look_at_time(self, fields: List[str], line: Line) -> Optional[int]:
-        assert self.heading is not None
-        if self.heading.time is None:
-            return None
-        text = self.heading.pointed(fields[self.heading.time]).strip(BLANKS)
-        time = time_of(text)
+        time = None if heading.time is None else time_of(fields[heading.time])
         if time is not None:
-            self.clock.tick(time, line.number)
-            return time
-        sort = "no time" if text in NOTHING else "date" if date_of(text) is not None else "unit" if read_number(text) else "time"
-        note(self.problems, sort, line, text)
-        return None
+            self.clock.tick(time, number, text)
+        elif heading.time is not None:
+            self.problems.note(wrong_time(fields[heading.time]), number, text, fields[heading.time])
+        is_right = True
+        for column in self.columns:
+            value = fields[column.index]
+            if value not in column.known:
+                is_right = column.look(value, number, text) and is_right
+        return (lines.BAD_TIME if time is None else 0 if is_right else lines.BAD_VALUE), time
 
 
-@dataclass
-class Taken:
+class Taken(NamedTuple):
     """What a run takes: accepted rows, late ones of each source, and the times that it begins and ends with."""
 
     accepted: int
     late: List[int]
     start: Optional[int]
+    first: Optional[int]
     last: Optional[int]
-    first: Optional[int] = None
 
 
-def in_turns(streams: List[Iterator[Tuple[int, int]]]) -> Iterator[Tuple[int, int]]:
-    while streams:
-        rest = []
-        for stream in streams:
-            row = next(stream, None)
-            if row is not None:
-                rest.append(stream)
-                yield row
-        streams = rest
-
-
-def take(sources: List[Source], start: Optional[int], turns: bool) -> Taken:
+def take(sources: List[Source], start: Optional[int], in_turns: bool) -> Taken:
     """Takes the rows as a run does, merged by time or in turns."""
-    taken = Taken(0, [0] * len(sources), start, None)
-
-    def numbered(number: int) -> Iterator[Tuple[int, int]]:
-        return ((time, number) for time in sources[number].times())
-
-    streams = [numbered(number) for number in range(len(sources))]
+    streams = [zip(source.times(), repeat(number)) for number, source in enumerate(sources)]
+    rows = filter(None, chain.from_iterable(zip_longest(*streams))) if in_turns else heapq.merge(*streams)
+    accepted = 0
+    late = [0] * len(sources)
+    first = None
     merged = start or 0
-    for time, number in in_turns(streams) if turns else heapq.merge(*streams):
+    for time, number in rows:
         if time < merged:
-            taken.late[number] += 1
+            late[number] += 1
             continue
         merged = time
-        taken.accepted += 1
-        taken.last = time
-        if taken.first is None:
-            taken.first = time
-    if taken.start is None:
-        taken.start = taken.first
-    return taken
+        accepted += 1
+        if first is None:
+            first = time
+    return Taken(accepted, late, first if start is None else start, first, merged if accepted else None)

@@ -1,28 +1,27 @@
 """A specification as `lolamon analyse` tells of it: its inputs, the deadlines of a run, and the memory that a run takes."""
 from __future__ import annotations
 
-import os
 import re
-import subprocess
 from fractions import Fraction
+from functools import reduce
 from itertools import combinations
 from math import ceil, gcd
-from typing import Dict, List, NamedTuple, Set, Tuple
+from typing import Dict, List, NamedTuple, Optional, Set, Tuple
 
 from doctoring.values import SECOND, time_of
 from explaining.places import Place, place_in, read_specification
+from explaining.program import analyse
 
 STREAM = re.compile(r"stream \d+ (\w+) (\w+) (?:spawn (.+) layer \d+ )?pacing (.+) layer \d+ kept (\d+)")
 WINDOW = re.compile(r"window \d+ in (\w+) onto (\w+) over ([\d.]+) panes (\d+)")
 REFUSED = re.compile(r"= refused (E\d+) \w+ at (\d+)")
 RATE = re.compile(r"(\d+)(?:/(\d+))?Hz")
-WORD = re.compile(r'//[^\r\n]*|/\*.*?\*/|"(?:\\.|[^"\\])*"|\w+|\S', re.DOTALL)
-QUANTITY = re.compile(r"([0-9]+)([a-zA-Z]+)")
-LENGTHS = {"ns": Fraction(1, SECOND), "us": Fraction(1, 10**6), "ms": Fraction(1, 1000), "s": Fraction(1), "min": Fraction(60),
-           "h": Fraction(3600), "d": Fraction(86400)}
-RATES = {"mHz": Fraction(1, 1000), "Hz": Fraction(1), "kHz": Fraction(1000), "MHz": Fraction(10**6)}
+WORD = re.compile(rb'//[^\r\n]*|/\*.*?\*/|"(?:\\.|[^"\\])*"|\w+|\S', re.DOTALL)
+CLOSE = re.compile(rb"close@(?:Global\()?([0-9]+(?:\.[0-9]+)?)([a-zA-Z]+?)\)?when")
+LENGTHS = {b"ns": Fraction(1, SECOND), b"us": Fraction(1, 10**6), b"ms": Fraction(1, 1000), b"s": Fraction(1), b"min": Fraction(60),
+           b"h": Fraction(3600), b"d": Fraction(86400)}
+RATES = {b"mHz": Fraction(1, 1000), b"Hz": Fraction(1), b"kHz": Fraction(1000), b"MHz": Fraction(10**6)}
 MOST_RATES = 12  # so many are counted together; of more the sum is told
-MOST_INSTANCES = 65_536
 
 
 class Stream(NamedTuple):
@@ -50,10 +49,11 @@ class Refusal(Exception):
 
 
 class Specification:
-    def __init__(self, name: str, text: str, report: List[str]) -> None:
+    def __init__(self, name: str, text: bytes, report: List[str]) -> None:
         self.name = name
-        self.words = [(match.group(), match.start()) for match in WORD.finditer(text)]
         self.text = text
+        words = [(match.group(), match.start()) for match in WORD.finditer(text)]
+        self.words = [(word, at) for word, at in words if not word.startswith((b"//", b"/*"))]
         streams = [STREAM.fullmatch(line) for line in report]
         windows = [WINDOW.fullmatch(line) for line in report]
         self.streams = [Stream(match[1], match[2], match[3] or "", match[4], int(match[5])) for match in streams if match]
@@ -64,38 +64,31 @@ class Specification:
             if stream.name == stream.pacing and (stream.name not in self.inputs or stream.kind != "Bool"):
                 self.inputs[stream.name] = stream.kind
 
-    def input_places(self) -> Dict[str, Place]:
-        """Where each input is declared."""
-        found = {}
-        words = [word for word in self.words if not word[0].startswith(("//", "/*"))]
-        declares = False
-        for (word, at), (behind, _) in zip(words, words[1:] + [("", 0)]):
-            declares = word == "input" or declares and not (word in ("output", "constant", "trigger"))
-            if declares and behind == ":" and word in self.inputs:
-                found.setdefault(word, place_in(self.text.encode(), len(self.text[:at].encode())))
-        return found
-
-    def close_rates(self) -> Set[Fraction]:
-        """The rates that are written behind `close`, which the report does not tell."""
-        code = "".join(word for word, _ in self.words if not word.startswith(("//", "/*", '"')))
-        found = set()
-        for quantity in re.findall(r"close@(?:Global\()?([0-9]+(?:\.[0-9]+)?[a-zA-Z]+?)(?:when|\)when)", code):
-            number = re.match(r"[0-9.]+", quantity)[0]  # type: ignore[index]
-            unit = quantity[len(number):]
-            if unit in RATES:
-                found.add(Fraction(number) * RATES[unit])
-            elif unit in LENGTHS:
-                found.add(1 / (Fraction(number) * LENGTHS[unit]))
-        return found
+    def places(self, name: str) -> Tuple[Optional[Place], List[int]]:
+        """Where an input is declared, and the lines in which its name stands otherwise."""
+        declared = None
+        lines = set()
+        in_inputs = False
+        for (word, at), (behind, _) in zip(self.words, self.words[1:] + [(b"", 0)]):
+            in_inputs = word == b"input" or in_inputs and word not in (b"output", b"constant", b"trigger")
+            if word == name.encode() and in_inputs and behind == b":":
+                declared = declared or place_in(self.text, at)
+            elif word == name.encode():
+                lines.add(self.text.count(b"\n", 0, at) + 1)
+        return declared, sorted(lines)
 
     def rates(self) -> Set[Fraction]:
-        """The rates, in Hz, whose deadlines count from the start of the run."""
+        """The rates, in Hz, whose deadlines count from the start of the run. The report does not tell those behind `close`."""
         pacings = [pacing for stream in self.streams for pacing in (stream.pacing, stream.spawn)]
         matches = [RATE.fullmatch(pacing) for pacing in pacings]
-        return {Fraction(int(match[1]), int(match[2] or 1)) for match in matches if match} | self.close_rates()
+        found = {Fraction(int(match[1]), int(match[2] or 1)) for match in matches if match}
+        for number, unit in CLOSE.findall(b"".join(word for word, _ in self.words if not word.startswith(b'"'))):
+            quantity = Fraction(number.decode())
+            found |= {quantity * RATES[unit]} if unit in RATES else {1 / (quantity * LENGTHS[unit])} if unit in LENGTHS else set()
+        return found
 
     def has_local(self) -> bool:
-        return any(stream.pacing.startswith("Local(") for stream in self.streams) or "Local" in (word for word, _ in self.words)
+        return any(stream.pacing.startswith("Local(") for stream in self.streams) or any(word == b"Local" for word, _ in self.words)
 
     def longest(self) -> int:
         """The longest window or period, in nanoseconds; 0 where time plays no part."""
@@ -109,13 +102,9 @@ class Specification:
         return values + others, values + 2 * others
 
 
-def common(rates: Tuple[Fraction, ...]) -> Fraction:
-    """The rate of the deadlines that all these rates have."""
-    found = rates[0]
-    for rate in rates[1:]:
-        found = Fraction(gcd(found.numerator * rate.denominator, rate.numerator * found.denominator),
-                         found.denominator * rate.denominator)
-    return found
+def both(one: Fraction, other: Fraction) -> Fraction:
+    """The rate of the deadlines that two rates have in common."""
+    return Fraction(gcd(one.numerator * other.denominator, other.numerator * one.denominator), one.denominator * other.denominator)
 
 
 def count_deadlines(rates: Set[Fraction], span: int) -> Tuple[int, bool]:
@@ -127,25 +116,26 @@ def count_deadlines(rates: Set[Fraction], span: int) -> Tuple[int, bool]:
     apart = [rate for rate in rates if not any(other != rate and (other / rate).denominator == 1 for other in rates)]
     if len(apart) > MOST_RATES:
         return sum(map(alone, apart)), False
-    sums = (sum(alone(common(some)) for some in combinations(apart, size)) * (-1) ** (size + 1)
+    sums = (sum(alone(reduce(both, some)) for some in combinations(apart, size)) * (-1) ** (size + 1)
             for size in range(1, len(apart) + 1))
     return sum(sums), True
 
 
-def analyse(program: str, name: str) -> Specification:
+def read_pipe(name: str) -> Optional[bytes]:
+    """The text of a specification that is no file and cannot be read twice."""
+    try:
+        with open(name, "rb") as file:
+            return file.read()
+    except OSError:
+        return None
+
+
+def read(name: str) -> Specification:
     """Reads a specification by `lolamon analyse`. Raises Refusal where that does not accept it."""
     text = read_specification(name)
-    if text is None:  # a pipe, which cannot be read twice
-        try:
-            with open(name, "rb") as file:
-                text = file.read()
-            words, handed = [program, "analyse", "/dev/stdin"], text
-        except OSError:
-            words, handed = [program, "analyse", "--", name], b""
-    else:
-        words, handed = [program, "analyse", "--", name], b""
-    ran = subprocess.run(words, input=handed, stdout=subprocess.PIPE, env={**os.environ, "LOLAMON_PLAIN": "1"})
+    handed = read_pipe(name) if text is None else None
+    ran = analyse(name, handed)
     report = ran.stdout.decode("utf-8", "replace").splitlines()
     if ran.returncode != 0:
-        raise Refusal(report[-1] if report else f"the program ended with status {ran.returncode}", text or b"")
-    return Specification(name, (text or b"").decode("utf-8", "replace"), report)
+        raise Refusal(report[-1] if report else f"the program ended with status {ran.returncode}", text or handed or b"")
+    return Specification(name, text or handed or b"", report)

@@ -2,46 +2,63 @@
 from __future__ import annotations
 
 import difflib
-from typing import Dict, List, NamedTuple, Optional, Tuple
+import shlex
+from typing import Dict, List, NamedTuple, Optional, Tuple, Union
 
 from doctoring import lines
-from doctoring.lines import TIME_NAMES, join, split
-from doctoring.looking import Clock, Column, Problem, Source, Taken
-from doctoring.specification import MOST_INSTANCES, Specification, count_deadlines
-from doctoring.values import BLANKS, SECOND, UNITS, mended_time, mended_value, range_of, seconds, unit_of, written_time
-from explaining.places import Place, shown, shown_name
+from doctoring.lines import TIME_NAMES, Heading, join
+from doctoring.looking import TOOL, Column, Problem, Source, Taken
+from doctoring.specification import Specification, count_deadlines
+from doctoring.values import BLANKS, SECOND, UNITS, mended_time, mended_value, seconds, time_of, unit_of, written_time
+from explaining.places import shown, shown_name
 
-ERROR, WARNING, NOTE = "error", "warning", "note"
+ERROR, WARNING, NOTE = LEVELS = ("error", "warning", "note")
 KINDS = {1: "BadHeading", 2: "FieldCount", 3: "BadTime", 4: "BadValue", 5: "BadText", 6: "BareCr", 7: "RowTooLong"}
-KIND_TEXTS = {"kind 5": "not in UTF-8, or with a byte order mark in front, as where files were joined",
-              "kind 6": "with a carriage return that no line feed follows, which --fix mends", "kind 7": "of more than 65,536 bytes"}
+LINES = {  # what is told of whole lines and of times, by the sort of the problem
+    "kind 5": "{lines} not in UTF-8, or with a byte order mark in front, as where files were joined",
+    "kind 6": "{lines} with a carriage return that no line feed follows",
+    "kind 7": "{lines} of more than 65,536 bytes",
+    "fields": "{rows} of another number of fields than the heading, which has {wanted}",
+    "quote": "{rows} of another number of fields than the heading, with a quote that is not closed: no field has a line end in it",
+    "heading": "{rows} where the heading stands again, as where files were joined",
+    "no time": "{rows} without a time",
+    "date": "{rows} with a date for a time, which is a number of seconds such as those since 1970",
+    "time": "{rows} with a time that is no number of seconds, as digits with at most one point",
+    "unit": "{rows} with a time that is not written as digits with at most one point, or is above 4,000,000,000 seconds{unit}",
+}
+FIELDS = {  # and of fields
+    "blanks": "{fields} with blanks at an end, as '{field}': they belong to the text",
+    "missing": "{fields} such as '{field}', which is no {kind}: a missing value is nothing, or #",
+    "decimals": "{fields} with decimals or an exponent, and {kind} is whole; --fix writes {name} times {scale:,}, and what the specification "
+                "compares it with has to be so too",
+    "truth": "{fields} such as '{field}', where Bool is true or false",
+    "range": "{fields} out of the range of {kind}, such as {field}{room}",
+    "other": "{fields} such as '{field}', which is no {kind}",
+}
 WIDTH = 100  # characters of a line that are shown
 NAMES = 8  # so many columns are named
 MOST_NEAR = 1000  # so many columns are compared with the names of inputs
 MOST_DECIMALS = 9
-SLOW = 60  # seconds: a run that takes longer for its deadlines is warned of
-SLOW_GAP = 10 * SECOND
+MOST_INSTANCES = 65_536
+SLOW = 60 * SECOND  # a run that takes longer for its deadlines is warned of
+SLOW_STEP = 10 * SECOND
 ROW_TIME, STREAM_TIME, DEADLINE_TIME = 600, 150, 100  # nanoseconds: of a row, of a stream in it, and of a stream at a deadline
 PIECES, AHEAD = 128 * 1024, 384 * 1024  # bytes of a source, and of one that is read ahead
 
 
 class Finding(NamedTuple):
     level: str
-    place: str
+    name: str  # of the specification or source
+    number: int  # of the line, or 0
     message: str
     line: str = ""
     better: str = ""
 
-    def number(self) -> int:
-        """The number of its line, 0 where it has none."""
-        number = self.place.rpartition(":")[2]
-        return int(number) if number.isascii() and number.isdigit() else 0
-
     def text(self) -> str:
-        told = f"{self.place}: {self.level}: {self.message}"
-        for what, line in (("is", self.line), ("to be", self.better)):
+        told = f"{shown_name(self.name)}{f':{self.number}' if self.number else ''}: {self.level}: {self.message}"
+        for what, line in (("is:", self.line), ("to be:", self.better)):
             if line:
-                told += f"\n    {what + ':':6} {cut(line)}"
+                told += f"\n    {what:6} {cut(line)}"
         return told
 
 
@@ -54,16 +71,14 @@ def counted(count: int, what: str) -> str:
     return f"{count:,} {what}" + ("" if count == 1 else "s")
 
 
-def at(name: str, number: int) -> str:
-    return f"{shown_name(name)}:{number}"
-
-
 def power_of(column: Column) -> int:
     """The power of ten that makes the column's numbers whole, as far as its kind has room for them."""
-    if column.kind in ("Bool", "String"):
-        return 0
-    room = len(str(range_of(column.kind)[1])) - 1
-    return max(0, min(column.decimals, MOST_DECIMALS, room - column.places))
+    return max(0, min(column.decimals, MOST_DECIMALS, column.room - column.places))
+
+
+def replaced(fields: List[str], index: int, text: str) -> str:
+    """A line with one field replaced."""
+    return join([text if place == index else old for place, old in enumerate(fields)])
 
 
 class Doctor:
@@ -73,243 +88,221 @@ class Doctor:
         self.specification = specification
         self.sources = sources
         self.taken = taken
-        self.places = specification.input_places()
+        self.found: List[Finding] = []
+        self.headings = [(source, source.heading) for source in sources if source.heading and source.heading.is_whole]
+        # The columns that no input has, each with the first source that has it.
+        self.free = {name: source for source, heading in reversed(self.headings) for name in self.free_names(heading)}
+        self.nearest: Dict[str, str] = {}  # the column whose name is nearest to that of an input without one
+        for name in filter(self.has_no_column, specification.inputs):
+            near = nearest(name, [column for column in list(self.free)[:MOST_NEAR] if column and column not in self.nearest.values()])
+            if near:
+                self.nearest[name] = near
+
+    def add(self, level: str, of: Union[Source, Specification], number: int, message: str, line: str = "", better: str = "") -> None:
+        self.found.append(Finding(level, of.name, number, message, line, better))
+
+    def free_names(self, heading: Heading) -> List[str]:
+        return [name for index, name in enumerate(heading.names)
+                if name not in self.specification.inputs and index != heading.time and name not in TIME_NAMES]
+
+    def has_no_column(self, name: str) -> bool:
+        return bool(self.headings) and name not in TIME_NAMES and not any(name in heading.inputs for _, heading in self.headings)
 
     def findings(self) -> List[Finding]:
-        found = self.of_inputs()
+        self.tell_inputs()
         for number, source in enumerate(self.sources):
-            found += self.of_source(number, source)
-        if any(source.failure for source in self.sources):
-            return found  # a run takes no row of any source
-        return found + self.of_run()
+            begin = len(self.found)
+            self.tell_source(number, source)
+            self.found[begin:] = sorted(self.found[begin:], key=lambda finding: (finding.number or 10**15, LEVELS.index(finding.level)))
+        if not any(source.failure for source in self.sources):  # else a run takes no row of any source
+            self.tell_memory()
+            self.tell_run()
+            self.tell_start()
+        return self.found
 
-    def declared(self, name: str) -> Tuple[str, str]:
-        """The place of an input's declaration, and its line."""
-        place: Optional[Place] = self.places.get(name)
-        if place is None:
-            return shown_name(self.specification.name), ""
-        return at(self.specification.name, place.line), place.before + place.behind
-
-    def of_inputs(self) -> List[Finding]:
-        read = [source for source in self.sources if source.heading and source.heading.whole]
-        free = self.free_columns()
-        found = []
+    def tell_inputs(self) -> None:
+        """Tells of inputs that get no value, and have no column that might be meant."""
         for name in self.specification.inputs:
-            place, line = self.declared(name)
+            place, _ = self.specification.places(name)
+            number, before, behind = (place.line, place.before, place.behind) if place else (0, "", name)
             if name in TIME_NAMES:
-                found.append(Finding(WARNING, place, f"the input {name} gets no value: a column of this name is that of the times; "
-                                     "it needs another name, here and in the heading", line))
-            elif read and not any(column.name == name for source in read for column in source.columns):
-                found.append(self.without_column(name, free, place, line))
-        return found
+                self.add(WARNING, self.specification, number, f"the input {name} gets no value, since a column of this name is that of the times; "
+                         "it needs another name, here, where it is read, and for a column of its own", before + behind,
+                         f"{before}stamp{behind[len(name):]}")
+            elif self.has_no_column(name) and name not in self.nearest:
+                self.add(WARNING, self.specification, number, f"no source has a column for the input {name}, so what reads it is never computed",
+                         before + behind)
 
-    def free_columns(self) -> Dict[str, Tuple[Source, int]]:
-        """The columns that no input has, up to so many, each with the first place where its name stands."""
-        found: Dict[str, Tuple[Source, int]] = {}
-        for source in self.sources:
-            for index, name in enumerate(source.heading.names if source.heading and source.heading.whole else []):
-                if len(found) < MOST_NEAR and name not in self.specification.inputs and name not in TIME_NAMES:
-                    found.setdefault(name, (source, index))
-        return found
-
-    def without_column(self, name: str, free: Dict[str, Tuple[Source, int]], place: str, line: str) -> Finding:
-        """An input that no source has a column for, and the free column whose name is nearest."""
-        lowered = {column.lower(): column for column in reversed(list(free))}
-        near = difflib.get_close_matches(name.lower(), lowered, n=1)
-        if not near:
-            return Finding(WARNING, place, f"no source has a column for the input {name}, so what reads it is never computed", line)
-        column = lowered[near[0]]
-        source, index = free[column]
-        heading = source.heading
-        return Finding(WARNING, at(source.name, heading.number), f"no source has a column for the input {name} of {place}, so what "
-                       f"reads it is never computed; the nearest is '{shown(column.encode())}'", heading.text,
-                       join(replaced(heading.names, index, name)))
-
-    def of_source(self, number: int, source: Source) -> List[Finding]:
+    def tell_source(self, number: int, source: Source) -> None:
         if source.failure:
-            return [Finding(ERROR, shown_name(source.name), f"it cannot be read: {source.failure.strerror or source.failure}")]
-        found = self.of_heading(source) + self.of_lines(source)
-        for column in source.columns:
-            found += self.of_column(source, column)
-        found += self.of_clock(number, source)
+            self.add(ERROR, source, 0, f"it cannot be read: {source.failure}")
+            return
+        if source.heading is None:
+            self.add(ERROR, source, 1, "there is no line, so there is no heading")
+        else:
+            new_names = {source.heading.names.index(column): name for name, column in self.nearest.items() if self.free[column] is source}
+            self.tell_heading(source, source.heading, new_names)
+            for sort, problem in source.problems.items():
+                self.tell_line(source, source.heading, sort, problem)
+            for column in source.columns:
+                self.tell_column(source, source.heading, column)
+            self.tell_clock(number, source, source.heading)
+            self.tell_mending(source, source.heading, new_names)
         if source.end:
             row, kind, line = source.end
-            what = f"row {row:,}" if row else "its heading"
-            found.append(Finding(ERROR, at(source.name, line),
-                                 f"a run leaves source {number} at {what}: kind {kind} {KINDS[kind]}, status 4"))
-        return sorted(found, key=Finding.number)
+            where = f"row {row:,}" if row else "its heading"
+            self.add(ERROR, source, line, f"a run leaves source {number} at {where}: kind {kind} {KINDS[kind]}, status 4")
 
-    def of_heading(self, source: Source) -> List[Finding]:
-        heading = source.heading
-        if heading is None:
-            return [Finding(ERROR, at(source.name, 1), "there is no line, so there is no heading")]
-        place = at(source.name, heading.number)
-        found = []
-        if not heading.right:
-            mended = heading.mended() if heading.whole and heading.time is not None else ""
-            found.append(Finding(ERROR, place, f"the heading is malformed: {self.why_malformed(source)}", heading.text, mended))
-        free = [name for index, name in enumerate(heading.names)
-                if name not in self.specification.inputs and index != heading.time and name not in TIME_NAMES]
-        if free and heading.whole:
-            more = f" and {len(free) - NAMES} more" if len(free) > NAMES else ""
+    def tell_heading(self, source: Source, heading: Heading, new_names: Dict[int, str]) -> None:
+        better = heading.mended(new_names) if heading.is_whole and heading.time is not None else ""
+        if not heading.is_right:
+            self.add(ERROR, source, heading.number, f"the heading is malformed: {why_malformed(source, heading)}", heading.text, better)
+        for index, name in new_names.items():
+            place, _ = self.specification.places(name)
+            self.add(WARNING, source, heading.number, f"no source has a column for the input {name} of {shown_name(self.specification.name)}:"
+                     f"{place.line if place else 1}, so what reads it is never computed; the nearest is "
+                     f"'{shown(heading.names[index].encode())}'", heading.text, better)
+        free = self.free_names(heading)
+        if free and heading.is_whole:
             names = ", ".join(shown(name.encode()) or "(no name)" for name in free[:NAMES])
-            found.append(Finding(NOTE, place, f"{counted(len(free), 'column')} that no input has: {names}{more}"))
-        return found
+            more = f" and {len(free) - NAMES} more" if len(free) > NAMES else ""
+            self.add(NOTE, source, heading.number, f"{counted(len(free), 'column')} that no input has: {names}{more}")
 
-    def why_malformed(self, source: Source) -> str:
-        heading = source.heading
-        if source.end and source.end[1] in (lines.ROW_TOO_LONG, lines.BARE_CR, lines.BAD_TEXT):
-            return f"it is one {KIND_TEXTS[f'kind {source.end[1]}']}"
-        if heading.separator != ",":
-            return f"its fields are separated by {heading.separator!r} and not by commas"
-        if len(heading.times) > 1:
-            return f"it has {len(heading.times)} columns of times, where one of time, ts and timestamp may be"
-        if not heading.times:
-            near = f"; {heading.names[heading.time]!r} may be it" if heading.time is not None else ""
-            return f"no column is called time, ts or timestamp{near}"
-        if heading.text.startswith(lines.SIGN):
-            return "a byte order mark stands before it that is not at the start of the file, or one too many"
-        return "it names an input twice"
-
-    def of_lines(self, source: Source) -> List[Finding]:
-        return [Finding(ERROR, at(source.name, problem.number), self.wrong_line(sort, problem, source), problem.text,
-                        self.better_line(sort, problem, source)) for sort, problem in source.problems.items()]
-
-    def wrong_line(self, sort: str, problem: Problem, source: Source) -> str:
-        rows = counted(problem.count, "row")
-        if sort in KIND_TEXTS:
-            return f"{counted(problem.count, 'line')} {KIND_TEXTS[sort]}"
-        wanted = len(source.heading.names)
-        texts = {
-            "fields": f"{rows} of another number of fields than the heading, which has {wanted}",
-            "quote": f"{rows} of another number of fields than the heading, with a quote that is not closed: no field has a line "
-                     "end in it",
-            "heading": f"{rows} where the heading stands again, as where files were joined",
-            "no time": f"{rows} without a time",
-            "date": f"{rows} with a date for a time, which is a number of seconds; --fix makes them so, as seconds since 1970",
-            "time": f"{rows} with a time that is no number of seconds, as digits with at most one point",
-        }
-        if sort != "unit":
-            return texts[sort]
+    def tell_line(self, source: Source, heading: Heading, sort: str, problem: Problem) -> None:
         unit = unit_of(problem.field)
-        like = f"; these look like {UNITS[unit]}, and --fix makes seconds of them" if unit else ""
-        return f"{rows} with a time that is not written as digits with at most one point, or is above 4,000,000,000 seconds{like}"
+        message = LINES[sort].format(lines=counted(problem.count, "line"), rows=counted(problem.count, "row"), wanted=len(heading.names),
+                                     unit=f"; these look like {UNITS[unit]}" if unit else "")
+        time = mended_time(problem.field, unit) if sort in ("date", "unit") else None
+        better = "" if time is None or heading.time is None else replaced(heading.fields(problem.text), heading.time, written_time(time))
+        self.add(ERROR, source, problem.number, message, problem.text, better)
 
-    def better_line(self, sort: str, problem: Problem, source: Source) -> str:
-        if sort not in ("date", "unit"):
-            return ""
-        fields = split(problem.text, source.heading.separator)
-        time = mended_time(problem.field, unit_of(problem.field))
-        return join(replaced(fields, source.heading.time, written_time(time))) if time is not None else ""
-
-    def of_column(self, source: Source, column: Column) -> List[Finding]:
-        found = [self.of_field(source, column, sort, problem) for sort, problem in column.problems.items()]
-        if not column.valued and source.rows and not any(sort != "blanks" for sort in column.problems):
-            found.append(Finding(WARNING, at(source.name, source.heading.number), f"the column {column.name} has no value in any row"))
-        return found
-
-    def of_field(self, source: Source, column: Column, sort: str, problem: Problem) -> Finding:
-        name, kind = column.name, column.kind
-        many = counted(problem.count, "field") + f" of {name}"
-        text = shown(problem.field.encode("utf-8", "surrogateescape"))[:40]
+    def tell_column(self, source: Source, heading: Heading, column: Column) -> None:
+        if source.rows and not column.places and not column.problems:
+            self.add(WARNING, source, heading.number, f"the column {column.name} has no value in any row")
         power = power_of(column)
-        texts = {
-            "blanks": f"{many} with blanks at an end, as '{text}': they belong to the text",
-            "missing": f"{many} such as '{text}', which is no {kind}: a missing value is nothing, or #",
-            "decimals": f"{many} with decimals or an exponent, and {kind} is whole; --fix writes {name} times {10**power:,}, and the "
-                        "limits of the specification have to be so too",
-            "truth": f"{many} such as '{text}', where Bool is true or false",
-            "range": f"{many} out of the range of {kind}, such as {text}{wider(text, name)}",
-            "other": f"{many} such as '{text}', which is no {kind}",
-        }
-        fields = split(problem.text, source.heading.separator)
-        value, lost = (problem.field.strip(BLANKS), "") if sort == "blanks" else mended_value(problem.field, kind, power)
-        better = "" if lost == "dropped" else join(replaced(fields, column.index, value))
-        return Finding(WARNING if sort == "blanks" else ERROR, at(source.name, problem.number), texts[sort], problem.text, better)
+        for sort, problem in column.problems.items():
+            field = shown(problem.field.encode())[:40]
+            room = wider(column.name, problem.field) if sort == "range" else ""
+            message = FIELDS[sort].format(fields=f"{counted(problem.count, 'field')} of {column.name}", field=field, kind=column.kind,
+                                          name=column.name, scale=10**power, room=room)
+            value, lost = (problem.field.strip(BLANKS), "") if sort == "blanks" else mended_value(problem.field, column.kind, power)
+            better = "" if lost == "dropped" else replaced(heading.fields(problem.text), column.index, value)
+            self.add(WARNING if sort == "blanks" else ERROR, source, problem.number, message, problem.text, better)
 
-    def of_clock(self, number: int, source: Source) -> List[Finding]:
+    def tell_clock(self, number: int, source: Source, heading: Heading) -> None:
         clock = source.clock
-        found = []
-        if clock.backs:
-            line, later = clock.first_back
-            found.append(Finding(WARNING, at(source.name, line), f"{counted(clock.backs, 'row')} behind a row of a later time, by "
-                                 f"{seconds(clock.furthest_back)} s at most; the first behind that of line {later}: they are late and not "
-                                 "judged; --fix with --sort puts them in order"))
-        if clock.jumps:
-            length, line = clock.longest_jump
-            found.append(Finding(WARNING, at(source.name, line), f"the time jumps by {seconds(length)} s, where "
-                                 f"{seconds(clock.usual)} s are usual; {counted(clock.jumps, 'jump')}, the first at line "
-                                 f"{clock.first_jump}"))
+        back, jump = clock.problems.get("back"), clock.problems.get("jump")
+        is_ahead = back is not None and jump is not None and clock.line_ahead in (jump.number, clock.longest.number)
+        if back:
+            why = ", which jumps ahead and may be what is wrong" if is_ahead else ""
+            self.add(WARNING, source, back.number, f"{counted(back.count, 'row')} behind a row of a later time, by "
+                     f"{seconds(clock.furthest_back)} s at most: they are late and not judged; the first is behind line {clock.line_ahead}{why}",
+                     back.text)
+        if jump:
+            length, time, line, text = clock.longest
+            deadlines, _ = count_deadlines(self.specification.rates(), length)
+            due = f" and {deadlines:,} deadlines" if deadlines else ""
+            what_helps = "" if is_ahead else f"; if the clock was set there, --start {written_time(time)} leaves out what comes before"
+            self.add(WARNING, source, line, f"the time jumps by {seconds(length)} s{due}, where {seconds(clock.usual)} s are usual; "
+                     f"{counted(jump.count, 'jump')}, the first at line {jump.number}{what_helps}", text)
         late = self.taken.late[number]
-        if late and (late > clock.backs or source.end):
-            found.append(Finding(WARNING, shown_name(source.name), f"{counted(late, 'row')} of {source.rows:,} will be late in the run"))
-        return found + self.of_unit(source, clock)
-
-    def of_unit(self, source: Source, clock: Clock) -> List[Finding]:
-        if not (clock.whole and clock.usual >= SLOW_GAP):
-            return []
+        if late > (back.count if back else 0) or late and source.end:
+            self.add(WARNING, source, 0, f"{counted(late, 'row')} of {source.rows:,} will be late in the run")
         longest = self.specification.longest()
-        level = WARNING if 0 < longest <= clock.usual else NOTE
-        behind = f", and no window or period of the specification is longer than {seconds(longest)} s" if level == WARNING else ""
-        return [Finding(level, at(source.name, source.heading.number),
-                        f"{seconds(clock.usual)} s from row to row are usual{behind}: if the "
-                        "times are milliseconds or microseconds, --fix with --unit ms or us makes seconds of them")]
+        if clock.usual >= SLOW_STEP and clock.usual % SECOND == 0:
+            is_long = 0 < longest <= clock.usual
+            behind = f", and no window or period of the specification is longer than {seconds(longest)} s" if is_long else ""
+            self.add(WARNING if is_long else NOTE, source, heading.number, f"{seconds(clock.usual)} s from row to row are usual{behind}: if the "
+                     "times are milliseconds or microseconds, --fix with --unit ms or us makes seconds of them")
 
-    def of_run(self) -> List[Finding]:
-        name, taken = shown_name(self.specification.name), self.taken
-        deadlines, exact = self.deadlines()
-        steps = taken.accepted + deadlines
-        found = [self.memory(name)]
-        text = (f"a run accepts {counted(taken.accepted, 'row')}, finds {sum(taken.late):,} late and has {'' if exact else 'at most '}"
-                f"{counted(steps, 'step')}, {deadlines:,} of them deadlines; it takes {duration(self.nanoseconds(deadlines))}")
-        if self.specification.has_local():
-            text += "; deadlines that count from births come on top"
-        slow = deadlines * DEADLINE_TIME * self.periodic() > SLOW * SECOND
-        found.append(Finding(WARNING if slow or not taken.accepted else NOTE, name, text))
-        return found + self.of_start(name)
+    def tell_mending(self, source: Source, heading: Heading, new_names: Dict[int, str]) -> None:
+        """Tells how to have a source written anew, where that mends something."""
+        options = [f"--rename={heading.names[index]}={name}" for index, name in new_names.items()]
+        options += ["--sort"] if "back" in source.clock.problems else []
+        if heading.time is not None and (options or source.end):
+            words = " ".join(map(shlex.quote, [TOOL, "--fix", "fixed.csv", *options, self.specification.name, source.name]))
+            self.add(NOTE, source, 0, f"a source fixed.csv that can be read is written by: {shown_name(words)}")
+
+    def tell_run(self) -> None:
+        taken = self.taken
+        deadlines, is_exact = self.deadlines()
+        row_time = ROW_TIME + STREAM_TIME * len(self.specification.streams)
+        time = (taken.accepted + sum(taken.late)) * row_time + self.time_of(deadlines)
+        births = "; deadlines that count from births come on top" if self.specification.has_local() else ""
+        self.add(WARNING if self.time_of(deadlines) > SLOW or not taken.accepted else NOTE, self.specification, 0,
+                 f"a run accepts {counted(taken.accepted, 'row')}, finds {sum(taken.late):,} late and has {'' if is_exact else 'at most '}"
+                 f"{counted(taken.accepted + deadlines, 'step')}, {deadlines:,} of them deadlines; it takes {duration(time)}{births}")
+        if not any(stream.name.startswith("trigger_") for stream in self.specification.streams):
+            self.add(NOTE, self.specification, 0, "there is no trigger, so a run writes its end line alone, unless with --show outputs")
 
     def deadlines(self) -> Tuple[int, bool]:
         if self.taken.last is None or self.taken.start is None:
             return 0, True
         return count_deadlines(self.specification.rates(), self.taken.last - self.taken.start)
 
-    def periodic(self) -> int:
-        return max(1, sum(stream.pacing.endswith("Hz") for stream in self.specification.streams))
+    def time_of(self, deadlines: int) -> int:
+        """How long so many deadlines take, in nanoseconds."""
+        return deadlines * DEADLINE_TIME * max(1, sum(stream.pacing.endswith("Hz") for stream in self.specification.streams))
 
-    def nanoseconds(self, deadlines: int) -> int:
-        row = ROW_TIME + STREAM_TIME * len(self.specification.streams)
-        return (self.taken.accepted + sum(self.taken.late)) * row + deadlines * DEADLINE_TIME * self.periodic()
-
-    def of_start(self, name: str) -> List[Finding]:
+    def tell_start(self) -> None:
         start, first = self.taken.start, self.taken.first
-        if start is None or first is None or start == first or not self.specification.rates():
-            return []
-        before, _ = count_deadlines(self.specification.rates(), first - start - 1)  # at one time rows come first
-        text = f"the first row that is accepted comes {seconds(first - start)} s behind --start, and {before:,} deadlines before it"
-        if before * DEADLINE_TIME * self.periodic() <= SLOW * SECOND:
-            return [Finding(NOTE, name, text)]
-        return [Finding(WARNING, name, text, f"--start {written_time(start)}", f"--start {written_time(first)}")]
+        firsts = [source.clock.first for source in self.sources if source.clock.first is not None]
+        if start is None or start == first or not firsts:
+            return
+        before, better = f"--start {written_time(start)}", f"--start {written_time(min(firsts) if first is None else first)}"
+        if first is None:
+            self.add(WARNING, self.specification, 0, "--start lies behind all rows", before, better)
+            return
+        deadlines, _ = count_deadlines(self.specification.rates(), first - start - 1)  # at one time rows come first
+        message = f"the first row that is accepted comes {seconds(first - start)} s behind --start, and {deadlines:,} deadlines before it"
+        if self.time_of(deadlines) > SLOW:
+            self.add(WARNING, self.specification, 0, message, before, better)
+        elif deadlines:
+            self.add(NOTE, self.specification, 0, message)
 
-    def memory(self, name: str) -> Finding:
-        alone = [stream for stream in self.specification.streams if not stream.spawn]
-        least = sum(self.specification.instance(stream)[0] for stream in alone)
+    def tell_memory(self) -> None:
+        streams = self.specification.streams
+        least = sum(self.specification.instance(stream)[0] for stream in streams if not stream.spawn)
         files = sum(AHEAD if source.is_read_ahead(PIECES, len(self.sources) > 1) else PIECES for source in self.sources)
-        text = f"a run takes about {size(least + files)} of memory beside the program, {size(files)} of them for its sources"
-        for stream in self.specification.streams:
+        message = f"a run takes about {size(least + files)} of memory beside the program, {size(files)} of them for its sources"
+        for stream in streams:
             if stream.spawn:
                 usual, most = self.specification.instance(stream)
-                text += (f"; each instance of {stream.name} takes {size(usual)} to {size(most)}, and {MOST_INSTANCES:,} of them, "
-                         f"which is the most, {size(MOST_INSTANCES * most)}")
-        if any(stream.kind == "String" for stream in self.specification.streams):
-            text += "; texts that are kept come on top"
-        return Finding(NOTE, name, text)
+                message += (f"; each instance of {stream.name} takes {size(usual)} to {size(most)}, and {MOST_INSTANCES:,} of them, "
+                            f"which is the most, {size(MOST_INSTANCES * most)}")
+        texts = "; texts that are kept come on top" if any(stream.kind == "String" for stream in streams) else ""
+        self.add(NOTE, self.specification, 0, message + texts)
 
 
-def replaced(fields: List[str], index: int, text: str) -> List[str]:
-    return [text if place == index else old for place, old in enumerate(fields)]
+def nearest(name: str, columns: List[str]) -> Optional[str]:
+    """The column whose name is most like that of an input, or begins as it."""
+    lowered = {column.lower(): column for column in reversed(columns)}
+    near = difflib.get_close_matches(name.lower(), lowered, n=1)
+    near += [column for column in lowered if column.startswith(name.lower()) or name.lower().startswith(column)]
+    return lowered[near[0]] if near else None
 
 
-def wider(text: str, name: str) -> str:
+def why_malformed(source: Source, heading: Heading) -> str:
+    kind = source.end[1] if source.end else 0
+    if heading.foreign:
+        return heading.foreign
+    if kind in (lines.ROW_TOO_LONG, lines.BARE_CR, lines.BAD_TEXT):
+        return LINES[f"kind {kind}"].format(lines="it is one")
+    if heading.separator != ",":
+        return f"its fields are separated by {heading.separator!r} and not by commas"
+    if len(heading.times) > 1:
+        return f"it has {len(heading.times)} columns of times, where one of time, ts and timestamp may be"
+    if not heading.times:
+        if heading.time is not None:
+            return f"no column is called time, ts or timestamp; {shown(heading.names[heading.time].encode())!r} may be it"
+        has_number = any(time_of(name) is not None for name in heading.names)
+        return "no column is called time, ts or timestamp" + ("; the first line has to have the names of the columns" if has_number else "")
+    if heading.text.startswith(lines.SIGN):
+        return "a byte order mark stands before it that is not at the start of the file, or one too many"
+    return "it names an input twice"
+
+
+def wider(name: str, text: str) -> str:
     """The kind that has room for a number, said behind the finding."""
     kinds = [kind for kind in ("Int8", "Int16", "Int32", "Int64", "UInt64") if not mended_value(text, kind, 0)[1]]
     return f"; in the specification {name}: {kinds[0]} has room" if kinds else ""

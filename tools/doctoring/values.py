@@ -1,81 +1,45 @@
 """What fields spell by the rules of docs/formats.md, and what people mean by those that spell nothing there.
 
-Times are whole nanoseconds, and numbers are whole numbers with a power of ten: nothing is a float.
+Times are whole nanoseconds, and other numbers are decimals of so many digits that nothing is rounded: nothing is a float.
 """
 from __future__ import annotations
 
 import re
-from datetime import datetime, timedelta, timezone
-from functools import lru_cache
-from typing import NamedTuple, Optional, Tuple
+from datetime import datetime
+from decimal import ROUND_FLOOR, ROUND_HALF_UP, Context, Decimal
+from typing import Optional, Tuple
 
 SECOND = 10**9
 MOST_TIME = 4_000_000_000 * SECOND
 BLANKS = " \t"
 NOTHING = ("", "#")
-LONGEST_NUMBER = 40  # digits, and the greatest power of ten, of numbers that are mended
+LONGEST_NUMBER = 40  # characters, and the greatest power of ten, of numbers that are mended
+EXACT = Context(prec=4 * LONGEST_NUMBER)
 UNITS = {0: "seconds", 3: "milliseconds", 6: "microseconds", 9: "nanoseconds"}
+BITS = (8, 16, 32, 64)
+RANGES = {**{f"Int{bits}": (-(2 ** (bits - 1)), 2 ** (bits - 1) - 1) for bits in BITS}, **{f"UInt{bits}": (0, 2**bits - 1) for bits in BITS}}
 
-TIME = re.compile(r"[0-9]+\.?[0-9]*|\.[0-9]+")
 WHOLE = re.compile(r"[+-]?[0-9]+")
-NUMBER = re.compile(r"([+-]?)([0-9]*)(?:\.([0-9]*))?(?:[eE]([+-]?[0-9]{1,4}))?")
-DATE = re.compile(r"([0-9]{4}-[0-9]{2}-[0-9]{2})[T ]([0-9]{2}:[0-9]{2}:[0-9]{2})(?:[.,]([0-9]+))? ?(Z|[+-][0-9]{2}:?[0-9]{2})?")
-MISSING = {"nan", "na", "n/a", "null", "none", "nil", "nul", "-", "--", "?", "inf", "+inf", "-inf", "infinity", "-infinity"}
-TRUTHS = {"true": "true", "1": "true", "yes": "true", "on": "true", "t": "true",
-          "false": "false", "0": "false", "no": "false", "off": "false", "f": "false"}
+NUMBER = re.compile(r"[+-]?(?:[0-9]+\.?[0-9]*|\.[0-9]+)(?:[eE][+-]?[0-9]{1,4})?")
+DATE = re.compile(r"([0-9]{4})[-/]([0-9]{2})[-/]([0-9]{2})[T ]([0-9]{2}:[0-9]{2}:[0-9]{2})(?:[.,]([0-9]+))? ?(Z|[+-][0-9]{2}:?[0-9]{2})?")
+MISSING = {"nan", "na", "n/a", "null", "none", "nil", "nul", "-", "--", "?", "inf", "+inf", "-inf", "infinity", "-infinity",
+           "#n/a", "#nv", "#value!", "#wert!", "#div/0!", "#num!", "#zahl!", "#null!", "#ref!", "#bezug!", "#name?"}  # as spreadsheets have it
+TRUTHS = {**dict.fromkeys(("true", "1", "yes", "on", "t", "wahr"), "true"), **dict.fromkeys(("false", "0", "no", "off", "f", "falsch"), "false")}
 
 
-class Number(NamedTuple):
-    """A number: digits, and the power of ten that they are to be multiplied with."""
-
-    digits: int
-    power: int
-
-    def times(self, power: int) -> Tuple[int, bool]:
-        """The number times 10 to that power, rounded half away from zero, and whether nothing was rounded."""
-        power += self.power
-        if power >= 0:
-            return self.digits * 10**power, True
-        half, divisor = 10**-power // 2, 10**-power
-        value = (abs(self.digits) + half) // divisor
-        return (-value if self.digits < 0 else value), self.digits % divisor == 0
-
-    def decimals(self) -> int:
-        return max(0, -self.power)
-
-    def places(self) -> int:
-        """How many digits stand before the point."""
-        return max(1, len(str(abs(self.digits))) + self.power)
-
-
-def read_number(text: str) -> Optional[Number]:
-    """The number that a text spells, perhaps with a decimal point or an exponent."""
-    match = NUMBER.fullmatch(text)
-    if not match or len(text) > LONGEST_NUMBER:
+def read_number(text: str) -> Optional[Decimal]:
+    """The number that a text spells, perhaps with a decimal point or an exponent, without zeros at its end."""
+    if len(text) > LONGEST_NUMBER or not NUMBER.fullmatch(text):
         return None
-    sign, whole, decimals, exponent = match.groups()
-    spelt = whole + (decimals or "")
-    power = int(exponent or 0) - len(decimals or "")
-    if not spelt or abs(power) > LONGEST_NUMBER:
-        return None
-    bare = spelt.rstrip("0") or "0"
-    power = power + len(spelt) - len(bare) if int(bare) else 0
-    return Number(int(sign + bare), power)
-
-
-@lru_cache(maxsize=None)
-def range_of(kind: str) -> Tuple[int, int]:
-    bits = int(kind.lstrip("UInt"))
-    return (0, 2**bits - 1) if kind.startswith("U") else (-(2 ** (bits - 1)), 2 ** (bits - 1) - 1)
+    number = EXACT.normalize(Decimal(text))
+    return number if abs(number.adjusted()) <= LONGEST_NUMBER else None
 
 
 def fits(text: str, kind: str) -> bool:
     """Whether digits, with or without a sign, are in the kind's range."""
-    digits = text.lstrip("+-").lstrip("0")
-    if len(digits) > 20:
-        return False
-    least, most = range_of(kind)
-    return least <= (-int(digits or 0) if text.startswith("-") else int(digits or 0)) <= most
+    size = int(text.lstrip("+-0")[:21] or 0)  # more digits are in no range
+    least, most = RANGES[kind]
+    return least <= (-size if text.startswith("-") else size) <= most
 
 
 def wrong_value(text: str, kind: str) -> str:
@@ -86,9 +50,7 @@ def wrong_value(text: str, kind: str) -> str:
         return "" if text in ("true", "false") else "missing" if text.lower() in MISSING else "truth"
     if WHOLE.fullmatch(text):
         return "" if fits(text, kind) else "range"
-    if text.lower() in MISSING:
-        return "missing"
-    return "decimals" if read_number(text) else "other"
+    return "missing" if text.lower() in MISSING else "decimals" if read_number(text) is not None else "other"
 
 
 def mended_value(text: str, kind: str, power: int) -> Tuple[str, str]:
@@ -99,26 +61,29 @@ def mended_value(text: str, kind: str, power: int) -> Tuple[str, str]:
     if text in NOTHING or text.lower() in MISSING:
         return "#", ""
     if kind == "Bool":
-        value = TRUTHS.get(text.lower())
-        return (value, "") if value else ("#", "dropped")
+        truth = TRUTHS.get(text.lower())
+        return (truth, "") if truth else ("#", "dropped")
     number = read_number(text)
-    value, exact = number.times(power) if number else (0, False)
-    least, most = range_of(kind)
-    if not number or not least <= value <= most:
+    if number is None:
         return "#", "dropped"
-    return str(value), "" if exact else "rounded"
+    scaled = number.scaleb(power, EXACT)
+    value = int(scaled.to_integral_value(ROUND_HALF_UP))
+    least, most = RANGES[kind]
+    return (str(value), "" if value == scaled else "rounded") if least <= value <= most else ("#", "dropped")
 
 
 def time_of(text: str) -> Optional[int]:
-    """The nanoseconds of a time in seconds."""
-    text = text.strip(BLANKS)
-    if not TIME.fullmatch(text):
+    """The nanoseconds of a time in seconds: digits with at most one point."""
+    whole, _, decimals = text.strip(BLANKS).partition(".")
+    digits = whole + decimals
+    if not digits.isdigit() or not digits.isascii():
         return None
-    seconds, _, decimals = text.partition(".")
-    seconds = seconds.lstrip("0")
-    if len(seconds) > 10:
+    if len(decimals) > 9 or len(whole) > 10:
+        whole, decimals = whole.lstrip("0"), decimals[:9]
+        digits = whole + decimals
+    if len(whole) > 10:
         return None
-    time = int(seconds or 0) * SECOND + int(decimals[:9].ljust(9, "0"))
+    time = int(digits or 0) * 10 ** (9 - len(decimals))
     return time if time <= MOST_TIME else None
 
 
@@ -127,24 +92,26 @@ def date_of(text: str) -> Optional[int]:
     match = DATE.fullmatch(text.strip(BLANKS))
     if not match:
         return None
-    day, clock, decimals, zone = match.groups()
-    zone = "+0000" if zone in (None, "Z") else zone.replace(":", "")
+    *day, clock, decimals, zone = match.groups()
     try:
-        moment = datetime.strptime(f"{day} {clock} {zone}", "%Y-%m-%d %H:%M:%S %z")
-        since = moment - datetime(1970, 1, 1, tzinfo=timezone.utc)
+        moment = datetime.strptime(f"{'-'.join(day)} {clock} {zone or 'Z'}", "%Y-%m-%d %H:%M:%S %z")
+        return int(moment.timestamp()) * SECOND + int((decimals or "")[:9].ljust(9, "0"))
     except (ValueError, OverflowError):
         return None
-    return since // timedelta(seconds=1) * SECOND + int((decimals or "")[:9].ljust(9, "0"))
+
+
+def wrong_time(text: str) -> str:
+    """What a field has that is no time."""
+    text = text.strip(BLANKS)
+    if text in NOTHING:
+        return "no time"
+    return "date" if date_of(text) is not None else "unit" if read_number(text) is not None else "time"
 
 
 def mended_time(text: str, unit: int) -> Optional[int]:
     """The nanoseconds of a time in a unit of 10 to the -unit seconds, or of a date; decimals behind the ninth are dropped."""
     number = read_number(text.strip(BLANKS))
-    if number is None:
-        time = date_of(text)
-    else:
-        power = number.power + 9 - unit
-        time = number.digits * 10**power if power >= 0 else number.digits // 10**-power
+    time = date_of(text) if number is None else int(number.scaleb(9 - unit, EXACT).to_integral_value(ROUND_FLOOR))
     return time if time is not None and 0 <= time <= MOST_TIME else None
 
 

@@ -1,16 +1,18 @@
-"""Where a tool that stands beside lolamon finds the program."""
+"""Where the tools that stand beside lolamon find it, and how they ask it about a specification."""
 from __future__ import annotations
 
 import os
 import shutil
-from typing import List
+import subprocess
+from typing import List, Optional
 
-TOOLS = os.path.dirname(os.path.dirname(os.path.realpath(__file__)))
+from explaining.folders import CHECKOUT, TOOLS, is_checkout
+
 BUILT = ("bin/x86_64-linux/lolamon", "crates/lolamon/out/lolamon")
 
 
 class NoProgram(Exception):
-    """There is no lolamon to start."""
+    """There is no lolamon that can be started."""
 
 
 def find_program() -> str:
@@ -21,8 +23,7 @@ def find_program() -> str:
         if not found:
             raise NoProgram(f"the variable LOLAMON names no program: '{named}'")
         return found
-    checkout = os.path.dirname(TOOLS)
-    beside = os.path.join(checkout, "lolamon") if os.path.isfile(os.path.join(checkout, "crates.txt")) else os.path.join(TOOLS, "lolamon")
+    beside = os.path.join(CHECKOUT if is_checkout(CHECKOUT) else TOOLS, "lolamon")
     if not os.access(beside, os.X_OK):
         raise NoProgram(f"there is no program {beside}")
     return beside
@@ -31,5 +32,16 @@ def find_program() -> str:
 def files_of(program: str) -> List[str]:
     """The files that decide what the program does: itself, and of a checkout those that its ./lolamon starts."""
     top = os.path.dirname(program)
-    built = [os.path.join(top, name) for name in BUILT] if os.path.isfile(os.path.join(top, "crates.txt")) else []
+    built = [os.path.join(top, name) for name in BUILT] if is_checkout(top) else []
     return [name for name in [program, *built] if os.path.isfile(name)]
+
+
+def analyse(path: str, text: Optional[bytes] = None) -> "subprocess.CompletedProcess[bytes]":
+    """What `lolamon analyse` tells of a specification, or of its text where the file cannot be read twice."""
+    words, handed = (["--", path], b"") if text is None else (["/dev/stdin"], text)
+    program = find_program()
+    try:
+        return subprocess.run([program, "analyse", *words], input=handed, stdout=subprocess.PIPE,
+                              env={**os.environ, "LOLAMON_PLAIN": "1"})
+    except OSError as failure:
+        raise NoProgram(f"{program} cannot be started: {failure.strerror}") from None

@@ -8,9 +8,11 @@ import signal
 import stat
 import textwrap
 import time
-from typing import Dict, List, NamedTuple, Optional
+from typing import List, Optional
 
 from explaining import places
+from explaining.folders import documents
+from explaining.messages import read_messages
 from explaining.places import shown_name
 from explaining.running import ERRORS, OUTPUT, Outcome
 from explaining.words import Command, NotACommand, asks_for_help, read_command
@@ -50,22 +52,12 @@ A drill of 10,000 rows for each of two sources on four threads:
 """
 
 
-class Message(NamedTuple):
-    """One line of the table of codes."""
-
-    name: str
-    sentence: str
-    section: str
-
-
 class Manual:
     """The table of codes, and where the documents that it names stand on this machine."""
 
-    def __init__(self, table: str, documents: str) -> None:
-        self.documents = documents
-        with open(table, encoding="utf-8") as file:
-            lines = [line.rstrip("\n").split("\t") for line in file][1:]
-        self.messages: Dict[str, Message] = {code: Message(*rest) for code, *rest in lines}
+    def __init__(self) -> None:
+        self.documents = documents()
+        self.messages = read_messages()
 
     def path(self, section: str) -> str:
         """A document's path, as short as it can be from the current folder."""
@@ -288,8 +280,8 @@ def why_unreadable(path: str) -> str:
     return ""
 
 
-def tell(manual: Manual, outcome: Outcome, words: List[str]) -> None:
+def tell(outcome: Outcome, words: List[str]) -> None:
     """Tells of a run what a person needs; of one without a fault and without late rows nothing."""
-    lines = Teller(manual, outcome, words).all()
+    lines = Teller(Manual(), outcome, words).all()
     if lines:
         say(([""] if not outcome.in_a_line else ["", ""]) + lines)

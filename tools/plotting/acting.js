@@ -8,14 +8,15 @@ function redraw() {
   requestAnimationFrame(() => { waiting = false; draw(); });
 }
 
-// The cursor stands at the nearest moment of the data, or where no moment is near, at the pixel.
+// The cursor stands at the nearest moment of the data, or where no moment is near, at the pixel. Marks are taken for nearer than they are,
+// so that among many values one finds the moment of a trigger.
 function moveCursor(place) {
   let best = null;
   for (const points of data.panels.flatMap(panel => [...panel.lines, panel.late]).concat(allMarks())) {
     const next = before(points.at, timeAt(place));
     for (const one of [next - 1, next]) {
       if (one < 0 || one >= points.at.length) continue;
-      const away = Math.abs(x(points.at[one]) - place);
+      const away = Math.abs(x(points.at[one]) - place) - (points.counts ? MARK : 0);
       if (best === null || away < best.away) best = {away, at: points.at[one], exact: points.times[one]};
     }
   }
@@ -54,7 +55,7 @@ const KEYS = {"+": "closer", "=": "closer", "-": "wider", "ArrowLeft": "earlier"
 
 function listen() {
   for (const name in ACTIONS) document.getElementById(name).addEventListener("click", ACTIONS[name]);
-  canvas.addEventListener("keydown", event => {
+  document.addEventListener("keydown", event => {
     if (!(event.key in KEYS) || event.ctrlKey || event.metaKey) return;
     ACTIONS[KEYS[event.key]]();
     event.preventDefault();
@@ -93,7 +94,10 @@ function listen() {
   });
 }
 
-for (const panel of data.panels) [...panel.lines, panel.late].forEach(prepare);
+for (const panel of data.panels) {
+  [...panel.lines, panel.late].forEach(prepare);
+  for (const points of panel.lines) points.widest = widest(panel, points);
+}
 for (const marks of allMarks()) marks.at = marks.times.map(Number);
 data.late.at ||= [];
 document.getElementById("end").textContent = [data.end, ...data.notes].join("  ·  ");

@@ -11,8 +11,12 @@ const CLOCK = [1n, 2n, 5n, 10n, 15n, 30n].map(n => n * SECOND).concat([1n, 2n, 5
   [1n, 2n, 3n, 6n, 12n].map(n => n * HOUR));
 const PALETTE = ["#0072b2", "#d55e00", "#009e73", "#cc79a7", "#e69f00", "#56b4e9", "#7f7f7f", "#8c564b", "#b59a00",
   "#9467bd", "#17a2b8", "#c23b22"];
-const HEADER = 22, NUMBER = 92, TRUTH = 36, NAME = 18, GAP = 10, TRIGGER = 34, FOOT = 40, RIGHT = 14, MARGIN = 7;
+const HEADER = 22, ROW = 16, NUMBER = 92, TRUTH = 36, NAME = 18, GAP = 10, TRIGGER = 34, FOOT = 40, RIGHT = 14, MARGIN = 7;
 const FEW = 60;  // so many triggers that are seen have a line through all panels
+const SEVERAL = 6;  // an axis of more lines is twice as high
+const COARSE = 4;  // pixels that a stretch of a thinned line may take before it is told
+const MARK = 3;  // so many pixels nearer a mark is taken to be
+const MANY_ZEROS = 7;
 const NEAR = 12;  // pixels within which the cursor goes to a moment that the data has
 const start = BigInt(data.start);
 const whole = [Number(data.range[0]), Number(data.range[1])];
@@ -97,8 +101,10 @@ function timeTicks(most) {
   return {ticks: multiples(low, high, step).map(time => [time - start, decimal(time, unit, step)]), title: "time in " + name};
 }
 
+// A number, with an exponent in the place of many zeros: 1.5e19.
 function short(number) {
-  return String(number).replace(/^(-?\d*[1-9])(0{7,})$/, (_, head, zeros) => head + "e" + zeros.length);
+  const [told, head, rest, zeros] = /^(-?\d)(\d*?)(0*)$/.exec(String(number));
+  return zeros.length < MANY_ZEROS ? told : head + (rest && "." + rest) + "e" + (rest.length + zeros.length);
 }
 
 // Places
@@ -129,6 +135,26 @@ function prepare(points) {
   points.places = points.values.map(Number);
 }
 
+// The longest text that the value of a line may have beside its name.
+function widest(panel, points) {
+  let found = "";
+  for (const value of points.values) {
+    const told = valueText(panel, value);
+    if (told.length > found.length) found = told;
+  }
+  return found;
+}
+
+// What the lines of a panel are called; those behind the colours are dashed.
+function nameOf(points, place) {
+  return (place < PALETTE.length ? "" : "-- ") + cut(points.name, 32);
+}
+
+// Whether so little time is seen that what is left out of thinned lines would be seen.
+function isCoarse(panel) {
+  return panel.lines.some(points => Number(points.stretch) / (view.to - view.from) * room() > COARSE);
+}
+
 // The least and the greatest value of a panel that is seen, those that are held included.
 function extent(panel) {
   if (panel.sort === "truth") return [0, 1];
@@ -145,7 +171,7 @@ function extent(panel) {
 }
 
 function heightOf(panel) {
-  if (panel.sort === "number") return NUMBER;
+  if (panel.sort === "number") return panel.lines.length > SEVERAL ? 2 * NUMBER : NUMBER;
   return panel.sort === "truth" ? TRUTH : Math.max(panel.names.length * NAME, TRUTH);
 }
 

@@ -43,10 +43,13 @@ def value_ticks(low: int, high: int, most: int) -> List[Tick]:
 
 
 def short(number: int) -> str:
-    """A number, with an exponent in the place of many zeros: 5e18."""
-    digits = str(number)
-    zeros = len(digits) - len(digits.rstrip("0"))
-    return f"{digits[:-zeros]}e{zeros}" if number and zeros >= MANY_ZEROS else digits
+    """A number, with an exponent in the place of many zeros: 1.5e19."""
+    digits = str(abs(number))
+    told = digits.rstrip("0")
+    if number == 0 or len(digits) - len(told) < MANY_ZEROS:
+        return str(number)
+    rest = "." + told[1:] if told[1:] else ""
+    return f"{'-' if number < 0 else ''}{told[0]}{rest}e{len(digits) - 1}"
 
 
 def decimal(number: int, unit: int, step: int) -> str:

@@ -8,13 +8,18 @@ function stroke(paint, width = 1, dash = []) {
   pen.setLineDash([]);
 }
 
-function label(text, left, top, paint, align = "left", bold = false) {
+function widthOf(text, bold = false) {
   pen.font = (bold ? "600 " : "") + "12px system-ui, sans-serif";
+  return pen.measureText(text).width;
+}
+
+function label(text, left, top, paint, align = "left", bold = false) {
+  const width = widthOf(text, bold);
   pen.fillStyle = paint;
   pen.textAlign = align;
   pen.textBaseline = "middle";
   pen.fillText(text, left, top);
-  return pen.measureText(text).width;
+  return width;
 }
 
 function vertical(time, top, bottom, paint, dash) {
@@ -54,7 +59,7 @@ function visible(points) {
   return found;
 }
 
-function drawLine(points, y, paint, sort) {
+function drawLine(points, y, paint, sort, dash) {
   const seen = sort === "text" ? visibleNames(points) : visible(points);
   if (sort !== "text") {
     pen.beginPath();
@@ -63,15 +68,16 @@ function drawLine(points, y, paint, sort) {
       pen.lineTo(left, y(value));
     });
     if (points.holds && seen.length) pen.lineTo(Math.max(x(whole[1]), seen[seen.length - 1][0]), y(seen[seen.length - 1][1]));
-    stroke(paint, 1.5);
+    stroke(paint, 1.5, dash);
   }
   if (sort === "text" || seen.length < (view.width - view.left) / 8) {
     pen.fillStyle = paint;
+    pen.beginPath();
     for (const [left, value] of seen) {
-      pen.beginPath();
+      pen.moveTo(left, y(value));
       pen.arc(left, y(value), 2.5, 0, 7);
-      pen.fill();
     }
+    pen.fill();
   }
 }
 
@@ -96,26 +102,50 @@ function valueAt(points) {
   return place < 0 ? null : points.values[place];
 }
 
-function drawHeader(panel, top) {
-  let left = view.left + label(panel.title, view.left, top, color("text"), "left", true) + 10;
-  if (panel.lines.length === 1) {
-    const value = valueAt(panel.lines[0]);
-    label(value === null ? panel.kind : valueText(panel, value), left, top, value === null ? color("faint") : paintOf(panel, 0));
-    return;
-  }
-  panel.lines.forEach((points, place) => {
-    const value = valueAt(points);
-    const told = cut(points.name, 32) + (value === null ? "" : " = " + valueText(panel, value));
-    if (left < view.width - RIGHT) left += label(told, left, top, paintOf(panel, place)) + 12;
+// Where the names of several lines stand, in rows behind the title and below it, with room for their values.
+function namePlaces(panel) {
+  if (panel.lines.length < 2) return [];
+  let row = 0, left = view.left + widthOf(panel.title, true) + 10;
+  return panel.lines.map((points, place) => {
+    const width = widthOf(nameOf(points, place) + " = " + points.widest);
+    if (left > view.left && left + width > view.width - RIGHT) {
+      row++;
+      left = view.left;
+    }
+    const found = {left, row};
+    left += width + 12;
+    return found;
   });
 }
 
-function drawPanel(panel, top) {
-  drawHeader(panel, top + HEADER / 2);
+function drawHeader(panel, top) {
+  const left = view.left + label(panel.title, view.left, top, color("text"), "left", true) + 10;
+  panel.namePlaces.forEach((stands, place) => {
+    const value = valueAt(panel.lines[place]);
+    const told = nameOf(panel.lines[place], place) + (value === null ? "" : " = " + valueText(panel, value));
+    label(told, stands.left, top + stands.row * ROW, paintOf(panel, place));
+  });
+  if (panel.lines.length === 1) {
+    const value = valueAt(panel.lines[0]);
+    label(value === null ? panel.kind : valueText(panel, value), left, top, value === null ? color("faint") : paintOf(panel, 0));
+  }
+}
+
+function headerOf(panel) {
+  return HEADER + ROW * Math.max(0, ...panel.namePlaces.map(stands => stands.row));
+}
+
+function wholeHeightOf(panel) {
+  return headerOf(panel) + heightOf(panel) + GAP;
+}
+
+function drawPanel(panel, above) {
+  drawHeader(panel, above + HEADER / 2);
   const height = heightOf(panel);
+  const top = above + headerOf(panel);
   const [low, high] = extent(panel);
   const edge = panel.sort === "number" ? 6 : height / (2 * Math.max(high - low + 1, 1));
-  const y = value => top + HEADER + height - edge - (value - low) / Math.max(high - low, 1e-9) * (height - 2 * edge);
+  const y = value => top + height - edge - (value - low) / Math.max(high - low, 1e-9) * (height - 2 * edge);
   for (const [value, told] of valueTicks(panel, low, high)) {
     pen.beginPath();
     pen.moveTo(view.left, y(value));
@@ -124,13 +154,17 @@ function drawPanel(panel, top) {
     label(told, view.left - 6, y(value), color("faint"), "right");
   }
   pen.beginPath();
-  pen.rect(view.left, top + HEADER, view.width - view.left - RIGHT, height);
+  pen.rect(view.left, top, view.width - view.left - RIGHT, height);
   stroke(color("frame"));
   pen.save();
   pen.clip();
-  panel.lines.forEach((points, place) => drawLine(points, y, paintOf(panel, place), panel.sort));
+  panel.lines.forEach((points, place) => drawLine(points, y, paintOf(panel, place), panel.sort, place < PALETTE.length ? [] : [5, 3]));
   drawLate(panel, y);
   pen.restore();
+  if (isCoarse(panel)) {
+    const place = panel.lines.length === 1 ? top - HEADER / 2 : top + height - 10;
+    label("thinned: values are missing here", view.width - RIGHT - 6, place, color("alarm"), "right");
+  }
 }
 
 function drawMarks(marks, top, paint) {
@@ -172,7 +206,10 @@ function drawTime(top) {
 
 function layOut() {
   view.width = canvas.clientWidth;
-  view.height = FOOT + allMarks().length * TRIGGER + data.panels.reduce((sum, panel) => sum + HEADER + heightOf(panel) + GAP, 0);
+  const widths = data.panels.flatMap(panel => valueTicks(panel, ...extent(panel)).map(([, told]) => widthOf(told)));
+  view.left = Math.max(30, ...widths) + 12;
+  for (const panel of data.panels) panel.namePlaces = namePlaces(panel);
+  view.height = FOOT + allMarks().length * TRIGGER + data.panels.reduce((sum, panel) => sum + wholeHeightOf(panel), 0);
   const ratio = window.devicePixelRatio || 1;
   canvas.style.height = view.height + "px";
   if (canvas.width !== Math.round(view.width * ratio) || canvas.height !== Math.round(view.height * ratio)) {
@@ -181,9 +218,6 @@ function layOut() {
   }
   pen.setTransform(ratio, 0, 0, ratio, 0, 0);
   pen.clearRect(0, 0, view.width, view.height);
-  pen.font = "12px system-ui, sans-serif";
-  const widths = data.panels.flatMap(panel => valueTicks(panel, ...extent(panel)).map(([, told]) => pen.measureText(told).width));
-  view.left = Math.max(30, ...widths) + 12;
 }
 
 function draw() {
@@ -194,7 +228,7 @@ function draw() {
   let top = 0;
   for (const panel of data.panels) {
     drawPanel(panel, top);
-    top += HEADER + heightOf(panel) + GAP;
+    top += wholeHeightOf(panel);
   }
   for (const marks of allMarks()) {
     drawMarks(marks, top, color(marks === data.late ? "late" : "alarm"));

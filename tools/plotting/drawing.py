@@ -17,6 +17,7 @@ WIDTH = 9.0
 RIGHT = 0.2
 TITLE = 0.44
 HEADER = 0.27
+ROW = 0.17
 FOOT = 0.5
 GAP = 0.1
 NUMBER = 0.95
@@ -24,6 +25,8 @@ TRUTH = 0.4
 NAME = 0.19
 STRIP = 0.38
 DIGIT = 0.068
+LETTER, BOLD = 0.062, 0.08  # the width of one in the names of lines, and in titles
+SEVERAL = 6  # an axis of more lines is twice as high
 PIXELS = 600
 FEW = 60  # a line of so many points has a dot at each, and so many marks of triggers a line through all panels
 LONGEST = 24
@@ -56,9 +59,28 @@ def shown(text: str, most: int = 200) -> str:
     return (signs if len(signs) <= most else signs[:most - 1] + "\u2026").replace("$", r"\$")
 
 
+def name_of(name: str, place: int) -> str:
+    """What a line is called; those behind the colours are dashed."""
+    return ("" if place < len(PALETTE) else "-- ") + shown(name, LONGEST)
+
+
+def name_rows(title: str, names: List[str], width: float) -> List[List[int]]:
+    """Which names stand beside the title, and which in each row below it; none where there is but one."""
+    rows: List[List[int]] = [[]]
+    room = width - BOLD * len(title) - 0.16
+    for place in range(len(names) if len(names) > 1 else 0):
+        needed = len(name_of(names[place], place)) * LETTER + 0.16
+        if needed > room:
+            rows.append([])
+            room = width
+        rows[-1].append(place)
+        room -= needed
+    return rows
+
+
 def height_of(panel: Panel) -> float:
     if panel.sort == "number":
-        return NUMBER
+        return 2 * NUMBER if len(panel.drawn()) > SEVERAL else NUMBER
     return TRUTH if panel.sort == "truth" else max(NAME * len(panel.names), TRUTH)
 
 
@@ -97,7 +119,10 @@ class Canvas:
         self.ticks = [ticks_of(panel, *bounds) for panel, bounds in zip(picture.panels, self.ranges)]
         longest = max((len(tick.label) for ticks in self.ticks for tick in ticks), default=0)
         self.left = max(0.35, DIGIT * longest + 0.18)
-        self.height = TITLE + sum(HEADER + height_of(panel) + GAP for panel in picture.panels) + STRIP * len(self.marks) + FOOT
+        self.names = [name_rows(shown(panel.title, 80), [name for name, _, _ in lines], WIDTH - RIGHT - self.left)
+                      for panel, lines in zip(picture.panels, self.drawn)]
+        headers = sum(HEADER + ROW * (len(rows) - 1) for rows in self.names)
+        self.height = TITLE + headers + sum(height_of(panel) + GAP for panel in picture.panels) + STRIP * len(self.marks) + FOOT
         self.figure = load().Figure(figsize=(WIDTH, self.height), dpi=100, facecolor="white")
         self.top = 0.0
 
@@ -125,31 +150,31 @@ class Canvas:
         self.text(WIDTH - RIGHT, TITLE / 2, shown(self.picture.end or ""), color=FAINT, size=7.5, ha="right")
         self.top += TITLE
 
-    def header(self, panel: Panel, names: List[str]) -> None:
+    def header(self, panel: Panel, names: List[str], rows: List[List[int]]) -> None:
         """The panel's name, and where it has several lines, their names in their colours."""
         self.text(self.left, HEADER * 0.55, shown(panel.title, 80), weight="bold")
         if len(names) < 2:
             self.text(WIDTH - RIGHT, HEADER * 0.55, panel.kind, color=FAINT, size=7.5, ha="right")
-        else:
+        for number, row in enumerate(rows):
             left = WIDTH - RIGHT
-            for place in reversed(range(len(names))):
-                name = shown(names[place], LONGEST)
-                self.text(left, HEADER * 0.55, name, color=PALETTE[place % len(PALETTE)], ha="right", size=7.5)
-                left -= len(name) * 0.062 + 0.16
-        self.top += HEADER
+            for place in reversed(row):
+                name = name_of(names[place], place)
+                self.text(left, HEADER * 0.55 + ROW * number, name, color=PALETTE[place % len(PALETTE)], ha="right", size=7.5)
+                left -= len(name) * LETTER + 0.16
+        self.top += HEADER + ROW * (len(rows) - 1)
 
-    def line(self, axes: Any, panel: Panel, points: List[Point], color: str, holds: bool) -> None:
+    def line(self, axes: Any, panel: Panel, points: List[Point], color: str, holds: bool, style: str) -> None:
         places = [self.x(time) for time, _ in points]
         values = [value for _, value in points]
         if panel.sort != "text":
             held = ([*places, self.x(self.last)], [*values, values[-1]]) if holds else (places, values)
-            axes.plot(*held, color=color, linewidth=1.2, drawstyle="steps-post", solid_joinstyle="miter")
+            axes.plot(*held, color=color, linewidth=1.2, linestyle=style, drawstyle="steps-post", solid_joinstyle="miter")
         if panel.sort == "text" or len(points) <= FEW:
             axes.plot(places, values, color=color, linestyle="", marker="o", markersize=3, zorder=3)
 
     def panel(self, number: int) -> None:
         panel, lines = self.picture.panels[number], self.drawn[number]
-        self.header(panel, [name for name, _, _ in lines])
+        self.header(panel, [name for name, _, _ in lines], self.names[number])
         axes = self.axes(height_of(panel))
         low, high = self.ranges[number]
         room = (high - low) * 0.1 if panel.sort == "number" else 0.5
@@ -159,7 +184,8 @@ class Canvas:
         axes.set_axisbelow(True)
         for place, (_, holds, points) in enumerate(lines):
             alone = INPUT if panel.has_inputs else OUTPUT
-            self.line(axes, panel, points, PALETTE[place % len(PALETTE)] if len(lines) > 1 else alone, holds)
+            color = PALETTE[place % len(PALETTE)] if len(lines) > 1 else alone
+            self.line(axes, panel, points, color, holds, "-" if place < len(PALETTE) else "--")
         late = panel.late.all()
         axes.plot([self.x(time) for time, _ in late], [value for _, value in late], linestyle="", marker="x", markersize=6,
                   markeredgewidth=1.6, color=LATE)

@@ -25,7 +25,7 @@ def points(all_points: Iterable[Point], start: int) -> Dict[str, List[Union[int,
 
 
 def panel_data(panel: Panel, start: int) -> Dict[str, Any]:
-    lines = [{"name": name, "holds": holds, **points(line.all(), start)} for name, holds, line in panel.drawn()]
+    lines = [{"name": name, "holds": holds, "stretch": number(line.stretch), **points(line.all(), start)} for name, holds, line in panel.drawn()]
     return {"title": panel.title, "kind": panel.kind, "sort": panel.sort, "inputs": panel.has_inputs,
             "names": list(panel.names), "lines": lines, "late": points(panel.late.all(), start)}
 

@@ -11,9 +11,9 @@ from plotting.series import Dots, Line, Marks, Scattered
 from plotting.specification import Specification, Stream
 
 MOST_PANELS = 16
-MOST_LINES = 12
+MOST_LINES = 24
 MOST_COUNTED = 10_000  # so many instances that are not drawn are told apart
-MOST_NAMES = 12
+MOST_NAMES = 24
 OTHERS = "others"
 TRUTH = {"false": 0, "true": 1}
 IS_NUMBER = re.compile(NUMBER)
@@ -90,8 +90,17 @@ class Panel:
     def drawn(self) -> List[Tuple[str, bool, Line]]:
         """Each line that has points: its name, whether its last value is held, and itself. Whether an instance still
         lives is not known, so nothing is said of it behind its last value."""
-        return [(f"{stream}({parameters})" if parameters else stream, not parameters and self.sort != "text", line)
+        return [(self.name_of(stream, parameters), not parameters and self.sort != "text", line)
                 for (stream, parameters), line in self.lines.items() if line.all()]
+
+    def name_of(self, stream: str, parameters: str) -> str:
+        """What a line is called below the panel's title: where all lines are of one stream, its parameters."""
+        shown = "" if parameters and len(self.wanted) == 1 else stream
+        return f"{shown}({parameters})" if parameters else stream
+
+    def stretch(self) -> int:
+        """The longest stretch that one of its lines was thinned to, or 0."""
+        return max((line.stretch for line in self.lines.values()), default=0)
 
 
 def sort_of(kind: str) -> str:
@@ -221,6 +230,10 @@ class Picture:
                 more = " or more" if len(panel.left_out) == MOST_COUNTED else ""
                 told.append(f"of the {MOST_LINES + len(panel.left_out)} lines{more} of {panel.title} the first {MOST_LINES} "
                             "are drawn; --streams chooses others")
+        longest = max((panel.stretch() for panel in self.panels), default=0)
+        if longest:
+            told.append(f"lines of many values are thinned: of each {longest / 10**9:.3g} s or less the first, the least, the greatest and the "
+                        "last stay, and each text once; --from and --to draw a part more finely")
         if self.end is None:
             told.append("the verdicts have no end line: the run was cut off")
         return told

@@ -1,7 +1,7 @@
 """Values over time, of which no more are kept than a picture can show.
 
 Where more than MOST points have come, time is cut into stretches of one length, a power of two, and of each the first,
-the least, the greatest and the last value stay. So a line looks the same, and the memory stays the same however many
+the least, the greatest and the last value stay, and of texts each once. So a line looks the same, and the memory stays the same however many
 rows come. Stretches of a greater length are made of whole ones of a smaller: what was left out before is never missing.
 """
 from __future__ import annotations
@@ -51,11 +51,13 @@ class Line:
     """The numbers of a stream or an instance, in order of time. What came before `start` counts as its value there."""
 
     reduce = staticmethod(thinned)
+    stretches = STRETCHES
 
     def __init__(self, start: Optional[int] = None) -> None:
         self.start = start
         self.before: Optional[Point] = None
         self.points: List[Point] = []
+        self.stretch = 0  # the length of the stretches it was thinned to, if it was
 
     def add(self, time: int, value: int) -> None:
         if self.start is not None and time < self.start:
@@ -66,7 +68,8 @@ class Line:
             self.thin()
 
     def thin(self) -> None:
-        self.points = self.reduce(self.points, stretch(self.points[0][0], self.points[-1][0]))
+        self.stretch = stretch(self.points[0][0], self.points[-1][0], self.stretches)
+        self.points = self.reduce(self.points, self.stretch)
 
     def all(self) -> List[Point]:
         return [self.before, *self.points] if self.before else self.points
@@ -78,9 +81,11 @@ class Line:
 
 
 class Dots(Line):
-    """Values that are names, by their numbers: none lies between others, and none is held."""
+    """Values that are names, by their numbers: none lies between others, and none is held. An axis has 25 names, so that of
+    these stretches far fewer points stay than MOST."""
 
     reduce = staticmethod(firsts)
+    stretches = STRETCHES // 2
 
     def all(self) -> List[Point]:
         return self.points

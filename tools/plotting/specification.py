@@ -1,12 +1,11 @@
 """The streams of a specification, as `lolamon analyse` tells them."""
 from __future__ import annotations
 
-import os
 import re
-import subprocess
 from typing import Dict, List, NamedTuple
 
-from answers.lines import Unfit, reason
+from answers.lines import Unfit
+from explaining.program import analyse
 
 STREAM = re.compile(r"stream [0-9]+ (\w+) (\w+) (?:spawn (?:.*) layer [0-9]+ )?pacing (.*) layer [0-9]+ kept [0-9]+")
 
@@ -34,22 +33,8 @@ class Specification(NamedTuple):
         return {stream.name: stream for stream in self.streams}
 
 
-def program() -> str:
-    """The program that the variable LOLAMON names, or the one beside these tools, of a checkout or installed."""
-    tools = os.path.dirname(os.path.dirname(os.path.realpath(__file__)))
-    beside = (os.path.join(tools, "..", "lolamon"), os.path.join(tools, "..", "..", "bin", "lolamon"))
-    found = os.environ.get("LOLAMON") or next(filter(os.path.isfile, beside), None)
-    if found is None:
-        raise Unfit("there is no program lolamon beside this tool; the variable LOLAMON may name it")
-    return found
-
-
 def read_specification(path: str) -> Specification:
-    try:
-        ran = subprocess.run([program(), "analyse", "--", path], stdin=subprocess.DEVNULL, stdout=subprocess.PIPE,
-                             stderr=subprocess.DEVNULL)
-    except (OSError, ValueError) as failure:
-        raise Unfit(f"the program lolamon cannot be started: {reason(failure)}") from None
+    ran = analyse(path)
     report = ran.stdout.decode("utf-8", "replace").splitlines()
     if ran.returncode != 0 or not report:
         end = report[-1] if report else f"status {ran.returncode}"

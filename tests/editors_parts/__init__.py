@@ -1,0 +1,1 @@
+"""What tests/editors is made of."""
