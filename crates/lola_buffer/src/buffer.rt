@@ -5,15 +5,15 @@ ghost use Rattle.circular_buffer.specs.Buffer.{keep_last};
 ghost use Rattle.lola_buffer.specs.Kept.{kept, before_newest};
 
 use circular_buffer::HeapCircularBuffer;
+use lola_value::brief::BriefValue;
 use lola_value::text::Memory;
-use lola_value::value::Value;
 use std::alloc::Global;
 use std::marker::Model;
 
 /// The last values of a list that grows, at most `capacity` of them.
 #[derive(Drop)]
 pub struct Buffer {
-    ring: HeapCircularBuffer<Value>,
+    ring: HeapCircularBuffer<BriefValue>,
 }
 
 impl Model for Buffer {
@@ -40,7 +40,7 @@ impl Buffer {
     }
 
     /// Puts a value behind the others. The oldest one goes where there would be more than `capacity`.
-    pub fn push(&mut self, value: Value)
+    pub fn push(&mut self, value: BriefValue)
         ensures { self.new ≡ kept (keep_last self.old.capacity (self.old.values ++ value ∷ [])) self.old.capacity }
     {
         self.ring.push_back(value);
@@ -48,7 +48,7 @@ impl Buffer {
 
     /// The value that stands `k` places before the newest, which is at 0; `None` where there are not so many. The
     /// places of a buffer are below its capacity, which is 1 at least.
-    pub fn back(&self, k: u32) -> Option<Value>
+    pub fn back(&self, k: u32) -> Option<BriefValue>
         ensures capacity { 1 ≤ self.now.capacity }
         ensures value { result ≡ before_newest k self.now.values }
     {

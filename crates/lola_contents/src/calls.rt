@@ -12,8 +12,9 @@ ghost use Rattle.lola_model.specs.Store.{CanBegin, Fits, IsRunning, Stands, afte
 ghost use Rattle.lola_contents.specs.Changed.{after_spawning, closed, lives_in, spawn_end_among, spoiled, told};
 
 use lola_model::store::{SpawnEnd, StreamStore};
+use lola_value::brief::BriefValue;
 use lola_value::text::Memory;
-use lola_value::value::{Params, Value};
+use lola_value::value::Params;
 
 /// Makes room for one whole step. The content stays, also where there is no memory.
 pub fn prepare<S: StreamStore>(store: &mut S) -> Result<(), Memory>
@@ -37,7 +38,7 @@ pub fn begin<S: StreamStore>(store: &mut S, time: u64)
 }
 
 /// Gives an instance its value of this step.
-pub fn push<S: StreamStore>(store: &mut S, stream: u32, index: u32, value: Value)
+pub fn push<S: StreamStore>(store: &mut S, stream: u32, index: u32, value: BriefValue)
     requires running { IsRunning (S.seen store.old) }
     requires index { index < length (instances_seen (S.seen store.old) stream) }
     requires silent { IsTrue (is_silent (now_seen (S.seen store.old) stream index)) }

@@ -104,6 +104,15 @@ impl Fields {
         }
     }
 
+    /// No fields, with room for so many.
+    pub fn with_room(alloc: Global, count: usize) -> Result<Fields, Memory>
+        ensures { IfOk result (λ fields. fields ≡ []) }
+    {
+        Ok(Fields {
+            items: Vec::with_capacity(alloc, count)?,
+        })
+    }
+
     /// The fields in order.
     pub fn as_slice(&self) -> &[Field]
         ensures { result.now ≡ self.now }
