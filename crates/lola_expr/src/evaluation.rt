@@ -195,10 +195,10 @@ pub fn access_plain<S: StreamStore>(stream: u32, how: Access, store: &S) -> Outc
     ensures kind { IsTrue (is_outcome_of (kind_in (slice_get (S.seen store.now).layout.streams stream)) result) }
 {
     match how {
-        Access::Direct => store.now_alone(stream),
-        Access::Get => store.now_alone(stream),
-        Access::Hold => store.newest_alone(stream),
-        Access::Offset(k) => store.back_alone(stream, k),
+        Access::Direct => store.now_alone(stream).widen(),
+        Access::Get => store.now_alone(stream).widen(),
+        Access::Hold => store.newest_alone(stream).widen(),
+        Access::Offset(k) => store.back_alone(stream, k).widen(),
     }
 }
 

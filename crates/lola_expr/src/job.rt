@@ -10,7 +10,8 @@ use crate::evaluation::eval;
 use lola_model::expr::Expr;
 use lola_model::job::Job;
 use lola_model::store::StreamStore;
-use lola_value::value::{Outcome, Params};
+use lola_value::brief::Brief;
+use lola_value::value::Params;
 
 /// One expression, for one instance and over a lent store: a job of one task, whose outcome is that of the expression.
 #[derive(Drop)]
@@ -29,7 +30,7 @@ impl<'a, S: StreamStore> Job for EvalJob<'a, S> {
     ghost gives = { λ job _ outcome. IsTrue (is_outcome_of (noted job.expr.now) outcome)
         × IsDenoted (S.remembers job.store.now) (S.seen job.store.now) job.params job.expr.now outcome };
 
-    fn answer(&self, _task: u32) -> Outcome {
-        eval(self.expr, self.params, self.store)
+    fn answer(&self, _task: u32) -> Brief {
+        Brief::of(eval(self.expr, self.params, self.store))
     }
 }

@@ -6,6 +6,7 @@
 //! each reading call answers what every such list has.
 
 ghost use Rattle.std.specs.Prelude.{◌≡◌, ℕ, ◌+◌, ◌-◌, ◌*◌, ◌%◌, ◌^◌, ◌<◌, ◌≤◌, ◌↔◌, List, [], ◌∷◌, ◌++◌, Bool, true, not, length, slice_get, remove, OnOk, OnErr, IsOk, IsTrue, MatchOption, if◌then◌else◌};
+ghost use Rattle.std.specs.Thread.{IsSync};
 ghost use Rattle.std.specs.Vec.{vec_capacity};
 ghost use Rattle.lola_value.specs.declared.text.Field.{Field};
 ghost use Rattle.lola_value.specs.declared.value.Outcome.TheVariants as outcome;
@@ -13,13 +14,16 @@ ghost use Rattle.lola_value.specs.Naming.{Naming, read_outcome, the_values, IsHe
 ghost use Rattle.lola_value.specs.Times.{latest};
 ghost use Rattle.lola_model.specs.Store.{Seen, Fits, CanBegin, IsNew, IsStarted, IsRunning, start_seen, time_seen, max_offset, target_of, pane_of, never_spawns, instances_seen, place_of, now_of, now_seen, is_silent, is_of_kind, is_outcome_of, are_of_kinds, is_well_formed, parameters_of, kind_in, spawns_in, after_start, after_prepare, after_begin, after_outcome, after_poison_stream, after_spawn, after_close, window_kind, has_spawned, no_params};
 ghost use Rattle.lola_model.specs.Reading.{held_answer, window_reading, KeepsAll, KeepsOthers, IsHeldBy};
+ghost use Rattle.lola_model.specs.Given.{AreHeldIn, AreOutcomesOf, after_each};
 ghost use Rattle.lola_model.specs.Spawning.{has_room, spawn_end};
 ghost use Rattle.lola_model.specs.Whereabouts.{StandsOnlyAt};
 ghost use Rattle.lola_model.specs.Dues.{due_places, due_seen};
 ghost use Rattle.lola_model.specs.Accesses.{from_end, one_more};
 
+use lola_value::brief::{Brief, BriefValue};
 use lola_value::text::Memory;
 use lola_value::value::{Outcome, Params, Value};
+use std::thread::Threads;
 
 /// What became of a spawn.
 #[derive(Clone, Copy, Debug, PartialEq, Eq)]
@@ -124,18 +128,18 @@ pub trait StreamStore: Drop {
 
     /// The value at this step of a stream that has no parameters, as `now` has it: no parameters are made, handed down or compared
     /// by a store that knows where the one instance stands.
-    fn now_alone(&self, stream: u32) -> Outcome
+    fn now_alone(&self, stream: u32) -> Brief
         requires running { IsRunning (seen self.now) }
         requires stream { stream < length (seen self.now).layout.streams }
         requires none { parameters_of (slice_get (seen self.now).layout.streams stream) ≡ [] }
         ensures value { result ≡ now_of (seen self.now) stream no_params }
         ensures kind { IsTrue (is_outcome_of (kind_in (slice_get (seen self.now).layout.streams stream)) result) }
     {
-        self.now(stream, &without_parameters())
+        Brief::of(self.now(stream, &without_parameters()))
     }
 
     /// The newest value at this step or before of a stream that has no parameters, as `newest` has it.
-    fn newest_alone(&self, stream: u32) -> Outcome
+    fn newest_alone(&self, stream: u32) -> Brief
         requires running { IsRunning (seen self.now) }
         requires stream { stream < length (seen self.now).layout.streams }
         requires none { parameters_of (slice_get (seen self.now).layout.streams stream) ≡ [] }
@@ -146,11 +150,11 @@ pub trait StreamStore: Drop {
             → (read_outcome names result ≡ held_answer (read_outcome names (now_of (seen self.now) stream no_params)) values) × IsHeldIn names result) }
         ensures kind { IsTrue (is_outcome_of (kind_in (slice_get (seen self.now).layout.streams stream)) result) }
     {
-        self.newest(stream, &without_parameters())
+        Brief::of(self.newest(stream, &without_parameters()))
     }
 
     /// The k-th value before this step from the newest, from 1, of a stream that has no parameters, as `back` has it.
-    fn back_alone(&self, stream: u32, k: u32) -> Outcome
+    fn back_alone(&self, stream: u32, k: u32) -> Brief
         requires running { IsRunning (seen self.now) }
         requires stream { stream < length (seen self.now).layout.streams }
         requires none { parameters_of (slice_get (seen self.now).layout.streams stream) ≡ [] }
@@ -162,7 +166,7 @@ pub trait StreamStore: Drop {
             → (read_outcome names result ≡ from_end values k) × IsHeldIn names result) }
         ensures kind { IsTrue (is_outcome_of (kind_in (slice_get (seen self.now).layout.streams stream)) result) }
     {
-        self.back(stream, &without_parameters(), k)
+        Brief::of(self.back(stream, &without_parameters(), k))
     }
 
     /// The answer of a window at this step, whose time is a whole number of panes after the start.
@@ -220,7 +224,7 @@ pub trait StreamStore: Drop {
     }
 
     /// Gives an instance its value of this step.
-    fn push(&mut self, stream: u32, index: u32, value: Value)
+    fn push(&mut self, stream: u32, index: u32, value: BriefValue)
         requires running { IsRunning (seen self.old) }
         requires index { index < length (instances_seen (seen self.old) stream) }
         requires silent { IsTrue (is_silent (now_seen (seen self.old) stream index)) }
@@ -237,6 +241,28 @@ pub trait StreamStore: Drop {
         requires silent { IsTrue (is_silent (now_seen (seen self.old) stream index)) }
         ensures seen { seen self.new ≡ after_outcome (seen self.old) stream index outcome.Poison }
         ensures past { KeepsAll (remembers self.old) (remembers self.new) };
+
+    /// Gives each instance of a stream what it comes to in this step, in order of birth: a value is pushed, a fault or poison poisons it,
+    /// and where there is none nothing happens. The instances are shared out among at most so many threads.
+    fn give_each<R: Threads + Sync>(
+        &mut self,
+        rt: &R,
+        stream: u32,
+        outcomes: &[Brief],
+        workers: u32,
+    )
+        requires running { IsRunning (seen self.old) }
+        requires stream { stream < length (seen self.old).layout.streams }
+        requires workers { 1 ≤ workers }
+        // as the bound says, which the body of an `impl` is not told
+        requires shared { IsSync R.row }
+        requires each { length outcomes.now ≡ length (instances_seen (seen self.old) stream) }
+        requires silent { (i : ℕ) → IsTrue (is_silent (now_seen (seen self.old) stream i)) }
+        requires kinds { AreOutcomesOf (kind_in (slice_get (seen self.old).layout.streams stream)) outcomes.now }
+        ensures seen { seen self.new ≡ after_each (seen self.old) stream outcomes.now }
+        // as with `push`
+        ensures past { (names : Naming) (n i : ℕ) (values : List (ℕ × Field)) → AreHeldIn names outcomes.now
+            → remembers self.old names n i values → remembers self.new names n i values };
 
     /// Poisons a stream in this step: its spawn clause has a fault or is poisoned.
     fn poison_stream(&mut self, stream: u32)

@@ -3,7 +3,7 @@ ghost use Rattle.std.specs.Prelude.{◌≡◌, ℕ, ◌<◌, ◌≤◌, ◌^◌,
 
 use lola_model::job::Job;
 use lola_port::Gate;
-use lola_value::value::Outcome;
+use lola_value::brief::Brief;
 use std::thread;
 use std::thread::Threads;
 
@@ -15,7 +15,7 @@ pub fn run_layer<R: Threads + Sync, J: Job + Sync, G: Gate + Sync>(
     rt: &R,
     gate: &G,
     job: &J,
-    results: &mut [Outcome],
+    results: &mut [Brief],
     workers: u32,
 )
     requires workers { (1 ≤ workers) × (workers ≤ 64) }
@@ -32,7 +32,7 @@ pub fn run_layer<R: Threads + Sync, J: Job + Sync, G: Gate + Sync>(
 }
 
 // What a task comes to, once the gate has heard of it.
-fn outcome_of<J: Job, G: Gate>(gate: &G, job: &J, task: usize) -> Outcome
+fn outcome_of<J: Job, G: Gate>(gate: &G, job: &J, task: usize) -> Brief
     requires listed { task < J.tasks job.now }
     requires numbered { J.tasks job.now < 2 ^ 32 }
     ensures { J.gives job.now task result }

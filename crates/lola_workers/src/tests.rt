@@ -4,7 +4,8 @@ ghost use Rattle.std.specs.Prelude.{◌≡◌, ◌≤◌};
 use crate::run_layer;
 use lola_model::job::Job;
 use lola_port::{Gate, IdleGate};
-use lola_value::value::{Outcome, Value};
+use lola_value::brief::Brief;
+use lola_value::short::{Short, verdict};
 use std::sync::atomic::{AtomicBool, Ordering};
 use std::test::Fail;
 use std::thread;
@@ -53,8 +54,8 @@ impl Job for Numbers {
 
     ghost gives = { λ n task given. given ≡ outcome.Value (value.Int (pos task)) };
 
-    fn answer(&self, task: u32) -> Outcome {
-        Outcome::Value(Value::Int(task as i128))
+    fn answer(&self, task: u32) -> Brief {
+        Brief::create(Short::Int(i64::from(task)))
     }
 }
 
@@ -81,8 +82,8 @@ impl Job for Heard {
 
     ghost gives = { λ _ _ _. Unit {0} };
 
-    fn answer(&self, task: u32) -> Outcome {
-        Outcome::Value(Value::Bool(self.tasks[task as usize].load(Ordering::SeqCst)))
+    fn answer(&self, task: u32) -> Brief {
+        Brief::create(verdict(self.tasks[task as usize].load(Ordering::SeqCst)))
     }
 }
 
@@ -95,7 +96,7 @@ fn meet<R: Threads + Sync>(rt: &R, workers: u32, turns: u32) -> bool
         second_entered: AtomicBool::new(false),
         met: AtomicBool::new(false),
     };
-    let mut results = [Outcome::Missing; 2];
+    let mut results = [Brief::missing(); 2];
     run_layer(rt, &gate, &Numbers { count: 2 }, &mut results, workers);
     gate.met.load(Ordering::SeqCst)
 }
@@ -117,9 +118,9 @@ fn gate_comes_before_each_task(rt: HostRuntime) -> Result<(), Fail> {
                 AtomicBool::new(false),
             ],
         };
-        let mut results = [Outcome::Missing; 4];
+        let mut results = [Brief::missing(); 4];
         run_layer(&rt, &heard, &heard, &mut results, workers);
-        assert!(rt; results == [Outcome::Value(Value::Bool(true)); 4]);
+        assert!(rt; results == [Brief::create(Short::True); 4]);
     }
     Ok(())
 }
@@ -127,12 +128,12 @@ fn gate_comes_before_each_task(rt: HostRuntime) -> Result<(), Fail> {
 #[test]
 fn each_place_has_its_task(rt: HostRuntime) -> Result<(), Fail> {
     for workers in [1, 2, 3, 64] {
-        let mut results = [Outcome::Missing; 3];
+        let mut results = [Brief::missing(); 3];
         run_layer(&rt, &IdleGate, &Numbers { count: 3 }, &mut results, workers);
         let expected = [
-            Outcome::Value(Value::Int(0)),
-            Outcome::Value(Value::Int(1)),
-            Outcome::Value(Value::Int(2)),
+            Brief::create(Short::Int(0)),
+            Brief::create(Short::Int(1)),
+            Brief::create(Short::Int(2)),
         ];
         assert!(rt; results == expected);
     }
