@@ -12,6 +12,7 @@ use Rattle.lola_model.specs.Denotation.{kind_of}
 use Rattle.lola_model.specs.Store.{Memories, Seen}
 use Rattle.lola_model.specs.Typing.{can_ask, can_ask_all, count_of, part_can_ask}
 use Rattle.lola_model.specs.declared.expr.Access.{Access}
+use Rattle.lola_model.specs.declared.expr.Access.TheVariants as access
 use Rattle.lola_model.specs.declared.expr.Arguments.{Arguments}
 use Rattle.lola_model.specs.declared.expr.Arguments.TheVariants.{End, More'}
 use Rattle.lola_model.specs.declared.expr.Binary.{Binary}
@@ -26,10 +27,10 @@ use Rattle.lola_code.specs.declared.instr.Instr.{Instr}
 use Rattle.lola_code.specs.declared.instr.Instr.TheVariants as instr
 use Rattle.lola_code.specs.declared.compile.Target.{Target}
 use Rattle.lola_code.specs.declared.compile.Target.TheVariants as target
-use Rattle.lola_code.specs.Code.{asking, back_arguments, back_code, code_of, defaulted_of, giving, joining, literal_of, plain_of, reading, together, with_argument, with_branches, with_default, with_operands, with_sign}
-use Rattle.lola_code.specs.Machine.{AskedOf, Folded, Leads, or_short, top}
-use Rattle.lola_code.specs.Shorts.{short_of, value_in, widened}
-use Rattle.lola_code.specs.declared.short.Short.{Short}
+use Rattle.lola_code.specs.Code.{asking, back_arguments, back_code, code_of, defaulted_of, direct_of, giving, joining, literal_of, plain_of, plainly, plainly_or, reading, sign_plainly_or, together, with_argument, with_branches, with_default, with_operands, with_sign}
+use Rattle.lola_code.specs.Machine.{Asked, AskedOf, Folded, Leads, or_short, top}
+use Rattle.lola_value.specs.Shorts.{short_of, value_in, widened}
+use Rattle.lola_value.specs.declared.short.Short.{Short}
 use Rattle.lola_code.proofs.Shorts.{is_wide, the_value}
 use Rattle.lola_code.proofs.Means.{Around, Means, MeansAll, MeansNone, as_many, decided_means, end_means, false_means, first_means, goes_on_means, here_means, later_means, left_none, left_truth, literal_means, more_means, negated_means, operand_none, operand_taken, operands_taken, operated_means, parameter_means, read_means, read_none, right_none, second_means, test_none, test_truth, true_means, window_means, window_none}
 
@@ -75,6 +76,25 @@ is_plain (Defaults' place u a v b) q h = absurd (cc)
 is_plain (Unary' place sign u a) q h = absurd (cc)
 is_plain (Both' place sign u a v b) q h = absurd (cc)
 is_plain (Choice' place u a v b w d) q h = absurd (cc)
+
+-- a direct access
+record IsDirect (e : Expr) (n : ℕ) : Type 0 where
+  place : Place
+  is : e ≡ Read place n access.Direct End
+
+is_direct : (e : Expr) (n : ℕ) → direct_of e ≡ Some n → IsDirect e n
+is_direct (Literal place v) n h = absurd (cc)
+is_direct (Parameter place i) n h = absurd (cc)
+is_direct (Read place m access.Direct End) n h = let e : m ≡ n = cc in record { place = place; is = ap (λ m. Read place m access.Direct End) e }
+is_direct (Read place m access.Get End) n h = absurd (cc)
+is_direct (Read place m access.Hold End) n h = absurd (cc)
+is_direct (Read place m (access.Offset k) End) n h = absurd (cc)
+is_direct (Read place m how (More' u a v rest)) n h = absurd (cc)
+is_direct (Window place m args) n h = absurd (cc)
+is_direct (Defaults' place u a v b) n h = absurd (cc)
+is_direct (Unary' place sign u a) n h = absurd (cc)
+is_direct (Both' place sign u a v b) n h = absurd (cc)
+is_direct (Choice' place u a v b w d) n h = absurd (cc)
 
 -- a literal
 record IsLiteral (e : Expr) (v : Short) : Type 0 where
@@ -193,10 +213,65 @@ module _ (remembers : Memories) (s : Seen) (p : Params) (wanted : Outcome → Ty
       kept (outcome.Fault f) d = none (outcome.Fault f) (λ v q. absurd (cc)) d
       kept outcome.Poison d = none outcome.Poison (λ v q. absurd (cc)) d
 
+  -- the value at this step is what `get` answers too
+  as_now : (n : ℕ) (next : Outcome → Type 0) → Asked remembers s n access.Get next → Asked remembers s n access.Direct next
+  as_now n next h = (h.0, h.1, h.2, λ r a. h.3 r (record { value = a.value; kind = a.kind }))
+
+  -- a stream without parameters is read by the instruction of the access's own sort
+  plainly_leads : (n : ℕ) (how : Access) (rest : List Instr) (hand : Outcome) (st : List Value) → Asked remembers s n how (λ r. Goes rest 0 r st) → Goes (plainly n how ∷ rest) 0 hand st
+  plainly_leads n access.Direct rest hand st h = h
+  plainly_leads n access.Get rest hand st h = as_now n (λ r. Goes rest 0 r st) h
+  plainly_leads n access.Hold rest hand st h = h
+  plainly_leads n (access.Offset k) rest hand st h = h
+
+  plainly_or_leads : (n : ℕ) (how : Access) (v : Short) (rest : List Instr) (hand : Outcome) (st : List Value) → Asked remembers s n how (λ r. Goes rest 0 (or_short r v) st)
+      → Goes (plainly_or n how v ∷ rest) 0 hand st
+  plainly_or_leads n access.Direct v rest hand st h = h
+  plainly_or_leads n access.Get v rest hand st h = as_now n (λ r. Goes rest 0 (or_short r v) st) h
+  plainly_or_leads n access.Hold v rest hand st h = h
+  plainly_or_leads n (access.Offset k) v rest hand st h = h
+
+  -- a sign that reads its right operand does what the reading and then the sign do
+  sign_plainly_leads : (sign : Binary) (k : Kind) (n : ℕ) (how : Access) (v : Short) (rest : List Instr) (x : Value) (st : List Value)
+      → Goes (plainly_or n how v ∷ (instr.Sign sign k ∷ rest)) 0 (outcome.Value x) (x ∷ st) → Goes (sign_plainly_or sign k n how v ∷ rest) 0 (outcome.Value x) st
+  sign_plainly_leads sign k n access.Direct v rest x st h = h
+  sign_plainly_leads sign k n access.Get v rest x st h = h
+  sign_plainly_leads sign k n access.Hold v rest x st h = h
+  sign_plainly_leads sign k n (access.Offset b) v rest x st h = h
+
+  -- and nothing where no value is in hand
+  now_stays : (sign : Binary) (k : Kind) (n : ℕ) (v : Short) (rest : List Instr) (o : Outcome) (st : List Value) → ((w : Value) → o ≡ outcome.Value w → ⊥) → Goes rest 0 o st
+      → Goes (instr.SignNowOr sign k n v ∷ rest) 0 o st
+  now_stays sign k n v rest (outcome.Value w) st ne h = absurd (ne w refl)
+  now_stays sign k n v rest outcome.Missing st ne h = h
+  now_stays sign k n v rest (outcome.Fault f) st ne h = h
+  now_stays sign k n v rest outcome.Poison st ne h = h
+
+  newest_stays : (sign : Binary) (k : Kind) (n : ℕ) (v : Short) (rest : List Instr) (o : Outcome) (st : List Value) → ((w : Value) → o ≡ outcome.Value w → ⊥) → Goes rest 0 o st
+      → Goes (instr.SignNewestOr sign k n v ∷ rest) 0 o st
+  newest_stays sign k n v rest (outcome.Value w) st ne h = absurd (ne w refl)
+  newest_stays sign k n v rest outcome.Missing st ne h = h
+  newest_stays sign k n v rest (outcome.Fault f) st ne h = h
+  newest_stays sign k n v rest outcome.Poison st ne h = h
+
+  back_stays : (sign : Binary) (k : Kind) (n b : ℕ) (v : Short) (rest : List Instr) (o : Outcome) (st : List Value) → ((w : Value) → o ≡ outcome.Value w → ⊥) → Goes rest 0 o st
+      → Goes (instr.SignBackOr sign k n b v ∷ rest) 0 o st
+  back_stays sign k n b v rest (outcome.Value w) st ne h = absurd (ne w refl)
+  back_stays sign k n b v rest outcome.Missing st ne h = h
+  back_stays sign k n b v rest (outcome.Fault f) st ne h = h
+  back_stays sign k n b v rest outcome.Poison st ne h = h
+
+  no_left : (sign : Binary) (k : Kind) (n : ℕ) (how : Access) (v : Short) (rest : List Instr) (o : Outcome) (st : List Value) → ((w : Value) → o ≡ outcome.Value w → ⊥)
+      → Goes rest 0 o st → Goes (sign_plainly_or sign k n how v ∷ rest) 0 o st
+  no_left sign k n access.Direct v rest o st ne h = now_stays sign k n v rest o st ne h
+  no_left sign k n access.Get v rest o st ne h = now_stays sign k n v rest o st ne h
+  no_left sign k n access.Hold v rest o st ne h = newest_stays sign k n v rest o st ne h
+  no_left sign k n (access.Offset b) v rest o st ne h = back_stays sign k n b v rest o st ne h
+
   -- what is asked with all of them
   reading_leads : (n : ℕ) (how : Access) (m : ℕ) (vs : List Value) (rest : List Instr) (hand : Outcome) (st : List Value) → length vs ≡ m → m ≤ 4
       → AskedOf remembers s n how m vs (λ r. Goes rest 0 r st) → Goes (reading n how m ∷ rest) 0 hand (reverse vs ++ st)
-  reading_leads n how zero [] rest hand st e few h = (h.0.stream, no_kinds _ h.0.kinds, h.2, h.3)
+  reading_leads n how zero [] rest hand st e few h = plainly_leads n how rest hand st (h.0.stream, no_kinds _ h.0.kinds, h.2, h.3)
   reading_leads n how zero (v ∷ vs) rest hand st e few h = absurd (omega (arith, e))
   reading_leads n how (suc m) vs rest hand st e few h =
       subst (λ ts. AskedOf remembers s n how (suc m) ts (λ r. Goes rest 0 r (drop (suc m) (reverse vs ++ st)))) (sym (tops vs st (suc m) e))
@@ -253,10 +328,11 @@ module _ (remembers : Memories) (s : Seen) (p : Params) (wanted : Outcome → Ty
 
   -- of a plain access and a literal
   fused_gives : (place : Place) (u v : Around) (a b : Expr) (q : ℕ × Access) (x : Short) → can_ask s p (Defaults' place u a v b) ≡ true → IsPlain a q → IsLiteral b x
-      → Gives (instr.ReadOr q.0 q.1 x ∷ []) (Defaults' place u a v b)
+      → Gives (plainly_or q.0 q.1 x ∷ []) (Defaults' place u a v b)
   fused_gives place u v a b q x ask l t rest o st fin =
       let d = defaults_facts s p (Defaults' place u a v b) place u v a b refl ask in
       let f = read_facts s p a l.place q.0 q.1 End l.is d.left in
+      plainly_or_leads q.0 q.1 x rest o st
       (f.reference.stream, sym f.reference.kinds, f.kept, λ r e. by_answer r (read_means remembers s p a l.place q.0 q.1 End [] r l.is d.left (end_means remembers s p) e))
     where
       given : IsMeant b (widened x)
@@ -331,26 +407,48 @@ module _ (remembers : Memories) (s : Seen) (p : Params) (wanted : Outcome → Ty
 
     -- of which the right one is a plain access with a literal for a default
     defaulted_gives : (ca : List Instr) (f : ℕ × (Access × Short)) → ((x : Value) → decides sign x ≡ false) → Gives ca a → IsDefaulted b f
-        → Gives (instr.SignReadOr sign (kind_of place) f.0 f.1.0 f.1.1 ∷ ca) (Both' place sign u a v b)
-    defaulted_gives ca f nd g t rest o st fin = behind (instr.SignReadOr sign (kind_of place) f.0 f.1.0 f.1.1) ca a rest o st g goes
+        → Gives (sign_plainly_or sign (kind_of place) f.0 f.1.0 f.1.1 ∷ ca) (Both' place sign u a v b)
+    defaulted_gives ca f nd g t rest o st fin = behind (sign_plainly_or sign (kind_of place) f.0 f.1.0 f.1.1) ca a rest o st g goes
       where
-        asked : Gives (instr.ReadOr f.0 f.1.0 f.1.1 ∷ []) b
+        asked : Gives (plainly_or f.0 f.1.0 f.1.1 ∷ []) b
         asked =
             let facts = both_facts s p (Both' place sign u a v b) place sign u v a b refl ask in
-            subst (Gives (instr.ReadOr f.0 f.1.0 f.1.1 ∷ [])) (sym t.is)
+            subst (Gives (plainly_or f.0 f.1.0 f.1.1 ∷ [])) (sym t.is)
             (fused_gives t.place t.u t.v t.a t.b (f.0, f.1.0) f.1.1 (ap (can_ask s p) (sym t.is) ∙ facts.right) t.plain t.literal)
 
-        goes : (r : Outcome) → IsMeant a r → Goes (instr.SignReadOr sign (kind_of place) f.0 f.1.0 f.1.1 ∷ rest) 0 r st
-        goes (outcome.Value x) d = asked (instr.Sign sign (kind_of place) ∷ rest) (outcome.Value x) (x ∷ st) (signed rest st fin nd x d)
+        none : (r : Outcome) → ((v : Value) → r ≡ outcome.Value v → ⊥) → IsMeant a r → Goes (sign_plainly_or sign (kind_of place) f.0 f.1.0 f.1.1 ∷ rest) 0 r st
+        none r ne d = no_left sign (kind_of place) f.0 f.1.0 f.1.1 rest r st ne (fin r (left_none remembers s p place sign u v a b ask r ne d))
+
+        goes : (r : Outcome) → IsMeant a r → Goes (sign_plainly_or sign (kind_of place) f.0 f.1.0 f.1.1 ∷ rest) 0 r st
+        goes (outcome.Value x) d = sign_plainly_leads sign (kind_of place) f.0 f.1.0 f.1.1 rest x st (asked (instr.Sign sign (kind_of place) ∷ rest) (outcome.Value x) (x ∷ st) (signed rest st fin nd x d))
+        goes outcome.Missing d = none outcome.Missing (λ v q. absurd (cc)) d
+        goes (outcome.Fault k) d = none (outcome.Fault k) (λ v q. absurd (cc)) d
+        goes outcome.Poison d = none outcome.Poison (λ v q. absurd (cc)) d
+
+    -- of which the right one is a direct access
+    direct_gives : (ca : List Instr) (n : ℕ) → ((x : Value) → decides sign x ≡ false) → Gives ca a → IsDirect b n
+        → Gives (instr.SignNow sign (kind_of place) n ∷ ca) (Both' place sign u a v b)
+    direct_gives ca n nd g t rest o st fin = behind (instr.SignNow sign (kind_of place) n) ca a rest o st g goes
+      where
+        goes : (r : Outcome) → IsMeant a r → Goes (instr.SignNow sign (kind_of place) n ∷ rest) 0 r st
+        goes (outcome.Value x) d =
+            let facts = both_facts s p (Both' place sign u a v b) place sign u v a b refl ask in
+            let f = read_facts s p b t.place n access.Direct End t.is facts.right in (
+              f.reference.stream,
+              sym f.reference.kinds,
+              f.kept,
+              λ r e. signed rest st fin nd x d r (read_means remembers s p b t.place n access.Direct End [] r t.is facts.right (end_means remembers s p) e),
+            )
         goes outcome.Missing d = fin outcome.Missing (left_none remembers s p place sign u v a b ask outcome.Missing (λ v q. absurd (cc)) d)
         goes (outcome.Fault k) d = fin (outcome.Fault k) (left_none remembers s p place sign u v a b ask (outcome.Fault k) (λ v q. absurd (cc)) d)
         goes outcome.Poison d = fin outcome.Poison (left_none remembers s p place sign u v a b ask outcome.Poison (λ v q. absurd (cc)) d)
 
-    operands_give : (ca cb : List Instr) → ((x : Value) → decides sign x ≡ false) → Gives ca a → Gives cb b → (y : Option Short) (f : Option (ℕ × (Access × Short))) → literal_of b ≡ y → defaulted_of b ≡ f
-        → Gives (with_operands sign (kind_of place) ca cb y f) (Both' place sign u a v b)
-    operands_give ca cb nd g h (Some y) f t q = given_gives ca y nd g (is_literal b y t)
-    operands_give ca cb nd g h None (Some f) t q = defaulted_gives ca f nd g (is_defaulted b f q)
-    operands_give ca cb nd g h None None t q = kept_gives ca cb nd g h
+    operands_give : (ca cb : List Instr) → ((x : Value) → decides sign x ≡ false) → Gives ca a → Gives cb b → (y : Option Short) (f : Option (ℕ × (Access × Short))) (n : Option ℕ)
+        → literal_of b ≡ y → defaulted_of b ≡ f → direct_of b ≡ n → Gives (with_operands sign (kind_of place) ca cb y f n) (Both' place sign u a v b)
+    operands_give ca cb nd g h (Some y) f n t q w = given_gives ca y nd g (is_literal b y t)
+    operands_give ca cb nd g h None (Some f) n t q w = defaulted_gives ca f nd g (is_defaulted b f q)
+    operands_give ca cb nd g h None None (Some n) t q w = direct_gives ca n nd g (is_direct b n w)
+    operands_give ca cb nd g h None None None t q w = kept_gives ca cb nd g h
 
   -- `&&`
   and_gives : (place : Place) (u v : Around) (a b : Expr) → can_ask s p (Both' place binary.And u a v b) ≡ true → (ca cb : List Instr) → Gives ca a → Gives cb b
@@ -388,20 +486,20 @@ module _ (remembers : Memories) (s : Seen) (p : Params) (wanted : Outcome → Ty
 
   -- a sign between operands, by the sign
   sign_gives : (sign : Binary) (place : Place) (u v : Around) (a b : Expr) → can_ask s p (Both' place sign u a v b) ≡ true → (ca cb : List Instr) → Gives ca a → Gives cb b
-      → Gives (with_sign (joining sign) sign (kind_of place) ca cb (literal_of b) (defaulted_of b)) (Both' place sign u a v b)
+      → Gives (with_sign (joining sign) sign (kind_of place) ca cb (literal_of b) (defaulted_of b) (direct_of b)) (Both' place sign u a v b)
   sign_gives binary.And place u v a b ask ca cb g h = and_gives place u v a b ask ca cb g h
   sign_gives binary.Or place u v a b ask ca cb g h = or_gives place u v a b ask ca cb g h
-  sign_gives binary.Add place u v a b ask ca cb g h = operands_give place binary.Add u v a b ask ca cb (λ x. refl) g h (literal_of b) (defaulted_of b) refl refl
-  sign_gives binary.Sub place u v a b ask ca cb g h = operands_give place binary.Sub u v a b ask ca cb (λ x. refl) g h (literal_of b) (defaulted_of b) refl refl
-  sign_gives binary.Mul place u v a b ask ca cb g h = operands_give place binary.Mul u v a b ask ca cb (λ x. refl) g h (literal_of b) (defaulted_of b) refl refl
-  sign_gives binary.Div place u v a b ask ca cb g h = operands_give place binary.Div u v a b ask ca cb (λ x. refl) g h (literal_of b) (defaulted_of b) refl refl
-  sign_gives binary.Rem place u v a b ask ca cb g h = operands_give place binary.Rem u v a b ask ca cb (λ x. refl) g h (literal_of b) (defaulted_of b) refl refl
-  sign_gives binary.Less place u v a b ask ca cb g h = operands_give place binary.Less u v a b ask ca cb (λ x. refl) g h (literal_of b) (defaulted_of b) refl refl
-  sign_gives binary.LessEqual place u v a b ask ca cb g h = operands_give place binary.LessEqual u v a b ask ca cb (λ x. refl) g h (literal_of b) (defaulted_of b) refl refl
-  sign_gives binary.Greater place u v a b ask ca cb g h = operands_give place binary.Greater u v a b ask ca cb (λ x. refl) g h (literal_of b) (defaulted_of b) refl refl
-  sign_gives binary.GreaterEqual place u v a b ask ca cb g h = operands_give place binary.GreaterEqual u v a b ask ca cb (λ x. refl) g h (literal_of b) (defaulted_of b) refl refl
-  sign_gives binary.Equal place u v a b ask ca cb g h = operands_give place binary.Equal u v a b ask ca cb (λ x. refl) g h (literal_of b) (defaulted_of b) refl refl
-  sign_gives binary.Different place u v a b ask ca cb g h = operands_give place binary.Different u v a b ask ca cb (λ x. refl) g h (literal_of b) (defaulted_of b) refl refl
+  sign_gives binary.Add place u v a b ask ca cb g h = operands_give place binary.Add u v a b ask ca cb (λ x. refl) g h (literal_of b) (defaulted_of b) (direct_of b) refl refl refl
+  sign_gives binary.Sub place u v a b ask ca cb g h = operands_give place binary.Sub u v a b ask ca cb (λ x. refl) g h (literal_of b) (defaulted_of b) (direct_of b) refl refl refl
+  sign_gives binary.Mul place u v a b ask ca cb g h = operands_give place binary.Mul u v a b ask ca cb (λ x. refl) g h (literal_of b) (defaulted_of b) (direct_of b) refl refl refl
+  sign_gives binary.Div place u v a b ask ca cb g h = operands_give place binary.Div u v a b ask ca cb (λ x. refl) g h (literal_of b) (defaulted_of b) (direct_of b) refl refl refl
+  sign_gives binary.Rem place u v a b ask ca cb g h = operands_give place binary.Rem u v a b ask ca cb (λ x. refl) g h (literal_of b) (defaulted_of b) (direct_of b) refl refl refl
+  sign_gives binary.Less place u v a b ask ca cb g h = operands_give place binary.Less u v a b ask ca cb (λ x. refl) g h (literal_of b) (defaulted_of b) (direct_of b) refl refl refl
+  sign_gives binary.LessEqual place u v a b ask ca cb g h = operands_give place binary.LessEqual u v a b ask ca cb (λ x. refl) g h (literal_of b) (defaulted_of b) (direct_of b) refl refl refl
+  sign_gives binary.Greater place u v a b ask ca cb g h = operands_give place binary.Greater u v a b ask ca cb (λ x. refl) g h (literal_of b) (defaulted_of b) (direct_of b) refl refl refl
+  sign_gives binary.GreaterEqual place u v a b ask ca cb g h = operands_give place binary.GreaterEqual u v a b ask ca cb (λ x. refl) g h (literal_of b) (defaulted_of b) (direct_of b) refl refl refl
+  sign_gives binary.Equal place u v a b ask ca cb g h = operands_give place binary.Equal u v a b ask ca cb (λ x. refl) g h (literal_of b) (defaulted_of b) (direct_of b) refl refl refl
+  sign_gives binary.Different place u v a b ask ca cb g h = operands_give place binary.Different u v a b ask ca cb (λ x. refl) g h (literal_of b) (defaulted_of b) (direct_of b) refl refl refl
 
   -- a choice
   choice_gives : (place : Place) (u v w : Around) (t a b : Expr) (ct ca cb : List Instr) → can_ask s p (Choice' place u t v a w b) ≡ true → Gives ct t → Gives ca a → Gives cb b

@@ -10,16 +10,16 @@ use Rattle.lola_value.specs.declared.value.FaultKind.TheVariants as fault
 use Rattle.lola_value.specs.declared.text.Field.TheVariants as field
 use Rattle.lola_value.specs.Answer.{Given, Failed}
 use Rattle.lola_value.specs.Arithmetic.{is_within, within}
-use Rattle.lola_value.specs.Kinds.{is_integer, is_outcome_of}
+use Rattle.lola_value.specs.Kinds.{is_integer}
 use Rattle.lola_value.specs.Naming.{Naming, IsHeldIn, read_outcome}
-use Rattle.lola_value.proofs.Ranges.{small}
 use Rattle.lola_model.specs.Denotation.{operated}
 use Rattle.lola_model.specs.declared.expr.Binary.{Binary}
-use Rattle.lola_expr.proofs.OperandLemmas.{second, of_within}
+use Rattle.lola_expr.proofs.OperandLemmas.{of_within}
 use Rattle.lola_code.specs.Machine.{Operates}
-use Rattle.lola_code.specs.Shorts.{IsShort, has_value, numbered, short_by, short_of, value_in, widened}
-use Rattle.lola_code.specs.declared.short.Short.{Short}
-use Rattle.lola_code.specs.declared.short.Short.TheVariants as short
+use Rattle.lola_value.specs.Shorts.{has_value, short_by, short_of, value_in, widened}
+use Rattle.lola_code.specs.Numbered.{numbered}
+use Rattle.lola_value.specs.declared.short.Short.{Short}
+use Rattle.lola_value.specs.declared.short.Short.TheVariants as short
 
 -- a value is what it stands for
 pub is_the_value : (s : Short) → has_value s ≡ true → widened s ≡ outcome.Value (value_in s)
@@ -59,15 +59,6 @@ is_wide (value.Int z) s h = by_hand (is_within kind.Int64 z) (is_within kind.UIn
     by_hand false true (pos n) q h = let e : short.Large n ≡ s = cc in ap widened (sym e)
     by_hand false true (negsuc n) q h = absurd (cc)
     by_hand false false z q h = absurd (cc)
-
--- an outcome of a kind can be short
-pub short_of_kind : (k : Kind) (o : Outcome) → is_outcome_of k o ≡ true → IsShort o
-short_of_kind k (outcome.Value (value.Bool b)) h = tt
-short_of_kind k (outcome.Value (value.Int z)) h = let s = small k z (second (is_integer k) (is_within k z) h) in (s.low, s.high)
-short_of_kind k (outcome.Value (value.Text id)) h = tt
-short_of_kind k outcome.Missing h = tt
-short_of_kind k (outcome.Fault f) h = tt
-short_of_kind k outcome.Poison h = tt
 
 -- a number that is tested reads as one
 numbered_by : (names : Naming) (z : ℤ) (b : Bool) → read_outcome names (if b then outcome.Value (value.Int z) else outcome.Fault fault.Overflow) ≡ (if b then Given (field.Int z) else Failed fault.Overflow)

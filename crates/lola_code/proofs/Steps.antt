@@ -6,16 +6,16 @@ use Rattle.lola_value.specs.declared.value.Outcome.{Outcome}
 use Rattle.lola_value.specs.declared.value.Outcome.TheVariants as outcome
 use Rattle.lola_value.specs.declared.value.Params.{Params}
 use Rattle.lola_model.specs.Store.{Memories, Seen}
-use Rattle.lola_model.specs.declared.expr.Access.{Access}
+use Rattle.lola_model.specs.declared.expr.Access.TheVariants as access
 use Rattle.lola_model.specs.declared.expr.Binary.{Binary}
 use Rattle.lola_value.specs.declared.value.Kind.{Kind}
 use Rattle.lola_expr.specs.Operands.{operands_fit, truth_in}
 use Rattle.lola_code.specs.declared.instr.Instr.{Instr}
 use Rattle.lola_code.specs.declared.instr.Instr.TheVariants as instr
 use Rattle.lola_code.specs.Machine.{Asked, Leads, Operates, or_short, top}
-use Rattle.lola_code.specs.Shorts.{has_value, value_in, widened}
-use Rattle.lola_code.specs.declared.short.Short.{Short}
-use Rattle.lola_code.specs.declared.short.Short.TheVariants as short
+use Rattle.lola_value.specs.Shorts.{has_value, value_in, widened}
+use Rattle.lola_value.specs.declared.short.Short.{Short}
+use Rattle.lola_value.specs.declared.short.Short.TheVariants as short
 
 pub drop_shorter : (n : ℕ) (is : List Instr) → length (drop n is) ≤ length is
 drop_shorter n is = omega (arith, length-drop n is)
@@ -114,9 +114,22 @@ module _ (remembers : Memories) (s : Seen) (p : Params) (wanted : Outcome → Ty
   given_taken rest i sign k y x o st e d h = with_value rest i (instr.SignGiven sign k y) x o st e d h
 
   -- a sign between a value and what a store answers, or a literal: what stands for the right operand is there
-  pub asked_taken : (rest : List Instr) (i : Instr) (sign : Binary) (k : Kind) (n : ℕ) (how : Access) (v : Short) (x : Value) (o : Outcome) (st : List Value) → i ≡ instr.SignReadOr sign k n how v → o ≡ outcome.Value x
-      → Goes (i ∷ rest) 0 o st → Asked remembers s n how (λ r. Goes (instr.Sign sign k ∷ rest) 0 (or_short r v) (x ∷ st))
-  asked_taken rest i sign k n how v x o st e d h = with_value rest i (instr.SignReadOr sign k n how v) x o st e d h
+  pub now_taken : (rest : List Instr) (i : Instr) (sign : Binary) (k : Kind) (n : ℕ) (v : Short) (x : Value) (o : Outcome) (st : List Value) → i ≡ instr.SignNowOr sign k n v → o ≡ outcome.Value x
+      → Goes (i ∷ rest) 0 o st → Asked remembers s n access.Direct (λ r. Goes (instr.Sign sign k ∷ rest) 0 (or_short r v) (x ∷ st))
+  now_taken rest i sign k n v x o st e d h = with_value rest i (instr.SignNowOr sign k n v) x o st e d h
+
+  pub newest_taken : (rest : List Instr) (i : Instr) (sign : Binary) (k : Kind) (n : ℕ) (v : Short) (x : Value) (o : Outcome) (st : List Value) → i ≡ instr.SignNewestOr sign k n v → o ≡ outcome.Value x
+      → Goes (i ∷ rest) 0 o st → Asked remembers s n access.Hold (λ r. Goes (instr.Sign sign k ∷ rest) 0 (or_short r v) (x ∷ st))
+  newest_taken rest i sign k n v x o st e d h = with_value rest i (instr.SignNewestOr sign k n v) x o st e d h
+
+  pub back_taken : (rest : List Instr) (i : Instr) (sign : Binary) (k : Kind) (n b : ℕ) (v : Short) (x : Value) (o : Outcome) (st : List Value) → i ≡ instr.SignBackOr sign k n b v → o ≡ outcome.Value x
+      → Goes (i ∷ rest) 0 o st → Asked remembers s n (access.Offset b) (λ r. Goes (instr.Sign sign k ∷ rest) 0 (or_short r v) (x ∷ st))
+  back_taken rest i sign k n b v x o st e d h = with_value rest i (instr.SignBackOr sign k n b v) x o st e d h
+
+  -- and where no literal stands for what is missing
+  pub direct_taken : (rest : List Instr) (i : Instr) (sign : Binary) (k : Kind) (n : ℕ) (x : Value) (o : Outcome) (st : List Value) → i ≡ instr.SignNow sign k n → o ≡ outcome.Value x
+      → Goes (i ∷ rest) 0 o st → Asked remembers s n access.Direct (λ r. Goes (instr.Sign sign k ∷ rest) 0 r (x ∷ st))
+  direct_taken rest i sign k n x o st e d h = with_value rest i (instr.SignNow sign k n) x o st e d h
 
   -- a right operand that is no value stays in hand
   pub no_operand : (rest : List Instr) (sign : Binary) (k : Kind) (x : Value) (o : Outcome) (st : List Value) → ((v : Value) → o ≡ outcome.Value v → ⊥) → Goes (instr.Sign sign k ∷ rest) 0 o (x ∷ st) → Goes rest 0 o st

@@ -1,4 +1,4 @@
 pub mod Code
 pub mod Machine
 pub mod Plans
-pub mod Shorts
+pub mod Numbered

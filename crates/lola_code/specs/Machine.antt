@@ -14,12 +14,13 @@ use Rattle.lola_model.specs.Store.{Memories, Seen, Stands, kind_in, pane_of, par
 use Rattle.lola_model.specs.Typing.{is_kept, is_whole_pane}
 use Rattle.lola_model.specs.Windows.{window_answer}
 use Rattle.lola_model.specs.declared.expr.Access.{Access}
+use Rattle.lola_model.specs.declared.expr.Access.TheVariants as access
 use Rattle.lola_model.specs.declared.expr.Binary.{Binary}
 use Rattle.lola_model.specs.declared.expr.Prefix.{Prefix}
 use Rattle.lola_expr.specs.Evaluation.{value_or_missing}
 use Rattle.lola_expr.specs.Operands.{operand_fits, operands_fit, truth_in}
-use Rattle.lola_code.specs.declared.short.Short.{Short}
-use Rattle.lola_code.specs.Shorts.{value_in, widened}
+use Rattle.lola_value.specs.declared.short.Short.{Short}
+use Rattle.lola_value.specs.Shorts.{value_in, widened}
 use Rattle.lola_code.specs.declared.instr.Instr.{Instr}
 use Rattle.lola_code.specs.declared.instr.Instr.TheVariants as instr
 
@@ -123,7 +124,12 @@ module _ (remembers : Memories) (s : Seen) where
   SignedAsked sign k n how v next (outcome.Value x) stack = Asked n how (λ r. Signed sign k next (or_short r v) (x ∷ stack))
   SignedAsked sign k n how v next o stack = next 0 o stack
 
-  -- the same of the instance that these few values name
+  -- the same with what it answers at this step
+  abbrev pub SignedNow : Binary → Kind → ℕ → Next → Outcome → List Value → Type 0
+  SignedNow sign k n next (outcome.Value x) stack = Asked n access.Direct (λ r. Signed sign k next r (x ∷ stack))
+  SignedNow sign k n next o stack = next 0 o stack
+
+  -- a stream may be asked for the instance that these few values name
   abbrev pub AskedOf : ℕ → Access → ℕ → List Value → (Outcome → Type 0) → Type 0
   AskedOf n how k vs next =
       Names s n vs × (k ≤ 4) × (is_kept (slice_get s.layout.streams n) how ≡ true)
@@ -142,8 +148,12 @@ module _ (remembers : Memories) (s : Seen) where
     Acts (instr.Give v) next o stack = next 0 (widened v) stack
     Acts instr.Leave next o stack = Unit {0}
     Acts (instr.Parameter i) next o stack = next 0 (value_or_missing (slice_get (the_values p) i)) stack
-    Acts (instr.Read n how) next o stack = Asked n how (λ r. next 0 r stack)
-    Acts (instr.ReadOr n how v) next o stack = Asked n how (λ r. next 0 (or_short r v) stack)
+    Acts (instr.ReadNow n) next o stack = Asked n access.Direct (λ r. next 0 r stack)
+    Acts (instr.ReadNewest n) next o stack = Asked n access.Hold (λ r. next 0 r stack)
+    Acts (instr.ReadBack n b) next o stack = Asked n (access.Offset b) (λ r. next 0 r stack)
+    Acts (instr.ReadNowOr n v) next o stack = Asked n access.Direct (λ r. next 0 (or_short r v) stack)
+    Acts (instr.ReadNewestOr n v) next o stack = Asked n access.Hold (λ r. next 0 (or_short r v) stack)
+    Acts (instr.ReadBackOr n b v) next o stack = Asked n (access.Offset b) (λ r. next 0 (or_short r v) stack)
     Acts (instr.ReadAt n how k) next o stack = AskedOf n how k (top k stack) (λ r. next 0 r (drop k stack))
     Acts (instr.Window n k) next o stack = Folded n k (top k stack) (λ r. next 0 r (drop k stack))
     Acts (instr.Keep n) next o stack = Kept n 0 next o stack
@@ -151,7 +161,10 @@ module _ (remembers : Memories) (s : Seen) where
     Acts (instr.Prefix sign k) next o stack = Prefixed sign k next o stack
     Acts (instr.Sign sign k) next o stack = Signed sign k next o stack
     Acts (instr.SignGiven sign k v) next o stack = SignedWith sign k (value_in v) next o stack
-    Acts (instr.SignReadOr sign k n how v) next o stack = SignedAsked sign k n how v next o stack
+    Acts (instr.SignNow sign k n) next o stack = SignedNow sign k n next o stack
+    Acts (instr.SignNowOr sign k n v) next o stack = SignedAsked sign k n access.Direct v next o stack
+    Acts (instr.SignNewestOr sign k n v) next o stack = SignedAsked sign k n access.Hold v next o stack
+    Acts (instr.SignBackOr sign k n b v) next o stack = SignedAsked sign k n (access.Offset b) v next o stack
     Acts (instr.Otherwise n) next o stack = Otherwise n next o stack
     Acts (instr.WhereTrue n) next o stack = WhereTrue n next o stack
     Acts (instr.WhereFalse n) next o stack = WhereFalse n next o stack

@@ -7,13 +7,13 @@ ghost use Rattle.lola_model.specs.Store.{IsRunning, kind_in, no_params, now_of, 
 ghost use Rattle.lola_model.specs.Typing.{is_kept, is_whole_pane};
 ghost use Rattle.lola_model.specs.declared.expr.Access.TheVariants as access;
 ghost use Rattle.lola_code.specs.Machine.{Answers, Folds, Names, top};
-ghost use Rattle.lola_code.specs.Shorts.{widened};
+ghost use Rattle.lola_value.specs.Shorts.{widened};
 
-use crate::short::{Short, narrow, value_of};
 use crate::stack::Stack;
 use lola_expr::access::{read, window};
 use lola_model::expr::Access;
 use lola_model::store::StreamStore;
+use lola_value::short::{Short, narrow, value_of};
 use lola_value::value::Params;
 
 // A function writes zeros over the room of its values when it is entered, and the parameters that are gathered are the largest: so what
@@ -38,57 +38,39 @@ fn take_params(stack: &mut Stack, count: u32) -> Params
     params
 }
 
-/// The value at this step of a stream without parameters. Each way to read is a function of its own, so that what the store answers
-/// is made short where it lies.
+/// The value at this step of a stream without parameters. Each way to read is a function of its own, so that the machine keeps no
+/// registers for what the store looks up.
 #[inline(never)]
-fn read_now<S: StreamStore>(store: &S, stream: u32) -> Short
+pub(crate) fn read_now<S: StreamStore>(store: &S, stream: u32) -> Short
     requires running { IsRunning (S.seen store.now) }
     requires stream { stream < length (S.seen store.now).layout.streams }
     requires none { parameters_of (slice_get (S.seen store.now).layout.streams stream) ≡ [] }
-    ensures value { widened result ≡ now_of (S.seen store.now) stream no_params }
-    ensures kind { IsTrue (is_outcome_of (kind_in (slice_get (S.seen store.now).layout.streams stream)) (widened result)) }
+    ensures { Answers (S.remembers store.now) (S.seen store.now) stream access.Direct [] (widened result) }
 {
-    narrow(store.now_alone(stream))
+    store.now_alone(stream).short()
 }
 
 /// The newest value at this step or before of a stream without parameters.
 #[inline(never)]
-fn read_newest<S: StreamStore>(store: &S, stream: u32) -> Short
+pub(crate) fn read_newest<S: StreamStore>(store: &S, stream: u32) -> Short
     requires running { IsRunning (S.seen store.now) }
     requires stream { stream < length (S.seen store.now).layout.streams }
     requires none { parameters_of (slice_get (S.seen store.now).layout.streams stream) ≡ [] }
     ensures { Answers (S.remembers store.now) (S.seen store.now) stream access.Hold [] (widened result) }
 {
-    narrow(store.newest_alone(stream))
+    store.newest_alone(stream).short()
 }
 
 /// The k-th value before this step from the newest, from 1, of a stream without parameters.
 #[inline(never)]
-fn read_back<S: StreamStore>(store: &S, stream: u32, k: u32) -> Short
+pub(crate) fn read_back<S: StreamStore>(store: &S, stream: u32, k: u32) -> Short
     requires running { IsRunning (S.seen store.now) }
     requires stream { stream < length (S.seen store.now).layout.streams }
     requires none { parameters_of (slice_get (S.seen store.now).layout.streams stream) ≡ [] }
     requires kept { IsTrue (is_kept (slice_get (S.seen store.now).layout.streams stream) (access.Offset k)) }
     ensures { Answers (S.remembers store.now) (S.seen store.now) stream (access.Offset k) [] (widened result) }
 {
-    narrow(store.back_alone(stream, k))
-}
-
-/// What an access of a stream without parameters answers.
-#[inline(always)]
-pub(crate) fn read_alone<S: StreamStore>(store: &S, stream: u32, how: Access) -> Short
-    requires running { IsRunning (S.seen store.now) }
-    requires stream { stream < length (S.seen store.now).layout.streams }
-    requires none { parameters_of (slice_get (S.seen store.now).layout.streams stream) ≡ [] }
-    requires kept { IsTrue (is_kept (slice_get (S.seen store.now).layout.streams stream) how) }
-    ensures { Answers (S.remembers store.now) (S.seen store.now) stream how [] (widened result) }
-{
-    match how {
-        Access::Direct => read_now(store, stream),
-        Access::Get => read_now(store, stream),
-        Access::Hold => read_newest(store, stream),
-        Access::Offset(k) => read_back(store, stream, k),
-    }
+    store.back_alone(stream, k).short()
 }
 
 /// What an access answers, of the instance that so many values on the stack name, which are taken off.

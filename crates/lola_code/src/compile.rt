@@ -1,15 +1,15 @@
 //! From expressions to instructions. The code is made from its end, so that a jump knows how much it passes, and then turned round.
 
 ghost use Rattle.std.specs.Prelude.{◌≡◌, [], ◌∷◌, ◌++◌, IfOk, OnOk};
-ghost use Rattle.lola_code.specs.Code.{asking, back_arguments, back_code, code_of, defaulted_of, giving, joining, literal_of, plain_of, with_sign};
-ghost use Rattle.lola_code.specs.Shorts.{short_of};
+ghost use Rattle.lola_code.specs.Code.{asking, back_arguments, back_code, code_of, defaulted_of, direct_of, giving, joining, literal_of, plain_of, plainly, plainly_or, sign_plainly_or, with_sign};
+ghost use Rattle.lola_value.specs.Shorts.{short_of};
 
 use crate::instr::Instr;
-use crate::short::{Short, short_value};
 use lola_expr::evaluation::kind_at;
 use lola_model::expr::{Access, Arguments, Binary, Expr};
+use lola_value::short::{Short, short_value};
 use lola_value::text::Memory;
-use lola_value::value::Value;
+use lola_value::value::{Kind, Value};
 use std::alloc::Global;
 
 /// What arguments name an instance of.
@@ -43,6 +43,42 @@ fn joining_of(sign: Binary) -> Joining
     }
 }
 
+/// The instruction that reads a stream without parameters.
+fn reading_of(stream: u32, how: Access) -> Instr
+    ensures { result ≡ plainly stream how }
+{
+    match how {
+        Access::Direct => Instr::ReadNow(stream),
+        Access::Get => Instr::ReadNow(stream),
+        Access::Hold => Instr::ReadNewest(stream),
+        Access::Offset(k) => Instr::ReadBack(stream, k),
+    }
+}
+
+/// The one that gives a value where that is missing.
+fn reading_or(stream: u32, how: Access, v: Short) -> Instr
+    ensures { result ≡ plainly_or stream how v }
+{
+    match how {
+        Access::Direct => Instr::ReadNowOr(stream, v),
+        Access::Get => Instr::ReadNowOr(stream, v),
+        Access::Hold => Instr::ReadNewestOr(stream, v),
+        Access::Offset(k) => Instr::ReadBackOr(stream, k, v),
+    }
+}
+
+/// The one that takes what that gives for a sign's right operand.
+fn sign_reading_or(sign: Binary, kind: Kind, stream: u32, how: Access, v: Short) -> Instr
+    ensures { result ≡ sign_plainly_or sign kind stream how v }
+{
+    match how {
+        Access::Direct => Instr::SignNowOr(sign, kind, stream, v),
+        Access::Get => Instr::SignNowOr(sign, kind, stream, v),
+        Access::Hold => Instr::SignNewestOr(sign, kind, stream, v),
+        Access::Offset(k) => Instr::SignBackOr(sign, kind, stream, k, v),
+    }
+}
+
 /// The instruction that asks a stream or a window, of the instance that so many arguments name.
 fn asking_of(target: Target, count: u32) -> Instr
     ensures { result ≡ asking target count }
@@ -50,7 +86,7 @@ fn asking_of(target: Target, count: u32) -> Instr
     match target {
         Target::Stream(stream, how) => {
             if count == 0 {
-                Instr::Read(stream, how)
+                reading_of(stream, how)
             } else {
                 Instr::ReadAt(stream, how, count)
             }
@@ -86,6 +122,22 @@ fn plain(e: &Expr) -> Option<(u32, Access)>
     match e {
         Expr::Read(_, stream, how, args) => match args {
             Arguments::End => Some((*stream, *how)),
+            Arguments::More(_, _) => None,
+        },
+        _ => None,
+    }
+}
+
+/// The stream, of a direct access without arguments.
+fn direct(e: &Expr) -> Option<u32>
+    ensures { result ≡ direct_of e.now }
+{
+    match e {
+        Expr::Read(_, stream, how, args) => match args {
+            Arguments::End => match how {
+                Access::Direct => Some(*stream),
+                _ => None,
+            },
             Arguments::More(_, _) => None,
         },
         _ => None,
@@ -131,7 +183,7 @@ fn emit(code: &mut Vec<Instr>, e: &Expr) -> Result<(), Memory>
         Expr::Defaults(_, a, b) => {
             if let Some(v) = literal(b) {
                 if let Some((stream, how)) = plain(a) {
-                    return put(code, Instr::ReadOr(stream, how, v));
+                    return put(code, reading_or(stream, how, v));
                 }
             }
             let start = code.len();
@@ -165,10 +217,11 @@ fn emit(code: &mut Vec<Instr>, e: &Expr) -> Result<(), Memory>
                     return emit(code, a);
                 }
                 if let Some((stream, (how, v))) = defaulted(b) {
-                    put(
-                        code,
-                        Instr::SignReadOr(*sign, kind_at(place), stream, how, v),
-                    )?;
+                    put(code, sign_reading_or(*sign, kind_at(place), stream, how, v))?;
+                    return emit(code, a);
+                }
+                if let Some(stream) = direct(b) {
+                    put(code, Instr::SignNow(*sign, kind_at(place), stream))?;
                     return emit(code, a);
                 }
                 let start = code.len();

@@ -1,11 +1,12 @@
 //! Instructions.
 
-use crate::short::Short;
 use lola_model::expr::{Access, Binary, Prefix};
+use lola_value::short::Short;
 use lola_value::value::Kind;
 
 /// One instruction of a machine that has one outcome in hand, and values on a stack. All that it needs stands in it: numbers of
-/// streams, windows and parameters, signs, kinds and literals. A jump says how many of the instructions behind it are passed.
+/// streams, windows and parameters, signs, kinds and literals. How a stream is read is the instruction's own, so that one jump decides.
+/// A jump says how many of the instructions behind it are passed.
 #[derive(Clone, Copy, Debug, PartialEq, Eq)]
 pub enum Instr {
     /// This value.
@@ -14,10 +15,18 @@ pub enum Instr {
     Leave,
     /// The parameter of this number, from 0.
     Parameter(u32),
-    /// What an access of a stream without parameters answers.
-    Read(u32, Access),
-    /// The same, or this value where that is missing.
-    ReadOr(u32, Access, Short),
+    /// The value at this step of a stream without parameters.
+    ReadNow(u32),
+    /// The newest value of such a stream, at this step or before.
+    ReadNewest(u32),
+    /// The value of such a stream that is so many before this step, from 1.
+    ReadBack(u32, u32),
+    /// The value at this step of such a stream, or this one where that is missing.
+    ReadNowOr(u32, Short),
+    /// The newest one, or this one where that is missing.
+    ReadNewestOr(u32, Short),
+    /// An earlier one, or this one where that is missing.
+    ReadBackOr(u32, u32, Short),
     /// What an access answers, of the instance that so many values on the stack name, which are taken off.
     ReadAt(u32, Access, u32),
     /// What a window answers, over the instance that so many values on the stack name, which are taken off.
@@ -32,8 +41,14 @@ pub enum Instr {
     Sign(Binary, Kind),
     /// A sign between the value in hand and this one.
     SignGiven(Binary, Kind, Short),
-    /// A sign between the value in hand and what an access of a stream without parameters answers, or the last value where that is missing.
-    SignReadOr(Binary, Kind, u32, Access, Short),
+    /// A sign between the value in hand and the one at this step of a stream without parameters.
+    SignNow(Binary, Kind, u32),
+    /// The same, or with the last value where that is missing.
+    SignNowOr(Binary, Kind, u32, Short),
+    /// The same with the newest value of such a stream, or the last value.
+    SignNewestOr(Binary, Kind, u32, Short),
+    /// The same with an earlier one, or the last value.
+    SignBackOr(Binary, Kind, u32, u32, Short),
     /// Jumps unless what is in hand is missing.
     Otherwise(usize),
     /// Jumps unless true is in hand.

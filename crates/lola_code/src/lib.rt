@@ -6,6 +6,6 @@ pub mod compile;
 pub mod instr;
 pub mod machine;
 pub mod plan;
-pub mod short;
 mod signs;
 mod stack;
+mod tested;

@@ -8,17 +8,19 @@ ghost use Rattle.lola_model.specs.Typing.{can_ask, noted};
 ghost use Rattle.lola_expr.specs.Evaluation.{IsDenoted, value_or_missing};
 ghost use Rattle.lola_code.specs.Code.{code_of};
 ghost use Rattle.lola_code.specs.Machine.{or_short};
-ghost use Rattle.lola_code.specs.Shorts.{widened};
+ghost use Rattle.lola_value.specs.Shorts.{widened};
 
-use crate::asking::{read_alone, read_at, window_at};
+use crate::asking::{read_at, read_back, read_newest, read_now, window_at};
 use crate::instr::Instr;
-use crate::short::{Short, is_true, is_value, short_outcome, widen};
 use crate::signs::{joined, prefixed};
 use crate::stack::Stack;
+use crate::tested::is_true;
 use lola_expr::evaluation::{eval, parameter};
 use lola_model::expr::Expr;
 use lola_model::store::StreamStore;
-use lola_value::value::{Outcome, Params};
+use lola_value::brief::Brief;
+use lola_value::short::{Short, is_value, short_outcome};
+use lola_value::value::Params;
 
 /// What is left of the code behind so many instructions.
 #[tactic(auto, using(crate::proofs::Steps::drop_shorter))]
@@ -71,7 +73,7 @@ fn run_code<S: StreamStore>(
     code: &[Instr],
     params: &Params,
     store: &S,
-) -> Option<Outcome>
+) -> Option<Brief>
     requires code { code.now ≡ code_of _expr.now }
     requires running { IsRunning (S.seen store.now) }
     requires count { params.now.count ≤ 4 }
@@ -84,26 +86,30 @@ fn run_code<S: StreamStore>(
     let mut hand = Short::Missing;
     'run: while let Some((instr, rest)) = code.split_first() {
         code = rest;
-        match *instr {
-            Instr::Give(v) => hand = v,
+        match instr {
+            Instr::Give(v) => hand = *v,
             Instr::Leave => return None,
-            Instr::Parameter(number) => match given(params, number) {
+            Instr::Parameter(number) => match given(params, *number) {
                 Some(made) => hand = made,
                 None => return None,
             },
-            Instr::Read(stream, how) => hand = read_alone(store, stream, how),
-            Instr::ReadOr(stream, how, v) => hand = or_given(read_alone(store, stream, how), v),
+            Instr::ReadNow(stream) => hand = read_now(store, *stream),
+            Instr::ReadNewest(stream) => hand = read_newest(store, *stream),
+            Instr::ReadBack(stream, k) => hand = read_back(store, *stream, *k),
+            Instr::ReadNowOr(stream, v) => hand = or_given(read_now(store, *stream), *v),
+            Instr::ReadNewestOr(stream, v) => hand = or_given(read_newest(store, *stream), *v),
+            Instr::ReadBackOr(stream, k, v) => hand = or_given(read_back(store, *stream, *k), *v),
             Instr::ReadAt(stream, how, count) => {
-                hand = read_at(store, stream, how, &mut stack, count);
+                hand = read_at(store, *stream, *how, &mut stack, *count);
             }
-            Instr::Window(number, count) => hand = window_at(store, number, &mut stack, count),
+            Instr::Window(number, count) => hand = window_at(store, *number, &mut stack, *count),
             Instr::Keep(n) => {
                 if is_value(hand) {
                     if !stack.push(hand) {
                         return None;
                     }
                 } else {
-                    code = past(code, n);
+                    code = past(code, *n);
                 }
             }
             Instr::KeepArgument(n, count) => {
@@ -112,33 +118,63 @@ fn run_code<S: StreamStore>(
                         return None;
                     }
                 } else {
-                    let_go(&mut stack, count);
-                    code = past(code, n);
+                    let_go(&mut stack, *count);
+                    code = past(code, *n);
                 }
             }
             Instr::Prefix(sign, kind) => {
                 if is_value(hand) {
-                    hand = prefixed(sign, kind, hand);
+                    hand = prefixed(*sign, *kind, hand);
                 }
             }
             Instr::Sign(sign, kind) => match stack.pop() {
                 Some(left) => {
                     if is_value(hand) {
-                        hand = joined(sign, kind, left, hand);
+                        hand = joined(*sign, *kind, left, hand);
                     }
                 }
                 None => {}
             },
             Instr::SignGiven(sign, kind, v) => {
                 if is_value(hand) {
-                    hand = joined(sign, kind, hand, v);
+                    hand = joined(*sign, *kind, hand, *v);
                 }
             }
-            Instr::SignReadOr(sign, kind, stream, how, v) => {
+            Instr::SignNowOr(sign, kind, stream, v) => {
                 if is_value(hand) {
-                    let right = or_given(read_alone(store, stream, how), v);
+                    let right = or_given(read_now(store, *stream), *v);
                     if is_value(right) {
-                        hand = joined(sign, kind, hand, right);
+                        hand = joined(*sign, *kind, hand, right);
+                    } else {
+                        hand = right;
+                    }
+                }
+            }
+            Instr::SignNewestOr(sign, kind, stream, v) => {
+                if is_value(hand) {
+                    let right = or_given(read_newest(store, *stream), *v);
+                    if is_value(right) {
+                        hand = joined(*sign, *kind, hand, right);
+                    } else {
+                        hand = right;
+                    }
+                }
+            }
+            Instr::SignBackOr(sign, kind, stream, k, v) => {
+                if is_value(hand) {
+                    let right = or_given(read_back(store, *stream, *k), *v);
+                    if is_value(right) {
+                        hand = joined(*sign, *kind, hand, right);
+                    } else {
+                        hand = right;
+                    }
+                }
+            }
+            Instr::SignNow(sign, kind, stream) => {
+                if is_value(hand) {
+                    let right = read_now(store, *stream);
+                    if is_value(right) {
+                        hand = joined(*sign, *kind, hand, right);
                     } else {
                         hand = right;
                     }
@@ -146,40 +182,40 @@ fn run_code<S: StreamStore>(
             }
             Instr::Otherwise(n) => match hand {
                 Short::Missing => {}
-                _ => code = past(code, n),
+                _ => code = past(code, *n),
             },
             Instr::WhereTrue(n) => {
                 if !is_true(hand) {
-                    code = past(code, n);
+                    code = past(code, *n);
                 }
             }
             Instr::WhereFalse(n) => {
                 if is_value(hand) {
                     if is_true(hand) {
-                        code = past(code, n);
+                        code = past(code, *n);
                     }
                 } else {
-                    code = past(code, n);
+                    code = past(code, *n);
                 }
             }
             Instr::Test(n, more) => {
                 if is_value(hand) {
                     if !is_true(hand) {
-                        code = past(code, n);
+                        code = past(code, *n);
                     }
                 } else {
-                    code = past(code, more);
+                    code = past(code, *more);
                 }
             }
-            Instr::Jump(n) => code = past(code, n),
+            Instr::Jump(n) => code = past(code, *n),
         }
     }
-    Some(widen(hand))
+    Some(Brief::create(hand))
 }
 
 /// What an expression comes to, whose code this is, for an instance with these parameters: the code is run, or the expression evaluated
 /// (`lola_expr::evaluation::eval`) where the code wants more room than there is. It takes no memory and cannot fail.
-pub fn run<S: StreamStore>(expr: &Expr, code: &[Instr], params: &Params, store: &S) -> Outcome
+pub fn run<S: StreamStore>(expr: &Expr, code: &[Instr], params: &Params, store: &S) -> Brief
     requires code { code.now ≡ code_of expr.now }
     requires running { IsRunning (S.seen store.now) }
     requires count { params.now.count ≤ 4 }
@@ -189,6 +225,6 @@ pub fn run<S: StreamStore>(expr: &Expr, code: &[Instr], params: &Params, store: 
 {
     match run_code(expr, code, params, store) {
         Some(outcome) => outcome,
-        None => eval(expr, *params, store),
+        None => Brief::of(eval(expr, *params, store)),
     }
 }

@@ -4,11 +4,13 @@ ghost use Rattle.std.specs.Prelude.{◌≡◌, ◌+ℤ◌, ◌-ℤ◌, ◌*ℤ�
 ghost use Rattle.lola_expr.specs.Operands.{operand_fits, operands_fit};
 ghost use Rattle.lola_model.specs.declared.expr.Prefix.TheVariants as prefix;
 ghost use Rattle.lola_code.specs.Machine.{Negates, Operates};
-ghost use Rattle.lola_code.specs.Shorts.{numbered, value_in, widened};
+ghost use Rattle.lola_value.specs.Shorts.{value_in, widened};
+ghost use Rattle.lola_code.specs.Numbered.{numbered};
 
-use crate::short::{Short, is_true, narrow, tested, value_of, verdict};
+use crate::tested::{is_true, tested};
 use lola_expr::operators::{negate, operate};
 use lola_model::expr::{Binary, Prefix};
+use lola_value::short::{Short, narrow, value_of, verdict};
 use lola_value::value::Kind;
 
 // The sum of two numbers, where 64 bits hold it.
@@ -79,7 +81,8 @@ fn exactly(sign: Binary, kind: Kind, x: Short, y: Short) -> Short
     narrow(operate(sign, kind, value_of(x), value_of(y)))
 }
 
-/// What a sign between two values gives.
+/// What a sign between two values gives. It stands in the machine itself, which has the operands in registers.
+#[inline(always)]
 pub(crate) fn joined(sign: Binary, kind: Kind, x: Short, y: Short) -> Short
     requires { IsTrue (operands_fit sign kind (value_in x) (value_in y)) }
     ensures { Operates sign kind (value_in x) (value_in y) (widened result) }

@@ -1,13 +1,13 @@
 //! The stack of values that an expression's code works with. It lies in the value itself, so it takes no memory of its own.
 
 ghost use Rattle.std.specs.Prelude.{◌≡◌, ◌∷◌, [], IsTrue, MatchOption};
-ghost use Rattle.lola_code.specs.Shorts.{value_in};
+ghost use Rattle.lola_value.specs.Shorts.{value_in};
 
-use crate::short::Short;
+use lola_value::short::Short;
 use std::marker::Model;
 
 // How many values there is room for. The code of an expression that wants more is not run.
-const DEPTH: usize = 8;
+const DEPTH: usize = 6;
 
 // So many values. Contracts see them as a list, the newest first.
 #[derive(Drop)]
@@ -19,13 +19,13 @@ pub(crate) struct Stack {
 impl Model for Stack {
     ghost use Rattle.std.specs.Prelude.{◌≡◌, ◌≤◌, List, length, map, reverse, take};
     ghost use Rattle.lola_value.specs.declared.value.Value.{Value as Element};
-    ghost use Rattle.lola_code.specs.Shorts.{value_in};
+    ghost use Rattle.lola_value.specs.Shorts.{value_in};
 
     ghost Value = { List Element };
 
     ghost view = { λ s. reverse (map value_in (take s.count s.values)) };
 
-    ghost invariant = { λ s. (s.count ≤ 8) × (length s.values ≡ 8) };
+    ghost invariant = { λ s. (s.count ≤ 6) × (length s.values ≡ 6) };
 }
 
 impl Stack {

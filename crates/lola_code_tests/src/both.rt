@@ -19,6 +19,7 @@ use lola_model::store::StreamStore;
 use lola_ready::law::clauses_may_ask;
 use lola_store::law::accepted_is_storable;
 use lola_store::store::WholeStore;
+use lola_value::brief::BriefValue;
 use lola_value::text::Memory;
 use lola_value::value::{Kind, Outcome, Params, Value};
 use std::alloc::Global;
@@ -52,7 +53,7 @@ fn give<S: StreamStore>(_plan: &Plan, store: &mut S, _n: u32, m: u32, outcome: O
     ensures { IsIn _plan.now _n (m + 1) (S.seen store.new) }
 {
     match outcome {
-        Outcome::Value(v) => store.push(m, 0, v),
+        Outcome::Value(v) => store.push(m, 0, BriefValue::of(v)),
         Outcome::Missing => {}
         _ => store.poison(m, 0),
     }
@@ -123,7 +124,7 @@ fn both<S: StreamStore>(
 {
     let code = compile(alloc, expr)?;
     let by_code = run(expr, code.as_slice(), params, store);
-    Ok((eval(expr, *params, store), by_code))
+    Ok((eval(expr, *params, store), by_code.widen()))
 }
 
 // What the expression of a stream's eval clause comes to for its first instance, both ways. None where there is no such clause, or where

@@ -11,7 +11,7 @@ pub returns : goal.returns
 returns g c =
     let remembers = g.S.StreamStore.remembers c.args.store.now in
     let seen = g.S.StreamStore.seen c.args.store.now in
-    subst (λ (o : Outcome). Answers remembers seen c.args.stream access.Hold [] o) (sym c.narrow.ensures) (record {
+    subst (λ (o : Outcome). Answers remembers seen c.args.stream access.Hold [] o) (sym c.short.ensures) (record {
       value = λ names c' h a s.
           let w = newest_answers names h remembers seen c' s c.args.stream no_params tt c.newest_alone.result c.newest_alone.ensures.living in (w.value, w.held);
       kind = c.newest_alone.ensures.kind;

@@ -1,7 +1,7 @@
 use Rattle.std.proofs.Common.{◌≡◌, ◌-◌, ◌++◌, ◌∙◌, sym, ap, suc, arith, drop, ◌∷◌}
 use Rattle.lola_value.specs.Naming.{the_values}
 use Rattle.lola_code.specs.Machine.{top}
-use Rattle.lola_code.specs.Shorts.{value_in}
+use Rattle.lola_value.specs.Shorts.{value_in}
 use Rattle.lola_code.proofs.Steps.{gone, taken}
 use Rattle.lola_code.proofs.asking.take_params.Goals as goal
 

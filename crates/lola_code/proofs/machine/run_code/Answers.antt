@@ -4,11 +4,11 @@ use Rattle.lola_value.specs.declared.value.Outcome.TheVariants as outcome
 use Rattle.lola_expr.specs.Evaluation.{IsDenoted}
 use Rattle.lola_code.specs.Machine.{Leads}
 use Rattle.lola_code.specs.declared.instr.Instr.TheVariants as instr
-use Rattle.lola_code.specs.Shorts.{value_in, widened}
+use Rattle.lola_value.specs.Shorts.{value_in, widened}
 use Rattle.lola_code.proofs.Means.{Means}
 use Rattle.lola_code.proofs.Runs.{comes_to}
 use Rattle.lola_code.proofs.Shorts.{is_no_value, is_the_value, not_missing}
-use Rattle.lola_code.proofs.Steps.{asked_taken, ended, false_none, false_off, given_taken, jumps, no_argument, no_operand, none_kept, sign_taken, test_none, test_off, there_already, true_off}
+use Rattle.lola_code.proofs.Steps.{back_taken, direct_taken, ended, false_none, false_off, given_taken, jumps, newest_taken, no_argument, no_operand, none_kept, now_taken, sign_taken, test_none, test_off, there_already, true_off}
 use Rattle.lola_code.proofs.machine.run_code.Goals as goal
 
 pub run-init : goal.run-init
@@ -28,7 +28,7 @@ returns-clause-value g c =
     let wanted : Outcome → Type 0 = λ r. Means remembers seen c.args.params.now c.args._expr.now r in
     let i = c.run.invariant in
     let made = ended remembers seen c.args.params.now wanted c.run.code.now (widened c.run.hand) c.run.stack c.in_default.ensures.cases i in
-    subst (λ (o : Outcome). IsDenoted remembers seen c.args.params.now c.args._expr.now o) (sym c.widen.ensures) made.value
+    subst (λ (o : Outcome). IsDenoted remembers seen c.args.params.now c.args._expr.now o) (sym c.create.ensures) made.value
 
 pub run-preserved-else-is_value : goal.run-preserved-else-is_value
 run-preserved-else-is_value g c =
@@ -77,11 +77,11 @@ joined-hand-requires-then-is_value-7 g c =
     let wanted : Outcome → Type 0 = λ r. Means remembers seen c.args.params.now c.args._expr.now r in
     let i = c.run.invariant in
     let h = subst (λ l. Leads remembers seen c.args.params.now wanted l 0 (widened c.run.hand) c.run.stack) c.in-Some.ensures.cases.0 i in
-    let asked = asked_taken remembers seen c.args.params.now wanted c.in-Some.rest.now c.in-Some.instr.now c.in-SignReadOr.sign c.in-SignReadOr.kind c.in-SignReadOr.stream c.in-SignReadOr.how c.in-SignReadOr.v (value_in c.run.hand) (widened c.run.hand) c.run.stack c.in-SignReadOr.is
-    (is_the_value c.run.hand (sym c.is_value-in-SignReadOr.ensures ∙ c.if-is_value-6.true)) h in
-    let right = subst (λ (o : Outcome). Leads remembers seen c.args.params.now wanted (instr.Sign c.in-SignReadOr.sign c.in-SignReadOr.kind ∷ c.in-Some.rest.now) 0 o (value_in c.run.hand ∷ c.run.stack)) (sym c.or_given-right.ensures)
-    (asked.3 (widened c.read_alone-then-is_value-6.result) c.read_alone-then-is_value-6.ensures) in
-    (sign_taken remembers seen c.args.params.now wanted c.in-Some.rest.now (instr.Sign c.in-SignReadOr.sign c.in-SignReadOr.kind) c.in-SignReadOr.sign c.in-SignReadOr.kind (value_in c.run.hand) (value_in c.or_given-right.result) (widened c.or_given-right.result)
+    let asked = now_taken remembers seen c.args.params.now wanted c.in-Some.rest.now c.in-Some.instr.now c.in-SignNowOr.sign c.in-SignNowOr.kind c.in-SignNowOr.stream c.in-SignNowOr.v (value_in c.run.hand) (widened c.run.hand) c.run.stack c.in-SignNowOr.is
+    (is_the_value c.run.hand (sym c.is_value-in-SignNowOr.ensures ∙ c.if-is_value-6.true)) h in
+    let right = subst (λ (o : Outcome). Leads remembers seen c.args.params.now wanted (instr.Sign c.in-SignNowOr.sign c.in-SignNowOr.kind ∷ c.in-Some.rest.now) 0 o (value_in c.run.hand ∷ c.run.stack)) (sym c.or_given-right.ensures)
+    (asked.3 (widened c.read_now-then-is_value-6.result) c.read_now-then-is_value-6.ensures) in
+    (sign_taken remembers seen c.args.params.now wanted c.in-Some.rest.now (instr.Sign c.in-SignNowOr.sign c.in-SignNowOr.kind) c.in-SignNowOr.sign c.in-SignNowOr.kind (value_in c.run.hand) (value_in c.or_given-right.result) (widened c.or_given-right.result)
     (value_in c.run.hand ∷ c.run.stack) c.run.stack refl (is_the_value c.or_given-right.result (sym c.is_value-then-is_value-6.ensures ∙ c.if-is_value-7.true)) refl right).0
 
 pub run-preserved-else-is_value-7 : goal.run-preserved-else-is_value-7
@@ -91,12 +91,94 @@ run-preserved-else-is_value-7 g c =
     let wanted : Outcome → Type 0 = λ r. Means remembers seen c.args.params.now c.args._expr.now r in
     let i = c.run.invariant in
     let h = subst (λ l. Leads remembers seen c.args.params.now wanted l 0 (widened c.run.hand) c.run.stack) c.in-Some.ensures.cases.0 i in
-    let asked = asked_taken remembers seen c.args.params.now wanted c.in-Some.rest.now c.in-Some.instr.now c.in-SignReadOr.sign c.in-SignReadOr.kind c.in-SignReadOr.stream c.in-SignReadOr.how c.in-SignReadOr.v (value_in c.run.hand) (widened c.run.hand) c.run.stack c.in-SignReadOr.is
-    (is_the_value c.run.hand (sym c.is_value-in-SignReadOr.ensures ∙ c.if-is_value-6.true)) h in
-    let right = subst (λ (o : Outcome). Leads remembers seen c.args.params.now wanted (instr.Sign c.in-SignReadOr.sign c.in-SignReadOr.kind ∷ c.in-Some.rest.now) 0 o (value_in c.run.hand ∷ c.run.stack)) (sym c.or_given-right.ensures)
-    (asked.3 (widened c.read_alone-then-is_value-6.result) c.read_alone-then-is_value-6.ensures) in
-    no_operand remembers seen c.args.params.now wanted c.in-Some.rest.now c.in-SignReadOr.sign c.in-SignReadOr.kind (value_in c.run.hand) (widened c.or_given-right.result) c.run.stack
+    let asked = now_taken remembers seen c.args.params.now wanted c.in-Some.rest.now c.in-Some.instr.now c.in-SignNowOr.sign c.in-SignNowOr.kind c.in-SignNowOr.stream c.in-SignNowOr.v (value_in c.run.hand) (widened c.run.hand) c.run.stack c.in-SignNowOr.is
+    (is_the_value c.run.hand (sym c.is_value-in-SignNowOr.ensures ∙ c.if-is_value-6.true)) h in
+    let right = subst (λ (o : Outcome). Leads remembers seen c.args.params.now wanted (instr.Sign c.in-SignNowOr.sign c.in-SignNowOr.kind ∷ c.in-Some.rest.now) 0 o (value_in c.run.hand ∷ c.run.stack)) (sym c.or_given-right.ensures)
+    (asked.3 (widened c.read_now-then-is_value-6.result) c.read_now-then-is_value-6.ensures) in
+    no_operand remembers seen c.args.params.now wanted c.in-Some.rest.now c.in-SignNowOr.sign c.in-SignNowOr.kind (value_in c.run.hand) (widened c.or_given-right.result) c.run.stack
     (is_no_value c.or_given-right.result (sym c.is_value-then-is_value-6.ensures ∙ c.if-is_value-7.false)) right
+
+pub joined-hand-requires-then-is_value-9 : goal.joined-hand-requires-then-is_value-9
+joined-hand-requires-then-is_value-9 g c =
+    let remembers = g.S.StreamStore.remembers c.args.store.now in
+    let seen = g.S.StreamStore.seen c.args.store.now in
+    let wanted : Outcome → Type 0 = λ r. Means remembers seen c.args.params.now c.args._expr.now r in
+    let i = c.run.invariant in
+    let h = subst (λ l. Leads remembers seen c.args.params.now wanted l 0 (widened c.run.hand) c.run.stack) c.in-Some.ensures.cases.0 i in
+    let asked = newest_taken remembers seen c.args.params.now wanted c.in-Some.rest.now c.in-Some.instr.now c.in-SignNewestOr.sign c.in-SignNewestOr.kind c.in-SignNewestOr.stream c.in-SignNewestOr.v (value_in c.run.hand) (widened c.run.hand) c.run.stack c.in-SignNewestOr.is
+    (is_the_value c.run.hand (sym c.is_value-in-SignNewestOr.ensures ∙ c.if-is_value-8.true)) h in
+    let right = subst (λ (o : Outcome). Leads remembers seen c.args.params.now wanted (instr.Sign c.in-SignNewestOr.sign c.in-SignNewestOr.kind ∷ c.in-Some.rest.now) 0 o (value_in c.run.hand ∷ c.run.stack)) (sym c.or_given-right-then-is_value-8.ensures)
+    (asked.3 (widened c.read_newest-then-is_value-8.result) c.read_newest-then-is_value-8.ensures) in
+    (sign_taken remembers seen c.args.params.now wanted c.in-Some.rest.now (instr.Sign c.in-SignNewestOr.sign c.in-SignNewestOr.kind) c.in-SignNewestOr.sign c.in-SignNewestOr.kind (value_in c.run.hand) (value_in c.or_given-right-then-is_value-8.result) (widened c.or_given-right-then-is_value-8.result)
+    (value_in c.run.hand ∷ c.run.stack) c.run.stack refl (is_the_value c.or_given-right-then-is_value-8.result (sym c.is_value-then-is_value-8.ensures ∙ c.if-is_value-9.true)) refl right).0
+
+pub run-preserved-else-is_value-9 : goal.run-preserved-else-is_value-9
+run-preserved-else-is_value-9 g c =
+    let remembers = g.S.StreamStore.remembers c.args.store.now in
+    let seen = g.S.StreamStore.seen c.args.store.now in
+    let wanted : Outcome → Type 0 = λ r. Means remembers seen c.args.params.now c.args._expr.now r in
+    let i = c.run.invariant in
+    let h = subst (λ l. Leads remembers seen c.args.params.now wanted l 0 (widened c.run.hand) c.run.stack) c.in-Some.ensures.cases.0 i in
+    let asked = newest_taken remembers seen c.args.params.now wanted c.in-Some.rest.now c.in-Some.instr.now c.in-SignNewestOr.sign c.in-SignNewestOr.kind c.in-SignNewestOr.stream c.in-SignNewestOr.v (value_in c.run.hand) (widened c.run.hand) c.run.stack c.in-SignNewestOr.is
+    (is_the_value c.run.hand (sym c.is_value-in-SignNewestOr.ensures ∙ c.if-is_value-8.true)) h in
+    let right = subst (λ (o : Outcome). Leads remembers seen c.args.params.now wanted (instr.Sign c.in-SignNewestOr.sign c.in-SignNewestOr.kind ∷ c.in-Some.rest.now) 0 o (value_in c.run.hand ∷ c.run.stack)) (sym c.or_given-right-then-is_value-8.ensures)
+    (asked.3 (widened c.read_newest-then-is_value-8.result) c.read_newest-then-is_value-8.ensures) in
+    no_operand remembers seen c.args.params.now wanted c.in-Some.rest.now c.in-SignNewestOr.sign c.in-SignNewestOr.kind (value_in c.run.hand) (widened c.or_given-right-then-is_value-8.result) c.run.stack
+    (is_no_value c.or_given-right-then-is_value-8.result (sym c.is_value-then-is_value-8.ensures ∙ c.if-is_value-9.false)) right
+
+pub joined-hand-requires-then-is_value-11 : goal.joined-hand-requires-then-is_value-11
+joined-hand-requires-then-is_value-11 g c =
+    let remembers = g.S.StreamStore.remembers c.args.store.now in
+    let seen = g.S.StreamStore.seen c.args.store.now in
+    let wanted : Outcome → Type 0 = λ r. Means remembers seen c.args.params.now c.args._expr.now r in
+    let i = c.run.invariant in
+    let h = subst (λ l. Leads remembers seen c.args.params.now wanted l 0 (widened c.run.hand) c.run.stack) c.in-Some.ensures.cases.0 i in
+    let asked = back_taken remembers seen c.args.params.now wanted c.in-Some.rest.now c.in-Some.instr.now c.in-SignBackOr.sign c.in-SignBackOr.kind c.in-SignBackOr.stream c.in-SignBackOr.k c.in-SignBackOr.v (value_in c.run.hand) (widened c.run.hand) c.run.stack c.in-SignBackOr.is
+    (is_the_value c.run.hand (sym c.is_value-in-SignBackOr.ensures ∙ c.if-is_value-10.true)) h in
+    let right = subst (λ (o : Outcome). Leads remembers seen c.args.params.now wanted (instr.Sign c.in-SignBackOr.sign c.in-SignBackOr.kind ∷ c.in-Some.rest.now) 0 o (value_in c.run.hand ∷ c.run.stack)) (sym c.or_given-right-then-is_value-10.ensures)
+    (asked.3 (widened c.read_back-then-is_value-10.result) c.read_back-then-is_value-10.ensures) in
+    (sign_taken remembers seen c.args.params.now wanted c.in-Some.rest.now (instr.Sign c.in-SignBackOr.sign c.in-SignBackOr.kind) c.in-SignBackOr.sign c.in-SignBackOr.kind (value_in c.run.hand) (value_in c.or_given-right-then-is_value-10.result) (widened c.or_given-right-then-is_value-10.result)
+    (value_in c.run.hand ∷ c.run.stack) c.run.stack refl (is_the_value c.or_given-right-then-is_value-10.result (sym c.is_value-then-is_value-10.ensures ∙ c.if-is_value-11.true)) refl right).0
+
+pub run-preserved-else-is_value-11 : goal.run-preserved-else-is_value-11
+run-preserved-else-is_value-11 g c =
+    let remembers = g.S.StreamStore.remembers c.args.store.now in
+    let seen = g.S.StreamStore.seen c.args.store.now in
+    let wanted : Outcome → Type 0 = λ r. Means remembers seen c.args.params.now c.args._expr.now r in
+    let i = c.run.invariant in
+    let h = subst (λ l. Leads remembers seen c.args.params.now wanted l 0 (widened c.run.hand) c.run.stack) c.in-Some.ensures.cases.0 i in
+    let asked = back_taken remembers seen c.args.params.now wanted c.in-Some.rest.now c.in-Some.instr.now c.in-SignBackOr.sign c.in-SignBackOr.kind c.in-SignBackOr.stream c.in-SignBackOr.k c.in-SignBackOr.v (value_in c.run.hand) (widened c.run.hand) c.run.stack c.in-SignBackOr.is
+    (is_the_value c.run.hand (sym c.is_value-in-SignBackOr.ensures ∙ c.if-is_value-10.true)) h in
+    let right = subst (λ (o : Outcome). Leads remembers seen c.args.params.now wanted (instr.Sign c.in-SignBackOr.sign c.in-SignBackOr.kind ∷ c.in-Some.rest.now) 0 o (value_in c.run.hand ∷ c.run.stack)) (sym c.or_given-right-then-is_value-10.ensures)
+    (asked.3 (widened c.read_back-then-is_value-10.result) c.read_back-then-is_value-10.ensures) in
+    no_operand remembers seen c.args.params.now wanted c.in-Some.rest.now c.in-SignBackOr.sign c.in-SignBackOr.kind (value_in c.run.hand) (widened c.or_given-right-then-is_value-10.result) c.run.stack
+    (is_no_value c.or_given-right-then-is_value-10.result (sym c.is_value-then-is_value-10.ensures ∙ c.if-is_value-11.false)) right
+
+pub joined-hand-requires-then-is_value-13 : goal.joined-hand-requires-then-is_value-13
+joined-hand-requires-then-is_value-13 g c =
+    let remembers = g.S.StreamStore.remembers c.args.store.now in
+    let seen = g.S.StreamStore.seen c.args.store.now in
+    let wanted : Outcome → Type 0 = λ r. Means remembers seen c.args.params.now c.args._expr.now r in
+    let i = c.run.invariant in
+    let h = subst (λ l. Leads remembers seen c.args.params.now wanted l 0 (widened c.run.hand) c.run.stack) c.in-Some.ensures.cases.0 i in
+    let asked = direct_taken remembers seen c.args.params.now wanted c.in-Some.rest.now c.in-Some.instr.now c.in-SignNow.sign c.in-SignNow.kind c.in-SignNow.stream (value_in c.run.hand) (widened c.run.hand) c.run.stack c.in-SignNow.is
+    (is_the_value c.run.hand (sym c.is_value-in-SignNow.ensures ∙ c.if-is_value-12.true)) h in
+    let right = asked.3 (widened c.read_now-right.result) c.read_now-right.ensures in
+    (sign_taken remembers seen c.args.params.now wanted c.in-Some.rest.now (instr.Sign c.in-SignNow.sign c.in-SignNow.kind) c.in-SignNow.sign c.in-SignNow.kind (value_in c.run.hand) (value_in c.read_now-right.result) (widened c.read_now-right.result)
+    (value_in c.run.hand ∷ c.run.stack) c.run.stack refl (is_the_value c.read_now-right.result (sym c.is_value-then-is_value-12.ensures ∙ c.if-is_value-13.true)) refl right).0
+
+pub run-preserved-else-is_value-13 : goal.run-preserved-else-is_value-13
+run-preserved-else-is_value-13 g c =
+    let remembers = g.S.StreamStore.remembers c.args.store.now in
+    let seen = g.S.StreamStore.seen c.args.store.now in
+    let wanted : Outcome → Type 0 = λ r. Means remembers seen c.args.params.now c.args._expr.now r in
+    let i = c.run.invariant in
+    let h = subst (λ l. Leads remembers seen c.args.params.now wanted l 0 (widened c.run.hand) c.run.stack) c.in-Some.ensures.cases.0 i in
+    let asked = direct_taken remembers seen c.args.params.now wanted c.in-Some.rest.now c.in-Some.instr.now c.in-SignNow.sign c.in-SignNow.kind c.in-SignNow.stream (value_in c.run.hand) (widened c.run.hand) c.run.stack c.in-SignNow.is
+    (is_the_value c.run.hand (sym c.is_value-in-SignNow.ensures ∙ c.if-is_value-12.true)) h in
+    let right = asked.3 (widened c.read_now-right.result) c.read_now-right.ensures in
+    no_operand remembers seen c.args.params.now wanted c.in-Some.rest.now c.in-SignNow.sign c.in-SignNow.kind (value_in c.run.hand) (widened c.read_now-right.result) c.run.stack
+    (is_no_value c.read_now-right.result (sym c.is_value-then-is_value-12.ensures ∙ c.if-is_value-13.false)) right
 
 pub run-preserved-in_default-hand : goal.run-preserved-in_default-hand
 run-preserved-in_default-hand g c =
@@ -123,16 +205,16 @@ run-preserved-then-is_true g c =
     let wanted : Outcome → Type 0 = λ r. Means remembers seen c.args.params.now c.args._expr.now r in
     let i = c.run.invariant in
     jumps remembers seen c.args.params.now wanted c.run.code.now c.in-Some.rest.now c.past-code-then-is_true.result.now c.in-Some.instr.now c.in-WhereFalse.n (widened c.run.hand) c.run.stack c.run.stack c.in-Some.ensures.cases.0 c.past-code-then-is_true.ensures.rest
-    (false_off remembers seen c.args.params.now wanted c.in-Some.rest.now c.in-Some.instr.now c.in-WhereFalse.n c.run.hand c.run.stack c.in-WhereFalse.is (sym c.is_true-then-is_value-8.ensures ∙ c.if-is_true.true)) i
+    (false_off remembers seen c.args.params.now wanted c.in-Some.rest.now c.in-Some.instr.now c.in-WhereFalse.n c.run.hand c.run.stack c.in-WhereFalse.is (sym c.is_true-then-is_value-14.ensures ∙ c.if-is_true.true)) i
 
-pub run-preserved-else-is_value-8 : goal.run-preserved-else-is_value-8
-run-preserved-else-is_value-8 g c =
+pub run-preserved-else-is_value-14 : goal.run-preserved-else-is_value-14
+run-preserved-else-is_value-14 g c =
     let remembers = g.S.StreamStore.remembers c.args.store.now in
     let seen = g.S.StreamStore.seen c.args.store.now in
     let wanted : Outcome → Type 0 = λ r. Means remembers seen c.args.params.now c.args._expr.now r in
     let i = c.run.invariant in
-    jumps remembers seen c.args.params.now wanted c.run.code.now c.in-Some.rest.now c.past-code-else-is_value-8.result.now c.in-Some.instr.now c.in-WhereFalse.n (widened c.run.hand) c.run.stack c.run.stack c.in-Some.ensures.cases.0 c.past-code-else-is_value-8.ensures.rest
-    (false_none remembers seen c.args.params.now wanted c.in-Some.rest.now c.in-Some.instr.now c.in-WhereFalse.n c.run.hand c.run.stack c.in-WhereFalse.is (sym c.is_value-in-WhereFalse.ensures ∙ c.if-is_value-8.false)) i
+    jumps remembers seen c.args.params.now wanted c.run.code.now c.in-Some.rest.now c.past-code-else-is_value-14.result.now c.in-Some.instr.now c.in-WhereFalse.n (widened c.run.hand) c.run.stack c.run.stack c.in-Some.ensures.cases.0 c.past-code-else-is_value-14.ensures.rest
+    (false_none remembers seen c.args.params.now wanted c.in-Some.rest.now c.in-Some.instr.now c.in-WhereFalse.n c.run.hand c.run.stack c.in-WhereFalse.is (sym c.is_value-in-WhereFalse.ensures ∙ c.if-is_value-14.false)) i
 
 pub run-preserved-then-not-is_true-2 : goal.run-preserved-then-not-is_true-2
 run-preserved-then-not-is_true-2 g c =
@@ -141,16 +223,16 @@ run-preserved-then-not-is_true-2 g c =
     let wanted : Outcome → Type 0 = λ r. Means remembers seen c.args.params.now c.args._expr.now r in
     let i = c.run.invariant in
     jumps remembers seen c.args.params.now wanted c.run.code.now c.in-Some.rest.now c.past-code-then-not-is_true-2.result.now c.in-Some.instr.now c.in-Test.n (widened c.run.hand) c.run.stack c.run.stack c.in-Some.ensures.cases.0 c.past-code-then-not-is_true-2.ensures.rest
-    (test_off remembers seen c.args.params.now wanted c.in-Some.rest.now c.in-Some.instr.now c.in-Test.n c.in-Test.more c.run.hand c.run.stack c.in-Test.is (sym c.is_value-in-Test.ensures ∙ c.if-is_value-9.true) (sym c.is_true-then-is_value-9.ensures ∙ c.if-not-is_true-2.true)) i
+    (test_off remembers seen c.args.params.now wanted c.in-Some.rest.now c.in-Some.instr.now c.in-Test.n c.in-Test.more c.run.hand c.run.stack c.in-Test.is (sym c.is_value-in-Test.ensures ∙ c.if-is_value-15.true) (sym c.is_true-then-is_value-15.ensures ∙ c.if-not-is_true-2.true)) i
 
-pub run-preserved-else-is_value-9 : goal.run-preserved-else-is_value-9
-run-preserved-else-is_value-9 g c =
+pub run-preserved-else-is_value-15 : goal.run-preserved-else-is_value-15
+run-preserved-else-is_value-15 g c =
     let remembers = g.S.StreamStore.remembers c.args.store.now in
     let seen = g.S.StreamStore.seen c.args.store.now in
     let wanted : Outcome → Type 0 = λ r. Means remembers seen c.args.params.now c.args._expr.now r in
     let i = c.run.invariant in
-    jumps remembers seen c.args.params.now wanted c.run.code.now c.in-Some.rest.now c.past-code-else-is_value-9.result.now c.in-Some.instr.now c.in-Test.more (widened c.run.hand) c.run.stack c.run.stack c.in-Some.ensures.cases.0 c.past-code-else-is_value-9.ensures.rest
-    (test_none remembers seen c.args.params.now wanted c.in-Some.rest.now c.in-Some.instr.now c.in-Test.n c.in-Test.more c.run.hand c.run.stack c.in-Test.is (sym c.is_value-in-Test.ensures ∙ c.if-is_value-9.false)) i
+    jumps remembers seen c.args.params.now wanted c.run.code.now c.in-Some.rest.now c.past-code-else-is_value-15.result.now c.in-Some.instr.now c.in-Test.more (widened c.run.hand) c.run.stack c.run.stack c.in-Some.ensures.cases.0 c.past-code-else-is_value-15.ensures.rest
+    (test_none remembers seen c.args.params.now wanted c.in-Some.rest.now c.in-Some.instr.now c.in-Test.n c.in-Test.more c.run.hand c.run.stack c.in-Test.is (sym c.is_value-in-Test.ensures ∙ c.if-is_value-15.false)) i
 
 pub run-preserved : goal.run-preserved
 run-preserved g c =

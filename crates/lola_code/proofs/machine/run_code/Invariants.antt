@@ -1,6 +1,6 @@
 use Rattle.std.proofs.Common.{length}
 use Rattle.lola_code.specs.Machine.{Leads}
-use Rattle.lola_code.specs.Shorts.{widened}
+use Rattle.lola_value.specs.Shorts.{widened}
 use Rattle.lola_code.proofs.Means.{Means}
 use Rattle.lola_code.proofs.machine.run_code.Given as goal
 

@@ -6,7 +6,7 @@ use Rattle.lola_value.specs.declared.text.Field.TheVariants as field
 use Rattle.lola_model.specs.Denotation.{operated}
 use Rattle.lola_expr.specs.Operands.{numbers_fit, operands_fit}
 use Rattle.lola_expr.proofs.OperandLemmas.{numbers}
-use Rattle.lola_code.specs.Shorts.{value_in}
+use Rattle.lola_value.specs.Shorts.{value_in}
 use Rattle.lola_code.proofs.Shorts.{if_number}
 use Rattle.lola_code.proofs.signs.quickly.Goals as goal
 
