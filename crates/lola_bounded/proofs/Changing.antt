@@ -16,6 +16,7 @@ use Rattle.lola_instances.proofs.Lists.{same_set, other_set}
 use Rattle.lola_bounded.specs.declared.stage.Stage.{Stage}
 use Rattle.lola_bounded.specs.declared.stage.Stage.TheVariants as stage
 use Rattle.lola_bounded.specs.Placed.{IsPaneOf, IsPlaced, ArePlaced}
+use Rattle.lola_bounded.specs.Spawning.{AreNumbered, is_among}
 use Rattle.lola_bounded.specs.Stages.{phase_in, is_on, start_in, time_in}
 use Rattle.lola_bounded.specs.Streams.{crowd_layout, slots_in, slot_at}
 use Rattle.lola_bounded.proofs.Asking.{stream_at}
@@ -67,6 +68,17 @@ placed_set ws sizes places cs n c y e l q h =
             | false ↦ λ t. h.each i w p k x f g a (sym (other_set cs n w.target y (eqb-false w.target n t)) ∙ at)
           ]) refl;
     }
+
+-- its number is listed as before
+pub numbered_set : (cs : List Crowd) (ns : List ℕ) (n : ℕ) (c y : Crowd) → slice_get cs n ≡ Some c → y.layout ≡ c.layout → AreNumbered cs ns → AreNumbered (slice_set cs n y) ns
+numbered_set cs ns n c y e l h = λ m x at spawns.
+    (elim (nat_eq m n) as (λ b. nat_eq m n ≡ b → is_among m ns ≡ true) [
+      | true ↦ λ t.
+          let k : m ≡ n = eqb-true m n t in
+          let s : y ≡ x = some_same (sym (same_set cs n c y e) ∙ (sym (ap (λ (j : ℕ). slice_get (slice_set cs n y) j) k) ∙ at)) in
+          h m c (ap (λ (j : ℕ). slice_get cs j) k ∙ e) (sym (ap (λ (z : StreamLayout). z.spawns) l) ∙ (ap (λ (z : Crowd). z.layout.spawns) s ∙ spawns))
+      | false ↦ λ t. h m x (sym (other_set cs n m y (eqb-false m n t)) ∙ at) spawns
+    ]) refl
 
 -- what is said of instances where one stream is another
 

@@ -8,3 +8,4 @@ mod Opened
 mod Preparing
 mod Keeping
 mod Dues
+mod Spawners

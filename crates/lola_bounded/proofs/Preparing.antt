@@ -1,6 +1,6 @@
 -- Room is made, and all else stays.
-use Rattle.std.proofs.Common.{◌≡◌, ℕ, zero, suc, ◌+◌, ◌≤◌, ◌<◌, List, [], ◌∷◌, length, map, refl, ap, sym, ◌∙◌, subst, arith, Option, Some, slice_get, slice_set, nat_eq, Bool, true, false, not, ◌&&◌, IsTrue}
-use Rattle.std.proofs.lemmas.Bool.{eqb-true, eqb-false}
+use Rattle.std.proofs.Common.{◌≡◌, ℕ, zero, suc, ◌+◌, ◌≤◌, List, [], ◌∷◌, length, map, refl, ap, sym, ◌∙◌, subst, arith, Option, Some, slice_get, slice_set, nat_eq, Bool, true, false, not, ◌&&◌, ◌||◌, ◌⊎◌, IsTrue, inl, inr}
+use Rattle.std.proofs.lemmas.Bool.{eqb-true}
 use Rattle.lola_model.specs.Store.{never_spawns}
 use Rattle.lola_model.specs.declared.plan.PaneSize.{PaneSize}
 use Rattle.lola_model.specs.declared.spec.WindowSpec.{WindowSpec}
@@ -8,16 +8,19 @@ use Rattle.lola_instance.specs.Holdings.{Holdings}
 use Rattle.lola_instances.specs.Crowds.{Crowd, crowd_seen}
 use Rattle.lola_instances.specs.Rights.{CrowdRight}
 use Rattle.lola_instances.proofs.Beginnings.{owed_two}
-use Rattle.lola_instances.proofs.Lists.{same_set, other_set}
 use Rattle.lola_bounded.specs.Placed.{ArePlaced}
-use Rattle.lola_bounded.specs.Rooms.{IsKept, AreKept, IsReady}
+use Rattle.lola_bounded.specs.Rooms.{IsKept, AreKept, AreReady, IsReady}
+use Rattle.lola_bounded.specs.Spawning.{AreNumbered, is_among}
 use Rattle.lola_bounded.specs.Streams.{crowd_layout, slot_at}
 use Rattle.lola_bounded.proofs.Changing.{placed_as}
+
+pub some_same : {X : Type 0} {x y : X} → Some x ≡ Some y → x ≡ y
+some_same q = cc
 
 kept_refl : (c : Crowd) → IsKept c c
 kept_refl c = record { rest = refl; capacity = omega arith; spares = omega arith }
 
-kept_trans : (c d f : Crowd) → IsKept c d → IsKept d f → IsKept c f
+pub kept_trans : (c d f : Crowd) → IsKept c d → IsKept d f → IsKept c f
 kept_trans c d f h g =
     record {
       rest = g.rest ∙ ap (λ (q : Crowd). record q { capacity = f.capacity; spares = f.spares }) h.rest;
@@ -28,6 +31,14 @@ kept_trans c d f h g =
 pub all_kept : (cs : List Crowd) → AreKept cs cs
 all_kept [] = tt
 all_kept (c ∷ cs) = (kept_refl c, all_kept cs)
+
+pub all_kept_trans : (cs ds fs : List Crowd) → AreKept cs ds → AreKept ds fs → AreKept cs fs
+all_kept_trans [] [] [] h g = tt
+all_kept_trans [] [] (f ∷ fs) h g = absurd g
+all_kept_trans [] (d ∷ ds) fs h g = absurd h
+all_kept_trans (c ∷ cs) [] fs h g = absurd h
+all_kept_trans (c ∷ cs) (d ∷ ds) [] h g = absurd g
+all_kept_trans (c ∷ cs) (d ∷ ds) (f ∷ fs) h g = (kept_trans c d f h.0 g.0, all_kept_trans cs ds fs h.1 g.1)
 
 pub kept_set : (cs ds : List Crowd) (i : ℕ) (d f : Crowd) → AreKept cs ds → slice_get ds i ≡ Some d → IsKept d f → AreKept cs (slice_set ds i f)
 kept_set [] [] i d f h e r = absurd (cc)
@@ -42,20 +53,6 @@ kept_at [] (x ∷ ds) i d h e = absurd h
 kept_at (c ∷ cs) [] i d h e = absurd h
 kept_at (c ∷ cs) (x ∷ ds) zero d h e = let q : x ≡ d = cc in (c, refl, subst (IsKept c) q h.0)
 kept_at (c ∷ cs) (x ∷ ds) (suc i) d h e = kept_at cs ds i d h.1 e
-
--- of the first few streams
-pub each_more : (P : Crowd → Type 0) (xs : List Crowd) (n : ℕ) (y z : Crowd) → ((i : ℕ) (x : Crowd) → i < n → slice_get xs i ≡ Some x → P x) → slice_get xs n ≡ Some y → P z
-    → (i : ℕ) (x : Crowd) → i < n + 1 → slice_get (slice_set xs n z) i ≡ Some x → P x
-each_more P xs n y z h e p i x l g =
-    (elim (nat_eq i n) as (λ b. nat_eq i n ≡ b → P x) [
-      | true ↦ λ q.
-          let w : i ≡ n = eqb-true i n q in
-          let s : Some z ≡ Some x = sym (ap (slice_get (slice_set xs n z)) w ∙ same_set xs n y z e) ∙ g in
-          let v : z ≡ x = cc in subst P v p
-      | false ↦ λ q.
-          let w = eqb-false i n q in
-          h i x (omega arith) (sym (other_set xs n i z w) ∙ g)
-    ]) refl
 
 module _ (running prepared : Bool) (step offset : ℕ) (c d : Crowd) (a : IsKept c d) (h : CrowdRight running prepared step offset c) where
   still : CrowdRight running prepared step offset (record c { capacity = d.capacity; spares = d.spares })
@@ -75,7 +72,7 @@ module _ (running prepared : Bool) (step offset : ℕ) (c d : Crowd) (a : IsKept
   pub kept_right : CrowdRight running prepared step offset d
   kept_right = subst (CrowdRight running prepared step offset) (sym a.rest) still
 
-  pub ready_right : IsReady d → CrowdRight running true step offset d
+  pub ready_right : (d.layout.spawns ≡ true → IsReady d) → CrowdRight running true step offset d
   ready_right g =
       let w = ap (λ (z : Crowd). z.layout.spawns) a.rest in
       let n = ap (λ (z : Crowd). length z.slots) a.rest in
@@ -85,8 +82,8 @@ module _ (running prepared : Bool) (step offset : ℕ) (c d : Crowd) (a : IsKept
         kept = h.kept;
         few = h.few;
         each = h.each;
-        room = λ e. omega (arith, g.room (w ∙ e), n, owed_two true running step c.spawned_at);
-        spares = λ e. omega (arith, g.spares (w ∙ e), owed_two true running step c.spawned_at);
+        room = λ e. omega (arith, (g (w ∙ e)).room (w ∙ e), n, owed_two true running step c.spawned_at);
+        spares = λ e. omega (arith, (g (w ∙ e)).spares (w ∙ e), owed_two true running step c.spawned_at);
       } in
       subst (CrowdRight running true step offset) (sym a.rest) k
 
@@ -99,6 +96,50 @@ prepared_ready c d a room spares =
       room = λ e. omega (arith, room (sym w ∙ e), n);
       spares = λ e. spares (sym w ∙ e);
     }
+
+-- one that had room has it still
+kept_ready : (c d : Crowd) → IsKept c d → IsReady c → IsReady d
+kept_ready c d a h =
+    let w = ap (λ (z : Crowd). z.layout.spawns) a.rest in
+    let n = ap (λ (z : Crowd). length z.slots) a.rest in
+    let m = a.capacity in
+    let s = a.spares in
+    record {
+      room = λ e. omega (arith, h.room (sym w ∙ e), n, m);
+      spares = λ e. omega (arith, h.spares (sym w ∙ e), s);
+    }
+
+-- of the streams of some numbers each has room, or its number is one of those that are left
+abbrev pub ReadyOr : List Crowd → List ℕ → List ℕ → Type 0
+ReadyOr cs ns left = (n : ℕ) (c : Crowd) → slice_get cs n ≡ Some c → is_among n ns ≡ true → IsReady c ⊎ (is_among n left ≡ true)
+
+pub ready_none : (cs : List Crowd) (ns : List ℕ) → ReadyOr cs ns ns
+ready_none cs ns = λ n c at among. inr among
+
+-- one more
+pub ready_more : (cs ds : List Crowd) (ns left rest : List ℕ) (x : ℕ) → ReadyOr cs ns left → left ≡ x ∷ rest → AreKept cs ds → ((d : Crowd) → slice_get ds x ≡ Some d → IsReady d) → ReadyOr ds ns rest
+ready_more cs ds ns left rest x h e k ready = λ n d at among.
+    let p = kept_at cs ds n d k at in
+    elim (h n p.0 p.1 among) [
+      | inl there ↦ inl (kept_ready p.0 d p.2 there)
+      | inr one ↦ next n d at (sym (ap (is_among n) e) ∙ one)
+    ]
+  where
+    next : (n : ℕ) (d : Crowd) → slice_get ds n ≡ Some d → is_among n (x ∷ rest) ≡ true → IsReady d ⊎ (is_among n rest ≡ true)
+    next n d at one =
+        (elim (nat_eq n x) as (λ b. nat_eq n x ≡ b → (b || is_among n rest) ≡ true → IsReady d ⊎ (is_among n rest ≡ true)) [
+          | true ↦ λ q o. inl (ready d (sym (ap (slice_get ds) (eqb-true n x q)) ∙ at))
+          | false ↦ λ q o. inr o
+        ]) refl one
+
+-- all of them
+pub ready_all : (cs : List Crowd) (ns left : List ℕ) → ReadyOr cs ns left → left ≡ [] → AreReady cs ns
+ready_all cs ns left h e = λ n c at among. elim (h n c at among) [ inl there ↦ there | inr one ↦ absurd (let k : is_among n [] ≡ true = sym (ap (is_among n) e) ∙ one in cc) ]
+
+pub numbered_still : (cs ds : List Crowd) (ns : List ℕ) → AreKept cs ds → AreNumbered cs ns → AreNumbered ds ns
+numbered_still cs ds ns k h = λ n d at spawns.
+    let p = kept_at cs ds n d k at in
+    h n p.0 p.1 (sym (ap (λ (z : Crowd). z.layout.spawns) p.2.rest) ∙ spawns)
 
 pub seen_still : (step : ℕ) (cs ds : List Crowd) → AreKept cs ds → map (crowd_seen step) ds ≡ map (crowd_seen step) cs
 seen_still step [] [] h = refl

@@ -2,6 +2,7 @@ pub mod Opening
 pub mod Placed
 pub mod Renaming
 pub mod Rooms
+pub mod Spawning
 pub mod Stages
 pub mod Stores
 pub mod Streams

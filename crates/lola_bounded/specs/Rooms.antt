@@ -1,6 +1,7 @@
 -- Room that is made, and what stays.
-use Rattle.std.specs.Prelude.{◌≡◌, ◌+◌, ◌≤◌, List, [], ◌∷◌, length, true}
+use Rattle.std.specs.Prelude.{ℕ, ◌≡◌, ◌+◌, ◌≤◌, List, [], ◌∷◌, Some, slice_get, length, true}
 use Rattle.lola_instances.specs.Crowds.{Crowd}
+use Rattle.lola_bounded.specs.Spawning.{is_among}
 
 -- the same stream, with no less room
 pub record IsKept (c d : Crowd) : Type 0 where
@@ -18,3 +19,7 @@ AreKept _ _ = ⊥
 pub record IsReady (d : Crowd) : Type 0 where
   pub room : d.layout.spawns ≡ true → length d.slots + 2 ≤ d.capacity
   pub spares : d.layout.spawns ≡ true → 2 ≤ d.spares
+
+-- the same of each stream whose number is one of these
+abbrev pub AreReady : List Crowd → List ℕ → Type 0
+AreReady cs ns = (n : ℕ) (c : Crowd) → slice_get cs n ≡ Some c → is_among n ns ≡ true → IsReady c

@@ -8,7 +8,7 @@ ghost use Rattle.lola_model.specs.Reading.{KeepsAll};
 ghost use Rattle.lola_model.specs.Store.{IsNew, CanBegin, after_start, after_begin, time_seen, now_seen};
 ghost use Rattle.lola_bounded.specs.Stores.{bounded_seen, bounded_remembers};
 
-use crate::stage::{Stage, start_of};
+use crate::stage::{Stage, start_of, time_since};
 use crate::store::BoundedStore;
 
 /// Sets where time counts from.
@@ -27,7 +27,9 @@ pub fn begin(s: &mut BoundedStore, time: u64)
     ensures past { (names : Naming) (n i : ℕ) (values : List (ℕ × Field)) → bounded_remembers s.old names n i values
         → bounded_remembers s.new names n i (values ++ one_more (time_seen (bounded_seen s.old)) (read_outcome names (now_seen (bounded_seen s.old) n i))) }
 {
-    s.stage = Stage::Running(start_of(s.stage), time);
+    let start = start_of(s.stage);
+    s.stage = Stage::Running(start, time);
+    s.offset = time_since(start, time);
     s.prepared = false;
     s.step += 1;
 }

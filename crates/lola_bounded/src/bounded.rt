@@ -1,10 +1,12 @@
 //! The bounded store as a store.
 
 use crate::store::BoundedStore;
-use crate::{begin, changes, prepare, reading};
+use crate::{begin, changes, giving, prepare, reading};
 use lola_model::store::{SpawnEnd, StreamStore, Whereabouts};
+use lola_value::brief::{Brief, BriefValue};
 use lola_value::text::Memory;
-use lola_value::value::{Outcome, Params, Value};
+use lola_value::value::{Outcome, Params};
+use std::thread::Threads;
 
 impl StreamStore for BoundedStore {
     const BOUNDED: bool = true;
@@ -44,17 +46,17 @@ impl StreamStore for BoundedStore {
     }
 
     #[inline(always)]
-    fn now_alone(&self, stream: u32) -> Outcome {
+    fn now_alone(&self, stream: u32) -> Brief {
         reading::now_alone(self, stream)
     }
 
     #[inline(always)]
-    fn newest_alone(&self, stream: u32) -> Outcome {
+    fn newest_alone(&self, stream: u32) -> Brief {
         reading::newest_alone(self, stream)
     }
 
     #[inline(always)]
-    fn back_alone(&self, stream: u32, k: u32) -> Outcome {
+    fn back_alone(&self, stream: u32, k: u32) -> Brief {
         reading::back_alone(self, stream, k)
     }
 
@@ -86,12 +88,22 @@ impl StreamStore for BoundedStore {
         reading::find(self, stream, params)
     }
 
-    fn push(&mut self, stream: u32, index: u32, value: Value) {
+    fn push(&mut self, stream: u32, index: u32, value: BriefValue) {
         changes::push(self, stream, index, value)
     }
 
     fn poison(&mut self, stream: u32, index: u32) {
         changes::poison(self, stream, index)
+    }
+
+    fn give_each<R: Threads + Sync>(
+        &mut self,
+        rt: &R,
+        stream: u32,
+        outcomes: &[Brief],
+        workers: u32,
+    ) {
+        giving::give_each(self, rt, stream, outcomes, workers)
     }
 
     fn poison_stream(&mut self, stream: u32) {

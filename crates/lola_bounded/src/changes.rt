@@ -10,13 +10,14 @@ ghost use Rattle.lola_model.specs.Store.{Fits, IsRunning, instances_seen, now_se
 ghost use Rattle.lola_bounded.specs.Stages.{time_in};
 ghost use Rattle.lola_bounded.specs.Stores.{bounded_seen, bounded_remembers};
 
-use crate::stage::{Stage, offset_of, time_of};
-use crate::store::BoundedStore;
+use crate::stage::{Stage, time_of};
+use crate::store::{BoundedStore, offset_of};
 use lola_model::store::SpawnEnd;
-use lola_value::value::{Params, Value};
+use lola_value::brief::BriefValue;
+use lola_value::value::Params;
 
 /// Gives an instance its value of this step.
-pub fn push(s: &mut BoundedStore, stream: u32, index: u32, value: Value)
+pub fn push(s: &mut BoundedStore, stream: u32, index: u32, value: BriefValue)
     requires running { IsRunning (bounded_seen s.old) }
     requires index { index < length (instances_seen (bounded_seen s.old) stream) }
     requires silent { IsTrue (is_silent (now_seen (bounded_seen s.old) stream index)) }
@@ -26,7 +27,7 @@ pub fn push(s: &mut BoundedStore, stream: u32, index: u32, value: Value)
         → bounded_remembers s.old names n i values → bounded_remembers s.new names n i values }
 {
     let step = s.step;
-    let offset = offset_of(s.stage);
+    let offset = offset_of(s);
     let lives = &mut s.streams[stream as usize];
     lives.push(step, offset, index as usize, value);
 }
@@ -40,7 +41,7 @@ pub fn poison(s: &mut BoundedStore, stream: u32, index: u32)
     ensures past { KeepsAll (bounded_remembers s.old) (bounded_remembers s.new) }
 {
     let step = s.step;
-    let offset = offset_of(s.stage);
+    let offset = offset_of(s);
     let lives = &mut s.streams[stream as usize];
     lives.poison(step, offset, index as usize);
 }
@@ -89,7 +90,7 @@ pub fn spawn(s: &mut BoundedStore, stream: u32, params: Params) -> SpawnEnd
         → bounded_remembers s.new names stream (length (instances_seen (bounded_seen s.old) stream)) [] }
 {
     let step = s.step;
-    let offset = offset_of(s.stage);
+    let offset = offset_of(s);
     let time = birth_time(s.stage);
     let lives = &mut s.streams[stream as usize];
     lives.spawn(step, offset, time, params)

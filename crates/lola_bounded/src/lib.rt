@@ -4,6 +4,7 @@
 mod begin;
 mod bounded;
 mod changes;
+mod giving;
 pub mod law;
 mod opening;
 mod prepare;

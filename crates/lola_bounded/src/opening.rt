@@ -1,6 +1,6 @@
 //! A new store.
 
-ghost use Rattle.std.specs.Prelude.{◌≡◌, ◌≤◌, ◌<◌, ◌++◌, ◌+◌, ◌^◌, nat_eq, if◌then◌else◌, [], ℕ, Some, IfOk, OnOk, drop, length, map, slice_get, unwrap_or};
+ghost use Rattle.std.specs.Prelude.{◌≡◌, ◌≤◌, ◌<◌, ◌++◌, ◌+◌, ◌^◌, nat_eq, if◌then◌else◌, [], ℕ, Some, true, IfOk, OnOk, drop, length, map, slice_get, unwrap_or};
 ghost use Rattle.lola_value.specs.Naming.{Naming};
 ghost use Rattle.lola_value.specs.declared.value.Kind.TheVariants as kinds;
 ghost use Rattle.lola_model.specs.NextStep.{local_rate_of, local_rates};
@@ -8,6 +8,7 @@ ghost use Rattle.lola_model.specs.Store.{StreamLayout, instances_seen, layout_of
 ghost use Rattle.lola_instance.specs.Unborn.{AllSound};
 ghost use Rattle.lola_instances.specs.Crowds.{Crowd};
 ghost use Rattle.lola_bounded.specs.Opening.{ArePlaces, IsOpened, IsStorable, count_onto, first_kept, first_locals, one_onto, onto, stream_layout};
+ghost use Rattle.lola_bounded.specs.Spawning.{AreNumbered, is_among};
 ghost use Rattle.lola_bounded.specs.Stores.{bounded_seen, bounded_remembers};
 ghost use Rattle.lola_bounded.specs.Streams.{crowd_layout};
 
@@ -252,6 +253,28 @@ fn open_all(
     Ok(made)
 }
 
+/// One more number, where it is that of a stream with a spawn clause.
+fn add_spawning(made: &mut Vec<usize>, number: usize, lives: &Instances) -> Result<(), Memory>
+    ensures old { OnOk result ((n : ℕ) → is_among n made.old.items ≡ true → is_among n made.new.items ≡ true) }
+    ensures new { OnOk result (lives.now.layout.spawns ≡ true → is_among number made.new.items ≡ true) }
+{
+    if lives.spawns() {
+        made.push(number)?;
+    }
+    Ok(())
+}
+
+/// The numbers of the streams with a spawn clause.
+fn spawning_of(alloc: Global, streams: &[Instances]) -> Result<Vec<usize>, Memory>
+    ensures { IfOk result (λ numbers. AreNumbered streams.now numbers.items) }
+{
+    let mut made = Vec::new(alloc);
+    for (i, lives) in streams.iter().enumerate() {
+        add_spawning(&mut made, i, lives)?;
+    }
+    Ok(made)
+}
+
 impl BoundedStore {
     /// A new store for the streams and windows of a plan, with all the memory that instances without a spawn clause will
     /// ever take. It remembers that no instance has a value yet. Instances are looked up by their parameters under the keys of `hasher`,
@@ -273,14 +296,17 @@ impl BoundedStore {
             plan.spec.windows.as_slice(),
             plan.panes.as_slice(),
         )?;
+        let spawning = spawning_of(alloc, streams.as_slice())?;
         Ok(BoundedStore {
             windows,
             sizes,
             stage: Stage::New,
             prepared: false,
             step: 1,
+            offset: 0,
             streams,
             places,
+            spawning,
         })
     }
 }

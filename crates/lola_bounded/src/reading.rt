@@ -15,12 +15,12 @@ ghost use Rattle.lola_instances.specs.Dues.{in_time};
 ghost use Rattle.lola_bounded.specs.Dues.{due_of_crowds};
 ghost use Rattle.lola_bounded.specs.Stores.{bounded_seen, bounded_remembers, panes_kept, values_kept};
 
-use crate::stage::offset_of;
-use crate::store::BoundedStore;
+use crate::store::{BoundedStore, offset_of};
 use lola_instances::due::earlier;
 use lola_instances::instances::Instances;
 use lola_model::spec::WindowSpec;
 use lola_model::store::Whereabouts;
+use lola_value::brief::Brief;
 use lola_value::value::{Outcome, Params};
 
 /// The instances of a stream.
@@ -72,7 +72,7 @@ pub fn back(s: &BoundedStore, stream: u32, params: &Params, k: u32) -> Outcome
 
 /// The value at this step of a stream without parameters.
 #[inline(always)]
-pub fn now_alone(s: &BoundedStore, stream: u32) -> Outcome
+pub fn now_alone(s: &BoundedStore, stream: u32) -> Brief
     requires stream { stream < length (bounded_seen s.now).layout.streams }
     requires none { parameters_of (slice_get (bounded_seen s.now).layout.streams stream) ≡ [] }
     ensures value { result ≡ now_of (bounded_seen s.now) stream no_params }
@@ -83,7 +83,7 @@ pub fn now_alone(s: &BoundedStore, stream: u32) -> Outcome
 
 /// The newest value at this step or before of a stream without parameters.
 #[inline(always)]
-pub fn newest_alone(s: &BoundedStore, stream: u32) -> Outcome
+pub fn newest_alone(s: &BoundedStore, stream: u32) -> Brief
     requires stream { stream < length (bounded_seen s.now).layout.streams }
     requires none { parameters_of (slice_get (bounded_seen s.now).layout.streams stream) ≡ [] }
     ensures living { MatchOption (place_of (bounded_seen s.now) stream no_params)
@@ -98,7 +98,7 @@ pub fn newest_alone(s: &BoundedStore, stream: u32) -> Outcome
 
 /// The k-th value before this step from the newest, from 1, of a stream without parameters.
 #[inline(always)]
-pub fn back_alone(s: &BoundedStore, stream: u32, k: u32) -> Outcome
+pub fn back_alone(s: &BoundedStore, stream: u32, k: u32) -> Brief
     requires stream { stream < length (bounded_seen s.now).layout.streams }
     requires none { parameters_of (slice_get (bounded_seen s.now).layout.streams stream) ≡ [] }
     requires k_low { 1 ≤ k }
@@ -207,7 +207,7 @@ pub fn window(s: &BoundedStore, window: u32, params: &Params) -> Outcome
 {
     let target = spec_of(s, window).target;
     let place = place_of_panes(s, window);
-    lives_of(s, target).window(s.step, params, place, offset_of(s.stage))
+    lives_of(s, target).window(s.step, params, place, offset_of(s))
 }
 
 impl BoundedStore {

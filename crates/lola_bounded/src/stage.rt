@@ -33,10 +33,10 @@ pub fn time_of(stage: Stage) -> u64
     }
 }
 
-/// How long after the start the time of this step is.
-pub fn offset_of(stage: Stage) -> u64
-    requires { start_in stage ≤ time_in stage }
-    ensures { result ≡ time_in stage - start_in stage }
+/// How long after the start a time is.
+pub fn time_since(start: u64, time: u64) -> u64
+    requires { start ≤ time }
+    ensures { result ≡ time - start }
 {
-    time_of(stage) - start_of(stage)
+    time - start
 }

@@ -14,6 +14,9 @@ use Rattle.lola_value.specs.declared.value.Outcome.{Outcome}
 use Rattle.lola_value.specs.declared.value.Outcome.TheVariants as outcome
 use Rattle.lola_value.specs.Answer.{Answer, Given, Missing, Poisoned}
 use Rattle.lola_value.specs.Kinds.{is_outcome_of}
+use Rattle.lola_value.specs.Shorts.{is_given, widened}
+use Rattle.lola_value.specs.declared.short.Short.{Short}
+use Rattle.lola_value.specs.declared.short.Short.TheVariants as short
 use Rattle.lola_value.specs.Naming.{Naming, read, read_outcome, the_text, IsHeld, AreHeld, IsHeldIn}
 use Rattle.lola_model.specs.Accesses.{from_end, one_more}
 use Rattle.lola_model.specs.Reading.{held_answer, spoiled, IsHeldBy}
@@ -26,6 +29,35 @@ use Rattle.lola_instance.specs.Memories.{shifted, AllSince, AllStandFor, life_va
 use Rattle.lola_instance.specs.Telling.{ToldAll}
 use Rattle.lola_instance.specs.WindowAnswers.{folded, window_value, IsFold, IsWindowAnswer}
 use Rattle.lola_instance.proofs.Ends.{ring_told, ring_answers, from_end-more}
+
+-- outcomes in short
+
+pub none_given : (o : Outcome) → is_given o ≡ false → (v : Value) → o ≡ outcome.Value v → ⊥
+none_given (outcome.Value w) h v e = cc
+none_given outcome.Missing h v e = cc
+none_given (outcome.Fault k) h v e = cc
+none_given outcome.Poison h v e = cc
+
+not_missing_widened : (s : Short) → (s ≡ short.Missing → ⊥) → widened s ≡ outcome.Missing → ⊥
+not_missing_widened short.False h e = cc
+not_missing_widened short.True h e = cc
+not_missing_widened (short.Int z) h e = cc
+not_missing_widened (short.Large n) h e = cc
+not_missing_widened (short.Text id) h e = cc
+not_missing_widened short.Missing h e = h refl
+not_missing_widened short.Overflow h e = cc
+not_missing_widened short.DivZero h e = cc
+not_missing_widened short.TooManyInstances h e = cc
+not_missing_widened short.Poison h e = cc
+
+pub not_missing : (s : Short) (o : Outcome) → widened s ≡ o → (s ≡ short.Missing → ⊥) → o ≡ outcome.Missing → ⊥
+not_missing s o e h q = not_missing_widened s h (e ∙ q)
+
+held_now : (o : Outcome) (names : Naming) (values : List (ℕ × Field)) → (o ≡ outcome.Missing → ⊥) → read_outcome names o ≡ held_answer (read_outcome names o) values
+held_now (outcome.Value v) names values h = refl
+held_now outcome.Missing names values h = absurd (h refl)
+held_now (outcome.Fault k) names values h = refl
+held_now outcome.Poison names values h = refl
 
 -- what the ring answers
 
@@ -67,6 +99,10 @@ answer_kind k vs j r o e q h =
 module _ (start time step : ℕ) (names : Naming) (s : Holdings) (values : List (ℕ × Field)) (h : Remembers start time step names s values) where
   ring_held : (r : Outcome) (o : Option Value) (k : ℕ) → r ≡ value_or_missing o → o ≡ before_newest k s.ring.values → IsHeldIn names r
   ring_held r o k e q = subst (IsHeldIn names) (sym (e ∙ ap value_or_missing q)) (answer_held names s.ring.values k h.held)
+
+  -- the newest value, where this step has an outcome
+  pub newest-now : (r : Outcome) → r ≡ shown step s → (r ≡ outcome.Missing → ⊥) → (read_outcome names r ≡ held_answer (read_outcome names (shown step s)) values) × IsHeldIn names r
+  newest-now r e some = (held_now r names values some ∙ ap (λ o. held_answer (read_outcome names o) values) e, subst (IsHeldIn names) (sym e) h.now_held)
 
   -- the newest value, where this step has no outcome
   pub newest-answers : (r : Outcome) (o : Option Value) → shown step s ≡ outcome.Missing → r ≡ value_or_missing o → o ≡ before_newest 0 s.ring.values → 1 ≤ s.ring.capacity

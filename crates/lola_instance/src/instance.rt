@@ -24,6 +24,8 @@ use lola_buffer::buffer::Buffer;
 use lola_panes::panes::Panes;
 use lola_sweep::adding::add_params;
 use lola_sweep::ids::Ids;
+use lola_value::brief::{Brief, BriefValue};
+use lola_value::short::Short;
 use lola_value::text::Memory;
 use lola_value::value::{Outcome, Params, Value};
 use std::alloc::Global;
@@ -36,7 +38,7 @@ pub struct Instance {
     params: Params,
     born: u64,
     stamp: u64,
-    outcome: Outcome,
+    outcome: Brief,
     values: Buffer,
     panes: Vec<Panes>,
 }
@@ -55,12 +57,12 @@ impl Model for Instance {
 
 // The value, if there is one.
 #[inline(always)]
-pub(crate) fn or_missing(value: Option<Value>) -> Outcome
+pub(crate) fn or_missing(value: Option<BriefValue>) -> Brief
     ensures { result ≡ value_or_missing value }
 {
     match value {
-        None => Outcome::Missing,
-        Some(value) => Outcome::Value(value),
+        None => Brief::missing(),
+        Some(value) => Brief::given(value),
     }
 }
 
@@ -83,9 +85,7 @@ fn give(panes: &mut Panes, offset: u64, value: Value)
     panes.add(offset, value);
 }
 
-// The value, to each window's panes, of which there is one at least. It is a function of its own, so that a stream with no window onto it has
-// no registers for them.
-#[inline(never)]
+// The value in full, to each window's panes.
 fn tell_each(panes: &mut Vec<Panes>, offset: u64, value: Value)
     requires { AllReady offset value panes.old.items }
     ensures { ToldAll offset value panes.old.items panes.new.items }
@@ -96,14 +96,24 @@ fn tell_each(panes: &mut Vec<Panes>, offset: u64, value: Value)
     }
 }
 
+// The value, to each window's panes, of which there is one at least. It is a function of its own, so that a stream with no window onto it has
+// no registers for them, and its value is not widened.
+#[inline(never)]
+fn tell_widened(panes: &mut Vec<Panes>, offset: u64, value: BriefValue)
+    requires { AllReady offset value panes.old.items }
+    ensures { ToldAll offset value panes.old.items panes.new.items }
+{
+    tell_each(panes, offset, value.widen());
+}
+
 // The value, to each window's panes.
 #[inline(always)]
-fn tell_panes(panes: &mut Vec<Panes>, offset: u64, value: Value)
+fn tell_panes(panes: &mut Vec<Panes>, offset: u64, value: BriefValue)
     requires { AllReady offset value panes.old.items }
     ensures { ToldAll offset value panes.old.items panes.new.items }
 {
     if panes.len() > 0 {
-        tell_each(panes, offset, value);
+        tell_widened(panes, offset, value);
     }
 }
 
@@ -149,7 +159,7 @@ impl Instance {
             params: without_parameters(),
             born: 0,
             stamp: 0,
-            outcome: Outcome::Missing,
+            outcome: Brief::missing(),
             values,
             panes,
         })
@@ -184,41 +194,42 @@ impl Instance {
 
     /// The outcome in the step of this number, missing where it was told none.
     #[inline(always)]
-    pub fn now(&self, step: u64) -> Outcome
+    pub fn now(&self, step: u64) -> Brief
         ensures { result ≡ shown step self.now }
     {
         if self.stamp == step {
             self.outcome
         } else {
-            Outcome::Missing
+            Brief::missing()
         }
     }
 
     /// The newest value, that of this step included.
     #[inline(always)]
-    pub fn newest(&self, step: u64) -> Outcome
+    pub fn newest(&self, step: u64) -> Brief
         ensures value { (start time : ℕ) (names : Naming) (values : List (ℕ × Field)) → Remembers start time step names self.now values
             → (read_outcome names result ≡ held_answer (read_outcome names (shown step self.now)) values) × IsHeldIn names result }
         ensures kind { (k : Kind) → IsTrue (is_outcome_of k self.now.outcome) → AllOf k self.now.ring.values → IsTrue (is_outcome_of k result) }
     {
-        match self.now(step) {
-            Outcome::Missing => or_missing(self.values.back(0)),
-            outcome => outcome,
+        let now = self.now(step);
+        match now.short() {
+            Short::Missing => or_missing(self.values.back(0)),
+            _ => now,
         }
     }
 
     /// The k-th value before this step, from 1 to one less than the number of values that it keeps.
     #[inline(always)]
-    pub fn back(&self, step: u64, k: u32) -> Outcome
+    pub fn back(&self, step: u64, k: u32) -> Brief
         requires low { 1 ≤ k }
         requires high { k ≤ self.now.ring.capacity - 1 }
         ensures value { (start time : ℕ) (names : Naming) (values : List (ℕ × Field)) → Remembers start time step names self.now values
             → (read_outcome names result ≡ from_end values k) × IsHeldIn names result }
         ensures kind { (k : Kind) → AllOf k self.now.ring.values → IsTrue (is_outcome_of k result) }
     {
-        match self.now(step) {
-            Outcome::Value(_) => or_missing(self.values.back(k)),
-            _ => or_missing(self.values.back(k - 1)),
+        match self.now(step).value() {
+            Some(_) => or_missing(self.values.back(k)),
+            None => or_missing(self.values.back(k - 1)),
         }
     }
 
@@ -231,7 +242,7 @@ impl Instance {
         ensures value { MatchOption (slice_get self.now.panes place) ⊥ (IsWindowAnswer step offset self.now result) }
         ensures kind { MatchOption (slice_get self.now.panes place) ⊥ (λ p. IsTrue (is_outcome_of (gives_kind p.aggregation p.kind) result)) }
     {
-        match self.now(step) {
+        match self.now(step).widen() {
             Outcome::Poison => Outcome::Poison,
             Outcome::Fault(_) => Outcome::Poison,
             _ => fold_at(&self.panes, place, offset),
@@ -239,7 +250,7 @@ impl Instance {
     }
 
     /// The value of this step, `offset` after the start.
-    pub fn tell(&mut self, step: u64, offset: u64, value: Value)
+    pub fn tell(&mut self, step: u64, offset: u64, value: BriefValue)
         requires ready { AllReady offset value self.old.panes }
         ensures params { self.new.params ≡ self.old.params }
         ensures born { self.new.born ≡ self.old.born }
@@ -252,7 +263,7 @@ impl Instance {
             → Remembers start time step names self.new values }
     {
         self.stamp = step;
-        self.outcome = Outcome::Value(value);
+        self.outcome = Brief::given(value);
         self.values.push(value);
         tell_panes(&mut self.panes, offset, value);
     }
@@ -264,7 +275,7 @@ impl Instance {
             → shown step self.old ≡ outcome.Missing → Remembers start time step names self.new values }
     {
         self.stamp = step;
-        self.outcome = Outcome::Poison;
+        self.outcome = Brief::create(Short::Poison);
     }
 
     /// How many values it keeps now.

@@ -8,6 +8,7 @@ ghost use Rattle.lola_panes.specs.Standing.{no_values};
 use crate::instance::Instance;
 use crate::window::WindowPanes;
 use lola_model::spec::Agg;
+use lola_value::brief::BriefValue;
 use lola_value::value::{Kind, Outcome, Value};
 
 const NONE: Outcome = Outcome::Missing;
@@ -17,7 +18,7 @@ fn number(z: i128) -> Outcome {
 }
 
 // A value for an instance whose stream has no windows.
-fn tell_alone(slot: &mut Instance, step: u64, value: Value)
+fn tell_alone(slot: &mut Instance, step: u64, value: BriefValue)
     requires { slot.old.panes ≡ [] }
     ensures panes { slot.new.panes ≡ [] }
     ensures capacity { slot.new.ring.capacity ≡ slot.old.ring.capacity }
@@ -28,16 +29,16 @@ fn tell_alone(slot: &mut Instance, step: u64, value: Value)
 #[test]
 fn ring_of_two(rt: HostRuntime) {
     let mut slot = Instance::create(rt.alloc(), 2, &[]).expect(&rt, "memory");
-    tell_alone(&mut slot, 1, Value::Int(10));
-    assert_eq!(rt; slot.back(1, 1), NONE);
-    tell_alone(&mut slot, 2, Value::Int(20));
-    assert_eq!(rt; slot.back(2, 1), number(10));
-    assert_eq!(rt; slot.now(3), NONE);
-    assert_eq!(rt; slot.newest(3), number(20));
-    assert_eq!(rt; slot.back(3, 1), number(20));
-    tell_alone(&mut slot, 3, Value::Int(30));
+    tell_alone(&mut slot, 1, BriefValue::of(Value::Int(10)));
+    assert_eq!(rt; slot.back(1, 1).widen(), NONE);
+    tell_alone(&mut slot, 2, BriefValue::of(Value::Int(20)));
+    assert_eq!(rt; slot.back(2, 1).widen(), number(10));
+    assert_eq!(rt; slot.now(3).widen(), NONE);
+    assert_eq!(rt; slot.newest(3).widen(), number(20));
+    assert_eq!(rt; slot.back(3, 1).widen(), number(20));
+    tell_alone(&mut slot, 3, BriefValue::of(Value::Int(30)));
     assert_eq!(rt; slot.kept(), 2);
-    assert_eq!(rt; slot.back(3, 1), number(20));
+    assert_eq!(rt; slot.back(3, 1).widen(), number(20));
 }
 
 // 7 at 10 in step 1, for an instance with a window of three panes of 10.
@@ -45,7 +46,7 @@ fn tell_seven(slot: &mut Instance)
     requires { slot.old.panes ≡ no_values agg.Sum kind.Int64 10 3 false ∷ [] }
     ensures { MatchOption (slice_get slot.new.panes 0) ⊥ (λ p. (p.newest ≡ 10) × (p.pane ≡ 10)) }
 {
-    slot.tell(1, 10, Value::Int(7));
+    slot.tell(1, 10, BriefValue::of(Value::Int(7)));
 }
 
 // The sum in the window that ends with a pane.

@@ -16,7 +16,7 @@ pub fn add_ring(ring: &Buffer, into: &mut Ids) -> Result<(), Memory>
 {
     let count = ring.len();
     for i in 0..count {
-        add_outcome(or_missing(ring.back(count - 1 - i)), into)?;
+        add_outcome(or_missing(ring.back(count - 1 - i)).widen(), into)?;
     }
     Ok(())
 }

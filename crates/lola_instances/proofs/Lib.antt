@@ -6,6 +6,7 @@ pub mod Beginnings
 pub mod Answering
 pub mod Keys
 pub mod Dues
+pub mod Gifts
 pub mod Needing
 pub mod Taken
 pub mod Known

@@ -4,6 +4,7 @@ pub mod Changes
 pub mod Crowds
 pub mod Dues
 pub mod Each
+pub mod Givings
 pub mod Keys
 pub mod Listings
 pub mod Props

@@ -9,15 +9,19 @@ ghost use Rattle.lola_instance.specs.Telling.{AllReady};
 ghost use Rattle.lola_instances.specs.Cells.{AreKnown, AreMarked, IsSlotChanged, IsTaken, StandsIn, living};
 ghost use Rattle.lola_instances.specs.Changes.{HasTold, HasFailed, IsChangedAt};
 ghost use Rattle.lola_instances.specs.Crowds.{place_in};
+ghost use Rattle.lola_instances.specs.Givings.{AreGiven, AreReadyFor};
 
 use crate::directory::Directory;
+use crate::giving::give_cells;
 use lola_bits::bits::BitVector;
 use lola_instance::instance::Instance;
+use lola_value::brief::{Brief, BriefValue};
 use lola_value::text::Memory;
-use lola_value::value::{Params, Value};
+use lola_value::value::Params;
 use std::alloc::Global;
 use std::hash::RandomState;
 use std::marker::Model;
+use std::thread::Threads;
 
 /// The instances of a stream, seen as the list of those that live. Each has a cell, in order of birth, and that of one that is closed
 /// stays empty until as many are empty as are not: then they move together. Of a place among the living and a cell each is found from
@@ -130,7 +134,7 @@ fn place_among(cells: &[Option<Instance>], params: &Params) -> Option<usize>
 }
 
 // A value of this step, for the instance in a cell.
-fn tell_in(slot: &mut Option<Instance>, step: u64, offset: u64, value: Value)
+pub(crate) fn tell_in(slot: &mut Option<Instance>, step: u64, offset: u64, value: BriefValue)
     requires taken { IsTaken (Some slot.old) }
     requires ready { MatchOption slot.old ⊥ (λ s. AllReady offset value s.panes) }
     ensures { IsSlotChanged (HasTold step offset value) slot.old slot.new }
@@ -142,7 +146,7 @@ fn tell_in(slot: &mut Option<Instance>, step: u64, offset: u64, value: Value)
 }
 
 // Poison in this step, for the instance in a cell.
-fn poison_in(slot: &mut Option<Instance>, step: u64)
+pub(crate) fn poison_in(slot: &mut Option<Instance>, step: u64)
     requires { IsTaken (Some slot.old) }
     ensures { IsSlotChanged (HasFailed step) slot.old slot.new }
 {
@@ -371,7 +375,7 @@ impl Cells {
     }
 
     /// A value of this step, for the instance at a place.
-    pub fn tell(&mut self, place: usize, step: u64, offset: u64, value: Value)
+    pub fn tell(&mut self, place: usize, step: u64, offset: u64, value: BriefValue)
         requires place { place < length self.old.items }
         requires ready { MatchOption (slice_get self.old.items place) ⊥ (λ s. AllReady offset value s.panes) }
         ensures changed { IsChangedAt (HasTold step offset value) place self.old.items self.new.items }
@@ -389,6 +393,35 @@ impl Cells {
     {
         let cell = cell_at(&self.cells, &self.marks, self.empty, place);
         poison_in(&mut self.cells[cell], step);
+    }
+
+    /// Gives each instance its outcome, if no cell is empty: the cells are shared out among at most so many threads. Answers whether it was so.
+    pub fn give_together<R: Threads + Sync>(
+        &mut self,
+        rt: &R,
+        step: u64,
+        offset: u64,
+        outcomes: &[Brief],
+        workers: u32,
+    ) -> bool
+        requires workers { 1 ≤ workers }
+        requires ready { AreReadyFor offset self.old.items outcomes.now }
+        ensures given { result ≡ true → AreGiven step offset self.old.items outcomes.now self.new.items }
+        ensures none { result ≡ false → self.new.items ≡ self.old.items }
+        ensures rest { self.new ≡ record self.old { items = self.new.items } }
+    {
+        if self.empty > 0 {
+            return false;
+        }
+        give_cells(
+            rt,
+            self.cells.as_mut_slice(),
+            step,
+            offset,
+            outcomes,
+            workers,
+        );
+        true
     }
 
     /// Room for two more instances.

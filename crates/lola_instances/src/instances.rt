@@ -8,6 +8,7 @@ ghost use Rattle.lola_value.specs.Kinds.{are_of_kinds, is_of_kind, is_outcome_of
 ghost use Rattle.lola_value.specs.Naming.{Naming, read_outcome, the_values, IsHeld, IsHeldIn};
 ghost use Rattle.lola_value.specs.Times.{latest};
 ghost use Rattle.lola_model.specs.Accesses.{from_end};
+ghost use Rattle.lola_model.specs.Given.{AreHeldIn, AreOutcomesOf, given_each};
 ghost use Rattle.lola_model.specs.Reading.{held_answer};
 ghost use Rattle.lola_model.specs.Spawning.{has_room, spawn_end};
 ghost use Rattle.lola_model.specs.Store.{gives_kind, is_silent, no_params, opened, told_at};
@@ -25,6 +26,7 @@ ghost use Rattle.lola_instances.specs.Windowed.{IsWhole, windowed};
 
 use crate::cells::Cells;
 use crate::due::{first_dues, make_places};
+use crate::giving::give_in_turn;
 use crate::nothing::without_values;
 use crate::slots::{bear, fill_spares, first_slots};
 use lola_instance::instance::Instance;
@@ -33,12 +35,15 @@ use lola_instances_due::times::DueTimes;
 use lola_model::spec::Kinds;
 use lola_model::store::{SpawnEnd, Whereabouts};
 use lola_sweep::ids::Ids;
+use lola_value::brief::{Brief, BriefValue};
 use lola_value::rate::Rate;
+use lola_value::short::Short;
 use lola_value::text::Memory;
-use lola_value::value::{Kind, Outcome, Params, Value};
+use lola_value::value::{Kind, Outcome, Params};
 use std::alloc::Global;
 use std::hash::RandomState;
 use std::marker::Model;
+use std::thread::Threads;
 
 /// The instances of a stream, in order of birth. The numbers of steps, from 1, say when it was poisoned last and when its
 /// spawn clause ran last; 0 is none. Nothing is done to it when a step begins.
@@ -137,6 +142,13 @@ impl Instances {
         self.slots.len()
     }
 
+    /// Whether the stream has a spawn clause.
+    pub fn spawns(&self) -> bool
+        ensures { result ≡ self.now.layout.spawns }
+    {
+        self.spawns
+    }
+
     // The instance at a place.
     fn slot(&self, index: usize) -> &Instance
         requires { index < length self.now.slots }
@@ -228,7 +240,7 @@ impl Instances {
         }
         match self.found(params) {
             None => Outcome::Missing,
-            Some(i) => self.slot(i).now(step),
+            Some(i) => self.slot(i).now(step).widen(),
         }
     }
 
@@ -247,7 +259,7 @@ impl Instances {
         }
         match self.found(params) {
             None => Outcome::Missing,
-            Some(i) => self.slot(i).newest(step),
+            Some(i) => self.slot(i).newest(step).widen(),
         }
     }
 
@@ -265,30 +277,30 @@ impl Instances {
     {
         match self.found(params) {
             None => Outcome::Missing,
-            Some(i) => self.slot(i).back(step, k),
+            Some(i) => self.slot(i).back(step, k).widen(),
         }
     }
 
     /// The value in the step of a number, of a stream without parameters.
     #[inline(always)]
-    pub fn now_alone(&self, step: u64) -> Outcome
+    pub fn now_alone(&self, step: u64) -> Brief
         requires none { self.now.layout.parameters ≡ [] }
         requires steady { AreSteady self.now }
         ensures value { result ≡ now_in step self.now no_params }
         ensures kind { IsTrue (is_outcome_of self.now.layout.kind result) }
     {
         if self.is_bad(step) {
-            return Outcome::Poison;
+            return Brief::create(Short::Poison);
         }
         match self.alone() {
-            None => Outcome::Missing,
+            None => Brief::missing(),
             Some(first) => self.slot(first).now(step),
         }
     }
 
     /// The newest value in this step or before, of a stream without parameters.
     #[inline(always)]
-    pub fn newest_alone(&self, step: u64) -> Outcome
+    pub fn newest_alone(&self, step: u64) -> Brief
         requires none { self.now.layout.parameters ≡ [] }
         requires steady { AreSteady self.now }
         ensures living { MatchOption (place_in no_params self.now.slots 0)
@@ -298,17 +310,17 @@ impl Instances {
         ensures kind { IsTrue (is_outcome_of self.now.layout.kind result) }
     {
         if self.is_bad(step) {
-            return Outcome::Poison;
+            return Brief::create(Short::Poison);
         }
         match self.alone() {
-            None => Outcome::Missing,
+            None => Brief::missing(),
             Some(first) => self.slot(first).newest(step),
         }
     }
 
     /// The k-th value before this step from the newest, from 1 to one less than how many it keeps, of a stream without parameters.
     #[inline(always)]
-    pub fn back_alone(&self, step: u64, k: u32) -> Outcome
+    pub fn back_alone(&self, step: u64, k: u32) -> Brief
         requires none { self.now.layout.parameters ≡ [] }
         requires steady { AreSteady self.now }
         requires k_low { 1 ≤ k }
@@ -320,7 +332,7 @@ impl Instances {
         ensures kind { IsTrue (is_outcome_of self.now.layout.kind result) }
     {
         match self.alone() {
-            None => Outcome::Missing,
+            None => Brief::missing(),
             Some(first) => self.slot(first).back(step, k),
         }
     }
@@ -437,7 +449,7 @@ impl Instances {
     }
 
     /// The value of the instance at a place in this step, `offset` after the start.
-    pub fn push(&mut self, step: u64, offset: u64, index: usize, value: Value)
+    pub fn push(&mut self, step: u64, offset: u64, index: usize, value: BriefValue)
         requires step_ge { 2 ≤ step }
         requires step_le { step ≤ 2 ^ 63 + 1 }
         requires index { index < length self.old.slots }
@@ -467,6 +479,64 @@ impl Instances {
             → RemembersAt start time step names (slice_get self.old.slots i) values → RemembersAt start time step names (slice_get self.new.slots i) values }
     {
         self.slots.poison(index, step);
+    }
+
+    // Gives each instance what it comes to in this step, if none was closed whose cell is empty. Answers whether it was so.
+    fn give_together<R: Threads + Sync>(
+        &mut self,
+        rt: &R,
+        step: u64,
+        offset: u64,
+        outcomes: &[Brief],
+        workers: u32,
+    ) -> bool
+        requires step_ge { 2 ≤ step }
+        requires step_le { step ≤ 2 ^ 63 + 1 }
+        requires workers { 1 ≤ workers }
+        requires each { length outcomes.now ≡ length self.old.slots }
+        requires silent { (i : ℕ) → IsTrue (is_silent (shown_at step (slice_get self.old.slots i))) }
+        requires kinds { AreOutcomesOf self.old.layout.kind outcomes.now }
+        requires right { AreRight true step offset self.old }
+        ensures none { result ≡ false → self.new ≡ self.old }
+        ensures right { result ≡ true → AreRight true step offset self.new }
+        ensures rest { result ≡ true → self.new ≡ record self.old { slots = self.new.slots } }
+        ensures count { result ≡ true → length self.new.slots ≡ length self.old.slots }
+        ensures seen { result ≡ true → map (slot_seen step) self.new.slots ≡ given_each (map (slot_seen step) self.old.slots) outcomes.now }
+        ensures past { result ≡ true → (start time : ℕ) (names : Naming) (i : ℕ) (values : List (ℕ × Field)) → offset ≡ time - start → start ≤ time → AreHeldIn names outcomes.now
+            → RemembersAt start time step names (slice_get self.old.slots i) values → RemembersAt start time step names (slice_get self.new.slots i) values }
+    {
+        self.slots
+            .give_together(rt, step, offset, outcomes, workers)
+    }
+
+    /// Gives each instance what it comes to in this step, `offset` after the start, in order of birth: a value is told, a fault or poison
+    /// poisons it, and where there is none nothing happens. The instances are shared out among at most so many threads, as long as none
+    /// of those that were closed left an empty place between them.
+    pub fn give_each<R: Threads + Sync>(
+        &mut self,
+        rt: &R,
+        step: u64,
+        offset: u64,
+        outcomes: &[Brief],
+        workers: u32,
+    )
+        requires step_ge { 2 ≤ step }
+        requires step_le { step ≤ 2 ^ 63 + 1 }
+        requires workers { 1 ≤ workers }
+        requires each { length outcomes.now ≡ length self.old.slots }
+        requires silent { (i : ℕ) → IsTrue (is_silent (shown_at step (slice_get self.old.slots i))) }
+        requires kinds { AreOutcomesOf self.old.layout.kind outcomes.now }
+        requires right { AreRight true step offset self.old }
+        ensures right { AreRight true step offset self.new }
+        ensures rest { self.new ≡ record self.old { slots = self.new.slots } }
+        ensures count { length self.new.slots ≡ length self.old.slots }
+        ensures seen { map (slot_seen step) self.new.slots ≡ given_each (map (slot_seen step) self.old.slots) outcomes.now }
+        ensures past { (start time : ℕ) (names : Naming) (i : ℕ) (values : List (ℕ × Field)) → offset ≡ time - start → start ≤ time → AreHeldIn names outcomes.now
+            → RemembersAt start time step names (slice_get self.old.slots i) values → RemembersAt start time step names (slice_get self.new.slots i) values }
+    {
+        if !self.give_together(rt, step, offset, outcomes, workers) {
+            give_in_turn(self, step, offset, outcomes);
+        }
     }
 
     /// Poisons the stream in this step.

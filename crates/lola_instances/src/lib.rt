@@ -5,6 +5,7 @@
 mod cells;
 mod directory;
 pub mod due;
+mod giving;
 pub mod instances;
 mod key;
 #[cfg(test)]

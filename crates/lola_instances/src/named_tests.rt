@@ -1,20 +1,24 @@
-//! Instances with a parameter, which are found by it: born, closed, and born again. Their deadlines count from their births.
+//! Instances with a parameter, which are found by it: born, closed, and born again. Their deadlines count from their births, and they are
+//! given what they come to by three threads, or one after another where a cell is empty.
 
 ghost use Rattle.std.specs.Prelude.{◌≡◌, ◌<◌, ◌∷◌, [], length, IfOk, true};
 ghost use Rattle.lola_value.specs.declared.value.Kind.TheVariants as kinds;
-ghost use Rattle.lola_instances.specs.Rights.{AreRight};
+ghost use Rattle.lola_instances.specs.Rights.{AreRight, AreSteady};
 
 use crate::instances::Instances;
 use lola_model::spec::Kinds;
 use lola_model::store::SpawnEnd;
+use lola_value::brief::Brief;
 use lola_value::rate::Rate;
 use lola_value::text::Memory;
-use lola_value::value::{Kind, Params, TextId, Value};
+use lola_value::value::{FaultKind, Kind, Outcome, Params, TextId, Value};
 use std::alloc::Global;
 use std::hash::RandomState;
+use std::thread::Threads;
 
 // A stream of truths whose instances have a text as their parameter, and a deadline each second.
 fn named(alloc: Global, hasher: RandomState) -> Result<Instances, Memory>
+    ensures kind { IfOk result (λ l. l.layout.kind ≡ kinds.Bool) }
     ensures parameters { IfOk result (λ l. l.layout.parameters ≡ kinds.Text ∷ []) }
     ensures spawns { IfOk result (λ l. l.layout.spawns ≡ true) }
     ensures right { IfOk result (λ l. AreRight true 2 0 l) }
@@ -186,4 +190,65 @@ fn deadlines_from_births(rt: HostRuntime) {
     close(&mut lives, 0);
     assert_eq!(rt; lives.local_due(1_000_000_010), Some(2_000_000_009));
     assert_eq!(rt; lives.local_due(4_000_000_000_000_000_000), None);
+}
+
+// What four instances come to in step 3, by three threads: a value, a fault, nothing, and another value. Answers whether there are four.
+fn give_four<R: Threads + Sync>(rt: &R, lives: &mut Instances) -> bool
+    requires kind { lives.old.layout.kind ≡ kinds.Bool }
+    requires right { AreRight true 2 0 lives.old }
+    ensures count { result ≡ true → length lives.new.slots ≡ 4 }
+    ensures steady { AreSteady lives.new }
+{
+    let outcomes = [
+        Brief::of(Outcome::Value(Value::Bool(true))),
+        Brief::of(Outcome::Fault(FaultKind::Overflow)),
+        Brief::missing(),
+        Brief::of(Outcome::Value(Value::Bool(false))),
+    ];
+    if lives.instances() != 4 {
+        return false;
+    }
+    lives.give_each(rt, 3, 0, &outcomes, 3);
+    true
+}
+
+// What the instance at a place shows in step 3, if one lives there.
+fn shown(lives: &Instances, place: usize) -> Option<Outcome>
+    requires { AreSteady lives.now }
+{
+    if lives.instances() <= place {
+        return None;
+    }
+    let params = lives.params_of(place);
+    Some(lives.now(3, &params))
+}
+
+#[test]
+fn given_by_three_threads(rt: HostRuntime) {
+    let hasher = RandomState::new(&rt).expect(&rt, "random bytes");
+    let mut lives = named(rt.alloc(), hasher).expect(&rt, "memory");
+    assert_eq!(rt; bear_many(&mut lives, 4).expect(&rt, "memory"), 4);
+    assert!(rt; give_four(&rt, &mut lives));
+    assert_eq!(rt; shown(&lives, 0), Some(Outcome::Value(Value::Bool(true))));
+    assert_eq!(rt; shown(&lives, 1), Some(Outcome::Poison));
+    assert_eq!(rt; shown(&lives, 2), Some(Outcome::Missing));
+    assert_eq!(rt; shown(&lives, 3), Some(Outcome::Value(Value::Bool(false))));
+    assert_eq!(rt; shown(&lives, 4), None);
+}
+
+#[test]
+fn given_past_an_empty_cell(rt: HostRuntime) {
+    let hasher = RandomState::new(&rt).expect(&rt, "random bytes");
+    let mut lives = named(rt.alloc(), hasher).expect(&rt, "memory");
+    assert_eq!(rt; bear_many(&mut lives, 5).expect(&rt, "memory"), 5);
+    close_one(&mut lives);
+    assert!(rt; give_four(&rt, &mut lives));
+    assert_eq!(rt; shown(&lives, 0), Some(Outcome::Value(Value::Bool(true))));
+    assert_eq!(rt; shown(&lives, 1), Some(Outcome::Poison));
+    assert_eq!(rt; shown(&lives, 2), Some(Outcome::Missing));
+    assert_eq!(rt; shown(&lives, 3), Some(Outcome::Value(Value::Bool(false))));
+    assert_eq!(rt;
+        lives.params_of(1),
+        Params::none().led_by(Value::Text(TextId(2)))
+    );
 }

@@ -6,6 +6,7 @@ ghost use Rattle.lola_instances.specs.Rights.{AreRight, AreSteady};
 
 use crate::instances::Instances;
 use lola_model::spec::Kinds;
+use lola_value::brief::BriefValue;
 use lola_value::text::Memory;
 use lola_value::value::{Kind, Outcome, Params, Value};
 use std::alloc::Global;
@@ -48,7 +49,7 @@ fn tell_first(lives: &mut Instances, value: bool)
     ensures steady { AreSteady lives.new }
     ensures right { AreRight true 2 0 lives.new }
 {
-    lives.push(2, 0, 0, Value::Bool(value));
+    lives.push(2, 0, 0, BriefValue::of(Value::Bool(value)));
 }
 
 // A value in a step after the one before.
@@ -62,7 +63,7 @@ fn tell_next(lives: &mut Instances, step: u64, value: bool)
     ensures one { length lives.new.slots ≡ 1 }
     ensures steady { AreSteady lives.new }
 {
-    lives.push(step, 0, 0, Value::Bool(value));
+    lives.push(step, 0, 0, BriefValue::of(Value::Bool(value)));
 }
 
 #[test]

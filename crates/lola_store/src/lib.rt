@@ -4,6 +4,7 @@
 mod begin;
 mod changes;
 mod due;
+mod giving;
 mod instance;
 pub mod law;
 mod opening;

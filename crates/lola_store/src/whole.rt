@@ -1,10 +1,12 @@
 //! The plain store as a store.
 
 use crate::store::WholeStore;
-use crate::{begin, changes, due, prepare, reading};
+use crate::{begin, changes, due, giving, prepare, reading};
 use lola_model::store::{SpawnEnd, StreamStore};
+use lola_value::brief::{Brief, BriefValue};
 use lola_value::text::Memory;
-use lola_value::value::{Outcome, Params, Value};
+use lola_value::value::{Outcome, Params};
+use std::thread::Threads;
 
 impl StreamStore for WholeStore {
     const BOUNDED: bool = false;
@@ -67,12 +69,22 @@ impl StreamStore for WholeStore {
         due::list_due(self, stream, time, places)
     }
 
-    fn push(&mut self, stream: u32, index: u32, value: Value) {
-        changes::push(self, stream, index, value)
+    fn push(&mut self, stream: u32, index: u32, value: BriefValue) {
+        changes::push(self, stream, index, value.widen())
     }
 
     fn poison(&mut self, stream: u32, index: u32) {
         changes::poison(self, stream, index)
+    }
+
+    fn give_each<R: Threads + Sync>(
+        &mut self,
+        _rt: &R,
+        stream: u32,
+        outcomes: &[Brief],
+        _workers: u32,
+    ) {
+        giving::give_each(self, stream, outcomes)
     }
 
     fn poison_stream(&mut self, stream: u32) {

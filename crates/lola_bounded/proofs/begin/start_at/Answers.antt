@@ -18,9 +18,11 @@ invariant_of-s c =
       step_le = s.step_le;
       begun = λ q. cc;
       time_ge = omega arith;
+      offset_is = omega (arith, s.offset_is, n);
       right = λ i k at. subst (λ (b : Bool). CrowdRight b s.prepared s.step (c.args.start - c.args.start) k) off
           (subst (λ (m : ℕ). CrowdRight (is_on s.stage) s.prepared s.step m k) n (s.right i k at));
       placed = s.placed;
+      numbered = s.numbered;
     }
 
 pub returns-clause-past : goal.returns-clause-past

@@ -7,7 +7,7 @@ use Rattle.lola_instances.specs.Rights.{AreRight, CrowdRight}
 use Rattle.lola_instances.proofs.Lists.{each-set}
 use Rattle.lola_bounded.specs.Stages.{phase_in, start_in, time_in, is_on}
 use Rattle.lola_bounded.proofs.Asking.{found_stream, index_is, layout_at}
-use Rattle.lola_bounded.proofs.Changing.{running_is_on, silent_in, layout_set, changed_set, placed_set, past_set, slots_right, slots_seen}
+use Rattle.lola_bounded.proofs.Changing.{running_is_on, silent_in, layout_set, changed_set, placed_set, numbered_set, past_set, slots_right, slots_seen}
 use Rattle.lola_bounded.proofs.changes.push.Goals as goal
 
 pub push-requires-clause-index : goal.push-requires-clause-index
@@ -48,9 +48,11 @@ invariant_of-s c =
       step_le = s.step_le;
       begun = s.begun;
       time_ge = s.time_ge;
+      offset_is = s.offset_is;
       right = each-set (CrowdRight (is_on s.stage) s.prepared s.step (time_in s.stage - start_in s.stage)) s.streams.items n y s.right
           (slots_right (is_on s.stage) s.prepared s.step (time_in s.stage - start_in s.stage) l y (s.right n l e) rest (omega arith) right);
       placed = placed_set s.windows s.sizes s.places.items s.streams.items n l y e (ap (λ (z : Crowd). z.layout) rest) (ap (λ (z : Crowd). z.windows) rest) s.placed;
+      numbered = numbered_set s.streams.items s.spawning.items n l y e (ap (λ (z : Crowd). z.layout) rest) s.numbered;
     }
 
 pub returns-clause-seen : goal.returns-clause-seen

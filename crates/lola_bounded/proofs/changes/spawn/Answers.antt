@@ -14,7 +14,7 @@ use Rattle.lola_bounded.specs.Stores.{bounded_seen}
 use Rattle.lola_bounded.specs.Streams.{slots_in, slot_at}
 use Rattle.lola_bounded.proofs.Asking.{phase_time, stream_read, layout_at, place_is, count_is}
 use Rattle.lola_bounded.proofs.Births.{spawns_at, unspawned, owed_some, spawn_right, spawn_layout, spawn_windows, spawn_seen}
-use Rattle.lola_bounded.proofs.Changing.{running_is_on, layout_set, placed_set, past_set}
+use Rattle.lola_bounded.proofs.Changing.{running_is_on, layout_set, placed_set, numbered_set, past_set}
 use Rattle.lola_bounded.proofs.changes.spawn.Goals as goal
 
 pub spawn-requires-clause-kinds : goal.spawn-requires-clause-kinds
@@ -68,9 +68,11 @@ invariant_of-s c =
       step_le = s.step_le;
       begun = s.begun;
       time_ge = s.time_ge;
+      offset_is = s.offset_is;
       right = each-set (CrowdRight (is_on s.stage) s.prepared s.step off) s.streams.items n y s.right
           (spawn_right (is_on s.stage) s.prepared s.step off l y c.birth_time-time.result c.args.params b (s.right n l e) o refl on (unspawned s.step s.streams.items n l e c.requires.first) q.living q.born q.spares right);
       placed = placed_set s.windows s.sizes s.places.items s.streams.items n l y e (spawn_layout s.step l y c.birth_time-time.result c.args.params b q.living q.born) (spawn_windows s.step l y c.birth_time-time.result c.args.params b q.living q.born) s.placed;
+      numbered = numbered_set s.streams.items s.spawning.items n l y e (spawn_layout s.step l y c.birth_time-time.result c.args.params b q.living q.born) s.numbered;
     }
 
 pub returns-clause-end : goal.returns-clause-end

@@ -1,15 +1,11 @@
-use Rattle.std.proofs.Common.{◌≡◌, ℕ, ◌<◌, Some, slice_get}
-use Rattle.std.specs.Prelude.{vec_len}
-use Rattle.std.specs.Vec.{vec_capacity}
-use Rattle.lola_instances.specs.Crowds.{Crowd}
-use Rattle.lola_bounded.specs.Rooms.{AreKept, IsReady}
+use Rattle.std.proofs.Common.{drop}
+use Rattle.lola_bounded.specs.Rooms.{AreKept}
+use Rattle.lola_bounded.proofs.Preparing.{ReadyOr}
 use Rattle.lola_bounded.proofs.prepare.make_all_ready.Given as goal
 
--- all is as it was but for room, and so far there is room
-abbrev pub invariant-loop-i : goal.invariant-loop-i
-invariant-loop-i l = record {
+-- all is as it was but for room, and each stream of the numbers that are passed has some
+abbrev pub invariant-loop-number : goal.invariant-loop-number
+invariant-loop-number l = record {
   kept : AreKept l.initial.streams.items l.streams.items;
-  len : vec_len l.streams ≡ vec_len l.initial.streams;
-  capacity : vec_capacity l.streams ≡ vec_capacity l.initial.streams;
-  done : (j : ℕ) (x : Crowd) → j < l.i → slice_get l.streams.items j ≡ Some x → IsReady x;
+  done : ReadyOr l.streams.items l.numbers (drop l.number-index l.numbers);
 }

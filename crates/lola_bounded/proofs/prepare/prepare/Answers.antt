@@ -1,7 +1,8 @@
-use Rattle.std.proofs.Common.{◌-◌, true}
+use Rattle.std.proofs.Common.{◌-◌, ◌∙◌, ap, true}
 use Rattle.lola_instances.specs.Crowds.{RemembersAt}
+use Rattle.lola_bounded.specs.Spawning.{is_among}
 use Rattle.lola_bounded.specs.Stages.{phase_in, start_in, time_in, is_on}
-use Rattle.lola_bounded.proofs.Preparing.{kept_at, kept_right, ready_right, seen_still, layout_still, slots_still, placed_still}
+use Rattle.lola_bounded.proofs.Preparing.{kept_at, kept_right, ready_right, seen_still, layout_still, slots_still, placed_still, numbered_still}
 use Rattle.lola_bounded.proofs.prepare.prepare.Goals as goal
 
 pub invariant_of-s : goal.invariant_of-s
@@ -15,8 +16,10 @@ invariant_of-s c =
       step_le = s.step_le;
       begun = s.begun;
       time_ge = s.time_ge;
+      offset_is = s.offset_is;
       right = λ i y e. let p = kept_at s.streams.items ks i y k e in kept_right (is_on s.stage) s.prepared s.step off p.0 y p.2 (s.right i p.0 p.1);
       placed = placed_still s.windows s.sizes s.places.items s.streams.items ks k s.placed;
+      numbered = numbered_still s.streams.items ks s.spawning.items k s.numbered;
     }
 
 pub invariant_of-s-in-Ok : goal.invariant_of-s-in-Ok
@@ -30,8 +33,10 @@ invariant_of-s-in-Ok c =
       step_le = s.step_le;
       begun = s.begun;
       time_ge = s.time_ge;
-      right = λ i y e. let p = kept_at s.streams.items ks i y k e in ready_right (is_on s.stage) s.prepared s.step off p.0 y p.2 (s.right i p.0 p.1) (c.in-Ok.ensures.ok i y e);
+      offset_is = s.offset_is;
+      right = λ i y e. let p = kept_at s.streams.items ks i y k e in ready_right (is_on s.stage) s.prepared s.step off p.0 y p.2 (s.right i p.0 p.1) (λ w. c.in-Ok.ensures.ok i y e (ap (is_among i) c.as_slice.ensures.value ∙ numbered_still s.streams.items ks s.spawning.items k s.numbered i y e w));
       placed = placed_still s.windows s.sizes s.places.items s.streams.items ks k s.placed;
+      numbered = numbered_still s.streams.items ks s.spawning.items k s.numbered;
     }
 
 pub returns-in-Err-clause-err : goal.returns-in-Err-clause-err

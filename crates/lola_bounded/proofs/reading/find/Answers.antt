@@ -1,4 +1,4 @@
-use Rattle.std.proofs.Common.{ℕ, ◌≡◌, refl, ◌∙◌, List, Option, Some, None, false, IsTrue, slice_get, ap, sym, subst}
+use Rattle.std.proofs.Common.{ℕ, ◌≡◌, refl, ◌∙◌, List, Option, Some, None, slice_get, ap, sym, subst}
 use Rattle.std.specs.Option.{option_map}
 use Rattle.std.proofs.lemmas.Option.{slice_get-map}
 use Rattle.lola_value.specs.declared.value.Kind.{Kind}

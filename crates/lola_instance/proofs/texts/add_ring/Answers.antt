@@ -16,7 +16,7 @@ loop-i-preserved c =
     let l = c.loop-i-test.true in
     let places : i + k + 1 ≡ length vs = omega arith in
     let here : c.or_missing.result ≡ value_or_missing (before_newest k vs) = c.or_missing.ensures ∙ ap value_or_missing c.back.ensures.value in
-    let told : c.add_outcome.new.into ≡ c.loop-i.into ++ text_of_outcome (value_or_missing (before_newest k vs)) = c.in_ok-add_outcome.ensures ∙ ap (λ o. c.loop-i.into ++ text_of_outcome o) here in
+    let told : c.add_outcome.new.into ≡ c.loop-i.into ++ text_of_outcome (value_or_missing (before_newest k vs)) = c.in_ok-add_outcome.ensures ∙ ap (λ o. c.loop-i.into ++ text_of_outcome o) (c.widen.ensures ∙ here) in
     ap (λ (ids : List TextId). ids ++ texts_in (drop (i + 1) vs)) told
     ∙ (append_assoc c.loop-i.into (text_of_outcome (value_or_missing (before_newest k vs))) (texts_in (drop (i + 1) vs))
     ∙ (ap (λ (ids : List TextId). c.loop-i.into ++ ids) (sym (texts_from vs i k places)) ∙ c.loop-i.invariant))

@@ -1,4 +1,4 @@
-use Rattle.std.proofs.Common.{◌≡◌, ◌∙◌, ℕ, Some, false, map, slice_get, ap, sym, subst, arith, IsTrue}
+use Rattle.std.proofs.Common.{◌≡◌, ◌∙◌, ℕ, Some, false, map, slice_get, ap, refl, sym, subst, arith, IsTrue, List}
 use Rattle.lola_value.specs.declared.value.Kind.{Kind}
 use Rattle.lola_model.specs.Store.{New, kind_in, layouts_from, opened}
 use Rattle.lola_model.specs.Typing.{takes}
@@ -6,6 +6,7 @@ use Rattle.lola_instance.specs.Unborn.{AllSound}
 use Rattle.lola_instances.specs.Crowds.{Crowd}
 use Rattle.lola_bounded.specs.Opening.{ArePlaces, IsOpened, onto}
 use Rattle.lola_bounded.specs.Placed.{ArePlaced}
+use Rattle.lola_bounded.specs.Spawning.{AreNumbered}
 use Rattle.lola_bounded.specs.Streams.{crowd_layout}
 use Rattle.lola_bounded.proofs.Asking.{layout_at, slots_count}
 use Rattle.lola_bounded.proofs.Opened.{all_opened, blank_at, onto_sound, opened_placed}
@@ -32,9 +33,11 @@ invariant_of-result c =
       step_le = omega arith;
       begun = λ e. cc;
       time_ge = omega arith;
+      offset_is = refl;
       right = λ i k at. (made i k at).right (c.requires.plain i k.layout (ap (λ xs. slice_get xs i) (sym lay) ∙ layout_at ls i k at));
       placed = subst (λ t. t) (λ j. ArePlaced (sym c.in_ok-windows.ensures j) (sym c.in_ok-sizes.ensures j) c.in_ok-places.places.items ls)
           (opened_placed plan.spec.windows plan.panes c.in_ok-places.places.items ls c.requires.sizes c.requires.cut places made);
+      numbered = subst (λ (xs : List Crowd). AreNumbered xs c.in_ok-spawning.spawning.items) c.as_slice-7.ensures.value c.in_ok-spawning.ensures;
     }
 
 pub returns-clause-seen : goal.returns-clause-seen

@@ -1,5 +1,4 @@
 use Rattle.std.proofs.Common.{◌≡◌, sym, subst}
-use Rattle.lola_value.specs.declared.value.Outcome.TheVariants as outcome
 use Rattle.lola_instance.specs.Holdings.{Holdings, holdings}
 use Rattle.lola_instance.specs.Memories.{RemembersNothing}
 use Rattle.lola_instance.specs.Unborn.{unborn}
@@ -8,6 +7,6 @@ use Rattle.lola_instance.proofs.instance.Instance.create.Goals as goal
 
 pub returns-clause-nothing : goal.returns-clause-nothing
 returns-clause-nothing c =
-    let e : unborn c.args.capacity c.args.windows.now ≡ holdings c.without_parameters.result 0 0 outcome.Missing c.in_ok-values.values c.in_ok-panes.panes.items =
-    λ i. holdings (sym c.without_parameters.ensures i) 0 0 outcome.Missing (sym c.in_ok-values.ensures i) (sym c.in_ok-panes.ensures i) in
+    let e : unborn c.args.capacity c.args.windows.now ≡ holdings c.without_parameters.result 0 0 c.missing.result c.in_ok-values.values c.in_ok-panes.panes.items =
+    λ i. holdings (sym c.without_parameters.ensures i) 0 0 (sym c.missing.ensures i) (sym c.in_ok-values.ensures i) (sym c.in_ok-panes.ensures i) in
     subst (λ (w : Holdings). RemembersNothing w) e (unborn-nothing c.args.capacity c.args.windows.now c.requires.capacity)

@@ -13,8 +13,9 @@ returns-clause-past c = λ start time names values h held none o l.
     let v = c.args.value in
     let ps = c.tell_panes.new.panes.items in
     let w = c.self.view_is in
-    remembers-told start time c.args.step c.args.offset names s (holdings c.self.inside.params c.self.inside.born c.args.step (outcome.Value v) c.push.new.self ps) v values h held none o l
-    (ap (λ b. if b then outcome.Value v else outcome.Missing) (eq-eqb c.args.step c.args.step refl))
+    let given = c.given-self-inside.ensures in
+    remembers-told start time c.args.step c.args.offset names s (holdings c.self.inside.params c.self.inside.born c.args.step c.given-self-inside.result c.push.new.self ps) v values h held none o l
+    (ap (λ b. if b then c.given-self-inside.result else outcome.Missing) (eq-eqb c.args.step c.args.step refl) ∙ given)
     (ap (λ (b : Kept). b.capacity) c.push.ensures ∙ ap (λ (x : Holdings). x.ring.capacity) w)
     (ap (λ (b : Kept). b.values) c.push.ensures ∙ ap (λ (x : Holdings). keep_last x.ring.capacity (x.ring.values ++ v ∷ [])) w)
     (subst (λ (x : Holdings). ToldAll c.args.offset v x.panes ps) w c.tell_panes.ensures)

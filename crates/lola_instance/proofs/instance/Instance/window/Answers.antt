@@ -7,5 +7,6 @@ use Rattle.lola_instance.proofs.instance.Instance.window.Goals as goal
 pub returns-in_default-clause-value : goal.returns-in_default-clause-value
 returns-in_default-clause-value c =
     let r = c.fold_at.result in
-    window-found c.args.step c.args.offset c.args.self.now c.args.place r (λ k e. c.in_default.not-Fault k (c.now.ensures ∙ e)) (λ e. c.in_default.not-Poison (c.now.ensures ∙ e))
+    let o = c.widen.ensures ∙ c.now.ensures in
+    window-found c.args.step c.args.offset c.args.self.now c.args.place r (λ k e. c.in_default.not-Fault k (o ∙ e)) (λ e. c.in_default.not-Poison (o ∙ e))
     (subst (λ (w : Holdings). MatchOption (slice_get w.panes c.args.place) ⊥ (IsFold c.args.offset r)) c.self.view_is c.fold_at.ensures.value)

@@ -1,4 +1,6 @@
-use Rattle.std.proofs.Common.{arith}
+use Rattle.std.proofs.Common.{arith, IsTrue, subst, sym}
+use Rattle.lola_value.specs.declared.value.Outcome.{Outcome}
+use Rattle.lola_value.specs.Kinds.{is_outcome_of}
 use Rattle.lola_instances.proofs.Finding.{found_below}
 use Rattle.lola_instances.proofs.instances.Instances.back.Goals as goal
 
@@ -9,4 +11,6 @@ pub back-requires-clause-high : goal.back-requires-clause-high
 back-requires-clause-high c = omega (arith, c.requires.k_high, (c.requires.steady c.in-Some.i c.slot.result.now c.slot.ensures).capacity)
 
 pub returns-in-Some-clause-kind : goal.returns-in-Some-clause-kind
-returns-in-Some-clause-kind c = c.back.ensures.kind c.args.self.now.layout.kind (c.requires.steady c.in-Some.i c.slot.result.now c.slot.ensures).values
+returns-in-Some-clause-kind c =
+    subst (λ (o : Outcome). IsTrue (is_outcome_of c.args.self.now.layout.kind o)) (sym c.widen.ensures)
+    (c.back.ensures.kind c.args.self.now.layout.kind (c.requires.steady c.in-Some.i c.slot.result.now c.slot.ensures).values)
