@@ -147,7 +147,7 @@ fn values_of(
 ) -> Result<Option<Fields>, Memory>
     ensures { IfOk result (λ values. values ≡ values_of (fields_of fields.now) columns.now) }
 {
-    let mut values = Fields::create(alloc);
+    let mut values = Fields::with_room(alloc, columns.len())?;
     for column in columns {
         if !push_value(alloc, column, fields, &mut values)? {
             return Ok(None);

@@ -14,11 +14,16 @@ use Rattle.lola_model.specs.declared.plan.Plan.{Plan}
 use Rattle.lola_model.specs.declared.spec.Clause.{Clause}
 use Rattle.lola_model.specs.declared.spec.Stream.{Stream}
 use Rattle.lola_model.specs.declared.store.Whereabouts.{Whereabouts}
+use Rattle.lola_model.specs.declared.journal.Show.{Show}
 use Rattle.lola_step.specs.Closings.{AreUpTo, all_places}
+use Rattle.lola_step.specs.Found.{all_verdicts, is_hidden, verdicts_among}
+use Rattle.lola_step.specs.Scratches.{no_span}
+use Rattle.lola_step.specs.declared.verdict.Verdict.{Verdict}
 use Rattle.lola_step.specs.Moments.{may_be_active_in}
-use Rattle.lola_step.specs.Notes.{is_fine, layer_spans, layer_tasks, places_of, runs_in, stream_tasks}
+use Rattle.lola_step.specs.Notes.{asked_in, in_span, is_fine, layer_spans, layer_tasks, places_of, runs_in, sought_at, stream_tasks}
 use Rattle.lola_step.specs.Rooms.{rooms, total}
-use Rattle.lola_step.specs.Schedules.{has_turn}
+use Rattle.lola_step.specs.Schedules.{has_parameters, has_turn}
+use Rattle.lola_step.specs.Sought.{AreUnsought}
 use Rattle.lola_step.specs.Spawns.{IsNextSpawn}
 use Rattle.lola_step.specs.Steps.{AreInputs}
 use Rattle.lola_step.specs.declared.mark.Mark.{Mark}
@@ -32,11 +37,12 @@ use Rattle.lola_step.proofs.Closable.{up_to_first, up_to_stream}
 use Rattle.lola_step.proofs.Conditions.{FoundBefore, found_stream, none_without}
 use Rattle.lola_step.proofs.Elements.{cut, drop_past}
 use Rattle.lola_step.proofs.Gathering.{asked_tasks, gathers_spans, gathers_tasks}
-use Rattle.lola_step.proofs.Seeking.{SoughtUpTo, sought_none}
+use Rattle.lola_step.proofs.Seeking.{SoughtUpTo, sought_kept, sought_none, unknown_silent}
 use Rattle.lola_step.proofs.SpawnTurns.{AreSpawned, no_clause_next, one_more_spawned, other_layer_next}
 use Rattle.lola_step.proofs.Standing.{room_there}
 use Rattle.lola_step.proofs.Telling.{AreTold, none_told}
 use Rattle.lola_step.proofs.Turns.{IsTurn, IsWalk, walk_done, walk_item}
+use Rattle.lola_step.proofs.Valued.{streams_step}
 
 -- a stream has its turn, whichever way it is known
 pub has_turn_there : (plan : Plan) (t : Turn) (n : ℕ) (x y : Stream) → slice_get plan.spec.streams n ≡ Some x → slice_get plan.spec.streams n ≡ Some y → has_turn plan t n x ≡ true → has_turn plan t n y ≡ true
@@ -159,27 +165,54 @@ module _ (plan : Plan) (m : Moment) (marks : List Mark) (sought : List Whereabou
         gathered_all old spans new spans'
         (walk_done (has_turn plan (turn.Eval layer)) plan.spec.streams (AreGathered old spans new spans') (gathered_past old spans new spans' long) turns k past walk)
 
--- below the first nothing is to be noted
-pub sought_first : (plan : Plan) (m : Moment) (marks : List Mark) (remembers : Memories) (s : Seen) (layer : ℕ) (sought : List Whereabouts) → SoughtUpTo plan m marks remembers s layer 0 sought
-sought_first plan m marks remembers s layer sought n x below = absurd (omega (arith, below))
+-- where instances of streams with parameters stand
 
-pub sought_past : (plan : Plan) (m : Moment) (marks : List Mark) (remembers : Memories) (s : Seen) (layer : ℕ) (sought : List Whereabouts) (n : ℕ) (x : Stream)
-    → slice_get plan.spec.streams n ≡ Some x → has_turn plan (turn.Eval layer) n x ≡ false
-    → SoughtUpTo plan m marks remembers s layer n sought → SoughtUpTo plan m marks remembers s layer (n + 1) sought
-sought_past plan m marks remembers s layer sought n x at none h = sought_none plan m marks remembers s layer n x sought at (never_runs plan m marks layer n x none) h
+later_false : (a b : Bool) → a ≡ true → (a && b) ≡ false → b ≡ false
+later_false true b e f = f
+later_false false b e f = absurd (cc)
 
-module _ (plan : Plan) (m : Moment) (marks : List Mark) (remembers : Memories) (s : Seen) (layer : ℕ) (sought : List Whereabouts) (turns : List ℕ) (k : ℕ)
-    (walk : IsWalk (has_turn plan (turn.Eval layer)) plan.spec.streams (λ n. SoughtUpTo plan m marks remembers s layer n sought) (drop k turns)) where
-  -- the next of them
-  pub sought_turn : k < length turns
-      → IsTurn (has_turn plan (turn.Eval layer)) plan.spec.streams (λ n. SoughtUpTo plan m marks remembers s layer n sought) (get_or turns k 0) (drop (k + 1) turns)
-  sought_turn lt =
-      walk_item (has_turn plan (turn.Eval layer)) plan.spec.streams (λ n. SoughtUpTo plan m marks remembers s layer n sought) (sought_past plan m marks remembers s layer sought) turns k lt walk
+pub is_first : (a b : Bool) → (a && b) ≡ true → a ≡ true
+is_first true b e = refl
+is_first false b e = absurd (cc)
 
-  -- all of them
-  pub sought_end : length turns ≤ k → SoughtUpTo plan m marks remembers s layer (length plan.spec.streams) sought
-  sought_end past =
-      walk_done (has_turn plan (turn.Eval layer)) plan.spec.streams (λ n. SoughtUpTo plan m marks remembers s layer n sought) (sought_past plan m marks remembers s layer sought) turns k past walk
+pub is_second : (a b : Bool) → (a && b) ≡ true → b ≡ true
+is_second true b e = e
+is_second false b e = absurd (cc)
+
+-- one that is sought belongs to the layer, and has parameters
+pub seek_evals : (plan : Plan) (layer n : ℕ) (x : Stream) → has_turn plan (turn.Seek layer) n x ≡ true → has_turn plan (turn.Eval layer) n x ≡ true
+seek_evals plan layer n x e = is_second (has_parameters x) (not (is_input x) && nat_eq (layer_of plan.layers (eval_node n)) layer) e
+
+pub seek_has : (plan : Plan) (layer n : ℕ) (x : Stream) → has_turn plan (turn.Seek layer) n x ≡ true → has_parameters x ≡ true
+seek_has plan layer n x e = is_first (has_parameters x) (not (is_input x) && nat_eq (layer_of plan.layers (eval_node n)) layer) e
+
+module _ (plan : Plan) (m : Moment) (marks : List Mark) (remembers : Memories) (s : Seen) (layer : ℕ) where
+  -- of the streams below a number it is noted, and nothing of those without parameters
+  abbrev pub AreNotedBelow : List Whereabouts → ℕ → Type 0
+  AreNotedBelow sought n = SoughtUpTo plan m marks remembers s layer n sought × AreUnsought plan sought
+
+  -- below the first nothing is to be noted
+  pub sought_first : (sought : List Whereabouts) → AreUnsought plan sought → AreNotedBelow sought 0
+  sought_first sought h = (λ n x below. absurd (omega (arith, below)), h)
+
+  pub sought_past : (sought : List Whereabouts) (n : ℕ) (x : Stream) → slice_get plan.spec.streams n ≡ Some x → has_turn plan (turn.Seek layer) n x ≡ false
+      → AreNotedBelow sought n → AreNotedBelow sought (n + 1)
+  sought_past sought n x at none h = (by (has_parameters x) refl, h.1)
+    where
+      by : (b : Bool) → has_parameters x ≡ b → SoughtUpTo plan m marks remembers s layer (n + 1) sought
+      by false e = sought_kept plan m marks remembers s layer n x sought at (unknown_silent plan m remembers s n (sought_at sought n) (h.1 n x at e)) h.0
+      by true e =
+          sought_none plan m marks remembers s layer n x sought at
+          (never_runs plan m marks layer n x (later_false (has_parameters x) (not (is_input x) && nat_eq (layer_of plan.layers (eval_node n)) layer) e none)) h.0
+
+  module _ (sought : List Whereabouts) (turns : List ℕ) (k : ℕ) (walk : IsWalk (has_turn plan (turn.Seek layer)) plan.spec.streams (AreNotedBelow sought) (drop k turns)) where
+    -- the next of them
+    pub sought_turn : k < length turns → IsTurn (has_turn plan (turn.Seek layer)) plan.spec.streams (AreNotedBelow sought) (get_or turns k 0) (drop (k + 1) turns)
+    sought_turn lt = walk_item (has_turn plan (turn.Seek layer)) plan.spec.streams (AreNotedBelow sought) (sought_past sought) turns k lt walk
+
+    -- all of them
+    pub sought_end : length turns ≤ k → AreNotedBelow sought (length plan.spec.streams)
+    sought_end past = walk_done (has_turn plan (turn.Seek layer)) plan.spec.streams (AreNotedBelow sought) (sought_past sought) turns k past walk
 
 -- spawn clauses
 
@@ -228,3 +261,63 @@ module _ (plan : Plan) (accepted : IsAccepted plan) (is_row : Bool) (inputs : Li
     -- all of them
     pub told_end : length turns ≤ i → AreTold plan is_row inputs (length plan.spec.streams) k remembers s remembers' s'
     told_end past = walk_done (has_turn plan turn.Input) plan.spec.streams (λ n. AreTold plan is_row inputs n k remembers s remembers' s') told_past turns i past walk
+
+-- values that may have lines
+
+not_shown : (b : Bool) → not b ≡ false → b ≡ true
+not_shown true e = refl
+not_shown false e = absurd (cc)
+
+is_shown : (b : Bool) → not b ≡ true → b ≡ false
+is_shown true e = absurd (cc)
+is_shown false e = refl
+
+module _ (plan : Plan) (show : Show) (s : Seen) (tasks : List Task) (results : List Outcome) (spans : List Span) where
+  -- those of the streams below a number are collected, and there is room for the others
+  pub record AreCollected (verdicts : Vec Verdict) (n : ℕ) : Type 0 where
+    pub items : verdicts.items ++ all_verdicts show s tasks results n (drop n plan.spec.streams) (drop n spans) ≡ all_verdicts show s tasks results 0 plan.spec.streams spans
+    pub count : vec_len verdicts + total (drop n (rooms s)) ≤ total (rooms s)
+
+  -- below the first there are none
+  pub collected_first : (verdicts : Vec Verdict) → verdicts.items ≡ [] → AreCollected verdicts 0
+  collected_first verdicts none = record {
+    items = ap (λ (vs : List Verdict). vs ++ all_verdicts show s tasks results 0 plan.spec.streams spans) none;
+    count = omega (arith, verdicts.ok.0, ap length none);
+  }
+
+  module _ (long : length spans ≡ length plan.spec.streams) where
+    pub collected_past : (verdicts : Vec Verdict) (n : ℕ) (x : Stream) → slice_get plan.spec.streams n ≡ Some x → has_turn plan (turn.Shown show) n x ≡ false
+        → AreCollected verdicts n → AreCollected verdicts (n + 1)
+    collected_past verdicts n x at none h =
+        let p : Span = get_or spans n no_span in
+        let hidden : is_hidden show x ≡ true = not_shown (is_hidden show x) none in
+        let vs : List Verdict = verdicts_among s n (asked_in tasks (Some p)) (in_span results (Some p)) in
+        record {
+          items = streams_step show s tasks results plan.spec.streams spans n verdicts.items h.items x no_span _ _ verdicts.items at (omega (arith, long, slice_get_within plan.spec.streams n x at)) refl refl
+              (sym (append-nil verdicts.items) ∙ ap (λ b. verdicts.items ++ (if b then [] else vs)) (sym hidden));
+          count = omega (arith, room_there s n, h.count);
+        }
+
+    -- the values of one more stream that may have some
+    pub collected_next : (verdicts verdicts' : Vec Verdict) (n : ℕ) (x : Stream) (p : Span) → slice_get plan.spec.streams n ≡ Some x → has_turn plan (turn.Shown show) n x ≡ true → p ≡ get_or spans n no_span
+        → verdicts'.items ≡ verdicts.items ++ verdicts_among s n (asked_in tasks (Some p)) (in_span results (Some p))
+        → vec_len verdicts' + total (drop (n + 1) (rooms s)) ≤ total (rooms s)
+        → AreCollected verdicts n → AreCollected verdicts' (n + 1)
+    collected_next verdicts verdicts' n x p at turns same e count h =
+        let shown : is_hidden show x ≡ false = is_shown (is_hidden show x) turns in
+        let vs : List Verdict = verdicts_among s n (asked_in tasks (Some p)) (in_span results (Some p)) in
+        record {
+          items = streams_step show s tasks results plan.spec.streams spans n verdicts.items h.items x no_span _ _ verdicts'.items at (omega (arith, long, slice_get_within plan.spec.streams n x at))
+              (ap (λ q. asked_in tasks (Some q)) same) (ap (λ q. in_span results (Some q)) same)
+              (e ∙ ap (λ b. verdicts.items ++ (if b then [] else vs)) (sym shown));
+          count = count;
+        }
+
+    module _ (verdicts : Vec Verdict) (turns : List ℕ) (k : ℕ) (walk : IsWalk (has_turn plan (turn.Shown show)) plan.spec.streams (AreCollected verdicts) (drop k turns)) where
+      -- the next of them
+      pub collected_turn : k < length turns → IsTurn (has_turn plan (turn.Shown show)) plan.spec.streams (AreCollected verdicts) (get_or turns k 0) (drop (k + 1) turns)
+      collected_turn lt = walk_item (has_turn plan (turn.Shown show)) plan.spec.streams (AreCollected verdicts) (collected_past verdicts) turns k lt walk
+
+      -- all of them
+      pub collected_end : length turns ≤ k → AreCollected verdicts (length plan.spec.streams)
+      collected_end past = walk_done (has_turn plan (turn.Shown show)) plan.spec.streams (AreCollected verdicts) (collected_past verdicts) turns k past walk

@@ -107,7 +107,7 @@ now_else_outcome s n i o m j h = by (cases_eq m n)
     by (inl e) = same_of (λ y. now_at (slice_get (instances_of y) j)) (telling i o) (λ x. ap now_at (told_else x.instances i j o (h e))) s.streams n m
     by (inr d) = same_else (λ y. now_at (slice_get (instances_of y) j)) (telling i o) s.streams n m d
 
-now_else : (s : Seen) (t : Task) (r : Outcome) (m j : ℕ) → (m ≡ t.stream → j ≡ t.index → ⊥) → now_seen (after_giving s t r) m j ≡ now_seen s m j
+pub now_else : (s : Seen) (t : Task) (r : Outcome) (m j : ℕ) → (m ≡ t.stream → j ≡ t.index → ⊥) → now_seen (after_giving s t r) m j ≡ now_seen s m j
 now_else s t (outcome.Value v) m j h = now_else_outcome s t.stream t.index (outcome.Value v) m j h
 now_else s t outcome.Missing m j h = refl
 now_else s t (outcome.Fault k) m j h = now_else_outcome s t.stream t.index outcome.Poison m j h

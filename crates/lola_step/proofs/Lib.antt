@@ -15,7 +15,8 @@ pub mod Evaluation
 pub mod Endings
 pub mod Beginnings
 pub mod Gathering
-pub mod Giving
+pub mod OneByOne
+pub mod Together
 pub mod Results
 pub mod Keeping
 pub mod LayerTasks

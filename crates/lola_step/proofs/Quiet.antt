@@ -12,7 +12,7 @@ use Rattle.lola_stages.specs.Nexts.{told_each, told_from}
 use Rattle.lola_step.specs.Given.{AreHeldIn, told_outcomes}
 use Rattle.lola_step.specs.Notes.{AreOfStream, AreSilent, OneOf, ReadEach}
 use Rattle.lola_step.specs.declared.tasks.Task.{Task}
-use Rattle.lola_step.proofs.Giving.{is_missing}
+use Rattle.lola_step.proofs.OneByOne.{is_missing}
 
 -- the outcome of a life, if there is one
 abbrev pub outcome_at : Option Life → Answer

@@ -1,5 +1,5 @@
 -- Which instances of a layer are asked: the others have no outcome.
-use Rattle.std.proofs.Common.{◌≡◌, refl, ap, ◌∙◌, sym, subst, ℕ, zero, suc, ◌+◌, ◌<◌, ◌≤◌, ◌⊎◌, inl, inr, List, [], ◌∷◌, Option, Some, Bool, true, false, IsTrue, slice_get, slice_set, length, arith}
+use Rattle.std.proofs.Common.{◌≡◌, refl, ap, ◌∙◌, sym, subst, ℕ, zero, suc, ◌+◌, ◌<◌, ◌≤◌, ◌⊎◌, inl, inr, List, [], ◌∷◌, Option, Some, Bool, true, false, IsTrue, slice_get, slice_set, length, replicate, arith}
 use Rattle.std.proofs.lemmas.Bool.{cases_eq, cases_lt}
 use Rattle.lola_value.specs.declared.value.Kind.{Kind}
 use Rattle.lola_value.specs.declared.text.Field.{Field}
@@ -17,13 +17,15 @@ use Rattle.lola_model.specs.declared.spec.Clause.{Clause}
 use Rattle.lola_model.specs.declared.spec.Spec.{Spec}
 use Rattle.lola_model.specs.declared.spec.Stream.{Stream}
 use Rattle.lola_model.specs.declared.store.Whereabouts.{Whereabouts}
+use Rattle.lola_model.specs.declared.store.Whereabouts.TheVariants.{Unknown}
 use Rattle.lola_ready.proofs.Clauses.{eval_may_ask}
 use Rattle.lola_stages.specs.Stages.{eval_stage}
 use Rattle.lola_step.specs.Clauses.{eval_answer}
 use Rattle.lola_step.specs.Moments.{active_for_in}
 use Rattle.lola_step.specs.Notes.{runs_in, sought_at}
 use Rattle.lola_step.specs.Progress.{IsAt, IsMomentOf}
-use Rattle.lola_step.specs.Sought.{AreSought, IsFalseElsewhere, IsSilentElsewhere, MayAskWhen}
+use Rattle.lola_step.specs.Schedules.{has_parameters}
+use Rattle.lola_step.specs.Sought.{AreSought, AreUnsought, IsFalseElsewhere, IsSilentElsewhere, MayAskWhen}
 use Rattle.lola_step.specs.declared.mark.Mark.{Mark}
 use Rattle.lola_step.specs.declared.moment.Moment.{Moment}
 use Rattle.lola_step.proofs.Activities.{active_for_is}
@@ -119,5 +121,43 @@ module _ (plan : Plan) (m : Moment) (marks : List Mark) (remembers : Memories) (
           absurd (cc)
       by (inr ne) = h n x (under n k ne below) at runs
 
+  -- where what is noted of it serves, that stays
+  pub sought_kept : (k : ℕ) (y : Stream) (sought : List Whereabouts) → slice_get plan.spec.streams k ≡ Some y → IsSilentElsewhere plan m remembers s k (sought_at sought k)
+      → SoughtUpTo k sought → SoughtUpTo (k + 1) sought
+  sought_kept k y sought there here h n x below at runs = by (cases_eq n k)
+    where
+      by : (n ≡ k) ⊎ (n ≡ k → ⊥) → IsSilentElsewhere plan m remembers s n (sought_at sought n)
+      by (inl e) =
+          let P : ℕ → Type 0 = λ i. IsSilentElsewhere plan m remembers s i (sought_at sought i) in
+          subst P (sym e) here
+      by (inr ne) = h n x (under n k ne below) at runs
+
   pub sought_all : (k : ℕ) (sought : List Whereabouts) → length plan.spec.streams ≤ k → SoughtUpTo k sought → AreSought plan m marks sought remembers s layer
   sought_all k sought past h n x at runs = h n x (omega (arith, past, within plan.spec.streams n x at)) at runs
+
+-- where nothing is known no instance stands elsewhere
+pub unknown_silent : (plan : Plan) (m : Moment) (remembers : Memories) (s : Seen) (n : ℕ) (w : Whereabouts) → w ≡ Unknown → IsSilentElsewhere plan m remembers s n w
+unknown_silent plan m remembers s n w e =
+    let P : Whereabouts → Type 0 = λ v. IsSilentElsewhere plan m remembers s n v in
+    subst P (sym e) (λ names c shown i y at out. absurd (cc))
+
+-- nothing is noted of streams without parameters
+
+unknown_at : (k n : ℕ) → sought_at (replicate k Unknown) n ≡ Unknown
+unknown_at zero n = refl
+unknown_at (suc k) zero = refl
+unknown_at (suc k) (suc n) = unknown_at k n
+
+pub all_unsought : (plan : Plan) (k : ℕ) (sought : List Whereabouts) → sought ≡ replicate k Unknown → AreUnsought plan sought
+all_unsought plan k sought e n x at none = ap (λ ws. sought_at ws n) e ∙ unknown_at k n
+
+pub unsought_set : (plan : Plan) (k : ℕ) (y : Stream) (w : Whereabouts) (sought : List Whereabouts) → slice_get plan.spec.streams k ≡ Some y → has_parameters y ≡ true
+    → AreUnsought plan sought → AreUnsought plan (slice_set sought k w)
+unsought_set plan k y w sought there some h n x at none = by (cases_eq n k)
+  where
+    by : (n ≡ k) ⊎ (n ≡ k → ⊥) → sought_at (slice_set sought k w) n ≡ Unknown
+    by (inl e) =
+        let same : x ≡ y = one_stream x y (slice_get plan.spec.streams k) (ap (λ i. slice_get plan.spec.streams i) (sym e) ∙ at) there in
+        let has : has_parameters x ≡ true = ap has_parameters same ∙ some in
+        absurd (cc)
+    by (inr ne) = read_else sought k n w ne ∙ h n x at none

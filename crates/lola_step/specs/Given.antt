@@ -1,10 +1,11 @@
 -- How instances are given their outcomes, one after another.
-use Rattle.std.specs.Prelude.{◌≡◌, ◌<◌, List, [], ◌∷◌, ◌++◌, length, slice_get, IsTrue}
+use Rattle.std.specs.Prelude.{ℕ, ◌≡◌, ◌<◌, List, Some, [], ◌∷◌, ◌++◌, length, slice_get, IsTrue}
 use Rattle.lola_value.specs.declared.value.Outcome.{Outcome}
 use Rattle.lola_value.specs.declared.value.Outcome.TheVariants as outcome
 use Rattle.lola_value.specs.Kinds.{is_outcome_of}
-use Rattle.lola_value.specs.Naming.{Naming, IsHeldIn, read_outcome}
+use Rattle.lola_value.specs.Naming.{Naming, read_outcome}
 use Rattle.lola_model.specs.Content.{Content, seen}
+pub use Rattle.lola_model.specs.Given.{AreHeldIn}
 use Rattle.lola_model.specs.Store.{IsRunning, Memories, Seen, after_outcome, instances_seen, is_silent, kind_in, now_seen}
 use Rattle.lola_model.specs.declared.plan.Plan.{Plan}
 use Rattle.lola_contents.specs.Changed.{told}
@@ -49,12 +50,15 @@ CanGiveAll s [] [] = Unit {0}
 CanGiveAll s (t ∷ ts) (r ∷ rs) = CanGive s t r × CanGiveAll (after_giving s t r) ts rs
 CanGiveAll s _ _ = ⊥
 
--- the naming has the texts of all these outcomes
-abbrev pub AreHeldIn : Naming → List Outcome → Type 0
-AreHeldIn names [] = Unit {0}
-AreHeldIn names (r ∷ rs) = IsHeldIn names r × AreHeldIn names rs
-
 -- the content once the instance of each task has its outcome, as others see it
 abbrev pub told_outcomes : Naming → Content → List Task → List Outcome → Content
 told_outcomes names c (t ∷ ts) (r ∷ rs) = told_outcomes names (told c t.stream t.index (seen (read_outcome names r))) ts rs
 told_outcomes names c _ _ = c
+
+-- the tasks are of streams that the store has
+abbrev pub AreKnown : Seen → List Task → Type 0
+AreKnown s ts = (i : ℕ) (t : Task) → slice_get ts i ≡ Some t → t.stream < length s.layout.streams
+
+-- the tasks are those of the first instances of a stream, in order
+abbrev pub AreFirstOf : ℕ → List Task → Type 0
+AreFirstOf n ts = (i : ℕ) → i < length ts → slice_get ts i ≡ Some (record { stream = n; index = i })

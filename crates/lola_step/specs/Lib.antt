@@ -1,4 +1,5 @@
 pub mod Moments
+pub mod Rates
 pub mod Clauses
 pub mod Tasks
 pub mod Once

@@ -12,6 +12,7 @@ use Rattle.lola_step.specs.Notes.{AreNoted}
 use Rattle.lola_step.specs.Progress.{IsRunAt}
 use Rattle.lola_step.specs.Rooms.{total}
 use Rattle.lola_step.specs.Schedules.{IsScheduleOf}
+use Rattle.lola_step.specs.Sought.{AreUnsought}
 use Rattle.lola_step.specs.declared.mark.Mark.TheVariants as mark
 use Rattle.lola_step.specs.declared.moment.Moment.{Moment}
 use Rattle.lola_step.specs.declared.scratch.Scratch.{Scratch}
@@ -29,12 +30,13 @@ pub record HasRoom (n : Scratch) (room : ℕ) : Type 0 where
 abbrev pub least_room : Plan → ℕ
 least_room plan = 2 * length plan.spec.streams
 
--- notes of a plan: a mark, a span and whereabouts for each stream, more layers than that of any node, the turns of its streams in each of
+-- notes of a plan: a mark, a span and whereabouts for each stream, where those of streams without parameters are never known, more layers than that of any node, the turns of its streams in each of
 -- them, the code of its specification, and at least the least room
 pub record IsScratchOf (plan : Plan) (n : Scratch) : Type 0 where
   pub marks : length n.marks.items ≡ length plan.spec.streams
   pub spans : length n.spans.items ≡ length plan.spec.streams
   pub sought : length n.sought.items ≡ length plan.spec.streams
+  pub unsought : AreUnsought plan n.sought.items
   pub layers : (node : ℕ) → layer_of plan.layers node < n.layers
   pub few_layers : n.layers ≤ 2 ^ 32
   pub scheduled : length n.schedule.layers.items ≡ n.layers

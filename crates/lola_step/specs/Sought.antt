@@ -13,11 +13,13 @@ use Rattle.lola_model.specs.declared.plan.Plan.{Plan}
 use Rattle.lola_model.specs.declared.spec.Clause.{Clause}
 use Rattle.lola_model.specs.declared.spec.Stream.{Stream}
 use Rattle.lola_model.specs.declared.store.Whereabouts.{Whereabouts}
+use Rattle.lola_model.specs.declared.store.Whereabouts.TheVariants.{Unknown}
 use Rattle.lola_ready.specs.Ready.{IsWhenAskable}
 use Rattle.lola_step.specs.Clauses.{eval_answer}
 use Rattle.lola_step.specs.Closings.{IsShown}
 use Rattle.lola_step.specs.Moments.{active_for_in}
 use Rattle.lola_step.specs.Notes.{runs_in, sought_at}
+use Rattle.lola_step.specs.Schedules.{has_parameters}
 use Rattle.lola_step.specs.declared.mark.Mark.{Mark}
 use Rattle.lola_step.specs.declared.moment.Moment.{Moment}
 
@@ -42,3 +44,7 @@ IsSilentElsewhere plan m remembers s n w =
 abbrev pub AreSought : Plan → Moment → List Mark → List Whereabouts → Memories → Seen → ℕ → Type 0
 AreSought plan m marks sought remembers s layer =
     (n : ℕ) (x : Stream) → slice_get plan.spec.streams n ≡ Some x → runs_in plan m marks layer n x ≡ true → IsSilentElsewhere plan m remembers s n (sought_at sought n)
+
+-- nothing is noted of streams without parameters, whose one instance is always asked
+abbrev pub AreUnsought : Plan → List Whereabouts → Type 0
+AreUnsought plan sought = (n : ℕ) (x : Stream) → slice_get plan.spec.streams n ≡ Some x → has_parameters x ≡ false → sought_at sought n ≡ Unknown

@@ -21,6 +21,8 @@ use lola_model::expr::Expr;
 use lola_model::plan::Plan;
 use lola_model::spec::{Clause, Stream};
 use lola_model::store::StreamStore;
+use lola_value::brief::Brief;
+use lola_value::short::Short;
 use lola_value::value::{FaultKind, Outcome, Params, Value};
 
 /// What a spawn clause asks for.
@@ -73,7 +75,7 @@ fn coded_outcome<S: StreamStore>(
     code: &Option<Code>,
     params: &Params,
     store: &S,
-) -> Outcome
+) -> Brief
     requires code { IsCodeOf (Some expr.now) code.now }
     requires running { IsRunning (S.seen store.now) }
     requires count { params.now.count ≤ 4 }
@@ -83,7 +85,7 @@ fn coded_outcome<S: StreamStore>(
 {
     match code {
         Some(code) => run(expr, code.as_slice(), params, store),
-        None => outcome_of(expr, params, store),
+        None => Brief::of(outcome_of(expr, params, store)),
     }
 }
 
@@ -94,7 +96,7 @@ fn coded_condition<S: StreamStore>(
     code: &Option<Code>,
     params: &Params,
     store: &S,
-) -> Outcome
+) -> Brief
     requires code { IsCodeOf when.now code.now }
     requires running { IsRunning (S.seen store.now) }
     requires count { params.now.count ≤ 4 }
@@ -102,7 +104,7 @@ fn coded_condition<S: StreamStore>(
     ensures answer { IsAnswer plan.now (S.remembers store.now) (S.seen store.now) params.now (λ c p. when_answer plan.now.spec c p when.now) result }
 {
     match when {
-        None => Outcome::Value(Value::Bool(true)),
+        None => Brief::create(Short::True),
         Some(expr) => coded_outcome(expr, code, params, store),
     }
 }
@@ -115,7 +117,7 @@ fn first_outcome<S: StreamStore>(
     code: &Option<Code>,
     params: &Params,
     store: &S,
-) -> Outcome
+) -> Brief
     requires code { IsCodeOf (first_of exprs.now) code.now }
     requires running { IsRunning (S.seen store.now) }
     requires count { params.now.count ≤ 4 }
@@ -125,7 +127,7 @@ fn first_outcome<S: StreamStore>(
 {
     match exprs.first() {
         Some(expr) => coded_outcome(expr, code, params, store),
-        None => Outcome::Missing,
+        None => Brief::missing(),
     }
 }
 
@@ -138,7 +140,7 @@ pub(crate) fn instance_outcome<S: StreamStore>(
     code: &EvalCode,
     params: &Params,
     store: &S,
-) -> Outcome
+) -> Brief
     requires code { IsEvalCode (Some clause.now) code.now }
     requires running { IsRunning (S.seen store.now) }
     requires count { params.now.count ≤ 4 }
@@ -147,7 +149,7 @@ pub(crate) fn instance_outcome<S: StreamStore>(
     ensures answer { IsAnswer plan.now (S.remembers store.now) (S.seen store.now) params.now (λ c p. clause_answer plan.now.spec c p clause.now) result }
 {
     let tested = coded_condition(plan, &clause.when, &code.when, params, store);
-    match tested {
+    match tested.widen() {
         Outcome::Value(Value::Bool(true)) => first_outcome(
             plan,
             stream,
@@ -156,7 +158,7 @@ pub(crate) fn instance_outcome<S: StreamStore>(
             params,
             store,
         ),
-        Outcome::Value(_) => Outcome::Missing,
+        Outcome::Value(_) => Brief::missing(),
         _ => tested,
     }
 }

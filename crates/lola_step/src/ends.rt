@@ -11,11 +11,13 @@ ghost use Rattle.lola_step.specs.Found.{FitLayout, IsFaultless, add_fault, add_v
 ghost use Rattle.lola_step.specs.Notes.{AreOfStream, AreSpans, AreVerdicts, AreWithin, asked_in, in_span};
 ghost use Rattle.lola_step.specs.Progress.{IsOf};
 ghost use Rattle.lola_step.specs.Rooms.{rooms, total};
+ghost use Rattle.lola_step.specs.Schedules.{turns_of};
 ghost use Rattle.lola_step.specs.Tasks.{params_given};
+ghost use Rattle.lola_step.specs.declared.schedule.Turn.TheVariants as turn;
 ghost use Rattle.lola_step.specs.declared.tasks.Task.{Task};
 
 use crate::mark::Mark;
-use crate::schedule::has_clause;
+use crate::schedule::{has_clause, stream_at};
 use crate::scratch::Span;
 use crate::tasks::{Task, no_parameters};
 use crate::verdict::Verdict;
@@ -23,6 +25,7 @@ use lola_model::journal::Show;
 use lola_model::plan::Plan;
 use lola_model::spec::{Sort, Stream};
 use lola_model::store::StreamStore;
+use lola_value::brief::Brief;
 use lola_value::value::{FaultKind, Outcome, Value};
 
 /// The lesser of two kinds, by their numbers.
@@ -46,18 +49,18 @@ pub(crate) fn with_fault(outcome: Outcome, least: Option<FaultKind>) -> Option<F
 }
 
 /// The least kind of a fault among outcomes.
-fn least_fault(results: &[Outcome]) -> Option<FaultKind>
+fn least_fault(results: &[Brief]) -> Option<FaultKind>
     ensures { result ≡ least_among results.now }
 {
     let mut least = None;
     for outcome in results {
-        least = with_fault(*outcome, least);
+        least = with_fault(outcome.widen(), least);
     }
     least
 }
 
 /// The fault of a stream: that of its spawn clause, or else the least of its instances'.
-fn stream_fault(mark: Mark, results: &[Outcome]) -> Option<FaultKind>
+fn stream_fault(mark: Mark, results: &[Brief]) -> Option<FaultKind>
     ensures { result ≡ fault_of mark results.now }
 {
     match mark {
@@ -67,7 +70,7 @@ fn stream_fault(mark: Mark, results: &[Outcome]) -> Option<FaultKind>
 }
 
 /// The outcomes of a span.
-fn outcomes_of(results: &[Outcome], span: Span) -> &[Outcome]
+fn outcomes_of(results: &[Brief], span: Span) -> &[Brief]
     requires { span.from + span.count ≤ length results.now }
     ensures value { result.now ≡ in_span results.now (Some span) }
     ensures count { length result.now ≡ span.count }
@@ -89,7 +92,7 @@ fn first_fault(
     plan: &Plan,
     marks: &[Mark],
     spans: &[Span],
-    results: &[Outcome],
+    results: &[Brief],
 ) -> Option<(u32, FaultKind)>
     requires accepted { IsAccepted plan.now }
     requires marks { length marks.now ≡ length plan.now.spec.streams }
@@ -111,7 +114,7 @@ pub(crate) fn fault_of_step(
     is_faulty: bool,
     marks: &[Mark],
     spans: &[Span],
-    results: &[Outcome],
+    results: &[Brief],
 ) -> Option<(u32, FaultKind)>
     requires accepted { IsAccepted plan.now }
     requires faultless { is_faulty ≡ false → IsFaultless marks.now results.now }
@@ -140,22 +143,22 @@ fn bare_verdict() -> Verdict
 
 /// The value of an instance that has the parameters of a verdict that is lent, if it has one. The verdict is filled in, so that its
 /// parameters are not made anew for each.
-fn add_bare(bare: &mut Verdict, stream: u32, outcome: &Outcome, verdicts: &mut Vec<Verdict>)
+fn add_bare(bare: &mut Verdict, stream: u32, outcome: &Brief, verdicts: &mut Vec<Verdict>)
     requires room { vec_len verdicts.old < vec_capacity verdicts.old }
     ensures bare { bare.new.params ≡ bare.old.params }
     ensures items { verdicts.new.items ≡ verdicts.old.items ++ add_verdict stream bare.old.params outcome.now [] }
     ensures count { vec_len verdicts.new ≤ vec_len verdicts.old + 1 }
     ensures capacity { vec_capacity verdicts.new ≡ vec_capacity verdicts.old }
 {
-    if let Outcome::Value(value) = outcome {
+    if let Outcome::Value(value) = outcome.widen() {
         bare.stream = stream;
-        bare.value = *value;
+        bare.value = value;
         verdicts.push_reserved(*bare);
     }
 }
 
 /// The values of a stream's instances, which have these outcomes and the parameters of a verdict that is lent.
-fn add_alone(bare: &mut Verdict, stream: u32, results: &[Outcome], verdicts: &mut Vec<Verdict>)
+fn add_alone(bare: &mut Verdict, stream: u32, results: &[Brief], verdicts: &mut Vec<Verdict>)
     requires room { vec_len verdicts.old + length results.now ≤ vec_capacity verdicts.old }
     ensures bare { bare.new.params ≡ bare.old.params }
     ensures items { verdicts.new.items ≡ verdicts.old.items ++ verdicts_with stream bare.old.params results.now }
@@ -174,7 +177,7 @@ fn add_value<S: StreamStore>(
     store: &S,
     stream: u32,
     index: u32,
-    outcome: Outcome,
+    outcome: Brief,
     verdicts: &mut Vec<Verdict>,
 )
     requires spawns { IsTrue (spawns_in (slice_get (S.seen store.now).layout.streams stream)) }
@@ -185,7 +188,7 @@ fn add_value<S: StreamStore>(
     ensures count { vec_len verdicts.new ≤ vec_len verdicts.old + 1 }
     ensures capacity { vec_capacity verdicts.new ≡ vec_capacity verdicts.old }
 {
-    if let Outcome::Value(value) = outcome {
+    if let Outcome::Value(value) = outcome.widen() {
         verdicts.push_reserved(Verdict {
             stream,
             params: store.params_of(stream, index),
@@ -199,7 +202,7 @@ fn add_values<S: StreamStore>(
     store: &S,
     stream: u32,
     tasks: &[Task],
-    results: &[Outcome],
+    results: &[Brief],
     verdicts: &mut Vec<Verdict>,
 )
     requires spawns { IsTrue (spawns_in (slice_get (S.seen store.now).layout.streams stream)) }
@@ -224,7 +227,7 @@ fn add_evaluated<S: StreamStore>(
     number: u32,
     span: Span,
     tasks: &[Task],
-    results: &[Outcome],
+    results: &[Brief],
     bare: &mut Verdict,
     verdicts: &mut Vec<Verdict>,
 )
@@ -257,7 +260,7 @@ fn is_empty(span: Span) -> bool
 }
 
 /// Whether the values of a stream have no lines: those of inputs, and those of outputs where triggers alone are shown.
-fn is_hidden(show: Show, stream: &Stream) -> bool
+pub(crate) fn is_hidden(show: Show, stream: &Stream) -> bool
     ensures { result ≡ is_hidden_of show stream.now }
 {
     match stream.sort {
@@ -270,15 +273,14 @@ fn is_hidden(show: Show, stream: &Stream) -> bool
     }
 }
 
-/// The values of a stream, if they may have lines. A stream of which no instance was asked is passed over at once.
-fn add_shown<S: StreamStore>(
+/// The values of a stream, which may have lines. A stream of which no instance was asked is passed over at once.
+fn add_asked<S: StreamStore>(
     store: &S,
-    show: Show,
     stream: &Stream,
     number: u32,
     span: Span,
     tasks: &[Task],
-    results: &[Outcome],
+    results: &[Brief],
     bare: &mut Verdict,
     verdicts: &mut Vec<Verdict>,
 )
@@ -290,8 +292,7 @@ fn add_shown<S: StreamStore>(
     requires asked { AreOfStream number 0 (length (instances_seen (S.seen store.now) number)) (asked_in tasks.now (Some span)) }
     requires room { vec_len verdicts.old + span.count ≤ vec_capacity verdicts.old }
     ensures bare { bare.new.params ≡ no_params }
-    ensures items { verdicts.new.items ≡ verdicts.old.items
-        ++ (if is_hidden_of show stream.now then [] else verdicts_among (S.seen store.now) number (asked_in tasks.now (Some span)) (in_span results.now (Some span))) }
+    ensures items { verdicts.new.items ≡ verdicts.old.items ++ verdicts_among (S.seen store.now) number (asked_in tasks.now (Some span)) (in_span results.now (Some span)) }
     ensures fit { FitLayout (S.seen store.now).layout verdicts.old.items → FitLayout (S.seen store.now).layout verdicts.new.items }
     ensures count { vec_len verdicts.new ≤ vec_len verdicts.old + span.count }
     ensures capacity { vec_capacity verdicts.new ≡ vec_capacity verdicts.old }
@@ -299,21 +300,21 @@ fn add_shown<S: StreamStore>(
     if is_empty(span) {
         return;
     }
-    if !is_hidden(show, stream) {
-        add_evaluated(store, stream, number, span, tasks, results, bare, verdicts);
-    }
+    add_evaluated(store, stream, number, span, tasks, results, bare, verdicts);
 }
 
-/// The values of all streams that may have lines, by the streams' numbers and in the order of birth.
+/// The values of all streams that may have lines, by the streams' numbers and in the order of birth. Which streams these are is told.
 pub(crate) fn collect<S: StreamStore>(
     plan: &Plan,
+    turns: &[u32],
     store: &S,
-    show: Show,
+    _show: Show,
     spans: &[Span],
     tasks: &[Task],
-    results: &[Outcome],
+    results: &[Brief],
     verdicts: &mut Vec<Verdict>,
 )
+    requires turns { turns.now ≡ turns_of plan.now (turn.Shown _show) }
     requires accepted { IsAccepted plan.now }
     requires of { IsOf plan.now (S.seen store.now) }
     requires running { IsRunning (S.seen store.now) }
@@ -323,13 +324,15 @@ pub(crate) fn collect<S: StreamStore>(
     requires none { verdicts.old.items ≡ [] }
     requires room { total (rooms (S.seen store.now)) ≤ vec_capacity verdicts.old }
     ensures verdicts { AreVerdicts plan.now verdicts.new.items }
-    ensures values { CollectsVerdicts plan.now show spans.now tasks.now results.now (S.remembers store.now) (S.seen store.now) verdicts.new.items }
+    ensures values { CollectsVerdicts plan.now _show spans.now tasks.now results.now (S.remembers store.now) (S.seen store.now) verdicts.new.items }
     ensures capacity { vec_capacity verdicts.new ≡ vec_capacity verdicts.old }
 {
     let mut bare = bare_verdict();
-    for (n, stream) in plan.spec.streams.as_slice().iter().enumerate() {
-        add_shown(
-            store, show, stream, n as u32, spans[n], tasks, results, &mut bare, verdicts,
+    for number in turns {
+        let stream = stream_at(plan, *number);
+        let span = spans[*number as usize];
+        add_asked(
+            store, stream, *number, span, tasks, results, &mut bare, verdicts,
         );
     }
 }

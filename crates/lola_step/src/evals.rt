@@ -2,6 +2,7 @@
 
 ghost use Rattle.std.specs.Prelude.{ℕ, ◌≡◌, ◌+◌, ◌<◌, ◌≤◌, ◌^◌, ◌++◌, ◌||◌, drop, false, if◌then◌else◌, length, replicate, slice_get, slice_set, take, true, vec_len, Some};
 ghost use Rattle.std.specs.Vec.{vec_capacity};
+ghost use Rattle.lola_value.specs.Shorts.{is_given};
 ghost use Rattle.lola_value.specs.Naming.{Naming, IsHeldIn, read_outcome};
 ghost use Rattle.lola_value.specs.Times.{latest};
 ghost use Rattle.lola_value.specs.declared.value.Outcome.TheVariants as outcome;
@@ -20,24 +21,26 @@ ghost use Rattle.lola_step.specs.Given.{AreAnswered, AreHeldIn, AreResults, CanG
 ghost use Rattle.lola_step.specs.Notes.{is_fine as is_fine_mark, layer_spans, layer_tasks, places_asked, places_from, places_paced, runs_in, sought_at, stream_tasks, tasks_at};
 ghost use Rattle.lola_step.specs.Progress.{GoesOn, IsAt, IsMomentOf, IsOf};
 ghost use Rattle.lola_step.specs.Rooms.{rooms, to_come, total};
+ghost use Rattle.lola_step.specs.Rates.{IsKnownAt};
 ghost use Rattle.lola_step.specs.Schedules.{has_turn, turns_of};
-ghost use Rattle.lola_step.specs.Sought.{AreSought, IsSilentElsewhere};
+ghost use Rattle.lola_step.specs.Sought.{AreSought, AreUnsought, IsSilentElsewhere};
 ghost use Rattle.lola_step.specs.Tasks.{AreTasks};
 ghost use Rattle.lola_step.specs.declared.schedule.Turn.TheVariants as turn;
 
+use crate::giving::give_shared;
 use crate::mark::Mark;
-use crate::moment::{Moment, may_be_active};
+use crate::moment::{LastRate, Moment, may_be_active, may_be_active_now};
 use crate::schedule::{has_clause, stream_at};
 use crate::scratch::Span;
 use crate::seek::seek;
 use crate::tasks::{Task, eval_pacing_at, run_tasks, task_outcome};
 use lola_code::plan::PlanCode;
-use lola_contents::calls::{poison, push};
 use lola_model::pacing::Pacing;
 use lola_model::plan::Plan;
 use lola_model::spec::Stream;
 use lola_model::store::{StreamStore, Whereabouts};
 use lola_port::Gate;
+use lola_value::brief::Brief;
 use lola_value::value::{Outcome, Params};
 use std::thread::Threads;
 
@@ -61,6 +64,19 @@ fn runs(plan: &Plan, moment: &Moment, marks: &[Mark], n: usize) -> bool
     ensures { (layer : ℕ) (stream : Stream) → has_turn plan.now (turn.Eval layer) n stream ≡ true → result ≡ runs_in plan.now moment.now marks.now layer n stream }
 {
     may_be_active(moment, eval_pacing_at(plan.pacings.as_slice(), n)) && is_fine(marks[n])
+}
+
+/// The same, where the rate that was asked about last is known.
+fn runs_now(plan: &Plan, moment: &Moment, marks: &[Mark], n: usize, last: &mut LastRate) -> bool
+    requires pacings { n < length plan.now.pacings }
+    requires marks { n < length marks.now }
+    requires in_time { moment.now.time ≤ latest }
+    requires order { moment.now.start ≤ moment.now.time }
+    requires known { IsKnownAt moment.now last.old }
+    ensures known { IsKnownAt moment.now last.new }
+    ensures runs { (layer : ℕ) (stream : Stream) → has_turn plan.now (turn.Eval layer) n stream ≡ true → result ≡ runs_in plan.now moment.now marks.now layer n stream }
+{
+    may_be_active_now(moment, eval_pacing_at(plan.pacings.as_slice(), n), last) && is_fine(marks[n])
 }
 
 /// Where the one instance of stream `n` stands that its eval clause is to be asked for, if the stream runs in a layer and the clause is
@@ -87,7 +103,7 @@ fn seek_stream<S: StreamStore>(
     let Some(clause) = &stream.eval else {
         return Whereabouts::Unknown;
     };
-    if stream.parameters.as_slice().is_empty() || !runs(plan, moment, marks, n) {
+    if !runs(plan, moment, marks, n) {
         return Whereabouts::Unknown;
     }
     match eval_pacing_at(plan.pacings.as_slice(), n) {
@@ -96,8 +112,8 @@ fn seek_stream<S: StreamStore>(
     }
 }
 
-/// Notes of each stream that runs in a layer where the one instance stands that is to be asked, where that is known. Those that have a
-/// turn in it are told.
+/// Notes of each stream that runs in a layer where the one instance stands that is to be asked, where that is known. Those of its
+/// streams that have parameters are told; of the others nothing is known.
 fn seek_layer<S: StreamStore>(
     plan: &Plan,
     turns: &[u32],
@@ -107,13 +123,15 @@ fn seek_layer<S: StreamStore>(
     marks: &[Mark],
     sought: &mut [Whereabouts],
 )
-    requires turns { turns.now ≡ turns_of plan.now (turn.Eval layer) }
+    requires turns { turns.now ≡ turns_of plan.now (turn.Seek layer) }
     requires accepted { IsAccepted plan.now }
     requires at { IsAt plan.now (eval_stage (length plan.now.spec.streams) layer) (S.seen store.now) }
     requires moment { IsMomentOf moment.now (S.seen store.now) }
     requires marks { length marks.now ≡ length plan.now.spec.streams }
     requires sought { length sought.old ≡ length plan.now.spec.streams }
-    ensures { AreSought plan.now moment.now marks.now sought.new (S.remembers store.now) (S.seen store.now) layer }
+    requires unsought { AreUnsought plan.now sought.old }
+    ensures unsought { AreUnsought plan.now sought.new }
+    ensures sought { AreSought plan.now moment.now marks.now sought.new (S.remembers store.now) (S.seen store.now) layer }
 {
     for number in turns {
         let n = *number as usize;
@@ -256,6 +274,7 @@ fn gather_stream<S: StreamStore>(
     places: &mut Vec<u32>,
     tasks: &mut Vec<Task>,
     spans: &mut [Span],
+    last: &mut LastRate,
 )
     requires few { n ≤ 1024 }
     requires turn { has_turn plan.now (turn.Eval layer) n stream.now ≡ true }
@@ -265,16 +284,18 @@ fn gather_stream<S: StreamStore>(
     requires order { moment.now.start ≤ moment.now.time }
     requires single { has_clause_of stream.now.spawn ≡ false → (is_local (eval_pacing (slice_get plan.now.pacings n)) ≡ false) × (length (instances_seen (S.seen store.now) n) ≡ 1) }
     requires spans { n < length spans.old }
+    requires known { IsKnownAt moment.now last.old }
     requires store { n < length (S.seen store.now).layout.streams }
     requires places_room { length (instances_seen (S.seen store.now) n) ≤ vec_capacity places.old }
     requires tasks_room { vec_len tasks.old + length (stream_tasks plan.now moment.now marks.now sought.now (S.seen store.now) layer n stream.now) ≤ vec_capacity tasks.old }
+    ensures known { IsKnownAt moment.now last.new }
     ensures tasks { tasks.new.items ≡ tasks.old.items ++ stream_tasks plan.now moment.now marks.now sought.now (S.seen store.now) layer n stream.now }
     ensures spans { spans.new ≡ (if runs_in plan.now moment.now marks.now layer n stream.now
         then slice_set spans.old n (record { from = vec_len tasks.old; count = length (stream_tasks plan.now moment.now marks.now sought.now (S.seen store.now) layer n stream.now) }) else spans.old) }
     ensures places { vec_capacity places.new ≡ vec_capacity places.old }
     ensures capacity { vec_capacity tasks.new ≡ vec_capacity tasks.old }
 {
-    if runs(plan, moment, marks, n) {
+    if runs_now(plan, moment, marks, n, last) {
         let from = tasks.len();
         let pacing = eval_pacing_at(plan.pacings.as_slice(), n);
         let whereabouts = sought_of(sought, n);
@@ -322,6 +343,7 @@ fn gather<S: StreamStore>(
     ensures places { vec_capacity places.new ≡ vec_capacity places.old }
     ensures capacity { vec_capacity tasks.new ≡ vec_capacity tasks.old }
 {
+    let mut last = LastRate::none();
     for number in turns {
         let n = *number as usize;
         gather_stream(
@@ -336,6 +358,7 @@ fn gather<S: StreamStore>(
             places,
             tasks,
             spans,
+            &mut last,
         );
     }
 }
@@ -371,7 +394,7 @@ fn share_tasks<R: Threads + Sync, S: StreamStore + Sync, G: Gate + Sync>(
     moment: &Moment,
     store: &S,
     tasks: &[Task],
-    results: &mut [Outcome],
+    results: &mut [Brief],
     from: usize,
     workers: u32,
 )
@@ -391,14 +414,14 @@ fn share_tasks<R: Threads + Sync, S: StreamStore + Sync, G: Gate + Sync>(
 }
 
 /// Places for so many outcomes behind those that stand there.
-fn add_places(results: &mut Vec<Outcome>, count: usize)
+fn add_places(results: &mut Vec<Brief>, count: usize)
     requires room { vec_len results.old + count ≤ vec_capacity results.old }
     ensures items { results.new.items ≡ results.old.items ++ replicate count outcome.Missing }
     ensures more { vec_len results.new ≡ vec_len results.old + count }
     ensures capacity { vec_capacity results.new ≡ vec_capacity results.old }
 {
     for _made in 0..count {
-        results.push_reserved(Outcome::Missing);
+        results.push_reserved(Brief::missing());
     }
 }
 
@@ -411,7 +434,7 @@ fn answer_shared<R: Threads + Sync, S: StreamStore + Sync, G: Gate + Sync>(
     moment: &Moment,
     store: &S,
     tasks: &[Task],
-    results: &mut Vec<Outcome>,
+    results: &mut Vec<Brief>,
     workers: u32,
 )
     requires code { code.now ≡ plan.now.spec }
@@ -452,7 +475,7 @@ fn answer_in_turn<S: StreamStore, G: Gate>(
     none: &Params,
     store: &S,
     tasks: &[Task],
-    results: &mut Vec<Outcome>,
+    results: &mut Vec<Brief>,
 )
     requires code { code.now ≡ plan.now.spec }
     requires none { none.now ≡ no_params }
@@ -483,7 +506,7 @@ fn answer_tasks<R: Threads + Sync, S: StreamStore + Sync, G: Gate + Sync>(
     none: &Params,
     store: &S,
     tasks: &[Task],
-    results: &mut Vec<Outcome>,
+    results: &mut Vec<Brief>,
     workers: u32,
 )
     requires code { code.now ≡ plan.now.spec }
@@ -506,56 +529,15 @@ fn answer_tasks<R: Threads + Sync, S: StreamStore + Sync, G: Gate + Sync>(
     }
 }
 
-/// Gives an instance its outcome: others see a fault as poison.
-fn give<S: StreamStore>(store: &mut S, task: Task, outcome: Outcome)
-    requires { CanGive (S.seen store.old) task outcome }
-    ensures seen { S.seen store.new ≡ after_giving (S.seen store.old) task outcome }
-    ensures stands { (names : Naming) (c : Content) → IsHeldIn names outcome → Stands names (S.remembers store.old) (S.seen store.old) c
-        → Stands names (S.remembers store.new) (S.seen store.new) (told c task.stream task.index (seen (read_outcome names outcome))) }
-{
-    match outcome {
-        Outcome::Value(value) => push(store, task.stream, task.index, value),
-        Outcome::Missing => {}
-        _ => poison(store, task.stream, task.index),
-    }
-}
-
-/// Whether there was a fault so far, or an outcome is one.
-fn or_fault(faulty: bool, outcome: Outcome) -> bool
-    ensures { result ≡ (is_fault outcome || faulty) }
-{
-    match outcome {
-        Outcome::Fault(_) => true,
-        _ => faulty,
-    }
-}
-
-/// Gives each task's instance its outcome, and answers whether one of them is a fault.
-fn give_all<S: StreamStore>(store: &mut S, tasks: &[Task], results: &[Outcome]) -> bool
-    requires places { length tasks.now ≡ length results.now }
-    requires can { CanGiveAll (S.seen store.old) tasks.now results.now }
-    ensures seen { S.seen store.new ≡ after_all (S.seen store.old) tasks.now results.now }
-    ensures stands { (names : Naming) (c : Content) → AreHeldIn names results.now → Stands names (S.remembers store.old) (S.seen store.old) c
-        → Stands names (S.remembers store.new) (S.seen store.new) (told_outcomes names c tasks.now results.now) }
-    ensures faulty { result ≡ has_fault results.now }
-{
-    let mut faulty = false;
-    for (i, task) in tasks.iter().enumerate() {
-        give(store, *task, results[i]);
-        faulty = or_fault(faulty, results[i]);
-    }
-    faulty
-}
-
 /// Finds which instances of a layer are to be asked, evaluates these, shared out among at most so many threads, and then gives each its
-/// outcome. The
-/// tasks and their outcomes are kept behind those of the layers before, those of a stream where its span says. The streams that have a
-/// turn in the layer are told. Answers whether an outcome is a fault.
+/// outcome. The tasks and their outcomes are kept behind those of the layers before, those of a stream where its span says. The streams that
+/// have a turn in the layer are told, and those of them with parameters. Answers whether an outcome is a fault.
 pub(crate) fn eval_layer<R: Threads + Sync, S: StreamStore + Sync, G: Gate + Sync>(
     rt: &R,
     gate: &G,
     plan: &Plan,
     turns: &[u32],
+    seeks: &[u32],
     code: &PlanCode,
     moment: &Moment,
     none: &Params,
@@ -564,13 +546,14 @@ pub(crate) fn eval_layer<R: Threads + Sync, S: StreamStore + Sync, G: Gate + Syn
     marks: &[Mark],
     places: &mut Vec<u32>,
     tasks: &mut Vec<Task>,
-    results: &mut Vec<Outcome>,
+    results: &mut Vec<Brief>,
     spans: &mut [Span],
     sought: &mut [Whereabouts],
     workers: u32,
     is_first: bool,
 ) -> bool
     requires turns { turns.now ≡ turns_of plan.now (turn.Eval layer) }
+    requires seeks { seeks.now ≡ turns_of plan.now (turn.Seek layer) }
     requires code { code.now ≡ plan.now.spec }
     requires none { none.now ≡ no_params }
     requires workers { (1 ≤ workers) × (workers ≤ 64) }
@@ -580,6 +563,7 @@ pub(crate) fn eval_layer<R: Threads + Sync, S: StreamStore + Sync, G: Gate + Syn
     requires marks { length marks.now ≡ length plan.now.spec.streams }
     requires rooms { HasRooms plan.now (eval_stage (length plan.now.spec.streams) layer) (S.seen store.old) places.old tasks.old results.old }
     requires sought { length sought.old ≡ length plan.now.spec.streams }
+    requires unsought { AreUnsought plan.now sought.old }
     requires spans { IsReadyFor plan.now (eval_stage (length plan.now.spec.streams) layer) (S.seen store.old) tasks.old.items results.old.items spans.old }
     ensures at { IsAt plan.now (layer_stage (length plan.now.spec.streams) (layer + 1)) (S.seen store.new) }
     ensures goes_on { GoesOn (S.seen store.old) (S.seen store.new) }
@@ -587,13 +571,14 @@ pub(crate) fn eval_layer<R: Threads + Sync, S: StreamStore + Sync, G: Gate + Syn
     ensures spans { IsReadyFor plan.now (layer_stage (length plan.now.spec.streams) (layer + 1)) (S.seen store.new) tasks.new.items results.new.items spans.new }
     ensures places { vec_capacity places.new ≡ vec_capacity places.old }
     ensures capacities { (vec_capacity tasks.new ≡ vec_capacity tasks.old) × (vec_capacity results.new ≡ vec_capacity results.old) }
+    ensures unsought { AreUnsought plan.now sought.new }
     ensures takes { EvalsTake plan.now moment.now layer marks.now (S.remembers store.old) (S.seen store.old) (S.remembers store.new) (S.seen store.new) }
     ensures shows { ShowsMore plan.now moment.now layer marks.now (S.remembers store.old) (S.seen store.old) spans.old tasks.old.items results.old.items spans.new tasks.new.items results.new.items }
     ensures faultless { result ≡ false → has_fault results.old.items ≡ false → has_fault results.new.items ≡ false }
 {
     let from = tasks.len();
     let done = results.len();
-    seek_layer(plan, turns, moment, store, layer, marks, sought);
+    seek_layer(plan, seeks, moment, store, layer, marks, sought);
     gather(
         plan, turns, moment, store, layer, marks, sought, places, tasks, spans,
     );
@@ -610,5 +595,5 @@ pub(crate) fn eval_layer<R: Threads + Sync, S: StreamStore + Sync, G: Gate + Syn
         results,
         sharers,
     );
-    give_all(store, &tasks[from..], &results[done..])
+    give_shared(rt, store, &tasks[from..], &results[done..], sharers)
 }

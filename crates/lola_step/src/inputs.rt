@@ -16,6 +16,7 @@ ghost use Rattle.lola_step.specs.declared.schedule.Turn.TheVariants as turn;
 use lola_contents::calls::push;
 use lola_model::plan::Plan;
 use lola_model::store::StreamStore;
+use lola_value::brief::BriefValue;
 use lola_value::value::Outcome;
 
 /// The outcome of the input of a number; missing where there is none.
@@ -39,7 +40,7 @@ fn tell<S: StreamStore>(store: &mut S, stream: u32, outcome: Outcome)
         → Stands names (S.remembers store.new) (S.seen store.new) (told c stream 0 (read_outcome names outcome)) }
 {
     match outcome {
-        Outcome::Value(value) => push(store, stream, 0, value),
+        Outcome::Value(value) => push(store, stream, 0, BriefValue::of(value)),
         _ => {}
     }
 }

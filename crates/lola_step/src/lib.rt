@@ -6,6 +6,7 @@ mod closes;
 pub mod end;
 mod ends;
 mod evals;
+mod giving;
 mod inputs;
 pub mod mark;
 pub mod moment;

@@ -1,10 +1,12 @@
 //! When clauses are active.
 
-ghost use Rattle.std.specs.Prelude.{◌≡◌, ◌≤◌, ◌<◌, ◌^◌, IsTrue, None, Some, length, slice_get, true};
+ghost use Rattle.std.specs.Prelude.{◌≡◌, ◌≤◌, ◌<◌, ◌^◌, ◌-◌, IfSome, IsTrue, None, Some, length, slice_get, true};
 ghost use Rattle.lola_value.specs.Times.{latest};
 ghost use Rattle.lola_model.specs.Activity.{is_deadline as is_deadline_of, satisfies_some as satisfies_some_of};
 ghost use Rattle.lola_model.specs.NextStep.{is_local};
 ghost use Rattle.lola_model.specs.Store.{instances_seen, spawns_in};
+ghost use Rattle.lola_step.specs.Rates.{IsKnownAt};
+ghost use Rattle.lola_step.specs.declared.moment.Moment.{Moment};
 ghost use Rattle.lola_step.specs.Moments.{active_for_in, active_in, active_since, born_seen, may_be_active_in, present_in};
 
 use lola_model::pacing::{InputSet, Pacing};
@@ -63,6 +65,68 @@ fn is_deadline(rate: &Rate, after: u64) -> bool
         Some((_, deadline)) => deadline == after,
         None => false,
     }
+}
+
+/// The rate that was asked about last at a moment, and whether the moment is one of its deadlines: the streams of a layer mostly have one
+/// rate, and then it is reckoned once.
+#[derive(Clone, Copy, Debug)]
+pub(crate) struct LastRate {
+    rate: Option<Rate>,
+    is_due: bool,
+}
+
+impl LastRate {
+    // None was asked about.
+    pub(crate) fn none() -> LastRate
+        ensures { (m : Moment) → IsKnownAt m result }
+    {
+        LastRate {
+            rate: None,
+            is_due: false,
+        }
+    }
+}
+
+// Whether two rates are the same.
+fn is_same(rate: &Rate, other: &Rate) -> bool
+    ensures { result ≡ true → rate.now ≡ other.now }
+{
+    rate.num() == other.num() && rate.den() == other.den()
+}
+
+// Whether a moment is a deadline of a rate, if that was the one asked about last.
+fn known(last: LastRate, rate: &Rate) -> Option<bool>
+    ensures { (m : Moment) → IsKnownAt m last → IfSome result (λ b. b ≡ is_deadline_of rate.now (m.time - m.start)) }
+{
+    match &last.rate {
+        Some(asked) => {
+            if is_same(asked, rate) {
+                Some(last.is_due)
+            } else {
+                None
+            }
+        }
+        None => None,
+    }
+}
+
+// Whether a moment is a deadline of a rate.
+fn is_due(moment: &Moment, rate: &Rate, last: &mut LastRate) -> bool
+    requires in_time { moment.now.time ≤ latest }
+    requires order { moment.now.start ≤ moment.now.time }
+    requires known { IsKnownAt moment.now last.old }
+    ensures known { IsKnownAt moment.now last.new }
+    ensures value { result ≡ is_deadline_of rate.now (moment.now.time - moment.now.start) }
+{
+    if let Some(due) = known(*last, rate) {
+        return due;
+    }
+    let due = is_deadline(rate, moment.time - moment.start);
+    *last = LastRate {
+        rate: Some(*rate),
+        is_due: due,
+    };
+    due
 }
 
 /// Whether a pacing is active for all instances alike: one by inputs at rows that have all of one of its sets, a rate at its deadlines.
@@ -131,5 +195,26 @@ pub(crate) fn is_active_for<S: StreamStore>(
     match pacing {
         Some(Pacing::Local(rate)) => is_deadline_since(moment, store.born(stream, index), rate),
         _ => true,
+    }
+}
+
+/// Whether a pacing may be active for some instance, where the rate that was asked about last is known.
+pub(crate) fn may_be_active_now(
+    moment: &Moment,
+    pacing: &Option<Pacing>,
+    last: &mut LastRate,
+) -> bool
+    requires in_time { moment.now.time ≤ latest }
+    requires order { moment.now.start ≤ moment.now.time }
+    requires known { IsKnownAt moment.now last.old }
+    ensures known { IsKnownAt moment.now last.new }
+    ensures value { result ≡ may_be_active_in moment.now pacing.now }
+{
+    match pacing {
+        Some(Pacing::Periodic(rate)) => match moment.present {
+            None => is_due(moment, rate, last),
+            _ => false,
+        },
+        _ => may_be_active(moment, pacing),
     }
 }

@@ -5,10 +5,12 @@ ghost use Rattle.lola_model.specs.Acceptance.{IsAccepted};
 ghost use Rattle.lola_model.specs.Named.{has_clause as has_clause_of};
 ghost use Rattle.lola_model.specs.declared.plan.Plan.{Plan};
 ghost use Rattle.lola_step.specs.declared.schedule.Layer.{Layer};
-ghost use Rattle.lola_step.specs.Schedules.{IsLayerOf, IsScheduleOf, has_turn as has_turn_of, turns_of};
+ghost use Rattle.lola_step.specs.Schedules.{IsLayerOf, IsScheduleOf, has_parameters as has_parameters_of, has_turn as has_turn_of, turns_of};
 ghost use Rattle.lola_step.specs.declared.schedule.Turn.TheVariants as turn;
 
+use crate::ends::is_hidden;
 use crate::spawns::layer_at;
+use lola_model::journal::Show;
 use lola_model::plan::Plan;
 use lola_model::spec::{Clause, Stream};
 use lola_value::text::Memory;
@@ -25,8 +27,12 @@ pub enum Turn {
     Spawn(u32),
     /// It is no input, and its instances belong to this layer.
     Eval(u32),
+    /// It has parameters, is no input, and its instances belong to this layer.
+    Seek(u32),
     /// It has a close clause.
     Close,
+    /// Its values may have lines, where so much is shown.
+    Shown(Show),
 }
 
 /// The streams that have a turn in a layer, by their numbers.
@@ -34,6 +40,8 @@ pub enum Turn {
 pub struct Layer {
     pub(crate) spawns: Vec<u32>,
     pub(crate) evals: Vec<u32>,
+    // of these, those with parameters
+    pub(crate) seeks: Vec<u32>,
 }
 
 /// The streams of a plan that have a turn, by their numbers.
@@ -43,6 +51,8 @@ pub struct Schedule {
     pub(crate) births: Vec<u32>,
     pub(crate) layers: Vec<Layer>,
     pub(crate) closes: Vec<u32>,
+    pub(crate) triggers: Vec<u32>,
+    pub(crate) outputs: Vec<u32>,
 }
 
 /// Whether there is a clause.
@@ -50,6 +60,13 @@ pub(crate) fn has_clause(clause: &Option<Clause>) -> bool
     ensures { result ≡ has_clause_of clause.now }
 {
     clause.is_some()
+}
+
+/// Whether a stream has parameters.
+fn has_parameters(stream: &Stream) -> bool
+    ensures { result ≡ has_parameters_of stream.now }
+{
+    !stream.parameters.as_slice().is_empty()
 }
 
 /// Whether stream `n` has a turn.
@@ -66,7 +83,13 @@ fn has_turn(plan: &Plan, turn: Turn, n: usize, stream: &Stream) -> bool
         Turn::Eval(layer) => {
             !stream.is_input() && layer_at(plan.layers.as_slice(), 2 * n) == layer
         }
+        Turn::Seek(layer) => {
+            has_parameters(stream)
+                && !stream.is_input()
+                && layer_at(plan.layers.as_slice(), 2 * n) == layer
+        }
         Turn::Close => has_clause(&stream.close),
+        Turn::Shown(show) => !is_hidden(show, stream),
     }
 }
 
@@ -91,7 +114,12 @@ fn layer_turns(alloc: Global, plan: &Plan, layer: u32) -> Result<Layer, Memory>
 {
     let spawns = turns(alloc, plan, Turn::Spawn(layer))?;
     let evals = turns(alloc, plan, Turn::Eval(layer))?;
-    Ok(Layer { spawns, evals })
+    let seeks = turns(alloc, plan, Turn::Seek(layer))?;
+    Ok(Layer {
+        spawns,
+        evals,
+        seeks,
+    })
 }
 
 /// The streams that have a turn in each of so many layers.
@@ -120,12 +148,26 @@ impl Schedule {
         let births = turns(alloc, plan, Turn::Birth)?;
         let layers = layers_turns(alloc, plan, count)?;
         let closes = turns(alloc, plan, Turn::Close)?;
+        let triggers = turns(alloc, plan, Turn::Shown(Show::Triggers))?;
+        let outputs = turns(alloc, plan, Turn::Shown(Show::Outputs))?;
         Ok(Schedule {
             inputs,
             births,
             layers,
             closes,
+            triggers,
+            outputs,
         })
+    }
+
+    /// The streams whose values may have lines, where so much is shown.
+    pub(crate) fn shown(&self, show: Show) -> &[u32]
+        ensures { (plan : Plan) → IsScheduleOf plan self.now → result.now ≡ turns_of plan (turn.Shown show) }
+    {
+        match show {
+            Show::Triggers => self.triggers.as_slice(),
+            Show::Outputs => self.outputs.as_slice(),
+        }
     }
 
     /// The streams whose spawn clause belongs to a layer.
@@ -142,6 +184,14 @@ impl Schedule {
         ensures { (plan : Plan) → IsScheduleOf plan self.now → result.now ≡ turns_of plan (turn.Eval layer) }
     {
         self.layers[layer as usize].evals.as_slice()
+    }
+
+    /// The streams with parameters whose instances belong to a layer.
+    pub(crate) fn seeks_in(&self, layer: u64) -> &[u32]
+        requires { layer < length self.now.layers.items }
+        ensures { (plan : Plan) → IsScheduleOf plan self.now → result.now ≡ turns_of plan (turn.Seek layer) }
+    {
+        self.layers[layer as usize].seeks.as_slice()
     }
 }
 

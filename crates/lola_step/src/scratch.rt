@@ -17,8 +17,8 @@ use crate::verdict::Verdict;
 use lola_code::plan::PlanCode;
 use lola_model::plan::Plan;
 use lola_model::store::{StreamStore, Whereabouts};
+use lola_value::brief::Brief;
 use lola_value::text::Memory;
-use lola_value::value::Outcome;
 use std::alloc::Global;
 
 /// Where the outcomes of a stream's instances stand among the results, and the instances among the tasks.
@@ -38,7 +38,7 @@ pub struct Scratch {
     pub(crate) sought: Vec<Whereabouts>,
     pub(crate) places: Vec<u32>,
     pub(crate) tasks: Vec<Task>,
-    pub(crate) results: Vec<Outcome>,
+    pub(crate) results: Vec<Brief>,
     pub(crate) closing: Vec<Task>,
     pub(crate) verdicts: Vec<Verdict>,
     pub(crate) layers: u64,
@@ -96,6 +96,7 @@ fn instances_in_step<S: StreamStore>(plan: &Plan, births: &[u32], store: &S) -> 
 
 impl Scratch {
     /// Nothing noted yet, for a plan, with all the room that its steps need where no stream has a spawn clause.
+    #[tactic(auto, using(crate::proofs::Seeking::all_unsought))]
     pub fn create(alloc: Global, plan: &Plan) -> Result<Scratch, Memory>
         requires { IsAccepted plan.now }
         ensures { IfOk result (IsScratchOf plan.now) }

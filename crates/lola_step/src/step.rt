@@ -108,6 +108,7 @@ fn evaluate<R: Threads + Sync, S: StreamStore + Sync, G: Gate + Sync>(
             gate,
             plan,
             scratch.schedule.evals_in(layer),
+            scratch.schedule.seeks_in(layer),
             &scratch.code,
             moment,
             none,
@@ -175,6 +176,7 @@ fn conclude<S: StreamStore>(
     }
     collect(
         plan,
+        scratch.schedule.shown(show),
         store,
         show,
         &scratch.spans,

@@ -23,7 +23,8 @@ use lola_model::plan::Plan;
 use lola_model::spec::{Clause, Stream};
 use lola_model::store::StreamStore;
 use lola_port::Gate;
-use lola_value::value::{Outcome, Params};
+use lola_value::brief::Brief;
+use lola_value::value::Params;
 use lola_workers::run_layer;
 use std::thread::Threads;
 
@@ -62,7 +63,7 @@ impl<'a, S: StreamStore> Job for LayerJob<'a, S> {
 
     ghost gives = { λ job i r. IsResultAt job.plan.now job.moment.now (S.remembers job.store.now) (S.seen job.store.now) (slice_get job.tasks.now i) r };
 
-    fn answer(&self, task: u32) -> Outcome {
+    fn answer(&self, task: u32) -> Brief {
         task_outcome(
             self.plan,
             self.code,
@@ -90,7 +91,7 @@ pub(crate) fn task_outcome<S: StreamStore>(
     none: &Params,
     store: &S,
     task: Task,
-) -> Outcome
+) -> Brief
     requires code { code.now ≡ plan.now.spec }
     requires none { none.now ≡ no_params }
     requires in_time { moment.now.time ≤ latest }
@@ -103,7 +104,7 @@ pub(crate) fn task_outcome<S: StreamStore>(
     if is_active_for(moment, pacing, store, task.stream, task.index) {
         active_outcome(plan, code, none, store, task)
     } else {
-        Outcome::Missing
+        Brief::missing()
     }
 }
 
@@ -117,7 +118,7 @@ fn own_outcome<S: StreamStore>(
     code: &EvalCode,
     store: &S,
     task: Task,
-) -> Outcome
+) -> Brief
     requires code { IsEvalCode (Some clause.now) code.now }
     requires running { IsRunning (S.seen store.now) }
     requires lives { task.index < length (instances_seen (S.seen store.now) task.stream) }
@@ -137,7 +138,7 @@ fn active_outcome<S: StreamStore>(
     none: &Params,
     store: &S,
     task: Task,
-) -> Outcome
+) -> Brief
     requires code { code.now ≡ plan.now.spec }
     requires none { none.now ≡ no_params }
     requires running { IsRunning (S.seen store.now) }
@@ -155,7 +156,7 @@ fn active_outcome<S: StreamStore>(
                 instance_outcome(plan, stream, clause, code, none, store)
             }
         }
-        None => Outcome::Missing,
+        None => Brief::missing(),
     }
 }
 
@@ -169,7 +170,7 @@ pub(crate) fn run_tasks<R: Threads + Sync, S: StreamStore + Sync, G: Gate + Sync
     moment: &Moment,
     store: &S,
     tasks: &[Task],
-    results: &mut [Outcome],
+    results: &mut [Brief],
     workers: u32,
 )
     requires code { code.now ≡ plan.now.spec }

@@ -99,6 +99,10 @@ impl<'a, F: Shelf + Drop> Shelf for MannerShelf<'a, F> {
     ghost state = { λ m. F.state m.shelf };
 
     fn fetch(&mut self, name: &str) -> Result<MannerSource<'a, F::File>, FetchEnd> {
+        if name == "first" {
+            // the specification was read to its end too
+            self.told.at_end.store(false, Ordering::SeqCst);
+        }
         match self.shelf.fetch(name) {
             Ok(source) => Ok(MannerSource {
                 source,

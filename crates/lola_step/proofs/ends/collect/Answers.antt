@@ -1,88 +1,107 @@
-use Rattle.std.proofs.Common.{◌≡◌, ◌∙◌, ◌<◌, ◌≤◌, Some, ap, arith, length, refl, slice_get, slice_index_or}
+use Rattle.std.proofs.Common.{◌∙◌, ◌+◌, ap, arith, drop, get_or, length, refl, slice_get}
 use Rattle.std.proofs.lemmas.Option.{slice_get-get_or}
 use Rattle.lola_model.specs.Named.{is_well_shaped}
 use Rattle.lola_model.specs.Store.{Layout, parameters_of}
 use Rattle.lola_stages.proofs.Shapes.{passes_at}
 use Rattle.lola_step.specs.Notes.{IsSpan}
-use Rattle.lola_step.specs.declared.scratch.Span.{Span}
-use Rattle.lola_step.proofs.Elements.{read_below, read_is}
+use Rattle.lola_step.specs.Schedules.{has_turn}
+use Rattle.lola_step.specs.Scratches.{no_span}
+use Rattle.lola_step.specs.declared.schedule.Turn.TheVariants as turn
+use Rattle.lola_step.proofs.Between.{AreCollected, collected_end, collected_next, collected_turn, has_turn_there}
 use Rattle.lola_step.proofs.Layouts.{parameters_there}
 use Rattle.lola_step.proofs.Single.{spawns_here, without}
 use Rattle.lola_step.proofs.Standing.{room_there}
-use Rattle.lola_step.proofs.Valued.{collects_end, streams_step, verdicts_end}
+use Rattle.lola_step.proofs.Turns.{IsTurn, walk_on}
+use Rattle.lola_step.proofs.Valued.{collects_end, verdicts_end}
 use Rattle.lola_step.proofs.ends.collect.Goals as goal
-use Rattle.lola_step.proofs.ends.collect.Goals.{After-stream-item}
+use Rattle.lola_step.proofs.ends.collect.Goals.{In-loop-number}
 
--- the span of the stream
-here : (g : _) (c : After-stream-item g)
-    → IsSpan (g.S.StreamStore.seen c.args.store.now) c.args.tasks.now c.args.results.now c.loop-n.n (slice_index_or c.args.spans.now c.loop-n.n (record { from = 0; count = 0 }))
+-- the next of the streams, and what holds of those before it
+next : (g : _) (c : In-loop-number g)
+    → IsTurn (has_turn c.args.plan.now (turn.Shown c.args._show)) c.args.plan.now.spec.streams
+    (AreCollected c.args.plan.now c.args._show (g.S.StreamStore.seen c.args.store.now) c.args.tasks.now c.args.results.now c.args.spans.now c.loop-number.verdicts)
+    (get_or c.args.turns.now c.loop-number.number-index 0) (drop (c.loop-number.number-index + 1) c.args.turns.now)
+next g c =
+    collected_turn c.args.plan.now c.args._show (g.S.StreamStore.seen c.args.store.now) c.args.tasks.now c.args.results.now c.args.spans.now c.requires.spans c.loop-number.verdicts c.args.turns.now
+    c.loop-number.number-index c.loop-number.invariant.walk c.loop-number-test.true
+
+-- its span
+here : (g : _) (c : In-loop-number g)
+    → IsSpan (g.S.StreamStore.seen c.args.store.now) c.args.tasks.now c.args.results.now (get_or c.args.turns.now c.loop-number.number-index 0)
+    (get_or c.args.spans.now (get_or c.args.turns.now c.loop-number.number-index 0) no_span)
 here g c =
-    let below : c.loop-n.n < length c.args.plan.now.spec.streams
-    = read_below c.as_slice-stream-items.result.now c.args.plan.now.spec.streams c.loop-n.n c.as_slice-stream-items.ensures c.loop-n-test.true in
-    c.requires.within c.loop-n.n _ (slice_get-get_or c.args.spans.now c.loop-n.n _ (omega arith))
+    let n = get_or c.args.turns.now c.loop-number.number-index 0 in
+    let below = (next g c).below in
+    c.requires.within n _ (slice_get-get_or c.args.spans.now n no_span (omega (arith, below, c.requires.spans)))
 
-pub add_shown-requires-clause-spawns : goal.add_shown-requires-clause-spawns
-add_shown-requires-clause-spawns g c =
+pub stream_at-stream-requires : goal.stream_at-stream-requires
+stream_at-stream-requires g c = (next g (goal.at.stream_at-stream-requires g c).In-loop-number).below
+
+pub bounds-spans-number : goal.bounds-spans-number
+bounds-spans-number g c = omega (arith, (next g (goal.at.bounds-spans-number g c).In-loop-number).below, c.requires.spans)
+
+pub add_asked-requires-clause-spawns : goal.add_asked-requires-clause-spawns
+add_asked-requires-clause-spawns g c =
+    spawns_here c.args.plan.now (g.S.StreamStore.seen c.args.store.now) c.requires.of.layout (get_or c.args.turns.now c.loop-number.number-index 0) c.stream_at-stream.result.now
+    c.stream_at-stream.ensures
+
+pub add_asked-requires-clause-unnamed : goal.add_asked-requires-clause-unnamed
+add_asked-requires-clause-unnamed g c none =
     let plan = c.args.plan.now in
-    spawns_here plan (g.S.StreamStore.seen c.args.store.now) c.requires.of.layout c.loop-n.n c.stream-item.result
-    (read_is c.as_slice-stream-items.result.now plan.spec.streams c.loop-n.n c.as_slice-stream-items.ensures c.loop-n-test.true c.stream-item.result c.stream-item.is)
+    let n = get_or c.args.turns.now c.loop-number.number-index 0 in
+    let x = c.stream_at-stream.result.now in
+    ap (λ (l : Layout). parameters_of (slice_get l.streams n)) c.requires.of.layout
+    ∙ (parameters_there plan.spec.streams plan.kept plan.pacings n x c.stream_at-stream.ensures
+    ∙ without x (passes_at is_well_shaped plan.spec.streams n x c.requires.accepted.named.shapes c.stream_at-stream.ensures) none)
 
-pub add_shown-requires-clause-unnamed : goal.add_shown-requires-clause-unnamed
-add_shown-requires-clause-unnamed g c none =
-    let plan = c.args.plan.now in
-    let at : slice_get plan.spec.streams c.loop-n.n ≡ Some c.stream-item.result
-    = read_is c.as_slice-stream-items.result.now plan.spec.streams c.loop-n.n c.as_slice-stream-items.ensures c.loop-n-test.true c.stream-item.result c.stream-item.is in
-    ap (λ (l : Layout). parameters_of (slice_get l.streams c.loop-n.n)) c.requires.of.layout
-    ∙ (parameters_there plan.spec.streams plan.kept plan.pacings c.loop-n.n c.stream-item.result at
-    ∙ without c.stream-item.result (passes_at is_well_shaped plan.spec.streams c.loop-n.n c.stream-item.result c.requires.accepted.named.shapes at) none)
+pub add_asked-requires-clause-within : goal.add_asked-requires-clause-within
+add_asked-requires-clause-within g c = (here g (goal.at.add_asked-requires-clause-within g c).In-loop-number).within
 
-pub add_shown-requires-clause-within : goal.add_shown-requires-clause-within
-add_shown-requires-clause-within g c = (here g (goal.at.add_shown-requires-clause-within g c).After-stream-item).within
+pub add_asked-requires-clause-asked : goal.add_asked-requires-clause-asked
+add_asked-requires-clause-asked g c = (here g (goal.at.add_asked-requires-clause-asked g c).In-loop-number).asked
 
-pub add_shown-requires-clause-asked : goal.add_shown-requires-clause-asked
-add_shown-requires-clause-asked g c = (here g (goal.at.add_shown-requires-clause-asked g c).After-stream-item).asked
-
-pub add_shown-requires-clause-room : goal.add_shown-requires-clause-room
-add_shown-requires-clause-room g c =
+pub add_asked-requires-clause-room : goal.add_asked-requires-clause-room
+add_asked-requires-clause-room g c =
+    let at = (goal.at.add_asked-requires-clause-room g c).In-loop-number in
     omega (
       arith,
-      (here g (goal.at.add_shown-requires-clause-room g c).After-stream-item).few,
-      room_there (g.S.StreamStore.seen c.args.store.now) c.loop-n.n,
-      c.loop-n.invariant.count,
-      c.loop-n.invariant.capacity,
+      (here g at).few,
+      room_there (g.S.StreamStore.seen c.args.store.now) (get_or c.args.turns.now c.loop-number.number-index 0),
+      (next g at).holds.count,
+      c.loop-number.invariant.capacity,
     )
 
-pub loop-n-preserved : goal.loop-n-preserved
-loop-n-preserved g c =
+pub loop-number-preserved : goal.loop-number-preserved
+loop-number-preserved g c =
+    let plan = c.args.plan.now in
+    let show = c.args._show in
     let s = g.S.StreamStore.seen c.args.store.now in
-    let n = c.loop-n.n in
-    let streams = c.args.plan.now.spec.streams in
-    let spans = c.args.spans.now in
-    let x = c.stream-item.result in
-    let below : n < length streams = read_below c.as_slice-stream-items.result.now streams n c.as_slice-stream-items.ensures c.loop-n-test.true in
-    let at : slice_get streams n ≡ Some x = read_is c.as_slice-stream-items.result.now streams n c.as_slice-stream-items.ensures c.loop-n-test.true x c.stream-item.is in
-    let none : Span = record { from = 0; count = 0 } in
-    let within : n < length spans = omega arith in
-    let span : IsSpan s c.args.tasks.now c.args.results.now n (slice_index_or spans n none) = here g (goal.at.loop-n-preserved g c).After-stream-item in
+    let n = get_or c.args.turns.now c.loop-number.number-index 0 in
+    let at = (goal.at.loop-number-preserved g c).In-loop-number in
+    let t = next g at in
+    let x = c.stream_at-stream.result.now in
     record {
-      items = streams_step c.args.show s c.args.tasks.now c.args.results.now streams spans n c.loop-n.verdicts.items c.loop-n.invariant.items x none _ _
-          c.add_shown.new.verdicts.items at within refl refl c.add_shown.ensures.items;
-      bare = c.add_shown.ensures.bare;
-      fit = c.add_shown.ensures.fit c.loop-n.invariant.fit;
-      count = omega (arith, c.add_shown.ensures.count, span.few, room_there s n, c.loop-n.invariant.count);
-      capacity = c.add_shown.ensures.capacity ∙ c.loop-n.invariant.capacity;
+      walk = walk_on (has_turn plan (turn.Shown show)) plan.spec.streams _ _ n (drop (c.loop-number.number-index + 1) c.args.turns.now) t
+          (collected_next plan show s c.args.tasks.now c.args.results.now c.args.spans.now c.requires.spans c.loop-number.verdicts c.add_asked.new.verdicts n x _ c.stream_at-stream.ensures
+          (has_turn_there plan (turn.Shown show) n t.at x t.is c.stream_at-stream.ensures t.passes) refl c.add_asked.ensures.items
+          (omega (arith, c.add_asked.ensures.count, (here g at).few, room_there s n, t.holds.count)) t.holds);
+      bare = c.add_asked.ensures.bare;
+      fit = c.add_asked.ensures.fit c.loop-number.invariant.fit;
+      capacity = c.add_asked.ensures.capacity ∙ c.loop-number.invariant.capacity;
     }
 
 pub returns-clause-verdicts : goal.returns-clause-verdicts
 returns-clause-verdicts g c =
     let plan = c.args.plan.now in
-    let past : length plan.spec.streams ≤ c.loop-n.n = omega (arith, ap length c.as_slice-stream-items.ensures) in
-    verdicts_end plan c.args.show c.args.spans.now c.args.tasks.now c.args.results.now (g.S.StreamStore.seen c.args.store.now) c.loop-n.n c.loop-n.verdicts.items c.loop-n.invariant.items past
-    c.requires.of.layout c.requires.within c.loop-n.invariant.fit
+    let s = g.S.StreamStore.seen c.args.store.now in
+    let all = collected_end plan c.args._show s c.args.tasks.now c.args.results.now c.args.spans.now c.requires.spans c.loop-number.verdicts c.args.turns.now c.loop-number.number-index c.loop-number.invariant.walk (omega arith) in
+    verdicts_end plan c.args._show c.args.spans.now c.args.tasks.now c.args.results.now s (length plan.spec.streams) c.loop-number.verdicts.items all.items (omega arith)
+    c.requires.of.layout c.requires.within c.loop-number.invariant.fit
 
 pub returns-clause-values : goal.returns-clause-values
 returns-clause-values g c =
     let plan = c.args.plan.now in
-    let past : length plan.spec.streams ≤ c.loop-n.n = omega (arith, ap length c.as_slice-stream-items.ensures) in
-    collects_end plan c.args.show c.args.spans.now c.args.tasks.now c.args.results.now (g.S.StreamStore.seen c.args.store.now) c.loop-n.n c.loop-n.verdicts.items c.loop-n.invariant.items past
+    let s = g.S.StreamStore.seen c.args.store.now in
+    let all = collected_end plan c.args._show s c.args.tasks.now c.args.results.now c.args.spans.now c.requires.spans c.loop-number.verdicts c.args.turns.now c.loop-number.number-index c.loop-number.invariant.walk (omega arith) in
+    collects_end plan c.args._show c.args.spans.now c.args.tasks.now c.args.results.now s (length plan.spec.streams) c.loop-number.verdicts.items all.items (omega arith)
     (g.S.StreamStore.remembers c.args.store.now) c.requires.accepted c.requires.of.layout c.requires.spans

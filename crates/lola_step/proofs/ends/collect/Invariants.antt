@@ -1,18 +1,20 @@
-use Rattle.std.proofs.Common.{◌≡◌, ◌+◌, ◌≤◌, ◌++◌, drop, vec_len}
+use Rattle.std.proofs.Common.{◌≡◌, drop}
 use Rattle.std.specs.Vec.{vec_capacity}
 use Rattle.lola_model.specs.Store.{no_params}
-use Rattle.lola_step.specs.Found.{FitLayout, all_verdicts}
-use Rattle.lola_step.specs.Rooms.{rooms, total}
+use Rattle.lola_step.specs.Found.{FitLayout}
+use Rattle.lola_step.specs.Schedules.{has_turn}
+use Rattle.lola_step.specs.declared.schedule.Turn.TheVariants as turn
+use Rattle.lola_step.proofs.Between.{AreCollected}
+use Rattle.lola_step.proofs.Turns.{IsWalk}
 use Rattle.lola_step.proofs.ends.collect.Given as goal
 
--- the values so far, and those to come
-abbrev pub invariant-loop-n : goal.invariant-loop-n
-invariant-loop-n g l =
+-- the values of the streams so far
+abbrev pub invariant-loop-number : goal.invariant-loop-number
+invariant-loop-number g l =
     let s = g.S.StreamStore.seen l.store in
     record {
-      items : l.verdicts.items ++ all_verdicts l.show s l.tasks l.results l.n (drop l.n l.plan.spec.streams) (drop l.n l.spans) ≡ all_verdicts l.show s l.tasks l.results 0 l.plan.spec.streams l.spans;
+      walk : IsWalk (has_turn l.plan (turn.Shown l.fn._show)) l.plan.spec.streams (AreCollected l.plan l.fn._show s l.tasks l.results l.spans l.verdicts) (drop l.number-index l.turns);
       bare : l.bare.params ≡ no_params;
       fit : FitLayout s.layout l.verdicts.items;
-      count : vec_len l.verdicts + total (drop l.n (rooms s)) ≤ total (rooms s);
       capacity : vec_capacity l.verdicts ≡ vec_capacity l.initial.verdicts;
     }

@@ -3,7 +3,7 @@ use Rattle.std.proofs.lemmas.List.{take_all}
 use Rattle.std.proofs.lemmas.Option.{slice_get-get_or}
 use Rattle.lola_step.specs.Given.{AreAnswered}
 use Rattle.lola_step.specs.declared.tasks.Task.{Task}
-use Rattle.lola_step.proofs.Giving.{first_task}
+use Rattle.lola_step.proofs.OneByOne.{first_task}
 use Rattle.lola_step.proofs.Results.{answered_first, answered_more}
 use Rattle.lola_step.proofs.evals.answer_in_turn.Goals as goal
 

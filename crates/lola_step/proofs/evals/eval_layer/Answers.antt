@@ -1,11 +1,11 @@
 use Rattle.std.proofs.Common.{◌≡◌, ◌∙◌, ◌++◌, ◌+◌, ◌-◌, ◌^◌, ◌<◌, List, ap, arith, drop, length, length-append, subst, sym, take}
 use Rattle.lola_value.specs.declared.value.Outcome.{Outcome}
 use Rattle.lola_model.specs.Content.{Content}
-use Rattle.lola_model.specs.Store.{Memories, Seen, Stands}
+use Rattle.lola_model.specs.Store.{Layout, Memories, Seen, Stands}
 use Rattle.lola_stages.specs.Stages.{content_so_far, eval_stage, full_row, layer_stage}
 use Rattle.lola_step.specs.Evals.{IsReadyFor}
 use Rattle.lola_step.specs.Found.{has_fault}
-use Rattle.lola_step.specs.Given.{AreHeldIn, AreResults, CanGiveAll, after_all, told_outcomes}
+use Rattle.lola_step.specs.Given.{AreHeldIn, AreKnown, AreResults, CanGiveAll, after_all, told_outcomes}
 use Rattle.lola_step.specs.Notes.{ShowResults, layer_tasks}
 use Rattle.lola_step.specs.Progress.{GoesOn, IsAt}
 use Rattle.lola_step.specs.Rooms.{rooms}
@@ -16,11 +16,12 @@ use Rattle.lola_step.proofs.Faultless.{faultless_more}
 use Rattle.lola_step.proofs.Gathering.{all_rooms, layer_fits}
 use Rattle.lola_step.proofs.LayerNotes.{ready_after, rooms_after, spans_after}
 use Rattle.lola_step.proofs.LayerTasks.{are_tasks, at_after, can_give_layer, goes_on, numbered}
+use Rattle.lola_step.proofs.Layouts.{layouts_length, pacings_length}
 use Rattle.lola_step.proofs.LayerTold.{held_all, next_content, shows_more}
 use Rattle.lola_step.proofs.Results.{behind_is}
 use Rattle.lola_step.proofs.evals.eval_layer.Given.{Over}
 use Rattle.lola_step.proofs.evals.eval_layer.Goals as goal
-use Rattle.lola_step.proofs.evals.eval_layer.Goals.{After-give_all}
+use Rattle.lola_step.proofs.evals.eval_layer.Goals.{After-give_shared}
 
 pub answer_tasks-requires-clause-numbered : goal.answer_tasks-requires-clause-numbered
 answer_tasks-requires-clause-numbered g c κs within =
@@ -50,8 +51,21 @@ answer_tasks-requires-clause-room g c κs within =
     (all_rooms plan c.args.moment.now c.args.marks.now c.seek_layer.new.sought seen c.args.layer c.requires.at.of.streams) in
     omega (arith, ap length asked, fits, c.requires.rooms.results_room)
 
-pub give_all-requires-clause-can : goal.give_all-requires-clause-can
-give_all-requires-clause-can g c =
+pub give_shared-requires-clause-known : goal.give_shared-requires-clause-known
+give_shared-requires-clause-known g c κs within =
+    let plan = c.args.plan.now in
+    let shown = g.S.StreamStore.seen c.args.store.now in
+    let tasks = layer_tasks plan c.args.moment.now c.args.marks.now c.seek_layer.new.sought shown c.args.layer 0 plan.spec.streams in
+    let from = c.len-from.ensures ∙ c.args.tasks.now.ok.0 in
+    let laid_out : length shown.layout.streams ≡ length plan.spec.streams = ap (λ (l : Layout). length l.streams) c.requires.at.of.layout ∙ layouts_length plan.spec.streams plan.kept plan.pacings in
+    let paced = pacings_length plan c.requires.accepted in
+    let known : AreKnown shown tasks = λ i t e.
+    let task = (are_tasks plan c.args.moment.now c.args.marks.now c.seek_layer.new.sought shown c.args.layer c.requires.accepted c.requires.at c.requires.moment i t e).paced in
+    omega (arith, task, paced, laid_out) in
+    subst (AreKnown shown) (sym (behind_is c.deref-2.result.now c.args.tasks.now.items tasks c.len-from.result (c.deref-2.ensures.value ∙ c.gather.ensures.tasks) from)) known
+
+pub give_shared-requires-clause-can : goal.give_shared-requires-clause-can
+give_shared-requires-clause-can g c κs within =
     let shown = g.S.StreamStore.seen c.args.store.now in
     let tasks = layer_tasks c.args.plan.now c.args.moment.now c.args.marks.now c.seek_layer.new.sought shown c.args.layer 0 c.args.plan.now.spec.streams in
     let answered = c.answer_tasks.ensures.answered in
@@ -66,7 +80,7 @@ give_all-requires-clause-can g c =
     (subst P (sym (behind_is c.deref-2.result.now c.args.tasks.now.items tasks c.len-from.result (c.deref-2.ensures.value ∙ c.gather.ensures.tasks) from))
     (can_give_layer c.args.plan.now c.args.moment.now c.args.marks.now c.seek_layer.new.sought shown c.args.layer c.requires.accepted c.requires.at c.requires.moment (g.S.StreamStore.remembers c.args.store.now) answered.fresh are))
 
-module _ (g : Over) (c : After-give_all g) where
+module _ (g : Over) (c : After-give_shared g) where
   abbrev shown : Seen
   shown = g.S.StreamStore.seen c.args.store.now
 
@@ -109,8 +123,8 @@ module _ (g : Over) (c : After-give_all g) where
   gives_are : gives ≡ fresh
   gives_are = behind_is c.deref-3.result.now first fresh c.len-done.result (c.deref-3.ensures.value ∙ c.answer_tasks.ensures.answered.is) (c.len-done.ensures ∙ c.args.results.now.ok.0)
 
-  seen_is : after_all shown tasks fresh ≡ g.S.StreamStore.seen c.give_all.new.store
-  seen_is = sym (c.give_all.ensures.seen ∙ (ap (λ ts. after_all shown ts gives) given_are ∙ ap (λ rs. after_all shown tasks rs) gives_are))
+  seen_is : after_all shown tasks fresh ≡ g.S.StreamStore.seen c.give_shared.new.store
+  seen_is = sym (c.give_shared.ensures.seen ∙ (ap (λ ts. after_all shown ts gives) given_are ∙ ap (λ rs. after_all shown tasks rs) gives_are))
 
   results_is : first ++ fresh ≡ c.answer_tasks.new.results.items
   results_is = sym c.answer_tasks.ensures.answered.is
@@ -133,7 +147,7 @@ returns-clause-goes_on g c =
 pub returns-clause-rooms : goal.returns-clause-rooms
 returns-clause-rooms g c =
     let asked : length c.gather.new.tasks.items ≡ length (before g c) + length (tasks g c) = ap length c.gather.ensures.tasks ∙ length-append (before g c) (tasks g c) in
-    rooms_after c.args.plan.now c.args.moment.now c.args.marks.now c.seek_layer.new.sought (shown g c) (g.S.StreamStore.seen c.give_all.new.store) c.args.layer
+    rooms_after c.args.plan.now c.args.moment.now c.args.marks.now c.seek_layer.new.sought (shown g c) (g.S.StreamStore.seen c.give_shared.new.store) c.args.layer
     c.args.places.now c.gather.new.places c.args.tasks.now c.gather.new.tasks c.args.results.now c.answer_tasks.new.results c.requires.at c.requires.rooms
     (returns-clause-goes_on g c).rooms c.gather.ensures.places c.gather.ensures.capacity c.answer_tasks.ensures.capacity
     (omega (arith, asked, c.gather.new.tasks.ok.0, c.args.tasks.now.ok.0))
@@ -144,7 +158,7 @@ returns-clause-spans g c =
     let plan = c.args.plan.now in
     let next = layer_stage (length plan.spec.streams) (c.args.layer + 1) in
     let spans = spans_after plan c.args.moment.now c.args.marks.now c.seek_layer.new.sought (remembers g c) (shown g c) c.args.layer (before g c) (first g c) (fresh g c) c.args.spans.now in
-    let new = g.S.StreamStore.seen c.give_all.new.store in
+    let new = g.S.StreamStore.seen c.give_shared.new.store in
     let results = c.answer_tasks.new.results.items in
     let P : Seen → Type 0 = λ s. IsReadyFor plan next s (before g c ++ tasks g c) (first g c ++ fresh g c) spans in
     let T : List Task → Type 0 = λ ts. IsReadyFor plan next new ts (first g c ++ fresh g c) spans in
@@ -156,15 +170,15 @@ returns-clause-spans g c =
 pub returns-clause-takes : goal.returns-clause-takes
 returns-clause-takes g c names rows step run marked =
     let now = content_so_far c.args.plan.now c.args.moment.now.start rows step (eval_stage (length c.args.plan.now.spec.streams) c.args.layer) in
-    let held = held_all c.args.plan.now c.args.moment.now c.args.marks.now c.seek_layer.new.sought (remembers g c) (shown g c) c.args.layer c.requires.accepted names rows step c.requires.at run marked c.seek_layer.ensures (fresh g c) (are_results g c) in
-    let told = next_content c.args.plan.now c.args.moment.now c.args.marks.now c.seek_layer.new.sought (remembers g c) (shown g c) c.args.layer c.requires.accepted names rows step c.requires.at run marked c.seek_layer.ensures (fresh g c) (are_results g c) in
+    let held = held_all c.args.plan.now c.args.moment.now c.args.marks.now c.seek_layer.new.sought (remembers g c) (shown g c) c.args.layer c.requires.accepted names rows step c.requires.at run marked c.seek_layer.ensures.sought (fresh g c) (are_results g c) in
+    let told = next_content c.args.plan.now c.args.moment.now c.args.marks.now c.seek_layer.new.sought (remembers g c) (shown g c) c.args.layer c.requires.accepted names rows step c.requires.at run marked c.seek_layer.ensures.sought (fresh g c) (are_results g c) in
     let H : List Outcome → Type 0 = λ rs. AreHeldIn names rs in
-    let P : Content → Type 0 = λ d. Stands names (g.S.StreamStore.remembers c.give_all.new.store) (g.S.StreamStore.seen c.give_all.new.store) d in
+    let P : Content → Type 0 = λ d. Stands names (g.S.StreamStore.remembers c.give_shared.new.store) (g.S.StreamStore.seen c.give_shared.new.store) d in
     record {
       run = run.run;
       moment = run.moment;
       stands = subst P (ap (λ ts. told_outcomes names now ts (gives g c)) (given_are g c) ∙ (ap (λ rs. told_outcomes names now (tasks g c) rs) (gives_are g c) ∙ told))
-          (c.give_all.ensures.stands names now (subst H (sym (gives_are g c)) held) run.stands);
+          (c.give_shared.ensures.stands names now (subst H (sym (gives_are g c)) held) run.stands);
     }
 
 pub returns-clause-shows : goal.returns-clause-shows
@@ -176,10 +190,10 @@ returns-clause-shows g c names rows step run marked earlier =
     let T : List Task → Type 0 = λ ts. ShowResults plan full next names c.gather.new.spans ts (first g c ++ fresh g c) in
     let Q : List Outcome → Type 0 = λ rs. ShowResults plan full next names c.gather.new.spans c.gather.new.tasks.items rs in
     subst Q (results_is g c) (subst T (tasks_are g c) (subst P (spans_is g c)
-    (shows_more plan c.args.moment.now c.args.marks.now c.seek_layer.new.sought (remembers g c) (shown g c) c.args.layer c.requires.accepted names rows step c.requires.at run marked c.seek_layer.ensures
+    (shows_more plan c.args.moment.now c.args.marks.now c.seek_layer.new.sought (remembers g c) (shown g c) c.args.layer c.requires.accepted names rows step c.requires.at run marked c.seek_layer.ensures.sought
     (fresh g c) (are_results g c) (before g c) (first g c) c.requires.rooms.each c.args.spans.now c.requires.spans earlier)))
 
 pub returns-clause-faultless : goal.returns-clause-faultless
 returns-clause-faultless g c none before_none =
     faultless_more (first g c) (fresh g c) c.answer_tasks.new.results.items (results_is g c) before_none
-    (ap has_fault (sym (gives_are g c)) ∙ (sym c.give_all.ensures.faulty ∙ none))
+    (ap has_fault (sym (gives_are g c)) ∙ (sym c.give_shared.ensures.faulty ∙ none))

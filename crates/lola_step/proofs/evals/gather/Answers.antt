@@ -21,6 +21,7 @@ loop-number-init g c =
           c.args.tasks.now.items c.args.spans.now c.args.tasks.now.items c.args.spans.now)
           c.args.turns.now c.requires.turns
           (gathered_first plan c.args.moment.now c.args.marks.now c.args.sought.now (g.S.StreamStore.seen c.args.store.now) c.args.layer c.args.tasks.now.items c.args.spans.now);
+      known = c.none-last.ensures c.args.moment.now;
       places_room = refl;
       tasks_room = refl;
     }
@@ -59,6 +60,7 @@ gather_stream-requires g c =
       order = omega (arith, c.requires.moment.time_is, c.requires.moment.start_is, c.requires.of.order);
       single = λ none. (never_local plan seen c.requires.of.layout n x c.stream_at.ensures c.requires.accepted c.requires.of none, c.requires.of.single n x c.stream_at.ensures (no_clause x.spawn none));
       spans = omega (arith, within, c.loop-number.auto.spans, c.requires.spans);
+      known = c.loop-number.invariant.known;
       store = omega (arith, within, ap (λ l. length l.streams) c.requires.of.layout, layouts_length streams plan.kept plan.pacings);
       places_room = omega (arith, room_alone seen n, c.loop-number.invariant.places_room, c.requires.places_room);
       tasks_room = omega (arith, counted, few, fits, c.loop-number.tasks.ok.0, c.args.tasks.now.ok.0, c.loop-number.invariant.tasks_room, c.requires.tasks_room);
@@ -88,6 +90,7 @@ loop-number-preserved g c =
             (ap length c.gather_stream.ensures.tasks ∙ length-append c.loop-number.tasks.items (stream_tasks plan m marks sought seen layer n x))
             c.loop-number.tasks.ok.0 c.gather_stream.ensures.spans t.holds.noted;
       });
+      known = c.gather_stream.ensures.known;
       places_room = c.gather_stream.ensures.places ∙ c.loop-number.invariant.places_room;
       tasks_room = c.gather_stream.ensures.capacity ∙ c.loop-number.invariant.tasks_room;
     }

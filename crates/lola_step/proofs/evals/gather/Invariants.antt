@@ -1,6 +1,7 @@
 -- The tasks of the streams so far.
 use Rattle.std.proofs.Common.{◌≡◌, drop}
 use Rattle.std.specs.Vec.{vec_capacity}
+use Rattle.lola_step.specs.Rates.{IsKnownAt}
 use Rattle.lola_step.specs.Schedules.{has_turn}
 use Rattle.lola_step.specs.declared.schedule.Turn.TheVariants as turn
 use Rattle.lola_step.proofs.Between.{AreGathered}
@@ -12,6 +13,7 @@ invariant-loop-number g l = record {
   walk : IsWalk (has_turn l.plan (turn.Eval l.layer)) l.plan.spec.streams
       (AreGathered l.plan l.moment l.marks l.sought (g.S.StreamStore.seen l.store) l.layer l.initial.tasks.items l.initial.spans l.tasks.items l.spans)
       (drop l.number-index l.turns);
+  known : IsKnownAt l.moment l.last;
   places_room : vec_capacity l.places ≡ vec_capacity l.initial.places;
   tasks_room : vec_capacity l.tasks ≡ vec_capacity l.initial.tasks;
 }

@@ -9,7 +9,7 @@ pub add_asked-requires-clause-tasks_room : goal.add_asked-requires-clause-tasks_
 add_asked-requires-clause-tasks_room g c =
     let counted =
     count_asked c.args.plan.now c.args.moment.now c.args.marks.now c.args.sought.now (g.S.StreamStore.seen c.args.store.now) c.args.layer c.args.n c.args.stream.now c.sought_of-whereabouts.result c.eval_pacing_at-pacing.result.now
-    (sym (c.runs.ensures c.args.layer c.args.stream.now c.requires.turn) ∙ c.if-runs.true) c.sought_of-whereabouts.ensures (c.eval_pacing_at-pacing.ensures ∙ ap (λ ps. eval_pacing (slice_get ps c.args.n)) c.as_slice.ensures) in
+    (sym (c.runs_now.ensures.runs c.args.layer c.args.stream.now c.requires.turn) ∙ c.if-runs_now.true) c.sought_of-whereabouts.ensures (c.eval_pacing_at-pacing.ensures ∙ ap (λ ps. eval_pacing (slice_get ps c.args.n)) c.as_slice.ensures) in
     omega (arith, c.requires.tasks_room, counted)
 
 pub add_asked-requires-clause-single : goal.add_asked-requires-clause-single

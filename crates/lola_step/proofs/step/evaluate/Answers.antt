@@ -4,6 +4,7 @@ use Rattle.lola_stages.specs.Stages.{eval_stage}
 use Rattle.lola_step.specs.Evals.{EvalsTake, IsReadyFor, ShowsMore}
 use Rattle.lola_step.specs.Found.{NoneFailed, has_fault}
 use Rattle.lola_step.specs.Schedules.{IsScheduleOf}
+use Rattle.lola_step.specs.Sought.{AreUnsought}
 use Rattle.lola_step.specs.declared.mark.Mark.{Mark}
 use Rattle.lola_step.specs.declared.schedule.Schedule.{Schedule}
 use Rattle.lola_step.specs.declared.scratch.Span.{Span}
@@ -21,6 +22,7 @@ loop-layer-init g c = record {
   faultless = λ none. (fine_first c.args.scratch.now.marks.items c.requires.fresh.marks, ap has_fault c.requires.fresh.results);
   marks = refl;
   sought = refl;
+  unsought = c.requires.made.unsought;
   layers = refl;
   schedule = refl;
   code = refl;
@@ -43,6 +45,10 @@ pub eval_layer-given-requires-clause-sought : goal.eval_layer-given-requires-cla
 eval_layer-given-requires-clause-sought g c κs within =
     ap length c.deref_mut-in-loop-layer-2.ensures.value ∙ (c.loop-layer.invariant.sought ∙ c.requires.made.sought)
 
+pub eval_layer-given-requires-clause-unsought : goal.eval_layer-given-requires-clause-unsought
+eval_layer-given-requires-clause-unsought g c κs within =
+    subst (AreUnsought c.args.plan.now) (sym c.deref_mut-in-loop-layer-2.ensures.value) c.loop-layer.invariant.unsought
+
 pub spawns_in-requires : goal.spawns_in-requires
 spawns_in-requires g c =
     omega (arith, c.loop-layer-test.true, c.loop-layer.invariant.layers, c.requires.made.scheduled, ap (λ (s : Schedule). length s.layers.items) c.loop-layer.invariant.schedule)
@@ -58,6 +64,14 @@ evals_in-requires g c =
 pub eval_layer-given-requires-clause-turns : goal.eval_layer-given-requires-clause-turns
 eval_layer-given-requires-clause-turns g c κs within =
     c.evals_in.ensures c.args.plan.now (subst (IsScheduleOf c.args.plan.now) (sym c.loop-layer.invariant.schedule) c.requires.made.schedule)
+
+pub seeks_in-requires : goal.seeks_in-requires
+seeks_in-requires g c =
+    omega (arith, c.loop-layer-test.true, c.loop-layer.invariant.layers, c.requires.made.scheduled, ap (λ (s : Schedule). length s.layers.items) c.loop-layer.invariant.schedule)
+
+pub eval_layer-given-requires-clause-seeks : goal.eval_layer-given-requires-clause-seeks
+eval_layer-given-requires-clause-seeks g c κs within =
+    c.seeks_in.ensures c.args.plan.now (subst (IsScheduleOf c.args.plan.now) (sym c.loop-layer.invariant.schedule) c.requires.made.schedule)
 
 pub eval_layer-given-requires-clause-code : goal.eval_layer-given-requires-clause-code
 eval_layer-given-requires-clause-code g c κs within = c.loop-layer.invariant.code ∙ c.requires.made.code
@@ -107,6 +121,7 @@ loop-layer-preserved g c =
           );
       marks = ap length marks_back ∙ (length_marks ∙ (now.marks.ok.0 ∙ c.loop-layer.invariant.marks));
       sought = ap length sought_back ∙ (length_sought ∙ (now.sought.ok.0 ∙ c.loop-layer.invariant.sought));
+      unsought = subst (AreUnsought plan) (sym sought_back) c.eval_layer-given.ensures.unsought;
       layers = c.loop-layer.invariant.layers;
       schedule = c.loop-layer.invariant.schedule;
       code = c.loop-layer.invariant.code;

@@ -1,6 +1,7 @@
 use Rattle.std.proofs.Common.{◌≡◌, false, length}
 use Rattle.std.specs.Vec.{vec_capacity}
 use Rattle.lola_step.specs.Found.{IsFaultless}
+use Rattle.lola_step.specs.Sought.{AreUnsought}
 use Rattle.lola_step.proofs.Evaluation.{IsSoFar}
 use Rattle.lola_step.proofs.step.evaluate.Given as goal
 
@@ -11,6 +12,7 @@ invariant-loop-layer g l = record {
   faultless : l.faulty ≡ false → IsFaultless l.scratch.marks.items l.scratch.results.items;
   marks : length l.scratch.marks.items ≡ length l.initial.scratch.marks.items;
   sought : length l.scratch.sought.items ≡ length l.initial.scratch.sought.items;
+  unsought : AreUnsought l.plan l.scratch.sought.items;
   layers : l.scratch.layers ≡ l.layer-end;
   schedule : l.scratch.schedule ≡ l.initial.scratch.schedule;
   code : l.scratch.code ≡ l.initial.scratch.code;

@@ -1,20 +1,25 @@
-use Rattle.std.proofs.Common.{◌≡◌, ◌∙◌, ◌<◌, ◌+◌, Some, ap, arith, drop, get_or, length, slice_get, subst, sym, take}
+use Rattle.std.proofs.Common.{◌≡◌, ◌∙◌, ◌<◌, ◌+◌, ◌||◌, Some, ap, arith, drop, get_or, length, slice_get, subst, sym, take}
 use Rattle.std.proofs.lemmas.List.{drop_more, take_all}
 use Rattle.std.proofs.lemmas.Option.{slice_get-get_or}
 use Rattle.lola_model.specs.Content.{Content}
 use Rattle.lola_model.specs.Store.{Seen, Stands}
 use Rattle.lola_step.specs.Given.{after_all, after_giving, told_outcomes, CanGiveAll}
+use Rattle.lola_step.specs.Found.{is_fault}
+use Rattle.lola_step.proofs.Elements.{cut}
 use Rattle.lola_step.proofs.Faultless.{fault_end, fault_step}
-use Rattle.lola_step.proofs.Giving.{all_more, can_first, held_at, first_outcome, first_task, told_more}
-use Rattle.lola_step.proofs.evals.give_all.Goals as goal
+use Rattle.lola_step.proofs.OneByOne.{all_more, can_first, held_at, first_task, told_more}
+use Rattle.lola_step.proofs.giving.give_all.Goals as goal
 
 pub give-requires : goal.give-requires
 give-requires g c =
     let i = c.loop-i.i in
-    let within : i < length c.args.results.now = omega (arith, c.loop-i-test.true, c.requires.places) in
-    (can_first (g.S.StreamStore.seen c.loop-i.store) (drop i c.args.tasks.now) (drop (i + 1) c.args.tasks.now) (drop i c.args.results.now) (drop (i + 1) c.args.results.now)
-    (get_or c.args.tasks.now i first_task) (get_or c.args.results.now i first_outcome)
-    (drop_more c.args.tasks.now i first_task c.loop-i-test.true) (drop_more c.args.results.now i first_outcome within) c.loop-i.invariant.can).0
+    let results = c.args.results.now in
+    let r = c.index-results-i.result in
+    let within : i < length results = omega (arith, c.loop-i-test.true, c.requires.places) in
+    let with' : slice_get results i ≡ Some r = slice_get-get_or results i r within ∙ ap Some (sym c.index-results-i.is) in
+    (can_first (g.S.StreamStore.seen c.loop-i.store) (drop i c.args.tasks.now) (drop (i + 1) c.args.tasks.now) (drop i results) (drop (i + 1) results)
+    (get_or c.args.tasks.now i first_task) r
+    (drop_more c.args.tasks.now i first_task c.loop-i-test.true) (cut results i r with') c.loop-i.invariant.can).0
 
 pub loop-i-preserved : goal.loop-i-preserved
 loop-i-preserved g c =
@@ -23,21 +28,21 @@ loop-i-preserved g c =
     let results = c.args.results.now in
     let before = g.S.StreamStore.seen c.loop-i.store in
     let t = get_or tasks i first_task in
-    let r = get_or results i first_outcome in
+    let r = c.index-results-i.result in
     let within : i < length results = omega (arith, c.loop-i-test.true, c.requires.places) in
     let at : slice_get tasks i ≡ Some t = slice_get-get_or tasks i first_task c.loop-i-test.true in
-    let with' : slice_get results i ≡ Some r = slice_get-get_or results i first_outcome within in
+    let with' : slice_get results i ≡ Some r = slice_get-get_or results i r within ∙ ap Some (sym c.index-results-i.is) in
     let C : Seen → Type 0 = λ s. CanGiveAll s (drop (i + 1) tasks) (drop (i + 1) results) in
     record {
       can = subst C (sym c.give.ensures.seen) (can_first before (drop i tasks) (drop (i + 1) tasks) (drop i results) (drop (i + 1) results) t r
-          (drop_more tasks i first_task c.loop-i-test.true) (drop_more results i first_outcome within) c.loop-i.invariant.can).1;
+          (drop_more tasks i first_task c.loop-i-test.true) (cut results i r with') c.loop-i.invariant.can).1;
       seen = c.give.ensures.seen
           ∙ (ap (λ s. after_giving s t r) c.loop-i.invariant.seen ∙ sym (all_more (g.S.StreamStore.seen c.args.store.now) tasks results i t r at with'));
       stands = λ names d held h.
           let S : Content → Type 0 = λ e. Stands names (g.S.StreamStore.remembers c.give.new.store) (g.S.StreamStore.seen c.give.new.store) e in
           subst S (sym (told_more names d tasks results i t r at with'))
           (c.give.ensures.stands names (told_outcomes names d (take i tasks) (take i results)) (held_at names results i r with' held) (c.loop-i.invariant.stands names d held h));
-      faulty = fault_step results i first_outcome c.loop-i.faulty c.or_fault-faulty.result within c.or_fault-faulty.ensures c.loop-i.invariant.faulty;
+      faulty = fault_step results i r c.loop-i.faulty c.or_fault-faulty.result within (c.or_fault-faulty.ensures ∙ ap (λ o. is_fault o || c.loop-i.faulty) c.index-results-i.is) c.loop-i.invariant.faulty;
     }
 
 pub returns-clause-faulty : goal.returns-clause-faulty

@@ -5,7 +5,7 @@ use Rattle.lola_model.specs.Content.{Content}
 use Rattle.lola_model.specs.Store.{Stands}
 use Rattle.lola_step.specs.Found.{has_fault}
 use Rattle.lola_step.specs.Given.{AreHeldIn, CanGiveAll, after_all, told_outcomes}
-use Rattle.lola_step.proofs.evals.give_all.Given as goal
+use Rattle.lola_step.proofs.giving.give_all.Given as goal
 
 abbrev pub invariant-loop-i : goal.invariant-loop-i
 invariant-loop-i g l = record {
