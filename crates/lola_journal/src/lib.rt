@@ -3,7 +3,7 @@
 
 mod candidate;
 pub mod law;
-mod line;
+pub mod line;
 mod read;
 #[cfg(test)]
 mod tests;

@@ -17,7 +17,7 @@ use std::alloc::Global;
 
 /// Room that is kept from line to line: for the fields of a line, and for the line of the entry that it is taken for.
 #[derive(Drop)]
-pub(crate) struct Room {
+pub struct Room {
     fields: ByteRecord,
     spare: Vec<u8>,
     written: Text,
@@ -25,7 +25,7 @@ pub(crate) struct Room {
 
 impl Room {
     /// Room that grows with the lines.
-    pub(crate) fn create(alloc: Global) -> Result<Room, Memory> {
+    pub fn create(alloc: Global) -> Result<Room, Memory> {
         Ok(Room {
             fields: ByteRecord::new(alloc),
             spare: Vec::new(alloc),
@@ -61,7 +61,7 @@ fn is_line_of(alloc: Global, entry: &Entry, line: &[u8], written: &mut Text) -> 
 
 /// The entry whose line this is, for inputs of these kinds; none where it is the line of no entry that a trace can
 /// tell. The line is given with its LF, and without.
-pub(crate) fn entry_of_line(
+pub fn entry_of_line(
     alloc: Global,
     kinds: &[Kind],
     line: &[u8],

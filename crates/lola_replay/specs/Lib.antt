@@ -1,0 +1,17 @@
+pub mod LinesOf
+pub mod Ends
+pub mod Traces
+pub mod Verdicts
+pub mod Findings
+pub mod SoFar
+pub mod Answers
+pub mod Times
+pub mod Tallies
+pub mod Tries
+pub mod Moments
+pub mod Clauses
+pub mod Scenes
+pub mod Agreements
+pub mod Open
+pub mod SettlingOf
+pub mod Stacks
