@@ -13,7 +13,7 @@ _lolamon_options() {
 _lolamon_free_options() {
     local used=" ${COMP_WORDS[*]:0:COMP_CWORD} " option
     for option in $(_lolamon_options "$@"); do
-        if [[ $used != *" $option "* || $option == --@(scale|rename|fail-on) ]]; then echo "$option"; fi
+        if [[ $used != *" $option "* || $option == --@(scale|thousands|rename|fail-on) ]]; then echo "$option"; fi
     done
 }
 
@@ -27,7 +27,7 @@ _lolamon_values() {
         --rate) echo 1Hz 10Hz 100Hz ;;
         --behind | --for) echo 100ms 500ms 1s 1min ;;
         --fail-on) echo any ;;
-        --start | --scale | --rename | --streams | --from | --to | --pid) ;;
+        --start | --scale | --thousands | --rename | --streams | --from | --to | --pid) ;;
         *) return 1 ;;
     esac
 }
@@ -41,6 +41,8 @@ _lolamon() {
     COMPREPLY=()
     if [[ $name == lolamon ]] && ((COMP_CWORD == 1)); then
         mapfile -t COMPREPLY < <(compgen -W 'run analyse drill' -- "$word")
+    elif [[ $name == lolamon-spread ]] && ((COMP_CWORD == 1)) && [[ $word != -* ]]; then
+        mapfile -t COMPREPLY < <(compgen -W "$(_lolamon_values --commands)" -- "$word")
     elif [[ $name == lolamon && ${COMP_WORDS[1]} == drill ]]; then
         return
     elif [[ -n $has_options ]] && values=$(_lolamon_values "$before"); then
@@ -53,4 +55,4 @@ _lolamon() {
     fi
 }
 
-complete -F _lolamon lolamon lolamon-batch lolamon-doctor lolamon-plot lolamon-table lolamon-tick lolamon-where
+complete -F _lolamon lolamon lolamon-batch lolamon-collect lolamon-doctor lolamon-estimate lolamon-explain lolamon-mend lolamon-overlay lolamon-plot lolamon-spread lolamon-table lolamon-tick lolamon-where

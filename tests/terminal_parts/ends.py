@@ -8,7 +8,7 @@ import sys
 from terminal_parts.harness import CHECKOUT, SUM, Checks, explained, on_terminal, split, stand_in, write
 
 sys.path.insert(0, os.path.join(CHECKOUT, "tools"))
-from explaining.running import Outcome  # noqa: E402
+from explaining.outcome import Outcome  # noqa: E402
 from explaining.telling import Manual, Teller  # noqa: E402
 from explaining.watching import Watch  # noqa: E402
 

@@ -1,1 +1,1 @@
-"""What tools/lolamon-batch is made of: logs and their runs, kept results, what is told of them, and runs elsewhere."""
+"""What tools/lolamon-batch is made of: it runs logs, and keeps what they come to."""

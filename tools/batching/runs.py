@@ -1,47 +1,22 @@
 """Runs lolamon over one log, and keeps of all that it writes what a line of the batch tells."""
 from __future__ import annotations
 
+import json
 import os
 import re
 import selectors
 import subprocess
-from typing import BinaryIO, Dict, List, NamedTuple, Optional
+import time
+from typing import Any, BinaryIO, Dict, List, NamedTuple, Optional
 
+from batches.logs import Log
+from batches.plan import Plan, origin
+from batches.results import RESULT, TRACE, VERDICTS, Found, Result, folder_of
 from explaining.watching import Lines, Watch
 
 BLOCK = 65536
 VERDICT = re.compile(rb'^(\d+\.\d{9}) (trigger_\d+) "(.*)"$', re.MULTILINE)
-NAMED = {0: "done", 4: "malformed", 5: "fault", 6: "unreadable"}
 LASTING = (0, 4, 5)  # the statuses that another run over the same files would give again
-
-
-class Found(NamedTuple):
-    """How often a trigger was true in a log, when first, and its message as the verdict line spells it."""
-
-    count: int
-    first: str
-    message: str
-
-
-class Result(NamedTuple):
-    """What came of a log. A status below 0 is a signal; the end is the end line without its mark."""
-
-    log: str
-    status: int
-    end: str
-    accepted: int
-    late: int
-    triggers: Dict[str, Found]
-
-    def kind(self) -> str:
-        return NAMED.get(self.status, "other")
-
-    def told_end(self) -> str:
-        if self.status == 0:
-            return "done"
-        if self.status < 0:
-            return f"ended by signal {-self.status}"
-        return self.end or f"status {self.status}"
 
 
 class Verdicts(Watch):
@@ -116,3 +91,30 @@ def run_log(command: List[str], log: str, verdicts: Optional[BinaryIO], trace: O
     late = sum(rows.late.values())
     end = seen.end_line[2:].decode("utf-8", "replace")
     return Result(log, process.returncode, end, rows.rows - late, late, seen.triggers)
+
+
+def described(plan: Plan, log: Log, result: Result) -> Dict[str, Any]:
+    """The result as it is kept, and what it was a result of."""
+    return {**origin(plan, log), "trigger_names": plan.trigger_names, "status": result.status, "end": result.end, "accepted": result.accepted,
+            "late": result.late, "triggers": {name: list(found) for name, found in result.triggers.items()}}
+
+
+def run_and_keep(plan: Plan, log: Log) -> Result:
+    """Runs a log. Where results are kept, its folder gets the verdicts and the trace, and last the result."""
+    if plan.folder is None:
+        return run_log(plan.words(log), log.name, None, None)
+    folder = folder_of(plan.folder, log.name)
+    os.makedirs(folder, exist_ok=True)
+    path = os.path.join(folder, RESULT)
+    if os.path.lexists(path):
+        os.remove(path)
+    began = time.time_ns()
+    with open(os.path.join(folder, VERDICTS), "wb") as verdicts, open(os.path.join(folder, TRACE), "wb") as trace:
+        result = run_log(plan.words(log), log.name, verdicts, trace)
+    if result.status in LASTING:
+        unfinished = f"{path}.unfinished"
+        with open(unfinished, "w", encoding="utf-8") as file:
+            json.dump(described(plan, log, result), file)
+        os.utime(unfinished, ns=(began, began))
+        os.rename(unfinished, path)
+    return result

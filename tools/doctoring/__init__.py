@@ -1,1 +1,1 @@
-"""What tools/lolamon-doctor is made of: it looks at a specification and its sources before a run, and mends a source."""
+"""What tools/lolamon-doctor is made of: it tells what is wrong in a specification's sources before a run."""

@@ -10,25 +10,14 @@ import resource
 import select
 import signal
 import threading
-from typing import Callable, Dict, List, NamedTuple, NoReturn, Optional, Set, Tuple
+from typing import Callable, Dict, List, NoReturn, Set, Tuple
 
+from explaining.outcome import ERRORS, OUTPUT, Outcome
 from explaining.watching import Lines, Watch
 
-OUTPUT = 1
-ERRORS = 2
 BLOCK = 65536
 WRITE_FAILED = 7  # the program's status where a write failed
 PASSED_ON = (signal.SIGINT, signal.SIGTERM, signal.SIGHUP, signal.SIGQUIT)
-
-
-class Outcome(NamedTuple):
-    """How the program ended, by a status or by a signal, and what was seen of it."""
-
-    status: Optional[int]
-    signal: Optional[int]
-    watch: Watch
-    failures: Dict[int, OSError]  # by the stream that could not be written
-    in_a_line: bool  # whether the last byte on standard error was no line feed
 
 
 def is_open(stream: int) -> bool:

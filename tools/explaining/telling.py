@@ -14,7 +14,7 @@ from explaining import places
 from explaining.folders import documents
 from explaining.messages import read_messages
 from explaining.places import shown_name
-from explaining.running import ERRORS, OUTPUT, Outcome
+from explaining.outcome import ERRORS, OUTPUT, Outcome
 from explaining.words import Command, NotACommand, asks_for_help, read_command
 
 REFUSED = re.compile(r"= refused (E\d+) \w+ at (\d+)")
@@ -81,14 +81,15 @@ class Manual:
 
 
 class Teller:
-    """Tells of one run. Each part gives lines of text."""
+    """Tells of one run, on a stream. Each part gives lines of text."""
 
-    def __init__(self, manual: Manual, outcome: Outcome, words: List[str]) -> None:
+    def __init__(self, manual: Manual, outcome: Outcome, words: List[str], stream: int = ERRORS) -> None:
         self.manual = manual
+        self.stream = stream
         self.outcome = outcome
         self.words = words
         self.end_line = outcome.watch.end_line.decode("utf-8", "replace")
-        self.width = terminal_width()
+        self.width = terminal_width(stream)
         self.command = command_of(words)
 
     def all(self) -> List[str]:
@@ -127,7 +128,7 @@ class Teller:
         place = places.place_in(text, at)
         end = ", the end of the text" if at == len(text) else ""
         head = f"{shown_name(path)}, line {place.line}, column {place.column}{end}:"
-        return [head, *places.show_place(place, self.width, mark())]
+        return [head, *places.show_place(place, self.width, mark(self.stream))]
 
     def malformed(self) -> List[str]:
         match = MALFORMED.fullmatch(self.end_line)
@@ -229,7 +230,7 @@ class Patience:
 
     def tell(self, line: int) -> None:
         if line % 10_000 == 0 and time.monotonic() > self.until:
-            say([f"Looking for {self.what} .."])
+            write_told([f"Looking for {self.what} .."], ERRORS)
             self.until = float("inf")
 
 
@@ -240,11 +241,11 @@ def wrapped(line: str, width: int) -> List[str]:
     return textwrap.wrap(line, width, break_long_words=False, break_on_hyphens=False) or [""]
 
 
-def say(lines: List[str]) -> None:
-    """Writes lines to standard error, two blanks before each."""
-    width = min(terminal_width(), 100) - 3
+def write_told(lines: List[str], stream: int) -> None:
+    """Writes lines to a stream, two blanks before each."""
+    width = min(terminal_width(stream), 100) - 3
     text = "".join(f"  {piece}".rstrip() + "\n" for line in lines for piece in wrapped(line, width))
-    os.write(ERRORS, text.encode("utf-8", "backslashreplace"))
+    os.write(stream, text.encode("utf-8", "backslashreplace"))
 
 
 def command_of(words: List[str]) -> Optional[Command]:
@@ -254,17 +255,17 @@ def command_of(words: List[str]) -> Optional[Command]:
         return None
 
 
-def terminal_width() -> int:
+def terminal_width(stream: int) -> int:
     try:
-        return os.get_terminal_size(ERRORS).columns or 80
+        return os.get_terminal_size(stream).columns or 80
     except OSError:
         return 80
 
 
-def mark() -> str:
-    """The mark below a place, in bold where the terminal can and may."""
-    plain = os.environ.get("NO_COLOR") or os.environ.get("TERM", "dumb") == "dumb"
-    return "^" if plain else "\x1b[1m^\x1b[0m"
+def mark(stream: int) -> str:
+    """The mark below a place, in bold where the stream is a terminal that can and may."""
+    is_plain = os.environ.get("NO_COLOR") or os.environ.get("TERM", "dumb") == "dumb" or not os.isatty(stream)
+    return "^" if is_plain else "\x1b[1m^\x1b[0m"
 
 
 def why_unreadable(path: str) -> str:
@@ -280,8 +281,13 @@ def why_unreadable(path: str) -> str:
     return ""
 
 
+def told(outcome: Outcome, words: List[str], stream: int) -> List[str]:
+    """What a person needs to be told of a run; of one without a fault and without late rows nothing."""
+    return Teller(Manual(), outcome, words, stream).all()
+
+
 def tell(outcome: Outcome, words: List[str]) -> None:
-    """Tells of a run what a person needs; of one without a fault and without late rows nothing."""
-    lines = Teller(Manual(), outcome, words).all()
+    """Tells of a run on standard error, behind what it wrote there itself."""
+    lines = told(outcome, words, ERRORS)
     if lines:
-        say(([""] if not outcome.in_a_line else ["", ""]) + lines)
+        write_told(([""] if not outcome.in_a_line else ["", ""]) + lines, ERRORS)

@@ -7,7 +7,6 @@ from __future__ import annotations
 import re
 from typing import Dict, List, NamedTuple
 
-COMMANDS = ("run", "analyse", "drill")
 FLAG = "--in-turns"
 VALUES = {
     "--show": "'triggers' or 'outputs'",

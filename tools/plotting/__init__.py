@@ -1,1 +1,1 @@
-"""What tools/lolamon-plot is made of: it draws the inputs, outputs and triggers of a run over time."""
+"""What tools/lolamon-plot is made of: it takes the rows and the verdicts of a run into a picture."""

@@ -1,13 +1,11 @@
 """The streams of a specification, as `lolamon analyse` tells them."""
 from __future__ import annotations
 
-import re
-from typing import Dict, List, NamedTuple
+from typing import List, NamedTuple
 
 from answers.lines import Unfit
 from explaining.program import analyse
-
-STREAM = re.compile(r"stream [0-9]+ (\w+) (\w+) (?:spawn (?:.*) layer [0-9]+ )?pacing (.*) layer [0-9]+ kept [0-9]+")
+from specifications.report import streams_of
 
 
 class Stream(NamedTuple):
@@ -29,9 +27,6 @@ class Specification(NamedTuple):
     def outputs(self) -> List[Stream]:
         return [stream for stream in self.streams if not stream.is_input]
 
-    def by_name(self) -> Dict[str, Stream]:
-        return {stream.name: stream for stream in self.streams}
-
 
 def read_specification(path: str) -> Specification:
     ran = analyse(path)
@@ -46,11 +41,7 @@ def read_report(lines: List[str]) -> Specification:
     """An input is what is paced by itself, and the k-th trigger is called trigger_k."""
     streams: List[Stream] = []
     triggers = 0
-    for line in lines:
-        match = STREAM.fullmatch(line)
-        if match is None:
-            continue
-        name, kind, pacing = match.groups()
+    for name, kind, _, pacing, _ in streams_of(lines):
         if kind == "Bool" and name == f"trigger_{triggers + 1}":
             triggers += 1
         else:

@@ -100,7 +100,7 @@ for (const panel of data.panels) {
 }
 for (const marks of allMarks()) marks.at = marks.times.map(Number);
 data.late.at ||= [];
-document.getElementById("end").textContent = [data.end, ...data.notes].join("  ·  ");
+document.getElementById("end").textContent = [data.end, ...data.notes].filter(told => told).join("  ·  ");
 listen();
 draw();
 canvas.dataset.drawn = data.panels.length;

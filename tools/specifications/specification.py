@@ -1,19 +1,15 @@
-"""A specification as `lolamon analyse` tells of it: its inputs, the deadlines of a run, and the memory that a run takes."""
+"""A specification that `lolamon analyse` accepts: its inputs and where they stand, and the rates of its deadlines."""
 from __future__ import annotations
 
 import re
 from fractions import Fraction
-from functools import reduce
-from itertools import combinations
-from math import ceil, gcd
-from typing import Dict, List, NamedTuple, Optional, Set, Tuple
+from typing import Dict, List, Optional, Set, Tuple
 
-from doctoring.values import SECOND, time_of
 from explaining.places import Place, place_in, read_specification
 from explaining.program import analyse
+from sources.values import SECOND
+from specifications.report import streams_of, windows_of
 
-STREAM = re.compile(r"stream \d+ (\w+) (\w+) (?:spawn (.+) layer \d+ )?pacing (.+) layer \d+ kept (\d+)")
-WINDOW = re.compile(r"window \d+ in (\w+) onto (\w+) over ([\d.]+) panes (\d+)")
 REFUSED = re.compile(r"= refused (E\d+) \w+ at (\d+)")
 RATE = re.compile(r"(\d+)(?:/(\d+))?Hz")
 WORD = re.compile(rb'//[^\r\n]*|/\*.*?\*/|"(?:\\.|[^"\\])*"|\w+|\S', re.DOTALL)
@@ -21,21 +17,6 @@ CLOSE = re.compile(rb"close@(?:Global\()?([0-9]+(?:\.[0-9]+)?)([a-zA-Z]+?)\)?whe
 LENGTHS = {b"ns": Fraction(1, SECOND), b"us": Fraction(1, 10**6), b"ms": Fraction(1, 1000), b"s": Fraction(1), b"min": Fraction(60),
            b"h": Fraction(3600), b"d": Fraction(86400)}
 RATES = {b"mHz": Fraction(1, 1000), b"Hz": Fraction(1), b"kHz": Fraction(1000), b"MHz": Fraction(10**6)}
-MOST_RATES = 12  # so many are counted together; of more the sum is told
-
-
-class Stream(NamedTuple):
-    name: str
-    kind: str
-    spawn: str  # the pacing of its spawn clause, empty where there is none
-    pacing: str
-    kept: int
-
-
-class Window(NamedTuple):
-    target: str
-    length: int  # nanoseconds
-    panes: int
 
 
 class Refusal(Exception):
@@ -49,15 +30,15 @@ class Refusal(Exception):
 
 
 class Specification:
+    """What the tools ask of a specification, by its text and by the report of its analysis."""
+
     def __init__(self, name: str, text: bytes, report: List[str]) -> None:
         self.name = name
         self.text = text
         words = [(match.group(), match.start()) for match in WORD.finditer(text)]
         self.words = [(word, at) for word, at in words if not word.startswith((b"//", b"/*"))]
-        streams = [STREAM.fullmatch(line) for line in report]
-        windows = [WINDOW.fullmatch(line) for line in report]
-        self.streams = [Stream(match[1], match[2], match[3] or "", match[4], int(match[5])) for match in streams if match]
-        self.windows = [Window(match[2], time_of(match[3]) or 0, int(match[4])) for match in windows if match]
+        self.streams = streams_of(report)
+        self.windows = windows_of(report)
         self.inputs: Dict[str, str] = {}  # the kinds by the names
         for stream in self.streams:
             # An input is paced by itself alone. A trigger may be called as an input is; it comes second or is Bool.
@@ -84,7 +65,10 @@ class Specification:
         found = {Fraction(int(match[1]), int(match[2] or 1)) for match in matches if match}
         for number, unit in CLOSE.findall(b"".join(word for word, _ in self.words if not word.startswith(b'"'))):
             quantity = Fraction(number.decode())
-            found |= {quantity * RATES[unit]} if unit in RATES else {1 / (quantity * LENGTHS[unit])} if unit in LENGTHS else set()
+            if unit in RATES:
+                found.add(quantity * RATES[unit])
+            elif unit in LENGTHS:
+                found.add(1 / (quantity * LENGTHS[unit]))
         return found
 
     def has_local(self) -> bool:
@@ -93,32 +77,6 @@ class Specification:
     def longest(self) -> int:
         """The longest window or period, in nanoseconds; 0 where time plays no part."""
         return max([window.length for window in self.windows] + [int(SECOND / rate) for rate in self.rates()], default=0)
-
-    def instance(self, stream: Stream) -> Tuple[int, int]:
-        """The bytes of an instance of the stream, about and at most, by the sum of docs/formats.md."""
-        onto = [window for window in self.windows if window.target == stream.name]
-        values = 32 * stream.kept + sum(48 * window.panes for window in onto)
-        others = 290 + 100 * len(onto) + (170 if stream.spawn else 0) + (24 if "Local" in stream.pacing else 0) + 280
-        return values + others, values + 2 * others
-
-
-def both(one: Fraction, other: Fraction) -> Fraction:
-    """The rate of the deadlines that two rates have in common."""
-    return Fraction(gcd(one.numerator * other.denominator, other.numerator * one.denominator), one.denominator * other.denominator)
-
-
-def count_deadlines(rates: Set[Fraction], span: int) -> Tuple[int, bool]:
-    """How many moments have a deadline up to so many nanoseconds behind the start, and whether that is no upper bound."""
-    # The k-th deadline is k / rate seconds behind the start, cut to nanoseconds: so those are up to the span that are below span + 1.
-    def alone(rate: Fraction) -> int:
-        return max(0, ceil((span + 1) * rate / SECOND) - 1)
-
-    apart = [rate for rate in rates if not any(other != rate and (other / rate).denominator == 1 for other in rates)]
-    if len(apart) > MOST_RATES:
-        return sum(map(alone, apart)), False
-    sums = (sum(alone(reduce(both, some)) for some in combinations(apart, size)) * (-1) ** (size + 1)
-            for size in range(1, len(apart) + 1))
-    return sum(sums), True
 
 
 def read_pipe(name: str) -> Optional[bytes]:

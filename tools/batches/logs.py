@@ -1,16 +1,13 @@
-"""Which logs a batch has, and which triggers its specification."""
+"""Which logs a batch has."""
 from __future__ import annotations
 
 import os
 from typing import Iterable, List, NamedTuple, Set
 
-from explaining.places import WORD, shown_name
+from batches.command import WrongWords
+from explaining.places import shown_name
 
 MOST_FILES = 64
-
-
-class WrongWords(Exception):
-    """What was asked for cannot be done, with the reason."""
 
 
 class Log(NamedTuple):
@@ -67,17 +64,3 @@ def find_logs(words: Iterable[str], lines: Iterable[bytes], join: bool) -> List[
             seen.add(path)
             found.append(log)
     return found
-
-
-class Triggers(NamedTuple):
-    """The triggers of a specification by name, and all texts that stand in it, as verdict lines spell them."""
-
-    names: List[str]
-    texts: Set[str]
-
-
-def triggers_of(specification: bytes) -> Triggers:
-    words = [match.group() for match in WORD.finditer(specification)]
-    count = sum(word == b"trigger" for word in words)
-    texts = {word[1:-1].decode("utf-8", "replace") for word in words if word.startswith(b'"')}
-    return Triggers([f"trigger_{number}" for number in range(1, count + 1)], texts)

@@ -9,9 +9,10 @@ import warnings
 from typing import Any, List, Tuple
 
 from answers.lines import Unfit
-from plotting.axes import Tick, time_ticks, value_ticks
-from plotting.picture import Panel, Picture
-from plotting.series import Point
+from pictures.axes import Tick, time_ticks, value_ticks
+from pictures.panel import Panel
+from pictures.picture import Picture
+from pictures.series import Point
 
 WIDTH = 9.0
 RIGHT = 0.2

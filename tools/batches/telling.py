@@ -1,15 +1,17 @@
 """The lines that a batch writes: one for each log, one for each trigger that was true, and the end line."""
 from __future__ import annotations
 
-import sys
 import time
 from typing import Dict, Iterable, List, NamedTuple
 
-from batching.runs import Result
+from answers.command import say
+from batches.command import NOT_WELL
+from batches.results import Result
 from explaining.places import shown, shown_name
 
 FIRST_WORD = 1.0  # so many seconds pass before the first word of progress
 NEXT_WORD = 10.0
+TRIGGER_CAME = 1
 KINDS = ("done", "malformed", "fault", "unreadable", "other")
 
 
@@ -76,18 +78,23 @@ def line_of(result: Result) -> str:
     return f"{shown_name(result.log)}: {result.told_end()}, accepted {result.accepted}, late {result.late}{''.join(found)}"
 
 
-def say(text: str) -> None:
-    """Writes a line to standard error."""
-    print(f"lolamon-batch: {text}", file=sys.stderr, flush=True)
-
-
 class Progress:
     """Says now and then how far a batch has come, and nothing within its first second."""
 
-    def __init__(self) -> None:
+    def __init__(self, tool: str) -> None:
+        self.tool = tool
         self.due = time.monotonic() + FIRST_WORD
 
     def tell(self, number: int, of: int) -> None:
         if time.monotonic() >= self.due:
             self.due = time.monotonic() + NEXT_WORD
-            say(f"{number} of {counted(of, 'log')}")
+            say(self.tool, f"{number} of {counted(of, 'log')}")
+
+
+def tell_totals(totals: Totals, fail_on: List[str]) -> int:
+    """Writes the sums, and gives the status of a batch that came to them."""
+    for line in totals.lines():
+        print(line)
+    if totals.came(fail_on):
+        return TRIGGER_CAME
+    return 0 if totals.went_well() else NOT_WELL

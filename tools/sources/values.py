@@ -21,6 +21,7 @@ RANGES = {**{f"Int{bits}": (-(2 ** (bits - 1)), 2 ** (bits - 1) - 1) for bits in
 
 WHOLE = re.compile(r"[+-]?[0-9]+")
 NUMBER = re.compile(r"[+-]?(?:[0-9]+\.?[0-9]*|\.[0-9]+)(?:[eE][+-]?[0-9]{1,4})?")
+GROUPED = re.compile(r"[+-]?[1-9][0-9]{0,2}(?:\.[0-9]{3})+(?:,[0-9]+)?")
 DATE = re.compile(r"([0-9]{4})[-/]([0-9]{2})[-/]([0-9]{2})[T ]([0-9]{2}:[0-9]{2}:[0-9]{2})(?:[.,]([0-9]+))? ?(Z|[+-][0-9]{2}:?[0-9]{2})?")
 MISSING = {"nan", "na", "n/a", "null", "none", "nil", "nul", "-", "--", "?", "inf", "+inf", "-inf", "infinity", "-infinity",
            "#n/a", "#nv", "#value!", "#wert!", "#div/0!", "#num!", "#zahl!", "#null!", "#ref!", "#bezug!", "#name?"}  # as spreadsheets have it
@@ -33,6 +34,14 @@ def read_number(text: str) -> Optional[Decimal]:
         return None
     number = EXACT.normalize(Decimal(text))
     return number if abs(number.adjusted()) <= LONGEST_NUMBER else None
+
+
+def is_grouped(text: str) -> bool:
+    """Whether the points of a number may part thousands, as in 15.100 and 1.234.567,5: each has exactly three digits behind it.
+
+    Those of 0.125 and 1500.250 cannot.
+    """
+    return GROUPED.fullmatch(text) is not None
 
 
 def fits(text: str, kind: str) -> bool:

@@ -5,10 +5,10 @@ import csv
 import os
 import re
 from functools import partial
-from typing import BinaryIO, Dict, Iterator, List, Set, Tuple
+from typing import BinaryIO, Collection, Dict, Iterator, List, NamedTuple, Set, Tuple
 
 from answers.lines import Progress
-from doctoring.values import BLANKS
+from sources.values import BLANKS, is_grouped
 
 MARK = b"\xef\xbb\xbf"  # the byte order mark
 SIGN = "\ufeff"  # the same, decoded
@@ -19,7 +19,8 @@ SEPARATORS = (",", ";", "\t", "|")
 BAD_HEADING, FIELD_COUNT, BAD_TIME, BAD_VALUE, BAD_TEXT, BARE_CR, ROW_TOO_LONG = range(1, 8)
 
 UTF_16 = "the file is in UTF-16; 'iconv -f utf-16 -t utf-8' makes UTF-8 of it"
-FOREIGN = {"ÿþ": UTF_16, "þÿ": UTF_16, "PK\x03\x04": "the file is a spreadsheet's own, or an archive; have the spreadsheet save it as CSV"}  # how it begins
+WORKBOOK = "the file is a spreadsheet's own, or an archive; have the spreadsheet save it as CSV"
+FOREIGN = {"ÿþ": UTF_16, "þÿ": UTF_16, "PK\x03\x04": WORKBOOK}  # how it begins
 
 UNIT = r"n(?:ano)?s(?:ec(?:ond)?s?)?|nanos|us(?:ecs?)?|µs|micros(?:econds?)?|ms(?:ecs?)?|millis(?:econds?)?|s(?:ec(?:ond)?s?)?"
 NAMED_TIME = re.compile(rf"(?:time|timestamp|ts|t|date|datetime|epoch|clock|utc)?[\W_]*(?:in[\W_]+)?({UNIT})?[\W_]*")
@@ -91,16 +92,26 @@ def separator_of(text: str) -> str:
     return max(SEPARATORS, key=lambda separator: len(split(text, separator)))
 
 
+class Asked(NamedTuple):
+    """What was asked for of columns: other names, and which inputs have numbers whose points part thousands."""
+
+    new_names: Dict[str, str]
+    thousands: Collection[str]
+
+
+NOTHING_ASKED = Asked({}, ())
+
+
 class Heading:
     """A heading: its names, what separates them, and its columns."""
 
-    def __init__(self, number: int, text: str, kind: int, kinds: Dict[str, str], new_names: Dict[str, str]) -> None:
+    def __init__(self, number: int, text: str, kind: int, kinds: Dict[str, str], asked: Asked) -> None:
         bare = text.lstrip(SIGN)
         self.number = number
         self.text = text
         self.separator = separator_of(bare)
         self.old_names = [name.strip(BLANKS) for name in split(bare, self.separator)]
-        self.names = [new_names.get(name, name) for name in self.old_names]
+        self.names = [asked.new_names.get(name, name) for name in self.old_names]
         self.times = [index for index, name in enumerate(self.names) if name in TIME_NAMES]
         likely = self.times or [index for index, name in enumerate(self.names) if name and NAMED_TIME.fullmatch(name.lower())]
         self.time = likely[0] if likely else None  # the column that the times seem to stand in
@@ -108,6 +119,7 @@ class Heading:
         for index, name in enumerate(self.names):
             if name in kinds and name not in TIME_NAMES:
                 self.inputs.setdefault(name, index)
+        self.thousands = [index for name, index in self.inputs.items() if name in asked.thousands]
         self.numbers = likely[:1] + [index for name, index in self.inputs.items() if kinds[name] != "String"]
         twice = any(self.names.count(name) > 1 for name in self.inputs)
         self.is_right = not kind and self.separator == "," and len(self.times) == 1 and not twice and text == bare
@@ -123,11 +135,16 @@ class Heading:
     def fields(self, line: str) -> List[str]:
         """The fields of a line. Where commas do not separate them, one in a number is taken for the decimal point."""
         fields = split(line, self.separator)
-        if self.separator != ",":
-            for index in self.numbers:
-                if index < len(fields):
-                    fields[index] = fields[index].replace(",", ".")
+        for index in self.thousands if self.separator == "," else self.numbers:
+            if index < len(fields):
+                fields[index] = self.with_decimal_point(fields[index], index)
         return fields
+
+    def with_decimal_point(self, text: str, index: int) -> str:
+        """A number of a column whose only point, where it has one, is the decimal point."""
+        if index in self.thousands and is_grouped(text.strip(BLANKS)):
+            text = text.replace(".", "")
+        return text.replace(",", ".")
 
     def mended(self, new_names: Dict[int, str]) -> str:
         """The heading as it has to be, with some columns renamed: one column `time`, commas, and no name twice."""

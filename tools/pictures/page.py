@@ -6,9 +6,10 @@ import json
 import os
 from typing import Any, Dict, Iterable, List, Union
 
-from plotting.axes import FIRST_DATE
-from plotting.picture import Panel, Picture
-from plotting.series import Point
+from pictures.axes import FIRST_DATE
+from pictures.panel import Panel
+from pictures.picture import Picture
+from pictures.series import Point
 
 SCRIPTS = ("axes.js", "drawing.js", "acting.js")
 GREATEST = 2**53 - 1  # the greatest whole number that JavaScript's numbers have exactly

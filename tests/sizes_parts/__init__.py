@@ -1,0 +1,1 @@
+"""What tests/sizes is made of."""

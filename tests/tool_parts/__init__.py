@@ -1,0 +1,1 @@
+"""What the tests of tools have in common: calls, and spoilt sources."""
