@@ -7,8 +7,8 @@
 
 use crate::ReadFailed;
 use crate::bell::Bell;
-use crate::line::Line;
-use crate::piece::{Piece, ROOM};
+use lola_port_bytes::line::Line;
+use lola_port_bytes::piece::{Piece, ROOM};
 use std::alloc::Global;
 use std::fs::File;
 use std::io::Read;
@@ -238,7 +238,7 @@ fn fill<F: Read>(piece: &mut Piece, file: &mut F, line: &mut Line) -> Option<End
                     break;
                 }
             }
-            Err(ReadFailed) => return Some(End::Failed),
+            Err(_) => return Some(End::Failed),
         }
     }
     None

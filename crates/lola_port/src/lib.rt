@@ -5,14 +5,10 @@
 mod ahead;
 mod bell;
 mod handing;
-mod line;
 mod machine;
 mod memory;
-mod piece;
 mod shelf;
 mod starter;
-#[cfg(test)]
-mod tests;
 mod traits;
 
 pub use bell::Bell;

@@ -2,21 +2,21 @@
 
 ghost use Rattle.std.specs.Prelude.{◌≡◌, ◌+◌, ◌<◌, ◌≤◌, drop, length, min, take, IfOk, IsFalse, IsTrue, OnErr};
 
-use crate::ReadFailed;
+use crate::again::read_some;
 use crate::line::Line;
-use crate::machine::read_some;
 use lola_value::text::Memory;
 use std::alloc::Global;
+use std::io;
 use std::io::Read;
 use std::marker::Model;
 
-// How many bytes a piece has room for, which is more than a line may have.
-pub(crate) const ROOM: usize = 1 << 17;
+/// How many bytes a piece has room for, which is more than a line may have.
+pub const ROOM: usize = 1 << 17;
 
-// Bytes that were read of a source. Contracts see it as those that are still to be moved, which stand from `at` on and
-// before `end`.
+/// Bytes that were read of a source. Contracts see it as those that are still to be moved, which stand from `at` on and
+/// before `end`.
 #[derive(Drop)]
-pub(crate) struct Piece {
+pub struct Piece {
     room: Vec<u8>,
     at: usize,
     end: usize,
@@ -35,8 +35,8 @@ impl Model for Piece {
 }
 
 impl Piece {
-    // A piece without bytes.
-    pub(crate) fn create(alloc: Global) -> Result<Piece, Memory>
+    /// A piece without bytes.
+    pub fn create(alloc: Global) -> Result<Piece, Memory>
         ensures { IfOk result (λ piece. length piece ≡ 0) }
     {
         Ok(Piece {
@@ -47,16 +47,16 @@ impl Piece {
         })
     }
 
-    // Whether all of its bytes were moved.
-    pub(crate) fn is_used_up(&self) -> bool
+    /// Whether all of its bytes were moved.
+    pub fn is_used_up(&self) -> bool
         ensures yes { IsTrue result → length self.now ≡ 0 }
         ensures no { IsFalse result → 0 < length self.now }
     {
         self.at == self.end
     }
 
-    // Forgets the bytes that it had.
-    pub(crate) fn clear(&mut self)
+    /// Forgets the bytes that it had.
+    pub fn clear(&mut self)
         ensures { length self.new ≡ 0 }
     {
         self.at = 0;
@@ -64,32 +64,28 @@ impl Piece {
         self.lines = 0;
     }
 
-    // Whether a line that is not empty ends among the bytes that are still to be moved.
-    pub(crate) fn has_line(&self) -> bool {
+    /// Whether a line that is not empty ends among the bytes that are still to be moved.
+    pub fn has_line(&self) -> bool {
         self.at < self.lines
     }
 
-    // Whether there is room for more bytes behind those that it has.
-    pub(crate) fn has_room(&self) -> bool {
+    /// Whether there is room for more bytes behind those that it has.
+    pub fn has_room(&self) -> bool {
         self.end < self.room.len()
     }
 
-    // Reads the next bytes behind those that it has, and says how many came, which is none at the end, or where there is no room.
-    pub(crate) fn fill<F: Read>(&mut self, file: &mut F) -> Result<usize, ReadFailed>
+    /// Reads the next bytes behind those that it has, and says how many came, which is none at the end, or where there is no room.
+    pub fn fill<F: Read>(&mut self, file: &mut F) -> io::Result<usize>
         ensures count { IfOk result (λ count. length self.new ≡ length self.old + count) }
         ensures failed { OnErr result (length self.new ≡ length self.old) }
     {
-        match read_some(file, &mut self.room[self.end..]) {
-            Ok(count) => {
-                self.end += count;
-                Ok(count)
-            }
-            Err(_) => Err(ReadFailed),
-        }
+        let count = read_some(file, &mut self.room[self.end..])?;
+        self.end += count;
+        Ok(count)
     }
 
-    // Goes on with a line over so many bytes, which came last, and tells whether a line that is not empty ends among them.
-    pub(crate) fn goes_on(&mut self, count: usize, line: &mut Line) -> bool
+    /// Goes on with a line over so many bytes, which came last, and tells whether a line that is not empty ends among them.
+    pub fn goes_on(&mut self, count: usize, line: &mut Line) -> bool
         requires { count ≤ length self.old }
         ensures { self.new ≡ self.old }
     {
@@ -101,8 +97,8 @@ impl Piece {
         true
     }
 
-    // Moves its next bytes into the front of `buf`, as many as there is room for, and says how many.
-    pub(crate) fn move_to(&mut self, buf: &mut [u8]) -> usize
+    /// Moves its next bytes into the front of `buf`, as many as there is room for, and says how many.
+    pub fn move_to(&mut self, buf: &mut [u8]) -> usize
         ensures count { result ≡ min (length buf.new) (length self.old) }
         ensures moved { take result buf.new ≡ take result self.old }
         ensures rest { self.new ≡ drop result self.old }

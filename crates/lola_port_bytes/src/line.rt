@@ -1,17 +1,17 @@
 //! Whether a line has ended among bytes that come one after another.
 
-// What has come of a line that has not ended.
+/// What has come of a line that has not ended.
 #[derive(Clone, Copy)]
-pub(crate) enum Line {
-    // Nothing, at the very start, where a byte order mark is dropped.
+pub enum Line {
+    /// Nothing, at the very start, where a byte order mark is dropped.
     Start,
-    // The first byte of such a mark, or the first two: they are text where the others do not follow.
+    /// The first byte of such a mark, or the first two: they are text where the others do not follow.
     Mark,
     MarkGoesOn,
     Nothing,
-    // A carriage return, which is dropped where the line ends behind it.
+    /// A carriage return, which is dropped where the line ends behind it.
     Return,
-    // Something that is read.
+    /// Something that is read.
     Text,
 }
 
@@ -33,8 +33,8 @@ impl Line {
         matches!(self, Line::Text | Line::Mark | Line::MarkGoesOn)
     }
 
-    // Goes on with the next bytes, and tells behind how many of them the last line has ended that is not empty, if one has.
-    pub(crate) fn goes_on(&mut self, bytes: &[u8]) -> Option<usize> {
+    /// Goes on with the next bytes, and tells behind how many of them the last line has ended that is not empty, if one has.
+    pub fn goes_on(&mut self, bytes: &[u8]) -> Option<usize> {
         let mut last = None;
         for (at, byte) in bytes.iter().enumerate() {
             if *byte == b'\n' && self.has_text() {
