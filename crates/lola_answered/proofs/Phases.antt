@@ -3,8 +3,8 @@ use Rattle.std.proofs.Common.{◌≡◌, refl, inl, inr, ℕ, zero, suc, ◌<◌
 use Rattle.lola_value.specs.declared.front.Code.TheVariants as code
 use Rattle.lola_value.specs.declared.front.Refusal.{Refusal}
 use Rattle.lola_tree.specs.declared.declarations.Declaration.{Declaration}
-use Rattle.lola_parser.specs.Cursor.{lexemes}
-use Rattle.lola_parser.specs.Whole.{most_levels}
+use Rattle.lola_parser_grammar.specs.Cursor.{lexemes}
+use Rattle.lola_parser_grammar.specs.Whole.{most_levels}
 use Rattle.lola_resolve.specs.Specification.{Resolves}
 use Rattle.lola_resolve.specs.Targets.{targets_of}
 use Rattle.lola_resolvable.specs.Resolvable.{ResolvesEach}

@@ -3,7 +3,7 @@ use Rattle.std.proofs.Common.{◌≡◌, ℕ, suc, ◌+◌, ◌≤◌, true, Lis
 use Rattle.std.specs.Prelude.{fold}
 use Rattle.lola_lexer.specs.declared.shape.TokenShape.{TokenShape}
 use Rattle.lola_grammar.specs.Syntax.{Lexeme, Terminal, Of, listed, Syntax, Past, Known, Then, Map, Either, Repeats, Spells}
-use Rattle.lola_parser.specs.Grammar.{all_marks, mark, folded, ◌*>◌, ◌<*◌, ◌|>◌, ◌>>◌}
+use Rattle.lola_parser_grammar.specs.Grammar.{all_marks, mark, folded, ◌*>◌, ◌<*◌, ◌|>◌, ◌>>◌}
 use Rattle.lola_fewest.proofs.Counts.{count, count-append, one_mark}
 
 -- each sentence has at least so many marks as its value takes

@@ -21,7 +21,7 @@ use Rattle.lola_grammar.specs.Syntax.{Lexeme, Of, fits, clashes, listed, same_sh
 use Rattle.lola_grammar.specs.Marks.{marks_in}
 use Rattle.lola_grammar.proofs.Tests.{shapes_same}
 use Rattle.lola_grammar.proofs.Within.{marks-append, mark_one, token_none}
-use Rattle.lola_parser.specs.Grammar.{all_marks}
+use Rattle.lola_parser_grammar.specs.Grammar.{all_marks}
 use Rattle.lola_print.specs.Print as out
 use Rattle.lola_print.specs.Print.{lex, lex_of, bare, print, level, heads, tightness, left_of, shape_of, bracketed, bracketed_if}
 use Rattle.lola_print.proofs.Equations.{bare-Binary, bare-Prefix, bare-If, bare-Reference, bare-Defaults, default_of-Reference, heads-Defaults, level-Prefix, level-Binary, level-Defaults}

@@ -9,8 +9,8 @@ use Rattle.lola_tree.specs.declared.expressions.Expr.{Expr}
 use Rattle.lola_tree.specs.declared.expressions.Expr.TheVariants as e
 use Rattle.lola_grammar.specs.Syntax.{Lexeme, Syntax, Then, Map, Either, Perhaps, Spells}
 use Rattle.lola_grammar.specs.Marks.{marks_in}
-use Rattle.lola_parser.specs.Grammar as g
-use Rattle.lola_parser.specs.Grammar.{all_marks, token, mark, whole_number, truth_at, join, compared, folded, expr_in, other_in, expr_begins, expr_goes_on, other_begins, other_goes_on, ◌*>◌, ◌<*◌, ◌|>◌, ◌>>◌}
+use Rattle.lola_parser_grammar.specs.Grammar as g
+use Rattle.lola_parser_grammar.specs.Grammar.{all_marks, token, mark, whole_number, truth_at, join, compared, folded, expr_in, other_in, expr_begins, expr_goes_on, other_begins, other_goes_on, ◌*>◌, ◌<*◌, ◌|>◌, ◌>>◌}
 use Rattle.lola_print.specs.Print.{bare, tightness, left_of, shape_of}
 use Rattle.lola_fewest.proofs.Counts.{count, count-append, alone, at, behind_minus, of_other, at_tight, at_least, at_most, at_rises, minus_least, operand_least, no_heads_other, at-Binary, count-Not, count-Negate, count-If, negative_count, truth_count, minus_Prefix, is-If, is-Not, is-Minus, is-sign}
 use Rattle.lola_fewest.proofs.Costs.{Costs, Adds, marked, past, known, both, mapped, either, behind, weaker, followed, chained, from_more, joined}

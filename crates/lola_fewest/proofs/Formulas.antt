@@ -10,8 +10,8 @@ use Rattle.lola_tree.specs.declared.pacing.Formula.TheBlock as X
 use Rattle.lola_tree.specs.declared.expressions.Binary.TheVariants as by
 use Rattle.lola_grammar.specs.Syntax.{Lexeme, Syntax, Then, Map, Spells}
 use Rattle.lola_grammar.specs.Marks.{marks_in}
-use Rattle.lola_parser.specs.Grammar as g
-use Rattle.lola_parser.specs.Grammar.{all_marks, token, mark, name, formula_in, formula_begins, formula_goes_on, ◌*>◌, ◌<*◌, ◌|>◌}
+use Rattle.lola_parser_grammar.specs.Grammar as g
+use Rattle.lola_parser_grammar.specs.Grammar.{all_marks, token, mark, name, formula_in, formula_begins, formula_goes_on, ◌*>◌, ◌<*◌, ◌|>◌}
 use Rattle.lola_print.specs.Print.{lex, bare_formula, print_formula, formula_level}
 use Rattle.lola_print.proofs.Formulas.{bare_formula-Both, bare_formula-Either}
 use Rattle.lola_fewest.proofs.Counts.{count, count-nil, count-append, marked, name_free, if_most, if_least, if_true, if_false, not_below, is-Open, is-sign}

@@ -15,8 +15,8 @@ use Rattle.lola_tree.specs.declared.declarations.Declaration.{Declaration}
 use Rattle.lola_tree.specs.declared.declarations.Declaration.TheVariants as d
 use Rattle.lola_grammar.specs.Syntax.{Lexeme, Terminal, Syntax, Whole, Known, Then, Map, Either, Maybe, Many, Spells, max_marks}
 use Rattle.lola_grammar.specs.Marks.{Fits}
-use Rattle.lola_parser.specs.Grammar as g
-use Rattle.lola_parser.specs.Grammar.{all_marks, token, expr_in, other_in, formula_in, ◌*>◌, ◌<*◌}
+use Rattle.lola_parser_grammar.specs.Grammar as g
+use Rattle.lola_parser_grammar.specs.Grammar.{all_marks, token, expr_in, other_in, formula_in, ◌*>◌, ◌<*◌}
 use Rattle.lola_print.specs.Print.{bare, bare_formula}
 use Rattle.lola_fewest.proofs.Counts.{count, count_is, alone, name_free, count-nil}
 use Rattle.lola_fewest.proofs.Costs as costs

@@ -9,8 +9,8 @@ use Rattle.lola_tree.specs.declared.expressions.Access.TheVariants as a
 use Rattle.lola_tree.specs.declared.expressions.Expr.{Expr}
 use Rattle.lola_tree.specs.declared.expressions.Expr.TheVariants as e
 use Rattle.lola_grammar.specs.Syntax.{Lexeme, Syntax, Then, Map, Either, Maybe, Many, Perhaps, Spells}
-use Rattle.lola_parser.specs.Grammar as g
-use Rattle.lola_parser.specs.Grammar.{token, mark, word, whole_number, truth_at, text_at, with_default, reference, or_else, read_by, named_by, ◌*>◌, ◌<*◌, ◌|>◌, ◌>>◌}
+use Rattle.lola_parser_grammar.specs.Grammar as g
+use Rattle.lola_parser_grammar.specs.Grammar.{token, mark, word, whole_number, truth_at, text_at, with_default, reference, or_else, read_by, named_by, ◌*>◌, ◌<*◌, ◌|>◌, ◌>>◌}
 use Rattle.lola_print.specs.Print as out
 use Rattle.lola_print.specs.Print.{level, heads}
 use Rattle.lola_print.proofs.Equations.{heads-Defaults, level-Defaults}

@@ -13,8 +13,8 @@ use Rattle.lola_tree.specs.declared.pacing.Formula.TheVariants as f
 use Rattle.lola_tree.specs.declared.pacing.Formula.TheBlock as F
 use Rattle.lola_grammar.specs.Syntax.{Lexeme, Spells}
 use Rattle.lola_grammar.specs.Marks.{marks_in}
-use Rattle.lola_parser.specs.Grammar as g
-use Rattle.lola_parser.specs.Grammar.{all_marks}
+use Rattle.lola_parser_grammar.specs.Grammar as g
+use Rattle.lola_parser_grammar.specs.Grammar.{all_marks}
 use Rattle.lola_print.specs.Print as out
 use Rattle.lola_print.specs.Print.{lex, bare, print, level, heads, tightness, left_of, shape_of, bracketed_if, default_tail, bare_formula, print_formula, formula_level}
 use Rattle.lola_print.proofs.Equations.{bare-Reference, bare-Defaults, default_of-Reference}

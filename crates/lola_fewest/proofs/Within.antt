@@ -24,8 +24,8 @@ use Rattle.lola_grammar.specs.Syntax.{Lexeme, Syntax, Past, Token, Mark, Whole, 
 use Rattle.lola_grammar.specs.Marks as marks
 use Rattle.lola_grammar.specs.Marks.{marks_in}
 use Rattle.lola_grammar.proofs.Tests.{and_both}
-use Rattle.lola_parser.specs.Grammar as g
-use Rattle.lola_parser.specs.Grammar.{all_marks, token, mark, word, expr_in, other_in, formula_in, ◌*>◌, ◌<*◌}
+use Rattle.lola_parser_grammar.specs.Grammar as g
+use Rattle.lola_parser_grammar.specs.Grammar.{all_marks, token, mark, word, expr_in, other_in, formula_in, ◌*>◌, ◌<*◌}
 use Rattle.lola_print.specs.Print as out
 use Rattle.lola_print.specs.Print.{lex, bare, bare_formula}
 use Rattle.lola_printed.specs.Erased as erased

@@ -5,8 +5,8 @@ use Rattle.lola_tree.specs.declared.pacing.Formula.{Formula}
 use Rattle.lola_tree.specs.declared.declarations.Declaration.{Declaration}
 use Rattle.lola_grammar.specs.Syntax.{Lexeme, Spells}
 use Rattle.lola_grammar.specs.Marks.{marks_in, Fits}
-use Rattle.lola_parser.specs.Grammar as g
-use Rattle.lola_parser.specs.Grammar.{all_marks}
+use Rattle.lola_parser_grammar.specs.Grammar as g
+use Rattle.lola_parser_grammar.specs.Grammar.{all_marks}
 use Rattle.lola_print.specs.Print as out
 use Rattle.lola_printed.specs.Erased as erased
 use Rattle.lola_printed.specs.Erased.{formula_need}

@@ -7,7 +7,7 @@ use Rattle.lola_value.specs.declared.front.FrontEnd.{FrontEnd}
 use Rattle.lola_value.specs.declared.front.FrontEnd.TheVariants as front_end
 use Rattle.lola_lexer.specs.Tokens.{tokens_of}
 use Rattle.lola_lexer.specs.declared.token.Token.{Token}
-use Rattle.lola_parser.specs.Cursor.{lexemes}
+use Rattle.lola_parser_grammar.specs.Cursor.{lexemes}
 use Rattle.lola_syntax.specs.Places.{Answers, Refuses}
 use Rattle.lola_tree.specs.declared.declarations.Declaration.{Declaration}
 use Rattle.lola_names.specs.Refused as names

@@ -7,7 +7,7 @@ use Rattle.lola_tree.specs.declared.declarations.Declaration.TheVariants as d
 use Rattle.lola_lexer.specs.declared.shape.TokenShape.TheVariants as is
 use Rattle.lola_grammar.specs.Syntax.{Lexeme, Syntax, Then, Map, Either, Maybe, Many, Spells, Repeats, fits}
 use Rattle.lola_grammar.proofs.Tests.{shape_is}
-use Rattle.lola_parser.specs.Grammar.{token, name, typed, further, listed, parameters, kind, inputs, constant, body, output, trigger, declaration, specification}
+use Rattle.lola_parser_grammar.specs.Grammar.{token, name, typed, further, listed, parameters, kind, inputs, constant, body, output, trigger, declaration, specification}
 use Rattle.lola_front_law.proofs.NameTokens.{Word, Worded}
 
 worded_left : (u v : List Lexeme) → Worded (u ++ v) → Worded u

@@ -14,7 +14,7 @@ use Rattle.lola_lexer.specs.Longest.{IsSound, StandsAt}
 use Rattle.lola_lexer.specs.Tokens.{Cut, after, tokens_from, tokens_of, with_front}
 use Rattle.lola_lexer.proofs.Sound.{sound}
 use Rattle.lola_grammar.specs.Syntax.{Lexeme}
-use Rattle.lola_parser.specs.Cursor.{lexeme, lexemes}
+use Rattle.lola_parser_grammar.specs.Cursor.{lexeme, lexemes}
 
 -- a text of letters, digits and `_`
 abbrev pub Word : List ℕ → Type 0

@@ -2,9 +2,9 @@
 use Rattle.std.proofs.Common.{◌≡◌, ℕ, suc, ◌≤◌, true, arith}
 use Rattle.lola_grammar.specs.Syntax.{max_marks}
 use Rattle.lola_grammar.specs.Marks.{is_counted}
-use Rattle.lola_parser.specs.Grammar.{specification, all_marks}
-use Rattle.lola_parser.specs.Whole.{most_levels}
-use Rattle.lola_parser.proofs.Depth.{specification_counted}
+use Rattle.lola_parser_grammar.specs.Grammar.{specification, all_marks}
+use Rattle.lola_parser_grammar.specs.Whole.{most_levels}
+use Rattle.lola_parser_grammar.proofs.Depth.{specification_counted}
 
 more : (n : ℕ) → most_levels ≤ n → suc max_marks ≤ n
 more n le = omega (arith, le)

@@ -2,8 +2,8 @@
 use Rattle.std.specs.Prelude.{◌≡◌, ◌≤◌, ◌<◌, ℕ, List, ◌∷◌, ◌++◌, length, Err, ◌⊎◌}
 use Rattle.lola_tree.specs.declared.declarations.Declaration.{Declaration}
 use Rattle.lola_grammar.specs.Syntax.{Lexeme, Unexpected, TooDeep, Spells, read_all}
-use Rattle.lola_parser.specs.Grammar.{specification, all_marks}
-use Rattle.lola_parser.specs.Whole.{most_levels}
+use Rattle.lola_parser_grammar.specs.Grammar.{specification, all_marks}
+use Rattle.lola_parser_grammar.specs.Whole.{most_levels}
 use Rattle.lola_limit.specs.Late.{IsNextBehindBracket, IsLateInEvery, NoneIsLate, IsFirstLate, IsDeepPlace, IsNextInEvery, HasNoNext}
 use Rattle.lola_limit.specs.Fronts.{IsLongestFront}
 

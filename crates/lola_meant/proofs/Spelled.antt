@@ -6,7 +6,7 @@ use Rattle.lola_tree.specs.declared.declarations.Declaration.{Declaration}
 use Rattle.lola_tree.specs.declared.declarations.Declaration.TheVariants as d
 use Rattle.lola_lexer.specs.declared.shape.TokenShape.TheVariants as is
 use Rattle.lola_grammar.specs.Syntax.{Lexeme, Syntax, Then, Map, Either, Maybe, Spells, Repeats}
-use Rattle.lola_parser.specs.Grammar.{Body, token, name, parameters, kind, inputs, constant, spawn, eval, close, short_eval, body, output, trigger, declaration, specification}
+use Rattle.lola_parser_grammar.specs.Grammar.{Body, token, name, parameters, kind, inputs, constant, spawn, eval, close, short_eval, body, output, trigger, declaration, specification}
 use Rattle.lola_meant.specs.Meant.{ClosesSpawned, ClosesAreSpawned}
 
 -- every value that a part of the grammar spells has a property

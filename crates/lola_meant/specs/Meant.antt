@@ -1,7 +1,7 @@
 -- A specification whose names are resolved, and of whose names nothing is refused, is named.
 use Rattle.std.specs.Prelude.{◌≡◌, ℕ, List, [], ◌∷◌, Option, Some, None, IsSome}
 use Rattle.lola_grammar.specs.Syntax.{Lexeme, Spells}
-use Rattle.lola_parser.specs.Grammar.{specification}
+use Rattle.lola_parser_grammar.specs.Grammar.{specification}
 use Rattle.lola_tree.specs.declared.clauses.Spawn.{Spawn}
 use Rattle.lola_tree.specs.declared.clauses.Close.{Close}
 use Rattle.lola_tree.specs.declared.declarations.Declaration.{Declaration}

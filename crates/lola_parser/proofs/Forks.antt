@@ -5,22 +5,10 @@ use Rattle.lola_tree.specs.declared.clauses.Part.{Part}
 use Rattle.lola_tree.specs.declared.expressions.Expr.{Expr}
 use Rattle.lola_grammar.specs.Syntax.{Lexeme, Terminal, Syntax, Fork, Map, starts, first, Unexpected, TooDeep, Outcome, ◌>>=◌, last_mark, max_marks, read}
 use Rattle.lola_grammar.proofs.Laws.{sound}
-use Rattle.lola_parser.specs.Grammar.{Parts, placed, given}
+use Rattle.lola_parser_grammar.specs.Grammar.{Parts, placed, given}
 
 pub shorter : {A : Type 0} (s : Syntax A) (m : ℕ) (ts : List Lexeme) (x : A) (i : ℕ) (mid : List Lexeme) → read s m ts ≡ Ok (x, i, mid) → length mid ≤ length ts
 shorter s m ts x i mid h = let p = sound s m ts x i mid h in omega (arith, ap length p.1, length-append p.0 mid)
-
-pub none_left : (ks : List Terminal) (best ts : List Lexeme) → last_mark ks 0 best ts ≡ best
-none_left ks best [] = refl
-none_left ks best (t ∷ ts) = refl
-
-pub next_mark : (ks : List Terminal) (n : ℕ) (best : List Lexeme) (ts : List Lexeme) → 0 < length ts → starts ks ts ≡ true → last_mark ks (suc n) best ts ≡ last_mark ks n ts (drop 1 ts)
-next_mark ks n best [] some h = absurd cc
-next_mark ks n best (t ∷ ts) some h = rw h refl
-
-pub next_other : (ks : List Terminal) (n : ℕ) (best : List Lexeme) (ts : List Lexeme) → 0 < length ts → starts ks ts ≡ false → last_mark ks (suc n) best ts ≡ last_mark ks n best (drop 1 ts)
-next_other ks n best [] some h = absurd (omega (arith, some))
-next_other ks n best (t ∷ ts) some h = rw h refl
 
 module _ (ks : List Terminal) (a : Syntax Expr) (b c : Syntax Parts) (bracket at m : ℕ) (ts : List Lexeme) (x : Expr) (i : ℕ) (mid : List Lexeme) (was : read a max_marks ts ≡ Ok (x, i, mid)) where
   abbrev pairing : Parts → ℕ → List Lexeme → Outcome (Expr × Parts)

@@ -1,12 +1,1 @@
-pub mod Fine
-pub mod Starts
-pub mod Marked
-pub mod Steps
-pub mod Values
-pub mod Turns
-pub mod Joins
-pub mod Inward
-pub mod Forks
-pub mod Depth
-pub mod Levels
-pub mod Ends
+mod Forks

@@ -1,5 +1,1 @@
-pub mod Literals
-pub mod Grammar
-pub mod Cursor
-pub mod Nests
-pub mod Whole
+pub mod Bodies

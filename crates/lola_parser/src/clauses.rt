@@ -1,16 +1,17 @@
 //! The clauses of a stream.
 
 ghost use Rattle.std.specs.Prelude.{◌≡◌};
-ghost use Rattle.lola_grammar.specs.Syntax.{Maybe};
-ghost use Rattle.lola_parser.specs.Cursor.{IsRead};
-ghost use Rattle.lola_parser.specs.Grammar as spec;
+ghost use Rattle.lola_grammar.specs.Syntax.{Map, Maybe, Then};
+ghost use Rattle.lola_lexer.specs.declared.shape.TokenShape.TheVariants as is;
+ghost use Rattle.lola_parser.specs.Bodies.{alone, spawned};
+ghost use Rattle.lola_parser_grammar.specs.Cursor.{IsRead};
+ghost use Rattle.lola_parser_grammar.specs.Grammar as spec;
 
-use crate::cursor::Parser;
-use crate::error::ParseError;
-use crate::nested::MAX_LEVELS;
-use crate::pacings::maybe_pacing;
 use crate::parts::{maybe_when, maybe_with, part_behind};
 use lola_lexer::shape::TokenShape;
+use lola_parser_cursor::cursor::{MAX_LEVELS, Parser};
+use lola_parser_formulas::pacings::maybe_pacing;
+use lola_parser_grammar::error::ParseError;
 use lola_tree::clauses::{Close, Eval, Part, Spawn};
 use sqlite_items::Items;
 use std::alloc::Global;
@@ -27,14 +28,26 @@ fn parts_or_none(alloc: Global, parts: Option<Items<Part>>) -> Items<Part>
     }
 }
 
-#[tactic(auto, unfolding(lola_grammar::specs::Syntax::read, lola_grammar::specs::Syntax::first, lola_grammar::specs::Syntax::nullable, crate::specs::Grammar::spawn))]
+/// The condition and the parameters of a `spawn` clause, where they are written.
+#[tactic(auto, unfolding(lola_grammar::specs::Syntax::read, lola_grammar::specs::Syntax::first, lola_grammar::specs::Syntax::nullable))]
+fn when_and_parts(
+    alloc: Global,
+    parser: &mut Parser<'_>,
+) -> Result<(Option<Part>, Option<Items<Part>>), ParseError>
+    ensures { IsRead (Then (Maybe (spec.part_behind MAX_LEVELS is.When)) (Maybe (spec.with_parts MAX_LEVELS))) parser.old result parser.new }
+{
+    let when = maybe_when(alloc, parser)?;
+    let with = maybe_with(alloc, parser)?;
+    Ok((when, with))
+}
+
+#[tactic(auto, unfolding(lola_grammar::specs::Syntax::read, lola_grammar::specs::Syntax::first, lola_grammar::specs::Syntax::nullable, lola_parser_grammar::specs::Grammar::spawn))]
 fn spawn(alloc: Global, parser: &mut Parser<'_>) -> Result<Spawn, ParseError>
     ensures { IsRead (spec.spawn MAX_LEVELS) parser.old result parser.new }
 {
     let at = parser.take(TokenShape::Spawn)?;
     let pacing = maybe_pacing(alloc, parser)?;
-    let when = maybe_when(alloc, parser)?;
-    let with = maybe_with(alloc, parser)?;
+    let (when, with) = when_and_parts(alloc, parser)?;
     Ok(Spawn {
         at,
         pacing,
@@ -43,14 +56,23 @@ fn spawn(alloc: Global, parser: &mut Parser<'_>) -> Result<Spawn, ParseError>
     })
 }
 
-#[tactic(auto, unfolding(lola_grammar::specs::Syntax::read, lola_grammar::specs::Syntax::first, lola_grammar::specs::Syntax::nullable, crate::specs::Grammar::eval))]
+/// The condition of an `eval` clause, where it is written, and its expression.
+#[tactic(auto, unfolding(lola_grammar::specs::Syntax::read, lola_grammar::specs::Syntax::first, lola_grammar::specs::Syntax::nullable))]
+fn when_and_with(alloc: Global, parser: &mut Parser<'_>) -> Result<(Option<Part>, Part), ParseError>
+    ensures { IsRead (Then (Maybe (spec.part_behind MAX_LEVELS is.When)) (spec.part_behind MAX_LEVELS is.With)) parser.old result parser.new }
+{
+    let when = maybe_when(alloc, parser)?;
+    let with = part_behind(alloc, parser, TokenShape::With)?;
+    Ok((when, with))
+}
+
+#[tactic(auto, unfolding(lola_grammar::specs::Syntax::read, lola_grammar::specs::Syntax::first, lola_grammar::specs::Syntax::nullable, lola_parser_grammar::specs::Grammar::eval))]
 fn eval(alloc: Global, parser: &mut Parser<'_>) -> Result<Eval, ParseError>
     ensures { IsRead (spec.eval MAX_LEVELS) parser.old result parser.new }
 {
     let at = parser.take(TokenShape::Eval)?;
     let pacing = maybe_pacing(alloc, parser)?;
-    let when = maybe_when(alloc, parser)?;
-    let with = part_behind(alloc, parser, TokenShape::With)?;
+    let (when, with) = when_and_with(alloc, parser)?;
     Ok(Eval {
         at,
         pacing,
@@ -59,7 +81,7 @@ fn eval(alloc: Global, parser: &mut Parser<'_>) -> Result<Eval, ParseError>
     })
 }
 
-#[tactic(auto, unfolding(lola_grammar::specs::Syntax::read, lola_grammar::specs::Syntax::first, lola_grammar::specs::Syntax::nullable, crate::specs::Grammar::close))]
+#[tactic(auto, unfolding(lola_grammar::specs::Syntax::read, lola_grammar::specs::Syntax::first, lola_grammar::specs::Syntax::nullable, lola_parser_grammar::specs::Grammar::close))]
 fn close(alloc: Global, parser: &mut Parser<'_>) -> Result<Close, ParseError>
     ensures { IsRead (spec.close MAX_LEVELS) parser.old result parser.new }
 {
@@ -69,7 +91,7 @@ fn close(alloc: Global, parser: &mut Parser<'_>) -> Result<Close, ParseError>
     Ok(Close { at, pacing, when })
 }
 
-#[tactic(auto, unfolding(lola_grammar::specs::Syntax::read, lola_grammar::specs::Syntax::first, lola_grammar::specs::Syntax::nullable, crate::specs::Grammar::close, crate::specs::Grammar::token))]
+#[tactic(auto, unfolding(lola_grammar::specs::Syntax::read, lola_grammar::specs::Syntax::first, lola_grammar::specs::Syntax::nullable, lola_parser_grammar::specs::Grammar::close, lola_parser_grammar::specs::Grammar::token))]
 fn maybe_close(alloc: Global, parser: &mut Parser<'_>) -> Result<Option<Close>, ParseError>
     ensures { IsRead (Maybe (spec.close MAX_LEVELS)) parser.old result parser.new }
 {
@@ -81,7 +103,7 @@ fn maybe_close(alloc: Global, parser: &mut Parser<'_>) -> Result<Option<Close>, 
 }
 
 /// `@p := e` is `eval @p with e`.
-#[tactic(auto, unfolding(lola_grammar::specs::Syntax::read, lola_grammar::specs::Syntax::first, lola_grammar::specs::Syntax::nullable, crate::specs::Grammar::short_eval))]
+#[tactic(auto, unfolding(lola_grammar::specs::Syntax::read, lola_grammar::specs::Syntax::first, lola_grammar::specs::Syntax::nullable, lola_parser_grammar::specs::Grammar::short_eval))]
 fn short_eval(alloc: Global, parser: &mut Parser<'_>) -> Result<Eval, ParseError>
     ensures { IsRead (spec.short_eval MAX_LEVELS) parser.old result parser.new }
 {
@@ -95,21 +117,53 @@ fn short_eval(alloc: Global, parser: &mut Parser<'_>) -> Result<Eval, ParseError
     })
 }
 
+#[tactic(auto, unfolding(lola_grammar::specs::Syntax::read, lola_grammar::specs::Syntax::first, lola_grammar::specs::Syntax::nullable))]
+fn short_body(alloc: Global, parser: &mut Parser<'_>) -> Result<Body, ParseError>
+    ensures { IsRead (Map alone (spec.short_eval MAX_LEVELS)) parser.old result parser.new }
+{
+    let eval = short_eval(alloc, parser)?;
+    Ok((None, eval, None))
+}
+
+#[tactic(auto, unfolding(lola_grammar::specs::Syntax::read, lola_grammar::specs::Syntax::first, lola_grammar::specs::Syntax::nullable))]
+fn eval_body(alloc: Global, parser: &mut Parser<'_>) -> Result<Body, ParseError>
+    ensures { IsRead (Map alone (spec.eval MAX_LEVELS)) parser.old result parser.new }
+{
+    let eval = eval(alloc, parser)?;
+    Ok((None, eval, None))
+}
+
+#[tactic(auto, unfolding(lola_grammar::specs::Syntax::read, lola_grammar::specs::Syntax::first, lola_grammar::specs::Syntax::nullable))]
+fn eval_and_close(
+    alloc: Global,
+    parser: &mut Parser<'_>,
+) -> Result<(Eval, Option<Close>), ParseError>
+    ensures { IsRead (Then (spec.eval MAX_LEVELS) (Maybe (spec.close MAX_LEVELS))) parser.old result parser.new }
+{
+    let eval = eval(alloc, parser)?;
+    let close = maybe_close(alloc, parser)?;
+    Ok((eval, close))
+}
+
+#[tactic(auto, unfolding(lola_grammar::specs::Syntax::read, lola_grammar::specs::Syntax::first, lola_grammar::specs::Syntax::nullable))]
+fn spawn_body(alloc: Global, parser: &mut Parser<'_>) -> Result<Body, ParseError>
+    ensures { IsRead (Map spawned (Then (spec.spawn MAX_LEVELS) (Then (spec.eval MAX_LEVELS) (Maybe (spec.close MAX_LEVELS))))) parser.old result parser.new }
+{
+    let spawn = spawn(alloc, parser)?;
+    let (eval, close) = eval_and_close(alloc, parser)?;
+    Ok((Some(spawn), eval, close))
+}
+
 /// The clauses of an output.
-#[tactic(auto, using(crate::proofs::Starts::starts_more), unfolding(lola_grammar::specs::Syntax::read, lola_grammar::specs::Syntax::first, lola_grammar::specs::Syntax::nullable, crate::specs::Grammar::body, crate::specs::Grammar::short_eval, crate::specs::Grammar::eval, crate::specs::Grammar::pacing, crate::specs::Grammar::part_behind, crate::specs::Grammar::token))]
+#[tactic(auto, using(lola_parser_cursor::proofs::Starts::starts_more), unfolding(lola_grammar::specs::Syntax::read, lola_grammar::specs::Syntax::first, lola_grammar::specs::Syntax::nullable, lola_parser_grammar::specs::Grammar::body, lola_parser_grammar::specs::Grammar::short_eval, lola_parser_grammar::specs::Grammar::eval, lola_parser_grammar::specs::Grammar::pacing, lola_parser_grammar::specs::Grammar::part_behind, lola_parser_grammar::specs::Grammar::token))]
 pub fn body(alloc: Global, parser: &mut Parser<'_>) -> Result<Body, ParseError>
     ensures { IsRead (spec.body MAX_LEVELS) parser.old result parser.new }
 {
     if parser.sees(TokenShape::At) || parser.sees(TokenShape::Define) {
-        let eval = short_eval(alloc, parser)?;
-        return Ok((None, eval, None));
+        return short_body(alloc, parser);
     }
     if parser.sees(TokenShape::Eval) {
-        let eval = eval(alloc, parser)?;
-        return Ok((None, eval, None));
+        return eval_body(alloc, parser);
     }
-    let spawn = spawn(alloc, parser)?;
-    let eval = eval(alloc, parser)?;
-    let close = maybe_close(alloc, parser)?;
-    Ok((Some(spawn), eval, close))
+    spawn_body(alloc, parser)
 }

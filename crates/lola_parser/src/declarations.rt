@@ -1,19 +1,21 @@
 //! Declarations.
 
 ghost use Rattle.std.specs.Prelude.{◌≡◌, ◌∷◌, []};
-ghost use Rattle.lola_grammar.specs.Syntax.{Maybe, starts, first};
-ghost use Rattle.lola_parser.specs.Cursor.{IsRead};
-ghost use Rattle.lola_parser.specs.Grammar as spec;
+ghost use Rattle.lola_grammar.specs.Syntax.{Maybe, Then, starts, first};
+ghost use Rattle.lola_lexer.specs.declared.shape.TokenShape.TheVariants as is;
+ghost use Rattle.lola_parser_grammar.specs.Cursor.{IsRead};
+ghost use Rattle.lola_parser_grammar.specs.Grammar as spec;
 
-use crate::clauses::body;
-use crate::cursor::Parser;
-use crate::error::ParseError;
-use crate::nested::{MAX_LEVELS, whole};
-use crate::pacings::maybe_pacing;
-use crate::rules::operands::word_literal;
+use crate::clauses::{Body, body};
 use lola_lexer::shape::TokenShape;
+use lola_parser_cursor::cursor::{MAX_LEVELS, Parser};
+use lola_parser_cursor::words::word_literal;
+use lola_parser_expressions::nested::whole;
+use lola_parser_formulas::pacings::maybe_pacing;
+use lola_parser_grammar::error::ParseError;
 use lola_tree::clauses::Part;
 use lola_tree::declarations::{Ast, Constant, Declaration, Inputs, Output, Trigger};
+use lola_tree::expressions::Expr;
 use lola_tree::literals::{Literal, Name, Typed, Value};
 use lola_value::text::{Memory, Text};
 use sqlite_items::Items;
@@ -23,7 +25,7 @@ use std::alloc::Global;
 type Bracketed = (u32, Items<Typed>);
 
 /// `name: kind`
-#[tactic(auto, unfolding(lola_grammar::specs::Syntax::read, lola_grammar::specs::Syntax::first, lola_grammar::specs::Syntax::nullable, crate::specs::Grammar::typed))]
+#[tactic(auto, unfolding(lola_grammar::specs::Syntax::read, lola_grammar::specs::Syntax::first, lola_grammar::specs::Syntax::nullable, lola_parser_grammar::specs::Grammar::typed))]
 fn typed(alloc: Global, parser: &mut Parser<'_>) -> Result<Typed, ParseError>
     ensures { IsRead spec.typed parser.old result parser.new }
 {
@@ -33,7 +35,7 @@ fn typed(alloc: Global, parser: &mut Parser<'_>) -> Result<Typed, ParseError>
     Ok(Typed { name, kind })
 }
 
-#[tactic(auto, unfolding(lola_grammar::specs::Syntax::read, lola_grammar::specs::Syntax::first, lola_grammar::specs::Syntax::nullable, crate::specs::Grammar::token))]
+#[tactic(auto, unfolding(lola_grammar::specs::Syntax::read, lola_grammar::specs::Syntax::first, lola_grammar::specs::Syntax::nullable, lola_parser_grammar::specs::Grammar::token))]
 fn further_typed(
     alloc: Global,
     parser: &mut Parser<'_>,
@@ -63,7 +65,7 @@ fn typed_list(alloc: Global, parser: &mut Parser<'_>) -> Result<Items<Typed>, Pa
     further_typed(alloc, parser, all)
 }
 
-#[tactic(auto, unfolding(lola_grammar::specs::Syntax::read, lola_grammar::specs::Syntax::first, lola_grammar::specs::Syntax::nullable, crate::specs::Grammar::parameters, crate::specs::Grammar::token))]
+#[tactic(auto, unfolding(lola_grammar::specs::Syntax::read, lola_grammar::specs::Syntax::first, lola_grammar::specs::Syntax::nullable, lola_parser_grammar::specs::Grammar::parameters, lola_parser_grammar::specs::Grammar::token))]
 fn maybe_parameters(alloc: Global, parser: &mut Parser<'_>) -> Result<Option<Bracketed>, ParseError>
     ensures { IsRead (Maybe spec.parameters) parser.old result parser.new }
 {
@@ -77,7 +79,7 @@ fn maybe_parameters(alloc: Global, parser: &mut Parser<'_>) -> Result<Option<Bra
     }
 }
 
-#[tactic(auto, unfolding(lola_grammar::specs::Syntax::read, lola_grammar::specs::Syntax::first, lola_grammar::specs::Syntax::nullable, crate::specs::Grammar::kind, crate::specs::Grammar::token))]
+#[tactic(auto, unfolding(lola_grammar::specs::Syntax::read, lola_grammar::specs::Syntax::first, lola_grammar::specs::Syntax::nullable, lola_parser_grammar::specs::Grammar::kind, lola_parser_grammar::specs::Grammar::token))]
 fn maybe_kind(alloc: Global, parser: &mut Parser<'_>) -> Result<Option<Name>, ParseError>
     ensures { IsRead (Maybe spec.kind) parser.old result parser.new }
 {
@@ -90,7 +92,7 @@ fn maybe_kind(alloc: Global, parser: &mut Parser<'_>) -> Result<Option<Name>, Pa
 }
 
 /// A literal, of which a `-` may be a part.
-#[tactic(auto, using(crate::proofs::Starts::starts_more), unfolding(lola_grammar::specs::Syntax::read, lola_grammar::specs::Syntax::first, lola_grammar::specs::Syntax::nullable, crate::specs::Grammar::literal, crate::specs::Grammar::integer, crate::specs::Grammar::token))]
+#[tactic(auto, using(lola_parser_cursor::proofs::Starts::starts_more), unfolding(lola_grammar::specs::Syntax::read, lola_grammar::specs::Syntax::first, lola_grammar::specs::Syntax::nullable, lola_parser_grammar::specs::Grammar::literal, lola_parser_grammar::specs::Grammar::integer, lola_parser_grammar::specs::Grammar::token))]
 fn literal(alloc: Global, parser: &mut Parser<'_>) -> Result<Literal, ParseError>
     ensures { IsRead spec.literal parser.old result parser.new }
 {
@@ -108,7 +110,7 @@ fn literal(alloc: Global, parser: &mut Parser<'_>) -> Result<Literal, ParseError
     word_literal(alloc, parser)
 }
 
-#[tactic(auto, unfolding(lola_grammar::specs::Syntax::read, lola_grammar::specs::Syntax::first, lola_grammar::specs::Syntax::nullable, crate::specs::Grammar::inputs))]
+#[tactic(auto, unfolding(lola_grammar::specs::Syntax::read, lola_grammar::specs::Syntax::first, lola_grammar::specs::Syntax::nullable, lola_parser_grammar::specs::Grammar::inputs))]
 fn inputs(alloc: Global, parser: &mut Parser<'_>) -> Result<Declaration, ParseError>
     ensures { IsRead spec.inputs parser.old result parser.new }
 {
@@ -117,7 +119,17 @@ fn inputs(alloc: Global, parser: &mut Parser<'_>) -> Result<Declaration, ParseEr
     Ok(Declaration::Inputs(Inputs { at, inputs }))
 }
 
-#[tactic(auto, unfolding(lola_grammar::specs::Syntax::read, lola_grammar::specs::Syntax::first, lola_grammar::specs::Syntax::nullable, crate::specs::Grammar::constant))]
+/// `:= literal`: the place of the sign, and the literal.
+#[tactic(auto, unfolding(lola_grammar::specs::Syntax::read, lola_grammar::specs::Syntax::first, lola_grammar::specs::Syntax::nullable))]
+fn defined(alloc: Global, parser: &mut Parser<'_>) -> Result<(u32, Literal), ParseError>
+    ensures { IsRead (Then (spec.token is.Define) spec.literal) parser.old result parser.new }
+{
+    let at = parser.take(TokenShape::Define)?;
+    let literal = literal(alloc, parser)?;
+    Ok((at, literal))
+}
+
+#[tactic(auto, unfolding(lola_grammar::specs::Syntax::read, lola_grammar::specs::Syntax::first, lola_grammar::specs::Syntax::nullable, lola_parser_grammar::specs::Grammar::constant))]
 fn constant(alloc: Global, parser: &mut Parser<'_>) -> Result<Declaration, ParseError>
     ensures { IsRead spec.constant parser.old result parser.new }
 {
@@ -125,8 +137,7 @@ fn constant(alloc: Global, parser: &mut Parser<'_>) -> Result<Declaration, Parse
     let name = parser.name(alloc)?;
     parser.take(TokenShape::Colon)?;
     let kind = parser.name(alloc)?;
-    let before = parser.take(TokenShape::Define)?;
-    let literal = literal(alloc, parser)?;
+    let (before, literal) = defined(alloc, parser)?;
     Ok(Declaration::Constant(Constant {
         at,
         name,
@@ -146,15 +157,24 @@ fn with_parameters(alloc: Global, found: Option<Bracketed>) -> (Option<u32>, Ite
     }
 }
 
-#[tactic(auto, unfolding(lola_grammar::specs::Syntax::read, lola_grammar::specs::Syntax::first, lola_grammar::specs::Syntax::nullable, crate::specs::Grammar::output))]
+/// The kind of an output, if one is written, and its clauses.
+#[tactic(auto, unfolding(lola_grammar::specs::Syntax::read, lola_grammar::specs::Syntax::first, lola_grammar::specs::Syntax::nullable))]
+fn kind_and_body(alloc: Global, parser: &mut Parser<'_>) -> Result<(Option<Name>, Body), ParseError>
+    ensures { IsRead (Then (Maybe spec.kind) (spec.body MAX_LEVELS)) parser.old result parser.new }
+{
+    let kind = maybe_kind(alloc, parser)?;
+    let body = body(alloc, parser)?;
+    Ok((kind, body))
+}
+
+#[tactic(auto, unfolding(lola_grammar::specs::Syntax::read, lola_grammar::specs::Syntax::first, lola_grammar::specs::Syntax::nullable, lola_parser_grammar::specs::Grammar::output))]
 fn output(alloc: Global, parser: &mut Parser<'_>) -> Result<Declaration, ParseError>
     ensures { IsRead (spec.output MAX_LEVELS) parser.old result parser.new }
 {
     let at = parser.take(TokenShape::Output)?;
     let name = parser.name(alloc)?;
     let found = maybe_parameters(alloc, parser)?;
-    let kind = maybe_kind(alloc, parser)?;
-    let (spawn, eval, close) = body(alloc, parser)?;
+    let (kind, (spawn, eval, close)) = kind_and_body(alloc, parser)?;
     let (bracket, parameters) = with_parameters(alloc, found);
     Ok(Declaration::Output(Output {
         at,
@@ -169,7 +189,7 @@ fn output(alloc: Global, parser: &mut Parser<'_>) -> Result<Declaration, ParseEr
 }
 
 /// The message of a trigger, which is the empty text where none is written.
-#[tactic(auto, unfolding(lola_grammar::specs::Syntax::read, lola_grammar::specs::Syntax::first, lola_grammar::specs::Syntax::nullable, crate::specs::Grammar::message, crate::specs::Grammar::text))]
+#[tactic(auto, unfolding(lola_grammar::specs::Syntax::read, lola_grammar::specs::Syntax::first, lola_grammar::specs::Syntax::nullable, lola_parser_grammar::specs::Grammar::message, lola_parser_grammar::specs::Grammar::text))]
 fn message(alloc: Global, parser: &mut Parser<'_>) -> Result<Text, ParseError>
     ensures { IsRead spec.message parser.old result parser.new }
 {
@@ -181,14 +201,23 @@ fn message(alloc: Global, parser: &mut Parser<'_>) -> Result<Text, ParseError>
     }
 }
 
-#[tactic(auto, unfolding(lola_grammar::specs::Syntax::read, lola_grammar::specs::Syntax::first, lola_grammar::specs::Syntax::nullable, crate::specs::Grammar::trigger))]
+/// The expression of a trigger, and its message.
+#[tactic(auto, unfolding(lola_grammar::specs::Syntax::read, lola_grammar::specs::Syntax::first, lola_grammar::specs::Syntax::nullable))]
+fn expr_and_message(alloc: Global, parser: &mut Parser<'_>) -> Result<(Expr, Text), ParseError>
+    ensures { IsRead (Then (spec.whole MAX_LEVELS) spec.message) parser.old result parser.new }
+{
+    let expr = whole(alloc, parser)?;
+    let message = message(alloc, parser)?;
+    Ok((expr, message))
+}
+
+#[tactic(auto, unfolding(lola_grammar::specs::Syntax::read, lola_grammar::specs::Syntax::first, lola_grammar::specs::Syntax::nullable, lola_parser_grammar::specs::Grammar::trigger))]
 fn trigger(alloc: Global, parser: &mut Parser<'_>) -> Result<Declaration, ParseError>
     ensures { IsRead (spec.trigger MAX_LEVELS) parser.old result parser.new }
 {
     let at = parser.take(TokenShape::Trigger)?;
     let pacing = maybe_pacing(alloc, parser)?;
-    let expr = whole(alloc, parser)?;
-    let message = message(alloc, parser)?;
+    let (expr, message) = expr_and_message(alloc, parser)?;
     Ok(Declaration::Trigger(Trigger {
         pacing,
         when: Part { at, expr },
@@ -196,7 +225,7 @@ fn trigger(alloc: Global, parser: &mut Parser<'_>) -> Result<Declaration, ParseE
     }))
 }
 
-#[tactic(auto, using(crate::proofs::Starts::starts_more), unfolding(lola_grammar::specs::Syntax::read, lola_grammar::specs::Syntax::first, lola_grammar::specs::Syntax::nullable, crate::specs::Grammar::declaration, crate::specs::Grammar::inputs, crate::specs::Grammar::constant, crate::specs::Grammar::output, crate::specs::Grammar::token))]
+#[tactic(auto, using(lola_parser_cursor::proofs::Starts::starts_more), unfolding(lola_grammar::specs::Syntax::read, lola_grammar::specs::Syntax::first, lola_grammar::specs::Syntax::nullable, lola_parser_grammar::specs::Grammar::declaration, lola_parser_grammar::specs::Grammar::inputs, lola_parser_grammar::specs::Grammar::constant, lola_parser_grammar::specs::Grammar::output, lola_parser_grammar::specs::Grammar::token))]
 fn declaration(alloc: Global, parser: &mut Parser<'_>) -> Result<Declaration, ParseError>
     ensures { IsRead (spec.declaration MAX_LEVELS) parser.old result parser.new }
 {
@@ -212,7 +241,7 @@ fn declaration(alloc: Global, parser: &mut Parser<'_>) -> Result<Declaration, Pa
     trigger(alloc, parser)
 }
 
-#[tactic(auto, using(crate::proofs::Starts::starts_more), unfolding(lola_grammar::specs::Syntax::read, lola_grammar::specs::Syntax::first, lola_grammar::specs::Syntax::nullable, crate::specs::Grammar::declaration, crate::specs::Grammar::inputs, crate::specs::Grammar::constant, crate::specs::Grammar::output, crate::specs::Grammar::trigger, crate::specs::Grammar::token))]
+#[tactic(auto, using(lola_parser_cursor::proofs::Starts::starts_more), unfolding(lola_grammar::specs::Syntax::read, lola_grammar::specs::Syntax::first, lola_grammar::specs::Syntax::nullable, lola_parser_grammar::specs::Grammar::declaration, lola_parser_grammar::specs::Grammar::inputs, lola_parser_grammar::specs::Grammar::constant, lola_parser_grammar::specs::Grammar::output, lola_parser_grammar::specs::Grammar::trigger, lola_parser_grammar::specs::Grammar::token))]
 fn begins(parser: &Parser<'_>) -> bool
     ensures { result ≡ starts (first (spec.declaration MAX_LEVELS)) parser.now.rest }
 {

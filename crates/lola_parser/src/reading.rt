@@ -2,13 +2,13 @@
 
 ghost use Rattle.std.specs.Prelude.{◌≡◌, ◌<◌, ◌^◌, length};
 ghost use Rattle.lola_lexer.specs.Tokens.{StandIn};
-ghost use Rattle.lola_parser.specs.Cursor.{lexemes, place_of};
-ghost use Rattle.lola_parser.specs.Whole.{Answers, ReadsAll, Refuses};
+ghost use Rattle.lola_parser_grammar.specs.Cursor.{lexemes, place_of};
+ghost use Rattle.lola_parser_grammar.specs.Whole.{Answers, ReadsAll, Refuses};
 
-use crate::cursor::Parser;
 use crate::declarations::declarations;
-use crate::error::ParseError;
 use lola_lexer::token::{Token, Tokens};
+use lola_parser_cursor::cursor::Parser;
+use lola_parser_grammar::error::ParseError;
 use lola_tree::declarations::Ast;
 use lola_value::front::{Code, FrontEnd, Refusal};
 use std::alloc::Global;

@@ -10,9 +10,9 @@ use Rattle.lola_grammar.proofs.Tests.{no_more, apart_excludes}
 use Rattle.lola_grammar.proofs.Complete.{begins, full_is}
 use Rattle.lola_limit.specs.Late.{IsNextBehindBracket}
 use Rattle.lola_limit.proofs.Placed.{fronts}
-use Rattle.lola_parser.specs.Grammar as g
-use Rattle.lola_parser.specs.Grammar.{all_marks, level, expr_in, specification}
-use Rattle.lola_parser.proofs.Fine.{unbracketed_first, unbracketed_fine}
+use Rattle.lola_parser_grammar.specs.Grammar as g
+use Rattle.lola_parser_grammar.specs.Grammar.{all_marks, level, expr_in, specification}
+use Rattle.lola_parser_grammar.proofs.Fine.{unbracketed_first, unbracketed_fine}
 use Rattle.lola_syntax.specs.Places.{Cut, cut_at, cut_last, clause_words}
 use Rattle.lola_syntax.proofs.Lacks.{lacks, words, cut_more, cut_here, front_none, none_append, none_in, not_here, fewer, level_lacks, expr_lacks, pacing_lacks, when_lacks}
 

@@ -9,10 +9,10 @@ use Rattle.lola_limit.specs.Late.{IsDeepPlace}
 use Rattle.lola_limit.specs.Fronts.{IsLongestFront}
 use Rattle.lola_limit.proofs.Levels.{counted_at}
 use Rattle.lola_limit.proofs.Open.{specification_open}
-use Rattle.lola_parser.specs.Grammar.{all_marks, specification}
-use Rattle.lola_parser.specs.Whole.{most_levels}
-use Rattle.lola_parser.proofs.Fine.{specification_fine}
-use Rattle.lola_parser.proofs.Levels.{read_alike}
+use Rattle.lola_parser_grammar.specs.Grammar.{all_marks, specification}
+use Rattle.lola_parser_grammar.specs.Whole.{most_levels}
+use Rattle.lola_parser_grammar.proofs.Fine.{specification_fine}
+use Rattle.lola_parser_grammar.proofs.Levels.{read_alike}
 use Rattle.lola_syntax.specs.Turns.{Left}
 use Rattle.lola_syntax.specs.Places.{Cut, cut_last, behind_bracket, is_enclosed, mark_or, place_behind, place_too_deep, IsPlacedAt}
 use Rattle.lola_syntax.proofs.Cuts.{own_place, other_count, mark_before}

@@ -16,9 +16,9 @@ use Rattle.lola_limit.specs.Fronts.{IsLongestFront}
 use Rattle.lola_limit.proofs.Opening.{is_open, first_begins}
 use Rattle.lola_limit.proofs.Placed.{fronts, in_front}
 use Rattle.lola_limit.proofs.Free.{unique}
-use Rattle.lola_parser.specs.Grammar as g
-use Rattle.lola_parser.specs.Grammar.{expr_in, expr_goes_on, all_marks, specification}
-use Rattle.lola_parser.proofs.Fine.{whole_fine, parts_fine, more_parts_first, one_part_first}
+use Rattle.lola_parser_grammar.specs.Grammar as g
+use Rattle.lola_parser_grammar.specs.Grammar.{expr_in, expr_goes_on, all_marks, specification}
+use Rattle.lola_parser_grammar.proofs.Fine.{whole_fine, parts_fine, more_parts_first, one_part_first}
 use Rattle.lola_syntax.specs.Turns.{Left, shape}
 use Rattle.lola_syntax.specs.Skims.{skim}
 use Rattle.lola_syntax.specs.Places.{Cut, cut_at, cut_last, clause_words, is_spawn, behind_with, behind_bracket, ends_within, is_enclosed}

@@ -14,9 +14,9 @@ use Rattle.lola_limit.specs.Fronts.{IsLongestFront}
 use Rattle.lola_limit.proofs.Levels.{counted_at}
 use Rattle.lola_limit.proofs.Open.{specification_open}
 use Rattle.lola_limit.proofs.Placed.{fronts}
-use Rattle.lola_parser.specs.Grammar.{expr_in, expr_goes_on, all_marks, specification}
-use Rattle.lola_parser.specs.Whole.{most_levels}
-use Rattle.lola_parser.proofs.Fine.{specification_fine}
+use Rattle.lola_parser_grammar.specs.Grammar.{expr_in, expr_goes_on, all_marks, specification}
+use Rattle.lola_parser_grammar.specs.Whole.{most_levels}
+use Rattle.lola_parser_grammar.proofs.Fine.{specification_fine}
 use Rattle.lola_syntax.specs.Turns.{shape}
 use Rattle.lola_syntax.specs.Skims.{skim}
 use Rattle.lola_syntax.specs.Places.{cut_last, clause_words, is_spawn, behind_with, behind_bracket, ends_within, is_enclosed}

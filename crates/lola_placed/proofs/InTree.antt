@@ -14,10 +14,10 @@ use Rattle.lola_limit.proofs.Kept.{read_kept}
 use Rattle.lola_limit.proofs.Levels.{counted_at}
 use Rattle.lola_limit.proofs.Open.{specification_open}
 use Rattle.lola_limit.proofs.Placed.{deep_read}
-use Rattle.lola_parser.specs.Grammar.{all_marks, specification}
-use Rattle.lola_parser.specs.Whole.{most_levels}
-use Rattle.lola_parser.proofs.Fine.{specification_fine}
-use Rattle.lola_parser.proofs.Levels.{read_alike}
+use Rattle.lola_parser_grammar.specs.Grammar.{all_marks, specification}
+use Rattle.lola_parser_grammar.specs.Whole.{most_levels}
+use Rattle.lola_parser_grammar.proofs.Fine.{specification_fine}
+use Rattle.lola_parser_grammar.proofs.Levels.{read_alike}
 use Rattle.lola_syntax.specs.Places.{Cut, cut_last, mark_or, place_too_deep, IsPlacedAt, Answers}
 use Rattle.lola_placed.specs.Law.{IsFirstLateAt, IsRefusedAt}
 use Rattle.lola_placed.proofs.Both.{Decided, decided}

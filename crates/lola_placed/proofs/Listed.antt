@@ -12,9 +12,9 @@ use Rattle.lola_grammar.proofs.Exactly.{opens_part}
 use Rattle.lola_grammar.proofs.Viable.{sample}
 use Rattle.lola_limit.specs.Late.{IsMarkBehind, IsNextBehindBracket}
 use Rattle.lola_limit.proofs.Keeps.{Keeps, KeepsAmong, few_front, keeps_none, keeps_then, keeps_left, keeps_right, keeps_map, keeps_some, keeps_cons, keeps_list}
-use Rattle.lola_parser.specs.Grammar as g
-use Rattle.lola_parser.specs.Grammar.{all_marks, expr_in, specification}
-use Rattle.lola_parser.proofs.Fine.{one_part_first}
+use Rattle.lola_parser_grammar.specs.Grammar as g
+use Rattle.lola_parser_grammar.specs.Grammar.{all_marks, expr_in, specification}
+use Rattle.lola_parser_grammar.proofs.Fine.{one_part_first}
 use Rattle.lola_syntax.specs.Places.{cut_last}
 use Rattle.lola_syntax.proofs.Lacks.{words, front_none, none_in, expr_lacks}
 use Rattle.lola_placed.proofs.Next.{Never, next_spells, more_never, name_never, parameters_never, kind_never, when_never, pacing_never, after_never, short_never, eval_never, constant_never, inputs_never, trigger_never}

@@ -10,9 +10,9 @@ use Rattle.lola_limit.specs.Late.{IsMarkBehind, IsNextBehindBracket, NoneIsLate,
 use Rattle.lola_limit.specs.Fronts.{IsLongestFront}
 use Rattle.lola_limit.proofs.Levels.{counted_at}
 use Rattle.lola_limit.proofs.Open.{specification_open}
-use Rattle.lola_parser.specs.Grammar.{all_marks, specification}
-use Rattle.lola_parser.specs.Whole.{most_levels}
-use Rattle.lola_parser.proofs.Fine.{specification_fine}
+use Rattle.lola_parser_grammar.specs.Grammar.{all_marks, specification}
+use Rattle.lola_parser_grammar.specs.Whole.{most_levels}
+use Rattle.lola_parser_grammar.proofs.Fine.{specification_fine}
 use Rattle.lola_syntax.specs.Places.{Cut, cut_last}
 use Rattle.lola_syntax.proofs.Lacks.{cut_more, cut_here, not_here}
 use Rattle.lola_placed.proofs.Before.{IsBehindLast}

@@ -6,8 +6,8 @@ use Rattle.lola_grammar.specs.Exceeding.{ExceedsAmong}
 use Rattle.lola_grammar.proofs.Tests.{and_both}
 use Rattle.lola_limit.specs.Late.{IsMarkBehind, IsNextBehindBracket}
 use Rattle.lola_limit.proofs.Keeps.{mark_spells}
-use Rattle.lola_parser.specs.Grammar as g
-use Rattle.lola_parser.specs.Grammar.{all_marks}
+use Rattle.lola_parser_grammar.specs.Grammar as g
+use Rattle.lola_parser_grammar.specs.Grammar.{all_marks}
 
 unfoldable pub forkless : {A : Type 0} → Syntax A → Bool
 forkless (Past a) = true

@@ -8,8 +8,8 @@ use Rattle.lola_grammar.specs.Syntax.{Lexeme, TooDeep, Spells, max_marks, read_a
 use Rattle.lola_grammar.specs.Marks.{marks_in}
 use Rattle.lola_limit.specs.Late.{IsLate, IsFirstLate, IsDeepPlace, IsNextInEvery}
 use Rattle.lola_limit.specs.Fronts.{IsLongestFront}
-use Rattle.lola_parser.specs.Grammar.{all_marks, specification}
-use Rattle.lola_parser.specs.Whole.{most_levels}
+use Rattle.lola_parser_grammar.specs.Grammar.{all_marks, specification}
+use Rattle.lola_parser_grammar.specs.Whole.{most_levels}
 use Rattle.lola_syntax.specs.Places.{cut_last, behind_bracket, is_enclosed, IsPlacedAt, Answers}
 
 -- Behind the bracket of the last `with`, which a spawn clause has, stand as many marks as may come, and the expression that

@@ -6,8 +6,8 @@ use Rattle.lola_tree.specs.declared.expressions.Expr.{Expr}
 use Rattle.lola_tree.specs.declared.pacing.Formula.{Formula}
 use Rattle.lola_grammar.specs.Syntax.{Syntax, Whole, Either, Spells}
 use Rattle.lola_grammar.specs.Marks.{Fits}
-use Rattle.lola_parser.specs.Grammar as g
-use Rattle.lola_parser.specs.Grammar.{token, ◌<*◌}
+use Rattle.lola_parser_grammar.specs.Grammar as g
+use Rattle.lola_parser_grammar.specs.Grammar.{token, ◌<*◌}
 use Rattle.lola_plain.specs.Plain as plain
 use Rattle.lola_plain.proofs.Within.{Within, within_chain}
 use Rattle.lola_plain.proofs.Fitting.{Fitting, fitting_self, fitting_chain, fitting_map, fitting_then, fitting_either, fitting_maybe, fitting_many, then_behind, behind, before, once, in_turn}

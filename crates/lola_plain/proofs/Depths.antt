@@ -7,8 +7,8 @@ use Rattle.lola_tree.specs.declared.expressions.Expr.{Expr}
 use Rattle.lola_tree.specs.declared.pacing.Formula.{Formula}
 use Rattle.lola_tree.specs.declared.pacing.Formula.TheVariants as f
 use Rattle.lola_grammar.specs.Syntax.{Terminal, Syntax, Map, Known, Spells}
-use Rattle.lola_parser.specs.Grammar as g
-use Rattle.lola_parser.specs.Grammar.{token, mark, name, both, either}
+use Rattle.lola_parser_grammar.specs.Grammar as g
+use Rattle.lola_parser_grammar.specs.Grammar.{token, mark, name, both, either}
 use Rattle.lola_plain.specs.Plain as plain
 use Rattle.lola_plain.proofs.Within.{Within, Same, within_self, within_chain, within_map, within_either, within_many, within_cases, within_left, within_right, same_chain, same_then}
 use Rattle.lola_plain.proofs.Turns.{led_from_left, same_from_left}

@@ -5,8 +5,8 @@ use Rattle.lola_tree.specs.declared.expressions.Binary.TheVariants as by
 use Rattle.lola_tree.specs.declared.expressions.Expr.{Expr}
 use Rattle.lola_tree.specs.declared.expressions.Expr.TheVariants as e
 use Rattle.lola_grammar.specs.Syntax.{Lexeme, Syntax, Then, Map, Spells}
-use Rattle.lola_parser.specs.Grammar as g
-use Rattle.lola_parser.specs.Grammar.{token, mark, ◌*>◌, ◌|>◌, ◌>>◌, Sign, join, compared}
+use Rattle.lola_parser_grammar.specs.Grammar as g
+use Rattle.lola_parser_grammar.specs.Grammar.{token, mark, ◌*>◌, ◌|>◌, ◌>>◌, Sign, join, compared}
 use Rattle.lola_plain.specs.Plain as plain
 use Rattle.lola_plain.specs.Plain.{from_left, ◌∣◌}
 use Rattle.lola_plain.proofs.Within.{Same, same_chain, same_back, same_then, same_either}

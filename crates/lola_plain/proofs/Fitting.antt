@@ -2,7 +2,7 @@
 use Rattle.std.proofs.Common.{inl, inr, List, refl, ap, ◌∙◌}
 use Rattle.lola_grammar.specs.Syntax.{Lexeme, Syntax, Then, Map, Either, Maybe, Many, Spells}
 use Rattle.lola_grammar.specs.Marks.{Fits}
-use Rattle.lola_parser.specs.Grammar.{all_marks, ◌*>◌, ◌<*◌}
+use Rattle.lola_parser_grammar.specs.Grammar.{all_marks, ◌*>◌, ◌<*◌}
 use Rattle.lola_plain.proofs.Within.{Within, within_map, within_then, within_either, within_maybe, within_many, perhaps_within, repeats_within}
 use Rattle.lola_plain.proofs.Turns.{map_twice}
 

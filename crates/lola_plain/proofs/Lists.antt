@@ -6,8 +6,8 @@ use Rattle.lola_tree.specs.declared.clauses.Part.{Part}
 use Rattle.lola_grammar.specs.Syntax.{Lexeme, Of, fits, Syntax, Whole, Then, Map, Many, Spells}
 use Rattle.lola_grammar.specs.Marks.{Fits, marks_in}
 use Rattle.lola_grammar.proofs.Within.{marks-append}
-use Rattle.lola_parser.specs.Grammar as g
-use Rattle.lola_parser.specs.Grammar.{token, ◌<*◌, part, all_marks}
+use Rattle.lola_parser_grammar.specs.Grammar as g
+use Rattle.lola_parser_grammar.specs.Grammar.{token, ◌<*◌, part, all_marks}
 use Rattle.lola_plain.specs.Plain.{◌∣◌}
 use Rattle.lola_plain.proofs.Fitting.{Fitting}
 use Rattle.lola_plain.proofs.Turns.{regroup, four}

@@ -9,8 +9,8 @@ use Rattle.lola_tree.specs.declared.expressions.Access.TheVariants as a
 use Rattle.lola_tree.specs.declared.expressions.Expr.{Expr}
 use Rattle.lola_tree.specs.declared.expressions.Expr.TheVariants as e
 use Rattle.lola_grammar.specs.Syntax.{Lexeme, Syntax, Then, Map, Either, Maybe, Many, Spells}
-use Rattle.lola_parser.specs.Grammar as g
-use Rattle.lola_parser.specs.Grammar.{token, mark, integer, name, ◌*>◌, ◌<*◌, ◌|>◌, ◌>>◌, Reading, Arguments, Suffix, with_default, folded, reference, read_by, named_by, whole_number}
+use Rattle.lola_parser_grammar.specs.Grammar as g
+use Rattle.lola_parser_grammar.specs.Grammar.{token, mark, integer, name, ◌*>◌, ◌<*◌, ◌|>◌, ◌>>◌, Reading, Arguments, Suffix, with_default, folded, reference, read_by, named_by, whole_number}
 use Rattle.lola_plain.specs.Plain as plain
 use Rattle.lola_plain.specs.Plain.{from_left, read_so}
 use Rattle.lola_plain.proofs.Within.{Same, same_self, same_chain, same_back}

@@ -3,7 +3,7 @@ use Rattle.std.proofs.Common.{◌≡◌, inl, inr, List, ◌++◌, refl, sym, ap
 use Rattle.std.specs.Prelude.{fold}
 use Rattle.lola_grammar.specs.Syntax.{Lexeme, Syntax, Then, Map, Either, Maybe, Many, Spells}
 use Rattle.lola_tree.specs.declared.expressions.Expr.{Expr}
-use Rattle.lola_parser.specs.Grammar.{◌|>◌, ◌>>◌, folded, Sign, Joined, compared, joined_once}
+use Rattle.lola_parser_grammar.specs.Grammar.{◌|>◌, ◌>>◌, folded, Sign, Joined, compared, joined_once}
 use Rattle.lola_plain.specs.Plain.{from_left}
 use Rattle.lola_plain.proofs.Within.{Within, Same, within_map, within_then, within_many, same_chain, same_map, same_then, same_either, same_maybe}
 

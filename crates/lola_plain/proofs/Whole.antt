@@ -5,9 +5,9 @@ use Rattle.lola_value.specs.declared.front.FrontEnd.{FrontEnd}
 use Rattle.lola_value.specs.declared.front.FrontEnd.TheVariants as front_end
 use Rattle.lola_tree.specs.declared.declarations.Declaration.{Declaration}
 use Rattle.lola_grammar.specs.Syntax.{Lexeme, Begins, IsFirstMisfit}
-use Rattle.lola_parser.specs.Grammar as g
-use Rattle.lola_parser.specs.Whole.{most_levels, Refuses, ReadsAll}
-use Rattle.lola_parser.proofs.Fine.{specification_fine}
+use Rattle.lola_parser_grammar.specs.Grammar as g
+use Rattle.lola_parser_grammar.specs.Whole.{most_levels, Refuses, ReadsAll}
+use Rattle.lola_parser_grammar.proofs.Fine.{specification_fine}
 use Rattle.lola_plain.specs.Plain as plain
 use Rattle.lola_plain.specs.Alike.{SpellsPlainly, SpellsFactored, BeginsPlainly, IsFirstPlainMisfit, RefusesPlainly, ReadsPlainly}
 use Rattle.lola_plain.proofs.Within.{within_chain}

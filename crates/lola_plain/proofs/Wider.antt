@@ -5,7 +5,7 @@ use Rattle.lola_tree.specs.declared.literals.Literal.{Literal}
 use Rattle.lola_tree.specs.declared.expressions.Expr.{Expr}
 use Rattle.lola_tree.specs.declared.pacing.Formula.{Formula}
 use Rattle.lola_grammar.specs.Syntax.{Syntax, Then, Spells}
-use Rattle.lola_parser.specs.Grammar.{◌*>◌, ◌<*◌, truth_at, listed}
+use Rattle.lola_parser_grammar.specs.Grammar.{◌*>◌, ◌<*◌, truth_at, listed}
 use Rattle.lola_plain.specs.Plain.{from_left, literal, other_literal, stand_in, access, ref, prim, default, post, not_unary, minus_unary, unary_with, other_with, prod, sum, cmp, and, or, expr_with, innermost, atom, conj, form_with}
 use Rattle.lola_plain.proofs.Within.{Within, within_self, within_chain, within_map, within_then, within_either, within_maybe, within_many, within_right}
 use Rattle.lola_plain.proofs.Turns.{within_from_left}

@@ -6,10 +6,10 @@ use Rattle.lola_value.specs.declared.front.FrontEnd.TheVariants as front_end
 use Rattle.lola_tree.specs.declared.declarations.Declaration.{Declaration}
 use Rattle.lola_grammar.specs.Syntax.{Lexeme, Spells, Begins}
 use Rattle.lola_grammar.specs.Marks.{Fits}
-use Rattle.lola_parser.specs.Cursor.{place_of}
-use Rattle.lola_parser.specs.Grammar as factored
-use Rattle.lola_parser.specs.Grammar.{all_marks}
-use Rattle.lola_parser.specs.Whole.{Refuses, ReadsAll, IsThat}
+use Rattle.lola_parser_grammar.specs.Cursor.{place_of}
+use Rattle.lola_parser_grammar.specs.Grammar as factored
+use Rattle.lola_parser_grammar.specs.Grammar.{all_marks}
+use Rattle.lola_parser_grammar.specs.Whole.{Refuses, ReadsAll, IsThat}
 use Rattle.lola_plain.specs.Plain as plain
 
 -- the tokens spell the tree by the plain grammar, however deep it is nested

@@ -25,7 +25,7 @@ use Rattle.lola_tree.specs.declared.clauses.Close.{Close}
 use Rattle.lola_tree.specs.declared.declarations.Declaration.{Declaration}
 use Rattle.lola_tree.specs.declared.declarations.Declaration.TheVariants as d
 use Rattle.lola_grammar.specs.Syntax.{Syntax, Whole, Then, Map, Either, Maybe, Many}
-use Rattle.lola_parser.specs.Grammar.{token, word, name, other_name, integer, text, quantity, ◌*>◌, ◌<*◌, enclosed, listed, whole_number, truth_at, text_at, Sign, join, compared, Reading, or_else, with_default, Arguments, reference, both, either, clock_words, part, Body, bracket_of, parameters_of, parts_or_none, message_of}
+use Rattle.lola_parser_grammar.specs.Grammar.{token, word, name, other_name, integer, text, quantity, ◌*>◌, ◌<*◌, enclosed, listed, whole_number, truth_at, text_at, Sign, join, compared, Reading, or_else, with_default, Arguments, reference, both, either, clock_words, part, Body, bracket_of, parameters_of, parts_or_none, message_of}
 
 -- one or the other
 infixr 10 ◌∣◌

@@ -8,8 +8,8 @@ use Rattle.lola_tree.specs.declared.expressions.Binary.TheVariants as by
 use Rattle.lola_tree.specs.declared.expressions.Expr.{Expr}
 use Rattle.lola_tree.specs.declared.expressions.Expr.TheVariants as e
 use Rattle.lola_grammar.specs.Syntax.{Lexeme, Syntax, Then, Spells}
-use Rattle.lola_parser.specs.Grammar as g
-use Rattle.lola_parser.specs.Grammar.{token, mark, join, ◌*>◌, ◌<*◌, ◌|>◌, ◌>>◌}
+use Rattle.lola_parser_grammar.specs.Grammar as g
+use Rattle.lola_parser_grammar.specs.Grammar.{token, mark, join, ◌*>◌, ◌<*◌, ◌|>◌, ◌>>◌}
 use Rattle.lola_print.specs.Print.{lex, tightness, left_of, shape_of}
 use Rattle.lola_printed.proofs.Single.{token_spelled, mark_spelled, joined_none, joined_more, tail_none, tail_more, once_none, once_one, sign_spelled, after}
 use Rattle.lola_printed.proofs.Operands.{Negative, Named, negative_spelled, named_spelled, negative_more, named_more, worded_more, bracketed_more, number_more}

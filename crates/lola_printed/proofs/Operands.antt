@@ -11,8 +11,8 @@ use Rattle.lola_tree.specs.declared.expressions.Access.TheVariants as a
 use Rattle.lola_tree.specs.declared.expressions.Expr.{Expr}
 use Rattle.lola_tree.specs.declared.expressions.Expr.TheVariants as e
 use Rattle.lola_grammar.specs.Syntax.{Lexeme, Syntax, Then, Map, Maybe, Spells}
-use Rattle.lola_parser.specs.Grammar as g
-use Rattle.lola_parser.specs.Grammar.{token, mark, word, whole_number, truth_at, text_at, with_default, reference, ◌*>◌, ◌<*◌, ◌|>◌, ◌>>◌}
+use Rattle.lola_parser_grammar.specs.Grammar as g
+use Rattle.lola_parser_grammar.specs.Grammar.{token, mark, word, whole_number, truth_at, text_at, with_default, reference, ◌*>◌, ◌<*◌, ◌|>◌, ◌>>◌}
 use Rattle.lola_print.specs.Print as out
 use Rattle.lola_print.specs.Print.{lex}
 use Rattle.lola_printed.specs.Erased as erased

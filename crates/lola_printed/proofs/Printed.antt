@@ -15,8 +15,8 @@ use Rattle.lola_tree.specs.declared.expressions.Expr.TheVariants as e
 use Rattle.lola_tree.specs.declared.expressions.Expr.TheBlock as X
 use Rattle.lola_tree.specs.declared.literals.Name.{Name}
 use Rattle.lola_grammar.specs.Syntax.{Lexeme, Syntax, Maybe, Many, Spells}
-use Rattle.lola_parser.specs.Grammar as g
-use Rattle.lola_parser.specs.Grammar.{token, mark, reference, expr_in, other_in, ◌*>◌, ◌<*◌}
+use Rattle.lola_parser_grammar.specs.Grammar as g
+use Rattle.lola_parser_grammar.specs.Grammar.{token, mark, reference, expr_in, other_in, ◌*>◌, ◌<*◌}
 use Rattle.lola_print.specs.Print as out
 use Rattle.lola_print.specs.Print.{lex, print, bare, level, heads, tightness, left_of, shape_of, bracketed_if}
 use Rattle.lola_printed.specs.Erased as erased

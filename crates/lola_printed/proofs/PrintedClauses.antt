@@ -16,8 +16,8 @@ use Rattle.lola_tree.specs.declared.pacing.Pacing.{Pacing}
 use Rattle.lola_tree.specs.declared.clauses.Part.{Part}
 use Rattle.lola_grammar.specs.Syntax.{Lexeme, fits, Syntax, Then, Maybe, Many, Spells}
 use Rattle.lola_grammar.proofs.Tests.{shapes_same}
-use Rattle.lola_parser.specs.Grammar as g
-use Rattle.lola_parser.specs.Grammar.{token, mark, word, expr_in, other_in, formula_in, join, ◌*>◌, ◌<*◌, ◌|>◌, ◌>>◌}
+use Rattle.lola_parser_grammar.specs.Grammar as g
+use Rattle.lola_parser_grammar.specs.Grammar.{token, mark, word, expr_in, other_in, formula_in, join, ◌*>◌, ◌<*◌, ◌|>◌, ◌>>◌}
 use Rattle.lola_print.specs.Print as out
 use Rattle.lola_print.specs.Print.{lex, bare}
 use Rattle.lola_printed.specs.Erased as erased

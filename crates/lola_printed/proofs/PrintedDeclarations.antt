@@ -16,8 +16,8 @@ use Rattle.lola_tree.specs.declared.declarations.Trigger.{Trigger}
 use Rattle.lola_tree.specs.declared.declarations.Declaration.{Declaration}
 use Rattle.lola_tree.specs.declared.declarations.Declaration.TheVariants as d
 use Rattle.lola_grammar.specs.Syntax.{Lexeme, Then, Maybe, Many, Spells}
-use Rattle.lola_parser.specs.Grammar as g
-use Rattle.lola_parser.specs.Grammar.{token, mark, ◌*>◌, ◌<*◌}
+use Rattle.lola_parser_grammar.specs.Grammar as g
+use Rattle.lola_parser_grammar.specs.Grammar.{token, mark, ◌*>◌, ◌<*◌}
 use Rattle.lola_print.specs.Print as out
 use Rattle.lola_print.specs.Print.{lex, bare}
 use Rattle.lola_printed.specs.Erased as erased

@@ -8,8 +8,8 @@ use Rattle.lola_tree.specs.declared.pacing.Formula.{Formula, more_of-Formula, en
 use Rattle.lola_tree.specs.declared.pacing.Formula.TheVariants as f
 use Rattle.lola_tree.specs.declared.pacing.Formula.TheBlock as X
 use Rattle.lola_grammar.specs.Syntax.{Lexeme, Syntax, Then, Spells}
-use Rattle.lola_parser.specs.Grammar as g
-use Rattle.lola_parser.specs.Grammar.{token, mark, formula_in, ◌*>◌, ◌<*◌}
+use Rattle.lola_parser_grammar.specs.Grammar as g
+use Rattle.lola_parser_grammar.specs.Grammar.{token, mark, formula_in, ◌*>◌, ◌<*◌}
 use Rattle.lola_print.specs.Print as out
 use Rattle.lola_print.specs.Print.{lex, bracketed_if, print_formula, bare_formula, formula_level}
 use Rattle.lola_printed.specs.Erased as erased

@@ -9,7 +9,7 @@ use Rattle.lola_tree.specs.declared.expressions.Binary.{Binary}
 use Rattle.lola_tree.specs.declared.expressions.Expr.{Expr}
 use Rattle.lola_grammar.specs.Syntax.{Lexeme, Of, fits, Syntax, Then, Map, Token, Repeats, Spells}
 use Rattle.lola_grammar.proofs.Tests.{shapes_same}
-use Rattle.lola_parser.specs.Grammar.{token, mark, word, name, sign, Sign, join, joined_once, folded, ◌*>◌, ◌<*◌, ◌|>◌, ◌>>◌}
+use Rattle.lola_parser_grammar.specs.Grammar.{token, mark, word, name, sign, Sign, join, joined_once, folded, ◌*>◌, ◌<*◌, ◌|>◌, ◌>>◌}
 use Rattle.lola_print.specs.Print as out
 use Rattle.lola_print.specs.Print.{lex, lex_of}
 

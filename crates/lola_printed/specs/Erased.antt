@@ -7,8 +7,8 @@ use Rattle.lola_tree.specs.declared.literals.Literal.{Literal}
 use Rattle.lola_tree.specs.declared.literals.Quantity.{Quantity}
 use Rattle.lola_tree.specs.declared.literals.Value.{Value}
 use Rattle.lola_tree.specs.declared.literals.Value.TheVariants as value
-use Rattle.lola_parser.specs.Literals.{number_of, text_of_literal}
-use Rattle.lola_parser.specs.Grammar.{quantity_of}
+use Rattle.lola_parser_grammar.specs.Literals.{number_of, text_of_literal}
+use Rattle.lola_parser_grammar.specs.Grammar.{quantity_of}
 use Rattle.lola_print.specs.Print as out
 use Rattle.lola_tree.specs.declared.expressions.Access.{Access}
 use Rattle.lola_tree.specs.declared.expressions.Access.TheVariants as a

@@ -12,7 +12,7 @@ use Rattle.lola_tree.specs.declared.clauses.Close.{Close}
 use Rattle.lola_tree.specs.declared.declarations.Declaration.{Declaration}
 use Rattle.lola_tree.specs.declared.declarations.Declaration.TheVariants as d
 use Rattle.lola_grammar.specs.Syntax.{Spells}
-use Rattle.lola_parser.specs.Grammar as g
+use Rattle.lola_parser_grammar.specs.Grammar as g
 use Rattle.lola_print.specs.Print as out
 use Rattle.lola_printed.specs.Erased as erased
 use Rattle.lola_printed.specs.Erased.{ExprReads, QuantityReads, TextReads, ValueReads, formula_need}

@@ -7,8 +7,8 @@ use Rattle.lola_lexer.specs.declared.shape.TokenShape.{TokenShape}
 use Rattle.lola_lexer.specs.declared.shape.TokenShape.TheVariants as is
 use Rattle.lola_grammar.specs.Syntax.{Lexeme, Terminal, Of, Word, Other, is_among, same_shape, fits, any_fits, Syntax, Past, Token, Mark, Whole, Known, Then, Map, Either, Maybe, Many, Fork, Repeats, Perhaps, Spells, max_marks}
 use Rattle.lola_grammar.specs.Marks.{Fits, one_if, marks_in}
-use Rattle.lola_parser.specs.Grammar.{all_marks, place, ◌*>◌, ◌<*◌, ◌|>◌, ◌>>◌, folded, enclosed, further, listed}
-use Rattle.lola_parser.specs.Grammar as g
+use Rattle.lola_parser_grammar.specs.Grammar.{all_marks, place, ◌*>◌, ◌<*◌, ◌|>◌, ◌>>◌, folded, enclosed, further, listed}
+use Rattle.lola_parser_grammar.specs.Grammar as g
 use Rattle.lola_reprinted.specs.Places.{IsLexed, AreLexed, IsSame, AreSame}
 
 -- ---- tokens in step

@@ -10,8 +10,8 @@ use Rattle.lola_tree.specs.declared.clauses.Spawn.{Spawn}
 use Rattle.lola_tree.specs.declared.clauses.Eval.{Eval}
 use Rattle.lola_tree.specs.declared.clauses.Close.{Close}
 use Rattle.lola_grammar.specs.Syntax.{Syntax, Then, Map, Either, Maybe, Many, Known, Of}
-use Rattle.lola_parser.specs.Grammar as g
-use Rattle.lola_parser.specs.Grammar.{token, mark, word, ◌*>◌, ◌<*◌, ◌|>◌, all_marks}
+use Rattle.lola_parser_grammar.specs.Grammar as g
+use Rattle.lola_parser_grammar.specs.Grammar.{token, mark, word, ◌*>◌, ◌<*◌, ◌|>◌, all_marks}
 use Rattle.lola_print.specs.Print as out
 use Rattle.lola_print.specs.Print.{lex, bare, print_formula}
 use Rattle.lola_printed.specs.Erased as erased

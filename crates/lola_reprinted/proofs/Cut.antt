@@ -16,7 +16,7 @@ use Rattle.lola_lexer.specs.Cuts.{Covers, IsWhole, tokens_among}
 use Rattle.lola_lexer.proofs.Cutting.{given_is_cut}
 use Rattle.lola_lexer.proofs.Writing.{written_is_cut, texts_are}
 use Rattle.lola_grammar.specs.Syntax.{Lexeme}
-use Rattle.lola_parser.specs.Cursor.{lexemes}
+use Rattle.lola_parser_grammar.specs.Cursor.{lexemes}
 use Rattle.lola_print.specs.Print.{spelled_out}
 use Rattle.lola_reprinted.specs.Places.{AreLexed, AreSame, CutIsLexed, PrintedIsCut}
 

@@ -15,8 +15,8 @@ use Rattle.lola_tree.specs.declared.declarations.Trigger.{Trigger}
 use Rattle.lola_tree.specs.declared.declarations.Declaration.{Declaration}
 use Rattle.lola_tree.specs.declared.declarations.Declaration.TheVariants as d
 use Rattle.lola_grammar.specs.Syntax.{Then, Maybe}
-use Rattle.lola_parser.specs.Grammar as g
-use Rattle.lola_parser.specs.Grammar.{token, mark, word, ◌*>◌, ◌<*◌, ◌|>◌, all_marks}
+use Rattle.lola_parser_grammar.specs.Grammar as g
+use Rattle.lola_parser_grammar.specs.Grammar.{token, mark, word, ◌*>◌, ◌<*◌, ◌|>◌, all_marks}
 use Rattle.lola_print.specs.Print as out
 use Rattle.lola_print.specs.Print.{lex, bare, print_formula}
 use Rattle.lola_printed.specs.Erased as erased

@@ -13,8 +13,8 @@ use Rattle.lola_tree.specs.declared.expressions.Access.TheVariants as a
 use Rattle.lola_tree.specs.declared.expressions.Expr.{Expr}
 use Rattle.lola_tree.specs.declared.expressions.Expr.TheVariants as e
 use Rattle.lola_grammar.specs.Syntax.{Syntax, Then, Map, Either, Maybe}
-use Rattle.lola_parser.specs.Grammar as g
-use Rattle.lola_parser.specs.Grammar.{token, mark, word, ◌*>◌, ◌<*◌, ◌|>◌, ◌>>◌, Sign, Joined}
+use Rattle.lola_parser_grammar.specs.Grammar as g
+use Rattle.lola_parser_grammar.specs.Grammar.{token, mark, word, ◌*>◌, ◌<*◌, ◌|>◌, ◌>>◌, Sign, Joined}
 use Rattle.lola_printed.specs.Erased as erased
 use Rattle.lola_reprinted.proofs.Carried.{Carries, Any, Both, Opt, Each, Fun, Some_each, then_carried, map_carried, either_carried, maybe_carried, past_carried, known_carried, weaker, onto, behind, token_any, mark_any, word_any, behind_token, behind_mark, behind_word, before_token, listed_carried, folded_carried}
 use Rattle.lola_reprinted.proofs.Leaves.{IntegerIs, integer_is, SameName, erased_name, name_carried, SameInteger, integer_carried, SameQuantity, quantity_carried, SameLiteral, same_number, same_truth, word_literal_carried}

@@ -17,9 +17,9 @@ use Rattle.lola_tree.specs.declared.literals.Value.{Value}
 use Rattle.lola_tree.specs.declared.literals.Value.TheVariants as value
 use Rattle.lola_grammar.specs.Syntax.{Lexeme, Of, Other, fits, same_shape, is_among, Token, Then, Map}
 use Rattle.lola_grammar.proofs.Tests.{shape_is, and_both}
-use Rattle.lola_parser.specs.Literals.{number_of, text_of_literal}
-use Rattle.lola_parser.specs.Grammar as g
-use Rattle.lola_parser.specs.Grammar.{quantity_of}
+use Rattle.lola_parser_grammar.specs.Literals.{number_of, text_of_literal}
+use Rattle.lola_parser_grammar.specs.Grammar as g
+use Rattle.lola_parser_grammar.specs.Grammar.{quantity_of}
 use Rattle.lola_print.specs.Print as out
 use Rattle.lola_print.specs.Print.{lex}
 use Rattle.lola_printed.specs.Erased as erased

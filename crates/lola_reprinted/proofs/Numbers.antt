@@ -11,7 +11,7 @@ use Rattle.std.proofs.lemmas.List.Elements.{All-head, All-tail}
 use Rattle.std.proofs.lemmas.List.Sums.{fold-append}
 use Rattle.std.proofs.lemmas.Grind.{pow_more}
 use Rattle.std.proofs.Math.Nat.{pow-le-pow_right}
-use Rattle.lola_parser.specs.Literals.{greatest, with_digit, number_of}
+use Rattle.lola_parser_grammar.specs.Literals.{greatest, with_digit, number_of}
 use Rattle.lola_print.specs.Print.{zeros, padded}
 use Rattle.lola_printed.specs.Erased.{IntegerReads}
 

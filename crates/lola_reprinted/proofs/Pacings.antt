@@ -11,8 +11,8 @@ use Rattle.lola_tree.specs.declared.pacing.Rhythm.{Rhythm}
 use Rattle.lola_tree.specs.declared.pacing.Rhythm.TheVariants as r
 use Rattle.lola_tree.specs.declared.pacing.Pacing.{Pacing}
 use Rattle.lola_grammar.specs.Syntax.{Syntax, Then, Map, Whole}
-use Rattle.lola_parser.specs.Grammar as g
-use Rattle.lola_parser.specs.Grammar.{token, mark, word, ◌*>◌, ◌<*◌, ◌|>◌, all_marks}
+use Rattle.lola_parser_grammar.specs.Grammar as g
+use Rattle.lola_parser_grammar.specs.Grammar.{token, mark, word, ◌*>◌, ◌<*◌, ◌|>◌, all_marks}
 use Rattle.lola_print.specs.Print as out
 use Rattle.lola_print.specs.Print.{lex, bare, print_formula}
 use Rattle.lola_print.proofs.Formulas.{bare_formula-Both, bare_formula-Either}

@@ -12,8 +12,8 @@ use Rattle.lola_lexer.specs.Spelling.{units, IsQuantity}
 use Rattle.lola_lexer.specs.Spelling as lexical
 use Rattle.lola_lexer.proofs.Runs.{run_whole}
 use Rattle.lola_grammar.specs.Syntax.{Lexeme}
-use Rattle.lola_parser.specs.Literals.{with_digit, number_of, digits_in, before_point, before_letters, decimals_in, unit_named, unit_of}
-use Rattle.lola_parser.specs.Grammar.{quantity_of}
+use Rattle.lola_parser_grammar.specs.Literals.{with_digit, number_of, digits_in, before_point, before_letters, decimals_in, unit_named, unit_of}
+use Rattle.lola_parser_grammar.specs.Grammar.{quantity_of}
 use Rattle.lola_print.specs.Print as out
 use Rattle.lola_print.specs.Print.{pointed, padded, unit_name}
 use Rattle.lola_printed.specs.Erased.{QuantityReads}

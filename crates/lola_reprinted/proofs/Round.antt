@@ -4,12 +4,12 @@ use Rattle.lola_tree.specs.declared.declarations.Declaration.{Declaration}
 use Rattle.lola_grammar.specs.Syntax.{Lexeme, max_marks, read_all}
 use Rattle.lola_grammar.specs.Marks.{Fits}
 use Rattle.lola_grammar.proofs.All.{fitting_is_read}
-use Rattle.lola_parser.specs.Cursor.{lexemes}
-use Rattle.lola_parser.specs.Grammar.{specification, all_marks}
-use Rattle.lola_parser.specs.Whole.{most_levels}
-use Rattle.lola_parser.proofs.Fine.{specification_fine}
-use Rattle.lola_parser.proofs.Depth.{specification_counted}
-use Rattle.lola_parser.proofs.Levels.{read_alike}
+use Rattle.lola_parser_grammar.specs.Cursor.{lexemes}
+use Rattle.lola_parser_grammar.specs.Grammar.{specification, all_marks}
+use Rattle.lola_parser_grammar.specs.Whole.{most_levels}
+use Rattle.lola_parser_grammar.proofs.Fine.{specification_fine}
+use Rattle.lola_parser_grammar.proofs.Depth.{specification_counted}
+use Rattle.lola_parser_grammar.proofs.Levels.{read_alike}
 use Rattle.lola_print.specs.Print as out
 use Rattle.lola_print.specs.Print.{spelled_out}
 use Rattle.lola_printed.specs.Erased as erased

@@ -11,7 +11,7 @@ use Rattle.std.proofs.lemmas.List.Elements.{All-nil, All-cons}
 use Rattle.std.proofs.lemmas.Str.{IsUtf8-append, IsUtf8-from_ascii, IsUtf8-take, IsUtf8-past_char, IsCharBoundary-at_seam}
 use Rattle.lola_lexer.specs.Spelling.{is_plain, is_escape, IsPiece, IsText}
 use Rattle.lola_lexer.proofs.Runs.{not_true}
-use Rattle.lola_parser.specs.Literals.{escaped, unescaped, text_of_literal}
+use Rattle.lola_parser_grammar.specs.Literals.{escaped, unescaped, text_of_literal}
 use Rattle.lola_print.specs.Print as out
 use Rattle.lola_print.specs.Print.{escape}
 use Rattle.lola_printed.specs.Erased.{TextReads}

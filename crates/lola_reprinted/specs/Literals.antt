@@ -2,8 +2,8 @@
 use Rattle.std.specs.Prelude.{◌≡◌, ℕ, ◌≤◌, List}
 use Rattle.lola_lexer.specs.Spelling.{IsQuantity}
 use Rattle.lola_grammar.specs.Syntax.{Lexeme}
-use Rattle.lola_parser.specs.Literals.{greatest}
-use Rattle.lola_parser.specs.Grammar.{quantity_of}
+use Rattle.lola_parser_grammar.specs.Literals.{greatest}
+use Rattle.lola_parser_grammar.specs.Grammar.{quantity_of}
 use Rattle.lola_print.specs.Print as out
 use Rattle.lola_printed.specs.Erased.{IntegerReads, TextReads, QuantityReads}
 

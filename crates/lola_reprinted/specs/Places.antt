@@ -5,7 +5,7 @@ use Rattle.lola_lexer.specs.Spelling.{IsToken}
 use Rattle.lola_lexer.specs.Tokens.{tokens_of}
 use Rattle.lola_tree.specs.declared.declarations.Declaration.{Declaration}
 use Rattle.lola_grammar.specs.Syntax.{Lexeme}
-use Rattle.lola_parser.specs.Cursor.{lexemes}
+use Rattle.lola_parser_grammar.specs.Cursor.{lexemes}
 use Rattle.lola_print.specs.Print.{spelled_out}
 use Rattle.lola_printed.specs.Erased as erased
 

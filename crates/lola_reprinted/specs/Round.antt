@@ -5,9 +5,9 @@ use Rattle.lola_lexer.specs.Tokens.{tokens_of}
 use Rattle.lola_tree.specs.declared.declarations.Declaration.{Declaration}
 use Rattle.lola_grammar.specs.Syntax.{Lexeme, Spells, read_all}
 use Rattle.lola_grammar.specs.Marks.{Fits}
-use Rattle.lola_parser.specs.Cursor.{lexemes}
-use Rattle.lola_parser.specs.Grammar.{specification, all_marks}
-use Rattle.lola_parser.specs.Whole.{most_levels}
+use Rattle.lola_parser_grammar.specs.Cursor.{lexemes}
+use Rattle.lola_parser_grammar.specs.Grammar.{specification, all_marks}
+use Rattle.lola_parser_grammar.specs.Whole.{most_levels}
 use Rattle.lola_print.specs.Print as out
 use Rattle.lola_print.specs.Print.{spelled_out}
 use Rattle.lola_printed.specs.Fitting.{AllDeclarationsFit}

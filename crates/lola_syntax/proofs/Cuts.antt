@@ -6,15 +6,15 @@ use Rattle.lola_lexer.specs.declared.token.Token.{Token}
 use Rattle.lola_lexer.specs.Tokens.{AreInOrder, StandIn}
 use Rattle.lola_grammar.specs.Syntax.{Lexeme, Terminal, Of, any_fits, fits, same_shape, starts}
 use Rattle.lola_grammar.specs.Marks.{is_mark, one_if, marks_in}
-use Rattle.lola_parser.specs.Cursor.{lexeme, lexemes}
-use Rattle.lola_parser.specs.Grammar.{all_marks, expr_in}
+use Rattle.lola_parser_grammar.specs.Cursor.{lexeme, lexemes}
+use Rattle.lola_parser_grammar.specs.Grammar.{all_marks, expr_in}
 use Rattle.lola_syntax.specs.Looking as looking
 use Rattle.lola_syntax.specs.Looking.{is_either, is_mark_shape, marks_among, IsLast}
 use Rattle.lola_syntax.specs.Places.{cut_last, clause_words, is_spawn, behind_with, behind_bracket, ends_within, is_enclosed, mark_or, place_behind, place_too_deep}
 use Rattle.lola_syntax.specs.Turns.{Left}
 use Rattle.lola_syntax.specs.Skims.{skim}
 use Rattle.lola_syntax.specs.Parts.{IsRecognized}
-use Rattle.lola_parser.proofs.Steps.{tail_is}
+use Rattle.lola_parser_cursor.proofs.Steps.{tail_is}
 use Rattle.std.proofs.lemmas.Bool.{eq-eqb, ne_eqb}
 
 -- the terminals are those that the test of shapes tells

@@ -1,9 +1,9 @@
 -- What a text that is refused as too deep is cut into.
 use Rattle.std.proofs.Common.{◌≡◌, List, ◌∷◌, ◌++◌, Err, arith}
 use Rattle.lola_grammar.specs.Syntax.{Lexeme, TooDeep, read_all}
-use Rattle.lola_parser.specs.Grammar.{specification, all_marks}
-use Rattle.lola_parser.specs.Whole.{most_levels}
-use Rattle.lola_parser.proofs.Fine.{specification_fine}
+use Rattle.lola_parser_grammar.specs.Grammar.{specification, all_marks}
+use Rattle.lola_parser_grammar.specs.Whole.{most_levels}
+use Rattle.lola_parser_grammar.proofs.Fine.{specification_fine}
 use Rattle.lola_limit.proofs.Levels.{counted_at}
 use Rattle.lola_limit.proofs.Open.{specification_open}
 use Rattle.lola_limit.proofs.Placed.{decided_all}

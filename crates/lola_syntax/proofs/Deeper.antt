@@ -4,9 +4,9 @@ use Rattle.std.proofs.lemmas.List.{length-append}
 use Rattle.lola_grammar.specs.Syntax.{Lexeme, Syntax, Unexpected, TooDeep, Outcome, read}
 use Rattle.lola_grammar.specs.Marks.{is_mark, one_if, marks_in}
 use Rattle.lola_grammar.proofs.Over.{over}
-use Rattle.lola_parser.specs.Grammar.{all_marks, level, expr_in, other_in}
-use Rattle.lola_parser.proofs.Depth.{level_tallies, level_deep}
-use Rattle.lola_parser.proofs.Levels.{levels_same}
+use Rattle.lola_parser_grammar.specs.Grammar.{all_marks, level, expr_in, other_in}
+use Rattle.lola_parser_grammar.proofs.Depth.{level_tallies, level_deep}
+use Rattle.lola_parser_grammar.proofs.Levels.{levels_same}
 use Rattle.lola_syntax.specs.Skims.{skim}
 use Rattle.lola_syntax.proofs.Skims.{skims_read, skims_misses}
 

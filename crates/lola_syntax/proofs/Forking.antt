@@ -11,8 +11,8 @@ use Rattle.lola_limit.specs.Late.{IsNextBehindBracket}
 use Rattle.lola_tree.specs.declared.clauses.Part.{Part}
 use Rattle.lola_tree.specs.declared.clauses.Spawn.{Spawn}
 use Rattle.lola_tree.specs.declared.pacing.Pacing.{Pacing}
-use Rattle.lola_parser.specs.Grammar as g
-use Rattle.lola_parser.specs.Grammar.{all_marks, expr_in, specification}
+use Rattle.lola_parser_grammar.specs.Grammar as g
+use Rattle.lola_parser_grammar.specs.Grammar.{all_marks, expr_in, specification}
 use Rattle.lola_syntax.specs.Places.{Cut, cut_last, clause_words, is_spawn, behind_with}
 use Rattle.lola_syntax.specs.Law.{IsBehind}
 use Rattle.lola_syntax.proofs.Lacks.{words, cut_more, cut_here, not_here, front_none, none_append, none_in, fewer, expr_lacks, pacing_lacks, when_lacks}

@@ -4,8 +4,8 @@ use Rattle.lola_lexer.specs.declared.shape.TokenShape.TheVariants as is
 use Rattle.lola_grammar.specs.Syntax.{Lexeme, Terminal, Of, fits, any_fits, clashes, within, same_shape, Syntax, Past, Token, Mark, Whole, Known, Then, Map, Either, Maybe, Many, Fork, Repeats, Spells}
 use Rattle.lola_grammar.proofs.Tests.{and_both, not_true, no_more, clashes_true, within_fits}
 use Rattle.lola_grammar.proofs.Complete.{and_three}
-use Rattle.lola_parser.specs.Grammar as g
-use Rattle.lola_parser.specs.Grammar.{level, formula_level, expr_in, pacing, part_behind}
+use Rattle.lola_parser_grammar.specs.Grammar as g
+use Rattle.lola_parser_grammar.specs.Grammar.{level, formula_level, expr_in, pacing, part_behind}
 use Rattle.lola_syntax.specs.Places.{Cut, cut_at, cut_last}
 
 module _ (ks : List Terminal) where

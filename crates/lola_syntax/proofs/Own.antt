@@ -7,13 +7,13 @@ use Rattle.lola_limit.specs.Fronts.{IsLongestFront}
 use Rattle.lola_limit.proofs.Levels.{counted_at}
 use Rattle.lola_limit.proofs.Open.{specification_open}
 use Rattle.lola_limit.proofs.Place.{deep_is_first}
-use Rattle.lola_parser.specs.Grammar.{specification, all_marks}
-use Rattle.lola_parser.specs.Whole.{most_levels}
-use Rattle.lola_parser.proofs.Fine.{specification_fine}
+use Rattle.lola_parser_grammar.specs.Grammar.{specification, all_marks}
+use Rattle.lola_parser_grammar.specs.Whole.{most_levels}
+use Rattle.lola_parser_grammar.proofs.Fine.{specification_fine}
 use Rattle.std.proofs.lemmas.List.{append_cancel_right}
 use Rattle.lola_value.specs.declared.front.FrontEnd.{FrontEnd}
 use Rattle.lola_value.specs.declared.front.FrontEnd.TheVariants as front_end
-use Rattle.lola_parser.proofs.Levels.{read_alike}
+use Rattle.lola_parser_grammar.proofs.Levels.{read_alike}
 use Rattle.lola_syntax.specs.Turns.{Left}
 use Rattle.lola_syntax.specs.Places.{behind_bracket, place_too_deep, IsPlacedAt, Answers}
 use Rattle.lola_syntax.specs.Exact.{IsExactAt, PlacesExactly}

@@ -4,7 +4,7 @@ use Rattle.lola_value.specs.declared.front.FrontEnd.{FrontEnd}
 use Rattle.lola_value.specs.declared.front.FrontEnd.TheVariants as front_end
 use Rattle.lola_tree.specs.declared.declarations.Declaration.{Declaration}
 use Rattle.lola_grammar.specs.Syntax.{Lexeme}
-use Rattle.lola_parser.proofs.Ends as ends
+use Rattle.lola_parser_grammar.proofs.Ends as ends
 use Rattle.lola_syntax.specs.Places.{Answers, Refuses}
 
 pub refuses : (ts : List Lexeme) (end : ℕ) (r : Result (List Declaration) FrontEnd) → Answers ts end r → Refuses ts end r

@@ -4,9 +4,9 @@ use Rattle.lola_tree.specs.declared.expressions.Expr.{Expr}
 use Rattle.lola_grammar.specs.Syntax.{Lexeme, Spells, starts, more, is_fine}
 use Rattle.lola_grammar.specs.Marks.{tallies, guards, marks_in}
 use Rattle.lola_grammar.proofs.Within.{complete_within}
-use Rattle.lola_parser.specs.Grammar.{all_marks, expr_in, expr_goes_on, whole}
-use Rattle.lola_parser.proofs.Fine.{whole_fine}
-use Rattle.lola_parser.proofs.Depth.{level_tallies, level_deep}
+use Rattle.lola_parser_grammar.specs.Grammar.{all_marks, expr_in, expr_goes_on, whole}
+use Rattle.lola_parser_grammar.proofs.Fine.{whole_fine}
+use Rattle.lola_parser_grammar.proofs.Depth.{level_tallies, level_deep}
 use Rattle.lola_syntax.specs.Skims.{skim}
 use Rattle.lola_syntax.proofs.Skims.{skims_read}
 use Rattle.lola_syntax.proofs.Deeper.{at_most}

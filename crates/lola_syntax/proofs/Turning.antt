@@ -4,15 +4,15 @@ use Rattle.lola_lexer.specs.declared.shape.TokenShape.{TokenShape}
 use Rattle.lola_lexer.specs.declared.shape.TokenShape.TheVariants as is
 use Rattle.lola_tree.specs.declared.expressions.Expr.{Expr}
 use Rattle.lola_grammar.specs.Syntax.{Lexeme, Of, Word, fits, same_shape, Syntax, Then, Maybe, Many, starts, first, nullable, more, is_fine}
-use Rattle.lola_parser.specs.Grammar as g
-use Rattle.lola_parser.specs.Grammar.{expr_in, other_in, level, ◌*>◌, ◌<*◌}
+use Rattle.lola_parser_grammar.specs.Grammar as g
+use Rattle.lola_parser_grammar.specs.Grammar.{expr_in, other_in, level, ◌*>◌, ◌<*◌}
 use Rattle.lola_syntax.specs.declared.pending.Pending.{Pending}
 use Rattle.lola_syntax.specs.declared.pending.Pending.TheVariants as p
 use Rattle.lola_syntax.specs.Turns.{Left, ◌>->◌, behind, shape, Turn, and_parts, and_turn, distance, frame, defaults_to, inner, expression_turn, operand_turn, substitute, access, defaults_turn, access_turn, further_turn, signs_turn, token_turn, turned, or_nothing, arguments, over_words}
 use Rattle.lola_syntax.specs.Skims.{skim}
 use Rattle.lola_syntax.specs.Parts.{left_by, left_by_all, after_turn}
 use Rattle.lola_syntax.proofs.Skims.{Shortens, same_next, one_turn, shortens, shortens_then, shortens_behind}
-use Rattle.lola_parser.proofs.Joins.{product_full, sum_full, and_full, or_full}
+use Rattle.lola_parser_cursor.proofs.Joins.{product_full, sum_full, and_full, or_full}
 use Rattle.lola_syntax.proofs.Deeper.{expr_deeper, other_deeper}
 
 -- ---- joins

@@ -7,8 +7,8 @@ use Rattle.lola_tree.specs.declared.declarations.Declaration.{Declaration}
 use Rattle.lola_grammar.specs.Syntax.{Lexeme}
 use Rattle.lola_limit.specs.Late.{IsDeepPlace}
 use Rattle.lola_limit.specs.Fronts.{IsLongestFront}
-use Rattle.lola_parser.specs.Grammar.{all_marks, specification}
-use Rattle.lola_parser.specs.Whole.{most_levels}
+use Rattle.lola_parser_grammar.specs.Grammar.{all_marks, specification}
+use Rattle.lola_parser_grammar.specs.Whole.{most_levels}
 use Rattle.lola_syntax.specs.Law.{IsBehind}
 
 -- The place is that of the first mark that is one too many in every specification that begins with the tokens before the first

@@ -5,9 +5,9 @@ use Rattle.lola_grammar.specs.Syntax.{Lexeme, TooDeep, Spells, starts, max_marks
 use Rattle.lola_grammar.specs.Marks.{marks_in}
 use Rattle.lola_limit.specs.Late.{IsDeepPlace}
 use Rattle.lola_limit.specs.Fronts.{IsLongestFront}
-use Rattle.lola_parser.specs.Whole.{most_levels}
+use Rattle.lola_parser_grammar.specs.Whole.{most_levels}
 use Rattle.lola_syntax.specs.Places.{behind_bracket}
-use Rattle.lola_parser.specs.Grammar.{expr_in, expr_goes_on, all_marks, specification}
+use Rattle.lola_parser_grammar.specs.Grammar.{expr_in, expr_goes_on, all_marks, specification}
 use Rattle.lola_syntax.specs.Skims.{skim}
 
 -- What is left stands behind a sentence.

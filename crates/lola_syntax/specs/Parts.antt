@@ -2,7 +2,7 @@
 use Rattle.std.specs.Prelude.{◌≡◌, ◌<◌, ℕ, Bool, true, false, List, [], ◌∷◌, length, Some, None}
 use Rattle.lola_lexer.specs.declared.shape.TokenShape.TheVariants as is
 use Rattle.lola_grammar.specs.Syntax.{Lexeme, Then, Maybe, Many}
-use Rattle.lola_parser.specs.Grammar.{expr_in, other_in, token, unary, products, joined, joined_once, sum_signs, product, comparison_signs, sum, and_signs, comparison, or_signs, conjunction, defaults, arguments, further, suffix}
+use Rattle.lola_parser_grammar.specs.Grammar.{expr_in, other_in, token, unary, products, joined, joined_once, sum_signs, product, comparison_signs, sum, and_signs, comparison, or_signs, conjunction, defaults, arguments, further, suffix}
 use Rattle.lola_syntax.specs.declared.pending.Pending.{Pending}
 use Rattle.lola_syntax.specs.declared.pending.Pending.TheVariants as p
 use Rattle.lola_syntax.specs.Turns.{Left, ◌>->◌, Turn}

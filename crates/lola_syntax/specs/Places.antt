@@ -8,9 +8,9 @@ use Rattle.lola_tree.specs.declared.declarations.Declaration.{Declaration}
 use Rattle.lola_grammar.specs.Syntax.{Lexeme, Terminal, Of, any_fits, fits, starts, max_marks, Spells, read_all}
 use Rattle.lola_grammar.specs.Syntax as reading
 use Rattle.lola_grammar.specs.Marks.{marks_in}
-use Rattle.lola_parser.specs.Cursor.{place_of}
-use Rattle.lola_parser.specs.Grammar.{expr_in, all_marks, specification}
-use Rattle.lola_parser.specs.Whole.{most_levels, IsMisfitAt}
+use Rattle.lola_parser_grammar.specs.Cursor.{place_of}
+use Rattle.lola_parser_grammar.specs.Grammar.{expr_in, all_marks, specification}
+use Rattle.lola_parser_grammar.specs.Whole.{most_levels, IsMisfitAt}
 use Rattle.lola_syntax.specs.Turns.{Left, shape}
 use Rattle.lola_syntax.specs.Skims.{skim}
 

@@ -4,7 +4,7 @@ ghost use Rattle.std.specs.Prelude.{◌≡◌, ◌≤◌, ◌∷◌, [], drop, l
 ghost use Rattle.std.specs.Str.{bytes_eq};
 ghost use Rattle.lola_grammar.specs.Syntax.{Of, Word, starts, same_shape};
 ghost use Rattle.lola_lexer.specs.Tokens.{StandIn};
-ghost use Rattle.lola_parser.specs.Cursor.{lexemes, text_of};
+ghost use Rattle.lola_parser_grammar.specs.Cursor.{lexemes, text_of};
 ghost use Rattle.lola_syntax.specs.Turns.{Gives, behind};
 
 use lola_lexer::shape::TokenShape;
@@ -22,7 +22,7 @@ pub struct Cursor<'a> {
 
 impl<'a> Model for Cursor<'a> {
     ghost use Rattle.lola_grammar.specs.Syntax.{Lexeme};
-    ghost use Rattle.lola_parser.specs.Cursor.{lexemes};
+    ghost use Rattle.lola_parser_grammar.specs.Cursor.{lexemes};
     ghost use Rattle.lola_lexer.specs.Tokens.{StandIn};
     ghost use Rattle.std.specs.Prelude.{◌≤◌, List, length, drop};
 

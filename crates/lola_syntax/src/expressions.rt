@@ -13,7 +13,7 @@ use lola_lexer::shape::TokenShape;
 use lola_value::text::Memory;
 use std::alloc::Global;
 
-#[tactic(auto, using(lola_parser::proofs::Starts::starts_more))]
+#[tactic(auto, using(lola_parser_cursor::proofs::Starts::starts_more))]
 fn sees_product_sign(cursor: &Cursor<'_>) -> bool
     ensures { result ≡ starts turns.product_marks cursor.now }
 {
@@ -22,14 +22,14 @@ fn sees_product_sign(cursor: &Cursor<'_>) -> bool
         || cursor.sees(TokenShape::Percent)
 }
 
-#[tactic(auto, using(lola_parser::proofs::Starts::starts_more))]
+#[tactic(auto, using(lola_parser_cursor::proofs::Starts::starts_more))]
 fn sees_sum_sign(cursor: &Cursor<'_>) -> bool
     ensures { result ≡ starts turns.sum_marks cursor.now }
 {
     cursor.sees(TokenShape::Plus) || cursor.sees(TokenShape::Minus)
 }
 
-#[tactic(auto, using(lola_parser::proofs::Starts::starts_more))]
+#[tactic(auto, using(lola_parser_cursor::proofs::Starts::starts_more))]
 fn sees_comparison_sign(cursor: &Cursor<'_>) -> bool
     ensures { result ≡ starts turns.comparison_marks cursor.now }
 {
@@ -41,14 +41,14 @@ fn sees_comparison_sign(cursor: &Cursor<'_>) -> bool
         || cursor.sees(TokenShape::GreaterEqual)
 }
 
-#[tactic(auto, using(lola_parser::proofs::Starts::starts_more))]
+#[tactic(auto, using(lola_parser_cursor::proofs::Starts::starts_more))]
 fn sees_prefix_sign(cursor: &Cursor<'_>) -> bool
     ensures { result ≡ starts turns.prefix_signs cursor.now }
 {
     cursor.sees(TokenShape::Not) || cursor.sees(TokenShape::Minus)
 }
 
-#[tactic(auto, using(lola_parser::proofs::Starts::starts_more))]
+#[tactic(auto, using(lola_parser_cursor::proofs::Starts::starts_more))]
 fn sees_literal(cursor: &Cursor<'_>) -> bool
     ensures { result ≡ starts turns.literals cursor.now }
 {
@@ -58,14 +58,14 @@ fn sees_literal(cursor: &Cursor<'_>) -> bool
         || cursor.sees(TokenShape::Text)
 }
 
-#[tactic(auto, using(lola_parser::proofs::Starts::starts_more))]
+#[tactic(auto, using(lola_parser_cursor::proofs::Starts::starts_more))]
 fn sees_held(cursor: &Cursor<'_>) -> bool
     ensures { result ≡ starts turns.held_words cursor.now }
 {
     cursor.sees_word(b"hold") || cursor.sees_word(b"get") || cursor.sees_word(b"last")
 }
 
-#[tactic(auto, using(lola_parser::proofs::Starts::starts_more))]
+#[tactic(auto, using(lola_parser_cursor::proofs::Starts::starts_more))]
 fn sees_over(cursor: &Cursor<'_>) -> bool
     ensures { result ≡ starts turns.over_words cursor.now }
 {

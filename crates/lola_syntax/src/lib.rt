@@ -7,5 +7,3 @@ pub mod law;
 mod looking_back;
 mod pending;
 pub mod reading;
-#[cfg(test)]
-mod tests;

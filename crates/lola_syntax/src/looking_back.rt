@@ -1,7 +1,7 @@
 //! What stands before a token.
 
 ghost use Rattle.std.specs.Prelude.{◌≡◌, ◌≤◌, ℕ, List, ◌∷◌, [], drop, length, IfSome, MatchOption};
-ghost use Rattle.lola_parser.specs.Cursor.{lexemes};
+ghost use Rattle.lola_parser_grammar.specs.Cursor.{lexemes};
 ghost use Rattle.lola_lexer.specs.declared.shape.TokenShape.TheVariants as is;
 ghost use Rattle.lola_syntax.specs.Places as places;
 ghost use Rattle.lola_grammar.specs.Syntax.{Of, starts, same_shape};

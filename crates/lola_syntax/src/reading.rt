@@ -4,8 +4,8 @@ ghost use Rattle.std.specs.Prelude.{◌≡◌, ◌≢◌, ℕ, List, ◌∷◌, 
 ghost use Rattle.lola_grammar.specs.Syntax.{Lexeme};
 ghost use Rattle.lola_lexer.specs.Tokens.{StandIn, AreInOrder};
 ghost use Rattle.lola_lexer.specs.declared.token.Token as lexed;
-ghost use Rattle.lola_parser.specs.Cursor.{lexemes};
-ghost use Rattle.lola_parser.specs.Whole.{ReadsAll, Stopped};
+ghost use Rattle.lola_parser_grammar.specs.Cursor.{lexemes};
+ghost use Rattle.lola_parser_grammar.specs.Whole.{ReadsAll, Stopped};
 ghost use Rattle.lola_syntax.specs.Exact.{PlacesExactly};
 ghost use Rattle.lola_syntax.specs.Places.{Answers, Refuses};
 ghost use Rattle.lola_syntax.specs.Places as places;

@@ -1,5 +1,5 @@
-use Rattle.lola_parser.specs.Grammar.{specification}
-use Rattle.lola_parser.proofs.Fine.{specification_fine}
+use Rattle.lola_parser_grammar.specs.Grammar.{specification}
+use Rattle.lola_parser_grammar.proofs.Fine.{specification_fine}
 use Rattle.lola_limit.proofs.Free.{has_front}
 use Rattle.lola_limit.proofs.law.has_longest_front.Goals as goal
 

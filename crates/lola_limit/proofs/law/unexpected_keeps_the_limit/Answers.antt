@@ -1,5 +1,5 @@
-use Rattle.lola_parser.specs.Grammar.{specification, all_marks}
-use Rattle.lola_parser.proofs.Fine.{specification_fine}
+use Rattle.lola_parser_grammar.specs.Grammar.{specification, all_marks}
+use Rattle.lola_parser_grammar.proofs.Fine.{specification_fine}
 use Rattle.lola_limit.proofs.Levels.{counted_at}
 use Rattle.lola_limit.proofs.Answered.{unexpected_keeps}
 use Rattle.lola_limit.proofs.law.unexpected_keeps_the_limit.Goals as goal

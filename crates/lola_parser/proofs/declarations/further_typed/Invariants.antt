@@ -1,7 +1,7 @@
 use Rattle.std.proofs.Common.{◌≡◌, ◌-◌}
 use Rattle.lola_grammar.specs.Syntax.{read}
-use Rattle.lola_parser.specs.Grammar.{added, further, typed}
-use Rattle.lola_parser.proofs.Joins.{goes_on, snoc}
+use Rattle.lola_parser_grammar.specs.Grammar.{added, further, typed}
+use Rattle.lola_parser_cursor.proofs.Joins.{goes_on, snoc}
 use Rattle.lola_parser.proofs.declarations.further_typed.Given as goal
 
 abbrev pub invariant-loop-turn : goal.invariant-loop-turn

@@ -2,8 +2,8 @@ use Rattle.std.proofs.Common.{arith, ◌≡◌, suc, ◌-◌, ◌<◌, ◌∙◌
 use Rattle.std.proofs.lemmas.Grind.{common_steps}
 use Rattle.lola_lexer.specs.declared.shape.TokenShape.TheVariants as is
 use Rattle.lola_grammar.specs.Syntax.{Terminal, Of, starts, first, read, max_marks}
-use Rattle.lola_parser.specs.Grammar.{all_marks, expr_in, more_parts, one_part, forked}
-use Rattle.lola_parser.proofs.Fine.{more_parts_first, one_part_first}
+use Rattle.lola_parser_grammar.specs.Grammar.{all_marks, expr_in, more_parts, one_part, forked}
+use Rattle.lola_parser_grammar.proofs.Fine.{more_parts_first, one_part_first}
 use Rattle.lola_parser.proofs.Forks.{shorter, fork_list, fork_stops, fork_deep, fork_one}
 use Rattle.lola_parser.proofs.parts.forked.Goals as goal
 

@@ -2,9 +2,9 @@ use Rattle.std.proofs.Common.{rules, arith, ◌≡◌, ◌-◌, ◌+◌, ◌∙�
 use Rattle.std.proofs.lemmas.Grind.{common_steps}
 use Rattle.lola_lexer.specs.declared.shape.TokenShape.TheVariants as is
 use Rattle.lola_grammar.specs.Syntax.{starts, read, first, nullable}
-use Rattle.lola_parser.specs.Grammar.{token, part_behind}
-use Rattle.lola_parser.proofs.Joins.{goes_on, snoc, list_begins, goes_fails, goes_further}
-use Rattle.lola_parser.proofs.Turns.{one_more}
+use Rattle.lola_parser_grammar.specs.Grammar.{token, part_behind}
+use Rattle.lola_parser_cursor.proofs.Joins.{goes_on, snoc, list_begins, goes_fails, goes_further}
+use Rattle.lola_parser_cursor.proofs.Turns.{one_more}
 use Rattle.lola_parser.proofs.parts.further_parts.Goals as goal
 
 pub loop-turn-init : goal.loop-turn-init

@@ -1,7 +1,7 @@
 use Rattle.std.proofs.Common.{length}
-use Rattle.lola_parser.specs.Cursor.{lexemes}
-use Rattle.lola_parser.specs.Whole.{Answers}
-use Rattle.lola_parser.proofs.Ends.{refuses, reads_all}
+use Rattle.lola_parser_grammar.specs.Cursor.{lexemes}
+use Rattle.lola_parser_grammar.specs.Whole.{Answers}
+use Rattle.lola_parser_grammar.proofs.Ends.{refuses, reads_all}
 use Rattle.lola_parser.proofs.reading.parse.Goals as goal
 
 pub returns-clause-refuses : goal.returns-clause-refuses

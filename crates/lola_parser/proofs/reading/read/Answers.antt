@@ -1,8 +1,8 @@
 use Rattle.std.proofs.Common.{arith, refl, ◌≡◌, Ok, Err, inl, inr}
 use Rattle.lola_grammar.specs.Syntax.{read, max_marks, Unexpected, TooDeep}
-use Rattle.lola_parser.specs.Cursor.{lexemes}
-use Rattle.lola_parser.specs.Grammar.{specification}
-use Rattle.lola_parser.proofs.Ends.{all_ok, all_left, all_err}
+use Rattle.lola_parser_grammar.specs.Cursor.{lexemes}
+use Rattle.lola_parser_grammar.specs.Grammar.{specification}
+use Rattle.lola_parser_grammar.proofs.Ends.{all_ok, all_left, all_err}
 use Rattle.lola_parser.proofs.reading.read.Goals as goal
 
 pub returns-then-left-gt0 : goal.returns-then-left-gt0

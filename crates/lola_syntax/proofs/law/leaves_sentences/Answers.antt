@@ -1,4 +1,4 @@
-use Rattle.lola_parser.specs.Grammar.{expr_in}
+use Rattle.lola_parser_grammar.specs.Grammar.{expr_in}
 use Rattle.lola_syntax.proofs.Skims.{leaves}
 use Rattle.lola_syntax.proofs.law.leaves_sentences.Goals as goal
 

@@ -2,7 +2,7 @@ use Rattle.std.proofs.Common.{◌≡◌, ℕ, ◌+◌, suc, true, false, Some, N
 use Rattle.lola_lexer.specs.declared.shape.TokenShape.TheVariants as is
 use Rattle.lola_lexer.specs.declared.token.Token.{Token}
 use Rattle.lola_grammar.specs.Syntax.{Of, starts}
-use Rattle.lola_parser.specs.Cursor.{lexeme, lexemes}
+use Rattle.lola_parser_grammar.specs.Cursor.{lexeme, lexemes}
 use Rattle.lola_syntax.specs.Looking.{is_either, IsLast}
 use Rattle.lola_syntax.specs.Places.{clause_words, cut_last, is_spawn, behind_with}
 use Rattle.lola_syntax.proofs.Cuts.{one_tells, cut_of, not_spawn, not_open, found, starts_within}

@@ -2,7 +2,7 @@ use Rattle.std.proofs.Common.{◌≡◌, ◌<◌, ◌≤◌, ◌&&◌, nat_lt, B
 use Rattle.std.proofs.lemmas.Bool.{lt-ltb, le-ltb}
 use Rattle.lola_lexer.specs.declared.shape.TokenShape.TheVariants as is
 use Rattle.lola_grammar.specs.Syntax.{Of, starts}
-use Rattle.lola_parser.specs.Cursor.{lexemes}
+use Rattle.lola_parser_grammar.specs.Cursor.{lexemes}
 use Rattle.lola_syntax.specs.Parts.{IsRecognized}
 use Rattle.lola_syntax.specs.Places.{is_enclosed}
 use Rattle.lola_syntax.proofs.Cuts.{around, left_from, missed, reached}

@@ -4,7 +4,7 @@ use Rattle.lola_lexer.specs.declared.token.Token.{Token}
 use Rattle.lola_grammar.specs.Syntax.{Lexeme}
 use Rattle.std.specs.Result.{IfOk}
 use Rattle.lola_value.specs.declared.text.Memory.{Memory}
-use Rattle.lola_parser.specs.Cursor.{lexemes}
+use Rattle.lola_parser_grammar.specs.Cursor.{lexemes}
 use Rattle.lola_syntax.specs.Places.{place_too_deep}
 use Rattle.lola_syntax.proofs.Cuts.{some_there, only_there}
 use Rattle.lola_syntax.proofs.reading.place.Goals as goal

@@ -1,8 +1,8 @@
 use Rattle.std.proofs.Common.{◌≡◌, true, Some, None, get_or, take, drop, sym, ap, ◌∙◌}
 use Rattle.lola_lexer.specs.declared.token.Token.{Token}
 use Rattle.lola_grammar.specs.Marks.{marks_in}
-use Rattle.lola_parser.specs.Cursor.{lexemes}
-use Rattle.lola_parser.specs.Grammar.{all_marks}
+use Rattle.lola_parser_grammar.specs.Cursor.{lexemes}
+use Rattle.lola_parser_grammar.specs.Grammar.{all_marks}
 use Rattle.lola_syntax.specs.Looking.{is_mark_shape}
 use Rattle.lola_syntax.specs.Places.{Cut, is_enclosed, mark_or}
 use Rattle.lola_syntax.proofs.Cuts.{any_default, marks_tell, cut_of, marks_same, other_count, mark_before}

@@ -3,8 +3,8 @@ use Rattle.lola_value.specs.declared.front.Refusal.{Refusal}
 use Rattle.lola_value.specs.declared.front.Code.TheVariants as code
 use Rattle.lola_grammar.specs.Syntax.{Lexeme}
 use Rattle.lola_grammar.specs.Syntax as reading
-use Rattle.lola_parser.specs.Cursor.{lexemes, place_of}
-use Rattle.lola_parser.specs.Whole.{Stopped}
+use Rattle.lola_parser_grammar.specs.Cursor.{lexemes, place_of}
+use Rattle.lola_parser_grammar.specs.Whole.{Stopped}
 use Rattle.lola_syntax.specs.Places.{IsPlacedAt, place_too_deep}
 use Rattle.lola_syntax.proofs.Deep.{deep_parts}
 use Rattle.lola_syntax.proofs.reading.placed.Goals as goal

@@ -1,6 +1,6 @@
 use Rattle.std.proofs.Common.{List, Err, length, subst}
 use Rattle.lola_lexer.specs.declared.token.Token.{Token}
-use Rattle.lola_parser.specs.Cursor.{lexemes}
+use Rattle.lola_parser_grammar.specs.Cursor.{lexemes}
 use Rattle.lola_syntax.specs.Places.{Answers}
 use Rattle.lola_syntax.proofs.Own.{places_exactly}
 use Rattle.lola_syntax.proofs.reading.specification.Goals as goal

@@ -1,5 +1,5 @@
 use Rattle.std.proofs.Common.{ap, ◌∙◌, drop}
-use Rattle.lola_parser.proofs.Steps.{tail_is}
+use Rattle.lola_parser_cursor.proofs.Steps.{tail_is}
 use Rattle.lola_syntax.proofs.cursor.Cursor.advance.Goals as goal
 
 pub returns-then-self : goal.returns-then-self

@@ -1,5 +1,5 @@
 use Rattle.std.proofs.Common.{◌∙◌}
-use Rattle.lola_parser.proofs.Steps.{sees_is}
+use Rattle.lola_parser_cursor.proofs.Steps.{sees_is}
 use Rattle.lola_syntax.proofs.cursor.Cursor.sees.Goals as goal
 
 pub returns-in-Some : goal.returns-in-Some

@@ -2,8 +2,8 @@ use Rattle.std.proofs.Common.{◌≡◌, ◌∙◌, ◌&&◌, sym, ap, true, fal
 use Rattle.std.specs.Str.{bytes_eq}
 use Rattle.lola_lexer.specs.declared.shape.TokenShape.TheVariants as is
 use Rattle.lola_grammar.specs.Syntax.{same_shape}
-use Rattle.lola_parser.specs.Cursor.{text_of}
-use Rattle.lola_parser.proofs.Steps.{sees_word_is}
+use Rattle.lola_parser_grammar.specs.Cursor.{text_of}
+use Rattle.lola_parser_cursor.proofs.Steps.{sees_word_is}
 use Rattle.lola_syntax.proofs.cursor.Cursor.sees_word.Goals as goal
 
 pub returns-then-is_name : goal.returns-then-is_name

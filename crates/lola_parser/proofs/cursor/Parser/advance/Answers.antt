@@ -1,6 +1,0 @@
-use Rattle.std.proofs.Common.{rules, arith}
-use Rattle.lola_parser.proofs.Steps.{tail_is}
-use Rattle.lola_parser.proofs.cursor.Parser.advance.Goals as goal
-
-pub returns-clause-rest : goal.returns-clause-rest
-returns-clause-rest c = first_of (search (rules, tail_is), grind (arith, tail_is))

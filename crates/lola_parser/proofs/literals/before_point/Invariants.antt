@@ -1,6 +1,0 @@
-use Rattle.std.proofs.Common.{◌≡◌, ◌+◌, drop}
-use Rattle.lola_parser.specs.Literals.{before_point}
-use Rattle.lola_parser.proofs.literals.before_point.Given as goal
-
-abbrev pub invariant-loop-at : goal.invariant-loop-at
-invariant-loop-at l = l.at + before_point (drop l.at l.text) ≡ before_point l.text

@@ -1,6 +1,0 @@
-use Rattle.std.proofs.Common.{◌≡◌, ◌++◌, drop, false}
-use Rattle.lola_parser.specs.Literals.{unescaped}
-use Rattle.lola_parser.proofs.literals.unescaped.Given as goal
-
-abbrev pub invariant-loop-byte : goal.invariant-loop-byte
-invariant-loop-byte l = l.text ++ unescaped l.is_escaped (drop l.byte-index l.inner) ≡ unescaped false l.inner

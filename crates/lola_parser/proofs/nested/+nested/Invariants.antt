@@ -1,4 +1,0 @@
-use Rattle.lola_parser.proofs.nested.+nested.Given as goal
-
-abbrev pub decreases-nested : goal.decreases-nested
-decreases-nested l = l.depth

@@ -1,8 +1,0 @@
-use Rattle.std.proofs.Common.{◌≡◌, ◌-◌}
-use Rattle.lola_grammar.specs.Syntax.{read}
-use Rattle.lola_parser.specs.Grammar.{onto, joined, comparison, and_signs, expr_in, other_in}
-use Rattle.lola_parser.proofs.Joins.{signs_on}
-use Rattle.lola_parser.proofs.rules.Rules.further_conjunctions.Given as goal
-
-abbrev pub invariant-loop-turn : goal.invariant-loop-turn
-invariant-loop-turn g l = read (onto l.fn.start (joined and_signs (comparison (expr_in l.self.depth) (other_in l.self.depth)))) l.fn.parser.room l.fn.parser.rest ≡ signs_on and_signs (comparison (expr_in l.self.depth) (other_in l.self.depth)) (l._turn-end - l._turn) l.left l.parser.room l.parser.rest

@@ -1,0 +1,7 @@
+pub mod Starts
+pub mod Marked
+pub mod Steps
+pub mod Values
+pub mod Turns
+pub mod Joins
+pub mod Backwards

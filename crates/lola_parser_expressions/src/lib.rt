@@ -1,0 +1,5 @@
+//! Reads expressions, however deep they are nested.
+#![tactic(auto)]
+
+pub mod nested;
+mod rules;

@@ -1,0 +1,6 @@
+//! Reads pacings: rates, and formulas of inputs.
+#![tactic(auto)]
+
+mod formulas;
+mod nested;
+pub mod pacings;

@@ -1,0 +1,4 @@
+pub mod Fine
+pub mod Depth
+pub mod Levels
+pub mod Ends

@@ -1,0 +1,4 @@
+pub mod Literals
+pub mod Grammar
+pub mod Cursor
+pub mod Whole
