@@ -5,6 +5,7 @@ use Rattle.lola_model.specs.Model.{close_pacing}
 use Rattle.lola_model.specs.declared.pacing.Pacing.{Pacing}
 use Rattle.lola_step.specs.Moments.{IsListedIn, may_be_active_in}
 use Rattle.lola_step.proofs.Asking.{closes_asked, closes_spawned, laid_out}
+use Rattle.lola_step.proofs.Closable.{up_to_stream}
 use Rattle.lola_step.proofs.Conditions.{found_in, none_active, none_without}
 use Rattle.lola_step.proofs.Layouts.{pacings_length}
 use Rattle.lola_step.proofs.Standing.{room_alone}
@@ -75,3 +76,15 @@ returns-in_default-pacing-clause-finds g c =
     found_in c.args.plan.now c.args.moment.now (g.S.StreamStore.remembers c.args.store.now) (g.S.StreamStore.seen c.args.store.now) c.args.number c.args.stream.now
     c.args.closing.now.items c.close_pacing_at-pacing.result.now c.in-Some.clause c.find_asked.result c.find_asked.new.closing.items
     (c.close_pacing_at-pacing.ensures ∙ ap (λ ps. close_pacing (slice_get ps c.args.number)) c.as_slice.ensures) c.in-Some.is c.find_asked.ensures.finds
+
+pub returns-in_default-clause-closable : goal.returns-in_default-clause-closable
+returns-in_default-clause-closable g c = up_to_stream (g.S.StreamStore.seen c.args.store.now) c.args.number 0 c.args.closing.now.items c.requires.closable
+
+pub returns-then-not-may_be_active-clause-closable : goal.returns-then-not-may_be_active-clause-closable
+returns-then-not-may_be_active-clause-closable g c = up_to_stream (g.S.StreamStore.seen c.args.store.now) c.args.number 0 c.args.closing.now.items c.requires.closable
+
+pub find_due-requires-clause-may : goal.find_due-requires-clause-may
+find_due-requires-clause-may g c = sym c.may_be_active.ensures ∙ c.if-not-may_be_active.false
+
+pub find_asked-requires-clause-may : goal.find_asked-requires-clause-may
+find_asked-requires-clause-may g c = sym c.may_be_active.ensures ∙ c.if-not-may_be_active.false

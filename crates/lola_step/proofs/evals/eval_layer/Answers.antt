@@ -1,4 +1,5 @@
-use Rattle.std.proofs.Common.{◌≡◌, ◌∙◌, ◌++◌, ◌+◌, ◌-◌, ◌^◌, ◌<◌, List, ap, arith, drop, length, length-append, subst, sym, take}
+use Rattle.std.proofs.Common.{◌≡◌, ◌∙◌, ◌++◌, ◌+◌, ◌-◌, ◌^◌, ◌<◌, ◌≤◌, ℕ, List, ap, arith, drop, length, length-append, subst, sym, take}
+use Rattle.lola_value.specs.Times.{latest}
 use Rattle.lola_value.specs.declared.value.Outcome.{Outcome}
 use Rattle.lola_model.specs.Content.{Content}
 use Rattle.lola_model.specs.Store.{Layout, Memories, Seen, Stands}
@@ -22,6 +23,16 @@ use Rattle.lola_step.proofs.Results.{behind_is}
 use Rattle.lola_step.proofs.evals.eval_layer.Given.{Over}
 use Rattle.lola_step.proofs.evals.eval_layer.Goals as goal
 use Rattle.lola_step.proofs.evals.eval_layer.Goals.{After-give_shared}
+
+-- a list with more is no shorter
+no_less : {A : Type 0} (a b n m : ℕ) (old new more : List A) → a ≡ n → n ≡ length old → b ≡ m → m ≡ length new → new ≡ old ++ more → a ≤ b
+no_less a b n m old new more p q r s e = omega (arith, p, q, r, s, ap length e, length-append old more)
+
+-- as many outcomes as tasks
+as_many : {A B : Type 0} (given asked tasks : List A) (gives fresh old new : List B) (n m : ℕ) → given ≡ tasks → asked ≡ tasks → gives ≡ fresh → new ≡ old ++ fresh → n ≡ length old → m ≡ length new → m ≡ n + length asked
+    → length given ≡ length gives
+as_many given asked tasks gives fresh old new n m a b d e p q more =
+    omega (arith, ap length a, ap length b, ap length d, ap length e, length-append old fresh, p, q, more)
 
 pub answer_tasks-requires-clause-numbered : goal.answer_tasks-requires-clause-numbered
 answer_tasks-requires-clause-numbered g c κs within =
@@ -197,3 +208,73 @@ pub returns-clause-faultless : goal.returns-clause-faultless
 returns-clause-faultless g c none before_none =
     faultless_more (first g c) (fresh g c) c.answer_tasks.new.results.items (results_is g c) before_none
     (ap has_fault (sym (gives_are g c)) ∙ (sym c.give_shared.ensures.faulty ∙ none))
+
+pub overflow_sub-len : goal.overflow_sub-len
+overflow_sub-len g c =
+    no_less c.len-from.result c.len.result _ _ c.args.tasks.now.items c.gather.new.tasks.items _ c.len-from.ensures c.args.tasks.now.ok.0 c.len.ensures c.gather.new.tasks.ok.0 c.gather.ensures.tasks
+
+pub slice_bounds-answer_tasks-count : goal.slice_bounds-answer_tasks-count
+slice_bounds-answer_tasks-count g c =
+    no_less c.len-from.result (length c.deref.result.now) _ _ c.args.tasks.now.items c.gather.new.tasks.items _ c.len-from.ensures c.args.tasks.now.ok.0 c.deref.ensures.len c.gather.new.tasks.ok.0 c.gather.ensures.tasks
+
+pub slice_bounds-give_shared-count : goal.slice_bounds-give_shared-count
+slice_bounds-give_shared-count g c =
+    no_less c.len-from.result (length c.deref-2.result.now) _ _ c.args.tasks.now.items c.gather.new.tasks.items _ c.len-from.ensures c.args.tasks.now.ok.0 c.deref-2.ensures.len c.gather.new.tasks.ok.0 c.gather.ensures.tasks
+
+pub slice_bounds-give_shared-count-2 : goal.slice_bounds-give_shared-count-2
+slice_bounds-give_shared-count-2 g c =
+    no_less c.len-done.result (length c.deref-3.result.now) _ _ c.args.results.now.items c.answer_tasks.new.results.items _ c.len-done.ensures c.args.results.now.ok.0 c.deref-3.ensures.len c.answer_tasks.new.results.ok.0 c.answer_tasks.ensures.answered.is
+
+pub give_shared-requires-clause-places : goal.give_shared-requires-clause-places
+give_shared-requires-clause-places g c κs within =
+    let tasks = layer_tasks c.args.plan.now c.args.moment.now c.args.marks.now c.seek_layer.new.sought (g.S.StreamStore.seen c.args.store.now) c.args.layer 0 c.args.plan.now.spec.streams in
+    let answered = c.answer_tasks.ensures.answered in
+    let from = c.len-from.ensures ∙ c.args.tasks.now.ok.0 in
+    as_many _ _ tasks _ answered.fresh c.args.results.now.items c.answer_tasks.new.results.items _ _
+    (behind_is c.deref-2.result.now c.args.tasks.now.items tasks c.len-from.result (c.deref-2.ensures.value ∙ c.gather.ensures.tasks) from)
+    (behind_is c.deref.result.now c.args.tasks.now.items tasks c.len-from.result (c.deref.ensures.value ∙ c.gather.ensures.tasks) from)
+    (behind_is c.deref-3.result.now c.args.results.now.items answered.fresh c.len-done.result (c.deref-3.ensures.value ∙ answered.is) (c.len-done.ensures ∙ c.args.results.now.ok.0))
+    answered.is c.args.results.now.ok.0 c.answer_tasks.new.results.ok.0 c.answer_tasks.ensures.more
+
+pub answer_tasks-requires-clause-code : goal.answer_tasks-requires-clause-code
+answer_tasks-requires-clause-code g c κs within = c.requires.code
+
+pub answer_tasks-requires-clause-none : goal.answer_tasks-requires-clause-none
+answer_tasks-requires-clause-none g c κs within = c.requires.none
+
+pub answer_tasks-requires-clause-workers : goal.answer_tasks-requires-clause-workers
+answer_tasks-requires-clause-workers g c κs within =
+    (c.sharers_of-sharers.ensures.0, few c.sharers_of-sharers.result c.args.workers c.sharers_of-sharers.ensures.1 c.requires.workers.1)
+  where
+    few : (a b : ℕ) → a ≤ b → b ≤ 64 → a ≤ 64
+    few a b p q = omega arith
+
+pub answer_tasks-requires-clause-in_time : goal.answer_tasks-requires-clause-in_time
+answer_tasks-requires-clause-in_time g c κs within = subst (λ (t : ℕ). t ≤ latest) (sym c.requires.moment.time_is) c.requires.at.of.in_time
+
+pub answer_tasks-requires-clause-layout : goal.answer_tasks-requires-clause-layout
+answer_tasks-requires-clause-layout g c κs within = c.requires.at.of.layout
+
+pub answer_tasks-requires-clause-running : goal.answer_tasks-requires-clause-running
+answer_tasks-requires-clause-running g c κs within = c.requires.at.running
+
+pub gather-requires-clause-of : goal.gather-requires-clause-of
+gather-requires-clause-of g c = c.requires.at.of
+
+pub gather-requires-clause-places_room : goal.gather-requires-clause-places_room
+gather-requires-clause-places_room g c = c.requires.rooms.places_room
+
+pub gather-requires-clause-spans : goal.gather-requires-clause-spans
+gather-requires-clause-spans g c = c.requires.spans.each
+
+pub gather-requires-clause-tasks_room : goal.gather-requires-clause-tasks_room
+gather-requires-clause-tasks_room g c = c.requires.rooms.tasks_room
+
+pub returns-clause-unsought : goal.returns-clause-unsought
+returns-clause-unsought g c = c.seek_layer.ensures.unsought
+
+pub returns-clause-places : goal.returns-clause-places
+returns-clause-places g c = c.gather.ensures.places
+
+pub returns-clause-capacities : goal.returns-clause-capacities
+returns-clause-capacities g c = (c.gather.ensures.capacity, c.answer_tasks.ensures.capacity)

@@ -37,6 +37,9 @@ seek_stream-requires-clause-turn g c =
     let t = next g (goal.at.seek_stream-requires-clause-turn g c).In-loop-number in
     seek_evals c.args.plan.now c.args.layer n x (has_turn_there c.args.plan.now (turn.Seek c.args.layer) n t.at x t.is c.stream_at-stream.ensures t.passes)
 
+pub bounds-sought-n : goal.bounds-sought-n
+bounds-sought-n g c = omega (arith, (next g (goal.at.bounds-sought-n g c).In-loop-number).below, c.requires.sought, c.loop-number.auto.sought)
+
 pub loop-number-preserved : goal.loop-number-preserved
 loop-number-preserved g c =
     let plan = c.args.plan.now in
