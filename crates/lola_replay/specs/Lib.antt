@@ -4,14 +4,6 @@ pub mod Traces
 pub mod Verdicts
 pub mod Findings
 pub mod SoFar
-pub mod Answers
-pub mod Times
-pub mod Tallies
-pub mod Tries
-pub mod Moments
-pub mod Clauses
-pub mod Scenes
-pub mod Agreements
-pub mod Open
-pub mod SettlingOf
-pub mod Stacks
+pub mod Comparing
+pub mod Underway
+pub mod Showing

@@ -4,17 +4,7 @@
 //! far, and nothing of the engine that runs monitors is used.
 #![tactic(auto)]
 
-pub mod answer;
-pub mod attempt;
-pub mod clauses;
+pub mod compare;
 pub mod finding;
 pub mod law;
-pub mod operators;
-pub mod question;
-pub mod read;
-pub mod scene;
-pub mod settle;
-pub mod step;
-pub mod table;
-pub mod tally;
-pub mod window;
+pub mod lines;

@@ -1,5 +1,0 @@
-use Rattle.std.proofs.Common.{length}
-use Rattle.lola_replay.proofs.clauses.+named_params.Given as goal
-
-abbrev pub decreases-named_params : goal.decreases-named_params
-decreases-named_params l = length l.exprs.now

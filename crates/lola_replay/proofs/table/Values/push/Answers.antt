@@ -1,9 +1,0 @@
-use Rattle.std.proofs.Common.{arith, subst, sym}
-use Rattle.lola_replay.specs.Times.{AreUpTo}
-use Rattle.lola_replay.proofs.TimesLemmas.{up-to-more}
-use Rattle.lola_replay.proofs.table.Values.push.Goals as goal
-
-pub invariant_of-self-else-time-self : goal.invariant_of-self-else-time-self
-invariant_of-self-else-time-self c =
-    λ ordered. subst (AreUpTo c.args.time) (sym c.in_ok-push.ensures.items)
-    (up-to-more c.self.inside.newest c.args.time c.args.value c.self.inside.items.items (c.self.invariant ordered) (omega (arith, c.if-time-self.false)))

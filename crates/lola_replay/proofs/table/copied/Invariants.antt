@@ -1,6 +1,0 @@
--- The fields so far are copied.
-use Rattle.std.proofs.Common.{◌≡◌, take}
-use Rattle.lola_replay.proofs.table.copied.Given as goal
-
-abbrev pub invariant-loop-field : goal.invariant-loop-field
-invariant-loop-field l = l.copy ≡ take l.field-index l.fields

@@ -1,0 +1,7 @@
+pub mod Agreements
+pub mod SettlingOf
+pub mod Stacks
+pub mod Closings
+pub mod StepFaults
+pub mod Rests
+pub mod Dues

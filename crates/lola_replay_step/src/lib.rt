@@ -1,0 +1,11 @@
+//! The questions of a step, each answered on demand over what is known of it.
+#![tactic(auto)]
+
+pub mod clauses;
+pub mod closes;
+pub mod due;
+pub mod fault;
+pub mod law;
+pub mod settle;
+pub mod step;
+pub mod whole;

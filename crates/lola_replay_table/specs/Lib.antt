@@ -1,0 +1,9 @@
+pub mod Answers
+pub mod Times
+pub mod Tallies
+pub mod Tries
+pub mod Moments
+pub mod Clauses
+pub mod Scenes
+pub mod Open
+pub mod Resting
