@@ -3,5 +3,3 @@
 
 pub mod bits;
 mod sums;
-#[cfg(test)]
-mod tests;

@@ -14,7 +14,5 @@
 #![tactic(auto)]
 
 mod board;
-#[cfg(test)]
-mod tests;
 
 pub use board::{Board, Watch};

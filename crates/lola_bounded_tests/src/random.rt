@@ -164,7 +164,7 @@ fn agreed<R: Threads + Sync>(
 fn both_stores_agree(rt: HostRuntime) -> Result<(), Fail> {
     let alloc = rt.alloc();
     for specification in [VALUES, INSTANCES, LOCALS] {
-        for seed in 1..9 {
+        for seed in 1..4 {
             let end = agreed(&rt, alloc, specification, seed)?;
             assert!(rt; end == Some(Ok(())), "{specification}{seed}");
         }
@@ -176,7 +176,7 @@ fn both_stores_agree(rt: HostRuntime) -> Result<(), Fail> {
 fn both_stores_fail_at_the_same_step(rt: HostRuntime) -> Result<(), Fail> {
     let alloc = rt.alloc();
     for specification in [FAULTS, LOCAL_FAULTS] {
-        for seed in 1..9 {
+        for seed in 1..4 {
             let end = agreed(&rt, alloc, specification, seed)?;
             assert!(rt;
                 matches!(end, Some(Err(EngineEnd::Fault { .. }))),

@@ -8,5 +8,3 @@ mod pacing_text;
 pub mod panes;
 pub mod report;
 mod size;
-#[cfg(test)]
-mod tests;

@@ -2,5 +2,3 @@
 #![tactic(auto)]
 
 pub mod buffer;
-#[cfg(test)]
-mod tests;

@@ -2,6 +2,4 @@
 #![tactic(auto)]
 
 pub mod clock;
-#[cfg(test)]
-mod tests;
 mod timers;

@@ -5,6 +5,4 @@ pub mod command;
 pub mod law;
 mod options;
 pub mod said;
-#[cfg(test)]
-mod tests;
 mod words;

@@ -5,6 +5,4 @@ pub mod blanks;
 pub mod laws;
 pub mod line;
 pub mod numbers;
-#[cfg(test)]
-mod tests;
 pub mod values;

@@ -3,8 +3,6 @@
 
 mod drill;
 mod rows;
-#[cfg(test)]
-mod tests;
 mod text;
 
 pub use drill::Drill;

@@ -2,6 +2,4 @@
 #![tactic(auto)]
 
 pub mod desk;
-#[cfg(test)]
-mod tests;
 pub mod worker;

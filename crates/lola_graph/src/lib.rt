@@ -6,5 +6,3 @@ mod lists;
 pub mod nodes;
 pub mod reads;
 mod search;
-#[cfg(test)]
-mod tests;

@@ -2,7 +2,5 @@
 #![tactic(auto)]
 
 pub mod instance;
-#[cfg(test)]
-mod tests;
 mod texts;
 pub mod window;

@@ -8,9 +8,5 @@ pub mod due;
 mod giving;
 pub mod instances;
 mod key;
-#[cfg(test)]
-mod named_tests;
 mod nothing;
 mod slots;
-#[cfg(test)]
-mod tests;

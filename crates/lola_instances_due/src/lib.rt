@@ -4,6 +4,4 @@
 mod due;
 mod listing;
 mod queue;
-#[cfg(test)]
-mod tests;
 pub mod times;

@@ -5,5 +5,3 @@ pub mod event;
 pub mod intake;
 mod object;
 pub mod seats;
-#[cfg(test)]
-mod tests;

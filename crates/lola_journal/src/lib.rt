@@ -5,7 +5,5 @@ mod candidate;
 pub mod law;
 pub mod line;
 mod read;
-#[cfg(test)]
-mod tests;
 
 pub use read::{JournalEnd, journal};

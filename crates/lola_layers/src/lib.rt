@@ -14,9 +14,6 @@ use lola_model::plan::Layers;
 use lola_value::text::Memory;
 use std::alloc::Global;
 
-#[cfg(test)]
-mod tests;
-
 /// Whether one of two holds.
 fn either(a: bool, b: bool) -> bool
     ensures { result ≡ (a || b) }

@@ -5,6 +5,4 @@ pub mod cut;
 pub mod law;
 pub mod scan;
 pub mod shape;
-#[cfg(test)]
-mod tests;
 pub mod token;

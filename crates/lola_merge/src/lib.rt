@@ -5,6 +5,4 @@
 pub mod batch;
 pub mod law;
 pub mod state;
-#[cfg(test)]
-mod tests;
 pub mod world;

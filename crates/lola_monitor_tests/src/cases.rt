@@ -1,23 +1,27 @@
-//! A run of one source over objects in memory, and what it leaves.
-
-ghost use Rattle.std.specs.Prelude.{◌≡◌, ◌^◌, ◌≤◌, length, IfOk};
+//! Runs over objects in memory, and what they leave.
+ghost use Rattle.std.specs.Prelude.{◌≡◌, ◌≤◌, ◌^◌, IfOk, IsTrue, MatchOption, length};
 
 use lola_monitor::run_monitor;
-use lola_port::{IdleGate, MemoryShelf, MemorySink};
+use lola_port::{Gate, IdleGate, MemoryShelf, MemorySink};
 use lola_text::keys::fixed_keys;
 use lola_value::text::Memory;
 use std::alloc::Global;
 use std::sync::Wait;
 use std::thread::Threads;
 
-/// A specification, a source, and what a run of them leaves.
+/// A source: its bytes, how many of them a read gives, and which of its reads fail.
+#[derive(Clone, Copy)]
+pub struct Source<'a> {
+    pub bytes: &'a str,
+    pub piece: u32,
+    pub failing_reads: &'a [u64],
+}
+
+/// A specification, at most three sources, which puts fail, and what a run of them leaves.
 #[derive(Clone, Copy)]
 pub struct Case<'a> {
     pub specification: &'a str,
-    pub source: &'a str,
-    pub piece: u32,
-    pub failing_specification_reads: &'a [u64],
-    pub failing_reads: &'a [u64],
+    pub sources: &'a [Source<'a>],
     pub failing_puts: &'a [u64],
     pub failing_trace_puts: &'a [u64],
     pub status: u8,
@@ -26,14 +30,34 @@ pub struct Case<'a> {
 }
 
 /// The most bytes that a case's texts have.
-const MOST: usize = 1000;
+const MOST: usize = 10_000;
 
-const SUM: &str = "input a: Int64\noutput b: Int64 := a + 1\ntrigger b > 2 \"high\"";
+/// A source whose reads succeed.
+pub const fn readable(bytes: &str) -> Source<'_> {
+    Source {
+        bytes,
+        piece: 64,
+        failing_reads: &[],
+    }
+}
 
-/// The words of a run of the one source.
-pub const RUN: &[&str] = &["lolamon", "run", "spec", "rows"];
+/// Whether a source has a form that a shelf takes.
+fn fits(source: &Source<'_>) -> bool
+    ensures { IsTrue result → (1 ≤ source.now.piece) × (length source.now.bytes.now ≤ 2 ^ 62) }
+{
+    source.piece > 0 && source.bytes.len() <= MOST
+}
 
-pub fn words(alloc: Global, texts: &[&str]) -> Result<Vec<String>, Memory> {
+/// The source of this number, or one that is not asked for.
+fn source_at<'a>(case: &Case<'a>, number: usize) -> Source<'a> {
+    match case.sources.get(number) {
+        Some(source) => *source,
+        None => readable(""),
+    }
+}
+
+/// The words of a command.
+fn words(alloc: Global, texts: &[&str]) -> Result<Vec<String>, Memory> {
     let mut words = Vec::new(alloc);
     for text in texts {
         words.push(String::from_str(alloc, text)?)?;
@@ -41,39 +65,59 @@ pub fn words(alloc: Global, texts: &[&str]) -> Result<Vec<String>, Memory> {
     Ok(words)
 }
 
-pub fn shelf_of(alloc: Global, case: &Case<'_>) -> Result<MemoryShelf, Memory>
-    requires piece { 1 ≤ case.now.piece }
-    requires specification { length case.now.specification.now ≤ 2 ^ 62 }
-    requires source { length case.now.source.now ≤ 2 ^ 62 }
-    ensures { IfOk result (λ shelf. shelf.out ≡ 0) }
+/// A shelf with the specification and the sources of a case; none where one of them has no form that a shelf takes.
+fn shelf_of(alloc: Global, case: &Case<'_>) -> Result<Option<MemoryShelf>, Memory>
+    ensures { IfOk result (λ made. MatchOption made (Unit {0}) (λ shelf. shelf.out ≡ 0)) }
 {
+    let specification = readable(case.specification);
+    let first = source_at(case, 0);
+    let second = source_at(case, 1);
+    let third = source_at(case, 2);
+    if !fits(&specification) || !fits(&first) || !fits(&second) || !fits(&third) {
+        return Ok(None);
+    }
     let mut shelf = MemoryShelf::create(alloc);
+    shelf.add("spec", specification.bytes.as_bytes(), 512, &[])?;
     shelf.add(
-        "spec",
-        case.specification.as_bytes(),
-        512,
-        case.failing_specification_reads,
+        "first",
+        first.bytes.as_bytes(),
+        first.piece,
+        first.failing_reads,
     )?;
     shelf.add(
-        "rows",
-        case.source.as_bytes(),
-        case.piece,
-        case.failing_reads,
+        "second",
+        second.bytes.as_bytes(),
+        second.piece,
+        second.failing_reads,
     )?;
-    Ok(shelf)
+    shelf.add(
+        "third",
+        third.bytes.as_bytes(),
+        third.piece,
+        third.failing_reads,
+    )?;
+    Ok(Some(shelf))
 }
 
-/// Whether a command leaves what the case says.
-pub fn leaves<R: Threads + Wait + Sync>(
+/// What a run leaves.
+#[derive(Drop)]
+pub struct Left {
+    pub status: u8,
+    pub out: MemorySink,
+    pub trace: MemorySink,
+}
+
+/// Runs a command over the objects of a case; none where they have no form that a shelf takes.
+pub fn run<R: Threads + Wait + Sync, G: Gate + Sync>(
     rt: &R,
     alloc: Global,
     texts: &[&str],
     case: &Case<'_>,
-) -> Result<bool, Memory> {
-    if case.piece == 0 || case.specification.len() > MOST || case.source.len() > MOST {
-        return Ok(false);
-    }
-    let mut shelf = shelf_of(alloc, case)?;
+    gate: &G,
+) -> Result<Option<Left>, Memory> {
+    let Some(mut shelf) = shelf_of(alloc, case)? else {
+        return Ok(None);
+    };
     let mut out = MemorySink::create(alloc, case.failing_puts)?;
     let mut trace = MemorySink::create(alloc, case.failing_trace_puts)?;
     let words = words(alloc, texts)?;
@@ -85,36 +129,33 @@ pub fn leaves<R: Threads + Wait + Sync>(
         &mut shelf,
         &mut out,
         &mut trace,
-        &IdleGate,
+        gate,
     );
+    Ok(Some(Left { status, out, trace }))
+}
+
+/// Whether a command leaves what the case says.
+pub fn leaves<R: Threads + Wait + Sync>(
+    rt: &R,
+    alloc: Global,
+    texts: &[&str],
+    case: &Case<'_>,
+) -> Result<bool, Memory> {
+    let Some(left) = run(rt, alloc, texts, case, &IdleGate)? else {
+        return Ok(false);
+    };
     Ok(
-        status == case.status
-            && out.written() == case.out.as_bytes()
-            && trace.written() == case.trace.as_bytes(),
+        left.status == case.status
+            && left.out.written() == case.out.as_bytes()
+            && left.trace.written() == case.trace.as_bytes(),
     )
 }
 
-/// Whether a run leaves what the case says.
-pub fn holds<R: Threads + Wait + Sync>(
-    rt: &R,
-    alloc: Global,
-    case: &Case<'_>,
-) -> Result<bool, Memory> {
-    leaves(rt, alloc, RUN, case)
-}
-
 /// The worked run, to be changed in one part.
-pub fn worked() -> Case<'static>
-    ensures piece { 1 ≤ result.piece }
-    ensures specification { length result.specification.now ≤ 2 ^ 62 }
-    ensures source { length result.source.now ≤ 2 ^ 62 }
-{
+pub fn worked() -> Case<'static> {
     Case {
-        specification: SUM,
-        source: "time,a\n0,1\n1,2\n",
-        piece: 11,
-        failing_specification_reads: &[],
-        failing_reads: &[],
+        specification: "input a: Int64\noutput b: Int64 := a + 1\ntrigger b > 2 \"high\"",
+        sources: &[],
         failing_puts: &[],
         failing_trace_puts: &[],
         status: 0,
@@ -122,6 +163,3 @@ pub fn worked() -> Case<'static>
         trace: "0,1,0.000000000,A,1\n0,2,1.000000000,A,2\n",
     }
 }
-
-/// The words of a run that shows outputs.
-pub const OUTPUTS: &[&str] = &["lolamon", "run", "--show", "outputs", "spec", "rows"];

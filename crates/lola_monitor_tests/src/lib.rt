@@ -1,19 +1,11 @@
-//! Tests of whole commands over objects in memory.
+//! Tests of whole runs over objects in memory that fail at a call, and of gates that hold threads or count.
 #![tactic(auto)]
 
 #[cfg(test)]
 mod cases;
 #[cfg(test)]
-mod commands;
+mod counting;
 #[cfg(test)]
-mod limits;
+mod failing;
 #[cfg(test)]
 mod meeting;
-#[cfg(test)]
-mod realistic;
-#[cfg(test)]
-mod several_sources;
-#[cfg(test)]
-mod sources;
-#[cfg(test)]
-mod streams;

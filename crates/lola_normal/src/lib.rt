@@ -8,5 +8,3 @@ pub mod law;
 mod least;
 pub mod normal;
 mod order;
-#[cfg(test)]
-mod tests;

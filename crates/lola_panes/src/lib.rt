@@ -6,5 +6,3 @@ mod answer;
 pub mod pane;
 pub mod panes;
 mod ring;
-#[cfg(test)]
-mod tests;

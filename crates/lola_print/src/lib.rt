@@ -4,8 +4,6 @@
 mod clauses;
 mod declarations;
 mod expressions;
-#[cfg(test)]
-mod tests;
 mod tokens;
 
 pub use declarations::print;

@@ -8,7 +8,5 @@ mod names;
 mod piece;
 mod row;
 mod spelling;
-#[cfg(test)]
-mod tests;
 pub mod trace;
 pub mod verdict;

@@ -11,8 +11,6 @@ mod reader;
 mod rows;
 mod seek;
 mod stage;
-#[cfg(test)]
-mod tests;
 mod window;
 
 pub use answer::{Ending, RowAnswer};

@@ -2,7 +2,5 @@
 #![tactic(auto)]
 
 mod desk;
-#[cfg(test)]
-mod tests;
 
 pub use desk::SeatDesk;

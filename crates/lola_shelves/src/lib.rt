@@ -3,5 +3,3 @@
 
 pub mod rooms;
 pub mod sources;
-#[cfg(test)]
-mod tests;

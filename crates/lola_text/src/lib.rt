@@ -5,8 +5,6 @@
 pub mod keys;
 mod search;
 mod table;
-#[cfg(test)]
-mod tests;
 mod text_key;
 
 pub use table::TextTable;

@@ -9,6 +9,4 @@ pub mod full;
 pub mod left_out;
 pub mod part;
 mod refused;
-#[cfg(test)]
-mod tests;
 pub mod wholes;

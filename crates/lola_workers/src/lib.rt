@@ -2,7 +2,5 @@
 #![tactic(auto)]
 
 mod layer;
-#[cfg(test)]
-mod tests;
 
 pub use layer::run_layer;

@@ -1,8 +1,0 @@
-use Rattle.std.proofs.Common.{length, ◌+◌, ◌*◌}
-use Rattle.lola_intake.proofs.tests.crowd.+fn-run_all-join+arg3+run_all.Given as goal
-
-abbrev pub decreases-join+arg3 : goal.decreases-join+arg3
-decreases-join+arg3 g l = 2 * length l.crew.seats.items + 1
-
-abbrev pub decreases-run_all : goal.decreases-run_all
-decreases-run_all g l = 2 * length l.crew.seats.items

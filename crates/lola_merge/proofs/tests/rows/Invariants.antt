@@ -1,5 +1,0 @@
-use Rattle.lola_merge.specs.Interleaving.{AreOf}
-use Rattle.lola_merge.proofs.tests.rows.Given as goal
-
-abbrev pub invariant-loop-i : goal.invariant-loop-i
-invariant-loop-i l = AreOf l.source l.rows.items

@@ -1,0 +1,15 @@
+//! Tests of parts of which nothing is claimed, or on which the program does not stand.
+#![tactic(auto)]
+
+#[cfg(test)]
+mod boards;
+#[cfg(test)]
+mod journals;
+#[cfg(test)]
+mod keys;
+#[cfg(test)]
+mod lines;
+#[cfg(test)]
+mod pieces;
+#[cfg(test)]
+mod printing;
