@@ -17,6 +17,7 @@ COMMANDS = [
     "run --workers 64 s --start 1.5 f --in-turns",
     "run --workers=01 s f", "run --start .5 s f", "run --start 7. s f", "run --start 4000000000 s f",
     "run --start 4000000000.0000000009 s f", "run --start=007 s f", "run s" + " f" * 64,
+    f"run --start {'0' * 5000}7 s f", f"run --start 7.{'0' * 5000} s f",
     "analyse s", "analyse -- -s", "analyse -",
 ]
 NO_COMMANDS = {  # with a piece of the reason
@@ -46,6 +47,7 @@ NO_COMMANDS = {  # with a piece of the reason
     "run --start=-1 s f": "the value of --start is a time in seconds",
     "run --start 1e3 s f": "and not '1e3'",
     "run --start . s f": "and not '.'",
+    f"run --start {'9' * 5000} s f": "the value of --start is a time in seconds",
     "run --start 4000000000.000000001 s f": "and not '4000000000.000000001'",
     "analyse": "the name of a specification is missing",
     "analyse s f": "'f' is too much",

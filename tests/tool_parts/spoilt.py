@@ -4,7 +4,7 @@ from __future__ import annotations
 import random
 import re
 import subprocess
-from typing import List, Tuple
+from typing import List, Sequence, Tuple
 
 from sources_parts.program import PROGRAM
 
@@ -24,10 +24,31 @@ def spoilt(dice: random.Random) -> bytes:
     names = names if "time" in names else ["time", *names]
     rows = [",".join(dice.choice(FIELDS[name]) for name in names) for _ in range(dice.randint(0, 12))]
     data = ("\n".join([",".join(names), *rows]) + dice.choice(["\n", "", "\n\n"])).encode()
+    return with_pieces(dice, data, PIECES)
+
+
+def with_pieces(dice: random.Random, data: bytes, pieces: Sequence[bytes]) -> bytes:
+    """Data with a few of its bytes replaced by pieces."""
     for _ in range(dice.choice([0, 0, 1, 1, 2, 5])):
         at = dice.randint(0, len(data))
-        data = data[:at] + dice.choice(PIECES) + data[at + dice.randint(0, 2):]
+        data = data[:at] + dice.choice(pieces) + data[at + dice.randint(0, 2):]
     return data
+
+
+def with_other_lines(dice: random.Random, data: bytes) -> bytes:
+    """Data of which two lines are exchanged, one stands twice or is left out, or the end is cut off."""
+    lines = data.splitlines(keepends=True) or [b""]
+    one, other = dice.randrange(len(lines)), dice.randrange(len(lines))
+    way = dice.randrange(4)
+    if way == 0:
+        lines[one], lines[other] = lines[other], lines[one]
+    elif way == 1:
+        lines.insert(one, lines[other])
+    elif way == 2:
+        del lines[one]
+    else:
+        return data[:dice.randint(0, len(data))]
+    return b"".join(lines)
 
 
 def came(names: List[str], options: List[str], specification: str = "s.lola") -> Tuple[str, int, int]:

@@ -4,9 +4,11 @@ from __future__ import annotations
 import argparse
 import os
 import sys
+from itertools import takewhile
 from typing import Callable, List, NoReturn
 
 from answers.lines import Unfit, reason
+from explaining.places import shown_name
 from explaining.program import NoProgram
 
 UNFIT = 1
@@ -29,19 +31,28 @@ class Words(argparse.ArgumentParser):
             sys.exit(0)
         return self.parse_args(arguments)
 
+    def parse_known_args(self, args=None, namespace=None):  # type: ignore[no-untyped-def,override]
+        """As in argparse, which would take `--option=--` for an option whose value is no text but an empty list."""
+        for word in list(takewhile(lambda word: word != "--", args or [])):
+            if word.startswith("--") and word.endswith("=--"):
+                self.error(f"argument {word[:-3]}: expected one argument")
+        return super().parse_known_args(args, namespace)
+
     def error(self, message: str) -> NoReturn:
         say(self.prog, f"{message}; --help tells the words")
         sys.exit(USAGE)
 
 
-def say(tool: str, text: str) -> None:
-    print(f"{tool}: {text}", file=sys.stderr, flush=True)
+def say(tool: str, text: str, *below: str) -> None:
+    """Tells a person a line, and perhaps some below it. What a terminal would obey is written as an escape."""
+    print(*map(shown_name, (f"{tool}: {text}", *below)), sep="\n", file=sys.stderr, flush=True)
 
 
 def write(text: str) -> None:
-    """Writes to standard output at once."""
-    sys.stdout.buffer.write(text.encode())
-    sys.stdout.buffer.flush()
+    """Writes to standard output at once, unless that is closed. What of a file's name is no text is written as an escape."""
+    if sys.stdout is not None:
+        sys.stdout.buffer.write(text.encode("utf-8", "backslashreplace"))
+        sys.stdout.buffer.flush()
 
 
 def abandon_output() -> None:

@@ -7,6 +7,8 @@ import sys
 import time
 from typing import BinaryIO, Iterator, List
 
+from explaining.places import shown_name
+
 BLOCK = 1 << 18
 LONGEST_LINE = 1 << 22  # more than any line of a run may have
 STANDARD_INPUT = ("-", "/dev/stdin")
@@ -32,7 +34,7 @@ class Progress:
         self.lines += lines
         now = time.monotonic()
         if now >= self.next:
-            print(f"{self.tool}: {self.doing}: {self.lines:,} lines so far", file=sys.stderr, flush=True)
+            print(f"{self.tool}: {shown_name(self.doing)}: {self.lines:,} lines so far", file=sys.stderr, flush=True)
             self.wait = min(self.wait * 2, LAST_WORD)
             self.next = now + self.wait
 

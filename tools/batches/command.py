@@ -1,17 +1,17 @@
 """What the tools for batches have in common: how they read their words, and how they end."""
 from __future__ import annotations
 
-import argparse
 import os
 import signal
 import sys
 from typing import Callable, List, NoReturn
 
-from answers.command import say
-from explaining.places import shown_name
+from answers import command
+from answers.command import NO_PROGRAM, USAGE, WRITE_FAILED, abandon_output, say
+from answers.lines import reason
 from explaining.program import NoProgram
 
-USAGE, REFUSED, NOT_WELL, NO_PROGRAM, INTERRUPTED = 2, 3, 4, 70, 130
+REFUSED, NOT_WELL, INTERRUPTED = 3, 4, 130
 
 
 class WrongWords(Exception):
@@ -22,11 +22,11 @@ class Refused(Exception):
     """The specification is refused."""
 
 
-class Words(argparse.ArgumentParser):
+class Words(command.Words):
     """Reads a tool's words."""
 
     def __init__(self) -> None:
-        super().__init__(add_help=False, allow_abbrev=False)
+        super().__init__("", "")
 
     def error(self, message: str) -> NoReturn:
         raise WrongWords(message)
@@ -39,26 +39,42 @@ def main_of(tool: str, manual: str, answer: Callable[[List[str]], int], words: L
         return 0
     try:
         return answer(words)
-    except WrongWords as reason:
-        say(tool, f"{shown_name(str(reason))}; --help tells more")
+    except WrongWords as why:
+        say(tool, f"{why}; --help tells more")
         return USAGE
-    except Refused as reason:
-        say(tool, f"the specification is not accepted: {reason}")
+    except Refused as why:
+        say(tool, f"the specification is not accepted: {why}")
         return REFUSED
-    except NoProgram as reason:
-        say(tool, str(reason))
+    except NoProgram as why:
+        say(tool, str(why))
         return NO_PROGRAM
     except OSError as failure:
-        say(tool, f"{shown_name(str(failure.filename or ''))}: {failure.strerror}")
+        if failure.filename is None:  # it is no file that was to be opened
+            raise
+        say(tool, f"{failure.filename}: {failure.strerror}")
         return NOT_WELL
+
+
+def status_of(tool: str, manual: str, answer: Callable[[List[str]], int], words: List[str]) -> int:
+    """The same, behind the last line that the tool writes."""
+    try:
+        status = main_of(tool, manual, answer, words)
+        if sys.stdout is not None:
+            sys.stdout.flush()
+        return status
+    except OSError as failure:
+        abandon_output()
+        say(tool, f"what was to be written cannot be: {reason(failure)}")
+        return WRITE_FAILED
 
 
 def run(tool: str, manual: str, answer: Callable[[List[str]], int], at_interrupt: str = "interrupted") -> NoReturn:
     """Runs a tool, and ends with its status. A reader that has enough ends it."""
     signal.signal(signal.SIGPIPE, signal.SIG_DFL)
-    sys.stdout.reconfigure(encoding="utf-8", errors="backslashreplace")  # type: ignore[union-attr]
+    if sys.stdout is not None:
+        sys.stdout.reconfigure(encoding="utf-8", errors="backslashreplace")  # type: ignore[union-attr]
     try:
-        sys.exit(main_of(tool, manual, answer, sys.argv[1:]))
+        sys.exit(status_of(tool, manual, answer, sys.argv[1:]))
     except KeyboardInterrupt:
         say(tool, at_interrupt)
         os._exit(INTERRUPTED)

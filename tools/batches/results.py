@@ -79,9 +79,16 @@ def read_result(folder: str) -> Optional[Dict[str, Any]]:
         with open(os.path.join(folder, RESULT), encoding="utf-8") as file:
             kept = json.load(file)
         result_of(kept)
+        trigger_names_of(kept)
+        os.fsencode(json.dumps(kept, ensure_ascii=False))  # what is no text and no name of a file cannot be told
         return kept
-    except (OSError, ValueError, KeyError, TypeError, AttributeError, RecursionError):
+    except (OSError, ArithmeticError, ValueError, KeyError, TypeError, AttributeError, RecursionError):
         return None
+
+
+def trigger_names_of(kept: Dict[str, Any]) -> List[str]:
+    """The triggers of the specification that a result came of."""
+    return [str(trigger) for trigger in kept.get("trigger_names") or []]
 
 
 def result_of(kept: Dict[str, Any]) -> Result:

@@ -13,6 +13,7 @@ from typing import Callable, List, NamedTuple, Optional
 
 LONGEST_SPECIFICATION = 2_097_152  # so many bytes are read: more than a specification may have, so E1's line is whole
 LONGEST_LINE = 65_540
+LONGEST_SHOWN = 10_000  # so many bytes before and behind a place are made fit to be shown
 MARK = b"\xef\xbb\xbf"  # the byte order mark
 TAB = 8
 INDENT = "      "
@@ -21,7 +22,7 @@ DOTS = "..."
 
 
 class Place(NamedTuple):
-    """A place in a text: the line and the column of a person, and the line's text before and behind it."""
+    """A place in a text: the line and the column of a person, and the line's text before and behind it, as far as anybody sees it."""
 
     line: int
     column: int
@@ -58,7 +59,7 @@ def is_shown(sign: str) -> bool:
 
 
 def shown_name(name: str) -> str:
-    return shown(os.fsencode(name))
+    return shown(name.encode("utf-8", "surrogateescape"))
 
 
 def place_in(text: bytes, at: int) -> Place:
@@ -70,7 +71,7 @@ def place_in(text: bytes, at: int) -> Place:
     line = text[begin:len(text) if end < 0 else end].rstrip(b"\r")
     before = line[:at - begin]
     column = len(before.decode("utf-8", "replace")) + 1
-    return Place(text.count(b"\n", 0, at) + 1, column, shown(before), shown(line[at - begin:]))
+    return Place(text.count(b"\n", 0, at) + 1, column, shown(before[-LONGEST_SHOWN:]), shown(line[at - begin:][:LONGEST_SHOWN]))
 
 
 def cells(sign: str) -> int:

@@ -17,10 +17,10 @@ from explaining.places import shown_name
 from explaining.outcome import ERRORS, OUTPUT, Outcome
 from explaining.words import Command, NotACommand, asks_for_help, read_command
 
-REFUSED = re.compile(r"= refused (E\d+) \w+ at (\d+)")
-MALFORMED = re.compile(r"= malformed source (\d+) row (\d+) (kind \d+) \w+")
+REFUSED = re.compile(r"= refused (E\d+) \w+ at (\d{1,18})")
+MALFORMED = re.compile(r"= malformed source (\d{1,18}) row (\d{1,18}) (kind \d+) \w+")
 FAULT = re.compile(r"= fault (\w+) (\d+) \w+ at ([\d.]+)")
-UNREADABLE = re.compile(r"= unreadable (?:specification|source (\d+))")
+UNREADABLE = re.compile(r"= unreadable (?:specification|source (\d{1,18}))")
 LATE_ROWS = "docs/formats.md#trace-lines-on-standard-error"
 SEVERAL = "docs/formats.md#several-sources"
 MOST_LATE_SOURCES = 4  # so many sources with late rows are named
@@ -69,7 +69,9 @@ class Manual:
         return path if near.startswith(os.pardir) else near
 
     def meaning(self, code: str) -> List[str]:
-        message = self.messages[code]
+        message = self.messages.get(code)
+        if message is None:
+            return [f"{code[:20]} is nothing that is known here; another version of lolamon may have written it."]
         lines = [f"{code} {message.name}: {message.sentence}", *self.more(message.section)]
         if os.path.exists(self.path("docs/errors.md")):
             heading = f"{code} {message.name}".lower().replace(" ", "-")

@@ -41,7 +41,8 @@ def is_time(word: str) -> bool:
     if not re.fullmatch(r"[0-9]+\.?[0-9]*|\.[0-9]+", word):
         return False
     seconds, _, decimals = word.partition(".")
-    return int(seconds or "0") * 10**9 + int(decimals[:9].ljust(9, "0")) <= MOST_TIME
+    seconds = seconds.lstrip("0")
+    return len(seconds) <= 10 and int(seconds or "0") * 10**9 + int(decimals[:9].ljust(9, "0")) <= MOST_TIME
 
 
 def is_value(option: str, word: str) -> bool:

@@ -1,7 +1,6 @@
 """A finding: a level, a place, a message, and where there is one the line as it is and as it is to be."""
 from __future__ import annotations
 
-import sys
 from typing import List, NamedTuple
 
 from answers.command import write
@@ -54,6 +53,5 @@ def tell(teller: str, findings: List[Finding]) -> int:
     counts = {level: sum(finding.level == level for finding in findings) for level in LEVELS}
     told = [finding.text() for finding in findings]
     told.append(f"{teller}: " + ", ".join(counted(count, level) for level, count in counts.items()))
-    if sys.stdout is not None:
-        write("\n".join(told) + "\n")
+    write("\n".join(told) + "\n")
     return max((STATUSES[finding.level] for finding in findings), default=0)

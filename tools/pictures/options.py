@@ -60,7 +60,7 @@ def write_picture(tool: str, picture: Picture, out: Optional[str]) -> None:
     if out is None:
         write(page(picture, notes))
     elif form_of(out) == "html":
-        with open(out, "w", encoding="utf-8", newline="\n") as file:
+        with open(out, "w", encoding="utf-8", errors="backslashreplace", newline="\n") as file:
             file.write(page(picture, notes))
     else:
         say(tool, f"drawing {out}")

@@ -4,8 +4,8 @@ from __future__ import annotations
 import re
 from typing import List, NamedTuple
 
-STREAM = re.compile(r"stream [0-9]+ (\w+) (\w+) (?:spawn (.+) layer [0-9]+ )?pacing (.+) layer [0-9]+ kept ([0-9]+)")
-WINDOW = re.compile(r"window [0-9]+ in \w+ onto (\w+) over ([0-9]+)\.([0-9]{9}) panes ([0-9]+)")
+STREAM = re.compile(r"stream [0-9]+ (\w+) (\w+) (?:spawn (.+) layer [0-9]+ )?pacing (.+) layer [0-9]+ kept ([0-9]{1,18})")
+WINDOW = re.compile(r"window [0-9]+ in \w+ onto (\w+) over ([0-9]{1,18})\.([0-9]{9}) panes ([0-9]{1,18})")
 
 
 class Stream(NamedTuple):

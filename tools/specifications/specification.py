@@ -5,13 +5,13 @@ import re
 from fractions import Fraction
 from typing import Dict, List, Optional, Set, Tuple
 
-from explaining.places import Place, place_in, read_specification
+from explaining.places import LONGEST_SPECIFICATION, Place, place_in, read_specification
 from explaining.program import analyse
 from sources.values import SECOND
 from specifications.report import streams_of, windows_of
 
-REFUSED = re.compile(r"= refused (E\d+) \w+ at (\d+)")
-RATE = re.compile(r"(\d+)(?:/(\d+))?Hz")
+REFUSED = re.compile(r"= refused (E\d+) \w+ at (\d{1,18})")
+RATE = re.compile(r"(\d{1,40})(?:/(\d{1,40}))?Hz")
 WORD = re.compile(rb'//[^\r\n]*|/\*.*?\*/|"(?:\\.|[^"\\])*"|\w+|\S', re.DOTALL)
 CLOSE = re.compile(rb"close@(?:Global\()?([0-9]+(?:\.[0-9]+)?)([a-zA-Z]+?)\)?when")
 LENGTHS = {b"ns": Fraction(1, SECOND), b"us": Fraction(1, 10**6), b"ms": Fraction(1, 1000), b"s": Fraction(1), b"min": Fraction(60),
@@ -83,7 +83,7 @@ def read_pipe(name: str) -> Optional[bytes]:
     """The text of a specification that is no file and cannot be read twice."""
     try:
         with open(name, "rb") as file:
-            return file.read()
+            return file.read(LONGEST_SPECIFICATION)
     except OSError:
         return None
 
