@@ -42,6 +42,7 @@ use lola_model::store::{StreamStore, Whereabouts};
 use lola_port::Gate;
 use lola_value::brief::Brief;
 use lola_value::value::{Outcome, Params};
+use lola_workers::Share;
 use std::thread::Threads;
 
 /// Whether a spawn clause did not fail.
@@ -317,7 +318,7 @@ fn gather_stream<S: StreamStore>(
 }
 
 /// Lists the tasks of a layer behind those of the layers before: for each stream that runs in it, by the streams' numbers, one for each
-/// instance that is asked in order of birth. Those that have a turn in it are told.
+/// instance that is asked in order of birth. Those that have a turn in it are told, and the rate that was asked about last in the step.
 fn gather<S: StreamStore>(
     plan: &Plan,
     turns: &[u32],
@@ -329,21 +330,23 @@ fn gather<S: StreamStore>(
     places: &mut Vec<u32>,
     tasks: &mut Vec<Task>,
     spans: &mut [Span],
+    last: &mut LastRate,
 )
     requires turns { turns.now ≡ turns_of plan.now (turn.Eval layer) }
     requires accepted { IsAccepted plan.now }
     requires of { IsOf plan.now (S.seen store.now) }
     requires moment { IsMomentOf moment.now (S.seen store.now) }
+    requires known { IsKnownAt moment.now last.old }
     requires marks { length marks.now ≡ length plan.now.spec.streams }
     requires spans { length spans.old ≡ length plan.now.spec.streams }
     requires places_room { total (rooms (S.seen store.now)) ≤ vec_capacity places.old }
     requires tasks_room { vec_len tasks.old + to_come plan.now.layers (eval_stage (length plan.now.spec.streams) layer) 0 plan.now.spec.streams (rooms (S.seen store.now)) ≤ vec_capacity tasks.old }
+    ensures known { IsKnownAt moment.now last.new }
     ensures tasks { tasks.new.items ≡ tasks.old.items ++ layer_tasks plan.now moment.now marks.now sought.now (S.seen store.now) layer 0 plan.now.spec.streams }
     ensures spans { spans.new ≡ layer_spans plan.now moment.now marks.now sought.now (S.seen store.now) layer (length tasks.old.items) 0 plan.now.spec.streams spans.old }
     ensures places { vec_capacity places.new ≡ vec_capacity places.old }
     ensures capacity { vec_capacity tasks.new ≡ vec_capacity tasks.old }
 {
-    let mut last = LastRate::none();
     for number in turns {
         let n = *number as usize;
         gather_stream(
@@ -358,7 +361,7 @@ fn gather<S: StreamStore>(
             places,
             tasks,
             spans,
-            &mut last,
+            last,
         );
     }
 }
@@ -394,6 +397,7 @@ fn share_tasks<R: Threads + Sync, S: StreamStore + Sync, G: Gate + Sync>(
     moment: &Moment,
     store: &S,
     tasks: &[Task],
+    shares: &mut [Share],
     results: &mut [Brief],
     from: usize,
     workers: u32,
@@ -410,7 +414,9 @@ fn share_tasks<R: Threads + Sync, S: StreamStore + Sync, G: Gate + Sync>(
     ensures results { AreResults plan.now moment.now (S.remembers store.now) (S.seen store.now) tasks.now (drop from results.new) }
 {
     let (_, places) = results.split_at_mut(from);
-    run_tasks(rt, gate, plan, code, moment, store, tasks, places, workers);
+    run_tasks(
+        rt, gate, plan, code, moment, store, tasks, shares, places, workers,
+    );
 }
 
 /// Places for so many outcomes behind those that stand there.
@@ -434,6 +440,7 @@ fn answer_shared<R: Threads + Sync, S: StreamStore + Sync, G: Gate + Sync>(
     moment: &Moment,
     store: &S,
     tasks: &[Task],
+    shares: &mut [Share],
     results: &mut Vec<Brief>,
     workers: u32,
 )
@@ -459,6 +466,7 @@ fn answer_shared<R: Threads + Sync, S: StreamStore + Sync, G: Gate + Sync>(
         moment,
         store,
         tasks,
+        shares,
         results.as_mut_slice(),
         from,
         workers,
@@ -506,6 +514,7 @@ fn answer_tasks<R: Threads + Sync, S: StreamStore + Sync, G: Gate + Sync>(
     none: &Params,
     store: &S,
     tasks: &[Task],
+    shares: &mut [Share],
     results: &mut Vec<Brief>,
     workers: u32,
 )
@@ -525,7 +534,9 @@ fn answer_tasks<R: Threads + Sync, S: StreamStore + Sync, G: Gate + Sync>(
     if workers == 1 {
         answer_in_turn(gate, plan, code, moment, none, store, tasks, results);
     } else {
-        answer_shared(rt, gate, plan, code, moment, store, tasks, results, workers);
+        answer_shared(
+            rt, gate, plan, code, moment, store, tasks, shares, results, workers,
+        );
     }
 }
 
@@ -546,9 +557,11 @@ pub(crate) fn eval_layer<R: Threads + Sync, S: StreamStore + Sync, G: Gate + Syn
     marks: &[Mark],
     places: &mut Vec<u32>,
     tasks: &mut Vec<Task>,
+    shares: &mut [Share],
     results: &mut Vec<Brief>,
     spans: &mut [Span],
     sought: &mut [Whereabouts],
+    last: &mut LastRate,
     workers: u32,
     is_first: bool,
 ) -> bool
@@ -560,11 +573,13 @@ pub(crate) fn eval_layer<R: Threads + Sync, S: StreamStore + Sync, G: Gate + Syn
     requires accepted { IsAccepted plan.now }
     requires at { IsAt plan.now (eval_stage (length plan.now.spec.streams) layer) (S.seen store.old) }
     requires moment { IsMomentOf moment.now (S.seen store.old) }
+    requires known { IsKnownAt moment.now last.old }
     requires marks { length marks.now ≡ length plan.now.spec.streams }
     requires rooms { HasRooms plan.now (eval_stage (length plan.now.spec.streams) layer) (S.seen store.old) places.old tasks.old results.old }
     requires sought { length sought.old ≡ length plan.now.spec.streams }
     requires unsought { AreUnsought plan.now sought.old }
     requires spans { IsReadyFor plan.now (eval_stage (length plan.now.spec.streams) layer) (S.seen store.old) tasks.old.items results.old.items spans.old }
+    ensures known { IsKnownAt moment.now last.new }
     ensures at { IsAt plan.now (layer_stage (length plan.now.spec.streams) (layer + 1)) (S.seen store.new) }
     ensures goes_on { GoesOn (S.seen store.old) (S.seen store.new) }
     ensures rooms { HasRooms plan.now (layer_stage (length plan.now.spec.streams) (layer + 1)) (S.seen store.new) places.new tasks.new results.new }
@@ -580,7 +595,7 @@ pub(crate) fn eval_layer<R: Threads + Sync, S: StreamStore + Sync, G: Gate + Syn
     let done = results.len();
     seek_layer(plan, seeks, moment, store, layer, marks, sought);
     gather(
-        plan, turns, moment, store, layer, marks, sought, places, tasks, spans,
+        plan, turns, moment, store, layer, marks, sought, places, tasks, spans, last,
     );
     let sharers = sharers_of(workers, tasks.len() - from, is_first);
     answer_tasks(
@@ -592,6 +607,7 @@ pub(crate) fn eval_layer<R: Threads + Sync, S: StreamStore + Sync, G: Gate + Syn
         none,
         store,
         &tasks[from..],
+        shares,
         results,
         sharers,
     );

@@ -67,7 +67,7 @@ fn is_deadline(rate: &Rate, after: u64) -> bool
     }
 }
 
-/// The rate that was asked about last at a moment, and whether the moment is one of its deadlines: the streams of a layer mostly have one
+/// The rate that was asked about last at a moment, and whether the moment is one of its deadlines: the streams of a step mostly have one
 /// rate, and then it is reckoned once.
 #[derive(Clone, Copy, Debug)]
 pub(crate) struct LastRate {

@@ -19,7 +19,11 @@ use lola_model::plan::Plan;
 use lola_model::store::{StreamStore, Whereabouts};
 use lola_value::brief::Brief;
 use lola_value::text::Memory;
+use lola_workers::Share;
 use std::alloc::Global;
+
+// No more workers are taken.
+const MOST_WORKERS: usize = 64;
 
 /// Where the outcomes of a stream's instances stand among the results, and the instances among the tasks.
 #[derive(Clone, Copy, Debug)]
@@ -39,6 +43,8 @@ pub struct Scratch {
     pub(crate) places: Vec<u32>,
     pub(crate) tasks: Vec<Task>,
     pub(crate) results: Vec<Brief>,
+    // what each worker does of a layer
+    pub(crate) shares: Vec<Share>,
     pub(crate) closing: Vec<Task>,
     pub(crate) verdicts: Vec<Verdict>,
     pub(crate) layers: u64,
@@ -94,6 +100,15 @@ fn instances_in_step<S: StreamStore>(plan: &Plan, births: &[u32], store: &S) -> 
     }
 }
 
+// A share for each worker that there may be.
+fn empty_shares(alloc: Global) -> Result<Vec<Share>, Memory> {
+    let mut shares = Vec::with_capacity(alloc, MOST_WORKERS)?;
+    for _ in 0..MOST_WORKERS {
+        shares.push(Share::empty(alloc))?;
+    }
+    Ok(shares)
+}
+
 impl Scratch {
     /// Nothing noted yet, for a plan, with all the room that its steps need where no stream has a spawn clause.
     #[tactic(auto, using(crate::proofs::Seeking::all_unsought))]
@@ -115,6 +130,7 @@ impl Scratch {
             places: Vec::with_capacity(alloc, room)?,
             tasks: Vec::with_capacity(alloc, room)?,
             results: Vec::with_capacity(alloc, room)?,
+            shares: empty_shares(alloc)?,
             closing: Vec::with_capacity(alloc, room)?,
             verdicts: Vec::with_capacity(alloc, room)?,
             layers,

@@ -27,7 +27,7 @@ use crate::end::StepEnd;
 use crate::ends::{collect, fault_of_step};
 use crate::evals::eval_layer;
 use crate::inputs::tell_inputs;
-use crate::moment::{Moment, present_inputs};
+use crate::moment::{LastRate, Moment, present_inputs};
 use crate::scratch::{Scratch, make_room};
 use crate::spawns::spawn_layer;
 use crate::tasks::no_parameters;
@@ -94,6 +94,7 @@ fn evaluate<R: Threads + Sync, S: StreamStore + Sync, G: Gate + Sync>(
     ensures evaluates { EvaluatesAll plan.now moment.now (S.remembers store.old) (S.seen store.old) (S.remembers store.new) (S.seen store.new) scratch.new }
 {
     let mut faulty = false;
+    let mut last = LastRate::none();
     for layer in 0..scratch.layers {
         let failed = spawn_layer(
             plan,
@@ -117,9 +118,11 @@ fn evaluate<R: Threads + Sync, S: StreamStore + Sync, G: Gate + Sync>(
             &scratch.marks,
             &mut scratch.places,
             &mut scratch.tasks,
+            &mut scratch.shares,
             &mut scratch.results,
             &mut scratch.spans,
             &mut scratch.sought,
+            &mut last,
             workers,
             scratch.is_first,
         );

@@ -25,7 +25,7 @@ use lola_model::store::StreamStore;
 use lola_port::Gate;
 use lola_value::brief::Brief;
 use lola_value::value::Params;
-use lola_workers::run_layer;
+use lola_workers::{Share, run_layer};
 use std::thread::Threads;
 
 /// An instance to evaluate: its stream, and its place among the stream's instances.
@@ -160,8 +160,8 @@ fn active_outcome<S: StreamStore>(
     }
 }
 
-/// Evaluates each task, split among so many threads, and leaves the outcome of task `i` in `results[i]`. Of each task the gate
-/// hears before it is done.
+/// Evaluates each task, shared out among so many workers, as far as each has a share, and leaves the outcome of task `i` in `results[i]`. Of
+/// each task the gate hears before it is done.
 pub(crate) fn run_tasks<R: Threads + Sync, S: StreamStore + Sync, G: Gate + Sync>(
     rt: &R,
     gate: &G,
@@ -170,6 +170,7 @@ pub(crate) fn run_tasks<R: Threads + Sync, S: StreamStore + Sync, G: Gate + Sync
     moment: &Moment,
     store: &S,
     tasks: &[Task],
+    shares: &mut [Share],
     results: &mut [Brief],
     workers: u32,
 )
@@ -191,5 +192,6 @@ pub(crate) fn run_tasks<R: Threads + Sync, S: StreamStore + Sync, G: Gate + Sync
         store,
         tasks,
     };
-    run_layer(rt, gate, &job, results, workers);
+    let count = shares.len().min(workers as usize);
+    run_layer(rt, gate, &job, &mut shares[..count], results);
 }

@@ -2,5 +2,7 @@
 #![tactic(auto)]
 
 mod layer;
+mod share;
 
 pub use layer::run_layer;
+pub use share::Share;

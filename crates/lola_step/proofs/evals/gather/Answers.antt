@@ -21,7 +21,7 @@ loop-number-init g c =
           c.args.tasks.now.items c.args.spans.now c.args.tasks.now.items c.args.spans.now)
           c.args.turns.now c.requires.turns
           (gathered_first plan c.args.moment.now c.args.marks.now c.args.sought.now (g.S.StreamStore.seen c.args.store.now) c.args.layer c.args.tasks.now.items c.args.spans.now);
-      known = c.none-last.ensures c.args.moment.now;
+      known = c.requires.known;
       places_room = refl;
       tasks_room = refl;
     }
@@ -105,6 +105,7 @@ returns g c =
     let all = gathered_end plan m marks sought seen c.args.layer c.args.tasks.now.items c.args.spans.now c.loop-number.tasks.items c.loop-number.spans
     (c.loop-number.auto.spans ∙ c.requires.spans) c.args.turns.now c.loop-number.number-index c.loop-number.invariant.walk (omega arith) in
     record {
+      known = c.loop-number.invariant.known;
       tasks = all.tasks;
       spans = all.noted;
       places = c.loop-number.invariant.places_room;

@@ -20,6 +20,7 @@ loop-layer-init g c = record {
       c.requires.at c.requires.made.marks c.requires.fresh.marks c.requires.made.spans c.requires.fresh.spans
       c.requires.fresh.tasks c.requires.fresh.results c.requires.fresh.places_room c.requires.fresh.tasks_room c.requires.fresh.results_room;
   faultless = λ none. (fine_first c.args.scratch.now.marks.items c.requires.fresh.marks, ap has_fault c.requires.fresh.results);
+  known = c.none-last.ensures c.args.moment.now;
   marks = refl;
   sought = refl;
   unsought = c.requires.made.unsought;
@@ -37,17 +38,17 @@ pub eval_layer-given-requires-clause-spans : goal.eval_layer-given-requires-clau
 eval_layer-given-requires-clause-spans g c κs within =
     subst
     (λ ps. IsReadyFor c.args.plan.now (eval_stage (length c.args.plan.now.spec.streams) c.loop-layer.layer) (g.S.StreamStore.seen c.spawn_layer-failed.new.store) c.loop-layer.scratch.tasks.items c.loop-layer.scratch.results.items ps)
-    (sym c.deref_mut-in-loop-layer.ensures.value)
+    (sym c.deref_mut-in-loop-layer-2.ensures.value)
     (spans_then c.args.plan.now c.loop-layer.layer (g.S.StreamStore.seen c.loop-layer.store) (g.S.StreamStore.seen c.spawn_layer-failed.new.store)
     c.loop-layer.scratch.tasks.items c.loop-layer.scratch.results.items c.loop-layer.scratch.spans.items c.spawn_layer-failed.ensures.goes_on c.loop-layer.invariant.so_far.ready)
 
 pub eval_layer-given-requires-clause-sought : goal.eval_layer-given-requires-clause-sought
 eval_layer-given-requires-clause-sought g c κs within =
-    ap length c.deref_mut-in-loop-layer-2.ensures.value ∙ (c.loop-layer.invariant.sought ∙ c.requires.made.sought)
+    ap length c.deref_mut-in-loop-layer-3.ensures.value ∙ (c.loop-layer.invariant.sought ∙ c.requires.made.sought)
 
 pub eval_layer-given-requires-clause-unsought : goal.eval_layer-given-requires-clause-unsought
 eval_layer-given-requires-clause-unsought g c κs within =
-    subst (AreUnsought c.args.plan.now) (sym c.deref_mut-in-loop-layer-2.ensures.value) c.loop-layer.invariant.unsought
+    subst (AreUnsought c.args.plan.now) (sym c.deref_mut-in-loop-layer-3.ensures.value) c.loop-layer.invariant.unsought
 
 pub spawns_in-requires : goal.spawns_in-requires
 spawns_in-requires g c =
@@ -84,12 +85,12 @@ loop-layer-preserved g c =
     let seen = g.S.StreamStore.seen in
     let remembers = g.S.StreamStore.remembers in
     let length_marks : length c.spawn_layer-failed.new.marks ≡ now.marks.len = c.spawn_layer-failed.auto.marks ∙ c.deref_mut.ensures.len in
-    let length_spans : length c.eval_layer-given.new.spans ≡ now.spans.len = c.eval_layer-given.auto.spans ∙ c.deref_mut-in-loop-layer.ensures.len in
+    let length_spans : length c.eval_layer-given.new.spans ≡ now.spans.len = c.eval_layer-given.auto.spans ∙ c.deref_mut-in-loop-layer-2.ensures.len in
     let marks_back : take now.marks.len (c.spawn_layer-failed.new.marks ++ drop (length c.spawn_layer-failed.new.marks) now.marks.items) ≡ c.spawn_layer-failed.new.marks =
     take_at c.spawn_layer-failed.new.marks (drop (length c.spawn_layer-failed.new.marks) now.marks.items) now.marks.len length_marks in
     let spans_back : take now.spans.len (c.eval_layer-given.new.spans ++ drop (length c.eval_layer-given.new.spans) now.spans.items) ≡ c.eval_layer-given.new.spans =
     take_at c.eval_layer-given.new.spans (drop (length c.eval_layer-given.new.spans) now.spans.items) now.spans.len length_spans in
-    let length_sought : length c.eval_layer-given.new.sought ≡ now.sought.len = c.eval_layer-given.auto.sought ∙ c.deref_mut-in-loop-layer-2.ensures.len in
+    let length_sought : length c.eval_layer-given.new.sought ≡ now.sought.len = c.eval_layer-given.auto.sought ∙ c.deref_mut-in-loop-layer-3.ensures.len in
     let sought_back : take now.sought.len (c.eval_layer-given.new.sought ++ drop (length c.eval_layer-given.new.sought) now.sought.items) ≡ c.eval_layer-given.new.sought =
     take_at c.eval_layer-given.new.sought (drop (length c.eval_layer-given.new.sought) now.sought.items) now.sought.len length_sought in
     let lent : c.deref.result.now ≡ c.spawn_layer-failed.new.marks = c.deref.ensures.value ∙ marks_back in
@@ -103,14 +104,14 @@ loop-layer-preserved g c =
           (subst (λ ps. at c.spawn_layer-failed.new.marks ps) (sym spans_back)
           (next_layer plan m c.loop-layer.layer (remembers c.args.store.now) (seen c.args.store.now)
           (remembers c.loop-layer.store) (seen c.loop-layer.store) (remembers c.spawn_layer-failed.new.store) (seen c.spawn_layer-failed.new.store) (remembers c.eval_layer-given.new.store) (seen c.eval_layer-given.new.store)
-          c.deref_mut.result.now c.spawn_layer-failed.new.marks c.deref_mut-in-loop-layer.result.now c.eval_layer-given.new.spans now.places c.eval_layer-given.new.places now.tasks c.eval_layer-given.new.tasks now.results c.eval_layer-given.new.results
-          (subst (λ ms. before ms c.deref_mut-in-loop-layer.result.now) (sym c.deref_mut.ensures.value)
-          (subst (λ ps. before now.marks.items ps) (sym c.deref_mut-in-loop-layer.ensures.value) c.loop-layer.invariant.so_far))
+          c.deref_mut.result.now c.spawn_layer-failed.new.marks c.deref_mut-in-loop-layer-2.result.now c.eval_layer-given.new.spans now.places c.eval_layer-given.new.places now.tasks c.eval_layer-given.new.tasks now.results c.eval_layer-given.new.results
+          (subst (λ ms. before ms c.deref_mut-in-loop-layer-2.result.now) (sym c.deref_mut.ensures.value)
+          (subst (λ ps. before now.marks.items ps) (sym c.deref_mut-in-loop-layer-2.ensures.value) c.loop-layer.invariant.so_far))
           c.spawn_layer-failed.ensures.goes_on c.spawn_layer-failed.ensures.takes c.spawn_layer-failed.ensures.marked
           c.eval_layer-given.ensures.at c.eval_layer-given.ensures.goes_on c.eval_layer-given.ensures.rooms c.eval_layer-given.ensures.spans
           (subst (λ ms. EvalsTake plan m c.loop-layer.layer ms (remembers c.spawn_layer-failed.new.store) (seen c.spawn_layer-failed.new.store) (remembers c.eval_layer-given.new.store) (seen c.eval_layer-given.new.store)) lent c.eval_layer-given.ensures.takes)
           (subst
-          (λ ms. ShowsMore plan m c.loop-layer.layer ms (remembers c.spawn_layer-failed.new.store) (seen c.spawn_layer-failed.new.store) c.deref_mut-in-loop-layer.result.now now.tasks.items now.results.items c.eval_layer-given.new.spans c.eval_layer-given.new.tasks.items c.eval_layer-given.new.results.items)
+          (λ ms. ShowsMore plan m c.loop-layer.layer ms (remembers c.spawn_layer-failed.new.store) (seen c.spawn_layer-failed.new.store) c.deref_mut-in-loop-layer-2.result.now now.tasks.items now.results.items c.eval_layer-given.new.spans c.eval_layer-given.new.tasks.items c.eval_layer-given.new.results.items)
           lent c.eval_layer-given.ensures.shows)));
       faultless = λ none.
           let p = neither c.loop-layer.faulty (c.spawn_layer-failed.result || c.eval_layer-given.result) (sym c.one_of-faulty.ensures ∙ none) in
@@ -119,6 +120,7 @@ loop-layer-preserved g c =
             subst NoneFailed (sym marks_back) (c.spawn_layer-failed.ensures.fine q.0 (subst NoneFailed (sym c.deref_mut.ensures.value) before_it.0)),
             c.eval_layer-given.ensures.faultless q.1 before_it.1,
           );
+      known = c.eval_layer-given.ensures.known;
       marks = ap length marks_back ∙ (length_marks ∙ (now.marks.ok.0 ∙ c.loop-layer.invariant.marks));
       sought = ap length sought_back ∙ (length_sought ∙ (now.sought.ok.0 ∙ c.loop-layer.invariant.sought));
       unsought = subst (AreUnsought plan) (sym sought_back) c.eval_layer-given.ensures.unsought;

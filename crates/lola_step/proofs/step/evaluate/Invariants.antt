@@ -1,6 +1,7 @@
 use Rattle.std.proofs.Common.{◌≡◌, false, length}
 use Rattle.std.specs.Vec.{vec_capacity}
 use Rattle.lola_step.specs.Found.{IsFaultless}
+use Rattle.lola_step.specs.Rates.{IsKnownAt}
 use Rattle.lola_step.specs.Sought.{AreUnsought}
 use Rattle.lola_step.proofs.Evaluation.{IsSoFar}
 use Rattle.lola_step.proofs.step.evaluate.Given as goal
@@ -10,6 +11,7 @@ invariant-loop-layer g l = record {
   so_far : IsSoFar l.plan l.moment l.layer (g.S.StreamStore.remembers l.initial.store) (g.S.StreamStore.seen l.initial.store) (g.S.StreamStore.remembers l.store) (g.S.StreamStore.seen l.store)
       l.scratch.marks.items l.scratch.spans.items l.scratch.places l.scratch.tasks l.scratch.results;
   faultless : l.faulty ≡ false → IsFaultless l.scratch.marks.items l.scratch.results.items;
+  known : IsKnownAt l.moment l.last;
   marks : length l.scratch.marks.items ≡ length l.initial.scratch.marks.items;
   sought : length l.scratch.sought.items ≡ length l.initial.scratch.sought.items;
   unsought : AreUnsought l.plan l.scratch.sought.items;
