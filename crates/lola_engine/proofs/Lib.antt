@@ -14,3 +14,4 @@ pub mod Ranges
 pub mod Opening
 pub mod Sweeping
 pub mod RunsBegun
+pub mod Deadlines

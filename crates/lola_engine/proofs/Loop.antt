@@ -3,6 +3,7 @@ use Rattle.std.proofs.Common.{◌≡◌, refl, ap, sym, subst, ◌∙◌, ℕ, �
 use Rattle.std.proofs.lemmas.Bool.{le-ltb, lt-ltb}
 use Rattle.lola_value.specs.Times.{latest}
 use Rattle.lola_clock.specs.Clock.{ClockState}
+use Rattle.lola_model.specs.Steps.{rates_of}
 use Rattle.lola_model.specs.Faults.{fault_of_last}
 use Rattle.lola_model.specs.Model.{Next, answered, last_row, model}
 use Rattle.lola_model.specs.NextStep.{below_or, next_settled, open_after, rows_taken}
@@ -13,6 +14,7 @@ use Rattle.lola_model.specs.declared.journal.Row.{Row}
 use Rattle.lola_model.specs.declared.plan.Plan.{Plan}
 use Rattle.lola_model.proofs.Growth.{last_row-append}
 use Rattle.lola_step.specs.Steps.{IsStepped}
+use Rattle.lola_engine.specs.Rates.{HaveDeadlinesOf}
 use Rattle.lola_engine.specs.Engines.{AreStarted, IsSound}
 use Rattle.lola_engine.specs.Going.{EndsBy, Goes, GoesBy, HasKept, HasRun, IsBelow, IsOpenAt, IsOpenBehind, RunsBy, Tally, tally_of}
 use Rattle.lola_engine.specs.Rules.{Come, TellsDue, deadlines_below, due_told, opened_at}
@@ -46,7 +48,7 @@ pub sound_clock : (e : Desk) (s : Seen) (k : ClockState) → k.rates ≡ e.clock
 sound_clock e s k rates start h = record {
   accepted = h.accepted;
   workers = h.workers;
-  rates = rates ∙ h.rates;
+  rates = subst (HaveDeadlinesOf (rates_of e.plan.pacings)) (sym rates) h.rates;
   local = h.local;
   of = h.of;
   started = subst (λ o. AreStarted s o) (sym start) h.started;

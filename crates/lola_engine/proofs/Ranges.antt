@@ -7,6 +7,7 @@ use Rattle.lola_value.specs.declared.value.Kind.TheVariants as kind
 use Rattle.lola_value.specs.declared.value.TextId.{TextId}
 use Rattle.lola_value.specs.Times.{latest}
 use Rattle.lola_clock.specs.Clock.{ClockState}
+use Rattle.lola_model.specs.Steps.{rates_of}
 use Rattle.lola_model.specs.Acceptance.{IsAccepted}
 use Rattle.lola_model.specs.Model.{is_input, most_instances}
 use Rattle.lola_model.specs.Store.{Seen, SeenInstance, after_start, instances_of, layout_of, layouts_from, new_seen, newborn_seen, no_params, opened, time_seen}
@@ -18,6 +19,7 @@ use Rattle.lola_model.specs.declared.spec.Stream.{Stream}
 use Rattle.lola_ready.specs.Ready.{HasTexts}
 use Rattle.lola_text.specs.Texts.{IsTable, Texts}
 use Rattle.lola_step.specs.Progress.{IsOf}
+use Rattle.lola_engine.specs.Rates.{HaveDeadlinesOf}
 use Rattle.lola_engine.specs.Engines.{AreStarted, IsEngine, IsSound}
 use Rattle.lola_engine.specs.Going.{HasKept, HasTaken, IsBelow}
 use Rattle.lola_engine.specs.Sweeps.{LetsGo}
@@ -96,7 +98,7 @@ sound_started e s s2 k start le at shows h =
     subst (λ z. IsSound (record e { clock = k }) z) (sym shows) (record {
       accepted = h.accepted;
       workers = h.workers;
-      rates = ap (λ (z : ClockState). z.rates) at ∙ h.rates;
+      rates = subst (HaveDeadlinesOf (rates_of e.plan.pacings)) (sym (ap (λ (z : ClockState). z.rates) at)) h.rates;
       local = h.local;
       of = of_started e.plan s start le h.of;
       started = subst (λ o. AreStarted (after_start s start) o) (sym (ap (λ (z : ClockState). z.start) at)) (refl, refl);

@@ -24,6 +24,7 @@ use Rattle.lola_model.specs.declared.spec.Stream.{Stream}
 use Rattle.lola_model.proofs.Ends.{NotBefore, first_due_not_before}
 use Rattle.lola_model.proofs.Listed.{due_from_start}
 use Rattle.lola_model.proofs.LocalsSpawn.{no_local_rates}
+use Rattle.lola_engine.specs.Rates.{HaveDeadlinesOf}
 use Rattle.lola_engine.specs.Rules.{TellsDue, due_told, opened_at}
 
 -- moments that are times
@@ -178,7 +179,7 @@ module _ (plan : Plan) (known : IsAccepted plan) (s : Seen) (layout : s.layout �
       some_last r [] e = cc
       some_last r (q ∷ rs) e = some_last q rs e
 
-  module _ (clock : ClockState) (start from : ℕ) (rates : clock.rates ≡ rates_of plan.pacings) (at : clock.start ≡ Some start) (passed : clock.passed ≡ max start (from - 1)) (low : start ≤ from) where
+  module _ (clock : ClockState) (start from : ℕ) (rates : HaveDeadlinesOf (rates_of plan.pacings) clock.rates) (at : clock.start ≡ Some start) (passed : clock.passed ≡ max start (from - 1)) (low : start ≤ from) where
     offset : clock.passed - start ≡ from - start - 1
     offset = omega (arith, passed)
 
@@ -186,7 +187,7 @@ module _ (plan : Plan) (known : IsAccepted plan) (s : Seen) (layout : s.layout �
     pub told_open : (local : Bool) → NotBefore from (due_told local clock s from)
     told_open local =
         earlier_open from (first_to_come clock) (if local then due_seen s from else None)
-        (subst (λ o. NotBefore from o) (sym (clock_tells clock start from at offset)) (times_open from _ (first_due_not_before start clock.rates from (subst AreRates (sym rates) known.rates.counted_from_start))))
+        (subst (λ o. NotBefore from o) (sym (clock_tells clock start from at offset)) (times_open from _ (first_due_not_before start clock.rates from (rates.are_rates known.rates.counted_from_start))))
         (go local)
       where
         go : (b : Bool) → NotBefore from (if b then due_seen s from else None)
@@ -205,7 +206,7 @@ module _ (plan : Plan) (known : IsAccepted plan) (s : Seen) (layout : s.layout �
       of_start : first_to_come clock ≡ times (first_due start (rates_of plan.pacings) (open_from (last_row table)))
       of_start =
           clock_tells clock start (open_from (last_row table)) at (offset ∙ same_offset)
-          ∙ ap (λ rs. times (first_due start rs (open_from (last_row table)))) rates
+          ∙ ap (λ o. times (option_map (λ t. start + t) o)) (rates.first (open_from (last_row table) - start - 1))
 
       pub told_due : (limit : ℕ) → limit ≤ latest + 1 → (local : Bool) → local ≡ has_local plan.pacings → below_or (due_told local clock s from) limit None ≡ below_or (due plan table start) limit None
       told_due limit le true is =

@@ -20,6 +20,7 @@ use Rattle.lola_ready.specs.Ready.{HasTexts}
 use Rattle.lola_text.specs.Texts.{IsTable}
 use Rattle.lola_step.specs.Progress.{IsOf, IsRun}
 use Rattle.lola_step.specs.Scratches.{IsScratchOf}
+use Rattle.lola_engine.specs.Rates.{HaveDeadlinesOf}
 use Rattle.lola_engine.specs.declared.engine.Desk.{Desk}
 use Rattle.lola_engine.specs.declared.end.EngineEnd.{EngineEnd}
 use Rattle.lola_engine.specs.declared.end.EngineEnd.TheVariants.{Fault, Memory}
@@ -33,7 +34,7 @@ AreStarted s (Some start) = IsStarted s × (start_seen s ≡ start)
 pub record IsSound (e : Desk) (s : Seen) : Type 0 where
   pub accepted : IsAccepted e.plan
   pub workers : (1 ≤ e.workers) × (e.workers ≤ 64)
-  pub rates : e.clock.rates ≡ rates_of e.plan.pacings
+  pub rates : HaveDeadlinesOf (rates_of e.plan.pacings) e.clock.rates
   pub local : e.local ≡ has_local e.plan.pacings
   pub of : IsOf e.plan s
   pub started : AreStarted s e.clock.start

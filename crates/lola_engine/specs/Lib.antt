@@ -1,3 +1,4 @@
+pub mod Rates
 pub mod Engines
 pub mod Read
 pub mod Shown

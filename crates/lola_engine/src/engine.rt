@@ -1,6 +1,6 @@
 //! The engine: deadlines before a row, the row, and the lines of each step.
 
-ghost use Rattle.std.specs.Prelude.{◌≡◌, ◌+◌, ◌*◌, ◌<◌, ◌≤◌, ◌^◌, ◌++◌, ℕ, List, [], ◌∷◌, length, max, IsTrue, OnOk, IfOk, IfErr, IsSome, Some, None};
+ghost use Rattle.std.specs.Prelude.{◌≡◌, ◌+◌, ◌*◌, ◌<◌, ◌≤◌, ◌^◌, ◌++◌, ℕ, List, [], ◌∷◌, Contains, length, max, true, IsTrue, OnOk, IfOk, IfErr, IsSome, Some, None};
 ghost use Rattle.std.specs.List.{AllZip};
 ghost use Rattle.lola_value.specs.declared.text.Field.{Field};
 ghost use Rattle.lola_value.specs.Naming.{Naming};
@@ -23,6 +23,7 @@ ghost use Rattle.lola_step.specs.Moments.{ReadAs};
 ghost use Rattle.lola_step.specs.Steps.{AreInputs, AreOfInputs, IsStepped, ReadFields};
 ghost use Rattle.lola_engine.specs.Engines.{Accepts, AreStarted, Finishes, IsEngine, IsOptionInTime, IsSound, IsTakeable, StandsFor};
 ghost use Rattle.lola_engine.specs.Going.{Goes, GoesBy, HasKept, HasPassed, HasStayed, HasTaken, IsBelow, IsMade, IsOpenAt, IsOpenBehind, tally_of};
+ghost use Rattle.lola_engine.specs.Rates.{HaveDeadlinesOf};
 ghost use Rattle.lola_engine.specs.Read.{numbered};
 ghost use Rattle.lola_engine.specs.Rules.{TellsDue, deadlines_below, due_told};
 ghost use Rattle.lola_engine.specs.Sweeps.{RenewsTexts, TakesTexts};
@@ -84,19 +85,41 @@ pub struct Engine<S: StreamStore> {
     pub(crate) inputs: Vec<Outcome>,
 }
 
-/// Appends the rate of a pacing, if it has one.
-fn add_rate(pacing: &Option<Pacing>, rates: &mut Vec<Rate>) -> Result<(), Memory>
-    ensures { OnOk result (rates.new.items ≡ rates.old.items ++ rate_of pacing.now) }
+/// Whether a rate is one of these.
+fn has_rate(rates: &[Rate], rate: &Rate) -> bool
+    ensures { result ≡ true → Contains rates.now rate.now }
 {
-    if let Some(Pacing::Periodic(rate)) = pacing {
+    for other in rates {
+        if *other == *rate {
+            return true;
+        }
+    }
+    false
+}
+
+/// Appends a rate that is not there already.
+fn add_missing(rate: &Rate, rates: &mut Vec<Rate>) -> Result<(), Memory>
+    ensures { OnOk result (HaveDeadlinesOf (rates.old.items ++ rate.now ∷ []) rates.new.items) }
+{
+    if !has_rate(rates.as_slice(), rate) {
         rates.push(*rate)?;
     }
     Ok(())
 }
 
-/// The rates of all periodic clauses.
+/// Appends the rate of a pacing, if it has one that is not there already.
+fn add_rate(pacing: &Option<Pacing>, rates: &mut Vec<Rate>) -> Result<(), Memory>
+    ensures { OnOk result (HaveDeadlinesOf (rates.old.items ++ rate_of pacing.now) rates.new.items) }
+{
+    if let Some(Pacing::Periodic(rate)) = pacing {
+        add_missing(rate, rates)?;
+    }
+    Ok(())
+}
+
+/// The rates of all periodic clauses, each once: a clock of these has the deadlines of all.
 fn rates_in(alloc: Global, pacings: &[ClausePacings]) -> Result<Vec<Rate>, Memory>
-    ensures { IfOk result (λ rates. rates.items ≡ rates_of pacings.now) }
+    ensures { IfOk result (λ rates. HaveDeadlinesOf (rates_of pacings.now) rates.items) }
 {
     let mut rates = Vec::new(alloc);
     for clauses in pacings {

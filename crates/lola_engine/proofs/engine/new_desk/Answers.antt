@@ -5,6 +5,7 @@ use Rattle.lola_model.specs.NextStep.{has_local}
 use Rattle.lola_model.specs.Steps.{rates_of}
 use Rattle.lola_model.specs.Store.{layout_of, new_seen}
 use Rattle.lola_engine.specs.Engines.{AreStarted}
+use Rattle.lola_engine.specs.Rates.{HaveDeadlinesOf}
 use Rattle.lola_engine.proofs.Ranges.{of_new}
 use Rattle.lola_engine.proofs.Sweeping.{count_between}
 use Rattle.lola_engine.proofs.engine.new_desk.Goals as goal
@@ -16,7 +17,10 @@ returns c =
       sound = record {
         accepted = c.requires.accepted;
         workers = c.requires.workers;
-        rates = ap (λ (z : ClockState). z.rates) c.in_ok-clock.ensures ∙ (c.as_slice-2.ensures.value ∙ (c.in_ok-rates.ensures ∙ ap rates_of c.as_slice.ensures));
+        rates =
+            subst (HaveDeadlinesOf (rates_of c.args.plan.pacings))
+            (sym (ap (λ (z : ClockState). z.rates) c.in_ok-clock.ensures ∙ c.as_slice-2.ensures.value))
+            (subst (λ ps. HaveDeadlinesOf (rates_of ps) c.in_ok-rates.rates.items) c.as_slice.ensures c.in_ok-rates.ensures);
         local = c.some_of_birth-local.ensures ∙ ap has_local c.as_slice-3.ensures;
         of = of_new c.args.plan;
         started = subst (λ o. AreStarted (new_seen (layout_of c.args.plan)) o) (sym started_is) (refl, refl);
