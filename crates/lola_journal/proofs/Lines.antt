@@ -3,7 +3,7 @@ use Rattle.std.proofs.Common.{◌≡◌, ◌≢◌, ◌<◌, ◌+◌, ℕ, suc, 
 use Rattle.std.specs.Prelude.{nat_lt, Contains}
 use Rattle.std.specs.List.{AllByRecursion, list_any, position, position_or_len}
 use Rattle.std.proofs.lemmas.Bool.{cases_Bool, eqb-true, ltb-false, ltb-true, or_from}
-use Rattle.std.proofs.lemmas.List.{get_or-take, length-take, take_more}
+use Rattle.std.proofs.lemmas.List.{get_or-take, length-append, length-take, take_all, take_more}
 use Rattle.std.proofs.lemmas.List.Sums.{fails_before_first, passes_at_first}
 use Rattle.lola_value.specs.declared.value.Kind.{Kind}
 use Rattle.lola_model.specs.declared.journal.Entry.{Entry}
@@ -12,7 +12,29 @@ use Rattle.lola_model.specs.Trace.{IsTraceable, input_kinds, trace_line, trace_t
 use Rattle.lola_journal.specs.Candidates.{candidate_of}
 use Rattle.lola_journal.specs.Journals.{IsFirstBad, IsLineOf, IsNoLine, Spells, is_lf}
 use Rattle.lola_journal.proofs.Bytes.{absent-from}
+use Rattle.lola_journal.proofs.FieldLines.{content, line-content}
 use Rattle.lola_journal.proofs.ReadBack.{complete, sound}
+
+-- the LF at the end of a line
+
+pub last-byte : (line : List ℕ) (last : ℕ) → last + 1 ≡ length line → get_or line last 0 ≡ 10 → line ≡ take last line ++ (10 ∷ [])
+last-byte line last long is =
+    let lt : last < length line = omega (arith, long) in
+    sym (take_all (last + 1) line (omega (arith, long))) ∙ take_more line last 0 lt ∙ ap (λ (b : ℕ). take last line ++ (b ∷ [])) is
+
+ended-by : (body : List ℕ) → get_or (body ++ (10 ∷ [])) (length body) 0 ≡ 10
+ended-by [] = refl
+ended-by (b ∷ bs) = ended-by bs
+
+pub last-other : (line : List ℕ) (last : ℕ) → last + 1 ≡ length line → get_or line last 0 ≢ 10 → (body : List ℕ) → line ≢ body ++ (10 ∷ [])
+last-other line last long other body is =
+    let whole = ap (λ (l : List ℕ). length l) is in
+    let parts = length-append body (10 ∷ []) in
+    let at : last ≡ length body = omega (arith, long, whole, parts) in
+    other (ap (λ (l : List ℕ). get_or l last 0) is ∙ ap (λ k. get_or (body ++ (10 ∷ [])) k 0) at ∙ ended-by body)
+
+pub no-line : (plan : Plan) (line : List ℕ) → ((body : List ℕ) → line ≢ body ++ (10 ∷ [])) → IsNoLine plan line
+no-line plan line none e is written = none (content e) (sym written ∙ line-content e)
 
 -- one line
 

@@ -6,4 +6,4 @@ pub mod law;
 pub mod line;
 mod read;
 
-pub use read::{JournalEnd, journal};
+pub use read::{JournalEnd, journal, kinds_of};

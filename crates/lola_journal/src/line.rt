@@ -1,6 +1,6 @@
 //! One line of a trace.
 
-ghost use Rattle.std.specs.Prelude.{◌≡◌, ◌↔◌, ◌++◌, ◌∷◌, [], IfOk, IsTrue};
+ghost use Rattle.std.specs.Prelude.{◌≡◌, ◌≢◌, ◌↔◌, ◌++◌, ◌∷◌, [], ℕ, List, IfOk, IsTrue, MatchOption};
 ghost use Rattle.lola_model.specs.declared.plan.Plan.{Plan};
 ghost use Rattle.lola_model.specs.Trace.{input_kinds, trace_line};
 ghost use Rattle.lola_journal.specs.Candidates.{candidate_of};
@@ -78,5 +78,36 @@ pub fn entry_of_line(
         Ok(Some(entry))
     } else {
         Ok(None)
+    }
+}
+
+// A line without its LF, if it ends with one.
+fn body_of(line: &[u8]) -> Option<&[u8]>
+    ensures { MatchOption result ((body : List ℕ) → line.now ≢ body ++ 10 ∷ []) (λ body. line.now ≡ body.now ++ 10 ∷ []) }
+{
+    if line.is_empty() {
+        return None;
+    }
+    let last = line.len() - 1;
+    if line[last] == b'\n' {
+        Some(&line[..last])
+    } else {
+        None
+    }
+}
+
+/// The entry whose line this is, for inputs of these kinds; none where it is the line of no entry that a trace can tell, as is a
+/// line that does not end with LF.
+pub fn entry_of(
+    alloc: Global,
+    kinds: &[Kind],
+    line: &[u8],
+    room: &mut Room,
+) -> Result<Option<Entry>, Memory>
+    ensures { (plan : Plan) → input_kinds plan.spec.streams ≡ kinds.now → IfOk result (ReadsLine plan line.now) }
+{
+    match body_of(line) {
+        Some(body) => entry_of_line(alloc, kinds, line, body, room),
+        None => Ok(None),
     }
 }

@@ -37,8 +37,8 @@ impl From<Memory> for JournalEnd {
     }
 }
 
-// The kinds of the inputs, in order.
-fn kinds_of(alloc: Global, streams: &[Stream]) -> Result<Kinds, Memory>
+/// The kinds of the inputs, in order.
+pub fn kinds_of(alloc: Global, streams: &[Stream]) -> Result<Kinds, Memory>
     ensures { IfOk result (λ kinds. kinds ≡ input_kinds streams.now) }
 {
     let mut kinds = Kinds::create(alloc);
