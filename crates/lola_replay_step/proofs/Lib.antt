@@ -19,3 +19,4 @@ pub mod StepEnds
 pub mod RestLemmas
 pub mod DueLemmas
 pub mod KnownDues
+pub mod DueLate

@@ -361,6 +361,8 @@ module _ (plan : Plan) (acyclic : IsAcyclic plan.spec) (start : ℕ) (step : Ste
   pub answered-step : (closed : List Bool) (fault : Option RowFault) → fault_known plan start step after ≡ fault
       → (fault ≡ None → closed ≡ closed_from plan start step after 0 plan.spec.streams after) → IsAnswered plan start step rows after closed fault
   answered-step closed fault told closes = record {
+    lawful = lawful;
+    born_in = born-more plan start rows step born;
     fault_is = fault-is ∙ told;
     lines_are = λ none show. step-lines (told ∙ none) show;
     rests = λ none.

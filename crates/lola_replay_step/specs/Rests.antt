@@ -3,7 +3,7 @@ use Rattle.std.specs.Prelude.{ℕ, zero, suc, ◌≡◌, ◌<◌, ◌≤◌, ◌
 use Rattle.std.specs.List.{AllByRecursion}
 use Rattle.lola_model.specs.Content.{time_of, values_over}
 use Rattle.lola_model.specs.Faults.{RowFault, or_else, row_fault}
-use Rattle.lola_model.specs.Model.{answered, is_input, last_row, survivors}
+use Rattle.lola_model.specs.Model.{answered, IsRow, is_input, last_row, survivors}
 use Rattle.lola_model.specs.Table.{Step, Instance, TableRow}
 use Rattle.lola_model.specs.Texts.{answer_lines, row_lines}
 use Rattle.lola_model.specs.declared.journal.Show.{Show}
@@ -110,9 +110,11 @@ module _ (plan : Plan) (start : ℕ) (step : Step) where
   Judged known closed (Ok (Some f)) = fault_known known ≡ Some (the_fault f)
   Judged known closed (Err e) = Unit {0}
 
-  -- a step is answered: its row's fault is told; and where it has none, its lines are those of what is known, and what is known goes on
-  -- once the step is behind it
+  -- a step is answered: its row solves the equations, and its fault is told; and where it has none, its lines are those of what is known,
+  -- and what is known goes on once the step is behind it
   pub record IsAnswered (rows : List TableRow) (known : List KnownStream) (closed : List Bool) (fault : Option RowFault) : Type 0 where
+    pub lawful : IsRow plan start rows step (answered plan start rows step)
+    pub born_in : AreBornIn (rows ++ answered plan start rows step ∷ [])
     pub fault_is : row_fault (answered plan start rows step) ≡ fault
     pub lines_are : fault ≡ None → (show : Show) → row_lines show plan.spec.streams (answered plan start rows step) ≡ known_lines show step.time plan.spec.streams known
     pub rests : fault ≡ None → Rests plan (rows ++ answered plan start rows step ∷ []) (rested_all step.time closed known)

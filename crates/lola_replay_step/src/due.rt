@@ -1,8 +1,8 @@
 //! Which deadline comes next, by what is known between steps.
 
-ghost use Rattle.std.specs.Prelude.{◌≡◌, ◌≤◌, ◌+◌, [], ◌∷◌, Some, None, length, slice_get};
+ghost use Rattle.std.specs.Prelude.{◌≡◌, ◌≤◌, ◌+◌, [], ◌∷◌, IfSome, Some, None, length, slice_get};
 ghost use Rattle.lola_value.specs.Times.{up_to_latest};
-ghost use Rattle.lola_model.specs.NextStep.{earlier, is_local, local_rate_of, local_rates};
+ghost use Rattle.lola_model.specs.NextStep.{HasRates, earlier, is_local, local_rate_of, local_rates};
 ghost use Rattle.lola_model.specs.Steps.{rate_of};
 ghost use Rattle.lola_replay_step.specs.Dues.{clauses_due, due_of_known, due_of_lives, due_of_stream, known_due, timely_due};
 
@@ -162,8 +162,10 @@ fn of_streams(plan: &Plan, number: usize, known: &[KnownStream], from: u64) -> O
 /// The first deadline from a moment on: of the rates that count from the start of the run, or of an instance that lives. Times are in
 /// nanoseconds; there is none where it is above the latest time.
 pub fn due(plan: &Plan, start: u64, known: &[KnownStream], from: u64) -> Option<u64>
-    requires { length known.now ≤ 1024 }
-    ensures { result ≡ known_due plan.now from start known.now }
+    requires few { length known.now ≤ 1024 }
+    requires rates { HasRates plan.now.pacings }
+    ensures value { result ≡ known_due plan.now from start known.now }
+    ensures late { IfSome result (λ time. from ≤ time) }
 {
     earlier(
         of_clauses(plan.pacings.as_slice(), start, from),
