@@ -1,11 +1,12 @@
 -- What a comparison of lines tells of a text.
-use Rattle.std.proofs.Common.{◌≡◌, ◌≢◌, ◌∙◌, refl, sym, ap, subst, inl, inr, ℕ, zero, suc, ◌+◌, ◌<◌, ◌≤◌, List, [], ◌∷◌, ◌++◌, Option, Some, None, Bool, true, false, if◌then◌else◌, ◌&&◌, arith, append_assoc, append-nil, drop, length, nat_eq, nat_lt, slice_get, take}
-use Rattle.std.proofs.lemmas.Bool.{and_parts, cases_Bool, lt-ltb}
+use Rattle.std.proofs.Common.{◌≡◌, ◌≢◌, ◌∙◌, refl, sym, ap, subst, ℕ, suc, ◌+◌, ◌<◌, List, [], ◌∷◌, ◌++◌, Option, Some, None, Bool, true, false, if◌then◌else◌, ◌&&◌, arith, append_assoc, append-nil, drop, length, nat_eq, nat_lt, slice_get, take}
+use Rattle.std.specs.Prelude.{◌==◌}
+use Rattle.std.proofs.lemmas.Bool.{and_parts, eqb-true, lt-ltb}
 use Rattle.std.proofs.lemmas.List.{length-append}
 use Rattle.lola_model.proofs.Growing.{slice_get-append}
 use Rattle.lola_model.proofs.Lookups.{bytes_equal-same, bytes_equal-true}
 use Rattle.lola_value.specs.Arithmetic.{bytes_equal}
-use Rattle.lola_replay.specs.Comparing.{Comparison, after_line, after_lines, compared_if, is_first_line, line_long, uncompared}
+use Rattle.lola_replay.specs.Comparing.{Comparison, IsCompared, IsFirstOther, after_line, after_lines, compared_if, is_first_line, line_long, uncompared}
 use Rattle.lola_replay.specs.LinesOf.{in_front, lines_of}
 use Rattle.lola_replay.proofs.RightLines.{seam}
 
@@ -23,19 +24,6 @@ by-lf b bs false more = more
 pub lines-first : (b : ℕ) (bs : List ℕ) → lines_of (b ∷ bs) ≡ take (line_long (b ∷ bs)) (b ∷ bs) ∷ lines_of (drop (line_long (b ∷ bs)) (b ∷ bs))
 lines-first b [] = by-lf b [] (nat_eq b 10) (with-front b [] 0 refl)
 lines-first b (x ∷ xs) = by-lf b (x ∷ xs) (nat_eq b 10) (with-front b (x ∷ xs) (line_long (x ∷ xs)) (ap (in_front b) (lines-first x xs)))
-
--- the first line that is another one
-pub record IsFirstOther (lines shown : List (List ℕ)) (n : ℕ) : Type 0 where
-  pub place : ℕ
-  pub number : n ≡ place + 1
-  pub within : place < length shown
-  pub same : (k : ℕ) → k < place → slice_get lines k ≡ slice_get shown k
-  pub other : slice_get lines place ≢ slice_get shown place
-
--- what is known of a text whose lines were compared with these
-abbrev pub IsCompared : List ℕ → List (List ℕ) → Comparison → Option ℕ → Type 0
-IsCompared text shown c None = (lines_of text ≡ shown ++ lines_of c.rest) × (c.lines ≡ length shown)
-IsCompared text shown c (Some n) = IsFirstOther (lines_of text) shown n
 
 other-more : (lines shown more : List (List ℕ)) (n : ℕ) → IsFirstOther lines shown n → IsFirstOther lines (shown ++ more) n
 other-more lines shown more n is =
@@ -124,3 +112,21 @@ compared-none text = (refl, refl)
 pub after_append : (c : Comparison) (xs ys : List (List ℕ)) → after_lines c (xs ++ ys) ≡ after_lines (after_lines c xs) ys
 after_append c [] ys = refl
 after_append c (x ∷ xs) ys = after_append (after_line c x) xs ys
+
+-- whether bytes are left
+
+pub not-empty : (bytes : List ℕ) → false ≡ (length bytes == 0) → bytes ≢ []
+not-empty bytes h e = cc (rw e at h)
+
+pub empty-is : (bytes : List ℕ) → true ≡ (length bytes == 0) → bytes ≡ []
+empty-is [] h = refl
+empty-is (b ∷ bs) h = let none : suc (length bs) ≡ 0 = eqb-true (suc (length bs)) 0 (sym h) in absurd (omega (arith, none))
+
+-- a line is not empty
+pub line-some : (bytes : List ℕ) → bytes ≢ [] → (n : ℕ) → n ≡ line_long bytes → 0 < n
+line-some [] some n is = absurd (some refl)
+line-some (b ∷ bs) some n is = go (nat_eq b 10) is
+  where
+    go : (t : Bool) → n ≡ (if t then 1 else line_long bs + 1) → 0 < n
+    go true e = omega (arith, e)
+    go false e = omega (arith, e)

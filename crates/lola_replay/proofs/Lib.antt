@@ -8,3 +8,11 @@ pub mod ComparingLemmas
 pub mod VerdictLemmas
 pub mod UnderwayLemmas
 pub mod ShowingLemmas
+pub mod ShownStreams
+pub mod TakingLemmas
+pub mod TrackingLemmas
+pub mod RunningLemmas
+pub mod EndingLemmas
+pub mod WrittenLemmas
+pub mod BeginningLemmas
+pub mod FindingLemmas

@@ -1,22 +1,21 @@
 -- A table goes on row by row, and is the model where no step is left or a row has a fault.
-use Rattle.std.proofs.Common.{◌≡◌, ◌∙◌, refl, sym, ap, subst, ℕ, suc, ◌+◌, ◌<◌, ◌≤◌, List, [], ◌∷◌, ◌++◌, Option, Some, None, Bool, true, false, if◌then◌else◌, arith, append-nil, is_some, length, nat_le, nat_lt, slice_get}
-use Rattle.std.proofs.lemmas.Bool.{cases_Bool, le-ltb, lt-ltb, leb-false}
+use Rattle.std.proofs.Common.{◌≡◌, ◌∙◌, refl, sym, ap, ℕ, ◌+◌, List, [], ◌∷◌, ◌++◌, Option, Some, None, true, false, if◌then◌else◌, arith, is_some, length}
+use Rattle.std.proofs.lemmas.Bool.{le-ltb}
 use Rattle.std.proofs.lemmas.Option.{slice_get_past}
-use Rattle.lola_value.specs.Times.{latest, up_to_latest}
 use Rattle.lola_model.proofs.Growing.{row_fault_some, slice_get_last}
-use Rattle.lola_model.specs.Faults.{RowFault, RunFault, at_time, fault_of_last, row_fault}
+use Rattle.lola_model.proofs.Growth.{last_row-append}
+use Rattle.lola_model.specs.Faults.{RowFault, at_time, fault_of_last, row_fault}
 use Rattle.lola_model.specs.Journal.{accepted}
-use Rattle.lola_model.specs.Model.{GoesOn, IsRow, Next, has_fault, last_row}
+use Rattle.lola_model.specs.Model.{IsRow, Next, has_fault, last_row}
 use Rattle.lola_model.specs.NextStep.{after_last, below_or, due, next_below, rows_taken, step_before, taken_by}
 use Rattle.lola_model.specs.Runs.{HasModelsOfRuns, IsSettledModel, IsWholeModel, first_fault, run_start, settled_fault, settled_model, whole_model}
 use Rattle.lola_model.specs.Steps.{deadline_step, row_step}
-use Rattle.lola_model.specs.Table.{Step, TableRow}
+use Rattle.lola_model.specs.Table.{TableRow}
 use Rattle.lola_model.specs.declared.journal.Entry.{Entry}
 use Rattle.lola_model.specs.declared.journal.Row.{Row}
 use Rattle.lola_model.specs.declared.plan.Plan.{Plan}
 use Rattle.lola_replay.specs.SoFar.{GoesFinely, IsSoFar}
-use Rattle.lola_replay.specs.Underway.{IsEnding, IsGoingTo, IsUpTo}
-use Rattle.lola_replay.proofs.SoFarLemmas.{Comes, carried, ended, ended-faulty, grows, settled-goes-on, whole-goes-on}
+use Rattle.lola_replay.proofs.SoFarLemmas.{carried, ended, ended-faulty, whole-goes-on}
 
 -- faults
 
@@ -42,30 +41,17 @@ module _ (plan : Plan) (start : ℕ) (next : Next) where
 
 -- how many rows are taken
 
-taken-more : (table : List TableRow) (row : TableRow) → rows_taken (table ++ row ∷ []) ≡ rows_taken table + taken_by row.step
+pub taken-more : (table : List TableRow) (row : TableRow) → rows_taken (table ++ row ∷ []) ≡ rows_taken table + taken_by row.step
 taken-more [] row = omega arith
 taken-more (r ∷ rs) row = (let rest = taken-more rs row in omega (arith, rest))
 
--- the deadline that comes next, where it is told only if it is a time
-
-below-time : (d : Option ℕ) (limit : ℕ) (o : Option Step) → limit ≤ latest + 1 → below_or (elim d [ None ↦ None | Some t ↦ up_to_latest t ]) limit o ≡ below_or d limit o
-below-time None limit o low = refl
-below-time (Some t) limit o low = go (nat_le t latest) refl
-  where
-    go : (b : Bool) → nat_le t latest ≡ b → below_or (if b then Some t else None) limit o ≡ below_or (Some t) limit o
-    go true e = refl
-    go false e =
-        let high : latest < t = leb-false t latest e in
-        let past : limit ≤ t = omega (arith, low, high) in
-        sym (ap (λ b. if b then Some (deadline_step t) else o) (le-ltb t limit past))
-
 module _ (plan : Plan) (start : ℕ) (rows : List Row) where
   -- no step is left behind the rows where the limit is 0
-  none-left : (limit : ℕ) (table : List TableRow) → rows_taken table ≡ length rows → next_below plan start rows limit table ≡ below_or (due plan table start) limit None
+  pub none-left : (limit : ℕ) (table : List TableRow) → rows_taken table ≡ length rows → next_below plan start rows limit table ≡ below_or (due plan table start) limit None
   none-left limit table taken =
       ap (λ (o : Option Row). step_before o limit (due plan table start)) (slice_get_past rows (rows_taken table) (omega (arith, taken)))
 
-  none-settled : (table : List TableRow) → rows_taken table ≡ length rows → next_below plan start rows 0 table ≡ None
+  pub none-settled : (table : List TableRow) → rows_taken table ≡ length rows → next_below plan start rows 0 table ≡ None
   none-settled table taken = none-left 0 table taken ∙ go (due plan table start)
     where
       go : (d : Option ℕ) → below_or d 0 None ≡ None
@@ -73,59 +59,9 @@ module _ (plan : Plan) (start : ℕ) (rows : List Row) where
       go (Some t) = ap (λ b. if b then Some (deadline_step t) else None) (le-ltb t 0 (omega arith))
 
   -- before one more row come the deadlines below its stamp
-  next-to : (row : Row) (table : List TableRow) → rows_taken table ≡ length rows
+  pub next-to : (row : Row) (table : List TableRow) → rows_taken table ≡ length rows
       → next_below plan start (rows ++ row ∷ []) 0 table ≡ below_or (due plan table start) row.stamp (Some (row_step row))
   next-to row table taken = ap (λ (o : Option Row). step_before o 0 (due plan table start)) (slice_get_last rows row (rows_taken table) taken)
-
-  -- from a row to the next
-  pub sets-out : (row : Row) (table : List TableRow) → IsUpTo plan start rows table → IsGoingTo plan start rows row table
-  sets-out row table is = record {
-    so_far = carried plan start (next_below plan start rows 0) (next_below plan start (rows ++ row ∷ []) 0) (settled-goes-on plan start 0 rows (row ∷ [])) [] table is.so_far;
-    taken = is.taken;
-  }
-
-  -- a deadline more
-  pub passes : (row : Row) (table : List TableRow) (made : TableRow) → IsGoingTo plan start rows row table → below_or (due plan table start) row.stamp (Some (row_step row)) ≡ Some made.step
-      → IsRow plan start table made.step made → has_fault made ≡ false → taken_by made.step ≡ 0 → IsGoingTo plan start rows row (table ++ made ∷ [])
-  passes row table made is comes lawful fine none =
-      let more = taken-more table made in
-      let was = is.taken in
-      record {
-        so_far = grows plan start (next_below plan start (rows ++ row ∷ []) 0) [] table made is.so_far (record { step = next-to row table is.taken ∙ comes; lawful = lawful }) fine;
-        taken = omega (arith, more, was, none);
-      }
-
-  -- the row itself
-  pub arrives : (row : Row) (table : List TableRow) (made : TableRow) → IsGoingTo plan start rows row table → below_or (due plan table start) row.stamp (Some (row_step row)) ≡ Some made.step
-      → IsRow plan start table made.step made → has_fault made ≡ false → taken_by made.step ≡ 1 → IsUpTo plan start (rows ++ row ∷ []) (table ++ made ∷ [])
-  arrives row table made is comes lawful fine one =
-      let more = taken-more table made in
-      let was = is.taken in
-      record {
-        so_far = grows plan start (next_below plan start (rows ++ row ∷ []) 0) [] table made is.so_far (record { step = next-to row table is.taken ∙ comes; lawful = lawful }) fine;
-        taken = (let long = length-more rows row in omega (arith, more, was, one, long));
-      }
-    where
-      length-more : (rows : List Row) (row : Row) → length (rows ++ row ∷ []) ≡ length rows + 1
-      length-more [] row = omega arith
-      length-more (r ∷ rs) row = (let rest = length-more rs row in omega (arith, rest))
-
-  -- behind the last row
-  pub turns-to-end : (limit : ℕ) (table : List TableRow) → IsUpTo plan start rows table → IsEnding plan start rows limit table
-  turns-to-end limit table is = record {
-    so_far = carried plan start (next_below plan start rows 0) (next_below plan start rows limit) (whole-goes-on plan start limit rows) [] table is.so_far;
-    taken = is.taken;
-  }
-
-  pub passes-end : (limit : ℕ) (table : List TableRow) (made : TableRow) → IsEnding plan start rows limit table → below_or (due plan table start) limit None ≡ Some made.step
-      → IsRow plan start table made.step made → has_fault made ≡ false → taken_by made.step ≡ 0 → IsEnding plan start rows limit (table ++ made ∷ [])
-  passes-end limit table made is comes lawful fine none =
-      let more = taken-more table made in
-      let was = is.taken in
-      record {
-        so_far = grows plan start (next_below plan start rows limit) [] table made is.so_far (record { step = none-left limit table is.taken ∙ comes; lawful = lawful }) fine;
-        taken = omega (arith, more, was, none);
-      }
 
 module _ (plan : Plan) (has : HasModelsOfRuns plan) (start : Option ℕ) (journal : List Entry) where
   abbrev begin : ℕ
@@ -139,16 +75,49 @@ module _ (plan : Plan) (has : HasModelsOfRuns plan) (start : Option ℕ) (journa
   unfolding first_fault
   whole-fault-of table model = ap (λ (rs : List TableRow). fault_of_last (last_row rs)) (sym ((has.whole start journal table).0 model))
 
+  abbrev settled_next : Next
+  settled_next = next_below plan begin (accepted journal) 0
+
+  abbrev whole_next : Next
+  whole_next = next_below plan begin (accepted journal) (after_last (accepted journal))
+
   -- a table up to the last row is the settled model, which has no fault
-  pub up-to-model : (table : List TableRow) → IsUpTo plan begin (accepted journal) table → (table ≡ settled_model plan start journal) × (settled_fault plan start journal ≡ None)
-  up-to-model table is =
-      let model : IsSettledModel plan start journal table = ended plan begin (next_below plan begin (accepted journal) 0) [] table is.so_far (none-settled plan begin (accepted journal) table is.taken) in
-      ((has.settled start journal table).0 model, settled-fault-of table model ∙ fine-last plan begin (next_below plan begin (accepted journal) 0) [] table is.so_far)
+  pub settled-by : (table : List TableRow) → IsSoFar plan begin settled_next table → rows_taken table ≡ length (accepted journal)
+      → (table ≡ settled_model plan start journal) × (settled_fault plan start journal ≡ None)
+  settled-by table so_far taken =
+      let model : IsSettledModel plan start journal table = ended plan begin settled_next [] table so_far (none-settled plan begin (accepted journal) table taken) in
+      ((has.settled start journal table).0 model, settled-fault-of table model ∙ fine-last plan begin settled_next [] table so_far)
 
   -- and where no deadline is left below the moment after the last row, the whole model
-  pub ended-model : (table : List TableRow) → IsEnding plan begin (accepted journal) (after_last (accepted journal)) table
+  pub whole-by : (table : List TableRow) → IsSoFar plan begin whole_next table → rows_taken table ≡ length (accepted journal)
       → below_or (due plan table begin) (after_last (accepted journal)) None ≡ None → (table ≡ whole_model plan start journal) × (first_fault plan start journal ≡ None)
-  ended-model table is none =
-      let next = next_below plan begin (accepted journal) (after_last (accepted journal)) in
-      let model : IsWholeModel plan start journal table = ended plan begin next [] table is.so_far (none-left plan begin (accepted journal) (after_last (accepted journal)) table is.taken ∙ none) in
-      ((has.whole start journal table).0 model, whole-fault-of table model ∙ fine-last plan begin next [] table is.so_far)
+  whole-by table so_far taken none =
+      let model : IsWholeModel plan start journal table = ended plan begin whole_next [] table so_far (none-left plan begin (accepted journal) (after_last (accepted journal)) table taken ∙ none) in
+      ((has.whole start journal table).0 model, whole-fault-of table model ∙ fine-last plan begin whole_next [] table so_far)
+
+  module _ (table : List TableRow) (made : TableRow) (lawful : IsRow plan begin table made.step made) (f : RowFault) (fault : row_fault made ≡ Some f) where
+    fault-told : fault_of_last (last_row (table ++ made ∷ [])) ≡ Some (record { stream = f.stream; kind = f.kind; time = made.step.time })
+    fault-told = ap fault_of_last (last_row-append table made) ∙ ap (at_time made.step.time) fault
+
+    -- with one more row, which has a fault, it is the settled model
+    pub stopped-settled : IsSoFar plan begin settled_next table → settled_next table ≡ Some made.step
+        → settled_fault plan start journal ≡ Some (record { stream = f.stream; kind = f.kind; time = made.step.time })
+    stopped-settled so_far comes =
+        let model : IsSettledModel plan start journal (table ++ made ∷ []) =
+        ended-faulty plan begin settled_next [] table made so_far (record { step = comes; lawful = lawful }) (faulty-row made f fault) in
+        settled-fault-of (table ++ made ∷ []) model ∙ fault-told
+
+    -- and the whole model
+    pub stopped-whole : IsSoFar plan begin whole_next table → whole_next table ≡ Some made.step
+        → (table ++ made ∷ [] ≡ whole_model plan start journal) × (first_fault plan start journal ≡ Some (record { stream = f.stream; kind = f.kind; time = made.step.time }))
+    stopped-whole so_far comes =
+        let model : IsWholeModel plan start journal (table ++ made ∷ []) =
+        ended-faulty plan begin whole_next [] table made so_far (record { step = comes; lawful = lawful }) (faulty-row made f fault) in
+        ((has.whole start journal (table ++ made ∷ [])).0 model, whole-fault-of (table ++ made ∷ []) model ∙ fault-told)
+
+    -- what is settled goes on so
+    pub settled-whole : IsSoFar plan begin settled_next table → settled_next table ≡ Some made.step
+        → (table ++ made ∷ [] ≡ whole_model plan start journal) × (first_fault plan start journal ≡ Some (record { stream = f.stream; kind = f.kind; time = made.step.time }))
+    settled-whole so_far comes =
+        let on = whole-goes-on plan begin (after_last (accepted journal)) (accepted journal) in
+        stopped-whole (carried plan begin settled_next whole_next on [] table so_far) (on table made.step comes)

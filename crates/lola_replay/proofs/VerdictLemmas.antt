@@ -1,14 +1,13 @@
 -- What a comparison tells of verdicts, once all verdict lines were compared.
 use Rattle.std.proofs.Common.{◌≡◌, ◌≢◌, ◌∙◌, refl, sym, ap, subst, ℕ, zero, suc, ◌+◌, ◌<◌, ◌≤◌, List, [], ◌∷◌, ◌++◌, Option, Some, None, arith, length, slice_get}
-use Rattle.std.proofs.lemmas.List.{length-append}
 use Rattle.lola_model.specs.Runs.{final_lines}
 use Rattle.lola_model.specs.declared.journal.Entry.{Entry}
 use Rattle.lola_model.specs.declared.journal.Show.{Show}
 use Rattle.lola_model.specs.declared.plan.Plan.{Plan}
+use Rattle.lola_replay.specs.Comparing.{IsFirstOther}
 use Rattle.lola_replay.specs.Ends.{IsEndLine}
 use Rattle.lola_replay.specs.LinesOf.{IsFirstLine}
 use Rattle.lola_replay.specs.Verdicts.{AreVerdicts, IsOtherAt, IsRightLine, IsThere}
-use Rattle.lola_replay.proofs.ComparingLemmas.{IsFirstOther}
 
 module _ (IsEnd : List ℕ → Type 0) where
   -- among the verdict lines, the right line is the one of that place

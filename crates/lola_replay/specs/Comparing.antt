@@ -1,6 +1,7 @@
 -- Lines that are compared with those of a text, one after another.
-use Rattle.std.specs.Prelude.{ℕ, ◌+◌, List, [], ◌∷◌, ◌&&◌, Option, Some, None, Bool, if◌then◌else◌, drop, length, nat_eq, nat_lt, take}
+use Rattle.std.specs.Prelude.{ℕ, ◌≡◌, ◌≢◌, ◌<◌, ◌+◌, List, [], ◌∷◌, ◌++◌, ◌&&◌, Option, Some, None, Bool, if◌then◌else◌, drop, length, nat_eq, nat_lt, slice_get, take}
 use Rattle.lola_value.specs.Arithmetic.{bytes_equal}
+use Rattle.lola_replay.specs.LinesOf.{lines_of}
 use Rattle.lola_replay.specs.declared.compare.Compared.{Compared}
 
 -- how long the first line of a text is, with its LF if it has one
@@ -40,3 +41,20 @@ uncompared text = record { rest = text; lines = 0; other = None }
 -- how far a comparison is
 abbrev pub comparison : Compared → Comparison
 comparison c = record { rest = c.rest.now; lines = c.lines; other = c.other }
+
+-- the first line that is another one
+pub record IsFirstOther (lines shown : List (List ℕ)) (n : ℕ) : Type 0 where
+  pub place : ℕ
+  pub number : n ≡ place + 1
+  pub within : place < length shown
+  pub same : (k : ℕ) → k < place → slice_get lines k ≡ slice_get shown k
+  pub other : slice_get lines place ≢ slice_get shown place
+
+-- what is known of a text whose lines were compared with these
+abbrev pub IsCompared : List ℕ → List (List ℕ) → Comparison → Option ℕ → Type 0
+IsCompared text shown c None = (lines_of text ≡ shown ++ lines_of c.rest) × (c.lines ≡ length shown)
+IsCompared text shown c (Some n) = IsFirstOther (lines_of text) shown n
+
+-- of a comparison by code
+abbrev pub IsComparedBy : List ℕ → List (List ℕ) → Compared → Type 0
+IsComparedBy text shown c = IsCompared text shown (comparison c) c.other

@@ -5,5 +5,9 @@ pub mod Verdicts
 pub mod Findings
 pub mod SoFar
 pub mod Comparing
-pub mod Underway
 pub mod Showing
+pub mod Progressing
+pub mod Tracked
+pub mod Running
+pub mod EndLines
+pub mod Ending

@@ -26,8 +26,8 @@ pub fn uncompared(text: &[u8]) -> Compared<'_>
     }
 }
 
-// How long the first line is, with its LF if it has one.
-fn line_length(text: &[u8]) -> usize
+/// How long the first line is, with its LF if it has one.
+pub fn line_length(text: &[u8]) -> usize
     ensures value { result ≡ line_long text.now }
     ensures within { result ≤ length text.now }
 {

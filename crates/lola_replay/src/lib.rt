@@ -5,6 +5,12 @@
 #![tactic(auto)]
 
 pub mod compare;
+pub mod ending;
+pub mod entries;
 pub mod finding;
 pub mod law;
 pub mod lines;
+pub mod progress;
+pub mod replay;
+pub mod tracking;
+pub mod written;

@@ -2,7 +2,7 @@
 
 ghost use Rattle.std.specs.Prelude.{◌≡◌, ◌≤◌, ◌<◌, ◌+◌, ◌^◌, Some, IfOk, length, slice_get};
 ghost use Rattle.lola_model.specs.Texts.{answer_lines, value_lines};
-ghost use Rattle.lola_replay_step.specs.Rests.{life_lines};
+ghost use Rattle.lola_replay_step.specs.Rests.{known_lines, life_lines};
 ghost use Rattle.lola_replay_step.specs.StepFaults.{outcome_known};
 ghost use Rattle.lola_report.specs.Verdicts.{HasVerdict, verdict_text};
 ghost use Rattle.lola_replay.specs.Comparing.{after_line, after_lines, comparison};
@@ -153,6 +153,31 @@ pub fn compare_lives<'a>(
     let mut after = compared;
     for life in lives {
         after = compare_life(plan, show, time, number, stream, life, line, after)?;
+    }
+    Ok(after)
+}
+
+/// Compares what is shown of all streams in a step, one after another.
+pub fn compare_streams<'a>(
+    plan: &Plan,
+    show: Show,
+    time: u64,
+    streams: &[Stream],
+    known: &[KnownStream],
+    line: &mut Text,
+    compared: Compared<'a>,
+) -> Result<Compared<'a>, Memory>
+    requires all { plan.now.spec.streams ≡ streams.now }
+    requires few { length streams.now ≤ 1024 }
+    requires long { length known.now ≡ length streams.now }
+    requires room { compared.lines + length compared.rest.now < 2 ^ 63 }
+    ensures lines { IfOk result (λ c. comparison c ≡ after_lines (comparison compared.entry) (known_lines show time streams.now known.now)) }
+    ensures room { IfOk result (λ c. c.lines + length c.rest.now ≤ compared.entry.lines + length compared.entry.rest.now) }
+{
+    let mut after = compared;
+    for (number, stream) in streams.iter().enumerate() {
+        let lives = known[number].lives.as_slice();
+        after = compare_lives(plan, show, time, number, stream, lives, line, after)?;
     }
     Ok(after)
 }
