@@ -2,6 +2,7 @@
 from __future__ import annotations
 
 import contextlib
+import importlib
 import importlib.machinery
 import importlib.util
 import io
@@ -40,7 +41,7 @@ class Tool:
         output, errors = io.TextIOWrapper(io.BytesIO(), encoding="utf-8"), io.StringIO()
         with contextlib.redirect_stdout(output), contextlib.redirect_stderr(errors):
             try:
-                status = self.module.main(list(words))
+                status = importlib.import_module("commands.command").run(self.module.TOOL, self.module.main, list(words))
             except SystemExit as end:
                 status = end.code
         return Told(status, output.buffer.getvalue().decode(), errors.getvalue())  # type: ignore[attr-defined]

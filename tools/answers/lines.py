@@ -1,57 +1,27 @@
-"""Reads files and pipes line by line, as they come, and tells how far it is where that takes long."""
+"""Reads files and pipes line by line, as they come."""
 from __future__ import annotations
 
 import os
 import stat
-import sys
-import time
-from typing import BinaryIO, Iterator, List
+from contextlib import contextmanager
+from typing import IO, Iterator, List
 
-from explaining.places import shown_name
+from commands.failures import Unfit, reason
+from commands.progress import Progress
 
 BLOCK = 1 << 18
 LONGEST_LINE = 1 << 22  # more than any line of a run may have
 STANDARD_INPUT = ("-", "/dev/stdin")
-FIRST_WORD = 1.0  # seconds until the first word of how far it is; the next ones come twice as late each time
-LAST_WORD = 60.0
-
-
-class Unfit(Exception):
-    """The input is not what it has to be. The text is the whole line for a person."""
-
-
-class Progress:
-    """Tells on standard error how many lines were read, at first after a second and then ever more seldom."""
-
-    def __init__(self, tool: str, doing: str) -> None:
-        self.tool = tool
-        self.doing = doing
-        self.lines = 0
-        self.wait = FIRST_WORD
-        self.next = time.monotonic() + self.wait
-
-    def add(self, lines: int) -> None:
-        self.lines += lines
-        now = time.monotonic()
-        if now >= self.next:
-            print(f"{self.tool}: {shown_name(self.doing)}: {self.lines:,} lines so far", file=sys.stderr, flush=True)
-            self.wait = min(self.wait * 2, LAST_WORD)
-            self.next = now + self.wait
 
 
 class Input:
-    """A file, or standard input, under the name that the user gave it."""
+    """What is read of a file or a pipe, from where it stands. The name is the one that a person is told."""
 
-    def __init__(self, name: str) -> None:
-        self.name = "standard input" if name in STANDARD_INPUT else name
-        self.file: BinaryIO
-        try:
-            descriptor = os.dup(0) if name in STANDARD_INPUT else os.open(name, os.O_RDONLY | os.O_CLOEXEC)
-            self.file = open(descriptor, "rb", buffering=0)
-            self.is_regular = stat.S_ISREG(os.fstat(descriptor).st_mode)
-        except (OSError, ValueError) as failure:
-            raise Unfit(f"{self.name} cannot be opened: {reason(failure)}") from None
-        self.begin = self.file.tell() if self.is_regular else 0
+    def __init__(self, name: str, file: IO[bytes]) -> None:
+        self.name = name
+        self.file = file
+        self.is_regular = stat.S_ISREG(os.fstat(file.fileno()).st_mode)
+        self.begin = file.tell() if self.is_regular else 0
 
     def blocks(self) -> Iterator[bytes]:
         """What is there, as it comes."""
@@ -95,6 +65,14 @@ class Input:
         self.file.seek(self.begin)
 
 
-def reason(failure: Exception) -> str:
-    """What the system says of a failure, as one sentence's end."""
-    return getattr(failure, "strerror", None) or str(failure)
+@contextmanager
+def opened(path: str) -> Iterator[Input]:
+    """A file by its path; `-` is standard input."""
+    is_standard = path in STANDARD_INPUT
+    name = "standard input" if is_standard else path
+    try:
+        file = open(os.dup(0) if is_standard else path, "rb", buffering=0)
+    except (OSError, ValueError) as failure:
+        raise Unfit(f"{name} cannot be opened: {reason(failure)}") from None
+    with file:
+        yield Input(name, file)

@@ -5,8 +5,8 @@ import csv
 import re
 from typing import Iterator, List, NamedTuple
 
-from answers.lines import Unfit
 from answers.verdicts import TIME, nanoseconds
+from commands.failures import Unfit
 
 BEFORE_INPUTS = 4  # source, row, time and mark
 HEAD = re.compile(rf"[0-9]+,[0-9]+,{TIME},(?:A|L{TIME})(?:,|\Z)")

@@ -6,9 +6,9 @@ an instance.
 from __future__ import annotations
 
 import re
-from typing import Iterator, List, NamedTuple, Optional
+from typing import Iterator, List, NamedTuple, Optional, Tuple
 
-from answers.lines import Unfit
+from commands.failures import Unfit
 
 NAME = r"[A-Za-z_][A-Za-z_0-9]*"
 TEXT = r'"[^"\\]*(?:\\["\\nrt][^"\\]*)*"'
@@ -27,6 +27,17 @@ STATUSES = {"done": 0, "usage": 2, "refused": 3, "malformed": 4, "fault": 5, "un
 SHOWN = 60  # so many characters of a line that does not fit are shown
 
 
+class Instance(NamedTuple):
+    """A stream, or an instance of one by its parameters as they stand in the brackets."""
+
+    stream: str
+    parameters: str
+
+    @property
+    def name(self) -> str:
+        return f"{self.stream}({self.parameters})" if self.parameters else self.stream
+
+
 class Verdict(NamedTuple):
     """One line. A trigger's has a message, the others have a value; the parameters are as they stand in the brackets."""
 
@@ -39,7 +50,7 @@ class Verdict(NamedTuple):
     @property
     def name(self) -> str:
         """The stream's name, with the parameters of an instance."""
-        return f"{self.stream}({self.parameters})" if self.parameters else self.stream
+        return Instance(self.stream, self.parameters).name
 
 
 def plain(value: str) -> str:
@@ -64,6 +75,11 @@ def seconds(time: int) -> str:
     """Whole nanoseconds as a time is written."""
     sign = "-" if time < 0 else ""
     return f"{sign}{abs(time) // 10**9}.{abs(time) % 10**9:09}"
+
+
+def trigger_order(name: str) -> Tuple[int, str]:
+    """What triggers are sorted by, so that trigger_10 stands behind trigger_9."""
+    return len(name), name
 
 
 def status_of(end: str) -> int:

@@ -1,80 +1,56 @@
-"""What the tools for batches have in common: how they read their words, and how they end."""
+"""How the tools for batches fail and end."""
 from __future__ import annotations
 
 import os
 import signal
 import sys
+from functools import partial
 from typing import Callable, List, NoReturn
 
-from answers import command
-from answers.command import NO_PROGRAM, USAGE, WRITE_FAILED, abandon_output, say
-from answers.lines import reason
-from explaining.program import NoProgram
+from commands import command
+from commands.failures import INTERRUPTED, Failure
+from explaining.places import shown_name
 
-REFUSED, NOT_WELL, INTERRUPTED = 3, 4, 130
+REFUSED, NOT_WELL = 3, 4
 
-
-class WrongWords(Exception):
-    """What was asked for cannot be done, with the reason."""
+Main = Callable[[List[str]], int]
 
 
-class Refused(Exception):
-    """The specification is refused."""
+class Refused(Failure):
+    """The specification is refused, with an end line such as `= refused E6 Unknown at 102`, which is told on standard output too."""
+
+    status = REFUSED
+
+    def __init__(self, path: str, end_line: str, status: int) -> None:
+        super().__init__(f"the specification is not accepted: {shown_name(path)}: {end_line.removeprefix('= ') or f'status {status}'}")
+        self.end_line = end_line
 
 
-class Words(command.Words):
-    """Reads a tool's words."""
+class Unreachable(Failure):
+    """A file cannot be read or written."""
 
-    def __init__(self) -> None:
-        super().__init__("", "")
-
-    def error(self, message: str) -> NoReturn:
-        raise WrongWords(message)
+    status = NOT_WELL
 
 
-def main_of(tool: str, manual: str, answer: Callable[[List[str]], int], words: List[str]) -> int:
-    """The status of a tool that answers these words."""
-    if words[:1] in (["--help"], ["-h"]):
-        print(manual.rstrip())
-        return 0
+def answered(tool: str, main: Main, words: List[str]) -> int:
+    """The status of a tool. What goes wrong with a file is told with its name; a failure without one is that of standard output."""
     try:
-        return answer(words)
-    except WrongWords as why:
-        say(tool, f"{why}; --help tells more")
-        return USAGE
-    except Refused as why:
-        say(tool, f"the specification is not accepted: {why}")
-        return REFUSED
-    except NoProgram as why:
-        say(tool, str(why))
-        return NO_PROGRAM
+        return main(words)
+    except Refused as refused:
+        command.say(tool, str(refused))
+        command.write(refused.end_line + "\n")
+        return refused.status
     except OSError as failure:
-        if failure.filename is None:  # it is no file that was to be opened
+        if failure.filename is None:
             raise
-        say(tool, f"{failure.filename}: {failure.strerror}")
-        return NOT_WELL
+        raise Unreachable(f"{failure.filename}: {failure.strerror}") from None
 
 
-def status_of(tool: str, manual: str, answer: Callable[[List[str]], int], words: List[str]) -> int:
-    """The same, behind the last line that the tool writes."""
-    try:
-        status = main_of(tool, manual, answer, words)
-        if sys.stdout is not None:
-            sys.stdout.flush()
-        return status
-    except OSError as failure:
-        abandon_output()
-        say(tool, f"what was to be written cannot be: {reason(failure)}")
-        return WRITE_FAILED
-
-
-def run(tool: str, manual: str, answer: Callable[[List[str]], int], at_interrupt: str = "interrupted") -> NoReturn:
-    """Runs a tool, and ends with its status. A reader that has enough ends it."""
+def run(tool: str, main: Main, at_interrupt: str = "interrupted") -> NoReturn:
+    """Runs a tool, and ends with its status, at an interrupt without waiting for threads. A reader that has enough ends it at once."""
     signal.signal(signal.SIGPIPE, signal.SIG_DFL)
-    if sys.stdout is not None:
-        sys.stdout.reconfigure(encoding="utf-8", errors="backslashreplace")  # type: ignore[union-attr]
-    try:
-        sys.exit(status_of(tool, manual, answer, sys.argv[1:]))
-    except KeyboardInterrupt:
-        say(tool, at_interrupt)
-        os._exit(INTERRUPTED)
+    status = command.run(tool, partial(answered, tool, main), sys.argv[1:])
+    if status == INTERRUPTED:
+        command.say(tool, at_interrupt)
+        os._exit(status)
+    sys.exit(status)

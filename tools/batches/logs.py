@@ -2,9 +2,9 @@
 from __future__ import annotations
 
 import os
-from typing import Iterable, List, NamedTuple, Set
+from typing import Callable, Iterable, Iterator, List, NamedTuple, Set
 
-from batches.command import WrongWords
+from commands.failures import WrongWords
 from explaining.places import shown_name
 
 MOST_FILES = 64
@@ -29,19 +29,20 @@ def csv_files(folder: str) -> List[str]:
     return found
 
 
-def logs_of(name: str, join: bool) -> List[Log]:
-    """The logs that a word stands for: a file, each file of a folder, or all files of a folder as one log."""
-    if not os.path.isdir(name):
-        return [Log(name, [name])]
-    files = csv_files(name)
-    if not join:
-        return [Log(file, [file]) for file in files]
+def each_file(folder: str) -> List[Log]:
+    """Each file of a folder as a log of its own."""
+    return [Log(file, [file]) for file in csv_files(folder)]
+
+
+def joined(folder: str) -> List[Log]:
+    """All files of a folder as one log."""
+    files = csv_files(folder)
     if len(files) > MOST_FILES:
-        raise WrongWords(f"the folder {shown_name(name)} has {len(files)} files, and {MOST_FILES} at most make one log")
-    return [Log(name.rstrip("/") or name, files)]
+        raise WrongWords(f"the folder {shown_name(folder)} has {len(files)} files, and {MOST_FILES} at most make one log")
+    return [Log(folder.rstrip("/") or folder, files)]
 
 
-def words_and_lines(words: Iterable[str], lines: Iterable[bytes]) -> Iterable[str]:
+def words_and_lines(words: Iterable[str], lines: Iterable[bytes]) -> Iterator[str]:
     """The names that stand on the command line, and where the word `-` stands those on standard input."""
     for word in words:
         if word == "-":
@@ -50,14 +51,14 @@ def words_and_lines(words: Iterable[str], lines: Iterable[bytes]) -> Iterable[st
             yield word
 
 
-def find_logs(words: Iterable[str], lines: Iterable[bytes], join: bool) -> List[Log]:
+def find_logs(words: Iterable[str], lines: Iterable[bytes], logs_of_folder: Callable[[str], List[Log]]) -> List[Log]:
     """The logs of a batch in their order."""
     found: List[Log] = []
     seen: Set[str] = set()
     for word in words_and_lines(words, lines):
         if "\0" in word or not word:
             raise WrongWords("a log has no name, or one with a zero byte")
-        for log in logs_of(word, join):
+        for log in logs_of_folder(word) if os.path.isdir(word) else [Log(word, [word])]:
             path = os.path.abspath(log.name)
             if path in seen:
                 raise WrongWords(f"the log {shown_name(log.name)} stands twice")

@@ -2,13 +2,25 @@
 from __future__ import annotations
 
 import argparse
-from typing import Callable, List
+from typing import Callable, List, Optional
 
-from batches.command import Words, WrongWords
+from commands.command import Words
 from explaining.places import shown_name
 from explaining.words import is_time
 
 MOST_WORKERS = 64
+
+
+class BatchAsked(argparse.Namespace):
+    """What was asked for of a batch."""
+
+    join: bool
+    results: Optional[str]
+    show: Optional[str]
+    start: Optional[str]
+    in_turns: bool
+    workers: Optional[int]
+    names: List[str]  # the specification first
 
 
 def number_up_to(most: int) -> Callable[[str], int]:
@@ -20,20 +32,21 @@ def number_up_to(most: int) -> Callable[[str], int]:
 
 
 def add_options(words: Words) -> None:
-    words.add_argument("--join", action="store_true")
-    words.add_argument("--results")
-    words.add_argument("--show", choices=("triggers", "outputs"))
-    words.add_argument("--start")
-    words.add_argument("--in-turns", action="store_true")
-    words.add_argument("--workers", type=number_up_to(MOST_WORKERS))
+    words.options.add_argument("--join", action="store_true")
+    words.options.add_argument("--results")
+    words.options.add_argument("--show", choices=("triggers", "outputs"))
+    words.options.add_argument("--start")
+    words.options.add_argument("--in-turns", action="store_true")
+    words.options.add_argument("--workers", type=number_up_to(MOST_WORKERS))
+    words.names.add_argument("names", nargs="*")
 
 
-def check_options(asked: argparse.Namespace) -> None:
+def check_options(words: Words, asked: BatchAsked) -> None:
     if asked.start is not None and not is_time(asked.start):
-        raise WrongWords(f"the value of --start is a time in seconds, and not '{shown_name(asked.start)}'")
+        words.error(f"the value of --start is a time in seconds, and not '{shown_name(asked.start)}'")
 
 
-def options_of(asked: argparse.Namespace) -> List[str]:
+def options_of(asked: BatchAsked) -> List[str]:
     """The options that are lolamon's."""
     options = [f"--{name}={getattr(asked, name)}" for name in ("show", "start", "workers") if getattr(asked, name)]
     return options + (["--in-turns"] if asked.in_turns else [])

@@ -1,17 +1,17 @@
 """What all runs of a batch have in common, and which results of earlier ones still hold."""
 from __future__ import annotations
 
-import argparse
 import os
 import sys
-from typing import Any, Dict, List, NamedTuple, Optional, Sequence, Set, Tuple
+from typing import List, NamedTuple, Optional, Sequence, Set
 
-from answers.command import say
 from batches import results
-from batches.command import Refused, WrongWords
-from batches.logs import Log, find_logs
-from batches.options import options_of
-from batches.results import RESULT, TRACE, VERDICTS, Result, folder_of, read_result, result_of
+from batches.command import Refused
+from batches.logs import Log, each_file, find_logs, joined
+from batches.options import BatchAsked, options_of
+from batches.results import RESULT, TRACE, VERDICTS, Origin, Result, folder_of, read_result
+from commands.command import await_input
+from commands.failures import WrongWords
 from explaining.places import WORD, read_specification, shown_name
 from explaining.program import analyse, files_of, find_program
 
@@ -29,6 +29,13 @@ class Plan(NamedTuple):
         return [*self.command, "--", self.specification, *log.files]
 
 
+class Batch(NamedTuple):
+    """The logs of a batch, or of a part of one, and how they are run."""
+
+    plan: Plan
+    logs: List[Log]
+
+
 class Triggers(NamedTuple):
     """The triggers of a specification by name, and all texts that stand in it, as verdict lines spell them."""
 
@@ -44,12 +51,10 @@ def triggers_of(specification: bytes) -> Triggers:
 
 
 def check_specification(path: str) -> None:
-    """Has the specification analysed, so that one that is refused is told once. Writes its end line."""
+    """Has the specification analysed, so that one that is refused is told once."""
     done = analyse(path)
     if done.returncode != 0:
-        end = done.stdout.decode("utf-8", "replace").rstrip("\n").rpartition("\n")[2]
-        print(end)
-        raise Refused(f"{shown_name(path)}: {end.removeprefix('= ') or f'status {done.returncode}'}")
+        raise Refused(path, done.stdout.decode("utf-8", "replace").rstrip("\n").rpartition("\n")[2], done.returncode)
 
 
 def check_triggers(asked: Sequence[str], triggers: Triggers) -> None:
@@ -58,7 +63,7 @@ def check_triggers(asked: Sequence[str], triggers: Triggers) -> None:
             raise WrongWords(f"--fail-on: the specification has no trigger '{shown_name(name)}', by name or message")
 
 
-def plan_of(specification: str, asked: argparse.Namespace, fail_on: Sequence[str]) -> Plan:
+def plan_of(specification: str, asked: BatchAsked, fail_on: Sequence[str]) -> Plan:
     text = read_specification(specification)
     if text is None:
         raise WrongWords(f"the specification {shown_name(specification)} is no file that can be read")
@@ -69,32 +74,46 @@ def plan_of(specification: str, asked: argparse.Namespace, fail_on: Sequence[str
     return Plan([program, "run", *options_of(asked)], specification, files_of(program), triggers.names, asked.results)
 
 
-def prepare(tool: str, asked: argparse.Namespace, fail_on: Sequence[str] = (), is_part: bool = False) -> Tuple[Plan, List[Log]]:
-    """What is to be run. Where results are kept, their folder is made, and unless this is a part of a batch has a list of the logs."""
-    specification, *names = asked.names
-    if "-" in names and sys.stdin.isatty():
-        say(tool, "reads the names of logs, to their end")
-    logs = find_logs(names, sys.stdin.buffer, asked.join)
-    if not logs and not is_part:
-        raise WrongWords("there is no log")
-    plan = plan_of(specification, asked, fail_on)
+def named_logs(tool: str, asked: BatchAsked) -> List[Log]:
+    """The logs that were named."""
+    names = asked.names[1:]
+    if "-" in names:
+        await_input(tool, "the names of logs")
+    return find_logs(names, sys.stdin.buffer if sys.stdin else (), joined if asked.join else each_file)
+
+
+def planned(logs: List[Log], asked: BatchAsked, fail_on: Sequence[str]) -> Batch:
+    """How these logs are run. Where results are kept, their folder is made."""
+    plan = plan_of(asked.names[0], asked, fail_on)
     if plan.folder is not None:
         results.check_folders(plan.folder, logs)
         os.makedirs(plan.folder, exist_ok=True)
-        if not is_part:
-            results.write_lines(os.path.join(plan.folder, results.ALL), [log.name for log in logs])
-    return plan, logs
+    return Batch(plan, logs)
 
 
-def origin(plan: Plan, log: Log) -> Dict[str, Any]:
-    """What a result is a result of. Sizes tell apart files of one name that stood in different places."""
+def prepare(tool: str, asked: BatchAsked, fail_on: Sequence[str] = ()) -> Batch:
+    """What is to be run of a batch. Where results are kept, their folder has a list of the logs."""
+    logs = named_logs(tool, asked)
+    if not logs:
+        raise WrongWords("there is no log")
+    batch = planned(logs, asked, fail_on)
+    if batch.plan.folder is not None:
+        results.write_lines(os.path.join(batch.plan.folder, results.ALL), [log.name for log in logs])
+    return batch
+
+
+def prepare_part(tool: str, asked: BatchAsked, fail_on: Sequence[str]) -> Batch:
+    """What is to be run of a part of a batch, which may have no log."""
+    return planned(named_logs(tool, asked), asked, fail_on)
+
+
+def origin_of(plan: Plan, log: Log) -> Origin:
     sizes = [os.stat(name).st_size if os.path.exists(name) else -1 for name in [plan.specification, *log.files]]
-    return {"log": log.name, "files": log.files, "specification": plan.specification, "options": plan.command[1:], "sizes": sizes}
+    return Origin(log.name, log.files, plan.specification, plan.command[1:], sizes)
 
 
-def still_holds(plan: Plan, log: Log, folder: str, kept: Dict[str, Any]) -> bool:
-    if any(kept.get(name) != value for name, value in origin(plan, log).items()):
-        return False
+def is_newest(plan: Plan, log: Log, folder: str) -> bool:
+    """Whether the result is newer than all that decides it, and all else that a run writes is there."""
     try:
         began = os.stat(os.path.join(folder, RESULT)).st_mtime_ns
         read = [plan.specification, *log.files, *plan.program_files]
@@ -110,4 +129,4 @@ def kept_result(plan: Plan, log: Log) -> Optional[Result]:
         return None
     folder = folder_of(plan.folder, log.name)
     kept = read_result(folder)
-    return result_of(kept) if kept and still_holds(plan, log, folder, kept) else None
+    return kept.result if kept and kept.origin == origin_of(plan, log) and is_newest(plan, log, folder) else None

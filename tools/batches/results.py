@@ -6,8 +6,8 @@ import json
 import os
 from typing import Any, Dict, List, NamedTuple, Optional
 
-from batches.command import WrongWords
 from batches.logs import Log
+from commands.failures import WrongWords
 from explaining.places import shown_name
 
 RESULT = "result.json"
@@ -22,7 +22,7 @@ NAMED = {0: "done", 4: "malformed", 5: "fault", 6: "unreadable"}
 class Found(NamedTuple):
     """How often a trigger was true in a log, when first, and its message as the verdict line spells it."""
 
-    count: int
+    often: int
     first: str
     message: str
 
@@ -46,6 +46,24 @@ class Result(NamedTuple):
         if self.status < 0:
             return f"ended by signal {-self.status}"
         return self.end or f"status {self.status}"
+
+
+class Origin(NamedTuple):
+    """What a result is a result of. Sizes tell apart files of one name that stood in different places."""
+
+    log: str
+    files: List[str]
+    specification: str
+    options: List[str]
+    sizes: List[int]
+
+
+class Kept(NamedTuple):
+    """What is kept of a log: its result, what that came of, and the triggers that the specification has."""
+
+    origin: Origin
+    trigger_names: List[str]
+    result: Result
 
 
 def folder_of(results: str, name: str) -> str:
@@ -73,29 +91,30 @@ def write_lines(path: str, lines: List[str]) -> None:
         file.writelines(line + "\n" for line in lines)
 
 
-def read_result(folder: str) -> Optional[Dict[str, Any]]:
+def read_result(folder: str) -> Optional[Kept]:
     """What is kept of a log, or nothing where that is no result."""
     try:
         with open(os.path.join(folder, RESULT), encoding="utf-8") as file:
-            kept = json.load(file)
-        result_of(kept)
-        trigger_names_of(kept)
-        os.fsencode(json.dumps(kept, ensure_ascii=False))  # what is no text and no name of a file cannot be told
-        return kept
+            fields = json.load(file)
+        os.fsencode(json.dumps(fields, ensure_ascii=False))  # what is no text and no name of a file cannot be told
+        return kept_of(fields)
     except (OSError, ArithmeticError, ValueError, KeyError, TypeError, AttributeError, RecursionError):
         return None
 
 
-def trigger_names_of(kept: Dict[str, Any]) -> List[str]:
-    """The triggers of the specification that a result came of."""
-    return [str(trigger) for trigger in kept.get("trigger_names") or []]
+def kept_of(fields: Dict[str, Any]) -> Kept:
+    """What the fields of a file say. It may have been changed by anybody."""
+    triggers = {str(name): Found(int(often), str(first), str(message)) for name, (often, first, message) in fields["triggers"].items()}
+    result = Result(str(fields["log"]), int(fields["status"]), str(fields["end"]), int(fields["accepted"]), int(fields["late"]), triggers)
+    trigger_names = [str(name) for name in fields.get("trigger_names") or []]
+    return Kept(Origin._make(fields.get(name) for name in Origin._fields), trigger_names, result)
 
 
-def result_of(kept: Dict[str, Any]) -> Result:
-    triggers = {str(name): Found(int(count), str(first), str(message))
-                for name, (count, first, message) in kept["triggers"].items()}
-    numbers = [int(kept[name]) for name in ("accepted", "late")]
-    return Result(str(kept["log"]), int(kept["status"]), str(kept["end"]), *numbers, triggers)
+def fields_of(kept: Kept) -> Dict[str, Any]:
+    """The fields of the file in which that is kept."""
+    result = kept.result
+    return {**kept.origin._asdict(), "trigger_names": kept.trigger_names, "status": result.status, "end": result.end,
+            "accepted": result.accepted, "late": result.late, "triggers": {name: list(found) for name, found in result.triggers.items()}}
 
 
 def write_summary(results: str, rows: List[Result], trigger_names: List[str]) -> None:
@@ -110,6 +129,6 @@ def write_summary(results: str, rows: List[Result], trigger_names: List[str]) ->
             told: List[object] = [result.log, result.status, result.told_end(), result.accepted, result.late]
             for name in trigger_names:
                 found = result.triggers.get(name)
-                told += [found.count, found.first] if found else [0, ""]
+                told += [found.often, found.first] if found else [0, ""]
             table.writerow(told)
     os.rename(unfinished, os.path.join(results, SUMMARY))

@@ -4,9 +4,10 @@ from __future__ import annotations
 import time
 from typing import Dict, Iterable, List, NamedTuple
 
-from answers.command import say
+from answers.verdicts import trigger_order
 from batches.command import NOT_WELL
 from batches.results import Result
+from commands.command import say, write
 from explaining.places import shown, shown_name
 
 FIRST_WORD = 1.0  # so many seconds pass before the first word of progress
@@ -18,7 +19,7 @@ KINDS = ("done", "malformed", "fault", "unreadable", "other")
 class Seen(NamedTuple):
     """What a trigger came to in all logs."""
 
-    count: int
+    often: int
     logs: int
     first_log: str
     first: str
@@ -43,7 +44,7 @@ class Totals:
         self.kept += was_kept
         for name, found in result.triggers.items():
             before = self.triggers.get(name) or Seen(0, 0, result.log, found.first, found.message)
-            self.triggers[name] = before._replace(count=before.count + found.count, logs=before.logs + 1)
+            self.triggers[name] = before._replace(often=before.often + found.often, logs=before.logs + 1)
 
     def went_well(self) -> bool:
         return self.missing == 0 and sum(self.kinds.values()) == self.kinds["done"]
@@ -55,13 +56,13 @@ class Totals:
                 if "any" in wanted or name in wanted or self.triggers[name].message in wanted]
 
     def in_order(self) -> List[str]:
-        return sorted(self.triggers, key=lambda name: (len(name), name))
+        return sorted(self.triggers, key=trigger_order)
 
     def lines(self) -> List[str]:
         lines = []
         for name in self.in_order():
             seen = self.triggers[name]
-            lines.append(f'{name} "{shown(seen.message.encode("utf-8", "replace"))}": {seen.count} in {counted(seen.logs, "log")}, '
+            lines.append(f'{name} "{shown(seen.message.encode("utf-8", "replace"))}": {seen.often} in {counted(seen.logs, "log")}, '
                          f"first in {shown_name(seen.first_log)} at {seen.first}")
         logs = sum(self.kinds.values()) + self.missing
         kinds = " ".join(f"{kind} {count}" for kind, count in self.kinds.items())
@@ -73,12 +74,12 @@ def counted(number: int, what: str) -> str:
 
 
 def line_of(result: Result) -> str:
-    found = [f", {name} {found.count} first {found.first}"
-             for name, found in sorted(result.triggers.items(), key=lambda item: (len(item[0]), item[0]))]
-    return f"{shown_name(result.log)}: {result.told_end()}, accepted {result.accepted}, late {result.late}{''.join(found)}"
+    triggers = "".join(f", {name} {result.triggers[name].often} first {result.triggers[name].first}"
+                       for name in sorted(result.triggers, key=trigger_order))
+    return f"{shown_name(result.log)}: {result.told_end()}, accepted {result.accepted}, late {result.late}{triggers}"
 
 
-class Progress:
+class LogsProgress:
     """Says now and then how far a batch has come, and nothing within its first second."""
 
     def __init__(self, tool: str) -> None:
@@ -93,8 +94,7 @@ class Progress:
 
 def tell_totals(totals: Totals, fail_on: List[str]) -> int:
     """Writes the sums, and gives the status of a batch that came to them."""
-    for line in totals.lines():
-        print(line)
+    write("".join(line + "\n" for line in totals.lines()))
     if totals.came(fail_on):
         return TRIGGER_CAME
     return 0 if totals.went_well() else NOT_WELL

@@ -7,11 +7,11 @@ import re
 import selectors
 import subprocess
 import time
-from typing import Any, BinaryIO, Dict, List, NamedTuple, Optional
+from typing import BinaryIO, Dict, List, NamedTuple, Optional
 
 from batches.logs import Log
-from batches.plan import Plan, origin
-from batches.results import RESULT, TRACE, VERDICTS, Found, Result, folder_of
+from batches.plan import Plan, origin_of
+from batches.results import RESULT, TRACE, VERDICTS, Found, Kept, Result, fields_of, folder_of
 from explaining.watching import Lines, Watch
 
 BLOCK = 65536
@@ -28,15 +28,15 @@ class Verdicts(Watch):
 
     def see(self, lines: bytes) -> None:
         super().see(lines)
-        for time, name, message in VERDICT.findall(lines):
-            self.count(name.decode(), time, message)
+        for moment, name, message in VERDICT.findall(lines):
+            self.count(name.decode(), moment, message)
 
-    def count(self, name: str, time: bytes, message: bytes) -> None:
+    def count(self, name: str, moment: bytes, message: bytes) -> None:
         before = self.triggers.get(name)
         if before:
-            self.triggers[name] = before._replace(count=before.count + 1)
+            self.triggers[name] = before._replace(often=before.often + 1)
         else:
-            self.triggers[name] = Found(1, time.decode(), message.decode("utf-8", "replace"))
+            self.triggers[name] = Found(1, moment.decode(), message.decode("utf-8", "replace"))
 
 
 class Trace(Watch):
@@ -93,17 +93,17 @@ def run_log(command: List[str], log: str, verdicts: Optional[BinaryIO], trace: O
     return Result(log, process.returncode, end, rows.rows - late, late, seen.triggers)
 
 
-def described(plan: Plan, log: Log, result: Result) -> Dict[str, Any]:
-    """The result as it is kept, and what it was a result of."""
-    return {**origin(plan, log), "trigger_names": plan.trigger_names, "status": result.status, "end": result.end, "accepted": result.accepted,
-            "late": result.late, "triggers": {name: list(found) for name, found in result.triggers.items()}}
+def keep(path: str, kept: Kept, began: int) -> None:
+    """Writes what is kept of a log. It counts as written when the run began, so that what changed meanwhile is newer."""
+    unfinished = f"{path}.unfinished"
+    with open(unfinished, "w", encoding="utf-8") as file:
+        json.dump(fields_of(kept), file)
+    os.utime(unfinished, ns=(began, began))
+    os.rename(unfinished, path)
 
 
-def run_and_keep(plan: Plan, log: Log) -> Result:
-    """Runs a log. Where results are kept, its folder gets the verdicts and the trace, and last the result."""
-    if plan.folder is None:
-        return run_log(plan.words(log), log.name, None, None)
-    folder = folder_of(plan.folder, log.name)
+def run_in_folder(plan: Plan, log: Log, folder: str) -> Result:
+    """Runs a log, whose folder gets the verdicts and the trace, and last the result."""
     os.makedirs(folder, exist_ok=True)
     path = os.path.join(folder, RESULT)
     if os.path.lexists(path):
@@ -112,9 +112,12 @@ def run_and_keep(plan: Plan, log: Log) -> Result:
     with open(os.path.join(folder, VERDICTS), "wb") as verdicts, open(os.path.join(folder, TRACE), "wb") as trace:
         result = run_log(plan.words(log), log.name, verdicts, trace)
     if result.status in LASTING:
-        unfinished = f"{path}.unfinished"
-        with open(unfinished, "w", encoding="utf-8") as file:
-            json.dump(described(plan, log, result), file)
-        os.utime(unfinished, ns=(began, began))
-        os.rename(unfinished, path)
+        keep(path, Kept(origin_of(plan, log), plan.trigger_names, result), began)
     return result
+
+
+def run_and_keep(plan: Plan, log: Log) -> Result:
+    """Runs a log, and keeps what it writes where that is wanted."""
+    if plan.folder is None:
+        return run_log(plan.words(log), log.name, None, None)
+    return run_in_folder(plan, log, folder_of(plan.folder, log.name))

@@ -3,19 +3,20 @@ from __future__ import annotations
 
 import difflib
 import shlex
-from typing import Dict, List, Optional, Union
+from math import inf
+from typing import Dict, Iterator, List, Optional, Tuple
 
-from explaining.places import shown, shown_name
+from explaining.places import Place, shown, shown_name
 from findings.finding import ERROR, LEVELS, NOTE, WARNING, Finding, counted
 from findings.forecast import Forecast, left, unreadable
-from sources import lines
 from sources.columns import Column, Problem
-from sources.lines import TIME_NAMES, Heading, join
+from sources.lines import SIGN, TIME_NAMES, Heading, Kind, join
 from sources.reading import Source, Taken
-from sources.values import BLANKS, SECOND, UNITS, mended_time, mended_value, seconds, time_of, unit_of, written_time
+from sources.values import BLANKS, SECOND, UNITS, Loss, mended_time, mended_value, seconds, time_of, unit_of, written_time
 from specifications.deadlines import count_deadlines
 from specifications.specification import Specification
 
+TOOL = "lolamon-doctor"
 LINES = {  # what is told of whole lines and of times, by the sort of the problem
     "kind 5": "{lines} not in UTF-8, or with a byte order mark in front, as where files were joined",
     "kind 6": "{lines} with a carriage return that no line feed follows",
@@ -31,45 +32,31 @@ LINES = {  # what is told of whole lines and of times, by the sort of the proble
 FIELDS = {  # and of fields
     "blanks": "{fields} with blanks at an end, as '{field}': they belong to the text",
     "missing": "{fields} such as '{field}', which is no {kind}: a missing value is nothing, or #",
-    "decimals": "{fields} with decimals or an exponent, and {kind} is whole; --fix writes {name} times {scale:,}, and what the specification "
-                "compares it with has to be so too",
+    "decimals": "{fields} with decimals or an exponent, and {kind} is whole; --fix writes {name} times {scale:,}, and what the "
+                "specification compares it with has to be so too",
     "certain": "{fields} with thousands points, such as '{field}': --fix leaves the points of {name} out",
-    "thousands": "{fields} such as '{field}', whose points may be thousands points, since three digits stand behind each: --fix writes nothing "
-                 "until --thousands={name} says that they are, or --scale={name}={power} that they are decimal points",
+    "thousands": "{fields} such as '{field}', whose points may be thousands points, since three digits stand behind each: --fix writes "
+                 "nothing until --thousands={name} says that they are, or --scale={name}={power} that they are decimal points",
     "truth": "{fields} such as '{field}', where Bool is true or false",
     "range": "{fields} out of the range of {kind}, such as {field}{room}",
     "other": "{fields} such as '{field}', which is no {kind}",
 }
-TOOL = "lolamon-doctor"
 NAMES = 8  # so many columns are named
 MOST_NEAR = 1000  # so many columns are compared with the names of inputs
 SLOW_STEP = 10 * SECOND
 
 
-def replaced(fields: List[str], index: int, text: str) -> str:
-    """A line with one field replaced."""
-    return join([text if place == index else old for place, old in enumerate(fields)])
-
-
 class Doctor:
-    """Tells of one specification and its sources, after they were looked at."""
+    """Tells of one specification and its sources, after they were looked at. Each part gives findings."""
 
     def __init__(self, specification: Specification, sources: List[Source], taken: Taken) -> None:
         self.specification = specification
         self.sources = sources
         self.taken = taken
-        self.found: List[Finding] = []
         self.headings = [(source, source.heading) for source in sources if source.heading and source.heading.is_whole]
         # The columns that no input has, each with the first source that has it.
         self.free = {name: source for source, heading in reversed(self.headings) for name in self.free_names(heading)}
-        self.nearest: Dict[str, str] = {}  # the column whose name is nearest to that of an input without one
-        for name in filter(self.has_no_column, specification.inputs):
-            near = nearest(name, [column for column in list(self.free)[:MOST_NEAR] if column and column not in self.nearest.values()])
-            if near:
-                self.nearest[name] = near
-
-    def add(self, level: str, of: Union[Source, Specification], number: int, message: str, line: str = "", better: str = "") -> None:
-        self.found.append(Finding(level, of.name, number, message, line, better))
+        self.nearest = self.nearest_columns()
 
     def free_names(self, heading: Heading) -> List[str]:
         return [name for index, name in enumerate(heading.names)
@@ -78,133 +65,165 @@ class Doctor:
     def has_no_column(self, name: str) -> bool:
         return bool(self.headings) and name not in TIME_NAMES and not any(name in heading.inputs for _, heading in self.headings)
 
+    def nearest_columns(self) -> Dict[str, str]:
+        """For inputs without a column the one whose name is nearest, which no input has."""
+        found: Dict[str, str] = {}
+        for name in filter(self.has_no_column, self.specification.inputs):
+            near = nearest(name, [column for column in list(self.free)[:MOST_NEAR] if column and column not in found.values()])
+            if near:
+                found[name] = near
+        return found
+
     def findings(self) -> List[Finding]:
-        self.tell_inputs()
+        found = list(self.of_inputs())
         for number, source in enumerate(self.sources):
-            begin = len(self.found)
-            self.tell_source(number, source)
-            self.found[begin:] = sorted(self.found[begin:], key=lambda finding: (finding.number or 10**15, LEVELS.index(finding.level)))
-        return self.found + Forecast(self.specification, self.sources, self.taken).findings()
+            found += sorted(self.of_source(number, source), key=place_and_level)
+        return found + Forecast(self.specification, self.sources, self.taken).findings()
 
-    def tell_inputs(self) -> None:
-        """Tells of inputs that get no value, and have no column that might be meant."""
+    def of_inputs(self) -> Iterator[Finding]:
+        """Inputs that get no value, and have no column that might be meant."""
         for name in self.specification.inputs:
-            place, _ = self.specification.places(name)
-            number, before, behind = (place.line, place.before, place.behind) if place else (0, "", name)
+            place = self.specification.place(name) or Place(0, 0, "", name)
+            line = place.before + place.behind
             if name in TIME_NAMES:
-                self.add(WARNING, self.specification, number, f"the input {name} gets no value, since a column of this name is that of the times; "
-                         "it needs another name, here, where it is read, and for a column of its own", before + behind,
-                         f"{before}stamp{behind[len(name):]}")
+                message = (f"the input {name} gets no value, since a column of this name is that of the times; it needs another name, "
+                           "here, where it is read, and for a column of its own")
+                better = f"{place.before}stamp{place.behind[len(name):]}"
+                yield Finding(WARNING, self.specification.name, place.line, message, line, better)
             elif self.has_no_column(name) and name not in self.nearest:
-                self.add(WARNING, self.specification, number, f"no source has a column for the input {name}, so what reads it is never computed",
-                         before + behind)
+                message = f"no source has a column for the input {name}, so what reads it is never computed"
+                yield Finding(WARNING, self.specification.name, place.line, message, line)
 
-    def tell_source(self, number: int, source: Source) -> None:
+    def of_source(self, number: int, source: Source) -> Iterator[Finding]:
         failed, malformed = unreadable(source), left(number, source)
         if failed:
-            self.found.append(failed)
+            yield failed
             return
         if source.heading:
-            self.tell_rows(number, source, source.heading)
+            yield from self.of_rows(number, source, source.heading)
         else:
-            self.add(ERROR, source, 1, "there is no line, so there is no heading")
+            yield Finding(ERROR, source.name, 1, "there is no line, so there is no heading")
         if malformed:
-            self.found.append(malformed)
+            yield malformed
 
-    def tell_rows(self, number: int, source: Source, heading: Heading) -> None:
-        """Tells of the heading of a source, and of what stands behind it."""
+    def of_rows(self, number: int, source: Source, heading: Heading) -> Iterator[Finding]:
+        """The heading of a source, and what stands behind it."""
         new_names = {heading.names.index(column): name for name, column in self.nearest.items() if self.free[column] is source}
-        self.tell_heading(source, heading, new_names)
+        yield from self.of_heading(source, heading, new_names)
         for sort, problem in source.problems.items():
-            self.tell_line(source, heading, sort, problem)
+            yield of_line(source, heading, sort, problem)
         for column in source.columns:
-            self.tell_column(source, heading, column)
-        self.tell_order(number, source)
-        self.tell_steps(source, heading)
-        self.tell_mending(source, heading, new_names)
+            yield from self.of_column(source, heading, column)
+        yield from self.of_order(number, source)
+        yield from self.of_steps(source, heading)
+        yield from self.of_mending(source, heading, new_names)
 
-    def tell_heading(self, source: Source, heading: Heading, new_names: Dict[int, str]) -> None:
+    def of_heading(self, source: Source, heading: Heading, new_names: Dict[int, str]) -> Iterator[Finding]:
         better = heading.mended(new_names) if heading.is_whole and heading.time is not None else ""
         if not heading.is_right:
-            self.add(ERROR, source, heading.number, f"the heading is malformed: {why_malformed(source, heading)}", heading.text, better)
+            message = f"the heading is malformed: {why_malformed(source, heading)}"
+            yield Finding(ERROR, source.name, heading.number, message, heading.text, better)
         for index, name in new_names.items():
-            place, _ = self.specification.places(name)
-            self.add(WARNING, source, heading.number, f"no source has a column for the input {name} of {shown_name(self.specification.name)}:"
-                     f"{place.line if place else 1}, so what reads it is never computed; the nearest is "
-                     f"'{shown(heading.names[index].encode())}'", heading.text, better)
+            place = self.specification.place(name)
+            of = f"{shown_name(self.specification.name)}:{place.line if place else 1}"
+            message = (f"no source has a column for the input {name} of {of}, so what reads it is never computed; the nearest is "
+                       f"'{shown(heading.names[index].encode())}'")
+            yield Finding(WARNING, source.name, heading.number, message, heading.text, better)
         free = self.free_names(heading)
         if free and heading.is_whole:
             names = ", ".join(shown(name.encode()) or "(no name)" for name in free[:NAMES])
             more = f" and {len(free) - NAMES} more" if len(free) > NAMES else ""
-            self.add(NOTE, source, heading.number, f"{counted(len(free), 'column')} that no input has: {names}{more}")
+            yield Finding(NOTE, source.name, heading.number, f"{counted(len(free), 'column')} that no input has: {names}{more}")
 
-    def tell_line(self, source: Source, heading: Heading, sort: str, problem: Problem) -> None:
-        unit = unit_of(problem.field)
-        message = LINES[sort].format(lines=counted(problem.count, "line"), rows=counted(problem.count, "row"), wanted=len(heading.names),
-                                     unit=f"; these look like {UNITS[unit]}" if unit else "")
-        time = mended_time(problem.field, unit) if sort in ("date", "unit") else None
-        better = "" if time is None or heading.time is None else replaced(heading.fields(problem.text), heading.time, written_time(time))
-        self.add(ERROR, source, problem.number, message, problem.text, better)
-
-    def tell_column(self, source: Source, heading: Heading, column: Column) -> None:
+    def of_column(self, source: Source, heading: Heading, column: Column) -> Iterator[Finding]:
         if source.rows and not column.places and not column.problems:
-            self.add(WARNING, source, heading.number, f"the column {column.name} has no value in any row")
+            yield Finding(WARNING, source.name, heading.number, f"the column {column.name} has no value in any row")
         doubt, certain = column.in_doubt(), column.with_thousands()
         for sort, pointed in (("thousands", doubt), ("certain", certain)):
             if pointed:
-                self.add(ERROR, source, pointed.number, told_of_field(sort, pointed, column), pointed.text)
+                yield Finding(ERROR, source.name, pointed.number, told_of_field(sort, pointed, column), pointed.text)
         for sort, problem in column.problems.items():
-            if sort == "decimals" and (doubt or certain) or sort == "other" and certain and problem.count == certain.count:
-                continue  # that is told already
-            is_blank = sort == "blanks"
-            value, lost = (problem.field.strip(BLANKS), "") if is_blank else mended_value(problem.field, column.kind, column.power())
-            better = "" if lost == "dropped" else replaced(heading.fields(problem.text), column.index, value)
-            level = WARNING if is_blank else ERROR
-            self.add(level, source, problem.number, told_of_field(sort, problem, column), problem.text, better)
+            is_told = sort == "decimals" and (doubt or certain) or sort == "other" and certain and problem.count == certain.count
+            if not is_told:
+                yield of_field(source, heading, column, sort, problem)
 
-    def tell_order(self, number: int, source: Source) -> None:
-        """Tells of rows that go back and of jumps, and whether a row ahead of all others makes both."""
+    def of_order(self, number: int, source: Source) -> Iterator[Finding]:
+        """Rows that go back, jumps, and whether a row ahead of all others makes both."""
         clock = source.clock
         back, jump = clock.problems.get("back"), clock.problems.get("jump")
         is_ahead = back is not None and jump is not None and clock.line_ahead in (jump.number, clock.longest.number)
         if back:
             why = ", which jumps ahead and may be what is wrong" if is_ahead else ""
-            self.add(WARNING, source, back.number,
-                     f"{counted(back.count, 'row')} behind a row of a later time, by {seconds(clock.furthest_back)} s at most: they are late "
-                     f"and not judged; the first is behind line {clock.line_ahead}{why}", back.text)
+            message = (f"{counted(back.count, 'row')} behind a row of a later time, by {seconds(clock.furthest_back)} s at most: they are "
+                       f"late and not judged; the first is behind line {clock.line_ahead}{why}")
+            yield Finding(WARNING, source.name, back.number, message, back.text)
         if jump:
             length, time, line, text = clock.longest
-            deadlines, _ = count_deadlines(self.specification.rates(), length)
+            deadlines = count_deadlines(self.specification.rates(), length).moments
             due = f" and {deadlines:,} deadlines" if deadlines else ""
             what_helps = "" if is_ahead else f"; if the clock was set there, --start {written_time(time)} leaves out what comes before"
-            self.add(WARNING, source, line, f"the time jumps by {seconds(length)} s{due}, where {seconds(clock.usual)} s are usual; "
-                     f"{counted(jump.count, 'jump')}, the first at line {jump.number}{what_helps}", text)
+            message = (f"the time jumps by {seconds(length)} s{due}, where {seconds(clock.usual)} s are usual; "
+                       f"{counted(jump.count, 'jump')}, the first at line {jump.number}{what_helps}")
+            yield Finding(WARNING, source.name, line, message, text)
         late = self.taken.late[number]
         if late > (back.count if back else 0) or late and source.end:
-            self.add(WARNING, source, 0, f"{counted(late, 'row')} of {source.rows:,} will be late in the run")
+            yield Finding(WARNING, source.name, 0, f"{counted(late, 'row')} of {source.rows:,} will be late in the run")
 
-    def tell_steps(self, source: Source, heading: Heading) -> None:
-        """Tells of steps from row to row that are so long that they may be of another unit."""
+    def of_steps(self, source: Source, heading: Heading) -> Iterator[Finding]:
+        """Steps from row to row that are so long that the times may be of another unit."""
         usual = source.clock.usual
         if usual < SLOW_STEP or usual % SECOND:
             return
         longest = self.specification.longest()
         is_long = 0 < longest <= usual
         behind = f", and no window or period of the specification is longer than {seconds(longest)} s" if is_long else ""
-        self.add(WARNING if is_long else NOTE, source, heading.number, f"{seconds(usual)} s from row to row are usual{behind}: if the "
-                 "times are milliseconds or microseconds, --fix with --unit ms or us makes seconds of them")
+        message = (f"{seconds(usual)} s from row to row are usual{behind}: if the times are milliseconds or microseconds, --fix with "
+                   "--unit ms or us makes seconds of them")
+        yield Finding(WARNING if is_long else NOTE, source.name, heading.number, message)
 
-    def tell_mending(self, source: Source, heading: Heading, new_names: Dict[int, str]) -> None:
-        """Tells how to have a source written anew, where that mends something."""
+    def of_mending(self, source: Source, heading: Heading, new_names: Dict[int, str]) -> Iterator[Finding]:
+        """How to have a source written anew, where that mends something."""
         options = [f"--rename={heading.names[index]}={name}" for index, name in new_names.items()]
         options += ["--sort"] if "back" in source.clock.problems else []
         doubted = [column for column in source.columns if column.in_doubt()]
         options += [f"--thousands={column.name}" for column in doubted]
         if heading.time is not None and (options or source.end):
             words = " ".join(map(shlex.quote, [TOOL, "--fix", "fixed.csv", *options, self.specification.name, source.name]))
-            others = "".join(f"; with --scale={column.name}={column.power()} in the place of --thousands={column.name} where its points are "
-                             "decimal points" for column in doubted)
-            self.add(NOTE, source, 0, f"a source fixed.csv that can be read is written by: {shown_name(words)}{others}")
+            others = "".join(f"; with --scale={column.name}={column.power()} in the place of --thousands={column.name} where its points "
+                             "are decimal points" for column in doubted)
+            yield Finding(NOTE, source.name, 0, f"a source fixed.csv that can be read is written by: {shown_name(words)}{others}")
+
+
+def replaced(fields: List[str], index: int, text: str) -> str:
+    """A line with one field replaced."""
+    return join([text if place == index else old for place, old in enumerate(fields)])
+
+
+def place_and_level(finding: Finding) -> Tuple[float, int]:
+    """What the findings of a source are sorted by. Those without a line come last."""
+    return finding.number or inf, LEVELS.index(finding.level)
+
+
+def of_line(source: Source, heading: Heading, sort: str, problem: Problem) -> Finding:
+    """Lines or times that have one thing wrong."""
+    unit = unit_of(problem.field)
+    message = LINES[sort].format(lines=counted(problem.count, "line"), rows=counted(problem.count, "row"), wanted=len(heading.names),
+                                 unit=f"; these look like {UNITS[unit]}" if unit else "")
+    time = mended_time(problem.field, unit) if sort in ("date", "unit") else None
+    better = "" if time is None or heading.time is None else replaced(heading.fields(problem.text), heading.time, written_time(time))
+    return Finding(ERROR, source.name, problem.number, message, problem.text, better)
+
+
+def of_field(source: Source, heading: Heading, column: Column, sort: str, problem: Problem) -> Finding:
+    """Fields of a column that have one thing wrong."""
+    fields = heading.fields(problem.text)
+    message = told_of_field(sort, problem, column)
+    if sort == "blanks":
+        better = replaced(fields, column.index, problem.field.strip(BLANKS))
+        return Finding(WARNING, source.name, problem.number, message, problem.text, better)
+    mended = mended_value(problem.field, column.kind, column.power())
+    better = "" if mended.loss == Loss.DROPPED else replaced(fields, column.index, mended.text)
+    return Finding(ERROR, source.name, problem.number, message, problem.text, better)
 
 
 def told_of_field(sort: str, problem: Problem, column: Column) -> str:
@@ -224,11 +243,10 @@ def nearest(name: str, columns: List[str]) -> Optional[str]:
 
 
 def why_malformed(source: Source, heading: Heading) -> str:
-    kind = source.end[1] if source.end else 0
     if heading.foreign:
         return heading.foreign
-    if kind in (lines.ROW_TOO_LONG, lines.BARE_CR, lines.BAD_TEXT):
-        return LINES[f"kind {kind}"].format(lines="it is one")
+    if source.end and source.end.kind in (Kind.ROW_TOO_LONG, Kind.BARE_CR, Kind.BAD_TEXT):
+        return LINES[f"kind {source.end.kind}"].format(lines="it is one")
     if heading.separator != ",":
         return f"its fields are separated by {heading.separator!r} and not by commas"
     if len(heading.times) > 1:
@@ -238,12 +256,12 @@ def why_malformed(source: Source, heading: Heading) -> str:
             return f"no column is called time, ts or timestamp; {shown(heading.names[heading.time].encode())!r} may be it"
         has_number = any(time_of(name) is not None for name in heading.names)
         return "no column is called time, ts or timestamp" + ("; the first line has to have the names of the columns" if has_number else "")
-    if heading.text.startswith(lines.SIGN):
+    if heading.text.startswith(SIGN):
         return "a byte order mark stands before it that is not at the start of the file, or one too many"
     return "it names an input twice"
 
 
 def wider(name: str, text: str) -> str:
     """The kind that has room for a number, said behind the finding."""
-    kinds = [kind for kind in ("Int8", "Int16", "Int32", "Int64", "UInt64") if not mended_value(text, kind, 0)[1]]
+    kinds = [kind for kind in ("Int8", "Int16", "Int32", "Int64", "UInt64") if mended_value(text, kind, 0).loss == Loss.NOTHING]
     return f"; in the specification {name}: {kinds[0]} has room" if kinds else ""

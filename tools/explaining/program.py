@@ -6,13 +6,10 @@ import shutil
 import subprocess
 from typing import List, Optional
 
+from commands.failures import NoProgram
 from explaining.folders import CHECKOUT, TOOLS, is_checkout
 
 BUILT = ("bin/x86_64-linux/lolamon", "crates/lolamon/out/lolamon")
-
-
-class NoProgram(Exception):
-    """There is no lolamon that can be started."""
 
 
 def find_program() -> str:

@@ -10,7 +10,7 @@ import resource
 import select
 import signal
 import threading
-from typing import Callable, Dict, List, NoReturn, Set, Tuple
+from typing import Callable, Dict, Iterable, List, NoReturn, Set, Tuple
 
 from explaining.outcome import ERRORS, OUTPUT, Outcome
 from explaining.watching import Lines, Watch
@@ -113,7 +113,7 @@ class Run:
         return Outcome(status, None, self.watch, self.failures, in_a_line)
 
 
-def wait(child: int, signals: Set[int]) -> int:
+def wait(child: int, signals: Iterable[int]) -> int:
     """Waits for the end of the program. Signals, which are blocked so that none is missed, are passed on to it."""
     while True:
         number = signal.sigwait(signals)

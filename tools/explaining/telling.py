@@ -205,18 +205,8 @@ class Teller:
         if len(late) > MOST_LATE_SOURCES:
             rest = late[MOST_LATE_SOURCES:]
             lines.append(f"  {sum(count for _, count in rest)} of {len(rest)} other sources")
-        return lines + self.why_late()
-
-    def why_late(self) -> List[str]:
         several = len(self.command.sources) > 1
-        reason = "A row is late where its time is below that of a row that was taken before it, or below --start."
-        if not several and "--start" not in self.command.options:
-            reason += " So the times of this source go back."
-        if several and "--in-turns" in self.command.options:
-            reason += " In turns the source with fewer rows gets ahead of the others. Without --in-turns files are merged by time."
-        if several and "--in-turns" not in self.command.options:
-            reason += " Files are merged by time, so the times of a file with late rows go back. A late row of a pipe came behind a later one."
-        return [reason, *self.manual.more(LATE_ROWS), *(self.manual.more(SEVERAL) if several else [])]
+        return [*lines, why_late(self.command), *self.manual.more(LATE_ROWS), *(self.manual.more(SEVERAL) if several else [])]
 
     def source(self, number: str) -> Optional[str]:
         sources = self.command.sources if self.command else []
@@ -268,6 +258,16 @@ def mark(stream: int) -> str:
     """The mark below a place, in bold where the stream is a terminal that can and may."""
     is_plain = os.environ.get("NO_COLOR") or os.environ.get("TERM", "dumb") == "dumb" or not os.isatty(stream)
     return "^" if is_plain else "\x1b[1m^\x1b[0m"
+
+
+def why_late(command: Command) -> str:
+    reason = "A row is late where its time is below that of a row that was taken before it, or below --start."
+    if len(command.sources) <= 1:
+        return reason if "--start" in command.options else f"{reason} So the times of this source go back."
+    if "--in-turns" in command.options:
+        return f"{reason} In turns the source with fewer rows gets ahead of the others. Without --in-turns files are merged by time."
+    return (f"{reason} Files are merged by time, so the times of a file with late rows go back. A late row of a pipe came behind a later "
+            "one.")
 
 
 def why_unreadable(path: str) -> str:

@@ -3,7 +3,7 @@ from __future__ import annotations
 
 from typing import List, NamedTuple
 
-from answers.command import write
+from commands.command import write
 from explaining.messages import read_messages
 from explaining.places import shown, shown_name
 from specifications.specification import Refusal

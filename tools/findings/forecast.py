@@ -1,20 +1,26 @@
 """What a run will have: the rows that it takes, its steps and deadlines, and the time and the memory that they take."""
 from __future__ import annotations
 
-from typing import List, Optional, Tuple
+from typing import List, NamedTuple, Optional
 
 from findings.finding import ERROR, NOTE, WARNING, Finding, counted
 from sources.reading import Source, Taken
 from sources.values import SECOND, seconds, written_time
-from specifications.deadlines import count_deadlines
+from specifications.deadlines import Deadlines, count_deadlines
 from specifications.report import Stream
 from specifications.specification import Specification
 
-KINDS = {1: "BadHeading", 2: "FieldCount", 3: "BadTime", 4: "BadValue", 5: "BadText", 6: "BareCr", 7: "RowTooLong"}
 MOST_INSTANCES = 65_536
 SLOW = 60 * SECOND  # a run that takes longer for its deadlines is warned of
 ROW_TIME, STREAM_TIME, DEADLINE_TIME = 600, 150, 100  # nanoseconds: of a row, of a stream in it, and of a stream at a deadline
 PIECES, AHEAD = 128 * 1024, 384 * 1024  # bytes of a source, and of one that is read ahead
+
+
+class Memory(NamedTuple):
+    """The bytes of an instance, as a rule and at most."""
+
+    usual: int
+    most: int
 
 
 class Forecast:
@@ -48,10 +54,10 @@ class Forecast:
             f"a run accepts {counted(taken.accepted, 'row')}, finds {sum(taken.late):,} late and has {'' if is_exact else 'at most '}"
             f"{counted(taken.accepted + deadlines, 'step')}, {deadlines:,} of them deadlines; it takes {duration(time)}{births}")
 
-    def deadlines(self) -> Tuple[int, bool]:
-        """How many moments of deadlines a run has, and whether that is no upper bound."""
+    def deadlines(self) -> Deadlines:
+        """How many moments of deadlines a run has."""
         if self.taken.last is None or self.taken.start is None:
-            return 0, True
+            return Deadlines(0, True)
         return count_deadlines(self.specification.rates(), self.taken.last - self.taken.start)
 
     def time_of(self, deadlines: int) -> int:
@@ -67,7 +73,7 @@ class Forecast:
         before, better = f"--start {written_time(start)}", f"--start {written_time(min(firsts) if first is None else first)}"
         if first is None:
             return self.of_run(WARNING, "--start lies behind all rows", before, better)
-        deadlines, _ = count_deadlines(self.specification.rates(), first - start - 1)  # at one time rows come first
+        deadlines = count_deadlines(self.specification.rates(), first - start - 1).moments  # at one time rows come first
         message = f"the first row that is accepted comes {seconds(first - start)} s behind --start, and {deadlines:,} deadlines before it"
         if self.time_of(deadlines) > SLOW:
             return self.of_run(WARNING, message, before, better)
@@ -75,7 +81,7 @@ class Forecast:
 
     def memory(self) -> Finding:
         streams = self.specification.streams
-        least = sum(self.instance(stream)[0] for stream in streams if not stream.spawn)
+        least = sum(self.instance(stream).usual for stream in streams if not stream.spawn)
         files = sum(AHEAD if source.is_read_ahead(PIECES, len(self.sources) > 1) else PIECES for source in self.sources)
         message = f"a run takes about {size(least + files)} of memory beside the program, {size(files)} of them for its sources"
         for stream in streams:
@@ -86,12 +92,12 @@ class Forecast:
         texts = "; texts that are kept come on top" if any(stream.kind == "String" for stream in streams) else ""
         return self.of_run(NOTE, message + texts)
 
-    def instance(self, stream: Stream) -> Tuple[int, int]:
-        """The bytes of an instance of the stream, about and at most, by the sum of docs/formats.md."""
+    def instance(self, stream: Stream) -> Memory:
+        """What an instance of the stream takes, by the sum of docs/formats.md."""
         onto = [window for window in self.specification.windows if window.target == stream.name]
         values = 32 * stream.kept + sum(48 * window.panes for window in onto)
         others = 290 + 100 * len(onto) + (170 if stream.spawn else 0) + (24 if "Local" in stream.pacing else 0) + 280
-        return values + others, values + 2 * others
+        return Memory(values + others, values + 2 * others)
 
 
 def unreadable(source: Source) -> Optional[Finding]:
@@ -105,7 +111,7 @@ def left(number: int, source: Source) -> Optional[Finding]:
         return None
     row, kind, line = source.end
     where = f"row {row:,}" if row else "its heading"
-    return Finding(ERROR, source.name, line, f"a run leaves source {number} at {where}: kind {kind} {KINDS[kind]}, status 4")
+    return Finding(ERROR, source.name, line, f"a run leaves source {number} at {where}: kind {kind} {kind.label}, status 4")
 
 
 def size(count: int) -> str:

@@ -4,11 +4,11 @@ from __future__ import annotations
 import os
 from typing import List, Optional, Tuple
 
-from answers.lines import Unfit
-from answers.verdicts import Verdicts, nanoseconds, plain, status_of
-from pictures.panel import Span, Wanted
-from pictures.picture import Picture, Trigger
-from pictures.specification import Specification
+from answers.verdicts import Instance, Verdict, Verdicts, nanoseconds, plain, status_of, trigger_order
+from commands.failures import Unfit
+from pictures.panel import Span
+from pictures.picture import Groups, Picture, Trigger
+from pictures.specification import Streams
 
 KEPT = "verdicts.txt"  # the name that the verdicts of each log have in the results of a batch
 
@@ -27,43 +27,43 @@ class Overlay(Picture):
 
     nothing = "no verdicts have a line at these times"
 
-    def __init__(self, title: str, specification: Specification, groups: Optional[List[List[Wanted]]], span: Span) -> None:
-        super().__init__(title, specification.outputs, groups, span)
+    def __init__(self, title: str, streams: Streams, groups: Optional[Groups], span: Span) -> None:
+        super().__init__(title, streams.outputs, groups, span)
         self.runs: List[str] = []
         self.told: List[str] = []
 
-    def take(self, run: str, verdicts: Verdicts, from_start: bool) -> None:
-        """Takes the verdicts of a run, whose times count from its first line where that is wanted."""
+    def take(self, run: str, verdicts: Verdicts, start: Optional[int]) -> None:
+        """Takes the verdicts of a run, whose times count from a start, or from the first line where there is none."""
         if run in self.runs:
             raise Unfit(f"two runs are called {run}")
         self.runs.append(run)
-        start: Optional[int] = None if from_start else 0
         for verdict in verdicts:
             moment = nanoseconds(verdict.time)
             start = moment if start is None else start
-            time = moment - start
-            if self.span.is_behind(time):
-                continue
-            self.note_time(time)
-            if verdict.is_trigger:
-                self.mark(f"{run} {verdict.stream}", plain(verdict.value), time)
-                continue
-            for panel in self.panels_of(verdicts.name, verdict):
-                name = run if len(panel.wanted) == 1 else f"{run} {verdict.stream}"
-                parameters = f"({verdict.parameters})" if verdict.parameters else ""
-                panel.add(name + parameters, False, time, plain(verdict.value), self.span)
+            self.take_verdict(run, verdicts.name, verdict, moment - start)
         if verdicts.end is None:
             self.told.append(f"{run} has no end line: the run was cut off")
         elif status_of(verdicts.end) != 0:
             self.told.append(f"{run} ended with: {verdicts.end}")
 
+    def take_verdict(self, run: str, source: str, verdict: Verdict, time: int) -> None:
+        if self.span.is_behind(time):
+            return
+        self.note_time(time)
+        if verdict.is_trigger:
+            self.mark(f"{run} {verdict.stream}", plain(verdict.value), time)
+            return
+        for panel in self.panels_of(source, verdict):
+            name = run if len(panel.wanted) == 1 else f"{run} {verdict.stream}"
+            panel.add(Instance(name, verdict.parameters).name, False, time, plain(verdict.value), self.span)
+
     def triggers_in_order(self) -> List[Trigger]:
         """The marks trigger by trigger, and of each run by run."""
         return sorted(self.triggers.values(), key=lambda trigger: self.place_of(trigger.name))
 
-    def place_of(self, name: str) -> Tuple[int, str, int]:
+    def place_of(self, name: str) -> Tuple[Tuple[int, str], int]:
         run, _, trigger = name.rpartition(" ")
-        return len(trigger), trigger, self.runs.index(run)
+        return trigger_order(trigger), self.runs.index(run)
 
     def finish(self) -> List[str]:
         self.end = "1 run" if len(self.runs) == 1 else f"{len(self.runs)} runs"

@@ -2,14 +2,13 @@
 from __future__ import annotations
 
 from datetime import datetime, timezone
-from typing import List, NamedTuple, Tuple
+from typing import List, NamedTuple, Optional
 
 SECOND = 10**9
 MINUTE = 60 * SECOND
 HOUR = 60 * MINUTE
 DAY = 24 * HOUR
 FIRST_DATE = 100_000_000 * SECOND  # times from here on, in 1973, are dates
-UNITS = (("d", DAY, 3 * DAY), ("h", HOUR, 3 * HOUR), ("min", MINUTE, 10 * MINUTE), ("s", SECOND, 0))
 MANY_ZEROS = 7
 CLOCK_STEPS = ([SECOND * count for count in (1, 2, 5, 10, 15, 30)] + [MINUTE * count for count in (1, 2, 5, 10, 15, 30)]
                + [HOUR * count for count in (1, 2, 3, 6, 12)])
@@ -20,6 +19,24 @@ class Tick(NamedTuple):
     label: str
 
 
+class TimeAxis(NamedTuple):
+    """The ticks of an axis of time, and what stands below it."""
+
+    ticks: List[Tick]
+    title: str
+
+
+class Unit(NamedTuple):
+    """A unit of time, and from which span on times are told in it. Both are nanoseconds."""
+
+    name: str
+    length: int
+    least_span: int
+
+
+UNITS = (Unit("d", DAY, 3 * DAY), Unit("h", HOUR, 3 * HOUR), Unit("min", MINUTE, 10 * MINUTE), Unit("s", SECOND, 0))
+
+
 def round_step(least: int) -> int:
     """The least of 1, 2, 5, 10, 20, 50 and so on that is no smaller."""
     power = 1
@@ -28,17 +45,26 @@ def round_step(least: int) -> int:
     return next(power * digit for digit in (1, 2, 5, 10) if power * digit >= least)
 
 
+def divided_up(number: int, by: int) -> int:
+    """The least whole number that is no smaller than the quotient."""
+    return -(-number // by)
+
+
+def first_of(steps: List[int], least: int) -> Optional[int]:
+    """The first of some rising steps that is no smaller."""
+    return next((step for step in steps if step >= least), None)
+
+
 def places(low: int, high: int, step: int) -> List[int]:
     """The multiples of a step that lie between two numbers."""
-    return list(range(-(-low // step) * step, high + 1, step))
+    return list(range(divided_up(low, step) * step, high + 1, step))
 
 
 def value_ticks(low: int, high: int, most: int) -> List[Tick]:
     """So many round numbers at most, or if these were less than two, twice as many."""
-    step = round_step(max(1, -(-(high - low) // most)))
-    found = places(low, high, step)
+    found = places(low, high, round_step(max(1, divided_up(high - low, most))))
     if len(found) < 2:
-        found = places(low, high, round_step(max(1, -(-(high - low) // (2 * most)))))
+        found = places(low, high, round_step(max(1, divided_up(high - low, 2 * most))))
     return [Tick(place, short(place)) for place in found]
 
 
@@ -64,15 +90,15 @@ def unit_step(least: int, unit: int) -> int:
     """The least round step in this unit, or in a part of it that is a whole number of nanoseconds."""
     if unit == SECOND:
         return round_step(least)
-    parts = [unit // 100, unit // 50, unit // 20, unit // 10, unit // 5, unit // 2]
-    return next((part for part in parts if part >= least), None) or unit * round_step(-(-least // unit))
+    parts = [unit // count for count in (100, 50, 20, 10, 5, 2)]
+    return first_of(parts, least) or unit * round_step(divided_up(least, unit))
 
 
-def elapsed_ticks(low: int, high: int, most: int) -> Tuple[List[Tick], str]:
-    """Ticks in seconds, minutes, hours or days, and what stands below the axis."""
-    name, unit = next((name, unit) for name, unit, least in UNITS if high - low >= least)
-    step = unit_step(max(1, -(-(high - low) // most)), unit)
-    return [Tick(place, decimal(place, unit, step)) for place in places(low, high, step)], f"time in {name}"
+def elapsed_ticks(low: int, high: int, most: int) -> TimeAxis:
+    """Ticks in seconds, minutes, hours or days."""
+    unit = next(unit for unit in UNITS if high - low >= unit.least_span)
+    step = unit_step(max(1, divided_up(high - low, most)), unit.length)
+    return TimeAxis([Tick(place, decimal(place, unit.length, step)) for place in places(low, high, step)], f"time in {unit.name}")
 
 
 def clock(time: int, step: int) -> str:
@@ -86,17 +112,17 @@ def clock(time: int, step: int) -> str:
     return shown if step >= SECOND else shown + decimal(time % SECOND, SECOND, step)[1:]
 
 
-def date_ticks(low: int, high: int, most: int) -> Tuple[List[Tick], str]:
+def date_ticks(low: int, high: int, most: int) -> TimeAxis:
     """Ticks at round times of the day, and the days."""
-    least = max(1, -(-(high - low) // most))
+    least = max(1, divided_up(high - low, most))
     if least <= SECOND // 2:
         step = round_step(least)
     else:
-        step = next((step for step in CLOCK_STEPS if step >= least), None) or DAY * round_step(-(-least // DAY))
+        step = first_of(CLOCK_STEPS, least) or DAY * round_step(divided_up(least, DAY))
     days = [datetime.fromtimestamp(time // SECOND, timezone.utc).strftime("%Y-%m-%d") for time in (low, high)]
     title = " to ".join(dict.fromkeys(days)) + ", UTC"
-    return [Tick(place, clock(place, step)) for place in places(low, high, step)], title
+    return TimeAxis([Tick(place, clock(place, step)) for place in places(low, high, step)], title)
 
 
-def time_ticks(low: int, high: int, most: int) -> Tuple[List[Tick], str]:
+def time_ticks(low: int, high: int, most: int) -> TimeAxis:
     return date_ticks(low, high, most) if low >= FIRST_DATE else elapsed_ticks(low, high, most)

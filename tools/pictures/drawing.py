@@ -6,12 +6,12 @@ what is written at an axis is exact.
 from __future__ import annotations
 
 import warnings
-from typing import Any, List, Tuple
+from typing import Any, List, NamedTuple
 
-from answers.lines import Unfit
+from commands.failures import Unfit
 from pictures.axes import Tick, time_ticks, value_ticks
 from pictures.panel import Panel
-from pictures.picture import Picture
+from pictures.picture import Bounds, Picture
 from pictures.series import Point
 
 WIDTH = 9.0
@@ -27,6 +27,7 @@ NAME = 0.19
 STRIP = 0.38
 DIGIT = 0.068
 LETTER, BOLD = 0.062, 0.08  # the width of one in the names of lines, and in titles
+APART = 0.16  # between names
 SEVERAL = 6  # an axis of more lines is twice as high
 PIXELS = 600
 FEW = 60  # a line of so many points has a dot at each, and so many marks of triggers a line through all panels
@@ -68,9 +69,9 @@ def name_of(name: str, place: int) -> str:
 def name_rows(title: str, names: List[str], width: float) -> List[List[int]]:
     """Which names stand beside the title, and which in each row below it; none where there is but one."""
     rows: List[List[int]] = [[]]
-    room = width - BOLD * len(title) - 0.16
+    room = width - BOLD * len(title) - APART
     for place in range(len(names) if len(names) > 1 else 0):
-        needed = len(name_of(names[place], place)) * LETTER + 0.16
+        needed = len(name_of(names[place], place)) * LETTER + APART
         if needed > room:
             rows.append([])
             room = width
@@ -85,23 +86,66 @@ def height_of(panel: Panel) -> float:
     return TRUTH if panel.sort == "truth" else max(NAME * len(panel.names), TRUTH)
 
 
-def range_of(panel: Panel, lines: List[List[Point]]) -> Tuple[int, int]:
+class Curve(NamedTuple):
+    """A line of a panel, as a picture of this width can show it."""
+
+    name: str
+    is_held: bool
+    points: List[Point]
+
+
+class Range(NamedTuple):
+    """The least and the greatest value of an axis."""
+
+    low: int
+    high: int
+
+
+class Axis(NamedTuple):
+    """All that is drawn of a panel."""
+
+    panel: Panel
+    curves: List[Curve]
+    range: Range
+    ticks: List[Tick]
+
+
+class Strip(NamedTuple):
+    """The marks of a trigger or of late rows, below their name."""
+
+    title: str
+    marks: List[Point]
+    color: str
+
+
+def range_of(panel: Panel, curves: List[Curve]) -> Range:
     if panel.sort == "truth":
-        return 0, 1
+        return Range(0, 1)
     if panel.sort == "text":
-        return 0, max(len(panel.names) - 1, 0)
-    values = [value for points in [*lines, panel.late.all()] for _, value in points]
+        return Range(0, max(len(panel.names) - 1, 0))
+    values = [value for points in [*(curve.points for curve in curves), panel.late.all()] for _, value in points]
     low, high = min(values, default=0), max(values, default=1)
-    return (low, high) if low < high else (low - 1, low + 1)
+    return Range(low, high) if low < high else Range(low - 1, low + 1)
 
 
-def ticks_of(panel: Panel, low: int, high: int) -> List[Tick]:
+def ticks_of(panel: Panel, seen: Range) -> List[Tick]:
     if panel.sort == "truth":
         return [Tick(0, "false"), Tick(1, "true")]
     if panel.sort == "text":
         return [Tick(place, shown(name, LONGEST)) for name, place in panel.names.items()]
-    room = (high - low) // 10
-    return value_ticks(low - room, high + room, 4)
+    room = (seen.high - seen.low) // 10
+    return value_ticks(seen.low - room, seen.high + room, 4)
+
+
+def axis_of(panel: Panel, bounds: Bounds) -> Axis:
+    curves = [Curve(name, is_held, line.few(bounds.first, bounds.last, PIXELS)) for name, is_held, line in panel.drawn()]
+    seen = range_of(panel, curves)
+    return Axis(panel, curves, seen, ticks_of(panel, seen))
+
+
+def strips_of(picture: Picture) -> List[Strip]:
+    strips = [Strip(trigger.title, trigger.marks.all(), ALARM) for trigger in picture.triggers_in_order()]
+    return [*strips, Strip("late rows", picture.late.all(), LATE)] if picture.late.counts else strips
 
 
 class Canvas:
@@ -109,23 +153,22 @@ class Canvas:
 
     def __init__(self, picture: Picture) -> None:
         self.picture = picture
-        self.first, self.last = picture.bounds()
-        self.marks = [(trigger.title, trigger.marks.all(), ALARM) for trigger in picture.triggers_in_order()]
-        if picture.late.counts:
-            self.marks.append(("late rows", picture.late.all(), LATE))
-        self.drawn = [[(name, holds, line.few(self.first, self.last, PIXELS)) for name, holds, line in panel.drawn()]
-                      for panel in picture.panels]
-        self.ranges = [range_of(panel, [points for _, _, points in lines])
-                       for panel, lines in zip(picture.panels, self.drawn)]
-        self.ticks = [ticks_of(panel, *bounds) for panel, bounds in zip(picture.panels, self.ranges)]
-        longest = max((len(tick.label) for ticks in self.ticks for tick in ticks), default=0)
+        self.first, self.last = bounds = picture.bounds()
+        self.axes_of_panels = [axis_of(panel, bounds) for panel in picture.panels]
+        self.strips = strips_of(picture)
+        longest = max((len(tick.label) for axis in self.axes_of_panels for tick in axis.ticks), default=0)
         self.left = max(0.35, DIGIT * longest + 0.18)
-        self.names = [name_rows(shown(panel.title, 80), [name for name, _, _ in lines], WIDTH - RIGHT - self.left)
-                      for panel, lines in zip(picture.panels, self.drawn)]
-        headers = sum(HEADER + ROW * (len(rows) - 1) for rows in self.names)
-        self.height = TITLE + headers + sum(height_of(panel) + GAP for panel in picture.panels) + STRIP * len(self.marks) + FOOT
+        headers = sum(self.header_height(axis) for axis in self.axes_of_panels)
+        panels = sum(height_of(panel) + GAP for panel in picture.panels)
+        self.height = TITLE + headers + panels + STRIP * len(self.strips) + FOOT
         self.figure = load().Figure(figsize=(WIDTH, self.height), dpi=100, facecolor="white")
         self.top = 0.0
+
+    def name_rows(self, axis: Axis) -> List[List[int]]:
+        return name_rows(shown(axis.panel.title, 80), [curve.name for curve in axis.curves], WIDTH - RIGHT - self.left)
+
+    def header_height(self, axis: Axis) -> float:
+        return HEADER + ROW * (len(self.name_rows(axis)) - 1)
 
     def x(self, time: int) -> int:
         return time - self.first
@@ -151,43 +194,51 @@ class Canvas:
         self.text(WIDTH - RIGHT, TITLE / 2, shown(self.picture.end or ""), color=FAINT, size=7.5, ha="right")
         self.top += TITLE
 
-    def header(self, panel: Panel, names: List[str], rows: List[List[int]]) -> None:
+    def header(self, axis: Axis) -> None:
         """The panel's name, and where it has several lines, their names in their colours."""
-        self.text(self.left, HEADER * 0.55, shown(panel.title, 80), weight="bold")
-        if len(names) < 2:
-            self.text(WIDTH - RIGHT, HEADER * 0.55, panel.kind, color=FAINT, size=7.5, ha="right")
-        for number, row in enumerate(rows):
+        self.text(self.left, HEADER * 0.55, shown(axis.panel.title, 80), weight="bold")
+        if len(axis.curves) < 2:
+            self.text(WIDTH - RIGHT, HEADER * 0.55, axis.panel.kind, color=FAINT, size=7.5, ha="right")
+        for number, row in enumerate(self.name_rows(axis)):
             left = WIDTH - RIGHT
             for place in reversed(row):
-                name = name_of(names[place], place)
+                name = name_of(axis.curves[place].name, place)
                 self.text(left, HEADER * 0.55 + ROW * number, name, color=PALETTE[place % len(PALETTE)], ha="right", size=7.5)
-                left -= len(name) * LETTER + 0.16
-        self.top += HEADER + ROW * (len(rows) - 1)
+                left -= len(name) * LETTER + APART
+        self.top += self.header_height(axis)
 
-    def line(self, axes: Any, panel: Panel, points: List[Point], color: str, holds: bool, style: str) -> None:
-        places = [self.x(time) for time, _ in points]
-        values = [value for _, value in points]
-        if panel.sort != "text":
-            held = ([*places, self.x(self.last)], [*values, values[-1]]) if holds else (places, values)
-            axes.plot(*held, color=color, linewidth=1.2, linestyle=style, drawstyle="steps-post", solid_joinstyle="miter")
-        if panel.sort == "text" or len(points) <= FEW:
-            axes.plot(places, values, color=color, linestyle="", marker="o", markersize=3, zorder=3)
+    def curve(self, axes: Any, curve: Curve, color: str, style: str) -> None:
+        places = [self.x(time) for time, _ in curve.points]
+        values = [value for _, value in curve.points]
+        held = ([*places, self.x(self.last)], [*values, values[-1]]) if curve.is_held else (places, values)
+        axes.plot(*held, color=color, linewidth=1.2, linestyle=style, drawstyle="steps-post", solid_joinstyle="miter")
 
-    def panel(self, number: int) -> None:
-        panel, lines = self.picture.panels[number], self.drawn[number]
-        self.header(panel, [name for name, _, _ in lines], self.names[number])
-        axes = self.axes(height_of(panel))
-        low, high = self.ranges[number]
-        room = (high - low) * 0.1 if panel.sort == "number" else 0.5
+    def dots(self, axes: Any, points: List[Point], color: str) -> None:
+        axes.plot([self.x(time) for time, _ in points], [value for _, value in points], color=color, linestyle="", marker="o", markersize=3,
+                  zorder=3)
+
+    def curves(self, axes: Any, axis: Axis) -> None:
+        alone = INPUT if axis.panel.has_inputs else OUTPUT
+        is_text = axis.panel.sort == "text"
+        for place, curve in enumerate(axis.curves):
+            color = PALETTE[place % len(PALETTE)] if len(axis.curves) > 1 else alone
+            if not is_text:
+                self.curve(axes, curve, color, "-" if place < len(PALETTE) else "--")
+            if is_text or len(curve.points) <= FEW:
+                self.dots(axes, curve.points, color)
+
+    def axis(self, axis: Axis) -> None:
+        """A panel: its header, its axis and its lines."""
+        self.header(axis)
+        axes = self.axes(height_of(axis.panel))
+        low, high = axis.range
+        room = (high - low) * 0.1 if axis.panel.sort == "number" else 0.5
         axes.set_ylim(low - room, high + room)
-        axes.set_yticks([float(tick.place) for tick in self.ticks[number]], [tick.label for tick in self.ticks[number]])
+        axes.set_yticks([float(tick.place) for tick in axis.ticks], [tick.label for tick in axis.ticks])
         axes.grid(axis="y", color=GRID, linewidth=0.7)
         axes.set_axisbelow(True)
-        for place, (_, holds, points) in enumerate(lines):
-            alone = INPUT if panel.has_inputs else OUTPUT
-            color = PALETTE[place % len(PALETTE)] if len(lines) > 1 else alone
-            self.line(axes, panel, points, color, holds, "-" if place < len(PALETTE) else "--")
-        late = panel.late.all()
+        self.curves(axes, axis)
+        late = axis.panel.late.all()
         axes.plot([self.x(time) for time, _ in late], [value for _, value in late], linestyle="", marker="x", markersize=6,
                   markeredgewidth=1.6, color=LATE)
         self.through(axes)
@@ -195,29 +246,29 @@ class Canvas:
 
     def through(self, axes: Any) -> None:
         """Thin lines where triggers are true, unless they are many, and one where the run had its fault."""
-        alarms = [time for _, marks, color in self.marks if color == ALARM for time, _ in marks]
+        alarms = [time for strip in self.strips if strip.color == ALARM for time, _ in strip.marks]
         for time in alarms if len(alarms) <= FEW else []:
             axes.axvline(self.x(time), color=ALARM, linewidth=0.7, alpha=0.35, zorder=0.5)
         if self.picture.fault:
-            axes.axvline(self.x(self.picture.fault[0]), color=ALARM, linewidth=1.2, linestyle="--")
+            axes.axvline(self.x(self.picture.fault.time), color=ALARM, linewidth=1.2, linestyle="--")
 
-    def strip(self, title: str, marks: List[Point], color: str) -> None:
-        """The marks of a trigger or of late rows, below its name."""
-        self.text(self.left, STRIP * 0.3, shown(title, 110), size=8)
+    def strip(self, strip: Strip) -> None:
+        self.text(self.left, STRIP * 0.3, shown(strip.title, 110), size=8)
         self.top += STRIP * 0.5
         axes = self.axes(STRIP * 0.5)
         axes.axis("off")
         axes.set_ylim(-1, 1)
         axes.axhline(0, color=GRID, linewidth=0.8)
-        places = sorted({round(self.x(time) * PIXELS / (self.last - self.first)) for time, _ in marks})
-        if len(places) > FEW:
-            marks = [(self.first + place * (self.last - self.first) // PIXELS, 1) for place in places]
-        axes.plot([self.x(time) for time, _ in marks], [0] * len(marks), linestyle="", marker="|", markersize=10,
-                  markeredgewidth=2, color=color)
+        span = self.last - self.first
+        places = [self.x(time) for time, _ in strip.marks]
+        pixels = sorted({round(place * PIXELS / span) for place in places})
+        if len(pixels) > FEW:
+            places = [pixel * span // PIXELS for pixel in pixels]
+        axes.plot(places, [0] * len(places), linestyle="", marker="|", markersize=10, markeredgewidth=2, color=strip.color)
 
     def times(self) -> None:
         """The axis of time, below all, with lines through the panels."""
-        ticks, name = time_ticks(self.first, self.last, 9)
+        ticks, title = time_ticks(self.first, self.last, 9)
         places = [float(self.x(tick.place)) for tick in ticks]
         for axes in self.figure.axes:
             for place in places:
@@ -227,16 +278,16 @@ class Canvas:
         for side in ("left", "right", "bottom"):
             axes.spines[side].set_visible(False)
         axes.set_xticks(places, [tick.label for tick in ticks])
-        self.text(WIDTH - RIGHT, FOOT - 0.14, name, color=FAINT, ha="right")
+        self.text(WIDTH - RIGHT, FOOT - 0.14, title, color=FAINT, ha="right")
         if self.picture.fault:
-            self.text(self.left, FOOT - 0.14, "fault " + shown(self.picture.fault[1]), color=ALARM)
+            self.text(self.left, FOOT - 0.14, "fault " + shown(self.picture.fault.told), color=ALARM)
 
     def draw(self) -> Any:
         self.title()
-        for number in range(len(self.picture.panels)):
-            self.panel(number)
-        for title, marks, color in self.marks:
-            self.strip(title, marks, color)
+        for axis in self.axes_of_panels:
+            self.axis(axis)
+        for strip in self.strips:
+            self.strip(strip)
         self.times()
         return self.figure
 

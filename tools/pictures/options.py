@@ -6,13 +6,39 @@ import re
 import sys
 from typing import Optional
 
-from answers.command import Words, say, write
+from commands.command import Words, say, write
+from commands.failures import USAGE, Failure
 from pictures import drawing
 from pictures.page import page
-from pictures.picture import Picture
+from pictures.panel import Span
+from pictures.picture import Groups, Picture, read_groups
 
 FORMS = ("html", "png", "svg")
 TIME = re.compile(r"([0-9]{1,10})(?:\.([0-9]{1,9}))?")
+
+
+class NotForATerminal(Failure):
+    """A page would be written to a terminal."""
+
+    status = USAGE
+
+
+class PictureAsked(argparse.Namespace):
+    """What was asked for of a picture. Times are nanoseconds."""
+
+    out: Optional[str]
+    streams: Optional[str]
+    start: Optional[int]
+    stop: Optional[int]
+    spec: str
+
+    @property
+    def groups(self) -> Optional[Groups]:
+        return None if self.streams is None else read_groups(self.streams)
+
+    @property
+    def span(self) -> Span:
+        return Span(self.start, self.stop)
 
 
 def time_of(text: str) -> int:
@@ -29,27 +55,25 @@ def form_of(path: Optional[str]) -> str:
 
 
 def add_options(words: Words) -> None:
-    words.add_argument("--out")
-    words.add_argument("--streams")
-    words.add_argument("--from", dest="start", type=time_of)
-    words.add_argument("--to", dest="stop", type=time_of)
+    words.options.add_argument("--out")
+    words.options.add_argument("--streams")
+    words.options.add_argument("--from", dest="start", type=time_of)
+    words.options.add_argument("--to", dest="stop", type=time_of)
 
 
-def check_options(words: Words, read: argparse.Namespace) -> None:
-    if form_of(read.out) not in FORMS:
-        words.error(f"the name behind --out ends with .html, .png or .svg, and not as {read.out!r}")
-    if read.start is not None and read.stop is not None and read.start >= read.stop:
+def check_options(words: Words, asked: PictureAsked) -> None:
+    if form_of(asked.out) not in FORMS:
+        words.error(f"the name behind --out ends with .html, .png or .svg, and not as {asked.out!r}")
+    if asked.start is not None and asked.stop is not None and asked.start >= asked.stop:
         words.error("--from is before --to")
 
 
-def can_write(tool: str, out: Optional[str]) -> bool:
-    """Whether it can be drawn at all, which is asked before long inputs are read."""
-    if out is None and sys.stdout.isatty():
-        say(tool, "a page is nothing for a terminal: --out FILE.html writes it into a file")
-        return False
+def check_out(out: Optional[str]) -> None:
+    """Sees to it that it can be drawn at all, before long inputs are read."""
+    if out is None and sys.stdout is not None and sys.stdout.isatty():
+        raise NotForATerminal("a page is nothing for a terminal: --out FILE.html writes it into a file")
     if form_of(out) != "html":
         drawing.load()
-    return True
 
 
 def write_picture(tool: str, picture: Picture, out: Optional[str]) -> None:

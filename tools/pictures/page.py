@@ -4,31 +4,35 @@ from __future__ import annotations
 import html
 import json
 import os
-from typing import Any, Dict, Iterable, List, Union
+from typing import Any, Dict, List, Union
 
 from pictures.axes import FIRST_DATE
-from pictures.panel import Panel
+from pictures.panel import Drawn, Panel
 from pictures.picture import Picture
 from pictures.series import Point
 
 SCRIPTS = ("axes.js", "drawing.js", "acting.js")
 GREATEST = 2**53 - 1  # the greatest whole number that JavaScript's numbers have exactly
 
+Number = Union[int, str]
 
-def number(value: int) -> Union[int, str]:
+
+def number(value: int) -> Number:
     """A whole number that stays exact: where JavaScript's numbers have it not, a text."""
     return value if abs(value) <= GREATEST else str(value)
 
 
-def points(all_points: Iterable[Point], start: int) -> Dict[str, List[Union[int, str]]]:
-    pairs = list(all_points)
-    return {"times": [number(time - start) for time, _ in pairs], "values": [number(value) for _, value in pairs]}
+def points_data(points: List[Point], start: int) -> Dict[str, List[Number]]:
+    return {"times": [number(time - start) for time, _ in points], "values": [number(value) for _, value in points]}
+
+
+def line_data(drawn: Drawn, start: int) -> Dict[str, Any]:
+    return {"name": drawn.name, "holds": drawn.is_held, "stretch": number(drawn.line.stretch), **points_data(drawn.line.all(), start)}
 
 
 def panel_data(panel: Panel, start: int) -> Dict[str, Any]:
-    lines = [{"name": name, "holds": holds, "stretch": number(line.stretch), **points(line.all(), start)} for name, holds, line in panel.drawn()]
-    return {"title": panel.title, "kind": panel.kind, "sort": panel.sort, "inputs": panel.has_inputs,
-            "names": list(panel.names), "lines": lines, "late": points(panel.late.all(), start)}
+    return {"title": panel.title, "kind": panel.kind, "sort": panel.sort, "inputs": panel.has_inputs, "names": list(panel.names),
+            "lines": [line_data(drawn, start) for drawn in panel.drawn()], "late": points_data(panel.late.all(), start)}
 
 
 def marks_data(title: str, marks: List[Point], start: int) -> Dict[str, Any]:
@@ -44,7 +48,7 @@ def page_data(picture: Picture, notes: List[str]) -> Dict[str, Any]:
         "start": str(first), "range": [0, number(last - first)], "dates": first >= FIRST_DATE, "end": picture.end or "",
         "notes": notes, "panels": [panel_data(panel, first) for panel in picture.panels], "triggers": triggers,
         "late": marks_data("late rows", picture.late.all(), first),
-        "fault": {"time": number(fault[0] - first), "told": fault[1]} if fault else None,
+        "fault": {"time": number(fault.time - first), "told": fault.told} if fault else None,
     }
 
 

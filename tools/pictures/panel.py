@@ -2,12 +2,12 @@
 from __future__ import annotations
 
 import re
-from typing import Dict, List, NamedTuple, Optional, Set, Tuple
+from typing import Dict, List, NamedTuple, Optional, Set
 
-from answers.lines import Unfit
-from answers.verdicts import NUMBER
+from answers.verdicts import NUMBER, Instance
+from commands.failures import Unfit
 from pictures.series import Dots, Line, Scattered
-from pictures.specification import Stream
+from specifications.report import Stream
 
 MOST_LINES = 24
 MOST_COUNTED = 10_000  # so many lines that are not drawn are told apart
@@ -16,7 +16,12 @@ OTHERS = "others"
 TRUTH = {"false": 0, "true": 1}
 IS_NUMBER = re.compile(NUMBER)
 
-Wanted = Tuple[str, Optional[str]]  # a stream, and the parameters where one instance alone is wanted
+
+class Wanted(NamedTuple):
+    """A stream, and the parameters where one instance alone is wanted."""
+
+    stream: str
+    parameters: Optional[str]
 
 
 class Span(NamedTuple):
@@ -32,12 +37,20 @@ class Span(NamedTuple):
         return self.stop is not None and time > self.stop
 
 
+class Drawn(NamedTuple):
+    """A line that has points."""
+
+    name: str
+    is_held: bool  # whether its last value holds to the end
+    line: Line
+
+
 class Panel:
     """An axis for some streams, with its lines by the names that they have there."""
 
     def __init__(self, streams: List[Stream], wanted: List[Wanted]) -> None:
         self.wanted = wanted
-        self.title = " + ".join(f"{name}({parameters})" if parameters else name for name, parameters in wanted)
+        self.title = " + ".join(Instance(stream, parameters or "").name for stream, parameters in wanted)
         kinds = {sort_of(stream.kind) for stream in streams}
         if "text" in kinds and len(kinds) > 1:
             raise Unfit(f"texts and numbers have no axis in common: {self.title}")
@@ -74,9 +87,9 @@ class Panel:
             self.held.add(name)
         return line
 
-    def drawn(self) -> List[Tuple[str, bool, Line]]:
-        """Each line that has points: its name, whether its last value is held, and itself."""
-        return [(name, name in self.held, line) for name, line in self.lines.items() if line.all()]
+    def drawn(self) -> List[Drawn]:
+        """The lines that have points."""
+        return [Drawn(name, name in self.held, line) for name, line in self.lines.items() if line.all()]
 
     def stretch(self) -> int:
         """The longest stretch that one of its lines was thinned to, or 0."""

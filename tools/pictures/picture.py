@@ -2,29 +2,31 @@
 from __future__ import annotations
 
 import re
-from typing import Dict, List, NamedTuple, Optional, Tuple
+from typing import Dict, List, NamedTuple, Optional
 
-from answers.lines import Unfit
-from answers.verdicts import NAME, VALUE, Verdict, plain
+from answers.verdicts import NAME, VALUE, Verdict, plain, trigger_order
+from commands.failures import Unfit
 from pictures.panel import MOST_COUNTED, MOST_LINES, Panel, Span, Wanted, fits
 from pictures.series import Marks
-from pictures.specification import Stream
+from specifications.report import Stream
 
 MOST_PANELS = 16
 HALF_A_SECOND = 10**9 // 2
 ITEM = re.compile(rf"({NAME})(?:\(({VALUE}(?:,{VALUE})*)\))?(\+|,|\Z)")
 
+Groups = List[List[Wanted]]  # what each panel shows
 
-def read_groups(text: str) -> List[List[Wanted]]:
+
+def read_groups(text: str) -> Groups:
     """The streams of an option: `a,b` are two panels, `a+b` is one, and `a("x")` is an instance."""
-    groups: List[List[Wanted]] = [[]]
+    groups: Groups = [[]]
     place = 0
     sign = ","
     while sign:
         match = ITEM.match(text, place)
         if match is None:
             raise Unfit(f"--streams is a list such as a,b+c,d(\"x\"), and not {text!r}")
-        groups[-1].append((match[1], match[2]))
+        groups[-1].append(Wanted(match[1], match[2]))
         place, sign = match.end(), match[3]
         if sign == ",":
             groups.append([])
@@ -41,24 +43,45 @@ class Trigger(NamedTuple):
         return f"{self.name}: {self.message}" if self.message else self.name
 
 
+class Fault(NamedTuple):
+    """The fault that ended a run: its time, and what it was."""
+
+    time: int
+    told: str
+
+
+class Bounds(NamedTuple):
+    """The first and the last time of a picture, in nanoseconds."""
+
+    first: int
+    last: int
+
+
+class Shown(NamedTuple):
+    """A panel that shows a stream, or the instance of it with these parameters."""
+
+    parameters: Optional[str]
+    panel: Panel
+
+
 class Picture:
     """Panels and marks, and the time that they take. Who fills it says what stands in it."""
 
     nothing = "there are no lines at these times"  # why there may be nothing to draw
 
-    def __init__(self, title: str, streams: List[Stream], groups: Optional[List[List[Wanted]]], span: Span) -> None:
+    def __init__(self, title: str, streams: List[Stream], groups: Optional[Groups], span: Span) -> None:
         self.title = title
         self.by_name = {stream.name: stream for stream in streams}
         self.span = span
         self.groups_are_given = groups is not None
         self.panels: List[Panel] = []
-        self.by_stream: Dict[str, List[Tuple[Optional[str], Panel]]] = {}
-        for wanted in groups or [[(stream.name, None)] for stream in streams]:
+        self.by_stream: Dict[str, List[Shown]] = {}
+        for wanted in groups or [[Wanted(stream.name, None)] for stream in streams]:
             self.add_panel(wanted)
         self.triggers: Dict[str, Trigger] = {}
         self.late = Marks()
         self.end: Optional[str] = None
-        self.fault: Optional[Tuple[int, str]] = None  # the time of the fault that ended a run, and what it was
+        self.fault: Optional[Fault] = None
         self.first: Optional[int] = None
         self.last: Optional[int] = None
         self.has_outputs = False
@@ -70,7 +93,7 @@ class Picture:
         panel = Panel([self.by_name[name] for name, _ in wanted], wanted)
         self.panels.append(panel)
         for name, parameters in wanted:
-            self.by_stream.setdefault(name, []).append((parameters, panel))
+            self.by_stream.setdefault(name, []).append(Shown(parameters, panel))
 
     def note_time(self, time: int) -> None:
         if self.span.has(time):
@@ -84,7 +107,7 @@ class Picture:
         if stream is None or not fits(plain(verdict.value), stream.kind) or (stream.kind == "String") != is_text:
             raise Unfit(f"{source}: the specification has no such stream: {verdict.name} = {verdict.value[:60]}")
         self.has_outputs = True
-        return [panel for parameters, panel in self.by_stream.get(verdict.stream, []) if parameters in (None, verdict.parameters)]
+        return [shown.panel for shown in self.by_stream.get(verdict.stream, []) if shown.parameters in (None, verdict.parameters)]
 
     def mark(self, name: str, message: str, time: int) -> None:
         """Marks a moment at which a trigger was true."""
@@ -98,8 +121,8 @@ class Picture:
         """Leaves out the panels without values, and those that are too many, and tells what a person should know."""
         if self.first is None:
             raise Unfit(f"there is nothing to draw: {self.nothing}")
-        if self.fault and self.span.has(self.fault[0]):
-            self.note_time(self.fault[0])
+        if self.fault:
+            self.note_time(self.fault.time)
         return self.choose_panels() + self.told_of_outputs() + self.told_of_lines()
 
     def choose_panels(self) -> List[str]:
@@ -123,16 +146,15 @@ class Picture:
                             "are drawn; --streams chooses others")
         longest = max((panel.stretch() for panel in self.panels), default=0)
         if longest:
-            told.append(f"lines of many values are thinned: of each {longest / 10**9:.3g} s or less the first, the least, the greatest and the "
-                        "last stay, and each text once; --from and --to draw a part more finely")
+            told.append(f"lines of many values are thinned: of each {longest / 10**9:.3g} s or less the first, the least, the greatest "
+                        "and the last stay, and each text once; --from and --to draw a part more finely")
         return told
 
-    def bounds(self) -> Tuple[int, int]:
-        """The time that the picture has on its axis, in whole nanoseconds."""
-        first = self.first if self.span.start is None else self.span.start
-        last = self.last if self.span.stop is None else self.span.stop
-        assert first is not None and last is not None
-        return (first, last) if first < last else (first - HALF_A_SECOND, first + HALF_A_SECOND)
+    def bounds(self) -> Bounds:
+        """The time that the picture has on its axis."""
+        first = (self.first or 0) if self.span.start is None else self.span.start
+        last = (self.last or 0) if self.span.stop is None else self.span.stop
+        return Bounds(first, last) if first < last else Bounds(first - HALF_A_SECOND, first + HALF_A_SECOND)
 
     def triggers_in_order(self) -> List[Trigger]:
-        return sorted(self.triggers.values(), key=lambda trigger: (len(trigger.name), trigger.name))
+        return sorted(self.triggers.values(), key=lambda trigger: trigger_order(trigger.name))

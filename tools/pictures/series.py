@@ -1,8 +1,8 @@
 """Values over time, of which no more are kept than a picture can show.
 
-Where more than MOST points have come, time is cut into stretches of one length, a power of two, and of each the first,
-the least, the greatest and the last value stay, and of texts each once. So a line looks the same, and the memory stays the same however many
-rows come. Stretches of a greater length are made of whole ones of a smaller: what was left out before is never missing.
+Where more than MOST points have come, time is cut into stretches of one length, a power of two, and of each the first, the least, the
+greatest and the last value stay, and of texts each once. So a line looks the same, and the memory stays the same however many rows come.
+Stretches of a greater length are made of whole ones of a smaller: what was left out before is never missing.
 """
 from __future__ import annotations
 

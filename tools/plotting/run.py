@@ -2,28 +2,27 @@
 from __future__ import annotations
 
 import re
-from typing import Iterable, List, Optional, Tuple
+from typing import Iterable, List, Optional
 
-from answers.lines import Unfit
 from answers.trace import ABSENT, Row
-from answers.verdicts import NAME, TIME, Verdicts, nanoseconds, plain
-from pictures.panel import Panel, Span, Wanted, fits
-from pictures.picture import Picture
-from pictures.specification import Specification
+from answers.verdicts import NAME, TIME, Instance, Verdicts, nanoseconds, plain
+from commands.failures import Unfit
+from pictures.panel import Panel, Span, fits
+from pictures.picture import Fault, Groups, Picture
+from pictures.specification import Streams
 
 FAULT = re.compile(rf"= fault ({NAME}) [0-9]+ ([A-Za-z]+) at ({TIME})")
 
 
-def fault_of(end: Optional[str]) -> Optional[Tuple[int, str]]:
-    """The time of the fault that an end line tells, and what it was."""
+def fault_of(end: Optional[str]) -> Optional[Fault]:
+    """The fault that an end line tells."""
     match = FAULT.fullmatch(end or "")
-    return (nanoseconds(match[3]), f"{match[1]}: {match[2]}") if match else None
+    return Fault(nanoseconds(match[3]), f"{match[1]}: {match[2]}") if match else None
 
 
 def name_of(panel: Panel, stream: str, parameters: str) -> str:
     """What a line is called below the panel's title: where all lines are of one stream, its parameters."""
-    shown = "" if parameters and len(panel.wanted) == 1 else stream
-    return f"{shown}({parameters})" if parameters else stream
+    return Instance("" if parameters and len(panel.wanted) == 1 else stream, parameters).name
 
 
 class Run(Picture):
@@ -31,25 +30,24 @@ class Run(Picture):
 
     nothing = "neither the trace nor the verdicts have a line at these times"
 
-    def __init__(self, title: str, specification: Specification, groups: Optional[List[List[Wanted]]], span: Span) -> None:
-        super().__init__(title, specification.streams, groups, span)
-        self.inputs = specification.inputs
+    def __init__(self, title: str, streams: Streams, groups: Optional[Groups], span: Span) -> None:
+        super().__init__(title, streams.all, groups, span)
+        self.inputs = streams.inputs
 
     def take_trace(self, name: str, rows: Iterable[Row]) -> None:
-        inputs = [(stream, self.by_stream.get(stream.name, [])) for stream in self.inputs]
         for row in rows:
             if self.span.is_behind(row.time):
                 continue
             self.note_time(row.time)
             if row.is_late and self.span.has(row.time):
                 self.late.add(row.time)
-            for (stream, panels), text in zip(inputs, row.fields):
+            for stream, text in zip(self.inputs, row.fields):
                 if text == ABSENT:
                     continue
                 if not fits(text, stream.kind):
                     raise Unfit(f"{name}: {text[:60]!r} is no value of {stream.name}: {stream.kind}; is it another trace?")
-                for _, panel in panels:
-                    self.take_input(panel, stream.name, row, text)
+                for shown in self.by_stream.get(stream.name, []):
+                    self.take_input(shown.panel, stream.name, row, text)
 
     def take_input(self, panel: Panel, stream: str, row: Row, text: str) -> None:
         if not row.is_late:

@@ -4,10 +4,11 @@ from __future__ import annotations
 import csv
 import os
 import re
+from enum import IntEnum
 from functools import partial
-from typing import BinaryIO, Collection, Dict, Iterator, List, NamedTuple, Set, Tuple
+from typing import IO, BinaryIO, Collection, Dict, Iterator, List, NamedTuple, Optional, Set, Tuple
 
-from answers.lines import Progress
+from commands.progress import Progress
 from sources.values import BLANKS, is_grouped
 
 MARK = b"\xef\xbb\xbf"  # the byte order mark
@@ -16,7 +17,6 @@ LONGEST = 65_536
 BLOCK = MOST_READ = LONGEST + 1  # so much at once, and of a line; one that is longer is too long
 TIME_NAMES = ("time", "ts", "timestamp")
 SEPARATORS = (",", ";", "\t", "|")
-BAD_HEADING, FIELD_COUNT, BAD_TIME, BAD_VALUE, BAD_TEXT, BARE_CR, ROW_TOO_LONG = range(1, 8)
 
 UTF_16 = "the file is in UTF-16; 'iconv -f utf-16 -t utf-8' makes UTF-8 of it"
 WORKBOOK = "the file is a spreadsheet's own, or an archive; have the spreadsheet save it as CSV"
@@ -27,12 +27,32 @@ NAMED_TIME = re.compile(rf"(?:time|timestamp|ts|t|date|datetime|epoch|clock|utc)
 UNIT_POWERS = {"n": 9, "us": 6, "µs": 6, "mic": 6, "m": 3}  # by how its name begins
 
 
+class Kind(IntEnum):
+    """What makes a line malformed, by the number that the end line tells."""
+
+    BAD_HEADING = 1
+    FIELD_COUNT = 2
+    BAD_TIME = 3
+    BAD_VALUE = 4
+    BAD_TEXT = 5
+    BARE_CR = 6
+    ROW_TOO_LONG = 7
+
+    @property
+    def label(self) -> str:
+        """The name that the end line tells, such as BadHeading."""
+        return self.name.title().replace("_", "")
+
+
+NumberedLine = Tuple[int, str, Optional[Kind]]  # the line's number in the file, from 1, its text, and what makes it malformed
+
+
 def open_source(name: str) -> BinaryIO:
     """A source by its name; `-` is standard input."""
     return os.fdopen(os.dup(0), "rb") if name == "-" else open(name, "rb")
 
 
-def read_blocks(file: BinaryIO) -> Iterator[bytes]:
+def read_blocks(file: IO[bytes]) -> Iterator[bytes]:
     """Lines, many at a time. Of one that is too long only the front is kept."""
     for block in iter(partial(file.read, BLOCK), b""):
         rest = file.readline(MOST_READ)
@@ -41,8 +61,8 @@ def read_blocks(file: BinaryIO) -> Iterator[bytes]:
             rest = file.readline(MOST_READ)
 
 
-def read_lines(file: BinaryIO, progress: Progress) -> Iterator[Tuple[int, str, int]]:
-    """The lines that are not empty: each one's number in the file, from 1, its text, and the kind that makes it malformed, or 0.
+def read_lines(file: IO[bytes], progress: Progress) -> Iterator[NumberedLine]:
+    """The lines that are not empty.
 
     A mark at the start of the file is dropped, and a line that is no UTF-8 is shown as Latin-1, which each byte is.
     """
@@ -53,17 +73,17 @@ def read_lines(file: BinaryIO, progress: Progress) -> Iterator[Tuple[int, str, i
         lines = block.split(b"\n")
         ends = len(lines) - 1  # so many have an LF
         for index, data in enumerate(lines[:ends] if not lines[ends] else lines):
-            kind = ROW_TOO_LONG if len(data) > LONGEST else 0
+            kind = Kind.ROW_TOO_LONG if len(data) > LONGEST else None
             if b"\r" in data:
                 if index < ends and data.endswith(b"\r"):
                     data = data[:-1]
-                kind = kind or (BARE_CR if b"\r" in data else 0)
+                kind = kind or (Kind.BARE_CR if b"\r" in data else None)
             if not data:
                 continue
             try:
                 yield number + index + 1, data.decode(), kind
             except UnicodeDecodeError:
-                yield number + index + 1, data.decode("latin-1"), kind or BAD_TEXT
+                yield number + index + 1, data.decode("latin-1"), kind or Kind.BAD_TEXT
         number += ends + bool(lines[ends])
         progress.add(ends)
 
@@ -92,26 +112,25 @@ def separator_of(text: str) -> str:
     return max(SEPARATORS, key=lambda separator: len(split(text, separator)))
 
 
-class Asked(NamedTuple):
+class Requests(NamedTuple):
     """What was asked for of columns: other names, and which inputs have numbers whose points part thousands."""
 
     new_names: Dict[str, str]
     thousands: Collection[str]
 
 
-NOTHING_ASKED = Asked({}, ())
+NO_REQUESTS = Requests({}, ())
 
 
 class Heading:
     """A heading: its names, what separates them, and its columns."""
 
-    def __init__(self, number: int, text: str, kind: int, kinds: Dict[str, str], asked: Asked) -> None:
-        bare = text.lstrip(SIGN)
-        self.number = number
-        self.text = text
+    def __init__(self, line: NumberedLine, kinds: Dict[str, str], requests: Requests) -> None:
+        self.number, self.text, kind = line
+        bare = self.text.lstrip(SIGN)
         self.separator = separator_of(bare)
         self.old_names = [name.strip(BLANKS) for name in split(bare, self.separator)]
-        self.names = [asked.new_names.get(name, name) for name in self.old_names]
+        self.names = [requests.new_names.get(name, name) for name in self.old_names]
         self.times = [index for index, name in enumerate(self.names) if name in TIME_NAMES]
         likely = self.times or [index for index, name in enumerate(self.names) if name and NAMED_TIME.fullmatch(name.lower())]
         self.time = likely[0] if likely else None  # the column that the times seem to stand in
@@ -119,12 +138,13 @@ class Heading:
         for index, name in enumerate(self.names):
             if name in kinds and name not in TIME_NAMES:
                 self.inputs.setdefault(name, index)
-        self.thousands = [index for name, index in self.inputs.items() if name in asked.thousands]
+        self.thousands = [index for name, index in self.inputs.items() if name in requests.thousands]
         self.numbers = likely[:1] + [index for name, index in self.inputs.items() if kinds[name] != "String"]
         twice = any(self.names.count(name) > 1 for name in self.inputs)
-        self.is_right = not kind and self.separator == "," and len(self.times) == 1 and not twice and text == bare
-        self.foreign = next((why for begin, why in FOREIGN.items() if text.startswith(begin)), "")
-        self.is_whole = kind not in (BARE_CR, ROW_TOO_LONG) and not self.foreign  # a line that the program takes, but perhaps for its characters
+        self.is_right = not kind and self.separator == "," and len(self.times) == 1 and not twice and self.text == bare
+        self.foreign = next((why for begin, why in FOREIGN.items() if self.text.startswith(begin)), "")
+        # Whether it is a line that the program takes, but perhaps for its characters.
+        self.is_whole = kind not in (Kind.BARE_CR, Kind.ROW_TOO_LONG) and not self.foreign
 
     def unit(self) -> int:
         """The unit of the times, as a power of ten, by the name of their column."""

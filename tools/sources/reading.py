@@ -5,92 +5,107 @@ import heapq
 import os
 import stat
 from itertools import chain, repeat, zip_longest
-from typing import BinaryIO, Dict, Iterator, List, NamedTuple, Optional, Tuple
+from typing import IO, Callable, Dict, Iterator, List, NamedTuple, Optional, Tuple
 
-from answers.lines import Progress, reason
+from commands.failures import reason
+from commands.progress import Progress
 from explaining.places import shown_name
-from sources import lines
 from sources.clock import Clock
 from sources.columns import Column, Problems
-from sources.lines import NOTHING_ASKED, Asked, Heading, open_source, read_lines, split
+from sources.lines import NO_REQUESTS, SIGN, Heading, Kind, NumberedLine, Requests, open_source, read_lines, split
 from sources.values import time_of, wrong_time
+
+
+class End(NamedTuple):
+    """Where a run leaves a malformed source: the row, 0 for the heading, what is wrong there, and the line's number in the file."""
+
+    row: int
+    kind: Kind
+    line: int
 
 
 class Source:
     """A source that is looked at once, from its first line to its last, while its rows are taken."""
 
-    def __init__(self, tool: str, name: str, kinds: Dict[str, str], asked: Asked = NOTHING_ASKED, file: Optional[BinaryIO] = None) -> None:
+    def __init__(self, tool: str, name: str, kinds: Dict[str, str], requests: Requests = NO_REQUESTS) -> None:
         self.tool = tool
         self.name = name
         self.kinds = kinds  # of the inputs
-        self.asked = asked
+        self.requests = requests
         self.heading: Optional[Heading] = None
         self.columns: List[Column] = []
         self.pointed: List[Column] = []  # those whose points may part thousands
         self.problems = Problems()  # of whole lines and of times
         self.clock = Clock()
         self.rows = 0
-        self.end: Optional[Tuple[int, int, int]] = None  # of a malformed source the row, the kind and the line's number
+        self.end: Optional[End] = None
         self.failure = ""
-        self.file = file
-        try:
-            self.file = file or open_source(name)
-        except (OSError, ValueError) as failure:
-            self.failure = reason(failure)
+        self.status: Optional[os.stat_result] = None  # of its file, once that is open
 
     def is_read_ahead(self, most: int, several: bool) -> bool:
         """Whether a thread reads its bytes: those of a file of more than so many, and of what is no file beside other sources."""
-        if not self.file:
+        if self.status is None:
             return False
-        status = os.fstat(self.file.fileno())
-        return status.st_size > most if stat.S_ISREG(status.st_mode) else several
+        return self.status.st_size > most if stat.S_ISREG(self.status.st_mode) else several
 
     def times(self) -> Iterator[int]:
         """The times of the rows that a run takes. What stands behind a malformed line is looked at too."""
         try:
-            if self.file:
-                yield from self.look(self.file)
+            file = open_source(self.name)
+        except (OSError, ValueError) as failure:
+            self.failure = reason(failure)
+            return
+        with file:
+            yield from self.times_in(file)
+
+    def times_in(self, file: IO[bytes]) -> Iterator[int]:
+        """The same, of a file that is open."""
+        self.status = os.fstat(file.fileno())
+        try:
+            yield from self.look(file)
         except OSError as failure:
             self.failure = reason(failure)
         self.clock.settle()
 
-    def look(self, file: BinaryIO) -> Iterator[int]:
-        heading = None
-        for number, text, kind in read_lines(file, Progress(self.tool, f"looking at {shown_name(self.name)}")):
-            if heading is None:
-                heading = self.look_at_heading(number, text, kind)
-                continue
+    def look(self, file: IO[bytes]) -> Iterator[int]:
+        lines = read_lines(file, Progress(self.tool, f"looking at {shown_name(self.name)}"))
+        first = next(lines, None)
+        if first is None:
+            self.end = End(0, Kind.BAD_HEADING, 1)
+            return
+        heading = self.look_at_heading(first)
+        for number, text, kind in lines:
             self.rows += 1
             kind, time = self.look_at_row(heading, number, text, kind)
             if self.end:
                 continue
             if kind:
-                self.end = (self.rows, kind, number)
+                self.end = End(self.rows, kind, number)
             elif time is not None:
                 yield time
-        if heading is None:
-            self.end = (0, lines.BAD_HEADING, 1)
 
-    def look_at_heading(self, number: int, text: str, kind: int) -> Heading:
-        heading = self.heading = Heading(number, text, kind, self.kinds, self.asked)
+    def look_at_heading(self, line: NumberedLine) -> Heading:
+        heading = self.heading = Heading(line, self.kinds, self.requests)
         self.columns = [Column(name, self.kinds[name], index) for name, index in heading.inputs.items()]
-        self.pointed = [column for column in self.columns if column.room and (heading.separator == ";" or column.index in heading.thousands)]
-        self.end = None if heading.is_right else (0, kind or lines.BAD_HEADING, number)
+        self.pointed = [column for column in self.columns
+                        if column.room and (heading.separator == ";" or column.index in heading.thousands)]
+        number, _, kind = line
+        self.end = None if heading.is_right else End(0, kind or Kind.BAD_HEADING, number)
         return heading
 
-    def look_at_row(self, heading: Heading, number: int, text: str, kind: int) -> Tuple[int, Optional[int]]:
-        """The kind of a malformed row or 0, and its time."""
-        if kind or text.startswith(lines.SIGN):
-            kind = kind or lines.BAD_TEXT
+    def look_at_row(self, heading: Heading, number: int, text: str, kind: Optional[Kind]) -> Tuple[Optional[Kind], Optional[int]]:
+        """What makes a row malformed, where something does, and its time."""
+        if kind or text.startswith(SIGN):
+            kind = kind or Kind.BAD_TEXT
             self.problems.note(f"kind {kind}", number, text)
             return kind, None
         fields = heading.fields(text)
         if len(fields) != len(heading.names):
             self.problems.note("quote" if text.count('"') % 2 else "fields", number, text)
-            return lines.FIELD_COUNT, None
+            return Kind.FIELD_COUNT, None
         if text == heading.text:
             self.problems.note("heading", number, text)
-            return lines.BAD_TIME, None
+            return Kind.BAD_TIME, None
         time = None if heading.time is None else time_of(fields[heading.time])
         if time is not None:
             self.clock.tick(time, number, text)
@@ -99,7 +114,7 @@ class Source:
         if self.pointed:
             self.look_at_points(split(text, heading.separator), number, text)
         is_right = self.look_at_values(fields, number, text)
-        return (lines.BAD_TIME if time is None else 0 if is_right else lines.BAD_VALUE), time
+        return (Kind.BAD_TIME if time is None else None if is_right else Kind.BAD_VALUE), time
 
     def look_at_points(self, fields: List[str], number: int, text: str) -> None:
         """Looks at the columns of which it is not known yet that their points are decimal points."""
@@ -127,10 +142,23 @@ class Taken(NamedTuple):
     last: Optional[int]
 
 
-def take(sources: List[Source], start: Optional[int], in_turns: bool) -> Taken:
-    """Takes the rows as a run does, merged by time or in turns."""
-    streams = [zip(source.times(), repeat(number)) for number, source in enumerate(sources)]
-    rows = filter(None, chain.from_iterable(zip_longest(*streams))) if in_turns else heapq.merge(*streams)
+Stamp = Tuple[int, int]  # the time of a row, and the number of its source
+Order = Callable[[List[Iterator[Stamp]]], Iterator[Stamp]]
+
+
+def by_time(streams: List[Iterator[Stamp]]) -> Iterator[Stamp]:
+    """The rows of all sources, merged by time."""
+    return iter(heapq.merge(*streams))
+
+
+def in_turns(streams: List[Iterator[Stamp]]) -> Iterator[Stamp]:
+    """A row of each source in turn, while it has one."""
+    return filter(None, chain.from_iterable(zip_longest(*streams)))
+
+
+def take(sources: List[Source], start: Optional[int], order: Order) -> Taken:
+    """Takes the rows as a run does, in an order."""
+    rows = order([zip(source.times(), repeat(number)) for number, source in enumerate(sources)])
     accepted = 0
     late = [0] * len(sources)
     first = None

@@ -7,25 +7,35 @@ from __future__ import annotations
 import re
 from datetime import datetime
 from decimal import ROUND_FLOOR, ROUND_HALF_UP, Context, Decimal
-from typing import Optional, Tuple
+from enum import Enum
+from typing import Dict, NamedTuple, Optional, Tuple
+
+from explaining.words import MOST_TIME
 
 SECOND = 10**9
-MOST_TIME = 4_000_000_000 * SECOND
 BLANKS = " \t"
 NOTHING = ("", "#")
 LONGEST_NUMBER = 40  # characters, and the greatest power of ten, of numbers that are mended
 EXACT = Context(prec=4 * LONGEST_NUMBER)
 UNITS = {0: "seconds", 3: "milliseconds", 6: "microseconds", 9: "nanoseconds"}
 BITS = (8, 16, 32, 64)
-RANGES = {**{f"Int{bits}": (-(2 ** (bits - 1)), 2 ** (bits - 1) - 1) for bits in BITS}, **{f"UInt{bits}": (0, 2**bits - 1) for bits in BITS}}
+RANGES: Dict[str, Tuple[int, int]] = {
+    **{f"Int{bits}": (-(1 << bits - 1), (1 << bits - 1) - 1) for bits in BITS},
+    **{f"UInt{bits}": (0, (1 << bits) - 1) for bits in BITS},
+}
 
 WHOLE = re.compile(r"[+-]?[0-9]+")
 NUMBER = re.compile(r"[+-]?(?:[0-9]+\.?[0-9]*|\.[0-9]+)(?:[eE][+-]?[0-9]{1,4})?")
 GROUPED = re.compile(r"[+-]?[1-9][0-9]{0,2}(?:\.[0-9]{3})+(?:,[0-9]+)?")
 DATE = re.compile(r"([0-9]{4})[-/]([0-9]{2})[-/]([0-9]{2})[T ]([0-9]{2}:[0-9]{2}:[0-9]{2})(?:[.,]([0-9]+))? ?(Z|[+-][0-9]{2}:?[0-9]{2})?")
-MISSING = {"nan", "na", "n/a", "null", "none", "nil", "nul", "-", "--", "?", "inf", "+inf", "-inf", "infinity", "-infinity",
-           "#n/a", "#nv", "#value!", "#wert!", "#div/0!", "#num!", "#zahl!", "#null!", "#ref!", "#bezug!", "#name?"}  # as spreadsheets have it
-TRUTHS = {**dict.fromkeys(("true", "1", "yes", "on", "t", "wahr"), "true"), **dict.fromkeys(("false", "0", "no", "off", "f", "falsch"), "false")}
+MISSING = {  # as spreadsheets and libraries write it
+    "nan", "na", "n/a", "null", "none", "nil", "nul", "-", "--", "?", "inf", "+inf", "-inf", "infinity", "-infinity",
+    "#n/a", "#nv", "#value!", "#wert!", "#div/0!", "#num!", "#zahl!", "#null!", "#ref!", "#bezug!", "#name?",
+}
+TRUTHS = {
+    **dict.fromkeys(("true", "1", "yes", "on", "t", "wahr"), "true"),
+    **dict.fromkeys(("false", "0", "no", "off", "f", "falsch"), "false"),
+}
 
 
 def read_number(text: str) -> Optional[Decimal]:
@@ -47,8 +57,12 @@ def is_grouped(text: str) -> bool:
 def fits(text: str, kind: str) -> bool:
     """Whether digits, with or without a sign, are in the kind's range."""
     size = int(text.lstrip("+-0")[:21] or 0)  # more digits are in no range
+    return in_range(-size if text.startswith("-") else size, kind)
+
+
+def in_range(value: int, kind: str) -> bool:
     least, most = RANGES[kind]
-    return least <= (-size if text.startswith("-") else size) <= most
+    return least <= value <= most
 
 
 def wrong_value(text: str, kind: str) -> str:
@@ -62,23 +76,42 @@ def wrong_value(text: str, kind: str) -> str:
     return "missing" if text.lower() in MISSING else "decimals" if read_number(text) is not None else "other"
 
 
-def mended_value(text: str, kind: str, power: int) -> Tuple[str, str]:
-    """A field as it can be read, its number times 10 to that power, and what was lost: nothing, `rounded` or `dropped`."""
+class Loss(Enum):
+    """What is lost of a field that is mended."""
+
+    NOTHING = 0
+    ROUNDED = 1
+    DROPPED = 2
+
+
+class Mended(NamedTuple):
+    """A field as it can be read."""
+
+    text: str
+    loss: Loss
+
+
+DROPPED = Mended("#", Loss.DROPPED)
+
+
+def mended_value(text: str, kind: str, power: int) -> Mended:
+    """A field as it can be read, a number times 10 to that power."""
     if kind == "String":
-        return text, ""
+        return Mended(text, Loss.NOTHING)
     text = text.strip(BLANKS)
     if text in NOTHING or text.lower() in MISSING:
-        return "#", ""
+        return Mended("#", Loss.NOTHING)
     if kind == "Bool":
         truth = TRUTHS.get(text.lower())
-        return (truth, "") if truth else ("#", "dropped")
+        return Mended(truth, Loss.NOTHING) if truth else DROPPED
     number = read_number(text)
     if number is None:
-        return "#", "dropped"
+        return DROPPED
     scaled = number.scaleb(power, EXACT)
     value = int(scaled.to_integral_value(ROUND_HALF_UP))
-    least, most = RANGES[kind]
-    return (str(value), "" if value == scaled else "rounded") if least <= value <= most else ("#", "dropped")
+    if not in_range(value, kind):
+        return DROPPED
+    return Mended(str(value), Loss.NOTHING if value == scaled else Loss.ROUNDED)
 
 
 def time_of(text: str) -> Optional[int]:

@@ -1,23 +1,28 @@
-"""What the tools that read sources have in common in their words."""
+"""The words of the tools that look at sources as a run reads them."""
 from __future__ import annotations
 
 import argparse
-import sys
-from typing import NoReturn
+from typing import List, Optional
 
-from answers import command
-from explaining.words import is_time
+from commands.command import Words
+from explaining.words import MOST_SOURCES, is_time
+from sources.reading import Order, by_time, in_turns
 from sources.values import time_of
 
-USAGE = 3  # these tools end with 2 where a source has errors
+WRONG_WORDS = 3  # the status for them, since these tools end with 2 where a source has errors
 
 
-class Words(command.Words):
-    """Reads a tool's words."""
+class RunAsked(argparse.Namespace):
+    """The run that was asked for. The start is told in nanoseconds."""
 
-    def error(self, message: str) -> NoReturn:
-        command.say(self.prog, f"{message}; --help tells more")
-        sys.exit(USAGE)
+    start: Optional[int]
+    in_turns: bool
+    specification: str
+    sources: List[str]
+
+    @property
+    def order(self) -> Order:
+        return in_turns if self.in_turns else by_time
 
 
 def start_of(word: str) -> int:
@@ -26,3 +31,15 @@ def start_of(word: str) -> int:
     if time is None:
         raise argparse.ArgumentTypeError(f"a time in seconds, such as 0 or 1735689600.5, was expected, and not {word!r}")
     return time
+
+
+def add_run(words: Words) -> None:
+    words.options.add_argument("--start", type=start_of)
+    words.options.add_argument("--in-turns", action="store_true")
+    words.names.add_argument("specification", metavar="SPEC")
+    words.names.add_argument("sources", metavar="SOURCE", nargs="+")
+
+
+def check_run(words: Words, asked: RunAsked) -> None:
+    if len(asked.sources) > MOST_SOURCES:
+        words.error(f"these are {len(asked.sources)} sources, and {MOST_SOURCES} at most can be read")

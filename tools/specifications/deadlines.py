@@ -5,11 +5,18 @@ from fractions import Fraction
 from functools import reduce
 from itertools import combinations
 from math import ceil, gcd
-from typing import Set, Tuple
+from typing import NamedTuple, Set
 
 from sources.values import SECOND
 
 MOST_RATES = 12  # so many are counted together; of more the sum is told
+
+
+class Deadlines(NamedTuple):
+    """How many moments have a deadline, or an upper bound of that."""
+
+    moments: int
+    is_exact: bool
 
 
 def both(one: Fraction, other: Fraction) -> Fraction:
@@ -17,15 +24,21 @@ def both(one: Fraction, other: Fraction) -> Fraction:
     return Fraction(gcd(one.numerator * other.denominator, other.numerator * one.denominator), one.denominator * other.denominator)
 
 
-def count_deadlines(rates: Set[Fraction], span: int) -> Tuple[int, bool]:
-    """How many moments have a deadline up to so many nanoseconds behind the start, and whether that is no upper bound."""
-    # The k-th deadline is k / rate seconds behind the start, cut to nanoseconds: so those are up to the span that are below span + 1.
-    def alone(rate: Fraction) -> int:
-        return max(0, ceil((span + 1) * rate / SECOND) - 1)
+def alone(rate: Fraction, span: int) -> int:
+    """How many deadlines of one rate lie in a span: the k-th is k / rate seconds behind the start, cut to nanoseconds."""
+    return max(0, ceil((span + 1) * rate / SECOND) - 1)
 
+
+def count_deadlines(rates: Set[Fraction], span: int) -> Deadlines:
+    """How many moments have a deadline up to so many nanoseconds behind the start.
+
+    A rate that divides another one adds no moment. Of the others those that some have in common are taken away or added in turn.
+    """
     apart = [rate for rate in rates if not any(other != rate and (other / rate).denominator == 1 for other in rates)]
     if len(apart) > MOST_RATES:
-        return sum(map(alone, apart)), False
-    sums = (sum(alone(reduce(both, some)) for some in combinations(apart, size)) * (-1) ** (size + 1)
-            for size in range(1, len(apart) + 1))
-    return sum(sums), True
+        return Deadlines(sum(alone(rate, span) for rate in apart), False)
+    count = 0
+    for size in range(1, len(apart) + 1):
+        in_common = sum(alone(reduce(both, some), span) for some in combinations(apart, size))
+        count += in_common if size % 2 else -in_common
+    return Deadlines(count, True)

@@ -3,7 +3,7 @@ from __future__ import annotations
 
 import re
 from fractions import Fraction
-from typing import Dict, List, Optional, Set, Tuple
+from typing import Iterator, List, NamedTuple, Optional, Set
 
 from explaining.places import LONGEST_SPECIFICATION, Place, place_in, read_specification
 from explaining.program import analyse
@@ -29,41 +29,49 @@ class Refusal(Exception):
         self.place = place_in(text, int(match[2])) if match and text else None
 
 
+class Word(NamedTuple):
+    """A word of a specification, and where it stands."""
+
+    text: bytes
+    at: int
+
+
 class Specification:
     """What the tools ask of a specification, by its text and by the report of its analysis."""
 
     def __init__(self, name: str, text: bytes, report: List[str]) -> None:
         self.name = name
         self.text = text
-        words = [(match.group(), match.start()) for match in WORD.finditer(text)]
-        self.words = [(word, at) for word, at in words if not word.startswith((b"//", b"/*"))]
+        words = [Word(match.group(), match.start()) for match in WORD.finditer(text)]
+        self.words = [word for word in words if not word.text.startswith((b"//", b"/*"))]
         self.streams = streams_of(report)
         self.windows = windows_of(report)
-        self.inputs: Dict[str, str] = {}  # the kinds by the names
-        for stream in self.streams:
-            # An input is paced by itself alone. A trigger may be called as an input is; it comes second or is Bool.
-            if stream.name == stream.pacing and (stream.name not in self.inputs or stream.kind != "Bool"):
-                self.inputs[stream.name] = stream.kind
+        self.inputs = {stream.name: stream.kind for stream in self.streams if stream.is_input}
 
-    def places(self, name: str) -> Tuple[Optional[Place], List[int]]:
-        """Where an input is declared, and the lines in which its name stands otherwise."""
-        declared = None
-        lines = set()
+    def declarations(self, name: str) -> Iterator[Word]:
+        """Where inputs of this name are declared."""
         in_inputs = False
-        for (word, at), (behind, _) in zip(self.words, self.words[1:] + [(b"", 0)]):
-            in_inputs = word == b"input" or in_inputs and word not in (b"output", b"constant", b"trigger")
-            if word == name.encode() and in_inputs and behind == b":":
-                declared = declared or place_in(self.text, at)
-            elif word == name.encode():
-                lines.add(self.text.count(b"\n", 0, at) + 1)
-        return declared, sorted(lines)
+        for word, behind in zip(self.words, self.words[1:]):
+            in_inputs = word.text == b"input" or in_inputs and word.text not in (b"output", b"constant", b"trigger")
+            if word.text == name.encode() and in_inputs and behind.text == b":":
+                yield word
+
+    def place(self, name: str) -> Optional[Place]:
+        """Where an input is declared."""
+        declared = next(self.declarations(name), None)
+        return place_in(self.text, declared.at) if declared else None
+
+    def reading_lines(self, name: str) -> List[int]:
+        """The lines in which the name of an input stands where it is not declared."""
+        named = {word for word in self.words if word.text == name.encode()}
+        return sorted({self.text.count(b"\n", 0, word.at) + 1 for word in named.difference(self.declarations(name))})
 
     def rates(self) -> Set[Fraction]:
         """The rates, in Hz, whose deadlines count from the start of the run. The report does not tell those behind `close`."""
         pacings = [pacing for stream in self.streams for pacing in (stream.pacing, stream.spawn)]
         matches = [RATE.fullmatch(pacing) for pacing in pacings]
         found = {Fraction(int(match[1]), int(match[2] or 1)) for match in matches if match}
-        for number, unit in CLOSE.findall(b"".join(word for word, _ in self.words if not word.startswith(b'"'))):
+        for number, unit in CLOSE.findall(b"".join(word.text for word in self.words if not word.text.startswith(b'"'))):
             quantity = Fraction(number.decode())
             if unit in RATES:
                 found.add(quantity * RATES[unit])
@@ -72,7 +80,7 @@ class Specification:
         return found
 
     def has_local(self) -> bool:
-        return any(stream.pacing.startswith("Local(") for stream in self.streams) or any(word == b"Local" for word, _ in self.words)
+        return any(stream.pacing.startswith("Local(") for stream in self.streams) or any(word.text == b"Local" for word in self.words)
 
     def longest(self) -> int:
         """The longest window or period, in nanoseconds; 0 where time plays no part."""

@@ -1,20 +1,20 @@
 """Compares two lists of verdicts, each a file of verdict lines or a long table, moment by moment.
 
-The streams of one moment are compared by their names, so that their order does not matter; the values of one stream at
-one moment are compared in their order.
+The streams of one moment are compared by their names, so that their order does not matter; the values of one stream in their order.
 """
 from __future__ import annotations
 
 import csv
-import io
 import json
 import re
 from itertools import chain, groupby, zip_longest
 from typing import Dict, Iterator, List, NamedTuple, Optional, Tuple
 
-from answers.lines import Input, Progress, Unfit
-from answers.verdicts import NUMBER, TIME, Verdicts, nanoseconds, plain, seconds
-from tabling.forms import LONG_HEADING, parameters_field
+from answers.lines import Input
+from answers.verdicts import NUMBER, TIME, Instance, Verdicts, nanoseconds, plain, seconds
+from commands.failures import Unfit
+from commands.progress import Progress
+from tabling.forms import LONG_HEADING, TOOL, parameters_field
 
 IS_TIME = re.compile(TIME)
 BARE = re.compile(rf"{NUMBER}|true|false")
@@ -25,26 +25,28 @@ class Row(NamedTuple):
     """A row of a long table."""
 
     time: int
-    stream: str
-    parameters: str
+    instance: Instance  # with its parameters as the table has them
     value: str
 
 
-Moment = Tuple[int, List[Row]]
+class Moment(NamedTuple):
+    """All rows of one time."""
+
+    time: int
+    rows: List[Row]
 
 
 class Side:
     """One of the two that are compared."""
 
-    def __init__(self, name: str, tool: str) -> None:
-        self.source = Input(name)
-        self.name = self.source.name
-        self.progress = Progress(tool, f"comparing {self.name}")
+    def __init__(self, source: Input) -> None:
+        self.source = source
+        self.name = source.name
         self.verdicts: Optional[Verdicts] = None
 
     def rows(self) -> Iterator[Row]:
-        rest = self.source.lines(self.progress)
-        first = next(rest, [])
+        rest = self.source.lines(Progress(TOOL, f"comparing {self.name}"))
+        first: List[str] = next(rest, [])
         lines = chain([first], rest)
         if first and first[0].rstrip("\r") == ",".join(LONG_HEADING):
             return self.table_rows(chain.from_iterable(lines))
@@ -53,17 +55,17 @@ class Side:
     def verdict_rows(self, lines: Iterator[List[str]]) -> Iterator[Row]:
         self.verdicts = Verdicts(self.name, lines)
         for verdict in self.verdicts:
-            parameters = parameters_field(verdict.parameters)
-            yield Row(nanoseconds(verdict.time), verdict.stream, parameters, plain(verdict.value))
+            instance = Instance(verdict.stream, parameters_field(verdict.parameters))
+            yield Row(nanoseconds(verdict.time), instance, plain(verdict.value))
 
     def table_rows(self, lines: Iterator[str]) -> Iterator[Row]:
         reader = csv.reader((line + "\n" for line in lines), strict=True)
-        next(reader)
+        next(reader)  # the heading, which was seen
         try:
             for fields in reader:
                 if len(fields) != len(LONG_HEADING) or not IS_TIME.fullmatch(fields[0]):
                     raise Unfit(f"{self.name}, line {reader.line_num}: it is no row of a long table")
-                yield Row(nanoseconds(fields[0]), *fields[1:])
+                yield Row(nanoseconds(fields[0]), Instance(*fields[1:3]), fields[3])
         except csv.Error as failure:
             raise Unfit(f"{self.name}, line {reader.line_num}: it is no CSV: {failure}") from None
 
@@ -73,7 +75,7 @@ class Side:
             if time < last:
                 raise Unfit(f"{self.name}: {seconds(time)} stands behind {seconds(last)}; rows have to be in order of time")
             last = time
-            yield time, list(rows)
+            yield Moment(time, list(rows))
 
     @property
     def end(self) -> Optional[str]:
@@ -87,35 +89,33 @@ class Comparison:
         self.one = one
         self.other = other
         self.same = self.different = self.only_one = self.only_other = 0
-        self.first: Optional[str] = None
+        self.first: Optional[str] = None  # the first difference
 
     def run(self) -> None:
-        for time, rows, others in paired(self.one.moments(), self.other.moments()):
-            if rows == others:
-                self.same += len(rows)
+        for here, there in paired(self.one.moments(), self.other.moments()):
+            if here == there:
+                self.same += len(here.rows)
             else:
-                self.compare(time, rows, others)
+                self.compare(here, there)
 
-    def compare(self, time: int, rows: List[Row], others: List[Row]) -> None:
-        one, other = values_of(rows), values_of(others)
-        for stream in {**one, **other}:
-            for value, another in zip_longest(one.get(stream, []), other.get(stream, [])):
-                self.compare_values(time, stream, value, another)
+    def compare(self, here: Moment, there: Moment) -> None:
+        one, other = values_of(here.rows), values_of(there.rows)
+        for instance in {**one, **other}:
+            for value, another in zip_longest(one.get(instance, []), other.get(instance, [])):
+                self.compare_values(here.time, instance, value, another)
 
-    def compare_values(self, time: int, stream: Tuple[str, str], value: Optional[str], another: Optional[str]) -> None:
+    def compare_values(self, time: int, instance: Instance, value: Optional[str], another: Optional[str]) -> None:
         if value == another:
             self.same += 1
-            return
-        if value is None:
+        elif value is None:
             self.only_other += 1
         elif another is None:
             self.only_one += 1
         else:
             self.different += 1
-        if self.first is None:
-            name = f"{stream[0]}({stream[1]})" if stream[1] else stream[0]
+        if value != another and self.first is None:
             told = f"{shown(value)} in {self.one.name}, {shown(another)} in {self.other.name}"
-            self.first = f"first difference: {seconds(time)} {name}: {told}"
+            self.first = f"first difference: {seconds(time)} {instance.name}: {told}"
 
     @property
     def ends_differ(self) -> bool:
@@ -127,15 +127,12 @@ class Comparison:
         return self.first is None and not self.ends_differ
 
     def told(self) -> str:
-        text = io.StringIO()
-        if self.first is not None:
-            print(self.first, file=text)
-        print(f"rows: {self.same} the same, {self.different} with another value, {self.only_one} only in {self.one.name}, "
-              f"{self.only_other} only in {self.other.name}", file=text)
+        lines = [] if self.first is None else [self.first]
+        lines.append(f"rows: {self.same} the same, {self.different} with another value, {self.only_one} only in {self.one.name}, "
+                     f"{self.only_other} only in {self.other.name}")
         if self.ends_differ:
-            for side in (self.one, self.other):
-                print(f"end of {side.name}: {side.end or 'no end line'}", file=text)
-        return text.getvalue()
+            lines += [f"end of {side.name}: {side.end or 'no end line'}" for side in (self.one, self.other)]
+        return "".join(line + "\n" for line in lines)
 
 
 def shown(value: Optional[str]) -> str:
@@ -144,22 +141,20 @@ def shown(value: Optional[str]) -> str:
     return value if BARE.fullmatch(value) else json.dumps(value, ensure_ascii=False)
 
 
-def values_of(rows: List[Row]) -> Dict[Tuple[str, str], List[str]]:
-    values: Dict[Tuple[str, str], List[str]] = {}
+def values_of(rows: List[Row]) -> Dict[Instance, List[str]]:
+    values: Dict[Instance, List[str]] = {}
     for row in rows:
-        values.setdefault((row.stream, row.parameters), []).append(row.value)
+        values.setdefault(row.instance, []).append(row.value)
     return values
 
 
-def paired(one: Iterator[Moment], other: Iterator[Moment]) -> Iterator[Tuple[int, List[Row], List[Row]]]:
-    """Each time that one of the two has, with the rows of both."""
+def paired(one: Iterator[Moment], other: Iterator[Moment]) -> Iterator[Tuple[Moment, Moment]]:
+    """The moments of both in their order; of one that the other does not have, it has no row."""
     left, right = next(one, None), next(other, None)
     while left or right:
-        time = min(moment[0] for moment in (left, right) if moment)
-        rows: List[Row] = []
-        others: List[Row] = []
-        if left and left[0] == time:
-            rows, left = left[1], next(one, None)
-        if right and right[0] == time:
-            others, right = right[1], next(other, None)
-        yield time, rows, others
+        nothing = Moment(min(moment.time for moment in (left, right) if moment), [])
+        here = left if left and left.time == nothing.time else nothing
+        there = right if right and right.time == nothing.time else nothing
+        yield here, there
+        left = next(one, None) if here is left else left
+        right = next(other, None) if there is right else right

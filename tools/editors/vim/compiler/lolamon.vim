@@ -5,5 +5,5 @@ if exists("current_compiler")
 endif
 let current_compiler = "lolamon"
 
-CompilerSet makeprg=lolamon-where\ --check\ %:S
+CompilerSet makeprg=lolamon-where\ --check\ --\ %:S
 CompilerSet errorformat=%f:%l:%c:\ %m,%-G%.%#
