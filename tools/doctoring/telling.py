@@ -222,7 +222,7 @@ def of_field(source: Source, heading: Heading, column: Column, sort: str, proble
         better = replaced(fields, column.index, problem.field.strip(BLANKS))
         return Finding(WARNING, source.name, problem.number, message, problem.text, better)
     mended = mended_value(problem.field, column.kind, column.power())
-    better = "" if mended.loss == Loss.DROPPED else replaced(fields, column.index, mended.text)
+    better = "" if mended.loss is Loss.DROPPED else replaced(fields, column.index, mended.text)
     return Finding(ERROR, source.name, problem.number, message, problem.text, better)
 
 
@@ -263,5 +263,5 @@ def why_malformed(source: Source, heading: Heading) -> str:
 
 def wider(name: str, text: str) -> str:
     """The kind that has room for a number, said behind the finding."""
-    kinds = [kind for kind in ("Int8", "Int16", "Int32", "Int64", "UInt64") if mended_value(text, kind, 0).loss == Loss.NOTHING]
+    kinds = [kind for kind in ("Int8", "Int16", "Int32", "Int64", "UInt64") if mended_value(text, kind, 0).loss is Loss.NOTHING]
     return f"; in the specification {name}: {kinds[0]} has room" if kinds else ""

@@ -81,9 +81,9 @@ class Mender:
 
     def row(self, line: NumberedLine) -> Row:
         number, text, kind = line
-        if kind == Kind.ROW_TOO_LONG:
+        if kind is Kind.ROW_TOO_LONG:
             raise LeftOut("too long")
-        if kind == Kind.BAD_TEXT:
+        if kind is Kind.BAD_TEXT:
             self.changed.note("line{s} taken for Latin-1", number, text)
         fields = self.heading.fields(text.lstrip(SIGN))
         wanted = len(self.heading.names)
@@ -104,9 +104,9 @@ class Mender:
 
     def field(self, text: str, column: Column, power: int, number: int) -> str:
         value, loss = mended_value(text, column.kind, power)
-        if loss == Loss.ROUNDED:
+        if loss is Loss.ROUNDED:
             self.lost.note(f"value{{s}} of {column.name} rounded", number, text)
-        elif loss == Loss.DROPPED:
+        elif loss is Loss.DROPPED:
             self.lost.note(f"value{{s}} of {column.name} made missing, as no {column.kind} can be made of what stands there", number, text)
         elif value == "#" and column.kind != "String" and text.strip(BLANKS) not in NOTHING:
             self.changed.note(f"value{{s}} of {column.name} such as NaN or null made #", number, text)
