@@ -9,6 +9,7 @@ import re
 from typing import Iterator, List, NamedTuple, Optional, Tuple
 
 from commands.failures import Unfit
+from commands.times import SECOND
 
 NAME = r"[A-Za-z_][A-Za-z_0-9]*"
 TEXT = r'"[^"\\]*(?:\\["\\nrt][^"\\]*)*"'
@@ -74,7 +75,7 @@ def nanoseconds(time: str) -> int:
 def seconds(time: int) -> str:
     """Whole nanoseconds as a time is written."""
     sign = "-" if time < 0 else ""
-    return f"{sign}{abs(time) // 10**9}.{abs(time) % 10**9:09}"
+    return f"{sign}{abs(time) // SECOND}.{abs(time) % SECOND:09}"
 
 
 def trigger_order(name: str) -> Tuple[int, str]:

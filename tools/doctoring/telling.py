@@ -6,13 +6,14 @@ import shlex
 from math import inf
 from typing import Dict, Iterator, List, Optional, Tuple
 
+from commands.times import SECOND
 from explaining.places import Place, shown, shown_name
 from findings.finding import ERROR, LEVELS, NOTE, WARNING, Finding, counted
 from findings.forecast import Forecast, left, unreadable
 from sources.columns import Column, Problem
 from sources.lines import SIGN, TIME_NAMES, Heading, Kind, join
 from sources.reading import Source, Taken
-from sources.values import BLANKS, SECOND, UNITS, Loss, mended_time, mended_value, seconds, time_of, unit_of, written_time
+from sources.values import BLANKS, UNITS, Loss, mended_time, mended_value, seconds, time_of, unit_of, written_time
 from specifications.deadlines import count_deadlines
 from specifications.specification import Specification
 

@@ -1,1 +1,1 @@
-"""What tools/explain is made of: it runs lolamon and tells a person what the end line means."""
+"""Runs of lolamon as a person is told of them: what the end line means, places, messages, and where the program and its parts stand."""

@@ -7,6 +7,8 @@ from __future__ import annotations
 import re
 from typing import Dict, List, NamedTuple
 
+from commands.times import MOST_TIME, SECOND
+
 FLAG = "--in-turns"
 VALUES = {
     "--show": "'triggers' or 'outputs'",
@@ -14,7 +16,6 @@ VALUES = {
     "--start": "a time in seconds, such as 0 or 1735689600.5",
 }
 MOST_SOURCES = 64
-MOST_TIME = 4_000_000_000_000_000_000  # nanoseconds
 MOST_SEED = 2_147_483_646
 MOST_ROWS = 1_000_000
 
@@ -42,7 +43,7 @@ def is_time(word: str) -> bool:
         return False
     seconds, _, decimals = word.partition(".")
     seconds = seconds.lstrip("0")
-    return len(seconds) <= 10 and int(seconds or "0") * 10**9 + int(decimals[:9].ljust(9, "0")) <= MOST_TIME
+    return len(seconds) <= 10 and int(seconds or "0") * SECOND + int(decimals[:9].ljust(9, "0")) <= MOST_TIME
 
 
 def is_value(option: str, word: str) -> bool:

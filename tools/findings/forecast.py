@@ -3,9 +3,10 @@ from __future__ import annotations
 
 from typing import List, NamedTuple, Optional
 
+from commands.times import SECOND
 from findings.finding import ERROR, NOTE, WARNING, Finding, counted
 from sources.reading import Source, Taken
-from sources.values import SECOND, seconds, written_time
+from sources.values import seconds, written_time
 from specifications.deadlines import Deadlines, count_deadlines
 from specifications.report import Stream
 from specifications.specification import Specification
@@ -13,6 +14,8 @@ from specifications.specification import Specification
 MOST_INSTANCES = 65_536
 SLOW = 60 * SECOND  # a run that takes longer for its deadlines is warned of
 ROW_TIME, STREAM_TIME, DEADLINE_TIME = 600, 150, 100  # nanoseconds: of a row, of a stream in it, and of a stream at a deadline
+VALUE, PANE = 32, 48  # bytes of a value that is kept, and of a pane
+INSTANCE, WINDOW, SPAWNED, LOCAL = 570, 100, 170, 24  # bytes beside these: of any instance, for each window, if spawned, and if it counts
 PIECES, AHEAD = 128 * 1024, 384 * 1024  # bytes of a source, and of one that is read ahead
 
 
@@ -95,8 +98,8 @@ class Forecast:
     def instance(self, stream: Stream) -> Memory:
         """What an instance of the stream takes, by the sum of docs/formats.md."""
         onto = [window for window in self.specification.windows if window.target == stream.name]
-        values = 32 * stream.kept + sum(48 * window.panes for window in onto)
-        others = 290 + 100 * len(onto) + (170 if stream.spawn else 0) + (24 if "Local" in stream.pacing else 0) + 280
+        values = VALUE * stream.kept + sum(PANE * window.panes for window in onto)
+        others = INSTANCE + WINDOW * len(onto) + (SPAWNED if stream.spawn else 0) + (LOCAL if "Local" in stream.pacing else 0)
         return Memory(values + others, values + 2 * others)
 
 

@@ -4,7 +4,8 @@ from __future__ import annotations
 from datetime import datetime, timezone
 from typing import List, NamedTuple, Optional
 
-SECOND = 10**9
+from commands.times import SECOND, divided_up
+
 MINUTE = 60 * SECOND
 HOUR = 60 * MINUTE
 DAY = 24 * HOUR
@@ -43,11 +44,6 @@ def round_step(least: int) -> int:
     while power * 10 <= least:
         power *= 10
     return next(power * digit for digit in (1, 2, 5, 10) if power * digit >= least)
-
-
-def divided_up(number: int, by: int) -> int:
-    """The least whole number that is no smaller than the quotient."""
-    return -(-number // by)
 
 
 def first_of(steps: List[int], least: int) -> Optional[int]:

@@ -2,19 +2,18 @@
 from __future__ import annotations
 
 import argparse
-import re
 import sys
 from typing import Optional
 
 from commands.command import Words, say, write
 from commands.failures import USAGE, Failure
+from commands.times import exact_time
 from pictures import drawing
 from pictures.page import page
 from pictures.panel import Span
 from pictures.picture import Groups, Picture, read_groups
 
 FORMS = ("html", "png", "svg")
-TIME = re.compile(r"([0-9]{1,10})(?:\.([0-9]{1,9}))?")
 
 
 class NotForATerminal(Failure):
@@ -43,10 +42,10 @@ class PictureAsked(argparse.Namespace):
 
 def time_of(text: str) -> int:
     """A time of the words, in whole nanoseconds."""
-    match = TIME.fullmatch(text)
-    if match is None:
+    time = exact_time(text)
+    if time is None:
         raise argparse.ArgumentTypeError(f"a time is a number of seconds such as 12.5, and not {text!r}")
-    return int(match[1]) * 10**9 + int((match[2] or "").ljust(9, "0"))
+    return time
 
 
 def form_of(path: Optional[str]) -> str:

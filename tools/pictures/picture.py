@@ -6,12 +6,13 @@ from typing import Dict, List, NamedTuple, Optional
 
 from answers.verdicts import NAME, VALUE, Verdict, plain, trigger_order
 from commands.failures import Unfit
+from commands.times import SECOND
 from pictures.panel import MOST_COUNTED, MOST_LINES, Panel, Span, Wanted, fits
 from pictures.series import Marks
 from specifications.report import Stream
 
 MOST_PANELS = 16
-HALF_A_SECOND = 10**9 // 2
+HALF_A_SECOND = SECOND // 2
 ITEM = re.compile(rf"({NAME})(?:\(({VALUE}(?:,{VALUE})*)\))?(\+|,|\Z)")
 
 Groups = List[List[Wanted]]  # what each panel shows
@@ -146,7 +147,7 @@ class Picture:
                             "are drawn; --streams chooses others")
         longest = max((panel.stretch() for panel in self.panels), default=0)
         if longest:
-            told.append(f"lines of many values are thinned: of each {longest / 10**9:.3g} s or less the first, the least, the greatest "
+            told.append(f"lines of many values are thinned: of each {longest / SECOND:.3g} s or less the first, the least, the greatest "
                         "and the last stay, and each text once; --from and --to draw a part more finely")
         return told
 

@@ -10,9 +10,8 @@ from decimal import ROUND_FLOOR, ROUND_HALF_UP, Context, Decimal
 from enum import Enum
 from typing import Dict, NamedTuple, Optional, Tuple
 
-from explaining.words import MOST_TIME
+from commands.times import MOST_TIME, SECOND
 
-SECOND = 10**9
 BLANKS = " \t"
 NOTHING = ("", "#")
 LONGEST_NUMBER = 40  # characters, and the greatest power of ten, of numbers that are mended

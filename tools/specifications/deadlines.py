@@ -7,7 +7,7 @@ from itertools import combinations
 from math import ceil, gcd
 from typing import NamedTuple, Set
 
-from sources.values import SECOND
+from commands.times import SECOND
 
 MOST_RATES = 12  # so many are counted together; of more the sum is told
 

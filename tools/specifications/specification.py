@@ -5,9 +5,9 @@ import re
 from fractions import Fraction
 from typing import Iterator, List, NamedTuple, Optional, Set
 
+from commands.times import SECOND
 from explaining.places import LONGEST_SPECIFICATION, Place, place_in, read_specification
 from explaining.program import analyse
-from sources.values import SECOND
 from specifications.report import streams_of, windows_of
 
 REFUSED = re.compile(r"= refused (E\d+) \w+ at (\d{1,18})")

@@ -60,7 +60,7 @@ class Side:
 
     def table_rows(self, lines: Iterator[str]) -> Iterator[Row]:
         reader = csv.reader((line + "\n" for line in lines), strict=True)
-        next(reader)  # the heading, which was seen
+        next(reader, None)  # the heading, which was seen
         try:
             for fields in reader:
                 if len(fields) != len(LONG_HEADING) or not IS_TIME.fullmatch(fields[0]):
