@@ -10,6 +10,7 @@ from specifications.specification import Refusal
 
 ERROR, WARNING, NOTE = LEVELS = ("error", "warning", "note")
 STATUSES = {NOTE: 0, WARNING: 1, ERROR: 2}
+WRONG_WORDS = 3  # the status for them, since 2 is that of errors
 WIDTH = 100  # characters of a line that are shown
 
 

@@ -9,8 +9,6 @@ from explaining.words import MOST_SOURCES, is_time
 from sources.reading import Order, by_time, in_turns
 from sources.values import time_of
 
-WRONG_WORDS = 3  # the status for them, since these tools end with 2 where a source has errors
-
 
 class RunAsked(argparse.Namespace):
     """The run that was asked for. The start is told in nanoseconds."""
