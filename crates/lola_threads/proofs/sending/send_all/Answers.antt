@@ -49,7 +49,8 @@ returns-clause-halts g c =
     let taker_back : c.taker-1.given.0 ≡ c.scoped-taker.result.0.now = search rules in
     let run_back : c.run-1.given.0 ≡ c.scoped-taker.result.1.now = search rules in
     let out_back : c.out-1.given.0 ≡ c.scoped-taker.result.2.now = search rules in
-    let trace_back : c.trace-1.given.0 ≡ c.scoped-taker.result.3.now = search rules in
+    let trace_named = c.scoped-taker.ensures.1.1.1.1.0 in
+    let trace_back : c.trace-1.given.0 ≡ c.scoped-taker.result.3.now = search (rules, trace_named, c.trace-1.given.1, c.take_back-4.ensures) in
     of_equals (λ (taker : Taking) (run : Run) (out : g.row.K.Denot) (trace : g.row.T.Denot). (first : Place) → HasRun first (taken c.args.taker.now.seat.mine)
     (place (keeping c.args.run.now) (g.K.Sink.state c.args.out.now) (g.T.Sink.state c.args.trace.now)) → AreOfSources c.args.taker.now.inputs.count (taken c.args.taker.now.seat.mine)
     → Halts c.scoped-taker.result.5 c.args.taker.now.inputs.count first (taken taker.seat.mine) (place (keeping run) (g.K.Sink.state out) (g.T.Sink.state trace)))
