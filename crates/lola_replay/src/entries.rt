@@ -1,6 +1,6 @@
 //! The lines of a trace, taken one after another, up to the first that is wrong.
 
-ghost use Rattle.std.specs.Prelude.{◌≡◌, ◌≤◌, ◌<◌, ◌+◌, ◌++◌, ◌^◌, ℕ, List, [], ◌∷◌, Option, None, true, false, IfOk, IfSome, OnOk, drop, length};
+ghost use Rattle.std.specs.Prelude.{◌≡◌, ◌≤◌, ◌<◌, ◌+◌, ◌++◌, ◌^◌, ℕ, List, [], ◌∷◌, Option, None, true, false, IfOk, IfSome, OnOk, drop, is_some, length};
 ghost use Rattle.lola_value.specs.Times.{latest};
 ghost use Rattle.lola_model.specs.Acceptance.{IsAccepted};
 ghost use Rattle.lola_model.specs.Journal.{accepted};
@@ -69,6 +69,13 @@ pub fn begin_run<'a>(
     })
 }
 
+// Whether the last step that was taken has a fault.
+fn has_fault(run: &Run) -> bool
+    ensures { result ≡ is_some run.now.fault }
+{
+    run.fault.is_some()
+}
+
 // The entry of a line that is right behind those so far.
 fn right_entry(
     course: &Course,
@@ -84,7 +91,7 @@ fn right_entry(
         → IfOk result (IsJudged course.now.plan.now start journal line.now) }
 {
     one_model_of_accepted(course.plan);
-    if run.fault.is_some() {
+    if has_fault(run) {
         return Ok(None);
     }
     match entry_of(

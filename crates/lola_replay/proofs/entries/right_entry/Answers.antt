@@ -4,10 +4,10 @@ use Rattle.lola_journal.specs.Journals.{ReadsLine}
 use Rattle.lola_replay.proofs.RunningLemmas.{none-by, right-line, some-by, wrong-entry, wrong-fault}
 use Rattle.lola_replay.proofs.entries.right_entry.Goals as goal
 
-pub returns-then-is_some-clause-judged : goal.returns-then-is_some-clause-judged
-returns-then-is_some-clause-judged c = λ start text journal on.
+pub returns-then-has_fault-clause-judged : goal.returns-then-has_fault-clause-judged
+returns-then-has_fault-clause-judged c = λ start text journal on.
     wrong-fault c.args.course.now.plan.now c.one_model_of_accepted.ensures.runs start c.args.course.now.show text journal c.args.run.now on c.args.line.now
-    (some-by c.args.run.now.fault (sym c.is_some.ensures ∙ c.if-is_some.true))
+    (some-by c.args.run.now.fault (sym c.has_fault.ensures ∙ c.if-has_fault.true))
 
 pub returns-then-is_right-clause-judged : goal.returns-then-is_right-clause-judged
 returns-then-is_right-clause-judged c = λ start text journal on.
@@ -17,7 +17,7 @@ returns-then-is_right-clause-judged c = λ start text journal on.
     let reads = subst (λ (o : Option Entry). ReadsLine plan line o) c.in-Some.is (c.in_ok-entry.ensures plan (sym (c.as_slice.ensures ∙ c.requires.kinds))) in (
       reads,
       right-line plan c.one_model_of_accepted.ensures.runs start c.args.course.now.show text journal c.args.run.now on line e reads
-          (none-by c.args.run.now.fault (sym c.is_some.ensures ∙ c.if-is_some.false)) (sym c.is_right.ensures ∙ c.if-is_right.true),
+          (none-by c.args.run.now.fault (sym c.has_fault.ensures ∙ c.if-has_fault.false)) (sym c.is_right.ensures ∙ c.if-is_right.true),
     )
 
 pub returns-else-is_right-clause-judged : goal.returns-else-is_right-clause-judged
