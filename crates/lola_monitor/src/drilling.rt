@@ -55,6 +55,21 @@ fn drill_worker(
     Ok(SourceWorker::create(reader))
 }
 
+// The workers of both sources.
+fn drill_workers(
+    alloc: Global,
+    plan: &Plan,
+    command: &DrillCommand,
+) -> Result<Vec<SourceWorker<Drill>>, Memory>
+    requires number { command.now.number < 2147483647 }
+    ensures { IfOk result (λ workers. AreDrillWorkers plan.now command.now workers.items) }
+{
+    let mut workers = Vec::with_capacity(alloc, 2)?;
+    workers.push_reserved(drill_worker(alloc, plan, command, 0)?);
+    workers.push_reserved(drill_worker(alloc, plan, command, 1)?);
+    Ok(workers)
+}
+
 // The workers of both sources, and a run of the plan.
 fn drill_room(
     alloc: Global,
@@ -69,9 +84,7 @@ fn drill_room(
     ensures setting { IfOk result (λ room. setting_in (keeping room.0) ≡ drill_setting plan) }
     ensures workers { IfOk result (λ room. AreDrillWorkers plan command.now room.1.items) }
 {
-    let mut workers = Vec::with_capacity(alloc, 2)?;
-    workers.push_reserved(drill_worker(alloc, &plan, command, 0)?);
-    workers.push_reserved(drill_worker(alloc, &plan, command, 1)?);
+    let workers = drill_workers(alloc, &plan, command)?;
     let run = Run::create(alloc, hasher, plan, None, Show::Triggers, command.workers)?;
     Ok((run, workers))
 }
@@ -83,6 +96,34 @@ fn let_go(workers: Vec<SourceWorker<Drill>>)
     let mut workers = workers;
     while let Some(worker) = workers.pop() {
         let _source = worker.into_reader().into_source();
+    }
+}
+
+// Runs made-up sources by a run that is new.
+fn run_workers<R: Threads + Sync, G: Gate + Sync>(
+    rt: &R,
+    alloc: Global,
+    run: &mut Run,
+    workers: Vec<SourceWorker<Drill>>,
+    _command: &DrillCommand,
+    gate: &G,
+) -> Outcome
+    requires accepted { IsAccepted (keeping run.old).desk.plan }
+    requires stands { Stands [] (keeping run.old) }
+    requires setting { setting_in (keeping run.old) ≡ drill_setting (keeping run.old).desk.plan }
+    requires workers { AreDrillWorkers (keeping run.old).desk.plan _command.now workers.items }
+    ensures { IsPlanOf drill_text (keeping run.old).desk.plan → HasItsModels (keeping run.old).desk.plan → DrillsBy result _command.now }
+{
+    let mut out = Nowhere;
+    let mut trace = Nowhere;
+    let (workers, stopped) = run_in_turns(
+        rt, alloc, run, workers, None, &mut out, &mut trace, gate,
+    );
+    let end = end_of(workers.as_slice());
+    let_go(workers);
+    match outcome_after(alloc, run, stopped, end) {
+        Outcome::Line(line) => Outcome::Drilled(line),
+        _ => Outcome::Memory,
     }
 }
 
@@ -100,21 +141,11 @@ fn run_drill<R: Threads + Sync, G: Gate + Sync>(
     requires workers { (1 ≤ command.now.workers) × (command.now.workers ≤ 64) }
     ensures { IsPlanOf drill_text plan → HasItsModels plan → DrillsBy result command.now }
 {
-    let (mut run, workers) = match drill_room(alloc, hasher, plan, command) {
-        Ok(room) => room,
-        Err(_) => return Outcome::Memory,
+    let Ok(room) = drill_room(alloc, hasher, plan, command) else {
+        return Outcome::Memory;
     };
-    let mut out = Nowhere;
-    let mut trace = Nowhere;
-    let (workers, stopped) = run_in_turns(
-        rt, alloc, &mut run, workers, None, &mut out, &mut trace, gate,
-    );
-    let end = end_of(workers.as_slice());
-    let_go(workers);
-    match outcome_after(alloc, &run, stopped, end) {
-        Outcome::Line(line) => Outcome::Drilled(line),
-        _ => Outcome::Memory,
-    }
+    let (mut run, workers) = room;
+    run_workers(rt, alloc, &mut run, workers, command, gate)
 }
 
 /// Compiles the drill's specification and runs its two made-up sources under it, in turns. It fetches nothing, puts nothing, and

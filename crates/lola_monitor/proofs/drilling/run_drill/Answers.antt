@@ -1,19 +1,25 @@
-use Rattle.std.proofs.Common.{ap}
-use Rattle.lola_run.specs.Verdicts.{Setting}
+use Rattle.std.proofs.Common.{◌≡◌, ◌∙◌, ap, subst, sym}
+use Rattle.lola_model.specs.Acceptance.{IsAccepted}
+use Rattle.lola_model.specs.declared.plan.Plan.{Plan}
+use Rattle.lola_front.specs.Front.{IsPlanOf}
+use Rattle.lola_drill.specs.Drills.{drill_text}
 use Rattle.lola_run.specs.Running.{keeping}
-use Rattle.lola_monitor.proofs.Drilled.{are_ready, drilled, few_workers}
+use Rattle.lola_run.specs.Verdicts.{Setting}
+use Rattle.lola_monitor.specs.Drilling.{AreDrillWorkers, drill_setting}
+use Rattle.lola_monitor.specs.Monitor.{HasItsModels}
 use Rattle.lola_monitor.proofs.drilling.run_drill.Goals as goal
 
-pub run_in_turns-workers-requires-clause-ready : goal.run_in_turns-workers-requires-clause-ready
-run_in_turns-workers-requires-clause-ready g c κs within =
-    are_ready c.args.plan (keeping c.in-Ok.room.0).desk.plan c.args.command.now c.in-Ok.room.1.items (ap (λ (s : Setting). s.plan) c.in-Ok.ensures.setting) c.in-Ok.ensures.workers
+pub run_workers-requires-clause-accepted : goal.run_workers-requires-clause-accepted
+run_workers-requires-clause-accepted g c κs within = subst IsAccepted (sym (ap (λ (s : Setting). s.plan) c.in-Ok.ensures.setting)) c.requires.accepted
 
-pub end_of-end-requires : goal.end_of-end-requires
-end_of-end-requires g c =
-    few_workers c.args.plan c.args.command.now c.in-Ok.room.1.items c.run_in_turns-workers.result.0.items c.as_slice.result.now c.in-Ok.ensures.workers c.run_in_turns-workers.ensures.places c.as_slice.ensures.value
+pub run_workers-requires-clause-setting : goal.run_workers-requires-clause-setting
+run_workers-requires-clause-setting g c κs within = c.in-Ok.ensures.setting ∙ ap drill_setting (sym (ap (λ (s : Setting). s.plan) c.in-Ok.ensures.setting))
 
-pub returns-in-Line : goal.returns-in-Line
-returns-in-Line g c = λ is_plan one_model.
-    drilled c.args.command.now c.args.plan (keeping c.in-Ok.room.0) (keeping c.run_in_turns-workers.new.run) c.in-Ok.room.1.items c.run_in_turns-workers.result.0.items c.as_slice.result.now
-    c.run_in_turns-workers.result.1 c.end_of-end.result c.in-Line.line is_plan c.requires.accepted one_model c.in-Ok.ensures.setting c.in-Ok.ensures.workers c.run_in_turns-workers.ensures.places c.let_go.ensures
-    c.as_slice.ensures.value c.end_of-end.ensures c.run_in_turns-workers.ensures.plan c.in-Line.ensures c.run_in_turns-workers.ensures.run
+pub run_workers-requires-clause-workers : goal.run_workers-requires-clause-workers
+run_workers-requires-clause-workers g c κs within =
+    subst (λ (p : Plan). AreDrillWorkers p c.args.command.now c.in-Ok.room.1.items) (sym (ap (λ (s : Setting). s.plan) c.in-Ok.ensures.setting)) c.in-Ok.ensures.workers
+
+pub returns : goal.returns
+returns g c = λ is_plan one_model.
+    let plan_is : (keeping c.in-Ok.room.0).desk.plan ≡ c.args.plan = ap (λ (s : Setting). s.plan) c.in-Ok.ensures.setting in
+    c.run_workers.ensures (subst (IsPlanOf drill_text) (sym plan_is) is_plan) (subst HasItsModels (sym plan_is) one_model)
