@@ -19,7 +19,7 @@ use Rattle.lola_engine.specs.Engines.{IsEngine, IsUnderWay, StandsFor}
 use Rattle.lola_engine.specs.Going.{IsMade}
 use Rattle.lola_engine.specs.declared.engine.Desk.{Desk}
 use Rattle.lola_engine.proofs.Joining.{some_is}
-use Rattle.lola_stages.proofs.Settled.{settled_at_none}
+use Rattle.lola_step_law.proofs.Settled.{settled_at_none}
 use Rattle.lola_engine.proofs.Ranges.{sound_rows, sound_started}
 
 -- of an empty journal there is nothing

@@ -18,7 +18,7 @@ use Rattle.lola_model.specs.Model.{is_input}
 use Rattle.lola_model.specs.Reading.{IsHeldBy}
 use Rattle.lola_model.specs.Trace.{IsFieldOf, input_kinds}
 use Rattle.lola_model.specs.declared.spec.Stream.{Stream}
-use Rattle.lola_contents.proofs.Namings.{outcome_held_more, outcome_read_more}
+use Rattle.lola_step_contents.proofs.Namings.{outcome_held_more, outcome_read_more}
 use Rattle.lola_step.specs.Moments.{ReadAs}
 use Rattle.lola_step.specs.Steps.{AreOfInputs, BeginsWith}
 use Rattle.lola_engine.specs.Read.{IsOutcomeOf}

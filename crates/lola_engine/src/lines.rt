@@ -4,14 +4,14 @@ ghost use Rattle.std.specs.Prelude.{◌≡◌, ◌≤◌, ◌++◌, length, map,
 ghost use Rattle.lola_value.specs.Appending.{AppendsPart};
 ghost use Rattle.lola_value.specs.Naming.{Naming, read, read_params};
 ghost use Rattle.lola_model.specs.Texts.{text_of};
-ghost use Rattle.lola_stages.specs.Ends.{lines_of};
+ghost use Rattle.lola_step_law.specs.Ends.{lines_of};
 ghost use Rattle.lola_step.specs.Notes.{AreVerdicts, IsVerdict, read_verdict};
 ghost use Rattle.lola_engine.specs.Shown.{IsShownBy, lines_for};
 
 use lola_model::journal::Show;
 use lola_model::plan::Plan;
 use lola_model::spec::{Sort, Stream};
-use lola_report::verdict::verdict_line;
+use lola_report_lines::verdict::verdict_line;
 use lola_step::verdict::Verdict;
 use lola_text::TextTable;
 use lola_value::text::{Field, Fields, Memory, Text};

@@ -1,1 +1,5 @@
 pub mod Feeding
+pub mod Seating
+pub mod Drills
+pub mod Fetching
+pub mod Lending

@@ -8,10 +8,10 @@ use Rattle.lola_value.specs.declared.front.FrontEnd.TheVariants as front_end
 use Rattle.lola_lexer.specs.Tokens.{tokens_of}
 use Rattle.lola_lexer.specs.declared.token.Token.{Token}
 use Rattle.lola_parser_grammar.specs.Cursor.{lexemes}
-use Rattle.lola_syntax.specs.Places.{Answers, Refuses}
-use Rattle.lola_tree.specs.declared.declarations.Declaration.{Declaration}
-use Rattle.lola_names.specs.Refused as names
-use Rattle.lola_resolve.specs.Specification.{Resolves}
+use Rattle.lola_parser.specs.Places.{Answers, Refuses}
+use Rattle.lola_parser_tree.specs.declared.declarations.Declaration.{Declaration}
+use Rattle.lola_names_refused.specs.Refused as names
+use Rattle.lola_names.specs.Specification.{Resolves}
 use Rattle.lola_types.specs.Refused.{kind_refusals}
 use Rattle.lola_types.specs.Filled.{IsFilled}
 use Rattle.lola_graph.specs.Cycle.{IsLeastOnCycle}

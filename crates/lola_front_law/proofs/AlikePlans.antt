@@ -1,6 +1,6 @@
 -- Of all specifications that a text is resolved to, kinds filled in, the windows are the same, and so are the offsets onto each stream.
 use Rattle.std.proofs.Common.{◌≡◌, refl, sym, ap, subst, ◌∙◌, ℕ, zero, suc, ◌+◌, ◌<◌, List, [], ◌∷◌, ◌++◌, Some, length, slice_get, nat_eq, if◌then◌else◌, arith}
-use Rattle.lola_tree.specs.declared.declarations.Declaration.{Declaration}
+use Rattle.lola_parser_tree.specs.declared.declarations.Declaration.{Declaration}
 use Rattle.lola_model.specs.Bounds.{offset_by, offset_onto, offsets_onto}
 use Rattle.lola_model.specs.Named.{counted, window_number}
 use Rattle.lola_model.specs.Parts.{listed_streams}
@@ -10,7 +10,7 @@ use Rattle.lola_model.specs.declared.expr.Expr.TheVariants.{Literal, Parameter, 
 use Rattle.lola_model.specs.declared.spec.Spec.{Spec}
 use Rattle.lola_model.specs.declared.spec.Stream.{Stream}
 use Rattle.lola_model.specs.declared.spec.WindowSpec.{WindowSpec}
-use Rattle.lola_resolve.specs.Specification.{Resolves}
+use Rattle.lola_names.specs.Specification.{Resolves}
 use Rattle.lola_types.specs.Filled.{IsFilled}
 use Rattle.lola_front_law.proofs.AlikeTrees.{Alike, AnyNumbers}
 use Rattle.lola_front_law.proofs.AlikeKinds.{two}

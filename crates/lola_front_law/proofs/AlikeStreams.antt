@@ -1,15 +1,15 @@
 -- Declarations are resolved to streams that are alike.
 use Rattle.std.proofs.Common.{◌≡◌, refl, sym, ap, subst, ◌∙◌, ℕ, zero, suc, ◌+◌, List, [], ◌∷◌, ◌++◌, Option, Some, None, map, length, slice_get}
 use Rattle.lola_value.specs.declared.value.Kind.{Kind}
-use Rattle.lola_tree.specs.declared.literals.Typed.{Typed}
-use Rattle.lola_tree.specs.declared.clauses.Part.{Part as TreePart}
-use Rattle.lola_tree.specs.declared.clauses.Spawn.{Spawn}
-use Rattle.lola_tree.specs.declared.clauses.Eval.{Eval}
-use Rattle.lola_tree.specs.declared.clauses.Close.{Close}
-use Rattle.lola_tree.specs.declared.declarations.Output.{Output}
-use Rattle.lola_tree.specs.declared.declarations.Trigger.{Trigger}
-use Rattle.lola_tree.specs.declared.declarations.Declaration.{Declaration}
-use Rattle.lola_tree.specs.declared.declarations.Declaration.TheVariants as d
+use Rattle.lola_parser_tree.specs.declared.literals.Typed.{Typed}
+use Rattle.lola_parser_tree.specs.declared.clauses.Part.{Part as TreePart}
+use Rattle.lola_parser_tree.specs.declared.clauses.Spawn.{Spawn}
+use Rattle.lola_parser_tree.specs.declared.clauses.Eval.{Eval}
+use Rattle.lola_parser_tree.specs.declared.clauses.Close.{Close}
+use Rattle.lola_parser_tree.specs.declared.declarations.Output.{Output}
+use Rattle.lola_parser_tree.specs.declared.declarations.Trigger.{Trigger}
+use Rattle.lola_parser_tree.specs.declared.declarations.Declaration.{Declaration}
+use Rattle.lola_parser_tree.specs.declared.declarations.Declaration.TheVariants as d
 use Rattle.lola_model.specs.declared.expr.Expr.{Expr}
 use Rattle.lola_model.specs.declared.spec.Clause.{Clause}
 use Rattle.lola_model.specs.declared.spec.Part.TheVariants as part
@@ -18,10 +18,10 @@ use Rattle.lola_model.specs.declared.spec.WindowSpec.{WindowSpec}
 use Rattle.lola_types.specs.Filled.{SamePace}
 use Rattle.lola_types.specs.Found.{stream_parameters}
 use Rattle.lola_types.specs.LeftOut.{declared_kinds}
-use Rattle.lola_resolve.specs.Targets.{Targets, parameter_targets}
-use Rattle.lola_resolve.specs.Resolved.{Standing}
-use Rattle.lola_resolve.specs.Clauses.{IsOptional, IsPart, ArePartsOf, IsSpawn, IsEval, IsClose, IsOutput, IsTriggerClause, IsTrigger, input_stream}
-use Rattle.lola_resolve.specs.Specification.{AreStreams}
+use Rattle.lola_names.specs.Targets.{Targets, parameter_targets}
+use Rattle.lola_names.specs.Resolved.{Standing}
+use Rattle.lola_names.specs.Clauses.{IsOptional, IsPart, ArePartsOf, IsSpawn, IsEval, IsClose, IsOutput, IsTriggerClause, IsTrigger, input_stream}
+use Rattle.lola_names.specs.Specification.{AreStreams}
 use Rattle.lola_front_law.proofs.AlikeTrees.{AlikeBy, AnyNumbers, AreTied, any_tied, resolved_alike}
 use Rattle.lola_front_law.proofs.WrittenAlike.{pacing_alike}
 

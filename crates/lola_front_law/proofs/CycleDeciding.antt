@@ -1,13 +1,13 @@
 -- Each text has one graph, and so one refusal for a closed walk, or none.
 use Rattle.std.proofs.Common.{◌≡◌, sym, ap, subst, ◌∙◌, ℕ, List, Option, Some, slice_get, inl, inr}
 use Rattle.lola_value.specs.declared.front.Refusal.{Refusal}
-use Rattle.lola_tree.specs.declared.declarations.Declaration.{Declaration}
+use Rattle.lola_parser_tree.specs.declared.declarations.Declaration.{Declaration}
 use Rattle.lola_graph.specs.Cycle.{IsLeastOnCycle}
 use Rattle.lola_model.specs.Graph.{IsOnZeroWalk, edges_of}
 use Rattle.lola_model.specs.declared.graph.Edge.{Edge}
 use Rattle.lola_model.specs.declared.plan.Plan.{Plan}
 use Rattle.lola_model.specs.declared.spec.Spec.{Spec}
-use Rattle.lola_resolve.specs.Specification.{Resolves}
+use Rattle.lola_names.specs.Specification.{Resolves}
 use Rattle.lola_front.specs.Front.{IsFull, IsPlanOf, IsCycleRefusal}
 use Rattle.lola_front_law.specs.OneCycle.{HasOneGraph}
 use Rattle.lola_front_law.proofs.Deciding.{one_reading}

@@ -4,13 +4,13 @@ use Rattle.std.specs.List.{Contains}
 use Rattle.lola_value.specs.declared.front.Refusal.{Refusal}
 use Rattle.lola_value.specs.declared.front.FrontEnd.{FrontEnd}
 use Rattle.lola_value.specs.declared.front.FrontEnd.TheVariants as front_end
-use Rattle.lola_tree.specs.declared.declarations.Declaration.{Declaration}
+use Rattle.lola_parser_tree.specs.declared.declarations.Declaration.{Declaration}
 use Rattle.lola_lexer.specs.Tokens.{Cut, tokens_of}
 use Rattle.lola_lexer.specs.declared.token.Token.{Token}
 use Rattle.lola_parser_grammar.specs.Cursor.{lexemes}
-use Rattle.lola_syntax.specs.Places.{Answers}
-use Rattle.lola_syntax.proofs.Refusing.{refuses}
-use Rattle.lola_names.specs.Refused as names
+use Rattle.lola_parser.specs.Places.{Answers}
+use Rattle.lola_parser.proofs.Refusing.{refuses}
+use Rattle.lola_names_refused.specs.Refused as names
 use Rattle.lola_model.specs.Refusals.{IsFirstIn, IsFirstOf, first_of}
 use Rattle.lola_model.proofs.FirstRefusal.{is_first, same_refusal}
 use Rattle.lola_model.proofs.Strictly.{Contains-none}

@@ -1,11 +1,11 @@
 -- Each text has one refusal for kinds, or none.
 use Rattle.std.proofs.Common.{◌≡◌, refl, sym, ap, subst, ◌∙◌, ℕ, List, [], Option, Some, None, ◌⊎◌, inl, inr}
 use Rattle.lola_value.specs.declared.front.Refusal.{Refusal}
-use Rattle.lola_tree.specs.declared.declarations.Declaration.{Declaration}
+use Rattle.lola_parser_tree.specs.declared.declarations.Declaration.{Declaration}
 use Rattle.lola_model.specs.Refusals.{IsFirstOf, first_of}
 use Rattle.lola_model.proofs.FirstRefusal.{is_first}
 use Rattle.lola_model.specs.declared.spec.Spec.{Spec}
-use Rattle.lola_resolve.specs.Specification.{Resolves}
+use Rattle.lola_names.specs.Specification.{Resolves}
 use Rattle.lola_types.specs.Refused.{kind_refusals}
 use Rattle.lola_front.specs.Front.{IsResolved, IsFull, IsKindRefusal}
 use Rattle.lola_front_law.specs.OneKind.{HasOneKindRefusal}

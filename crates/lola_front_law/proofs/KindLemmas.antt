@@ -4,10 +4,10 @@ use Rattle.lola_value.specs.declared.value.Kind.{Kind}
 use Rattle.lola_value.specs.declared.value.Kind.TheVariants as kind
 use Rattle.lola_value.specs.declared.value.Value.{Value}
 use Rattle.lola_value.specs.declared.value.Value.TheVariants as value
-use Rattle.lola_tree.specs.declared.literals.Value.{Value as Written}
-use Rattle.lola_tree.specs.declared.literals.Value.TheVariants as written
-use Rattle.lola_tree.specs.declared.declarations.Constant.{Constant as TreeConstant}
-use Rattle.lola_tree.specs.declared.declarations.Declaration.{Declaration}
+use Rattle.lola_parser_tree.specs.declared.literals.Value.{Value as Written}
+use Rattle.lola_parser_tree.specs.declared.literals.Value.TheVariants as written
+use Rattle.lola_parser_tree.specs.declared.declarations.Constant.{Constant as TreeConstant}
+use Rattle.lola_parser_tree.specs.declared.declarations.Declaration.{Declaration}
 use Rattle.lola_model.specs.Wholes.{Whole, condition_wholes, with_wholes, clause_wholes, stream_wholes, wholes_from}
 use Rattle.lola_model.specs.declared.expr.Expr.{Expr}
 use Rattle.lola_model.specs.declared.spec.Clause.{Clause}
@@ -17,8 +17,8 @@ use Rattle.lola_model.specs.declared.spec.Part.TheVariants as part
 use Rattle.lola_model.specs.declared.spec.Spec.{Spec}
 use Rattle.lola_model.specs.declared.spec.Stream.{Stream}
 use Rattle.lola_model.specs.declared.spec.WindowSpec.{WindowSpec}
-use Rattle.lola_resolve.specs.Targets.{targets_of}
-use Rattle.lola_resolve.specs.Specification.{IsConstant, IsConstantValue, AreConstants, Resolves, constants_of}
+use Rattle.lola_names.specs.Targets.{targets_of}
+use Rattle.lola_names.specs.Specification.{IsConstant, IsConstantValue, AreConstants, Resolves, constants_of}
 use Rattle.lola_types.specs.Found.{literal_part, parameters_at}
 use Rattle.lola_types.specs.LeftOut.{first_expression, part_kind, kind_of_expression, declared_kinds, setting_of, kind_after, round_from, round, after_round, rounds, kinds_of}
 use Rattle.lola_types.specs.Refused.{wanted_refusals, number_kind, whole_refusals, taken_literal, constant_refusals, with_parameters, refusals_of_whole, range_refusals, kind_refusals}

@@ -2,12 +2,12 @@
 use Rattle.std.proofs.Common.{◌≡◌, refl, sym, subst, ℕ, zero, suc, ◌+◌, ◌<◌, List, [], ◌∷◌, ◌++◌, Bool, true, false, Option, Some, None, map, length, drop, arith}
 use Rattle.lola_value.specs.Ratio.{Ratio}
 use Rattle.lola_value.specs.declared.value.Kind.{Kind}
-use Rattle.lola_tree.specs.declared.literals.Typed.{Typed}
-use Rattle.lola_tree.specs.declared.pacing.Rhythm.{Rhythm}
-use Rattle.lola_tree.specs.declared.pacing.Rhythm.TheVariants as r
-use Rattle.lola_tree.specs.declared.pacing.Pacing.{Pacing}
-use Rattle.lola_tree.specs.declared.declarations.Declaration.{Declaration}
-use Rattle.lola_tree.specs.declared.declarations.Declaration.TheVariants as d
+use Rattle.lola_parser_tree.specs.declared.literals.Typed.{Typed}
+use Rattle.lola_parser_tree.specs.declared.pacing.Rhythm.{Rhythm}
+use Rattle.lola_parser_tree.specs.declared.pacing.Rhythm.TheVariants as r
+use Rattle.lola_parser_tree.specs.declared.pacing.Pacing.{Pacing}
+use Rattle.lola_parser_tree.specs.declared.declarations.Declaration.{Declaration}
+use Rattle.lola_parser_tree.specs.declared.declarations.Declaration.TheVariants as d
 use Rattle.lola_model.specs.Model.{is_input}
 use Rattle.lola_model.specs.Named.{has_clause}
 use Rattle.lola_model.specs.PacingFound.{given_rate, given_local, IsGivenEvent, IsGiven, IsWritten, IsWrittenIn, IsOwn, AreOwn, finding_at, inputs_with}
@@ -23,11 +23,11 @@ use Rattle.lola_model.specs.declared.spec.Stream.{Stream}
 use Rattle.lola_model.specs.declared.spec.WindowSpec.{WindowSpec}
 use Rattle.lola_model.specs.declared.spec.WrittenRate.{WrittenRate}
 use Rattle.lola_model.specs.declared.spec.WrittenRate.TheVariants as rate
-use Rattle.lola_names.specs.Quantities.{IsWrittenAs}
-use Rattle.lola_resolve.specs.Targets.{Targets, parameter_targets}
-use Rattle.lola_resolve.specs.Resolved.{Standing}
-use Rattle.lola_resolve.specs.Clauses.{IsPace, IsPacing, IsOptional, IsEval, IsTriggerClause, input_stream}
-use Rattle.lola_resolve.specs.Specification.{AreStreams}
+use Rattle.lola_names_refused.specs.Quantities.{IsWrittenAs}
+use Rattle.lola_names.specs.Targets.{Targets, parameter_targets}
+use Rattle.lola_names.specs.Resolved.{Standing}
+use Rattle.lola_names.specs.Clauses.{IsPace, IsPacing, IsOptional, IsEval, IsTriggerClause, input_stream}
+use Rattle.lola_names.specs.Specification.{AreStreams}
 use Rattle.lola_types.specs.Found.{Setting}
 use Rattle.lola_types.specs.Filled.{SamePace, FilledClauses, FilledStreams}
 use Rattle.lola_front_law.proofs.OneFinding.{HasLowestRate, on_both}

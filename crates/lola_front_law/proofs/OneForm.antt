@@ -9,9 +9,9 @@ use Rattle.lola_model.specs.declared.spec.Formula.{Formula}
 use Rattle.lola_model.specs.declared.spec.Formula.TheVariants.{Input, And', Or'}
 use Rattle.lola_model.proofs.Implied.{least_sets_are_the_same}
 use Rattle.lola_model.proofs.Strictly.{All-from_members, same_by_members}
-use Rattle.lola_normal.proofs.FormulaLemmas.{one_normal_form_lem}
-use Rattle.lola_normal.proofs.LeastLemmas.{wide_by_test}
-use Rattle.lola_normal.proofs.OrderLemmas.{strictly_before}
+use Rattle.lola_pacing_normal.proofs.FormulaLemmas.{one_normal_form_lem}
+use Rattle.lola_pacing_normal.proofs.LeastLemmas.{wide_by_test}
+use Rattle.lola_pacing_normal.proofs.OrderLemmas.{strictly_before}
 use Rattle.lola_types.specs.Filled.{SameFormula}
 use Rattle.lola_front_law.proofs.AlikeKinds.{two}
 

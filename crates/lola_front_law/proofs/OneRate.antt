@@ -5,18 +5,18 @@ use Rattle.std.proofs.Math.Nat.{div-mul_cancel}
 use Rattle.std.proofs.lemmas.Nat.Gcd.{IsGcd-from_zero, IsGcd-from_mod}
 use Rattle.lola_value.specs.Ratio.{Ratio}
 use Rattle.lola_value.proofs.Divisors.{lowest_by_gcd, part_positive}
-use Rattle.lola_tree.specs.declared.literals.Quantity.{Quantity}
-use Rattle.lola_tree.specs.declared.literals.Typed.{Typed}
-use Rattle.lola_tree.specs.declared.pacing.Rhythm.{Rhythm}
-use Rattle.lola_tree.specs.declared.pacing.Rhythm.TheVariants as r
-use Rattle.lola_tree.specs.declared.pacing.Pacing.{Pacing}
-use Rattle.lola_tree.specs.declared.clauses.Spawn.{Spawn}
-use Rattle.lola_tree.specs.declared.clauses.Eval.{Eval}
-use Rattle.lola_tree.specs.declared.clauses.Close.{Close}
-use Rattle.lola_tree.specs.declared.declarations.Output.{Output}
-use Rattle.lola_tree.specs.declared.declarations.Trigger.{Trigger}
-use Rattle.lola_tree.specs.declared.declarations.Declaration.{Declaration}
-use Rattle.lola_tree.specs.declared.declarations.Declaration.TheVariants as d
+use Rattle.lola_parser_tree.specs.declared.literals.Quantity.{Quantity}
+use Rattle.lola_parser_tree.specs.declared.literals.Typed.{Typed}
+use Rattle.lola_parser_tree.specs.declared.pacing.Rhythm.{Rhythm}
+use Rattle.lola_parser_tree.specs.declared.pacing.Rhythm.TheVariants as r
+use Rattle.lola_parser_tree.specs.declared.pacing.Pacing.{Pacing}
+use Rattle.lola_parser_tree.specs.declared.clauses.Spawn.{Spawn}
+use Rattle.lola_parser_tree.specs.declared.clauses.Eval.{Eval}
+use Rattle.lola_parser_tree.specs.declared.clauses.Close.{Close}
+use Rattle.lola_parser_tree.specs.declared.declarations.Output.{Output}
+use Rattle.lola_parser_tree.specs.declared.declarations.Trigger.{Trigger}
+use Rattle.lola_parser_tree.specs.declared.declarations.Declaration.{Declaration}
+use Rattle.lola_parser_tree.specs.declared.declarations.Declaration.TheVariants as d
 use Rattle.lola_model.specs.declared.spec.Clause.{Clause}
 use Rattle.lola_model.specs.declared.spec.Pace.{Pace}
 use Rattle.lola_model.specs.declared.spec.Pace.TheVariants as pace
@@ -25,11 +25,11 @@ use Rattle.lola_model.specs.declared.spec.Stream.{Stream}
 use Rattle.lola_model.specs.declared.spec.WindowSpec.{WindowSpec}
 use Rattle.lola_model.specs.declared.spec.WrittenRate.{WrittenRate}
 use Rattle.lola_model.specs.declared.spec.WrittenRate.TheVariants as rate
-use Rattle.lola_names.specs.Quantities.{fraction_of, IsNotedAs, IsReduced, IsWrittenAs}
-use Rattle.lola_resolve.specs.Targets.{Targets, parameter_targets}
-use Rattle.lola_resolve.specs.Resolved.{Standing}
-use Rattle.lola_resolve.specs.Clauses.{IsPace, IsPacing, IsOptional, IsSpawn, IsEval, IsClose, IsOutput, IsTriggerClause, IsTrigger, input_stream}
-use Rattle.lola_resolve.specs.Specification.{AreStreams, rhythm_ranges, pacing_ranges, of_option, pace_in, spawn_ranges, eval_ranges, close_ranges, output_ranges, trigger_ranges, ranges_of}
+use Rattle.lola_names_refused.specs.Quantities.{fraction_of, IsNotedAs, IsReduced, IsWrittenAs}
+use Rattle.lola_names.specs.Targets.{Targets, parameter_targets}
+use Rattle.lola_names.specs.Resolved.{Standing}
+use Rattle.lola_names.specs.Clauses.{IsPace, IsPacing, IsOptional, IsSpawn, IsEval, IsClose, IsOutput, IsTriggerClause, IsTrigger, input_stream}
+use Rattle.lola_names.specs.Specification.{AreStreams, rhythm_ranges, pacing_ranges, of_option, pace_in, spawn_ranges, eval_ranges, close_ranges, output_ranges, trigger_ranges, ranges_of}
 
 -- ---- lowest terms
 

@@ -1,7 +1,7 @@
 -- A specification whose rates are in lowest terms has one refusal for pacings or one list of pacings, and so has a text.
 use Rattle.std.proofs.Common.{◌≡◌, sym, subst, ◌∙◌, ℕ, List, [], Contains}
 use Rattle.lola_value.specs.declared.front.Refusal.{Refusal}
-use Rattle.lola_tree.specs.declared.declarations.Declaration.{Declaration}
+use Rattle.lola_parser_tree.specs.declared.declarations.Declaration.{Declaration}
 use Rattle.lola_model.specs.PacingFound.{finding_at}
 use Rattle.lola_model.specs.Pacings.{ArePacings, Found, refusals_of}
 use Rattle.lola_model.specs.Refusals.{IsFirstIn}
@@ -10,8 +10,8 @@ use Rattle.lola_model.specs.declared.spec.Spec.{Spec}
 use Rattle.lola_model.specs.declared.spec.WindowSpec.{WindowSpec}
 use Rattle.lola_model.proofs.FirstRefusal.{same_refusal}
 use Rattle.lola_model.proofs.Strictly.{Contains-none}
-use Rattle.lola_resolve.specs.Specification.{Resolves}
-use Rattle.lola_resolve.specs.Targets.{targets_of}
+use Rattle.lola_names.specs.Specification.{Resolves}
+use Rattle.lola_names.specs.Targets.{targets_of}
 use Rattle.lola_front.specs.Front.{IsFull, IsPacingRefusal}
 use Rattle.lola_front_law.specs.OnePacing.{AreLowest, HasOneFinding, HasOnePacing}
 use Rattle.lola_front_law.proofs.Deciding.{one_reading}

@@ -16,7 +16,7 @@ use Rattle.lola_model.specs.declared.spec.Sort.{Sort}
 use Rattle.lola_model.specs.declared.spec.Spec.{Spec}
 use Rattle.lola_model.specs.declared.spec.Stream.{Stream}
 use Rattle.lola_model.specs.declared.spec.WindowSpec.{WindowSpec}
-use Rattle.lola_alike.specs.Alike.{nowhere, plain, plain_all, plain_formula, plain_pace}
+use Rattle.lola_model_alike_law.specs.Alike.{nowhere, plain, plain_all, plain_formula, plain_pace}
 use Rattle.lola_types.specs.Filled.{SameTree, SameArguments, SameFormula, SamePace}
 use Rattle.lola_front_law.proofs.AlikeKinds.{two, three}
 

@@ -5,14 +5,14 @@ use Rattle.std.proofs.lemmas.Bool.{cases_lt}
 use Rattle.lola_value.specs.declared.value.Kind.{Kind}
 use Rattle.lola_value.specs.declared.value.Value.{Value}
 use Rattle.lola_value.specs.declared.value.Value.TheVariants as value
-use Rattle.lola_tree.specs.declared.literals.Value.{Value as Written}
-use Rattle.lola_tree.specs.declared.literals.Value.TheVariants as written
-use Rattle.lola_tree.specs.declared.declarations.Constant.{Constant as TreeConstant}
+use Rattle.lola_parser_tree.specs.declared.literals.Value.{Value as Written}
+use Rattle.lola_parser_tree.specs.declared.literals.Value.TheVariants as written
+use Rattle.lola_parser_tree.specs.declared.declarations.Constant.{Constant as TreeConstant}
 use Rattle.lola_model.specs.Named.{are_distinct}
 use Rattle.lola_model.specs.declared.spec.Constant.{Constant}
-use Rattle.lola_resolve.specs.Numbered.{IsInOrder}
-use Rattle.lola_resolve.specs.Specification.{IsConstant, IsConstantValue, AreConstants}
-use Rattle.lola_resolve.proofs.Numbering.{one_place}
+use Rattle.lola_names.specs.Numbered.{IsInOrder}
+use Rattle.lola_names.specs.Specification.{IsConstant, IsConstantValue, AreConstants}
+use Rattle.lola_names.proofs.Numbering.{one_place}
 use Rattle.lola_front_law.proofs.AlikeKinds.{two}
 use Rattle.lola_front_law.proofs.PlainShapes.{four}
 

@@ -5,14 +5,14 @@ use Rattle.lola_value.specs.declared.front.Code.{Code}
 use Rattle.lola_value.specs.declared.front.Code.TheVariants as code
 use Rattle.lola_value.specs.declared.front.Refusal.{Refusal}
 use Rattle.lola_value.specs.declared.front.FrontEnd.TheVariants as front_end
-use Rattle.lola_tree.specs.declared.declarations.Declaration.{Declaration}
-use Rattle.lola_grammar.specs.Syntax.{Lexeme, read_all}
-use Rattle.lola_grammar.specs.Syntax as reading
+use Rattle.lola_parser_tree.specs.declared.declarations.Declaration.{Declaration}
+use Rattle.lola_parser_grammars_law.specs.Syntax.{Lexeme, read_all}
+use Rattle.lola_parser_grammars_law.specs.Syntax as reading
 use Rattle.lola_parser_grammar.specs.Cursor.{place_of}
 use Rattle.lola_parser_grammar.specs.Grammar.{specification}
 use Rattle.lola_parser_grammar.specs.Whole.{most_levels}
-use Rattle.lola_syntax.specs.Places.{Answers, place_too_deep}
-use Rattle.lola_syntax.proofs.Deep.{deep_parts}
+use Rattle.lola_parser.specs.Places.{Answers, place_too_deep}
+use Rattle.lola_parser.proofs.Deep.{deep_parts}
 
 abbrev refusal : Code → ℕ → Refusal
 refusal c at = record { code = c; at = at }

@@ -6,16 +6,16 @@ use Rattle.std.proofs.lemmas.Bool.{and_from, lt-ltb, cond_both}
 use Rattle.std.proofs.lemmas.List.Elements.{All-nil, All-cons}
 use Rattle.std.proofs.lemmas.List.Folds.{list_all-append}
 use Rattle.lola_value.specs.declared.value.Kind.{Kind}
-use Rattle.lola_tree.specs.declared.literals.Typed.{Typed}
-use Rattle.lola_tree.specs.declared.declarations.Declaration.{Declaration}
-use Rattle.lola_tree.specs.declared.declarations.Declaration.TheVariants as d
+use Rattle.lola_parser_tree.specs.declared.literals.Typed.{Typed}
+use Rattle.lola_parser_tree.specs.declared.declarations.Declaration.{Declaration}
+use Rattle.lola_parser_tree.specs.declared.declarations.Declaration.TheVariants as d
 use Rattle.lola_lexer.specs.Spelling.{in_name}
 use Rattle.lola_model.specs.declared.spec.Spec.{Spec}
 use Rattle.lola_model.specs.declared.spec.Stream.{Stream}
 use Rattle.lola_model.specs.declared.spec.WindowSpec.{WindowSpec}
-use Rattle.lola_resolve.specs.Targets.{Targets, targets_of}
-use Rattle.lola_resolve.specs.Clauses.{input_stream}
-use Rattle.lola_resolve.specs.Specification.{AreStreams, Resolves}
+use Rattle.lola_names.specs.Targets.{Targets, targets_of}
+use Rattle.lola_names.specs.Clauses.{input_stream}
+use Rattle.lola_names.specs.Specification.{AreStreams, Resolves}
 use Rattle.lola_types.specs.Found.{Setting}
 use Rattle.lola_types.specs.Filled.{FilledStreams, IsFilled}
 use Rattle.lola_front_law.specs.OneLine.{IsWordStream}

@@ -1,16 +1,16 @@
 -- Of all specifications that declarations are resolved to the same pacings are written, at the same places.
 use Rattle.std.proofs.Common.{◌≡◌, sym, ◌∙◌, ℕ, Option, Some, None}
-use Rattle.lola_tree.specs.declared.pacing.Formula.{Formula as TreeFormula, more_of-Formula, end_of-Formula}
-use Rattle.lola_tree.specs.declared.pacing.Formula.TheVariants as f
-use Rattle.lola_tree.specs.declared.pacing.Rhythm.{Rhythm}
-use Rattle.lola_tree.specs.declared.pacing.Rhythm.TheVariants as r
-use Rattle.lola_tree.specs.declared.pacing.Pacing.{Pacing}
+use Rattle.lola_parser_tree.specs.declared.pacing.Formula.{Formula as TreeFormula, more_of-Formula, end_of-Formula}
+use Rattle.lola_parser_tree.specs.declared.pacing.Formula.TheVariants as f
+use Rattle.lola_parser_tree.specs.declared.pacing.Rhythm.{Rhythm}
+use Rattle.lola_parser_tree.specs.declared.pacing.Rhythm.TheVariants as r
+use Rattle.lola_parser_tree.specs.declared.pacing.Pacing.{Pacing}
 use Rattle.lola_model.specs.declared.spec.Formula.{Formula}
 use Rattle.lola_model.specs.declared.spec.Formula.TheVariants.{Input, And', Or'}
 use Rattle.lola_model.specs.declared.spec.Pace.{Pace}
 use Rattle.lola_model.specs.declared.spec.Pace.TheVariants as pace
-use Rattle.lola_resolve.specs.Targets.{Targets}
-use Rattle.lola_resolve.specs.Clauses.{IsFormula, IsPace, IsPacing}
+use Rattle.lola_names.specs.Targets.{Targets}
+use Rattle.lola_names.specs.Clauses.{IsFormula, IsPace, IsPacing}
 use Rattle.lola_types.specs.Filled.{SameFormula, SamePace}
 use Rattle.lola_front_law.proofs.OneForm.{formula_back, formula_through}
 use Rattle.lola_front_law.proofs.OneRate.{same_rate}

@@ -1,92 +1,53 @@
--- The first deadline of many, one after another, and those that are at a moment.
-use Rattle.std.proofs.Common.{◌≡◌, ℕ, ◌+◌, ◌≤◌, ◌<◌, List, [], ◌∷◌, min, refl, ap, sym, ◌∙◌, arith, Option, Some, None, nat_le, Bool, true, false, if◌then◌else◌}
-use Rattle.std.proofs.lemmas.Bool.{leb-true, leb-false, le-leb, lt-leb}
+-- The first deadline of the streams of a store, and the places of those that are at a moment.
+use Rattle.std.proofs.Common.{◌≡◌, ℕ, ◌+◌, ◌≤◌, ◌<◌, List, [], ◌∷◌, length, map, drop, get_or, drop-cons, add-one, refl, ap, sym, ◌∙◌, Option, Some, slice_get, if◌then◌else◌}
+use Rattle.std.proofs.lemmas.List.{drop_all}
 use Rattle.lola_value.specs.Ratio.{Ratio}
-use Rattle.lola_value.specs.Times.{latest, up_to_latest}
-use Rattle.lola_model.specs.NextStep.{earlier}
-use Rattle.lola_instance.specs.declared.window.WindowPanes.{WindowPanes}
-use Rattle.lola_instance.specs.Holdings.{Holdings}
-use Rattle.lola_instances_due.specs.Dues.{due_births, is_timed}
-use Rattle.lola_instances.specs.Births.{births_of, firsts}
-use Rattle.lola_instances.specs.Changes.{IsChangedAt}
-use Rattle.lola_instances.specs.Dues.{due_at_births, due_since, in_time}
-use Rattle.lola_instances.proofs.Lists.{map_set}
+use Rattle.lola_model.specs.Dues.{due_among, due_from, due_in, due_places, is_due, locals_of}
+use Rattle.lola_model.specs.NextStep.{earlier, first_due}
+use Rattle.lola_model.specs.Store.{instances_of}
+use Rattle.lola_instances_one.specs.Holdings.{Holdings, slot_seen}
+use Rattle.lola_instances_due.specs.Dues.{due_births}
+use Rattle.lola_instances_stream.specs.Births.{births_of}
+use Rattle.lola_instances_stream.specs.Crowds.{Crowd, crowd_seen}
+use Rattle.lola_instances_stream.specs.Dues.{due_at_births, due_since, in_time}
+use Rattle.lola_instances_stream.proofs.Dues.{earlier_none, earlier_assoc, earlier_in_time}
+use Rattle.lola_instances.specs.declared.store.BoundedStore.{BoundedStore}
+use Rattle.lola_instances.specs.Dues.{due_of_crowds}
+use Rattle.lola_instances.specs.Stores.{bounded_seen}
+use Rattle.lola_instances.specs.Streams.{crowd_layout}
+use Rattle.lola_instances.proofs.Asking.{layout_at, stream_at}
 
--- the earlier of moments
+-- what a store shows has the same deadlines
 
-pub earlier_none : (a : Option ℕ) → earlier a None ≡ a
-earlier_none None = refl
-earlier_none (Some t) = refl
+due_shown : (step : ℕ) (rates : List Ratio) (from : ℕ) (ss : List Holdings) → due_since rates from (births_of ss) ≡ due_among rates from (map (slot_seen step) ss)
+due_shown step rates from [] = refl
+due_shown step rates from (s ∷ ss) = ap (earlier (first_due s.born rates from)) (due_shown step rates from ss)
 
-least_of_three : (s t u : ℕ) → min u (min s t) ≡ min (min u s) t
-least_of_three s t u = omega arith
+pub dues_shown : (step from : ℕ) (cs : List Crowd) → due_of_crowds from cs ≡ due_in from (map crowd_layout cs) (map (crowd_seen step) cs)
+dues_shown step from [] = refl
+dues_shown step from (c ∷ cs) = λ j. earlier (due_shown step c.layout.locals from c.slots j) (dues_shown step from cs j)
 
-pub earlier_assoc : (a b c : Option ℕ) → earlier (earlier a b) c ≡ earlier a (earlier b c)
-earlier_assoc None b c = refl
-earlier_assoc (Some t) None c = refl
-earlier_assoc (Some t) (Some s) None = refl
-earlier_assoc (Some t) (Some s) (Some u) = ap Some (least_of_three s t u)
+places_from : (step : ℕ) (rates : List Ratio) (time i : ℕ) (ss : List Holdings) → due_births rates time i (births_of ss) ≡ due_from rates time i (map (slot_seen step) ss)
+places_from step rates time i [] = refl
+places_from step rates time i (s ∷ ss) = ap (λ ps. if is_due rates s.born time then i ∷ ps else ps) (places_from step rates time (i + 1) ss)
 
--- the earlier of two moments is a time where one of them is
+pub places_shown : (s : BoundedStore) (n time : ℕ) (c : Crowd) → slice_get s.streams.items n ≡ Some c → due_at_births c.layout.locals time (births_of c.slots) ≡ due_places (bounded_seen s) n time
+places_shown s n time c e =
+    places_from s.step c.layout.locals time 0 c.slots
+    ∙ λ j. due_from (locals_of (sym (layout_at s.streams.items n c e) j)) time 0 (instances_of (sym (stream_at s.step s.streams.items n c e) j))
 
-abbrev up_to : ℕ → ℕ → Option ℕ
-up_to limit t = if nat_le t limit then Some t else None
+-- one stream after another
 
-is_up_to : (limit t : ℕ) → t ≤ limit → up_to limit t ≡ Some t
-is_up_to limit t h = ap (λ b. if b then Some t else None) (le-leb t limit h)
+pub next_stream : (from : ℕ) (first mine : Option ℕ) (cs : List Crowd) (i : ℕ) (c : Crowd) → i < length cs → c ≡ get_or cs i c → mine ≡ in_time (due_since c.layout.locals from (births_of c.slots))
+    → earlier (earlier first mine) (in_time (due_of_crowds from (drop (i + 1) cs))) ≡ earlier first (in_time (due_of_crowds from (drop i cs)))
+next_stream from first mine cs i c l at e =
+    let later = due_of_crowds from (drop (i + 1) cs) in
+    let cut : drop i cs ≡ c ∷ drop (i + 1) cs = drop-cons cs i c l ∙ (λ j. sym at j ∷ drop (sym (add-one i) j) cs) in
+    earlier_assoc first mine (in_time later)
+    ∙ ap (earlier first)
+    (ap (λ m. earlier m (in_time later)) e
+    ∙ sym (earlier_in_time (due_since c.layout.locals from (births_of c.slots)) later)
+    ∙ ap (λ (xs : List Crowd). in_time (due_of_crowds from xs)) (sym cut))
 
-is_above : (limit t : ℕ) → limit < t → up_to limit t ≡ None
-is_above limit t h = ap (λ b. if b then Some t else None) (lt-leb t limit h)
-
-earlier_up_to : (limit s t : ℕ) → up_to limit (min s t) ≡ earlier (up_to limit t) (up_to limit s)
-earlier_up_to limit s t = by_tests (nat_le t limit) (nat_le s limit) refl refl
-  where
-    by_tests : (a b : Bool) → nat_le t limit ≡ a → nat_le s limit ≡ b → up_to limit (min s t) ≡ earlier (if a then Some t else None) (if b then Some s else None)
-    by_tests true true p q = let h = leb-true t limit p in is_up_to limit (min s t) (omega arith) ∙ refl
-    by_tests true false p q =
-        let h = leb-true t limit p in
-        let k = leb-false s limit q in
-        let e : min s t ≡ t = omega arith in
-        ap (up_to limit) e ∙ is_up_to limit t h
-    by_tests false true p q =
-        let h = leb-false t limit p in
-        let k = leb-true s limit q in
-        let e : min s t ≡ s = omega arith in
-        ap (up_to limit) e ∙ is_up_to limit s k
-    by_tests false false p q =
-        let h = leb-false t limit p in
-        let k = leb-false s limit q in
-        is_above limit (min s t) (omega arith)
-
-pub earlier_in_time : (a b : Option ℕ) → in_time (earlier a b) ≡ earlier (in_time a) (in_time b)
-earlier_in_time None b = refl
-earlier_in_time (Some t) None = sym (earlier_none (up_to_latest t))
-earlier_in_time (Some t) (Some s) = earlier_up_to latest s t
-
--- rates that count from none
-
-none_since : (from : ℕ) (bs : List ℕ) → due_since [] from bs ≡ None
-none_since from [] = refl
-none_since from (b ∷ bs) = none_since from bs
-
--- where no rate counts from births it does not matter which they are
-pub due_known : (rates : List Ratio) (from : ℕ) (births bs : List ℕ) → (is_timed rates ≡ true → births ≡ bs) → in_time (due_since rates from births) ≡ in_time (due_since rates from bs)
-due_known [] from births bs h = ap in_time (none_since from births ∙ sym (none_since from bs))
-due_known (r ∷ rs) from births bs h = ap (λ (l : List ℕ). in_time (due_since (r ∷ rs) from l)) (h refl)
-
-none_at : (time i : ℕ) (bs : List ℕ) → due_births [] time i bs ≡ []
-none_at time i [] = refl
-none_at time i (b ∷ bs) = none_at time (i + 1) bs
-
-pub places_known : (rates : List Ratio) (time : ℕ) (births bs : List ℕ) → (is_timed rates ≡ true → births ≡ bs) → due_at_births rates time births ≡ due_at_births rates time bs
-places_known [] time births bs h = none_at time 0 births ∙ sym (none_at time 0 bs)
-places_known (r ∷ rs) time births bs h = ap (λ (l : List ℕ). due_at_births (r ∷ rs) time l) (h refl)
-
--- the births of instances of which one changed, and of the first instances
-
-pub changed_births : (R : Holdings → Holdings → Type 0) (i : ℕ) (xs ys : List Holdings) (h : IsChangedAt R i xs ys) → h.y.born ≡ h.x.born → births_of ys ≡ births_of xs
-changed_births R i xs ys h q = ap births_of h.set ∙ map_set (λ (s : Holdings). s.born) xs i h.x h.y h.at q
-
-pub first_births : (spawns : Bool) (kept : ℕ) (windows : List WindowPanes) → (if spawns then [] else 0 ∷ []) ≡ births_of (firsts spawns kept windows)
-first_births true kept windows = refl
-first_births false kept windows = refl
+pub last_stream : (from : ℕ) (cs : List Crowd) (i : ℕ) (first : Option ℕ) → length cs ≤ i → first ≡ earlier first (in_time (due_of_crowds from (drop i cs)))
+last_stream from cs i first l = sym (ap (λ (xs : List Crowd). earlier first (in_time (due_of_crowds from xs))) (drop_all i cs l) ∙ earlier_none first)

@@ -1,12 +1,11 @@
-pub mod Lists
-pub mod Finding
-pub mod Outcomes
-pub mod Newborns
-pub mod Beginnings
-pub mod Answering
-pub mod Keys
-pub mod Dues
-pub mod Gifts
-pub mod Needing
-pub mod Taken
-pub mod Known
+mod Accepted
+mod Plain
+mod Taken
+mod Asking
+mod Changing
+mod Births
+mod Opened
+mod Preparing
+mod Keeping
+mod Dues
+mod Spawners

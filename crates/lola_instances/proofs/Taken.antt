@@ -1,258 +1,198 @@
--- Cells that are taken, and the places of their instances among those that live.
-use Rattle.std.proofs.Common.{◌≡◌, ℕ, zero, suc, ◌+◌, ◌≤◌, ◌<◌, inl, inr, Bool, true, false, List, [], ◌∷◌, ◌++◌, length, take, get_or, filter, refl, ap, sym, ◌∙◌, subst, arith, Option, Some, None, is_some, slice_get, slice_set, nat_lt}
-use Rattle.std.specs.Prelude.{remove, replicate}
-use Rattle.std.proofs.lemmas.List.Sums.{sum_by-cons, sum_by-append}
-use Rattle.lola_bits.specs.Bits.{bit, ones, rank}
-use Rattle.lola_bits.proofs.Parts.{below_or_not}
-use Rattle.lola_panes.proofs.Noting.{lt_yes, lt_no}
-use Rattle.lola_instance.specs.Holdings.{Holdings}
-use Rattle.lola_instances.specs.Cells.{AreMarked, IsTaken, StandsIn, living}
+-- What of a plan's names and kinds makes its windows storable.
+use Rattle.std.proofs.Common.{◌≡◌, refl, sym, subst, ℕ, zero, suc, ◌+◌, ◌<◌, List, [], ◌∷◌, ◌++◌, Option, Some, None, Bool, true, false, ◌&&◌, arith, length, drop, slice_get, unwrap_or, IsTrue, inl, inr}
+use Rattle.std.specs.List.{Contains}
+use Rattle.std.proofs.lemmas.List.Elements.{Contains-append_cases}
+use Rattle.lola_value.specs.declared.value.Kind.{Kind}
+use Rattle.lola_value.specs.declared.value.Kind.TheVariants as kind
+use Rattle.lola_model.proofs.Strictly.{Contains-here, Contains-there, Contains-none, Contains-cases}
+use Rattle.lola_model.specs.Named.{IsNamed, counted, window_number}
+use Rattle.lola_model.specs.Parts.{listed, listed_all, listed_when, listed_with, listed_clause, listed_stream, listed_streams}
+use Rattle.lola_model.specs.Store.{StreamLayout, gives_kind, kind_in, layouts_from}
+use Rattle.lola_model.specs.Typed.{IsTyped, scope_in, whole_is_typed}
+use Rattle.lola_model.specs.Typing.{Scope, each_part, each_argument, is_certain, is_noted, is_reference, is_typed, noted, part_is_typed, row_holds, same_kind, takes, target_in, window_row}
+use Rattle.lola_model.specs.Wholes.{Whole, condition_wholes, with_wholes, clause_wholes, stream_wholes, wholes_from, noted_kinds, all_wholes}
+use Rattle.lola_model.specs.declared.pacing.ClausePacings.{ClausePacings}
+use Rattle.lola_model.specs.declared.expr.Arguments.{Arguments}
+use Rattle.lola_model.specs.declared.expr.Arguments.TheVariants.{End, More'}
+use Rattle.lola_model.specs.declared.expr.Expr.{Expr}
+use Rattle.lola_model.specs.declared.expr.Expr.TheVariants.{Literal, Parameter, Read, Window, Defaults', Unary', Both', Choice'}
+use Rattle.lola_model.specs.declared.spec.Clause.{Clause}
+use Rattle.lola_model.specs.declared.spec.Part.{Part}
+use Rattle.lola_model.specs.declared.spec.Part.TheVariants as part
+use Rattle.lola_model.specs.declared.spec.Spec.{Spec}
+use Rattle.lola_model.specs.declared.spec.Stream.{Stream}
+use Rattle.lola_model.specs.declared.spec.WindowSpec.{WindowSpec}
+use Rattle.lola_instances_stream.specs.Each.{Each}
 
--- an instance in a cell
+first : (a b : Bool) → (a && b) ≡ true → a ≡ true
+first true b h = refl
+first false b h = absurd (cc)
 
-pub stands_get : (cs : List (Option Holdings)) (cell place : ℕ) (s : Holdings) → StandsIn cs cell place s → slice_get cs cell ≡ Some (Some s)
-stands_get [] cell place s h = absurd h
-stands_get (None ∷ cs) zero place s h = absurd h
-stands_get (None ∷ cs) (suc cell) place s h = stands_get cs cell place s h
-stands_get (Some x ∷ cs) zero zero s h = ap (λ (y : Holdings). Some (Some y)) h
-stands_get (Some x ∷ cs) zero (suc place) s h = absurd h
-stands_get (Some x ∷ cs) (suc cell) zero s h = absurd h
-stands_get (Some x ∷ cs) (suc cell) (suc place) s h = stands_get cs cell place s h
+second : (a b : Bool) → (a && b) ≡ true → b ≡ true
+second true b h = h
+second false b h = absurd (cc)
 
-pub stands_place : (cs : List (Option Holdings)) (cell place : ℕ) (s : Holdings) → StandsIn cs cell place s → slice_get (living cs) place ≡ Some s
-stands_place [] cell place s h = absurd h
-stands_place (None ∷ cs) zero place s h = absurd h
-stands_place (None ∷ cs) (suc cell) place s h = stands_place cs cell place s h
-stands_place (Some x ∷ cs) zero zero s h = ap Some h
-stands_place (Some x ∷ cs) zero (suc place) s h = absurd h
-stands_place (Some x ∷ cs) (suc cell) zero s h = absurd h
-stands_place (Some x ∷ cs) (suc cell) (suc place) s h = stands_place cs cell place s h
+-- numbers in order have each number
+has_number : (from n k i : ℕ) → k < n → i ≡ from + k → Contains (counted from n) i
+has_number from zero k i lt e = absurd (omega arith)
+has_number from (suc n) zero i lt e = let same : from ≡ i = omega arith in subst (λ (j : ℕ). Contains (from ∷ counted (from + 1) n) j) same (Contains-here from (counted (from + 1) n))
+has_number from (suc n) (suc k) i lt e = Contains-there from i (counted (from + 1) n) (has_number (from + 1) n k i (omega arith) (omega arith))
 
-pub stands_taken : (cs : List (Option Holdings)) (cell place : ℕ) (s : Holdings) → StandsIn cs cell place s → IsTaken (slice_get cs cell)
-stands_taken cs cell place s h = subst IsTaken (sym (stands_get cs cell place s h)) tt
+below_length : {X : Type 0} (xs : List X) (k : ℕ) (x : X) → slice_get xs k ≡ Some x → k < length xs
+below_length [] k x e = absurd (cc)
+below_length (y ∷ ys) zero x e = omega arith
+below_length (y ∷ ys) (suc k) x e = let lt = below_length ys k x e in omega arith
 
-pub stands_remove : (cs : List (Option Holdings)) (cell place : ℕ) (s : Holdings) → StandsIn cs cell place s → living (slice_set cs cell None) ≡ remove (living cs) place
-stands_remove [] cell place s h = absurd h
-stands_remove (None ∷ cs) zero place s h = absurd h
-stands_remove (None ∷ cs) (suc cell) place s h = stands_remove cs cell place s h
-stands_remove (Some x ∷ cs) zero zero s h = refl
-stands_remove (Some x ∷ cs) zero (suc place) s h = absurd h
-stands_remove (Some x ∷ cs) (suc cell) zero s h = absurd h
-stands_remove (Some x ∷ cs) (suc cell) (suc place) s h = ap (λ ss. x ∷ ss) (stands_remove cs cell place s h)
+-- the row of some reading of window i holds
+abbrev HasRow : List StreamLayout → List WindowSpec → ℕ → Type 0
+HasRow streams windows i = (k : Kind) × (args : Arguments) × (window_row streams (slice_get windows i) k args ≡ true)
 
-pub stands_set : (cs : List (Option Holdings)) (cell place : ℕ) (s t : Holdings) → StandsIn cs cell place s → living (slice_set cs cell (Some t)) ≡ slice_set (living cs) place t
-stands_set [] cell place s t h = absurd h
-stands_set (None ∷ cs) zero place s t h = absurd h
-stands_set (None ∷ cs) (suc cell) place s t h = stands_set cs cell place s t h
-stands_set (Some x ∷ cs) zero zero s t h = refl
-stands_set (Some x ∷ cs) zero (suc place) s t h = absurd h
-stands_set (Some x ∷ cs) (suc cell) zero s t h = absurd h
-stands_set (Some x ∷ cs) (suc cell) (suc place) s t h = ap (λ ss. x ∷ ss) (stands_set cs cell place s t h)
+-- in an expression
 
-pub stands_one : (cs : List (Option Holdings)) (cell i j : ℕ) (s t : Holdings) → StandsIn cs cell i s → StandsIn cs cell j t → i ≡ j
-stands_one [] cell i j s t h k = absurd h
-stands_one (None ∷ cs) zero i j s t h k = absurd h
-stands_one (None ∷ cs) (suc cell) i j s t h k = stands_one cs cell i j s t h k
-stands_one (Some x ∷ cs) zero zero zero s t h k = refl
-stands_one (Some x ∷ cs) zero zero (suc j) s t h k = absurd k
-stands_one (Some x ∷ cs) zero (suc i) j s t h k = absurd h
-stands_one (Some x ∷ cs) (suc cell) zero j s t h k = absurd h
-stands_one (Some x ∷ cs) (suc cell) (suc i) zero s t h k = absurd k
-stands_one (Some x ∷ cs) (suc cell) (suc i) (suc j) s t h k = ap suc (stands_one cs cell i j s t h k)
+module _ (s : Scope) (i : ℕ) where
+  abbrev test : Expr → Bool
+  test e = part_is_typed s e
 
-pub stands_at : (cs : List (Option Holdings)) (place : ℕ) (s : Holdings) → slice_get (living cs) place ≡ Some s → (cell : ℕ) × StandsIn cs cell place s
-stands_at [] place s e = absurd (cc)
-stands_at (None ∷ cs) place s e = let r = stands_at cs place s e in (suc r.0, r.1)
-stands_at (Some x ∷ cs) zero s e = let q : x ≡ s = cc in (zero, q)
-stands_at (Some x ∷ cs) (suc place) s e = let r = stands_at cs place s e in (suc r.0, r.1)
+  abbrev Found : Type 0
+  Found = HasRow s.streams s.windows i
 
-pub living_more : (cs : List (Option Holdings)) (s : Holdings) → living (cs ++ Some s ∷ []) ≡ living cs ++ s ∷ []
-living_more [] s = refl
-living_more (None ∷ cs) s = living_more cs s
-living_more (Some x ∷ cs) s = ap (λ ss. x ∷ ss) (living_more cs s)
+  mutual
+    in_expr : (e : Expr) → each_part test e ≡ true → Contains (listed window_number e) i → Found
+    in_expr (Literal place v) h c = absurd (Contains-none i c)
+    in_expr (Parameter place j) h c = absurd (Contains-none i c)
+    in_expr (Read place n how args) h c = in_all args (second (test (Read place n how args)) (each_argument test args) h) c
+    in_expr (Window place w args) h c =
+        let row = second (is_noted place.kind) (row_holds s (Window place w args)) (first (test (Window place w args)) (each_argument test args) h) in
+        let rest = in_all args (second (test (Window place w args)) (each_argument test args) h) in
+        elim (Contains-cases w i (listed_all window_number args) c) [
+          | inl e ↦ (noted (Window place w args), args, subst (λ (j : ℕ). window_row s.streams (slice_get s.windows j) (noted (Window place w args)) args ≡ true) e row)
+          | inr d ↦ rest d
+        ]
+    in_expr (Defaults' place u a v b) h c =
+        let t = second (test (Defaults' place u a v b)) (each_part test a && each_part test b) h in
+        let one = in_expr a (first (each_part test a) (each_part test b) t) in
+        let two = in_expr b (second (each_part test a) (each_part test b) t) in
+        elim (Contains-append_cases (listed window_number a) (listed window_number b) i c) [ inl x ↦ one x | inr y ↦ two y ]
+    in_expr (Unary' place sign u a) h c = in_expr a (second (test (Unary' place sign u a)) (each_part test a) h) c
+    in_expr (Both' place sign u a v b) h c =
+        let t = second (test (Both' place sign u a v b)) (each_part test a && each_part test b) h in
+        let one = in_expr a (first (each_part test a) (each_part test b) t) in
+        let two = in_expr b (second (each_part test a) (each_part test b) t) in
+        elim (Contains-append_cases (listed window_number a) (listed window_number b) i c) [ inl x ↦ one x | inr y ↦ two y ]
+    in_expr (Choice' place u a v b w d) h c =
+        let t = second (test (Choice' place u a v b w d)) (each_part test a && (each_part test b && each_part test d)) h in
+        let r = second (each_part test a) (each_part test b && each_part test d) t in
+        let one = in_expr a (first (each_part test a) (each_part test b && each_part test d) t) in
+        let two = in_expr b (first (each_part test b) (each_part test d) r) in
+        let three = in_expr d (second (each_part test b) (each_part test d) r) in
+        elim (Contains-append_cases (listed window_number a) (listed window_number b ++ listed window_number d) i c) [
+          | inl x ↦ one x
+          | inr y ↦ (elim (Contains-append_cases (listed window_number b) (listed window_number d) i y) [ inl x ↦ two x | inr z ↦ three z ])
+        ]
 
-pub few_living : (cs : List (Option Holdings)) → length (living cs) ≤ length cs
-few_living [] = omega arith
-few_living (None ∷ cs) = let k = few_living cs in omega arith
-few_living (Some x ∷ cs) = let k = few_living cs in omega arith
+    in_all : (args : Arguments) → each_argument test args ≡ true → Contains (listed_all window_number args) i → Found
+    in_all End h c = absurd (Contains-none i c)
+    in_all (More' u a v rest) h c =
+        let one = in_expr a (first (each_part test a) (each_argument test rest) h) in
+        let others = in_all rest (second (each_part test a) (each_argument test rest) h) in
+        elim (Contains-append_cases (listed window_number a) (listed_all window_number rest) i c) [ inl x ↦ one x | inr y ↦ others y ]
 
--- where no cell is empty, a place and a cell are the same
-pub full_stands : (cs : List (Option Holdings)) → length cs ≤ length (living cs) → (cell : ℕ) (s : Holdings) → slice_get cs cell ≡ Some (Some s) → StandsIn cs cell cell s
-full_stands [] f cell s e = absurd (cc)
-full_stands (None ∷ cs) f cell s e = let k = few_living cs in absurd (omega arith)
-full_stands (Some x ∷ cs) f zero s e = let q : x ≡ s = cc in q
-full_stands (Some x ∷ cs) f (suc cell) s e = full_stands cs (omega arith) cell s e
+-- whole expressions
 
-pub full_taken : (cs : List (Option Holdings)) → length cs ≤ length (living cs) → (cell : ℕ) → cell < length cs → (s : Holdings) × StandsIn cs cell cell s
-full_taken [] f cell l = absurd (omega arith)
-full_taken (None ∷ cs) f cell l = let k = few_living cs in absurd (omega arith)
-full_taken (Some x ∷ cs) f zero l = (x, refl)
-full_taken (Some x ∷ cs) f (suc cell) l = full_taken cs (omega arith) cell (omega arith)
+module _ (f : Whole → Bool) where
+  wholes_left : (xs ys : List Whole) → all_wholes f (xs ++ ys) ≡ true → all_wholes f xs ≡ true
+  wholes_left [] ys h = refl
+  wholes_left (x ∷ xs) ys h =
+      let one = first (f x) (all_wholes f (xs ++ ys)) h in
+      let others = wholes_left xs ys (second (f x) (all_wholes f (xs ++ ys)) h) in
+      rw (one, others) refl
 
--- cells that move together
-pub living_packed : (cs : List (Option Holdings)) → living (filter is_some cs) ≡ living cs
-living_packed [] = refl
-living_packed (None ∷ cs) = living_packed cs
-living_packed (Some x ∷ cs) = ap (λ ss. x ∷ ss) (living_packed cs)
+  wholes_right : (xs ys : List Whole) → all_wholes f (xs ++ ys) ≡ true → all_wholes f ys ≡ true
+  wholes_right [] ys h = h
+  wholes_right (x ∷ xs) ys h = wholes_right xs ys (second (f x) (all_wholes f (xs ++ ys)) h)
 
-pub packed_full : (cs : List (Option Holdings)) → length (living (filter is_some cs)) ≡ length (filter is_some cs)
-packed_full [] = refl
-packed_full (None ∷ cs) = packed_full cs
-packed_full (Some x ∷ cs) = ap suc (packed_full cs)
+module _ (spec : Spec) (i : ℕ) where
+  abbrev typed : Whole → Bool
+  typed w = whole_is_typed spec w
 
-pub packed_few : (cs : List (Option Holdings)) → length (filter is_some cs) ≤ length cs
-packed_few [] = omega arith
-packed_few (None ∷ cs) = let k = packed_few cs in omega arith
-packed_few (Some x ∷ cs) = let k = packed_few cs in omega arith
+  abbrev Row : Type 0
+  Row = HasRow (layouts_from spec.streams [] []) spec.windows i
 
--- bits
+  in_whole : (w : Whole) → typed w ≡ true → Contains (listed window_number w.expr) i → Row
+  in_whole w h c =
+      let s = scope_in spec w.parameters in
+      in_expr s i w.expr (first (is_typed s w.expr) (same_kind (noted w.expr) w.want && is_certain s.windows w.expr) h) c
 
-pub marked_ones : (cs : List (Option Holdings)) (bs : List Bool) → AreMarked cs bs → ones bs ≡ length (living cs)
-marked_ones [] bs h = h
-marked_ones (c ∷ cs) [] h = absurd h
-marked_ones (None ∷ cs) (b ∷ bs) h = let k = marked_ones cs bs h.1 in let n = ap bit h.0 in let s = sum_by-cons bit b bs in omega arith
-marked_ones (Some x ∷ cs) (b ∷ bs) h = let k = marked_ones cs bs h.1 in let n = ap bit h.0 in let s = sum_by-cons bit b bs in omega arith
+  in_when : (n : ℕ) (p : Part) (ks : List Kind) (at : ℕ) (o : Option Expr) → all_wholes typed (condition_wholes n p ks at o) ≡ true → Contains (listed_when window_number o) i → Row
+  in_when n p ks at None h c = absurd (Contains-none i c)
+  in_when n p ks at (Some e) h c =
+      let w : Whole = record { stream = n; clause = p; parameters = ks; want = kind.Bool; before = at; expr = e } in
+      in_whole w (first (typed w) true h) c
 
-pub marked_long : (cs : List (Option Holdings)) (bs : List Bool) → AreMarked cs bs → length cs ≤ length bs
-marked_long [] bs h = omega arith
-marked_long (c ∷ cs) [] h = absurd h
-marked_long (None ∷ cs) (b ∷ bs) h = let k = marked_long cs bs h.1 in omega arith
-marked_long (Some x ∷ cs) (b ∷ bs) h = let k = marked_long cs bs h.1 in omega arith
+  in_with : (n : ℕ) (p : Part) (ks wants : List Kind) (ats : List ℕ) (es : List Expr) → all_wholes typed (with_wholes n p ks wants ats es) ≡ true → Contains (listed_with window_number es) i → Row
+  in_with n p ks wants ats [] h c = absurd (Contains-none i c)
+  in_with n p ks wants ats (e ∷ es) h c =
+      let w : Whole = record { stream = n; clause = p; parameters = ks; want = unwrap_or (slice_get wants 0) kind.Int64; before = unwrap_or (slice_get ats 0) 0; expr = e } in
+      let others = all_wholes typed (with_wholes n p ks (drop 1 wants) (drop 1 ats) es) in
+      let one = in_whole w (first (typed w) others h) in
+      let rest = in_with n p ks (drop 1 wants) (drop 1 ats) es (second (typed w) others h) in
+      elim (Contains-append_cases (listed window_number e) (listed_with window_number es) i c) [ inl a ↦ one a | inr b ↦ rest b ]
 
-none_set : (bs : List Bool) → ones bs ≡ 0 → (i : ℕ) → get_or bs i false ≡ true → ⊥
-none_set [] z i e = cc
-none_set (b ∷ bs) z zero e = let n = ap bit e in let s = sum_by-cons bit b bs in omega arith
-none_set (b ∷ bs) z (suc i) e = let s = sum_by-cons bit b bs in none_set bs (omega arith) i e
+  in_clause : (n : ℕ) (p : Part) (ks wants : List Kind) (o : Option Clause) → all_wholes typed (clause_wholes n p ks wants o) ≡ true → Contains (listed_clause window_number o) i → Row
+  in_clause n p ks wants None h c = absurd (Contains-none i c)
+  in_clause n p ks wants (Some k) h c =
+      let xs = condition_wholes n p ks k.when_at k.when in
+      let ys = with_wholes n p ks wants k.with_at k.with in
+      let when = in_when n p ks k.when_at k.when (wholes_left typed xs ys h) in
+      let with = in_with n p ks wants k.with_at k.with (wholes_right typed xs ys h) in
+      elim (Contains-append_cases (listed_when window_number k.when) (listed_with window_number k.with) i c) [ inl a ↦ when a | inr b ↦ with b ]
 
-pub marked_select : (cs : List (Option Holdings)) (bs : List Bool) → AreMarked cs bs → (cell place : ℕ) → get_or bs cell false ≡ true → rank bs cell ≡ place → (s : Holdings) × StandsIn cs cell place s
-marked_select [] bs h cell place e r = absurd (none_set bs h cell e)
-marked_select (c ∷ cs) [] h cell place e r = absurd h
-marked_select (None ∷ cs) (b ∷ bs) h zero place e r = let n = h.0 in absurd (cc)
-marked_select (None ∷ cs) (b ∷ bs) h (suc cell) place e r =
-    let n = ap bit h.0 in
-    let s = sum_by-cons bit b (take cell bs) in
-    marked_select cs bs h.1 cell place e (omega arith)
-marked_select (Some x ∷ cs) (b ∷ bs) h zero zero e r = (x, refl)
-marked_select (Some x ∷ cs) (b ∷ bs) h zero (suc place) e r = absurd (omega arith)
-marked_select (Some x ∷ cs) (b ∷ bs) h (suc cell) zero e r =
-    let n = ap bit h.0 in
-    let s = sum_by-cons bit b (take cell bs) in
-    absurd (omega arith)
-marked_select (Some x ∷ cs) (b ∷ bs) h (suc cell) (suc place) e r =
-    let n = ap bit h.0 in
-    let s = sum_by-cons bit b (take cell bs) in
-    marked_select cs bs h.1 cell place e (omega arith)
+  in_stream : (n : ℕ) (s : Stream) (k : Kind) → all_wholes typed (stream_wholes n s k) ≡ true → Contains (listed_stream window_number s) i → Row
+  in_stream n s k h c =
+      let xs = clause_wholes n part.Spawn [] s.parameters s.spawn in
+      let ys = clause_wholes n part.Eval s.parameters (k ∷ []) s.eval in
+      let zs = clause_wholes n part.Close s.parameters [] s.close in
+      let r = wholes_right typed xs (ys ++ zs) h in
+      let spawn = in_clause n part.Spawn [] s.parameters s.spawn (wholes_left typed xs (ys ++ zs) h) in
+      let eval = in_clause n part.Eval s.parameters (k ∷ []) s.eval (wholes_left typed ys zs r) in
+      let close = in_clause n part.Close s.parameters [] s.close (wholes_right typed ys zs r) in
+      elim (Contains-append_cases (listed_clause window_number s.spawn) (listed_clause window_number s.eval ++ listed_clause window_number s.close) i c) [
+        | inl a ↦ spawn a
+        | inr b ↦ (elim (Contains-append_cases (listed_clause window_number s.eval) (listed_clause window_number s.close) i b) [ inl a ↦ eval a | inr q ↦ close q ])
+      ]
 
--- the place of a cell is how many before it are taken
-pub marked_rank : (cs : List (Option Holdings)) (bs : List Bool) → AreMarked cs bs → (cell place : ℕ) (s : Holdings) → slice_get cs cell ≡ Some (Some s) → rank bs cell ≡ place → StandsIn cs cell place s
-marked_rank [] bs h cell place s e r = absurd (cc)
-marked_rank (c ∷ cs) [] h cell place s e r = absurd h
-marked_rank (None ∷ cs) (b ∷ bs) h zero place s e r = absurd (cc)
-marked_rank (None ∷ cs) (b ∷ bs) h (suc cell) place s e r =
-    let n = ap bit h.0 in
-    let t = sum_by-cons bit b (take cell bs) in
-    marked_rank cs bs h.1 cell place s e (omega arith)
-marked_rank (Some x ∷ cs) (b ∷ bs) h zero zero s e r = let q : x ≡ s = cc in q
-marked_rank (Some x ∷ cs) (b ∷ bs) h zero (suc place) s e r = absurd (omega arith)
-marked_rank (Some x ∷ cs) (b ∷ bs) h (suc cell) zero s e r =
-    let n = ap bit h.0 in
-    let t = sum_by-cons bit b (take cell bs) in
-    absurd (omega arith)
-marked_rank (Some x ∷ cs) (b ∷ bs) h (suc cell) (suc place) s e r =
-    let n = ap bit h.0 in
-    let t = sum_by-cons bit b (take cell bs) in
-    marked_rank cs bs h.1 cell place s e (omega arith)
+  in_streams : (n : ℕ) (ss : List Stream) (kinds : List (Option Kind)) → all_wholes typed (wholes_from n ss kinds) ≡ true → Contains (listed_streams window_number ss) i → Row
+  in_streams n [] kinds h c = absurd (Contains-none i c)
+  in_streams n (s ∷ ss) kinds h c =
+      let k = unwrap_or (unwrap_or (slice_get kinds 0) None) kind.Int64 in
+      let xs = stream_wholes n s k in
+      let ys = wholes_from (n + 1) ss (drop 1 kinds) in
+      let one = in_stream n s k (wholes_left typed xs ys h) in
+      let rest = in_streams (n + 1) ss (drop 1 kinds) (wholes_right typed xs ys h) in
+      elim (Contains-append_cases (listed_stream window_number s) (listed_streams window_number ss) i c) [ inl a ↦ one a | inr b ↦ rest b ]
 
-pub marked_clear : (cs : List (Option Holdings)) (bs : List Bool) (cell : ℕ) → AreMarked cs bs → cell < length cs → AreMarked (slice_set cs cell None) (slice_set bs cell false)
-marked_clear [] bs cell h l = absurd (omega arith)
-marked_clear (c ∷ cs) [] cell h l = absurd h
-marked_clear (None ∷ cs) (b ∷ bs) zero h l = (refl, h.1)
-marked_clear (Some x ∷ cs) (b ∷ bs) zero h l = (refl, h.1)
-marked_clear (None ∷ cs) (b ∷ bs) (suc cell) h l = (h.0, marked_clear cs bs cell h.1 (omega arith))
-marked_clear (Some x ∷ cs) (b ∷ bs) (suc cell) h l = (h.0, marked_clear cs bs cell h.1 (omega arith))
+-- how many values are kept, and when clauses are evaluated, changes no kind
+same_kinds_in : (ss : List Stream) (kept others : List ℕ) (pacings moments : List ClausePacings) (i : ℕ) → kind_in (slice_get (layouts_from ss kept pacings) i) ≡ kind_in (slice_get (layouts_from ss others moments) i)
+same_kinds_in [] kept others pacings moments i = refl
+same_kinds_in (s ∷ ss) kept others pacings moments zero = refl
+same_kinds_in (s ∷ ss) kept others pacings moments (suc i) = same_kinds_in ss (drop 1 kept) (drop 1 others) (drop 1 pacings) (drop 1 moments) i
 
-pub marked_change : (cs : List (Option Holdings)) (bs : List Bool) (cell : ℕ) (x y : Holdings) → AreMarked cs bs → slice_get cs cell ≡ Some (Some x) → AreMarked (slice_set cs cell (Some y)) bs
-marked_change [] bs cell x y h e = absurd (cc)
-marked_change (c ∷ cs) [] cell x y h e = absurd h
-marked_change (None ∷ cs) (b ∷ bs) zero x y h e = absurd (cc)
-marked_change (Some z ∷ cs) (b ∷ bs) zero x y h e = h
-marked_change (None ∷ cs) (b ∷ bs) (suc cell) x y h e = (h.0, marked_change cs bs cell x y h.1 e)
-marked_change (Some z ∷ cs) (b ∷ bs) (suc cell) x y h e = (h.0, marked_change cs bs cell x y h.1 e)
+-- a window whose row holds takes its target's kind
+takes_of : (streams : List StreamLayout) (o : Option WindowSpec) (w : WindowSpec) (k : Kind) (args : Arguments) → o ≡ Some w → window_row streams o k args ≡ true
+    → takes w.using (kind_in (slice_get streams w.target)) ≡ true
+takes_of streams None w k args e h = absurd (cc)
+takes_of streams (Some v) w k args e h =
+    let same : v ≡ w = cc in
+    let t = kind_in (target_in streams v) in
+    let r = second (is_reference streams v.target args) (takes v.using t && same_kind (gives_kind v.using t) k) h in
+    subst (λ (x : WindowSpec). takes x.using (kind_in (slice_get streams x.target)) ≡ true) same (first (takes v.using t) (same_kind (gives_kind v.using t) k) r)
 
-pub marked_more : (cs : List (Option Holdings)) (bs : List Bool) (s : Holdings) → AreMarked cs bs → length cs < length bs → AreMarked (cs ++ Some s ∷ []) (slice_set bs (length cs) true)
-marked_more [] [] s h l = absurd (omega arith)
-marked_more [] (b ∷ bs) s h l = let t = sum_by-cons bit b bs in (refl, omega arith)
-marked_more (c ∷ cs) [] s h l = absurd h
-marked_more (None ∷ cs) (b ∷ bs) s h l = (h.0, marked_more cs bs s h.1 (omega arith))
-marked_more (Some x ∷ cs) (b ∷ bs) s h l = (h.0, marked_more cs bs s h.1 (omega arith))
-
-unset : (n : ℕ) → ones (replicate n false) ≡ 0
-unset zero = refl
-unset (suc n) = let s = sum_by-cons bit false (replicate n false) in let k = unset n in omega arith
-
-pub marked_longer : (cs : List (Option Holdings)) (bs : List Bool) (n : ℕ) → AreMarked cs bs → AreMarked cs (bs ++ replicate n false)
-marked_longer [] bs n h = let a = sum_by-append bit bs (replicate n false) in let u = unset n in omega arith
-marked_longer (c ∷ cs) [] n h = absurd h
-marked_longer (None ∷ cs) (b ∷ bs) n h = (h.0, marked_longer cs bs n h.1)
-marked_longer (Some x ∷ cs) (b ∷ bs) n h = (h.0, marked_longer cs bs n h.1)
-
-none_marked : (bs : List Bool) → ((i : ℕ) → i < length bs → get_or bs i false ≡ false) → ones bs ≡ 0
-none_marked [] h = refl
-none_marked (b ∷ bs) h =
-    let n = ap bit (h 0 (omega arith)) in
-    let k = none_marked bs (λ i l. h (suc i) (omega arith)) in
-    let s = sum_by-cons bit b bs in
-    omega arith
-
-below_next : (i n : ℕ) → nat_lt (suc i) (suc n) ≡ nat_lt i n
-below_next i n = elim (below_or_not i n) [
-  | inl l ↦ lt_yes (suc i) (suc n) (omega arith) ∙ sym (lt_yes i n l)
-  | inr l ↦ lt_no (suc i) (suc n) (omega arith) ∙ sym (lt_no i n l)
-]
-
--- where no cell is empty, the first bits are set and the others not
-pub marked_full : (cs : List (Option Holdings)) (bs : List Bool) → length cs ≤ length (living cs) → length cs ≤ length bs → ((i : ℕ) → i < length bs → get_or bs i false ≡ nat_lt i (length cs)) → AreMarked cs bs
-marked_full [] bs f l h = none_marked bs (λ i k. h i k ∙ lt_no i 0 (omega arith))
-marked_full (None ∷ cs) bs f l h = let k = few_living cs in absurd (omega arith)
-marked_full (Some x ∷ cs) [] f l h = absurd (omega arith)
-marked_full (Some x ∷ cs) (b ∷ bs) f l h = (
-  h 0 (omega arith) ∙ lt_yes 0 (suc (length cs)) (omega arith),
-  marked_full cs bs (omega arith) (omega arith) (λ i k. h (suc i) (omega arith) ∙ below_next i (length cs)),
-)
-
--- a cell that is left, before and after
-pub record CameFrom (cs : List (Option Holdings)) (bs : List Bool) (to : ℕ) (s : Holdings) : Type 0 where
-  pub cell : ℕ
-  pub at : slice_get cs cell ≡ Some (Some s)
-  pub moves : rank bs cell ≡ to
-  pub within : cell ≤ length bs
-
-pub came_from : (cs : List (Option Holdings)) (bs : List Bool) → AreMarked cs bs → (to : ℕ) (s : Holdings) → slice_get (filter is_some cs) to ≡ Some (Some s) → CameFrom cs bs to s
-came_from [] bs h to s e = absurd (cc)
-came_from (c ∷ cs) [] h to s e = absurd h
-came_from (None ∷ cs) (b ∷ bs) h to s e =
-    let r = came_from cs bs h.1 to s e in
-    let n = ap bit h.0 in
-    let t = sum_by-cons bit b (take r.cell bs) in
-    let m = r.moves in
-    let w = r.within in
-    record { cell = suc r.cell; at = r.at; moves = omega arith; within = omega arith }
-came_from (Some x ∷ cs) (b ∷ bs) h zero s e = record { cell = zero; at = e; moves = refl; within = omega arith }
-came_from (Some x ∷ cs) (b ∷ bs) h (suc to) s e =
-    let r = came_from cs bs h.1 to s e in
-    let n = ap bit h.0 in
-    let t = sum_by-cons bit b (take r.cell bs) in
-    let m = r.moves in
-    let w = r.within in
-    record { cell = suc r.cell; at = r.at; moves = omega arith; within = omega arith }
-
-pub taken_there : (cs : List (Option Holdings)) (cell : ℕ) → IsTaken (slice_get cs cell) → (s : Holdings) × (slice_get cs cell ≡ Some (Some s))
-taken_there [] cell h = absurd h
-taken_there (None ∷ cs) zero h = absurd h
-taken_there (Some x ∷ cs) zero h = (x, refl)
-taken_there (c ∷ cs) (suc cell) h = taken_there cs cell h
-
-pub remove_one : {X : Type 0} (xs : List X) (i : ℕ) → i < length xs → length (remove xs i) + 1 ≡ length xs
-remove_one [] i l = absurd (omega arith)
-remove_one (x ∷ xs) zero l = omega arith
-remove_one (x ∷ xs) (suc i) l = let k = remove_one xs i (omega arith) in omega arith
+-- each window's target has a kind that its aggregation takes, as names and kinds promise
+pub taken_of : (spec : Spec) (kept : List ℕ) (pacings : List ClausePacings) → IsNamed spec → IsTyped spec
+    → Each (λ (w : WindowSpec). IsTrue (takes w.using (kind_in (slice_get (layouts_from spec.streams kept pacings) w.target)))) spec.windows
+taken_of spec kept pacings named typed i w e =
+    let number = has_number 0 (length spec.windows) i i (below_length spec.windows i w e) (omega arith) in
+    let numbered = subst (λ (ns : List ℕ). Contains ns i) (sym named.window_numbers) number in
+    let row = in_streams spec i 0 spec.streams (noted_kinds spec.streams) typed.typed numbered in
+    let taken = takes_of (layouts_from spec.streams [] []) (slice_get spec.windows i) w row.0 row.1 e row.2 in
+    subst (λ (k : Kind). takes w.using k ≡ true) (same_kinds_in spec.streams [] kept [] pacings w.target) taken

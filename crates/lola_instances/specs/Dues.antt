@@ -1,25 +1,11 @@
--- Which deadline of the instances of a stream comes next, and which of them have one at a moment.
-use Rattle.std.specs.Prelude.{ℕ, ◌≡◌, ◌≤◌, true, List, length, Option}
-use Rattle.std.specs.Option.{option_and_then}
-use Rattle.lola_value.specs.Ratio.{Ratio}
-use Rattle.lola_value.specs.Times.{up_to_latest}
-use Rattle.lola_instance.specs.Holdings.{Holdings}
-use Rattle.lola_instances_due.specs.Dues.{Timetable, due_births, due_of_births, is_timed}
-use Rattle.lola_instances.specs.Births.{births_of}
+-- Which deadline of the instances of a store comes next.
+use Rattle.std.specs.Prelude.{ℕ, List, [], ◌∷◌, Option, None}
+use Rattle.lola_model.specs.NextStep.{earlier}
+use Rattle.lola_instances_stream.specs.Births.{births_of}
+use Rattle.lola_instances_stream.specs.Crowds.{Crowd}
+use Rattle.lola_instances_stream.specs.Dues.{due_since}
 
--- a moment, if it is a time
-abbrev pub in_time : Option ℕ → Option ℕ
-in_time t = option_and_then up_to_latest t
-
--- the first deadline, from a moment on, of rates that count from each of these births
-abbrev pub due_since : List Ratio → ℕ → List ℕ → Option ℕ
-due_since rates from births = due_of_births rates from births
-
--- the places of the births that have a deadline at a moment, of rates that count from each
-abbrev pub due_at_births : List Ratio → ℕ → List ℕ → List ℕ
-due_at_births rates time births = due_births rates time 0 births
-
--- where some rate counts from births, a timetable has those of these instances, and room for as many as were made ahead
-pub record IsDated (slots spares : List Holdings) (t : Timetable) : Type 0 where
-  pub births : is_timed t.rates ≡ true → t.births ≡ births_of slots
-  pub room : is_timed t.rates ≡ true → length spares ≤ t.room
+-- the first deadline, from a moment on, of the instances of these streams
+abbrev pub due_of_crowds : ℕ → List Crowd → Option ℕ
+due_of_crowds from [] = None
+due_of_crowds from (c ∷ cs) = earlier (due_since c.layout.locals from (births_of c.slots)) (due_of_crowds from cs)

@@ -1,12 +1,15 @@
-//! The instances of one stream in little memory: of each the last of its values, and the panes of each window onto the
-//! stream.
+//! The bounded store: of each instance only the last values that accesses need, and the panes of each window onto it.
 #![tactic(auto)]
 
-mod cells;
-mod directory;
-pub mod due;
+mod begin;
+mod bounded;
+mod changes;
 mod giving;
-pub mod instances;
-mod key;
-mod nothing;
-mod slots;
+pub mod law;
+mod opening;
+mod prepare;
+mod reading;
+pub mod shared;
+mod stage;
+pub mod store;
+mod texts;

@@ -7,7 +7,7 @@ ghost use Rattle.lola_intake.specs.Histories.{Begins, Changes};
 use crate::event::{Event, Setting};
 use lola_merge::state::{MergeState, Offer};
 use lola_model::journal::Row;
-use lola_turns::{Act, LockSeat, Object, TicketLock};
+use lola_intake_turns::{Act, LockSeat, Object, TicketLock};
 
 /// The lock round the merge object.
 pub(crate) type MergeLock = TicketLock<MergeState, Setting, Event>;

@@ -10,8 +10,8 @@ use Rattle.lola_model.specs.Journal.{IsLegal, merged_from, opening_time, rows_of
 use Rattle.lola_model.specs.declared.journal.Row.{Row}
 use Rattle.lola_model.specs.declared.journal.Entry.{Entry}
 use Rattle.lola_model.proofs.Journals.{IsLegalFrom-append}
-use Rattle.lola_run.specs.Verdicts.{AreOfSources}
-use Rattle.lola_rounds.specs.Rounds.{AreFirst, in_rounds, round_of, row_at}
+use Rattle.lola_monitor_run.specs.Verdicts.{AreOfSources}
+use Rattle.lola_monitor_run.specs.Rounds.{AreFirst, in_rounds, round_of, row_at}
 use Rattle.lola_monitor.proofs.Marking.{all_marked}
 use Rattle.lola_monitor.proofs.SourceNumbers.{AreOf}
 

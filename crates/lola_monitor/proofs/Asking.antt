@@ -1,9 +1,9 @@
 -- What the words of a command name.
 use Rattle.std.proofs.Common.{◌≡◌, ℕ, List, [], ◌∷◌, Some, map, ap}
-use Rattle.lola_command.specs.Command.{command_of}
-use Rattle.lola_command.specs.declared.command.Command.TheVariants.{Run, Analyse, Drill}
-use Rattle.lola_command.specs.declared.command.DrillCommand.{DrillCommand}
-use Rattle.lola_command.specs.declared.command.RunCommand.{RunCommand}
+use Rattle.lola_monitor_command.specs.Command.{command_of}
+use Rattle.lola_monitor_command.specs.declared.command.Command.TheVariants.{Run, Analyse, Drill}
+use Rattle.lola_monitor_command.specs.declared.command.DrillCommand.{DrillCommand}
+use Rattle.lola_monitor_command.specs.declared.command.RunCommand.{RunCommand}
 use Rattle.lola_monitor.specs.Command.{all_names, analysed_named, analysed_of, drill_named, drill_of, names_asked, names_with, run_by, run_of, specification_named, specification_of, word_at}
 
 module _ (words : List (List ℕ)) (r : RunCommand) (is : command_of words ≡ Some (Run r)) where

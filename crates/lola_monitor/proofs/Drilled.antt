@@ -11,22 +11,22 @@ use Rattle.lola_model.specs.declared.plan.Plan.{Plan}
 use Rattle.lola_model.specs.declared.journal.Entry.{Entry}
 use Rattle.lola_model.specs.declared.journal.Row.{Row}
 use Rattle.lola_front.specs.Front.{IsPlanOf}
-use Rattle.lola_command.specs.declared.command.DrillCommand.{DrillCommand}
+use Rattle.lola_monitor_command.specs.declared.command.DrillCommand.{DrillCommand}
 use Rattle.lola_rows.specs.Reading.{fresh, shape_of}
 use Rattle.lola_rows.specs.Rows.{SourceEnd, SourceRows, Whole, rows_of_source}
 use Rattle.lola_feed.specs.Feeding.{Working, beginning, to_come}
 use Rattle.lola_feed.specs.declared.worker.SourceEnd as worker
 use Rattle.lola_feed.specs.declared.worker.SourceEnd.TheVariants as finish
-use Rattle.lola_report.specs.declared.end.EndLine.{EndLine}
-use Rattle.lola_report.specs.declared.end.EndLine.TheVariants.{Done}
-use Rattle.lola_drill.specs.Drills.{drill_text}
-use Rattle.lola_run.specs.Verdicts.{IsRowFault, Setting, fault_in, late_count, most_rows, settled_fault_in}
-use Rattle.lola_run.specs.Running.{Keeping, setting_in}
-use Rattle.lola_run.specs.declared.stop.Stop.{Stop}
-use Rattle.lola_run.specs.declared.stop.Stop.TheVariants as stop
-use Rattle.lola_rounds.specs.Rounds.{AreFirst}
-use Rattle.lola_rounds.specs.Feeds as feeds
-use Rattle.lola_rounds.specs.Feeds.{AreFed, AreInPlace, AreReady, CameTo, EndedByFault, EndedWith, EndsRun, GoInRounds, HasEnded, HaveEnded, IsListOf, Supply, ThroughWell, World, supply_of, world}
+use Rattle.lola_report_lines.specs.declared.end.EndLine.{EndLine}
+use Rattle.lola_report_lines.specs.declared.end.EndLine.TheVariants.{Done}
+use Rattle.lola_feed.specs.Drills.{drill_text}
+use Rattle.lola_monitor_run.specs.Verdicts.{IsRowFault, Setting, fault_in, late_count, most_rows, settled_fault_in}
+use Rattle.lola_monitor_run.specs.Running.{Keeping, setting_in}
+use Rattle.lola_monitor_run.specs.declared.stop.Stop.{Stop}
+use Rattle.lola_monitor_run.specs.declared.stop.Stop.TheVariants as stop
+use Rattle.lola_monitor_run.specs.Rounds.{AreFirst}
+use Rattle.lola_monitor_run.specs.Feeds as feeds
+use Rattle.lola_monitor_run.specs.Feeds.{AreFed, AreInPlace, AreReady, CameTo, EndedByFault, EndedWith, EndsRun, GoInRounds, HasEnded, HaveEnded, IsListOf, Supply, ThroughWell, World, supply_of, world}
 use Rattle.lola_monitor.specs.Drilling.{AreDrillWorkers, DrillRun, DrillsTo, IsAtDrillDeadline, IsDrillFault, IsDrillWorker, drill_rows, drill_setting}
 use Rattle.lola_monitor.specs.Monitor.{HasItsModels, MalformedSource, done_line, fault_line, first_malformed}
 use Rattle.lola_monitor.specs.Outcomes.{OutcomeAfter, end_by, end_of, ends_of, first_failed, is_read_fault, line_of, malformed_by, source_end}

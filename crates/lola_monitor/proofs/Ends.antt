@@ -3,9 +3,9 @@ use Rattle.std.proofs.Common.{◌≡◌, ℕ, ◌≤◌, List, ◌++◌, inl, in
 use Rattle.std.specs.Io.KnownBytes.{append_known}
 use Rattle.lola_port.specs.States.{PutBroke, Rose, SinkState, grown}
 use Rattle.lola_value.specs.declared.front.Refusal.{Refusal}
-use Rattle.lola_report.specs.Ends.{end_text}
-use Rattle.lola_report.specs.declared.end.EndLine.{EndLine}
-use Rattle.lola_report.specs.declared.end.EndLine.TheVariants.{Done, Usage, Refused, Malformed, Fault, UnreadableSpecification, UnreadableSource, Analysed}
+use Rattle.lola_report_lines.specs.Ends.{end_text}
+use Rattle.lola_report_lines.specs.declared.end.EndLine.{EndLine}
+use Rattle.lola_report_lines.specs.declared.end.EndLine.TheVariants.{Done, Usage, Refused, Malformed, Fault, UnreadableSpecification, UnreadableSource, Analysed}
 use Rattle.lola_monitor.specs.Monitor.{Call, IsAnalysed, IsCutAnalysis, IsCutDone, IsCutMalformed, IsCutOff, IsCutShort, IsDone, IsEarly, IsFault, IsMalformed, IsRefused, IsUnread, IsUsage, Outside, Wrote, call}
 use Rattle.lola_monitor.specs.Outcomes.{AreUntouched, Concluded, NoCommand, NoPlan, NotRead, StoodAnalysed, StoodCut, StoodDone, StoodFault, StoodMalformed, Works}
 use Rattle.lola_monitor.specs.declared.outcome.Outcome.{Outcome}

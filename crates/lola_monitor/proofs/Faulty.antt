@@ -11,7 +11,7 @@ use Rattle.lola_feed.specs.Feeding.{Working}
 use Rattle.lola_feed.specs.declared.worker.SourceEnd as worker
 use Rattle.lola_feed.specs.declared.worker.SourceEnd.TheVariants.{End, Malformed, ReadFault, Closed, Memory}
 use Rattle.lola_rows.specs.Rows.{SourceEnd, Whole, MalformedAt}
-use Rattle.lola_shelves.specs.Lending.{asks_of, counts_of}
+use Rattle.lola_feed.specs.Lending.{asks_of, counts_of}
 use Rattle.lola_monitor.specs.Monitor.{AreGiven, MalformedSource, first_faulty, first_malformed, is_faulty, one_further}
 use Rattle.lola_monitor.specs.Outcomes.{ends_of, first_failed, is_read_fault}
 

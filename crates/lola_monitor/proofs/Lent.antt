@@ -18,17 +18,17 @@ use Rattle.lola_rows.specs.Reading.{Shape, fresh, shape_of}
 use Rattle.lola_feed.specs.Feeding.{Working, beginning, to_come}
 use Rattle.lola_feed.specs.declared.worker.SourceEnd as worker
 use Rattle.lola_feed.specs.declared.worker.SourceEnd.TheVariants as finish
-use Rattle.lola_report.specs.declared.end.EndLine.TheVariants.{Done, UnreadableSource}
-use Rattle.lola_run.specs.Verdicts.{AreOfSources, IsRowFault, Setting, fault_in, late_count, most_rows, verdicts}
-use Rattle.lola_run.specs.Running.{Keeping, setting_in}
-use Rattle.lola_run.specs.declared.stop.Stop.{Stop}
-use Rattle.lola_run.specs.declared.stop.Stop.TheVariants as stop
-use Rattle.lola_rounds.specs.Feeds as feeds
-use Rattle.lola_rounds.specs.Feeds.{AreFed, AreReady, BeganWith, CameTo, EndedByCutFault, EndedByFault, EndedWith, EndsRun, GoInRounds, HasEnded, HaveBegun, HaveEnded, IsFed, RanOutOfMemory, RanToPutFault, Supply, Through, ThroughCut, ThroughWell, World, supply_of, world}
-use Rattle.lola_shelves.specs.Lending as shelves
-use Rattle.lola_shelves.specs.Lending.{AreRooms, Fetches, HasReturned, IsLent, IsNotGiven, IsStopped, asks_of, counts_of, places_of}
-use Rattle.lola_shelves.specs.declared.sources.FetchStop.{FetchStop}
-use Rattle.lola_shelves.specs.declared.sources.FetchStop.TheVariants as fetch
+use Rattle.lola_report_lines.specs.declared.end.EndLine.TheVariants.{Done, UnreadableSource}
+use Rattle.lola_monitor_run.specs.Verdicts.{AreOfSources, IsRowFault, Setting, fault_in, late_count, most_rows, verdicts}
+use Rattle.lola_monitor_run.specs.Running.{Keeping, setting_in}
+use Rattle.lola_monitor_run.specs.declared.stop.Stop.{Stop}
+use Rattle.lola_monitor_run.specs.declared.stop.Stop.TheVariants as stop
+use Rattle.lola_monitor_run.specs.Feeds as feeds
+use Rattle.lola_monitor_run.specs.Feeds.{AreFed, AreReady, BeganWith, CameTo, EndedByCutFault, EndedByFault, EndedWith, EndsRun, GoInRounds, HasEnded, HaveBegun, HaveEnded, IsFed, RanOutOfMemory, RanToPutFault, Supply, Through, ThroughCut, ThroughWell, World, supply_of, world}
+use Rattle.lola_feed.specs.Lending as shelves
+use Rattle.lola_feed.specs.Lending.{AreRooms, Fetches, HasReturned, IsLent, IsNotGiven, IsStopped, asks_of, counts_of, places_of}
+use Rattle.lola_feed.specs.declared.sources.FetchStop.{FetchStop}
+use Rattle.lola_feed.specs.declared.sources.FetchStop.TheVariants as fetch
 use Rattle.lola_monitor.specs.Monitor.{AllBegin, AllEnd, AllRead, Begins, Ends, GoInTurns, IsAtDeadline, MalformedSource, Outside, asks_between, done_line, fault_line, first_faulty, first_malformed, is_faulty, outside, source_rows}
 use Rattle.lola_monitor.specs.Outcomes.{AllHome, ArePut, BrokenRun, CameHome, CutFaultRun, CutRun, EndedRun, FaultRun, Grew, OutcomeAfter, RunsSources, SourcesRun, StoppedRun, end_by, end_of, ends_of, first_failed, line_of, source_end, unfetched}
 use Rattle.lola_monitor.specs.declared.outcome.Outcome.{Outcome}

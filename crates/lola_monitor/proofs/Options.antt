@@ -5,17 +5,17 @@ use Rattle.std.specs.List.{after_first, before_first, list_all}
 use Rattle.std.specs.Str.{bytes_eq}
 use Rattle.lola_value.specs.Times.{is_digit, is_point, is_time, latest, nanoseconds, number_of, up_to_latest}
 use Rattle.lola_model.specs.declared.journal.Show.TheVariants as show
-use Rattle.lola_command.specs.Command.{are_sources, behind_names, behind_options, come_once, command_of, drill_with, front_names, in_turns_said, is_number, of_said, run_by, run_over, show_said, start_said, workers_said}
-use Rattle.lola_command.specs.Command as said_command
-use Rattle.lola_command.specs.Said.{Word, after, begins_with_minus, is_worker_count, names_from, option_by, option_with, said_from, says, show_by, start_by, thing_of, valued, with_front, workers_by}
-use Rattle.lola_command.specs.declared.said.Said.{Said}
-use Rattle.lola_command.specs.declared.said.Said.TheVariants as said
-use Rattle.lola_command.specs.declared.said.Thing.{Thing}
-use Rattle.lola_command.specs.declared.said.Thing.TheVariants as thing
-use Rattle.lola_command.specs.declared.command.Command.{Command}
-use Rattle.lola_command.specs.declared.command.Command.TheVariants.{Run, Analyse, Drill}
-use Rattle.lola_command.specs.declared.command.DrillCommand.{DrillCommand}
-use Rattle.lola_command.specs.declared.command.RunCommand.{RunCommand}
+use Rattle.lola_monitor_command.specs.Command.{are_sources, behind_names, behind_options, come_once, command_of, drill_with, front_names, in_turns_said, is_number, of_said, run_by, run_over, show_said, start_said, workers_said}
+use Rattle.lola_monitor_command.specs.Command as said_command
+use Rattle.lola_monitor_command.specs.Said.{Word, after, begins_with_minus, is_worker_count, names_from, option_by, option_with, said_from, says, show_by, start_by, thing_of, valued, with_front, workers_by}
+use Rattle.lola_monitor_command.specs.declared.said.Said.{Said}
+use Rattle.lola_monitor_command.specs.declared.said.Said.TheVariants as said
+use Rattle.lola_monitor_command.specs.declared.said.Thing.{Thing}
+use Rattle.lola_monitor_command.specs.declared.said.Thing.TheVariants as thing
+use Rattle.lola_monitor_command.specs.declared.command.Command.{Command}
+use Rattle.lola_monitor_command.specs.declared.command.Command.TheVariants.{Run, Analyse, Drill}
+use Rattle.lola_monitor_command.specs.declared.command.DrillCommand.{DrillCommand}
+use Rattle.lola_monitor_command.specs.declared.command.RunCommand.{RunCommand}
 use Rattle.lola_engine.specs.Engines.{IsOptionInTime}
 
 -- an option in its bounds

@@ -7,12 +7,12 @@ use Rattle.lola_model.specs.Journal.{rows_of}
 use Rattle.lola_model.specs.declared.journal.Entry.{Entry}
 use Rattle.lola_model.specs.declared.journal.Row.{Row}
 use Rattle.lola_model.specs.declared.plan.Plan.{Plan}
-use Rattle.lola_report.specs.declared.end.EndLine.{EndLine}
-use Rattle.lola_command.specs.Command.{command_of}
-use Rattle.lola_command.specs.declared.command.Command.{Command}
-use Rattle.lola_command.specs.declared.command.Command.TheVariants.{Run, Analyse, Drill}
-use Rattle.lola_command.specs.declared.command.DrillCommand.{DrillCommand}
-use Rattle.lola_run.specs.Verdicts.{Setting, fault_in}
+use Rattle.lola_report_lines.specs.declared.end.EndLine.{EndLine}
+use Rattle.lola_monitor_command.specs.Command.{command_of}
+use Rattle.lola_monitor_command.specs.declared.command.Command.{Command}
+use Rattle.lola_monitor_command.specs.declared.command.Command.TheVariants.{Run, Analyse, Drill}
+use Rattle.lola_monitor_command.specs.declared.command.DrillCommand.{DrillCommand}
+use Rattle.lola_monitor_run.specs.Verdicts.{Setting, fault_in}
 use Rattle.lola_monitor.specs.Command.{Names, analysed_named, analysed_of, drill_named, drill_of, names_with, run_by, run_of, specification_named, specification_of}
 use Rattle.lola_monitor.specs.Drilling.{IsCleanDrill, IsCutDrill, IsDrillFault, IsDrillMalformed, IsDrilled, IsFaultyDrill, IsMalformedDrill, IsRefusedDrill, drill_rows}
 use Rattle.lola_monitor.specs.Monitor.{Call, CutsOff, IsAnalysed, IsBroken, IsClean, IsCleanAnalysis, IsCutAnalysis, IsCutShort, IsDone, IsFault, IsMalformed, IsRefused, IsSpoiled, IsUnread, IsUsage, Plans, Rows, first_malformed, one_further, setting_of, source_rows}

@@ -4,14 +4,14 @@ use Rattle.lola_model.specs.Faults.{RunFault}
 use Rattle.lola_model.specs.Journal.{rows_of}
 use Rattle.lola_model.specs.declared.journal.Entry.{Entry}
 use Rattle.lola_model.specs.declared.journal.Row.{Row}
-use Rattle.lola_report.specs.declared.end.EndLine.{EndLine}
-use Rattle.lola_command.specs.declared.command.DrillCommand.{DrillCommand}
-use Rattle.lola_drill.specs.Drills.{drill_bytes}
+use Rattle.lola_report_lines.specs.declared.end.EndLine.{EndLine}
+use Rattle.lola_monitor_command.specs.declared.command.DrillCommand.{DrillCommand}
+use Rattle.lola_feed.specs.Drills.{drill_bytes}
 use Rattle.lola_rows.specs.Columns.{inputs_of}
 use Rattle.lola_engine.specs.Engines.{accepted_entry}
 use Rattle.lola_engine.proofs.RunsBegun as begun
-use Rattle.lola_run.specs.Verdicts.{IsRowFault, Setting, fault_in, most_rows, settled_fault_in}
-use Rattle.lola_run.proofs.Fronts.{fault_stays}
+use Rattle.lola_monitor_run.specs.Verdicts.{IsRowFault, Setting, fault_in, most_rows, settled_fault_in}
+use Rattle.lola_monitor_run.proofs.Fronts.{fault_stays}
 use Rattle.lola_monitor.specs.Drilling.{DrillRun, IsAtDrillDeadline, IsDrillFault, TookAll, drill_rows, drill_setting}
 use Rattle.lola_monitor.proofs.AllRounds.{GoesOn, goes_on}
 use Rattle.lola_monitor.proofs.Drilled.{of_two}

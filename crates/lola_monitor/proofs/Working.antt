@@ -10,10 +10,10 @@ use Rattle.lola_model.specs.Faults.{RunFault}
 use Rattle.lola_model.specs.declared.plan.Plan.{Plan}
 use Rattle.lola_model.specs.declared.journal.Entry.{Entry}
 use Rattle.lola_rows.specs.Rows.{Whole}
-use Rattle.lola_report.specs.Ends.{end_text}
-use Rattle.lola_report.specs.declared.end.EndLine.TheVariants.{Done, Usage, Refused, Malformed, Fault, UnreadableSpecification, UnreadableSource, Analysed}
-use Rattle.lola_run.specs.Verdicts.{IsRowFault, Setting, verdicts}
-use Rattle.lola_command.specs.declared.command.DrillCommand.{DrillCommand}
+use Rattle.lola_report_lines.specs.Ends.{end_text}
+use Rattle.lola_report_lines.specs.declared.end.EndLine.TheVariants.{Done, Usage, Refused, Malformed, Fault, UnreadableSpecification, UnreadableSource, Analysed}
+use Rattle.lola_monitor_run.specs.Verdicts.{IsRowFault, Setting, verdicts}
+use Rattle.lola_monitor_command.specs.declared.command.DrillCommand.{DrillCommand}
 use Rattle.lola_monitor.specs.Command.{Names, analysed_of, drill_of, run_of, specification_of}
 use Rattle.lola_monitor.specs.Drilling.{DrillsBy}
 use Rattle.lola_monitor.specs.Monitor.{AllBegin, AllGiven, AllRead, Begins, CutsOff, Ends, GoInTurns, HasItsModels, HasRows, IsAtDeadline, IsEarly, IsUnfinished, Outside, Plans, Ran, WereGiven, analysis_text, asks_between, call, fault_line, first_faulty, setting_of}

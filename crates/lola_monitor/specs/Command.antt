@@ -1,12 +1,12 @@
 -- What the words of a command ask for.
 use Rattle.std.specs.Prelude.{ℕ, Bool, List, [], ◌∷◌, Option, Some, None, map, slice_get, unwrap_or}
 use Rattle.lola_model.specs.declared.journal.Show.{Show}
-use Rattle.lola_command.specs.Said.{Word}
-use Rattle.lola_command.specs.Command.{command_of}
-use Rattle.lola_command.specs.declared.command.Command.{Command}
-use Rattle.lola_command.specs.declared.command.Command.TheVariants.{Run, Analyse, Drill}
-use Rattle.lola_command.specs.declared.command.DrillCommand.{DrillCommand}
-use Rattle.lola_command.specs.declared.command.RunCommand.{RunCommand}
+use Rattle.lola_monitor_command.specs.Said.{Word}
+use Rattle.lola_monitor_command.specs.Command.{command_of}
+use Rattle.lola_monitor_command.specs.declared.command.Command.{Command}
+use Rattle.lola_monitor_command.specs.declared.command.Command.TheVariants.{Run, Analyse, Drill}
+use Rattle.lola_monitor_command.specs.declared.command.DrillCommand.{DrillCommand}
+use Rattle.lola_monitor_command.specs.declared.command.RunCommand.{RunCommand}
 
 -- what a run is of: a specification and sources, where time begins if that is told, what is shown, how many workers there are, and
 -- whether its sources are to be read in turns

@@ -9,16 +9,16 @@ use Rattle.lola_model.specs.declared.journal.Entry.{Entry}
 use Rattle.lola_model.specs.declared.journal.Show.TheVariants as show
 use Rattle.lola_model.specs.declared.plan.Plan.{Plan}
 use Rattle.lola_front.specs.Front.{IsPlanOf, IsRefusalOf}
-use Rattle.lola_command.specs.declared.command.DrillCommand.{DrillCommand}
+use Rattle.lola_monitor_command.specs.declared.command.DrillCommand.{DrillCommand}
 use Rattle.lola_rows.specs.Reading.{fresh, shape_of}
 use Rattle.lola_rows.specs.Rows.{SourceRows, Whole}
 use Rattle.lola_feed.specs.Feeding.{Working, beginning}
-use Rattle.lola_report.specs.Ends.{end_text}
-use Rattle.lola_report.specs.declared.end.EndLine.{EndLine}
-use Rattle.lola_report.specs.declared.end.EndLine.TheVariants.{Done, Usage, Refused, Malformed, Fault, UnreadableSpecification, UnreadableSource, Analysed}
-use Rattle.lola_drill.specs.Drills.{drill_bytes, drill_text}
-use Rattle.lola_run.specs.Verdicts.{AreOfSources, IsRowFault, Setting, fault_in, most_rows, settled_fault_in}
-use Rattle.lola_rounds.specs.Rounds.{AreFirst}
+use Rattle.lola_report_lines.specs.Ends.{end_text}
+use Rattle.lola_report_lines.specs.declared.end.EndLine.{EndLine}
+use Rattle.lola_report_lines.specs.declared.end.EndLine.TheVariants.{Done, Usage, Refused, Malformed, Fault, UnreadableSpecification, UnreadableSource, Analysed}
+use Rattle.lola_feed.specs.Drills.{drill_bytes, drill_text}
+use Rattle.lola_monitor_run.specs.Verdicts.{AreOfSources, IsRowFault, Setting, fault_in, most_rows, settled_fault_in}
+use Rattle.lola_monitor_run.specs.Rounds.{AreFirst}
 use Rattle.lola_monitor.specs.declared.outcome.Outcome.{Outcome}
 use Rattle.lola_monitor.specs.declared.outcome.Outcome.TheVariants.{Line, Drilled, Report, CutFault, Put, Memory}
 use Rattle.lola_monitor.specs.Command.{drill_of}

@@ -11,20 +11,20 @@ use Rattle.lola_model.specs.declared.plan.Plan.{Plan}
 use Rattle.lola_model.specs.declared.journal.Entry.{Entry}
 use Rattle.lola_model.specs.Acceptance.{IsAccepted}
 use Rattle.lola_front.specs.Front.{IsPlanOf, IsRefusalOf}
-use Rattle.lola_command.specs.Command.{command_of}
+use Rattle.lola_monitor_command.specs.Command.{command_of}
 use Rattle.lola_rows.specs.Rows.{SourceEnd, Whole, MalformedAt}
-use Rattle.lola_report.specs.Ends.{end_text}
-use Rattle.lola_report.specs.declared.end.EndLine.{EndLine}
-use Rattle.lola_report.specs.declared.end.EndLine.TheVariants.{Done, Usage, Refused, Malformed, Fault, UnreadableSpecification, UnreadableSource, Analysed}
+use Rattle.lola_report_lines.specs.Ends.{end_text}
+use Rattle.lola_report_lines.specs.declared.end.EndLine.{EndLine}
+use Rattle.lola_report_lines.specs.declared.end.EndLine.TheVariants.{Done, Usage, Refused, Malformed, Fault, UnreadableSpecification, UnreadableSource, Analysed}
 use Rattle.lola_feed.specs.Feeding.{Working}
 use Rattle.lola_feed.specs.declared.worker.SourceEnd as worker
 use Rattle.lola_feed.specs.declared.worker.SourceEnd.TheVariants as finish
-use Rattle.lola_run.specs.Verdicts.{AreOfSources, AreTraceable, HasFront, IsRowFault, Setting, fault_in, verdicts}
-use Rattle.lola_run.specs.Running.{Keeping}
-use Rattle.lola_run.specs.declared.stop.Stop.{Stop}
-use Rattle.lola_run.specs.declared.stop.Stop.TheVariants as stop
-use Rattle.lola_shelves.specs.declared.sources.FetchStop.{FetchStop}
-use Rattle.lola_shelves.specs.declared.sources.FetchStop.TheVariants as fetch
+use Rattle.lola_monitor_run.specs.Verdicts.{AreOfSources, AreTraceable, HasFront, IsRowFault, Setting, fault_in, verdicts}
+use Rattle.lola_monitor_run.specs.Running.{Keeping}
+use Rattle.lola_monitor_run.specs.declared.stop.Stop.{Stop}
+use Rattle.lola_monitor_run.specs.declared.stop.Stop.TheVariants as stop
+use Rattle.lola_feed.specs.declared.sources.FetchStop.{FetchStop}
+use Rattle.lola_feed.specs.declared.sources.FetchStop.TheVariants as fetch
 use Rattle.lola_monitor.specs.Command.{specification_of}
 use Rattle.lola_monitor.specs.Drilling.{DrillsTo, OfDrill}
 use Rattle.lola_monitor.specs.Monitor.{AllBegin, AllEnd, AllRead, AllWell, Analysis, AreGiven, CutShort, CutsOff, Ends, GoInTurns, HasItsModels, IsAtDeadline, IsCutOff, IsEarly, IsFault, IsFrontOf, IsRefusedBy, IsUnfinished, MalformedSource, Outside, Plans, SomeMalformed, UpToFault, analysis_text, asks_between, call, done_line, fault_line, first_faulty, first_malformed, is_faulty, setting_of}

@@ -1,6 +1,6 @@
 -- What a call leaves and what it means, by its status.
 use Rattle.std.specs.Prelude.{ℕ, ◌≡◌, ◌⊎◌, None}
-use Rattle.lola_command.specs.Command.{command_of}
+use Rattle.lola_monitor_command.specs.Command.{command_of}
 use Rattle.lola_monitor.specs.Drilling.{IsCleanDrill, IsCutDrill, IsDrilled, IsFaultyDrill, IsMalformedDrill, IsRefusedDrill}
 use Rattle.lola_monitor.specs.Monitor.{Call, IsAnalysed, IsBroken, IsClean, IsCleanAnalysis, IsCutAnalysis, IsCutShort, IsDone, IsEarly, IsFault, IsMalformed, IsRefused, IsSpoiled, IsStatus, IsUnfinished, IsUnread, IsUsage}
 

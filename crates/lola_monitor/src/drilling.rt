@@ -1,25 +1,25 @@
 //! A drill: two made-up sources, run in turns.
 ghost use Rattle.std.specs.Prelude.{◌≡◌, ◌<◌, ◌≤◌, [], All, IfOk};
-ghost use Rattle.lola_drill.specs.Drills.{drill_text};
+ghost use Rattle.lola_feed.specs.Drills.{drill_text};
 ghost use Rattle.lola_front.specs.Front.{IsPlanOf};
 ghost use Rattle.lola_model.specs.Acceptance.{IsAccepted};
-ghost use Rattle.lola_run.specs.Running.{Stands, keeping, setting_in};
+ghost use Rattle.lola_monitor_run.specs.Running.{Stands, keeping, setting_in};
 ghost use Rattle.lola_monitor.specs.Drilling.{AreDrillWorkers, DrillsBy, IsDrillWorker, drill_setting};
 ghost use Rattle.lola_monitor.specs.Monitor.{HasItsModels};
 
 use crate::ending::{end_of, outcome_after};
 use crate::outcome::{Outcome, Unplanned};
 use crate::planning::plan_of;
-use lola_command::command::DrillCommand;
-use lola_drill::{Drill, specification};
+use lola_monitor_command::command::DrillCommand;
+use lola_feed::{Drill, specification};
 use lola_feed::worker::SourceWorker;
 use lola_model::journal::Show;
 use lola_model::plan::Plan;
 use lola_port::{Gate, PutEnd, Sink};
-use lola_report::end::EndLine;
-use lola_rounds::rows::{MOST_ROWS, run_in_turns};
+use lola_report_lines::end::EndLine;
+use lola_monitor_run::rows::{MOST_ROWS, run_in_turns};
 use lola_rows::RowReader;
-use lola_run::run::Run;
+use lola_monitor_run::run::Run;
 use lola_value::text::Memory;
 use std::alloc::Global;
 use std::hash::RandomState;

@@ -1,6 +1,6 @@
 //! How the sources of a run ended together, and what a call ends with after it.
 ghost use Rattle.std.specs.Prelude.{◌≡◌, ◌≤◌, IfOk, length, map};
-ghost use Rattle.lola_run.specs.Running.{keeping};
+ghost use Rattle.lola_monitor_run.specs.Running.{keeping};
 ghost use Rattle.lola_monitor.specs.Monitor.{fault_line as fault_line_of, first_malformed};
 ghost use Rattle.lola_monitor.specs.Outcomes.{OutcomeAfter, end_of as end_of_all, ends_of, first_failed, is_read_fault as is_read_fault_of, line_of, malformed_at as malformed_at_of, malformed_by, source_end};
 
@@ -9,9 +9,9 @@ use lola_feed::worker::{SourceEnd, SourceWorker};
 use lola_model::plan::Plan;
 use lola_model::source::MalformedKind;
 use lola_port::Source;
-use lola_report::end::EndLine;
-use lola_run::run::Run;
-use lola_run::stop::Stop;
+use lola_report_lines::end::EndLine;
+use lola_monitor_run::run::Run;
+use lola_monitor_run::stop::Stop;
 use lola_value::text::{Memory, Text};
 use lola_value::value::FaultKind;
 use std::alloc::Global;

@@ -1,7 +1,7 @@
 //! The top call.
 ghost use Rattle.std.specs.Prelude.{◌≡◌, Some, map, string_bytes};
 ghost use Rattle.lola_port.specs.States.{SinkState};
-ghost use Rattle.lola_command.specs.Command.{command_of};
+ghost use Rattle.lola_monitor_command.specs.Command.{command_of};
 ghost use Rattle.lola_monitor.specs.Command.{names_asked};
 ghost use Rattle.lola_monitor.specs.Monitor.{Asked, call, outside};
 ghost use Rattle.lola_monitor.specs.Statuses.{Decided, Ended};
@@ -14,10 +14,10 @@ use crate::planning::{read_plan, without_plan};
 use crate::putting::conclude;
 use crate::sources::run_sources;
 use crate::words::word_at;
-use lola_command::command::{Command, RunCommand, read_command};
+use lola_monitor_command::command::{Command, RunCommand, read_command};
 use lola_port::{Gate, Shelf, Sink};
-use lola_report::end::EndLine;
-use lola_run::law::puts_add_up;
+use lola_report_lines::end::EndLine;
+use lola_monitor_run::run_law::puts_add_up;
 use std::alloc::Global;
 use std::hash::RandomState;
 use std::sync::Wait;
@@ -106,7 +106,7 @@ fn work<R: Threads + Wait + Sync, F: Shelf, K: Sink, T: Sink, G: Gate + Sync>(
 /// verdicts that are written are those of the evaluation model of the accepted rows, up to its first
 /// fault, at the same stream and step.
 ///
-/// `words` are the words of a command line, as `lola_command` reads them. The specification, and then each source in the order of
+/// `words` are the words of a command line, as `lola_monitor_command` reads them. The specification, and then each source in the order of
 /// the words, is fetched from `shelf`; all are given back. Verdicts and the end line are put to `out`, the trace to `trace`. An
 /// analysis puts its report and end line to `out`, and nothing to `trace`. Where more than one worker is asked for, the instances
 /// of a layer are evaluated by at most as many threads, started through `rt`, which call the gate; how many there are changes nothing

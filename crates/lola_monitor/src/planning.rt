@@ -7,7 +7,7 @@ use crate::reading::read_name;
 use lola_front::compile;
 use lola_model::plan::Plan;
 use lola_port::{FetchEnd, Shelf};
-use lola_report::end::EndLine;
+use lola_report_lines::end::EndLine;
 use lola_value::front::FrontEnd;
 use std::alloc::Global;
 

@@ -1,11 +1,11 @@
 //! The last line of a call, put to a sink.
 ghost use Rattle.std.specs.Prelude.{◌≡◌, ◌<◌, IfOk};
-ghost use Rattle.lola_report.specs.Ends.{end_text};
+ghost use Rattle.lola_report_lines.specs.Ends.{end_text};
 ghost use Rattle.lola_monitor.specs.Outcomes.{Concluded, status_with, status_without};
 
 use crate::outcome::Outcome;
 use lola_port::{PutEnd, Sink};
-use lola_report::end::{EndLine, end_line};
+use lola_report_lines::end::{EndLine, end_line};
 use lola_value::text::{Memory, Text};
 use std::alloc::Global;
 

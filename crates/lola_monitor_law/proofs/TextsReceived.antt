@@ -9,12 +9,12 @@ use Rattle.lola_port.specs.States.{grown}
 use Rattle.lola_model.specs.Trace.{IsTraceable, input_kinds, trace_line, trace_text}
 use Rattle.lola_model.specs.declared.journal.Entry.{Entry}
 use Rattle.lola_model.specs.declared.plan.Plan.{Plan}
-use Rattle.lola_journal.specs.Journals.{Spells, is_lf}
-use Rattle.lola_journal.proofs.Bytes.{absent-from, line-no-lf}
-use Rattle.lola_journal.proofs.FieldLines.{content, content-one-line, line-content}
-use Rattle.lola_journal.proofs.ReadBack.{parts-of}
-use Rattle.lola_journal.proofs.Texts.{its-text, one-journal}
-use Rattle.lola_run.specs.Verdicts.{AreTraceable, IsCutInLine}
+use Rattle.lola_report.specs.Journals.{Spells, is_lf}
+use Rattle.lola_report.proofs.Bytes.{absent-from, line-no-lf}
+use Rattle.lola_report.proofs.FieldLines.{content, content-one-line, line-content}
+use Rattle.lola_report.proofs.ReadBack.{parts-of}
+use Rattle.lola_report.proofs.Texts.{its-text, one-journal}
+use Rattle.lola_monitor_run.specs.Verdicts.{AreTraceable, IsCutInLine}
 use Rattle.lola_monitor.specs.Monitor.{AreTraced, Call, CutsOff, IsCutOff, Rows, setting_of}
 use Rattle.lola_monitor_law.specs.Telling.{Received, TellsThem}
 

@@ -1,7 +1,7 @@
 -- What the trace of a call tells of the rows that it took.
 use Rattle.std.specs.Prelude.{ℕ, ◌≡◌, ◌↔◌, ◌++◌, List, Some}
 use Rattle.lola_model.specs.declared.journal.Entry.{Entry}
-use Rattle.lola_journal.specs.Journals.{Spells}
+use Rattle.lola_report.specs.Journals.{Spells}
 use Rattle.lola_monitor.specs.Monitor.{Call, Rows}
 
 -- the trace tells its bytes, and these came in this call

@@ -4,20 +4,20 @@ use Rattle.std.specs.Cmp.Lexicographic.{pointwise}
 use Rattle.std.specs.Map.{lookup}
 use Rattle.std.proofs.lemmas.Bool.{cases_Bool}
 use Rattle.lola_value.specs.Arithmetic.{bytes_equal}
-use Rattle.lola_names.specs.Known.{meaning_in}
-use Rattle.lola_names.specs.Entries.{Entry, known_in}
+use Rattle.lola_names.specs.Targets.{target_in}
+use Rattle.lola_names.specs.Entries.{Entry, targets_in}
 
--- a look-up by the text gives its meaning
-pub meaning-looked_up : (es : List Entry) (text : List ℕ) → meaning_in (known_in es) text ≡ lookup (λ k. pointwise nat_eq text k.items) es
-meaning-looked_up [] text = refl
-meaning-looked_up (e ∷ es) text = elim (cases_Bool (bytes_equal text e.0.items)) [
+-- a look-up by the text gives what it stands for
+pub target-looked_up : (es : List Entry) (text : List ℕ) → target_in (targets_in es) text ≡ lookup (λ k. pointwise nat_eq text k.items) es
+target-looked_up [] text = refl
+target-looked_up (e ∷ es) text = elim (cases_Bool (bytes_equal text e.0.items)) [
   | inl hit ↦ rw hit refl
-  | inr miss ↦ rw miss (meaning-looked_up es text)
+  | inr miss ↦ rw miss (target-looked_up es text)
 ]
 
-pub known-pushed : (es : List Entry) (e : Entry) → known_in (es ++ e ∷ []) ≡ known_in es ++ (e.0.items, e.1) ∷ []
-known-pushed [] e = refl
-known-pushed (x ∷ es) e = ap (λ l. (x.0.items, x.1) ∷ l) (known-pushed es e)
+pub targets-pushed : (es : List Entry) (e : Entry) → targets_in (es ++ e ∷ []) ≡ targets_in es ++ (e.0.items, e.1) ∷ []
+targets-pushed [] e = refl
+targets-pushed (x ∷ es) e = ap (λ l. (x.0.items, x.1) ∷ l) (targets-pushed es e)
 
 pub none_of : {A : Type 0} (o : Option A) → is_some o ≡ false → o ≡ None
 none_of None is = refl

@@ -1,7 +1,11 @@
-pub mod Noting
+pub mod Growth
 pub mod Entering
-pub mod Trees
-pub mod Repeats
-pub mod FirstDeclaration
-pub mod Rating
-mod Worked
+pub mod Numbering
+pub mod TableLemmas
+pub mod TreeLemmas
+mod RangeLemmas
+pub mod Scopes
+pub mod Pieces
+pub mod ClauseLemmas
+pub mod StreamLemmas
+pub mod WholeLemmas

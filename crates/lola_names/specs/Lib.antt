@@ -1,7 +1,11 @@
-pub mod Noted
-pub mod Words
-pub mod Known
+pub mod Targets
 pub mod Entries
-pub mod Refused
-pub mod Law
-pub mod Quantities
+pub mod Tables
+pub mod Numbered
+pub mod Resolved
+pub mod Clauses
+pub mod Specification
+pub mod Made
+pub mod Parted
+pub mod Making
+pub mod Ranged

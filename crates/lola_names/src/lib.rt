@@ -1,14 +1,18 @@
-//! The names of a specification: what each means where it stands, and the refusals where that is nothing: a name that is
-//! declared twice (E5), one that nothing declares (E6), more than there may be (E7), another number of arguments than the
-//! stream has parameters (E8).
+//! The names of a specification resolved: streams, windows, parameters and texts by their numbers, constants by their literals.
 #![tactic(auto)]
 
-mod declaring;
-pub mod law;
-mod names;
-pub mod quantities;
-mod refusing;
-mod uses;
-pub mod words;
+pub mod expressions;
+pub mod made;
+pub mod pacings;
+pub mod ranges;
+pub mod scope;
+pub mod targets;
 
-pub use refusing::name_refusal;
+mod clauses;
+mod constants;
+mod outputs;
+mod places;
+mod resolving;
+mod streams;
+
+pub use resolving::resolve;

@@ -4,7 +4,7 @@ use Rattle.std.specs.List.{slice_index_or, list_all}
 use Rattle.std.proofs.lemmas.List.{drop_more}
 use Rattle.lola_model.specs.declared.pacing.InputSet.{InputSet}
 use Rattle.lola_model.specs.declared.pacing.Pacing.TheVariants.{Event, Periodic, Local}
-use Rattle.lola_normal.specs.declared.answer.NormalEnd.TheVariants.{TooWide}
+use Rattle.lola_pacing_normal.specs.declared.answer.NormalEnd.TheVariants.{TooWide}
 use Rattle.lola_model.specs.PacingFound.{finding_at, findings_at, form_of, forms_of, rates_of, is_event, is_periodic, too_wide, IsCombined, IsJoined, IsRateFound}
 use Rattle.lola_model.specs.declared.finding.Finding.{Finding}
 use Rattle.lola_model.specs.declared.finding.Finding.TheVariants.{Paced, Refused, Unpaced}

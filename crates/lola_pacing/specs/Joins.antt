@@ -1,8 +1,8 @@
 -- One step of joining the pacings of leaves.
 use Rattle.std.specs.Prelude.{◌≡◌, List, [], ◌∷◌, Result, Ok}
 use Rattle.lola_model.specs.declared.pacing.InputSet.{InputSet}
-use Rattle.lola_normal.specs.Least.{AnswersLeast}
-use Rattle.lola_normal.specs.declared.answer.NormalEnd.{NormalEnd}
+use Rattle.lola_pacing_normal.specs.Least.{AnswersLeast}
+use Rattle.lola_pacing_normal.specs.declared.answer.NormalEnd.{NormalEnd}
 use Rattle.lola_model.specs.PacingFound.{satisfies_both}
 
 -- these sets, joined with a form if there is one

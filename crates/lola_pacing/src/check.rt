@@ -14,7 +14,7 @@ use crate::given::owns;
 use crate::pacings::pacings;
 use crate::refusals::{first, refusals};
 use crate::verdicts::of_windows;
-use lola_leaves::leaves::lists_of;
+use lola_pacing_leaves::leaves::lists_of;
 use lola_model::finding::Finding;
 use lola_model::pacing::Pacings;
 use lola_model::spec::{Part, Spec};

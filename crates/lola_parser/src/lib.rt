@@ -1,7 +1,9 @@
-//! Reads the tokens of a specification into a tree.
+//! Reads the tokens of a specification into a tree, and places each refusal at the very token where it belongs.
 #![tactic(auto)]
 
-mod clauses;
-mod declarations;
-mod parts;
+mod cursor;
+mod expressions;
+pub mod law;
+mod looking_back;
+mod pending;
 pub mod reading;

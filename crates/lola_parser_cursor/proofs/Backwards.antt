@@ -1,6 +1,6 @@
 -- Back to the last mark that was read.
 use Rattle.std.proofs.Common.{◌≡◌, ℕ, suc, ◌<◌, true, false, List, [], ◌∷◌, length, drop, refl, arith}
-use Rattle.lola_grammar.specs.Syntax.{Lexeme, Terminal, starts, last_mark}
+use Rattle.lola_parser_grammars_law.specs.Syntax.{Lexeme, Terminal, starts, last_mark}
 
 pub none_left : (ks : List Terminal) (best ts : List Lexeme) → last_mark ks 0 best ts ≡ best
 none_left ks best [] = refl

@@ -2,9 +2,9 @@
 use Rattle.std.proofs.Common.{◌≡◌, ℕ, suc, Bool, true, false, cond, List, [], ◌∷◌, ◌++◌, length, Option, Some, None, Ok, Err, refl, sym, ap, ◌∙◌, append_assoc}
 use Rattle.std.proofs.lemmas.List.{append-nil}
 use Rattle.std.specs.Prelude.{fold}
-use Rattle.lola_grammar.specs.Syntax.{Lexeme, Terminal, Syntax, Then, Map, Maybe, Many, starts, first, nullable, Refusal, Outcome, ◌>>=◌, repeated, read}
-use Rattle.lola_grammar.proofs.Laws.{done_is}
-use Rattle.lola_tree.specs.declared.expressions.Expr.{Expr}
+use Rattle.lola_parser_grammars_law.specs.Syntax.{Lexeme, Terminal, Syntax, Then, Map, Maybe, Many, starts, first, nullable, Refusal, Outcome, ◌>>=◌, repeated, read}
+use Rattle.lola_parser_grammars_law.proofs.Laws.{done_is}
+use Rattle.lola_parser_tree.specs.declared.expressions.Expr.{Expr}
 use Rattle.lola_parser_grammar.specs.Grammar.{Sign, join, onto, folded, added, joined_once, mark, sign, product_signs, sum_signs, comparison_signs, and_signs, or_signs}
 
 -- what is joined to the left side from here on, in at most so many turns

@@ -1,6 +1,6 @@
 -- Whether the next token is a mark, by parts.
 use Rattle.std.proofs.Common.{◌≡◌, ◌||◌, Bool, true, false, List, [], ◌∷◌, ◌++◌, refl, ap, ◌∙◌}
-use Rattle.lola_grammar.specs.Syntax.{Lexeme, Terminal, any_fits, fits, starts}
+use Rattle.lola_parser_grammars_law.specs.Syntax.{Lexeme, Terminal, any_fits, fits, starts}
 use Rattle.lola_parser_grammar.specs.Grammar.{opening_marks, joining_marks, comparing_marks, sign_marks, all_marks}
 
 or_assoc : (a b c : Bool) → (a || (b || c)) ≡ ((a || b) || c)

@@ -2,7 +2,7 @@
 
 ghost use Rattle.std.specs.Prelude.{◌≡◌, ◌≢◌, ◌<◌, ◌≤◌, ◌∷◌, ◌-◌, nat_lt, not, ◌||◌, length, drop, [], MatchOption};
 ghost use Rattle.std.specs.Str.{bytes_eq};
-ghost use Rattle.lola_grammar.specs.Syntax.{Of, Word, Other, Lexeme, same_shape, starts, max_marks, last_mark};
+ghost use Rattle.lola_parser_grammars_law.specs.Syntax.{Of, Word, Other, Lexeme, same_shape, starts, max_marks, last_mark};
 ghost use Rattle.lola_parser_grammar.specs.Cursor.{IsRead, lexemes, place_of, text_of};
 ghost use Rattle.lola_lexer.specs.Tokens.{StandIn};
 ghost use Rattle.lola_parser_grammar.specs.Grammar as spec;
@@ -11,7 +11,7 @@ use crate::literals;
 use lola_lexer::shape::TokenShape;
 use lola_lexer::token::Token;
 use lola_parser_grammar::error::ParseError;
-use lola_tree::literals::{Name, Quantity};
+use lola_parser_tree::literals::{Name, Quantity};
 use lola_value::text::Text;
 use std::alloc::Global;
 use std::marker::Model;

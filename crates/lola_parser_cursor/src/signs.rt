@@ -1,19 +1,19 @@
 //! The signs between operands.
 
 ghost use Rattle.std.specs.Prelude.{◌≡◌};
-ghost use Rattle.lola_grammar.specs.Syntax.{Maybe};
+ghost use Rattle.lola_parser_grammars_law.specs.Syntax.{Maybe};
 ghost use Rattle.lola_parser_grammar.specs.Cursor.{IsRead};
 ghost use Rattle.lola_parser_grammar.specs.Grammar as spec;
 
 use crate::cursor::Parser;
 use lola_lexer::shape::TokenShape;
 use lola_parser_grammar::error::ParseError;
-use lola_tree::expressions::Binary;
+use lola_parser_tree::expressions::Binary;
 
 /// A sign, and its place.
 pub type Sign = (Binary, u32);
 
-#[tactic(auto, unfolding(lola_grammar::specs::Syntax::read, lola_grammar::specs::Syntax::first, lola_grammar::specs::Syntax::nullable, lola_parser_grammar::specs::Grammar::sign))]
+#[tactic(auto, unfolding(lola_parser_grammars_law::specs::Syntax::read, lola_parser_grammars_law::specs::Syntax::first, lola_parser_grammars_law::specs::Syntax::nullable, lola_parser_grammar::specs::Grammar::sign))]
 fn sign(parser: &mut Parser<'_>, shape: TokenShape, op: Binary) -> Result<Sign, ParseError>
     ensures { IsRead (spec.sign shape op) parser.old result parser.new }
 {
@@ -22,7 +22,7 @@ fn sign(parser: &mut Parser<'_>, shape: TokenShape, op: Binary) -> Result<Sign, 
 }
 
 /// `*`, `/` or `%`, if it comes next.
-#[tactic(auto, using(crate::proofs::Starts::starts_more), unfolding(lola_grammar::specs::Syntax::read, lola_grammar::specs::Syntax::first, lola_grammar::specs::Syntax::nullable, lola_parser_grammar::specs::Grammar::product_signs, lola_parser_grammar::specs::Grammar::sign, lola_parser_grammar::specs::Grammar::mark))]
+#[tactic(auto, using(crate::proofs::Starts::starts_more), unfolding(lola_parser_grammars_law::specs::Syntax::read, lola_parser_grammars_law::specs::Syntax::first, lola_parser_grammars_law::specs::Syntax::nullable, lola_parser_grammar::specs::Grammar::product_signs, lola_parser_grammar::specs::Grammar::sign, lola_parser_grammar::specs::Grammar::mark))]
 pub fn product_sign(parser: &mut Parser<'_>) -> Result<Option<Sign>, ParseError>
     ensures { IsRead (Maybe spec.product_signs) parser.old result parser.new }
 {
@@ -38,7 +38,7 @@ pub fn product_sign(parser: &mut Parser<'_>) -> Result<Option<Sign>, ParseError>
 }
 
 /// `+` or `-`, if it comes next.
-#[tactic(auto, using(crate::proofs::Starts::starts_more), unfolding(lola_grammar::specs::Syntax::read, lola_grammar::specs::Syntax::first, lola_grammar::specs::Syntax::nullable, lola_parser_grammar::specs::Grammar::sum_signs, lola_parser_grammar::specs::Grammar::sign, lola_parser_grammar::specs::Grammar::mark))]
+#[tactic(auto, using(crate::proofs::Starts::starts_more), unfolding(lola_parser_grammars_law::specs::Syntax::read, lola_parser_grammars_law::specs::Syntax::first, lola_parser_grammars_law::specs::Syntax::nullable, lola_parser_grammar::specs::Grammar::sum_signs, lola_parser_grammar::specs::Grammar::sign, lola_parser_grammar::specs::Grammar::mark))]
 pub fn sum_sign(parser: &mut Parser<'_>) -> Result<Option<Sign>, ParseError>
     ensures { IsRead (Maybe spec.sum_signs) parser.old result parser.new }
 {
@@ -52,7 +52,7 @@ pub fn sum_sign(parser: &mut Parser<'_>) -> Result<Option<Sign>, ParseError>
 }
 
 /// A sign that compares, if it comes next.
-#[tactic(auto, using(crate::proofs::Starts::starts_more), unfolding(lola_grammar::specs::Syntax::read, lola_grammar::specs::Syntax::first, lola_grammar::specs::Syntax::nullable, lola_parser_grammar::specs::Grammar::comparison_signs, lola_parser_grammar::specs::Grammar::sign, lola_parser_grammar::specs::Grammar::mark))]
+#[tactic(auto, using(crate::proofs::Starts::starts_more), unfolding(lola_parser_grammars_law::specs::Syntax::read, lola_parser_grammars_law::specs::Syntax::first, lola_parser_grammars_law::specs::Syntax::nullable, lola_parser_grammar::specs::Grammar::comparison_signs, lola_parser_grammar::specs::Grammar::sign, lola_parser_grammar::specs::Grammar::mark))]
 pub fn comparison_sign(parser: &mut Parser<'_>) -> Result<Option<Sign>, ParseError>
     ensures { IsRead (Maybe spec.comparison_signs) parser.old result parser.new }
 {
@@ -74,7 +74,7 @@ pub fn comparison_sign(parser: &mut Parser<'_>) -> Result<Option<Sign>, ParseErr
 }
 
 /// `&&`, if it comes next.
-#[tactic(auto, using(crate::proofs::Starts::starts_more), unfolding(lola_grammar::specs::Syntax::read, lola_grammar::specs::Syntax::first, lola_grammar::specs::Syntax::nullable, lola_parser_grammar::specs::Grammar::and_signs, lola_parser_grammar::specs::Grammar::sign, lola_parser_grammar::specs::Grammar::mark))]
+#[tactic(auto, using(crate::proofs::Starts::starts_more), unfolding(lola_parser_grammars_law::specs::Syntax::read, lola_parser_grammars_law::specs::Syntax::first, lola_parser_grammars_law::specs::Syntax::nullable, lola_parser_grammar::specs::Grammar::and_signs, lola_parser_grammar::specs::Grammar::sign, lola_parser_grammar::specs::Grammar::mark))]
 pub fn and_sign(parser: &mut Parser<'_>) -> Result<Option<Sign>, ParseError>
     ensures { IsRead (Maybe spec.and_signs) parser.old result parser.new }
 {
@@ -86,7 +86,7 @@ pub fn and_sign(parser: &mut Parser<'_>) -> Result<Option<Sign>, ParseError>
 }
 
 /// `||`, if it comes next.
-#[tactic(auto, using(crate::proofs::Starts::starts_more), unfolding(lola_grammar::specs::Syntax::read, lola_grammar::specs::Syntax::first, lola_grammar::specs::Syntax::nullable, lola_parser_grammar::specs::Grammar::or_signs, lola_parser_grammar::specs::Grammar::sign, lola_parser_grammar::specs::Grammar::mark))]
+#[tactic(auto, using(crate::proofs::Starts::starts_more), unfolding(lola_parser_grammars_law::specs::Syntax::read, lola_parser_grammars_law::specs::Syntax::first, lola_parser_grammars_law::specs::Syntax::nullable, lola_parser_grammar::specs::Grammar::or_signs, lola_parser_grammar::specs::Grammar::sign, lola_parser_grammar::specs::Grammar::mark))]
 pub fn or_sign(parser: &mut Parser<'_>) -> Result<Option<Sign>, ParseError>
     ensures { IsRead (Maybe spec.or_signs) parser.old result parser.new }
 {

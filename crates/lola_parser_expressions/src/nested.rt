@@ -7,7 +7,7 @@ ghost use Rattle.lola_parser_grammar.specs.Grammar as spec;
 use crate::rules::Rules;
 use lola_parser_cursor::cursor::{MAX_LEVELS, Parser};
 use lola_parser_grammar::error::ParseError;
-use lola_tree::expressions::Expr;
+use lola_parser_tree::expressions::Expr;
 use std::alloc::Global;
 
 /// An expression, or an operand that begins with no integer, in which at most `depth` levels are nested.
@@ -35,7 +35,7 @@ pub fn nested(
 }
 
 /// A whole expression.
-#[tactic(auto, unfolding(lola_grammar::specs::Syntax::read, lola_grammar::specs::Syntax::first, lola_grammar::specs::Syntax::nullable, lola_parser_grammar::specs::Grammar::whole))]
+#[tactic(auto, unfolding(lola_parser_grammars_law::specs::Syntax::read, lola_parser_grammars_law::specs::Syntax::first, lola_parser_grammars_law::specs::Syntax::nullable, lola_parser_grammar::specs::Grammar::whole))]
 pub fn whole(alloc: Global, parser: &mut Parser<'_>) -> Result<Expr, ParseError>
     ensures { IsRead (spec.whole MAX_LEVELS) parser.old result parser.new }
 {

@@ -1,6 +1,6 @@
 -- One level further in.
 use Rattle.std.proofs.Common.{◌≡◌, ℕ, zero, suc, ◌-◌, ◌<◌, List, Err, refl, ap, arith}
-use Rattle.lola_grammar.specs.Syntax.{Lexeme, read, TooDeep}
+use Rattle.lola_parser_grammars_law.specs.Syntax.{Lexeme, read, TooDeep}
 use Rattle.lola_parser_grammar.specs.Grammar.{formula_level, formula_with, formula_in}
 
 pub formula_ends : (n m : ℕ) (ts : List Lexeme) → n ≡ 0 → read (formula_in n) m ts ≡ Err (TooDeep ts)

@@ -8,7 +8,7 @@ ghost use Rattle.lola_parser_formulas.specs.Nests.{NestsFormula};
 use lola_lexer::shape::TokenShape;
 use lola_parser_cursor::cursor::Parser;
 use lola_parser_grammar::error::ParseError;
-use lola_tree::pacing::Formula;
+use lola_parser_tree::pacing::Formula;
 use sqlite_items::Boxed;
 use std::alloc::{AllocError, Global};
 
@@ -44,7 +44,7 @@ impl<F: Fn(Global, &mut Parser<'_>, usize) -> Result<Formula, ParseError>> Formu
     }
 
     /// An input, or a formula in brackets.
-    #[tactic(auto, unfolding(lola_grammar::specs::Syntax::read, lola_grammar::specs::Syntax::first, lola_grammar::specs::Syntax::nullable, lola_parser_grammar::specs::Grammar::atom, lola_parser_grammar::specs::Grammar::name))]
+    #[tactic(auto, unfolding(lola_parser_grammars_law::specs::Syntax::read, lola_parser_grammars_law::specs::Syntax::first, lola_parser_grammars_law::specs::Syntax::nullable, lola_parser_grammar::specs::Grammar::atom, lola_parser_grammar::specs::Grammar::name))]
     fn atom(&self, parser: &mut Parser<'_>) -> Result<Formula, ParseError>
         requires { NestsFormula self.now.depth (F.pre self.now.nested) (F.post self.now.nested) }
         ensures { IsRead (spec.atom (spec.formula_in self.now.depth)) parser.old result parser.new }
@@ -60,7 +60,7 @@ impl<F: Fn(Global, &mut Parser<'_>, usize) -> Result<Formula, ParseError>> Formu
     }
 
     /// `&&` with its operands.
-    #[tactic(auto, unfolding(lola_grammar::specs::Syntax::read, lola_grammar::specs::Syntax::first, lola_grammar::specs::Syntax::nullable, lola_parser_grammar::specs::Grammar::conjunctions_of, lola_parser_grammar::specs::Grammar::mark))]
+    #[tactic(auto, unfolding(lola_parser_grammars_law::specs::Syntax::read, lola_parser_grammars_law::specs::Syntax::first, lola_parser_grammars_law::specs::Syntax::nullable, lola_parser_grammar::specs::Grammar::conjunctions_of, lola_parser_grammar::specs::Grammar::mark))]
     fn conjunctions(&self, parser: &mut Parser<'_>, start: Formula) -> Result<Formula, ParseError>
         requires { NestsFormula self.now.depth (F.pre self.now.nested) (F.post self.now.nested) }
         ensures { IsRead (spec.onto start (spec.conjunctions_of (spec.formula_in self.now.depth))) parser.old result parser.new }
@@ -77,7 +77,7 @@ impl<F: Fn(Global, &mut Parser<'_>, usize) -> Result<Formula, ParseError>> Formu
         Ok(left)
     }
 
-    #[tactic(auto, unfolding(lola_grammar::specs::Syntax::read, lola_grammar::specs::Syntax::first, lola_grammar::specs::Syntax::nullable, lola_parser_grammar::specs::Grammar::conjunct))]
+    #[tactic(auto, unfolding(lola_parser_grammars_law::specs::Syntax::read, lola_parser_grammars_law::specs::Syntax::first, lola_parser_grammars_law::specs::Syntax::nullable, lola_parser_grammar::specs::Grammar::conjunct))]
     fn conjunct(&self, parser: &mut Parser<'_>) -> Result<Formula, ParseError>
         requires { NestsFormula self.now.depth (F.pre self.now.nested) (F.post self.now.nested) }
         ensures { IsRead (spec.conjunct (spec.formula_in self.now.depth)) parser.old result parser.new }
@@ -87,7 +87,7 @@ impl<F: Fn(Global, &mut Parser<'_>, usize) -> Result<Formula, ParseError>> Formu
     }
 
     /// `||` with its operands.
-    #[tactic(auto, unfolding(lola_grammar::specs::Syntax::read, lola_grammar::specs::Syntax::first, lola_grammar::specs::Syntax::nullable, lola_parser_grammar::specs::Grammar::alternatives_of, lola_parser_grammar::specs::Grammar::mark))]
+    #[tactic(auto, unfolding(lola_parser_grammars_law::specs::Syntax::read, lola_parser_grammars_law::specs::Syntax::first, lola_parser_grammars_law::specs::Syntax::nullable, lola_parser_grammar::specs::Grammar::alternatives_of, lola_parser_grammar::specs::Grammar::mark))]
     fn alternatives(&self, parser: &mut Parser<'_>, start: Formula) -> Result<Formula, ParseError>
         requires { NestsFormula self.now.depth (F.pre self.now.nested) (F.post self.now.nested) }
         ensures { IsRead (spec.onto start (spec.alternatives_of (spec.formula_in self.now.depth))) parser.old result parser.new }
@@ -105,7 +105,7 @@ impl<F: Fn(Global, &mut Parser<'_>, usize) -> Result<Formula, ParseError>> Formu
     }
 
     /// A formula.
-    #[tactic(auto, unfolding(lola_grammar::specs::Syntax::read, lola_grammar::specs::Syntax::first, lola_grammar::specs::Syntax::nullable, lola_parser_grammar::specs::Grammar::formula_with))]
+    #[tactic(auto, unfolding(lola_parser_grammars_law::specs::Syntax::read, lola_parser_grammars_law::specs::Syntax::first, lola_parser_grammars_law::specs::Syntax::nullable, lola_parser_grammar::specs::Grammar::formula_with))]
     pub(crate) fn formula_with(&self, parser: &mut Parser<'_>) -> Result<Formula, ParseError>
         requires { NestsFormula self.now.depth (F.pre self.now.nested) (F.post self.now.nested) }
         ensures { IsRead (spec.formula_with (spec.formula_in self.now.depth)) parser.old result parser.new }

@@ -7,7 +7,7 @@ ghost use Rattle.lola_parser_grammar.specs.Grammar as spec;
 use crate::formulas::FormulaRules;
 use lola_parser_cursor::cursor::{MAX_LEVELS, Parser};
 use lola_parser_grammar::error::ParseError;
-use lola_tree::pacing::Formula;
+use lola_parser_tree::pacing::Formula;
 use std::alloc::Global;
 
 /// A formula.
@@ -30,7 +30,7 @@ pub(crate) fn nested_formula(
 }
 
 /// A whole formula.
-#[tactic(auto, unfolding(lola_grammar::specs::Syntax::read, lola_grammar::specs::Syntax::first, lola_grammar::specs::Syntax::nullable, lola_parser_grammar::specs::Grammar::whole_formula))]
+#[tactic(auto, unfolding(lola_parser_grammars_law::specs::Syntax::read, lola_parser_grammars_law::specs::Syntax::first, lola_parser_grammars_law::specs::Syntax::nullable, lola_parser_grammar::specs::Grammar::whole_formula))]
 pub(crate) fn whole_formula(alloc: Global, parser: &mut Parser<'_>) -> Result<Formula, ParseError>
     ensures { IsRead (spec.whole_formula MAX_LEVELS) parser.old result parser.new }
 {

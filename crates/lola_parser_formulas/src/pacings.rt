@@ -1,7 +1,7 @@
 //! Pacings.
 
 ghost use Rattle.std.specs.Prelude.{◌≡◌};
-ghost use Rattle.lola_grammar.specs.Syntax.{Maybe};
+ghost use Rattle.lola_parser_grammars_law.specs.Syntax.{Maybe};
 ghost use Rattle.lola_parser_grammar.specs.Cursor.{IsRead};
 ghost use Rattle.lola_parser_grammar.specs.Grammar as spec;
 
@@ -9,11 +9,11 @@ use crate::nested::whole_formula;
 use lola_lexer::shape::TokenShape;
 use lola_parser_cursor::cursor::{MAX_LEVELS, Parser};
 use lola_parser_grammar::error::ParseError;
-use lola_tree::literals::Quantity;
-use lola_tree::pacing::{Formula, Pacing, Rhythm};
+use lola_parser_tree::literals::Quantity;
+use lola_parser_tree::pacing::{Formula, Pacing, Rhythm};
 use std::alloc::Global;
 
-#[tactic(auto, unfolding(lola_grammar::specs::Syntax::read, lola_grammar::specs::Syntax::first, lola_grammar::specs::Syntax::nullable))]
+#[tactic(auto, unfolding(lola_parser_grammars_law::specs::Syntax::read, lola_parser_grammars_law::specs::Syntax::first, lola_parser_grammars_law::specs::Syntax::nullable))]
 fn enclosed_quantity(parser: &mut Parser<'_>) -> Result<Quantity, ParseError>
     ensures { IsRead (spec.enclosed spec.quantity) parser.old result parser.new }
 {
@@ -23,7 +23,7 @@ fn enclosed_quantity(parser: &mut Parser<'_>) -> Result<Quantity, ParseError>
     Ok(found)
 }
 
-#[tactic(auto, unfolding(lola_grammar::specs::Syntax::read, lola_grammar::specs::Syntax::first, lola_grammar::specs::Syntax::nullable))]
+#[tactic(auto, unfolding(lola_parser_grammars_law::specs::Syntax::read, lola_parser_grammars_law::specs::Syntax::first, lola_parser_grammars_law::specs::Syntax::nullable))]
 fn enclosed_formula(alloc: Global, parser: &mut Parser<'_>) -> Result<Formula, ParseError>
     ensures { IsRead (spec.enclosed (spec.whole_formula MAX_LEVELS)) parser.old result parser.new }
 {
@@ -33,7 +33,7 @@ fn enclosed_formula(alloc: Global, parser: &mut Parser<'_>) -> Result<Formula, P
     Ok(found)
 }
 
-#[tactic(auto, unfolding(lola_grammar::specs::Syntax::read, lola_grammar::specs::Syntax::first, lola_grammar::specs::Syntax::nullable, lola_parser_grammar::specs::Grammar::clock, lola_parser_grammar::specs::Grammar::word))]
+#[tactic(auto, unfolding(lola_parser_grammars_law::specs::Syntax::read, lola_parser_grammars_law::specs::Syntax::first, lola_parser_grammars_law::specs::Syntax::nullable, lola_parser_grammar::specs::Grammar::clock, lola_parser_grammar::specs::Grammar::word))]
 fn clock(parser: &mut Parser<'_>) -> Result<Rhythm, ParseError>
     ensures { IsRead spec.clock parser.old result parser.new }
 {
@@ -48,7 +48,7 @@ fn clock(parser: &mut Parser<'_>) -> Result<Rhythm, ParseError>
 }
 
 /// What stands behind the `@`.
-#[tactic(auto, using(lola_parser_cursor::proofs::Starts::starts_more), unfolding(lola_grammar::specs::Syntax::read, lola_grammar::specs::Syntax::first, lola_grammar::specs::Syntax::nullable, lola_parser_grammar::specs::Grammar::rhythm, lola_parser_grammar::specs::Grammar::quantity, lola_parser_grammar::specs::Grammar::other_name, lola_parser_grammar::specs::Grammar::token))]
+#[tactic(auto, using(lola_parser_cursor::proofs::Starts::starts_more), unfolding(lola_parser_grammars_law::specs::Syntax::read, lola_parser_grammars_law::specs::Syntax::first, lola_parser_grammars_law::specs::Syntax::nullable, lola_parser_grammar::specs::Grammar::rhythm, lola_parser_grammar::specs::Grammar::quantity, lola_parser_grammar::specs::Grammar::other_name, lola_parser_grammar::specs::Grammar::token))]
 fn rhythm(alloc: Global, parser: &mut Parser<'_>) -> Result<Rhythm, ParseError>
     ensures { IsRead (spec.rhythm MAX_LEVELS) parser.old result parser.new }
 {
@@ -65,7 +65,7 @@ fn rhythm(alloc: Global, parser: &mut Parser<'_>) -> Result<Rhythm, ParseError>
     clock(parser)
 }
 
-#[tactic(auto, unfolding(lola_grammar::specs::Syntax::read, lola_grammar::specs::Syntax::first, lola_grammar::specs::Syntax::nullable, lola_parser_grammar::specs::Grammar::pacing))]
+#[tactic(auto, unfolding(lola_parser_grammars_law::specs::Syntax::read, lola_parser_grammars_law::specs::Syntax::first, lola_parser_grammars_law::specs::Syntax::nullable, lola_parser_grammar::specs::Grammar::pacing))]
 fn pacing(alloc: Global, parser: &mut Parser<'_>) -> Result<Pacing, ParseError>
     ensures { IsRead (spec.pacing MAX_LEVELS) parser.old result parser.new }
 {
@@ -75,7 +75,7 @@ fn pacing(alloc: Global, parser: &mut Parser<'_>) -> Result<Pacing, ParseError>
 }
 
 /// A pacing, if one is written.
-#[tactic(auto, unfolding(lola_grammar::specs::Syntax::read, lola_grammar::specs::Syntax::first, lola_grammar::specs::Syntax::nullable, lola_parser_grammar::specs::Grammar::pacing, lola_parser_grammar::specs::Grammar::token))]
+#[tactic(auto, unfolding(lola_parser_grammars_law::specs::Syntax::read, lola_parser_grammars_law::specs::Syntax::first, lola_parser_grammars_law::specs::Syntax::nullable, lola_parser_grammar::specs::Grammar::pacing, lola_parser_grammar::specs::Grammar::token))]
 pub fn maybe_pacing(alloc: Global, parser: &mut Parser<'_>) -> Result<Option<Pacing>, ParseError>
     ensures { IsRead (Maybe (spec.pacing MAX_LEVELS)) parser.old result parser.new }
 {

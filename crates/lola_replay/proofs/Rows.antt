@@ -5,7 +5,7 @@ use Rattle.std.proofs.lemmas.Bool.{eq-eqb}
 use Rattle.std.specs.Prelude.{codes, get_or}
 use Rattle.csv.specs.Writing.{fields_text, is_blank}
 use Rattle.lola_value.specs.Times.{time_text}
-use Rattle.lola_report.specs.Ends.{done_text}
+use Rattle.lola_report_lines.specs.Ends.{done_text}
 use Rattle.lola_value.specs.declared.value.FaultKind.TheVariants as fault
 use Rattle.lola_model.specs.declared.journal.Entry.{Entry}
 use Rattle.lola_model.specs.declared.journal.Mark.{Mark}
@@ -22,7 +22,7 @@ use Rattle.lola_replay.specs.Ends.{IsEndLine, IsEndOf, done_line, fault_line}
 use Rattle.lola_replay.specs.Findings.{Finds, Told}
 use Rattle.lola_replay.specs.LinesOf.{lines_of}
 use Rattle.lola_replay.specs.Traces.{AreRightFrom, IsRightEntry, Tell}
-use Rattle.lola_journal.specs.Journals.{IsLineOf}
+use Rattle.lola_report.specs.Journals.{IsLineOf}
 use Rattle.lola_replay.specs.Verdicts.{IsRightLine}
 use Rattle.lola_replay.proofs.RightLines.{not-before, right-trace}
 

@@ -21,7 +21,7 @@ use Rattle.lola_model.specs.declared.journal.Mark.TheVariants as mark
 use Rattle.lola_model.specs.declared.journal.Row.{Row}
 use Rattle.lola_model.specs.declared.journal.Show.{Show}
 use Rattle.lola_model.specs.declared.plan.Plan.{Plan}
-use Rattle.lola_journal.specs.Journals.{IsLineOf}
+use Rattle.lola_report.specs.Journals.{IsLineOf}
 use Rattle.lola_replay.specs.Comparing.{line_long}
 use Rattle.lola_replay.specs.Ends.{most_sources}
 use Rattle.lola_replay.specs.LinesOf.{IsFirstLine, lines_of}

@@ -5,7 +5,7 @@ use Rattle.lola_model.specs.Trace.{trace_line}
 use Rattle.lola_model.specs.declared.journal.Entry.{Entry}
 use Rattle.lola_model.specs.declared.journal.Show.{Show}
 use Rattle.lola_model.specs.declared.plan.Plan.{Plan}
-use Rattle.lola_journal.specs.Journals.{IsLineOf}
+use Rattle.lola_report.specs.Journals.{IsLineOf}
 use Rattle.lola_replay.specs.LinesOf.{IsFirstLine, lines_of}
 use Rattle.lola_replay.specs.Progressing.{IsFit, IsSettled}
 use Rattle.lola_replay.specs.Traces.{AreRightFrom, IsRight, IsRightEntry, IsWrongAt, IsWrongLine}

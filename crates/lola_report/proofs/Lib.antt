@@ -1,9 +1,8 @@
-pub mod Sequences
-pub mod Runs
-pub mod Mild
-pub mod Plain
-pub mod Joined
-pub mod Rows
-pub mod LineForms
-pub mod Marks
-pub mod Heads
+pub mod Bytes
+pub mod Decimals
+pub mod FieldLines
+pub mod Parts
+pub mod ReadBack
+pub mod CsvRows
+pub mod Lines
+pub mod Texts

@@ -1,6 +1,2 @@
-pub mod Names
-pub mod Rows
-pub mod Pieces
-pub mod Verdicts
-pub mod Ends
-pub mod Lines
+pub mod Journals
+pub mod Candidates

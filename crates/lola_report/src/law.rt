@@ -1,39 +1,46 @@
-//! Laws of the lines: what the texts that the calls append have in common.
+//! Laws of what is read: there is one answer at most; and a trace is a text of CSV.
 
-ghost use Rattle.std.specs.Prelude.{◌≡◌, [], ◌∷◌, IsTrue, slice_get};
-ghost use Rattle.std.specs.List.{list_all};
-ghost use Rattle.lola_model.specs.Trace.{trace_line};
-ghost use Rattle.lola_report.specs.Ends.{end_text};
-ghost use Rattle.lola_report.specs.Lines.{IsLine, is_plain, has_plain_name, is_plain_end};
-ghost use Rattle.lola_report.specs.Verdicts.{HasVerdict, verdict_text, shown_lines};
+ghost use Rattle.std.specs.Prelude.{◌≡◌, ℕ, List, map};
+ghost use Rattle.std.specs.List.{AllByRecursion};
+ghost use Rattle.csv.specs.Reading.{AreRecords, default_config, strip_bom};
+ghost use Rattle.csv.specs.declared.parser.State.TheVariants as st;
+ghost use Rattle.lola_model.specs.Trace.{IsTraceable, entry_fields, trace_line, trace_text};
+ghost use Rattle.lola_model.specs.declared.journal.Entry.{Entry};
+ghost use Rattle.lola_report.specs.Journals.{IsFirstBad, Spells};
 
-use crate::end::EndLine;
-use lola_model::journal::Entry;
 use lola_model::plan::Plan;
-use lola_value::text::{Field, Fields};
 
-/// A value that has a verdict line has it alone, where outputs are shown too.
-pub fn one_verdict(_plan: &Plan, _stream: u32, _time: u64, _params: &Fields, _value: &Field)
-    requires { HasVerdict (slice_get _plan.now.spec.streams _stream) _value.now }
-    ensures { shown_lines (slice_get _plan.now.spec.streams _stream) _time _params.now _value.now
-        ≡ verdict_text (slice_get _plan.now.spec.streams _stream) _time _params.now _value.now ∷ [] }
+/// Entries that a trace can tell have different lines.
+pub fn one_entry(_plan: &Plan)
+    ensures { (d e : Entry) → IsTraceable _plan.now d → IsTraceable _plan.now e → trace_line d ≡ trace_line e → d ≡ e }
 {}
 
-/// A verdict line ends with its one LF, whatever the texts in it.
-pub fn verdict_is_line(_plan: &Plan, _stream: u32, _time: u64, _params: &Fields, _value: &Field)
-    requires shown { HasVerdict (slice_get _plan.now.spec.streams _stream) _value.now }
-    requires name { IsTrue (has_plain_name (slice_get _plan.now.spec.streams _stream)) }
-    ensures { IsLine (verdict_text (slice_get _plan.now.spec.streams _stream) _time _params.now _value.now) }
+/// The trace text of a journal that a trace can tell spells this journal and no other.
+pub fn journal_of_its_text(_plan: &Plan)
+    ensures spelled { (told : List Entry) → AllByRecursion (IsTraceable _plan.now) told → Spells _plan.now (trace_text told) told }
+    ensures alone { (told journal : List Entry) → AllByRecursion (IsTraceable _plan.now) told → Spells _plan.now (trace_text told) journal → journal ≡ told }
 {}
 
-/// The line of an entry whose texts have no LF ends with its one LF.
-pub fn entry_is_line(_entry: &Entry)
-    requires { IsTrue (list_all is_plain _entry.now.row.fields) }
-    ensures { IsLine (trace_line _entry.now) }
+/// A text spells one journal at most.
+pub fn one_journal(_plan: &Plan)
+    ensures { (bytes : List ℕ) (first second : List Entry) → Spells _plan.now bytes first → Spells _plan.now bytes second → first ≡ second }
 {}
 
-/// An end line ends with its one LF.
-pub fn end_is_line(_line: &EndLine)
-    requires { IsTrue (is_plain_end _line.now) }
-    ensures { IsLine (end_text _line.now) }
+/// A text has one first bad line at most.
+pub fn one_bad_line(_plan: &Plan)
+    ensures { (bytes : List ℕ) (m n : ℕ) → IsFirstBad _plan.now bytes m → IsFirstBad _plan.now bytes n → m ≡ n }
+{}
+
+/// A text that spells a journal has no bad line.
+pub fn not_both(_plan: &Plan)
+    ensures { (bytes : List ℕ) (journal : List Entry) (n : ℕ) → Spells _plan.now bytes journal → ¬ (IsFirstBad _plan.now bytes n) }
+{}
+
+/// The records of a trace text, as the crate `csv` reads them with its default settings and no header row, are the
+/// fields of the entries, line by line, and no others.
+pub fn trace_is_csv(_plan: &Plan)
+    ensures read { (told : List Entry) → AllByRecursion (IsTraceable _plan.now) told
+        → AreRecords default_config st.StartRecord (strip_bom (trace_text told)) (map entry_fields told) }
+    ensures alone { (told : List Entry) (rows : List (List (List ℕ))) → AllByRecursion (IsTraceable _plan.now) told
+        → AreRecords default_config st.StartRecord (strip_bom (trace_text told)) rows → rows ≡ map entry_fields told }
 {}

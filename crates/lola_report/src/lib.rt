@@ -1,12 +1,9 @@
-//! The lines of the trace, of verdicts and of the end.
+//! Reading a trace back: the journal that a trace text tells.
 #![tactic(auto)]
 
-pub mod end;
-mod head;
+mod candidate;
 pub mod law;
-mod names;
-mod piece;
-mod row;
-mod spelling;
-pub mod trace;
-pub mod verdict;
+pub mod line;
+mod read;
+
+pub use read::{JournalEnd, journal, kinds_of};

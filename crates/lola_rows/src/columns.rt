@@ -1,7 +1,7 @@
 //! Which fields of a source's rows give its times and its inputs, as the heading tells.
 ghost use Rattle.std.specs.Prelude.{◌≡◌, ◌++◌, ◌∷◌, [], map, IfOk, OnOk};
 ghost use Rattle.csv.specs.Records.{fields_of};
-ghost use Rattle.lola_csv.specs.Blanks.{trimmed};
+ghost use Rattle.lola_rows_csv.specs.Blanks.{trimmed};
 ghost use Rattle.lola_rows.specs.Columns.{columns_in, inputs_of, is_time_name};
 ghost use Rattle.lola_rows.specs.Places.{after_title, column_made, columns_made, is_wanted, layout_columns, places_in, title_at};
 ghost use Rattle.lola_rows.specs.Rows.{or_else_flaw};
@@ -10,7 +10,7 @@ ghost use Rattle.lola_model.specs.declared.source.MalformedKind.TheVariants as m
 
 use crate::flaw::Flaw;
 use csv::ByteRecord;
-use lola_csv::blanks::trim;
+use lola_rows_csv::blanks::trim;
 use lola_model::source::MalformedKind;
 use lola_model::spec::{Sort, Stream};
 use lola_value::text::{Memory, Text};

@@ -7,8 +7,8 @@ use Rattle.lola_value.specs.declared.value.Outcome.TheVariants as outcome
 use Rattle.lola_value.specs.declared.value.Value.TheVariants as value
 use Rattle.lola_model.specs.Content.{Content, seen}
 use Rattle.lola_model.specs.Store.{Memories, Seen, SeenInstance, SeenStream, Stands, after_outcome, changed_at, instances_of, is_silent, now_at, now_seen, told_at}
-use Rattle.lola_contents.specs.Changed.{told}
-use Rattle.lola_contents.proofs.Tellings.{stands_told}
+use Rattle.lola_step_contents.specs.Changed.{told}
+use Rattle.lola_step_contents.proofs.Tellings.{stands_told}
 use Rattle.lola_step.specs.Given.{AreHeldIn, CanGive, CanGiveAll, after_all, after_giving, told_outcomes}
 use Rattle.lola_step.specs.declared.tasks.Task.{Task}
 

@@ -35,8 +35,8 @@ use Rattle.lola_model.proofs.plan.Layers.TheSendSync as layers_crosses
 use Rattle.lola_model.proofs.plan.Numbers.TheSendSync as numbers_crosses
 use Rattle.lola_model.proofs.plan.PaneSizes.TheSendSync as sizes_crosses
 use Rattle.lola_value.proofs.value.Value.TheSendSync as value_crosses
-use Rattle.lola_code.specs.contracts.plan.PlanCode as plan_code
-use Rattle.lola_code.proofs.plan.EvalCode.TheSendSync as code_crosses
+use Rattle.lola_expr_code.specs.contracts.plan.PlanCode as plan_code
+use Rattle.lola_expr_code.proofs.plan.EvalCode.TheSendSync as code_crosses
 use Rattle.lola_model.specs.declared.store.StreamStore.{Ghosts}
 use Rattle.lola_step.specs.contracts.moment.Moment as moment
 use Rattle.lola_step.specs.contracts.tasks.Task as task

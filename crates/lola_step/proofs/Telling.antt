@@ -15,13 +15,13 @@ use Rattle.lola_model.specs.Model.{field_outcome, input_outcome, is_input}
 use Rattle.lola_model.specs.Store.{Memories, Seen, SeenInstance, SeenStream, Stands, after_outcome, changed_at, instances_of, instances_seen, is_silent, kind_in, now_at, now_seen, start_seen, told_at}
 use Rattle.lola_model.specs.declared.plan.Plan.{Plan}
 use Rattle.lola_model.specs.declared.spec.Stream.{Stream}
-use Rattle.lola_contents.specs.Changed.{told}
-use Rattle.lola_contents.proofs.Tellings.{stands_told}
-use Rattle.lola_stages.specs.Nexts.{inputs_before}
-use Rattle.lola_stages.specs.Stages.{content_so_far, is_behind, is_evaluated}
-use Rattle.lola_stages.proofs.Behind.{next_below}
-use Rattle.lola_stages.proofs.Inputs.{inputs_go}
-use Rattle.lola_stages.proofs.Shapes.{input_never_spawns, passes_at}
+use Rattle.lola_step_contents.specs.Changed.{told}
+use Rattle.lola_step_contents.proofs.Tellings.{stands_told}
+use Rattle.lola_step_law.specs.Nexts.{inputs_before}
+use Rattle.lola_step_law.specs.Stages.{content_so_far, is_behind, is_evaluated}
+use Rattle.lola_step_law.proofs.Behind.{next_below}
+use Rattle.lola_step_law.proofs.Inputs.{inputs_go}
+use Rattle.lola_step_law.proofs.Shapes.{input_never_spawns, passes_at}
 use Rattle.lola_step.specs.Inputs.{TakesInputsTo, input_outcome_at, input_stage}
 use Rattle.lola_step.specs.Moments.{ReadAs}
 use Rattle.lola_step.specs.Progress.{GoesOn, IsAt}

@@ -8,8 +8,8 @@ use Rattle.lola_model.specs.Content.{Content, seen}
 use Rattle.lola_model.specs.Given.{AreHeldIn, AreOutcomesOf, after_each, after_given}
 use Rattle.lola_model.specs.Store.{IsRunning, Memories, Seen, SeenInstance, Stands, instances_seen, is_silent, kind_in, now_at, now_seen, StreamLayout}
 use Rattle.lola_model.proofs.Giving.{each_next, given_missing, given_none}
-use Rattle.lola_contents.specs.Changed.{told}
-use Rattle.lola_contents.proofs.Tellings.{stands_told}
+use Rattle.lola_step_contents.specs.Changed.{told}
+use Rattle.lola_step_contents.proofs.Tellings.{stands_told}
 use Rattle.lola_step.specs.Given.{AreKnown, AreFirstOf, CanGive, CanGiveAll, after_all, after_giving, told_outcomes}
 use Rattle.lola_step.specs.declared.tasks.Task.{Task}
 use Rattle.lola_step.proofs.Keeping.{now_else}

@@ -8,7 +8,7 @@ use Rattle.lola_model.specs.Content.{Content, seen}
 pub use Rattle.lola_model.specs.Given.{AreHeldIn}
 use Rattle.lola_model.specs.Store.{IsRunning, Memories, Seen, after_outcome, instances_seen, is_silent, kind_in, now_seen}
 use Rattle.lola_model.specs.declared.plan.Plan.{Plan}
-use Rattle.lola_contents.specs.Changed.{told}
+use Rattle.lola_step_contents.specs.Changed.{told}
 use Rattle.lola_step.specs.Tasks.{IsResult}
 use Rattle.lola_step.specs.declared.moment.Moment.{Moment}
 use Rattle.lola_step.specs.declared.tasks.Task.{Task}

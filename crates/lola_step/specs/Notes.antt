@@ -18,9 +18,9 @@ use Rattle.lola_model.specs.declared.plan.Plan.{Plan}
 use Rattle.lola_model.specs.declared.spec.Stream.{Stream}
 use Rattle.lola_model.specs.declared.store.Whereabouts.{Whereabouts}
 use Rattle.lola_model.specs.declared.store.Whereabouts.TheVariants.{At, Nowhere, Unknown}
-use Rattle.lola_stages.specs.Ends.{RowValue, Place}
-use Rattle.lola_stages.specs.Nexts.{living_in}
-use Rattle.lola_stages.specs.Stages.{Stage, is_evaluated, is_spawned}
+use Rattle.lola_step_law.specs.Ends.{RowValue, Place}
+use Rattle.lola_step_law.specs.Nexts.{living_in}
+use Rattle.lola_step_law.specs.Stages.{Stage, is_evaluated, is_spawned}
 use Rattle.lola_step.specs.Moments.{may_be_active_in}
 use Rattle.lola_step.specs.declared.mark.Mark.{Mark}
 use Rattle.lola_step.specs.declared.mark.Mark.TheVariants as mark

@@ -5,12 +5,12 @@ ghost use Rattle.lola_value.specs.Shorts.{is_given};
 ghost use Rattle.lola_value.specs.Naming.{Naming, IsHeldIn, read_outcome};
 ghost use Rattle.lola_model.specs.Content.{Content, seen};
 ghost use Rattle.lola_model.specs.Store.{Stands, instances_seen};
-ghost use Rattle.lola_contents.specs.Changed.{told};
+ghost use Rattle.lola_step_contents.specs.Changed.{told};
 ghost use Rattle.lola_step.specs.Found.{has_fault, is_fault};
 ghost use Rattle.lola_step.specs.Given.{AreHeldIn, AreKnown, AreFirstOf, CanGive, CanGiveAll, after_all, after_giving, told_outcomes};
 
 use crate::tasks::Task;
-use lola_contents::calls::{poison, push};
+use lola_step_contents::calls::{poison, push};
 use lola_model::store::StreamStore;
 use lola_value::brief::Brief;
 use lola_value::value::Outcome;

@@ -5,15 +5,15 @@ ghost use Rattle.lola_value.specs.Naming.{Naming, IsHeldIn, read_outcome};
 ghost use Rattle.lola_model.specs.Acceptance.{IsAccepted};
 ghost use Rattle.lola_model.specs.Content.{Content};
 ghost use Rattle.lola_model.specs.Store.{IsRunning, Stands, after_outcome, instances_seen, is_silent, kind_in, now_seen};
-ghost use Rattle.lola_contents.specs.Changed.{told};
-ghost use Rattle.lola_stages.specs.Stages.{first_stage, layer_stage};
+ghost use Rattle.lola_step_contents.specs.Changed.{told};
+ghost use Rattle.lola_step_law.specs.Stages.{first_stage, layer_stage};
 ghost use Rattle.lola_step.specs.Inputs.{TakesInputs, input_outcome_at};
 ghost use Rattle.lola_step.specs.Progress.{GoesOn, IsAt};
 ghost use Rattle.lola_step.specs.Schedules.{turns_of};
 ghost use Rattle.lola_step.specs.Steps.{AreInputs, is_input_outcome};
 ghost use Rattle.lola_step.specs.declared.schedule.Turn.TheVariants as turn;
 
-use lola_contents::calls::push;
+use lola_step_contents::calls::push;
 use lola_model::plan::Plan;
 use lola_model::store::StreamStore;
 use lola_value::brief::BriefValue;

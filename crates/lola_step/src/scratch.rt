@@ -14,7 +14,7 @@ use crate::mark::Mark;
 use crate::schedule::Schedule;
 use crate::tasks::Task;
 use crate::verdict::Verdict;
-use lola_code::plan::PlanCode;
+use lola_expr_code::plan::PlanCode;
 use lola_model::plan::Plan;
 use lola_model::store::{StreamStore, Whereabouts};
 use lola_value::brief::Brief;

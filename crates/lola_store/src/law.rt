@@ -11,5 +11,5 @@ pub fn accepted_is_storable(plan: &Plan)
     requires { IsAccepted plan.now }
     ensures { IsStorable plan.now }
 {
-    lola_bounded::law::accepted_is_storable(plan);
+    lola_instances::law::accepted_is_storable(plan);
 }

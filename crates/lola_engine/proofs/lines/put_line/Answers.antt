@@ -1,5 +1,5 @@
 -- The line of a value that is shown.
-use Rattle.lola_report.proofs.Sequences.{on_err}
+use Rattle.lola_report_lines.proofs.Sequences.{on_err}
 use Rattle.lola_engine.proofs.LinesPut.{shown-count, shown-part, shown-text, stream-at}
 use Rattle.lola_engine.proofs.lines.put_line.Goals as goal
 

@@ -1,7 +1,7 @@
 -- The line of one value more.
 use Rattle.std.proofs.Common.{◌++◌, ◌∙◌, sym, ap, refl, arith}
 use Rattle.std.proofs.lemmas.List.{take_all}
-use Rattle.lola_report.proofs.Sequences.{on_err, one_more}
+use Rattle.lola_report_lines.proofs.Sequences.{on_err, one_more}
 use Rattle.lola_engine.proofs.LinesPut.{count-more, part-of-all, text-for, texts-all, verdict-at}
 use Rattle.lola_engine.proofs.lines.put_lines.Goals as goal
 

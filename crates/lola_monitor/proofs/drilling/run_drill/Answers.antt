@@ -2,9 +2,9 @@ use Rattle.std.proofs.Common.{◌≡◌, ◌∙◌, ap, subst, sym}
 use Rattle.lola_model.specs.Acceptance.{IsAccepted}
 use Rattle.lola_model.specs.declared.plan.Plan.{Plan}
 use Rattle.lola_front.specs.Front.{IsPlanOf}
-use Rattle.lola_drill.specs.Drills.{drill_text}
-use Rattle.lola_run.specs.Running.{keeping}
-use Rattle.lola_run.specs.Verdicts.{Setting}
+use Rattle.lola_feed.specs.Drills.{drill_text}
+use Rattle.lola_monitor_run.specs.Running.{keeping}
+use Rattle.lola_monitor_run.specs.Verdicts.{Setting}
 use Rattle.lola_monitor.specs.Drilling.{AreDrillWorkers, drill_setting}
 use Rattle.lola_monitor.specs.Monitor.{HasItsModels}
 use Rattle.lola_monitor.proofs.drilling.run_drill.Goals as goal

@@ -1,5 +1,5 @@
 use Rattle.std.proofs.Common.{refl}
-use Rattle.lola_run.specs.Running.{keeping}
+use Rattle.lola_monitor_run.specs.Running.{keeping}
 use Rattle.lola_monitor.proofs.Drilled.{are_ready, drilled, few_workers}
 use Rattle.lola_monitor.proofs.drilling.run_workers.Goals as goal
 

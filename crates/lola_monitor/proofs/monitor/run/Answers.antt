@@ -1,5 +1,5 @@
 use Rattle.std.proofs.Common.{Global, List, ℕ, ◌∷◌, Some, map, string_bytes, ap, sym, subst, refl, ◌∙◌}
-use Rattle.lola_run.specs.Verdicts.{Setting}
+use Rattle.lola_monitor_run.specs.Verdicts.{Setting}
 use Rattle.lola_monitor.specs.Command.{Names, word_at}
 use Rattle.lola_monitor.specs.Monitor.{outside}
 use Rattle.lola_monitor.specs.Outcomes.{Works}

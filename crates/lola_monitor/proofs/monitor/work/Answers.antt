@@ -1,6 +1,6 @@
 use Rattle.std.proofs.Common.{Global, ◌≡◌, Some, map, rules, string_bytes}
-use Rattle.lola_command.specs.Command.{command_of}
-use Rattle.lola_command.specs.declared.command.Command.TheVariants.{Drill}
+use Rattle.lola_monitor_command.specs.Command.{command_of}
+use Rattle.lola_monitor_command.specs.declared.command.Command.TheVariants.{Drill}
 use Rattle.lola_monitor.specs.Command.{names_asked}
 use Rattle.lola_monitor.specs.Monitor.{outside}
 use Rattle.lola_monitor.proofs.Asking.{drill_is}

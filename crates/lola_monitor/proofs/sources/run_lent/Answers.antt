@@ -1,6 +1,6 @@
 use Rattle.std.proofs.Common.{◌≤◌, List, length, ap, sym, subst, ◌∙◌}
 use Rattle.lola_feed.specs.Feeding.{Working}
-use Rattle.lola_run.specs.Running.{keeping}
+use Rattle.lola_monitor_run.specs.Running.{keeping}
 use Rattle.lola_monitor.specs.Outcomes.{OutcomeAfter, end_of, ends_of}
 use Rattle.lola_monitor.specs.declared.ending.SourcesEnd.{SourcesEnd}
 use Rattle.lola_monitor.proofs.Lent.{as_many, ran_lent, still_given}

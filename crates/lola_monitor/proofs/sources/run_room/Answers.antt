@@ -1,9 +1,9 @@
 use Rattle.std.proofs.Common.{Global, ◌≡◌, ◌≤◌, List, ℕ, Err, length, map, string_bytes, ap, sym, subst, ◌∙◌}
 use Rattle.std.proofs.lemmas.List.{length-map}
 use Rattle.lola_port.specs.States.{grown}
-use Rattle.lola_run.specs.Running.{keeping, setting_in}
-use Rattle.lola_run.specs.Verdicts.{most_rows}
-use Rattle.lola_shelves.specs.Lending.{AreRooms, Fetches, IsLent, names_at}
+use Rattle.lola_monitor_run.specs.Running.{keeping, setting_in}
+use Rattle.lola_monitor_run.specs.Verdicts.{most_rows}
+use Rattle.lola_feed.specs.Lending.{AreRooms, Fetches, IsLent, names_at}
 use Rattle.lola_monitor.specs.Command.{word_at}
 use Rattle.lola_monitor.specs.Monitor.{outside}
 use Rattle.lola_monitor.specs.Outcomes.{RunsSources}

@@ -1,5 +1,5 @@
 use Rattle.std.proofs.Common.{Global, map, string_bytes}
-use Rattle.lola_shelves.specs.Lending.{names_at}
+use Rattle.lola_feed.specs.Lending.{names_at}
 use Rattle.lola_monitor.proofs.Lent.{not_asked}
 use Rattle.lola_monitor.proofs.sources.run_sources.Goals as goal
 

@@ -1,6 +1,6 @@
 use Rattle.std.proofs.Common.{◌∙◌, Option, subst, sym}
 use Rattle.lola_model.specs.declared.journal.Entry.{Entry}
-use Rattle.lola_journal.specs.Journals.{ReadsLine}
+use Rattle.lola_report.specs.Journals.{ReadsLine}
 use Rattle.lola_replay.proofs.RunningLemmas.{none-by, right-line, some-by, wrong-entry, wrong-fault}
 use Rattle.lola_replay.proofs.entries.right_entry.Goals as goal
 

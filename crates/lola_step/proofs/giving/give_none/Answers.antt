@@ -3,7 +3,7 @@ use Rattle.lola_value.specs.Naming.{read_outcome}
 use Rattle.lola_value.specs.declared.value.Outcome.{Outcome}
 use Rattle.lola_model.specs.Content.{seen}
 use Rattle.lola_model.specs.Store.{Stands}
-use Rattle.lola_contents.specs.Changed.{told}
+use Rattle.lola_step_contents.specs.Changed.{told}
 use Rattle.lola_step.proofs.OneByOne.{stands_missing}
 use Rattle.lola_step.proofs.giving.give_none.Goals as goal
 

@@ -1,6 +1,6 @@
 use Rattle.std.proofs.Common.{◌∙◌, sym, subst}
 use Rattle.lola_model.specs.Store.{Seen, Stands}
-use Rattle.lola_contents.proofs.OneStream.{stands_kept}
+use Rattle.lola_step_contents.proofs.OneStream.{stands_kept}
 use Rattle.lola_step.specs.Given.{told_outcomes}
 use Rattle.lola_step.proofs.Together.{stands_all, whole_given, whole_kinds, whole_running, whole_silent}
 use Rattle.lola_step.proofs.giving.give_stream.Goals as goal

@@ -1,5 +1,5 @@
 use Rattle.std.proofs.Common.{◌≡◌, ◌-◌, ◌≤◌, length}
-use Rattle.lola_grammar.specs.Syntax.{last_mark}
+use Rattle.lola_parser_grammars_law.specs.Syntax.{last_mark}
 use Rattle.lola_parser_grammar.specs.Grammar.{all_marks}
 use Rattle.lola_parser_cursor.proofs.cursor.Parser.back_to_last_mark.Given as goal
 

@@ -1,6 +1,6 @@
 use Rattle.std.proofs.Common.{◌≡◌, ◌<◌, true, false, arith}
 use Rattle.std.proofs.lemmas.Grind.{common_steps}
-use Rattle.lola_grammar.specs.Syntax.{same_shape}
+use Rattle.lola_parser_grammars_law.specs.Syntax.{same_shape}
 use Rattle.lola_parser_cursor.proofs.Steps.{mark_ended, mark_missed, mark_taken, mark_deep}
 use Rattle.lola_parser_cursor.proofs.cursor.Parser.mark.Goals as goal
 

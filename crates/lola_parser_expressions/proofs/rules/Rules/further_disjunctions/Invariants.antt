@@ -1,5 +1,5 @@
 use Rattle.std.proofs.Common.{◌≡◌, ◌-◌}
-use Rattle.lola_grammar.specs.Syntax.{read}
+use Rattle.lola_parser_grammars_law.specs.Syntax.{read}
 use Rattle.lola_parser_grammar.specs.Grammar.{onto, joined, conjunction, or_signs, expr_in, other_in}
 use Rattle.lola_parser_cursor.proofs.Joins.{signs_on}
 use Rattle.lola_parser_expressions.proofs.rules.Rules.further_disjunctions.Given as goal

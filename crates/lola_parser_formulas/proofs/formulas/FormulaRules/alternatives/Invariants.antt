@@ -1,6 +1,6 @@
 use Rattle.std.proofs.Common.{◌≡◌, ◌-◌}
 use Rattle.lola_lexer.specs.declared.shape.TokenShape.TheVariants as is
-use Rattle.lola_grammar.specs.Syntax.{read, Then}
+use Rattle.lola_parser_grammars_law.specs.Syntax.{read, Then}
 use Rattle.lola_parser_grammar.specs.Grammar.{onto, mark, alternatives_of, either, conjunct, formula_in}
 use Rattle.lola_parser_cursor.proofs.Joins.{goes_on}
 use Rattle.lola_parser_formulas.proofs.formulas.FormulaRules.alternatives.Given as goal

@@ -1,7 +1,0 @@
-use Rattle.std.proofs.Common.{sym, subst}
-use Rattle.lola_instance.specs.Unborn.{AllOnto}
-use Rattle.lola_bounded.proofs.Opened.{onto_kind}
-use Rattle.lola_bounded.proofs.opening.open.Goals as goal
-
-pub create-requires-clause-onto : goal.create-requires-clause-onto
-create-requires-clause-onto c = subst (AllOnto c.kind_of-kind.result) (sym c.in_ok-onto.ensures) (onto_kind c.args.number c.kind_of-kind.result c.args.windows.now c.args.sizes.now)

@@ -1,7 +1,0 @@
-use Rattle.std.proofs.Common.{refl}
-use Rattle.lola_drill.specs.Drills.{drill_text}
-use Rattle.lola_drill.proofs.text.specification.Goals as goal
-
-pub returns : goal.returns
-unfolding drill_text
-returns c = refl

@@ -1,0 +1,13 @@
+use Rattle.std.specs.Prelude.{◌≡◌, ◌≤◌, None}
+use Rattle.lola_engine.specs.Engines.{IsEngine}
+use Rattle.lola_rows.specs.Reading.{shape_of}
+use Rattle.lola_engine_tests.proofs.driving.run_over.Given as goal
+
+abbrev pub invariant-loop : goal.invariant-loop
+invariant-loop g l = record {
+  engine : IsEngine l.engine.desk (g.S.StreamStore.seen l.engine.store);
+  merged : l.engine.desk.merged ≡ l.merged;
+  rows : l.engine.desk.rows ≤ l.counter;
+  shape : l.reader.shape ≡ shape_of l.engine.desk.plan.spec.streams 0 10000;
+  going : l.reader.ended ≡ None;
+}

@@ -1,5 +1,0 @@
-use Rattle.lola_instance.proofs.Passing.{ToldUpTo}
-use Rattle.lola_instance.proofs.instance.tell_each.Given as goal
-
-abbrev pub invariant-loop-i : goal.invariant-loop-i
-invariant-loop-i l = ToldUpTo l.offset l.value l.i l.initial.panes.items l.panes.items

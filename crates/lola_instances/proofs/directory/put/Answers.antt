@@ -1,5 +1,0 @@
-use Rattle.lola_instances.specs.declared.key.Key.{Key}
-use Rattle.lola_instances.proofs.directory.put.Goals as goal
-
-pub returns-in-Ok-clause-cell : goal.returns-in-Ok-clause-cell
-returns-in-Ok-clause-cell c = λ q. let k : Key = record { 0 = q } in c.in-Ok.ensures.updates.0 k

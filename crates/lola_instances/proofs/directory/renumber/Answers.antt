@@ -1,7 +1,0 @@
-use Rattle.std.proofs.Common.{rules}
-use Rattle.std.proofs.lemmas.Map.Made.{map_same_pairs}
-use Rattle.lola_instances.specs.Listings.{packed}
-use Rattle.lola_instances.proofs.directory.renumber.Goals as goal
-
-pub returns-clause-entries : goal.returns-clause-entries
-returns-clause-entries c = map_same_pairs _ (packed c.args.marks.now) _ (λ k v b w f' t. search rules) _ _ c.retain.ensures.filtered

@@ -1,0 +1,42 @@
+//! How far a store is.
+
+ghost use Rattle.std.specs.Prelude.{◌≡◌, ◌≤◌, ◌-◌};
+ghost use Rattle.lola_instances.specs.Stages.{start_in, time_in};
+
+/// How far a store is: new, with a start, or in a step.
+#[derive(Clone, Copy)]
+pub enum Stage {
+    New,
+    Started(u64),
+    Running(u64, u64),
+}
+
+/// Where time counts from, 0 while that is not set.
+pub fn start_of(stage: Stage) -> u64
+    ensures { result ≡ start_in stage }
+{
+    match stage {
+        Stage::New => 0,
+        Stage::Started(start) => start,
+        Stage::Running(start, _) => start,
+    }
+}
+
+/// The time of this step, or else the start.
+pub fn time_of(stage: Stage) -> u64
+    ensures { result ≡ time_in stage }
+{
+    match stage {
+        Stage::New => 0,
+        Stage::Started(start) => start,
+        Stage::Running(_, time) => time,
+    }
+}
+
+/// How long after the start a time is.
+pub fn time_since(start: u64, time: u64) -> u64
+    requires { start ≤ time }
+    ensures { result ≡ time - start }
+{
+    time - start
+}

@@ -1,0 +1,12 @@
+pub mod Lists
+pub mod Finding
+pub mod Outcomes
+pub mod Newborns
+pub mod Beginnings
+pub mod Answering
+pub mod Keys
+pub mod Dues
+pub mod Gifts
+pub mod Needing
+pub mod Taken
+pub mod Known

@@ -1,0 +1,13 @@
+pub mod Cells
+pub mod Births
+pub mod Changes
+pub mod Crowds
+pub mod Dues
+pub mod Each
+pub mod Givings
+pub mod Keys
+pub mod Listings
+pub mod Props
+pub mod Rights
+pub mod Windowed
+pub mod Texts

@@ -1,0 +1,12 @@
+//! The instances of one stream in little memory: of each the last of its values, and the panes of each window onto the
+//! stream.
+#![tactic(auto)]
+
+mod cells;
+mod directory;
+pub mod due;
+mod giving;
+pub mod instances;
+mod key;
+mod nothing;
+mod slots;

@@ -1,5 +1,0 @@
-use Rattle.lola_journal.proofs.Texts.{one-journal}
-use Rattle.lola_journal.proofs.law.one_journal.Goals as goal
-
-pub returns : goal.returns
-returns c = one-journal c.args._plan.now

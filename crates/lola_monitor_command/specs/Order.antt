@@ -1,0 +1,37 @@
+-- The order in which a run is told what it is told.
+use Rattle.std.specs.Prelude.{◌≡◌, ◌≤◌, ◌↔◌, List, ◌∷◌, ◌++◌, Some, Bool, true, false, length, map}
+use Rattle.std.specs.List.{list_all}
+use Rattle.lola_monitor_command.specs.Command.{come_once, show_said, workers_said, start_said, in_turns_said, run_of}
+use Rattle.lola_monitor_command.specs.declared.said.Said.{Said}
+use Rattle.lola_monitor_command.specs.declared.said.Said.TheVariants as said
+use Rattle.lola_monitor_command.specs.declared.command.Command.TheVariants as command
+use Rattle.lola_monitor_command.specs.declared.command.RunCommand.{RunCommand}
+
+-- an option, and no name
+abbrev pub is_setting : Said → Bool
+is_setting (said.Name at) = false
+is_setting (said.Show s) = true
+is_setting (said.Workers n) = true
+is_setting (said.Start t) = true
+is_setting said.InTurns = true
+
+-- options, the specification, options, from 1 to 64 sources with nothing between them, options; each option comes at most once
+pub record IsRunOf (ss : List Said) (r : RunCommand) : Type 0 where
+  pub before : List Said
+  pub between : List Said
+  pub behind : List Said
+  pub order : ss ≡ before ++ (said.Name r.specification ∷ (between ++ (map said.Name r.sources ++ behind)))
+  pub options_before : list_all is_setting before ≡ true
+  pub options_between : list_all is_setting between ≡ true
+  pub options_behind : list_all is_setting behind ≡ true
+  pub some : 1 ≤ length r.sources
+  pub few : length r.sources ≤ 64
+  pub once : come_once ss ≡ true
+  pub show : r.show ≡ show_said ss
+  pub workers : r.workers ≡ workers_said ss
+  pub start : r.start ≡ start_said ss
+  pub in_turns : r.in_turns ≡ in_turns_said ss
+
+-- what is said is a run exactly where it stands in that order
+abbrev pub RunsAreInOrder : Type 0
+RunsAreInOrder = (ss : List Said) (r : RunCommand) → (run_of ss ≡ Some (command.Run r)) ↔ IsRunOf ss r

@@ -1,0 +1,382 @@
+//! Commands.
+
+ghost use Rattle.std.specs.Prelude.{◌≡◌, ◌≤◌, ◌++◌, [], ◌∷◌, true, false, if◌then◌else◌, IfOk, OnOk, OnErr, drop, filter, length, map, string_bytes};
+ghost use Rattle.std.specs.List.{list_all};
+ghost use Rattle.lola_value.specs.Times.{is_digit, number_of};
+ghost use Rattle.lola_monitor_command.specs.Said.{said_from};
+ghost use Rattle.lola_monitor_command.specs.Command.{is_show, is_workers, is_start, is_in_turns, come_once, show_said, workers_said, start_said, in_turns_said, front_names, behind_names, behind_options, is_empty, are_sources, run_over, run_by, run_of, analyse_of, is_number, drill_with, word_of, drill_of, of_said, command_of};
+
+use crate::options::all_digits;
+use crate::said::{Said, SaidList};
+use crate::words::all_said;
+use lola_model::journal::Show;
+use lola_value::text::Memory;
+use std::alloc::Global;
+use std::marker::Model;
+
+/// Numbers of words of the command line, from 0 for the program's name.
+#[derive(Drop)]
+pub struct Names {
+    items: Vec<usize>,
+}
+
+impl Model for Names {
+    ghost use Rattle.std.specs.Prelude.{ℕ, List};
+
+    ghost Value = { List ℕ };
+
+    ghost view = { λ a. a.items.items };
+}
+
+impl Names {
+    /// An empty list.
+    pub fn create(alloc: Global) -> Names
+        ensures { result ≡ [] }
+    {
+        Names {
+            items: Vec::new(alloc),
+        }
+    }
+
+    /// Puts one behind the others; unchanged where there is no memory.
+    pub fn push(&mut self, item: usize) -> Result<(), Memory>
+        ensures ok { OnOk result (self.new ≡ self.old ++ item ∷ []) }
+        ensures err { OnErr result (self.new ≡ self.old) }
+    {
+        self.items.push(item)?;
+        Ok(())
+    }
+
+    /// All of them, in order.
+    pub fn as_slice(&self) -> &[usize]
+        ensures { result.now ≡ self.now }
+    {
+        self.items.as_slice()
+    }
+}
+
+/// What a run is told.
+#[derive(Drop)]
+pub struct RunCommand {
+    /// The word that names the specification.
+    pub specification: usize,
+    /// The words that name the sources, from 1 to 64, in their order.
+    pub sources: Names,
+    /// What is shown; triggers where nothing is said.
+    pub show: Show,
+    /// How many workers there are, from 1 to 64; 1 where nothing is said.
+    pub workers: u32,
+    /// Where time begins, in nanoseconds, if it is said.
+    pub start: Option<u64>,
+    /// Whether the sources are read in turns on one thread.
+    pub in_turns: bool,
+}
+
+/// What a drill is told.
+#[derive(Clone, Copy, Debug, PartialEq, Eq)]
+pub struct DrillCommand {
+    /// The number that all rows come from, at most 2147483646.
+    pub number: u64,
+    /// How many rows each of the two sources has, from 1 to 1,000,000.
+    pub rows: u32,
+    /// How many workers there are, from 1 to 64.
+    pub workers: u32,
+}
+
+/// A command.
+#[derive(Drop)]
+pub enum Command {
+    /// `run [--show triggers|outputs] [--workers N] [--start T] [--in-turns] SPEC SOURCE..`
+    Run(RunCommand),
+    /// `analyse SPEC`, by the word that names the specification.
+    Analyse(usize),
+    /// `drill NUMBER ROWS WORKERS`
+    Drill(DrillCommand),
+}
+
+// How often an option comes.
+fn count_shows(said: &[Said]) -> usize
+    ensures { result ≡ length (filter is_show said.now) }
+{
+    said.iter()
+        .filter(|one| matches!(one, Said::Show(_)))
+        .count()
+}
+
+fn count_workers(said: &[Said]) -> usize
+    ensures { result ≡ length (filter is_workers said.now) }
+{
+    said.iter()
+        .filter(|one| matches!(one, Said::Workers(_)))
+        .count()
+}
+
+fn count_starts(said: &[Said]) -> usize
+    ensures { result ≡ length (filter is_start said.now) }
+{
+    said.iter()
+        .filter(|one| matches!(one, Said::Start(_)))
+        .count()
+}
+
+fn count_in_turns(said: &[Said]) -> usize
+    ensures { result ≡ length (filter is_in_turns said.now) }
+{
+    said.iter()
+        .filter(|one| matches!(one, Said::InTurns))
+        .count()
+}
+
+// Whether each option comes at most once.
+fn is_once(said: &[Said]) -> bool
+    ensures { result ≡ come_once said.now }
+{
+    count_shows(said) <= 1
+        && count_workers(said) <= 1
+        && count_starts(said) <= 1
+        && count_in_turns(said) <= 1
+}
+
+fn what_is_shown(said: &[Said]) -> Show
+    ensures { result ≡ show_said said.now }
+{
+    for one in said {
+        if let Said::Show(show) = one {
+            return *show;
+        }
+    }
+    Show::Triggers
+}
+
+fn how_many_workers(said: &[Said]) -> u32
+    ensures { result ≡ workers_said said.now }
+{
+    for one in said {
+        if let Said::Workers(count) = one {
+            return *count;
+        }
+    }
+    1
+}
+
+fn where_time_begins(said: &[Said]) -> Option<u64>
+    ensures { result ≡ start_said said.now }
+{
+    for one in said {
+        if let Said::Start(start) = one {
+            return Some(*start);
+        }
+    }
+    None
+}
+
+fn whether_in_turns(said: &[Said]) -> bool
+    ensures { result ≡ in_turns_said said.now }
+{
+    for one in said {
+        if let Said::InTurns = one {
+            return true;
+        }
+    }
+    false
+}
+
+// What stands behind the options at the front.
+fn past_options(said: &[Said]) -> &[Said]
+    ensures { result.now ≡ behind_options said.now }
+{
+    for at in 0..said.len() {
+        if let Said::Name(_) = said[at] {
+            return &said[at..];
+        }
+    }
+    &said[said.len()..]
+}
+
+// Moves the names at the front behind others, and gives what stands behind them.
+fn take_names<'a>(names: &mut Names, said: &'a [Said]) -> Result<&'a [Said], Memory>
+    ensures names { OnOk result (names.new ≡ names.old ++ front_names said.now) }
+    ensures rest { IfOk result (λ rest. rest.now ≡ behind_names said.now) }
+{
+    for at in 0..said.len() {
+        match said[at] {
+            Said::Name(word) => names.push(word)?,
+            _ => return Ok(&said[at..]),
+        }
+    }
+    Ok(&said[said.len()..])
+}
+
+// Whether these can be the sources, with this behind them.
+fn can_be_sources(sources: &[usize], rest: &[Said]) -> bool
+    ensures { result ≡ are_sources sources.now rest.now }
+{
+    !sources.is_empty() && sources.len() <= 64 && past_options(rest).is_empty()
+}
+
+// A run over this specification, with what stands behind its name and the options there.
+fn run_over_specification(
+    alloc: Global,
+    said: &[Said],
+    specification: usize,
+    behind: &[Said],
+) -> Result<Option<Command>, Memory>
+    ensures { IfOk result (λ command. command ≡ run_over said.now specification behind.now) }
+{
+    let mut sources = Names::create(alloc);
+    let rest = take_names(&mut sources, behind)?;
+    if !is_once(said) || !can_be_sources(sources.as_slice(), rest) {
+        return Ok(None);
+    }
+    Ok(Some(Command::Run(RunCommand {
+        specification,
+        sources,
+        show: what_is_shown(said),
+        workers: how_many_workers(said),
+        start: where_time_begins(said),
+        in_turns: whether_in_turns(said),
+    })))
+}
+
+// The run that this says.
+fn run_said(alloc: Global, said: &[Said]) -> Result<Option<Command>, Memory>
+    ensures { IfOk result (λ command. command ≡ run_of said.now) }
+{
+    let front = past_options(said);
+    match front.first() {
+        Some(Said::Name(specification)) => {
+            run_over_specification(alloc, said, *specification, past_options(&front[1..]))
+        }
+        _ => Ok(None),
+    }
+}
+
+// The analysis that this says.
+fn analysis_said(said: &[Said]) -> Option<Command>
+    ensures { result ≡ analyse_of said.now }
+{
+    match said {
+        [Said::Name(specification)] => Some(Command::Analyse(*specification)),
+        _ => None,
+    }
+}
+
+// The number that at most ten digits spell.
+fn number_spelled(digits: &[u8]) -> u64
+    requires short { length digits.now ≤ 10 }
+    requires digits { list_all is_digit digits.now ≡ true }
+    ensures { result ≡ number_of digits.now }
+{
+    let mut number = 0;
+    for digit in digits {
+        number = number * 10 + (*digit - b'0') as u64;
+    }
+    number
+}
+
+// The number that a word of 1 to so many digits spells, if it is between two others.
+fn number_between(word: &[u8], digits: usize, least: u64, most: u64) -> Option<u64>
+    requires { digits ≤ 10 }
+    ensures { result ≡ (if is_number digits least most word.now then Some (number_of word.now) else None) }
+{
+    if word.is_empty() || word.len() > digits || !all_digits(word) {
+        return None;
+    }
+    let number = number_spelled(word);
+    if number < least || number > most {
+        None
+    } else {
+        Some(number)
+    }
+}
+
+// A drill of these words.
+fn drill_of_words(number: &[u8], rows: &[u8], workers: &[u8]) -> Option<Command>
+    ensures { result ≡ drill_with number.now rows.now workers.now }
+{
+    let number = number_between(number, 10, 0, 2_147_483_646)?;
+    let rows = number_between(rows, 7, 1, 1_000_000)?;
+    let workers = number_between(workers, 2, 1, 64)?;
+    Some(Command::Drill(DrillCommand {
+        number,
+        rows: rows as u32,
+        workers: workers as u32,
+    }))
+}
+
+// The bytes of the word of this number, or none where there is no such word.
+fn word_at(words: &[String], at: usize) -> &[u8]
+    ensures { result.now ≡ word_of (map string_bytes words.now) at }
+{
+    match words.get(at) {
+        Some(word) => word.as_bytes(),
+        None => b"",
+    }
+}
+
+// The drill that this says.
+fn drill_said(words: &[String], said: &[Said]) -> Option<Command>
+    ensures { result ≡ drill_of (map string_bytes words.now) said.now }
+{
+    match said {
+        [Said::Name(number), Said::Name(rows), Said::Name(workers)] => drill_of_words(
+            word_at(words, *number),
+            word_at(words, *rows),
+            word_at(words, *workers),
+        ),
+        _ => None,
+    }
+}
+
+// The run that the words behind `run` are.
+fn read_run(alloc: Global, words: &[String]) -> Result<Option<Command>, Memory>
+    requires { 2 ≤ length words.now }
+    ensures { IfOk result (λ command. command ≡ of_said run_of (said_from false 2 (drop 2 (map string_bytes words.now)))) }
+{
+    match all_said(alloc, words, 2)? {
+        Some(said) => run_said(alloc, said.as_slice()),
+        None => Ok(None),
+    }
+}
+
+// The analysis that the words behind `analyse` are.
+fn read_analysis(alloc: Global, words: &[String]) -> Result<Option<Command>, Memory>
+    requires { 2 ≤ length words.now }
+    ensures { IfOk result (λ command. command ≡ of_said analyse_of (said_from false 2 (drop 2 (map string_bytes words.now)))) }
+{
+    match all_said(alloc, words, 2)? {
+        Some(said) => Ok(analysis_said(said.as_slice())),
+        None => Ok(None),
+    }
+}
+
+// The drill that the words behind `drill` are.
+fn read_drill(alloc: Global, words: &[String]) -> Result<Option<Command>, Memory>
+    requires { 2 ≤ length words.now }
+    ensures { IfOk result (λ command. command ≡ of_said (drill_of (map string_bytes words.now)) (said_from false 2 (drop 2 (map string_bytes words.now)))) }
+{
+    match all_said(alloc, words, 2)? {
+        Some(said) => Ok(drill_said(words, said.as_slice())),
+        None => Ok(None),
+    }
+}
+
+/// The command that the words of a command line are, or none where they are no command. The first word is the
+/// program's name, the second `run`, `analyse` or `drill`.
+///
+/// Options stand before the specification, between it and the first source, or behind the last source, and each comes at
+/// most once, as `--name value` or `--name=value`. A word `--` makes all words behind it names. A drill has no option and
+/// three numbers, each of digits alone.
+pub fn read_command(alloc: Global, words: &[String]) -> Result<Option<Command>, Memory>
+    ensures { IfOk result (λ command. command ≡ command_of (map string_bytes words.now)) }
+{
+    if words.len() < 2 {
+        return Ok(None);
+    }
+    match words[1].as_str() {
+        "run" => read_run(alloc, words),
+        "analyse" => read_analysis(alloc, words),
+        "drill" => read_drill(alloc, words),
+        _ => Ok(None),
+    }
+}

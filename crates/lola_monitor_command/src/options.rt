@@ -1,0 +1,162 @@
+//! What one word says.
+
+ghost use Rattle.std.specs.Prelude.{◌≡◌, ◌≤◌, option_map, length, true, false, Some, None, if◌then◌else◌, position};
+ghost use Rattle.std.specs.List.{list_all};
+ghost use Rattle.lola_value.specs.Times.{is_digit, number_of};
+ghost use Rattle.lola_monitor_command.specs.Said.{begins_with_minus, is_option, show_by, is_worker_count, workers_by, start_by, option_by, option_with, is_equals, says, valued as valued_by, thing_of};
+
+use crate::said::{Said, Thing};
+use lola_model::journal::Show;
+use lola_value::times::time_read;
+
+fn starts_with_minus(word: &[u8]) -> bool
+    ensures { result ≡ begins_with_minus word.now }
+{
+    match word.first() {
+        None => false,
+        Some(byte) => *byte == b'-',
+    }
+}
+
+fn is_option_word(word: &[u8]) -> bool
+    ensures { result ≡ is_option word.now }
+{
+    starts_with_minus(word) && word.len() > 1
+}
+
+fn show_value(value: &[u8]) -> Option<Said>
+    ensures { result ≡ show_by value.now }
+{
+    if value == b"triggers".as_slice() {
+        Some(Said::Show(Show::Triggers))
+    } else if value == b"outputs".as_slice() {
+        Some(Said::Show(Show::Outputs))
+    } else {
+        None
+    }
+}
+
+/// Whether there are digits alone.
+pub fn all_digits(value: &[u8]) -> bool
+    ensures { result ≡ list_all is_digit value.now }
+{
+    value.iter().all(|byte| *byte >= b'0' && *byte <= b'9')
+}
+
+// The number that one digit or two spell.
+fn small_number(value: &[u8]) -> u32
+    requires short { length value.now ≤ 2 }
+    requires digits { list_all is_digit value.now ≡ true }
+    ensures { result ≡ number_of value.now }
+{
+    match value {
+        [one] => (*one - b'0') as u32,
+        [ten, one] => 10 * ((*ten - b'0') as u32) + (*one - b'0') as u32,
+        _ => 0,
+    }
+}
+
+// How many workers a value says, if it says it.
+fn worker_count(value: &[u8]) -> Option<u32>
+    ensures { result ≡ (if is_worker_count value.now then Some (number_of value.now) else None) }
+{
+    if value.is_empty() || value.len() > 2 || !all_digits(value) {
+        return None;
+    }
+    let count = small_number(value);
+    if count < 1 || count > 64 {
+        None
+    } else {
+        Some(count)
+    }
+}
+
+fn workers_value(value: &[u8]) -> Option<Said>
+    ensures { result ≡ workers_by value.now }
+{
+    match worker_count(value) {
+        None => None,
+        Some(count) => Some(Said::Workers(count)),
+    }
+}
+
+fn start_value(value: &[u8]) -> Option<Said>
+    ensures { result ≡ start_by value.now }
+{
+    match time_read(value) {
+        None => None,
+        Some(start) => Some(Said::Start(start)),
+    }
+}
+
+// The option of this name with this value, if there is one.
+fn option_of(name: &[u8], value: &[u8]) -> Option<Said>
+    ensures { result ≡ option_by name.now value.now }
+{
+    if name == b"--show".as_slice() {
+        show_value(value)
+    } else if name == b"--workers".as_slice() {
+        workers_value(value)
+    } else if name == b"--start".as_slice() {
+        start_value(value)
+    } else {
+        None
+    }
+}
+
+// The option of this name with the next word as its value.
+fn option_with_next(name: &[u8], next: Option<&[u8]>) -> Option<Said>
+    ensures { result ≡ option_with name.now (option_map (λ w. w.now) next.entry) }
+{
+    match next {
+        None => None,
+        Some(value) => {
+            if starts_with_minus(value) {
+                None
+            } else {
+                option_of(name, value)
+            }
+        }
+    }
+}
+
+// Where the first `=` is.
+fn equals_place(word: &[u8]) -> Option<usize>
+    ensures { result ≡ position is_equals word.now }
+{
+    word.iter().position(|byte| *byte == b'=')
+}
+
+fn says_option(takes_next: bool, option: Option<Said>) -> Thing
+    ensures { result ≡ says takes_next option }
+{
+    match option {
+        None => Thing::Wrong,
+        Some(said) => Thing::Says(said, takes_next),
+    }
+}
+
+// What an option says that has more than a name of its own: its value in the same word or in the next one.
+fn valued(word: &[u8], next: Option<&[u8]>) -> Thing
+    ensures { result ≡ valued_by word.now (option_map (λ w. w.now) next.entry) (position is_equals word.now) }
+{
+    match equals_place(word) {
+        None => says_option(true, option_with_next(word, next)),
+        Some(place) => says_option(false, option_of(&word[..place], &word[place + 1..])),
+    }
+}
+
+/// What a word says, with the word behind it.
+pub fn thing(at: usize, word: &[u8], next: Option<&[u8]>) -> Thing
+    ensures { result ≡ thing_of at word.now (option_map (λ w. w.now) next.entry) }
+{
+    if word == b"--".as_slice() {
+        Thing::Dashes
+    } else if !is_option_word(word) {
+        Thing::Says(Said::Name(at), false)
+    } else if word == b"--in-turns".as_slice() {
+        Thing::Says(Said::InTurns, false)
+    } else {
+        valued(word, next)
+    }
+}

@@ -1,0 +1,90 @@
+-- What an entry behind a journal brings to a trace and to verdicts.
+use Rattle.std.proofs.Common.{◌≡◌, ℕ, ◌<◌, ◌≤◌, ◌^◌, List, [], ◌∷◌, ◌++◌, refl, sym, ap, ◌∙◌, subst, arith, append_assoc}
+use Rattle.std.proofs.lemmas.List.{append-nil}
+use Rattle.lola_value.specs.Times.{latest}
+use Rattle.lola_port.specs.States.{PutBroke, SinkState, grown}
+use Rattle.lola_model.specs.Journal.{IsRightlyMarked}
+use Rattle.lola_model.specs.Texts.{text_of}
+use Rattle.lola_model.specs.Trace.{IsMarkInTime, IsTraceable}
+use Rattle.lola_model.specs.Runs.{settled_lines}
+use Rattle.lola_model.specs.declared.plan.Plan.{Plan}
+use Rattle.lola_model.specs.declared.journal.Row.{Row}
+use Rattle.lola_model.specs.declared.journal.Entry.{Entry}
+use Rattle.lola_model.specs.declared.journal.Mark.{Mark}
+use Rattle.lola_model.specs.declared.journal.Mark.TheVariants as mark
+use Rattle.lola_model.proofs.Journals.{text_of-append}
+use Rattle.lola_monitor_run.specs.Verdicts.{AreTraceable, HasFront, IsCutAtRow, Setting, settled_text}
+use Rattle.lola_monitor_run.specs.Running.{IsAccepted, IsGoing, IsNext, IsRowFor, Keeping}
+use Rattle.lola_monitor_run.proofs.Fronts.{text_front}
+
+-- the lines that an entry brings, in a setting
+abbrev pub BringsIn : Setting → List Entry → Entry → List (List ℕ) → Type 0
+BringsIn s journal entry lines = settled_lines s.plan s.start (journal ++ entry ∷ []) s.show ≡ settled_lines s.plan s.start journal s.show ++ lines
+
+pub text_more : (s : Setting) (journal : List Entry) (entry : Entry) (lines : List (List ℕ)) → BringsIn s journal entry lines → settled_text s (journal ++ entry ∷ []) ≡ settled_text s journal ++ text_of lines
+text_more s journal entry lines brings = ap text_of brings ∙ text_of-append (settled_lines s.plan s.start journal s.show) lines
+
+-- an accepted entry is its row, marked so
+marked_so : (row : Row) (m : Mark) → IsAccepted (record { row = row; mark = m }) → ◌≡◌ {A = Entry} (record { row = row; mark = m }) (record { row = row; mark = mark.Accepted })
+marked_so row mark.Accepted is = refl
+marked_so row (mark.Late t) is = absurd is
+
+pub accepted_is : (entry : Entry) → IsAccepted entry → entry ≡ record { row = entry.row; mark = mark.Accepted }
+accepted_is entry is = marked_so entry.row entry.mark is
+
+-- all settled verdicts of a journal were put
+pub all_put : (s : Setting) (journal : List Entry) (old new : SinkState) → new ≡ grown old (settled_text s journal) → HasFront s old new journal
+all_put s journal old new put =
+    let more = text_front s journal in
+    record { front = journal; last = []; whole = sym (append-nil journal); few = omega arith; more = more.0; joined = more.1; put = put }
+
+-- all but those of the last entry were put
+pub last_not_put : (s : Setting) (front : List Entry) (entry : Entry) (brings : List ℕ) (old new : SinkState) → settled_text s (front ++ entry ∷ []) ≡ settled_text s front ++ brings
+    → new ≡ grown old (settled_text s front) → HasFront s old new (front ++ entry ∷ [])
+last_not_put s front entry brings old new is put =
+    let more = text_front s (front ++ entry ∷ []) in
+    record {
+      front = front;
+      last = entry ∷ [];
+      whole = refl;
+      few = omega arith;
+      more = brings ++ more.0;
+      joined = more.1 ∙ (ap (λ (l : List ℕ). l ++ more.0) is ∙ append_assoc (settled_text s front) brings more.0);
+      put = put;
+    }
+
+-- those of the last entry were cut short
+pub cut_at_row : (s : Setting) (front : List Entry) (entry : Entry) (brings : List ℕ) (old mid new : SinkState) → IsAccepted entry → settled_text s (front ++ entry ∷ []) ≡ settled_text s front ++ brings
+    → mid ≡ grown old (settled_text s front) → PutBroke mid new brings → IsCutAtRow s old new (front ++ entry ∷ [])
+cut_at_row s front entry brings old mid new accepted is before broke =
+    let more = text_front s (front ++ entry ∷ []) in
+    record {
+      front = front;
+      row = entry.row;
+      whole = ap (λ (e : Entry). front ++ e ∷ []) (accepted_is entry accepted);
+      brings = brings;
+      joined = is;
+      more = more.0;
+      all = more.1;
+      cut = subst (λ (k : SinkState). PutBroke k new brings) before broke;
+    }
+
+-- a rightly marked entry's mark is not past the greatest time
+mark_in_time : (m : Mark) (row : Row) (merged : ℕ) → merged ≤ latest → IsRightlyMarked merged (record { row = row; mark = m }) → IsMarkInTime m
+mark_in_time mark.Accepted row merged most right = tt
+mark_in_time (mark.Late t) row merged most right = subst (λ n. n ≤ latest) (sym right.0) most
+
+-- an entry that a run takes is one that a line of its plan's trace can tell
+pub taken_is_told : (kept : Keeping) (entry : Entry) → entry.row.source < 2 ^ 32 → entry.row.number < 2 ^ 64 → IsGoing kept → IsRowFor kept.desk.plan entry.row → IsNext kept entry → IsTraceable kept.desk.plan entry
+taken_is_told kept entry source number going fits next = record {
+  fields = fits.fields;
+  source = source;
+  number = number;
+  stamp = fits.stamp;
+  mark = mark_in_time entry.mark entry.row kept.desk.merged going.merged next;
+}
+
+-- one entry more that a line can tell
+pub told_more : (plan : Plan) (journal : List Entry) (entry : Entry) → AreTraceable plan journal → IsTraceable plan entry → AreTraceable plan (journal ++ entry ∷ [])
+told_more plan [] entry all is = (is, tt)
+told_more plan (e ∷ journal) entry all is = (all.0, told_more plan journal entry all.1 is)

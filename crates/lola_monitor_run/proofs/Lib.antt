@@ -1,0 +1,15 @@
+pub mod Sinks
+pub mod Entries
+pub mod Fronts
+pub mod Taking
+pub mod Listing
+pub mod Lists
+pub mod Turns
+pub mod Drawing
+pub mod Going
+pub mod Counting
+pub mod Stepping
+pub mod Runs
+pub mod Closing
+pub mod Rounding
+pub mod Beginning

@@ -1,0 +1,54 @@
+use Rattle.std.proofs.Common.{◌||◌, ◌<◌, ◌+◌, Bool, ℕ, subst, sym, ◌∙◌, add-one, length, arith}
+use Rattle.lola_monitor_run.specs.Running.{keeping}
+use Rattle.lola_monitor_run.specs.Feeds.{supplies_of, world}
+use Rattle.lola_monitor_run.specs.Turning.{InRound}
+use Rattle.lola_monitor_run.proofs.Counting.{room_left}
+use Rattle.lola_monitor_run.proofs.Rounding.{round_over, round_stops, round_turns, sources_many}
+use Rattle.lola_monitor_run.proofs.rows.run_round.Goals as goal
+
+pub run_turn-requires-clause-standing : goal.run_turn-requires-clause-standing
+run_turn-requires-clause-standing g c κs lives =
+    let u = c.requires.under_way in
+    let so = c.loop-source.invariant.round.so_far u.0 u.1 u.2 in
+    (so.journal, so.stands)
+
+pub run_turn-requires-clause-room : goal.run_turn-requires-clause-room
+run_turn-requires-clause-room g c κs lives =
+    let u = c.requires.under_way in
+    room_left u.0 u.1 c.loop-source.source _ (c.loop-source.invariant.round.so_far u.0 u.1 u.2)
+
+pub returns-in-Err-clause-goes : goal.returns-in-Err-clause-goes
+returns-in-Err-clause-goes g c =
+    let i = c.loop-source.invariant in
+    let out = g.K.Sink.state in
+    let trace = g.T.Sink.state in
+    let now = world (keeping c.loop-source.run) (supplies_of c.loop-source.feed) (out c.loop-source.out) (trace c.loop-source.trace) in
+    let many = i.round.many in let workers = sources_many c.args.feed.now in let count = i.count in let below = c.loop-source-test.true in
+    let there : c.loop-source.source < length (supplies_of c.loop-source.feed) = omega (arith, many, workers, count, below) in
+    round_stops c.loop-source.source c.loop-source.moved _ now i.round there c.in-Err.stop _ c.in-Err.ensures.steps
+
+pub loop-source-preserved : goal.loop-source-preserved
+loop-source-preserved g c =
+    let i = c.loop-source.invariant in
+    let out = g.K.Sink.state in
+    let trace = g.T.Sink.state in
+    let old = world (keeping c.args.run.now) (supplies_of c.args.feed.now) (out c.args.out.now) (trace c.args.trace.now) in
+    let now = world (keeping c.loop-source.run) (supplies_of c.loop-source.feed) (out c.loop-source.out) (trace c.loop-source.trace) in
+    let next = world (keeping c.run_turn.new.run) (supplies_of c.run_turn.new.feed) (out c.run_turn.new.out) (trace c.run_turn.new.trace) in
+    let many = i.round.many in let workers = sources_many c.args.feed.now in let count = i.count in let below = c.loop-source-test.true in
+    let there : c.loop-source.source < length (supplies_of c.loop-source.feed) = omega (arith, many, workers, count, below) in
+    record {
+      round = subst (λ (b : Bool). InRound (c.loop-source.source + 1) b old next) (sym c.either-moved.ensures)
+          (subst (λ (k : ℕ). InRound k (c.loop-source.moved || c.in-Ok.row) old next) (sym (add-one c.loop-source.source))
+          (round_turns c.loop-source.source c.loop-source.moved old now i.round there c.in-Ok.row next c.in-Ok.ensures.steps));
+      count = i.count;
+      idle = c.in-Ok.ensures.idle;
+      places = c.run_turn.ensures.places ∙ i.places;
+      setting = c.run_turn.ensures.setting ∙ i.setting;
+    }
+
+pub returns-clause-goes : goal.returns-clause-goes
+returns-clause-goes g c =
+    let i = c.loop-source.invariant in
+    let past = c.loop-source-test.false in let within = c.loop-source.auto.source-end in
+    round_over c.loop-source.source c.sources-count.result c.loop-source.moved _ _ i.round (i.count ∙ sym (sources_many c.args.feed.now)) (omega (arith, past, within))

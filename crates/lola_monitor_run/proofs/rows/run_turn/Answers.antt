@@ -1,0 +1,56 @@
+use Rattle.std.proofs.Common.{inl}
+use Rattle.lola_monitor_run.specs.Running.{keeping}
+use Rattle.lola_monitor_run.specs.Feeds.{supplies_of}
+use Rattle.lola_monitor_run.proofs.Stepping.{gave_it, idle_still, idle_then, out_of_memory, sat_out}
+use Rattle.lola_monitor_run.proofs.Turns.{in_place, in_place_then}
+use Rattle.lola_monitor_run.proofs.rows.run_turn.Goals as goal
+
+pub returns-then-is_out_of_memory-clause-steps : goal.returns-then-is_out_of_memory-clause-steps
+returns-then-is_out_of_memory-clause-steps g c =
+    inl (out_of_memory c.args.source c.args.feed.now c.turn-turn.new.self c.turn-turn.new.self (keeping c.args.run.now) c.requires.idle c.turn-turn.result c.turn-turn.ensures (g.K.Sink.state c.args.out.now) (g.T.Sink.state c.args.trace.now)
+    (c.is_out_of_memory.ensures.0 c.if-is_out_of_memory.true))
+
+pub returns-then-is_out_of_memory-clause-places : goal.returns-then-is_out_of_memory-clause-places
+returns-then-is_out_of_memory-clause-places g c = in_place c.args.source c.turn-turn.result c.args.feed.now c.turn-turn.new.self c.turn-turn.ensures
+
+pub returns-in-None-clause-steps : goal.returns-in-None-clause-steps
+returns-in-None-clause-steps g c =
+    sat_out c.args.source c.args.feed.now c.turn-turn.new.self c.take.new.self (keeping c.args.run.now) c.requires.idle c.turn-turn.result c.turn-turn.ensures c.take.result c.take.ensures c.in-None.is
+    (λ is. let e = c.is_out_of_memory.ensures.1 is in let f = c.if-is_out_of_memory.false in absurd (cc (e, f))) (g.K.Sink.state c.args.out.now) (g.T.Sink.state c.args.trace.now)
+
+pub returns-in-None-clause-idle : goal.returns-in-None-clause-idle
+returns-in-None-clause-idle g c =
+    idle_still c.args.source c.args.feed.now c.turn-turn.new.self c.take.new.self (keeping c.args.run.now) c.requires.idle c.turn-turn.result c.turn-turn.ensures c.take.result c.take.ensures c.in-None.is
+    (λ is. let e = c.is_out_of_memory.ensures.1 is in let f = c.if-is_out_of_memory.false in absurd (cc (e, f)))
+
+pub returns-in-None-clause-places : goal.returns-in-None-clause-places
+returns-in-None-clause-places g c = in_place_then c.args.source c.turn-turn.result c.args.feed.now c.turn-turn.new.self c.take.new.self c.take.result c.turn-turn.ensures c.take.ensures
+
+pub run_entry-requires-clause-fits : goal.run_entry-requires-clause-fits
+run_entry-requires-clause-fits g c κs lives =
+    (gave_it c.args.source c.args.feed.now c.turn-turn.new.self c.take.new.self (keeping c.args.run.now) c.requires.idle c.turn-turn.result c.turn-turn.ensures c.take.result c.take.ensures c.in-Some.entry c.in-Some.is).took_row.fits
+
+pub run_entry-requires-clause-mark : goal.run_entry-requires-clause-mark
+run_entry-requires-clause-mark g c κs lives =
+    (gave_it c.args.source c.args.feed.now c.turn-turn.new.self c.take.new.self (keeping c.args.run.now) c.requires.idle c.turn-turn.result c.turn-turn.ensures c.take.result c.take.ensures c.in-Some.entry c.in-Some.is).mark
+
+pub returns-in-Ok-clause-steps : goal.returns-in-Ok-clause-steps
+returns-in-Ok-clause-steps g c =
+    c.in-Ok.ensures.runs c.args.source (supplies_of c.args.feed.now) (supplies_of c.take.new.self)
+    (gave_it c.args.source c.args.feed.now c.turn-turn.new.self c.take.new.self (keeping c.args.run.now) c.requires.idle c.turn-turn.result c.turn-turn.ensures c.take.result c.take.ensures c.in-Some.entry c.in-Some.is).took_row
+
+pub returns-in-Ok-clause-idle : goal.returns-in-Ok-clause-idle
+returns-in-Ok-clause-idle g c =
+    idle_then c.args.source c.args.feed.now c.turn-turn.new.self c.take.new.self (keeping c.args.run.now) c.requires.idle c.turn-turn.result c.turn-turn.ensures c.take.result c.take.ensures c.in-Some.entry c.in-Some.is
+    (keeping c.run_entry.new.run) c.in-Ok.ensures.merged c.run_entry.ensures.setting
+
+pub returns-in-Ok-clause-places : goal.returns-in-Ok-clause-places
+returns-in-Ok-clause-places g c = in_place_then c.args.source c.turn-turn.result c.args.feed.now c.turn-turn.new.self c.take.new.self c.take.result c.turn-turn.ensures c.take.ensures
+
+pub returns-clause-steps : goal.returns-clause-steps
+returns-clause-steps g c =
+    c.in-Err.ensures.runs c.args.source (supplies_of c.args.feed.now) (supplies_of c.take.new.self)
+    (gave_it c.args.source c.args.feed.now c.turn-turn.new.self c.take.new.self (keeping c.args.run.now) c.requires.idle c.turn-turn.result c.turn-turn.ensures c.take.result c.take.ensures c.in-Some.entry c.in-Some.is).took_row
+
+pub returns-clause-places : goal.returns-clause-places
+returns-clause-places g c = in_place_then c.args.source c.turn-turn.result c.args.feed.now c.turn-turn.new.self c.take.new.self c.take.result c.turn-turn.ensures c.take.ensures

@@ -1,0 +1,5 @@
+pub mod Verdicts
+pub mod Running
+pub mod Rounds
+pub mod Feeds
+pub mod Turning

@@ -1,0 +1,232 @@
+//! The rows of sources, in turns.
+ghost use Rattle.std.specs.Prelude.{◌≡◌, ◌<◌, ◌≤◌, ◌↔◌, ◌||◌, Bool, true, List, [], IfOk, IsTrue, OnOk, length, map};
+ghost use Rattle.lola_port.specs.States.{SinkState};
+ghost use Rattle.lola_merge.specs.Merging.{opening};
+ghost use Rattle.lola_model.specs.Journal.{time_after};
+ghost use Rattle.lola_monitor_run.specs.Running.{HasRoom, IsGoing, IsNext, IsRowFor, IsSetAs, Stands, keeping};
+ghost use Rattle.lola_monitor_run.specs.Feeds.{AreInPlace, AreReady, EndsRun, IsFresh, IsIdle, RanToEnd, Runs, Supply, World, supplies_of, supply_of, world};
+ghost use Rattle.lola_monitor_run.specs.Turning.{GoesRound, IsOutOfMemory, IsStanding, IsUnderWay, RunsEntry, Steps};
+
+use crate::feed::Feed;
+use lola_feed::worker::{SourceEnd, SourceWorker, Turn};
+use lola_merge::batch::Batch;
+use lola_merge::state::MergeState;
+use lola_model::journal::Entry;
+use lola_port::{Gate, Sink, Source};
+use crate::run::Run;
+use crate::stop::Stop;
+use lola_value::text::Memory;
+use std::alloc::Global;
+use std::thread::Threads;
+
+/// The most rows of a source.
+pub const MOST_ROWS: u64 = 1099511627776;
+
+// Traces an entry and runs it.
+fn run_entry<R: Threads + Sync, K: Sink, T: Sink, G: Gate + Sync>(
+    rt: &R,
+    run: &mut Run,
+    entry: &Entry,
+    out: &mut K,
+    trace: &mut T,
+    gate: &G,
+) -> Result<(), Stop>
+    requires standing { IsStanding (keeping run.old) }
+    requires room { HasRoom (keeping run.old) }
+    requires fits { IsRowFor (keeping run.old).desk.plan entry.now.row }
+    requires mark { IsNext (keeping run.old) entry.now }
+    ensures runs { RunsEntry result entry.now (λ sources. world (keeping run.old) sources (K.state out.old) (T.state trace.old))
+        (λ sources. world (keeping run.new) sources (K.state out.new) (T.state trace.new)) }
+    ensures merged { OnOk result ((keeping run.new).desk.merged ≡ time_after (keeping run.old).desk.merged entry.now) }
+    ensures setting { IsSetAs (keeping run.old) (keeping run.new) }
+{
+    if let Err(stop) = run.trace(entry, trace) {
+        return Err(stop);
+    }
+    run.take(rt, entry, out, gate)
+}
+
+// Whether a worker has ended for want of memory.
+fn is_out_of_memory(turn: Turn) -> bool
+    ensures { IsTrue result ↔ IsOutOfMemory turn }
+{
+    matches!(turn, Turn::Done(SourceEnd::Memory))
+}
+
+// A turn of a source: what it handed in is taken out, traced and run. It tells whether that was a row.
+fn run_turn<R: Threads + Sync, S: Source, K: Sink, T: Sink, G: Gate + Sync>(
+    rt: &R,
+    run: &mut Run,
+    feed: &mut Feed<S>,
+    source: u32,
+    out: &mut K,
+    trace: &mut T,
+    gate: &G,
+) -> Result<bool, Stop>
+    requires there { source < length feed.old.workers }
+    requires standing { IsStanding (keeping run.old) }
+    requires room { HasRoom (keeping run.old) }
+    requires idle { IsIdle feed.old (keeping run.old) }
+    ensures steps { Steps result source (world (keeping run.old) (supplies_of feed.old) (K.state out.old) (T.state trace.old))
+        (world (keeping run.new) (supplies_of feed.new) (K.state out.new) (T.state trace.new)) }
+    ensures idle { OnOk result (IsIdle feed.new (keeping run.new)) }
+    ensures places { AreInPlace feed.old.workers feed.new.workers }
+    ensures setting { IsSetAs (keeping run.old) (keeping run.new) }
+{
+    let turn = feed.turn(source);
+    if is_out_of_memory(turn) {
+        return Err(Stop::Memory);
+    }
+    let entry = match feed.take() {
+        Some(entry) => entry,
+        None => return Ok(false),
+    };
+    match run_entry(rt, run, &entry, out, trace, gate) {
+        Ok(()) => Ok(true),
+        Err(stop) => Err(stop),
+    }
+}
+
+// Whether one of two is so.
+fn either(first: bool, second: bool) -> bool
+    ensures { result ≡ first || second }
+{
+    first || second
+}
+
+// A turn of each source. It tells whether a row was taken.
+fn run_round<R: Threads + Sync, S: Source, K: Sink, T: Sink, G: Gate + Sync>(
+    rt: &R,
+    run: &mut Run,
+    feed: &mut Feed<S>,
+    out: &mut K,
+    trace: &mut T,
+    gate: &G,
+) -> Result<bool, Stop>
+    requires many { length feed.old.workers ≤ 64 }
+    requires under_way { IsUnderWay (world (keeping run.old) (supplies_of feed.old) (K.state out.old) (T.state trace.old)) }
+    requires idle { IsIdle feed.old (keeping run.old) }
+    ensures goes { GoesRound result (world (keeping run.old) (supplies_of feed.old) (K.state out.old) (T.state trace.old))
+        (world (keeping run.new) (supplies_of feed.new) (K.state out.new) (T.state trace.new)) }
+    ensures idle { OnOk result (IsIdle feed.new (keeping run.new)) }
+    ensures places { AreInPlace feed.old.workers feed.new.workers }
+    ensures setting { IsSetAs (keeping run.old) (keeping run.new) }
+{
+    let mut moved = false;
+    let count = feed.sources();
+    for source in 0..count {
+        match run_turn(rt, run, feed, source, out, trace, gate) {
+            Ok(row) => moved = either(moved, row),
+            Err(stop) => return Err(stop),
+        }
+    }
+    Ok(moved)
+}
+
+// Takes one row of each source, round after round, each traced and run before the next is read, until all have ended or
+// something ends the run.
+fn run_rows<R: Threads + Sync, S: Source, K: Sink, T: Sink, G: Gate + Sync>(
+    rt: &R,
+    run: &mut Run,
+    feed: &mut Feed<S>,
+    out: &mut K,
+    trace: &mut T,
+    gate: &G,
+) -> Result<(), Stop>
+    requires stands { Stands [] (keeping run.old) }
+    requires idle { IsIdle feed.old (keeping run.old) }
+    requires fresh { IsFresh feed.old }
+    ensures run { Runs true result (world (keeping run.old) (supplies_of feed.old) (K.state out.old) (T.state trace.old))
+        (world (keeping run.new) (supplies_of feed.new) (K.state out.new) (T.state trace.new)) }
+    ensures places { AreInPlace feed.old.workers feed.new.workers }
+    ensures setting { IsSetAs (keeping run.old) (keeping run.new) }
+    ensures going { OnOk result (IsGoing (keeping run.new)) }
+{
+    loop {
+        match run_round(rt, run, feed, out, trace, gate) {
+            Ok(true) => {}
+            Ok(false) => return Ok(()),
+            Err(stop) => return Err(stop),
+        }
+    }
+}
+
+/// Runs the deadlines at the last stamp and puts their lines, once all rows were run, whatever sources they are of.
+pub fn run_out<R: Threads + Sync, K: Sink, G: Gate + Sync>(
+    rt: &R,
+    run: &mut Run,
+    out: &mut K,
+    gate: &G,
+) -> Result<(), Stop>
+    requires going { IsGoing (keeping run.old) }
+    ensures run { (in_turns : Bool) (first : World) (sources : List Supply) (trace : SinkState) → RanToEnd in_turns first (world (keeping run.old) sources (K.state out.old) trace)
+        → EndsRun in_turns result first (world (keeping run.new) sources (K.state out.new) trace) }
+    ensures plan { (keeping run.new).desk.plan ≡ (keeping run.old).desk.plan }
+{
+    run.close(rt, out, gate)
+}
+
+// Runs all rows of the sources of a feed, and then the deadlines at the last stamp, unless a row has a fault or the run was cut
+// short.
+fn run_whole<R: Threads + Sync, S: Source, K: Sink, T: Sink, G: Gate + Sync>(
+    rt: &R,
+    run: &mut Run,
+    feed: &mut Feed<S>,
+    out: &mut K,
+    trace: &mut T,
+    gate: &G,
+) -> Result<(), Stop>
+    requires stands { Stands [] (keeping run.old) }
+    requires idle { IsIdle feed.old (keeping run.old) }
+    requires fresh { IsFresh feed.old }
+    ensures run { EndsRun true result (world (keeping run.old) (supplies_of feed.old) (K.state out.old) (T.state trace.old))
+        (world (keeping run.new) (supplies_of feed.new) (K.state out.new) (T.state trace.new)) }
+    ensures places { AreInPlace feed.old.workers feed.new.workers }
+    ensures plan { (keeping run.new).desk.plan ≡ (keeping run.old).desk.plan }
+{
+    match run_rows(rt, run, feed, out, trace, gate) {
+        Ok(()) => run_out(rt, run, out, gate),
+        Err(stop) => Err(stop),
+    }
+}
+
+/// Runs all rows of sources, which are read in turns, and then the deadlines at the last stamp, unless a row has a fault
+/// or the run was cut short. The workers come back as their turns left them.
+pub fn run_in_turns<R: Threads + Sync, S: Source, K: Sink, T: Sink, G: Gate + Sync>(
+    rt: &R,
+    alloc: Global,
+    run: &mut Run,
+    workers: Vec<SourceWorker<S>>,
+    start: Option<u64>,
+    out: &mut K,
+    trace: &mut T,
+    gate: &G,
+) -> (Vec<SourceWorker<S>>, Result<(), Stop>)
+    requires stands { Stands [] (keeping run.old) }
+    requires ready { AreReady (keeping run.old).desk.plan workers.items }
+    requires start { start ≡ (keeping run.old).desk.option }
+    ensures run { EndsRun true result.1 (world (keeping run.old) (map supply_of workers.items) (K.state out.old) (T.state trace.old))
+        (world (keeping run.new) (map supply_of result.0.items) (K.state out.new) (T.state trace.new)) }
+    ensures places { AreInPlace workers.items result.0.items }
+    ensures plan { (keeping run.new).desk.plan ≡ (keeping run.old).desk.plan }
+{
+    let sources = workers.len() as u32;
+    let (state, batch) = match make_room(alloc, sources, start) {
+        Ok(room) => room,
+        Err(_) => return (workers, Err(Stop::Memory)),
+    };
+    let mut feed = Feed::create(workers, state, batch);
+    let stopped = run_whole(rt, run, &mut feed, out, trace, gate);
+    (feed.into_workers(), stopped)
+}
+
+// A merge object for so many sources, and room for what is taken out of it.
+fn make_room(alloc: Global, sources: u32, start: Option<u64>) -> Result<(MergeState, Batch), Memory>
+    requires { (1 ≤ sources) × (sources ≤ 64) }
+    ensures state { IfOk result (λ room. room.0 ≡ opening sources start) }
+    ensures batch { IfOk result (λ room. room.1 ≡ []) }
+{
+    let state = MergeState::create(alloc, sources, start)?;
+    let batch = Batch::create(alloc)?;
+    Ok((state, batch))
+}

@@ -1,0 +1,226 @@
+-- An entry behind a journal is traced and run, and what becomes of one after another.
+use Rattle.std.proofs.Common.{◌≡◌, ℕ, ◌+◌, ◌<◌, List, [], ◌∷◌, ◌++◌, Option, None, Some, Result, Ok, Err, refl, sym, ap, ◌∙◌, inl, inr, ⊎_elim, arith, append_assoc, subst}
+use Rattle.std.proofs.lemmas.List.{append-nil}
+use Rattle.std.proofs.lemmas.List.Elements.{All-append, All-push}
+use Rattle.lola_port.specs.States.{PutBroke, SinkState, grown}
+use Rattle.lola_model.specs.Journal.{IsLegal, IsLegalFrom, IsRightlyMarked, opening_time}
+use Rattle.lola_model.specs.Faults.{RunFault}
+use Rattle.lola_model.specs.Texts.{text_of}
+use Rattle.lola_model.specs.Trace.{IsTraceable, trace_line, trace_text}
+use Rattle.lola_model.specs.declared.journal.Entry.{Entry}
+use Rattle.lola_model.specs.declared.journal.Mark.{Mark}
+use Rattle.lola_model.specs.declared.journal.Mark.TheVariants as mark
+use Rattle.lola_model.proofs.Journals.{IsLegalFrom-append_left, IsLegalFrom-append_right, trace_text-append_one}
+use Rattle.lola_engine.specs.Engines.{Brings}
+use Rattle.lola_monitor_run.specs.Verdicts.{AreOfSources, AreTraceable, IsRowFault, Setting, settled_fault_in, settled_text}
+use Rattle.lola_monitor_run.specs.Running.{CutFaultNext, CutNext, FaultNext, HasRoom, IsAccepted, IsNext, IsSetAs, Keeping, KeptNext, Puts, StandsNext, Takes, setting_in}
+use Rattle.lola_monitor_run.specs.declared.stop.Stop.{Stop}
+use Rattle.lola_monitor_run.specs.declared.stop.Stop.TheVariants as stop
+use Rattle.lola_monitor_run.proofs.Entries.{BringsIn, accepted_is, all_put, cut_at_row, last_not_put, text_more, told_more}
+use Rattle.lola_monitor_run.proofs.Sinks.{broke_behind, more_text}
+use Rattle.lola_monitor_run.proofs.Taking.{merged_is}
+use Rattle.lola_monitor_threads.specs.Takings.{HasFailed, HasRun, Halts, IsCutAtFault, IsCutInRow, IsFit, IsOutOfMemory, IsStopped, IsUnderWay, Place, RunsOne, StopsBy, most_taken, place}
+use Rattle.lola_monitor_threads.specs.declared.halt.Halt.{Halt}
+use Rattle.lola_monitor_threads.specs.declared.halt.Halt.TheVariants as halt
+
+module _ (first : Place) (journal : List Entry) (k0 : Keeping) (o0 t0 : SinkState) (so : HasRun first journal (place k0 o0 t0)) (entry : Entry) (told : IsTraceable k0.desk.plan entry) where
+  fine_so_far : settled_fault_in (setting_in first.kept) journal ≡ None
+  fine_so_far = ap (λ (s : Setting). settled_fault_in s journal) (sym so.setting) ∙ so.stands.engine.fine
+
+  told_first : IsTraceable first.kept.desk.plan entry
+  told_first = subst (λ (s : Setting). IsTraceable s.plan entry) so.setting told
+
+  all_told : AreTraceable first.kept.desk.plan (journal ++ entry ∷ [])
+  all_told = told_more first.kept.desk.plan journal entry so.traceable told_first
+
+  pub not_traced : (t1 : SinkState) (how : Stop) → Puts (Err how) (trace_line entry) t0 t1 → RunsOne (Err how) first journal entry (place k0 o0 t1)
+  not_traced t1 (stop.Fault stream kind time) puts = absurd puts
+  not_traced t1 (stop.CutFault stream kind time) puts = absurd puts
+  not_traced t1 stop.Put puts = (
+    journal,
+    inl refl,
+    record {
+      traceable = so.traceable;
+      by = inl (record {
+        no_fault = fine_so_far;
+        trace = record { entry = entry; traceable = told_first; cut = subst (λ (t : SinkState). PutBroke t t1 (trace_line entry)) so.trace puts };
+        out = so.out;
+      });
+    },
+  )
+  not_traced t1 stop.Memory puts =
+      (journal, inl refl, record { traceable = so.traceable; by = record { trace = puts ∙ so.trace; out = all_put (setting_in first.kept) journal first.out o0 so.out } })
+
+  -- an entry's line was put, and it was given to the run
+  module _ (k1 : Keeping) (o1 t1 : SinkState) (traced : t1 ≡ grown t0 (trace_line entry)) where
+    trace_is : t1 ≡ grown first.trace (trace_text (journal ++ entry ∷ []))
+    trace_is = more_text _ _ _ _ _ _ so.trace traced (trace_text-append_one journal entry)
+
+    text_is : (lines : List (List ℕ)) → Brings k0.desk journal entry lines → settled_text (setting_in first.kept) (journal ++ entry ∷ []) ≡ settled_text (setting_in first.kept) journal ++ text_of lines
+    text_is lines brings = text_more (setting_in first.kept) journal entry lines (subst (λ (s : Setting). BringsIn s journal entry lines) so.setting brings)
+
+    row_fault : (fault : RunFault) → IsAccepted entry → settled_fault_in (setting_in k0) (journal ++ entry ∷ []) ≡ Some fault → IsRowFault (setting_in first.kept) (journal ++ entry ∷ []) fault
+    row_fault fault accepted is = record {
+      front = journal;
+      row = entry.row;
+      whole = ap (λ (e : Entry). journal ++ e ∷ []) (accepted_is entry accepted);
+      none_before = fine_so_far;
+      settled = ap (λ (s : Setting). settled_fault_in s (journal ++ entry ∷ [])) (sym so.setting) ∙ is;
+    }
+
+    ran : StandsNext journal entry k0 k1 o0 o1 → IsSetAs k0 k1 → HasRun first (journal ++ entry ∷ []) (place k1 o1 t1)
+    ran next setting = record { stands = next.stands; setting = setting ∙ so.setting; traceable = all_told; trace = trace_is; out = more_text _ _ _ _ _ _ so.out next.out (text_is next.lines next.brings) }
+
+    failed : (fault : RunFault) → FaultNext fault journal entry k0 o0 o1 → IsAccepted entry → HasFailed fault first (journal ++ entry ∷ []) (place k1 o1 t1)
+    failed fault bad accepted = record { stands = row_fault fault accepted bad.is_fault; trace = trace_is; out = more_text _ _ _ _ _ _ so.out bad.out (text_is bad.lines bad.brings) }
+
+    failed_cut : (fault : RunFault) → CutFaultNext fault journal entry k0 o0 o1 → IsAccepted entry → IsCutAtFault fault first (journal ++ entry ∷ []) (place k1 o1 t1)
+    failed_cut fault bad accepted = record {
+      stands = row_fault fault accepted bad.is_fault;
+      trace = trace_is;
+      out = subst (PutBroke first.out o1) (sym (text_is bad.lines bad.brings)) (broke_behind first.out o0 o1 (settled_text (setting_in first.kept) journal) (text_of bad.lines) so.out bad.out);
+    }
+
+    broken : CutNext journal entry k0 o0 o1 → IsAccepted entry → IsCutInRow first (journal ++ entry ∷ []) (place k1 o1 t1)
+    broken c accepted = record {
+      no_fault = ap (λ (s : Setting). settled_fault_in s (journal ++ entry ∷ [])) (sym so.setting) ∙ c.fine;
+      trace = trace_is;
+      out = cut_at_row (setting_in first.kept) journal entry (text_of c.lines) first.out o0 o1 accepted (text_is c.lines c.brings) so.out c.out;
+    }
+
+    unput : KeptNext journal entry k0 o0 o1 → IsOutOfMemory first (journal ++ entry ∷ []) (place k1 o1 t1)
+    unput c = record { trace = trace_is; out = last_not_put (setting_in first.kept) journal entry (text_of c.lines) first.out o1 (text_is c.lines c.brings) (c.out ∙ so.out) }
+
+    stopped : (how : Stop) → StopsBy how first (journal ++ entry ∷ []) (place k1 o1 t1) → RunsOne (Err how) first journal entry (place k1 o1 t1)
+    stopped how by = (journal ++ entry ∷ [], inr refl, record { traceable = all_told; by = by })
+
+    pub ran_one : (result : Result (Unit {0}) Stop) → Takes result entry k0 k1 o0 o1 → RunsOne result first journal entry (place k1 o1 t1)
+    ran_one (Ok done) takes = ran (takes.0 journal so.stands) takes.1
+    ran_one (Err (stop.Fault stream kind time)) takes = stopped (stop.Fault stream kind time) (failed (record { stream = stream; kind = kind; time = time }) (takes.0 journal so.stands) takes.1)
+    ran_one (Err (stop.CutFault stream kind time)) takes = stopped (stop.CutFault stream kind time) (failed_cut (record { stream = stream; kind = kind; time = time }) (takes.0 journal so.stands) takes.1)
+    ran_one (Err stop.Put) takes = stopped stop.Put (inr (broken (takes.0 journal so.stands) takes.1))
+    ran_one (Err stop.Memory) takes = stopped stop.Memory (unput (takes.0 journal so.stands))
+
+-- one entry more, of one of so many sources
+of_sources_more : (count : ℕ) (journal : List Entry) (entry : Entry) → AreOfSources count journal → entry.row.source < count → AreOfSources count (journal ++ entry ∷ [])
+of_sources_more count journal entry all less = All-push (λ (e : Entry). e.row.source < count) journal entry all less
+
+-- an entry stopped the run
+pub one_stopped : (how : Stop) (count : ℕ) (first : Place) (journal : List Entry) (entry : Entry) (now : Place) → AreOfSources count journal → entry.row.source < count
+    → RunsOne (Err how) first journal entry now → Halts (Err (halt.Stopped how)) count first (journal ++ entry ∷ []) now
+one_stopped how count first journal entry now all less (front, at, stops) = ⊎_elim
+    (λ (is : front ≡ journal). before is)
+    (λ (is : front ≡ journal ++ entry ∷ []). behind is)
+    at
+  where
+    before : front ≡ journal → IsStopped how count first (journal ++ entry ∷ []) now
+    before is = record { front = front; behind = entry ∷ []; joined = ap (λ l. l ++ entry ∷ []) (sym is); sources = subst (AreOfSources count) (sym is) all; stops = stops }
+
+    behind : front ≡ journal ++ entry ∷ [] → IsStopped how count first (journal ++ entry ∷ []) now
+    behind is = record { front = front; behind = []; joined = sym is ∙ sym (append-nil front); sources = subst (AreOfSources count) (sym is) (of_sources_more count journal entry all less); stops = stops }
+
+-- an entry that no run takes
+pub one_unfit : (count : ℕ) (first : Place) (journal : List Entry) (entry : Entry) (now : Place) → AreOfSources count journal → HasRun first journal now → (IsFit count now.kept entry → ⊥)
+    → Halts (Err halt.Unfit) count first (journal ++ entry ∷ []) now
+one_unfit count first journal entry now all run unfit = record { front = journal; entry = entry; behind = []; joined = refl; sources = all; run = run; unfit = unfit }
+
+-- an entry was run
+pub one_run : (count : ℕ) (first : Place) (journal : List Entry) (entry : Entry) (now : Place) → AreOfSources count journal → entry.row.source < count → HasRun first (journal ++ entry ∷ []) now
+    → Halts (Ok tt) count first (journal ++ entry ∷ []) now
+one_run count first journal entry now all less run = (run, of_sources_more count journal entry all less)
+
+-- what stands behind an end changes nothing of it
+pub more_behind : (how : Halt) (count : ℕ) (first : Place) (front behind whole : List Entry) (now : Place) → whole ≡ front ++ behind → Halts (Err how) count first front now → Halts (Err how) count first whole now
+more_behind (halt.Stopped how) count first front behind whole now is h = record {
+  front = h.front;
+  behind = h.behind ++ behind;
+  joined = is ∙ (ap (λ l. l ++ behind) h.joined ∙ append_assoc h.front h.behind behind);
+  sources = h.sources;
+  stops = h.stops;
+}
+more_behind halt.Unfit count first front behind whole now is h = record {
+  front = h.front;
+  entry = h.entry;
+  behind = h.behind ++ behind;
+  joined = is ∙ (ap (λ l. l ++ behind) h.joined ∙ append_assoc h.front (h.entry ∷ h.behind) behind);
+  sources = h.sources;
+  run = h.run;
+  unfit = h.unfit;
+}
+
+-- the next entry is rightly marked
+pub next_marked : (now : Place) (entry : Entry) (more : List Entry) → IsUnderWay now (entry ∷ more) → IsNext now.kept entry
+next_marked now entry more way =
+    let legal = IsLegalFrom-append_right (opening_time now.kept.desk.option) way.journal (entry ∷ more) way.marked in
+    subst (λ t. IsRightlyMarked t entry) (sym (merged_is way.journal now.kept way.run.stands)) legal.0
+
+-- the next entry alone
+pub way_to_next : (now : Place) (entry : Entry) (more : List Entry) → IsUnderWay now (entry ∷ more) → IsUnderWay now (entry ∷ [])
+way_to_next now entry more way = record {
+  first = way.first;
+  journal = way.journal;
+  run = way.run;
+  marked = IsLegalFrom-append_left (opening_time now.kept.desk.option) (way.journal ++ entry ∷ []) more
+      (subst (IsLegalFrom (opening_time now.kept.desk.option)) (sym (append_assoc way.journal (entry ∷ []) more)) way.marked);
+}
+
+-- the way goes on behind an entry
+pub way_on : (now next : Place) (entry : Entry) (more : List Entry) → IsUnderWay now (entry ∷ more) → ((first : Place) (journal : List Entry) → HasRun first journal now → HasRun first (journal ++ entry ∷ []) next)
+    → IsSetAs now.kept next.kept → IsUnderWay next more
+way_on now next entry more way goes setting = record {
+  first = way.first;
+  journal = way.journal ++ entry ∷ [];
+  run = goes way.first way.journal way.run;
+  marked = subst (λ (o : Option ℕ). IsLegal o ((way.journal ++ entry ∷ []) ++ more)) (sym (ap (λ (s : Setting). s.start) setting))
+      (subst (IsLegalFrom (opening_time now.kept.desk.option)) (sym (append_assoc way.journal (entry ∷ []) more)) way.marked);
+}
+
+-- a run that may count one row more has room for it
+pub has_room : (now : Place) (more : List Entry) → IsUnderWay now more → now.kept.accepted + now.kept.late < most_taken → HasRoom now.kept
+has_room now more way few =
+    let rows : now.kept.desk.rows ≡ now.kept.accepted = way.run.stands.engine.rows ∙ sym way.run.stands.accepted in
+    record { engine = omega arith; rows = omega arith }
+
+-- some entries were run one after another, and these are left
+pub record RanSome (count : ℕ) (old new : Place) (all left : List Entry) : Type 0 where
+  pub done : List Entry
+  pub split : all ≡ done ++ left
+  pub sources : AreOfSources count done
+  pub runs : (first : Place) (journal : List Entry) → HasRun first journal old → HasRun first (journal ++ done) new
+
+pub ran_none : (count : ℕ) (old : Place) (all : List Entry) → RanSome count old old all all
+ran_none count old all = record {
+  done = [];
+  split = refl;
+  sources = λ k d l. absurd (omega arith);
+  runs = λ first journal run. subst (λ l. HasRun first l old) (sym (append-nil journal)) run;
+}
+
+pub ran_more : (count : ℕ) (old mid new : Place) (all : List Entry) (entry : Entry) (left : List Entry) → RanSome count old mid all (entry ∷ left) → entry.row.source < count
+    → ((first : Place) (journal : List Entry) → HasRun first journal mid → HasRun first (journal ++ entry ∷ []) new) → RanSome count old new all left
+ran_more count old mid new all entry left some less goes = record {
+  done = some.done ++ entry ∷ [];
+  split = some.split ∙ sym (append_assoc some.done (entry ∷ []) left);
+  sources = of_sources_more count some.done entry some.sources less;
+  runs = λ first journal run. subst (λ l. HasRun first l new) (append_assoc journal some.done (entry ∷ [])) (goes first (journal ++ some.done) (some.runs first journal run));
+}
+
+-- all of them were run
+pub all_run : (count : ℕ) (old new : Place) (all : List Entry) → RanSome count old new all [] → (first : Place) (journal : List Entry) → HasRun first journal old → HasRun first (journal ++ all) new
+all_run count old new all some first journal run = subst (λ l. HasRun first (journal ++ l) new) (sym (some.split ∙ append-nil some.done)) (some.runs first journal run)
+
+pub all_halts : (count : ℕ) (old new : Place) (all : List Entry) → RanSome count old new all [] → (first : Place) (journal : List Entry) → HasRun first journal old → AreOfSources count journal
+    → Halts (Ok tt) count first (journal ++ all) new
+all_halts count old new all some first journal run sources = (
+  all_run count old new all some first journal run,
+  subst (λ l. AreOfSources count (journal ++ l)) (sym (some.split ∙ append-nil some.done)) (All-append (λ (e : Entry). e.row.source < count) journal some.done sources some.sources),
+)
+
+-- the next of them ended it
+pub next_halts : (how : Halt) (count : ℕ) (old mid new : Place) (all : List Entry) (entry : Entry) (left : List Entry) → RanSome count old mid all (entry ∷ left)
+    → ((first : Place) (journal : List Entry) → HasRun first journal mid → AreOfSources count journal → Halts (Err how) count first (journal ++ entry ∷ []) new)
+    → (first : Place) (journal : List Entry) → HasRun first journal old → AreOfSources count journal → Halts (Err how) count first (journal ++ all) new
+next_halts how count old mid new all entry left some ends first journal run sources =
+    more_behind how count first ((journal ++ some.done) ++ entry ∷ []) left (journal ++ all) new
+    (ap (λ l. journal ++ l) some.split ∙ (sym (append_assoc journal some.done (entry ∷ left)) ∙ sym (append_assoc (journal ++ some.done) (entry ∷ []) left)))
+    (ends first (journal ++ some.done) (some.runs first journal run) (All-append (λ (e : Entry). e.row.source < count) journal some.done sources some.sources))

@@ -1,0 +1,147 @@
+-- What the engine's thread takes out of an intake, and what becomes of it.
+use Rattle.std.specs.Prelude.{◌≡◌, ◌⊎◌, ◌+◌, ◌<◌, ◌^◌, ℕ, Bool, List, [], ◌∷◌, ◌++◌, None, Result, Ok, Err}
+use Rattle.lola_port.specs.States.{PutBroke, SinkState, grown}
+use Rattle.atomic_table.specs.Seated.{TableId}
+use Rattle.lola_value.specs.declared.value.Kind.{Kind}
+use Rattle.lola_model.specs.Faults.{RunFault}
+use Rattle.lola_model.specs.Journal.{IsLegal}
+use Rattle.lola_model.specs.Trace.{input_kinds, trace_text}
+use Rattle.lola_model.specs.declared.journal.Entry.{Entry}
+use Rattle.lola_intake.specs.Intakes.{Shown}
+use Rattle.lola_monitor_run.specs.Verdicts.{AreOfSources, AreTraceable, HasFront, IsCutAtRow, IsCutInLine, IsRowFault, settled_fault_in, settled_text}
+use Rattle.lola_monitor_run.specs.Running.{IsRowFor, IsSetAs, Keeping, Stands, setting_in}
+use Rattle.lola_monitor_run.specs.declared.stop.Stop.{Stop}
+use Rattle.lola_monitor_run.specs.declared.stop.Stop.TheVariants as stop
+use Rattle.lola_monitor_threads.specs.declared.halt.Halt.{Halt}
+use Rattle.lola_monitor_threads.specs.declared.halt.Halt.TheVariants as halt
+
+-- where a run stands: what it keeps, and what was put
+pub record Place : Type 0 where
+  pub kept : Keeping
+  pub out : SinkState
+  pub trace : SinkState
+
+abbrev pub place : Keeping → SinkState → SinkState → Place
+place kept out trace = record { kept = kept; out = out; trace = trace }
+
+-- the entries of a journal were traced and run, from a place on
+pub record HasRun (first : Place) (journal : List Entry) (now : Place) : Type 0 where
+  pub stands : Stands journal now.kept
+  pub setting : IsSetAs first.kept now.kept
+  pub traceable : AreTraceable first.kept.desk.plan journal
+  pub trace : now.trace ≡ grown first.trace (trace_text journal)
+  pub out : now.out ≡ grown first.out (settled_text (setting_in first.kept) journal)
+
+-- the last of them has a fault
+pub record HasFailed (fault : RunFault) (first : Place) (journal : List Entry) (now : Place) : Type 0 where
+  pub stands : IsRowFault (setting_in first.kept) journal fault
+  pub trace : now.trace ≡ grown first.trace (trace_text journal)
+  pub out : now.out ≡ grown first.out (settled_text (setting_in first.kept) journal)
+
+-- the last of them has a fault, and the lines before it were cut short
+pub record IsCutAtFault (fault : RunFault) (first : Place) (journal : List Entry) (now : Place) : Type 0 where
+  pub stands : IsRowFault (setting_in first.kept) journal fault
+  pub trace : now.trace ≡ grown first.trace (trace_text journal)
+  pub out : PutBroke first.out now.out (settled_text (setting_in first.kept) journal)
+
+-- the line of one entry more was cut short: the verdicts of all of them were put, and none has a fault
+pub record IsCutInTrace (first : Place) (journal : List Entry) (now : Place) : Type 0 where
+  pub no_fault : settled_fault_in (setting_in first.kept) journal ≡ None
+  pub trace : IsCutInLine first.kept.desk.plan first.trace now.trace journal
+  pub out : now.out ≡ grown first.out (settled_text (setting_in first.kept) journal)
+
+-- the verdicts of the last of them were cut short, and none has a fault
+pub record IsCutInRow (first : Place) (journal : List Entry) (now : Place) : Type 0 where
+  pub no_fault : settled_fault_in (setting_in first.kept) journal ≡ None
+  pub trace : now.trace ≡ grown first.trace (trace_text journal)
+  pub out : IsCutAtRow (setting_in first.kept) first.out now.out journal
+
+-- there was no memory: they were traced, and a front of their verdicts was put
+pub record IsOutOfMemory (first : Place) (journal : List Entry) (now : Place) : Type 0 where
+  pub trace : now.trace ≡ grown first.trace (trace_text journal)
+  pub out : HasFront (setting_in first.kept) first.out now.out journal
+
+-- what stopped a run at a journal, and what was put
+abbrev pub StopsBy : Stop → Place → List Entry → Place → Type 0
+StopsBy (stop.Fault stream kind time) first journal now = HasFailed (record { stream = stream; kind = kind; time = time }) first journal now
+StopsBy (stop.CutFault stream kind time) first journal now = IsCutAtFault (record { stream = stream; kind = kind; time = time }) first journal now
+StopsBy stop.Put first journal now = IsCutInTrace first journal now ⊎ IsCutInRow first journal now
+StopsBy stop.Memory first journal now = IsOutOfMemory first journal now
+
+-- how a run is stopped at a journal
+pub record StopsAt (how : Stop) (first : Place) (journal : List Entry) (now : Place) : Type 0 where
+  pub traceable : AreTraceable first.kept.desk.plan journal
+  pub by : StopsBy how first journal now
+
+-- an entry behind a journal was traced and run, or what stopped the run at it
+abbrev pub RunsOne : Result (Unit {0}) Stop → Place → List Entry → Entry → Place → Type 0
+RunsOne (Ok done) first journal entry now = HasRun first (journal ++ entry ∷ []) now
+RunsOne (Err how) first journal entry now = (front : List Entry) × ((front ≡ journal) ⊎ (front ≡ journal ++ entry ∷ [])) × StopsAt how first front now
+
+-- whatever journal was run before, these entries were run behind it
+abbrev pub GoesOn : List Entry → Place → Place → Type 0
+GoesOn more old now = (first : Place) (journal : List Entry) → HasRun first journal old → HasRun first (journal ++ more) now
+
+-- how many rows a run may take
+abbrev pub most_taken : ℕ
+most_taken = 2 ^ 46
+
+-- how many sources a run has, and the kinds of its plan's inputs
+pub record InputsOf : Type 0 where
+  pub count : ℕ
+  pub kinds : List Kind
+
+-- what the engine's thread takes rows with
+pub record Taking : Type 0 where
+  pub seat : Shown
+  pub inputs : InputsOf
+  pub batch : List Entry
+
+-- it takes rows of an intake for a run: nothing is in its batch, and it was made for the run's plan and start
+pub record IsReady (taking : Taking) (intake : TableId) (kept : Keeping) : Type 0 where
+  pub own : taking.seat.intake ≡ intake
+  pub kinds : taking.inputs.kinds ≡ input_kinds kept.desk.plan.spec.streams
+  pub start : taking.seat.setting.start ≡ kept.desk.option
+  pub empty : taking.batch ≡ []
+
+-- an entry that a run of a plan takes: its source is one of so many, its row fits the plan, and one row more can be counted
+pub record IsFit (count : ℕ) (kept : Keeping) (entry : Entry) : Type 0 where
+  pub source : entry.row.source < count
+  pub row : IsRowFor kept.desk.plan entry.row
+  pub room : kept.accepted + kept.late < most_taken
+
+-- entries were run up to one that no run takes
+pub record IsUnfit (count : ℕ) (first : Place) (taken : List Entry) (now : Place) : Type 0 where
+  pub front : List Entry
+  pub entry : Entry
+  pub behind : List Entry
+  pub joined : taken ≡ front ++ entry ∷ behind
+  pub sources : AreOfSources count front
+  pub run : HasRun first front now
+  pub unfit : IsFit count now.kept entry → ⊥
+
+-- entries were run up to one at which the run was stopped
+pub record IsStopped (how : Stop) (count : ℕ) (first : Place) (taken : List Entry) (now : Place) : Type 0 where
+  pub front : List Entry
+  pub behind : List Entry
+  pub joined : taken ≡ front ++ behind
+  pub sources : AreOfSources count front
+  pub stops : StopsAt how first front now
+
+-- what became of all entries that were taken
+abbrev pub Halts : Result (Unit {0}) Halt → ℕ → Place → List Entry → Place → Type 0
+Halts (Ok done) count first taken now = HasRun first taken now × AreOfSources count taken
+Halts (Err (halt.Stopped how)) count first taken now = IsStopped how count first taken now
+Halts (Err halt.Unfit) count first taken now = IsUnfit count first taken now
+
+-- some entries were run, and behind them these are rightly marked
+pub record IsUnderWay (now : Place) (more : List Entry) : Type 0 where
+  pub first : Place
+  pub journal : List Entry
+  pub run : HasRun first journal now
+  pub marked : IsLegal now.kept.desk.option (journal ++ more)
+
+-- what a take came to, whether or not all is done
+abbrev pub was_taken : Result Bool Halt → Result (Unit {0}) Halt
+was_taken (Ok done) = Ok tt
+was_taken (Err how) = Err how

@@ -1,0 +1,258 @@
+//! A source's worker with its seat at the intake.
+ghost use Rattle.std.specs.Prelude.{◌≡◌};
+ghost use Rattle.lola_monitor_threads.specs.Seated.{WentOn, seated};
+
+use lola_monitor_board::{Board, Watch};
+use lola_feed::worker::{SourceWorker, Turn};
+use lola_intake::intake::Intake;
+use lola_intake::seats::SourceSeat;
+use lola_port::{Gate, Source};
+use lola_feed::SeatDesk;
+use std::marker::Model;
+use std::sync::Wait;
+
+/// How long a thread waits for the lines of its source before it looks whether the run was stopped, in milliseconds.
+const PIECE: u16 = 100;
+
+/// A source's worker and its seat, which go together to the thread that reads the source.
+#[derive(Drop)]
+pub struct SeatedWorker<S: Source> {
+    worker: SourceWorker<S>,
+    seat: SourceSeat,
+}
+
+impl<S: Source> Model for SeatedWorker<S> {
+    ghost use Rattle.std.specs.Prelude.{◌≡◌};
+    ghost use Rattle.lola_monitor_threads.specs.Seated.{Seated};
+
+    ghost Value = { Seated };
+
+    ghost view = { λ p. record { working = p.worker; seat = p.seat } };
+
+    ghost invariant = { λ p. p.worker.reader.shape.index ≡ p.seat.source };
+}
+
+// Waits until a read of a source answers at once, where it has to be read. It tells whether one would: else the run was stopped.
+fn wait_to_read<S: Source, R: Wait>(
+    rt: &R,
+    worker: &SourceWorker<S>,
+    source: u32,
+    board: &Board,
+) -> bool {
+    if worker.answers_at_once() || worker.is_ready() {
+        return true;
+    }
+    board.step_aside(source);
+    for _ in rt.forever() {
+        if board.is_stopped() {
+            return false;
+        }
+        if worker.wait_for_bytes(PIECE) {
+            return true;
+        }
+    }
+    unreachable!()
+}
+
+// Reads the heading of a source, unless it was read; where there is none, its desk is told so. It tells whether the worker goes on.
+fn begin_at<S: Source, R: Wait + Sync>(
+    worker: &mut SourceWorker<S>,
+    desk: &mut SeatDesk<'_, R>,
+) -> bool
+    requires { worker.old.reader.shape.index ≡ desk.old.source }
+    ensures { WentOn (seated worker.old desk.old) (seated worker.new desk.new) }
+{
+    worker.begin(desk)
+}
+
+// Looks at the next row of a source; where none is to come, its desk is told so.
+fn look_at<S: Source, R: Wait + Sync>(
+    worker: &mut SourceWorker<S>,
+    desk: &mut SeatDesk<'_, R>,
+) -> Option<u64>
+    requires { worker.old.reader.shape.index ≡ desk.old.source }
+    ensures { WentOn (seated worker.old desk.old) (seated worker.new desk.new) }
+{
+    worker.hold(desk)
+}
+
+/// Looks at the next row of a source, or reads the heading before the first.
+pub fn begin_or_look_at<S: Source, R: Wait + Sync>(
+    worker: &mut SourceWorker<S>,
+    desk: &mut SeatDesk<'_, R>,
+)
+    requires { worker.old.reader.shape.index ≡ desk.old.source }
+    ensures { WentOn (seated worker.old desk.old) (seated worker.new desk.new) }
+{
+    if worker.has_begun() {
+        look_at(worker, desk);
+    } else {
+        begin_at(worker, desk);
+    }
+}
+
+/// One turn of a source at its desk.
+pub fn turn_at<S: Source, R: Wait + Sync>(
+    worker: &mut SourceWorker<S>,
+    desk: &mut SeatDesk<'_, R>,
+) -> Turn
+    requires { worker.old.reader.shape.index ≡ desk.old.source }
+    ensures { WentOn (seated worker.old desk.old) (seated worker.new desk.new) }
+{
+    worker.turn(desk)
+}
+
+// Nobody waits any more for a source whose worker has ended, after its last row has found no room so many times.
+fn leave(board: &Board, source: u32, times: u32) {
+    board.step_aside(source);
+    board.row_is_in(source, times);
+}
+
+// Hands in the row that waits. Where the intake is full, its thread waits for room before the next turn. It tells whether the
+// worker goes on.
+fn hand_in<S: Source, R: Wait + Sync, G: Gate>(
+    rt: &R,
+    worker: &mut SourceWorker<S>,
+    desk: &mut SeatDesk<'_, R>,
+    source: u32,
+    gate: &G,
+    board: &Board,
+) -> bool
+    requires { worker.old.reader.shape.index ≡ desk.old.source }
+    ensures { WentOn (seated worker.old desk.old) (seated worker.new desk.new) }
+{
+    let mut times: u32 = 0;
+    for _ in rt.forever() {
+        match turn_at(worker, desk) {
+            Turn::Moved => {
+                board.row_is_in(source, times);
+                return true;
+            }
+            Turn::Full => {
+                board.wait_for_room(rt, source, times);
+                times = times.saturating_add(1);
+                gate.source_turn(source);
+            }
+            Turn::Done(_) => {
+                leave(board, source, times);
+                return false;
+            }
+        }
+    }
+    unreachable!()
+}
+
+// The next row of a source, read and handed in once it is the least of those that others have in hand. The gate is told before it
+// is read, and before each further turn. It tells whether the worker goes on: it does not where it has ended, or where the run is
+// stopped while its source is silent.
+fn pass_row<S: Source, R: Wait + Sync, G: Gate>(
+    rt: &R,
+    worker: &mut SourceWorker<S>,
+    desk: &mut SeatDesk<'_, R>,
+    source: u32,
+    gate: &G,
+    board: &Board,
+    watch: &mut Watch,
+) -> bool
+    requires { worker.old.reader.shape.index ≡ desk.old.source }
+    ensures { WentOn (seated worker.old desk.old) (seated worker.new desk.new) }
+{
+    gate.source_turn(source);
+    if !wait_to_read(rt, worker, source, board) {
+        return false;
+    }
+    match look_at(worker, desk) {
+        Some(stamp) => {
+            board.wait_for_turn(rt, source, stamp, watch);
+            hand_in(rt, worker, desk, source, gate, board)
+        }
+        None => {
+            leave(board, source, 0);
+            false
+        }
+    }
+}
+
+// The heading of a source and all its rows, one after another.
+fn run_at<S: Source, R: Wait + Sync, G: Gate>(
+    rt: &R,
+    worker: &mut SourceWorker<S>,
+    desk: &mut SeatDesk<'_, R>,
+    source: u32,
+    gate: &G,
+    board: &Board,
+)
+    requires { worker.old.reader.shape.index ≡ desk.old.source }
+    ensures { WentOn (seated worker.old desk.old) (seated worker.new desk.new) }
+{
+    if !wait_to_read(rt, worker, source, board) {
+        return;
+    }
+    if !begin_at(worker, desk) {
+        leave(board, source, 0);
+        return;
+    }
+    let mut watch = Watch::new();
+    for _ in rt.forever() {
+        if !pass_row(rt, worker, desk, source, gate, board, &mut watch) {
+            return;
+        }
+    }
+    unreachable!()
+}
+
+impl<S: Source> SeatedWorker<S> {
+    /// The worker of a source with the seat of that source.
+    pub fn create(worker: SourceWorker<S>, seat: SourceSeat) -> SeatedWorker<S>
+        requires { worker.reader.shape.index ≡ seat.source }
+        ensures { result ≡ seated worker seat }
+    {
+        SeatedWorker { worker, seat }
+    }
+
+    /// The number of its source.
+    pub fn source(&self) -> u32
+        ensures { result ≡ self.now.seat.source }
+    {
+        self.seat.source()
+    }
+
+    /// Whether each read of its source answers at once.
+    pub fn answers_at_once(&self) -> bool {
+        self.worker.answers_at_once()
+    }
+
+    /// Whether its source has a thread that wakes the calling thread when bytes have come.
+    pub fn rings(&self) -> bool {
+        self.worker.rings()
+    }
+
+    /// All turns of the source, until its worker has ended, or until the run is stopped while the source is silent.
+    pub fn run<R: Wait + Sync, G: Gate>(
+        self,
+        rt: &R,
+        intake: &Intake,
+        gate: &G,
+        board: &Board,
+    ) -> SeatedWorker<S>
+        requires { self.seat.intake ≡ intake.now }
+        ensures { WentOn self result }
+    {
+        let SeatedWorker { mut worker, seat } = self;
+        let source = seat.source();
+        let mut desk = SeatDesk::create(rt, intake, seat);
+        run_at(rt, &mut worker, &mut desk, source, gate, board);
+        SeatedWorker {
+            worker,
+            seat: desk.into_seat(),
+        }
+    }
+
+    /// The worker and the seat.
+    pub fn into_parts(self) -> (SourceWorker<S>, SourceSeat)
+        ensures { seated result.0 result.1 ≡ self }
+    {
+        let SeatedWorker { worker, seat } = self;
+        (worker, seat)
+    }
+}

@@ -1,4 +1,0 @@
-pub mod Pieces
-pub mod ClauseLemmas
-pub mod StreamLemmas
-pub mod WholeLemmas

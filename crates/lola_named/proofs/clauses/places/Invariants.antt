@@ -1,6 +1,0 @@
-use Rattle.std.proofs.Common.{◌≡◌, ◌++◌, drop, map}
-use Rattle.lola_tree.specs.declared.clauses.Part.{Part as TreePart}
-use Rattle.lola_named.proofs.clauses.places.Given as goal
-
-abbrev pub invariant-loop-part : goal.invariant-loop-part
-invariant-loop-part l = l.places ++ map (λ (q : TreePart). q.at) (drop l.part-index l.xs) ≡ map (λ (q : TreePart). q.at) l.xs

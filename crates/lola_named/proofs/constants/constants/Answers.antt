@@ -1,7 +1,0 @@
-use Rattle.lola_named.proofs.WholeLemmas.{constants_end}
-use Rattle.lola_named.proofs.constants.constants.Goals as goal
-
-pub returns : goal.returns
-returns c =
-    constants_end c.args.texts.now c.args.declarations.now c.loop-declaration.declaration-index c.loop-declaration.constants c.loop-declaration-test.false
-    c.loop-declaration.invariant

@@ -1,8 +1,0 @@
-use Rattle.std.proofs.Common.{[], refl}
-use Rattle.lola_resolve.proofs.Scopes.{scope_of}
-use Rattle.lola_named.proofs.StreamLemmas.{means_same}
-use Rattle.lola_named.proofs.outputs.trigger_clause_of.Goals as goal
-
-pub returns-clause-resolved : goal.returns-clause-resolved
-returns-clause-resolved c =
-    λ texts windows begins. c.in_ok-clause.ensures.resolved _ _ (scope_of _ c.args.declarations.now [] refl c.requires (means_same _ [] c.create-none.ensures)) texts windows begins

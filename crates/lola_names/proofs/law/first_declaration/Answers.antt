@@ -1,6 +1,0 @@
--- The law.
-use Rattle.lola_names.proofs.FirstDeclaration.{means_first_declaration}
-use Rattle.lola_names.proofs.law.first_declaration.Goals as goal
-
-pub returns : goal.returns
-returns c = means_first_declaration

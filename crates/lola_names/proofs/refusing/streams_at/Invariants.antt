@@ -1,8 +1,0 @@
-use Rattle.std.proofs.Common.{◌≡◌, ◌++◌, drop}
-use Rattle.std.specs.List.{flat_map}
-use Rattle.lola_names.specs.Refused.{stream_places}
-use Rattle.lola_names.proofs.refusing.streams_at.Given as goal
-
-abbrev pub invariant-loop-declaration : goal.invariant-loop-declaration
-invariant-loop-declaration l =
-    l.places ++ flat_map stream_places (drop l.declaration-index l.declarations) ≡ flat_map stream_places l.declarations

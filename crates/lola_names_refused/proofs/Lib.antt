@@ -1,0 +1,7 @@
+pub mod Noting
+pub mod Entering
+pub mod Trees
+pub mod Repeats
+pub mod FirstDeclaration
+pub mod Rating
+mod Worked

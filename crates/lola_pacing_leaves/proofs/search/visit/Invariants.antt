@@ -1,0 +1,9 @@
+use Rattle.std.proofs.Common.{◌+◌, length}
+use Rattle.lola_pacing_leaves.specs.Marks.{Searched, unmarked}
+use Rattle.lola_pacing_leaves.proofs.search.visit.Given as goal
+
+abbrev pub invariant-loop-stream : goal.invariant-loop-stream
+invariant-loop-stream l = Searched l.lists l.own l.first l.marks l.noted.items
+
+abbrev pub decreases-loop-stream : goal.decreases-loop-stream
+decreases-loop-stream l = unmarked l.marks + length l.noted.items

@@ -1,0 +1,17 @@
+use Rattle.std.proofs.Common.{◌≡◌, ◌∙◌, ◌&&◌, sym, ap, true, false}
+use Rattle.std.specs.Str.{bytes_eq}
+use Rattle.lola_lexer.specs.declared.shape.TokenShape.TheVariants as is
+use Rattle.lola_parser_grammars_law.specs.Syntax.{same_shape}
+use Rattle.lola_parser_grammar.specs.Cursor.{text_of}
+use Rattle.lola_parser_cursor.proofs.Steps.{sees_word_is}
+use Rattle.lola_parser.proofs.cursor.Cursor.sees_word.Goals as goal
+
+pub returns-then-is_name : goal.returns-then-is_name
+returns-then-is_name c =
+    let e : same_shape is.Name c.in-Some.token.shape ≡ true = cc in
+    rw (c.spells-is_spelled.ensures, c.text.ensures) (sym (ap (λ b. b && bytes_eq c.args.word.now (text_of c.args.self.now)) e) ∙ sees_word_is c.args.word.now c.in-Some.token c.args.self.now c.in-Some.ensures)
+
+pub returns-else-is_name : goal.returns-else-is_name
+returns-else-is_name c =
+    let e : same_shape is.Name c.in-Some.token.shape ≡ false = cc in
+    rw (c.same-is_name.ensures, e) (sym (ap (λ b. b && bytes_eq c.args.word.now (text_of c.args.self.now)) e) ∙ sees_word_is c.args.word.now c.in-Some.token c.args.self.now c.in-Some.ensures)

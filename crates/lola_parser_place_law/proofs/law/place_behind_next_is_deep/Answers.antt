@@ -1,0 +1,5 @@
+use Rattle.lola_parser_place_law.proofs.Marked.{behind_next}
+use Rattle.lola_parser_place_law.proofs.law.place_behind_next_is_deep.Goals as goal
+
+pub returns : goal.returns
+returns c n le ts d p rest h l = behind_next n le ts d p rest h l

@@ -1,5 +1,0 @@
-use Rattle.lola_placed.proofs.Both.{behind}
-use Rattle.lola_placed.proofs.law.place_behind_is_deep.Goals as goal
-
-pub returns : goal.returns
-returns c n le ts d p rest less h l = behind n le ts d p rest less h l

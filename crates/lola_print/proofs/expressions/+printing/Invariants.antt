@@ -1,6 +1,0 @@
-use Rattle.std.proofs.Common.{◌≡◌, ◌++◌, take}
-use Rattle.lola_print.specs.Print as out
-use Rattle.lola_print.proofs.expressions.+printing.Given as goal
-
-abbrev pub invariant-arguments-loop-x : goal.invariant-arguments-loop-x
-invariant-arguments-loop-x l = l.to ≡ l.initial.to ++ out.spelled_out (out.further_list (take l.x-index l.x-items))

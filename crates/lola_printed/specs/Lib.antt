@@ -1,2 +1,0 @@
-pub mod Erased
-pub mod Fitting

@@ -1,4 +1,0 @@
-//! The law of printing: what is printed of a specification spells it.
-#![tactic(auto)]
-
-pub mod law;

@@ -1,4 +1,0 @@
-//! What the clauses of an accepted plan may ask of a store.
-#![tactic(auto)]
-
-pub mod law;

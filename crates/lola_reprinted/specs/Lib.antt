@@ -1,3 +1,0 @@
-pub mod Literals
-pub mod Places
-pub mod Round

@@ -1,7 +1,0 @@
-pub mod Growth
-pub mod Entering
-pub mod Numbering
-pub mod TableLemmas
-pub mod TreeLemmas
-mod RangeLemmas
-pub mod Scopes

@@ -1,6 +1,0 @@
-use Rattle.std.proofs.Common.{◌≡◌, ◌++◌, drop}
-use Rattle.lola_resolve.specs.Entries.{texts_in}
-use Rattle.lola_resolve.proofs.made.TextNumbers.texts.Given as goal
-
-abbrev pub invariant-loop-bytes : goal.invariant-loop-bytes
-invariant-loop-bytes l = l.texts ++ texts_in (drop l.bytes-index l.bytes-items) ≡ texts_in l.bytes-items

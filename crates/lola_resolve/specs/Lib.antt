@@ -1,9 +1,0 @@
-pub mod Targets
-pub mod Entries
-pub mod Tables
-pub mod Numbered
-pub mod Resolved
-pub mod Clauses
-pub mod Specification
-pub mod Made
-pub mod Parted

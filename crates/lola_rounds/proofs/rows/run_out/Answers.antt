@@ -1,7 +1,0 @@
-use Rattle.lola_run.specs.Running.{keeping}
-use Rattle.lola_rounds.proofs.Closing.{closes}
-use Rattle.lola_rounds.proofs.rows.run_out.Goals as goal
-
-pub returns-clause-run : goal.returns-clause-run
-returns-clause-run g c = λ in_turns first sources trace ran.
-    closes in_turns first (keeping c.args.run.now) (keeping c.close.new.self) sources (g.K.Sink.state c.args.out.now) (g.K.Sink.state c.close.new.out) trace ran c.close.result c.close.ensures.closes

@@ -1,4 +1,0 @@
-pub mod Sinks
-pub mod Entries
-pub mod Fronts
-pub mod Taking

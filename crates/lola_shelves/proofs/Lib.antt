@@ -1,4 +1,0 @@
-mod Asking
-mod Made
-mod Shelves
-mod Turning

@@ -1,0 +1,4 @@
+pub mod Ready
+pub mod Stages
+pub mod Nexts
+pub mod Ends

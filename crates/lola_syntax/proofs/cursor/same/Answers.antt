@@ -1,7 +1,0 @@
-use Rattle.std.proofs.Common.{rules}
-use Rattle.lola_grammar.specs.Syntax.{same_shape}
-use Rattle.lola_syntax.proofs.cursor.same.Goals as goal
-
-pub returns : goal.returns
-unfolding same_shape
-returns c = search rules

@@ -1,9 +1,0 @@
-//! Reads the tokens of a specification into a tree, and places each refusal at the very token where it belongs.
-#![tactic(auto)]
-
-mod cursor;
-mod expressions;
-pub mod law;
-mod looking_back;
-mod pending;
-pub mod reading;

@@ -1,9 +1,0 @@
-use Rattle.std.proofs.Common.{subst}
-use Rattle.lola_threads.specs.Seated.{Seated, WentOn}
-use Rattle.lola_threads.proofs.Passing.{went_on_at}
-use Rattle.lola_threads.proofs.here.look_one.Goals as goal
-
-pub returns-clause-here : goal.returns-clause-here
-returns-clause-here g c =
-    went_on_at c.args.here.now.items c.args.place c.index_mut.result.now c.look_ahead.new.self c.requires
-    (subst (λ (r : Seated). WentOn r c.look_ahead.new.self) c.index_mut.ensures.value c.look_ahead.ensures)
