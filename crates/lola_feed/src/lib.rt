@@ -1,19 +1,16 @@
-//! The rows of a source, handed in one after another: to a merge object, or to what stands for one.
+//! The sources of a run: their rows, handed in one after another at a desk, which is a merge object or a seat at a running intake;
+//! the sources of a command, fetched from a shelf and given back; and two made-up sources for trying a machine.
 #![tactic(auto)]
 
 pub mod desk;
+mod drill;
+pub mod rooms;
+mod rows;
+mod seat_desk;
+pub mod sources;
+mod text;
 pub mod worker;
 
-mod seat_desk;
-
-pub use seat_desk::SeatDesk;
-
-mod drill;
-mod rows;
-mod text;
-
 pub use drill::Drill;
+pub use seat_desk::SeatDesk;
 pub use text::specification;
-
-pub mod rooms;
-pub mod sources;

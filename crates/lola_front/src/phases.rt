@@ -3,13 +3,15 @@
 ghost use Rattle.lola_front.specs.Front.{Fills, Reads, ResolvesText};
 
 use lola_lexer::cut::tokens;
-use lola_names_law::law::{resolved_is_named, resolved_notes_constants, spelled_closes_are_spawned};
 use lola_model::spec::Spec;
 use lola_names::resolve;
+use lola_names_law::law::{
+    resolved_is_named, resolved_notes_constants, spelled_closes_are_spawned,
+};
 use lola_parser::reading::specification;
 use lola_parser_tree::declarations::Ast;
-use lola_types_law::law::{filled_is_named, filled_is_typed};
 use lola_types::full::check;
+use lola_types_law::law::{filled_is_named, filled_is_typed};
 use lola_value::front::FrontEnd;
 use std::alloc::Global;
 

@@ -5,9 +5,9 @@ ghost use Rattle.lola_intake.specs.declared.event.Event.TheVariants.{Offered, Fi
 ghost use Rattle.lola_intake.specs.Histories.{Begins, Changes};
 
 use crate::event::{Event, Setting};
+use lola_intake_turns::{Act, LockSeat, Object, TicketLock};
 use lola_merge::state::{MergeState, Offer};
 use lola_model::journal::Row;
-use lola_intake_turns::{Act, LockSeat, Object, TicketLock};
 
 /// The lock round the merge object.
 pub(crate) type MergeLock = TicketLock<MergeState, Setting, Event>;

@@ -1,10 +1,10 @@
 //! A trace of a plan with two inputs, read and written again, and one with a line that is none.
 
-use lola_report::{JournalEnd, journal};
 use lola_model::journal::Journal;
 use lola_model::pacing::Pacings;
 use lola_model::plan::{Layers, Numbers, PaneSizes, Plan};
 use lola_model::spec::{Constants, Kinds, Places, Sort, Spec, Stream, Streams, Texts, Windows};
+use lola_report::{JournalEnd, journal};
 use lola_report_lines::trace::trace_line;
 use lola_value::text::{Memory, Text};
 use lola_value::value::Kind;

@@ -1,11 +1,11 @@
-//! A run: rows that are marked, traced and evaluated by an engine, whose verdicts are put.
+//! A run: rows that are marked, traced and evaluated by an engine, whose verdicts are put; and the run of sources that are read in
+//! turns by one thread, round after round.
 #![tactic(auto)]
 
-pub mod run_law;
-mod putting;
-pub mod run;
-pub mod stop;
-
 mod feed;
+mod putting;
 pub mod rounds_law;
 pub mod rows;
+pub mod run;
+pub mod run_law;
+pub mod stop;

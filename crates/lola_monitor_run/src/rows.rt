@@ -8,13 +8,13 @@ ghost use Rattle.lola_monitor_run.specs.Feeds.{AreInPlace, AreReady, EndsRun, Is
 ghost use Rattle.lola_monitor_run.specs.Turning.{GoesRound, IsOutOfMemory, IsStanding, IsUnderWay, RunsEntry, Steps};
 
 use crate::feed::Feed;
+use crate::run::Run;
+use crate::stop::Stop;
 use lola_feed::worker::{SourceEnd, SourceWorker, Turn};
 use lola_merge::batch::Batch;
 use lola_merge::state::MergeState;
 use lola_model::journal::Entry;
 use lola_port::{Gate, Sink, Source};
-use crate::run::Run;
-use crate::stop::Stop;
 use lola_value::text::Memory;
 use std::alloc::Global;
 use std::thread::Threads;

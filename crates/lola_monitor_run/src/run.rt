@@ -6,13 +6,13 @@ ghost use Rattle.lola_engine.specs.Engines.{IsEngine, IsOptionInTime, StandsFor}
 ghost use Rattle.lola_instances.specs.Stores.{bounded_remembers, bounded_seen};
 ghost use Rattle.lola_monitor_run.specs.Running.{Closes, HasRoom, IsGoing, IsNext, IsRowFor, IsSetAs, Puts, RunsAccepted, Stands, StopsAt, Takes, keeping, setting_at, setting_in};
 
-use crate::run_law::numbers_are_in_range;
 use crate::putting::{put_entry, put_text};
+use crate::run_law::numbers_are_in_range;
 use crate::stop::Stop;
-use lola_instances::law::accepted_is_storable;
-use lola_instances::store::BoundedStore;
 use lola_engine::end::{Counts, EngineEnd};
 use lola_engine::engine::Engine;
+use lola_instances::law::accepted_is_storable;
+use lola_instances::store::BoundedStore;
 use lola_model::journal::{Entry, Mark, Row, Show};
 use lola_model::plan::Plan;
 use lola_port::{Gate, Sink};

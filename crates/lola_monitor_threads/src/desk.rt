@@ -3,11 +3,11 @@ ghost use Rattle.std.specs.Prelude.{◌≡◌};
 ghost use Rattle.lola_monitor_threads.specs.Seated.{WentOn};
 
 use crate::seated::{SeatedWorker, begin_or_look_at, turn_at};
-use lola_monitor_board::Board;
+use lola_feed::SeatDesk;
 use lola_feed::worker::{SourceWorker, Turn};
 use lola_intake::intake::Intake;
+use lola_monitor_board::Board;
 use lola_port::{Gate, Source};
-use lola_feed::SeatDesk;
 use std::marker::Model;
 use std::sync::Wait;
 

@@ -2,12 +2,12 @@
 ghost use Rattle.std.specs.Prelude.{◌≡◌};
 ghost use Rattle.lola_monitor_threads.specs.Seated.{WentOn, seated};
 
-use lola_monitor_board::{Board, Watch};
+use lola_feed::SeatDesk;
 use lola_feed::worker::{SourceWorker, Turn};
 use lola_intake::intake::Intake;
 use lola_intake::seats::SourceSeat;
+use lola_monitor_board::{Board, Watch};
 use lola_port::{Gate, Source};
-use lola_feed::SeatDesk;
 use std::marker::Model;
 use std::sync::Wait;
 

@@ -10,12 +10,12 @@ ghost use Rattle.lola_names.specs.Made.{Grows};
 ghost use Rattle.lola_names.specs.Making.{GrowsByClause, GrowsByWhen, GrowsByWith, CloseIn, EvalIn, OfPartsIn, PartsIn, SpawnIn, TriggerIn, WhenIn};
 ghost use Rattle.lola_parser_tree.specs.declared.clauses.Part.{Part as TreePart};
 
-use lola_model::expr::Expr;
-use lola_model::spec::{Clause, Exprs, Places};
 use crate::expressions::expression;
 use crate::made::Made;
 use crate::pacings;
 use crate::scope::Scope;
+use lola_model::expr::Expr;
+use lola_model::spec::{Clause, Exprs, Places};
 use lola_parser_tree::clauses::{Close, Eval, Part, Spawn};
 use lola_parser_tree::declarations::Trigger;
 use lola_parser_tree::pacing::Pacing;

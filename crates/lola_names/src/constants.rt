@@ -4,9 +4,9 @@ ghost use Rattle.std.specs.Prelude.{◌≡◌, ◌++◌, IfOk, OnOk};
 ghost use Rattle.lola_names.specs.Specification.{AreConstants, IsConstant, IsConstantValue, IsListedOrLast, constants_of};
 ghost use Rattle.lola_names.specs.Making.{PutsConstants};
 
-use lola_model::spec::{Constant, Constants};
 use crate::expressions::{integer, kind};
 use crate::made::TextNumbers;
+use lola_model::spec::{Constant, Constants};
 use lola_parser_tree::declarations::{Constant as TreeConstant, Declaration};
 use lola_parser_tree::literals::Value as Written;
 use lola_value::text::{Memory, Text};

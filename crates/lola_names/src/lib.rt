@@ -1,18 +1,18 @@
-//! The names of a specification resolved: streams, windows, parameters and texts by their numbers, constants by their literals.
+//! The names of a specification resolved: streams, windows, parameters and texts by their numbers, constants by their literals; and the
+//! whole specification that comes of its tree, or the first refusal of its names.
 #![tactic(auto)]
-
-pub mod expressions;
-pub mod made;
-pub mod pacings;
-pub mod ranges;
-pub mod scope;
-pub mod targets;
 
 mod clauses;
 mod constants;
+pub mod expressions;
+pub mod made;
 mod outputs;
+pub mod pacings;
 mod places;
+pub mod ranges;
 mod resolving;
+pub mod scope;
 mod streams;
+pub mod targets;
 
 pub use resolving::resolve;

@@ -12,11 +12,11 @@ ghost use Rattle.lola_names.specs.Targets.{targets_of};
 ghost use Rattle.lola_names.specs.Making.{CloseOf, EvalOf, GrowsByClause, GrowsByStream, OutputOf, SpawnOf, TriggerClauseOf, TriggerOf};
 
 use crate::clauses::{close, eval, spawn, trigger as trigger_clause};
-use lola_model::spec::{Clause, Kinds, Part, Sort, Stream};
 use crate::expressions::kind;
 use crate::made::Made;
 use crate::scope::Scope;
 use crate::targets::{TargetTable, parameters};
+use lola_model::spec::{Clause, Kinds, Part, Sort, Stream};
 use lola_parser_tree::declarations::{Declaration, Output, Trigger};
 use lola_parser_tree::literals::{Name, Typed};
 use lola_value::numbers::number_text;

@@ -5,8 +5,8 @@ ghost use Rattle.std.specs.List.{flat_map};
 ghost use Rattle.lola_names.specs.Specification as range;
 ghost use Rattle.lola_names.specs.Ranged.{first_ranges, streams_behind};
 
-use lola_model::spec::{Clause, Pace, Places, Stream};
 use crate::ranges::{pacing_ranges, part_ranges};
+use lola_model::spec::{Clause, Pace, Places, Stream};
 use lola_parser_tree::clauses::{Close, Eval, Part, Spawn};
 use lola_parser_tree::declarations::{Declaration, Output, Trigger};
 use lola_parser_tree::pacing::Pacing;

@@ -8,12 +8,12 @@ ghost use Rattle.lola_names.specs.Making.{AreStreamsOf, IsGrown, IsNothing};
 ghost use Rattle.lola_model.specs.Named.{are_distinct};
 
 use crate::constants::constants;
+use crate::made::{Made, TextNumbers};
 use crate::places::ranges;
 use crate::streams::streams;
+use crate::targets::targets;
 use lola_model::spec::{Constants, Places, Spec, Streams, Texts, Windows};
 use lola_names_refused::name_refusal;
-use crate::made::{Made, TextNumbers};
-use crate::targets::targets;
 use lola_parser_tree::declarations::{Ast, Declaration};
 use lola_value::front::FrontEnd;
 use lola_value::text::Memory;

@@ -6,10 +6,10 @@ ghost use Rattle.lola_names.specs.Tables.{Means};
 ghost use Rattle.lola_names.specs.Targets.{targets_of};
 ghost use Rattle.lola_names.specs.Making.{AreStreamsOf, GrowsByStreams, Puts};
 
-use crate::outputs::{input, output, trigger};
-use lola_model::spec::Streams;
 use crate::made::Made;
+use crate::outputs::{input, output, trigger};
 use crate::targets::TargetTable;
+use lola_model::spec::Streams;
 use lola_parser_tree::declarations::Declaration;
 use lola_parser_tree::literals::Typed;
 use lola_value::text::Memory;

@@ -9,3 +9,6 @@ pub mod law;
 mod pacings;
 mod refusals;
 mod verdicts;
+
+pub use lola_pacing_normal::implies::implies;
+pub use lola_pacing_normal::normal::normal;

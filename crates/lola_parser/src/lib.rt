@@ -7,3 +7,6 @@ pub mod law;
 mod looking_back;
 mod pending;
 pub mod reading;
+
+pub use lola_parser_print::print;
+pub use reading::specification as parse;

@@ -1,8 +1,7 @@
-//! The law of printing: what is printed of a specification spells it.
+//! The laws of printing: what is printed of a specification spells it, no spelling has fewer marks, and what was read and is printed is
+//! read again as the same tree. A crate of laws has no code.
 #![tactic(auto)]
 
-pub mod printed;
-
 pub mod fewest;
-
+pub mod printed;
 pub mod reprinted;

@@ -13,11 +13,11 @@ ghost use Rattle.lola_replay.specs.Tracked.{is_right, marked_in, noted};
 use crate::compare::line_length;
 use crate::progress::{Course, Fault, Progress, begin, take_row};
 use crate::tracking::{Tracking, is_right, note, start_at, untracked};
-use lola_report::kinds_of;
-use lola_report::line::{Room, entry_of};
 use lola_model::journal::{Entry, Mark, Row};
 use lola_model::law::one_model_of_accepted;
 use lola_model::spec::Kinds;
+use lola_report::kinds_of;
+use lola_report::line::{Room, entry_of};
 use lola_value::text::Memory;
 
 /// How far a run is replayed.

@@ -10,9 +10,9 @@ ghost use Rattle.lola_value.specs.declared.value.Kind.TheVariants as kind;
 ghost use Rattle.lola_report.specs.Candidates.{is_field_text, read_entry, read_field, read_fields, read_head, read_integer, read_mark, read_natural, read_text, text_at};
 
 use csv::ByteRecord;
+use lola_model::journal::{Entry, Mark, Row};
 use lola_rows_csv::line::has_line_end;
 use lola_rows_csv::numbers::number;
-use lola_model::journal::{Entry, Mark, Row};
 use lola_value::text::{Field, Fields, Memory, Text};
 use lola_value::times::time_read;
 use lola_value::value::Kind;

@@ -10,9 +10,9 @@ ghost use Rattle.lola_model.specs.declared.source.MalformedKind.TheVariants as m
 
 use crate::flaw::Flaw;
 use csv::ByteRecord;
-use lola_rows_csv::blanks::trim;
 use lola_model::source::MalformedKind;
 use lola_model::spec::{Sort, Stream};
+use lola_rows_csv::blanks::trim;
 use lola_value::text::{Memory, Text};
 use lola_value::value::Kind;
 use std::alloc::Global;

@@ -14,9 +14,9 @@ ghost use Rattle.lola_expr.specs.Evaluation.{IsDenoted, Sees, is_no_value};
 ghost use Rattle.lola_step_law.specs.Ready.{AreAskable, HasTexts, IsClauseAskable, IsWhenAskable};
 ghost use Rattle.lola_step.specs.Clauses.{IsAnswer, IsSpawning, IsWellNamed, AreExpressions, AreNamed};
 
+use lola_expr::evaluation::eval;
 use lola_expr_code::machine::run;
 use lola_expr_code::plan::{Code, EvalCode};
-use lola_expr::evaluation::eval;
 use lola_model::expr::Expr;
 use lola_model::plan::Plan;
 use lola_model::spec::{Clause, Stream};

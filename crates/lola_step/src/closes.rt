@@ -31,11 +31,11 @@ use crate::moment::{Moment, is_active_for, may_be_active};
 use crate::schedule::stream_at;
 use crate::seek::seek;
 use crate::tasks::Task;
-use lola_step_contents::calls::close;
 use lola_model::pacing::{ClausePacings, Pacing};
 use lola_model::plan::Plan;
 use lola_model::spec::{Clause, Stream};
 use lola_model::store::{StreamStore, Whereabouts};
+use lola_step_contents::calls::close;
 use lola_value::value::{FaultKind, Outcome, Value};
 
 /// The pacing of the close clause of stream `n`.

@@ -10,8 +10,8 @@ ghost use Rattle.lola_step.specs.Found.{has_fault, is_fault};
 ghost use Rattle.lola_step.specs.Given.{AreHeldIn, AreKnown, AreFirstOf, CanGive, CanGiveAll, after_all, after_giving, told_outcomes};
 
 use crate::tasks::Task;
-use lola_step_contents::calls::{poison, push};
 use lola_model::store::StreamStore;
+use lola_step_contents::calls::{poison, push};
 use lola_value::brief::Brief;
 use lola_value::value::Outcome;
 use std::thread::Threads;

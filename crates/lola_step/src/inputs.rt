@@ -13,9 +13,9 @@ ghost use Rattle.lola_step.specs.Schedules.{turns_of};
 ghost use Rattle.lola_step.specs.Steps.{AreInputs, is_input_outcome};
 ghost use Rattle.lola_step.specs.declared.schedule.Turn.TheVariants as turn;
 
-use lola_step_contents::calls::push;
 use lola_model::plan::Plan;
 use lola_model::store::StreamStore;
+use lola_step_contents::calls::push;
 use lola_value::brief::BriefValue;
 use lola_value::value::Outcome;
 

@@ -19,11 +19,11 @@ use crate::clauses::{Spawning, spawning_of};
 use crate::mark::Mark;
 use crate::moment::{Moment, is_active};
 use crate::schedule::stream_at;
-use lola_step_contents::calls::{poison_stream, spawn};
 use lola_model::pacing::{ClausePacings, Pacing};
 use lola_model::plan::Plan;
 use lola_model::spec::Stream;
 use lola_model::store::{SpawnEnd, StreamStore};
+use lola_step_contents::calls::{poison_stream, spawn};
 use lola_value::value::{FaultKind, Params};
 
 /// The layer of a node; 0 past the end of the list.
