@@ -1,7 +1,7 @@
 -- Distinct texts get the numbers of their places.
-use Rattle.std.proofs.Common.{◌≡◌, ℕ, zero, suc, ◌+◌, ◌<◌, ◌≤◌, Bool, true, false, not, ◌&&◌, List, [], ◌∷◌, ◌++◌, Option, Some, None, length, take, get_or, refl, sym, ap, subst, ◌∙◌, arith, inl, inr}
+use Rattle.std.proofs.Common.{◌≡◌, ℕ, zero, suc, ◌+◌, ◌<◌, ◌≤◌, true, false, not, List, [], ◌∷◌, ◌++◌, Option, Some, None, length, take, get_or, refl, sym, ap, subst, ◌∙◌, arith, inl, inr}
 use Rattle.std.specs.Prelude.{slice_get}
-use Rattle.std.proofs.lemmas.Bool.{cases_Bool, eq-eqb, ne_eqb}
+use Rattle.std.proofs.lemmas.Bool.{cases_Bool, eq-eqb, ne_eqb, and_parts, not-true}
 use Rattle.std.proofs.lemmas.List.{take_more, take_all, length-take-le}
 use Rattle.lola_value.specs.Arithmetic.{bytes_equal}
 use Rattle.lola_value.specs.Naming.{Naming, text_at}
@@ -10,14 +10,6 @@ use Rattle.lola_model.proofs.Lookups.{bytes_equal-true, bytes_equal-same}
 use Rattle.lola_step_law.specs.Ready.{HasTexts}
 use Rattle.lola_text.specs.Texts.{Gives, Interns, IsTable, Texts, no_texts, number_in, with_text}
 use Rattle.lola_engine.specs.Read.{numbered}
-
-both_true : (a b : Bool) → (a && b) ≡ true → (a ≡ true) × (b ≡ true)
-both_true true b is = (refl, is)
-both_true false b is = absurd (cc is)
-
-not_true : (a : Bool) → not a ≡ true → a ≡ false
-not_true true is = absurd (cc is)
-not_true false is = refl
 
 -- a text that stands somewhere is listed
 listed-at : (ts : List (List ℕ)) (t d : List ℕ) (i : ℕ) → i < length ts → t ≡ get_or ts i d → is_listed t ts ≡ true
@@ -34,12 +26,12 @@ unlisted-before : (ts : List (List ℕ)) (t d : List ℕ) (i : ℕ) → are_dist
 unlisted-before [] t d i apart within is = absurd (omega arith)
 unlisted-before (u ∷ ts) t d zero apart within is = refl
 unlisted-before (u ∷ ts) t d (suc i) apart within is =
-    let both = both_true (not (is_listed u ts)) (are_distinct ts) apart in
+    let both = and_parts (not (is_listed u ts)) (are_distinct ts) apart in
     elim (cases_Bool (bytes_equal t u)) [
       | inl hit ↦
           let same : u ≡ t = sym (bytes_equal-true t u hit) in
           let there : is_listed u ts ≡ true = ap (λ x. is_listed x ts) same ∙ listed-at ts t d i (omega arith) is in
-          let not_there = not_true (is_listed u ts) both.0 in
+          let not_there = not-true (is_listed u ts) both.0 in
           absurd (cc)
       | inr miss ↦ rw miss (unlisted-before ts t d i both.1 (omega arith) is)
     ]

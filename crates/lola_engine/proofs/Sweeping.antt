@@ -1,7 +1,7 @@
 -- What is left of a table that was swept, and what a row adds to it.
-use Rattle.std.proofs.Common.{◌≡◌, ℕ, zero, suc, ◌+◌, ◌*◌, ◌<◌, ◌≤◌, Bool, true, false, not, ◌&&◌, ◌||◌, IsTrue, List, [], ◌∷◌, ◌++◌, Option, Some, None, filter, length, take, drop, get_or, nat_eq, nat_lt, refl, sym, ap, ◌∙◌, subst, append_assoc, append-nil, length-append, inl, inr, arith}
+use Rattle.std.proofs.Common.{◌≡◌, ℕ, zero, suc, ◌+◌, ◌*◌, ◌<◌, ◌≤◌, Bool, true, false, not, ◌&&◌, IsTrue, List, [], ◌∷◌, ◌++◌, Option, Some, None, filter, length, take, drop, get_or, nat_eq, nat_lt, refl, sym, ap, ◌∙◌, subst, append_assoc, append-nil, length-append, inl, inr, arith}
 use Rattle.std.specs.List.{Contains}
-use Rattle.std.proofs.lemmas.Bool.{cases_Bool, eq-eqb, eqb-true, ltb-false}
+use Rattle.std.proofs.lemmas.Bool.{cases_Bool, eq-eqb, eqb-true, ltb-false, or_left, or_right}
 use Rattle.std.proofs.lemmas.List.{drop_more, take_more}
 use Rattle.std.proofs.lemmas.List.Elements.{All-append, All-cons, All-nil, All-weaker, Contains-append_left, Contains-append_right, Contains-push}
 use Rattle.std.proofs.lemmas.List.Filters.{length-filter_both}
@@ -23,13 +23,6 @@ count_between low high [] all = omega (arith, all)
 count_between low high (e ∷ es) all = let more = count_between (e.0 + 1) high es all.1 in omega (arith, all.0, more)
 
 -- a number that is listed in one of two lists
-or_left : (a b : Bool) → a ≡ true → (a || b) ≡ true
-or_left true b is = refl
-or_left false b is = absurd (cc is)
-
-or_right : (a b : Bool) → b ≡ true → (a || b) ≡ true
-or_right true b is = refl
-or_right false b is = is
 
 among_left : (xs ys : List TextId) (id : ℕ) → IsTrue (is_among xs id) → IsTrue (is_among (xs ++ ys) id)
 among_left xs ys id is = list_any-append (λ (x : TextId). nat_eq x.0 id) xs ys ∙ or_left (is_among xs id) (is_among ys id) is

@@ -1,5 +1,6 @@
 -- The outcome of an expression from those of its parts.
 use Rattle.std.proofs.Common.{◌≡◌, ℕ, zero, suc, ◌<◌, refl, Bool, true, false, not, ◌&&◌, ap, sym, ◌∙◌, subst, List, [], ◌∷◌, length, Option, Some, None, slice_get, map, drop, unwrap_or, option_and_then, MatchOption, arith}
+use Rattle.std.proofs.lemmas.Bool.{and_from}
 use Rattle.lola_value.specs.declared.text.Field.{Field}
 use Rattle.lola_value.specs.declared.text.Field.TheVariants as field
 use Rattle.lola_value.specs.declared.value.Kind.{Kind}
@@ -27,7 +28,7 @@ use Rattle.lola_model.specs.declared.plan.Plan.{Plan}
 use Rattle.lola_model.proofs.Lookups.{bytes_equal-true}
 use Rattle.lola_expr.specs.Evaluation.{value_or_missing, literal_is_named, same_text}
 use Rattle.lola_expr.specs.Operands.{decides, operands_fit, operand_fits, is_truth, is_number, truth_in}
-use Rattle.lola_expr.proofs.OperandLemmas.{first, second, both, integer_is}
+use Rattle.lola_expr.proofs.OperandLemmas.{first, second, integer_is}
 use Rattle.lola_expr.proofs.Parts.{same_kind-true}
 
 -- what is no value is the outcome of the whole
@@ -170,7 +171,7 @@ right_value binary.Different k names x y b h f = goes_on names y b (λ y. operat
 pub joined_stays : (sign : Binary) (k : Kind) (names : Naming) (x : Value) (r : Outcome) (a b : Answer) → decides sign x ≡ false → ((v : Value) → r ≡ outcome.Value v → ⊥) → Given (read names x) ≡ a → read_outcome names r ≡ b → read_outcome names r ≡ joined sign k a b
 joined_stays sign k names x r a b h ne e f = goes_on names x a (λ v. with_right sign k v b) (read_outcome names r) e (right_stays sign k names x r b h ne f)
 
--- both are values
+-- and_from are values
 pub joined_both : (sign : Binary) (k : Kind) (names : Naming) (x y : Value) (r a b : Answer) → decides sign x ≡ false → Given (read names x) ≡ a → Given (read names y) ≡ b → r ≡ operated sign k (read names x) (read names y) → r ≡ joined sign k a b
 joined_both sign k names x y r a b h e f o = goes_on names x a (λ v. with_right sign k v b) r e (o ∙ right_value sign k names x y b h f)
 
@@ -196,17 +197,17 @@ pub prefix_fits : (sign : Prefix) (k a : Kind) (v : Value) → prefix_row sign k
 prefix_fits prefix.Not k a v row h =
     let e = same_kind-true k kind.Bool (first (same_kind k kind.Bool) (same_kind a kind.Bool) row) in
     let f = same_kind-true a kind.Bool (second (same_kind k kind.Bool) (same_kind a kind.Bool) row) in
-    both (is_bool k) (is_truth v) (ap is_bool e) (truth_of_kind v (subst (λ (j : Kind). is_of_kind j v ≡ true) f h))
+    and_from (is_bool k) (is_truth v) (ap is_bool e) (truth_of_kind v (subst (λ (j : Kind). is_of_kind j v ≡ true) f h))
 prefix_fits prefix.Minus k a v row h =
     let f = same_kind-true a k (second _ (same_kind a k) row) in
-    both _ (is_of_kind k v) (first _ (same_kind a k) row) (subst (λ (j : Kind). is_of_kind j v ≡ true) f h)
+    and_from _ (is_of_kind k v) (first _ (same_kind a k) row) (subst (λ (j : Kind). is_of_kind j v ≡ true) f h)
 
 -- values of the kinds of a row fit: of arithmetic
 arithmetic_fits : (k a b : Kind) (x y : Value) → (is_integer k && (same_kind a k && same_kind b k)) ≡ true → is_of_kind a x ≡ true → is_of_kind b y ≡ true → (is_integer k && (is_of_kind k x && is_of_kind k y)) ≡ true
 arithmetic_fits k a b x y row h g =
     let s = second (is_integer k) (same_kind a k && same_kind b k) row in
-    both (is_integer k) (is_of_kind k x && is_of_kind k y) (first (is_integer k) (same_kind a k && same_kind b k) row)
-    (both (is_of_kind k x) (is_of_kind k y)
+    and_from (is_integer k) (is_of_kind k x && is_of_kind k y) (first (is_integer k) (same_kind a k && same_kind b k) row)
+    (and_from (is_of_kind k x) (is_of_kind k y)
     (subst (λ (j : Kind). is_of_kind j x ≡ true) (same_kind-true a k (first (same_kind a k) (same_kind b k) s)) h)
     (subst (λ (j : Kind). is_of_kind j y ≡ true) (same_kind-true b k (second (same_kind a k) (same_kind b k) s)) g))
 
@@ -215,16 +216,16 @@ order_fits : (k a b : Kind) (x y : Value) → (same_kind k kind.Bool && (is_inte
 order_fits k a b x y row h g =
     let s = second (same_kind k kind.Bool) (is_integer a && same_kind b a) row in
     let i = first (is_integer a) (same_kind b a) s in
-    both (is_bool k) (is_number x && is_number y) (ap is_bool (same_kind-true k kind.Bool (first (same_kind k kind.Bool) (is_integer a && same_kind b a) row)))
-    (both (is_number x) (is_number y) (integer_is a i x h)
+    and_from (is_bool k) (is_number x && is_number y) (ap is_bool (same_kind-true k kind.Bool (first (same_kind k kind.Bool) (is_integer a && same_kind b a) row)))
+    (and_from (is_number x) (is_number y) (integer_is a i x h)
     (integer_is a i y (subst (λ (j : Kind). is_of_kind j y ≡ true) (same_kind-true b a (second (is_integer a) (same_kind b a) s)) g)))
 
 -- of `&&` and `||`
 truth_fits : (k a b : Kind) (x y : Value) → (same_kind k kind.Bool && (same_kind a kind.Bool && same_kind b kind.Bool)) ≡ true → is_of_kind a x ≡ true → is_of_kind b y ≡ true → (is_bool k && (is_truth x && is_truth y)) ≡ true
 truth_fits k a b x y row h g =
     let s = second (same_kind k kind.Bool) (same_kind a kind.Bool && same_kind b kind.Bool) row in
-    both (is_bool k) (is_truth x && is_truth y) (ap is_bool (same_kind-true k kind.Bool (first (same_kind k kind.Bool) (same_kind a kind.Bool && same_kind b kind.Bool) row)))
-    (both (is_truth x) (is_truth y)
+    and_from (is_bool k) (is_truth x && is_truth y) (ap is_bool (same_kind-true k kind.Bool (first (same_kind k kind.Bool) (same_kind a kind.Bool && same_kind b kind.Bool) row)))
+    (and_from (is_truth x) (is_truth y)
     (truth_of_kind x (subst (λ (j : Kind). is_of_kind j x ≡ true) (same_kind-true a kind.Bool (first (same_kind a kind.Bool) (same_kind b kind.Bool) s)) h))
     (truth_of_kind y (subst (λ (j : Kind). is_of_kind j y ≡ true) (same_kind-true b kind.Bool (second (same_kind a kind.Bool) (same_kind b kind.Bool) s)) g)))
 

@@ -1,5 +1,6 @@
 -- What a typed expression may ask.
 use Rattle.std.proofs.Common.{◌≡◌, ◌∙◌, ap, sym, ℕ, zero, suc, refl, Bool, true, ◌&&◌, nat_lt, drop, length, subst, Option, Some, None, List, [], ◌∷◌, slice_get}
+use Rattle.std.proofs.lemmas.Bool.{and_from}
 use Rattle.lola_value.specs.declared.value.Kind.{Kind}
 use Rattle.lola_value.specs.declared.value.Value.{Value}
 use Rattle.lola_value.specs.declared.value.Params.{Params}
@@ -17,7 +18,7 @@ use Rattle.lola_model.specs.declared.expr.Expr.{Expr}
 use Rattle.lola_model.specs.declared.expr.Expr.TheVariants.{Literal, Parameter, Read, Window, Defaults', Unary', Both', Choice'}
 use Rattle.lola_model.specs.declared.expr.Arguments.{Arguments}
 use Rattle.lola_model.specs.declared.expr.Arguments.TheVariants.{End, More'}
-use Rattle.lola_expr.proofs.OperandLemmas.{first, second, both}
+use Rattle.lola_expr.proofs.OperandLemmas.{first, second}
 use Rattle.lola_expr.proofs.Parts.{same_kind-true}
 
 -- where all parts pass two tests that together give a third, all pass the third
@@ -27,38 +28,38 @@ module _ (f g h : Expr → Bool) (t : (e : Expr) → f e ≡ true → g e ≡ tr
     each_of_both (Literal place v) p q = t (Literal place v) p q
     each_of_both (Parameter place i) p q = t (Parameter place i) p q
     each_of_both (Read place n how args) p q =
-        both (h (Read place n how args)) (each_argument h args) (t (Read place n how args) (first _ (each_argument f args) p) (first _ (each_argument g args) q))
+        and_from (h (Read place n how args)) (each_argument h args) (t (Read place n how args) (first _ (each_argument f args) p) (first _ (each_argument g args) q))
         (all_of_both args (second (f (Read place n how args)) _ p) (second (g (Read place n how args)) _ q))
     each_of_both (Window place n args) p q =
-        both (h (Window place n args)) (each_argument h args) (t (Window place n args) (first _ (each_argument f args) p) (first _ (each_argument g args) q))
+        and_from (h (Window place n args)) (each_argument h args) (t (Window place n args) (first _ (each_argument f args) p) (first _ (each_argument g args) q))
         (all_of_both args (second (f (Window place n args)) _ p) (second (g (Window place n args)) _ q))
     each_of_both (Defaults' place u a v b) p q =
         let x = second (f (Defaults' place u a v b)) (each_part f a && each_part f b) p in
         let y = second (g (Defaults' place u a v b)) (each_part g a && each_part g b) q in
-        both (h (Defaults' place u a v b)) (each_part h a && each_part h b) (t (Defaults' place u a v b) (first _ (each_part f a && each_part f b) p) (first _ (each_part g a && each_part g b) q))
-        (both (each_part h a) (each_part h b) (each_of_both a (first (each_part f a) (each_part f b) x) (first (each_part g a) (each_part g b) y)) (each_of_both b (second (each_part f a) (each_part f b) x) (second (each_part g a) (each_part g b) y)))
+        and_from (h (Defaults' place u a v b)) (each_part h a && each_part h b) (t (Defaults' place u a v b) (first _ (each_part f a && each_part f b) p) (first _ (each_part g a && each_part g b) q))
+        (and_from (each_part h a) (each_part h b) (each_of_both a (first (each_part f a) (each_part f b) x) (first (each_part g a) (each_part g b) y)) (each_of_both b (second (each_part f a) (each_part f b) x) (second (each_part g a) (each_part g b) y)))
     each_of_both (Unary' place sign u a) p q =
-        both (h (Unary' place sign u a)) (each_part h a) (t (Unary' place sign u a) (first _ (each_part f a) p) (first _ (each_part g a) q))
+        and_from (h (Unary' place sign u a)) (each_part h a) (t (Unary' place sign u a) (first _ (each_part f a) p) (first _ (each_part g a) q))
         (each_of_both a (second (f (Unary' place sign u a)) _ p) (second (g (Unary' place sign u a)) _ q))
     each_of_both (Both' place sign u a v b) p q =
         let x = second (f (Both' place sign u a v b)) (each_part f a && each_part f b) p in
         let y = second (g (Both' place sign u a v b)) (each_part g a && each_part g b) q in
-        both (h (Both' place sign u a v b)) (each_part h a && each_part h b) (t (Both' place sign u a v b) (first _ (each_part f a && each_part f b) p) (first _ (each_part g a && each_part g b) q))
-        (both (each_part h a) (each_part h b) (each_of_both a (first (each_part f a) (each_part f b) x) (first (each_part g a) (each_part g b) y)) (each_of_both b (second (each_part f a) (each_part f b) x) (second (each_part g a) (each_part g b) y)))
+        and_from (h (Both' place sign u a v b)) (each_part h a && each_part h b) (t (Both' place sign u a v b) (first _ (each_part f a && each_part f b) p) (first _ (each_part g a && each_part g b) q))
+        (and_from (each_part h a) (each_part h b) (each_of_both a (first (each_part f a) (each_part f b) x) (first (each_part g a) (each_part g b) y)) (each_of_both b (second (each_part f a) (each_part f b) x) (second (each_part g a) (each_part g b) y)))
     each_of_both (Choice' place u a v b w d) p q =
         let x = second (f (Choice' place u a v b w d)) (each_part f a && (each_part f b && each_part f d)) p in
         let y = second (g (Choice' place u a v b w d)) (each_part g a && (each_part g b && each_part g d)) q in
         let xx = second (each_part f a) (each_part f b && each_part f d) x in
         let yy = second (each_part g a) (each_part g b && each_part g d) y in
-        both (h (Choice' place u a v b w d)) (each_part h a && (each_part h b && each_part h d)) (t (Choice' place u a v b w d) (first _ (each_part f a && (each_part f b && each_part f d)) p) (first _ (each_part g a && (each_part g b && each_part g d)) q))
-        (both (each_part h a) (each_part h b && each_part h d) (each_of_both a (first (each_part f a) (each_part f b && each_part f d) x) (first (each_part g a) (each_part g b && each_part g d) y))
-        (both (each_part h b) (each_part h d) (each_of_both b (first (each_part f b) (each_part f d) xx) (first (each_part g b) (each_part g d) yy)) (each_of_both d (second (each_part f b) (each_part f d) xx) (second (each_part g b) (each_part g d) yy))))
+        and_from (h (Choice' place u a v b w d)) (each_part h a && (each_part h b && each_part h d)) (t (Choice' place u a v b w d) (first _ (each_part f a && (each_part f b && each_part f d)) p) (first _ (each_part g a && (each_part g b && each_part g d)) q))
+        (and_from (each_part h a) (each_part h b && each_part h d) (each_of_both a (first (each_part f a) (each_part f b && each_part f d) x) (first (each_part g a) (each_part g b && each_part g d) y))
+        (and_from (each_part h b) (each_part h d) (each_of_both b (first (each_part f b) (each_part f d) xx) (first (each_part g b) (each_part g d) yy)) (each_of_both d (second (each_part f b) (each_part f d) xx) (second (each_part g b) (each_part g d) yy))))
 
     -- the same of arguments
     pub all_of_both : (args : Arguments) → each_argument f args ≡ true → each_argument g args ≡ true → each_argument h args ≡ true
     all_of_both End p q = refl
     all_of_both (More' u a v rest) p q =
-        both (each_part h a) (each_argument h rest) (each_of_both a (first (each_part f a) (each_argument f rest) p) (first (each_part g a) (each_argument g rest) q))
+        and_from (each_part h a) (each_argument h rest) (each_of_both a (first (each_part f a) (each_argument f rest) p) (first (each_part g a) (each_argument g rest) q))
         (all_of_both rest (second (each_part f a) (each_argument f rest) p) (second (each_part g a) (each_argument g rest) q))
 
 -- a parameter of its kind has a value of it
@@ -82,7 +83,7 @@ module _ (s : Seen) (p : Params) (ks : List Kind) (given : are_of_kinds ks (the_
 
   -- a part
   part_asks : (e : Expr) → part_is_typed (scope_with s.layout ks) e ≡ true → is_ready s e ≡ true → part_can_ask s p e ≡ true
-  part_asks e h g = both (row_holds (scope_seen s p) e) (is_ready s e) (row_seen e (second (is_noted (place_in e).kind) (row_holds (scope_with s.layout ks) e) h)) g
+  part_asks e h g = and_from (row_holds (scope_seen s p) e) (is_ready s e) (row_seen e (second (is_noted (place_in e).kind) (row_holds (scope_with s.layout ks) e) h)) g
 
   -- a typed expression may be evaluated where the store is ready for all that it reads
   pub typed_can_ask : (e : Expr) → is_typed (scope_with s.layout ks) e ≡ true → each_part (is_ready s) e ≡ true → can_ask s p e ≡ true
@@ -133,7 +134,7 @@ module _ (s : Seen) (p : Params) (ks : List Kind) (given : are_of_kinds ks (the_
   part_in_plan : (e : Expr) → part_is_typed (scope_in plan.spec ks) e ≡ true → part_is_typed (scope_with s.layout ks) e ≡ true
   part_in_plan e h =
       let row = second (is_noted (place_in e).kind) (row_holds (scope_in plan.spec ks) e) h in
-      both (is_noted (place_in e).kind) (row_holds (scope_with s.layout ks) e)
+      and_from (is_noted (place_in e).kind) (row_holds (scope_with s.layout ks) e)
       (first (is_noted (place_in e).kind) (row_holds (scope_in plan.spec ks) e) h)
       (subst (λ (l : Layout). row_holds (scope_with l ks) e ≡ true) (sym layout) (sym (row_in_plan plan ks e) ∙ row))
 

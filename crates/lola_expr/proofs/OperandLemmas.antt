@@ -1,5 +1,6 @@
 -- Operands of their kinds.
 use Rattle.std.proofs.Common.{◌≡◌, ℤ, refl, Bool, true, false, ◌&&◌, ap, ◌∙◌, if◌then◌else◌, []}
+use Rattle.std.proofs.lemmas.Bool.{and_from}
 use Rattle.lola_value.specs.declared.value.Kind.{Kind}
 use Rattle.lola_value.specs.declared.value.Kind.TheVariants as kind
 use Rattle.lola_value.specs.declared.value.Value.{Value}
@@ -25,11 +26,7 @@ pub second : (a b : Bool) → (a && b) ≡ true → b ≡ true
 second true b h = h
 second false b h = absurd (cc)
 
--- both of them
-pub both : (a b : Bool) → a ≡ true → b ≡ true → (a && b) ≡ true
-both true true h g = refl
-both true false h g = absurd (cc)
-both false b h g = absurd (cc)
+-- and_from of them
 
 -- a kind of numbers is not that of texts
 pub integer_not_text : (k : Kind) → is_integer k ≡ true → is_text k ≡ false
@@ -82,7 +79,7 @@ held_by_kind k t outcome.Poison h names = tt
 -- what reads as a number within a kind is of that kind
 within_kind : (k : Kind) → is_integer k ≡ true → (z : ℤ) (b : Bool) → is_within k z ≡ b → (r : Outcome) → read_outcome [] r ≡ (if b then Given (field.Int z) else Failed fault.Overflow) → is_outcome_of k r ≡ true
 within_kind k i z true w (outcome.Value (value.Bool x)) e = absurd (cc)
-within_kind k i z true w (outcome.Value (value.Int x)) e = let q : x ≡ z = cc in both (is_integer k) (is_within k x) i (ap (is_within k) q ∙ w)
+within_kind k i z true w (outcome.Value (value.Int x)) e = let q : x ≡ z = cc in and_from (is_integer k) (is_within k x) i (ap (is_within k) q ∙ w)
 within_kind k i z true w (outcome.Value (value.Text id)) e = absurd (cc)
 within_kind k i z true w outcome.Missing e = refl
 within_kind k i z true w (outcome.Fault f) e = refl

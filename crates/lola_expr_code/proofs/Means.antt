@@ -1,5 +1,6 @@
 -- What an expression means of the outcomes of its parts.
 use Rattle.std.proofs.Common.{◌≡◌, ℕ, refl, sym, ap, ◌∙◌, subst, arith, Bool, true, false, ◌&&◌, List, [], ◌∷◌, length, map, Option, Some, None, slice_get, Ok, Err, Result, Box, Global}
+use Rattle.std.proofs.lemmas.Bool.{and_from}
 use Rattle.lola_value.specs.declared.text.Field.{Field}
 use Rattle.lola_value.specs.declared.text.Field.TheVariants as field
 use Rattle.lola_value.specs.declared.value.Kind.{Kind}
@@ -28,7 +29,7 @@ use Rattle.lola_model.specs.declared.expr.Prefix.{Prefix}
 use Rattle.lola_model.specs.declared.plan.Plan.{Plan}
 use Rattle.lola_expr.specs.Evaluation.{Sees, IsDenoted, are_named, part_is_named, value_or_missing}
 use Rattle.lola_expr.specs.Operands.{decides, is_truth, operand_fits, operands_fit}
-use Rattle.lola_expr.proofs.OperandLemmas.{both, first, second, held_by_kind}
+use Rattle.lola_expr.proofs.OperandLemmas.{first, second, held_by_kind}
 use Rattle.lola_expr.proofs.Parts.{same_kind-true, both_facts, choice_facts, defaults_facts, each_both, each_choice, each_defaults, each_more, each_read, each_window, read_facts, unary_facts, window_facts}
 use Rattle.lola_expr.proofs.Arms.{binary_fits, chosen_false, chosen_true, defaulted_first, defaulted_second, goes_on, joined_both, joined_stays, literal_held, literal_read, parameter_held, parameter_read, prefix_fits, stays, stays_of_kind, truth_of_kind, window_read}
 use Rattle.lola_expr_code.specs.Machine.{Answers, Folds, Negates, Operates}
@@ -95,7 +96,7 @@ module _ (remembers : Memories) (s : Seen) (p : Params) where
           ap (λ y. with_argument y (den_all plan.spec c (read_params names p) rest)) (sym l.0) ∙ ap (λ y. with_argument (Given (read names v)) y) r.0,
           (l.1, r.1),
         );
-    kinds = both (is_of_kind (noted a) v) (are_of_kinds (noted_all rest) vs) d.kind e.kinds;
+    kinds = and_from (is_of_kind (noted a) v) (are_of_kinds (noted_all rest) vs) d.kind e.kinds;
   }
 
   -- an argument without a value

@@ -1,7 +1,7 @@
 -- Specifications of small numbers have small graphs.
 use Rattle.std.proofs.Common.{◌≡◌, refl, sym, ◌∙◌, ℕ, zero, suc, ◌+◌, ◌<◌, ◌≤◌, List, [], ◌∷◌, ◌++◌, Option, Some, None, Bool, true, false, ◌&&◌, nat_lt, ℤ, pos, arith, length, slice_get}
 use Rattle.std.specs.List.{list_all}
-use Rattle.std.proofs.lemmas.Bool.{ltb-true, lt-ltb}
+use Rattle.std.proofs.lemmas.Bool.{ltb-true, lt-ltb, and_from}
 use Rattle.std.proofs.lemmas.List.Folds.{list_all-append}
 use Rattle.lola_model.specs.Accepted.{IsInRange, AreInRange, IsWhenInRange, IsWithInRange, IsClauseInRange, AreClausesInRange, AreTargetsInRange, IsSpecInRange}
 use Rattle.lola_model.specs.Bounds.{offset_by}
@@ -29,9 +29,6 @@ pub and_second : (a b : Bool) → (a && b) ≡ true → b ≡ true
 and_second true b h = h
 and_second false b h = absurd (cc)
 
-pub and_both : (a b : Bool) → a ≡ true → b ≡ true → (a && b) ≡ true
-and_both a b h k = rw (h, k)
-
 -- where all elements pass a test, so does one that is looked up
 pub passes_at : {X : Type 0} (p : X → Bool) (xs : List X) (k : ℕ) (x : X) → list_all p xs ≡ true → slice_get xs k ≡ Some x → p x ≡ true
 passes_at p [] k x h e = absurd (cc)
@@ -46,7 +43,7 @@ module _ {X : Type 0} (p : X → Bool) (xs ys : List X) where
   all_second h = and_second (list_all p xs) (list_all p ys) (sym (list_all-append p xs ys) ∙ h)
 
   all_both : list_all p xs ≡ true → list_all p ys ≡ true → list_all p (xs ++ ys) ≡ true
-  all_both h k = list_all-append p xs ys ∙ and_both (list_all p xs) (list_all p ys) h k
+  all_both h k = list_all-append p xs ys ∙ and_from (list_all p xs) (list_all p ys) h k
 
 abbrev are_small : List ℕ → Type 0
 are_small ks = list_all is_small_offset ks ≡ true
@@ -65,7 +62,7 @@ module _ (s w : ℕ) (few : s ≤ 1024) where
   readable_both : (a b : Expr) → (are_small (listed offset_in a) → is_readable a ≡ true) → (are_small (listed offset_in b) → is_readable b ≡ true)
       → are_small (listed offset_in a ++ listed offset_in b) → (is_readable a && is_readable b) ≡ true
   readable_both a b f g h =
-      and_both (is_readable a) (is_readable b)
+      and_from (is_readable a) (is_readable b)
       (f (all_first is_small_offset (listed offset_in a) (listed offset_in b) h))
       (g (all_second is_small_offset (listed offset_in a) (listed offset_in b) h))
 
@@ -74,22 +71,22 @@ module _ (s w : ℕ) (few : s ≤ 1024) where
     readable (Literal place v) r h = refl
     readable (Parameter place i) r h = refl
     readable (Read place n how args) r h =
-        and_both (nat_lt n 1024 && is_small_access how) (are_readable args)
-        (and_both (nat_lt n 1024) (is_small_access how) (below n r.0) (small_access how (all_first is_small_offset (offset_by how) (listed_all offset_in args) h)))
+        and_from (nat_lt n 1024 && is_small_access how) (are_readable args)
+        (and_from (nat_lt n 1024) (is_small_access how) (below n r.0) (small_access how (all_first is_small_offset (offset_by how) (listed_all offset_in args) h)))
         (readable_all args r.1 (all_second is_small_offset (offset_by how) (listed_all offset_in args) h))
     readable (Window place n args) r h = readable_all args r.1 h
     readable (Defaults' place u a v b) r h = readable_both a b (λ k. readable a r.0 k) (λ k. readable b r.1 k) h
     readable (Unary' place sign u a) r h = readable a r h
     readable (Both' place sign u a v b) r h = readable_both a b (λ k. readable a r.0 k) (λ k. readable b r.1 k) h
     readable (Choice' place u a v b x d) r h =
-        and_both (is_readable a) (is_readable b && is_readable d)
+        and_from (is_readable a) (is_readable b && is_readable d)
         (readable a r.0 (all_first is_small_offset (listed offset_in a) (listed offset_in b ++ listed offset_in d) h))
         (readable_both b d (λ k. readable b r.1 k) (λ k. readable d r.2 k) (all_second is_small_offset (listed offset_in a) (listed offset_in b ++ listed offset_in d) h))
 
     readable_all : (args : Arguments) → AreInRange s w args → are_small (listed_all offset_in args) → are_readable args ≡ true
     readable_all End r h = refl
     readable_all (More' u a v rest) r h =
-        and_both (is_readable a) (are_readable rest)
+        and_from (is_readable a) (are_readable rest)
         (readable a r.0 (all_first is_small_offset (listed offset_in a) (listed_all offset_in rest) h))
         (readable_all rest r.1 (all_second is_small_offset (listed offset_in a) (listed_all offset_in rest) h))
 
@@ -100,34 +97,34 @@ module _ (s w : ℕ) (few : s ≤ 1024) where
   readable_with : (es : List Expr) → IsWithInRange s w es → are_small (listed_with offset_in es) → list_all is_readable es ≡ true
   readable_with [] r h = refl
   readable_with (e ∷ es) r h =
-      and_both (is_readable e) (list_all is_readable es)
+      and_from (is_readable e) (list_all is_readable es)
       (readable e r.0 (all_first is_small_offset (listed offset_in e) (listed_with offset_in es) h))
       (readable_with es r.1 (all_second is_small_offset (listed offset_in e) (listed_with offset_in es) h))
 
   readable_clause : (c : Option Clause) → IsClauseInRange s w c → are_small (listed_clause offset_in c) → is_readable_clause c ≡ true
   readable_clause None r h = refl
   readable_clause (Some c) r h =
-      and_both (is_readable_when c.when) (list_all is_readable c.with)
+      and_from (is_readable_when c.when) (list_all is_readable c.with)
       (readable_when c.when r.0 (all_first is_small_offset (listed_when offset_in c.when) (listed_with offset_in c.with) h))
       (readable_with c.with r.1 (all_second is_small_offset (listed_when offset_in c.when) (listed_with offset_in c.with) h))
 
   readable_stream : (x : Stream) → IsClauseInRange s w x.spawn → IsClauseInRange s w x.eval → are_small (listed_stream offset_in x) → is_readable_stream x ≡ true
   readable_stream x r q h =
       let rest = all_second is_small_offset (listed_clause offset_in x.spawn) (listed_clause offset_in x.eval ++ listed_clause offset_in x.close) h in
-      and_both (is_readable_clause x.spawn) (is_readable_clause x.eval)
+      and_from (is_readable_clause x.spawn) (is_readable_clause x.eval)
       (readable_clause x.spawn r (all_first is_small_offset (listed_clause offset_in x.spawn) (listed_clause offset_in x.eval ++ listed_clause offset_in x.close) h))
       (readable_clause x.eval q (all_first is_small_offset (listed_clause offset_in x.eval) (listed_clause offset_in x.close) rest))
 
   readable_streams : (xs : List Stream) → AreClausesInRange s w xs → are_small (listed_streams offset_in xs) → list_all is_readable_stream xs ≡ true
   readable_streams [] r h = refl
   readable_streams (x ∷ xs) r h =
-      and_both (is_readable_stream x) (list_all is_readable_stream xs)
+      and_from (is_readable_stream x) (list_all is_readable_stream xs)
       (readable_stream x r.0 r.1 (all_first is_small_offset (listed_stream offset_in x) (listed_streams offset_in xs) h))
       (readable_streams xs r.3 (all_second is_small_offset (listed_stream offset_in x) (listed_streams offset_in xs) h))
 
   readable_windows : (ws : List WindowSpec) → AreTargetsInRange s w ws → list_all is_readable_window ws ≡ true
   readable_windows [] r = refl
-  readable_windows (x ∷ xs) r = and_both (is_readable_window x) (list_all is_readable_window xs) (below x.target r.0) (readable_windows xs r.1)
+  readable_windows (x ∷ xs) r = and_from (is_readable_window x) (list_all is_readable_window xs) (below x.target r.0) (readable_windows xs r.1)
 
 -- all streams of a specification
 pub spec_readable : (spec : Spec) → IsSpecInRange spec → length spec.streams ≤ 1024 → HasSmallOffsets spec → list_all is_readable_stream spec.streams ≡ true
@@ -155,9 +152,9 @@ module _ (ws : List WindowSpec) (targets : list_all is_readable_window ws ≡ tr
   small_edge : (n : ℕ) (w : ℤ) → nat_lt n 1024 ≡ true → is_small_weight w ≡ true → IsSmall (edge_to from n w ∷ [])
   small_edge n w h k =
       let lt : n < 1024 = ltb-true n 1024 h in
-      and_both (is_small_edge (edge_to from n w)) true
-      (and_both (nat_lt from 2048 && nat_lt (eval_node n) 2048) (is_small_weight w)
-      (and_both (nat_lt from 2048) (nat_lt (eval_node n) 2048) (lt-ltb from 2048 low) (lt-ltb (eval_node n) 2048 (omega arith))) k)
+      and_from (is_small_edge (edge_to from n w)) true
+      (and_from (nat_lt from 2048 && nat_lt (eval_node n) 2048) (is_small_weight w)
+      (and_from (nat_lt from 2048) (nat_lt (eval_node n) 2048) (lt-ltb from 2048 low) (lt-ltb (eval_node n) 2048 (omega arith))) k)
       refl
 
   small_window : (n : ℕ) (x : Option WindowSpec) → slice_get ws n ≡ x → IsSmall (window_edge from x)
@@ -208,9 +205,9 @@ module _ (ws : List WindowSpec) (targets : list_all is_readable_window ws ≡ tr
 small_spawn : (n : ℕ) (c : Option Clause) → n < 1024 → IsSmall (to_spawn n c)
 small_spawn n None lt = refl
 small_spawn n (Some c) lt =
-    and_both (is_small_edge (record { from = eval_node n; to = spawn_node n; weight = pos 0 })) true
-    (and_both (nat_lt (eval_node n) 2048 && nat_lt (spawn_node n) 2048) true
-    (and_both (nat_lt (eval_node n) 2048) (nat_lt (spawn_node n) 2048) (lt-ltb (eval_node n) 2048 (omega arith)) (lt-ltb (spawn_node n) 2048 (omega arith))) refl)
+    and_from (is_small_edge (record { from = eval_node n; to = spawn_node n; weight = pos 0 })) true
+    (and_from (nat_lt (eval_node n) 2048 && nat_lt (spawn_node n) 2048) true
+    (and_from (nat_lt (eval_node n) 2048) (nat_lt (spawn_node n) 2048) (lt-ltb (eval_node n) 2048 (omega arith)) (lt-ltb (spawn_node n) 2048 (omega arith))) refl)
     refl
 
 small_from : (ws : List WindowSpec) → list_all is_readable_window ws ≡ true → (n : ℕ) (xs : List Stream) → n + length xs ≤ 1024 → list_all is_readable_stream xs ≡ true → IsSmall (edges_from ws n xs)

@@ -1,6 +1,6 @@
 -- Room is made, and all else stays.
 use Rattle.std.proofs.Common.{◌≡◌, ℕ, zero, suc, ◌+◌, ◌≤◌, List, [], ◌∷◌, length, map, refl, ap, sym, ◌∙◌, subst, arith, Option, Some, slice_get, slice_set, nat_eq, Bool, true, false, not, ◌&&◌, ◌||◌, ◌⊎◌, IsTrue, inl, inr}
-use Rattle.std.proofs.lemmas.Bool.{eqb-true}
+use Rattle.std.proofs.lemmas.Bool.{eqb-true, not-true}
 use Rattle.lola_model.specs.Store.{never_spawns}
 use Rattle.lola_model.specs.declared.plan.PaneSize.{PaneSize}
 use Rattle.lola_model.specs.declared.spec.WindowSpec.{WindowSpec}
@@ -172,10 +172,6 @@ placed_still ws sizes places cs ds h g =
 
 -- where no stream spawns, none of these does
 
-not_true : (b : Bool) → not b ≡ true → b ≡ false
-not_true true e = cc
-not_true false e = refl
-
 first_of : (a b : Bool) → (a && b) ≡ true → a ≡ true
 first_of true b e = refl
 first_of false b e = cc
@@ -186,5 +182,5 @@ second_of false b e = cc
 
 pub plain_at : (cs : List Crowd) (i : ℕ) (c : Crowd) → IsTrue (never_spawns (map crowd_layout cs)) → slice_get cs i ≡ Some c → c.layout.spawns ≡ false
 plain_at [] i c h e = absurd (cc)
-plain_at (x ∷ cs) zero c h e = let q : x ≡ c = cc in subst (λ (z : Crowd). z.layout.spawns ≡ false) q (not_true x.layout.spawns (first_of (not x.layout.spawns) (never_spawns (map crowd_layout cs)) h))
+plain_at (x ∷ cs) zero c h e = let q : x ≡ c = cc in subst (λ (z : Crowd). z.layout.spawns ≡ false) q (not-true x.layout.spawns (first_of (not x.layout.spawns) (never_spawns (map crowd_layout cs)) h))
 plain_at (x ∷ cs) (suc i) c h e = plain_at cs i c (second_of (not x.layout.spawns) (never_spawns (map crowd_layout cs)) h) e

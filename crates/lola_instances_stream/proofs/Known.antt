@@ -1,7 +1,7 @@
 -- What is known of cells by their bits and in their table, as they change.
 use Rattle.std.proofs.Common.{◌≡◌, ℕ, zero, suc, ◌+◌, ◌≤◌, ◌<◌, ◌⊎◌, inl, inr, Bool, true, false, List, [], ◌∷◌, ◌++◌, length, map, filter, refl, ap, sym, ◌∙◌, subst, arith, Option, Some, None, is_some, slice_get, slice_set, cond, if◌then◌else◌, IsTrue, nat_lt, get_or}
 use Rattle.std.proofs.lemmas.Option.{slice_get_within}
-use Rattle.std.proofs.lemmas.Bool.{le-leb}
+use Rattle.std.proofs.lemmas.Bool.{le-leb, false_from_ne_true}
 use Rattle.std.specs.Prelude.{replicate}
 use Rattle.std.proofs.lemmas.List.{length-append}
 use Rattle.lola_instances_bits.specs.Bits.{Extends, rank}
@@ -28,9 +28,6 @@ same_or_not a b = elim (below_or_not a b) [
 ]
 
 -- a test that cannot pass does not
-told_apart : (b : Bool) → (b ≡ true → ⊥) → b ≡ false
-told_apart true h = absurd (h refl)
-told_apart false h = refl
 
 some_same : (a b : ℕ) (o : Option ℕ) → o ≡ Some a → o ≡ Some b → a ≡ b
 some_same a b o e q = cc
@@ -58,7 +55,7 @@ module _ (cells : List (Option Holdings)) (cell : ℕ) where
         let k = kept_apart c s e refl gone at in
         let here = known.listed was cell gone at in
         let there = known.listed was c s k.1 in
-        let apart : same_places gone.params s.params ≡ false = told_apart (same_places gone.params s.params)
+        let apart : same_places gone.params s.params ≡ false = false_from_ne_true (same_places gone.params s.params)
         (λ same. let p : gone.params ≡ s.params = (places_decide gone.params s.params).0 same in k.0 (some_same c cell (cell_of s.params table.entries) there (subst (λ q. cell_of q table.entries ≡ Some cell) p here))) in
         has was s.params ∙ ap (λ b. cond b None (cell_of s.params table.entries)) apart ∙ there;
   }
@@ -102,7 +99,7 @@ known_more cells bits table after slot formed known room absent kept has = recor
         | inl at ↦
             let stands = cell_place cells c s at in
             let other = absent_at slot.params (living cells) 0 absent stands.0 s (stands_place cells c stands.0 s stands.1) in
-            let apart : same_places slot.params s.params ≡ false = told_apart (same_places slot.params s.params)
+            let apart : same_places slot.params s.params ≡ false = false_from_ne_true (same_places slot.params s.params)
             (λ same.
             let p : slot.params ≡ s.params = (places_decide slot.params s.params).0 same in
             let own : same_params slot.params s.params ≡ true = subst (λ q. same_params slot.params q ≡ true) p (same_as_itself slot.params) in
@@ -208,7 +205,7 @@ one_in p (t ∷ ss) k zero s e same only =
     let n : k ≡ k + 0 = omega arith in
     ap (λ b. if b then Some k else place_in p ss (k + 1)) here ∙ ap Some n
 one_in p (t ∷ ss) k (suc i) s e same only =
-    let apart : same_params p t.params ≡ false = told_apart (same_params p t.params) (λ here. let z : 0 ≡ suc i = only 0 t refl here in omega arith) in
+    let apart : same_params p t.params ≡ false = false_from_ne_true (same_params p t.params) (λ here. let z : 0 ≡ suc i = only 0 t refl here in omega arith) in
     let n : k + 1 + i ≡ k + suc i = omega arith in
     ap (λ b. if b then Some k else place_in p ss (k + 1)) apart ∙ one_in p ss (k + 1) i s e same (λ j u at is. let z = only (suc j) u at is in omega arith) ∙ ap Some n
 
@@ -222,11 +219,11 @@ module _ (cells : List (Option Holdings)) (bits : List Bool) (table : Listing) (
       (r.0, (r.1, subst (λ x. cell_of x table.entries ≡ Some r.0) (sym q) (known.listed kept r.0 s got)))
 
   none_listed : cell_of p table.entries ≡ None → (place : ℕ) (s : Holdings) → slice_get (living cells) place ≡ Some s → same_params p s.params ≡ false
-  none_listed none place s at = told_apart (same_params p s.params) (λ same. let r = listed_here place s at same in let e = r.1.1 in cc)
+  none_listed none place s at = false_from_ne_true (same_params p s.params) (λ same. let r = listed_here place s at same in let e = r.1.1 in cc)
 
   none_there : (cell : ℕ) → cell_of p table.entries ≡ Some cell → ((s : Holdings) → slice_get cells cell ≡ Some (Some s) → same_params p s.params ≡ false) → (place : ℕ) (s : Holdings) → slice_get (living cells) place ≡ Some s → same_params p s.params ≡ false
   none_there cell found other place s at =
-      told_apart (same_params p s.params)
+      false_from_ne_true (same_params p s.params)
       (λ same.
       let r = listed_here place s at same in
       let c : r.0 ≡ cell = some_same r.0 cell (cell_of p table.entries) r.1.1 found in

@@ -3,12 +3,12 @@ use Rattle.std.proofs.Common.{◌≡◌, ℕ, Bool, true, false, ◌||◌, ◌==
 use Rattle.std.specs.Char.{is_ascii_digit}
 use Rattle.std.specs.Int.{is_in_range}
 use Rattle.std.proofs.lemmas.Bool.Decides.{nat_tests}
+use Rattle.std.proofs.lemmas.Bool.{false_from_ne_true}
 use Rattle.lola_lexer.specs.Spelling.{begins_name, in_name, is_blank}
-use Rattle.lola_lexer.proofs.Runs.{not_true}
 
 -- a byte of a class is none that the class lacks
 pub differs : (p : ℕ → Bool) (b k : ℕ) → p b ≡ true → p k ≡ false → (b == k) ≡ false
-differs p b k in' out = not_true (b == k) (λ e. true≢false (sym in' ∙ ap p (eqb-true b k e) ∙ out))
+differs p b k in' out = false_from_ne_true (b == k) (λ e. true≢false (sym in' ∙ ap p (eqb-true b k e) ∙ out))
 
 is_also : (d u l x : Bool) → ((u || l) || x) ≡ true → (((d || u) || l) || x) ≡ true
 is_also true u l x h = refl

@@ -6,13 +6,13 @@ use Rattle.std.specs.Str.{is_utf8}
 use Rattle.std.specs.Prelude.{codes}
 use Rattle.std.proofs.lemmas.Str.{IsUtf8-from_is_utf8}
 use Rattle.std.proofs.lemmas.List.Sums.{prefix_len-le-length}
+use Rattle.std.proofs.lemmas.Bool.{and_parts, not-false}
 use Rattle.lola_lexer.specs.declared.scan.thing.Thing.TheVariants as thing
 use Rattle.lola_lexer.specs.Spelling.{Bytes, is_blank, in_line}
 use Rattle.lola_lexer.specs.Lexical.{comment_end, commented, line_comment, block_comment}
 use Rattle.lola_lexer.specs.Longest.{EndsLine, IsClosed, GapAt, IsSound}
 use Rattle.lola_lexer.proofs.Runs.{run_passes}
 use Rattle.lola_lexer.proofs.Signs.{if_goes}
-use Rattle.lola_lexer.proofs.Numbers.{both}
 
 -- ---- blanks
 
@@ -22,13 +22,9 @@ blank_sound (b ∷ z) h = record { fits = omega arith; some = omega arith; gap =
 
 -- ---- comments up to the end of a line
 
-not_false : (b : Bool) → not b ≡ false → b ≡ true
-not_false true h = refl
-not_false false h = sym h
-
 ends_at : (x : ℕ) (z : Bytes) (b : Bool) → in_line x ≡ b → EndsLine (drop (prefix_len in_line z) z) → EndsLine (drop (cond b (1 + prefix_len in_line z) 0) (x ∷ z))
 ends_at x z true e h = rw (one-add) h
-ends_at x z false e h = eqb-true x 10 (not_false (x == 10) e)
+ends_at x z false e h = eqb-true x 10 (not-false (x == 10) e)
 
 pub line_ends : (z : Bytes) → EndsLine (drop (prefix_len in_line z) z)
 line_ends [] = tt
@@ -57,8 +53,8 @@ line_of b c z h i =
 
 pub line_sound : (z : Bytes) → (slice_index z 0 == 47 && slice_index z 1 == 47) ≡ true → IsSound z (line_comment z)
 line_sound [] h = absurd (true≢false (sym h))
-line_sound (b ∷ []) h = absurd (true≢false (sym (both (b == 47) false h).1))
-line_sound (b ∷ c ∷ z) h = line_of b c z (eqb-true b 47 (both (b == 47) (c == 47) h).0) (eqb-true c 47 (both (b == 47) (c == 47) h).1)
+line_sound (b ∷ []) h = absurd (true≢false (sym (and_parts (b == 47) false h).1))
+line_sound (b ∷ c ∷ z) h = line_of b c z (eqb-true b 47 (and_parts (b == 47) (c == 47) h).0) (eqb-true c 47 (and_parts (b == 47) (c == 47) h).1)
 
 -- ---- comments up to the next `*/`
 
@@ -155,5 +151,5 @@ block_of b c z h i = rw (h, i) (commented_sound z (comment_end false 2 z) refl)
 
 pub block_sound : (z : Bytes) → (slice_index z 0 == 47 && slice_index z 1 == 42) ≡ true → IsSound z (block_comment z)
 block_sound [] h = absurd (true≢false (sym h))
-block_sound (b ∷ []) h = absurd (true≢false (sym (both (b == 47) false h).1))
-block_sound (b ∷ c ∷ z) h = block_of b c z (eqb-true b 47 (both (b == 47) (c == 42) h).0) (eqb-true c 42 (both (b == 47) (c == 42) h).1)
+block_sound (b ∷ []) h = absurd (true≢false (sym (and_parts (b == 47) false h).1))
+block_sound (b ∷ c ∷ z) h = block_of b c z (eqb-true b 47 (and_parts (b == 47) (c == 42) h).0) (eqb-true c 42 (and_parts (b == 47) (c == 42) h).1)

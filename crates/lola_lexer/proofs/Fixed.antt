@@ -5,6 +5,7 @@ use Rattle.std.specs.Prelude.{codes}
 use Rattle.std.specs.Char.{is_ascii_digit}
 use Rattle.std.proofs.lemmas.List.{take_at}
 use Rattle.std.proofs.lemmas.List.Sums.{AllPass-from_list_all}
+use Rattle.std.proofs.lemmas.Bool.{or_parts}
 use Rattle.lola_lexer.specs.declared.shape.TokenShape.{TokenShape}
 use Rattle.lola_lexer.specs.declared.shape.TokenShape.TheVariants as is
 use Rattle.lola_lexer.specs.declared.scan.thing.Thing.TheVariants as thing
@@ -13,10 +14,6 @@ use Rattle.lola_lexer.specs.Lexical.{shape_of_word, word, number, text, thing_at
 use Rattle.lola_lexer.specs.Longest.{goes_on}
 use Rattle.lola_lexer.proofs.Runs.{run_whole}
 use Rattle.lola_lexer.proofs.Classes.{differs, name_is_no_blank, digit_is_no_blank, digit_begins_none}
-
-pub neither : (x y : Bool) → (x || y) ≡ false → (x ≡ false) × (y ≡ false)
-neither true y h = absurd (true≢false h)
-neither false y h = (refl, h)
 
 pub front_word : (z : Bytes) → begins_name (slice_index z 0) ≡ true → thing_at z ≡ word z
 unfolding thing_at
@@ -100,7 +97,7 @@ sign_Star rest _ = refl
 
 sign_Slash : (rest : Bytes) → goes_on is.Slash (slice_index rest 0) (slice_index rest 1) ≡ false → thing_at (codes "/" ++ rest) ≡ thing.Token is.Slash 1
 unfolding thing_at
-sign_Slash rest ends = let p = neither (slice_index rest 0 == 47) (slice_index rest 0 == 42) ends in rw (p.0, p.1) refl
+sign_Slash rest ends = let p = or_parts (slice_index rest 0 == 47) (slice_index rest 0 == 42) ends in rw (p.0, p.1) refl
 
 sign_Percent : (rest : Bytes) → goes_on is.Percent (slice_index rest 0) (slice_index rest 1) ≡ false → thing_at (codes "%" ++ rest) ≡ thing.Token is.Percent 1
 unfolding thing_at

@@ -11,11 +11,12 @@ use Rattle.std.proofs.lemmas.List.{drop_more, get_or_past}
 use Rattle.std.proofs.lemmas.List.Elements.{Decides-contains, All-nil}
 use Rattle.std.proofs.lemmas.List.Sums.{prefix_len-le-length}
 use Rattle.std.proofs.lemmas.Bool.Decides.{Decides-by_or, Decides-like, leb_tells}
+use Rattle.std.proofs.lemmas.Bool.{false_from_ne_true, and_parts}
 use Rattle.lola_lexer.specs.declared.shape.TokenShape.TheVariants as is
 use Rattle.lola_lexer.specs.Spelling.{Bytes, in_name, units, pointed, IsDigits}
 use Rattle.lola_lexer.specs.Lexical.{is_unit, run, measured, number}
 use Rattle.lola_lexer.specs.Longest.{StandsAt, IsSound}
-use Rattle.lola_lexer.proofs.Runs.{not_true, run_stops, run_moves, run_passes}
+use Rattle.lola_lexer.proofs.Runs.{run_stops, run_moves, run_passes}
 use Rattle.lola_lexer.proofs.Signs.{if_goes}
 
 pub unit_Decides : (u : Bytes) → Decides (is_unit u) (Contains units u)
@@ -26,10 +27,6 @@ unit_Decides u =
 pub pointed_some : (f : Bytes) → 0 < length f → pointed f ≡ 46 ∷ f
 pointed_some [] h = absurd (omega (arith, h))
 pointed_some (d ∷ f) h = refl
-
-pub both : (x y : Bool) → (x && y) ≡ true → (x ≡ true) × (y ≡ true)
-both true y h = (refl, h)
-both false y h = absurd (true≢false (sym h))
 
 -- where a byte stands that is not 0, the text goes on
 pub inside : (z : Bytes) (i k : ℕ) → (0 == k) ≡ false → (slice_index z i == k) ≡ true → i < length z
@@ -140,10 +137,10 @@ number_of : (z : Bytes) (n : ℕ) (x : Bool) → n ≡ prefix_len is_ascii_digit
 number_of z n false is some no_point =
     rw (eq-eqb n n refl) (measured_sound z (take n z) [] n n (plain_measured z n is some no_point))
 number_of z n true is some point =
-    let parts = both (slice_index z n == 46) (is_ascii_digit (slice_index z (n + 1))) point in
+    let parts = and_parts (slice_index z n == 46) (is_ascii_digit (slice_index z (n + 1))) point in
     let m = run is_ascii_digit (n + 1) z in
     let m_some : 0 < m = run_moves is_ascii_digit refl (drop (n + 1) z) (rw (get_or-drop, add-zero) parts.1) in
-    let other : (n + 1 + m == n) ≡ false = not_true (n + 1 + m == n) (λ e. absurd (omega (arith, m_some, eqb-true (n + 1 + m) n e))) in
+    let other : (n + 1 + m == n) ≡ false = false_from_ne_true (n + 1 + m == n) (λ e. absurd (omega (arith, m_some, eqb-true (n + 1 + m) n e))) in
     let count : n + 1 + m - 1 ≡ n + m = omega arith in
     rw (other, count) (measured_sound z (take n z) (take m (drop (n + 1) z)) (n + m) (n + 1 + m) (pointed_measured z n m is some parts.0 refl m_some))
 

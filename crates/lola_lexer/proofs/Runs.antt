@@ -4,10 +4,6 @@ use Rattle.std.specs.List.{prefix_len, slice_index, AllPass}
 use Rattle.std.proofs.lemmas.List.Elements.{All-head, All-tail, All-nil, All-cons}
 use Rattle.lola_lexer.specs.Spelling.{Bytes}
 
-pub not_true : (b : Bool) → (b ≡ true → ⊥) → b ≡ false
-not_true true h = absurd (h refl)
-not_true false h = refl
-
 module _ (p : ℕ → Bool) where
   stops_at : (x : ℕ) (z : Bytes) (b : Bool) → p x ≡ b → p (slice_index z (prefix_len p z)) ≡ false
       → p (slice_index (x ∷ z) (cond b (1 + prefix_len p z) 0)) ≡ false

@@ -9,15 +9,15 @@ use Rattle.std.proofs.lemmas.List.{get_or_past, length-take-le, take-take}
 use Rattle.std.proofs.lemmas.List.Elements.{All-more}
 use Rattle.std.proofs.lemmas.List.Sums.{AllPass-from_list_all}
 use Rattle.std.proofs.lemmas.Bool.Decides.{leb_tells}
+use Rattle.std.proofs.lemmas.Bool.{false_from_ne_true, or_parts}
 use Rattle.lola_lexer.specs.declared.shape.TokenShape.{TokenShape}
 use Rattle.lola_lexer.specs.declared.shape.TokenShape.TheVariants as is
 use Rattle.lola_lexer.specs.declared.scan.thing.Thing.TheVariants as thing
 use Rattle.lola_lexer.specs.Spelling.{Bytes, begins_name, in_name, in_line, spelling, IsWord, IsToken}
 use Rattle.lola_lexer.specs.Lexical.{shape_of_word, thing_at, comment_end, commented, line_comment, block_comment}
 use Rattle.lola_lexer.specs.Longest.{goes_on, NumberEnds, BeginsComment, IsLongest, StandsAt}
-use Rattle.lola_lexer.proofs.Runs.{not_true}
 use Rattle.lola_lexer.proofs.Words.{word_shape}
-use Rattle.lola_lexer.proofs.Fixed.{neither, some_bytes}
+use Rattle.lola_lexer.proofs.Fixed.{some_bytes}
 use Rattle.lola_lexer.proofs.WholeTexts.{front_line, front_block}
 use Rattle.lola_lexer.proofs.Complete.{complete, token_some, stands_found, found_stands}
 
@@ -72,7 +72,7 @@ no_digit false y h = refl
 -- a second byte less makes no token longer
 goes_less : (s : TokenShape) (c d : ℕ) → goes_on s c d ≡ false → goes_on s c 0 ≡ false
 goes_less is.Integer c d h =
-    let p = neither (in_name c) (c == 46 && is_ascii_digit d) h in
+    let p = or_parts (in_name c) (c == 46 && is_ascii_digit d) h in
     rw (p.0) (no_digit (c == 46) (is_ascii_digit d) p.1)
 goes_less is.Input c d h = h
 goes_less is.Output c d h = h
@@ -176,7 +176,7 @@ comment_is_none z s n h (inl (v, is)) = no_line_token (codes "//" ++ v) s n (sym
 comment_is_none z s n h (inr (v, is)) = no_block_token (codes "/*" ++ v) s n (sym (front_block v) ∙ ap thing_at (sym is) ∙ h)
 
 number_ends : (s : TokenShape) (c d : ℕ) → goes_on s c d ≡ false → NumberEnds s c d
-number_ends is.Integer c d h = neither (in_name c) (c == 46 && is_ascii_digit d) h
+number_ends is.Integer c d h = or_parts (in_name c) (c == 46 && is_ascii_digit d) h
 number_ends is.Quantity c d h = h
 number_ends _ c d h = tt
 
@@ -210,7 +210,7 @@ longer_word z n fits word goes =
 
 word_ends : (z : Bytes) (s : TokenShape) (n : ℕ) → IsLongest z s n → IsWord (take n z) → in_name (slice_index z n) ≡ false
 word_ends z s n h word =
-    not_true (in_name (slice_index z n)) (λ goes.
+    false_from_ne_true (in_name (slice_index z n)) (λ goes.
     let longer = longer_word z n h.fits word goes in
     h.longest (n + 1) (shape_of_word (take (n + 1) z)) (omega arith) (omega (arith, longer.0)) (word_shape (take (n + 1) z) longer.1).0)
 
@@ -234,7 +234,7 @@ two_bytes z n a b fits some is h =
 longer_sign : (z : Bytes) (s other : TokenShape) (n a b : ℕ) → IsLongest z s n → (0 == b) ≡ false → take n z ≡ a ∷ []
     → ((w : Bytes) → w ≡ a ∷ b ∷ [] → IsToken other w) → (slice_index z n == b) ≡ false
 longer_sign z s other n a b h some is longer =
-    not_true (slice_index z n == b) (λ e.
+    false_from_ne_true (slice_index z n == b) (λ e.
     let p = two_bytes z n a b h.fits some is e in
     let front : take 2 z ≡ a ∷ b ∷ [] = rw (p.1.1) refl in
     let fits : 2 ≤ length z = rw (p.1.1) (omega arith) in
@@ -243,9 +243,9 @@ longer_sign z s other n a b h some is longer =
 slash_alone : (z : Bytes) (n : ℕ) → IsLongest z is.Slash n → (slice_index z n == 47 || slice_index z n == 42) ≡ false
 slash_alone z n h =
     let no_line : (slice_index z n == 47) ≡ false =
-    not_true (slice_index z n == 47) (λ e. h.no_comment (inl (two_bytes z n 47 47 h.fits refl h.token e).1)) in
+    false_from_ne_true (slice_index z n == 47) (λ e. h.no_comment (inl (two_bytes z n 47 47 h.fits refl h.token e).1)) in
     let no_block : (slice_index z n == 42) ≡ false =
-    not_true (slice_index z n == 42) (λ e. h.no_comment (inr (two_bytes z n 47 42 h.fits refl h.token e).1)) in
+    false_from_ne_true (slice_index z n == 42) (λ e. h.no_comment (inr (two_bytes z n 47 42 h.fits refl h.token e).1)) in
     rw (no_line, no_block) refl
 
 longest_ends : (z : Bytes) (n : ℕ) (s : TokenShape) → IsLongest z s n → goes_on s (slice_index z n) (slice_index z (n + 1)) ≡ false

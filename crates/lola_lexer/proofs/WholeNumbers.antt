@@ -7,22 +7,23 @@ use Rattle.std.specs.Char.{is_ascii_digit}
 use Rattle.std.proofs.lemmas.List.{take_at, drop_at, get_or-append_right, drop-drop}
 use Rattle.std.proofs.lemmas.List.Elements.{All-contains, All-head, All-nil, All-cons}
 use Rattle.std.proofs.lemmas.List.Sums.{AllPass-from_list_all}
+use Rattle.std.proofs.lemmas.Bool.{false_from_ne_true, or_parts}
 use Rattle.lola_lexer.specs.declared.shape.TokenShape.TheVariants as is
 use Rattle.lola_lexer.specs.declared.scan.thing.Thing.TheVariants as thing
 use Rattle.lola_lexer.specs.Spelling.{Bytes, begins_name, in_name, units, pointed, IsDigits, IsQuantity}
 use Rattle.lola_lexer.specs.Lexical.{is_unit, run, measured, number, thing_at}
 use Rattle.lola_lexer.specs.Longest.{goes_on}
-use Rattle.lola_lexer.proofs.Runs.{not_true, run_whole}
+use Rattle.lola_lexer.proofs.Runs.{run_whole}
 use Rattle.lola_lexer.proofs.Classes.{differs, digit_in, digit_begins_none}
 use Rattle.lola_lexer.proofs.Numbers.{unit_Decides}
-use Rattle.lola_lexer.proofs.Fixed.{neither, front_number, first_of_front}
+use Rattle.lola_lexer.proofs.Fixed.{front_number, first_of_front}
 
 -- a byte that is in no name is no digit
 pub outside : (b : ℕ) → in_name b ≡ false → is_ascii_digit b ≡ false
-outside b h = not_true (is_ascii_digit b) (λ e. true≢false (sym (digit_in b e) ∙ h))
+outside b h = false_from_ne_true (is_ascii_digit b) (λ e. true≢false (sym (digit_in b e) ∙ h))
 
 not_below : (a b : ℕ) → b ≤ a → nat_lt a b ≡ false
-not_below a b h = not_true (nat_lt a b) (λ e. absurd (omega (arith, h, ltb-true a b e)))
+not_below a b h = false_from_ne_true (nat_lt a b) (λ e. absurd (omega (arith, h, ltb-true a b e)))
 
 -- what stands at the place behind the front
 behind_front : (w rest : Bytes) (n i k : ℕ) → length w ≡ n → k ≡ n + i → slice_index (w ++ rest) k ≡ slice_index rest i
@@ -46,7 +47,7 @@ plain_number z n is no_point = number_by z n false is no_point ∙ ap (λ b. mea
 pointed_number : (z : Bytes) (n m : ℕ) → prefix_len is_ascii_digit z ≡ n → (slice_index z n == 46 && is_ascii_digit (slice_index z (n + 1))) ≡ true
     → run is_ascii_digit (n + 1) z ≡ m → number z ≡ measured (n + m) (n + 1 + m) z
 pointed_number z n m is point m_is =
-    let other : (n + 1 + m == n) ≡ false = not_true (n + 1 + m == n) (λ e. absurd (omega (arith, eqb-true (n + 1 + m) n e))) in
+    let other : (n + 1 + m == n) ≡ false = false_from_ne_true (n + 1 + m == n) (λ e. absurd (omega (arith, eqb-true (n + 1 + m) n e))) in
     let count : n + 1 + m - 1 ≡ n + m = omega arith in
     number_by z n true is point ∙ ap (λ k. measured (if n + 1 + k == n then n + 1 + k else n + 1 + k - 1) (n + 1 + k) z) m_is
     ∙ ap (λ b. measured (if b then n + 1 + m else n + 1 + m - 1) (n + 1 + m) z) other ∙ ap (λ k. measured k (n + 1 + m) z) count
@@ -59,7 +60,7 @@ integer_measured z n few none = rw (not_below 38 n few, none, eq-eqb n n refl) r
 pub integer_complete : (w rest : Bytes) → IsDigits w → length w ≤ 38 → goes_on is.Integer (slice_index rest 0) (slice_index rest 1) ≡ false
     → thing_at (w ++ rest) ≡ thing.Token is.Integer (length w)
 integer_complete w rest digits few ends =
-    let stops = neither (in_name (slice_index rest 0)) (slice_index rest 0 == 46 && is_ascii_digit (slice_index rest 1)) ends in
+    let stops = or_parts (in_name (slice_index rest 0)) (slice_index rest 0 == 46 && is_ascii_digit (slice_index rest 1)) ends in
     let n = length w in
     let whole : prefix_len is_ascii_digit (w ++ rest) ≡ n = run_whole is_ascii_digit w rest digits.1 (outside (slice_index rest 0) stops.0) in
     let first : slice_index (w ++ rest) n ≡ slice_index rest 0 = behind_front w rest n 0 n refl (omega arith) in
@@ -88,7 +89,7 @@ quantity_measured : (z unit rest : Bytes) (digits end : ℕ) → drop end z ≡ 
 quantity_measured z unit rest digits end tail few is ends =
     let u : IsLetters unit = All-contains IsLetters units unit units_letters is in
     let long : run in_name end z ≡ length unit = rw tail (run_whole in_name unit rest u.all ends) in
-    let some : (length unit == 0) ≡ false = not_true (length unit == 0) (λ e. absurd (omega (arith, u.some, eqb-true (length unit) 0 e))) in
+    let some : (length unit == 0) ≡ false = false_from_ne_true (length unit == 0) (λ e. absurd (omega (arith, u.some, eqb-true (length unit) 0 e))) in
     let known : is_unit (take (length unit) (drop end z)) ≡ true = rw (tail, take_at unit rest (length unit) refl) ((unit_Decides unit).1 is) in
     rw (not_below 38 digits few, long, some, known) refl
 
@@ -101,7 +102,7 @@ plain_quantity whole unit rest digits few is ends =
     let letter : slice_index (unit ++ rest) 0 ≡ slice_index unit 0 = first_of_front unit rest u.some in
     let begins : begins_name (slice_index (unit ++ rest) 0) ≡ true = rw letter u.begins in
     let no_digit : is_ascii_digit (slice_index (unit ++ rest) 0) ≡ false =
-    not_true (is_ascii_digit (slice_index (unit ++ rest) 0)) (λ e. true≢false (sym begins ∙ digit_begins_none (slice_index (unit ++ rest) 0) e)) in
+    false_from_ne_true (is_ascii_digit (slice_index (unit ++ rest) 0)) (λ e. true≢false (sym begins ∙ digit_begins_none (slice_index (unit ++ rest) 0) e)) in
     let run_is : prefix_len is_ascii_digit z ≡ n = run_whole is_ascii_digit whole (unit ++ rest) digits.1 no_digit in
     let first : slice_index z n ≡ slice_index (unit ++ rest) 0 = behind_front whole (unit ++ rest) n 0 n refl (omega arith) in
     let no_point : (slice_index z n == 46 && is_ascii_digit (slice_index z (n + 1))) ≡ false =
@@ -121,7 +122,7 @@ pointed_quantity whole fraction unit rest digits decimals few is ends =
     let z = whole ++ (46 ∷ behind) in
     let begins : begins_name (slice_index (unit ++ rest) 0) ≡ true = rw (first_of_front unit rest u.some) u.begins in
     let no_digit : is_ascii_digit (slice_index (unit ++ rest) 0) ≡ false =
-    not_true (is_ascii_digit (slice_index (unit ++ rest) 0)) (λ e. true≢false (sym begins ∙ digit_begins_none (slice_index (unit ++ rest) 0) e)) in
+    false_from_ne_true (is_ascii_digit (slice_index (unit ++ rest) 0)) (λ e. true≢false (sym begins ∙ digit_begins_none (slice_index (unit ++ rest) 0) e)) in
     let run_is : prefix_len is_ascii_digit z ≡ n = run_whole is_ascii_digit whole (46 ∷ behind) digits.1 refl in
     let first : slice_index z n ≡ 46 = behind_front whole (46 ∷ behind) n 0 n refl (omega arith) in
     let second : slice_index z (n + 1) ≡ slice_index behind 0 = behind_front whole (46 ∷ behind) n 1 (n + 1) refl (omega arith) in

@@ -6,12 +6,13 @@ use Rattle.std.specs.Str.{bytes_eq}
 use Rattle.std.proofs.lemmas.Slice.Eq.{bytes_eq-Decides}
 use Rattle.std.proofs.lemmas.List.Elements.{All-head, All-tail, All-nil, All-cons}
 use Rattle.std.proofs.lemmas.List.Sums.{prefix_len-le-length}
+use Rattle.std.proofs.lemmas.Bool.{false_from_ne_true}
 use Rattle.lola_lexer.specs.declared.shape.TokenShape.{TokenShape}
 use Rattle.lola_lexer.specs.declared.shape.TokenShape.TheVariants as is
 use Rattle.lola_lexer.specs.Spelling.{Bytes, begins_name, in_name, spelling, reserved, IsWord, IsToken}
 use Rattle.lola_lexer.specs.Lexical.{shape_among, shape_of_word}
 use Rattle.lola_lexer.specs.Longest.{goes_on, StandsAt}
-use Rattle.lola_lexer.proofs.Runs.{not_true, run_stops, run_moves, run_passes}
+use Rattle.lola_lexer.proofs.Runs.{run_stops, run_moves, run_passes}
 use Rattle.lola_lexer.proofs.Classes.{begins_in}
 
 -- a fact for each of a list, part by part
@@ -36,7 +37,7 @@ pub no_word : (w : Bytes) (ss : List TokenShape) → All (λ s. w ≢ spelling s
 no_word w [] all = refl
 no_word w (s ∷ ss) all =
     let other : w ≢ spelling s = All-head (λ s. w ≢ spelling s) s ss all in
-    rw (not_true (bytes_eq w (spelling s)) (λ e. other ((bytes_eq-Decides w (spelling s)).0 e))) (no_word w ss (All-tail (λ s. w ≢ spelling s) s ss all))
+    rw (false_from_ne_true (bytes_eq w (spelling s)) (λ e. other ((bytes_eq-Decides w (spelling s)).0 e))) (no_word w ss (All-tail (λ s. w ≢ spelling s) s ss all))
 
 -- the shape of a word is that of a token that is spelled so and goes on as names do
 abbrev pub IsWordShape : Bytes → TokenShape → Type 0

@@ -4,6 +4,7 @@ use Rattle.std.proofs.Common.{◌≡◌, ℕ, ◌+◌, ◌-◌, ◌≤◌, true,
 use Rattle.std.specs.List.{slice_index, All}
 use Rattle.std.proofs.lemmas.List.{take_at, drop_at}
 use Rattle.std.proofs.lemmas.List.Elements.{All-head, All-tail}
+use Rattle.std.proofs.lemmas.Bool.{false_from_ne_true}
 use Rattle.lola_lexer.specs.declared.shape.TokenShape.{TokenShape}
 use Rattle.lola_lexer.specs.declared.shape.TokenShape.TheVariants as is
 use Rattle.lola_lexer.specs.declared.scan.thing.Thing.TheVariants as thing
@@ -13,7 +14,6 @@ use Rattle.lola_lexer.specs.Lexical.{thing_at}
 use Rattle.lola_lexer.specs.Longest.{goes_on}
 use Rattle.lola_lexer.specs.Tokens.{with_front, tokens_from, tokens_of}
 use Rattle.lola_lexer.specs.Written.{Mark, IsMark, written, marks_at, bytes_of}
-use Rattle.lola_lexer.proofs.Runs.{not_true}
 use Rattle.lola_lexer.proofs.Classes.{differs}
 use Rattle.lola_lexer.proofs.Goes.{gap_goes, token_goes}
 use Rattle.lola_lexer.proofs.Complete.{complete, token_some}
@@ -22,7 +22,7 @@ use Rattle.lola_lexer.proofs.Complete.{complete, token_some}
 
 blank_is_in_no_name : (b : ℕ) → is_blank b ≡ true → in_name b ≡ false
 blank_is_in_no_name b h =
-    not_true (in_name b) (λ e.
+    false_from_ne_true (in_name b) (λ e.
     true≢false (sym h ∙ rw (differs in_name b 32 e refl, differs in_name b 9 e refl, differs in_name b 10 e refl, differs in_name b 13 e refl) refl))
 
 pub blank_ends : (s : TokenShape) (b d : ℕ) → is_blank b ≡ true → goes_on s b d ≡ false
@@ -117,5 +117,5 @@ pub written_is_cut : (ms : List Mark) → All IsMark ms → length (written ms) 
 unfolding tokens_of
 written_is_cut ms all short =
     let few : nat_lt 1_048_576 (length (written ms)) ≡ false =
-    not_true (nat_lt 1_048_576 (length (written ms))) (λ e. absurd (omega (arith, short, ltb-true 1_048_576 (length (written ms)) e))) in
+    false_from_ne_true (nat_lt 1_048_576 (length (written ms))) (λ e. absurd (omega (arith, short, ltb-true 1_048_576 (length (written ms)) e))) in
     rw few (written_goes ms 0 all)

@@ -1,6 +1,6 @@
 -- What implication of pacings comes to: by the sets of normal forms, by formulas, and in each step of a run.
-use Rattle.std.proofs.Common.{get_or, ◌≡◌, refl, ap, sym, subst, ◌∙◌, ℕ, ◌-◌, ◌*◌, ◌/◌, ◌<◌, ◌≤◌, min, ◌⊎◌, inl, inr, ◌↔◌, List, [], ◌∷◌, Option, Some, None, Bool, true, false, ◌&&◌, ◌||◌, nat_eq, nat_lt, arith}
-use Rattle.std.proofs.lemmas.Bool.{cases_lt, ltb-true, lt-ltb, eqb-true, eq-eqb}
+use Rattle.std.proofs.Common.{get_or, ◌≡◌, ap, sym, subst, ◌∙◌, ℕ, ◌-◌, ◌*◌, ◌/◌, ◌<◌, ◌≤◌, min, ◌⊎◌, inl, inr, ◌↔◌, List, [], ◌∷◌, Option, Some, None, Bool, true, ◌||◌, nat_eq, nat_lt, arith}
+use Rattle.std.proofs.lemmas.Bool.{cases_lt, ltb-true, lt-ltb, eqb-true, eq-eqb, or_cases, or_left, or_right, and_parts, and_from}
 use Rattle.std.proofs.lemmas.Nat.{and_assoc, and_comm}
 use Rattle.std.specs.Int.Bits.{bit_and, and_self}
 use Rattle.std.proofs.lemmas.Nat.Bits.{bit_at_and, bit_at-lt}
@@ -26,29 +26,14 @@ use Rattle.lola_model.specs.declared.spec.Formula.TheVariants.{Input, And', Or'}
 -- tests
 
 -- one of two tests
-or_cases : (a b : Bool) → (a || b) ≡ true → (a ≡ true) ⊎ (b ≡ true)
-or_cases true b h = inl refl
-or_cases false b h = inr h
 
 -- by the first
-or_left : (a b : Bool) → a ≡ true → (a || b) ≡ true
-or_left true b h = refl
-or_left false b h = absurd (cc)
 
 -- by the second
-or_right : (a b : Bool) → b ≡ true → (a || b) ≡ true
-or_right true b h = refl
-or_right false b h = h
 
 -- both of two tests
-and_parts : (a b : Bool) → (a && b) ≡ true → (a ≡ true) × (b ≡ true)
-and_parts true b h = (refl, h)
-and_parts false b h = absurd (cc)
 
 -- by both
-and_both : (a b : Bool) → a ≡ true → b ≡ true → (a && b) ≡ true
-and_both true b h g = g
-and_both false b h g = absurd (cc)
 
 -- sets of inputs
 
@@ -119,7 +104,7 @@ pub satisfies_formula-through : (inputs : ℕ) (s : InputSet) (f : Formula) → 
 satisfies_formula-through inputs s (Input n) h g = has_more inputs s n h g
 satisfies_formula-through inputs s (And' u a v b) h g =
     let w = and_parts (satisfies_formula s.0 a) (satisfies_formula s.0 b) g in
-    and_both (satisfies_formula inputs a) (satisfies_formula inputs b) (satisfies_formula-through inputs s a h w.0) (satisfies_formula-through inputs s b h w.1)
+    and_from (satisfies_formula inputs a) (satisfies_formula inputs b) (satisfies_formula-through inputs s a h w.0) (satisfies_formula-through inputs s b h w.1)
 satisfies_formula-through inputs s (Or' u a v b) h g =
     go (or_cases (satisfies_formula s.0 a) (satisfies_formula s.0 b) g) (satisfies_formula-through inputs s a h) (satisfies_formula-through inputs s b h)
   where
@@ -200,7 +185,7 @@ is_deadline_by : (r : Ratio) (t k : ℕ) → IsRate r → 0 < t → deadline r k
 is_deadline_by r t k h above e =
     let low : t - 1 < next_deadline r (t - 1) = next_deadline_above r (t - 1) h in
     let high : next_deadline r (t - 1) ≤ deadline r k = next_deadline_least r (t - 1) k h (omega arith) in
-    and_both (nat_lt 0 t) (nat_eq (next_deadline r (t - 1)) t) (lt-ltb 0 t above) (eq-eqb (next_deadline r (t - 1)) t (omega arith))
+    and_from (nat_lt 0 t) (nat_eq (next_deadline r (t - 1)) t) (lt-ltb 0 t above) (eq-eqb (next_deadline r (t - 1)) t (omega arith))
 
 -- where a rate has a deadline, each whole multiple of it has one
 multiple_is_due : (r q : Ratio) → IsWholeMultipleOf q r → IsRate r → IsRate q → (t : ℕ) → is_deadline r t ≡ true → is_deadline q t ≡ true

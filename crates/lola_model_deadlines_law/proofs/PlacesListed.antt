@@ -1,6 +1,7 @@
 -- The places that a store lists as due.
 use Rattle.std.proofs.Common.{◌≡◌, ℕ, zero, suc, ◌+◌, ◌-◌, ◌<◌, ◌⊎◌, inl, inr, refl, sym, subst, List, [], ◌∷◌, Some, Bool, true, false, ◌||◌, if◌then◌else◌, slice_get, arith}
 use Rattle.std.specs.List.{AllPairs, Contains}
+use Rattle.std.proofs.lemmas.Bool.{or_left, or_right}
 use Rattle.lola_value.specs.Ratio.{Ratio}
 use Rattle.lola_value.specs.Rate.{IsDeadline}
 use Rattle.lola_model.specs.Activity.{is_deadline}
@@ -26,14 +27,6 @@ due_sound (r ∷ rs) born time h e = go (is_deadline r (time - born)) refl e (du
         let later : 0 < time - born = w.0 in
         record { rate = r; listed = Contains-here r rs; later = omega arith; deadline = w.1 }
     go false at e more = since_more r rs born time (more e)
-
-or_left : (a b : Bool) → a ≡ true → (a || b) ≡ true
-or_left true b e = refl
-or_left false b e = absurd (cc)
-
-or_right : (a b : Bool) → b ≡ true → (a || b) ≡ true
-or_right true b e = refl
-or_right false b e = e
 
 due_complete : (rs : List Ratio) (born time : ℕ) → AreRates rs → IsDeadlineSince born rs time → is_due rs born time ≡ true
 due_complete [] born time h w = absurd (Contains-none w.rate w.listed)

@@ -3,6 +3,7 @@ use Rattle.std.proofs.Common.{◌≡◌, ◌≤◌, ◌<◌, ℕ, ◌+◌, List,
 use Rattle.std.proofs.lemmas.Bool.Decides.{nat_tests}
 use Rattle.std.specs.List.{after_first, before_first, list_all}
 use Rattle.std.specs.Str.{bytes_eq}
+use Rattle.std.proofs.lemmas.Bool.{and_parts}
 use Rattle.lola_value.specs.Times.{is_digit, is_point, is_time, latest, nanoseconds, number_of, up_to_latest}
 use Rattle.lola_model.specs.declared.journal.Show.TheVariants as show
 use Rattle.lola_monitor_command.specs.Command.{are_sources, behind_names, behind_options, come_once, command_of, drill_with, front_names, in_turns_said, is_number, of_said, run_by, run_over, show_said, start_said, workers_said}
@@ -47,19 +48,15 @@ if_thing : (b : Bool) (x y : Thing) → SaysRight x → SaysRight y → SaysRigh
 if_thing true x y h k = h
 if_thing false x y h k = k
 
-both : (a b : Bool) → (a && b) ≡ true → (a ≡ true) × (b ≡ true)
-both true b h = (refl, h)
-both false b h = absurd (cc)
-
 workers_right : (v : Word) → IfRight (workers_by v)
 workers_right v = go (is_worker_count v) refl
   where
     go : (b : Bool) → is_worker_count v ≡ b → IfRight (if b then Some (said.Workers (number_of v)) else None)
     go true is =
-        let first = both (nat_le 1 (length v)) _ is in
-        let second = both (nat_le (length v) 2) _ first.1 in
-        let third = both (list_all is_digit v) _ second.1 in
-        let last = both (nat_le 1 (number_of v)) (nat_le (number_of v) 64) third.1 in
+        let first = and_parts (nat_le 1 (length v)) _ is in
+        let second = and_parts (nat_le (length v) 2) _ first.1 in
+        let third = and_parts (list_all is_digit v) _ second.1 in
+        let last = and_parts (nat_le 1 (number_of v)) (nat_le (number_of v) 64) third.1 in
         (grind (arith, nat_tests, last.0), grind (arith, nat_tests, last.1))
     go false is = tt
 
@@ -146,9 +143,9 @@ InBounds (Some (Drill d)) = (d.number < 2147483647) × ((1 ≤ d.workers) × (d.
 
 sources_bound : (ss rest : List Said) → (come_once ss && are_sources (front_names rest) (behind_names rest)) ≡ true → (1 ≤ length (front_names rest)) × (length (front_names rest) ≤ 64)
 sources_bound ss rest is =
-    let are = both (come_once ss) (are_sources (front_names rest) (behind_names rest)) is in
-    let first = both (nat_le 1 (length (front_names rest))) _ are.1 in
-    let second = both (nat_le (length (front_names rest)) 64) _ first.1 in
+    let are = and_parts (come_once ss) (are_sources (front_names rest) (behind_names rest)) is in
+    let first = and_parts (nat_le 1 (length (front_names rest))) _ are.1 in
+    let second = and_parts (nat_le (length (front_names rest)) 64) _ first.1 in
     (grind (arith, nat_tests, first.0), grind (arith, nat_tests, second.0))
 
 over_bound : (ss : List Said) (n : ℕ) (rest : List Said) → AllRight ss → InBounds (run_over ss n rest)
@@ -189,10 +186,10 @@ analysed_bound (Some ss) = analyse_bound ss
 -- a number of a drill in its bounds
 number_right : (digits least most : ℕ) (w : Word) → is_number digits least most w ≡ true → (least ≤ number_of w) × (number_of w ≤ most)
 number_right digits least most w is =
-    let first = both (nat_le 1 (length w)) _ is in
-    let second = both (nat_le (length w) digits) _ first.1 in
-    let third = both (list_all is_digit w) _ second.1 in
-    let last = both (nat_le least (number_of w)) (nat_le (number_of w) most) third.1 in
+    let first = and_parts (nat_le 1 (length w)) _ is in
+    let second = and_parts (nat_le (length w) digits) _ first.1 in
+    let third = and_parts (list_all is_digit w) _ second.1 in
+    let last = and_parts (nat_le least (number_of w)) (nat_le (number_of w) most) third.1 in
     (grind (arith, nat_tests, last.0), grind (arith, nat_tests, last.1))
 
 drill_bound : (number rows workers : Word) → InBounds (drill_with number rows workers)
@@ -201,8 +198,8 @@ drill_bound number rows workers = go (is_number 10 0 2147483646 number && (is_nu
     go : (b : Bool) → (is_number 10 0 2147483646 number && (is_number 7 1 1000000 rows && is_number 2 1 64 workers)) ≡ b
         → InBounds (if b then Some (Drill (record { number = number_of number; rows = number_of rows; workers = number_of workers })) else None)
     go true is =
-        let first = both (is_number 10 0 2147483646 number) _ is in
-        let second = both (is_number 7 1 1000000 rows) (is_number 2 1 64 workers) first.1 in
+        let first = and_parts (is_number 10 0 2147483646 number) _ is in
+        let second = and_parts (is_number 7 1 1000000 rows) (is_number 2 1 64 workers) first.1 in
         let small = number_right 10 0 2147483646 number first.0 in
         (omega (arith, small.1), number_right 2 1 64 workers second.1)
     go false is = tt
@@ -262,7 +259,7 @@ module _ (words : List Word) (d : DrillCommand) (is : command_of words ≡ Some 
   drill_in_bounds : (d.number < 2147483647) × ((1 ≤ d.workers) × (d.workers ≤ 64))
   drill_in_bounds = subst InBounds is (bounds words)
 
-  -- a number that both sources can begin with
+  -- a number that and_parts sources can begin with
   pub number_is : d.number < 2147483647
   number_is = drill_in_bounds.0
 

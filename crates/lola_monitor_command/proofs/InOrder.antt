@@ -1,6 +1,7 @@
--- The order of what a run is told, both ways.
+-- The order of what a run is told, and_parts ways.
 use Rattle.std.proofs.Common.{◌≡◌, refl, ap, subst, ◌∙◌, ℕ, ◌≤◌, List, [], ◌∷◌, ◌++◌, Option, Some, None, Bool, true, false, ◌&&◌, if◌then◌else◌, nat_le, length, map, arith}
 use Rattle.std.specs.List.{list_all}
+use Rattle.std.proofs.lemmas.Bool.{and_parts}
 use Rattle.lola_monitor_command.specs.Command.{come_once, show_said, workers_said, start_said, in_turns_said, front_names, behind_names, behind_options, is_empty, are_sources, run_over, run_by, run_of}
 use Rattle.lola_monitor_command.specs.Order.{is_setting, IsRunOf, RunsAreInOrder}
 use Rattle.lola_monitor_command.specs.declared.said.Said.{Said}
@@ -115,11 +116,6 @@ sources_are true true false e = absurd (grind (arith, e))
 sources_are true false empty e = absurd (grind (arith, e))
 sources_are false few empty e = absurd (grind (arith, e))
 
-both : (a b : Bool) → (a && b) ≡ true → (a ≡ true) × (b ≡ true)
-both true true e = (refl, refl)
-both true false e = absurd (grind (arith, e))
-both false b e = absurd (grind (arith, e))
-
 -- where a choice gives something
 chosen : (b : Bool) (x : Option Command) (y : Command) → (if b then x else None) ≡ Some y → (b ≡ true) × (x ≡ Some y)
 chosen true x y e = (refl, e)
@@ -129,7 +125,7 @@ ordered : (ss rest : List Said) (specification : ℕ) (r : RunCommand) → behin
 ordered ss rest specification r at_front e =
     let z = behind_options rest in
     let c = chosen (come_once ss && are_sources (front_names z) (behind_names z)) (Some (command.Run (told ss specification (front_names z)))) (command.Run r) e in
-    let ok = both (come_once ss) (are_sources (front_names z) (behind_names z)) c.0 in
+    let ok = and_parts (come_once ss) (are_sources (front_names z) (behind_names z)) c.0 in
     let three = sources_are (nat_le 1 (length (front_names z))) (nat_le (length (front_names z)) 64) (is_empty (behind_options (behind_names z))) ok.1 in
     subst (IsRunOf ss) (run_is (told ss specification (front_names z)) r c.1) (record {
       before = front_options ss;

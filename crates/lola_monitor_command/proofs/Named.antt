@@ -1,8 +1,9 @@
 -- Which command a command line is, by its second word.
-use Rattle.std.proofs.Common.{◌≡◌, ◌≤◌, refl, ap, sym, ◌∙◌, List, [], ◌∷◌, None, Bool, true, false, length, drop, map, get_or, arith}
+use Rattle.std.proofs.Common.{◌≡◌, ◌≤◌, refl, ap, sym, ◌∙◌, List, [], ◌∷◌, None, false, length, drop, map, get_or, arith}
 use Rattle.std.specs.Prelude.{codes}
 use Rattle.std.specs.Str.{bytes_eq}
 use Rattle.std.proofs.lemmas.Slice.Eq.{bytes_eq-Decides}
+use Rattle.std.proofs.lemmas.Bool.{false_from_ne_true}
 use Rattle.lola_monitor_command.specs.Said.{Word, said_from}
 use Rattle.lola_monitor_command.specs.Command.{drill_of, of_said, command_of}
 
@@ -13,12 +14,9 @@ drills f (y ∷ []) x some is e = absurd (omega (arith, some))
 drills f (y ∷ z ∷ xs) x some is e = rw (ap f (sym is) ∙ e) refl
 
 -- another word
-not_so : (b : Bool) → (b ≡ true → ⊥) → b ≡ false
-not_so true h = absurd (h refl)
-not_so false h = refl
 
 differs : (w v : Word) → (w ≡ v → ⊥) → bytes_eq w v ≡ false
-differs w v h = not_so (bytes_eq w v) (λ e. h ((bytes_eq-Decides w v).0 e))
+differs w v h = false_from_ne_true (bytes_eq w v) (λ e. h ((bytes_eq-Decides w v).0 e))
 
 pub is_none : {X : Type 0} (f : X → Word) (xs : List X) (x : X) → 2 ≤ length xs → x ≡ get_or xs 1 x → (f x ≡ codes "run" → ⊥) → (f x ≡ codes "analyse" → ⊥) → (f x ≡ codes "drill" → ⊥)
     → command_of (map f xs) ≡ None

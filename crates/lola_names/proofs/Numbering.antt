@@ -1,10 +1,10 @@
 -- Texts with their numbers.
-use Rattle.std.proofs.Common.{◌≡◌, ℕ, zero, suc, ◌+◌, ◌<◌, ◌≤◌, Bool, true, false, not, ◌&&◌, List, [], ◌∷◌, ◌++◌, Some, None, length, nat_eq, refl, sym, ap, subst, inl, inr, ◌∙◌, arith, append-nil, length-append}
+use Rattle.std.proofs.Common.{◌≡◌, ℕ, zero, suc, ◌+◌, ◌<◌, ◌≤◌, Bool, true, false, not, List, [], ◌∷◌, ◌++◌, Some, None, length, nat_eq, refl, sym, ap, subst, inl, inr, ◌∙◌, arith, append-nil, length-append}
 use Rattle.std.specs.Prelude.{Vec, IsTrue, slice_get, nat_lt}
 use Rattle.std.specs.List.{position, position_or_len, list_any}
 use Rattle.std.specs.Cmp.Lexicographic.{pointwise}
 use Rattle.std.specs.declared.alloc.Global.{Global}
-use Rattle.std.proofs.lemmas.Bool.{cases_Bool, ltb-true, ltb-false}
+use Rattle.std.proofs.lemmas.Bool.{cases_Bool, ltb-true, ltb-false, and_parts, not-true}
 use Rattle.lola_value.specs.Arithmetic.{bytes_equal}
 use Rattle.lola_model.specs.Named.{is_listed, are_distinct}
 use Rattle.lola_model.proofs.Lookups.{bytes_equal-true, bytes_equal-same}
@@ -18,14 +18,6 @@ Key = Vec ℕ Global
 -- a test for a text
 abbrev pub is_text : List ℕ → Key → Bool
 is_text text k = pointwise nat_eq text k.items
-
-both_true : (a b : Bool) → (a && b) ≡ true → (a ≡ true) × (b ≡ true)
-both_true true b is = (refl, is)
-both_true false b is = absurd (cc is)
-
-not_true : (a : Bool) → not a ≡ true → a ≡ false
-not_true true is = absurd (cc is)
-not_true false is = refl
 
 -- the first key of a text holds it
 pub placed : (text : List ℕ) (ks : List Key) → position_or_len (is_text text) ks < length ks → slice_get (texts_in ks) (position_or_len (is_text text) ks) ≡ Some text
@@ -75,16 +67,16 @@ one_place [] t i j apart at other = absurd (cc at)
 one_place (u ∷ ts) t zero zero apart at other = refl
 one_place (u ∷ ts) t zero (suc j) apart at other =
     let same : u ≡ t = cc at in
-    let not_there : is_listed u ts ≡ false = not_true _ (both_true (not (is_listed u ts)) (are_distinct ts) apart).0 in
+    let not_there : is_listed u ts ≡ false = not-true _ (and_parts (not (is_listed u ts)) (are_distinct ts) apart).0 in
     let there : is_listed u ts ≡ true = ap (λ x. is_listed x ts) same ∙ listed_at ts t j other in
     absurd (cc (not_there, there))
 one_place (u ∷ ts) t (suc i) zero apart at other =
     let same : u ≡ t = cc other in
-    let not_there : is_listed u ts ≡ false = not_true _ (both_true (not (is_listed u ts)) (are_distinct ts) apart).0 in
+    let not_there : is_listed u ts ≡ false = not-true _ (and_parts (not (is_listed u ts)) (are_distinct ts) apart).0 in
     let there : is_listed u ts ≡ true = ap (λ x. is_listed x ts) same ∙ listed_at ts t i at in
     absurd (cc (not_there, there))
 one_place (u ∷ ts) t (suc i) (suc j) apart at other =
-    ap suc (one_place ts t i j (both_true (not (is_listed u ts)) (are_distinct ts) apart).1 at other)
+    ap suc (one_place ts t i j (and_parts (not (is_listed u ts)) (are_distinct ts) apart).1 at other)
 
 -- a new text behind distinct ones
 unlisted-pushed : (ts : List (List ℕ)) (u t : List ℕ) → is_listed u ts ≡ false → bytes_equal u t ≡ false → is_listed u (ts ++ t ∷ []) ≡ false
@@ -97,11 +89,11 @@ unlisted-pushed (v ∷ ts) u t none other = elim (cases_Bool (bytes_equal u v)) 
 pub distinct-pushed : (ts : List (List ℕ)) (t : List ℕ) → IsTrue (are_distinct ts) → ((i : ℕ) → slice_get ts i ≡ Some t → ⊥) → IsTrue (are_distinct (ts ++ t ∷ []))
 distinct-pushed [] t apart nowhere = refl
 distinct-pushed (u ∷ ts) t apart nowhere =
-    let both = both_true (not (is_listed u ts)) (are_distinct ts) apart in
+    let both = and_parts (not (is_listed u ts)) (are_distinct ts) apart in
     let others : are_distinct (ts ++ t ∷ []) ≡ true = distinct-pushed ts t both.1 (λ i is. nowhere (suc i) is) in
     elim (cases_Bool (bytes_equal u t)) [
       | inl hit ↦ absurd (nowhere 0 (ap Some (bytes_equal-true u t hit)))
-      | inr miss ↦ rw (unlisted-pushed ts u t (not_true _ both.0) miss) others
+      | inr miss ↦ rw (unlisted-pushed ts u t (not-true _ both.0) miss) others
     ]
 
 -- a new text is numbered

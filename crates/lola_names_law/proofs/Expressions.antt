@@ -1,5 +1,6 @@
 -- A test that passes what names and literals are resolved to passes every part of an expression that is resolved.
 use Rattle.std.proofs.Common.{Box, Global, ◌≡◌, ◌<◌, ◌+◌, ℕ, refl, ap, ◌∙◌, Bool, true, false, ◌&&◌, List, [], ◌++◌, Option, Some, None, slice_get, length, nat_eq, add-one}
+use Rattle.std.proofs.lemmas.Bool.{and_from}
 use Rattle.lola_value.specs.declared.value.Value.{Value}
 use Rattle.lola_value.specs.declared.front.Code.{Code}
 use Rattle.lola_value.specs.declared.front.Code.TheVariants as code
@@ -37,7 +38,7 @@ use Rattle.lola_names.specs.declared.targets.Target.TheVariants as target
 use Rattle.lola_names.specs.Targets.{Targets, target_of}
 use Rattle.lola_names.specs.Resolved.{Standing, Where, is_stream, IsValue, IsLiteral, IsConstantUse, IsAccess, IsReference, IsResolved, AreArguments, arguments_in, access_of, aggregation_spelled, kind_spelled, place_at}
 use Rattle.lola_names.specs.Specification.{access_ranges, expr_ranges, argument_ranges}
-use Rattle.lola_names_law.proofs.Basics.{both, none_left, none_right, some_none}
+use Rattle.lola_names_law.proofs.Basics.{none_left, none_right, some_none}
 use Rattle.lola_names_law.proofs.Targets.{Around, StandsAt, IsConstantAt, FitsIf}
 
 pub unless_none : (b : Bool) (c : Code) (at : ℕ) → unless b c at ≡ [] → b ≡ true
@@ -78,12 +79,12 @@ module _ (u : Around) (texts : List (List ℕ)) (windows : List WindowSpec) (her
     read_passes : IsPassing t → (n : ℕ) (how : TreeAccess) (place : Place) (m : ℕ) (read : Access) (args : Arguments) → is_read_of (slice_get u.streams n) (count_of args) ≡ true
         → (G → access_ranges how ≡ []) → m ≡ n → read ≡ access_of how → each_argument t args ≡ true → each_part t (Read place m read args) ≡ true
     read_passes p n how place m read args there ranged number is all =
-        both (t (Read place m read args)) (each_argument t args) (rw number (rw is (p.read place n how args there ranged))) all
+        and_from (t (Read place m read args)) (each_argument t args) (rw number (rw is (p.read place n how args there ranged))) all
 
     access_passes : IsPassing t → (name : Name) (n : ℕ) (how : TreeAccess) (r : Expr) → is_read_of (slice_get u.streams n) (count_of (arguments_in r)) ≡ true
         → (G → access_ranges how ≡ []) → IsAccess u.declarations targets texts windows here name n how r → each_argument t (arguments_in r) ≡ true → each_part t r ≡ true
     access_passes p name n (a.Window point exactly over using) (Window place w args) there ranged is all =
-        both (t (Window place w args)) (each_argument t args) (p.window place w n args over exactly using there ranged is.1) all
+        and_from (t (Window place w args)) (each_argument t args) (p.window place w n args over exactly using there ranged is.1) all
     access_passes p name n (a.Window point exactly over using) _ there ranged is all = absurd is
     access_passes p name n a.Direct (Read place m read args) there ranged is all = read_passes p n a.Direct place m read args there ranged is.1 is.2 all
     access_passes p name n a.Direct _ there ranged is all = absurd is
@@ -152,23 +153,23 @@ module _ (u : Around) (texts : List (List ℕ)) (windows : List WindowSpec) (her
             let are = arguments_where (is_stream (target_of here.parameters targets n.text)) (AreArguments u.declarations targets texts windows here row (arguments_in r)) is.1 stream in
             (arguments_count row (arguments_in r) are, arguments_pass row (arguments_in r) theirs (λ g. none_right (access_ranges how) (argument_ranges row) (ranged g)) are))
         resolved_passes (e.Defaults' at h (more_of-Expr x end_of-Expr) i (more_of-Expr y end_of-Expr)) (Defaults' place v s w r) none ranged is =
-            both (t (Defaults' place v s w r)) (each_part t s && each_part t r) (p.defaults place v s w r)
-            (both (each_part t s) (each_part t r)
+            and_from (t (Defaults' place v s w r)) (each_part t s && each_part t r) (p.defaults place v s w r)
+            (and_from (each_part t s) (each_part t r)
             (resolved_passes x s (none_left (uses parameters names x) (uses parameters names y) none) (λ g. none_left (expr_ranges x) (expr_ranges y) (ranged g)) is.1)
             (resolved_passes y r (none_right (uses parameters names x) (uses parameters names y) none) (λ g. none_right (expr_ranges x) (expr_ranges y) (ranged g)) is.2))
         resolved_passes (e.Prefix' sign at h (more_of-Expr x end_of-Expr)) (Unary' place op v s) none ranged is =
-            both (t (Unary' place op v s)) (each_part t s) (p.unary place op v s) (resolved_passes x s none ranged is.2)
+            and_from (t (Unary' place op v s)) (each_part t s) (p.unary place op v s) (resolved_passes x s none ranged is.2)
         resolved_passes (e.Binary' sign at h (more_of-Expr x end_of-Expr) i (more_of-Expr y end_of-Expr)) (Both' place op v s w r) none ranged is =
-            both (t (Both' place op v s w r)) (each_part t s && each_part t r) (p.binary place op v s w r)
-            (both (each_part t s) (each_part t r)
+            and_from (t (Both' place op v s w r)) (each_part t s && each_part t r) (p.binary place op v s w r)
+            (and_from (each_part t s) (each_part t r)
             (resolved_passes x s (none_left (uses parameters names x) (uses parameters names y) none) (λ g. none_left (expr_ranges x) (expr_ranges y) (ranged g)) is.2)
             (resolved_passes y r (none_right (uses parameters names x) (uses parameters names y) none) (λ g. none_right (expr_ranges x) (expr_ranges y) (ranged g)) is.3))
         resolved_passes (e.If' at h (more_of-Expr x end_of-Expr) i (more_of-Expr y end_of-Expr) j (more_of-Expr z end_of-Expr)) (Choice' place v s w r o q) none ranged is =
             let others = none_right (uses parameters names x) (uses parameters names y ++ uses parameters names z) none in
-            both (t (Choice' place v s w r o q)) (each_part t s && (each_part t r && each_part t q)) (p.choice place v s w r o q)
-            (both (each_part t s) (each_part t r && each_part t q)
+            and_from (t (Choice' place v s w r o q)) (each_part t s && (each_part t r && each_part t q)) (p.choice place v s w r o q)
+            (and_from (each_part t s) (each_part t r && each_part t q)
             (resolved_passes x s (none_left (uses parameters names x) (uses parameters names y ++ uses parameters names z) none) (λ g. none_left (expr_ranges x) (expr_ranges y ++ expr_ranges z) (ranged g)) is.1)
-            (both (each_part t r) (each_part t q)
+            (and_from (each_part t r) (each_part t q)
             (resolved_passes y r (none_left (uses parameters names y) (uses parameters names z) others)
             (λ g. none_left (expr_ranges y) (expr_ranges z) (none_right (expr_ranges x) (expr_ranges y ++ expr_ranges z) (ranged g))) is.2)
             (resolved_passes z q (none_right (uses parameters names y) (uses parameters names z) others)
@@ -179,7 +180,7 @@ module _ (u : Around) (texts : List (List ℕ)) (windows : List WindowSpec) (her
             → AreArguments u.declarations targets texts windows here row args → each_argument t args ≡ true
         arguments_pass end_of-Expr End none ranged are = refl
         arguments_pass (more_of-Expr x rest) (More' v s w others) none ranged are =
-            both (each_part t s) (each_argument t others)
+            and_from (each_part t s) (each_argument t others)
             (resolved_passes x s (none_left (uses parameters names x) (argument_uses parameters names rest) none) (λ g. none_left (expr_ranges x) (argument_ranges rest) (ranged g)) are.0)
             (arguments_pass rest others (none_right (uses parameters names x) (argument_uses parameters names rest) none) (λ g. none_right (expr_ranges x) (argument_ranges rest) (ranged g)) are.1)
         arguments_pass end_of-Expr (More' v s w others) none ranged are = absurd are

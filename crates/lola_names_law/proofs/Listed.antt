@@ -1,6 +1,7 @@
 -- From tests of all parts of whole expressions to what the definitions of a specification ask for.
 use Rattle.std.proofs.Common.{◌≡◌, ◌<◌, ◌+◌, ℕ, suc, arith, refl, ap, ◌∙◌, subst, Bool, true, ◌&&◌, List, [], ◌∷◌, ◌++◌, Option, Some, None, slice_get, unwrap_or, drop, length, nat_lt}
 use Rattle.std.proofs.lemmas.Bool.Decides.{nat_tests}
+use Rattle.std.proofs.lemmas.Bool.{and_from}
 use Rattle.lola_value.specs.declared.value.Kind.{Kind}
 use Rattle.lola_value.specs.declared.value.Kind.TheVariants as kind
 use Rattle.lola_model.specs.Accepted.{IsInRange, AreInRange, IsWhenInRange, IsWithInRange, IsClauseInRange, AreClausesInRange, AreTargetsInRange}
@@ -18,13 +19,13 @@ use Rattle.lola_model.specs.declared.spec.Part.TheVariants as part
 use Rattle.lola_model.specs.declared.spec.Spec.{Spec}
 use Rattle.lola_model.specs.declared.spec.Stream.{Stream}
 use Rattle.lola_model.specs.declared.spec.WindowSpec.{WindowSpec}
-use Rattle.lola_names_law.proofs.Basics.{both, left_of, right_of, never_back, slice_there}
+use Rattle.lola_names_law.proofs.Basics.{left_of, right_of, never_back, slice_there}
 
 -- wholes, taken apart
 
 pub wholes_left : (f : Whole → Bool) (xs ys : List Whole) → all_wholes f (xs ++ ys) ≡ true → all_wholes f xs ≡ true
 wholes_left f [] ys h = refl
-wholes_left f (x ∷ xs) ys h = both (f x) (all_wholes f xs) (left_of (f x) (all_wholes f (xs ++ ys)) h) (wholes_left f xs ys (right_of (f x) (all_wholes f (xs ++ ys)) h))
+wholes_left f (x ∷ xs) ys h = and_from (f x) (all_wholes f xs) (left_of (f x) (all_wholes f (xs ++ ys)) h) (wholes_left f xs ys (right_of (f x) (all_wholes f (xs ++ ys)) h))
 
 pub wholes_right : (f : Whole → Bool) (xs ys : List Whole) → all_wholes f (xs ++ ys) ≡ true → all_wholes f ys ≡ true
 wholes_right f [] ys h = h
@@ -33,11 +34,11 @@ wholes_right f (x ∷ xs) ys h = wholes_right f xs ys (right_of (f x) (all_whole
 -- a test that implies another
 pub wholes_weaker : (f g : Whole → Bool) → ((w : Whole) → f w ≡ true → g w ≡ true) → (ws : List Whole) → all_wholes f ws ≡ true → all_wholes g ws ≡ true
 wholes_weaker f g h [] k = refl
-wholes_weaker f g h (w ∷ ws) k = both (g w) (all_wholes g ws) (h w (left_of (f w) (all_wholes f ws) k)) (wholes_weaker f g h ws (right_of (f w) (all_wholes f ws) k))
+wholes_weaker f g h (w ∷ ws) k = and_from (g w) (all_wholes g ws) (h w (left_of (f w) (all_wholes f ws) k)) (wholes_weaker f g h ws (right_of (f w) (all_wholes f ws) k))
 
 pub numbers_both : (f : ℕ → Bool) (xs ys : List ℕ) → all_numbers f xs ≡ true → all_numbers f ys ≡ true → all_numbers f (xs ++ ys) ≡ true
 numbers_both f [] ys h k = k
-numbers_both f (x ∷ xs) ys h k = both (f x) (all_numbers f (xs ++ ys)) (left_of (f x) (all_numbers f xs) h) (numbers_both f xs ys (right_of (f x) (all_numbers f xs) h) k)
+numbers_both f (x ∷ xs) ys h k = and_from (f x) (all_numbers f (xs ++ ys)) (left_of (f x) (all_numbers f xs) h) (numbers_both f xs ys (right_of (f x) (all_numbers f xs) h) k)
 
 -- what is listed of parts
 
@@ -204,7 +205,7 @@ counted_windows f all from [] at h = refl
 counted_windows f all from (w ∷ ws) at h =
     let first : from + 0 ≡ from = omega arith in
     let others = all_numbers (λ i. f (slice_get all i)) (counted (from + 1) (length ws)) in
-    both (f (Some w)) (all_windows (λ x. f (Some x)) ws)
+    and_from (f (Some w)) (all_windows (λ x. f (Some x)) ws)
     (ap f (at 0 ∙ ap (slice_get all) first) ∙ left_of (f (slice_get all from)) others h)
     (counted_windows f all (from + 1) ws (λ j. let e : from + suc j ≡ (from + 1) + j = omega arith in at (suc j) ∙ ap (slice_get all) e) (right_of (f (slice_get all from)) others h))
 

@@ -1,6 +1,6 @@
 -- The names of streams are distinct where no name is declared twice.
 use Rattle.std.proofs.Common.{◌≡◌, ◌+◌, ℕ, refl, sym, ap, ◌∙◌, subst, Bool, true, false, not, ◌||◌, List, [], ◌∷◌, ◌++◌, Option, Some, None, is_some, length, map, inl, inr}
-use Rattle.std.proofs.lemmas.Bool.{cases_Bool}
+use Rattle.std.proofs.lemmas.Bool.{cases_Bool, and_from}
 use Rattle.lola_value.specs.Arithmetic.{bytes_equal}
 use Rattle.lola_value.specs.declared.front.Code.TheVariants as code
 use Rattle.lola_parser_tree.specs.declared.literals.Typed.{Typed}
@@ -20,7 +20,7 @@ use Rattle.lola_names_refused.proofs.FirstDeclaration.{meaning-append}
 use Rattle.lola_names.specs.Targets.{Targets}
 use Rattle.lola_names.specs.Clauses.{input_stream}
 use Rattle.lola_names.specs.Specification.{AreStreams}
-use Rattle.lola_names_law.proofs.Basics.{both, none_left, none_right, some_none, never, never_back}
+use Rattle.lola_names_law.proofs.Basics.{none_left, none_right, some_none, never, never_back}
 
 -- names that are distinct, and none of which is known
 pub record AreNew (known : Known) (names : List (List ℕ)) : Type 0 where
@@ -55,7 +55,7 @@ new_before known n names h = record { distinct = h.distinct; unknown = λ q k. h
 -- .. and so are they with it
 new_with : (known : Known) (n : Declared) (names : List (List ℕ)) → is_some (meaning_in known n.0.text) ≡ false → AreNew (with_name known n) names → AreNew known (n.0.text ∷ names)
 new_with known n names fresh h = record {
-  distinct = both (not (is_listed n.0.text names)) (are_distinct names) (ap not (h.unknown n.0.text (now_known known n))) h.distinct;
+  distinct = and_from (not (is_listed n.0.text names)) (are_distinct names) (ap not (h.unknown n.0.text (now_known known n))) h.distinct;
   unknown = λ q k. or_none (bytes_equal q n.0.text) (is_listed q names) (differs q k) (h.unknown q (still_known known n q k));
 }
   where

@@ -3,6 +3,7 @@ use Rattle.std.proofs.Common.{◌≡◌, ◌≤◌, ◌+◌, ℕ, suc, arith, re
 use Rattle.std.specs.Prelude.{filter}
 use Rattle.std.specs.List.{flat_map}
 use Rattle.std.proofs.lemmas.Bool.Decides.{nat_tests}
+use Rattle.std.proofs.lemmas.Bool.{and_from}
 use Rattle.lola_value.specs.declared.value.Kind.{Kind}
 use Rattle.lola_value.specs.declared.front.Code.TheVariants as code
 use Rattle.lola_parser_tree.specs.declared.literals.Typed.{Typed}
@@ -34,7 +35,7 @@ use Rattle.lola_names.specs.Clauses.{IsOptional, IsPart, ArePartsOf, IsPace, IsP
 use Rattle.lola_names.specs.Specification.{AreStreams, part_ranges, rhythm_ranges, pacing_ranges, pace_in, spawn_ranges, eval_ranges, close_ranges, output_ranges, trigger_ranges, ranges_of}
 use Rattle.lola_names.specs.Specification as specification
 use Rattle.lola_names_law.specs.Meant.{ClosesSpawned, ClosesAreSpawned}
-use Rattle.lola_names_law.proofs.Basics.{both, none_left, none_right, some_none, slice_short, length_mapped, drop_behind}
+use Rattle.lola_names_law.proofs.Basics.{none_left, none_right, some_none, slice_short, length_mapped, drop_behind}
 use Rattle.lola_names_law.proofs.Expressions.{unless_none}
 
 -- no more than the most that there may be
@@ -88,7 +89,7 @@ module _ (ds : List Declaration) (targets : Targets) (texts : List (List ℕ)) (
     module _ (f : Stream → Bool) (test : IsStreamTest f) where
       inputs_all : (ts : List Typed) (rest : List Stream) → all_streams f rest ≡ true → all_streams f (map input_stream ts ++ rest) ≡ true
       inputs_all [] rest h = h
-      inputs_all (t ∷ ts) rest h = both (f (input_stream t)) (all_streams f (map input_stream ts ++ rest)) (test.input t) (inputs_all ts rest h)
+      inputs_all (t ∷ ts) rest h = and_from (f (input_stream t)) (all_streams f (map input_stream ts ++ rest)) (test.input t) (inputs_all ts rest h)
 
       pub streams_all : (n j : ℕ) (xs : List Declaration) (rest : List Stream) → flat_map (declaration_uses names) xs ≡ [] → ClosesAreSpawned xs → (G → ranges_of xs rest ≡ [])
           → AreStreams ds targets texts windows n j xs rest → all_streams f rest ≡ true
@@ -103,14 +104,14 @@ module _ (ds : List Declaration) (targets : Targets) (texts : List (List ℕ)) (
           streams_all n j xs rest (none_right (declaration_uses names (d.Constant x)) (flat_map (declaration_uses names) xs) none) closes ranged is
       streams_all n j (d.Output x ∷ xs) [] none closes ranged is = absurd is
       streams_all n j (d.Output x ∷ xs) (s ∷ rest) none closes ranged is =
-          both (f s) (all_streams f rest)
+          and_from (f s) (all_streams f rest)
           (test.output n x s
           (none_left (head_uses x) (clause_uses (with_names [] (parameters_of x.parameters)) names x) (none_left (declaration_uses names (d.Output x)) (flat_map (declaration_uses names) xs) none))
           closes.0 (λ g. none_left (output_ranges x s) (ranges_of xs rest) (ranged g)) is.0)
           (streams_all (n + 1) j xs rest (none_right (declaration_uses names (d.Output x)) (flat_map (declaration_uses names) xs) none) closes.1 (λ g. none_right (output_ranges x s) (ranges_of xs rest) (ranged g)) is.1)
       streams_all n j (d.Trigger x ∷ xs) [] none closes ranged is = absurd is
       streams_all n j (d.Trigger x ∷ xs) (s ∷ rest) none closes ranged is =
-          both (f s) (all_streams f rest)
+          and_from (f s) (all_streams f rest)
           (test.trigger n (j + 1) x s (λ g. none_left (trigger_ranges x s) (ranges_of xs rest) (ranged g)) is.0)
           (streams_all (n + 1) (j + 1) xs rest (none_right (declaration_uses names (d.Trigger x)) (flat_map (declaration_uses names) xs) none) closes (λ g. none_right (trigger_ranges x s) (ranges_of xs rest) (ranged g)) is.1)
 
@@ -168,8 +169,8 @@ module _ (ds : List Declaration) (targets : Targets) (texts : List (List ℕ)) (
     close_shape here there None (Some o) y q h k c = absurd h
     close_shape here there (Some x) None y q h k c = absurd h
     close_shape here there (Some x) (Some o) y q h k c =
-        both (has_when (Some o) && has_clause q) (nat_eq (length o.with) 0)
-        (both (has_when (Some o)) (has_clause q) (when_there o.when h.condition) (spawn_has there y q k c))
+        and_from (has_when (Some o) && has_clause q) (nat_eq (length o.with) 0)
+        (and_from (has_when (Some o)) (has_clause q) (when_there o.when h.condition) (spawn_has there y q k c))
         (ap (λ (l : List Expr). nat_eq (length l) 0) h.parameters)
       where
         when_there : (w : Option Expr) → IsOptional (IsPart ds targets texts windows here) (Some x.when) w → is_condition w ≡ true
@@ -191,17 +192,17 @@ module _ (ds : List Declaration) (targets : Targets) (texts : List (List ℕ)) (
             unless_none (nat_eq (count_spawned x.spawn) (length x.parameters)) code.BadArity x.name.at
             (none_right (of_option kind_use x.kind) arity (none_right (kind_uses x.parameters) (of_option kind_use x.kind ++ arity)
             (none_right (too_many 4 (places_of x.parameters)) (kind_uses x.parameters ++ (of_option kind_use x.kind ++ arity)) none))) in
-            both (nat_eq (count_with s.eval) 1) _ (ap (λ m. nat_eq m 1) (eval_count _ x.eval s.eval is.eval))
-            (both (nat_eq (count_with s.spawn) (length s.parameters)) _ (rw (spawn_count _ x.spawn s.spawn is.spawn) (rw many as_many))
+            and_from (nat_eq (count_with s.eval) 1) _ (ap (λ m. nat_eq m 1) (eval_count _ x.eval s.eval is.eval))
+            (and_from (nat_eq (count_with s.spawn) (length s.parameters)) _ (rw (spawn_count _ x.spawn s.spawn is.spawn) (rw many as_many))
             (close_shape _ _ x.close s.close x.spawn s.spawn is.close is.spawn closes))
 
         trigger_shape : (n j : ℕ) (x : Trigger) (s : Stream) → IsTrigger ds targets texts windows n j x s → is_trigger_shape s ≡ true
         trigger_shape n j x s is =
-            both (is_of_bool s.kind) _ (ap is_of_bool is.kind)
-            (both (nat_eq (count_with s.eval) 1) _ (ap (λ m. nat_eq m 1) (trigger_count _ x s.eval is.eval))
-            (both (not (has_when s.eval)) _ (ap not (trigger_when _ x s.eval is.eval))
-            (both (nat_eq (length s.parameters) 0) _ (ap (λ (l : List Kind). nat_eq (length l) 0) is.parameters)
-            (both (not (has_clause s.spawn)) _ (ap (λ o. not (has_clause o)) is.spawn) (ap (λ o. not (has_clause o)) is.close)))))
+            and_from (is_of_bool s.kind) _ (ap is_of_bool is.kind)
+            (and_from (nat_eq (count_with s.eval) 1) _ (ap (λ m. nat_eq m 1) (trigger_count _ x s.eval is.eval))
+            (and_from (not (has_when s.eval)) _ (ap not (trigger_when _ x s.eval is.eval))
+            (and_from (nat_eq (length s.parameters) 0) _ (ap (λ (l : List Kind). nat_eq (length l) 0) is.parameters)
+            (and_from (not (has_clause s.spawn)) _ (ap (λ o. not (has_clause o)) is.spawn) (ap (λ o. not (has_clause o)) is.close)))))
 
   -- rates
 
@@ -251,13 +252,13 @@ module _ (ds : List Declaration) (targets : Targets) (texts : List (List ℕ)) (
         let rs = specification.of_option (spawn_ranges s.spawn) x.spawn in
         let re = eval_ranges s.eval x.eval in
         let rc = specification.of_option (close_ranges s.close) x.close in
-        both (is_clause_paced_in_range s.spawn) (is_clause_paced_in_range s.eval && is_clause_paced_in_range s.close)
+        and_from (is_clause_paced_in_range s.spawn) (is_clause_paced_in_range s.eval && is_clause_paced_in_range s.close)
         (spawn_ranged _ x.spawn s.spawn is.spawn (none_left rs (re ++ rc) (ranged tt)))
-        (both (is_clause_paced_in_range s.eval) (is_clause_paced_in_range s.close)
+        (and_from (is_clause_paced_in_range s.eval) (is_clause_paced_in_range s.close)
         (eval_ranged _ x.eval s.eval is.eval (none_left re rc (none_right rs (re ++ rc) (ranged tt))))
         (close_ranged _ x.close s.close is.close (none_right re rc (none_right rs (re ++ rc) (ranged tt)))));
     trigger = λ n j x s ranged is.
-        both (is_clause_paced_in_range s.spawn) (is_clause_paced_in_range s.eval && is_clause_paced_in_range s.close)
+        and_from (is_clause_paced_in_range s.spawn) (is_clause_paced_in_range s.eval && is_clause_paced_in_range s.close)
         (ap is_clause_paced_in_range is.spawn)
-        (both (is_clause_paced_in_range s.eval) (is_clause_paced_in_range s.close) (trigger_ranged _ x s.eval is.eval (ranged tt)) (ap is_clause_paced_in_range is.close));
+        (and_from (is_clause_paced_in_range s.eval) (is_clause_paced_in_range s.close) (trigger_ranged _ x s.eval is.eval (ranged tt)) (ap is_clause_paced_in_range is.close));
   }

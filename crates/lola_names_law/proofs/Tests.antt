@@ -2,6 +2,7 @@
 use Rattle.std.proofs.Common.{◌≡◌, ◌≤◌, ◌<◌, ℕ, ℤ, pos, negsuc, zero, suc, arith, append_assoc, ◌*◌, ◌/◌, ◌%◌, ◌^◌, refl, sym, ap, ◌∙◌, subst, Bool, true, false, ◌&&◌, List, [], ◌∷◌, ◌++◌, Option, Some, None, slice_get, length, nat_eq, nat_le, nat_lt, int_le, eq-eqb, le-leb}
 use Rattle.std.specs.Prelude.{if◌then◌else◌, min}
 use Rattle.std.proofs.lemmas.Bool.Decides.{nat_tests}
+use Rattle.std.proofs.lemmas.Bool.{and_from, or_left, or_right}
 use Rattle.lola_value.specs.Times.{latest}
 use Rattle.lola_value.specs.Kinds.{values_same}
 use Rattle.lola_value.specs.declared.value.Kind.{Kind}
@@ -30,7 +31,7 @@ use Rattle.lola_names_refused.specs.Quantities.{is_short, unit_span, whole_span,
 use Rattle.lola_names.specs.Resolved.{IsValue, integer_of, access_of, kind_spelled, place_at}
 use Rattle.lola_names.specs.Specification.{IsConstantValue, AreConstants, constants_in, constants_of, access_ranges}
 use Rattle.lola_model.specs.Constants.{is_constant, literal_is_known}
-use Rattle.lola_names_law.proofs.Basics.{both, or_left, or_right, some_none, nothing_there, slice_there}
+use Rattle.lola_names_law.proofs.Basics.{some_none, nothing_there, slice_there}
 use Rattle.lola_names_law.proofs.Listed.{read_below}
 use Rattle.lola_names_law.proofs.Wholes.{IsPassingEverywhere}
 
@@ -115,7 +116,7 @@ module _ (texts : List (List ℕ)) where
   constant_known x [] after [] v h k = absurd h
   constant_known x [] after (c ∷ cs) v h k =
       or_left (same_kind c.kind (kind_spelled x.kind) && values_same c.literal v) (is_constant cs (kind_spelled x.kind) v)
-      (both (same_kind c.kind (kind_spelled x.kind)) (values_same c.literal v) (rw (h.0.kind) (same_kind_self (kind_spelled x.kind))) (value_of_constant x.literal.value c.literal v h.0.literal k))
+      (and_from (same_kind c.kind (kind_spelled x.kind)) (values_same c.literal v) (rw (h.0.kind) (same_kind_self (kind_spelled x.kind))) (value_of_constant x.literal.value c.literal v h.0.literal k))
   constant_known x (y ∷ before) after [] v h k = absurd h
   constant_known x (y ∷ before) after (c ∷ cs) v h k =
       or_right (same_kind c.kind (kind_spelled x.kind) && values_same c.literal v) (is_constant cs (kind_spelled x.kind) v) (constant_known x before after cs v h.1 k)
@@ -166,7 +167,7 @@ module _ (ds : List Declaration) (inputs : ℕ) (spec : Spec) (G : Type 0) where
   }
     where
       by_access : (how : TreeAccess) → all_numbers (λ i. nat_le i 4096) (offset_by (access_of how)) ≡ true
-      by_access (a.Offset point i at) = both (nat_le (min i 4096) 4096) true (nothing_above i) refl
+      by_access (a.Offset point i at) = and_from (nat_le (min i 4096) 4096) true (nothing_above i) refl
       by_access a.Direct = refl
       by_access (a.Hold point) = refl
       by_access (a.Get point) = refl
@@ -180,7 +181,7 @@ module _ (ds : List Declaration) (inputs : ℕ) (spec : Spec) (G : Type 0) where
     parameter = λ place i h. refl;
     read = λ place m how args there ranged. refl;
     window = λ place w m args over exactly using there ranged is.
-        both (is_window_of n p (slice_get spec.windows w)) true (rw is (both (nat_eq n n) (same_part p p) (eq-eqb n n refl) (same_part_self p))) refl;
+        and_from (is_window_of n p (slice_get spec.windows w)) true (rw is (and_from (nat_eq n n) (same_part p p) (eq-eqb n n refl) (same_part_self p))) refl;
     defaults = λ place u s v r. refl;
     unary = λ place op u s. refl;
     binary = λ place op u s v r. refl;
@@ -195,7 +196,7 @@ module _ (ds : List Declaration) (inputs : ℕ) (spec : Spec) (G : Type 0) where
     parameter = λ place i h. refl;
     read = λ place m how args there ranged. refl;
     window = λ place w m args over exactly using there ranged is.
-        both (has_target_if (length spec.streams) (slice_get spec.windows w)) true (rw is (below_test m (length spec.streams) (read_below spec.streams m (count_of args) there))) refl;
+        and_from (has_target_if (length spec.streams) (slice_get spec.windows w)) true (rw is (below_test m (length spec.streams) (read_below spec.streams m (count_of args) there))) refl;
     defaults = λ place u s v r. refl;
     unary = λ place op u s. refl;
     binary = λ place op u s v r. refl;
@@ -219,7 +220,7 @@ module _ (ds : List Declaration) (inputs : ℕ) (spec : Spec) (G : Type 0) where
       by_value : (place : Place) (w : Written) (v : Value) → IsValue spec.texts w v → all_numbers (λ i. nat_lt i (length spec.texts)) (literal_text (Literal place v)) ≡ true
       by_value place (written.Integer is_negative n) v h = rw h refl
       by_value place (written.Truth t) v h = rw h refl
-      by_value place (written.Text t) (value.Text i) h = both (nat_lt i.0 (length spec.texts)) true (below_test i.0 (length spec.texts) (slice_there spec.texts i.0 t h)) refl
+      by_value place (written.Text t) (value.Text i) h = and_from (nat_lt i.0 (length spec.texts)) true (below_test i.0 (length spec.texts) (slice_there spec.texts i.0 t h)) refl
       by_value place (written.Text t) (value.Bool x) h = absurd h
       by_value place (written.Text t) (value.Int x) h = absurd h
 
@@ -252,7 +253,7 @@ module _ (ds : List Declaration) (inputs : ℕ) (spec : Spec) (G : Type 0) where
   }
     where
       by_access : (how : TreeAccess) → access_ranges how ≡ [] → all_numbers (λ i. nat_le 1 i) (offset_by (access_of how)) ≡ true
-      by_access (a.Offset point i at) h = both (nat_le 1 (min i 4096)) true (low_test i (positive i at h)) refl
+      by_access (a.Offset point i at) h = and_from (nat_le 1 (min i 4096)) true (low_test i (positive i at h)) refl
       by_access a.Direct h = refl
       by_access (a.Hold point) h = refl
       by_access (a.Get point) h = refl
@@ -266,8 +267,8 @@ module _ (ds : List Declaration) (inputs : ℕ) (spec : Spec) (G : Type 0) where
     parameter = λ place i h. refl;
     read = λ place m how args there ranged. refl;
     window = λ place w m args over exactly using there ranged is.
-        both (is_span_if (slice_get spec.windows w)) true
-        (rw is (both (nat_le 1 (span_of over)) (nat_le (span_of over) 4000000000000000000) (le_test 1 (span_of over) (positive (span_of over) over.at (ranged g))) (le_test (span_of over) 4000000000000000000 (span_most over)))) refl;
+        and_from (is_span_if (slice_get spec.windows w)) true
+        (rw is (and_from (nat_le 1 (span_of over)) (nat_le (span_of over) 4000000000000000000) (le_test 1 (span_of over) (positive (span_of over) over.at (ranged g))) (le_test (span_of over) 4000000000000000000 (span_most over)))) refl;
     defaults = λ place u s v r. refl;
     unary = λ place op u s. refl;
     binary = λ place op u s v r. refl;

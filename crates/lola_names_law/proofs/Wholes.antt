@@ -1,6 +1,7 @@
 -- A test that passes what names and literals are resolved to passes every part of a specification that is resolved.
 use Rattle.std.proofs.Common.{◌≡◌, ◌≤◌, ◌+◌, ℕ, arith, refl, sym, ap, ◌∙◌, subst, Bool, true, List, [], ◌∷◌, ◌++◌, Option, Some, None, slice_get, unwrap_or, length, map, drop}
 use Rattle.std.specs.List.{flat_map}
+use Rattle.std.proofs.lemmas.Bool.{and_from}
 use Rattle.lola_value.specs.declared.value.Kind.{Kind}
 use Rattle.lola_value.specs.declared.value.Kind.TheVariants as kind
 use Rattle.lola_parser_tree.specs.declared.literals.Typed.{Typed}
@@ -28,13 +29,13 @@ use Rattle.lola_names.specs.Resolved.{Standing, IsResolved, kind_spelled}
 use Rattle.lola_names.specs.Clauses.{IsOptional, IsPart, ArePartsOf, IsSpawn, IsEval, IsClose, IsTriggerClause, IsOutput, IsTrigger, input_stream}
 use Rattle.lola_names.specs.Specification.{AreStreams, expr_ranges, part_ranges, pacing_ranges, pace_in, spawn_ranges, eval_ranges, close_ranges, output_ranges, trigger_ranges, ranges_of}
 use Rattle.lola_names.specs.Specification as specification
-use Rattle.lola_names_law.proofs.Basics.{both, left_of, right_of, none_left, none_right, length_mapped, drop_behind}
+use Rattle.lola_names_law.proofs.Basics.{left_of, right_of, none_left, none_right, length_mapped, drop_behind}
 use Rattle.lola_names_law.proofs.Targets.{Around, fits_hidden, fits_parameters, fits_declared}
 use Rattle.lola_names_law.proofs.Expressions.{IsPassing, resolved_passes}
 
 pub wholes_both : (f : Whole → Bool) (xs ys : List Whole) → all_wholes f xs ≡ true → all_wholes f ys ≡ true → all_wholes f (xs ++ ys) ≡ true
 wholes_both f [] ys h k = k
-wholes_both f (x ∷ xs) ys h k = both (f x) (all_wholes f (xs ++ ys)) (left_of (f x) (all_wholes f xs) h) (wholes_both f xs ys (right_of (f x) (all_wholes f xs) h) k)
+wholes_both f (x ∷ xs) ys h k = and_from (f x) (all_wholes f (xs ++ ys)) (left_of (f x) (all_wholes f xs) h) (wholes_both f xs ys (right_of (f x) (all_wholes f xs) h) k)
 
 abbrev standing : ℕ → Part → Targets → Standing
 standing n p ps = record { stream = n; clause = p; parameters = ps }
@@ -72,7 +73,7 @@ module _ (ds : List Declaration) (ss : List Stream) (inputs : ℕ) (texts : List
       when_passes : (at : ℕ) (x : Option TreePart) (o : Option Expr) → when_uses known (names_of ds) x ≡ [] → (G → specification.of_option part_ranges x ≡ [])
           → IsOptional (IsPart ds (targets_of ds) texts windows here) x o → all_wholes is_passed (condition_wholes n p ks at o) ≡ true
       when_passes at None None none ranged is = refl
-      when_passes at (Some x) (Some r) none ranged is = both (each_part (t n p (length ks)) r) true (expr_passes x.expr r none ranged is) refl
+      when_passes at (Some x) (Some r) none ranged is = and_from (each_part (t n p (length ks)) r) true (expr_passes x.expr r none ranged is) refl
       when_passes at None (Some r) none ranged is = absurd is
       when_passes at (Some x) None none ranged is = absurd is
 
@@ -80,7 +81,7 @@ module _ (ds : List Declaration) (ss : List Stream) (inputs : ℕ) (texts : List
           → ArePartsOf ds (targets_of ds) texts windows here xs rs → all_wholes is_passed (with_wholes n p ks wants ats rs) ≡ true
       with_passes [] [] wants ats none ranged is = refl
       with_passes (x ∷ xs) (r ∷ rs) wants ats none ranged is =
-          both (each_part (t n p (length ks)) r) (all_wholes is_passed (with_wholes n p ks (drop 1 wants) (drop 1 ats) rs))
+          and_from (each_part (t n p (length ks)) r) (all_wholes is_passed (with_wholes n p ks (drop 1 wants) (drop 1 ats) rs))
           (expr_passes x.expr r (none_left (uses known (names_of ds) x.expr) (with_uses known (names_of ds) xs) none) (λ g. none_left (part_ranges x) (flat_map part_ranges xs) (ranged g)) is.0)
           (with_passes xs rs (drop 1 wants) (drop 1 ats) (none_right (uses known (names_of ds) x.expr) (with_uses known (names_of ds) xs) none) (λ g. none_right (part_ranges x) (flat_map part_ranges xs) (ranged g)) is.1)
       with_passes [] (r ∷ rs) wants ats none ranged is = absurd is

@@ -2,7 +2,7 @@
 use Rattle.std.proofs.Common.{◌≡◌, refl, ap, sym, subst, ◌∙◌, ℕ, ◌*◌, ◌/◌, ◌%◌, ◌+◌, ◌↔◌, List, [], ◌∷◌, Bool, true, false, ◌&&◌, arith, inl, inr}
 use Rattle.std.specs.List.{list_all}
 use Rattle.std.proofs.Math.Nat.{mul-mod_left}
-use Rattle.std.proofs.lemmas.Bool.{eqb-true, eq-eqb}
+use Rattle.std.proofs.lemmas.Bool.{eqb-true, eq-eqb, and_from}
 use Rattle.std.proofs.lemmas.Nat.{div-add-mod'}
 use Rattle.std.proofs.lemmas.List.Sums.{AllPass-from_list_all, list_all-from_AllPass}
 use Rattle.lola_value.specs.Ratio.{Ratio}
@@ -47,9 +47,6 @@ same_test true false f g = sym (f refl)
 same_test false true f g = g refl
 same_test false false f g = refl
 
-both_true : (a b : Bool) → a ≡ true → b ≡ true → (a && b) ≡ true
-both_true a b h k = rw (h, k) refl
-
 first_true : (a b : Bool) → (a && b) ≡ true → a ≡ true
 first_true true b h = refl
 first_true false b h = absurd (cc)
@@ -64,7 +61,7 @@ module _ (a b sets : List InputSet) (least : AreLeastSets (satisfies_both a b) s
       let m = satisfies_some-member inputs sets h in
       let k = m.1 in
       let here : satisfies_both a b m.0.0 ≡ true = subst (λ (s : InputSet). satisfies_both a b s.0 ≡ true) k.2 (least.passing k.0 m.0 k.1) in
-      both_true (satisfies_some inputs a) (satisfies_some inputs b)
+      and_from (satisfies_some inputs a) (satisfies_some inputs b)
       (satisfies_some-through inputs m.0 a m.2 (first_true (satisfies_some m.0.0 a) (satisfies_some m.0.0 b) here))
       (satisfies_some-through inputs m.0 b m.2 (second_true (satisfies_some m.0.0 a) (satisfies_some m.0.0 b) here))
 

@@ -1,6 +1,6 @@
 -- Sets of inputs as numbers: what one has all of another means for each input.
 use Rattle.std.proofs.Common.{◌≡◌, refl, ap, sym, ◌∙◌, ℕ, zero, suc, ◌^◌, ◌<◌, ◌≤◌, min, max, ◌⊎◌, inl, inr, Bool, true, false, ◌&&◌, nat_eq, arith}
-use Rattle.std.proofs.lemmas.Bool.{cases_lt, eq-eqb}
+use Rattle.std.proofs.lemmas.Bool.{cases_lt, eq-eqb, and_parts}
 use Rattle.std.proofs.lemmas.Nat.{and_le_r}
 use Rattle.std.specs.Int.Bits.{bit_and}
 use Rattle.std.specs.Int.RustNames.{bit_or}
@@ -73,9 +73,6 @@ one_bit (suc zero) low h = refl
 one_bit (suc (suc b)) low h = absurd (omega arith)
 
 -- both parts of a test that holds
-pub and_parts : (a b : Bool) → (a && b) ≡ true → (a ≡ true) × (b ≡ true)
-and_parts true b h = (refl, h)
-and_parts false b h = absurd (cc)
 
 -- a test whose first part holds and that fails
 pub and_second : (a b : Bool) → a ≡ true → (a && b) ≡ false → b ≡ false

@@ -4,6 +4,7 @@ use Rattle.std.specs.Prelude.{filter}
 use Rattle.std.proofs.lemmas.Bool.Decides.{nat_tests}
 use Rattle.std.proofs.lemmas.List.{map-append}
 use Rattle.std.proofs.lemmas.List.Elements.{filter-append}
+use Rattle.std.proofs.lemmas.Bool.{not-true, not-false}
 use Rattle.circular_buffer.specs.Buffer.{keep_last, last_item}
 use Rattle.circular_buffer.proofs.Places.{below_or_not}
 use Rattle.lola_model.specs.declared.spec.Agg.{Agg}
@@ -70,20 +71,12 @@ unbeaten-better how z [] r e = rw e refl
 unbeaten-better how z (u ∷ []) r e = ap (front_of how z u) (unbeaten-better how z [] r e)
 unbeaten-better how z (u ∷ w ∷ us) r e = ap (front_of how z u) (unbeaten-better how z (w ∷ us) r e)
 
-not_true : (b : Bool) → not b ≡ true → b ≡ false
-not_true true e = cc
-not_true false e = refl
-
-not_false : (b : Bool) → not b ≡ false → b ≡ true
-not_false true e = refl
-not_false false e = cc
-
 pub one_beaten : (how : Agg) (z : ℤ) (rs : List Pane) → is_last_beaten how z (last_item rs) ≡ true → unbeaten how z (take (length rs - 1) rs) ≡ unbeaten how z rs
 one_beaten how z rs e = by (last_item rs) refl e
   where
     by : (o : Option Pane) → last_item rs ≡ o → is_last_beaten how z o ≡ true → unbeaten how z (take (length rs - 1) rs) ≡ unbeaten how z rs
     by None q e = cc
-    by (Some r) q e = sym (ap (unbeaten how z) (last_cut rs r q) ∙ unbeaten-beaten how z (take (length rs - 1) rs) r (not_true (is_better how r.extreme z) e))
+    by (Some r) q e = sym (ap (unbeaten how z) (last_cut rs r q) ∙ unbeaten-beaten how z (take (length rs - 1) rs) r (not-true (is_better how r.extreme z) e))
 
 pub none_beaten : (how : Agg) (z : ℤ) (rs : List Pane) → is_last_beaten how z (last_item rs) ≡ false → unbeaten how z rs ≡ rs
 none_beaten how z [] e = refl
@@ -93,7 +86,7 @@ none_beaten how z (x ∷ xs) e = by (last_item (x ∷ xs)) refl e
     by None q e = ap (unbeaten how z) (no_last (x ∷ xs) q) ∙ sym (no_last (x ∷ xs) q)
     by (Some r) q e =
         let cut = last_cut (x ∷ xs) r q in
-        ap (unbeaten how z) cut ∙ (unbeaten-better how z (take (length (x ∷ xs) - 1) (x ∷ xs)) r (not_false (is_better how r.extreme z) e) ∙ sym cut)
+        ap (unbeaten how z) cut ∙ (unbeaten-better how z (take (length (x ∷ xs) - 1) (x ∷ xs)) r (not-false (is_better how r.extreme z) e) ∙ sym cut)
 
 pub last_is_there : (how : Agg) (z : ℤ) (rs : List Pane) → is_last_beaten how z (last_item rs) ≡ true → 1 ≤ length rs
 last_is_there how z [] e = absurd (cc)

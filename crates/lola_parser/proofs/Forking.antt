@@ -1,12 +1,13 @@
 -- Where a bracket that is a mark after all begins an expression, it stands behind the last `with`, which a spawn clause has.
 use Rattle.std.proofs.Common.{◌≡◌, ℕ, Bool, true, false, ◌&&◌, ◌||◌, cond, List, [], ◌∷◌, ◌++◌, Option, Some, None, refl, sym, ap, ◌∙◌, append_assoc, inl, inr, subst}
+use Rattle.std.proofs.lemmas.Bool.{and_parts}
 use Rattle.lola_lexer.specs.declared.shape.TokenShape.TheVariants as is
 use Rattle.lola_parser_tree.specs.declared.expressions.Expr.{Expr}
 use Rattle.lola_parser_tree.specs.declared.declarations.Declaration.{Declaration}
 use Rattle.lola_parser_grammars_law.specs.Syntax.{Lexeme, Terminal, Of, fits, any_fits, same_shape, within, Syntax, Past, Token, Mark, Whole, Known, Then, Map, Either, Maybe, Many, Fork, Spells, max_marks}
 use Rattle.lola_parser_grammars_law.specs.Marks.{marks_in}
 use Rattle.lola_parser_grammars_law.specs.Exceeding.{ExceedsAmong}
-use Rattle.lola_parser_grammars_law.proofs.Tests.{and_both, shape_is}
+use Rattle.lola_parser_grammars_law.proofs.Tests.{shape_is}
 use Rattle.lola_parser_limit_law.specs.Late.{IsNextBehindBracket}
 use Rattle.lola_parser_tree.specs.declared.clauses.Part.{Part}
 use Rattle.lola_parser_tree.specs.declared.clauses.Spawn.{Spawn}
@@ -47,11 +48,11 @@ never (Token k) f u t v x h = h
 never (Mark k) f u t v x h = h
 never (Whole a) f u t v x h = h
 never (Known fs ms a) f u t v x h = never a f u t v x h
-never (Then a b) f u t v x (inl h) = never a (and_both (forkless a) (forkless b) f).0 u t h.0 x.0 h.3
-never (Then a b) f u t v x (inr h) = never b (and_both (forkless a) (forkless b) f).1 h.1 t v x.1 h.4
+never (Then a b) f u t v x (inl h) = never a (and_parts (forkless a) (forkless b) f).0 u t h.0 x.0 h.3
+never (Then a b) f u t v x (inr h) = never b (and_parts (forkless a) (forkless b) f).1 h.1 t v x.1 h.4
 never (Map g a) f u t v y h = never a f u t v h.0 h.2
-never (Either a b) f u t v x (inl h) = never a (and_both (forkless a) (forkless b) f).0 u t v x h
-never (Either a b) f u t v x (inr h) = never b (and_both (forkless a) (forkless b) f).1 u t v x h
+never (Either a b) f u t v x (inl h) = never a (and_parts (forkless a) (forkless b) f).0 u t v x h
+never (Either a b) f u t v x (inr h) = never b (and_parts (forkless a) (forkless b) f).1 u t v x h
 never (Maybe a) f u t v None h = h
 never (Maybe a) f u t v (Some x) h = never a f u t v x h
 never (Many a) f u t v xs h = never_among a (never a f) u t v xs h

@@ -1,8 +1,9 @@
 -- What stands in no sentence of a part.
 use Rattle.std.proofs.Common.{◌≡◌, ℕ, zero, suc, Bool, true, false, not, ◌&&◌, List, [], ◌∷◌, ◌++◌, Some, None, refl, ap, ◌∙◌, inl, inr}
+use Rattle.std.proofs.lemmas.Bool.{and_parts, not-true, false_from_ne_true}
 use Rattle.lola_lexer.specs.declared.shape.TokenShape.TheVariants as is
 use Rattle.lola_parser_grammars_law.specs.Syntax.{Lexeme, Terminal, Of, fits, any_fits, clashes, within, same_shape, Syntax, Past, Token, Mark, Whole, Known, Then, Map, Either, Maybe, Many, Fork, Repeats, Spells}
-use Rattle.lola_parser_grammars_law.proofs.Tests.{and_both, not_true, no_more, clashes_true, within_fits}
+use Rattle.lola_parser_grammars_law.proofs.Tests.{clashes_true, within_fits}
 use Rattle.lola_parser_grammars_law.proofs.Complete.{and_three}
 use Rattle.lola_parser_grammar.specs.Grammar as g
 use Rattle.lola_parser_grammar.specs.Grammar.{level, formula_level, expr_in, pacing, part_behind}
@@ -47,7 +48,7 @@ module _ (ks : List Terminal) where
 
   none_one : (k : Terminal) (x : Lexeme) (u : List Lexeme) → not (clashes k ks) ≡ true → u ≡ x ∷ [] → fits k x ≡ true → cut_last ks u ≡ None
   none_one k x u h e f =
-      let c : any_fits ks x ≡ false = no_more (any_fits ks x) (λ m. let d = clashes_true k ks x f m in let n = not_true (clashes k ks) h in absurd cc) in
+      let c : any_fits ks x ≡ false = false_from_ne_true (any_fits ks x) (λ m. let d = clashes_true k ks x f m in let n = not-true (clashes k ks) h in absurd cc) in
       ap (cut_last ks) e ∙ not_here x [] c refl
 
   none_many : {A : Type 0} (P : List Lexeme → A → Type 0) → ((u : List Lexeme) (x : A) → P u x → cut_last ks u ≡ None) → (u : List Lexeme) (xs : List A) → Repeats P u xs → cut_last ks u ≡ None
@@ -62,11 +63,11 @@ module _ (ks : List Terminal) where
   none_in (Whole a) l u x h = none_in a l u x h
   none_in (Known fs ms a) l u x h = none_in a l u x h
   none_in (Then a b) l u x h =
-      let p = and_both (lacks a) (lacks b) l in
+      let p = and_parts (lacks a) (lacks b) l in
       ap (cut_last ks) h.2 ∙ none_append h.0 h.1 (none_in a p.0 h.0 x.0 h.3) (none_in b p.1 h.1 x.1 h.4)
   none_in (Map f a) l u y h = none_in a l u h.0 h.2
-  none_in (Either a b) l u x (inl h) = none_in a (and_both (lacks a) (lacks b) l).0 u x h
-  none_in (Either a b) l u x (inr h) = none_in b (and_both (lacks a) (lacks b) l).1 u x h
+  none_in (Either a b) l u x (inl h) = none_in a (and_parts (lacks a) (lacks b) l).0 u x h
+  none_in (Either a b) l u x (inr h) = none_in b (and_parts (lacks a) (lacks b) l).1 u x h
   none_in (Maybe a) l u None h = ap (cut_last ks) h
   none_in (Maybe a) l u (Some x) h = none_in a l u x h
   none_in (Many a) l u xs h = none_many (Spells a) (none_in a l) u xs h
@@ -79,7 +80,7 @@ pub fewer : (ks ls : List Terminal) → within ks ls ≡ true → (u : List Lexe
 fewer ks ls w [] h = refl
 fewer ks ls w (t ∷ u) h =
     let p = no_cut ls t (cut_last ls u) (any_fits ls t) u h in
-    not_here ks t u (no_more (any_fits ks t) (λ m. let d = within_fits ks ls t w m in let e = p.1 in absurd cc)) (fewer ks ls w u p.0)
+    not_here ks t u (false_from_ne_true (any_fits ks t) (λ m. let d = within_fits ks ls t w m in let e = p.1 in absurd cc)) (fewer ks ls w u p.0)
 
 -- ---- words of clauses in expressions and formulas
 

@@ -1,8 +1,8 @@
 -- What is left where no mark is counted is what reading leaves where the marks suffice.
 use Rattle.std.proofs.Common.{◌≡◌, ℕ, zero, suc, ◌-◌, ◌<◌, ◌≤◌, Bool, true, false, cond, ◌||◌, List, [], ◌∷◌, ◌++◌, length, Some, None, Ok, Err, refl, sym, ap, ◌∙◌, append_assoc, arith, inl, inr}
 use Rattle.std.proofs.lemmas.List.{length-append}
+use Rattle.std.proofs.lemmas.Bool.{or_cases}
 use Rattle.lola_parser_grammars_law.specs.Syntax.{Lexeme, Terminal, fits, any_fits, Syntax, Past, Token, Mark, Whole, Known, Then, Map, Either, Maybe, Many, Fork, Repeats, Spells, starts, first, nullable, is_fine, Refusal, Unexpected, TooDeep, Outcome, Reader, counted, repeated, read, max_marks, charged, either_rest, last_mark}
-use Rattle.lola_parser_grammars_law.proofs.Tests.{or_either}
 use Rattle.lola_parser_grammars_law.proofs.Laws.{chosen, done_is, bind_ok, counted_ok}
 use Rattle.lola_parser_grammars_law.proofs.Viable.{bind_err}
 use Rattle.lola_parser_grammars_law.proofs.Complete.{spells_nil}
@@ -47,7 +47,7 @@ token_leaves k (t ∷ ts) rest h =
     elim (chosen (fits k t || false) _ _ _ h) [
       | inl c ↦
           let e : ts ≡ rest = (let w = c.1 in cc) in
-          let f : fits k t ≡ true = elim (or_either (fits k t) false c.0) [ inl g ↦ g | inr g ↦ absurd cc ] in
+          let f : fits k t ≡ true = elim (or_cases (fits k t) false c.0) [ inl g ↦ g | inr g ↦ absurd cc ] in
           (t ∷ [], t, ap (λ (w : List Lexeme). t ∷ w) e, (refl, f))
       | inr c ↦ absurd (let w = c.1 in cc)
     ]

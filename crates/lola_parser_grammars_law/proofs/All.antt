@@ -1,9 +1,10 @@
 -- Within the limit of marks, what is spelled so is read.
 use Rattle.std.proofs.Common.{◌≡◌, ℕ, zero, suc, ◌-◌, ◌≤◌, true, false, not, List, [], ◌∷◌, ◌++◌, length, Some, None, Ok, refl, ap, subst, ◌∙◌, append_assoc, arith, inl, inr, ◌⊎◌}
 use Rattle.std.proofs.lemmas.List.{append-nil, length-append}
+use Rattle.std.proofs.lemmas.Bool.{and_parts, not-true, false_from_ne_true}
 use Rattle.lola_parser_grammars_law.specs.Syntax.{Lexeme, Terminal, any_fits, Syntax, Past, Token, Mark, Whole, Known, Then, Map, Either, Maybe, Many, Fork, charged, either_rest, last_mark, Repeats, Spells, starts, first, nullable, more, apart, within, is_fine, Outcome, Reader, ◌>>=◌, repeated, read, max_marks, read_all}
 use Rattle.lola_parser_grammars_law.specs.Marks.{marks_in, tallies, guards, is_counted, Fits}
-use Rattle.lola_parser_grammars_law.proofs.Tests.{and_both, not_true, no_more, apart_excludes}
+use Rattle.lola_parser_grammars_law.proofs.Tests.{apart_excludes}
 use Rattle.lola_parser_grammars_law.proofs.Complete.{spells_nil, begins, and_three, choice_parts, known_parts, any_split, follows, tail_stops, stops_within, repeats_begin, fork_is, full_is, fork_follows}
 use Rattle.lola_parser_grammars_law.proofs.Within.{complete_within}
 use Rattle.lola_parser_grammars_law.proofs.Over.{fork_counted}
@@ -59,7 +60,7 @@ module _ (marks : List Terminal) where
     where
       behind : (w : List Lexeme) → Repeats P w xs → starts mores (w ++ rest) ≡ false
       behind [] gs = (any_split firsts mores rest stop).1
-      behind (s ∷ w) gs = no_more (any_fits mores s) (λ c. apart_excludes mores firsts s part.clear c (repeats_begin P firsts part.opens s w xs gs))
+      behind (s ∷ w) gs = false_from_ne_true (any_fits mores s) (λ c. apart_excludes mores firsts s part.clear c (repeats_begin P firsts part.opens s w xs gs))
 
   repeated_all : {A : Type 0} (r : Reader A) (P : List Lexeme → A → Type 0) (firsts mores : List Terminal) → Part r P firsts mores → (n m : ℕ) (u : List Lexeme) (xs : List A) (rest : List Lexeme)
       → length (u ++ rest) ≤ n → Repeats P u xs → starts (firsts ++ mores) rest ≡ false → IsDone (repeated r firsts n m (u ++ rest)) xs rest
@@ -83,7 +84,7 @@ module _ (marks : List Terminal) where
 
   misses_part : {A : Type 0} (ks : List Terminal) (s : Syntax A) → is_fine s ≡ true → nullable s ≡ false → apart ks (first s) ≡ true → (v : List Lexeme) (x : A) (rest : List Lexeme) → Spells s v x → starts ks (v ++ rest) ≡ false
   misses_part ks s fine full away [] x rest h = absurd (full_is s fine full x h)
-  misses_part ks s fine full away (t ∷ v) x rest h = no_more (any_fits ks t) (λ c. apart_excludes ks (first s) t away c (begins s fine t v x h))
+  misses_part ks s fine full away (t ∷ v) x rest h = false_from_ne_true (any_fits ks t) (λ c. apart_excludes ks (first s) t away c (begins s fine t v x h))
 
   charged_done : {A : Type 0} (deep : List Lexeme) (r : Reader A) (i : ℕ) (ts : List Lexeme) (x : A) (rest : List Lexeme) → 1 ≤ i → ((j : ℕ) → i ≡ suc j → IsDone (r j ts) x rest) → IsDone (charged deep r i ts) x rest
   charged_done deep r zero ts x rest some next = absurd (omega (arith, some))
@@ -98,14 +99,14 @@ module _ (marks : List Terminal) where
   complete_all (Token k) fine count m u x rest h stop = (m, rw (h.0, h.1) refl)
   complete_all (Mark k) fine count m u x rest h stop = absurd cc
   complete_all (Whole a) fine count m u x rest h stop =
-      let c = and_both (tallies marks a) (guards (suc max_marks) a) count in
+      let c = and_parts (tallies marks a) (guards (suc max_marks) a) count in
       (_, complete_within marks a fine c.0 (suc max_marks) c.1 max_marks u x rest (omega arith) h.0 stop h.1)
   complete_all (Known fs ms a) fine count m u x rest h stop =
       let f = known_parts (is_fine a) (nullable a) (within (first a) fs) (within (more a) ms) fine in
       complete_all a f.0 count m u x rest h (stops_within (more a) ms rest f.3 stop)
   complete_all (Then a b) fine count m u x rest h stop =
       let f = and_three (is_fine a) (is_fine b) (apart (more a) (first b)) fine in
-      let c = and_both (is_counted marks a) (is_counted marks b) count in
+      let c = and_parts (is_counted marks a) (is_counted marks b) count in
       let t = tail_stops (nullable b) (more b) (more a) rest stop in
       let clear : starts (more a) (h.1 ++ rest) ≡ false = follows (more a) b f.1 h.1 x.1 rest f.2 (fits_spells b h.1 x.1 h.4) t.1 in
       let one = complete_all a f.0 c.0 m h.0 x.0 (h.1 ++ rest) h.3 clear in
@@ -123,24 +124,24 @@ module _ (marks : List Terminal) where
       absurd (let e = spells_nil b f.1 x (fits_spells b [] x h) in let d = f.3 in cc)
   complete_all (Either a b) fine count m (t ∷ u) x rest (inl h) stop =
       let f = choice_parts (is_fine a) (is_fine b) (nullable a) (nullable b) (apart (first a) (first b)) fine in
-      let c = and_both (is_counted marks a) (is_counted marks b) count in
+      let c = and_parts (is_counted marks a) (is_counted marks b) count in
       rw (begins a f.0 t u x (fits_spells a (t ∷ u) x h)) (complete_all a f.0 c.0 m (t ∷ u) x rest h (any_split (more a) (more b) rest stop).0)
   complete_all (Either a b) fine count m (t ∷ u) x rest (inr h) stop =
       let f = choice_parts (is_fine a) (is_fine b) (nullable a) (nullable b) (apart (first a) (first b)) fine in
-      let c = and_both (is_counted marks a) (is_counted marks b) count in
-      let misses : any_fits (first a) t ≡ false = no_more (any_fits (first a) t) (λ k. apart_excludes (first a) (first b) t f.4 k (begins b f.1 t u x (fits_spells b (t ∷ u) x h))) in
+      let c = and_parts (is_counted marks a) (is_counted marks b) count in
+      let misses : any_fits (first a) t ≡ false = false_from_ne_true (any_fits (first a) t) (λ k. apart_excludes (first a) (first b) t f.4 k (begins b f.1 t u x (fits_spells b (t ∷ u) x h))) in
       rw misses (complete_all b f.1 c.1 m (t ∷ u) x rest h (any_split (more a) (more b) rest stop).1)
   complete_all (Maybe a) fine count m u None rest h stop = rw (h, (any_split (first a) (more a) rest stop).0) (m, refl)
   complete_all (Maybe a) fine count m [] (Some x) rest h stop =
-      let f = and_both (is_fine a) (not (nullable a)) fine in
-      absurd (let e = spells_nil a f.0 x (fits_spells a [] x h) in let d = not_true (nullable a) f.1 in cc)
+      let f = and_parts (is_fine a) (not (nullable a)) fine in
+      absurd (let e = spells_nil a f.0 x (fits_spells a [] x h) in let d = not-true (nullable a) f.1 in cc)
   complete_all (Maybe a) fine count m (t ∷ u) (Some x) rest h stop =
-      let f = and_both (is_fine a) (not (nullable a)) fine in
+      let f = and_parts (is_fine a) (not (nullable a)) fine in
       let one = complete_all a f.0 count m (t ∷ u) x rest h (any_split (first a) (more a) rest stop).1 in
       rw (begins a f.0 t u x (fits_spells a (t ∷ u) x h)) (bind_done (read a m ((t ∷ u) ++ rest)) (λ y i end. Ok (Some y, i, end)) x rest (Some x) rest one (λ i. (i, refl)))
   complete_all (Many a) fine count m u x rest h stop =
       let f = and_three (is_fine a) (not (nullable a)) (apart (more a) (first a)) fine in
-      let part : Part (read a) (Fits marks a) (first a) (more a) = record { whole = complete_all a f.0 count; some = λ y k. (let e = spells_nil a f.0 y (fits_spells a [] y k) in let d = not_true (nullable a) f.1 in absurd cc); opens = λ t ts y k. begins a f.0 t ts y (fits_spells a (t ∷ ts) y k); clear = f.2 } in
+      let part : Part (read a) (Fits marks a) (first a) (more a) = record { whole = complete_all a f.0 count; some = λ y k. (let e = spells_nil a f.0 y (fits_spells a [] y k) in let d = not-true (nullable a) f.1 in absurd cc); opens = λ t ts y k. begins a f.0 t ts y (fits_spells a (t ∷ ts) y k); clear = f.2 } in
       repeated_all (read a) (Fits marks a) (first a) (more a) part (length (u ++ rest)) m u x rest (omega arith) h stop
   complete_all (Fork ks a b c) fine count m u x rest h stop =
       let f = fork_is ks a b c fine in

@@ -1,8 +1,9 @@
 -- What is spelled so is read, if one token ahead is enough to choose.
 use Rattle.std.proofs.Common.{◌≡◌, ℕ, zero, suc, ◌-◌, ◌≤◌, Bool, true, false, cond, not, ◌&&◌, List, [], ◌∷◌, ◌++◌, length, Some, None, Ok, Err, refl, sym, ap, subst, ◌∙◌, append_assoc, arith, inl, inr, ◌⊎◌}
 use Rattle.std.proofs.lemmas.List.{length-append}
+use Rattle.std.proofs.lemmas.Bool.{and_parts, or_left, not-true, false_from_ne_true}
 use Rattle.lola_parser_grammars_law.specs.Syntax.{Lexeme, Terminal, fits, any_fits, Syntax, Past, Token, Mark, Whole, Known, Then, Map, Either, Maybe, Many, Fork, charged, either_rest, last_mark, is_rest, Repeats, Spells, starts, first, nullable, more, apart, within, is_fine, TooDeep, Outcome, Reader, ◌>>=◌, counted, max_marks, repeated, read}
-use Rattle.lola_parser_grammars_law.proofs.Tests.{and_both, not_true, no_more, apart_excludes, any_left, any_right, or_left, within_fits}
+use Rattle.lola_parser_grammars_law.proofs.Tests.{apart_excludes, any_left, any_right, within_fits}
 
 pub nil_parts : (u v : List Lexeme) → [] ≡ u ++ v → (u ≡ []) × (v ≡ [])
 nil_parts [] v e = (refl, sym e)
@@ -12,32 +13,32 @@ abbrev pub pair_parts : Bool → Bool → Bool → Type 0
 pair_parts a b c = (a ≡ true) × (b ≡ true) × (c ≡ true)
 
 pub and_three : (a b c : Bool) → (a && (b && c)) ≡ true → pair_parts a b c
-and_three a b c e = let f = and_both a (b && c) e in let g = and_both b c f.1 in (f.0, g.0, g.1)
+and_three a b c e = let f = and_parts a (b && c) e in let g = and_parts b c f.1 in (f.0, g.0, g.1)
 
 pub choice_parts : (a b c d e : Bool) → (a && (b && (not c && (not d && e)))) ≡ true → (a ≡ true) × (b ≡ true) × (c ≡ false) × (d ≡ false) × (e ≡ true)
 choice_parts a b c d e h =
     let f = and_three a b (not c && (not d && e)) h in
     let g = and_three (not c) (not d) e f.2 in
-    (f.0, f.1, not_true c g.0, not_true d g.1, g.2)
+    (f.0, f.1, not-true c g.0, not-true d g.1, g.2)
 
 pub known_parts : (a b c d : Bool) → (a && (not b && (c && d))) ≡ true → (a ≡ true) × (b ≡ false) × (c ≡ true) × (d ≡ true)
 known_parts a b c d h =
     let f = and_three a (not b) (c && d) h in
-    let g = and_both c d f.2 in
-    (f.0, not_true b f.1, g.0, g.1)
+    let g = and_parts c d f.2 in
+    (f.0, not-true b f.1, g.0, g.1)
 
 -- what a rest is, and what a fork is, by the parts of the test
 abbrev pub rest_parts : List Terminal → Bool → Bool → List Terminal → Type 0
 rest_parts ms fine empty fs = (fine ≡ true) × (empty ≡ false) × (apart ms fs ≡ true)
 
 pub rest_is : (ms : List Terminal) (fine empty : Bool) (fs : List Terminal) → is_rest ms fine empty fs ≡ true → rest_parts ms fine empty fs
-rest_is ms fine empty fs e = let f = and_three fine (not empty) (apart ms fs) e in (f.0, not_true empty f.1, f.2)
+rest_is ms fine empty fs e = let f = and_three fine (not empty) (apart ms fs) e in (f.0, not-true empty f.1, f.2)
 
 pub fork_parts : (a b c d e : Bool) → (a && (not b && (c && (d && e)))) ≡ true → (a ≡ true) × (b ≡ false) × (c ≡ true) × (d ≡ true) × (e ≡ true)
 fork_parts a b c d e h =
     let f = and_three a (not b) (c && (d && e)) h in
     let g = and_three c d e f.2 in
-    (f.0, not_true b f.1, g.0, g.1, g.2)
+    (f.0, not-true b f.1, g.0, g.1, g.2)
 
 pub record ForkParts {A B : Type 0} (a : Syntax A) (b c : Syntax B) : Type 0 where
   pub head : is_fine a ≡ true
@@ -118,9 +119,9 @@ begins (Either a b) fine t ts x (inl h) =
 begins (Either a b) fine t ts x (inr h) =
     let f = choice_parts (is_fine a) (is_fine b) (nullable a) (nullable b) (apart (first a) (first b)) fine in
     any_right (first a) (first b) t (begins b f.1 t ts x h)
-begins (Maybe a) fine t ts (Some x) h = begins a (and_both (is_fine a) (not (nullable a)) fine).0 t ts x h
+begins (Maybe a) fine t ts (Some x) h = begins a (and_parts (is_fine a) (not (nullable a)) fine).0 t ts x h
 begins (Maybe a) fine t ts None h = absurd cc
-begins (Many a) fine t ts x h = repeats_begin (Spells a) (first a) (begins a (and_both (is_fine a) (not (nullable a) && apart (more a) (first a)) fine).0) t ts x h
+begins (Many a) fine t ts x h = repeats_begin (Spells a) (first a) (begins a (and_parts (is_fine a) (not (nullable a) && apart (more a) (first a)) fine).0) t ts x h
 begins (Fork ks a b c) fine t ts x h =
     let f = fork_is ks a b c fine in
     elim (cons_parts t ts h.0 h.1 h.2) [
@@ -140,12 +141,12 @@ bind_again r f x mid y rest (inr d) next = inr (d.0, rw d.1 refl)
 pub any_split : (ks ls : List Terminal) (rest : List Lexeme) → starts (ks ++ ls) rest ≡ false → (starts ks rest ≡ false) × (starts ls rest ≡ false)
 any_split ks ls [] h = (refl, refl)
 any_split ks ls (t ∷ ts) h =
-    (no_more (any_fits ks t) (λ e. let d = any_left ks ls t e in absurd cc), no_more (any_fits ls t) (λ e. let d = any_right ks ls t e in absurd cc))
+    (false_from_ne_true (any_fits ks t) (λ e. let d = any_left ks ls t e in absurd cc), false_from_ne_true (any_fits ls t) (λ e. let d = any_right ks ls t e in absurd cc))
 
 -- what follows a sentence of a, where one of b and then the rest comes
 pub follows : {B : Type 0} (ks : List Terminal) (b : Syntax B) → is_fine b ≡ true → (w : List Lexeme) (y : B) (rest : List Lexeme) → apart ks (first b) ≡ true → Spells b w y → (nullable b ≡ true → starts ks rest ≡ false) → starts ks (w ++ rest) ≡ false
 follows ks b fine [] y rest a h e = e (spells_nil b fine y h)
-follows ks b fine (t ∷ w) y rest a h e = no_more (any_fits ks t) (λ c. apart_excludes ks (first b) t a c (begins b fine t w y h))
+follows ks b fine (t ∷ w) y rest a h e = false_from_ne_true (any_fits ks t) (λ c. apart_excludes ks (first b) t a c (begins b fine t w y h))
 
 pub tail_stops : (n : Bool) (ks ls : List Terminal) (rest : List Lexeme) → starts (cond n (ks ++ ls) ks) rest ≡ false → (starts ks rest ≡ false) × (n ≡ true → starts ls rest ≡ false)
 tail_stops true ks ls rest h = let p = any_split ks ls rest h in (p.0, λ e. p.1)
@@ -177,7 +178,7 @@ one_more {A} r P firsts mores part n m (t ∷ u) v x xs rest le h hs stop next =
   where
     behind : (w : List Lexeme) → Repeats P w xs → starts mores (w ++ rest) ≡ false
     behind [] gs = (any_split firsts mores rest stop).1
-    behind (s ∷ w) gs = no_more (any_fits mores s) (λ c. apart_excludes mores firsts s part.clear c (repeats_begin P firsts part.opens s w xs gs))
+    behind (s ∷ w) gs = false_from_ne_true (any_fits mores s) (λ c. apart_excludes mores firsts s part.clear c (repeats_begin P firsts part.opens s w xs gs))
 
 repeated_complete : {A : Type 0} (r : Reader A) (P : List Lexeme → A → Type 0) (firsts mores : List Terminal) → Part r P firsts mores → (n m : ℕ) (u : List Lexeme) (xs : List A) (rest : List Lexeme)
     → length (u ++ rest) ≤ n → Repeats P u xs → starts (firsts ++ mores) rest ≡ false → OkOrDeep (repeated r firsts n m (u ++ rest)) xs rest
@@ -200,7 +201,7 @@ mark_read t (suc m) rest = inl (m, refl)
 
 pub stops_within : (ks ls : List Terminal) (rest : List Lexeme) → within ks ls ≡ true → starts ls rest ≡ false → starts ks rest ≡ false
 stops_within ks ls [] e h = refl
-stops_within ks ls (t ∷ rest) e h = no_more (any_fits ks t) (λ c. let d = within_fits ks ls t e c in absurd cc)
+stops_within ks ls (t ∷ rest) e h = false_from_ne_true (any_fits ks t) (λ c. let d = within_fits ks ls t e c in absurd cc)
 
 charged_complete : {A : Type 0} (deep : List Lexeme) (r : Reader A) (P : List Lexeme → A → Type 0) (ks : List Terminal) → IsComplete r P ks → IsComplete (charged deep r) P ks
 charged_complete deep r P ks one zero u x rest h stop = inr (deep, refl)
@@ -218,7 +219,7 @@ rest_complete fs gs ks ls r s P Q one two a m [] x rest (inl h) stop stop' = abs
 rest_complete fs gs ks ls r s P Q one two a m [] x rest (inr h) stop stop' = absurd (two.some x h)
 rest_complete fs gs ks ls r s P Q one two a m (t ∷ u) x rest (inl h) stop stop' = rw (one.opens t u x h) (one.whole m (t ∷ u) x rest h stop)
 rest_complete fs gs ks ls r s P Q one two a m (t ∷ u) x rest (inr h) stop stop' =
-    let misses : any_fits fs t ≡ false = no_more (any_fits fs t) (λ c. apart_excludes fs gs t a c (two.opens t u x h)) in
+    let misses : any_fits fs t ≡ false = false_from_ne_true (any_fits fs t) (λ c. apart_excludes fs gs t a c (two.opens t u x h)) in
     rw (misses, two.opens t u x h) (two.whole m (t ∷ u) x rest h stop')
 
 pub full_is : {A : Type 0} (s : Syntax A) → is_fine s ≡ true → nullable s ≡ false → (x : A) → Spells s [] x → ⊥
@@ -262,19 +263,19 @@ complete (Either a b) fine m (t ∷ u) x rest (inl h) stop =
     rw (begins a f.0 t u x h) (complete a f.0 m (t ∷ u) x rest h (any_split (more a) (more b) rest stop).0)
 complete (Either a b) fine m (t ∷ u) x rest (inr h) stop =
     let f = choice_parts (is_fine a) (is_fine b) (nullable a) (nullable b) (apart (first a) (first b)) fine in
-    let misses : any_fits (first a) t ≡ false = no_more (any_fits (first a) t) (λ c. apart_excludes (first a) (first b) t f.4 c (begins b f.1 t u x h)) in
+    let misses : any_fits (first a) t ≡ false = false_from_ne_true (any_fits (first a) t) (λ c. apart_excludes (first a) (first b) t f.4 c (begins b f.1 t u x h)) in
     rw misses (complete b f.1 m (t ∷ u) x rest h (any_split (more a) (more b) rest stop).1)
 complete (Maybe a) fine m u None rest h stop = rw (h, (any_split (first a) (more a) rest stop).0) (inl (m, refl))
 complete (Maybe a) fine m [] (Some x) rest h stop =
-    let f = and_both (is_fine a) (not (nullable a)) fine in
-    absurd (let e = spells_nil a f.0 x h in let d = not_true (nullable a) f.1 in cc)
+    let f = and_parts (is_fine a) (not (nullable a)) fine in
+    absurd (let e = spells_nil a f.0 x h in let d = not-true (nullable a) f.1 in cc)
 complete (Maybe a) fine m (t ∷ u) (Some x) rest h stop =
-    let f = and_both (is_fine a) (not (nullable a)) fine in
+    let f = and_parts (is_fine a) (not (nullable a)) fine in
     let one = complete a f.0 m (t ∷ u) x rest h (any_split (first a) (more a) rest stop).1 in
     rw (begins a f.0 t u x h) (bind_again (read a m ((t ∷ u) ++ rest)) (λ y i end. Ok (Some y, i, end)) x rest (Some x) rest one (λ i. inl (i, refl)))
 complete (Many a) fine m u x rest h stop =
     let f = and_three (is_fine a) (not (nullable a)) (apart (more a) (first a)) fine in
-    let part : Part (read a) (Spells a) (first a) (more a) = record { whole = complete a f.0; some = λ y k. (let e = spells_nil a f.0 y k in let d = not_true (nullable a) f.1 in absurd cc); opens = begins a f.0; clear = f.2 } in
+    let part : Part (read a) (Spells a) (first a) (more a) = record { whole = complete a f.0; some = λ y k. (let e = spells_nil a f.0 y k in let d = not-true (nullable a) f.1 in absurd cc); opens = begins a f.0; clear = f.2 } in
     repeated_complete (read a) (Spells a) (first a) (more a) part (length (u ++ rest)) m u x rest (omega arith) h stop
 complete (Fork ks a b c) fine m u x rest h stop =
     let f = fork_is ks a b c fine in

@@ -1,5 +1,6 @@
 -- What takes a mark for each level that is nested.
-use Rattle.std.proofs.Common.{◌≡◌, ℕ, suc, ◌≤◌, Bool, true, ◌&&◌, refl, arith}
+use Rattle.std.proofs.Common.{◌≡◌, ℕ, suc, ◌≤◌, true, arith}
+use Rattle.std.proofs.lemmas.Bool.{and_from}
 use Rattle.lola_parser_grammars_law.specs.Syntax.{Syntax, Then, Map, Either, Maybe, Many}
 use Rattle.lola_parser_grammars_law.specs.Marks.{lower, least, guards}
 use Rattle.lola_parser_grammars_law.proofs.Within.{lower_is}
@@ -11,25 +12,22 @@ IsDeep n s = (k : ℕ) → k ≤ n → guards k s ≡ true
 pub deep_less : {A : Type 0} (s : Syntax A) (n m : ℕ) → m ≤ n → IsDeep n s → IsDeep m s
 deep_less s n m le h k low = h k (omega (arith, le, low))
 
-both_true : (a b : Bool) → a ≡ true → b ≡ true → (a && b) ≡ true
-both_true a b h k = rw (h, k) refl
-
 pub deep_map : {A B : Type 0} (f : A → B) (a : Syntax A) (n : ℕ) → IsDeep n a → IsDeep n (Map f a)
 unfolding guards
 deep_map f a n h = h
 
 pub deep_then : {A B : Type 0} (a : Syntax A) (b : Syntax B) (n : ℕ) → IsDeep n a → IsDeep n b → IsDeep n (Then a b)
 unfolding guards
-deep_then a b n h i k low = both_true (guards k a) (guards (lower k (least a)) b) (h k low) (i (lower k (least a)) (omega (arith, low, lower_is k (least a))))
+deep_then a b n h i k low = and_from (guards k a) (guards (lower k (least a)) b) (h k low) (i (lower k (least a)) (omega (arith, low, lower_is k (least a))))
 
 -- behind a mark there is one level more
 pub deep_behind : {A B : Type 0} (a : Syntax A) (b : Syntax B) (n : ℕ) → least a ≡ 1 → IsDeep (suc n) a → IsDeep n b → IsDeep (suc n) (Then a b)
 unfolding guards
-deep_behind a b n one h i k low = both_true (guards k a) (guards (lower k (least a)) b) (h k low) (i (lower k (least a)) (omega (arith, low, one, lower_is k (least a))))
+deep_behind a b n one h i k low = and_from (guards k a) (guards (lower k (least a)) b) (h k low) (i (lower k (least a)) (omega (arith, low, one, lower_is k (least a))))
 
 pub deep_either : {A : Type 0} (a b : Syntax A) (n : ℕ) → IsDeep n a → IsDeep n b → IsDeep n (Either a b)
 unfolding guards
-deep_either a b n h i k low = both_true (guards k a) (guards k b) (h k low) (i k low)
+deep_either a b n h i k low = and_from (guards k a) (guards k b) (h k low) (i k low)
 
 pub deep_maybe : {A : Type 0} (a : Syntax A) (n : ℕ) → IsDeep n a → IsDeep n (Maybe a)
 unfolding guards

@@ -1,10 +1,11 @@
 -- What is spelled so is read, or is refused at a mark that is one too many in it.
 use Rattle.std.proofs.Common.{◌≡◌, ℕ, zero, suc, ◌+◌, ◌-◌, ◌≤◌, ◌<◌, Bool, true, false, cond, not, ◌&&◌, List, [], ◌∷◌, ◌++◌, length, Option, Some, None, Result, Ok, Err, refl, sym, ap, subst, ◌∙◌, append_assoc, arith, inl, inr, ◌⊎◌}
 use Rattle.std.proofs.lemmas.List.{append-nil, length-append, append_cancel_right}
+use Rattle.std.proofs.lemmas.Bool.{and_parts, not-true, false_from_ne_true}
 use Rattle.lola_parser_grammars_law.specs.Syntax.{Lexeme, Terminal, fits, any_fits, Syntax, Past, Token, Mark, Whole, Known, Then, Map, Either, Maybe, Many, Fork, charged, either_rest, last_mark, Repeats, Perhaps, Spells, starts, first, nullable, more, apart, within, is_fine, Refusal, TooDeep, Outcome, Reader, ◌>>=◌, take_token, repeated, read, max_marks, read_all}
 use Rattle.lola_parser_grammars_law.specs.Marks.{is_mark, marks_in, tallies, guards, is_counted}
 use Rattle.lola_parser_grammars_law.specs.Exceeding.{Exceeds, ExceedsAmong}
-use Rattle.lola_parser_grammars_law.proofs.Tests.{and_both, not_true, no_more, apart_excludes}
+use Rattle.lola_parser_grammars_law.proofs.Tests.{apart_excludes}
 use Rattle.lola_parser_grammars_law.proofs.Laws.{done_is}
 use Rattle.lola_parser_grammars_law.proofs.Complete.{spells_nil, begins, and_three, choice_parts, known_parts, any_split, follows, tail_stops, stops_within, repeats_begin, complete, ForkParts, fork_is, full_is, fork_follows}
 use Rattle.lola_parser_grammars_law.proofs.Within.{marks-append, complete_within}
@@ -69,7 +70,7 @@ module _ (marks : List Terminal) where
 
     behind : (xs : List A) (rest w : List Lexeme) → starts (firsts ++ mores) rest ≡ false → Repeats P w xs → starts mores (w ++ rest) ≡ false
     behind xs rest [] stop gs = (any_split firsts mores rest stop).1
-    behind xs rest (s ∷ w) stop gs = no_more (any_fits mores s) (λ c. apart_excludes mores firsts s part.clear c (repeats_begin P firsts part.opens s w xs gs))
+    behind xs rest (s ∷ w) stop gs = false_from_ne_true (any_fits mores s) (λ c. apart_excludes mores firsts s part.clear c (repeats_begin P firsts part.opens s w xs gs))
 
     turn_done : (n m : ℕ) (ts mid rest : List Lexeme) (x : A) (xs : List A) (i j : ℕ) → starts firsts ts ≡ true → r m ts ≡ Ok (x, i, mid) → repeated r firsts n i mid ≡ Ok (xs, j, rest) → repeated r firsts (suc n) m ts ≡ Ok (x ∷ xs, j, rest)
     turn_done n m ts mid rest x xs i j o e g = rw (o, e, g) refl
@@ -145,7 +146,7 @@ module _ (marks : List Terminal) where
 
   pub misses_part : {A : Type 0} (ks : List Terminal) (s : Syntax A) → is_fine s ≡ true → nullable s ≡ false → apart ks (first s) ≡ true → (v : List Lexeme) (x : A) (rest : List Lexeme) → Spells s v x → starts ks (v ++ rest) ≡ false
   misses_part ks s fine full away [] x rest h = absurd (full_is s fine full x h)
-  misses_part ks s fine full away (t ∷ v) x rest h = no_more (any_fits ks t) (λ c. apart_excludes ks (first s) t away c (begins s fine t v x h))
+  misses_part ks s fine full away (t ∷ v) x rest h = false_from_ne_true (any_fits ks t) (λ c. apart_excludes ks (first s) t away c (begins s fine t v x h))
 
   zero_or_suc : (n : ℕ) → (n ≡ 0) ⊎ ((k : ℕ) × (n ≡ suc k))
   zero_or_suc zero = inl refl
@@ -186,7 +187,7 @@ module _ (marks : List Terminal) where
   exactly (Token k) fine count m u x rest h stop = inl (m, rw (h.0, h.1) refl)
   exactly (Mark k) fine count m u x rest h stop = absurd cc
   exactly (Whole a) fine count m u x rest h stop =
-      let c = and_both (tallies marks a) (guards (suc max_marks) a) count in
+      let c = and_parts (tallies marks a) (guards (suc max_marks) a) count in
       elim (few_or_more (marks_in marks u) max_marks) [
         | inl few ↦ inl (_, complete_within marks a fine c.0 (suc max_marks) c.1 max_marks u x rest (omega arith) h stop few)
         | inr many ↦
@@ -198,7 +199,7 @@ module _ (marks : List Terminal) where
       exactly a f.0 count m u x rest h (stops_within (more a) ms rest f.3 stop)
   exactly (Then a b) fine count m u x rest h stop =
       let f = and_three (is_fine a) (is_fine b) (apart (more a) (first b)) fine in
-      let c = and_both (is_counted marks a) (is_counted marks b) count in
+      let c = and_parts (is_counted marks a) (is_counted marks b) count in
       let t = tail_stops (nullable b) (more b) (more a) rest stop in
       let clear : starts (more a) (h.1 ++ rest) ≡ false = follows (more a) b f.1 h.1 x.1 rest f.2 h.4 t.1 in
       let regrouped : u ++ rest ≡ h.0 ++ (h.1 ++ rest) = ap (λ (w : List Lexeme). w ++ rest) h.2 ∙ append_assoc h.0 h.1 rest in
@@ -246,21 +247,21 @@ module _ (marks : List Terminal) where
       absurd (let e = spells_nil b f.1 x h in let d = f.3 in cc)
   exactly (Either a b) fine count m (t ∷ u) x rest (inl h) stop =
       let f = choice_parts (is_fine a) (is_fine b) (nullable a) (nullable b) (apart (first a) (first b)) fine in
-      let c = and_both (is_counted marks a) (is_counted marks b) count in
+      let c = and_parts (is_counted marks a) (is_counted marks b) count in
       let back : read (Either a b) m ((t ∷ u) ++ rest) ≡ read a m ((t ∷ u) ++ rest) = rw (begins a f.0 t u x h) refl in
       elim (exactly a f.0 c.0 m (t ∷ u) x rest h (any_split (more a) (more b) rest stop).0) [ inl d ↦ inl (d.0, back ∙ d.1) | inr d ↦ inr (d.0, d.1, d.2, d.3, back ∙ d.4, inl d.5) ]
   exactly (Either a b) fine count m (t ∷ u) x rest (inr h) stop =
       let f = choice_parts (is_fine a) (is_fine b) (nullable a) (nullable b) (apart (first a) (first b)) fine in
-      let c = and_both (is_counted marks a) (is_counted marks b) count in
-      let misses : any_fits (first a) t ≡ false = no_more (any_fits (first a) t) (λ k. apart_excludes (first a) (first b) t f.4 k (begins b f.1 t u x h)) in
+      let c = and_parts (is_counted marks a) (is_counted marks b) count in
+      let misses : any_fits (first a) t ≡ false = false_from_ne_true (any_fits (first a) t) (λ k. apart_excludes (first a) (first b) t f.4 k (begins b f.1 t u x h)) in
       let back : read (Either a b) m ((t ∷ u) ++ rest) ≡ read b m ((t ∷ u) ++ rest) = rw misses refl in
       elim (exactly b f.1 c.1 m (t ∷ u) x rest h (any_split (more a) (more b) rest stop).1) [ inl d ↦ inl (d.0, back ∙ d.1) | inr d ↦ inr (d.0, d.1, d.2, d.3, back ∙ d.4, inr d.5) ]
   exactly (Maybe a) fine count m u None rest h stop = inl (m, rw (h, (any_split (first a) (more a) rest stop).0) refl)
   exactly (Maybe a) fine count m [] (Some x) rest h stop =
-      let f = and_both (is_fine a) (not (nullable a)) fine in
-      absurd (let e = spells_nil a f.0 x h in let d = not_true (nullable a) f.1 in cc)
+      let f = and_parts (is_fine a) (not (nullable a)) fine in
+      absurd (let e = spells_nil a f.0 x h in let d = not-true (nullable a) f.1 in cc)
   exactly (Maybe a) fine count m (t ∷ u) (Some x) rest h stop =
-      let f = and_both (is_fine a) (not (nullable a)) fine in
+      let f = and_parts (is_fine a) (not (nullable a)) fine in
       let back : read (Maybe a) m ((t ∷ u) ++ rest) ≡ (read a m ((t ∷ u) ++ rest) >>= λ y i end. Ok (Some y, i, end)) = rw (begins a f.0 t u x h) refl in
       elim (exactly a f.0 count m (t ∷ u) x rest h (any_split (first a) (more a) rest stop).1) [
         | inl d ↦ inl (d.0, back ∙ map_ok (λ y. Some y) (read a m ((t ∷ u) ++ rest)) x (Some x) d.0 rest d.1 refl)
@@ -268,7 +269,7 @@ module _ (marks : List Terminal) where
       ]
   exactly (Many a) fine count m u x rest h stop =
       let f = and_three (is_fine a) (not (nullable a)) (apart (more a) (first a)) fine in
-      let part : Part (read a) (Spells a) (Exceeds marks a) (first a) (more a) = record { whole = exactly a f.0 count; some = λ y k. (let e = spells_nil a f.0 y k in let d = not_true (nullable a) f.1 in absurd cc); opens = begins a f.0; clear = f.2 } in
+      let part : Part (read a) (Spells a) (Exceeds marks a) (first a) (more a) = record { whole = exactly a f.0 count; some = λ y k. (let e = spells_nil a f.0 y k in let d = not-true (nullable a) f.1 in absurd cc); opens = begins a f.0; clear = f.2 } in
       repeated_either (read a) (Spells a) (Exceeds marks a) (first a) (more a) part (length (u ++ rest)) m u x rest (omega arith) h stop
   exactly (Fork ks a b c) fine count m u x rest h stop =
       let f = fork_is ks a b c fine in

@@ -1,9 +1,9 @@
 -- Where reading stops hangs on no token after that place.
 use Rattle.std.proofs.Common.{◌≡◌, ℕ, zero, suc, ◌+◌, ◌-◌, ◌≤◌, ◌<◌, Bool, true, false, cond, not, List, [], ◌∷◌, ◌++◌, length, Some, None, Ok, Err, refl, sym, ap, subst, ◌∙◌, append_assoc, arith, inl, inr}
 use Rattle.std.proofs.lemmas.List.{length-append, append_cancel_right}
+use Rattle.std.proofs.lemmas.Bool.{and_parts, not-true}
 use Rattle.lola_parser_grammars_law.specs.Syntax.{Lexeme, Terminal, fits, Syntax, Past, Token, Mark, Whole, Known, Then, Map, Either, Maybe, Many, Fork, charged, either_rest, last_mark, Spells, starts, first, nullable, more, apart, within, is_fine, Refusal, Unexpected, TooDeep, Outcome, Reader, ◌>>=◌, counted, take_token, max_marks, repeated, read}
 use Rattle.lola_parser_grammars_law.proofs.Laws.{chosen, done_is, sound}
-use Rattle.lola_parser_grammars_law.proofs.Tests.{and_both, not_true}
 use Rattle.lola_parser_grammars_law.proofs.Complete.{spells_nil, and_three, choice_parts, known_parts, fork_is}
 
 -- how reading ended, where it was not too deep
@@ -263,11 +263,11 @@ local (Either a b) fine =
     let f = choice_parts (is_fine a) (is_fine b) (nullable a) (nullable b) (apart (first a) (first b)) fine in
     choose_local (first a) (read a) (read b) (local a f.0) (local b f.1)
 local (Maybe a) fine =
-    let f = and_both (is_fine a) (not (nullable a)) fine in
+    let f = and_parts (is_fine a) (not (nullable a)) fine in
     choose_local (first a) (bind (read a) (λ x. pure (Some x))) (pure None) (bind_local (read a) (λ x. pure (Some x)) (local a f.0) (λ x. pure_local (Some x))) (pure_local None)
 local (Many a) fine =
     let f = and_three (is_fine a) (not (nullable a)) (apart (more a) (first a)) fine in
-    many_local a f.0 (not_true (nullable a) f.1) (local a f.0)
+    many_local a f.0 (not-true (nullable a) f.1) (local a f.0)
 local (Fork ks a b c) fine = λ m ts.
     let f = fork_is ks a b c fine in
     let deep = λ (us rest : List Lexeme). last_mark ks (length us - length rest) rest us in

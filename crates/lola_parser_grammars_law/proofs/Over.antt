@@ -1,10 +1,11 @@
 -- Where reading is too deep, the token is one mark more than may come.
 use Rattle.std.proofs.Common.{◌≡◌, ℕ, zero, suc, ◌+◌, ◌-◌, ◌<◌, Bool, true, false, cond, ◌&&◌, List, [], ◌∷◌, ◌++◌, length, Some, None, Ok, Err, refl, sym, ap, subst, ◌∙◌, append_assoc, arith, inl, inr, ◌⊎◌}
 use Rattle.std.proofs.lemmas.List.{append-nil, length-append}
+use Rattle.std.proofs.lemmas.Bool.{and_parts, false_from_ne_true}
 use Rattle.lola_parser_grammars_law.specs.Syntax.{Lexeme, Terminal, fits, any_fits, Syntax, Past, Token, Mark, Whole, Known, Then, Map, Either, Maybe, Many, Fork, charged, either_rest, last_mark, within, Repeats, Perhaps, Spells, starts, first, Unexpected, TooDeep, Reader, counted, repeated, read, max_marks, Begins}
 use Rattle.lola_parser_grammars_law.specs.Marks.{lower, least, guards, is_mark, marks_in, tallies, one_if, IsFullAfterAll, IsOver, is_counted}
 use Rattle.lola_parser_grammars_law.proofs.Laws.{IsSound, sound, bind_ok, done_is, chosen}
-use Rattle.lola_parser_grammars_law.proofs.Tests.{and_both, listed_fits, within_fits, no_more}
+use Rattle.lola_parser_grammars_law.proofs.Tests.{listed_fits, within_fits}
 use Rattle.lola_parser_grammars_law.proofs.Complete.{and_three}
 use Rattle.lola_parser_grammars_law.proofs.Viable.{bind_err, sample}
 use Rattle.lola_parser_grammars_law.proofs.Within.{lower_is, none_is, marks-append, token_none, mark_one, spells_least}
@@ -55,7 +56,7 @@ module _ (marks : List Terminal) where
   counts (Whole a) tally m ts x i rest e = absurd cc
   counts (Known fs ms a) tally m ts x i rest e = counts a tally m ts x i rest e
   counts (Then a b) tally m ts x i rest e =
-      let w = and_both (tallies marks a) (tallies marks b) tally in
+      let w = and_parts (tallies marks a) (tallies marks b) tally in
       let p = bind_ok (read a m ts) _ x i rest e in
       let q = bind_ok (read b p.1 p.2) _ x i rest p.4 in
       let d = done_is (p.0, q.0) x q.1 i q.2 rest q.4 in
@@ -69,7 +70,7 @@ module _ (marks : List Terminal) where
       let t = counts a tally m ts p.0 p.1 p.2 p.3 in
       (t.0, t.1 ∙ ap (λ (w : List Lexeme). t.0 ++ w) d.2, (p.0, sym d.0, t.2), omega (arith, d.1, t.3))
   counts (Either a b) tally m ts x i rest e =
-      let w = and_both (tallies marks a) (tallies marks b) tally in
+      let w = and_parts (tallies marks a) (tallies marks b) tally in
       elim (chosen (starts (first a) ts) _ _ _ e) [
         | inl c ↦ let t = counts a w.0 m ts x i rest c.1 in (t.0, t.1, inl t.2, t.3)
         | inr c ↦ let t = counts b w.1 m ts x i rest c.1 in (t.0, t.1, inr t.2, t.3)
@@ -133,8 +134,8 @@ module _ (marks : List Terminal) where
   over (Whole a) tally k guard m ts d low h = absurd cc
   over (Known fs ms a) tally k guard m ts d low h = over a tally k guard m ts d low h
   over (Then a b) tally k guard m ts d low h =
-      let w = and_both (tallies marks a) (tallies marks b) tally in
-      let g = and_both (guards k a) (guards (lower k (least a)) b) guard in
+      let w = and_parts (tallies marks a) (tallies marks b) tally in
+      let g = and_parts (guards k a) (guards (lower k (least a)) b) guard in
       elim (bind_err (read a m ts) _ (TooDeep d) h) [
         | inl e ↦
             let p = over a w.0 k g.0 m ts d low e in
@@ -156,8 +157,8 @@ module _ (marks : List Terminal) where
         | inr z ↦ absurd (let w = z.4 in cc)
       ]
   over (Either a b) tally k guard m ts d low h =
-      let w = and_both (tallies marks a) (tallies marks b) tally in
-      let g = and_both (guards k a) (guards k b) guard in
+      let w = and_parts (tallies marks a) (tallies marks b) tally in
+      let g = and_parts (guards k a) (guards k b) guard in
       elim (chosen (starts (first a) ts) _ _ _ h) [
         | inl c ↦ let p = over a w.0 k g.0 m ts d low c.1 in (p.0, p.1, p.2, p.3, p.4, p.5, p.6, (p.7.0, p.7.1, inl p.7.2))
         | inr c ↦ let p = over b w.1 k g.1 m ts d low c.1 in (p.0, p.1, p.2, p.3, p.4, p.5, p.6, (p.7.0, p.7.1, inr p.7.2))
@@ -219,7 +220,7 @@ module _ (marks : List Terminal) where
     last_none [] [] best h = refl
     last_none [] (t ∷ rest) best h = refl
     last_none (t ∷ u) rest best h =
-        let none : is_mark marks t ≡ false = no_more (is_mark marks t) (λ e. omega (arith, more_marks t u true e, h)) in
+        let none : is_mark marks t ≡ false = false_from_ne_true (is_mark marks t) (λ e. omega (arith, more_marks t u true e, h)) in
         next_last t (u ++ rest) best (length u) false none ∙ last_none u rest best (omega (arith, more_marks t u false none, h))
 
     abbrev pub LastIn : List Lexeme → List Lexeme → Type 0
@@ -292,13 +293,13 @@ module _ (marks : List Terminal) where
       elim (chosen (fits k t) _ _ _ h) [ inl c ↦ absurd (let w = c.1 in cc) | inr c ↦ absurd (let w = c.1 in let e : Unexpected (t ∷ ts) ≡ TooDeep d = cc in cc) ]
   over_whole (Mark k) fine m ts d h = absurd cc
   over_whole (Whole a) fine m ts d h =
-      let f = and_both (tallies marks a) (guards (suc max_marks) a) fine in
+      let f = and_parts (tallies marks a) (guards (suc max_marks) a) fine in
       let p = over a f.0 (suc max_marks) f.1 max_marks ts d (omega arith) h in
       let begun : Begins a (p.0 ++ p.1 ∷ []) = (p.7.0, p.7.1, rw (append_assoc p.0 (p.1 ∷ []) p.7.0) p.7.2) in
       (p.0, p.1, p.2, p.3, p.4, (p.5, p.6, begun))
   over_whole (Known fs ms a) fine m ts d h = over_whole a fine m ts d h
   over_whole (Then a b) fine m ts d h =
-      let f = and_both (is_counted marks a) (is_counted marks b) fine in
+      let f = and_parts (is_counted marks a) (is_counted marks b) fine in
       elim (bind_err (read a m ts) _ (TooDeep d) h) [
         | inl e ↦ let p = over_whole a f.0 m ts d e in (p.0, p.1, p.2, p.3, p.4, inl p.5)
         | inr q ↦
@@ -314,7 +315,7 @@ module _ (marks : List Terminal) where
   over_whole (Map f a) fine m ts d h =
       elim (bind_err (read a m ts) _ (TooDeep d) h) [ inl e ↦ over_whole a fine m ts d e | inr z ↦ absurd (let w = z.4 in cc) ]
   over_whole (Either a b) fine m ts d h =
-      let f = and_both (is_counted marks a) (is_counted marks b) fine in
+      let f = and_parts (is_counted marks a) (is_counted marks b) fine in
       elim (chosen (starts (first a) ts) _ _ _ h) [
         | inl c ↦ let p = over_whole a f.0 m ts d c.1 in (p.0, p.1, p.2, p.3, p.4, inl p.5)
         | inr c ↦ let p = over_whole b f.1 m ts d c.1 in (p.0, p.1, p.2, p.3, p.4, inr p.5)

@@ -1,40 +1,13 @@
 -- Which tokens pass the tests.
-use Rattle.std.proofs.Common.{◌≡◌, ℕ, Bool, true, false, not, ◌&&◌, ◌||◌, List, [], ◌∷◌, ◌++◌, refl, sym, subst, ◌∙◌, inl, inr, ◌⊎◌, rules}
+use Rattle.std.proofs.Common.{◌≡◌, ℕ, true, not, ◌&&◌, List, [], ◌∷◌, ◌++◌, refl, sym, subst, ◌∙◌, inl, inr, rules}
 use Rattle.std.specs.Str.{bytes_eq}
 use Rattle.std.proofs.lemmas.Slice.Eq.{bytes_eq-Decides}
+use Rattle.std.proofs.lemmas.Bool.{and_parts, or_cases, or_left, or_right, not-true}
 use denote.Enum.Bare.{same_true, true_same}
 use Rattle.lola_lexer.specs.contracts.shape.TokenShape.{the_type}
 use Rattle.lola_lexer.specs.declared.shape.TokenShape.{TokenShape}
 use Rattle.lola_lexer.specs.declared.shape.TokenShape.TheVariants as is
 use Rattle.lola_parser_grammars_law.specs.Syntax.{Lexeme, Terminal, Of, Word, Other, is_among, same_shape, fits, any_fits, clash, clashes, apart, same_test, listed, within}
-
-pub and_both : (a b : Bool) → (a && b) ≡ true → (a ≡ true) × (b ≡ true)
-and_both true b e = (refl, e)
-and_both false b e = absurd cc
-
-pub or_either : (a b : Bool) → (a || b) ≡ true → (a ≡ true) ⊎ (b ≡ true)
-or_either true b e = inl refl
-or_either false b e = inr e
-
-pub or_left : (a b : Bool) → a ≡ true → (a || b) ≡ true
-or_left true b e = refl
-or_left false b e = absurd cc
-
-pub or_right : (a b : Bool) → b ≡ true → (a || b) ≡ true
-or_right true b e = refl
-or_right false b e = e
-
-pub or_none : (a b : Bool) → (a || b) ≡ false → (a ≡ false) × (b ≡ false)
-or_none true b e = absurd cc
-or_none false b e = (refl, e)
-
-pub not_true : (a : Bool) → not a ≡ true → a ≡ false
-not_true true e = absurd cc
-not_true false e = refl
-
-pub no_more : (a : Bool) → (a ≡ true → ⊥) → a ≡ false
-no_more true h = absurd (h refl)
-no_more false h = refl
 
 pub shape_is : (s r : TokenShape) → same_shape s r ≡ true → s ≡ r
 unfolding same_shape
@@ -48,35 +21,35 @@ pub clash_true : (k l : Terminal) (t : Lexeme) → fits k t ≡ true → fits l 
 unfolding fits
 clash_true (Of s) (Of r) t h i = shapes_same s r (shape_is s t.shape h ∙ sym (shape_is r t.shape i))
 clash_true (Of s) (Word w) t h i =
-    let p = and_both (same_shape is.Name t.shape) (bytes_eq w t.text) i in
+    let p = and_parts (same_shape is.Name t.shape) (bytes_eq w t.text) i in
     shapes_same s is.Name (shape_is s t.shape h ∙ sym (shape_is is.Name t.shape p.0))
 clash_true (Of s) (Other ws) t h i =
-    let p = and_both (same_shape is.Name t.shape) (not (is_among t.text ws)) i in
+    let p = and_parts (same_shape is.Name t.shape) (not (is_among t.text ws)) i in
     shapes_same s is.Name (shape_is s t.shape h ∙ sym (shape_is is.Name t.shape p.0))
 clash_true (Word w) (Of s) t h i =
-    let p = and_both (same_shape is.Name t.shape) (bytes_eq w t.text) h in
+    let p = and_parts (same_shape is.Name t.shape) (bytes_eq w t.text) h in
     shapes_same is.Name s (shape_is is.Name t.shape p.0 ∙ sym (shape_is s t.shape i))
 clash_true (Word v) (Word w) t h i =
-    let p = and_both (same_shape is.Name t.shape) (bytes_eq v t.text) h in
-    let q = and_both (same_shape is.Name t.shape) (bytes_eq w t.text) i in
+    let p = and_parts (same_shape is.Name t.shape) (bytes_eq v t.text) h in
+    let q = and_parts (same_shape is.Name t.shape) (bytes_eq w t.text) i in
     (bytes_eq-Decides v w).1 ((bytes_eq-Decides v t.text).0 p.1 ∙ sym ((bytes_eq-Decides w t.text).0 q.1))
 clash_true (Word w) (Other ws) t h i =
-    let p = and_both (same_shape is.Name t.shape) (bytes_eq w t.text) h in
-    let q = and_both (same_shape is.Name t.shape) (not (is_among t.text ws)) i in
+    let p = and_parts (same_shape is.Name t.shape) (bytes_eq w t.text) h in
+    let q = and_parts (same_shape is.Name t.shape) (not (is_among t.text ws)) i in
     subst (λ (x : List ℕ). not (is_among x ws) ≡ true) (sym ((bytes_eq-Decides w t.text).0 p.1)) q.1
 clash_true (Other ws) (Of s) t h i =
-    let p = and_both (same_shape is.Name t.shape) (not (is_among t.text ws)) h in
+    let p = and_parts (same_shape is.Name t.shape) (not (is_among t.text ws)) h in
     shapes_same is.Name s (shape_is is.Name t.shape p.0 ∙ sym (shape_is s t.shape i))
 clash_true (Other ws) (Word w) t h i =
-    let p = and_both (same_shape is.Name t.shape) (bytes_eq w t.text) i in
-    let q = and_both (same_shape is.Name t.shape) (not (is_among t.text ws)) h in
+    let p = and_parts (same_shape is.Name t.shape) (bytes_eq w t.text) i in
+    let q = and_parts (same_shape is.Name t.shape) (not (is_among t.text ws)) h in
     subst (λ (x : List ℕ). not (is_among x ws) ≡ true) (sym ((bytes_eq-Decides w t.text).0 p.1)) q.1
 clash_true (Other vs) (Other ws) t h i = refl
 
 pub clashes_true : (k : Terminal) (ls : List Terminal) (t : Lexeme) → fits k t ≡ true → any_fits ls t ≡ true → clashes k ls ≡ true
 clashes_true k [] t h i = absurd cc
 clashes_true k (l ∷ ls) t h i =
-    elim (or_either (fits l t) (any_fits ls t) i) [
+    elim (or_cases (fits l t) (any_fits ls t) i) [
       | inl e ↦ or_left (clash k l) (clashes k ls) (clash_true k l t h e)
       | inr e ↦ or_right (clash k l) (clashes k ls) (clashes_true k ls t h e)
     ]
@@ -84,16 +57,16 @@ clashes_true k (l ∷ ls) t h i =
 pub apart_excludes : (ks ls : List Terminal) (t : Lexeme) → apart ks ls ≡ true → any_fits ks t ≡ true → any_fits ls t ≡ true → ⊥
 apart_excludes [] ls t a h i = absurd cc
 apart_excludes (k ∷ ks) ls t a h i =
-    let p = and_both (not (clashes k ls)) (apart ks ls) a in
-    elim (or_either (fits k t) (any_fits ks t) h) [
-      | inl e ↦ let c = clashes_true k ls t e i in let d = not_true (clashes k ls) p.0 in absurd cc
+    let p = and_parts (not (clashes k ls)) (apart ks ls) a in
+    elim (or_cases (fits k t) (any_fits ks t) h) [
+      | inl e ↦ let c = clashes_true k ls t e i in let d = not-true (clashes k ls) p.0 in absurd cc
       | inr e ↦ apart_excludes ks ls t p.1 e i
     ]
 
 pub any_left : (ks ls : List Terminal) (t : Lexeme) → any_fits ks t ≡ true → any_fits (ks ++ ls) t ≡ true
 any_left [] ls t h = absurd cc
 any_left (k ∷ ks) ls t h =
-    elim (or_either (fits k t) (any_fits ks t) h) [
+    elim (or_cases (fits k t) (any_fits ks t) h) [
       | inl e ↦ or_left (fits k t) (any_fits (ks ++ ls) t) e
       | inr e ↦ or_right (fits k t) (any_fits (ks ++ ls) t) (any_left ks ls t e)
     ]
@@ -117,7 +90,7 @@ same_fits (Word v) (Word w) t e h = let q = (bytes_eq-Decides v w).0 e in subst 
 pub listed_fits : (k : Terminal) (ls : List Terminal) (t : Lexeme) → listed k ls ≡ true → fits k t ≡ true → any_fits ls t ≡ true
 listed_fits k [] t e h = absurd cc
 listed_fits k (l ∷ ls) t e h =
-    elim (or_either (same_test k l) (listed k ls) e) [
+    elim (or_cases (same_test k l) (listed k ls) e) [
       | inl i ↦ or_left (fits l t) (any_fits ls t) (same_fits k l t i h)
       | inr i ↦ or_right (fits l t) (any_fits ls t) (listed_fits k ls t i h)
     ]
@@ -125,8 +98,8 @@ listed_fits k (l ∷ ls) t e h =
 pub within_fits : (ks ls : List Terminal) (t : Lexeme) → within ks ls ≡ true → any_fits ks t ≡ true → any_fits ls t ≡ true
 within_fits [] ls t e h = absurd cc
 within_fits (k ∷ ks) ls t e h =
-    let p = and_both (listed k ls) (within ks ls) e in
-    elim (or_either (fits k t) (any_fits ks t) h) [
+    let p = and_parts (listed k ls) (within ks ls) e in
+    elim (or_cases (fits k t) (any_fits ks t) h) [
       | inl i ↦ listed_fits k ls t p.0 i
       | inr i ↦ within_fits ks ls t p.1 i
     ]

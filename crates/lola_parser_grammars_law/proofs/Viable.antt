@@ -3,10 +3,11 @@ use Rattle.std.proofs.Common.{◌≡◌, ℕ, zero, suc, ◌+◌, ◌-◌, ◌�
 use Rattle.std.proofs.lemmas.List.{append-nil}
 use Rattle.std.specs.Str.{bytes_eq}
 use Rattle.std.proofs.lemmas.Slice.Eq.{bytes_eq-Decides}
+use Rattle.std.proofs.lemmas.Bool.{or_cases, false_from_ne_true}
 use Rattle.lola_lexer.specs.declared.shape.TokenShape.TheVariants as is
 use Rattle.lola_parser_grammars_law.specs.Syntax.{Lexeme, Terminal, Of, Word, Other, is_among, fits, Syntax, Past, Token, Mark, Whole, Known, Then, Map, Either, Maybe, Many, Fork, charged, either_rest, last_mark, Repeats, Spells, starts, first, Refusal, Unexpected, TooDeep, Outcome, Reader, ◌>>=◌, counted, max_marks, repeated, read}
 use Rattle.lola_parser_grammars_law.proofs.Laws.{chosen, IsSound, sound}
-use Rattle.lola_parser_grammars_law.proofs.Tests.{shapes_same, or_either, no_more}
+use Rattle.lola_parser_grammars_law.proofs.Tests.{shapes_same}
 
 -- each part has a sentence
 abbrev pub Sample : {A : Type 0} → Syntax A → Type 0
@@ -21,7 +22,7 @@ short_of : (w : List ℕ) (ws : List (List ℕ)) → is_among w ws ≡ true → 
 unfolding total
 short_of w [] h = absurd cc
 short_of w (v ∷ vs) h =
-    elim (or_either (bytes_eq v w) (is_among w vs) h) [
+    elim (or_cases (bytes_eq v w) (is_among w vs) h) [
       | inl e ↦ omega (arith, ap length ((bytes_eq-Decides v w).0 e))
       | inr e ↦ omega (arith, short_of w vs e)
     ]
@@ -37,7 +38,7 @@ length-zeros (suc n) = omega (arith, length-zeros n)
 
 fresh_is : (ws : List (List ℕ)) → not (is_among (zeros (suc (total ws))) ws) ≡ true
 fresh_is ws =
-    let none : is_among (zeros (suc (total ws))) ws ≡ false = no_more (is_among (zeros (suc (total ws))) ws) (λ e. omega (arith, short_of (zeros (suc (total ws))) ws e, length-zeros (suc (total ws)))) in
+    let none : is_among (zeros (suc (total ws))) ws ≡ false = false_from_ne_true (is_among (zeros (suc (total ws))) ws) (λ e. omega (arith, short_of (zeros (suc (total ws))) ws e, length-zeros (suc (total ws)))) in
     rw none refl
 
 one_token : (k : Terminal) → (t : Lexeme) × (fits k t ≡ true)

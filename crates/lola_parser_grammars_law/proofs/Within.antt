@@ -1,9 +1,10 @@
 -- What has no more marks than may come is read.
 use Rattle.std.proofs.Common.{◌≡◌, ℕ, zero, suc, ◌+◌, ◌-◌, ◌≤◌, ◌<◌, true, false, not, List, [], ◌∷◌, ◌++◌, length, Some, None, Ok, refl, ap, ◌∙◌, append_assoc, arith, inl, inr}
 use Rattle.std.proofs.lemmas.List.{length-append}
+use Rattle.std.proofs.lemmas.Bool.{and_parts, not-true, false_from_ne_true}
 use Rattle.lola_parser_grammars_law.specs.Syntax.{Lexeme, Terminal, fits, any_fits, clashes, listed, Syntax, Past, Token, Mark, Whole, Known, Then, Map, Either, Maybe, Many, Fork, Repeats, Spells, starts, first, nullable, more, apart, within, is_fine, Outcome, Reader, ◌>>=◌, counted, take_token, take_mark, repeated, read}
 use Rattle.lola_parser_grammars_law.specs.Marks.{lower, none_left, least, guards, is_mark, marks_in, tallies}
-use Rattle.lola_parser_grammars_law.proofs.Tests.{and_both, not_true, no_more, apart_excludes, clashes_true, listed_fits}
+use Rattle.lola_parser_grammars_law.proofs.Tests.{apart_excludes, clashes_true, listed_fits}
 use Rattle.lola_parser_grammars_law.proofs.Complete.{spells_nil, begins, and_three, choice_parts, known_parts, any_split, follows, tail_stops, stops_within, repeats_begin}
 
 pub lower_is : (k j : ℕ) → lower k j ≡ k - j
@@ -22,7 +23,7 @@ module _ (marks : List Terminal) where
 
   pub token_none : (k : Terminal) (t : Lexeme) → not (clashes k marks) ≡ true → fits k t ≡ true → marks_in marks (t ∷ []) ≡ 0
   token_none k t h e =
-      let c : is_mark marks t ≡ false = no_more (is_mark marks t) (λ m. let d = clashes_true k marks t e m in let f = not_true (clashes k marks) h in absurd cc) in
+      let c : is_mark marks t ≡ false = false_from_ne_true (is_mark marks t) (λ m. let d = clashes_true k marks t e m in let f = not-true (clashes k marks) h in absurd cc) in
       rw c refl
 
   pub mark_one : (k : Terminal) (t : Lexeme) → listed k marks ≡ true → fits k t ≡ true → marks_in marks (t ∷ []) ≡ 1
@@ -36,11 +37,11 @@ module _ (marks : List Terminal) where
   spells_least (Whole a) tally u x h = omega arith
   spells_least (Known fs ms a) tally u x h = omega arith
   spells_least (Then a b) tally u x h =
-      let t = and_both (tallies marks a) (tallies marks b) tally in
+      let t = and_parts (tallies marks a) (tallies marks b) tally in
       omega (arith, ap (marks_in marks) h.2, marks-append h.0 h.1, spells_least a t.0 h.0 x.0 h.3, spells_least b t.1 h.1 x.1 h.4)
   spells_least (Map f a) tally u x h = spells_least a tally u h.0 h.2
-  spells_least (Either a b) tally u x (inl h) = omega (arith, spells_least a (and_both (tallies marks a) (tallies marks b) tally).0 u x h)
-  spells_least (Either a b) tally u x (inr h) = omega (arith, spells_least b (and_both (tallies marks a) (tallies marks b) tally).1 u x h)
+  spells_least (Either a b) tally u x (inl h) = omega (arith, spells_least a (and_parts (tallies marks a) (tallies marks b) tally).0 u x h)
+  spells_least (Either a b) tally u x (inr h) = omega (arith, spells_least b (and_parts (tallies marks a) (tallies marks b) tally).1 u x h)
   spells_least (Maybe a) tally u x h = omega arith
   spells_least (Many a) tally u x h = omega arith
   spells_least (Fork ks a b c) tally u x h = absurd cc
@@ -60,7 +61,7 @@ module _ (marks : List Terminal) where
   module _ {A : Type 0} (r : Reader A) (k : ℕ) (P : List Lexeme → A → Type 0) (firsts mores : List Terminal) (part : Part r k P firsts mores) where
     behind : (xs : List A) (rest w : List Lexeme) → starts (firsts ++ mores) rest ≡ false → Repeats P w xs → starts mores (w ++ rest) ≡ false
     behind xs rest [] stop gs = (any_split firsts mores rest stop).1
-    behind xs rest (s ∷ w) stop gs = no_more (any_fits mores s) (λ c. apart_excludes mores firsts s part.clear c (repeats_begin P firsts part.opens s w xs gs))
+    behind xs rest (s ∷ w) stop gs = false_from_ne_true (any_fits mores s) (λ c. apart_excludes mores firsts s part.clear c (repeats_begin P firsts part.opens s w xs gs))
 
     abbrev add : A → List A → ℕ → List Lexeme → Outcome (List A)
     add x xs j end = Ok (x ∷ xs, j, end)
@@ -117,8 +118,8 @@ module _ (marks : List Terminal) where
       complete_within a f.0 tally k guard m u x rest low h (stops_within (more a) ms rest f.3 stop) few
   complete_within (Then a b) fine tally k guard m u x rest low h stop few =
       let f = and_three (is_fine a) (is_fine b) (apart (more a) (first b)) fine in
-      let t = and_both (tallies marks a) (tallies marks b) tally in
-      let g = and_both (guards k a) (guards (lower k (least a)) b) guard in
+      let t = and_parts (tallies marks a) (tallies marks b) tally in
+      let g = and_parts (guards k a) (guards (lower k (least a)) b) guard in
       let s = tail_stops (nullable b) (more b) (more a) rest stop in
       let clear : starts (more a) (h.1 ++ rest) ≡ false = follows (more a) b f.1 h.1 x.1 rest f.2 h.4 s.1 in
       let count : marks_in marks u ≡ marks_in marks h.0 + marks_in marks h.1 = ap (marks_in marks) h.2 ∙ marks-append h.0 h.1 in
@@ -141,27 +142,27 @@ module _ (marks : List Terminal) where
       absurd (let e = spells_nil b f.1 x h in let d = f.3 in cc)
   complete_within (Either a b) fine tally k guard m (t ∷ u) x rest low (inl h) stop few =
       let f = choice_parts (is_fine a) (is_fine b) (nullable a) (nullable b) (apart (first a) (first b)) fine in
-      let w = and_both (tallies marks a) (tallies marks b) tally in
-      let g = and_both (guards k a) (guards k b) guard in
+      let w = and_parts (tallies marks a) (tallies marks b) tally in
+      let g = and_parts (guards k a) (guards k b) guard in
       rw (begins a f.0 t u x h) (complete_within a f.0 w.0 k g.0 m (t ∷ u) x rest low h (any_split (more a) (more b) rest stop).0 few)
   complete_within (Either a b) fine tally k guard m (t ∷ u) x rest low (inr h) stop few =
       let f = choice_parts (is_fine a) (is_fine b) (nullable a) (nullable b) (apart (first a) (first b)) fine in
-      let w = and_both (tallies marks a) (tallies marks b) tally in
-      let g = and_both (guards k a) (guards k b) guard in
-      let misses : any_fits (first a) t ≡ false = no_more (any_fits (first a) t) (λ c. apart_excludes (first a) (first b) t f.4 c (begins b f.1 t u x h)) in
+      let w = and_parts (tallies marks a) (tallies marks b) tally in
+      let g = and_parts (guards k a) (guards k b) guard in
+      let misses : any_fits (first a) t ≡ false = false_from_ne_true (any_fits (first a) t) (λ c. apart_excludes (first a) (first b) t f.4 c (begins b f.1 t u x h)) in
       rw misses (complete_within b f.1 w.1 k g.1 m (t ∷ u) x rest low h (any_split (more a) (more b) rest stop).1 few)
   complete_within (Maybe a) fine tally k guard m u None rest low h stop few =
       let z : m ≡ m - marks_in marks u = omega (arith, ap (marks_in marks) h) in
       ap (λ (w : List Lexeme). read (Maybe a) m (w ++ rest)) h ∙ rw (any_split (first a) (more a) rest stop).0 (ap (λ (j : ℕ). Ok (None, j, rest)) z)
   complete_within (Maybe a) fine tally k guard m [] (Some x) rest low h stop few =
-      let f = and_both (is_fine a) (not (nullable a)) fine in
-      absurd (let e = spells_nil a f.0 x h in let d = not_true (nullable a) f.1 in cc)
+      let f = and_parts (is_fine a) (not (nullable a)) fine in
+      absurd (let e = spells_nil a f.0 x h in let d = not-true (nullable a) f.1 in cc)
   complete_within (Maybe a) fine tally k guard m (t ∷ u) (Some x) rest low h stop few =
-      let f = and_both (is_fine a) (not (nullable a)) fine in
+      let f = and_parts (is_fine a) (not (nullable a)) fine in
       let one = complete_within a f.0 tally k guard m (t ∷ u) x rest low h (any_split (first a) (more a) rest stop).1 few in
       rw (begins a f.0 t u x h) (step (read a m ((t ∷ u) ++ rest)) (λ y i end. Ok (Some y, i, end)) x (m - marks_in marks (t ∷ u)) rest _ one refl)
   complete_within (Many a) fine tally k guard m u x rest low h stop few =
       let f = and_three (is_fine a) (not (nullable a)) (apart (more a) (first a)) fine in
-      let part : Part (read a) k (Spells a) (first a) (more a) = record { whole = complete_within a f.0 tally k guard; some = λ y g. (let e = spells_nil a f.0 y g in let d = not_true (nullable a) f.1 in absurd cc); opens = begins a f.0; clear = f.2 } in
+      let part : Part (read a) k (Spells a) (first a) (more a) = record { whole = complete_within a f.0 tally k guard; some = λ y g. (let e = spells_nil a f.0 y g in let d = not-true (nullable a) f.1 in absurd cc); opens = begins a f.0; clear = f.2 } in
       repeated_within (read a) k (Spells a) (first a) (more a) part (length (u ++ rest)) m u x rest low few (omega arith) h stop
   complete_within (Fork ks a b c) fine tally k guard m u x rest low h stop few = absurd cc

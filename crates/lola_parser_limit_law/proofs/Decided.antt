@@ -1,9 +1,9 @@
 -- What decides that reading is too deep: no token behind it matters, and some sentence begins with it.
 use Rattle.std.proofs.Common.{◌≡◌, ℕ, zero, suc, ◌+◌, ◌-◌, ◌<◌, Bool, true, false, cond, not, List, [], ◌∷◌, ◌++◌, length, Some, Ok, Err, refl, sym, ap, subst, ◌∙◌, append_assoc, arith, inl, inr, ◌⊎◌}
 use Rattle.std.proofs.lemmas.List.{append-nil, length-append, append_cancel_right}
+use Rattle.std.proofs.lemmas.Bool.{and_parts, not-true}
 use Rattle.lola_parser_grammars_law.specs.Syntax.{Lexeme, Terminal, fits, any_fits, Syntax, Past, Token, Mark, Whole, Known, Then, Map, Either, Maybe, Many, Fork, charged, either_rest, last_mark, Repeats, Spells, starts, first, nullable, more, apart, within, is_fine, Refusal, Unexpected, TooDeep, Outcome, Reader, ◌>>=◌, max_marks, repeated, read}
 use Rattle.lola_parser_grammars_law.specs.Marks.{lower, least, guards, is_mark, marks_in, tallies, is_counted}
-use Rattle.lola_parser_grammars_law.proofs.Tests.{and_both, not_true}
 use Rattle.lola_parser_grammars_law.proofs.Laws.{IsSound, sound, chosen}
 use Rattle.lola_parser_grammars_law.proofs.Complete.{and_three, choice_parts, known_parts, fork_is}
 use Rattle.lola_parser_grammars_law.proofs.Local.{IsLocal, local, through, same_start, fuel, eats}
@@ -158,26 +158,26 @@ module _ (marks : List Terminal) where
 
   guard_first : {A B : Type 0} (a : Syntax A) (b : Syntax B) (m : ℕ) → Guarded (Then a b) m → Guarded a m
   unfolding tallies guards is_counted forks_open
-  guard_first a b m (inl g) = inl (g.0, (and_both (tallies marks a) (tallies marks b) g.1).0, (and_both (guards g.0 a) (guards (lower g.0 (least a)) b) g.2).0, g.3)
-  guard_first a b m (inr g) = inr ((and_both (is_counted marks a) (is_counted marks b) g.0).0, (and_both (forks_open a) (forks_open b) g.1).0)
+  guard_first a b m (inl g) = inl (g.0, (and_parts (tallies marks a) (tallies marks b) g.1).0, (and_parts (guards g.0 a) (guards (lower g.0 (least a)) b) g.2).0, g.3)
+  guard_first a b m (inr g) = inr ((and_parts (is_counted marks a) (is_counted marks b) g.0).0, (and_parts (forks_open a) (forks_open b) g.1).0)
 
   guard_next : {A B : Type 0} (a : Syntax A) (b : Syntax B) (m : ℕ) → Guarded (Then a b) m → (ts : List Lexeme) (x : A) (i : ℕ) (mid : List Lexeme) → read a m ts ≡ Ok (x, i, mid) → Guarded b i
   unfolding tallies guards is_counted forks_open
   guard_next a b m (inl g) ts x i mid e =
-      let w = and_both (tallies marks a) (tallies marks b) g.1 in
+      let w = and_parts (tallies marks a) (tallies marks b) g.1 in
       let t = counts marks a w.0 m ts x i mid e in
-      inl (lower g.0 (least a), w.1, (and_both (guards g.0 a) (guards (lower g.0 (least a)) b) g.2).1, omega (arith, t.3, g.3, spells_least marks a w.0 t.0 x t.2, lower_is g.0 (least a)))
-  guard_next a b m (inr g) ts x i mid e = inr ((and_both (is_counted marks a) (is_counted marks b) g.0).1, (and_both (forks_open a) (forks_open b) g.1).1)
+      inl (lower g.0 (least a), w.1, (and_parts (guards g.0 a) (guards (lower g.0 (least a)) b) g.2).1, omega (arith, t.3, g.3, spells_least marks a w.0 t.0 x t.2, lower_is g.0 (least a)))
+  guard_next a b m (inr g) ts x i mid e = inr ((and_parts (is_counted marks a) (is_counted marks b) g.0).1, (and_parts (forks_open a) (forks_open b) g.1).1)
 
   guard_left : {A : Type 0} (a b : Syntax A) (m : ℕ) → Guarded (Either a b) m → Guarded a m
   unfolding tallies guards is_counted forks_open
-  guard_left a b m (inl g) = inl (g.0, (and_both (tallies marks a) (tallies marks b) g.1).0, (and_both (guards g.0 a) (guards g.0 b) g.2).0, g.3)
-  guard_left a b m (inr g) = inr ((and_both (is_counted marks a) (is_counted marks b) g.0).0, (and_both (forks_open a) (forks_open b) g.1).0)
+  guard_left a b m (inl g) = inl (g.0, (and_parts (tallies marks a) (tallies marks b) g.1).0, (and_parts (guards g.0 a) (guards g.0 b) g.2).0, g.3)
+  guard_left a b m (inr g) = inr ((and_parts (is_counted marks a) (is_counted marks b) g.0).0, (and_parts (forks_open a) (forks_open b) g.1).0)
 
   guard_right : {A : Type 0} (a b : Syntax A) (m : ℕ) → Guarded (Either a b) m → Guarded b m
   unfolding tallies guards is_counted forks_open
-  guard_right a b m (inl g) = inl (g.0, (and_both (tallies marks a) (tallies marks b) g.1).1, (and_both (guards g.0 a) (guards g.0 b) g.2).1, g.3)
-  guard_right a b m (inr g) = inr ((and_both (is_counted marks a) (is_counted marks b) g.0).1, (and_both (forks_open a) (forks_open b) g.1).1)
+  guard_right a b m (inl g) = inl (g.0, (and_parts (tallies marks a) (tallies marks b) g.1).1, (and_parts (guards g.0 a) (guards g.0 b) g.2).1, g.3)
+  guard_right a b m (inr g) = inr ((and_parts (is_counted marks a) (is_counted marks b) g.0).1, (and_parts (forks_open a) (forks_open b) g.1).1)
 
   guard_keeps : {A : Type 0} (a : Syntax A) (m : ℕ) (ts : List Lexeme) (x : A) (i : ℕ) (mid : List Lexeme) → Guarded a m → read a m ts ≡ Ok (x, i, mid) → Guarded a i
   guard_keeps a m ts x i mid (inl g) e = let t = counts marks a g.1 m ts x i mid e in inl (g.0, g.1, g.2, omega (arith, t.3, g.3))
@@ -282,7 +282,7 @@ module _ (marks : List Terminal) where
       ]
   decided (Whole a) fine m ts d (inl g) h = absurd (let e = g.1 in cc)
   decided (Whole a) fine m ts d (inr g) h =
-      let c = and_both (tallies marks a) (guards (suc max_marks) a) g.0 in
+      let c = and_parts (tallies marks a) (guards (suc max_marks) a) g.0 in
       decided a fine max_marks ts d (inl (suc max_marks, c.0, c.1, omega arith)) h
   decided (Known fs ms a) fine m ts d g h =
       let f = known_parts (is_fine a) (nullable a) (within (first a) fs) (within (more a) ms) fine in
@@ -325,7 +325,7 @@ module _ (marks : List Terminal) where
             (λ z o. (o.0, o.1, inr o.2))
       ]
   decided (Maybe a) fine m ts d g h =
-      let f = and_both (is_fine a) (not (nullable a)) fine in
+      let f = and_parts (is_fine a) (not (nullable a)) fine in
       elim (chosen (starts (first a) ts) _ _ _ h) [
         | inl c ↦
             elim (bind_err (read a m ts) _ (TooDeep d) c.1) [
@@ -342,13 +342,13 @@ module _ (marks : List Terminal) where
       ]
   decided (Many a) fine m ts d g h =
       let f = and_three (is_fine a) (not (nullable a)) (apart (more a) (first a)) fine in
-      many_decided a f.0 (not_true (nullable a) f.1) m ts d
+      many_decided a f.0 (not-true (nullable a) f.1) m ts d
       (repeated_decided (read a) (Spells a) (first a) (Guarded a) (local a f.0) (sound a) (decided a f.0) (guard_keeps a) (length ts) m ts d g h)
   decided (Fork ks a b c) fine m ts d (inl g) h = absurd (let e = g.1 in cc)
   decided (Fork ks a b c) fine m ts d (inr g) h =
       let f = fork_is ks a b c fine in
       let k = fork_counted marks ks a b c g.0 in
-      let opens = and_both (is_open c) (forks_open b) g.1 in
+      let opens = and_parts (is_open c) (forks_open b) g.1 in
       elim (bind_err (read a max_marks ts) _ (TooDeep d) h) [
         | inl e ↦
             let p = decided a f.head max_marks ts d (inl (suc max_marks, k.head, k.head_guard, omega arith)) e in

@@ -1,10 +1,11 @@
 -- Which mark of a sentence its reading ends at: the first that is too many, or behind a bracket that is a mark the next one.
 use Rattle.std.proofs.Common.{◌≡◌, ℕ, zero, suc, ◌+◌, ◌-◌, ◌≤◌, Bool, true, false, cond, not, List, [], ◌∷◌, ◌++◌, length, Some, None, Ok, Err, refl, sym, ap, subst, ◌∙◌, append_assoc, arith, inl, inr, ◌⊎◌}
 use Rattle.std.proofs.lemmas.List.{length-append, append_cancel_right}
+use Rattle.std.proofs.lemmas.Bool.{and_parts, not-true, false_from_ne_true}
 use Rattle.lola_parser_grammars_law.specs.Syntax.{Lexeme, Terminal, fits, any_fits, apart, within, Syntax, Past, Token, Mark, Whole, Known, Then, Map, Either, Maybe, Many, Fork, charged, either_rest, last_mark, Repeats, Spells, starts, first, nullable, more, is_fine, Unexpected, TooDeep, Outcome, ◌>>=◌, take_token, max_marks, repeated, read}
 use Rattle.lola_parser_grammars_law.specs.Marks.{guards, is_mark, marks_in, tallies, is_counted}
 use Rattle.lola_parser_grammars_law.specs.Exceeding.{ExceedsAmong}
-use Rattle.lola_parser_grammars_law.proofs.Tests.{and_both, not_true, no_more, apart_excludes}
+use Rattle.lola_parser_grammars_law.proofs.Tests.{apart_excludes}
 use Rattle.lola_parser_grammars_law.proofs.Laws.{chosen, done_is}
 use Rattle.lola_parser_grammars_law.proofs.Complete.{and_three, choice_parts, known_parts, fork_is, begins, spells_nil, any_split, follows, tail_stops, stops_within, fork_follows, complete, OkOrDeep, ForkParts}
 use Rattle.lola_parser_grammars_law.proofs.Viable.{bind_err}
@@ -232,7 +233,7 @@ module _ (marks : List Terminal) where
   first_late (Token k) fine count m z x rest d h stop e = absurd (token_never k m (z ++ rest) d e)
   first_late (Mark k) fine count m z x rest d h stop e = absurd (let c = count in cc)
   first_late (Whole a) fine count m z x rest d h stop e =
-      let c = and_both (tallies marks a) (guards (suc max_marks) a) count in
+      let c = and_parts (tallies marks a) (guards (suc max_marks) a) count in
       let p = counted_first a fine c.0 c.1 max_marks (omega arith) z x rest d h stop e in (
         p.0,
         p.1,
@@ -249,7 +250,7 @@ module _ (marks : List Terminal) where
       first_late a f.0 count m z x rest d h (stops_within (more a) ms rest f.3 stop) e
   first_late (Then a b) fine count m z x rest d h stop e =
       let f = and_three (is_fine a) (is_fine b) (apart (more a) (first b)) fine in
-      let c = and_both (is_counted marks a) (is_counted marks b) count in
+      let c = and_parts (is_counted marks a) (is_counted marks b) count in
       let s = tail_stops (nullable b) (more b) (more a) rest stop in
       let clear : starts (more a) (h.1 ++ rest) ≡ false = follows (more a) b f.1 h.1 x.1 rest f.2 h.4 s.1 in
       let split : z ++ rest ≡ h.0 ++ (h.1 ++ rest) = regrouped z h.0 h.1 rest h.2 in
@@ -290,15 +291,15 @@ module _ (marks : List Terminal) where
       absurd (let k = spells_nil b f.1 x h in let v = f.3 in cc)
   first_late (Either a b) fine count m (t ∷ z) x rest d (inl h) stop e =
       let f = choice_parts (is_fine a) (is_fine b) (nullable a) (nullable b) (apart (first a) (first b)) fine in
-      let c = and_both (is_counted marks a) (is_counted marks b) count in
+      let c = and_parts (is_counted marks a) (is_counted marks b) count in
       let back : read (Either a b) m ((t ∷ z) ++ rest) ≡ read a m ((t ∷ z) ++ rest) = rw (begins a f.0 t z x h) refl in
       let p = first_late a f.0 c.0 m (t ∷ z) x rest d h (any_split (more a) (more b) rest stop).0 (sym back ∙ e) in
       same_part (λ u s v. IsMarkBehind marks max_marks a u s v x) (λ u s v. IsNextBehindBracket marks a u s v x) (λ u s v. IsMarkBehind marks max_marks (Either a b) u s v x) (λ u s v. IsNextBehindBracket marks (Either a b) u s v x) (λ l. Keeps marks max_marks a l (t ∷ z) x) (λ l. Keeps marks max_marks (Either a b) l (t ∷ z) x) (t ∷ z) rest d p
       (λ u s v q. inl q) (λ u s v q. inl q) (λ l q. keeps_left marks max_marks a b f.0 f.1 f.4 l (t ∷ z) x h q)
   first_late (Either a b) fine count m (t ∷ z) x rest d (inr h) stop e =
       let f = choice_parts (is_fine a) (is_fine b) (nullable a) (nullable b) (apart (first a) (first b)) fine in
-      let c = and_both (is_counted marks a) (is_counted marks b) count in
-      let misses : any_fits (first a) t ≡ false = no_more (any_fits (first a) t) (λ k. apart_excludes (first a) (first b) t f.4 k (begins b f.1 t z x h)) in
+      let c = and_parts (is_counted marks a) (is_counted marks b) count in
+      let misses : any_fits (first a) t ≡ false = false_from_ne_true (any_fits (first a) t) (λ k. apart_excludes (first a) (first b) t f.4 k (begins b f.1 t z x h)) in
       let back : read (Either a b) m ((t ∷ z) ++ rest) ≡ read b m ((t ∷ z) ++ rest) = rw misses refl in
       let p = first_late b f.1 c.1 m (t ∷ z) x rest d h (any_split (more a) (more b) rest stop).1 (sym back ∙ e) in
       same_part (λ u s v. IsMarkBehind marks max_marks b u s v x) (λ u s v. IsNextBehindBracket marks b u s v x) (λ u s v. IsMarkBehind marks max_marks (Either a b) u s v x) (λ u s v. IsNextBehindBracket marks (Either a b) u s v x) (λ l. Keeps marks max_marks b l (t ∷ z) x) (λ l. Keeps marks max_marks (Either a b) l (t ∷ z) x) (t ∷ z) rest d p
@@ -307,10 +308,10 @@ module _ (marks : List Terminal) where
       let back : read (Maybe a) m (z ++ rest) ≡ Ok (None, m, rest) = rw (h, (any_split (first a) (more a) rest stop).0) refl in
       absurd (not_deep (read (Maybe a) m (z ++ rest)) (None, m, rest) d back e)
   first_late (Maybe a) fine count m [] (Some x) rest d h stop e =
-      let f = and_both (is_fine a) (not (nullable a)) fine in
-      absurd (let k = spells_nil a f.0 x h in let v = not_true (nullable a) f.1 in cc)
+      let f = and_parts (is_fine a) (not (nullable a)) fine in
+      absurd (let k = spells_nil a f.0 x h in let v = not-true (nullable a) f.1 in cc)
   first_late (Maybe a) fine count m (t ∷ z) (Some x) rest d h stop e =
-      let f = and_both (is_fine a) (not (nullable a)) fine in
+      let f = and_parts (is_fine a) (not (nullable a)) fine in
       let back : read (Maybe a) m ((t ∷ z) ++ rest) ≡ (read a m ((t ∷ z) ++ rest) >>= λ y i end. Ok (Some y, i, end)) = rw (begins a f.0 t z x h) refl in
       elim (bind_err (read a m ((t ∷ z) ++ rest)) _ (TooDeep d) (sym back ∙ e)) [
         | inl k ↦

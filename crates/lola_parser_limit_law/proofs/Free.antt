@@ -1,8 +1,8 @@
 -- The same grammar with no mark counted: a text has one front that is a sentence which what follows does not go on.
 use Rattle.std.proofs.Common.{◌≡◌, ℕ, zero, suc, Bool, true, false, not, ◌||◌, List, [], ◌∷◌, ◌++◌, length, Some, None, Ok, Err, refl, sym, ap, ◌∙◌, inl, inr, Result, subst}
 use Rattle.std.proofs.lemmas.List.{append-nil, append_cancel_right}
+use Rattle.std.proofs.lemmas.Bool.{and_parts, not-true}
 use Rattle.lola_parser_grammars_law.specs.Syntax.{Lexeme, Terminal, fits, clash, clashes, apart, within, Syntax, Past, Token, Mark, Whole, Known, Then, Map, Either, Maybe, Many, Fork, Repeats, Spells, starts, first, nullable, more, is_fine, Unexpected, TooDeep, Reader, max_marks, repeated, read, Outcome, all_read, read_all, Begins, IsFirstMisfit, Refusal}
-use Rattle.lola_parser_grammars_law.proofs.Tests.{and_both, not_true}
 use Rattle.lola_parser_grammars_law.proofs.Laws.{chosen, done_is}
 use Rattle.lola_parser_grammars_law.proofs.Complete.{and_three, choice_parts, known_parts, fork_is, complete}
 use Rattle.lola_parser_grammars_law.proofs.Viable.{bind_err}
@@ -69,9 +69,9 @@ clashes_append k (l ∷ ls) ms h i = both (clash k l) (clashes k ls) (clashes k 
 apart_append : (ks ls ms : List Terminal) → apart ks ls ≡ true → apart ks ms ≡ true → apart ks (ls ++ ms) ≡ true
 apart_append [] ls ms h i = refl
 apart_append (k ∷ ks) ls ms h i =
-    let f = and_both (not (clashes k ls)) (apart ks ls) h in
-    let g = and_both (not (clashes k ms)) (apart ks ms) i in
-    rw (clashes_append k ls ms (not_true (clashes k ls) f.0) (not_true (clashes k ms) g.0), apart_append ks ls ms f.1 g.1) refl
+    let f = and_parts (not (clashes k ls)) (apart ks ls) h in
+    let g = and_parts (not (clashes k ms)) (apart ks ms) i in
+    rw (clashes_append k ls ms (not-true (clashes k ls) f.0) (not-true (clashes k ms) g.0), apart_append ks ls ms f.1 g.1) refl
 
 -- it begins and goes on as before
 abbrev FreeIs : {A : Type 0} → Syntax A → Type 0
@@ -99,7 +99,7 @@ free_is (Either a b) fine =
     let q = free_is b f.1 in
     (rw (p.0, q.0) refl, rw (p.1, q.1) refl, rw (p.2, q.2) refl, rw (p.3, q.3, p.1, q.1, f.2, f.3, p.0, q.0, f.4) refl)
 free_is (Maybe a) fine =
-    let f = and_both (is_fine a) (not (nullable a)) fine in
+    let f = and_parts (is_fine a) (not (nullable a)) fine in
     let p = free_is a f.0 in
     (p.0, refl, rw (p.0, p.2) refl, rw (p.3, p.1, f.1) refl)
 free_is (Many a) fine =

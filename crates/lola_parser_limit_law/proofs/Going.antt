@@ -2,9 +2,9 @@
 -- mark too many.
 use Rattle.std.proofs.Common.{◌≡◌, ℕ, zero, suc, ◌+◌, ◌-◌, ◌≤◌, true, not, List, [], ◌∷◌, ◌++◌, length, Some, Ok, Err, refl, sym, ap, subst, ◌∙◌, append_assoc, arith, inl, inr, ◌⊎◌}
 use Rattle.std.proofs.lemmas.List.{append-nil, length-append, append_cancel_right}
+use Rattle.std.proofs.lemmas.Bool.{and_parts}
 use Rattle.lola_parser_grammars_law.specs.Syntax.{Lexeme, Terminal, fits, apart, within, Syntax, Past, Token, Mark, Whole, Known, Then, Map, Either, Maybe, Many, Fork, charged, either_rest, last_mark, Repeats, Spells, starts, first, nullable, more, is_fine, Unexpected, TooDeep, Reader, counted, max_marks, repeated, read}
 use Rattle.lola_parser_grammars_law.specs.Marks.{guards, marks_in, tallies, is_counted}
-use Rattle.lola_parser_grammars_law.proofs.Tests.{and_both}
 use Rattle.lola_parser_grammars_law.proofs.Laws.{chosen}
 use Rattle.lola_parser_grammars_law.proofs.Complete.{and_three, choice_parts, known_parts, fork_is}
 use Rattle.lola_parser_grammars_law.proofs.Viable.{sample, bind_err, viable}
@@ -62,7 +62,7 @@ module _ (marks : List Terminal) where
   bound (Whole a) tally m ts rest h = absurd cc
   bound (Known fs ms a) tally m ts rest h = bound a tally m ts rest h
   bound (Then a b) tally m ts rest h =
-      let w = and_both (tallies marks a) (tallies marks b) tally in
+      let w = and_parts (tallies marks a) (tallies marks b) tally in
       elim (bind_err (read a m ts) _ (Unexpected rest) h) [
         | inl e ↦ bound a w.0 m ts rest e
         | inr q ↦
@@ -76,7 +76,7 @@ module _ (marks : List Terminal) where
       ]
   bound (Map f a) tally m ts rest h = elim (bind_err (read a m ts) _ (Unexpected rest) h) [ inl e ↦ bound a tally m ts rest e | inr z ↦ absurd (let w = z.4 in cc) ]
   bound (Either a b) tally m ts rest h =
-      let w = and_both (tallies marks a) (tallies marks b) tally in
+      let w = and_parts (tallies marks a) (tallies marks b) tally in
       elim (chosen (starts (first a) ts) _ _ _ h) [ inl c ↦ bound a w.0 m ts rest c.1 | inr c ↦ bound b w.1 m ts rest c.1 ]
   bound (Maybe a) tally m ts rest h =
       elim (chosen (starts (first a) ts) _ _ _ h) [
@@ -162,7 +162,7 @@ module _ (marks : List Terminal) where
       (v.0, v.2, v.0 ++ v.2, v.3, v.1, refl, v.4, λ j u s w parts low g. absurd g)
   going (Mark k) fine count m ts rest h = absurd (let c = count in cc)
   going (Whole a) fine count m ts rest h =
-      let c = and_both (tallies marks a) (guards (suc max_marks) a) count in
+      let c = and_parts (tallies marks a) (guards (suc max_marks) a) count in
       let g = begun a c.0 max_marks ts rest h in
       (g.0, g.1, g.0 ++ g.1, g.2, g.3, refl, g.4, keeps_whole marks max_marks a (length g.0) (g.0 ++ g.1) g.2 (few_front marks max_marks 0 (g.0 ++ g.1) g.0 g.1 refl (omega (arith, g.5))))
   going (Known fs ms a) fine count m ts rest h =
@@ -170,7 +170,7 @@ module _ (marks : List Terminal) where
       going a f.0 count m ts rest h
   going (Then a b) fine count m ts rest h =
       let f = and_three (is_fine a) (is_fine b) (apart (more a) (first b)) fine in
-      let c = and_both (is_counted marks a) (is_counted marks b) count in
+      let c = and_parts (is_counted marks a) (is_counted marks b) count in
       elim (bind_err (read a m ts) _ (Unexpected rest) h) [
         | inl e ↦
             let g = going a f.0 c.0 m ts rest e in
@@ -208,13 +208,13 @@ module _ (marks : List Terminal) where
       ]
   going (Either a b) fine count m ts rest h =
       let f = choice_parts (is_fine a) (is_fine b) (nullable a) (nullable b) (apart (first a) (first b)) fine in
-      let c = and_both (is_counted marks a) (is_counted marks b) count in
+      let c = and_parts (is_counted marks a) (is_counted marks b) count in
       elim (chosen (starts (first a) ts) _ _ _ h) [
         | inl k ↦ let g = going a f.0 c.0 m ts rest k.1 in (g.0, g.1, g.2, g.3, g.4, g.5, inl g.6, keeps_left marks max_marks a b f.0 f.1 f.4 (length g.0) g.2 g.3 g.6 g.7)
         | inr k ↦ let g = going b f.1 c.1 m ts rest k.1 in (g.0, g.1, g.2, g.3, g.4, g.5, inr g.6, keeps_right marks max_marks a b f.0 f.1 f.4 (length g.0) g.2 g.3 g.6 g.7)
       ]
   going (Maybe a) fine count m ts rest h =
-      let f = and_both (is_fine a) (not (nullable a)) fine in
+      let f = and_parts (is_fine a) (not (nullable a)) fine in
       elim (chosen (starts (first a) ts) _ _ _ h) [
         | inl k ↦
             elim (bind_err (read a m ts) _ (Unexpected rest) k.1) [

@@ -1,10 +1,11 @@
 -- In a sentence, which of its first tokens may be marks too many, by the parts of the sentence.
 use Rattle.std.proofs.Common.{◌≡◌, ℕ, suc, ◌+◌, ◌≤◌, ◌<◌, Bool, true, false, List, [], ◌∷◌, ◌++◌, length, Some, None, refl, sym, ap, subst, ◌∙◌, append_assoc, arith, inl, inr, ◌⊎◌}
 use Rattle.std.proofs.lemmas.List.{length-append, append_cancel_right}
+use Rattle.std.proofs.lemmas.Bool.{false_from_ne_true}
 use Rattle.lola_parser_grammars_law.specs.Syntax.{Lexeme, Terminal, any_fits, apart, Syntax, Past, Token, Mark, Whole, Known, Then, Map, Either, Maybe, Many, Fork, Repeats, Spells, starts, first, nullable, more, is_fine}
 use Rattle.lola_parser_grammars_law.specs.Marks.{is_mark, marks_in, one_if}
 use Rattle.lola_parser_grammars_law.specs.Exceeding.{ExceedsAmong}
-use Rattle.lola_parser_grammars_law.proofs.Tests.{no_more, apart_excludes}
+use Rattle.lola_parser_grammars_law.proofs.Tests.{apart_excludes}
 use Rattle.lola_parser_grammars_law.proofs.Complete.{begins, any_split, follows, tail_stops, repeats_begin, ForkParts, full_is, fork_follows}
 use Rattle.lola_parser_grammars_law.proofs.Within.{marks-append}
 use Rattle.lola_parser_limit_law.specs.Late.{IsMarkBehind}
@@ -135,7 +136,7 @@ module _ (marks : List Terminal) where
 
     pub after_item : {A : Type 0} (a : Syntax A) → is_fine a ≡ true → apart (more a) (first a) ≡ true → (w : List Lexeme) (xs : List A) (rest : List Lexeme) → Repeats (Spells a) w xs → starts (first a ++ more a) rest ≡ false → starts (more a) (w ++ rest) ≡ false
     after_item a fine away [] xs rest h stop = (any_split (first a) (more a) rest stop).1
-    after_item a fine away (s ∷ w) xs rest h stop = no_more (any_fits (more a) s) (λ c. apart_excludes (more a) (first a) s away c (repeats_begin (Spells a) (first a) (begins a fine) s w xs h))
+    after_item a fine away (s ∷ w) xs rest h stop = false_from_ne_true (any_fits (more a) s) (λ c. apart_excludes (more a) (first a) s away c (repeats_begin (Spells a) (first a) (begins a fine) s w xs h))
 
     pub keeps_nil : {A : Type 0} (a : Syntax A) (n : ℕ) (z : List Lexeme) → KeepsAmong a n z []
     keeps_nil a n z k u t v parts low h = absurd h

@@ -1,9 +1,9 @@
 -- What is read has no mark too many, and where reading stops at a token that does not fit, what stands before it begins a
 -- sentence in which none of these tokens is a mark too many.
 use Rattle.std.proofs.Common.{◌≡◌, ℕ, zero, suc, ◌-◌, true, not, List, [], ◌∷◌, ◌++◌, length, Some, None, Ok, refl, sym, ap, subst, ◌∙◌, append_assoc, arith, inl, inr, ◌⊎◌}
+use Rattle.std.proofs.lemmas.Bool.{and_parts}
 use Rattle.lola_parser_grammars_law.specs.Syntax.{Lexeme, Terminal, apart, within, Syntax, Past, Token, Mark, Whole, Known, Then, Map, Either, Maybe, Many, Fork, charged, either_rest, last_mark, Repeats, Spells, starts, first, nullable, more, is_fine, Reader, max_marks, repeated, read}
 use Rattle.lola_parser_grammars_law.specs.Marks.{guards, marks_in, tallies, is_counted}
-use Rattle.lola_parser_grammars_law.proofs.Tests.{and_both}
 use Rattle.lola_parser_grammars_law.proofs.Laws.{chosen, done_is, bind_ok, sound}
 use Rattle.lola_parser_grammars_law.proofs.Complete.{and_three, choice_parts, known_parts, fork_is}
 use Rattle.lola_parser_grammars_law.proofs.Over.{counts, fork_counted}
@@ -65,7 +65,7 @@ module _ (marks : List Terminal) where
   read_kept (Token k) fine count m ts x i rest e = let t = sound (Token k) m ts x i rest e in (t.0, t.1, t.2, λ n j u s v parts low h. absurd h)
   read_kept (Mark k) fine count m ts x i rest e = absurd (let c = count in cc)
   read_kept (Whole a) fine count m ts x i rest e =
-      let c = and_both (tallies marks a) (guards (suc max_marks) a) count in
+      let c = and_parts (tallies marks a) (guards (suc max_marks) a) count in
       let t = counts marks a c.0 max_marks ts x i rest e in
       (t.0, t.1, t.2, λ n. keeps_whole marks max_marks a n t.0 x (few_all marks max_marks 0 n t.0 (omega (arith, t.3))))
   read_kept (Known fs ms a) fine count m ts x i rest e =
@@ -73,7 +73,7 @@ module _ (marks : List Terminal) where
       read_kept a f.0 count m ts x i rest e
   read_kept (Then a b) fine count m ts x i rest e =
       let f = and_three (is_fine a) (is_fine b) (apart (more a) (first b)) fine in
-      let c = and_both (is_counted marks a) (is_counted marks b) count in
+      let c = and_parts (is_counted marks a) (is_counted marks b) count in
       let p = bind_ok (read a m ts) _ x i rest e in
       let q = bind_ok (read b p.1 p.2) _ x i rest p.4 in
       let d = done_is (p.0, q.0) x q.1 i q.2 rest q.4 in
@@ -92,13 +92,13 @@ module _ (marks : List Terminal) where
       (t.0, t.1 ∙ ap (λ (w : List Lexeme). t.0 ++ w) d.2, (p.0, sym d.0, t.2), λ n. subst (Keeps marks max_marks (Map g a) n t.0) d.0 (keeps_map marks max_marks g a fine n t.0 p.0 t.2 (t.3 n)))
   read_kept (Either a b) fine count m ts x i rest e =
       let f = choice_parts (is_fine a) (is_fine b) (nullable a) (nullable b) (apart (first a) (first b)) fine in
-      let c = and_both (is_counted marks a) (is_counted marks b) count in
+      let c = and_parts (is_counted marks a) (is_counted marks b) count in
       elim (chosen (starts (first a) ts) _ _ _ e) [
         | inl k ↦ let t = read_kept a f.0 c.0 m ts x i rest k.1 in (t.0, t.1, inl t.2, λ n. keeps_left marks max_marks a b f.0 f.1 f.4 n t.0 x t.2 (t.3 n))
         | inr k ↦ let t = read_kept b f.1 c.1 m ts x i rest k.1 in (t.0, t.1, inr t.2, λ n. keeps_right marks max_marks a b f.0 f.1 f.4 n t.0 x t.2 (t.3 n))
       ]
   read_kept (Maybe a) fine count m ts x i rest e =
-      let f = and_both (is_fine a) (not (nullable a)) fine in
+      let f = and_parts (is_fine a) (not (nullable a)) fine in
       elim (chosen (starts (first a) ts) _ _ _ e) [
         | inl k ↦
             let p = bind_ok (read a m ts) _ x i rest k.1 in

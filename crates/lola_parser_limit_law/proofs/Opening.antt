@@ -1,8 +1,9 @@
 -- Grammars of which each token that they may begin with begins some sentence.
 use Rattle.std.proofs.Common.{◌≡◌, Bool, true, false, not, ◌&&◌, ◌||◌, cond, List, [], ◌∷◌, ◌++◌, Some, refl, sym, ap, append_assoc, inl, inr, ◌⊎◌}
 use Rattle.std.proofs.lemmas.List.{append-nil}
+use Rattle.std.proofs.lemmas.Bool.{and_parts, or_cases, not-true}
 use Rattle.lola_parser_grammars_law.specs.Syntax.{Lexeme, Terminal, fits, any_fits, within, Syntax, Past, Token, Mark, Whole, Known, Then, Map, Either, Maybe, Many, Fork, Spells, nullable, first}
-use Rattle.lola_parser_grammars_law.proofs.Tests.{and_both, or_either, not_true, within_fits}
+use Rattle.lola_parser_grammars_law.proofs.Tests.{within_fits}
 use Rattle.lola_parser_grammars_law.proofs.Viable.{sample}
 
 -- something that begins with these tokens
@@ -30,7 +31,7 @@ is_open (Fork ks a b c) = is_open a
 any_either : (ks ls : List Terminal) (t : Lexeme) → any_fits (ks ++ ls) t ≡ true → (any_fits ks t ≡ true) ⊎ (any_fits ls t ≡ true)
 any_either [] ls t h = inr h
 any_either (k ∷ ks) ls t h =
-    elim (or_either (fits k t) (any_fits (ks ++ ls) t) h) [
+    elim (or_cases (fits k t) (any_fits (ks ++ ls) t) h) [
       | inl e ↦ inl (ap (λ b. b || any_fits ks t) e)
       | inr e ↦ elim (any_either ks ls t e) [ inl i ↦ inl (or_both (fits k t) (any_fits ks t) i) | inr i ↦ inr i ]
     ]
@@ -40,7 +41,7 @@ any_either (k ∷ ks) ls t h =
     or_both false b e = e
 
 one_of : (k : Terminal) (t : Lexeme) → any_fits (k ∷ []) t ≡ true → fits k t ≡ true
-one_of k t h = elim (or_either (fits k t) false h) [ inl e ↦ e | inr e ↦ absurd cc ]
+one_of k t h = elim (or_cases (fits k t) false h) [ inl e ↦ e | inr e ↦ absurd cc ]
 
 of_first : (b : Bool) (fs gs : List Terminal) (t : Lexeme) → b ≡ false → any_fits (cond b (fs ++ gs) fs) t ≡ true → any_fits fs t ≡ true
 of_first true fs gs t e h = absurd cc
@@ -53,14 +54,14 @@ first_begins (Token k) fine t h = ([], t, (refl, one_of k t h))
 first_begins (Mark k) fine t h = ([], t, (refl, one_of k t h))
 first_begins (Whole a) fine t h = first_begins a fine t h
 first_begins (Known fs ms a) fine t h =
-    let f = and_both (within fs (first a)) (is_open a) fine in
+    let f = and_parts (within fs (first a)) (is_open a) fine in
     first_begins a f.1 t (within_fits fs (first a) t f.0 h)
 first_begins (Then a b) fine t h =
-    let f = and_both (not (nullable a)) (is_open a) fine in
-    opens_then a b (t ∷ []) (first_begins a f.1 t (of_first (nullable a) (first a) (first b) t (not_true (nullable a) f.0) h))
+    let f = and_parts (not (nullable a)) (is_open a) fine in
+    opens_then a b (t ∷ []) (first_begins a f.1 t (of_first (nullable a) (first a) (first b) t (not-true (nullable a) f.0) h))
 first_begins (Map f a) fine t h = let p = first_begins a fine t h in (p.0, f p.1, (p.1, refl, p.2))
 first_begins (Either a b) fine t h =
-    let f = and_both (is_open a) (is_open b) fine in
+    let f = and_parts (is_open a) (is_open b) fine in
     elim (any_either (first a) (first b) t h) [
       | inl e ↦ let p = first_begins a f.0 t e in (p.0, p.1, inl p.2)
       | inr e ↦ let p = first_begins b f.1 t e in (p.0, p.1, inr p.2)

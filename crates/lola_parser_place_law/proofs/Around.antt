@@ -1,12 +1,13 @@
 -- In a sentence with a `with` of a spawn clause and a bracket behind it: what stands behind the bracket, and what may stand there.
 use Rattle.std.proofs.Common.{◌≡◌, ℕ, Bool, true, false, List, [], ◌∷◌, ◌++◌, Option, Some, None, refl, sym, ap, subst, ◌∙◌, append_assoc, inl, inr}
 use Rattle.std.proofs.lemmas.List.{append-nil}
+use Rattle.std.proofs.lemmas.Bool.{false_from_ne_true}
 use Rattle.lola_lexer.specs.declared.shape.TokenShape.TheVariants as is
 use Rattle.lola_parser_tree.specs.declared.expressions.Expr.{Expr}
 use Rattle.lola_parser_tree.specs.declared.clauses.Part.{Part}
 use Rattle.lola_parser_tree.specs.declared.pacing.Pacing.{Pacing}
 use Rattle.lola_parser_grammars_law.specs.Syntax.{Lexeme, Terminal, Of, any_fits, fits, apart, same_shape, within, Syntax, Then, Map, Either, Maybe, Many, Spells, nullable}
-use Rattle.lola_parser_grammars_law.proofs.Tests.{no_more, apart_excludes}
+use Rattle.lola_parser_grammars_law.proofs.Tests.{apart_excludes}
 use Rattle.lola_parser_grammars_law.proofs.Complete.{begins, full_is}
 use Rattle.lola_parser_limit_law.specs.Late.{IsNextBehindBracket}
 use Rattle.lola_parser_limit_law.proofs.Placed.{fronts}
@@ -270,7 +271,7 @@ module _ (n : ℕ) where
       let k = h.2 in
       let t = k.3.0 in
       ap (cut_last clause_words) (k.2 ∙ ap (λ (y : List Lexeme). y ++ k.1) k.3.2.0)
-      ∙ not_here clause_words t k.1 (no_more (any_fits clause_words t) (λ m. apart_excludes (Of is.With ∷ []) clause_words t with_no_clause (with_there (Of is.With) t k.3.2.1) m)) (no_clause (expr_in n) (expr_lacks n) k.1 h.0.1 k.4)
+      ∙ not_here clause_words t k.1 (false_from_ne_true (any_fits clause_words t) (λ m. apart_excludes (Of is.With ∷ []) clause_words t with_no_clause (with_there (Of is.With) t k.3.2.1) m)) (no_clause (expr_in n) (expr_lacks n) k.1 h.0.1 k.4)
 
   abbrev EvalRest : Syntax (Option Pacing × (Option Part × Part))
   EvalRest = Then (Maybe (g.pacing n)) (Then (Maybe (g.part_behind n is.When)) (g.part_behind n is.With))

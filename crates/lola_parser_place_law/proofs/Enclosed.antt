@@ -1,14 +1,14 @@
 -- Where the bracketed expression goes past the mark at which reading ended and ends at a bracket, that mark is always the next.
 use Rattle.std.proofs.Common.{◌≡◌, ℕ, suc, ◌-◌, ◌<◌, Bool, true, false, nat_lt, cond, List, [], ◌∷◌, ◌++◌, length, Option, Some, None, refl, sym, ap, subst, ◌∙◌, append_assoc, arith, inl, inr}
 use Rattle.std.proofs.lemmas.List.{length-append}
-use Rattle.std.proofs.lemmas.Bool.{ltb-true}
+use Rattle.std.proofs.lemmas.Bool.{ltb-true, and_parts, or_cases}
 use Rattle.lola_lexer.specs.declared.shape.TokenShape.TheVariants as is
 use Rattle.lola_parser_tree.specs.declared.expressions.Expr.{Expr}
 use Rattle.lola_parser_tree.specs.declared.declarations.Declaration.{Declaration}
 use Rattle.lola_parser_grammars_law.specs.Syntax.{Lexeme, Terminal, Of, any_fits, fits, apart, same_shape, starts, within, Syntax, Past, Token, Mark, Whole, Known, Then, Map, Either, Maybe, Many, Fork, Spells, Begins, first, nullable, more, is_fine, max_marks}
 use Rattle.lola_parser_grammars_law.specs.Marks.{is_mark, marks_in}
 use Rattle.lola_parser_grammars_law.specs.Exceeding.{ExceedsAmong}
-use Rattle.lola_parser_grammars_law.proofs.Tests.{and_both, or_either, apart_excludes}
+use Rattle.lola_parser_grammars_law.proofs.Tests.{apart_excludes}
 use Rattle.lola_parser_grammars_law.proofs.Complete.{and_three, choice_parts, known_parts, fork_is, fork_follows}
 use Rattle.lola_parser_grammars_law.proofs.Exactly.{opens_part}
 use Rattle.lola_parser_limit_law.specs.Late.{IsMarkBehind, IsNextBehindBracket}
@@ -51,7 +51,7 @@ cut_inv ks (t ∷ u) a m b h = by (cut_last ks u) (any_fits ks t) refl h (λ c k
     by None false f e rec = absurd cc
 
 one_of : (k : Terminal) (t : Lexeme) → any_fits (k ∷ []) t ≡ true → fits k t ≡ true
-one_of k t h = elim (or_either (fits k t) false h) [ inl e ↦ e | inr e ↦ absurd cc ]
+one_of k t h = elim (or_cases (fits k t) false h) [ inl e ↦ e | inr e ↦ absurd cc ]
 
 there : (k : Terminal) (t : Lexeme) → fits k t ≡ true → any_fits (k ∷ []) t ≡ true
 there k t h = rw h refl
@@ -108,7 +108,7 @@ ending n head t d less h = by (skim (expr_in (suc (length (head ++ t ∷ d)))) (
     by None e i = absurd cc
     by (Some y) e i =
         let k = suc (length (head ++ t ∷ d)) in
-        let b = and_both (nat_lt (length y) (suc (length d))) (starts (Of is.Shut ∷ []) y) i in
+        let b = and_parts (nat_lt (length y) (suc (length d))) (starts (Of is.Shut ∷ []) y) i in
         let short : length y < suc (length d) = ltb-true (length y) (suc (length d)) b.0 in
         let left : skim (expr_in n) (head ++ t ∷ d) ≡ Some y = sym (deeper (n - k) k n (head ++ t ∷ d) (omega (arith, less)) (omega arith)) ∙ e in
         let l = leaves (expr_in n) (head ++ t ∷ d) y left in

@@ -1,13 +1,13 @@
 -- Where the bracketed expression does not end at a bracket, the mark at which reading ends is the place of the rule.
 use Rattle.std.proofs.Common.{◌≡◌, ℕ, zero, suc, ◌+◌, ◌-◌, ◌<◌, ◌≤◌, Bool, true, false, cond, List, [], ◌∷◌, ◌++◌, length, Some, None, Err, refl, sym, ap, subst, ◌∙◌, append_assoc, arith, inl, inr}
 use Rattle.std.proofs.lemmas.List.{append-nil, length-append}
-use Rattle.std.proofs.lemmas.Bool.{lt-ltb}
+use Rattle.std.proofs.lemmas.Bool.{lt-ltb, false_from_ne_true}
 use Rattle.lola_lexer.specs.declared.shape.TokenShape.TheVariants as is
 use Rattle.lola_parser_tree.specs.declared.expressions.Expr.{Expr}
 use Rattle.lola_parser_tree.specs.declared.declarations.Declaration.{Declaration}
 use Rattle.lola_parser_grammars_law.specs.Syntax.{Lexeme, Terminal, Of, any_fits, fits, apart, same_shape, starts, TooDeep, Spells, max_marks, read_all}
 use Rattle.lola_parser_grammars_law.specs.Marks.{marks_in}
-use Rattle.lola_parser_grammars_law.proofs.Tests.{no_more, apart_excludes}
+use Rattle.lola_parser_grammars_law.proofs.Tests.{apart_excludes}
 use Rattle.lola_parser_grammars_law.proofs.Within.{marks-append}
 use Rattle.lola_parser_limit_law.specs.Late.{IsNextBehindBracket, IsLateInEvery, NoneIsLate, IsDeepPlace}
 use Rattle.lola_parser_limit_law.specs.Fronts.{IsLongestFront}
@@ -43,7 +43,7 @@ shut_apart = refl
 
 pub shut_stops : (y : List Lexeme) → starts (Of is.Shut ∷ []) y ≡ true → starts expr_goes_on y ≡ false
 shut_stops [] h = absurd cc
-shut_stops (t ∷ y) h = no_more (any_fits expr_goes_on t) (λ m. apart_excludes (Of is.Shut ∷ []) expr_goes_on t shut_apart h m)
+shut_stops (t ∷ y) h = false_from_ne_true (any_fits expr_goes_on t) (λ m. apart_excludes (Of is.Shut ∷ []) expr_goes_on t shut_apart h m)
 
 ends : (k : ℕ) (y : List Lexeme) → length y < k → starts (Of is.Shut ∷ []) y ≡ true → ends_within k (Some y) ≡ true
 ends k y less h = rw (lt-ltb (length y) k less, h) refl
@@ -64,7 +64,7 @@ with_there k t h = rw h refl
 
 open_no_with : (o : Lexeme) → fits (Of is.Open) o ≡ true → any_fits (Of is.With ∷ []) o ≡ false
 unfolding same_shape
-open_no_with o h = no_more (any_fits (Of is.With ∷ []) o) (λ m. apart_excludes (Of is.Open ∷ []) (Of is.With ∷ []) o refl (with_there (Of is.Open) o h) m)
+open_no_with o h = false_from_ne_true (any_fits (Of is.With ∷ []) o) (λ m. apart_excludes (Of is.Open ∷ []) (Of is.With ∷ []) o refl (with_there (Of is.Open) o h) m)
 
 with_within : (u : List Lexeme) → cut_last words u ≡ None → cut_last (Of is.With ∷ []) u ≡ None
 unfolding same_shape

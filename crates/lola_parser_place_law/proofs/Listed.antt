@@ -1,12 +1,12 @@
 -- In place of a bracketed expression with too many marks, a list: no mark before the one at which reading ends is then too many.
 use Rattle.std.proofs.Common.{◌≡◌, ℕ, ◌-◌, ◌≤◌, true, not, List, [], ◌∷◌, ◌++◌, length, Some, None, refl, sym, ap, subst, ◌∙◌, append_assoc, arith, inl, inr}
 use Rattle.std.proofs.lemmas.List.{append-nil, length-append}
+use Rattle.std.proofs.lemmas.Bool.{and_parts}
 use Rattle.lola_lexer.specs.declared.shape.TokenShape.TheVariants as is
 use Rattle.lola_parser_tree.specs.declared.expressions.Expr.{Expr}
 use Rattle.lola_parser_grammars_law.specs.Syntax.{Lexeme, Terminal, Of, fits, starts, apart, within, Syntax, Known, Then, Map, Either, Maybe, Many, Repeats, Spells, first, nullable, more, is_fine, max_marks}
 use Rattle.lola_parser_grammars_law.specs.Marks.{marks_in}
 use Rattle.lola_parser_grammars_law.specs.Exceeding.{ExceedsAmong}
-use Rattle.lola_parser_grammars_law.proofs.Tests.{and_both}
 use Rattle.lola_parser_grammars_law.proofs.Complete.{and_three, choice_parts, known_parts, fork_is}
 use Rattle.lola_parser_grammars_law.proofs.Exactly.{opens_part}
 use Rattle.lola_parser_grammars_law.proofs.Viable.{sample}
@@ -147,7 +147,7 @@ module _ (n : ℕ) where
   unfolding is_fine IsNextBehindBracket IsMarkBehind Spells
   walk_maybe L a walk fine u t v None j h keep low = absurd h
   walk_maybe L a walk fine u t v (Some x) j h keep low =
-      let f = and_both (is_fine a) (not (nullable a)) fine in
+      let f = and_parts (is_fine a) (not (nullable a)) fine in
       let r = walk f.0 u t v x j h (λ k p s q parts less m. keep k p s q parts less m) low in
       (r.0, r.1, r.2, r.3, r.4, Some r.5, r.6, r.7, r.8, r.9, r.10, r.11, r.12, r.13, r.14, keeps_some all_marks max_marks a (length u) (u ++ t ∷ (r.2 ++ r.4)) r.5 r.15)
 

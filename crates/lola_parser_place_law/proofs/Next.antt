@@ -1,9 +1,9 @@
 -- Parts of the grammar in which no bracket shows only behind its end that it is a mark.
 use Rattle.std.proofs.Common.{◌≡◌, ℕ, suc, Bool, true, false, ◌&&◌, List, [], ◌∷◌, ◌++◌, Some, None, refl, ap, inl, inr}
+use Rattle.std.proofs.lemmas.Bool.{and_parts}
 use Rattle.lola_lexer.specs.declared.shape.TokenShape.TheVariants as is
 use Rattle.lola_parser_grammars_law.specs.Syntax.{Lexeme, Syntax, Past, Token, Mark, Whole, Known, Then, Map, Either, Maybe, Many, Fork, Spells, max_marks}
 use Rattle.lola_parser_grammars_law.specs.Exceeding.{ExceedsAmong}
-use Rattle.lola_parser_grammars_law.proofs.Tests.{and_both}
 use Rattle.lola_parser_limit_law.specs.Late.{IsMarkBehind, IsNextBehindBracket}
 use Rattle.lola_parser_limit_law.proofs.Keeps.{mark_spells}
 use Rattle.lola_parser_grammar.specs.Grammar as g
@@ -37,11 +37,11 @@ never (Token k) f u t v x h = h
 never (Mark k) f u t v x h = h
 never (Whole a) f u t v x h = h
 never (Known fs ms a) f u t v x h = never a f u t v x h
-never (Then a b) f u t v x (inl h) = never a (and_both (forkless a) (forkless b) f).0 u t h.0 x.0 h.3
-never (Then a b) f u t v x (inr h) = never b (and_both (forkless a) (forkless b) f).1 h.1 t v x.1 h.4
+never (Then a b) f u t v x (inl h) = never a (and_parts (forkless a) (forkless b) f).0 u t h.0 x.0 h.3
+never (Then a b) f u t v x (inr h) = never b (and_parts (forkless a) (forkless b) f).1 h.1 t v x.1 h.4
 never (Map g a) f u t v y h = never a f u t v h.0 h.2
-never (Either a b) f u t v x (inl h) = never a (and_both (forkless a) (forkless b) f).0 u t v x h
-never (Either a b) f u t v x (inr h) = never b (and_both (forkless a) (forkless b) f).1 u t v x h
+never (Either a b) f u t v x (inl h) = never a (and_parts (forkless a) (forkless b) f).0 u t v x h
+never (Either a b) f u t v x (inr h) = never b (and_parts (forkless a) (forkless b) f).1 u t v x h
 never (Maybe a) f u t v None h = h
 never (Maybe a) f u t v (Some x) h = never a f u t v x h
 never (Many a) f u t v xs h = never_among a (never a f) u t v xs h

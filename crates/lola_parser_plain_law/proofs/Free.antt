@@ -1,9 +1,9 @@
 -- A grammar in which marks are not counted and nothing is nested too deep. It spells the same, and whatever it spells is read:
 -- so no tokens spell two values.
 use Rattle.std.proofs.Common.{◌≡◌, ℕ, ◌-◌, true, false, not, List, [], ◌∷◌, ◌++◌, Ok, inl, inr, refl, sym, ◌∙◌, arith}
+use Rattle.std.proofs.lemmas.Bool.{and_parts, or_parts, not-true}
 use Rattle.lola_parser_grammars_law.specs.Syntax.{Lexeme, Terminal, Syntax, Past, Token, Mark, Whole, Known, Then, Map, Either, Maybe, Many, Fork, Spells, clash, clashes, apart, within, first, nullable, more, is_fine, read}
 use Rattle.lola_parser_grammars_law.specs.Marks.{lower, least, guards, tallies, marks_in}
-use Rattle.lola_parser_grammars_law.proofs.Tests.{and_both, not_true, or_none}
 use Rattle.lola_parser_grammars_law.proofs.Laws.{done_is}
 use Rattle.lola_parser_grammars_law.proofs.Complete.{and_three, choice_parts, known_parts, fork_is}
 use Rattle.lola_parser_grammars_law.proofs.Within.{complete_within}
@@ -47,14 +47,14 @@ record Alike {A : Type 0} (s : Syntax A) : Type 0 where
 
 clashes_both : (k : Terminal) (ls ms : List Terminal) → clashes k ls ≡ false → clashes k ms ≡ false → clashes k (ls ++ ms) ≡ false
 clashes_both k [] ms h i = i
-clashes_both k (l ∷ ls) ms h i = let p = or_none (clash k l) (clashes k ls) h in rw (p.0, clashes_both k ls ms p.1 i) refl
+clashes_both k (l ∷ ls) ms h i = let p = or_parts (clash k l) (clashes k ls) h in rw (p.0, clashes_both k ls ms p.1 i) refl
 
 apart_both : (ks ls ms : List Terminal) → apart ks ls ≡ true → apart ks ms ≡ true → apart ks (ls ++ ms) ≡ true
 apart_both [] ls ms h i = refl
 apart_both (k ∷ ks) ls ms h i =
-    let p = and_both (not (clashes k ls)) (apart ks ls) h in
-    let q = and_both (not (clashes k ms)) (apart ks ms) i in
-    let none = clashes_both k ls ms (not_true _ p.0) (not_true _ q.0) in
+    let p = and_parts (not (clashes k ls)) (apart ks ls) h in
+    let q = and_parts (not (clashes k ms)) (apart ks ms) i in
+    let none = clashes_both k ls ms (not-true _ p.0) (not-true _ q.0) in
     rw (none, apart_both ks ls ms p.1 q.1) refl
 
 alike : {A : Type 0} (s : Syntax A) → is_fine s ≡ true → Alike s
@@ -89,7 +89,7 @@ alike (Either a b) h =
       fine = rw (p.fine, q.fine, p.empties, q.empties, p.firsts, q.firsts, f.2, f.3, f.4) refl;
     }
 alike (Maybe a) h =
-    let f = and_both (is_fine a) (not (nullable a)) h in
+    let f = and_parts (is_fine a) (not (nullable a)) h in
     let p = alike a f.0 in
     record { firsts = p.firsts; mores = rw (p.firsts, p.mores) refl; empties = refl; fine = rw (p.fine, p.empties, f.1) refl }
 alike (Many a) h =

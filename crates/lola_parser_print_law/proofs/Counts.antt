@@ -2,7 +2,7 @@
 use Rattle.std.proofs.Common.{◌≡◌, ℕ, suc, ◌+◌, ◌≤◌, ◌<◌, Bool, true, false, not, ◌||◌, List, [], ◌∷◌, ◌++◌, Option, refl, ap, ◌∙◌, ◌⊎◌, arith, inl, inr, lt-ltb, ltb-true}
 use Rattle.std.specs.Bool.{if◌then◌else◌}
 use Rattle.std.specs.Prelude.{nat_lt, codes, ◌==◌}
-use Rattle.std.proofs.lemmas.Bool.{cases_lt}
+use Rattle.std.proofs.lemmas.Bool.{cases_lt, or_left}
 use Rattle.lola_lexer.specs.declared.shape.TokenShape.{TokenShape}
 use Rattle.lola_lexer.specs.declared.shape.TokenShape.TheVariants as is
 use Rattle.lola_parser_tree.specs.declared.literals.Name.{Name}
@@ -382,9 +382,6 @@ text_count z p = text_free z [] ∙ count-nil
 or_second : (b c : Bool) → b ≡ false → (b || c) ≡ c
 or_second b c h = ap (λ (d : Bool). d || c) h
 
-or_first : (b c : Bool) → b ≡ true → (b || c) ≡ true
-or_first b c h = ap (λ (d : Bool). d || c) h
-
 -- what has an integer at its front binds more tightly than any sign
 level_top : (x : Expr) → heads x ≡ true → level x ≡ 8
 level_top (e.Literal l) h = refl
@@ -395,10 +392,10 @@ level_top (e.Binary' op p q r s t) h = absurd cc
 level_top (e.If' p q r s t u v) h = absurd cc
 
 heads_other : (x : Expr) → heads x ≡ true → of_other x ≡ suc (alone x)
-heads_other x h = if_true (heads x || nat_lt (level x) 7) (bare x) (or_first (heads x) (nat_lt (level x) 7) h)
+heads_other x h = if_true (heads x || nat_lt (level x) 7) (bare x) (or_left (heads x) (nat_lt (level x) 7) h)
 
 heads_minus : (x : Expr) → heads x ≡ true → behind_minus x ≡ suc (alone x)
-heads_minus x h = if_true (heads x || nat_lt (level x) 6) (bare x) (or_first (heads x) (nat_lt (level x) 6) h)
+heads_minus x h = if_true (heads x || nat_lt (level x) 6) (bare x) (or_left (heads x) (nat_lt (level x) 6) h)
 
 pub no_heads_other : (x : Expr) → heads x ≡ false → of_other x ≡ at 7 x
 no_heads_other x h = ap (λ (b : Bool). count (bracketed_if b (bare x))) (or_second (heads x) (nat_lt (level x) 7) h)

@@ -5,6 +5,7 @@ use Rattle.std.specs.Fmt.{decimal}
 use Rattle.std.proofs.lemmas.Bool.Decides.{nat_tests}
 use Rattle.std.proofs.lemmas.Fmt.{decimal_by_steps_wide, length-decimal-le_wide}
 use Rattle.std.proofs.lemmas.List.Elements.{All-nil, All-cons, All-append}
+use Rattle.std.proofs.lemmas.Bool.{and_parts}
 use Rattle.lola_lexer.specs.declared.shape.TokenShape.{TokenShape}
 use Rattle.lola_lexer.specs.declared.shape.TokenShape.TheVariants as is
 use Rattle.lola_lexer.specs.Spelling.{IsWord, IsDigits, IsQuantity, IsToken}
@@ -16,7 +17,7 @@ use Rattle.lola_parser_tree.specs.declared.literals.Literal.{Literal}
 use Rattle.lola_parser_tree.specs.declared.literals.Value.{Value}
 use Rattle.lola_parser_tree.specs.declared.literals.Value.TheVariants as value
 use Rattle.lola_parser_grammars_law.specs.Syntax.{Lexeme, Of, Other, fits, same_shape, is_among, Token, Then, Map}
-use Rattle.lola_parser_grammars_law.proofs.Tests.{shape_is, and_both}
+use Rattle.lola_parser_grammars_law.proofs.Tests.{shape_is}
 use Rattle.lola_parser_grammar.specs.Literals.{number_of, text_of_literal}
 use Rattle.lola_parser_grammar.specs.Grammar as g
 use Rattle.lola_parser_grammar.specs.Grammar.{quantity_of}
@@ -62,7 +63,7 @@ of_shape s t h = shape_is s t.shape h
 
 other_shape : (ws : List (List ℕ)) (t : Lexeme) → fits (Other ws) t ≡ true → is.Name ≡ t.shape
 unfolding fits
-other_shape ws t h = shape_is is.Name t.shape (and_both (same_shape is.Name t.shape) (not (is_among t.text ws)) h).0
+other_shape ws t h = shape_is is.Name t.shape (and_parts (same_shape is.Name t.shape) (not (is_among t.text ws)) h).0
 
 shaped : (s : TokenShape) (t : Lexeme) → s ≡ t.shape → IsLexed t → IsToken s t.text
 shaped s t e h = subst (λ (r : TokenShape). IsToken r t.text) (sym e) h

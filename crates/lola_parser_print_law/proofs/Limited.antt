@@ -1,8 +1,8 @@
 -- What is read is spelled within the limit of marks.
 use Rattle.std.proofs.Common.{◌≡◌, ℕ, zero, suc, ◌-◌, true, List, [], ◌∷◌, ◌++◌, length, Some, None, Ok, Err, refl, sym, ap, subst, ◌∙◌, append_assoc, append-nil, arith, inl, inr, ◌⊎◌}
+use Rattle.std.proofs.lemmas.Bool.{and_parts}
 use Rattle.lola_parser_grammars_law.specs.Syntax.{Lexeme, Terminal, fits, Syntax, Past, Token, Mark, Whole, Known, Then, Map, Either, Maybe, Many, Fork, charged, either_rest, last_mark, Repeats, Perhaps, starts, first, Outcome, Reader, max_marks, repeated, read, all_read, read_all}
 use Rattle.lola_parser_grammars_law.specs.Marks.{tallies, guards, is_counted, Fits}
-use Rattle.lola_parser_grammars_law.proofs.Tests.{and_both}
 use Rattle.lola_parser_grammars_law.proofs.Laws.{bind_ok, done_is, chosen, IsSound}
 use Rattle.lola_parser_grammars_law.proofs.Over.{counts, fork_counted}
 
@@ -52,12 +52,12 @@ module _ (marks : List Terminal) where
       ]
   read_fits (Mark k) count m ts x i rest e = absurd cc
   read_fits (Whole a) count m ts x i rest e =
-      let c = and_both (tallies marks a) (guards (suc max_marks) a) count in
+      let c = and_parts (tallies marks a) (guards (suc max_marks) a) count in
       let t = counts marks a c.0 max_marks ts x i rest e in
       (t.0, t.1, (t.2, omega (arith, t.3)))
   read_fits (Known fs ms a) count m ts x i rest e = read_fits a count m ts x i rest e
   read_fits (Then a b) count m ts x i rest e =
-      let c = and_both (is_counted marks a) (is_counted marks b) count in
+      let c = and_parts (is_counted marks a) (is_counted marks b) count in
       let p = bind_ok (read a m ts) _ x i rest e in
       let q = bind_ok (read b p.1 p.2) _ x i rest p.4 in
       let d = done_is (p.0, q.0) x q.1 i q.2 rest q.4 in
@@ -71,7 +71,7 @@ module _ (marks : List Terminal) where
       let t = read_fits a count m ts p.0 p.1 p.2 p.3 in
       (t.0, t.1 ∙ ap (λ (w : List Lexeme). t.0 ++ w) d.2, (p.0, sym d.0, t.2))
   read_fits (Either a b) count m ts x i rest e =
-      let c = and_both (is_counted marks a) (is_counted marks b) count in
+      let c = and_parts (is_counted marks a) (is_counted marks b) count in
       elim (chosen (starts (first a) ts) _ _ _ e) [
         | inl d ↦ let t = read_fits a c.0 m ts x i rest d.1 in (t.0, t.1, inl t.2)
         | inr d ↦ let t = read_fits b c.1 m ts x i rest d.1 in (t.0, t.1, inr t.2)

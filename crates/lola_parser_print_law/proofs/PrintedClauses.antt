@@ -1,8 +1,9 @@
 -- What is printed of clauses spells them.
-use Rattle.std.proofs.Common.{◌≡◌, ℕ, suc, ◌≤◌, Bool, true, false, ◌||◌, true≢false, List, [], ◌∷◌, ◌++◌, map, Option, Some, None, refl, sym, ap, ◌∙◌, append_assoc, arith, inl, inr, ◌⊎◌}
+use Rattle.std.proofs.Common.{◌≡◌, ℕ, suc, ◌≤◌, Bool, true, false, true≢false, List, [], ◌∷◌, ◌++◌, map, Option, Some, None, refl, sym, ap, ◌∙◌, append_assoc, arith, inl, inr, ◌⊎◌}
 use Rattle.std.specs.Prelude.{codes}
 use Rattle.std.specs.Str.{bytes_eq}
 use Rattle.std.proofs.lemmas.Slice.Eq.{bytes_eq-Decides}
+use Rattle.std.proofs.lemmas.Bool.{or_parts}
 use Rattle.lola_lexer.specs.declared.shape.TokenShape.{TokenShape}
 use Rattle.lola_lexer.specs.declared.shape.TokenShape.TheVariants as is
 use Rattle.lola_parser_tree.specs.declared.literals.Name.{Name}
@@ -35,15 +36,11 @@ enclosed_spelled s u x h =
     after (token is.Open) (s <* token is.Shut) (lex is.Open ∷ []) (u ++ lex is.Shut ∷ []) 0 x (token_spelled is.Open)
     (before s (token is.Shut) u (lex is.Shut ∷ []) x 0 h (token_spelled is.Shut))
 
-either_false : (a b : Bool) → (a || b) ≡ false → (a ≡ false) × (b ≡ false)
-either_false true b h = absurd (true≢false h)
-either_false false b h = (refl, h)
-
 -- a name that is no clock
 pub other_spelled : (n : Name) → out.is_clock n.text ≡ false → Spells (g.other_name g.clock_words) (out.name n ∷ []) (erased.name n)
 unfolding Spells g.other_name fits
 other_spelled n h =
-    let parts = either_false (bytes_eq n.text (codes "Global")) (bytes_eq n.text (codes "Local")) h in
+    let parts = or_parts (bytes_eq n.text (codes "Global")) (bytes_eq n.text (codes "Local")) h in
     (out.name n, refl, (refl, rw (shapes_same is.Name is.Name refl, flipped n.text (codes "Global") parts.0, flipped n.text (codes "Local") parts.1) refl))
   where
     flip_by : (b : Bool) (v w : List ℕ) → bytes_eq w v ≡ b → bytes_eq v w ≡ false → b ≡ false

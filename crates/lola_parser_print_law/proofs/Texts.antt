@@ -1,6 +1,6 @@
 -- Texts are printed and read back.
 use Rattle.std.specs.Bool.{if◌then◌else◌}
-use Rattle.std.proofs.Common.{◌≡◌, ℕ, zero, suc, ◌+◌, ◌-◌, ◌≤◌, ◌<◌, ◌⊎◌, inl, inr, Bool, true, false, ◌&&◌, ◌==◌, List, [], ◌∷◌, ◌++◌, length, take, map, refl, sym, ap, subst, ◌∙◌, append-nil, arith, length-append, eqb-true, true≢false, ltb-true, lt-ltb, ◌/◌}
+use Rattle.std.proofs.Common.{◌≡◌, ℕ, zero, suc, ◌+◌, ◌-◌, ◌≤◌, ◌<◌, ◌⊎◌, inl, inr, Bool, true, false, ◌&&◌, ◌==◌, List, [], ◌∷◌, ◌++◌, length, take, map, refl, sym, ap, subst, ◌∙◌, append-nil, arith, length-append, eqb-true, ltb-true, lt-ltb, ◌/◌}
 use Rattle.std.specs.List.{All, concat, flat_map, slice_index}
 use Rattle.std.specs.Str.{IsUtf8}
 use lib.Utf8.{scalar, scalars, encode, encodes, next}
@@ -9,8 +9,8 @@ use Rattle.std.proofs.lemmas.Bool.Decides.{nat_tests}
 use Rattle.std.proofs.lemmas.List.{take_at}
 use Rattle.std.proofs.lemmas.List.Elements.{All-nil, All-cons}
 use Rattle.std.proofs.lemmas.Str.{IsUtf8-append, IsUtf8-from_ascii, IsUtf8-take, IsUtf8-past_char, IsCharBoundary-at_seam}
+use Rattle.std.proofs.lemmas.Bool.{and_parts, false_from_ne_true}
 use Rattle.lola_lexer.specs.Spelling.{is_plain, is_escape, IsPiece, IsText}
-use Rattle.lola_lexer.proofs.Runs.{not_true}
 use Rattle.lola_parser_grammar.specs.Literals.{escaped, unescaped, text_of_literal}
 use Rattle.lola_parser_print.specs.Print as out
 use Rattle.lola_parser_print.specs.Print.{escape}
@@ -92,7 +92,7 @@ order m n = by (ltb m n) refl
     by false e = inr (grind (arith, nat_tests))
 
 not_below : (m n : ℕ) → n ≤ m → ltb m n ≡ false
-not_below m n h = not_true (ltb m n) (λ e. absurd (omega (arith, ltb-true m n e)))
+not_below m n h = false_from_ne_true (ltb m n) (λ e. absurd (omega (arith, ltb-true m n e)))
 
 one : (c : ℕ) → c < 128 → encode c ≡ c ∷ []
 unfolding encode
@@ -109,10 +109,6 @@ three c l h = rw (not_below c 128 (omega arith), not_below c 2048 l, lt-ltb c 65
 four : (c : ℕ) → 65536 ≤ c → encode c ≡ (240 + c / 262144) ∷ next (c / 4096) ∷ next (c / 64) ∷ next c ∷ []
 unfolding encode
 four c l = rw (not_below c 128 (omega arith), not_below c 2048 (omega arith), not_below c 65536 l) refl
-
-both : (x y : Bool) → (x && y) ≡ true → (x ≡ true) × (y ≡ true)
-both true y h = (refl, h)
-both false y h = absurd (true≢false (sym h))
 
 low_utf8 : (b : ℕ) → b < 128 → IsUtf8 (b ∷ [])
 low_utf8 b h = IsUtf8-from_ascii (b ∷ []) (λ i. at i)
@@ -141,7 +137,7 @@ high c h = by (order c 2048) (order c 65536)
     by (inr _) (inr g) = subst (λ (w : List ℕ). High w × HasBytes w) (sym (four c g)) ((omega arith, (omega arith, (omega arith, (omega arith, tt)))), tt)
 
 differs : (b k : ℕ) → 128 ≤ b → k < 128 → (b == k) ≡ false
-differs b k h l = not_true (b == k) (λ e. absurd (omega (arith, eqb-true b k e)))
+differs b k h l = false_from_ne_true (b == k) (λ e. absurd (omega (arith, eqb-true b k e)))
 
 high_itself : (b : ℕ) → 128 ≤ b → escape b ≡ b ∷ []
 high_itself b h =
@@ -160,13 +156,13 @@ escape_utf8 b h = by (is_written b)
 
 chars_written : (cs : List ℕ) → scalars cs ≡ true → IsUtf8 (flat_map escape (encodes cs))
 chars_written [] h = ([], (refl, refl))
-chars_written (c ∷ cs) h = by (chars_written cs (both (scalar c) (scalars cs) h).1) (order c 128)
+chars_written (c ∷ cs) h = by (chars_written cs (and_parts (scalar c) (scalars cs) h).1) (order c 128)
   where
     by : IsUtf8 (flat_map escape (encodes cs)) → (c < 128) ⊎ (128 ≤ c) → IsUtf8 (flat_map escape (encode c ++ encodes cs))
     by rest (inl l) = subst (λ (w : List ℕ). IsUtf8 (flat_map escape (w ++ encodes cs))) (sym (one c l)) (IsUtf8-append (escape c) (flat_map escape (encodes cs)) (escape_utf8 c l) rest)
     by rest (inr g) =
         subst IsUtf8 (sym (high_written (encode c) (encodes cs) (high c g).0))
-        (IsUtf8-append (encode c) (flat_map escape (encodes cs)) (char_utf8 c (both (scalar c) (scalars cs) h).0) rest)
+        (IsUtf8-append (encode c) (flat_map escape (encodes cs)) (char_utf8 c (and_parts (scalar c) (scalars cs) h).0) rest)
 
 written_utf8 : (z : List ℕ) → IsUtf8 z → IsUtf8 (flat_map escape z)
 written_utf8 z (cs, h) = subst (λ (w : List ℕ). IsUtf8 (flat_map escape w)) h.1 (chars_written cs h.0)
@@ -202,7 +198,7 @@ front_utf8 b z h k = IsUtf8-append (b ∷ []) z (low_utf8 b h) k
 
 chars_read : (flag : Bool) (cs : List ℕ) → scalars cs ≡ true → IsUtf8 (unescaped flag (encodes cs))
 chars_read flag [] h = ([], (refl, refl))
-chars_read flag (c ∷ cs) h = by (λ next. chars_read next cs (both (scalar c) (scalars cs) h).1) (order c 128)
+chars_read flag (c ∷ cs) h = by (λ next. chars_read next cs (and_parts (scalar c) (scalars cs) h).1) (order c 128)
   where
     here : ((next : Bool) → IsUtf8 (unescaped next (encodes cs))) → (x : Bool) → c < 128 → IsUtf8 (if x then unescaped true (encodes cs) else c ∷ unescaped false (encodes cs))
     here rest true l = rest true
@@ -216,7 +212,7 @@ chars_read flag (c ∷ cs) h = by (λ next. chars_read next cs (both (scalar c) 
     by rest (inl l) = subst (λ (w : List ℕ). IsUtf8 (unescaped flag (w ++ encodes cs))) (sym (one c l)) (low rest flag l)
     by rest (inr g) =
         subst IsUtf8 (sym (after_char (encode c) (encodes cs) flag (high c g).0 (high c g).1))
-        (IsUtf8-append (encode c) (unescaped false (encodes cs)) (char_utf8 c (both (scalar c) (scalars cs) h).0) (rest false))
+        (IsUtf8-append (encode c) (unescaped false (encodes cs)) (char_utf8 c (and_parts (scalar c) (scalars cs) h).0) (rest false))
 
 read_utf8 : (z : List ℕ) → IsUtf8 z → IsUtf8 (unescaped false z)
 read_utf8 z (cs, h) = subst (λ (w : List ℕ). IsUtf8 (unescaped false w)) h.1 (chars_read false cs h.0)

@@ -1,6 +1,7 @@
 -- What is printed keeps the limit of marks in each whole expression and formula, where the trees need no more.
 use Rattle.std.proofs.Common.{◌≡◌, ℕ, suc, ◌+◌, ◌≤◌, Bool, true, false, ◌&&◌, List, [], ◌∷◌, ◌++◌, map, Option, Some, None, refl, sym, ap, subst, ◌∙◌, append-nil, arith, inl, inr, ◌⊎◌}
 use Rattle.std.specs.Prelude.{codes}
+use Rattle.std.proofs.lemmas.Bool.{and_parts}
 use Rattle.lola_lexer.specs.declared.shape.TokenShape.{TokenShape}
 use Rattle.lola_lexer.specs.declared.shape.TokenShape.TheVariants as is
 use Rattle.lola_parser_tree.specs.declared.literals.Name.{Name}
@@ -23,7 +24,6 @@ use Rattle.lola_parser_tree.specs.declared.declarations.Declaration.TheVariants 
 use Rattle.lola_parser_grammars_law.specs.Syntax.{Lexeme, Syntax, Past, Token, Mark, Whole, Known, Then, Map, Either, Maybe, Many, Fork, Repeats, Spells, max_marks}
 use Rattle.lola_parser_grammars_law.specs.Marks as marks
 use Rattle.lola_parser_grammars_law.specs.Marks.{marks_in}
-use Rattle.lola_parser_grammars_law.proofs.Tests.{and_both}
 use Rattle.lola_parser_grammar.specs.Grammar as g
 use Rattle.lola_parser_grammar.specs.Grammar.{all_marks, token, mark, word, expr_in, other_in, formula_in, ◌*>◌, ◌<*◌}
 use Rattle.lola_parser_print.specs.Print as out
@@ -70,10 +70,10 @@ plain (Token k) p ts x h = h
 plain (Mark k) p ts x h = h
 plain (Whole a) p ts x h = absurd cc
 plain (Known fs ms a) p ts x h = plain a p ts x h
-plain (Then a b) p ts x h = let q = and_both (is_plain a) (is_plain b) p in (h.0, h.1, h.2, plain a q.0 h.0 x.0 h.3, plain b q.1 h.1 x.1 h.4)
+plain (Then a b) p ts x h = let q = and_parts (is_plain a) (is_plain b) p in (h.0, h.1, h.2, plain a q.0 h.0 x.0 h.3, plain b q.1 h.1 x.1 h.4)
 plain (Map f a) p ts x h = (h.0, h.1, plain a p ts h.0 h.2)
-plain (Either a b) p ts x (inl h) = inl (plain a (and_both (is_plain a) (is_plain b) p).0 ts x h)
-plain (Either a b) p ts x (inr h) = inr (plain b (and_both (is_plain a) (is_plain b) p).1 ts x h)
+plain (Either a b) p ts x (inl h) = inl (plain a (and_parts (is_plain a) (is_plain b) p).0 ts x h)
+plain (Either a b) p ts x (inr h) = inr (plain b (and_parts (is_plain a) (is_plain b) p).1 ts x h)
 plain (Maybe a) p ts None h = h
 plain (Maybe a) p ts (Some x) h = plain a p ts x h
 plain (Many a) p ts xs h = repeats_all (Spells a) (Keeps a) (plain a p) ts xs h

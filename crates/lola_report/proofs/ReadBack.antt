@@ -3,7 +3,7 @@ use Rattle.std.proofs.Common.{◌≡◌, ◌≢◌, ◌<◌, ◌≤◌, ◌+◌,
 use Rattle.std.specs.Prelude.{nat_eq, nat_le}
 use Rattle.std.specs.List.{AllZip, after_first, before_first, list_all}
 use Rattle.std.proofs.Math.Seq.{get_or-append_seam}
-use Rattle.std.proofs.lemmas.Bool.{and_from, and_parts, cases_Bool, leb-true, lt-ltb, ltb-true, ne_eqb}
+use Rattle.std.proofs.lemmas.Bool.{and_from, and_parts, cases_Bool, leb-true, lt-ltb, ltb-true, ne_eqb, not-true}
 use Rattle.std.proofs.lemmas.Int.{ints}
 use Rattle.std.proofs.lemmas.List.{append_cancel_right, length-append}
 use Rattle.std.proofs.lemmas.Option.{unwrap_or-slice_get}
@@ -230,10 +230,6 @@ mark-ranged (b ∷ bs) m h = elim (cases_Bool (nat_eq b 76)) [
       subst IsMarkInTime e (time-ranged bs t is)
   | inr other ↦ let e : mark.Accepted ≡ m = cc (rw other at h) in subst IsMarkInTime e tt
 ]
-
-not-true : (b : Bool) → not b ≡ true → b ≡ false
-not-true true h = absurd (cc h)
-not-true false h = refl
 
 text-fits : (t : List ℕ) → bytes_equal t (codes "#") ≡ false → is_field_text t ≡ true → IsTraceableText t
 text-fits t sign h =

@@ -3,7 +3,7 @@ use Rattle.std.proofs.Common.{◌≡◌, ℕ, ℤ, pos, negsuc, ◌+◌, ◌-◌
 use Rattle.std.specs.Prelude.{◌&&◌, nat_eq, nat_lt, not, IsTrue}
 use Rattle.std.specs.List.{list_all}
 use Rattle.std.specs.Fmt.{decimal, digits, digits_onto, digit_glyph}
-use Rattle.std.proofs.lemmas.Bool.{and_from, and_parts, or_from, lt-ltb, ltb-true, ne_eqb, cond_both}
+use Rattle.std.proofs.lemmas.Bool.{and_from, and_parts, or_from, lt-ltb, ltb-true, ne_eqb, cond_both, not-true}
 use Rattle.std.proofs.lemmas.List.Folds.{list_all-append}
 use Rattle.csv.specs.Writing.{default_writer, needs_byte, needs_quotes}
 use Rattle.lola_value.specs.Numbers.{integer_text}
@@ -30,9 +30,6 @@ pub mild_and : (b : ℕ) (t : List ℕ) → is_mild b ≡ true → Mild t → Mi
 mild_and b t p q = and_from (is_mild b) (list_all is_mild t) p q
 
 -- it has no LF
-not_true : (b : Bool) → not b ≡ true → b ≡ false
-not_true true e = absurd (cc e)
-not_true false e = refl
 
 above : (b : ℕ) → is_mild b ≡ true → 34 < b
 above b p = ltb-true 34 b (and_parts (nat_lt 34 b) (not (nat_eq b 44)) p).0
@@ -50,7 +47,7 @@ mild_plain (b ∷ t) p =
 byte_unquoted : (b : ℕ) → is_mild b ≡ true → needs_byte default_writer b ≡ false
 byte_unquoted b p =
     let high = above b p in
-    let comma : nat_eq b 44 ≡ false = not_true (nat_eq b 44) (and_parts (nat_lt 34 b) (not (nat_eq b 44)) p).1 in
+    let comma : nat_eq b 44 ≡ false = not-true (nat_eq b 44) (and_parts (nat_lt 34 b) (not (nat_eq b 44)) p).1 in
     let quote : nat_eq b 34 ≡ false = ne_eqb b 34 (λ e. omega arith) in
     let return : nat_eq b 13 ≡ false = ne_eqb b 13 (λ e. omega arith) in
     let feed : nat_eq b 10 ≡ false = ne_eqb b 10 (λ e. omega arith) in

@@ -1,6 +1,6 @@
 -- What holds of the streams below a number in each loop over those that have a turn, and that it goes on past a stream that has none.
 use Rattle.std.proofs.Common.{◌≡◌, refl, ap, ◌∙◌, sym, subst, ℕ, ◌+◌, ◌<◌, ◌≤◌, List, [], ◌∷◌, ◌++◌, Option, Some, None, Bool, true, false, not, ◌&&◌, if◌then◌else◌, nat_eq, get_or, set, length, slice_get, take, drop, vec_len, arith, append-nil}
-use Rattle.std.proofs.lemmas.Bool.{eq-eqb}
+use Rattle.std.proofs.lemmas.Bool.{eq-eqb, not-false, not-true}
 use Rattle.std.proofs.lemmas.List.{set-get_or, take-append-drop}
 use Rattle.std.proofs.lemmas.Option.{slice_get-get_or, slice_get_within}
 use Rattle.std.specs.Global.{Vec}
@@ -264,14 +264,6 @@ module _ (plan : Plan) (accepted : IsAccepted plan) (is_row : Bool) (inputs : Li
 
 -- values that may have lines
 
-not_shown : (b : Bool) → not b ≡ false → b ≡ true
-not_shown true e = refl
-not_shown false e = absurd (cc)
-
-is_shown : (b : Bool) → not b ≡ true → b ≡ false
-is_shown true e = absurd (cc)
-is_shown false e = refl
-
 module _ (plan : Plan) (show : Show) (s : Seen) (tasks : List Task) (results : List Outcome) (spans : List Span) where
   -- those of the streams below a number are collected, and there is room for the others
   pub record AreCollected (verdicts : Vec Verdict) (n : ℕ) : Type 0 where
@@ -290,7 +282,7 @@ module _ (plan : Plan) (show : Show) (s : Seen) (tasks : List Task) (results : L
         → AreCollected verdicts n → AreCollected verdicts (n + 1)
     collected_past verdicts n x at none h =
         let p : Span = get_or spans n no_span in
-        let hidden : is_hidden show x ≡ true = not_shown (is_hidden show x) none in
+        let hidden : is_hidden show x ≡ true = not-false (is_hidden show x) none in
         let vs : List Verdict = verdicts_among s n (asked_in tasks (Some p)) (in_span results (Some p)) in
         record {
           items = streams_step show s tasks results plan.spec.streams spans n verdicts.items h.items x no_span _ _ verdicts.items at (omega (arith, long, slice_get_within plan.spec.streams n x at)) refl refl
@@ -304,7 +296,7 @@ module _ (plan : Plan) (show : Show) (s : Seen) (tasks : List Task) (results : L
         → vec_len verdicts' + total (drop (n + 1) (rooms s)) ≤ total (rooms s)
         → AreCollected verdicts n → AreCollected verdicts' (n + 1)
     collected_next verdicts verdicts' n x p at turns same e count h =
-        let shown : is_hidden show x ≡ false = is_shown (is_hidden show x) turns in
+        let shown : is_hidden show x ≡ false = not-true (is_hidden show x) turns in
         let vs : List Verdict = verdicts_among s n (asked_in tasks (Some p)) (in_span results (Some p)) in
         record {
           items = streams_step show s tasks results plan.spec.streams spans n verdicts.items h.items x no_span _ _ verdicts'.items at (omega (arith, long, slice_get_within plan.spec.streams n x at))

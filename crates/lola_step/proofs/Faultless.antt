@@ -1,6 +1,6 @@
 -- Where no spawn clause failed and no outcome is a fault, no stream has one.
 use Rattle.std.proofs.Common.{◌≡◌, refl, ap, ◌∙◌, sym, ℕ, zero, suc, ◌+◌, ◌<◌, ◌≤◌, ◌⊎◌, inl, inr, List, [], ◌∷◌, ◌++◌, Option, Some, None, Bool, true, false, ◌||◌, get_or, replicate, set, length, slice_get, take, drop}
-use Rattle.std.proofs.lemmas.Bool.{cases_eq}
+use Rattle.std.proofs.lemmas.Bool.{cases_eq, or_parts, or_from}
 use Rattle.std.proofs.lemmas.List.{drop_more, get_or-replicate}
 use Rattle.std.proofs.lemmas.Option.{get_or_from_slice_get, slice_get_within}
 use Rattle.lola_value.specs.declared.value.FaultKind.{FaultKind}
@@ -16,10 +16,6 @@ use Rattle.lola_step.proofs.Shown.{set_else, set_here}
 
 -- one of several
 
-pub neither : (a b : Bool) → (a || b) ≡ false → (a ≡ false) × (b ≡ false)
-neither true b e = absurd (cc)
-neither false b e = (refl, e)
-
 or_assoc : (a b c : Bool) → ((a || b) || c) ≡ (a || (b || c))
 or_assoc true b c = refl
 or_assoc false b c = refl
@@ -33,10 +29,6 @@ or_false : (a : Bool) → a ≡ (a || false)
 or_false true = refl
 or_false false = refl
 
-both_false : (a b : Bool) → a ≡ false → b ≡ false → (a || b) ≡ false
-both_false true b e f = absurd (cc)
-both_false false b e f = f
-
 -- outcomes
 
 joined : (os rs : List Outcome) → has_fault (os ++ rs) ≡ (has_fault os || has_fault rs)
@@ -45,7 +37,7 @@ joined (o ∷ os) rs = ap (λ b. is_fault o || b) (joined os rs) ∙ sym (or_ass
 
 -- those of one more layer
 pub faultless_more : (os rs all : List Outcome) → os ++ rs ≡ all → has_fault os ≡ false → has_fault rs ≡ false → has_fault all ≡ false
-faultless_more os rs all e f g = ap has_fault (sym e) ∙ (joined os rs ∙ both_false (has_fault os) (has_fault rs) f g)
+faultless_more os rs all e f g = ap has_fault (sym e) ∙ (joined os rs ∙ or_from (has_fault os) (has_fault rs) f g)
 
 -- of one more among those to come
 pub fault_step : (os : List Outcome) (i : ℕ) (d : Outcome) (was now : Bool) → i < length os → now ≡ (is_fault (get_or os i d) || was)
@@ -62,13 +54,13 @@ fault_taken : (k : ℕ) (os : List Outcome) → has_fault os ≡ false → has_f
 fault_taken zero os e = refl
 fault_taken (suc k) [] e = refl
 fault_taken (suc k) (o ∷ os) e =
-    let p = neither (is_fault o) (has_fault os) e in
-    both_false (is_fault o) (has_fault (take k os)) p.0 (fault_taken k os p.1)
+    let p = or_parts (is_fault o) (has_fault os) e in
+    or_from (is_fault o) (has_fault (take k os)) p.0 (fault_taken k os p.1)
 
 fault_dropped : (k : ℕ) (os : List Outcome) → has_fault os ≡ false → has_fault (drop k os) ≡ false
 fault_dropped zero os e = e
 fault_dropped (suc k) [] e = refl
-fault_dropped (suc k) (o ∷ os) e = fault_dropped k os (neither (is_fault o) (has_fault os) e).1
+fault_dropped (suc k) (o ∷ os) e = fault_dropped k os (or_parts (is_fault o) (has_fault os) e).1
 
 one_least : (o : Outcome) (rest : Option FaultKind) → is_fault o ≡ false → add_fault o rest ≡ rest
 one_least (outcome.Fault k) rest e = absurd (cc)
@@ -79,7 +71,7 @@ one_least outcome.Poison rest e = refl
 none_least : (os : List Outcome) → has_fault os ≡ false → least_among os ≡ None
 none_least [] e = refl
 none_least (o ∷ os) e =
-    let p = neither (is_fault o) (has_fault os) e in
+    let p = or_parts (is_fault o) (has_fault os) e in
     one_least o (least_among os) p.0 ∙ none_least os p.1
 
 -- marks

@@ -1,6 +1,6 @@
 -- What a layer's outcomes are in each run: those of the model.
 use Rattle.std.proofs.Common.{◌≡◌, refl, ap, ◌∙◌, sym, subst, ℕ, zero, suc, ◌+◌, ◌<◌, ◌≤◌, ◌⊎◌, inl, inr, List, [], ◌∷◌, ◌++◌, Option, Some, None, Bool, true, false, not, ◌&&◌, nat_eq, nat_lt, if◌then◌else◌, length, map, slice_get, take, drop, arith, length-append, get_or, add-zero, zero-add}
-use Rattle.std.proofs.lemmas.Bool.{cases_eq, eqb-true, not-true, eq-eqb}
+use Rattle.std.proofs.lemmas.Bool.{cases_eq, eqb-true, not-true, eq-eqb, and_parts}
 use Rattle.std.proofs.lemmas.Option.{slice_get-get_or, slice_get_within}
 use Rattle.lola_value.specs.Answer.{Answer, Missing}
 use Rattle.lola_value.specs.Naming.{Naming, AreHeld, IsHeldIn, read_outcome, read_params, the_values}
@@ -105,11 +105,6 @@ fine_is SpawnPoisoned = refl
 and_same : (a p q : Bool) → (a ≡ true → p ≡ q) → (a && p) ≡ (a && q)
 and_same true p q h = h refl
 and_same false p q h = refl
-
-both_true : (a b : Bool) → (a && b) ≡ true → (a ≡ true) × (b ≡ true)
-both_true true true e = (refl, refl)
-both_true true false e = absurd (cc)
-both_true false b e = absurd (cc)
 
 -- where the first is false the second is
 both_false : (a b q : Bool) → (a ≡ false → b ≡ false) → (a && q) ≡ false → (b && q) ≡ false
@@ -338,9 +333,9 @@ module _ (plan : Plan) (m : Moment) (marks : List Mark) (sought : List Whereabou
       reads : runs_in plan m marks layer n x ≡ true → KnownToRun
       reads e =
           let run_there : is_run_in plan m.start step full layer n x ≡ true = sym same_runs ∙ e in
-          let a = both_true (not (is_input x)) _ run_there in
-          let b = both_true (nat_eq (layer_of plan.layers (eval_node n)) layer) _ a.1 in
-          let d = both_true may (not (is_bad did)) b.1 in
+          let a = and_parts (not (is_input x)) _ run_there in
+          let b = and_parts (nat_eq (layer_of plan.layers (eval_node n)) layer) _ a.1 in
+          let d = and_parts may (not (is_bad did)) b.1 in
           record {
             here = here_is a.0 b.0;
             is_good = not-true (is_bad did) d.1;

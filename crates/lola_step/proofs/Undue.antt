@@ -1,5 +1,6 @@
 -- An instance that has no deadline of its stream at a moment is not asked for a local clause.
 use Rattle.std.proofs.Common.{◌≡◌, refl, ap, ◌∙◌, sym, subst, ℕ, zero, suc, ◌-◌, List, [], ◌∷◌, ◌++◌, Option, Some, None, Bool, true, false, ◌||◌, drop, slice_get}
+use Rattle.std.proofs.lemmas.Bool.{or_parts}
 use Rattle.lola_value.specs.Ratio.{Ratio}
 use Rattle.lola_model.specs.Activity.{is_deadline}
 use Rattle.lola_model.specs.Dues.{is_due, locals_of}
@@ -13,10 +14,6 @@ use Rattle.lola_model.specs.declared.spec.Stream.{Stream}
 use Rattle.lola_step.specs.Moments.{IsListedIn, active_at, active_for_in}
 use Rattle.lola_step.specs.Progress.{IsOf}
 use Rattle.lola_step.specs.declared.moment.Moment.{Moment}
-
-none_of_both : (a b : Bool) → (a || b) ≡ false → (a ≡ false) × (b ≡ false)
-none_of_both true b e = absurd (cc)
-none_of_both false b e = (refl, e)
 
 or_assoc : (a b c : Bool) → (a || (b || c)) ≡ ((a || b) || c)
 or_assoc true b c = refl
@@ -33,13 +30,13 @@ due_append born time (x ∷ xs) ys =
 eval_listed : (o : Option ClausePacings) → IsListedIn (eval_pacing o) (local_rates o)
 eval_listed None born time e = refl
 eval_listed (Some c) born time e =
-    (none_of_both (is_due (local_rate_of c.eval) born time) (is_due (local_rate_of c.close) born time)
+    (or_parts (is_due (local_rate_of c.eval) born time) (is_due (local_rate_of c.close) born time)
     (sym (due_append born time (local_rate_of c.eval) (local_rate_of c.close)) ∙ e)).0
 
 close_listed : (o : Option ClausePacings) → IsListedIn (close_pacing o) (local_rates o)
 close_listed None born time e = refl
 close_listed (Some c) born time e =
-    (none_of_both (is_due (local_rate_of c.eval) born time) (is_due (local_rate_of c.close) born time)
+    (or_parts (is_due (local_rate_of c.eval) born time) (is_due (local_rate_of c.close) born time)
     (sym (due_append born time (local_rate_of c.eval) (local_rate_of c.close)) ∙ e)).1
 
 first_dropped : (ps : List ClausePacings) (n : ℕ) → slice_get (drop 1 ps) n ≡ slice_get ps (suc n)
@@ -70,5 +67,5 @@ pub undue_is_inactive : (m : Moment) (born : ℕ) (r : Ratio) (rates : List Rati
 undue_is_inactive m born r rates listed e = by m.present
   where
     by : (o : Option ℕ) → active_at born m.time o (Periodic r) ≡ false
-    by None = (none_of_both (is_deadline r (m.time - born)) false (listed born m.time e)).0
+    by None = (or_parts (is_deadline r (m.time - born)) false (listed born m.time e)).0
     by (Some inputs) = refl

@@ -1,7 +1,7 @@
 -- A whole expression of a clause that is active can be asked for.
 use Rattle.std.proofs.Common.{◌≡◌, refl, sym, subst, ◌∙◌, ℕ, zero, suc, ◌+◌, ◌-◌, ◌<◌, ◌≤◌, List, [], ◌∷◌, Option, Some, Bool, true, ◌&&◌, arith, if◌then◌else◌, nat_le, nat_lt, length, drop, slice_get}
 use Rattle.std.specs.List.{Contains}
-use Rattle.std.proofs.lemmas.Bool.{eq-eqb, le-leb, ltb-true}
+use Rattle.std.proofs.lemmas.Bool.{eq-eqb, le-leb, ltb-true, and_from}
 use Rattle.lola_value.specs.declared.value.Kind.{Kind}
 use Rattle.lola_value.specs.declared.value.Params.{Params}
 use Rattle.lola_value.specs.declared.value.Value.{Value}
@@ -31,7 +31,7 @@ use Rattle.lola_model.specs.declared.plan.Plan.{Plan}
 use Rattle.lola_model.specs.declared.spec.Part.{Part}
 use Rattle.lola_model.specs.declared.spec.Stream.{Stream}
 use Rattle.lola_expr.proofs.Asks.{typed_in_plan}
-use Rattle.lola_expr.proofs.OperandLemmas.{first, second, both}
+use Rattle.lola_expr.proofs.OperandLemmas.{first, second}
 use Rattle.lola_expr.proofs.Parts.{same_kind-true}
 use Rattle.lola_expr.specs.Evaluation.{literal_is_named, part_is_named, same_text}
 use Rattle.lola_step_law.specs.Ready.{HasTexts, IsAskable, IsAtStep}
@@ -96,7 +96,7 @@ module _ (plan : Plan) (s : Seen) (accepted : IsAccepted plan) (layout : s.layou
   offset_kept n k lt above below =
       let kept = kept_in (slice_get (layouts_from plan.spec.streams plan.kept plan.pacings) n) in
       let is : kept ≡ 1 + greatest_offset (offsets_onto n plan.spec) = accepted.bounds.kept n kept (kept_at plan.spec.streams plan.kept plan.pacings n lt accepted.bounds.kept_count) in
-      both (nat_le 1 k) (nat_le k (kept - 1)) above (le-leb k (kept - 1) (omega (arith, is, below)))
+      and_from (nat_le 1 k) (nat_le k (kept - 1)) above (le-leb k (kept - 1) (omega (arith, is, below)))
 
   -- and no access does
   access_kept : (place : Place) (n : ℕ) (how : Access) (args : Arguments) → n < length (layouts_from plan.spec.streams [] []) → IsKnownOf plan s (Read place n how args)
@@ -116,7 +116,7 @@ module _ (plan : Plan) (s : Seen) (accepted : IsAccepted plan) (layout : s.layou
       let lt = ltb-true n (length (layouts_from plan.spec.streams [] []))
       (first (nat_lt n (length (layouts_from plan.spec.streams [] []))) (same_kinds (noted_all args) (parameters_of (slice_get (layouts_from plan.spec.streams [] []) n))) reference) in
       subst (λ (l : Layout). (has_few (slice_get l.streams n) && is_kept (slice_get l.streams n) how) ≡ true) (sym layout)
-      (both (has_few (slice_get (layouts_from plan.spec.streams plan.kept plan.pacings) n)) (is_kept (slice_get (layouts_from plan.spec.streams plan.kept plan.pacings) n) how)
+      (and_from (has_few (slice_get (layouts_from plan.spec.streams plan.kept plan.pacings) n)) (is_kept (slice_get (layouts_from plan.spec.streams plan.kept plan.pacings) n) how)
       (few_at plan.spec.streams plan.kept plan.pacings n accepted.named.few_parameters) (access_kept place n how args lt k))
   part_ready (Window place i args) h k =
       subst (λ (l : Layout). (target_few l.streams (slice_get l.windows i) && is_whole_pane s (pane_of (slice_get l.panes i))) ≡ true) (sym layout)

@@ -2,13 +2,14 @@
 use Rattle.std.proofs.Common.{◌≡◌, ℕ, List, ◌++◌, Bool, true, ◌&&◌, refl}
 use Rattle.std.specs.List.{Contains}
 use Rattle.std.proofs.lemmas.List.Elements.{Contains-append_left, Contains-append_right}
+use Rattle.std.proofs.lemmas.Bool.{and_from}
 use Rattle.lola_model.specs.Parts.{listed, listed_all}
 use Rattle.lola_model.specs.Typing.{each_part, each_argument}
 use Rattle.lola_model.specs.declared.expr.Expr.{Expr}
 use Rattle.lola_model.specs.declared.expr.Expr.TheVariants.{Literal, Parameter, Read, Window, Defaults', Unary', Both', Choice'}
 use Rattle.lola_model.specs.declared.expr.Arguments.{Arguments}
 use Rattle.lola_model.specs.declared.expr.Arguments.TheVariants.{End, More'}
-use Rattle.lola_expr.proofs.OperandLemmas.{first, second, both}
+use Rattle.lola_expr.proofs.OperandLemmas.{first, second}
 
 module _ (I : Type 0) (g : I → Expr → List ℕ) (Q : I → ℕ → Type 0) where
   -- this is known of all numbers of these lists
@@ -19,7 +20,7 @@ module _ (I : Type 0) (g : I → Expr → List ℕ) (Q : I → ℕ → Type 0) w
   pair : (f1 f2 h1 h2 : Bool) (xs ys : I → List ℕ) → (f1 ≡ true → Known xs → h1 ≡ true) → (f2 ≡ true → Known ys → h2 ≡ true)
       → (f1 && f2) ≡ true → Known (λ i. xs i ++ ys i) → (h1 && h2) ≡ true
   pair f1 f2 h1 h2 xs ys one two p k =
-      both h1 h2
+      and_from h1 h2
       (one (first f1 f2 p) (λ i x c. k i x (Contains-append_left (xs i) (ys i) x c)))
       (two (second f1 f2 p) (λ i x c. k i x (Contains-append_right (xs i) (ys i) x c)))
 

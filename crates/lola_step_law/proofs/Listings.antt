@@ -1,7 +1,7 @@
 -- What is known of the numbers that stand in the expressions of an accepted plan: offsets, windows and texts.
 use Rattle.std.proofs.Common.{◌≡◌, refl, ap, subst, ◌∙◌, ℕ, zero, suc, ◌-◌, ◌%◌, ◌<◌, ◌≤◌, List, [], ◌∷◌, Option, Some, None, Bool, true, ◌&&◌, arith, nat_eq, nat_le, nat_lt, length, drop, slice_get, inl, inr}
 use Rattle.std.specs.List.{Contains}
-use Rattle.std.proofs.lemmas.Bool.{eqb-true, eq-eqb, le-leb, ltb-true}
+use Rattle.std.proofs.lemmas.Bool.{eqb-true, eq-eqb, le-leb, ltb-true, and_from}
 use Rattle.lola_value.specs.declared.value.Kind.{Kind}
 use Rattle.lola_model.proofs.Strictly.{Contains-cases, Contains-none}
 use Rattle.lola_model.specs.Acceptance.{IsAccepted}
@@ -20,7 +20,7 @@ use Rattle.lola_model.specs.declared.spec.Part.{Part}
 use Rattle.lola_model.specs.declared.spec.Part.TheVariants as part
 use Rattle.lola_model.specs.declared.spec.Stream.{Stream}
 use Rattle.lola_model.specs.declared.spec.WindowSpec.{WindowSpec}
-use Rattle.lola_expr.proofs.OperandLemmas.{first, second, both}
+use Rattle.lola_expr.proofs.OperandLemmas.{first, second}
 use Rattle.lola_step_law.specs.Ready.{IsAtStep}
 use Rattle.lola_step_law.proofs.Among.{IsAmong, whole}
 use Rattle.lola_step_law.proofs.Moments.{whole_panes}
@@ -94,7 +94,7 @@ module _ (plan : Plan) (start : ℕ) (step : Step) (s : Seen) (accepted : IsAcce
       let moment : (time_seen s - start_seen s) % pane ≡ (step.time - start) % pane =
       ap (λ t. (t - start_seen s) % pane) at.time_is ∙ ap (λ t. (step.time - t) % pane) at.start_is in
       let order : start_seen s ≤ time_seen s = (let a = at.start_is in let b = at.time_is in let c = at.order in omega (arith, a, b, c)) in
-      both (nat_le (start_seen s) (time_seen s)) (nat_eq ((time_seen s - start_seen s) % pane) 0)
+      and_from (nat_le (start_seen s) (time_seen s)) (nat_eq ((time_seen s - start_seen s) % pane) 0)
       (le-leb (start_seen s) (time_seen s) order)
       (eq-eqb ((time_seen s - start_seen s) % pane) 0 (moment ∙ rest))
 
@@ -103,7 +103,7 @@ module _ (plan : Plan) (start : ℕ) (step : Step) (s : Seen) (accepted : IsAcce
       → (target_few (layout_of plan).streams o && is_whole_pane s (pane_of (slice_get plan.panes i))) ≡ true
   asked_window i None e h = absurd (cc)
   asked_window i (Some w) e h =
-      both (has_few (slice_get (layout_of plan).streams w.target)) (is_whole_pane s (pane_of (slice_get plan.panes i)))
+      and_from (has_few (slice_get (layout_of plan).streams w.target)) (is_whole_pane s (pane_of (slice_get plan.panes i)))
       (few_at plan.spec.streams plan.kept plan.pacings w.target accepted.named.few_parameters)
       (whole_moment i w e (eqb-true w.stream n (first (nat_eq w.stream n) (same_part w.part p) h)) (same_part-true w.part p (second (nat_eq w.stream n) (same_part w.part p) h)))
 

@@ -1,6 +1,7 @@
 -- Texts that are among others, and a naming that has no others.
 use Rattle.std.proofs.Common.{◌≡◌, ℕ, zero, suc, List, [], ◌∷◌, ◌++◌, map, refl, ap, sym, ◌∙◌, subst, Some, slice_get, nat_eq, Bool, true, false, IsTrue, eq-eqb}
 use Rattle.std.specs.Prelude.{◌||◌, flat_map}
+use Rattle.std.proofs.lemmas.Bool.{or_right}
 use Rattle.lola_value.specs.declared.value.TextId.{TextId}
 use Rattle.lola_value.specs.declared.value.Value.{Value}
 use Rattle.lola_value.specs.declared.value.Value.TheVariants as value
@@ -18,10 +19,6 @@ AreWithin xs ys = (id : ℕ) → IsTrue (is_among xs id) → IsTrue (is_among ys
 or_more : (a b c : Bool) → (b ≡ true → c ≡ true) → (a || b) ≡ true → (a || c) ≡ true
 or_more true b c f h = refl
 or_more false b c f h = f h
-
-or_right : (a b : Bool) → b ≡ true → (a || b) ≡ true
-or_right true b h = refl
-or_right false b h = h
 
 pub within_front : (xs ys : List TextId) → AreWithin xs (xs ++ ys)
 within_front [] ys id h = cc

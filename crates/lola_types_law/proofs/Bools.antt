@@ -1,10 +1,6 @@
 -- Truth values and lists, taken apart.
 use Rattle.std.proofs.Common.{◌≡◌, refl, ap, ◌∙◌, ◌||◌, Bool, true, false, ◌&&◌, if◌then◌else◌, List, [], ◌∷◌, ◌++◌}
 
-pub both : (a b : Bool) → a ≡ true → b ≡ true → (a && b) ≡ true
-both true b h g = g
-both false b h g = absurd (cc)
-
 pub left_of : (a b : Bool) → (a && b) ≡ true → a ≡ true
 left_of true b h = refl
 left_of false b h = absurd (cc)

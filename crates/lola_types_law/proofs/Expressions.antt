@@ -1,5 +1,5 @@
 -- Whole expressions of which nothing is refused.
-use Rattle.std.proofs.lemmas.Bool.{ltb-true}
+use Rattle.std.proofs.lemmas.Bool.{ltb-true, and_from, or_from}
 use Rattle.std.proofs.Common.{◌<◌, arith, ◌≡◌, ℕ, zero, suc, refl, ap, sym, ◌∙◌, subst, Bool, true, false, not, ◌&&◌, ◌||◌, if◌then◌else◌, List, [], ◌∷◌, Option, Some, None, nat_lt, length, slice_get}
 use Rattle.lola_value.specs.declared.value.Kind.{Kind}
 use Rattle.lola_value.specs.declared.value.Value.{Value}
@@ -24,8 +24,8 @@ use Rattle.lola_types.specs.Filled.{note_part, filled, filled_all}
 use Rattle.lola_types.specs.declared.found.Found.{Found}
 use Rattle.lola_types.specs.declared.found.Found.TheVariants.{Of, Free, Unknown, Broken}
 use Rattle.lola_model.specs.Constants.{is_constant, is_constant_if_noted, literal_is_known}
-use Rattle.lola_types_law.proofs.Bools.{both, left_of, right_of, never, never_back, none_left, none_right, taken_where}
-use Rattle.lola_types_law.proofs.Rows.{same_self, same_where, is_ready, matches, ready_unbroken, own_holds, neither}
+use Rattle.lola_types_law.proofs.Bools.{left_of, right_of, never, never_back, none_left, none_right, taken_where}
+use Rattle.lola_types_law.proofs.Rows.{same_self, same_where, is_ready, matches, ready_unbroken, own_holds}
 use Rattle.lola_types_law.proofs.Holds.{Holds, ready, operand, binary_holds}
 use Rattle.lola_types_law.proofs.Sound.{prefix_holds, defaults_holds, choice_holds}
 
@@ -75,7 +75,7 @@ module _ (spec : Spec) (kinds : List (Option Kind)) (ks : List Kind) (ls : List 
   literal_holds : (place : Place) (o : Option Kind) (v : Value) → is_constant_if_noted spec.constants o v ≡ true → Holds scope (literal_part o v) (Literal place v) (Literal (note_part place (literal_part o v)) v)
   literal_holds place (Some k) v h = (constant_fits k v h, refl, refl)
   literal_holds place None (value.Bool b) h = (refl, refl, refl)
-  literal_holds place None (value.Int n) h = λ k i r. (both _ _ i (taken_where (is_within k n) _ _ r), refl, refl)
+  literal_holds place None (value.Int n) h = λ k i r. (and_from _ _ i (taken_where (is_within k n) _ _ r), refl, refl)
   literal_holds place None (value.Text id) h = (refl, refl, refl)
 
   parameter_holds : (place : Place) (i : ℕ) → nat_lt i (length ks) ≡ true → Holds scope (found here (Parameter place i)) (Parameter place i) (filled here (Parameter place i))
@@ -91,7 +91,7 @@ module _ (spec : Spec) (kinds : List (Option Kind)) (ks : List Kind) (ls : List 
 
   some_unbroken : (args : Arguments) → HoldsAll args → some_broken (found_all here args) ≡ false
   some_unbroken End h = refl
-  some_unbroken (More' u a v rest) h = neither _ _ (ready_unbroken (found here a) (ready scope (found here a) a (filled here a) h.0)) (some_unbroken rest h.1)
+  some_unbroken (More' u a v rest) h = or_from _ _ (ready_unbroken (found here a) (ready scope (found here a) a (filled here a) h.0)) (some_unbroken rest h.1)
 
   arguments_hold : (ps : List Kind) (args : Arguments) → HoldsAll args → arguments_fit (found_all here args) ps ≡ true → argument_refusals here ps args ≡ []
       → (each_argument (part_is_typed scope) (filled_all here ps args) ≡ true) × (same_kinds (noted_all (filled_all here ps args)) ps ≡ true)
@@ -102,11 +102,11 @@ module _ (spec : Spec) (kinds : List (Option Kind)) (ks : List Kind) (ls : List 
       let m = fits_matches (found here a) p (ready scope (found here a) a (filled here a) h.0) (left_of (argument_fits (found here a) p) (arguments_fit (found_all here rest) ps) f) in
       let x = operand scope p (found here a) (Some p) a (filled here a) h.0 m refl (none_left (taking_refusals (Some p) (found here a) a) (argument_refusals here ps rest) r) in
       let y = arguments_hold ps rest h.1 (right_of (argument_fits (found here a) p) (arguments_fit (found_all here rest) ps) f) (none_right (taking_refusals (Some p) (found here a) a) (argument_refusals here ps rest) r) in
-      (both _ _ x.0 y.0, both _ _ (same_where _ _ x.1) y.1)
+      (and_from _ _ x.0 y.0, and_from _ _ (same_where _ _ x.1) y.1)
 
   -- a reference to stream n, with these arguments
   reference_holds : (n count : ℕ) (args : Arguments) → is_read_of (slice_get spec.streams n) count ≡ true → same_kinds (noted_all args) (parameters_at here n) ≡ true → is_reference ls n args ≡ true
-  reference_holds n count args g h = both _ _ (agree n count g).0 (subst (λ x. same_kinds (noted_all args) x ≡ true) (sym (agree n count g).2) h)
+  reference_holds n count args g h = and_from _ _ (agree n count g).0 (subst (λ x. same_kinds (noted_all args) x ≡ true) (sym (agree n count g).2) h)
 
   read_holds : (place : Place) (n : ℕ) (how : Access) (args : Arguments) → is_read_of (slice_get spec.streams n) (count_of args) ≡ true → HoldsAll args
       → own_refusals place.at (some_broken (found_all here args)) (found here (Read place n how args)) ≡ []
@@ -121,7 +121,7 @@ module _ (spec : Spec) (kinds : List (Option Kind)) (ks : List Kind) (ls : List 
       let k = kind_in (slice_get ls n) in
       let e : w ≡ Of k (is_direct how) = i.1 ∙ ap (λ o. of_kind o (is_direct how)) (agree n (count_of args) g).1 in
       subst (λ w. Holds scope w (Read place n how args) (Read (note_part place w) n how (filled_all here ps args))) (sym e)
-      (both _ _ (both _ _ (reference_holds n (count_of args) (filled_all here ps args) g x.1) (same_self k)) x.0, refl, refl)
+      (and_from _ _ (and_from _ _ (reference_holds n (count_of args) (filled_all here ps args) g x.1) (same_self k)) x.0, refl, refl)
 
   -- a window that is not broken
   window_is : (o : Option WindowSpec) (count : ℕ) → is_window_onto spec.streams o count ≡ true → is_broken (window_at here o) ≡ false
@@ -132,7 +132,7 @@ module _ (spec : Spec) (kinds : List (Option Kind)) (ks : List Kind) (ls : List 
       let l = kind_in (slice_get ls w.target) in
       let e : window_at here (Some w) ≡ known_window w l = ap (window_part w) (agree w.target count g).1 in
       let i = if_is (takes w.using l) (gives_kind w.using l) (is_total w.using && not w.exact) (subst (λ x. is_broken x ≡ false) e h) in
-      (gives_kind w.using l, is_total w.using && not w.exact, e ∙ i.1, refl, λ args s. both _ _ (reference_holds w.target count args g s) (both _ _ i.0 (same_self (gives_kind w.using l))))
+      (gives_kind w.using l, is_total w.using && not w.exact, e ∙ i.1, refl, λ args s. and_from _ _ (reference_holds w.target count args g s) (and_from _ _ i.0 (same_self (gives_kind w.using l))))
 
   window_holds : (place : Place) (n : ℕ) (args : Arguments) → is_window_onto spec.streams (slice_get spec.windows n) (count_of args) ≡ true → HoldsAll args
       → own_refusals place.at (some_broken (found_all here args)) (found here (Window place n args)) ≡ []
@@ -147,7 +147,7 @@ module _ (spec : Spec) (kinds : List (Option Kind)) (ks : List Kind) (ls : List 
       let x = arguments_hold ps args h i.0 (unless_broken_none (is_broken w) (argument_refusals here ps args) unbroken fit) in
       let y = window_is o (count_of args) g (subst (λ x. is_broken x ≡ false) i.1 unbroken) in
       subst (λ w. Holds scope w (Window place n args) (Window (note_part place w) n (filled_all here ps args))) (sym (i.1 ∙ y.2))
-      (both _ _ (y.4 (filled_all here ps args) x.1) x.0, refl, y.3)
+      (and_from _ _ (y.4 (filled_all here ps args) x.1) x.0, refl, y.3)
 
   -- the induction
 
@@ -174,7 +174,7 @@ module _ (spec : Spec) (kinds : List (Option Kind)) (ks : List Kind) (ls : List 
         let own = own_refusals place.at (is_broken (found here a) || is_broken (found here b)) w in
         let r3 = none_right own _ r2 in
         let unbroken = own_holds place.at false (is_broken (found here a) || is_broken (found here b)) w (none_left own _ r2)
-        (neither _ _ (ready_unbroken (found here a) (ready scope (found here a) a (filled here a) ha)) (ready_unbroken (found here b) (ready scope (found here b) b (filled here b) hb))) in
+        (or_from _ _ (ready_unbroken (found here a) (ready scope (found here a) a (filled here a) ha)) (ready_unbroken (found here b) (ready scope (found here b) b (filled here b) hb))) in
         defaults_holds scope place u v (found here a) (found here b) a b (filled here a) (filled here b) ha hb unbroken
         (none_left (taking_refusals (taken w) (found here a) a) _ r3) (none_right (taking_refusals (taken w) (found here a) a) _ r3)
     sound (Unary' place sign u a) g r =
@@ -194,7 +194,7 @@ module _ (spec : Spec) (kinds : List (Option Kind)) (ks : List Kind) (ls : List 
         let own = own_refusals place.at (is_broken (found here a) || is_broken (found here b)) w in
         let r3 = none_right own _ r2 in
         let unbroken = own_holds place.at false (is_broken (found here a) || is_broken (found here b)) w (none_left own _ r2)
-        (neither _ _ (ready_unbroken (found here a) (ready scope (found here a) a (filled here a) ha)) (ready_unbroken (found here b) (ready scope (found here b) b (filled here b) hb))) in
+        (or_from _ _ (ready_unbroken (found here a) (ready scope (found here a) a (filled here a) ha)) (ready_unbroken (found here b) (ready scope (found here b) b (filled here b) hb))) in
         binary_holds scope place u v sign (found here a) (found here b) a b (filled here a) (filled here b) ha hb unbroken
         (none_left (taking_refusals o (found here a) a) _ r3) (none_right (taking_refusals o (found here a) a) _ r3)
     sound (Choice' place u t v a w b) g r =
@@ -210,8 +210,8 @@ module _ (spec : Spec) (kinds : List (Option Kind)) (ks : List Kind) (ls : List 
         let own = own_refusals place.at broken x in
         let r3 = none_right own _ r2 in
         let unbroken = own_holds place.at false broken x (none_left own _ r2)
-        (neither _ _ (ready_unbroken (found here t) (ready scope (found here t) t (filled here t) ht))
-        (neither _ _ (ready_unbroken (found here a) (ready scope (found here a) a (filled here a) ha)) (ready_unbroken (found here b) (ready scope (found here b) b (filled here b) hb)))) in
+        (or_from _ _ (ready_unbroken (found here t) (ready scope (found here t) t (filled here t) ht))
+        (or_from _ _ (ready_unbroken (found here a) (ready scope (found here a) a (filled here a) ha)) (ready_unbroken (found here b) (ready scope (found here b) b (filled here b) hb)))) in
         choice_holds scope place u v w (found here t) (found here a) (found here b) t a b (filled here t) (filled here a) (filled here b) ht ha hb unbroken
         (none_left (taking_refusals (taken x) (found here a) a) _ r3) (none_right (taking_refusals (taken x) (found here a) a) _ r3)
 

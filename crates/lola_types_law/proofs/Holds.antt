@@ -1,5 +1,6 @@
 -- Each part of an expression of which nothing is refused has its kind, by its row of the table of kinds.
 use Rattle.std.proofs.Common.{◌≡◌, refl, ap, sym, ◌∙◌, subst, Bool, true, false, ◌&&◌, [], Option, Some}
+use Rattle.std.proofs.lemmas.Bool.{and_from}
 use Rattle.lola_value.specs.declared.value.Kind.{Kind}
 use Rattle.lola_value.specs.declared.value.Kind.TheVariants as kind
 use Rattle.lola_value.specs.Kinds.{is_integer}
@@ -15,7 +16,7 @@ use Rattle.lola_types.specs.Refused.{taken, compared, where_it_holds, operand_ki
 use Rattle.lola_types.specs.Filled.{note, note_part, settled, settled_if}
 use Rattle.lola_types.specs.declared.found.Found.{Found}
 use Rattle.lola_types.specs.declared.found.Found.TheVariants.{Of, Free, Unknown, Broken}
-use Rattle.lola_types_law.proofs.Bools.{both, never_back, none_left, none_right}
+use Rattle.lola_types_law.proofs.Bools.{never_back, none_left, none_right}
 use Rattle.lola_types_law.proofs.Rows.{kind_is, same_self, is_ready, matches, is_sure, IsOneKind, one_kind, free_kind, arithmetic_joint, order_joint, equality_joint, arithmetic_is, order_is, equality_is, connected_is}
 
 module _ (z : Scope) where
@@ -60,7 +61,7 @@ module _ (z : Scope) where
     row_at sign k ka kb la lb p q h = subst (λ x. binary_row sign k x lb ≡ true) (sym p) (subst (λ x. binary_row sign k ka x ≡ true) (sym q) h)
 
     both_fits : (sign : Binary) (k ka kb : Kind) (f g : Expr) → Fits ka true f → Fits kb true g → binary_row sign k ka kb ≡ true → Fits k true (Both' (note place k) sign u f v g)
-    both_fits sign k ka kb f g p q r = (both _ _ (both _ _ (row_at sign k ka kb (noted f) (noted g) p.1 q.1 r) (both _ _ p.2 q.2)) (both _ _ p.0 q.0), refl, refl)
+    both_fits sign k ka kb f g p q r = (and_from _ _ (and_from _ _ (row_at sign k ka kb (noted f) (noted g) p.1 q.1 r) (and_from _ _ p.2 q.2)) (and_from _ _ p.0 q.0), refl, refl)
 
     module _ (sign : Binary) (p q : Found) (a b f g : Expr) (hp : Holds p a f) (hq : Holds q b g) where
       -- operands of one kind k, which free ones take; the sign gives the kind l
@@ -147,10 +148,10 @@ module _ (z : Scope) where
     equality_holds sign Broken q a b f g hp hq row h ra rb = absurd hp
 
     arithmetic_self : (k : Kind) → is_integer k ≡ true → (is_integer k && (same_kind k k && same_kind k k)) ≡ true
-    arithmetic_self k i = both _ _ i (both _ _ (same_self k) (same_self k))
+    arithmetic_self k i = and_from _ _ i (and_from _ _ (same_self k) (same_self k))
 
     order_self : (k : Kind) → is_integer k ≡ true → (is_integer k && same_kind k k) ≡ true
-    order_self k i = both _ _ i (same_self k)
+    order_self k i = and_from _ _ i (same_self k)
 
     pub binary_holds : (sign : Binary) (p q : Found) (a b f g : Expr) → Holds p a f → Holds q b g → is_broken (binary_part sign p q) ≡ false
         → taking_refusals (operand_kind sign (binary_part sign p q) (joint p q)) p a ≡ [] → taking_refusals (operand_kind sign (binary_part sign p q) (joint p q)) q b ≡ []

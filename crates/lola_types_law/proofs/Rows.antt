@@ -1,6 +1,6 @@
 -- What a row gives, where its operands have kinds or are free and nothing is refused.
-use Rattle.std.proofs.Common.{◌≡◌, ℕ, zero, suc, refl, ap, sym, ◌∙◌, subst, Bool, true, false, ◌&&◌, ◌||◌, if◌then◌else◌, []}
-use Rattle.std.proofs.lemmas.Bool.{eqb-true, eq-eqb}
+use Rattle.std.proofs.Common.{◌≡◌, ℕ, zero, suc, refl, ap, sym, ◌∙◌, subst, Bool, true, false, ◌&&◌, if◌then◌else◌, []}
+use Rattle.std.proofs.lemmas.Bool.{eqb-true, eq-eqb, or_from}
 use Rattle.lola_value.specs.declared.value.Kind.{Kind}
 use Rattle.lola_value.specs.declared.value.Kind.TheVariants as kind
 use Rattle.lola_value.specs.Kinds.{is_integer, is_signed, kind_number}
@@ -101,17 +101,13 @@ own_holds at b c Unknown h e = refl
 own_holds at b true Broken h e = never e
 own_holds at b false Broken h e = absurd (cc)
 
-pub neither : (a b : Bool) → a ≡ false → b ≡ false → (a || b) ≡ false
-neither false b h g = g
-neither true b h g = never h
-
 pub by_row_is : (a b : Bool) (row early : Found) → a ≡ false → b ≡ false → by_row a b row early ≡ row
 by_row_is false false row early h g = refl
 by_row_is false true row early h g = never g
 by_row_is true b row early h g = never h
 
 pub by_two_is : (p q row early : Found) → is_ready p ≡ true → is_ready q ≡ true → by_two p q row early ≡ row
-by_two_is p q row early h g = by_row_is _ _ row early (neither _ _ (ready_unbroken p h) (ready_unbroken q g)) (neither _ _ (ready_known p h) (ready_known q g))
+by_two_is p q row early h g = by_row_is _ _ row early (or_from _ _ (ready_unbroken p h) (ready_unbroken q g)) (or_from _ _ (ready_known p h) (ready_known q g))
 
 -- what is left where a part was not broken
 
@@ -206,8 +202,8 @@ module _ (p q : Found) (rp : is_ready p ≡ true) (rq : is_ready q ≡ true) whe
 
   choice_row_is : (t : Found) → is_ready t ≡ true → choice_part t p q ≡ unless_broken (truth_part t) (certain_part (joint p q))
   choice_row_is t rt = by_row_is _ _ (unless_broken (truth_part t) (certain_part (joint p q))) (made_certain (joint p q))
-      (neither _ _ (ready_unbroken t rt) (neither _ _ (ready_unbroken p rp) (ready_unbroken q rq)))
-      (neither _ _ (ready_known t rt) (neither _ _ (ready_known p rp) (ready_known q rq)))
+      (or_from _ _ (ready_unbroken t rt) (or_from _ _ (ready_unbroken p rp) (ready_unbroken q rq)))
+      (or_from _ _ (ready_known t rt) (or_from _ _ (ready_known p rp) (ready_known q rq)))
 
   -- operands that are not broken together
   pub arithmetic_joint : is_broken (arithmetic_part p q) ≡ false → is_broken (joint p q) ≡ false

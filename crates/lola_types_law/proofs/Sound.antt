@@ -1,5 +1,6 @@
 -- Expressions of which nothing is refused, part by part.
 use Rattle.std.proofs.Common.{◌≡◌, refl, ap, sym, subst, Bool, true, false, []}
+use Rattle.std.proofs.lemmas.Bool.{and_from}
 use Rattle.lola_value.specs.declared.value.Kind.{Kind}
 use Rattle.lola_value.specs.declared.value.Kind.TheVariants as kind
 use Rattle.lola_value.specs.Kinds.{is_signed}
@@ -15,7 +16,7 @@ use Rattle.lola_types.specs.Refused.{taken, sign_refusals, free_refusals, taking
 use Rattle.lola_types.specs.Filled.{note, note_part, settled, settled_if}
 use Rattle.lola_types.specs.declared.found.Found.{Found}
 use Rattle.lola_types.specs.declared.found.Found.TheVariants.{Of, Free, Unknown, Broken}
-use Rattle.lola_types_law.proofs.Bools.{both, never, never_back, none_left, none_right, taken_where}
+use Rattle.lola_types_law.proofs.Bools.{never, never_back, none_left, none_right, taken_where}
 use Rattle.lola_types_law.proofs.Rows.{kind_is, same_self, same_where, matches, is_sure, IsOneKind, one_kind, free_kind, defaults_joint, choice_joint, defaults_is, choice_is, signed_is, truth_is, truth_where}
 use Rattle.lola_types_law.proofs.Holds.{Fits, Holds, ready, fits_at, operand, sure_operand}
 
@@ -33,7 +34,7 @@ module _ (z : Scope) where
 
   module _ (place : Place) (u : Around) where
     unary_fits : (sign : Prefix) (k ka : Kind) (f : Expr) → Fits z ka true f → prefix_row sign k ka ≡ true → Fits z k true (Unary' (note place k) sign u f)
-    unary_fits sign k ka f p r = (both _ _ (both _ _ (row_at sign k ka (noted f) p.1 r) p.2) p.0, refl, refl)
+    unary_fits sign k ka f p r = (and_from _ _ (and_from _ _ (row_at sign k ka (noted f) p.1 r) p.2) p.0, refl, refl)
 
     pub prefix_holds : (sign : Prefix) (p : Found) (a f : Expr) → Holds z p a f → is_broken (prefix_part sign p) ≡ false → taking_refusals (taken (prefix_part sign p)) p a ≡ []
         → Holds z (prefix_part sign p) (Unary' place sign u a) (Unary' (note_part place (prefix_part sign p)) sign u (settled_if (taken (prefix_part sign p)) p f))
@@ -47,10 +48,10 @@ module _ (z : Scope) where
     prefix_holds prefix.Minus (Of k c) a f hp h r =
         let i = signed_is k c h in
         subst (λ x. Holds z x (Unary' place prefix.Minus u a) (Unary' (note_part place x) prefix.Minus u (settled_if (taken x) (Of k c) f))) (sym i.0)
-        (unary_fits prefix.Minus k k f (fits_at z k k c true f refl i.2 hp) (both _ _ i.1 (same_self k)))
+        (unary_fits prefix.Minus k k f (fits_at z k k c true f refl i.2 hp) (and_from _ _ i.1 (same_self k)))
     prefix_holds prefix.Minus Free a f hp h r = λ k i q.
         unary_fits prefix.Minus k k (settled k f) (hp k i (none_right (sign_refusals place.at prefix.Minus k) (free_refusals k a) q))
-        (both _ _ (taken_where (is_signed k) _ _ (none_left (sign_refusals place.at prefix.Minus k) (free_refusals k a) q)) (same_self k))
+        (and_from _ _ (taken_where (is_signed k) _ _ (none_left (sign_refusals place.at prefix.Minus k) (free_refusals k a) q)) (same_self k))
     prefix_holds prefix.Minus Unknown a f hp h r = absurd hp
     prefix_holds prefix.Minus Broken a f hp h r = absurd hp
 
@@ -58,7 +59,7 @@ module _ (z : Scope) where
 
   module _ (place : Place) (u v : Around) where
     defaults_fits : (k : Kind) (c : Bool) (f g : Expr) → Fits z k c f → Fits z k true g → Fits z k true (Defaults' (note place k) u f v g)
-    defaults_fits k c f g p q = (both _ _ (both _ _ (same_where _ _ p.1) (both _ _ (same_where _ _ q.1) q.2)) (both _ _ p.0 q.0), refl, refl)
+    defaults_fits k c f g p q = (and_from _ _ (and_from _ _ (same_where _ _ p.1) (and_from _ _ (same_where _ _ q.1) q.2)) (and_from _ _ p.0 q.0), refl, refl)
 
     module _ (p q : Found) (a b f g : Expr) (hp : Holds z p a f) (hq : Holds z q b g) where
       defaults_one : IsOneKind p q → is_broken (defaults_part p q) ≡ false
@@ -87,7 +88,7 @@ module _ (z : Scope) where
   module _ (place : Place) (u v w : Around) where
     choice_fits : (k : Kind) (m f g : Expr) → Fits z kind.Bool true m → Fits z k true f → Fits z k true g → Fits z k true (Choice' (note place k) u m v f w g)
     choice_fits k m f g t p q =
-        (both _ _ (both _ _ (same_where _ _ t.1) (both _ _ (both _ _ (same_where _ _ p.1) (same_where _ _ q.1)) (both _ _ t.2 (both _ _ p.2 q.2)))) (both _ _ t.0 (both _ _ p.0 q.0)), refl, refl)
+        (and_from _ _ (and_from _ _ (same_where _ _ t.1) (and_from _ _ (and_from _ _ (same_where _ _ p.1) (same_where _ _ q.1)) (and_from _ _ t.2 (and_from _ _ p.2 q.2)))) (and_from _ _ t.0 (and_from _ _ p.0 q.0)), refl, refl)
 
     module _ (t : Found) (e m : Expr) (ht : Holds z t e m) where
       module _ (p q : Found) (a b f g : Expr) (hp : Holds z p a f) (hq : Holds z q b g) where
@@ -103,7 +104,7 @@ module _ (z : Scope) where
             (choice_fits k m (settled_if o p f) (settled_if o q g) (truth_fits t e m ht i.1 i.2)
             (sure_operand z k p o a f hp j.3 s.0 (ap taken i.0) ra) (sure_operand z k q o b g hq j.4 s.1 (ap taken i.0) rb))
 
-    -- both branches are free
+    -- and_from branches are free
     free_choice : (t : Found) (e m a b f g : Expr) → Holds z t e m → Holds z Free a f → Holds z Free b g → is_broken (choice_part t Free Free) ≡ false
         → Holds z (choice_part t Free Free) (Choice' place u e v a w b) (Choice' (note_part place (choice_part t Free Free)) u m v (settled_if (taken (choice_part t Free Free)) Free f) w (settled_if (taken (choice_part t Free Free)) Free g))
     free_choice (Of l c) e m a b f g ht hp hq h =

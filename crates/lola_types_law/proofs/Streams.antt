@@ -1,6 +1,7 @@
 -- What each stream keeps when its kind is filled in.
 use Rattle.std.proofs.Common.{◌≡◌, ◌<◌, ℕ, zero, suc, arith, refl, ap, sym, ◌∙◌, subst, Bool, true, false, not, cond, if◌then◌else◌, List, [], ◌∷◌, Option, Some, None, nat_eq, nat_le, length, slice_get, unwrap_or, drop}
 use Rattle.std.specs.Prelude.{filter}
+use Rattle.std.proofs.lemmas.Bool.{and_from}
 use Rattle.lola_value.specs.declared.value.Kind.{Kind}
 use Rattle.lola_value.specs.declared.value.Kind.TheVariants as kind
 use Rattle.lola_model.specs.Model.{is_input}
@@ -22,7 +23,7 @@ use Rattle.lola_types.specs.LeftOut.{kind_after, round_from, with_least, rounds,
 use Rattle.lola_types.specs.Refused.{with_parameters}
 use Rattle.lola_types.specs.Filled.{SameFormula, SamePace, FilledWhen, FilledWith, FilledClauses, FilledStream, FilledStreams}
 use Rattle.lola_types.proofs.RoundLemmas.{round_length, least_length}
-use Rattle.lola_types_law.proofs.Bools.{and_same, or_same, both, left_of, right_of, never, never_back}
+use Rattle.lola_types_law.proofs.Bools.{and_same, or_same, left_of, right_of, never, never_back}
 
 -- a declared kind stays
 
@@ -191,7 +192,7 @@ module _ (s : Setting) (k : Kind) (a b : Stream) (h : FilledStream s k a b) wher
 
   shape_kept : (x : Sort) → (is_of_bool a.kind ≡ true → is_of_bool b.kind ≡ true) → is_well_shaped (record a { sort = x }) ≡ true → is_well_shaped (record b { sort = x }) ≡ true
   shape_kept sort.Input t g =
-      both _ _ has_found
+      and_from _ _ has_found
       (sym (and_same _ _ _ _ none_kept (and_same _ _ _ _ (ap not spawn_has) (and_same _ _ _ _ (ap not eval_has) (ap not close_has)))) ∙ right_of (has_kind a.kind) _ g)
   shape_kept sort.Output t g =
       sym (and_same _ _ _ _ one_kept
@@ -199,7 +200,7 @@ module _ (s : Setting) (k : Kind) (a b : Stream) (h : FilledStream s k a b) wher
       (and_same _ _ _ _ (or_same _ _ _ _ (ap not close_has) (and_same _ _ _ _ (clause_when inner [] a.close b.close h.close) spawn_has))
       (ap (λ n. nat_eq n 0) (clause_count inner [] a.close b.close h.close))))) ∙ g
   shape_kept sort.Trigger t g =
-      both _ _ (t (left_of (is_of_bool a.kind) _ g))
+      and_from _ _ (t (left_of (is_of_bool a.kind) _ g))
       (sym (and_same _ _ _ _ one_kept (and_same _ _ _ _ (ap not (clause_when inner (k ∷ []) a.eval b.eval h.eval)) (and_same _ _ _ _ none_kept (and_same _ _ _ _ (ap not spawn_has) (ap not close_has))))) ∙ right_of (is_of_bool a.kind) _ g)
 
 bool_is : (o : Option Kind) → is_of_bool o ≡ true → o ≡ Some kind.Bool
@@ -228,7 +229,7 @@ shapes_kept s kinds [] (b ∷ bs) keep h g = absurd h
 shapes_kept s kinds (a ∷ as') [] keep h g = absurd h
 shapes_kept s [] (a ∷ as') (b ∷ bs) keep h g = absurd keep
 shapes_kept s (l ∷ kinds) (a ∷ as') (b ∷ bs) keep h g =
-    both _ _ (shaped s l a b keep.0 h.0 (left_of (is_well_shaped a) (all_streams is_well_shaped as') g)) (shapes_kept s kinds as' bs keep.1 h.1 (right_of (is_well_shaped a) (all_streams is_well_shaped as') g))
+    and_from _ _ (shaped s l a b keep.0 h.0 (left_of (is_well_shaped a) (all_streams is_well_shaped as') g)) (shapes_kept s kinds as' bs keep.1 h.1 (right_of (is_well_shaped a) (all_streams is_well_shaped as') g))
 
 pub all_kept : (f : Stream → Bool) → ((s : Setting) (k : Kind) (a b : Stream) → FilledStream s k a b → f a ≡ f b)
     → (s : Setting) (kinds : List (Option Kind)) (as' bs : List Stream) → FilledStreams s kinds as' bs → all_streams f as' ≡ all_streams f bs
@@ -286,6 +287,6 @@ reads_kept s kinds (a ∷ as') [] h n count = absurd h
 
 pub kinds_noted : (s : Setting) (kinds : List (Option Kind)) (as' bs : List Stream) → FilledStreams s kinds as' bs → all_streams (λ t. has_kind t.kind) bs ≡ true
 kinds_noted s kinds [] [] h = refl
-kinds_noted s kinds (a ∷ as') (b ∷ bs) h = both _ _ (has_found s (unwrap_or (unwrap_or (slice_get kinds 0) None) kind.Int64) a b h.0) (kinds_noted s (drop 1 kinds) as' bs h.1)
+kinds_noted s kinds (a ∷ as') (b ∷ bs) h = and_from _ _ (has_found s (unwrap_or (unwrap_or (slice_get kinds 0) None) kind.Int64) a b h.0) (kinds_noted s (drop 1 kinds) as' bs h.1)
 kinds_noted s kinds [] (b ∷ bs) h = absurd h
 kinds_noted s kinds (a ∷ as') [] h = absurd h

@@ -1,5 +1,5 @@
 -- Whole expressions, clauses and streams with their kinds filled in are typed.
-use Rattle.std.proofs.lemmas.Bool.{lt-ltb}
+use Rattle.std.proofs.lemmas.Bool.{lt-ltb, and_from}
 use Rattle.std.proofs.lemmas.Grind.{flat_map-append}
 use Rattle.std.proofs.Common.{◌≡◌, ◌<◌, ℕ, zero, suc, ◌+◌, arith, refl, ap, sym, ◌∙◌, subst, Bool, true, false, ◌&&◌, ◌||◌, if◌then◌else◌, List, [], ◌∷◌, ◌++◌, Option, Some, None, nat_lt, length, slice_get, unwrap_or, drop, flat_map}
 use Rattle.lola_value.specs.declared.value.Kind.{Kind}
@@ -32,7 +32,7 @@ use Rattle.lola_types.specs.Filled.{settled_if, filled, filled_whole, SameTree, 
 use Rattle.lola_types.specs.declared.found.Found.{Found}
 use Rattle.lola_types.specs.declared.found.Found.TheVariants.{Of, Free, Unknown, Broken}
 use Rattle.lola_model.specs.Constants.{is_constant, literal_is_known, whole_is_known}
-use Rattle.lola_types_law.proofs.Bools.{both, left_of, right_of, never_back, none_left, none_right, taken_where}
+use Rattle.lola_types_law.proofs.Bools.{left_of, right_of, never_back, none_left, none_right, taken_where}
 use Rattle.lola_types_law.proofs.Rows.{kind_is, same_where}
 use Rattle.lola_types_law.proofs.Holds.{Fits, Holds, fits_at, operand}
 use Rattle.lola_types_law.proofs.Expressions.{sound}
@@ -46,54 +46,54 @@ module _ (f g : Expr → Bool) where
 
   mutual
     pub each_both : (e : Expr) → each_part f e ≡ true → each_part g e ≡ true → each_part both_of e ≡ true
-    each_both (Literal p v) h k = both _ _ h k
-    each_both (Parameter p i) h k = both _ _ h k
+    each_both (Literal p v) h k = and_from _ _ h k
+    each_both (Parameter p i) h k = and_from _ _ h k
     each_both (Read p n how args) h k =
         let e = Read p n how args in
-        both _ _ (both _ _ (left_of (f e) _ h) (left_of (g e) _ k)) (each_both_all args (right_of (f e) _ h) (right_of (g e) _ k))
+        and_from _ _ (and_from _ _ (left_of (f e) _ h) (left_of (g e) _ k)) (each_both_all args (right_of (f e) _ h) (right_of (g e) _ k))
     each_both (Window p n args) h k =
         let e = Window p n args in
-        both _ _ (both _ _ (left_of (f e) _ h) (left_of (g e) _ k)) (each_both_all args (right_of (f e) _ h) (right_of (g e) _ k))
+        and_from _ _ (and_from _ _ (left_of (f e) _ h) (left_of (g e) _ k)) (each_both_all args (right_of (f e) _ h) (right_of (g e) _ k))
     each_both (Defaults' p u a v b) h k =
         let e = Defaults' p u a v b in
         let hr = right_of (f e) (each_part f a && each_part f b) h in
         let kr = right_of (g e) (each_part g a && each_part g b) k in
-        both _ _ (both _ _ (left_of (f e) _ h) (left_of (g e) _ k))
-        (both _ _ (each_both a (left_of (each_part f a) _ hr) (left_of (each_part g a) _ kr)) (each_both b (right_of (each_part f a) _ hr) (right_of (each_part g a) _ kr)))
+        and_from _ _ (and_from _ _ (left_of (f e) _ h) (left_of (g e) _ k))
+        (and_from _ _ (each_both a (left_of (each_part f a) _ hr) (left_of (each_part g a) _ kr)) (each_both b (right_of (each_part f a) _ hr) (right_of (each_part g a) _ kr)))
     each_both (Unary' p s u a) h k =
         let e = Unary' p s u a in
-        both _ _ (both _ _ (left_of (f e) _ h) (left_of (g e) _ k)) (each_both a (right_of (f e) _ h) (right_of (g e) _ k))
+        and_from _ _ (and_from _ _ (left_of (f e) _ h) (left_of (g e) _ k)) (each_both a (right_of (f e) _ h) (right_of (g e) _ k))
     each_both (Both' p s u a v b) h k =
         let e = Both' p s u a v b in
         let hr = right_of (f e) (each_part f a && each_part f b) h in
         let kr = right_of (g e) (each_part g a && each_part g b) k in
-        both _ _ (both _ _ (left_of (f e) _ h) (left_of (g e) _ k))
-        (both _ _ (each_both a (left_of (each_part f a) _ hr) (left_of (each_part g a) _ kr)) (each_both b (right_of (each_part f a) _ hr) (right_of (each_part g a) _ kr)))
+        and_from _ _ (and_from _ _ (left_of (f e) _ h) (left_of (g e) _ k))
+        (and_from _ _ (each_both a (left_of (each_part f a) _ hr) (left_of (each_part g a) _ kr)) (each_both b (right_of (each_part f a) _ hr) (right_of (each_part g a) _ kr)))
     each_both (Choice' p u a v b w d) h k =
         let e = Choice' p u a v b w d in
         let hr = right_of (f e) (each_part f a && (each_part f b && each_part f d)) h in
         let kr = right_of (g e) (each_part g a && (each_part g b && each_part g d)) k in
         let hs = right_of (each_part f a) (each_part f b && each_part f d) hr in
         let ks = right_of (each_part g a) (each_part g b && each_part g d) kr in
-        both _ _ (both _ _ (left_of (f e) _ h) (left_of (g e) _ k))
-        (both _ _ (each_both a (left_of (each_part f a) _ hr) (left_of (each_part g a) _ kr))
-        (both _ _ (each_both b (left_of (each_part f b) _ hs) (left_of (each_part g b) _ ks)) (each_both d (right_of (each_part f b) _ hs) (right_of (each_part g b) _ ks))))
+        and_from _ _ (and_from _ _ (left_of (f e) _ h) (left_of (g e) _ k))
+        (and_from _ _ (each_both a (left_of (each_part f a) _ hr) (left_of (each_part g a) _ kr))
+        (and_from _ _ (each_both b (left_of (each_part f b) _ hs) (left_of (each_part g b) _ ks)) (each_both d (right_of (each_part f b) _ hs) (right_of (each_part g b) _ ks))))
 
     each_both_all : (args : Arguments) → each_argument f args ≡ true → each_argument g args ≡ true → each_argument both_of args ≡ true
     each_both_all End h k = refl
     each_both_all (More' u a v rest) h k =
-        both _ _ (each_both a (left_of (each_part f a) _ h) (left_of (each_part g a) _ k)) (each_both_all rest (right_of (each_part f a) _ h) (right_of (each_part g a) _ k))
+        and_from _ _ (each_both a (left_of (each_part f a) _ h) (left_of (each_part g a) _ k)) (each_both_all rest (right_of (each_part f a) _ h) (right_of (each_part g a) _ k))
 
 -- wholes, list after list
 
 module _ (f : Whole → Bool) where
   pub wholes_join : (xs ys : List Whole) → all_wholes f xs ≡ true → all_wholes f ys ≡ true → all_wholes f (xs ++ ys) ≡ true
   wholes_join [] ys h g = g
-  wholes_join (x ∷ xs) ys h g = both _ _ (left_of (f x) (all_wholes f xs) h) (wholes_join xs ys (right_of (f x) (all_wholes f xs) h) g)
+  wholes_join (x ∷ xs) ys h g = and_from _ _ (left_of (f x) (all_wholes f xs) h) (wholes_join xs ys (right_of (f x) (all_wholes f xs) h) g)
 
   pub wholes_left : (xs ys : List Whole) → all_wholes f (xs ++ ys) ≡ true → all_wholes f xs ≡ true
   wholes_left [] ys h = refl
-  wholes_left (x ∷ xs) ys h = both _ _ (left_of (f x) (all_wholes f (xs ++ ys)) h) (wholes_left xs ys (right_of (f x) (all_wholes f (xs ++ ys)) h))
+  wholes_left (x ∷ xs) ys h = and_from _ _ (left_of (f x) (all_wholes f (xs ++ ys)) h) (wholes_left xs ys (right_of (f x) (all_wholes f (xs ++ ys)) h))
 
   pub wholes_right : (xs ys : List Whole) → all_wholes f (xs ++ ys) ≡ true → all_wholes f ys ≡ true
   wholes_right [] ys h = h
@@ -101,7 +101,7 @@ module _ (f : Whole → Bool) where
 
 pub wholes_both : (f g : Whole → Bool) (ws : List Whole) → all_wholes f ws ≡ true → all_wholes g ws ≡ true → all_wholes (λ w. f w && g w) ws ≡ true
 wholes_both f g [] h k = refl
-wholes_both f g (w ∷ ws) h k = both _ _ (both _ _ (left_of (f w) _ h) (left_of (g w) _ k)) (wholes_both f g ws (right_of (f w) _ h) (right_of (g w) _ k))
+wholes_both f g (w ∷ ws) h k = and_from _ _ (and_from _ _ (left_of (f w) _ h) (left_of (g w) _ k)) (wholes_both f g ws (right_of (f w) _ h) (right_of (g w) _ k))
 
 refused_left : (s : Setting) (xs ys : List Whole) → flat_map (refusals_of_whole s) (xs ++ ys) ≡ [] → flat_map (refusals_of_whole s) xs ≡ []
 refused_left s xs ys h = none_left _ (flat_map (refusals_of_whole s) ys) (sym (flat_map-append (refusals_of_whole s) xs ys) ∙ h)
@@ -140,11 +140,11 @@ constant_typed c h = literal_typed c.kind c.literal c.before c.place h
         let t = taken_where (is_integer k) _ _ (none_left _ (taken_literal at (value.Int z) (number_kind k)) h) in
         let e : number_kind k ≡ Some k = ap (λ b. if b then Some k else None) t in
         let r : taken_literal at (value.Int z) (Some k) ≡ [] = subst (λ o. taken_literal at (value.Int z) o ≡ []) e (none_right (if is_integer k then [] else _) (taken_literal at (value.Int z) (number_kind k)) h) in
-        both _ _ t (taken_where (is_within k z) _ _ r)
+        and_from _ _ t (taken_where (is_within k z) _ _ r)
 
 pub constants_typed : (cs : List Constant) → flat_map constant_refusals cs ≡ [] → all_constants constant_is_typed cs ≡ true
 constants_typed [] h = refl
-constants_typed (c ∷ cs) h = both _ _ (constant_typed c (none_left (constant_refusals c) _ h)) (constants_typed cs (none_right (constant_refusals c) _ h))
+constants_typed (c ∷ cs) h = and_from _ _ (constant_typed c (none_left (constant_refusals c) _ h)) (constants_typed cs (none_right (constant_refusals c) _ h))
 
 first_or_later : (c : Constant) (cs : List Constant) (k : Kind) (v : Value) (b : Bool) → (same_kind c.kind k && values_same c.literal v) ≡ b → constant_is_typed c ≡ true
     → (is_constant cs k v ≡ true → is_of_kind k v ≡ true) → (b || is_constant cs k v) ≡ true → is_of_kind k v ≡ true
@@ -177,8 +177,8 @@ module _ (z : Scope) (want : Kind) (at : ℕ) where
   fits_same : (e f : Expr) → Fits z want true e → SameTree e f → is_whole z want f ≡ true
   fits_same e f h s =
       let q = same_alike Equal (λ p q x. x) e f s in
-      both _ _ (sym (alike_each Equal (part_is_typed z) (part_is_typed z) (equal_typed z) e f q) ∙ h.0)
-      (both _ _ (same_where (noted f) want (sym (equal_noted e f q) ∙ h.1)) (sym (equal_certain z.windows e f q) ∙ h.2))
+      and_from _ _ (sym (alike_each Equal (part_is_typed z) (part_is_typed z) (equal_typed z) e f q) ∙ h.0)
+      (and_from _ _ (same_where (noted f) want (sym (equal_noted e f q) ∙ h.1)) (sym (equal_certain z.windows e f q) ∙ h.2))
 
 module _ (spec : Spec) (kinds : List (Option Kind)) (ls : List StreamLayout)
     (agree : (n : ℕ) (count : ℕ) → is_read_of (slice_get spec.streams n) count ≡ true
@@ -220,7 +220,7 @@ module _ (spec : Spec) (kinds : List (Option Kind)) (ls : List StreamLayout)
         let own = whole_refusals (setting_of spec kinds ks) want at e in
         let rest = with_wholes n p ks (drop 1 gives) (drop 1 bts) es in
         let good = each_part (is_resolved spec (length ks)) e && each_part (literal_is_known spec.constants) e in
-        both _ _ (whole_typed ks want at e f t.0 (none_left own _ r) (left_of good (all_wholes is_good_whole rest) g))
+        and_from _ _ (whole_typed ks want at e f t.0 (none_left own _ r) (left_of good (all_wholes is_good_whole rest) g))
         (with_typed (drop 1 wants) (drop 1 gives) (drop 1 ats) (drop 1 bts) (drop 1 cts) es fs t.1 (none_right own _ r) (right_of good (all_wholes is_good_whole rest) g))
 
     when_typed : (at bt : ℕ) (o q : Option Expr) → FilledWhen (setting_of spec kinds ks) o q
@@ -232,7 +232,7 @@ module _ (spec : Spec) (kinds : List (Option Kind)) (ls : List StreamLayout)
     when_typed at bt (Some e) (Some f) t r g =
         let own = whole_refusals (setting_of spec kinds ks) kind.Bool at e in
         let good = each_part (is_resolved spec (length ks)) e && each_part (literal_is_known spec.constants) e in
-        both _ _ (whole_typed ks kind.Bool at e f t (none_left own [] r) (left_of good true g)) refl
+        and_from _ _ (whole_typed ks kind.Bool at e f t (none_left own [] r) (left_of good true g)) refl
 
     clause_typed : (wants gives : List Kind) (o q : Option Clause) → FilledClauses (setting_of spec kinds ks) wants o q
         → flat_map (refusals_of_whole base) (clause_wholes n p ks wants o) ≡ [] → all_wholes is_good_whole (clause_wholes n p ks gives o) ≡ true

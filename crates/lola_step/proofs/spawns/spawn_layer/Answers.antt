@@ -1,13 +1,14 @@
 -- Stream by stream, from stage to stage.
 use Rattle.std.proofs.Common.{◌≡◌, ◌∙◌, ◌+◌, arith, drop, get_or, length, sym}
 use Rattle.std.proofs.lemmas.Option.{slice_get-get_or}
+use Rattle.std.proofs.lemmas.Bool.{or_parts}
 use Rattle.lola_step.specs.Found.{is_failed}
 use Rattle.lola_step.specs.Schedules.{has_turn}
 use Rattle.lola_step.specs.declared.mark.Mark.TheVariants as mark
 use Rattle.lola_step.specs.declared.schedule.Turn.TheVariants as turn
 use Rattle.lola_step.proofs.Activities.{moment_later}
 use Rattle.lola_step.proofs.Between.{spawned_end, spawned_turn}
-use Rattle.lola_step.proofs.Faultless.{fine_next, neither}
+use Rattle.lola_step.proofs.Faultless.{fine_next}
 use Rattle.lola_step.proofs.Shown.{goes_on_same}
 use Rattle.lola_step.proofs.SpawnTurns.{AreSpawned, one_more_spawned}
 use Rattle.lola_step.proofs.Turns.{walk_first, walk_on}
@@ -49,7 +50,7 @@ loop-number-preserved g c =
     let long : length marks ≡ length plan.spec.streams = c.loop-number.auto.marks ∙ c.requires.marks in
     record {
       fine = λ none fine.
-          let p = neither (is_failed c.spawn_stream-mark.result) c.loop-number.failed (sym c.or_failed-failed.ensures ∙ none) in
+          let p = or_parts (is_failed c.spawn_stream-mark.result) c.loop-number.failed (sym c.or_failed-failed.ensures ∙ none) in
           fine_next marks n c.spawn_stream-mark.result (omega (arith, long, t.below)) p.0 (c.loop-number.invariant.fine p.1 fine);
       walk = walk_on (has_turn plan (turn.Spawn c.args.layer)) plan.spec.streams _ _ n (drop (c.loop-number.number-index + 1) c.args.turns.now) t
           (one_more_spawned plan c.args.moment.now c.args.layer n c.args.marks.now marks (g.S.StreamStore.remembers c.args.store.now) (g.S.StreamStore.seen c.args.store.now)

@@ -1,5 +1,6 @@
 use Rattle.std.proofs.Common.{◌≡◌, ◌+◌, ◌++◌, ◌||◌, refl, ap, sym, subst, ◌∙◌, List, length, take, drop, arith}
 use Rattle.std.proofs.lemmas.List.{take_at}
+use Rattle.std.proofs.lemmas.Bool.{or_parts}
 use Rattle.lola_step_law.specs.Stages.{eval_stage}
 use Rattle.lola_step.specs.Evals.{EvalsTake, IsReadyFor, ShowsMore}
 use Rattle.lola_step.specs.Found.{NoneFailed, has_fault}
@@ -9,7 +10,7 @@ use Rattle.lola_step.specs.declared.mark.Mark.{Mark}
 use Rattle.lola_step.specs.declared.schedule.Schedule.{Schedule}
 use Rattle.lola_step.specs.declared.scratch.Span.{Span}
 use Rattle.lola_step.proofs.Evaluation.{IsSoFar, all_layers, first_layer, next_layer, spans_then}
-use Rattle.lola_step.proofs.Faultless.{fine_first, neither}
+use Rattle.lola_step.proofs.Faultless.{fine_first}
 use Rattle.lola_step.proofs.step.evaluate.Goals as goal
 
 pub loop-layer-init : goal.loop-layer-init
@@ -114,8 +115,8 @@ loop-layer-preserved g c =
           (λ ms. ShowsMore plan m c.loop-layer.layer ms (remembers c.spawn_layer-failed.new.store) (seen c.spawn_layer-failed.new.store) c.deref_mut-in-loop-layer-2.result.now now.tasks.items now.results.items c.eval_layer-given.new.spans c.eval_layer-given.new.tasks.items c.eval_layer-given.new.results.items)
           lent c.eval_layer-given.ensures.shows)));
       faultless = λ none.
-          let p = neither c.loop-layer.faulty (c.spawn_layer-failed.result || c.eval_layer-given.result) (sym c.one_of-faulty.ensures ∙ none) in
-          let q = neither c.spawn_layer-failed.result c.eval_layer-given.result p.1 in
+          let p = or_parts c.loop-layer.faulty (c.spawn_layer-failed.result || c.eval_layer-given.result) (sym c.one_of-faulty.ensures ∙ none) in
+          let q = or_parts c.spawn_layer-failed.result c.eval_layer-given.result p.1 in
           let before_it = c.loop-layer.invariant.faultless p.0 in (
             subst NoneFailed (sym marks_back) (c.spawn_layer-failed.ensures.fine q.0 (subst NoneFailed (sym c.deref_mut.ensures.value) before_it.0)),
             c.eval_layer-given.ensures.faultless q.1 before_it.1,
