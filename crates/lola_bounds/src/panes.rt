@@ -41,15 +41,6 @@ pub fn panes(spec: &Spec, pacings: &Pacings, window: u32) -> u32
     size(spec, pacings, window).count
 }
 
-/// The length of a window's panes in nanoseconds.
-pub fn pane(spec: &Spec, pacings: &Pacings, window: u32) -> u64
-    requires window { window < length spec.now.windows }
-    requires paned { ArePaned pacings.now spec.now }
-    ensures { (count : ℕ) × ArePanesAt pacings.now spec.now window (record { pane = result; count = count }) }
-{
-    size(spec, pacings, window).pane
-}
-
 /// The panes of windows, in their order.
 fn sizes_of(
     alloc: Global,

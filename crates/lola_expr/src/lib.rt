@@ -1,8 +1,7 @@
-//! The evaluation of expressions over a store, and an evaluation as a job.
+//! The evaluation of expressions over a store.
 #![tactic(auto)]
 
 pub mod access;
 pub mod evaluation;
-pub mod job;
 pub mod law;
 pub mod operators;

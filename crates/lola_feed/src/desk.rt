@@ -87,13 +87,6 @@ impl StateDesk {
     {
         self.state.close();
     }
-
-    /// The merge object.
-    pub fn into_state(self) -> MergeState
-        ensures { result ≡ self.merging }
-    {
-        self.state
-    }
 }
 
 impl Desk for StateDesk {

@@ -1,6 +1,6 @@
 //! Fields of lines, beside those of csv's own reader.
-use csv::ByteRecord;
-use lola_rows_csv::line::{by_reader, has_line_end, read_line};
+use csv::{ByteRecord, Error, ReaderBuilder};
+use lola_rows_csv::line::{has_line_end, read_line};
 use std::alloc::Global;
 use std::str::from_utf8;
 use std::test::Fail;
@@ -26,6 +26,19 @@ fn fields_text(alloc: Global, line: &[u8]) -> Result<String, Fail> {
     }
     read_line(line, &mut fields, &mut spare)?;
     joined(alloc, &fields)
+}
+
+// The record that csv's own reader gives for a line alone, if there is one: what the fields of a line are measured by.
+fn by_reader(alloc: Global, line: &[u8]) -> Result<Option<ByteRecord>, Error> {
+    let mut reader = ReaderBuilder::new()
+        .has_headers(false)
+        .from_reader(alloc, line);
+    let mut fields = ByteRecord::new(alloc);
+    if reader.read_byte_record(&mut fields)? {
+        Ok(Some(fields))
+    } else {
+        Ok(None)
+    }
 }
 
 // The same by csv's reader.

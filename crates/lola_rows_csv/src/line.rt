@@ -2,15 +2,12 @@
 //!
 //! A reader of that crate costs microseconds to make, so the fields are read here, and its definition is the contract.
 
-ghost use Rattle.std.specs.Prelude.{◌≡◌, ◌<◌, ◌≤◌, ◌-◌, [], ◌∷◌, false, take, drop, length, get_or, IfOk, OnOk, ℕ, List, ◌++◌, option_map};
+ghost use Rattle.std.specs.Prelude.{◌≡◌, ◌<◌, ◌≤◌, ◌-◌, [], ◌∷◌, false, take, drop, length, get_or, IfOk, OnOk, ℕ, List, ◌++◌};
 ghost use Rattle.std.specs.List.{list_any};
-ghost use Rattle.csv.specs.Machine.{next_record};
-ghost use Rattle.csv.specs.Reading.{default_config, strip_bom};
 ghost use Rattle.csv.specs.Records.{fields_of, partial_of};
-ghost use Rattle.csv.specs.declared.parser.State.TheVariants as st;
 ghost use Rattle.lola_rows_csv.specs.Line.{IsField, fields_of_line, has_line_end, is_comma, is_quote};
 
-use csv::{ByteRecord, Error, ReaderBuilder};
+use csv::ByteRecord;
 use memchr::memchr;
 use std::alloc::{AllocError, Global};
 
@@ -172,21 +169,4 @@ pub fn has_line_end(line: &[u8]) -> bool
     ensures { result ≡ has_line_end line.now }
 {
     line.iter().any(|b| *b == b'\r' || *b == b'\n')
-}
-
-/// The record that csv's own reader gives for a line alone, if there is one. It shows what `read_line` is measured by,
-/// and is slow, since it makes a reader for the one line.
-pub fn by_reader(alloc: Global, line: &[u8]) -> Result<Option<ByteRecord>, Error>
-    ensures { IfOk result (λ o. option_map fields_of o
-        ≡ option_map (λ r. r.0) (next_record default_config st.StartRecord [] [] (strip_bom line.now))) }
-{
-    let mut reader = ReaderBuilder::new()
-        .has_headers(false)
-        .from_reader(alloc, line);
-    let mut fields = ByteRecord::new(alloc);
-    if reader.read_byte_record(&mut fields)? {
-        Ok(Some(fields))
-    } else {
-        Ok(None)
-    }
 }
