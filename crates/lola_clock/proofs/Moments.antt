@@ -7,26 +7,26 @@ use Rattle.std.proofs.Math.Nat.{le-div_iff_mul-le, mul-le-mul_right, div-mul-le_
 use Rattle.lola_value.specs.Ratio.{Ratio}
 use Rattle.lola_value.specs.Rate.{deadline, next_deadline, next_number, next_in_time, period_over}
 use Rattle.lola_value.specs.Times.{latest}
-use Rattle.lola_model.specs.StepOrder.{IsRate}
+use Rattle.lola_model.specs.StepOrder.{IsPositiveRate}
 use Rattle.lola_model.proofs.Deadlines.{ceil_least, next_deadline_above}
 use Rattle.lola_clock.specs.Timers.{IsMoment, due_of, rest_of, too_late}
 
 -- the number of a rate's first deadline above a moment
 
-number_least : (r : Ratio) (t k : ℕ) → IsRate r → t < deadline r k → next_number r t ≤ k
+number_least : (r : Ratio) (t k : ℕ) → IsPositiveRate r → t < deadline r k → next_number r t ≤ k
 number_least r t k h lt =
     let d : 0 < r.den = h.den in
     let e : (t + 1) * r.num ≤ k * period_over r = (le-div_iff_mul-le h.num).0 (omega arith) in
     ceil_least ((t + 1) * r.num) (period_over r) k (omega arith) e
 
-deadline_mono : (r : Ratio) (a b : ℕ) → IsRate r → a ≤ b → deadline r a ≤ deadline r b
+deadline_mono : (r : Ratio) (a b : ℕ) → IsPositiveRate r → a ≤ b → deadline r a ≤ deadline r b
 deadline_mono r a b h le =
     let more : a * period_over r ≤ b * period_over r = mul-le-mul_right (period_over r) le in
     let self : a * period_over r / r.num * r.num ≤ a * period_over r = div-mul-le_self (a * period_over r) r.num in
     (le-div_iff_mul-le h.num).1 (omega arith)
 
 -- is the number behind that of a deadline that is not above it, where the deadline of that number is
-number_is : (r : Ratio) (t k : ℕ) → IsRate r → deadline r k ≤ t → t < deadline r (k + 1) → next_number r t ≡ k + 1
+number_is : (r : Ratio) (t k : ℕ) → IsPositiveRate r → deadline r k ≤ t → t < deadline r (k + 1) → next_number r t ≡ k + 1
 number_is r t k h below above =
     let least = number_least r t (k + 1) h above in
     elim (cases_lt k (next_number r t)) [
@@ -38,7 +38,7 @@ number_is r t k h below above =
     ]
 
 -- and stays the same until its deadline is passed
-number_kept : (r : Ratio) (p t : ℕ) → IsRate r → p ≤ t → t < next_deadline r p → next_number r p ≡ next_number r t
+number_kept : (r : Ratio) (p t : ℕ) → IsPositiveRate r → p ≤ t → t < next_deadline r p → next_number r p ≡ next_number r t
 number_kept r p t h later above =
     let one = number_least r t (next_number r p) h above in
     let first = next_deadline_above r t h in
@@ -95,15 +95,15 @@ rest_none start passed r h =
     sym (ap (λ b. if b then (next_number r (passed - start) * period_over r) % r.num else 0) (not_below (start + next_deadline r (passed - start)) (none_late start passed r h)))
 
 -- a moment that is not passed stays the next
-kept_number : (start passed to : ℕ) (r : Ratio) → IsRate r → start ≤ passed → passed ≤ to → to < due_of start passed r → next_number r (passed - start) ≡ next_number r (to - start)
+kept_number : (start passed to : ℕ) (r : Ratio) → IsPositiveRate r → start ≤ passed → passed ≤ to → to < due_of start passed r → next_number r (passed - start) ≡ next_number r (to - start)
 unfolding due_of
 kept_number start passed to r h order later above = number_kept r (passed - start) (to - start) h (omega arith) (omega arith)
 
-pub due_kept : (start passed to : ℕ) (r : Ratio) → IsRate r → start ≤ passed → passed ≤ to → to < due_of start passed r → due_of start passed r ≡ due_of start to r
+pub due_kept : (start passed to : ℕ) (r : Ratio) → IsPositiveRate r → start ≤ passed → passed ≤ to → to < due_of start passed r → due_of start passed r ≡ due_of start to r
 unfolding due_of
 due_kept start passed to r h order later above = ap (λ n. min (start + deadline r n) too_late) (number_kept r (passed - start) (to - start) h (omega arith) (omega arith))
 
-pub rest_kept : (start passed to : ℕ) (r : Ratio) → IsRate r → start ≤ passed → passed ≤ to → to < due_of start passed r → rest_of start passed r ≡ rest_of start to r
+pub rest_kept : (start passed to : ℕ) (r : Ratio) → IsPositiveRate r → start ≤ passed → passed ≤ to → to < due_of start passed r → rest_of start passed r ≡ rest_of start to r
 unfolding rest_of
 rest_kept start passed to r h order later above =
     ap (λ n. if nat_lt (start + deadline r n) too_late then (n * period_over r) % r.num else 0) (kept_number start passed to r h order later above)
@@ -163,19 +163,19 @@ rest_small start number due rest r pos m =
     omega arith
 
 -- the deadline behind one that is not above a moment, where it is above, is the first above
-stepped_number : (start to number due next rest next_rest : ℕ) (r : Ratio) → IsRate r → start ≤ to → IsMoment start r number due rest → IsMoment start r (number + 1) next next_rest → due ≤ to → to < next → next_number r (to - start) ≡ number + 1
+stepped_number : (start to number due next rest next_rest : ℕ) (r : Ratio) → IsPositiveRate r → start ≤ to → IsMoment start r number due rest → IsMoment start r (number + 1) next next_rest → due ≤ to → to < next → next_number r (to - start) ≡ number + 1
 stepped_number start to number due next rest next_rest r h order m n below above =
     let d = m.due_is in
     let e = n.due_is in
     number_is r (to - start) number h (omega arith) (omega arith)
 
-pub due_stepped : (start to number due next rest next_rest given : ℕ) (r : Ratio) → IsRate r → start ≤ to → IsMoment start r number due rest → IsMoment start r (number + 1) next next_rest → due ≤ to → to < next → given ≡ min next too_late → given ≡ due_of start to r
+pub due_stepped : (start to number due next rest next_rest given : ℕ) (r : Ratio) → IsPositiveRate r → start ≤ to → IsMoment start r number due rest → IsMoment start r (number + 1) next next_rest → due ≤ to → to < next → given ≡ min next too_late → given ≡ due_of start to r
 unfolding due_of
 due_stepped start to number due next rest next_rest given r h order m n below above is =
     let k = stepped_number start to number due next rest next_rest r h order m n below above in
     is ∙ ap (λ d. min d too_late) (n.due_is ∙ ap (λ k. start + deadline r k) (sym k))
 
-pub rest_stepped : (start to number due next rest next_rest given : ℕ) (r : Ratio) → IsRate r → start ≤ to → IsMoment start r number due rest → IsMoment start r (number + 1) next next_rest → due ≤ to → to < next
+pub rest_stepped : (start to number due next rest next_rest given : ℕ) (r : Ratio) → IsPositiveRate r → start ≤ to → IsMoment start r number due rest → IsMoment start r (number + 1) next next_rest → due ≤ to → to < next
     → given ≡ (if nat_lt next too_late then next_rest else 0) → given ≡ rest_of start to r
 unfolding rest_of
 rest_stepped start to number due next rest next_rest given r h order m n below above is =

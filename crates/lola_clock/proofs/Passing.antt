@@ -1,7 +1,7 @@
 -- The loop that sets timers, one by one.
 use Rattle.std.proofs.Common.{◌≡◌, ℕ, ◌+◌, ◌<◌, ◌≤◌, List, [], ◌∷◌, length, get_or, set, map, min, suc, zero, Bool, refl, ap, arith, sym, ◌∙◌, subst}
 use Rattle.std.proofs.Math.Numerals.{add-one}
-use Rattle.lola_model.specs.StepOrder.{IsRate, AreRates}
+use Rattle.lola_model.specs.StepOrder.{IsPositiveRate, AreRates}
 use Rattle.lola_clock.specs.declared.timers.Timer.{Timer}
 use Rattle.lola_clock.specs.Timers.{too_late, set_timer, timer_rates, earliest, IsUsable, AreUsable}
 
@@ -89,7 +89,7 @@ module _ (known : Bool) (start to : ℕ) (initial timers : List Timer) (n least 
       subst (IsUsable known start to) (sym same) all.0
 
   -- and then one more is set
-  pub more_set : (k : Timer) → n < length timers → IsRate (get_or timers n d).rate → k ≡ set_timer start to (get_or timers n d)
+  pub more_set : (k : Timer) → n < length timers → IsPositiveRate (get_or timers n d).rate → k ≡ set_timer start to (get_or timers n d)
       → IsSetUpTo known start to initial (set timers n k) (n + 1) (min least k.due)
   more_set k lt rate e =
       let size : length timers ≡ length initial = ap length h.front ∙ front_length start to n initial in
@@ -98,7 +98,7 @@ module _ (known : Bool) (start to : ℕ) (initial timers : List Timer) (n least 
       let due : k.due ≡ (set_timer start to (get_or initial n d)).due = ap (λ (t : Timer). t.due) e' in
       let split : behind n initial ≡ get_or initial n d ∷ behind (suc n) initial = behind_at n initial d (omega arith) in
       let all : AreUsable known start to (get_or initial n d ∷ behind (suc n) initial) = subst (AreUsable known start to) split h.usable in
-      let rate' : IsRate (get_or initial n d).rate = subst (λ (t : Timer). IsRate t.rate) same rate in
+      let rate' : IsPositiveRate (get_or initial n d).rate = subst (λ (t : Timer). IsPositiveRate t.rate) same rate in
       let first : min least (earliest (map (set_timer start to) (get_or initial n d ∷ behind (suc n) initial))) ≡ earliest (map (set_timer start to) initial) =
       subst (λ ks. min least (earliest (map (set_timer start to) ks)) ≡ earliest (map (set_timer start to) initial)) split h.first in
       let most : least ≤ too_late = h.most in

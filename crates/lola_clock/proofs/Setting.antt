@@ -3,7 +3,7 @@ use Rattle.std.proofs.Common.{◌≡◌, ℕ, ◌-◌, ◌<◌, ◌≤◌, List,
 use Rattle.lola_value.specs.Ratio.{Ratio}
 use Rattle.lola_value.specs.Rate.{next_number}
 use Rattle.lola_value.specs.Times.{latest}
-use Rattle.lola_model.specs.StepOrder.{IsRate, AreRates}
+use Rattle.lola_model.specs.StepOrder.{IsPositiveRate, AreRates}
 use Rattle.lola_clock.specs.declared.timers.Timer.{Timer}
 use Rattle.lola_clock.specs.Timers.{due_of, rest_of, timer_at, set_timer, new_timer, timer_rates, earliest, IsUsable, AreUsable, AreSet}
 use Rattle.lola_clock.proofs.Moments.{due_kept, rest_kept, set_stands}
@@ -20,8 +20,8 @@ set_rates start to [] = refl
 set_rates start to (k ∷ timers) = ap (λ rs. k.rate ∷ rs) (set_rates start to timers)
 
 -- a timer that was set is set
-pub one_set : (start to : ℕ) (old new : Timer) → IsRate old.rate → new ≡ set_timer start to old → IsRate new.rate × (new ≡ set_timer start to new)
-one_set start to old new rate e = subst (λ (t : Timer). IsRate t.rate × (t ≡ set_timer start to t)) (sym e) (rate, refl)
+pub one_set : (start to : ℕ) (old new : Timer) → IsPositiveRate old.rate → new ≡ set_timer start to old → IsPositiveRate new.rate × (new ≡ set_timer start to new)
+one_set start to old new rate e = subst (λ (t : Timer). IsPositiveRate t.rate × (t ≡ set_timer start to t)) (sym e) (rate, refl)
 
 -- what is set is set
 pub set_again : (start to : ℕ) (timers : List Timer) → map (set_timer start to) timers ≡ map (set_timer start to) (map (set_timer start to) timers)
@@ -30,7 +30,7 @@ set_again start to (k ∷ timers) = ap (λ ks. set_timer start to k ∷ ks) (set
 
 module _ (start passed to : ℕ) (order : start ≤ passed) (later : passed ≤ to) (in_time : to ≤ latest) where
   -- a timer that was set for one moment, seen from another
-  one_usable : (k : Timer) → IsRate k.rate → k ≡ set_timer start passed k → IsUsable true start to k
+  one_usable : (k : Timer) → IsPositiveRate k.rate → k ≡ set_timer start passed k → IsUsable true start to k
   one_usable k h e =
       let due : k.due ≡ due_of start passed k.rate = ap (λ (t : Timer). t.due) e in
       let rest : k.rest ≡ rest_of start passed k.rate = ap (λ (t : Timer). t.rest) e in

@@ -3,7 +3,7 @@ use Rattle.std.specs.Prelude.{ℕ, ◌≡◌, ◌+◌, ◌-◌, ◌*◌, ◌/◌
 use Rattle.lola_value.specs.Ratio.{Ratio}
 use Rattle.lola_value.specs.Rate.{deadline, next_deadline, next_number, period_over}
 use Rattle.lola_value.specs.Times.{latest}
-use Rattle.lola_model.specs.StepOrder.{IsRate, AreRates}
+use Rattle.lola_model.specs.StepOrder.{IsPositiveRate, AreRates}
 use Rattle.lola_clock.specs.declared.timers.Timer.{Timer}
 
 -- the moment after the latest time, which stands for all later ones
@@ -56,13 +56,13 @@ earliest (timer ∷ timers) = min timer.due (earliest timers)
 -- a timer that stands above a moment is right for it; one that does not stands at a deadline, where that is known
 pub record IsUsable (known : Bool) (start to : ℕ) (timer : Timer) : Type 0 where
   pub period : HasPeriod timer
-  pub above : to < timer.due → IsRate timer.rate × (timer ≡ set_timer start to timer)
+  pub above : to < timer.due → IsPositiveRate timer.rate × (timer ≡ set_timer start to timer)
   pub stands : IsTrue known → timer.due ≤ to → StandsAt start timer
 
 -- a timer that is set for a moment, if there is one
 abbrev pub IsSetOne : ℕ → ℕ → Option Timer → Type 0
 IsSetOne start to None = Unit {0}
-IsSetOne start to (Some timer) = IsRate timer.rate × (timer ≡ set_timer start to timer)
+IsSetOne start to (Some timer) = IsPositiveRate timer.rate × (timer ≡ set_timer start to timer)
 
 abbrev pub AreUsable : Bool → ℕ → ℕ → List Timer → Type 0
 AreUsable known start to [] = Unit {0}

@@ -2,7 +2,7 @@
 ghost use Rattle.std.specs.Prelude.{◌≡◌, ℕ, ◌+◌, ◌*◌, ◌%◌, ◌<◌, ◌≤◌, if◌then◌else◌, nat_lt, map, min, IfOk};
 ghost use Rattle.lola_value.specs.Rate.{deadline, period_over};
 ghost use Rattle.lola_value.specs.Times.{latest};
-ghost use Rattle.lola_model.specs.StepOrder.{IsRate, AreRates};
+ghost use Rattle.lola_model.specs.StepOrder.{IsPositiveRate, AreRates};
 ghost use Rattle.lola_clock.specs.Timers.{AreUsable, HasPeriod, IsMoment, IsSetOne, IsUsable, StandsAt, due_of, earliest, new_timer, rest_of, set_timer, timer_rates, too_late};
 
 use lola_value::rate::Rate;
@@ -86,7 +86,7 @@ fn moment_after(rate: &Rate, start: u64, passed: u64) -> Moment
     requires in_time { passed ≤ latest }
     ensures due { result.due ≡ due_of start passed rate.now }
     ensures rest { result.rest ≡ rest_of start passed rate.now }
-    ensures rate { IsRate rate.now }
+    ensures rate { IsPositiveRate rate.now }
 {
     match rate.next_after(passed - start) {
         Some((number, offset)) => placed(start + offset, rest_after(rate, number, offset)),
@@ -104,7 +104,7 @@ fn moment_beside(rate: &Rate, set: &Option<Timer>, start: u64, to: u64) -> Momen
     requires set { IsSetOne start to set.now }
     ensures due { result.due ≡ due_of start to rate.now }
     ensures rest { result.rest ≡ rest_of start to rate.now }
-    ensures rate { IsRate rate.now }
+    ensures rate { IsPositiveRate rate.now }
 {
     if let Some(other) = set {
         if other.rate == *rate {
@@ -123,7 +123,7 @@ fn one_later(timer: &Timer, start: u64) -> Moment
     requires stands { StandsAt start timer.now }
     requires in_time { timer.now.due ≤ latest }
     ensures later { (number : ℕ) → IsMoment start timer.now.rate number timer.now.due timer.now.rest → IsMoment start timer.now.rate (number + 1) result.due result.rest }
-    ensures rate { IsRate timer.now.rate }
+    ensures rate { IsPositiveRate timer.now.rate }
 {
     let num = timer.rate.num();
     let due = timer.due + timer.whole;
@@ -155,7 +155,7 @@ fn moment_for(timer: &Timer, set: &Option<Timer>, known: bool, start: u64, to: u
     requires set { IsSetOne start to set.now }
     ensures due { result.due ≡ due_of start to timer.now.rate }
     ensures rest { result.rest ≡ rest_of start to timer.now.rate }
-    ensures rate { IsRate timer.now.rate }
+    ensures rate { IsPositiveRate timer.now.rate }
 {
     if known {
         let next = one_later(timer, start);
@@ -174,7 +174,7 @@ fn set_one(timer: &mut Timer, set: &Option<Timer>, known: bool, start: u64, to: 
     requires usable { IsUsable known start to timer.old }
     requires set { IsSetOne start to set.now }
     ensures set { timer.new ≡ set_timer start to timer.old }
-    ensures rate { IsRate timer.old.rate }
+    ensures rate { IsPositiveRate timer.old.rate }
 {
     if timer.due <= to {
         let moment = moment_for(timer, set, known, start, to);

@@ -10,7 +10,7 @@ use Rattle.lola_parser_tree.specs.declared.pacing.Rhythm.TheVariants as r
 use Rattle.lola_parser_tree.specs.declared.pacing.Pacing.{Pacing}
 use Rattle.lola_parser_tree.specs.declared.declarations.Declaration.{Declaration}
 use Rattle.lola_parser_tree.specs.declared.declarations.Declaration.TheVariants as d
-use Rattle.lola_model.specs.StepOrder.{IsRate}
+use Rattle.lola_model.specs.StepOrder.{IsPositiveRate}
 use Rattle.lola_model.specs.declared.spec.Clause.{Clause}
 use Rattle.lola_model.specs.declared.spec.Pace.{Pace}
 use Rattle.lola_model.specs.declared.spec.Pace.TheVariants as pace
@@ -49,14 +49,14 @@ never_out : (q : Ratio) → rate.Of q ≡ rate.OutOfRange → ⊥
 never_out q e = cc
 
 -- a fraction that is noted as a rate is one above 0
-number_rated : (num den : ℕ) (q : Ratio) → IsWrittenAs num den (rate.Of q) → IsRate q
+number_rated : (num den : ℕ) (q : Ratio) → IsWrittenAs num den (rate.Of q) → IsPositiveRate q
 number_rated zero den q h = absurd (never_out q (h.zero_num refl))
 number_rated (suc num) zero q h = absurd (never_out q (h.zero_den refl))
 number_rated (suc num) (suc den) q h =
     let divisor = divisor_by (suc den) (suc num) (suc den) (omega arith) (omega arith) in
     let some : 0 < suc num = omega arith in
     let reduced = reduced_by (suc num) (suc den) some (omega arith) divisor in
-    subst IsRate (sym (h.noted _ some reduced).0) (record { num = part_positive (suc num) divisor.divisor some divisor.is.0; den = reduced.positive })
+    subst IsPositiveRate (sym (h.noted _ some reduced).0) (record { num = part_positive (suc num) divisor.divisor some divisor.is.0; den = reduced.positive })
 
 rate_rated : (num den : ℕ) (w : WrittenRate) → IsWrittenAs num den w → IsRatedWritten w
 rate_rated num den rate.OutOfRange h = tt

@@ -18,7 +18,7 @@ use Rattle.lola_model.specs.NormalForms.{HasInputsBelow}
 use Rattle.lola_model.specs.Leaves.{is_end}
 use Rattle.lola_model.specs.PacingFound.{AreOwn, IsCombined, IsFound, IsGiven, IsGivenEvent, IsJoined, IsRateFound, IsWritten, IsWrittenIn, any_row, finding_at, findings_at, forms_of, given_local, given_rate, input_finding, inputs_with, is_event, is_multiple, is_periodic, is_unpaced, no_pacing, rate_pacing, rates_of, too_wide}
 use Rattle.lola_model.specs.Pacings.{AreVerdicts, Found, InStep, IsClauseFound, IsCloseFound, IsEvalFound, IsFromLeaves, IsPaceFound, IsSpawnFound, finding_of_part, only_pacing, place_of}
-use Rattle.lola_model.specs.StepOrder.{AreRates, IsRate}
+use Rattle.lola_model.specs.StepOrder.{AreRates, IsPositiveRate}
 use Rattle.lola_model.specs.WindowVerdicts.{IsRateVerdict, IsVerdict}
 use Rattle.lola_model.specs.declared.finding.Finding.{Finding}
 use Rattle.lola_model.specs.declared.finding.Finding.TheVariants.{Paced, Refused, Unpaced}
@@ -47,16 +47,16 @@ use Rattle.lola_front_planned_law.proofs.RatesFound.{least_rate, rate_among}
 -- its rate, if it has one, is a rate
 abbrev pub IsRatedFinding : Finding → Type 0
 IsRatedFinding (Paced (Event sets)) = Unit {0}
-IsRatedFinding (Paced (Periodic r)) = IsRate r
-IsRatedFinding (Paced (Local r)) = IsRate r
+IsRatedFinding (Paced (Periodic r)) = IsPositiveRate r
+IsRatedFinding (Paced (Local r)) = IsPositiveRate r
 IsRatedFinding (Refused r) = Unit {0}
 IsRatedFinding Unpaced = Unit {0}
 
 -- .. and its sets are of inputs that a specification may have
 abbrev pub IsFit : Finding → Type 0
 IsFit (Paced (Event sets)) = AreSmall sets
-IsFit (Paced (Periodic r)) = IsRate r
-IsFit (Paced (Local r)) = IsRate r
+IsFit (Paced (Periodic r)) = IsPositiveRate r
+IsFit (Paced (Local r)) = IsPositiveRate r
 IsFit (Refused r) = Unit {0}
 IsFit Unpaced = Unit {0}
 
@@ -185,7 +185,7 @@ rates_kept (Paced (Local r) ∷ ks) h = rates_kept ks h.1
 rates_kept (Refused r ∷ ks) h = rates_kept ks h.1
 rates_kept (Unpaced ∷ ks) h = rates_kept ks h.1
 
-rate_paced : (b : Bool) (at : ℕ) (r : Ratio) → IsRate r → IsRatedFinding (if b then Paced (Periodic r) else no_pacing at)
+rate_paced : (b : Bool) (at : ℕ) (r : Ratio) → IsPositiveRate r → IsRatedFinding (if b then Paced (Periodic r) else no_pacing at)
 rate_paced true at r h = h
 rate_paced false at r h = tt
 

@@ -7,14 +7,14 @@ use Rattle.lola_value.specs.Ratio.{Ratio}
 use Rattle.lola_pacing_findings.proofs.RateLemmas.{at_most_through}
 use Rattle.lola_model.proofs.Strictly.{Contains-cases, Contains-here, Contains-none, Contains-there}
 use Rattle.lola_model.specs.PacingFound.{IsAtMost, IsLeastRate}
-use Rattle.lola_model.specs.StepOrder.{AreRates, IsRate}
+use Rattle.lola_model.specs.StepOrder.{AreRates, IsPositiveRate}
 
 pub record HasLeastRate (rates : List Ratio) : Type 0 where
   pub rate : Ratio
   pub is : IsLeastRate rates rate
   pub positive : 0 < rate.den
 
-one_least : (r : Ratio) → IsRate r → HasLeastRate (r ∷ [])
+one_least : (r : Ratio) → IsPositiveRate r → HasLeastRate (r ∷ [])
 one_least r h = record { rate = r; is = record { listed = Contains-here r []; least = All-cons (IsAtMost r) r [] (omega arith) (All-nil (IsAtMost r)) }; positive = h.den }
 
 pub least_rate : (r : Ratio) (rs : List Ratio) → AreRates (r ∷ rs) → HasLeastRate (r ∷ rs)
@@ -40,9 +40,9 @@ least_rate r (s ∷ ss) h = go (least_rate s ss h.1)
     go l = by l (cases_lt (l.rate.num * r.den) (r.num * l.rate.den))
 
 -- a rate that is listed
-pub rate_among : (rates : List Ratio) (r : Ratio) → AreRates rates → Contains rates r → IsRate r
+pub rate_among : (rates : List Ratio) (r : Ratio) → AreRates rates → Contains rates r → IsPositiveRate r
 rate_among [] r h c = absurd (Contains-none r c)
-rate_among (s ∷ ss) r h c = elim (Contains-cases s r ss c) [ inl e ↦ subst IsRate e h.0 | inr d ↦ rate_among ss r h.1 d ]
+rate_among (s ∷ ss) r h c = elim (Contains-cases s r ss c) [ inl e ↦ subst IsPositiveRate e h.0 | inr d ↦ rate_among ss r h.1 d ]
 
 pub rates_both : (as' bs : List Ratio) → AreRates as' → AreRates bs → AreRates (as' ++ bs)
 rates_both [] bs h k = k

@@ -1,6 +1,6 @@
 -- Specifications whose written rates are rates.
 use Rattle.std.specs.Prelude.{List, [], ◌∷◌, Option, Some, None}
-use Rattle.lola_model.specs.StepOrder.{IsRate}
+use Rattle.lola_model.specs.StepOrder.{IsPositiveRate}
 use Rattle.lola_model.specs.declared.spec.Clause.{Clause}
 use Rattle.lola_model.specs.declared.spec.Pace.{Pace}
 use Rattle.lola_model.specs.declared.spec.Pace.TheVariants as pace
@@ -12,7 +12,7 @@ use Rattle.lola_model.specs.declared.spec.WrittenRate.TheVariants as rate
 abbrev pub IsRatedWritten : WrittenRate → Type 0
 IsRatedWritten rate.OutOfRange = Unit {0}
 IsRatedWritten rate.TooFast = Unit {0}
-IsRatedWritten (rate.Of r) = IsRate r
+IsRatedWritten (rate.Of r) = IsPositiveRate r
 
 abbrev pub IsRatedPace : Option Pace → Type 0
 IsRatedPace None = Unit {0}

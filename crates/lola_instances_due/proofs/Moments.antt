@@ -10,7 +10,7 @@ use Rattle.lola_value.specs.Times.{latest}
 use Rattle.lola_model.specs.Activity.{is_deadline}
 use Rattle.lola_model.specs.Dues.{is_due}
 use Rattle.lola_model.specs.Steps.{first_after, earlier_of_two}
-use Rattle.lola_model.specs.StepOrder.{IsRate, AreRates}
+use Rattle.lola_model.specs.StepOrder.{IsPositiveRate, AreRates}
 use Rattle.lola_model.proofs.Deadlines.{next_deadline_above, next_deadline_least}
 use Rattle.lola_instances_due.specs.Moments.{cut, due_at, due_by, too_late}
 
@@ -65,7 +65,7 @@ same_moment born from to x y order until above above' least least' =
     let l : x ≤ y = least' (omega arith) in
     omega arith
 
-one_stays : (r : Ratio) (born from to : ℕ) → IsRate r → from ≤ to → to ≤ due_by r born from → due_by r born to ≡ due_by r born from
+one_stays : (r : Ratio) (born from to : ℕ) → IsPositiveRate r → from ≤ to → to ≤ due_by r born from → due_by r born to ≡ due_by r born from
 unfolding due_by
 one_stays r born from to h order until =
     same_moment born from to (next_deadline r (from - born - 1)) (next_deadline r (to - born - 1)) order until
@@ -92,7 +92,7 @@ one_more rates i least one born from r within is by so_far =
     let e : due_at (drop i rates) born from ≡ min (due_by r born from) (due_at (drop (i + 1) rates) born from) = ap (λ rs. due_at rs born from) split ∙ due_more r (drop (i + 1) rates) born from in
     omega arith
 
-pub rates_more : (rates : List Ratio) (i : ℕ) (r : Ratio) → i < length rates → r ≡ get_or rates i r → IsRate r → (AreRates (drop i rates) → AreRates rates) → AreRates (drop (i + 1) rates) → AreRates rates
+pub rates_more : (rates : List Ratio) (i : ℕ) (r : Ratio) → i < length rates → r ≡ get_or rates i r → IsPositiveRate r → (AreRates (drop i rates) → AreRates rates) → AreRates (drop (i + 1) rates) → AreRates rates
 rates_more rates i r within is rate so_far rest =
     let split : drop i rates ≡ r ∷ drop (i + 1) rates = rw (add-one) (drop-cons rates i r within ∙ ap (λ x. x ∷ drop (suc i) rates) (sym is)) in
     so_far (subst AreRates (sym split) (rate, rest))
@@ -113,7 +113,7 @@ now_if born time x in_time above = grind (arith, nat_tests)
 either : (a b time : ℕ) → time ≤ a → time ≤ b → nat_eq (min a b) time ≡ (nat_eq a time || nat_eq b time)
 either a b time one rest = grind (arith, nat_tests)
 
-due_by_not_before : (r : Ratio) (born time : ℕ) → IsRate r → time ≤ latest → time ≤ due_by r born time
+due_by_not_before : (r : Ratio) (born time : ℕ) → IsPositiveRate r → time ≤ latest → time ≤ due_by r born time
 unfolding due_by
 due_by_not_before r born time is in_time =
     let above : time - born - 1 < next_deadline r (time - born - 1) = next_deadline_above r (time - born - 1) is in
@@ -127,7 +127,7 @@ due_not_before (r ∷ rs) born time are in_time =
     let rest : time ≤ due_at rs born time = due_not_before rs born time are.1 in_time in
     omega arith
 
-now_by : (r : Ratio) (born time : ℕ) → IsRate r → time ≤ latest → nat_eq (due_by r born time) time ≡ is_deadline r (time - born)
+now_by : (r : Ratio) (born time : ℕ) → IsPositiveRate r → time ≤ latest → nat_eq (due_by r born time) time ≡ is_deadline r (time - born)
 unfolding due_by
 now_by r born time is in_time = now_if born time (next_deadline r (time - born - 1)) in_time (next_deadline_above r (time - born - 1) is)
 

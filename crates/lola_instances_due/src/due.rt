@@ -3,7 +3,7 @@
 ghost use Rattle.std.specs.Prelude.{◌≡◌, ◌≤◌};
 ghost use Rattle.lola_value.specs.Times.{latest};
 ghost use Rattle.lola_model.specs.Dues.{is_due};
-ghost use Rattle.lola_model.specs.StepOrder.{IsRate, AreRates};
+ghost use Rattle.lola_model.specs.StepOrder.{IsPositiveRate, AreRates};
 ghost use Rattle.lola_instances_due.specs.Moments.{due_at, due_by};
 
 use lola_value::rate::Rate;
@@ -14,7 +14,7 @@ pub const TOO_LATE: u64 = 4_000_000_000_000_000_001;
 // The moment of a rate's first deadline that is not before `from`, counted from a birth.
 fn due_of(rate: &Rate, born: u64, from: u64) -> u64
     ensures due { result ≡ due_by rate.now born from }
-    ensures rate { IsRate rate.now }
+    ensures rate { IsPositiveRate rate.now }
 {
     let passed = from.saturating_sub(born).saturating_sub(1);
     match rate.next_after(passed) {

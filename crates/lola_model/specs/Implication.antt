@@ -4,7 +4,7 @@ use Rattle.std.specs.Int.{bit_at}
 use Rattle.lola_value.specs.Ratio.{Ratio}
 use Rattle.lola_model.specs.Table.{Step}
 use Rattle.lola_model.specs.Activity.{satisfies, satisfies_some, is_active}
-use Rattle.lola_model.specs.StepOrder.{IsRate}
+use Rattle.lola_model.specs.StepOrder.{IsPositiveRate}
 use Rattle.lola_model.specs.declared.pacing.InputSet.{InputSet}
 use Rattle.lola_model.specs.declared.pacing.Pacing.{Pacing}
 use Rattle.lola_model.specs.declared.pacing.Pacing.TheVariants.{Event, Periodic, Local}
@@ -43,8 +43,8 @@ IsNormalFormOf formula sets = AreLeastSets (λ inputs. satisfies_formula inputs 
 -- a pacing whose rate, if it is one, is above 0
 abbrev pub IsPacing : Pacing → Type 0
 IsPacing (Event sets) = Unit {0}
-IsPacing (Periodic r) = IsRate r
-IsPacing (Local r) = IsRate r
+IsPacing (Periodic r) = IsPositiveRate r
+IsPacing (Local r) = IsPositiveRate r
 
 -- each set of inputs that satisfies the one satisfies the other
 abbrev pub FormulaImplies : Formula → Formula → Type 0

@@ -11,14 +11,14 @@ use Rattle.lola_model.specs.declared.journal.Entry.{Entry}
 use Rattle.lola_model.specs.declared.pacing.ClausePacings.{ClausePacings}
 
 -- a rate above 0, whose deadlines therefore are moments
-pub record IsRate (r : Ratio) : Type 0 where
+pub record IsPositiveRate (r : Ratio) : Type 0 where
   pub num : 0 < r.num
   pub den : 0 < r.den
 
 -- each of these rates is
 abbrev pub AreRates : List Ratio → Type 0
 AreRates [] = Unit {0}
-AreRates (r ∷ rs) = IsRate r × AreRates rs
+AreRates (r ∷ rs) = IsPositiveRate r × AreRates rs
 
 -- where a step comes from: an accepted row in its place among the accepted rows, from 0, or the deadlines of a moment
 pub data Origin : Type 0 where

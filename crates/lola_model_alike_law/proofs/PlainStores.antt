@@ -4,7 +4,7 @@ use Rattle.lola_value.specs.declared.value.Kind.TheVariants as kind
 use Rattle.lola_model.specs.Content.{Content, StreamContent}
 use Rattle.lola_model.specs.Model.{last_row}
 use Rattle.lola_model.specs.NextStep.{local_rates}
-use Rattle.lola_model.specs.Runs.{content_after, life_after, streams_after, time_after}
+use Rattle.lola_model.specs.Runs.{content_after, life_after, streams_after, time_of_last}
 use Rattle.lola_model.specs.Store.{Layout, layout_of, layouts_from, StreamLayout}
 use Rattle.lola_model.specs.Table.{Instance, TableRow}
 use Rattle.lola_model.specs.declared.pacing.ClausePacings.{ClausePacings}
@@ -48,4 +48,4 @@ same_after rows n (s ∷ ss) =
 
 pub same_content : (plan : Plan) (start : ℕ) (rows : List TableRow) → content_after (plain_plan plan) start rows ≡ content_after plan start rows
 same_content plan start rows =
-    ap (λ (cs : List StreamContent). let c : Content = record { start = start; time = time_after start (last_row rows); streams = cs } in c) (same_after rows 0 plan.spec.streams)
+    ap (λ (cs : List StreamContent). let c : Content = record { start = start; time = time_of_last start (last_row rows); streams = cs } in c) (same_after rows 0 plan.spec.streams)

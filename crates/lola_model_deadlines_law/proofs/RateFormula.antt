@@ -22,7 +22,7 @@ passes : (x after : ℕ) → 0 < after → x ≡ after → (nat_lt 0 after && na
 passes x after l e = grind (arith, nat_tests)
 
 -- whatever fraction above 0, at moments after that from which it counts
-module _ (r : Ratio) (is : order.IsRate r) where
+module _ (r : Ratio) (is : order.IsPositiveRate r) where
   one_of : (t : ℕ) → IsSomeDeadline (r ∷ []) t → IsDeadline r t
   one_of t (inl d) = d
   one_of t (inr w) = absurd w
@@ -48,18 +48,18 @@ deadline_since r counted time w = go (Contains-cases r w.rate [] w.listed)
     go (inl e) = subst (λ q. IsDeadline q (time - counted)) (sym e) w.deadline
     go (inr c) = absurd (Contains-none w.rate c)
 
-fraction_sound : (r : Ratio) → order.IsRate r → (counted time : ℕ) → is_deadline r (time - counted) ≡ true → IsDeadlineSince counted (r ∷ []) time
+fraction_sound : (r : Ratio) → order.IsPositiveRate r → (counted time : ℕ) → is_deadline r (time - counted) ≡ true → IsDeadlineSince counted (r ∷ []) time
 fraction_sound r is counted time e =
     let w = formula_sound r is (time - counted) e in
     let later : 0 < time - counted = w.0 in
     record { rate = r; listed = Contains-here r []; later = omega arith; deadline = w.1 }
 
-fraction_complete : (r : Ratio) → order.IsRate r → (counted time : ℕ) → IsDeadlineSince counted (r ∷ []) time → is_deadline r (time - counted) ≡ true
+fraction_complete : (r : Ratio) → order.IsPositiveRate r → (counted time : ℕ) → IsDeadlineSince counted (r ∷ []) time → is_deadline r (time - counted) ≡ true
 fraction_complete r is counted time w =
     let later : counted < time = w.later in formula_complete r is (time - counted) (omega arith) (deadline_since r counted time w)
 
 -- each rate is above 0
-pub weaker : (r : Ratio) → IsRate r → order.IsRate r
+pub weaker : (r : Ratio) → IsRate r → order.IsPositiveRate r
 weaker r is = record { num = is.num; den = is.den }
 
 module _ (r : Ratio) (is : IsRate r) where

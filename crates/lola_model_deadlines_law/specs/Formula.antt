@@ -30,4 +30,4 @@ pub record AreDeadlines : Type 0 where
   -- each rate that a specification can have
   pub rates : (r : Ratio) → IsRate r → HasDeadlines r
   -- of a fraction of which no more is known than that it is above 0, the formula tells the deadlines after the moment from which it counts
-  pub fractions : (r : Ratio) → order.IsRate r → (counted time : ℕ) → (is_deadline r (time - counted) ≡ true) ↔ IsDeadlineSince counted (r ∷ []) time
+  pub fractions : (r : Ratio) → order.IsPositiveRate r → (counted time : ℕ) → (is_deadline r (time - counted) ≡ true) ↔ IsDeadlineSince counted (r ∷ []) time

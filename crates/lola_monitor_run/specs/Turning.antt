@@ -205,8 +205,8 @@ abbrev pub IsStanding : Keeping → Type 0
 IsStanding kept = (journal : List Entry) × Stands journal kept
 
 -- a run between two rounds
-abbrev pub IsUnderWay : World → Type 0
-IsUnderWay now = (first : World) × (round : ℕ) × SoFar first round 0 now
+abbrev pub IsBetweenRounds : World → Type 0
+IsBetweenRounds now = (first : World) × (round : ℕ) × SoFar first round 0 now
 
 -- what a source may still take: turns for its rows and for its end
 abbrev pub left_by : Supply → ℕ

@@ -5,7 +5,7 @@ ghost use Rattle.lola_merge.specs.Merging.{opening};
 ghost use Rattle.lola_model.specs.Journal.{time_after};
 ghost use Rattle.lola_monitor_run.specs.Running.{HasRoom, IsGoing, IsNext, IsRowFor, IsSetAs, Stands, keeping};
 ghost use Rattle.lola_monitor_run.specs.Feeds.{AreInPlace, AreReady, EndsRun, IsFresh, IsIdle, RanToEnd, Runs, Supply, World, supplies_of, supply_of, world};
-ghost use Rattle.lola_monitor_run.specs.Turning.{GoesRound, IsOutOfMemory, IsStanding, IsUnderWay, RunsEntry, Steps};
+ghost use Rattle.lola_monitor_run.specs.Turning.{GoesRound, IsOutOfMemory, IsStanding, IsBetweenRounds, RunsEntry, Steps};
 
 use crate::feed::Feed;
 use crate::run::Run;
@@ -104,7 +104,7 @@ fn run_round<R: Threads + Sync, S: Source, K: Sink, T: Sink, G: Gate + Sync>(
     gate: &G,
 ) -> Result<bool, Stop>
     requires many { length feed.old.workers ≤ 64 }
-    requires under_way { IsUnderWay (world (keeping run.old) (supplies_of feed.old) (K.state out.old) (T.state trace.old)) }
+    requires under_way { IsBetweenRounds (world (keeping run.old) (supplies_of feed.old) (K.state out.old) (T.state trace.old)) }
     requires idle { IsIdle feed.old (keeping run.old) }
     ensures goes { GoesRound result (world (keeping run.old) (supplies_of feed.old) (K.state out.old) (T.state trace.old))
         (world (keeping run.new) (supplies_of feed.new) (K.state out.new) (T.state trace.new)) }

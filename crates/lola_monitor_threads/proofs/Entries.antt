@@ -19,7 +19,7 @@ use Rattle.lola_monitor_run.specs.declared.stop.Stop.TheVariants as stop
 use Rattle.lola_monitor_run.proofs.Entries.{BringsIn, accepted_is, all_put, cut_at_row, last_not_put, text_more, told_more}
 use Rattle.lola_monitor_run.proofs.Sinks.{broke_behind, more_text}
 use Rattle.lola_monitor_run.proofs.Taking.{merged_is}
-use Rattle.lola_monitor_threads.specs.Takings.{HasFailed, HasRun, Halts, IsCutAtFault, IsCutInRow, IsFit, IsOutOfMemory, IsStopped, IsUnderWay, Place, RunsOne, StopsBy, most_taken, place}
+use Rattle.lola_monitor_threads.specs.Takings.{HasFailed, HasRun, Halts, IsCutAtFault, IsCutInRow, IsFit, IsOutOfMemory, IsStopped, IsPartlyRun, Place, RunsOne, StopsBy, most_taken, place}
 use Rattle.lola_monitor_threads.specs.declared.halt.Halt.{Halt}
 use Rattle.lola_monitor_threads.specs.declared.halt.Halt.TheVariants as halt
 
@@ -149,13 +149,13 @@ more_behind halt.Unfit count first front behind whole now is h = record {
 }
 
 -- the next entry is rightly marked
-pub next_marked : (now : Place) (entry : Entry) (more : List Entry) → IsUnderWay now (entry ∷ more) → IsNext now.kept entry
+pub next_marked : (now : Place) (entry : Entry) (more : List Entry) → IsPartlyRun now (entry ∷ more) → IsNext now.kept entry
 next_marked now entry more way =
     let legal = IsLegalFrom-append_right (opening_time now.kept.desk.option) way.journal (entry ∷ more) way.marked in
     subst (λ t. IsRightlyMarked t entry) (sym (merged_is way.journal now.kept way.run.stands)) legal.0
 
 -- the next entry alone
-pub way_to_next : (now : Place) (entry : Entry) (more : List Entry) → IsUnderWay now (entry ∷ more) → IsUnderWay now (entry ∷ [])
+pub way_to_next : (now : Place) (entry : Entry) (more : List Entry) → IsPartlyRun now (entry ∷ more) → IsPartlyRun now (entry ∷ [])
 way_to_next now entry more way = record {
   first = way.first;
   journal = way.journal;
@@ -165,8 +165,8 @@ way_to_next now entry more way = record {
 }
 
 -- the way goes on behind an entry
-pub way_on : (now next : Place) (entry : Entry) (more : List Entry) → IsUnderWay now (entry ∷ more) → ((first : Place) (journal : List Entry) → HasRun first journal now → HasRun first (journal ++ entry ∷ []) next)
-    → IsSetAs now.kept next.kept → IsUnderWay next more
+pub way_on : (now next : Place) (entry : Entry) (more : List Entry) → IsPartlyRun now (entry ∷ more) → ((first : Place) (journal : List Entry) → HasRun first journal now → HasRun first (journal ++ entry ∷ []) next)
+    → IsSetAs now.kept next.kept → IsPartlyRun next more
 way_on now next entry more way goes setting = record {
   first = way.first;
   journal = way.journal ++ entry ∷ [];
@@ -176,7 +176,7 @@ way_on now next entry more way goes setting = record {
 }
 
 -- a run that may count one row more has room for it
-pub has_room : (now : Place) (more : List Entry) → IsUnderWay now more → now.kept.accepted + now.kept.late < most_taken → HasRoom now.kept
+pub has_room : (now : Place) (more : List Entry) → IsPartlyRun now more → now.kept.accepted + now.kept.late < most_taken → HasRoom now.kept
 has_room now more way few =
     let rows : now.kept.desk.rows ≡ now.kept.accepted = way.run.stands.engine.rows ∙ sym way.run.stands.accepted in
     record { engine = omega arith; rows = omega arith }

@@ -12,7 +12,7 @@ use Rattle.lola_intake.specs.Histories.{EndsDone, taken}
 use Rattle.lola_intake.specs.Intakes.{Shown, Told}
 use Rattle.lola_feed.specs.Seating.{IsSameSeat}
 use Rattle.lola_monitor_run.specs.Verdicts.{AreOfSources}
-use Rattle.lola_monitor_threads.specs.Takings.{GoesOn, Halts, HasRun, InputsOf, IsReady, IsUnderWay, Place, Taking}
+use Rattle.lola_monitor_threads.specs.Takings.{GoesOn, Halts, HasRun, InputsOf, IsReady, IsPartlyRun, Place, Taking}
 use Rattle.lola_monitor_threads.specs.declared.halt.Halt.{Halt}
 
 taken-append : (xs ys : List Event) → taken (xs ++ ys) ≡ taken xs ++ taken ys
@@ -63,7 +63,7 @@ module _ (taking : Taking) (seat after : Shown) (inputs : InputsOf) (batch : Lis
   taken_is = took_more t rows seat after told ∙ ap (λ (k : Taking). taken k.seat.mine ++ rows) is
 
   -- what was taken before was run, so these come next
-  pub rows_next : (intake : TableId) (now : Place) → IsReady taking intake now.kept → (first : Place) → HasRun first (taken taking.seat.mine) now → IsLegalFrom (opening_time seat.setting.start) (taken after.mine) → IsUnderWay now rows
+  pub rows_next : (intake : TableId) (now : Place) → IsReady taking intake now.kept → (first : Place) → HasRun first (taken taking.seat.mine) now → IsLegalFrom (opening_time seat.setting.start) (taken after.mine) → IsPartlyRun now rows
   rows_next intake now ready first run marked = record {
     first = first;
     journal = taken taking.seat.mine;

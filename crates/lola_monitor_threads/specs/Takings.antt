@@ -135,7 +135,7 @@ Halts (Err (halt.Stopped how)) count first taken now = IsStopped how count first
 Halts (Err halt.Unfit) count first taken now = IsUnfit count first taken now
 
 -- some entries were run, and behind them these are rightly marked
-pub record IsUnderWay (now : Place) (more : List Entry) : Type 0 where
+pub record IsPartlyRun (now : Place) (more : List Entry) : Type 0 where
   pub first : Place
   pub journal : List Entry
   pub run : HasRun first journal now

@@ -10,7 +10,7 @@ ghost use Rattle.lola_feed.specs.Seating.{IsSameSeat};
 ghost use Rattle.lola_monitor_run.specs.Verdicts.{AreOfSources};
 ghost use Rattle.lola_monitor_run.specs.Running.{HasRoom, IsGoing, IsNext, IsRowFor, IsSetAs, keeping};
 ghost use Rattle.lola_monitor_threads.specs.Seated.{WentOn};
-ghost use Rattle.lola_monitor_threads.specs.Takings.{GoesOn, Halts, HasRun, IsReady, IsUnderWay, Place, RunsOne, place, was_taken};
+ghost use Rattle.lola_monitor_threads.specs.Takings.{GoesOn, Halts, HasRun, IsReady, IsPartlyRun, Place, RunsOne, place, was_taken};
 
 use crate::desk::DeskWorker;
 use crate::fit::Inputs;
@@ -63,7 +63,7 @@ fn test_entry<R: Threads + Sync, K: Sink, T: Sink, G: Gate + Sync>(
     gate: &G,
 ) -> Result<(), Halt>
     requires inputs { inputs.now.kinds ≡ input_kinds (keeping run.old).desk.plan.spec.streams }
-    requires under_way { IsUnderWay (place (keeping run.old) (K.state out.old) (T.state trace.old)) (entry.now ∷ []) }
+    requires under_way { IsPartlyRun (place (keeping run.old) (K.state out.old) (T.state trace.old)) (entry.now ∷ []) }
     ensures halts { (first : Place) (journal : List Entry) → HasRun first journal (place (keeping run.old) (K.state out.old) (T.state trace.old)) → AreOfSources inputs.now.count journal
         → Halts result inputs.now.count first (journal ++ entry.now ∷ []) (place (keeping run.new) (K.state out.new) (T.state trace.new)) }
     ensures source { OnOk result (entry.now.row.source < inputs.now.count) }
@@ -90,7 +90,7 @@ fn run_batch<R: Threads + Sync, K: Sink, T: Sink, G: Gate + Sync>(
     gate: &G,
 ) -> Result<(), Halt>
     requires inputs { inputs.now.kinds ≡ input_kinds (keeping run.old).desk.plan.spec.streams }
-    requires under_way { IsUnderWay (place (keeping run.old) (K.state out.old) (T.state trace.old)) batch.old }
+    requires under_way { IsPartlyRun (place (keeping run.old) (K.state out.old) (T.state trace.old)) batch.old }
     ensures halts { (first : Place) (journal : List Entry) → HasRun first journal (place (keeping run.old) (K.state out.old) (T.state trace.old)) → AreOfSources inputs.now.count journal
         → Halts result inputs.now.count first (journal ++ batch.old) (place (keeping run.new) (K.state out.new) (T.state trace.new)) }
     ensures goes { OnOk result (GoesOn batch.old (place (keeping run.old) (K.state out.old) (T.state trace.old)) (place (keeping run.new) (K.state out.new) (T.state trace.new))) }

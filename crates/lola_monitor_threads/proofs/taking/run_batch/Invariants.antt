@@ -1,7 +1,7 @@
 use Rattle.std.proofs.Common.{◌≡◌, length}
 use Rattle.lola_model.specs.Trace.{input_kinds}
 use Rattle.lola_monitor_run.specs.Running.{IsSetAs, keeping}
-use Rattle.lola_monitor_threads.specs.Takings.{IsUnderWay, place}
+use Rattle.lola_monitor_threads.specs.Takings.{IsPartlyRun, place}
 use Rattle.lola_monitor_threads.proofs.Entries.{RanSome}
 use Rattle.lola_monitor_threads.proofs.taking.run_batch.Given as goal
 
@@ -11,7 +11,7 @@ invariant-loop-entry g l =
     let trace = g.T.Sink.state in
     record {
       kinds : l.inputs.kinds ≡ input_kinds (keeping l.run).desk.plan.spec.streams;
-      way : IsUnderWay (place (keeping l.run) (out l.out) (trace l.trace)) l.batch;
+      way : IsPartlyRun (place (keeping l.run) (out l.out) (trace l.trace)) l.batch;
       ran : RanSome l.inputs.count (place (keeping l.fn.run) (out l.fn.out) (trace l.fn.trace)) (place (keeping l.run) (out l.out) (trace l.trace)) l.fn.batch l.batch;
       setting : IsSetAs (keeping l.fn.run) (keeping l.run);
     }
