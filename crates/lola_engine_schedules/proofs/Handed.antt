@@ -21,35 +21,9 @@ use Rattle.lola_engine.specs.declared.end.EngineEnd.{EngineEnd}
 use Rattle.lola_engine.specs.declared.end.EngineEnd.TheVariants.{Fault, Memory}
 use Rattle.lola_engine_schedules.specs.Handing.{Hands, HasMet, HasRowFor, HasRunAll, IsCut, IsRowFor, IsSetAs, RunsEntry, TakesEntry, settled_text}
 use Rattle.lola_engine.proofs.RunsBegun.{fault_stays, lines_stay, text_front}
+use Rattle.lola_monitor_run.proofs.Taking.{late_stands}
 
 -- one entry
-
--- an engine stands for a journal with a late entry as it stood for it without
-late_state : (e : Desk) (seen : Seen) (remembers : Memories) (journal : List Entry) (late : Entry) (t : ℕ) → late.mark ≡ mark.Late t
-    → IsWaiting e seen remembers journal ⊎ IsUnderWay e seen remembers journal → IsWaiting e seen remembers (journal ++ late ∷ []) ⊎ IsUnderWay e seen remembers (journal ++ late ∷ [])
-late_state e seen remembers journal late t is (inl w) = inl (record { without = w.without; none = accepted-append_late journal late t is ∙ w.none; new = w.new; past = w.past; clock = w.clock })
-late_state e seen remembers journal late t is (inr u) =
-    let model = sym (settled_model-append_late e.plan e.option journal late t is) in
-    let start = sym (run_start-append_late e.plan e.option journal late t is) in
-    inr (record {
-      begun = λ none. u.begun (sym (accepted-append_late journal late t is) ∙ none);
-      run = subst (λ (rows : List TableRow). IsRun e.plan e.texts.held rows) model u.run;
-      stands = subst (λ (n : ℕ). StandsBetween e.texts.held remembers seen (content_after e.plan n (settled_model e.plan e.option (journal ++ late ∷ [])))) start
-          (subst (λ (rows : List TableRow). StandsBetween e.texts.held remembers seen (content_after e.plan (run_start e.plan e.option journal) rows)) model u.stands);
-      clock = u.clock ∙ ap Some start;
-      passed = u.passed ∙ ap (λ n. max n (e.merged - 1)) start;
-    })
-
-late_stands : (e : Desk) (seen : Seen) (remembers : Memories) (journal : List Entry) (late : Entry) (t : ℕ) → late.mark ≡ mark.Late t → StandsFor e seen remembers journal → StandsFor e seen remembers (journal ++ late ∷ [])
-late_stands e seen remembers journal late t is s = record {
-  going = s.going;
-  fine = settled_fault-append_late e.plan e.option journal late t is ∙ s.fine;
-  merged = s.merged ∙ sym (merged_from-append_late (opening_time e.option) journal late t is);
-  steps = s.steps ∙ ap length (sym (settled_model-append_late e.plan e.option journal late t is));
-  lines = s.lines ∙ ap length (sym (settled_lines-append_late e.plan e.option journal late t is e.show));
-  rows = s.rows ∙ ap length (sym (accepted-append_late journal late t is));
-  state = late_state e seen remembers journal late t is s.state;
-}
 
 -- so it brings nothing
 pub late_runs : (e : Desk) (seen : Seen) (remembers : Memories) (late : Entry) (t : ℕ) → late.mark ≡ mark.Late t → (text : List ℕ) (journal : List Entry) → StandsFor e seen remembers journal

@@ -17,12 +17,12 @@ use Rattle.lola_model.proofs.Deadlines.{IsSomeDeadline, first_after_above, first
 use Rattle.lola_model.proofs.Strictly.{Contains-here, Contains-there, Contains-cases, Contains-none}
 
 -- the same moments, the same least
-least_by : (P Q : ℕ → Type 0) → ((t : ℕ) → P t → Q t) → ((t : ℕ) → Q t → P t) → (o : Option ℕ) → IsLeast P o → IsLeast Q o
+pub least_by : (P Q : ℕ → Type 0) → ((t : ℕ) → P t → Q t) → ((t : ℕ) → Q t → P t) → (o : Option ℕ) → IsLeast P o → IsLeast Q o
 least_by P Q to from None h = λ t q. h t (from t q)
 least_by P Q to from (Some t) h = (to t h.0, λ u q. h.1 u (from u q))
 
 -- of either kind
-least_of_two : (P Q : ℕ → Type 0) (a b : Option ℕ) → IsLeast P a → IsLeast Q b → IsLeast (λ t. P t ⊎ Q t) (earlier a b)
+pub least_of_two : (P Q : ℕ → Type 0) (a b : Option ℕ) → IsLeast P a → IsLeast Q b → IsLeast (λ t. P t ⊎ Q t) (earlier a b)
 least_of_two P Q None None h g = λ t w. go t w
   where
     go : (t : ℕ) → P t ⊎ Q t → ⊥

@@ -10,7 +10,8 @@ use Rattle.lola_model.specs.Store.{Seen, SeenInstance, SeenStream, StreamLayout,
 use Rattle.lola_model.proofs.Due.{first_due_least}
 use Rattle.lola_model.proofs.Strictly.{Contains-here, Contains-there, Contains-cases, Contains-none}
 use Rattle.lola_model_deadlines_law.specs.LocalDues.{IsLocalDeadline, NextIsFirst}
-use Rattle.lola_model_deadlines_law.proofs.LeastMoments.{least_by, least_of_two, least_in_time}
+use Rattle.lola_model_deadlines_law.proofs.LeastMoments.{least_in_time}
+use Rattle.lola_model.proofs.Due.{least_by, least_of_two}
 
 module _ (from : ℕ) where
   -- of these instances

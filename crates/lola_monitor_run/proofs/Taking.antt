@@ -115,7 +115,7 @@ takes_accepted (Err stop.Put) row old new out0 out1 next setting ran = (cut_acce
 takes_accepted (Err stop.Memory) row old new out0 out1 next setting ran = (kept_accepted row old new out0 out1 ran.0 ran.1 ran.2, setting)
 
 -- an engine stands for a journal with a late row
-late_state : (e : Desk) (seen : Seen) (remembers : Memories) (journal : List Entry) (late : Entry) (t : ℕ) → late.mark ≡ mark.Late t
+pub late_state : (e : Desk) (seen : Seen) (remembers : Memories) (journal : List Entry) (late : Entry) (t : ℕ) → late.mark ≡ mark.Late t
     → IsWaiting e seen remembers journal ⊎ IsUnderWay e seen remembers journal → IsWaiting e seen remembers (journal ++ late ∷ []) ⊎ IsUnderWay e seen remembers (journal ++ late ∷ [])
 late_state e seen remembers journal late t is (inl w) = inl (record { without = w.without; none = accepted-append_late journal late t is ∙ w.none; new = w.new; past = w.past; clock = w.clock })
 late_state e seen remembers journal late t is (inr u) =
@@ -130,7 +130,7 @@ late_state e seen remembers journal late t is (inr u) =
       passed = u.passed ∙ ap (λ n. max n (e.merged - 1)) start;
     })
 
-late_stands : (e : Desk) (seen : Seen) (remembers : Memories) (journal : List Entry) (late : Entry) (t : ℕ) → late.mark ≡ mark.Late t → StandsFor e seen remembers journal → StandsFor e seen remembers (journal ++ late ∷ [])
+pub late_stands : (e : Desk) (seen : Seen) (remembers : Memories) (journal : List Entry) (late : Entry) (t : ℕ) → late.mark ≡ mark.Late t → StandsFor e seen remembers journal → StandsFor e seen remembers (journal ++ late ∷ [])
 late_stands e seen remembers journal late t is s = record {
   going = s.going;
   fine = settled_fault-append_late e.plan e.option journal late t is ∙ s.fine;

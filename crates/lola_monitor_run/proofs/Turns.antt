@@ -35,23 +35,23 @@ use Rattle.lola_monitor_run.specs.Turning.{Finished, Rested, Stopped, TookEntry,
 use Rattle.lola_monitor_run.proofs.Lists.{at_mapped, mapped_same, some_is}
 
 -- rows and an end, by their parts
-both_parts : (a : SourceRows) (rows : List Row) (end : SourceEnd) → a.rows ≡ rows → a.end ≡ end → a ≡ record { rows = rows; end = end }
+pub both_parts : (a : SourceRows) (rows : List Row) (end : SourceEnd) → a.rows ≡ rows → a.end ≡ end → a ≡ record { rows = rows; end = end }
 both_parts a rows end first second = ap (λ (r : List Row). record { rows = r; end = a.end }) first ∙ ap (λ e. record { rows = rows; end = e }) second
 
-passes_are : (old new : Option SourceRows) (rows : List Row) → reader.Passes old new rows → Passes old new rows
+pub passes_are : (old new : Option SourceRows) (rows : List Row) → reader.Passes old new rows → Passes old new rows
 passes_are old new rows passes all is =
     let f = passes all is in
     (f.rest, f.left_is, both_parts all (rows ++ f.rest.rows) f.rest.end f.rows_are f.end_is)
 
-at_is : (old : Option SourceRows) (end : SourceEnd) → reader.Ends old end → IsAt end old
+pub at_is : (old : Option SourceRows) (end : SourceEnd) → reader.Ends old end → IsAt end old
 at_is old end ends all is = let e = ends all is in both_parts all [] end e.0 e.1
 
 -- with no row that waits, what is to come of a worker is what its reader gives
-none_waits : (rest : Option SourceRows) → option_map (led_by None) rest ≡ rest
+pub none_waits : (rest : Option SourceRows) → option_map (led_by None) rest ≡ rest
 none_waits None = refl
 none_waits (Some rows) = refl
 
-to_come_is : (w : Working) → w.kept ≡ None → to_come w ≡ reader.rest_of w.reader
+pub to_come_is : (w : Working) → w.kept ≡ None → to_come w ≡ reader.rest_of w.reader
 to_come_is w none = ap (λ (k : Option Row). option_map (led_by k) (reader.rest_of w.reader)) none ∙ none_waits (reader.rest_of w.reader)
 
 -- how a merge object with nothing pending lets a row in

@@ -26,6 +26,7 @@ use Rattle.lola_feed.specs.declared.worker.Turn.{Turn}
 use Rattle.lola_feed.specs.declared.worker.Turn.TheVariants as turn
 use Rattle.lola_monitor_run.specs.Feeds.{BeganWith, EndedWith, HasEnded, IsAt, Passes, led_by as before, supply_of}
 use Rattle.lola_monitor_threads.specs.Seated.{HasOffered, HasStopped, HasTold, IsRowIn, WentOn, seated, rows_in}
+use Rattle.lola_monitor_run.proofs.Turns.{both_parts, passes_are, at_is, to_come_is}
 
 -- the rows of one call more
 
@@ -68,24 +69,6 @@ finishes_last (Took t rows ∷ es) q none = finishes_last es q none
 finishes_last (Closed ∷ es) q none = finishes_last es q none
 
 -- what is to come of a worker
-
-both_parts : (a : SourceRows) (rows : List Row) (end : SourceEnd) → a.rows ≡ rows → a.end ≡ end → a ≡ record { rows = rows; end = end }
-both_parts a rows end first second = ap (λ (r : List Row). record { rows = r; end = a.end }) first ∙ ap (λ e. record { rows = rows; end = e }) second
-
-passes_are : (old new : Option SourceRows) (rows : List Row) → reader.Passes old new rows → Passes old new rows
-passes_are old new rows passes all is =
-    let f = passes all is in
-    (f.rest, f.left_is, both_parts all (rows ++ f.rest.rows) f.rest.end f.rows_are f.end_is)
-
-at_is : (old : Option SourceRows) (end : SourceEnd) → reader.Ends old end → IsAt end old
-at_is old end ends all is = let e = ends all is in both_parts all [] end e.0 e.1
-
-none_waits : (rest : Option SourceRows) → option_map (led_by None) rest ≡ rest
-none_waits None = refl
-none_waits (Some rows) = refl
-
-to_come_is : (w : Working) → w.kept ≡ None → to_come w ≡ reader.rest_of w.reader
-to_come_is w none = ap (λ (k : Option Row). option_map (led_by k) (reader.rest_of w.reader)) none ∙ none_waits (reader.rest_of w.reader)
 
 pub passes_none : (rest : Option SourceRows) → Passes rest rest []
 passes_none rest all is = (all, is, refl)

@@ -65,7 +65,7 @@ high kind.UInt32 = 4294967295
 high kind.UInt64 = 18446744073709551615
 high _ = 0
 
-IsBetween : ℕ → ℕ → ℤ → Type 0
+pub IsBetween : ℕ → ℕ → ℤ → Type 0
 IsBetween l h z = (pos 0 ≤ℤ (z +ℤ pos l)) × (z ≤ℤ pos h)
 
 to_between : (k : Kind) (z : ℤ) → IsTrue (is_within k z) → IsBetween (low k) (high k) z
@@ -103,7 +103,7 @@ total_between k (z ∷ zs) h =
     let a = to_between k z h.0 in
     (omega (arith, ints, on.0, a.0), omega (arith, ints, on.1, a.1))
 
-quotient_between : (l h n : ℕ) (z : ℤ) → 1 ≤ n → IsBetween (n * l) (n * h) z → IsBetween l h (int_div z (pos n))
+pub quotient_between : (l h n : ℕ) (z : ℤ) → 1 ≤ n → IsBetween (n * l) (n * h) z → IsBetween l h (int_div z (pos n))
 unfolding IsBetween
 quotient_between l h n (pos a) g b =
     let u : a ≤ n * h = omega (arith, ints, b.1) in

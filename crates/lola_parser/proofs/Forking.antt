@@ -36,12 +36,12 @@ forkless (Fork ks a b c) = false
 Never : {A : Type 0} → Syntax A → Type 0
 Never {A} s = (u : List Lexeme) (t : Lexeme) (v : List Lexeme) (x : A) → IsNextBehindBracket all_marks s u t v x → ⊥
 
-never_among : {A : Type 0} (a : Syntax A) → ((u : List Lexeme) (t : Lexeme) (v : List Lexeme) (x : A) → IsNextBehindBracket all_marks a u t v x → ⊥) → (u : List Lexeme) (t : Lexeme) (v : List Lexeme) (xs : List A) → ExceedsAmong (IsNextBehindBracket all_marks a) (Spells a) u t v xs → ⊥
+pub never_among : {A : Type 0} (a : Syntax A) → ((u : List Lexeme) (t : Lexeme) (v : List Lexeme) (x : A) → IsNextBehindBracket all_marks a u t v x → ⊥) → (u : List Lexeme) (t : Lexeme) (v : List Lexeme) (xs : List A) → ExceedsAmong (IsNextBehindBracket all_marks a) (Spells a) u t v xs → ⊥
 never_among a f u t v [] h = h
 never_among a f u t v (x ∷ xs) (inl h) = f u t h.0 x h.3
 never_among a f u t v (x ∷ xs) (inr h) = never_among a f h.1 t v xs h.4
 
-never : {A : Type 0} (s : Syntax A) → forkless s ≡ true → (u : List Lexeme) (t : Lexeme) (v : List Lexeme) (x : A) → IsNextBehindBracket all_marks s u t v x → ⊥
+pub never : {A : Type 0} (s : Syntax A) → forkless s ≡ true → (u : List Lexeme) (t : Lexeme) (v : List Lexeme) (x : A) → IsNextBehindBracket all_marks s u t v x → ⊥
 unfolding forkless IsNextBehindBracket
 never (Past a) f u t v x h = h
 never (Token k) f u t v x h = h

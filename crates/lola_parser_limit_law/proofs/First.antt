@@ -17,19 +17,19 @@ use Rattle.lola_parser_limit_law.proofs.Keeps.{Keeps, KeepsAmong, few_all, few_f
 use Rattle.lola_parser_limit_law.proofs.Kept.{read_kept}
 
 -- what was read of a sentence, where reading it ended
-done_or_not : {A : Type 0} (o : Outcome A) (x y : A) (i : ℕ) (rest mid : List Lexeme) → OkOrDeep o x rest → o ≡ Ok (y, i, mid) → (x ≡ y) × (rest ≡ mid)
+pub done_or_not : {A : Type 0} (o : Outcome A) (x y : A) (i : ℕ) (rest mid : List Lexeme) → OkOrDeep o x rest → o ≡ Ok (y, i, mid) → (x ≡ y) × (rest ≡ mid)
 done_or_not o x y i rest mid (inl e) h = let q = done_is x y e.0 i rest mid (sym e.1 ∙ h) in (q.0, q.2)
 done_or_not o x y i rest mid (inr e) h = absurd (let d = e.1 in cc)
 
-chosen_true : {A : Type 0} (b : Bool) (x y z : A) → b ≡ true → cond b x y ≡ z → x ≡ z
+pub chosen_true : {A : Type 0} (b : Bool) (x y z : A) → b ≡ true → cond b x y ≡ z → x ≡ z
 chosen_true true x y z e h = h
 chosen_true false x y z e h = absurd cc
 
-chosen_false : {A : Type 0} (b : Bool) (x y z : A) → b ≡ false → cond b x y ≡ z → y ≡ z
+pub chosen_false : {A : Type 0} (b : Bool) (x y z : A) → b ≡ false → cond b x y ≡ z → y ≡ z
 chosen_false true x y z e h = absurd cc
 chosen_false false x y z e h = h
 
-token_never : (k : Terminal) (m : ℕ) (ts d : List Lexeme) → take_token k m ts ≡ Err (TooDeep d) → ⊥
+pub token_never : (k : Terminal) (m : ℕ) (ts d : List Lexeme) → take_token k m ts ≡ Err (TooDeep d) → ⊥
 token_never k m [] d g = absurd (let q : Unexpected [] ≡ TooDeep d = cc in cc)
 token_never k m (t ∷ ts) d g = elim (chosen (fits k t) _ _ _ g) [ inl c ↦ absurd (let w = c.1 in cc) | inr c ↦ absurd (let w = c.1 in let q : Unexpected (t ∷ ts) ≡ TooDeep d = cc in cc) ]
 

@@ -8,6 +8,7 @@ use Rattle.lola_parser_limit_law.specs.Late.{IsMarkBehind, IsNextBehindBracket}
 use Rattle.lola_parser_limit_law.proofs.Keeps.{mark_spells}
 use Rattle.lola_parser_grammar.specs.Grammar as g
 use Rattle.lola_parser_grammar.specs.Grammar.{all_marks}
+use Rattle.lola_parser.proofs.Forking.{never}
 
 unfoldable pub forkless : {A : Type 0} → Syntax A → Bool
 forkless (Past a) = true
@@ -24,28 +25,6 @@ forkless (Fork ks a b c) = false
 
 abbrev pub Never : {A : Type 0} → Syntax A → Type 0
 Never {A} s = (u : List Lexeme) (t : Lexeme) (v : List Lexeme) (x : A) → IsNextBehindBracket all_marks s u t v x → ⊥
-
-never_among : {A : Type 0} (a : Syntax A) → ((u : List Lexeme) (t : Lexeme) (v : List Lexeme) (x : A) → IsNextBehindBracket all_marks a u t v x → ⊥) → (u : List Lexeme) (t : Lexeme) (v : List Lexeme) (xs : List A) → ExceedsAmong (IsNextBehindBracket all_marks a) (Spells a) u t v xs → ⊥
-never_among a f u t v [] h = h
-never_among a f u t v (x ∷ xs) (inl h) = f u t h.0 x h.3
-never_among a f u t v (x ∷ xs) (inr h) = never_among a f h.1 t v xs h.4
-
-pub never : {A : Type 0} (s : Syntax A) → forkless s ≡ true → (u : List Lexeme) (t : Lexeme) (v : List Lexeme) (x : A) → IsNextBehindBracket all_marks s u t v x → ⊥
-unfolding forkless IsNextBehindBracket
-never (Past a) f u t v x h = h
-never (Token k) f u t v x h = h
-never (Mark k) f u t v x h = h
-never (Whole a) f u t v x h = h
-never (Known fs ms a) f u t v x h = never a f u t v x h
-never (Then a b) f u t v x (inl h) = never a (and_parts (forkless a) (forkless b) f).0 u t h.0 x.0 h.3
-never (Then a b) f u t v x (inr h) = never b (and_parts (forkless a) (forkless b) f).1 h.1 t v x.1 h.4
-never (Map g a) f u t v y h = never a f u t v h.0 h.2
-never (Either a b) f u t v x (inl h) = never a (and_parts (forkless a) (forkless b) f).0 u t v x h
-never (Either a b) f u t v x (inr h) = never b (and_parts (forkless a) (forkless b) f).1 u t v x h
-never (Maybe a) f u t v None h = h
-never (Maybe a) f u t v (Some x) h = never a f u t v x h
-never (Many a) f u t v xs h = never_among a (never a f) u t v xs h
-never (Fork ks a b c) f u t v x h = absurd cc
 
 next_among : {A : Type 0} (P : List Lexeme → A → Type 0) (Q R : List Lexeme → Lexeme → List Lexeme → A → Type 0) → ((u : List Lexeme) (t : Lexeme) (v : List Lexeme) (x : A) → Q u t v x → R u t v x)
     → (u : List Lexeme) (t : Lexeme) (v : List Lexeme) (xs : List A) → ExceedsAmong Q P u t v xs → ExceedsAmong R P u t v xs

@@ -26,7 +26,7 @@ use Rattle.lola_store.proofs.Beginning.{owed_two}
 use Rattle.lola_store.specs.Populations.{population_layout, population_seen, lives_in, instance_at, IsNewborn}
 use Rattle.lola_store.specs.Stages.{phase_in, is_on}
 use Rattle.lola_store.specs.Tallies.{read_timed, AllOf}
-use Rattle.lola_store.proofs.Lists.{got_before, same_set, other_set}
+use Rattle.lola_instances_stream.proofs.Lists.{got_before, same_set, other_set}
 use Rattle.lola_store.proofs.Places.{layout_at, lives_count, stream_of, outcome_shows, outcome_at}
 use Rattle.lola_store.proofs.Recalling.{held-more}
 

@@ -2,7 +2,6 @@ mod Asking
 mod Beginning
 mod Changing
 mod Dues
-mod Lists
 mod Opened
 mod Places
 mod Preparing

@@ -18,7 +18,7 @@ use Rattle.lola_store.specs.Populations.{population_layout, population_seen, ins
 use Rattle.lola_store.specs.Rooms.{IsAlike, IsKept, IsReady}
 use Rattle.lola_store.specs.Tallies.{AllOf, read_timed}
 use Rattle.lola_store.proofs.Beginning.{owed_two}
-use Rattle.lola_store.proofs.Lists.{same_set, other_set}
+use Rattle.lola_instances_stream.proofs.Lists.{same_set, other_set}
 
 module _ {X : Type 0} (R : X → X → Type 0) where
   pub paired-refl : ((x : X) → R x x) → (xs : List X) → Paired R xs xs

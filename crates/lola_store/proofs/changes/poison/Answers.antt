@@ -11,7 +11,7 @@ use Rattle.lola_store.specs.Instances.{shown, instance_seen, RecallsAt, Instance
 use Rattle.lola_store.specs.Populations.{PopulationRight}
 use Rattle.lola_store.specs.Stages.{phase_in, time_in, is_on}
 use Rattle.lola_store.specs.Tallies.{AllOf}
-use Rattle.lola_store.proofs.Lists.{each-set}
+use Rattle.lola_instances_stream.proofs.Lists.{each-set}
 use Rattle.lola_store.proofs.Changing.{running_is_on, found_stream, found_instance, silent_at, layout_set, changed_set, told_set, past_set, recalls_set, is_missing, shown_told, untold, owed_fall, instance_told, recalls_poison}
 use Rattle.lola_store.proofs.changes.poison.Goals as goal
 

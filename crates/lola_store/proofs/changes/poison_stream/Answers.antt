@@ -7,7 +7,7 @@ use Rattle.lola_store.specs.Each.{Each}
 use Rattle.lola_store.specs.Instances.{instance_seen, RecallsAt}
 use Rattle.lola_store.specs.Populations.{PopulationRight}
 use Rattle.lola_store.specs.Stages.{phase_in, time_in, is_on}
-use Rattle.lola_store.proofs.Lists.{each-set}
+use Rattle.lola_instances_stream.proofs.Lists.{each-set}
 use Rattle.lola_store.proofs.Changing.{stream_read, layout_set, changed_set, past_set}
 use Rattle.lola_store.proofs.changes.poison_stream.Goals as goal
 

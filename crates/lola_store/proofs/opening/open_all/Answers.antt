@@ -5,7 +5,7 @@ use Rattle.lola_model.specs.Store.{layouts_from}
 use Rattle.lola_store.specs.Each.{Each}
 use Rattle.lola_store.specs.Opening.{IsOpened, stream_layout, first_kept, first_locals}
 use Rattle.lola_store.specs.Populations.{population_layout}
-use Rattle.lola_store.proofs.Lists.{each-append}
+use Rattle.lola_instances_stream.proofs.Lists.{each-append}
 use Rattle.lola_store.proofs.Opened.{layouts_more}
 use Rattle.lola_store.proofs.opening.open_all.Goals as goal
 
