@@ -1,13 +1,9 @@
--- The least moment of which something holds, or none: of the same moments, of either of two kinds, and up to the latest time.
-use Rattle.std.proofs.Common.{◌≡◌, ℕ, ◌<◌, ◌≤◌, ◌⊎◌, inl, inr, refl, sym, subst, Option, Some, None, Bool, true, false, if◌then◌else◌, nat_le, min, arith}
+-- The least moment of which something holds, or none, up to the latest time.
+use Rattle.std.proofs.Common.{◌≡◌, ℕ, ◌<◌, ◌≤◌, refl, Option, Some, None, Bool, true, false, if◌then◌else◌, nat_le, arith}
 use Rattle.std.proofs.lemmas.Bool.{leb-true, leb-false}
 use Rattle.std.specs.Option.{option_and_then}
 use Rattle.lola_value.specs.Times.{latest, up_to_latest}
-use Rattle.lola_model.specs.NextStep.{earlier, IsLeast}
-
-    second : (u : ℕ) → P u ⊎ Q u → s < r → s ≤ u
-    second u (inl p) k = h.1 u p
-    second u (inr q) k = let l : r ≤ u = g.1 u q in omega arith
+use Rattle.lola_model.specs.NextStep.{IsLeast}
 
 -- up to the latest time
 in_time : (P : ℕ → Type 0) (t : ℕ) (b : Bool) → nat_le t latest ≡ b → IsLeast P (Some t) → IsLeast (λ u. P u × (u ≤ latest)) (if b then Some t else None)

@@ -1,15 +1,14 @@
 -- What is spelled so is read, or is refused at a mark that is one too many in it.
-use Rattle.std.proofs.Common.{◌≡◌, ℕ, zero, suc, ◌+◌, ◌-◌, ◌≤◌, ◌<◌, Bool, true, false, cond, not, ◌&&◌, List, [], ◌∷◌, ◌++◌, length, Option, Some, None, Result, Ok, Err, refl, sym, ap, subst, ◌∙◌, append_assoc, arith, inl, inr, ◌⊎◌}
+use Rattle.std.proofs.Common.{◌≡◌, ℕ, zero, suc, ◌+◌, ◌-◌, ◌≤◌, ◌<◌, true, false, not, List, [], ◌∷◌, ◌++◌, length, Some, None, Ok, Err, refl, sym, ap, subst, ◌∙◌, append_assoc, arith, inl, inr, ◌⊎◌}
 use Rattle.std.proofs.lemmas.List.{append-nil, length-append, append_cancel_right}
 use Rattle.std.proofs.lemmas.Bool.{and_parts, not-true, false_from_ne_true}
-use Rattle.lola_parser_grammars_law.specs.Syntax.{Lexeme, Terminal, fits, any_fits, Syntax, Past, Token, Mark, Whole, Known, Then, Map, Either, Maybe, Many, Fork, charged, either_rest, last_mark, Repeats, Perhaps, Spells, starts, first, nullable, more, apart, within, is_fine, Refusal, TooDeep, Outcome, Reader, ◌>>=◌, take_token, repeated, read, max_marks, read_all}
+use Rattle.lola_parser_grammars_law.specs.Syntax.{Lexeme, Terminal, any_fits, Syntax, Past, Token, Mark, Whole, Known, Then, Map, Either, Maybe, Many, Fork, charged, either_rest, last_mark, Repeats, Spells, starts, first, nullable, more, apart, within, is_fine, TooDeep, Outcome, Reader, ◌>>=◌, repeated, read, max_marks}
 use Rattle.lola_parser_grammars_law.specs.Marks.{is_mark, marks_in, tallies, guards, is_counted}
 use Rattle.lola_parser_grammars_law.specs.Exceeding.{Exceeds, ExceedsAmong}
 use Rattle.lola_parser_grammars_law.proofs.Tests.{apart_excludes}
-use Rattle.lola_parser_grammars_law.proofs.Laws.{done_is}
-use Rattle.lola_parser_grammars_law.proofs.Complete.{spells_nil, begins, and_three, choice_parts, known_parts, any_split, follows, tail_stops, stops_within, repeats_begin, complete, ForkParts, fork_is, full_is, fork_follows}
+use Rattle.lola_parser_grammars_law.proofs.Complete.{spells_nil, begins, and_three, choice_parts, known_parts, any_split, follows, tail_stops, stops_within, repeats_begin, complete, fork_is, full_is, fork_follows}
 use Rattle.lola_parser_grammars_law.proofs.Within.{marks-append, complete_within}
-use Rattle.lola_parser_grammars_law.proofs.Over.{SplitsAtLast, last_is, counts, over, ForkCounted, fork_counted}
+use Rattle.lola_parser_grammars_law.proofs.Over.{last_is, counts, over, fork_counted}
 
 -- two splits of one list
 split_two : (a b c : List Lexeme) (t : Lexeme) (d : List Lexeme) → a ++ b ≡ c ++ t ∷ d

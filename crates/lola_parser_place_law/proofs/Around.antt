@@ -12,7 +12,7 @@ use Rattle.lola_parser_grammars_law.proofs.Complete.{begins, full_is}
 use Rattle.lola_parser_limit_law.specs.Late.{IsNextBehindBracket}
 use Rattle.lola_parser_limit_law.proofs.Placed.{fronts}
 use Rattle.lola_parser_grammar.specs.Grammar as g
-use Rattle.lola_parser_grammar.specs.Grammar.{all_marks, level, expr_in, specification}
+use Rattle.lola_parser_grammar.specs.Grammar.{all_marks, expr_in, specification}
 use Rattle.lola_parser_grammar.proofs.Fine.{unbracketed_first, unbracketed_fine}
 use Rattle.lola_parser.specs.Places.{Cut, cut_at, cut_last, clause_words}
 use Rattle.lola_parser.proofs.Lacks.{lacks, words, cut_more, cut_here, front_none, none_append, none_in, not_here, fewer, level_lacks, expr_lacks, pacing_lacks, when_lacks}

@@ -1,14 +1,14 @@
 -- Which mark of a sentence its reading ends at: the first that is too many, or behind a bracket that is a mark the next one,
 -- and then no mark before the last one is too many.
-use Rattle.std.proofs.Common.{◌≡◌, ℕ, zero, suc, ◌+◌, ◌-◌, ◌≤◌, Bool, true, false, cond, not, List, [], ◌∷◌, ◌++◌, length, Some, None, Ok, Err, refl, sym, ap, subst, ◌∙◌, append_assoc, arith, inl, inr, ◌⊎◌}
+use Rattle.std.proofs.Common.{◌≡◌, ℕ, zero, suc, ◌+◌, ◌-◌, ◌≤◌, true, false, not, List, [], ◌∷◌, ◌++◌, length, Some, None, Ok, Err, refl, sym, ap, subst, ◌∙◌, append_assoc, arith, inl, inr, ◌⊎◌}
 use Rattle.std.proofs.lemmas.List.{length-append, append_cancel_right}
 use Rattle.std.proofs.lemmas.Bool.{and_parts, not-true, false_from_ne_true}
-use Rattle.lola_parser_grammars_law.specs.Syntax.{Lexeme, Terminal, fits, any_fits, apart, within, Syntax, Past, Token, Mark, Whole, Known, Then, Map, Either, Maybe, Many, Fork, charged, either_rest, last_mark, Repeats, Spells, starts, first, nullable, more, is_fine, Unexpected, TooDeep, Outcome, ◌>>=◌, take_token, max_marks, repeated, read}
+use Rattle.lola_parser_grammars_law.specs.Syntax.{Lexeme, Terminal, any_fits, apart, within, Syntax, Past, Token, Mark, Whole, Known, Then, Map, Either, Maybe, Many, Fork, charged, either_rest, last_mark, Repeats, Spells, starts, first, nullable, more, is_fine, TooDeep, Outcome, ◌>>=◌, max_marks, repeated, read}
 use Rattle.lola_parser_grammars_law.specs.Marks.{guards, is_mark, marks_in, tallies, is_counted}
 use Rattle.lola_parser_grammars_law.specs.Exceeding.{ExceedsAmong}
 use Rattle.lola_parser_grammars_law.proofs.Tests.{apart_excludes}
-use Rattle.lola_parser_grammars_law.proofs.Laws.{chosen, done_is}
-use Rattle.lola_parser_grammars_law.proofs.Complete.{and_three, choice_parts, known_parts, fork_is, begins, spells_nil, any_split, follows, tail_stops, stops_within, fork_follows, complete, OkOrDeep, ForkParts}
+use Rattle.lola_parser_grammars_law.proofs.Laws.{chosen}
+use Rattle.lola_parser_grammars_law.proofs.Complete.{and_three, choice_parts, known_parts, fork_is, begins, spells_nil, any_split, follows, tail_stops, stops_within, fork_follows, complete, ForkParts}
 use Rattle.lola_parser_grammars_law.proofs.Viable.{bind_err}
 use Rattle.lola_parser_grammars_law.proofs.Within.{complete_within}
 use Rattle.lola_parser_grammars_law.proofs.Over.{counts, ForkCounted, fork_counted, charged_ends, last_is}

@@ -1,6 +1,5 @@
 -- Parts of the grammar in which no bracket shows only behind its end that it is a mark.
 use Rattle.std.proofs.Common.{◌≡◌, ℕ, suc, Bool, true, false, ◌&&◌, List, [], ◌∷◌, ◌++◌, Some, None, refl, ap, inl, inr}
-use Rattle.std.proofs.lemmas.Bool.{and_parts}
 use Rattle.lola_lexer.specs.declared.shape.TokenShape.TheVariants as is
 use Rattle.lola_parser_grammars_law.specs.Syntax.{Lexeme, Syntax, Past, Token, Mark, Whole, Known, Then, Map, Either, Maybe, Many, Fork, Spells, max_marks}
 use Rattle.lola_parser_grammars_law.specs.Exceeding.{ExceedsAmong}

@@ -24,7 +24,7 @@ use Rattle.lola_parser_grammar.specs.Grammar.{quantity_of}
 use Rattle.lola_parser_print.specs.Print as out
 use Rattle.lola_parser_print.specs.Print.{lex}
 use Rattle.lola_parser_print_law.specs.Erased as erased
-use Rattle.lola_parser_print_law.specs.Erased.{IntegerReads, QuantityReads, TextReads, ValueReads}
+use Rattle.lola_parser_print_law.specs.Erased.{IntegerReads, QuantityReads, ValueReads}
 use Rattle.lola_parser_print_law.specs.Places.{IsLexed, AreLexed}
 use Rattle.lola_parser_print_law.proofs.Carried.{Carries, Any, Both, SameToken, token_carried, token_any, map_carried, then_carried, either_carried}
 use Rattle.lola_parser_print_law.proofs.Numbers.{number_read, value, fold_value, value_small, power_up}

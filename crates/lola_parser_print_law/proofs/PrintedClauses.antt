@@ -18,12 +18,12 @@ use Rattle.lola_parser_tree.specs.declared.clauses.Part.{Part}
 use Rattle.lola_parser_grammars_law.specs.Syntax.{Lexeme, fits, Syntax, Then, Maybe, Many, Spells}
 use Rattle.lola_parser_grammars_law.proofs.Tests.{shapes_same}
 use Rattle.lola_parser_grammar.specs.Grammar as g
-use Rattle.lola_parser_grammar.specs.Grammar.{token, mark, word, expr_in, other_in, formula_in, join, ◌*>◌, ◌<*◌, ◌|>◌, ◌>>◌}
+use Rattle.lola_parser_grammar.specs.Grammar.{token, mark, word, expr_in, other_in, formula_in, ◌*>◌, ◌<*◌}
 use Rattle.lola_parser_print.specs.Print as out
 use Rattle.lola_parser_print.specs.Print.{lex, bare}
 use Rattle.lola_parser_print_law.specs.Erased as erased
 use Rattle.lola_parser_print_law.specs.Fitting.{RhythmFits, Perhaps, Fits, AllFit}
-use Rattle.lola_parser_print_law.specs.Erased.{QuantityReads, ExprReads, formula_need}
+use Rattle.lola_parser_print_law.specs.Erased.{QuantityReads, formula_need}
 use Rattle.lola_parser_print_law.proofs.Single.{token_spelled, word_spelled, after, before, both}
 use Rattle.lola_parser_print_law.proofs.Operands.{quantity_spelled}
 use Rattle.lola_parser_print_law.proofs.Printed.{printed, whole_in, level_whole}

@@ -1,7 +1,6 @@
 -- The least, the greatest and the mean of numbers of a kind are of that kind.
-use Rattle.std.proofs.Common.{ℕ, zero, suc, ◌+◌, ◌*◌, ◌/◌, ◌≤◌, ◌<◌, List, [], ◌∷◌, length, map, refl, arith, ℤ, pos, negsuc, ◌+ℤ◌, ◌≤ℤ◌, true, false, IsTrue, int_le, int_div, if◌then◌else◌, nat_lt, get_or}
+use Rattle.std.proofs.Common.{ℕ, zero, suc, ◌+◌, ◌*◌, ◌≤◌, ◌<◌, List, [], ◌∷◌, length, map, refl, arith, ℤ, pos, true, false, IsTrue, int_le, int_div, if◌then◌else◌, nat_lt, get_or}
 use Rattle.std.proofs.lemmas.Int.{ints}
-use Rattle.std.proofs.Math.Nat.{div-le_of_le-mul}
 use Rattle.lola_model.specs.Windows.{total, lesser, greater, least_of, greatest_of}
 use Rattle.lola_value.specs.declared.value.Kind.{Kind}
 use Rattle.lola_value.specs.declared.value.Kind.TheVariants as kind
