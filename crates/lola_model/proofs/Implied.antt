@@ -13,7 +13,7 @@ use Rattle.lola_value.specs.Ratio.{Ratio}
 use Rattle.lola_value.specs.Rate.{deadline, next_deadline, next_number}
 use Rattle.lola_value.specs.declared.text.Field.{Field}
 use Rattle.lola_model.proofs.Strictly.{Contains-here, Contains-there, Contains-cases, Contains-none, All-from_members}
-use Rattle.lola_model.proofs.Deadlines.{IsRate, next_deadline_above, next_deadline_least}
+use Rattle.lola_model.proofs.Deadlines.{IsPositiveRate, next_deadline_above, next_deadline_least}
 use Rattle.lola_model.specs.Table.{Step}
 use Rattle.lola_model.specs.Activity.{satisfies, satisfies_some, present, is_deadline, is_active_at, is_active}
 use Rattle.lola_model.specs.Implication.{IsWithin, AreApart, AreLeastSets, has_input, satisfies_formula, IsNormalFormOf, FormulaImplies, IsWholeMultipleOf, IsPacing, Implies, MeansImplication}
@@ -175,20 +175,20 @@ products k m rd rn qd qn g h =
     a ∙ (ap (λ x. k * g * x) h ∙ b)
 
 -- each deadline of a rate is one of each whole multiple of it
-pub deadline_of_multiple : (r q : Ratio) (w : IsWholeMultipleOf q r) → IsRate r → IsRate q → (k : ℕ) → deadline r k ≡ deadline q (k * w.0)
+pub deadline_of_multiple : (r q : Ratio) (w : IsWholeMultipleOf q r) → IsPositiveRate r → IsPositiveRate q → (k : ℕ) → deadline r k ≡ deadline q (k * w.0)
 deadline_of_multiple r q w h g k =
     same_quotient (k * (r.den * 1000000000)) r.num (k * w.0 * (q.den * 1000000000)) q.num h.num g.num
     (products k w.0 r.den r.num q.den q.num 1000000000 w.1)
 
 -- a deadline is told by the next after the moment before it
-is_deadline_by : (r : Ratio) (t k : ℕ) → IsRate r → 0 < t → deadline r k ≡ t → is_deadline r t ≡ true
+is_deadline_by : (r : Ratio) (t k : ℕ) → IsPositiveRate r → 0 < t → deadline r k ≡ t → is_deadline r t ≡ true
 is_deadline_by r t k h above e =
     let low : t - 1 < next_deadline r (t - 1) = next_deadline_above r (t - 1) h in
     let high : next_deadline r (t - 1) ≤ deadline r k = next_deadline_least r (t - 1) k h (omega arith) in
     and_from (nat_lt 0 t) (nat_eq (next_deadline r (t - 1)) t) (lt-ltb 0 t above) (eq-eqb (next_deadline r (t - 1)) t (omega arith))
 
 -- where a rate has a deadline, each whole multiple of it has one
-multiple_is_due : (r q : Ratio) → IsWholeMultipleOf q r → IsRate r → IsRate q → (t : ℕ) → is_deadline r t ≡ true → is_deadline q t ≡ true
+multiple_is_due : (r q : Ratio) → IsWholeMultipleOf q r → IsPositiveRate r → IsPositiveRate q → (t : ℕ) → is_deadline r t ≡ true → is_deadline q t ≡ true
 multiple_is_due r q w h g t e =
     let p = and_parts (nat_lt 0 t) (nat_eq (next_deadline r (t - 1)) t) e in
     let at : next_deadline r (t - 1) ≡ t = eqb-true (next_deadline r (t - 1)) t p.1 in

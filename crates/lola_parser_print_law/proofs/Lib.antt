@@ -1,7 +1,7 @@
 pub mod Single
 pub mod Operands
 pub mod Levels
-pub mod Printed
+pub mod PrintedExpressions
 pub mod PrintedFormulas
 pub mod PrintedClauses
 pub mod PrintedDeclarations

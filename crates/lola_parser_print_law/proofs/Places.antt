@@ -19,7 +19,7 @@ use Rattle.lola_parser_print.specs.Print as out
 use Rattle.lola_parser_print.specs.Print.{lex, bare, print, level, heads, tightness, left_of, shape_of, bracketed_if, default_tail, bare_formula, print_formula, formula_level}
 use Rattle.lola_parser_print.proofs.Equations.{bare-Reference, bare-Defaults, default_of-Reference}
 use Rattle.lola_parser_print_law.specs.Erased as erased
-use Rattle.lola_parser_print_law.proofs.Printed.{is_reference}
+use Rattle.lola_parser_print_law.proofs.PrintedExpressions.{is_reference}
 use Rattle.lola_parser_print_law.proofs.PrintedClauses.{whole_spelled}
 use Rattle.lola_parser_print_law.proofs.PrintedFormulas.{formula_printed, formula_whole}
 use Rattle.lola_parser_print_law.specs.Fewest.{PrintedIsFewest, PrintedFormulaIsFewest}

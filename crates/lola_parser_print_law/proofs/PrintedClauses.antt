@@ -26,7 +26,7 @@ use Rattle.lola_parser_print_law.specs.Fitting.{RhythmFits, Perhaps, Fits, AllFi
 use Rattle.lola_parser_print_law.specs.Erased.{QuantityReads, formula_need}
 use Rattle.lola_parser_print_law.proofs.Single.{token_spelled, word_spelled, after, before, both}
 use Rattle.lola_parser_print_law.proofs.Operands.{quantity_spelled}
-use Rattle.lola_parser_print_law.proofs.Printed.{printed, whole_in, level_whole}
+use Rattle.lola_parser_print_law.proofs.PrintedExpressions.{printed, whole_in, level_whole}
 use Rattle.lola_parser_print_law.proofs.PrintedFormulas.{formula_printed, formula_whole}
 
 -- ---- pacings
