@@ -27,7 +27,7 @@ use Rattle.lola_step.specs.Progress.{IsRun}
 use Rattle.lola_engine.specs.Engines.{Accepts, AreStarted, Brings, Completes, CutsOut, CutsRow, FailsOut, Finishes, IsEngine, IsUnderWay, IsWaiting, RunsOut, StandsFor, accepted_entry}
 use Rattle.lola_engine.specs.Going.{Add, CutsOn, FailsOn, Goes, GoesBy, HasKept, HasRun, IsOpenBehind, RunsOn, Tally, lines_after, tally_of}
 use Rattle.lola_engine.specs.Rules.{Come, TellsDue, deadlines_below, due_told}
-use Rattle.lola_engine.specs.declared.engine.Desk.{Desk}
+use Rattle.lola_engine.specs.declared.engine.EngineState.{EngineState}
 use Rattle.lola_engine.specs.declared.end.EngineEnd.{EngineEnd}
 use Rattle.lola_engine.specs.declared.end.EngineEnd.TheVariants.{Fault, Memory}
 use Rattle.lola_engine.proofs.Longer.{after_last_is, goes_longer, own_steps, settled_front, settled_taken, whole_has_one, whole_is_settled}
@@ -46,12 +46,12 @@ none_or : {A : Type 0} (o : Option A) (a : A) → o ≡ None → o ≡ Some a �
 none_or None a h k = cc
 none_or (Some x) a h k = cc
 
--- a desk with the plan, the option and what is shown of another
-pub same_desk : (d e : Desk) → d.plan ≡ e.plan → d.option ≡ e.option → d.show ≡ e.show → record d { plan = e.plan; option = e.option; show = e.show } ≡ d
-same_desk d e plan option show =
-    ap (λ p. record d { plan = p; option = e.option; show = e.show }) (sym plan)
-    ∙ (ap (λ o. record d { plan = d.plan; option = o; show = e.show }) (sym option)
-    ∙ ap (λ w. record d { plan = d.plan; option = d.option; show = w }) (sym show))
+-- a state with the plan, the given start and what is shown of another
+pub same_state : (d e : EngineState) → d.plan ≡ e.plan → d.given_start ≡ e.given_start → d.show ≡ e.show → record d { plan = e.plan; given_start = e.given_start; show = e.show } ≡ d
+same_state d e plan given_start show =
+    ap (λ p. record d { plan = p; given_start = e.given_start; show = e.show }) (sym plan)
+    ∙ (ap (λ o. record d { plan = d.plan; given_start = o; show = e.show }) (sym given_start)
+    ∙ ap (λ w. record d { plan = d.plan; given_start = d.given_start; show = w }) (sym show))
 
 -- the same run through a larger naming, and by the store as it is then
 pub has_renamed : (t : Tally) (start : ℕ) (steps : List Step) (m : Memories) (s : Seen) (names : Naming) (m2 : Memories) (s2 : Seen) → HasRun t start steps m s
@@ -66,66 +66,66 @@ has_renamed t start steps m s names m2 s2 h naming texts stands = record {
 }
 
 -- without a row nothing is made
-nothing_settled : (plan : Plan) (option : Option ℕ) (journal : List Entry) → accepted journal ≡ [] → settled_model plan option journal ≡ []
+nothing_settled : (plan : Plan) (given_start : Option ℕ) (journal : List Entry) → accepted journal ≡ [] → settled_model plan given_start journal ≡ []
 unfolding settled_model
-nothing_settled plan option journal none =
-    ap (λ rows. made plan (start_of option rows) (next_settled plan (start_of option rows) rows) (most_steps 0 0 rows) []) none
+nothing_settled plan given_start journal none =
+    ap (λ rows. made plan (start_of given_start rows) (next_settled plan (start_of given_start rows) rows) (most_steps 0 0 rows) []) none
 
-nothing_whole : (plan : Plan) (option : Option ℕ) (journal : List Entry) → accepted journal ≡ [] → whole_model plan option journal ≡ settled_model plan option journal
+nothing_whole : (plan : Plan) (given_start : Option ℕ) (journal : List Entry) → accepted journal ≡ [] → whole_model plan given_start journal ≡ settled_model plan given_start journal
 unfolding settled_model whole_model
-nothing_whole plan option journal none =
-    ap (λ rows. made plan (start_of option rows) (next_step plan (start_of option rows) rows) (most_steps (after_last rows) 0 rows) []) none
-    ∙ sym (ap (λ rows. made plan (start_of option rows) (next_settled plan (start_of option rows) rows) (most_steps 0 0 rows) []) none)
+nothing_whole plan given_start journal none =
+    ap (λ rows. made plan (start_of given_start rows) (next_step plan (start_of given_start rows) rows) (most_steps (after_last rows) 0 rows) []) none
+    ∙ sym (ap (λ rows. made plan (start_of given_start rows) (next_settled plan (start_of given_start rows) rows) (most_steps 0 0 rows) []) none)
 
 -- an engine that has started has not started behind its merged time
-pub start_low : (e : Desk) (s : Seen) (start : ℕ) → IsEngine e s → e.clock.start ≡ Some start → start ≤ e.merged
+pub start_low : (e : EngineState) (s : Seen) (start : ℕ) → IsEngine e s → e.clock.start ≡ Some start → start ≤ e.merged
 start_low e s start engine at =
     let same : start_seen s ≡ start = (subst (λ o. AreStarted s o) at engine.sound.started).1 in
     omega (arith, same, engine.sound.of.order, engine.time)
 
-module _ (e : Desk) (known : IsAccepted e.plan) (s : Seen) (m : Memories) (journal : List Entry) (h : StandsFor e s m journal) where
+module _ (e : EngineState) (known : IsAccepted e.plan) (s : Seen) (m : Memories) (journal : List Entry) (h : StandsFor e s m journal) where
   -- the steps that were run
   abbrev pub past : List Step
-  past = steps_of (settled_model e.plan e.option journal)
+  past = steps_of (settled_model e.plan e.given_start journal)
 
-  fine_is : fault_of_last (last_row (settled_model e.plan e.option journal)) ≡ None
+  fine_is : fault_of_last (last_row (settled_model e.plan e.given_start journal)) ≡ None
   unfolding settled_fault
   fine_is = h.fine
 
-  not_ended : is_ended (settled_model e.plan e.option journal) ≡ false
-  not_ended = fine_goes_on (settled_model e.plan e.option journal) fine_is
+  not_ended : is_ended (settled_model e.plan e.given_start journal) ≡ false
+  not_ended = fine_goes_on (settled_model e.plan e.given_start journal) fine_is
 
-  lines_is : e.lines ≡ length (table_lines e.show e.plan.spec.streams (settled_model e.plan e.option journal))
+  lines_is : e.lines ≡ length (table_lines e.show e.plan.spec.streams (settled_model e.plan e.given_start journal))
   unfolding settled_lines
   lines_is = h.lines
 
-  pub model_is : (start : ℕ) → start_of e.option (accepted journal) ≡ start → model e.plan start past ≡ settled_model e.plan e.option journal
-  model_is start here = ap (λ z. model e.plan z past) (sym here) ∙ own_steps e.plan known e.option journal
+  pub model_is : (start : ℕ) → start_of e.given_start (accepted journal) ≡ start → model e.plan start past ≡ settled_model e.plan e.given_start journal
+  model_is start here = ap (λ z. model e.plan z past) (sym here) ∙ own_steps e.plan known e.given_start journal
 
   -- an engine that is under way has run the steps
-  pub has_run : IsUnderWay e s m journal → (start : ℕ) → start_of e.option (accepted journal) ≡ start → HasRun (tally_of e) start past m s
+  pub has_run : IsUnderWay e s m journal → (start : ℕ) → start_of e.given_start (accepted journal) ≡ start → HasRun (tally_of e) start past m s
   has_run u start here =
-      let same : settled_model e.plan e.option journal ≡ model e.plan start past = sym (model_is start here) in
+      let same : settled_model e.plan e.given_start journal ≡ model e.plan start past = sym (model_is start here) in
       record {
         fine = ap (λ t. fault_of_last (last_row t)) (sym same) ∙ fine_is;
         run = subst (λ t. IsRun e.plan e.texts.held t) same u.run;
         stands = subst (λ t. StandsBetween e.texts.held m s (content_after e.plan start t)) same
-            (subst (λ z. StandsBetween e.texts.held m s (content_after e.plan z (settled_model e.plan e.option journal))) here u.stands);
+            (subst (λ z. StandsBetween e.texts.held m s (content_after e.plan z (settled_model e.plan e.given_start journal))) here u.stands);
         steps_are = h.steps ∙ ap length same;
         lines_are = lines_is ∙ ap (λ t. length (table_lines e.show e.plan.spec.streams t)) same;
       }
 
   -- the deadlines that are open are those from the merged time on, and all rows are taken
-  pub open_behind : IsUnderWay e s m journal → (start : ℕ) → start_of e.option (accepted journal) ≡ start → IsOpenBehind start e.merged (accepted journal) (settled_model e.plan e.option journal)
+  pub open_behind : IsUnderWay e s m journal → (start : ℕ) → start_of e.given_start (accepted journal) ≡ start → IsOpenBehind start e.merged (accepted journal) (settled_model e.plan e.given_start journal)
   open_behind u start here =
-      let all = settled_taken e.plan known e.option journal not_ended in (
-        h.merged ∙ (merged_is_last (opening_time e.option) journal ∙ all.opens (opening_time e.option) start (λ q. opening_is_start e.option (accepted journal) u.begun q ∙ here)),
+      let all = settled_taken e.plan known e.given_start journal not_ended in (
+        h.merged ∙ (merged_is_last (opening_time e.given_start) journal ∙ all.opens (opening_time e.given_start) start (λ q. opening_is_start e.given_start (accepted journal) u.begun q ∙ here)),
         all.taken,
       )
 
   -- a waiting engine has run none
-  waiting_model : IsWaiting e s m journal → settled_model e.plan e.option journal ≡ []
-  waiting_model w = nothing_settled e.plan e.option journal w.none
+  waiting_model : IsWaiting e s m journal → settled_model e.plan e.given_start journal ≡ []
+  waiting_model w = nothing_settled e.plan e.given_start journal w.none
 
   waiting_steps : IsWaiting e s m journal → past ≡ []
   waiting_steps w = ap steps_of (waiting_model w)
@@ -138,36 +138,36 @@ module _ (e : Desk) (known : IsAccepted e.plan) (s : Seen) (m : Memories) (journ
     pub rows_are : accepted longer ≡ accepted journal ++ row ∷ []
     rows_are = accepted-append_accepted journal (accepted_entry row) refl
 
-    front_by : IsWaiting e s m journal ⊎ IsUnderWay e s m journal → (more : List TableRow) × (settled_model e.plan e.option longer ≡ settled_model e.plan e.option journal ++ more)
-    front_by (inl w) = (settled_model e.plan e.option longer, ap (λ (t : List TableRow). t ++ settled_model e.plan e.option longer) (sym (waiting_model w)))
+    front_by : IsWaiting e s m journal ⊎ IsUnderWay e s m journal → (more : List TableRow) × (settled_model e.plan e.given_start longer ≡ settled_model e.plan e.given_start journal ++ more)
+    front_by (inl w) = (settled_model e.plan e.given_start longer, ap (λ (t : List TableRow). t ++ settled_model e.plan e.given_start longer) (sym (waiting_model w)))
     front_by (inr u) =
-        settled_front e.plan known e.option journal longer row (start_of e.option (accepted journal)) rows_are refl (ap (start_of e.option) rows_are ∙ start_stays e.option (accepted journal) row u.begun)
+        settled_front e.plan known e.given_start journal longer row (start_of e.given_start (accepted journal)) rows_are refl (ap (start_of e.given_start) rows_are ∙ start_stays e.given_start (accepted journal) row u.begun)
 
-    pub front : (more : List TableRow) × (settled_model e.plan e.option longer ≡ settled_model e.plan e.option journal ++ more)
+    pub front : (more : List TableRow) × (settled_model e.plan e.given_start longer ≡ settled_model e.plan e.given_start journal ++ more)
     front = front_by h.state
 
 -- what a row brings to an engine that stands for a journal
-pub record Begins (e : Desk) (names : Naming) (row : Row) (start from : ℕ) (m : Memories) (s : Seen) (journal : List Entry) : Type 0 where
-  pub start_is : start_of e.option (accepted journal ++ row ∷ []) ≡ start
-  pub model_is : model e.plan start (steps_of (settled_model e.plan e.option journal)) ≡ settled_model e.plan e.option journal
-  pub has : HasRun (record { plan = e.plan; show = e.show; names = names; steps = e.steps; lines = e.lines }) start (steps_of (settled_model e.plan e.option journal)) m s
-  pub opens : IsOpenBehind start from (accepted journal) (model e.plan start (steps_of (settled_model e.plan e.option journal)))
+pub record Begins (e : EngineState) (names : Naming) (row : Row) (start from : ℕ) (m : Memories) (s : Seen) (journal : List Entry) : Type 0 where
+  pub start_is : start_of e.given_start (accepted journal ++ row ∷ []) ≡ start
+  pub model_is : model e.plan start (steps_of (settled_model e.plan e.given_start journal)) ≡ settled_model e.plan e.given_start journal
+  pub has : HasRun (record { plan = e.plan; show = e.show; names = names; steps = e.steps; lines = e.lines }) start (steps_of (settled_model e.plan e.given_start journal)) m s
+  pub opens : IsOpenBehind start from (accepted journal) (model e.plan start (steps_of (settled_model e.plan e.given_start journal)))
 
-module _ (e : Desk) (s : Seen) (m : Memories) (row : Row) (names : Naming) (start from : ℕ) (m2 : Memories) (s2 : Seen)
+module _ (e : EngineState) (s : Seen) (m : Memories) (row : Row) (names : Naming) (start from : ℕ) (m2 : Memories) (s2 : Seen)
     (engine : IsEngine e s) (order : e.merged ≤ row.stamp) (naming : IsNaming names) (texts : HasTexts names e.plan.spec.texts) (from_is : from ≡ max e.merged start) where
   module _ (journal : List Entry) (h : StandsFor e s m journal) where
     -- where it was under way
     begins_under_way : IsUnderWay e s m journal → e.clock.start ≡ Some start → ((c : Content) → StandsBetween e.texts.held m s c → StandsBetween names m2 s2 c) → Begins e names row start from m2 s2 journal
     begins_under_way u at stands =
         let known = engine.sound.accepted in
-        let here : start_of e.option (accepted journal) ≡ start = some_is e.clock.start _ _ u.clock at in
+        let here : start_of e.given_start (accepted journal) ≡ start = some_is e.clock.start _ _ u.clock at in
         let same = model_is e known s m journal h start here in
         let merged : from ≡ e.merged = omega (arith, from_is, start_low e s start engine at) in
         record {
-          start_is = start_stays e.option (accepted journal) row u.begun ∙ here;
+          start_is = start_stays e.given_start (accepted journal) row u.begun ∙ here;
           model_is = same;
           has = has_renamed (tally_of e) start (past e known s m journal h) m s names m2 s2 (has_run e known s m journal h u start here) naming texts stands;
-          opens = subst (λ t. IsOpenBehind start from (accepted journal) t) (sym same) (subst (λ n. IsOpenBehind start n (accepted journal) (settled_model e.plan e.option journal)) (sym merged) (open_behind e known s m journal h u start here));
+          opens = subst (λ t. IsOpenBehind start from (accepted journal) t) (sym same) (subst (λ n. IsOpenBehind start n (accepted journal) (settled_model e.plan e.given_start journal)) (sym merged) (open_behind e known s m journal h u start here));
         }
 
     -- where it waited
@@ -178,7 +178,7 @@ module _ (e : Desk) (s : Seen) (m : Memories) (row : Row) (names : Naming) (star
         let empty : model e.plan start (past e known s m journal h) ≡ [] = ap (model e.plan start) none ∙ model_none e.plan start in
         let first : from ≡ start = omega (arith, from_is, at, order) in
         record {
-          start_is = ap (λ rs. start_of e.option (rs ++ row ∷ [])) w.none ∙ (ap (λ o. start_of o (row ∷ [])) w.without ∙ sym at);
+          start_is = ap (λ rs. start_of e.given_start (rs ++ row ∷ [])) w.none ∙ (ap (λ o. start_of o (row ∷ [])) w.without ∙ sym at);
           model_is = empty ∙ sym (waiting_model e known s m journal h w);
           has = record {
             fine = ap (λ t. fault_of_last (last_row t)) empty;
@@ -202,7 +202,7 @@ module _ (e : Desk) (s : Seen) (m : Memories) (row : Row) (names : Naming) (star
     begins journal h = begins_by journal h h.state
 
 -- the journal with the row
-module _ (e : Desk) (known : IsAccepted e.plan) (s : Seen) (m : Memories) (row : Row) (names : Naming) (start from : ℕ) (m2 : Memories) (s2 : Seen)
+module _ (e : EngineState) (known : IsAccepted e.plan) (s : Seen) (m : Memories) (row : Row) (names : Naming) (start from : ℕ) (m2 : Memories) (s2 : Seen)
     (begin : (journal : List Entry) → StandsFor e s m journal → Begins e names row start from m2 s2 journal) where
   abbrev before : Tally
   before = record { plan = e.plan; show = e.show; names = names; steps = e.steps; lines = e.lines }
@@ -214,35 +214,35 @@ module _ (e : Desk) (known : IsAccepted e.plan) (s : Seen) (m : Memories) (row :
   with_row journal = journal ++ accepted_entry row ∷ []
 
   abbrev ran : List Entry → List Step
-  ran journal = steps_of (settled_model e.plan e.option journal)
+  ran journal = steps_of (settled_model e.plan e.given_start journal)
 
   module _ (journal : List Entry) (h : StandsFor e s m journal) where
     b : Begins e names row start from m2 s2 journal
     b = begin journal h
 
-    start_longer : run_start e.plan e.option (with_row journal) ≡ start
-    start_longer = ap (start_of e.option) (rows_are e known s m journal h row) ∙ b.start_is
+    start_longer : run_start e.plan e.given_start (with_row journal) ≡ start
+    start_longer = ap (start_of e.given_start) (rows_are e known s m journal h row) ∙ b.start_is
 
     -- the steps that come by its rule, and others, are those of its settled model
     reach : (more : List Step) → Come e.plan start (rule journal) (ran journal) more
-        → (later : List Step) × (settled_model e.plan e.option (with_row journal) ≡ model e.plan start (ran journal ++ (more ++ later))) × (rule journal (model e.plan start (ran journal ++ more)) ≡ None → later ≡ [])
+        → (later : List Step) × (settled_model e.plan e.given_start (with_row journal) ≡ model e.plan start (ran journal ++ (more ++ later))) × (rule journal (model e.plan start (ran journal ++ more)) ≡ None → later ≡ [])
     reach more come =
         let f = front e known s m journal h row in
         let fine : is_ended (model e.plan start (ran journal)) ≡ false = fine_goes_on (model e.plan start (ran journal)) b.has.fine in
-        let split : settled_model e.plan e.option (with_row journal) ≡ model e.plan start (ran journal) ++ f.0 = f.1 ∙ ap (λ (t : List TableRow). t ++ f.0) (sym b.model_is) in
-        let g = goes_longer e.plan known e.option (with_row journal) (accepted journal) row start (model e.plan start (ran journal)) f.0 (rows_are e known s m journal h row) start_longer fine split in
+        let split : settled_model e.plan e.given_start (with_row journal) ≡ model e.plan start (ran journal) ++ f.0 = f.1 ∙ ap (λ (t : List TableRow). t ++ f.0) (sym b.model_is) in
+        let g = goes_longer e.plan known e.given_start (with_row journal) (accepted journal) row start (model e.plan start (ran journal)) f.0 (rows_are e known s m journal h row) start_longer fine split in
         let w = comes_to e.plan start (rule journal) known.acyclic (ran journal) more g.rest come fine g.goes in
         (w.0, g.split ∙ sym w.1, w.2)
 
-    brings : (more : List Step) (lines : List (List ℕ)) → settled_model e.plan e.option (with_row journal) ≡ model e.plan start (ran journal ++ more) → Add before start (ran journal) more lines
+    brings : (more : List Step) (lines : List (List ℕ)) → settled_model e.plan e.given_start (with_row journal) ≡ model e.plan start (ran journal ++ more) → Add before start (ran journal) more lines
         → Brings e journal (accepted_entry row) lines
     unfolding settled_lines
     brings more lines is add =
         ap (table_lines e.show e.plan.spec.streams) is
         ∙ (add ∙ ap (λ t. table_lines e.show e.plan.spec.streams t ++ lines) b.model_is)
 
-    fault_is : (more : List Step) (o : Option RunFault) → settled_model e.plan e.option (with_row journal) ≡ model e.plan start (ran journal ++ more)
-        → fault_of_last (last_row (model e.plan start (ran journal ++ more))) ≡ o → settled_fault e.plan e.option (with_row journal) ≡ o
+    fault_is : (more : List Step) (o : Option RunFault) → settled_model e.plan e.given_start (with_row journal) ≡ model e.plan start (ran journal ++ more)
+        → fault_of_last (last_row (model e.plan start (ran journal ++ more))) ≡ o → settled_fault e.plan e.given_start (with_row journal) ≡ o
     unfolding settled_fault
     fault_is more o is k = ap (λ t. fault_of_last (last_row t)) is ∙ k
 
@@ -250,7 +250,7 @@ module _ (e : Desk) (known : IsAccepted e.plan) (s : Seen) (m : Memories) (row :
     -- a step ended the run
     pub accepts_no_more : (end : EngineEnd) (t : Tally) (m' : Memories) (s' : Seen)
         → ((journal : List Entry) → GoesBy (Err end) start (IsOpenBehind start from (accepted journal)) (rule journal) before m2 s2 t m' s' x0 x1)
-        → (new : Desk) (s3 : Seen) (m3 : Memories) → Accepts (Err end) row e s m new s3 m3 x0 x1
+        → (new : EngineState) (s3 : Seen) (m3 : Memories) → Accepts (Err end) row e s m new s3 m3 x0 x1
     accepts_no_more (Fault stream kind time) t m' s' goes new s3 m3 =
         λ journal h.
         let b = begin journal h in
@@ -279,17 +279,17 @@ module _ (e : Desk) (known : IsAccepted e.plan) (s : Seen) (m : Memories) (row :
         }
 
     -- all is run
-    module _ (new : Desk) (s' : Seen) (m' : Memories) (goes : (journal : List Entry) → GoesBy (Ok tt) start (IsOpenBehind start from (accepted journal)) (rule journal) before m2 s2 (tally_of new) m' s' x0 x1)
-        (plan : new.plan ≡ e.plan) (option : new.option ≡ e.option) (show : new.show ≡ e.show) (ended : new.ended ≡ e.ended)
+    module _ (new : EngineState) (s' : Seen) (m' : Memories) (goes : (journal : List Entry) → GoesBy (Ok tt) start (IsOpenBehind start from (accepted journal)) (rule journal) before m2 s2 (tally_of new) m' s' x0 x1)
+        (plan : new.plan ≡ e.plan) (given_start : new.given_start ≡ e.given_start) (show : new.show ≡ e.show) (ended : new.ended ≡ e.ended)
         (rows : new.rows ≡ e.rows + 1) (merged : new.merged ≡ row.stamp) (at : new.clock.start ≡ Some start) (passed : new.clock.passed ≡ max start (row.stamp - 1)) where
-      abbrev told : Desk
-      told = record new { plan = e.plan; option = e.option; show = e.show }
+      abbrev told : EngineState
+      told = record new { plan = e.plan; given_start = e.given_start; show = e.show }
 
       is_told : told ≡ new
-      is_told = same_desk new e plan option show
+      is_told = same_state new e plan given_start show
 
       module _ (journal : List Entry) (h : StandsFor e s m journal) where
-        all_run : (more : List Step) × (settled_model e.plan e.option (with_row journal) ≡ model e.plan start (ran journal ++ more)) × RunsOn start (ran journal) more before (tally_of told) m' s' x0 x1
+        all_run : (more : List Step) × (settled_model e.plan e.given_start (with_row journal) ≡ model e.plan start (ran journal ++ more)) × RunsOn start (ran journal) more before (tally_of told) m' s' x0 x1
         all_run =
             let b = begin journal h in
             let g = goes journal (ran journal) b.has b.opens in
@@ -302,21 +302,21 @@ module _ (e : Desk) (known : IsAccepted e.plan) (s : Seen) (m : Memories) (row :
         abbrev more : List Step
         more = all_run.0
 
-        settled_is : settled_model e.plan e.option (with_row journal) ≡ model e.plan start (ran journal ++ more)
+        settled_is : settled_model e.plan e.given_start (with_row journal) ≡ model e.plan start (ran journal ++ more)
         settled_is = all_run.1
 
         has : HasRun (tally_of told) start (ran journal ++ more) m' s'
         has = all_run.2.has
 
-        fine_longer : settled_fault e.plan e.option (with_row journal) ≡ None
+        fine_longer : settled_fault e.plan e.given_start (with_row journal) ≡ None
         unfolding settled_fault
         fine_longer = ap (λ t. fault_of_last (last_row t)) settled_is ∙ has.fine
 
-        lines_longer : new.lines ≡ length (settled_lines e.plan e.option (with_row journal) e.show)
+        lines_longer : new.lines ≡ length (settled_lines e.plan e.given_start (with_row journal) e.show)
         unfolding settled_lines
         lines_longer = has.lines_are ∙ ap (λ t. length (table_lines e.show e.plan.spec.streams t)) (sym settled_is)
 
-        some_rows : accepted (with_row journal) ≡ [] → IsSome e.option
+        some_rows : accepted (with_row journal) ≡ [] → IsSome e.given_start
         some_rows k = absurd (not_none (accepted journal) (sym (rows_are e known s m journal h row) ∙ k))
           where
             not_none : (rs : List Row) → rs ++ row ∷ [] ≡ [] → ⊥
@@ -329,7 +329,7 @@ module _ (e : Desk) (known : IsAccepted e.plan) (s : Seen) (m : Memories) (row :
             record {
               begun = some_rows;
               run = subst (λ t. IsRun e.plan new.texts.held t) same has.run;
-              stands = subst (λ z. StandsBetween new.texts.held m' s' (content_after e.plan z (settled_model e.plan e.option (with_row journal)))) (sym (start_longer journal h))
+              stands = subst (λ z. StandsBetween new.texts.held m' s' (content_after e.plan z (settled_model e.plan e.given_start (with_row journal)))) (sym (start_longer journal h))
                   (subst (λ t. StandsBetween new.texts.held m' s' (content_after e.plan start t)) same has.stands);
               clock = at ∙ ap (λ z. Some z) (sym (start_longer journal h));
               passed = omega (arith, passed, merged, start_longer journal h);
@@ -339,7 +339,7 @@ module _ (e : Desk) (known : IsAccepted e.plan) (s : Seen) (m : Memories) (row :
         stands_longer = record {
           going = ended ∙ h.going;
           fine = fine_longer;
-          merged = merged ∙ sym (merged_from-append_accepted (opening_time e.option) journal (accepted_entry row) refl);
+          merged = merged ∙ sym (merged_from-append_accepted (opening_time e.given_start) journal (accepted_entry row) refl);
           steps = has.steps_are ∙ ap length (sym settled_is);
           lines = lines_longer;
           rows = omega (arith, rows, h.rows, ap length (rows_are e known s m journal h row), length-append (accepted journal) (row ∷ []));
@@ -361,19 +361,19 @@ module _ (e : Desk) (known : IsAccepted e.plan) (s : Seen) (m : Memories) (row :
           }
 
 -- where the row could not be read, nothing of its lines is appended
-module _ (e : Desk) (known : IsAccepted e.plan) (s : Seen) (m : Memories) (row : Row) (x : List ℕ) (journal : List Entry) (h : StandsFor e s m journal) where
+module _ (e : EngineState) (known : IsAccepted e.plan) (s : Seen) (m : Memories) (row : Row) (x : List ℕ) (journal : List Entry) (h : StandsFor e s m journal) where
   a_front : (lines : List (List ℕ)) × Brings e journal (accepted_entry row) lines
   unfolding settled_lines
   a_front =
       let f = front e known s m journal h row in (
         table_lines e.show e.plan.spec.streams f.0,
-        ap (table_lines e.show e.plan.spec.streams) f.1 ∙ table_lines-append e.show e.plan.spec.streams (settled_model e.plan e.option journal) f.0,
+        ap (table_lines e.show e.plan.spec.streams) f.1 ∙ table_lines-append e.show e.plan.spec.streams (settled_model e.plan e.given_start journal) f.0,
       )
 
   unread : CutsRow row journal e x x
   unread = let f = a_front in record { lines = f.0; brings = f.1; part = []; rest = text_of f.0; joined = refl; text = sym (append-nil x) }
 
-pub accepts_unread : (e : Desk) → IsAccepted e.plan → (s : Seen) (m : Memories) (row : Row) (x : List ℕ) (new : Desk) (s' : Seen) (m' : Memories) → Accepts (Err Memory) row e s m new s' m' x x
+pub accepts_unread : (e : EngineState) → IsAccepted e.plan → (s : Seen) (m : Memories) (row : Row) (x : List ℕ) (new : EngineState) (s' : Seen) (m' : Memories) → Accepts (Err Memory) row e s m new s' m' x x
 accepts_unread e known s m row x new s' m' = λ journal h. unread e known s m row x journal h
 
 -- the end of a run
@@ -390,14 +390,14 @@ nothing_of (x ∷ xs) k = absurd (omega arith)
 nothing_behind : {A : Type 0} (ks ls : List A) → ks ++ ls ≡ ks ++ [] → ls ≡ []
 nothing_behind ks ls k = let q = ap length k in nothing_of ls (omega (arith, q, length-append ks ls, ap length (append-nil ks)))
 
-module _ (e : Desk) (known : IsAccepted e.plan) (s : Seen) (m : Memories) (journal : List Entry) (h : StandsFor e s m journal) where
+module _ (e : EngineState) (known : IsAccepted e.plan) (s : Seen) (m : Memories) (journal : List Entry) (h : StandsFor e s m journal) where
   -- no step is left
-  module _ (none : whole_model e.plan e.option journal ≡ settled_model e.plan e.option journal) where
-    final_is_settled : final_lines e.plan e.option journal e.show ≡ settled_lines e.plan e.option journal e.show
+  module _ (none : whole_model e.plan e.given_start journal ≡ settled_model e.plan e.given_start journal) where
+    final_is_settled : final_lines e.plan e.given_start journal e.show ≡ settled_lines e.plan e.given_start journal e.show
     unfolding final_lines settled_lines
     final_is_settled = ap (table_lines e.show e.plan.spec.streams) none
 
-    fine_at_last : first_fault e.plan e.option journal ≡ None
+    fine_at_last : first_fault e.plan e.given_start journal ≡ None
     unfolding first_fault settled_fault
     fine_at_last = ap (λ t. fault_of_last (last_row t)) none ∙ h.fine
 
@@ -405,14 +405,14 @@ module _ (e : Desk) (known : IsAccepted e.plan) (s : Seen) (m : Memories) (journ
     runs_out_of_none x = record {
       fine = fine_at_last;
       lines = [];
-      completes = final_is_settled ∙ sym (append-nil (settled_lines e.plan e.option journal e.show));
+      completes = final_is_settled ∙ sym (append-nil (settled_lines e.plan e.given_start journal e.show));
       text = sym (append-nil x);
       steps = h.steps ∙ ap length (sym none);
       counted = h.lines ∙ ap length (sym final_is_settled);
     }
 
   -- one step is left
-  module _ (start : ℕ) (of : Step) (here : start_of e.option (accepted journal) ≡ start) (whole_is : whole_model e.plan e.option journal ≡ model e.plan start (past e known s m journal h ++ of ∷ [])) where
+  module _ (start : ℕ) (of : Step) (here : start_of e.given_start (accepted journal) ≡ start) (whole_is : whole_model e.plan e.given_start journal ≡ model e.plan start (past e known s m journal h ++ of ∷ [])) where
     abbrev done : List Step
     done = past e known s m journal h
 
@@ -421,20 +421,20 @@ module _ (e : Desk) (known : IsAccepted e.plan) (s : Seen) (m : Memories) (journ
     completes_by lines add =
         ap (table_lines e.show e.plan.spec.streams) whole_is ∙ (add ∙ ap (λ t. table_lines e.show e.plan.spec.streams t ++ lines) (model_is e known s m journal h start here))
 
-    fault_by : (o : Option RunFault) → fault_of_last (last_row (model e.plan start (done ++ of ∷ []))) ≡ o → first_fault e.plan e.option journal ≡ o
+    fault_by : (o : Option RunFault) → fault_of_last (last_row (model e.plan start (done ++ of ∷ []))) ≡ o → first_fault e.plan e.given_start journal ≡ o
     unfolding first_fault
     fault_by o k = ap (λ t. fault_of_last (last_row t)) whole_is ∙ k
 
-    module _ (new : Desk) (s' : Seen) (m' : Memories) (x0 x1 : List ℕ) (plan : new.plan ≡ e.plan) (show : new.show ≡ e.show) (r : RunsOn start done (of ∷ []) (tally_of e) (tally_of new) m' s' x0 x1) where
-      abbrev ended : Desk
-      ended = record new { plan = e.plan; option = new.option; show = e.show }
+    module _ (new : EngineState) (s' : Seen) (m' : Memories) (x0 x1 : List ℕ) (plan : new.plan ≡ e.plan) (show : new.show ≡ e.show) (r : RunsOn start done (of ∷ []) (tally_of e) (tally_of new) m' s' x0 x1) where
+      abbrev ended : EngineState
+      ended = record new { plan = e.plan; given_start = new.given_start; show = e.show }
 
       has_last : HasRun (tally_of ended) start (done ++ of ∷ []) m' s'
       has_last =
           subst (λ p. HasRun (record { plan = p; show = e.show; names = new.texts.held; steps = new.steps; lines = new.lines }) start (done ++ of ∷ []) m' s') plan
           (subst (λ w. HasRun (record { plan = new.plan; show = w; names = new.texts.held; steps = new.steps; lines = new.lines }) start (done ++ of ∷ []) m' s') show r.has)
 
-      lines_last : new.lines ≡ length (final_lines e.plan e.option journal e.show)
+      lines_last : new.lines ≡ length (final_lines e.plan e.given_start journal e.show)
       unfolding final_lines
       lines_last = has_last.lines_are ∙ ap (λ t. length (table_lines e.show e.plan.spec.streams t)) (sym whole_is)
 
@@ -469,19 +469,19 @@ module _ (e : Desk) (known : IsAccepted e.plan) (s : Seen) (m : Memories) (journ
     cuts_out x0 x1 f = record { lines = f.lines; completes = completes_by f.lines f.add; part = f.part; rest = f.rest; joined = f.joined; text = f.text }
 
 -- no row was accepted
-pub finishes_at_once : (e : Desk) → IsAccepted e.plan → (s : Seen) (m : Memories) (x : List ℕ) → e.rows ≡ 0 → Finishes (Ok tt) e s m e x x
+pub finishes_at_once : (e : EngineState) → IsAccepted e.plan → (s : Seen) (m : Memories) (x : List ℕ) → e.rows ≡ 0 → Finishes (Ok tt) e s m e x x
 finishes_at_once e known s m x none =
-    λ journal h. runs_out_of_none e known s m journal h (nothing_whole e.plan e.option journal (nothing_of (accepted journal) (sym h.rows ∙ none))) x
+    λ journal h. runs_out_of_none e known s m journal h (nothing_whole e.plan e.given_start journal (nothing_of (accepted journal) (sym h.rows ∙ none))) x
 
 -- a row was, and the clock has not started: that cannot be
-pub finishes_never : (e : Desk) (s : Seen) (m : Memories) (x : List ℕ) → (e.rows ≡ 0 → ⊥) → e.clock.start ≡ None → Finishes (Ok tt) e s m e x x
+pub finishes_never : (e : EngineState) (s : Seen) (m : Memories) (x : List ℕ) → (e.rows ≡ 0 → ⊥) → e.clock.start ≡ None → Finishes (Ok tt) e s m e x x
 finishes_never e s m x some at = λ journal h. absurd (go journal h h.state)
   where
     go : (journal : List Entry) → StandsFor e s m journal → IsWaiting e s m journal ⊎ IsUnderWay e s m journal → ⊥
     go journal h (inl w) = some (h.rows ∙ ap length w.none)
     go journal h (inr u) = none_or e.clock.start _ at u.clock
 
-module _ (e : Desk) (s : Seen) (m : Memories) (engine : IsEngine e s) (some : e.rows ≡ 0 → ⊥) (start : ℕ) (at : e.clock.start ≡ Some start) (tells : TellsDue e.plan m s) where
+module _ (e : EngineState) (s : Seen) (m : Memories) (engine : IsEngine e s) (some : e.rows ≡ 0 → ⊥) (start : ℕ) (at : e.clock.start ≡ Some start) (tells : TellsDue e.plan m s) where
   abbrev known : IsAccepted e.plan
   known = engine.sound.accepted
 
@@ -496,32 +496,32 @@ module _ (e : Desk) (s : Seen) (m : Memories) (engine : IsEngine e s) (some : e.
         go (inl w) = absurd (some (h.rows ∙ ap length w.none))
         go (inr u) = u
 
-    is_here : start_of e.option (accepted journal) ≡ start
+    is_here : start_of e.given_start (accepted journal) ≡ start
     is_here = some_is e.clock.start _ _ is_going.clock at
 
-    fine_here : is_ended (settled_model e.plan e.option journal) ≡ false
+    fine_here : is_ended (settled_model e.plan e.given_start journal) ≡ false
     fine_here = not_ended e known s m journal h
 
     -- the deadlines that are left are those up to the last stamp
     limit_is : after_last (accepted journal) ≡ e.merged + 1
     limit_is =
-        after_last_is (opening_time e.option) (accepted journal) (λ q. some (h.rows ∙ ap length q))
-        ∙ ap (λ n. n + 1) (sym (h.merged ∙ merged_is_last (opening_time e.option) journal))
+        after_last_is (opening_time e.given_start) (accepted journal) (λ q. some (h.rows ∙ ap length q))
+        ∙ ap (λ n. n + 1) (sym (h.merged ∙ merged_is_last (opening_time e.given_start) journal))
 
     -- what is told is what is left
-    left_as_told : deadlines_below e.plan (run_start e.plan e.option journal) (after_last (accepted journal)) (settled_model e.plan e.option journal) ≡ below_or first_told (e.merged + 1) None
+    left_as_told : deadlines_below e.plan (run_start e.plan e.given_start journal) (after_last (accepted journal)) (settled_model e.plan e.given_start journal) ≡ below_or first_told (e.merged + 1) None
     left_as_told =
         let of = engine.sound in
-        let table = settled_model e.plan e.option journal in
+        let table = settled_model e.plan e.given_start journal in
         let stands : StandsBetween e.texts.held m s (content_after e.plan start table) = subst (λ z. StandsBetween e.texts.held m s (content_after e.plan z table)) is_here is_going.stands in
-        ap (λ n. deadlines_below e.plan (run_start e.plan e.option journal) n table) limit_is
+        ap (λ n. deadlines_below e.plan (run_start e.plan e.given_start journal) n table) limit_is
         ∙ (ap (λ z. deadlines_below e.plan z (e.merged + 1) table) is_here
         ∙ sym (told_due e.plan known s of.of.layout e.clock start e.merged of.rates at (engine.passed start at) (start_low e s start engine at)
         e.texts.held m tells table stands (open_behind e known s m journal h is_going start is_here).0 (e.merged + 1) (omega (arith, engine.merged)) e.local of.local))
 
   finishes_none : (x : List ℕ) → below_or first_told (e.merged + 1) None ≡ None → Finishes (Ok tt) e s m e x x
   finishes_none x none =
-      λ journal h. runs_out_of_none e known s m journal h (whole_is_settled e.plan known e.option journal (fine_here journal h) (left_as_told journal h ∙ none)) x
+      λ journal h. runs_out_of_none e known s m journal h (whole_is_settled e.plan known e.given_start journal (fine_here journal h) (left_as_told journal h ∙ none)) x
 
   -- no deadline is told
   pub finishes_done : (x : List ℕ) → None ≡ first_told → Finishes (Ok tt) e s m e x x
@@ -541,12 +541,12 @@ module _ (e : Desk) (s : Seen) (m : Memories) (engine : IsEngine e s) (some : e.
     told_last = told_open e.plan known s engine.sound.of.layout e.clock start e.merged engine.sound.rates at (engine.passed start at) (start_low e s start engine at) e.local due (sym next)
 
     -- it is the one step that is left
-    one_left : (journal : List Entry) (h : StandsFor e s m journal) → whole_model e.plan e.option journal ≡ model e.plan start (past e known s m journal h ++ deadline_step due ∷ [])
+    one_left : (journal : List Entry) (h : StandsFor e s m journal) → whole_model e.plan e.given_start journal ≡ model e.plan start (past e known s m journal h ++ deadline_step due ∷ [])
     one_left journal h =
         let done = past e known s m journal h in
         let same = model_is e known s m journal h start (is_here journal h) in
-        let table = settled_model e.plan e.option journal in
-        whole_has_one e.plan known e.option journal (fine_here journal h) due (left_as_told journal h ∙ is_left) (omega (arith, limit_is journal h, told_last))
+        let table = settled_model e.plan e.given_start journal in
+        whole_has_one e.plan known e.given_start journal (fine_here journal h) due (left_as_told journal h ∙ is_left) (omega (arith, limit_is journal h, told_last))
         ∙ (ap (λ z. table ++ answered e.plan z table (deadline_step due) ∷ []) (is_here journal h)
         ∙ (ap (λ t. t ++ answered e.plan start t (deadline_step due) ∷ []) (sym same)
         ∙ sym (tables.one_row_more e.plan start done (deadline_step due) (ap is_ended same ∙ fine_here journal h))))
@@ -554,7 +554,7 @@ module _ (e : Desk) (s : Seen) (m : Memories) (engine : IsEngine e s) (some : e.
     has_all : (journal : List Entry) (h : StandsFor e s m journal) → HasRun (tally_of e) start (past e known s m journal h) m s
     has_all journal h = has_run e known s m journal h (is_going journal h) start (is_here journal h)
 
-    pub finishes_step : (r : Result (Unit {0}) EngineEnd) (new : Desk) (s' : Seen) (m' : Memories) (x0 x1 : List ℕ) → HasKept e new
+    pub finishes_step : (r : Result (Unit {0}) EngineEnd) (new : EngineState) (s' : Seen) (m' : Memories) (x0 x1 : List ℕ) → HasKept e new
         → Goes r start (deadline_step due ∷ []) (tally_of e) m s (tally_of new) m' s' x0 x1 → Finishes r e s m new x0 x1
     finishes_step (Ok _) new s' m' x0 x1 kept goes =
         λ journal h. runs_out e known s m journal h start (deadline_step due) (is_here journal h) (one_left journal h) new s' m' x0 x1 kept.plan kept.show

@@ -155,10 +155,10 @@ more_steps : (from : ℕ) (rows : List Row) (q : Row) → most_steps 0 from rows
 more_steps from [] q = omega arith
 more_steps from (r ∷ rows) q = let k = more_steps r.stamp rows q in omega arith
 
-module _ (plan : Plan) (known : IsAccepted plan) (option : Option ℕ) (journal : List Entry) where
+module _ (plan : Plan) (known : IsAccepted plan) (given_start : Option ℕ) (journal : List Entry) where
   -- the settled model of a journal is a front of that of the journal with one row more
-  pub settled_front : (longer : List Entry) (row : Row) (start : ℕ) → accepted longer ≡ accepted journal ++ row ∷ [] → run_start plan option journal ≡ start → run_start plan option longer ≡ start
-      → (more : List TableRow) × (settled_model plan option longer ≡ settled_model plan option journal ++ more)
+  pub settled_front : (longer : List Entry) (row : Row) (start : ℕ) → accepted longer ≡ accepted journal ++ row ∷ [] → run_start plan given_start journal ≡ start → run_start plan given_start longer ≡ start
+      → (more : List TableRow) × (settled_model plan given_start longer ≡ settled_model plan given_start journal ++ more)
   unfolding settled_model
   settled_front longer row start at here there =
       let rows = accepted journal in
@@ -173,36 +173,36 @@ module _ (plan : Plan) (known : IsAccepted plan) (option : Option ℕ) (journal 
       )
 
 -- a table, and what comes lawfully behind it by the rule of the journal with one row more
-pub record GoesLonger (plan : Plan) (option : Option ℕ) (longer : List Entry) (rows : List Row) (row : Row) (start : ℕ) (table : List TableRow) : Type 0 where
+pub record GoesLonger (plan : Plan) (given_start : Option ℕ) (longer : List Entry) (rows : List Row) (row : Row) (start : ℕ) (table : List TableRow) : Type 0 where
   pub rest : List TableRow
-  pub split : settled_model plan option longer ≡ table ++ rest
+  pub split : settled_model plan given_start longer ≡ table ++ rest
   pub goes : GoesOn plan start (next_settled plan start (rows ++ row ∷ [])) table rest
 
-module _ (plan : Plan) (known : IsAccepted plan) (option : Option ℕ) where
-  pub goes_longer : (longer : List Entry) (rows : List Row) (row : Row) (start : ℕ) (table rest : List TableRow) → accepted longer ≡ rows ++ row ∷ [] → run_start plan option longer ≡ start
-      → is_ended table ≡ false → settled_model plan option longer ≡ table ++ rest → GoesLonger plan option longer rows row start table
+module _ (plan : Plan) (known : IsAccepted plan) (given_start : Option ℕ) where
+  pub goes_longer : (longer : List Entry) (rows : List Row) (row : Row) (start : ℕ) (table rest : List TableRow) → accepted longer ≡ rows ++ row ∷ [] → run_start plan given_start longer ≡ start
+      → is_ended table ≡ false → settled_model plan given_start longer ≡ table ++ rest → GoesLonger plan given_start longer rows row start table
   goes_longer longer rows row start table rest at there fine split =
-      let solves : IsSettledModel plan option longer (settled_model plan option longer) = settled_solves plan (has_one_model plan known.acyclic) known.rates option longer in
+      let solves : IsSettledModel plan given_start longer (settled_model plan given_start longer) = settled_solves plan (has_one_model plan known.acyclic) known.rates given_start longer in
       let lawful : IsModel plan start (next_settled plan start (rows ++ row ∷ [])) (table ++ rest) =
       subst (λ t. IsModel plan start (next_settled plan start (rows ++ row ∷ [])) t) split
-      (subst (λ rs. IsModel plan start (next_settled plan start rs) (settled_model plan option longer)) at
-      (subst (λ z. IsModel plan z (next_settled plan z (accepted longer)) (settled_model plan option longer)) there solves)) in
+      (subst (λ rs. IsModel plan start (next_settled plan start rs) (settled_model plan given_start longer)) at
+      (subst (λ z. IsModel plan z (next_settled plan z (accepted longer)) (settled_model plan given_start longer)) there solves)) in
       record { rest = rest; split = split; goes = goes_behind plan start (next_settled plan start (rows ++ row ∷ [])) table [] rest fine lawful }
 
   -- the settled model has taken all rows
-  pub settled_taken : (journal : List Entry) → is_ended (settled_model plan option journal) ≡ false → HasTakenAll (accepted journal) (settled_model plan option journal)
+  pub settled_taken : (journal : List Entry) → is_ended (settled_model plan given_start journal) ≡ false → HasTakenAll (accepted journal) (settled_model plan given_start journal)
   settled_taken journal fine =
-      all_taken plan (run_start plan option journal) (accepted journal) (settled_model plan option journal) fine (settled_solves plan (has_one_model plan known.acyclic) known.rates option journal)
+      all_taken plan (run_start plan given_start journal) (accepted journal) (settled_model plan given_start journal) fine (settled_solves plan (has_one_model plan known.acyclic) known.rates given_start journal)
 
   -- and it is the model over its own steps
-  pub own_steps : (journal : List Entry) → model plan (run_start plan option journal) (steps_of (settled_model plan option journal)) ≡ settled_model plan option journal
+  pub own_steps : (journal : List Entry) → model plan (run_start plan given_start journal) (steps_of (settled_model plan given_start journal)) ≡ settled_model plan given_start journal
   own_steps journal =
-      let start = run_start plan option journal in
-      let table = settled_model plan option journal in
+      let start = run_start plan given_start journal in
+      let table = settled_model plan given_start journal in
       let rule = next_settled plan start (accepted journal) in
       let none : model plan start [] ≡ [] = model_none plan start in
       model_behind plan start rule known.acyclic table [] (ap is_ended none)
-      (subst (λ rs. GoesOn plan start rule rs table) (sym none) (settled_solves plan (has_one_model plan known.acyclic) known.rates option journal))
+      (subst (λ rs. GoesOn plan start rule rs table) (sym none) (settled_solves plan (has_one_model plan known.acyclic) known.rates given_start journal))
       ∙ ap (λ (rs : List TableRow). rs ++ table) none
 
 -- deadlines below a row's stamp come by the rule of the journal with the row, and then the row, and then nothing
@@ -266,34 +266,34 @@ module _ (plan : Plan) (start : ℕ) (rows : List Row) (row : Row) where
 
 -- the end of a run
 
-module _ (plan : Plan) (known : IsAccepted plan) (option : Option ℕ) (journal : List Entry) (fine : is_ended (settled_model plan option journal) ≡ false) where
+module _ (plan : Plan) (known : IsAccepted plan) (given_start : Option ℕ) (journal : List Entry) (fine : is_ended (settled_model plan given_start journal) ≡ false) where
   abbrev begin : ℕ
-  begin = run_start plan option journal
+  begin = run_start plan given_start journal
 
   abbrev settled : List TableRow
-  settled = settled_model plan option journal
+  settled = settled_model plan given_start journal
 
   abbrev last_rule : Next
   last_rule = next_step plan begin (accepted journal)
 
   -- the whole model is the settled one and what comes behind it
-  behind_settled : (rest : List TableRow) × (whole_model plan option journal ≡ settled ++ rest) × GoesOn plan begin last_rule settled rest
+  behind_settled : (rest : List TableRow) × (whole_model plan given_start journal ≡ settled ++ rest) × GoesOn plan begin last_rule settled rest
   behind_settled =
-      let w = settled_is_front plan option journal in
-      let lawful : IsModel plan begin last_rule (settled ++ w.0) = subst (λ t. IsModel plan begin last_rule t) w.1 (whole_solves plan (has_one_model plan known.acyclic) known.rates option journal) in
+      let w = settled_is_front plan given_start journal in
+      let lawful : IsModel plan begin last_rule (settled ++ w.0) = subst (λ t. IsModel plan begin last_rule t) w.1 (whole_solves plan (has_one_model plan known.acyclic) known.rates given_start journal) in
       (w.0, w.1, goes_behind plan begin last_rule settled [] w.0 fine lawful)
 
   last_rule_is : (table : List TableRow) → length (accepted journal) ≤ rows_taken table → last_rule table ≡ deadlines_below plan begin (after_last (accepted journal)) table
   last_rule_is table taken = ap (λ o. step_before o (after_last (accepted journal)) (due plan table begin)) (slice_get_past (accepted journal) (rows_taken table) taken)
 
   settled_rule : last_rule settled ≡ deadlines_below plan begin (after_last (accepted journal)) settled
-  settled_rule = let t = settled_taken plan known option journal fine in last_rule_is settled (omega (arith, t.taken))
+  settled_rule = let t = settled_taken plan known given_start journal fine in last_rule_is settled (omega (arith, t.taken))
 
   -- no deadline is left
-  pub whole_is_settled : deadlines_below plan begin (after_last (accepted journal)) settled ≡ None → whole_model plan option journal ≡ settled
+  pub whole_is_settled : deadlines_below plan begin (after_last (accepted journal)) settled ≡ None → whole_model plan given_start journal ≡ settled
   whole_is_settled none = let w = behind_settled in go w.0 w.1 w.2
     where
-      go : (rest : List TableRow) → whole_model plan option journal ≡ settled ++ rest → GoesOn plan begin last_rule settled rest → whole_model plan option journal ≡ settled
+      go : (rest : List TableRow) → whole_model plan given_start journal ≡ settled ++ rest → GoesOn plan begin last_rule settled rest → whole_model plan given_start journal ≡ settled
       go [] e g = e ∙ append-nil settled
       go (row ∷ rest) e g = absurd (none_or_one (last_rule settled) row.step (settled_rule ∙ none) g.0)
 
@@ -301,7 +301,7 @@ module _ (plan : Plan) (known : IsAccepted plan) (option : Option ℕ) (journal 
   none_later : (x : Step) (row : TableRow) → (t : ℕ) → x ≡ deadline_step t → row.step ≡ x → after_last (accepted journal) ≤ t + 1 → last_rule (settled ++ row ∷ []) ≡ None
   none_later x row t at is low =
       let table = settled ++ row ∷ [] in
-      let all = settled_taken plan known option journal fine in
+      let all = settled_taken plan known given_start journal fine in
       let a = rows_taken-append settled row in
       let open_at : open_from (last_row table) ≡ t + 1 = open_from-append settled row ∙ ap open_after (is ∙ at) in
       last_rule_is table (omega (arith, all.taken, a))
@@ -314,10 +314,10 @@ module _ (plan : Plan) (known : IsAccepted plan) (option : Option ℕ) (journal 
 
   -- the deadlines at the last stamp are left
   pub whole_has_one : (t : ℕ) → deadlines_below plan begin (after_last (accepted journal)) settled ≡ Some (deadline_step t) → after_last (accepted journal) ≤ t + 1
-      → whole_model plan option journal ≡ settled ++ answered plan begin settled (deadline_step t) ∷ []
+      → whole_model plan given_start journal ≡ settled ++ answered plan begin settled (deadline_step t) ∷ []
   whole_has_one t one low = let w = behind_settled in go w.0 w.1 w.2
     where
-      go : (rest : List TableRow) → whole_model plan option journal ≡ settled ++ rest → GoesOn plan begin last_rule settled rest → whole_model plan option journal ≡ settled ++ answered plan begin settled (deadline_step t) ∷ []
+      go : (rest : List TableRow) → whole_model plan given_start journal ≡ settled ++ rest → GoesOn plan begin last_rule settled rest → whole_model plan given_start journal ≡ settled ++ answered plan begin settled (deadline_step t) ∷ []
       go [] e g = absurd (none_or_one (last_rule settled) (deadline_step t) g (settled_rule ∙ one))
       go (row ∷ rest) e g =
           e

@@ -18,7 +18,7 @@ use Rattle.lola_engine.specs.Rates.{HaveDeadlinesOf}
 use Rattle.lola_engine.specs.Engines.{AreStarted, IsSound}
 use Rattle.lola_engine.specs.Going.{EndsBy, Goes, GoesBy, HasKept, HasRun, IsBelow, IsOpenAt, IsOpenBehind, RunsBy, Tally, tally_of}
 use Rattle.lola_engine.specs.Rules.{Come, TellsDue, deadlines_below, due_told, opened_at}
-use Rattle.lola_engine.specs.declared.engine.Desk.{Desk}
+use Rattle.lola_engine.specs.declared.engine.EngineState.{EngineState}
 use Rattle.lola_engine.specs.declared.end.EngineEnd.{EngineEnd}
 use Rattle.lola_engine.proofs.Longer.{due_come, none_behind, row_comes}
 use Rattle.lola_engine.proofs.Steps.{ends_then, goes_none, runs_then}
@@ -26,10 +26,10 @@ use Rattle.lola_engine.proofs.Tables.{answered_step, fine_goes_on, one_by_one, o
 use Rattle.lola_engine.proofs.Told.{told_due, told_open}
 
 -- what stays stays
-pub kept_then : (a b c : Desk) → HasKept a b → HasKept b c → HasKept a c
+pub kept_then : (a b c : EngineState) → HasKept a b → HasKept b c → HasKept a c
 kept_then a b c h k = record {
   plan = k.plan ∙ h.plan;
-  option = k.option ∙ h.option;
+  given_start = k.given_start ∙ h.given_start;
   show = k.show ∙ h.show;
   texts = k.texts ∙ h.texts;
   ids = k.ids ∙ h.ids;
@@ -40,11 +40,11 @@ kept_then a b c h k = record {
 }
 
 -- and where nothing is done
-pub kept_all : (a : Desk) → HasKept a a
-kept_all a = record { plan = refl; option = refl; show = refl; texts = refl; ids = refl; swept = refl; rows = refl; merged = refl; ended = refl }
+pub kept_all : (a : EngineState) → HasKept a a
+kept_all a = record { plan = refl; given_start = refl; show = refl; texts = refl; ids = refl; swept = refl; rows = refl; merged = refl; ended = refl }
 
--- a desk whose clock has passed more
-pub sound_clock : (e : Desk) (s : Seen) (k : ClockState) → k.rates ≡ e.clock.rates → k.start ≡ e.clock.start → IsSound e s → IsSound (record e { clock = k }) s
+-- a state whose clock has passed more
+pub sound_clock : (e : EngineState) (s : Seen) (k : ClockState) → k.rates ≡ e.clock.rates → k.start ≡ e.clock.start → IsSound e s → IsSound (record e { clock = k }) s
 sound_clock e s k rates start h = record {
   accepted = h.accepted;
   workers = h.workers;
@@ -77,7 +77,7 @@ come_then plan start next (y ∷ past) steps x come fine comes =
     )
 
 -- the deadlines that were run came one after the other, and those from a moment on are open
-pub record IsOnWay (start limit from0 : ℕ) (d0 : Desk) (m0 : Memories) (s0 : Seen) (x0 : List ℕ) (from : ℕ) (d : Desk) (m : Memories) (s : Seen) (x : List ℕ) : Type 0 where
+pub record IsOnWay (start limit from0 : ℕ) (d0 : EngineState) (m0 : Memories) (s0 : Seen) (x0 : List ℕ) (from : ℕ) (d : EngineState) (m : Memories) (s : Seen) (x : List ℕ) : Type 0 where
   pub below : IsBelow d s start from limit
   pub kept : HasKept d0 d
   pub past : List Step
@@ -86,7 +86,7 @@ pub record IsOnWay (start limit from0 : ℕ) (d0 : Desk) (m0 : Memories) (s0 : S
       → Come d0.plan start (deadlines_below d0.plan start limit) steps past × IsOpenAt start from (model d0.plan start (steps ++ past))
 
 -- before the first
-pub on_way_first : (start limit from : ℕ) (d : Desk) (m : Memories) (s : Seen) (x : List ℕ) → IsBelow d s start from limit → IsOnWay start limit from d m s x from d m s x
+pub on_way_first : (start limit from : ℕ) (d : EngineState) (m : Memories) (s : Seen) (x : List ℕ) → IsBelow d s start from limit → IsOnWay start limit from d m s x from d m s x
 on_way_first start limit from d m s x h = record {
   below = h;
   kept = kept_all d;
@@ -96,7 +96,7 @@ on_way_first start limit from d m s x h = record {
 }
 
 -- a deadline that is told is not before the moment from which it is asked
-pub told_from : (start limit from : ℕ) (d : Desk) (s : Seen) → IsBelow d s start from limit → (due : ℕ) → Some due ≡ due_told d.local d.clock s from → from ≤ due
+pub told_from : (start limit from : ℕ) (d : EngineState) (s : Seen) → IsBelow d s start from limit → (due : ℕ) → Some due ≡ due_told d.local d.clock s from → from ≤ due
 told_from start limit from d s h due e =
     told_open d.plan h.sound.accepted s h.sound.of.layout d.clock start from h.sound.rates h.start_is h.passed h.low d.local due (sym e)
 
@@ -106,7 +106,7 @@ not_below o due limit e le = ap (λ z. below_or z limit None) (sym e) ∙ rw (le
 is_below : (o : Option ℕ) (due limit : ℕ) → Some due ≡ o → due < limit → below_or o limit None ≡ Some (deadline_step due)
 is_below o due limit e lt = ap (λ z. below_or z limit None) (sym e) ∙ rw (lt-ltb due limit lt) refl
 
-module _ (start limit from0 : ℕ) (d0 : Desk) (m0 : Memories) (s0 : Seen) (x0 : List ℕ) (from : ℕ) (d : Desk) (m : Memories) (s : Seen) (x : List ℕ) (w : IsOnWay start limit from0 d0 m0 s0 x0 from d m s x)
+module _ (start limit from0 : ℕ) (d0 : EngineState) (m0 : Memories) (s0 : Seen) (x0 : List ℕ) (from : ℕ) (d : EngineState) (m : Memories) (s : Seen) (x : List ℕ) (w : IsOnWay start limit from0 d0 m0 s0 x0 from d m s x)
     (tells : TellsDue d.plan m s) (le : limit ≤ latest) where
   abbrev rule : Next
   rule = deadlines_below d0.plan start limit
@@ -168,7 +168,7 @@ module _ (start limit from0 : ℕ) (d0 : Desk) (m0 : Memories) (s0 : Seen) (x0 :
         ∙ ap open_after (answered_step d0.plan start rows (deadline_step due)))))
 
     -- its step is done
-    pub on_way_next : (d1 : Desk) (m1 : Memories) (s1 : Seen) (x1 : List ℕ) (d2 : Desk) (from' : ℕ) → IsSound d1 s1 → HasKept d d1 → d1.clock ≡ d.clock → IsStepped d.plan due s s1
+    pub on_way_next : (d1 : EngineState) (m1 : Memories) (s1 : Seen) (x1 : List ℕ) (d2 : EngineState) (from' : ℕ) → IsSound d1 s1 → HasKept d d1 → d1.clock ≡ d.clock → IsStepped d.plan due s s1
         → Goes (Ok tt) start (deadline_step due ∷ []) (tally_of d) m s (tally_of d1) m1 s1 x x1
         → d2 ≡ record d1 { clock = record d1.clock { passed = max d1.clock.passed due } } → from' ≡ due + 1
         → IsOnWay start limit from0 d0 m0 s0 x0 from' d2 m1 s1 x1
@@ -191,7 +191,7 @@ module _ (start limit from0 : ℕ) (d0 : Desk) (m0 : Memories) (s0 : Seen) (x0 :
           };
           kept = (let both = kept_then d0 d d1 w.kept kept in record {
             plan = both.plan;
-            option = both.option;
+            given_start = both.given_start;
             show = both.show;
             texts = both.texts;
             ids = both.ids;

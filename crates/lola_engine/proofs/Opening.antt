@@ -17,43 +17,43 @@ use Rattle.lola_model.proofs.Orderly.{of_no_rows}
 use Rattle.lola_step.specs.Progress.{IsRun}
 use Rattle.lola_engine.specs.Engines.{IsEngine, IsUnderWay, StandsFor}
 use Rattle.lola_engine.specs.Going.{IsMade}
-use Rattle.lola_engine.specs.declared.engine.Desk.{Desk}
+use Rattle.lola_engine.specs.declared.engine.EngineState.{EngineState}
 use Rattle.lola_engine.proofs.Joining.{some_is}
 use Rattle.lola_step_law.proofs.Settled.{settled_at_none}
 use Rattle.lola_engine.proofs.Ranges.{sound_rows, sound_started}
 
 -- of an empty journal there is nothing
-module _ (plan : Plan) (option : Option ℕ) where
-  none_settled : settled_model plan option [] ≡ []
+module _ (plan : Plan) (given_start : Option ℕ) where
+  none_settled : settled_model plan given_start [] ≡ []
   unfolding settled_model
   none_settled = refl
 
-  none_fails : settled_fault plan option [] ≡ None
+  none_fails : settled_fault plan given_start [] ≡ None
   unfolding settled_fault
   none_fails = ap (λ t. fault_of_last (last_row t)) none_settled
 
-  none_told : (show : Show) → settled_lines plan option [] show ≡ []
+  none_told : (show : Show) → settled_lines plan given_start [] show ≡ []
   unfolding settled_lines
   none_told show = ap (table_lines show plan.spec.streams) none_settled
 
-module _ (e : Desk) (plan : Plan) (option : Option ℕ) (show : Show) (workers : ℕ) (made : IsMade plan option show workers e) (s : Seen) (new : s ≡ new_seen (layout_of plan)) where
+module _ (e : EngineState) (plan : Plan) (given_start : Option ℕ) (show : Show) (workers : ℕ) (made : IsMade plan given_start show workers e) (s : Seen) (new : s ≡ new_seen (layout_of plan)) where
   pub new_of : s ≡ new_seen (layout_of e.plan)
   new_of = new ∙ ap (λ p. new_seen (layout_of p)) (sym made.plan_is)
 
   -- one that waits for its first row
-  pub waits : (m : Memories) → option ≡ None → ((names : Naming) (n i : ℕ) → i < length (instances_seen s n) → m names n i []) → StandsFor e s m []
+  pub waits : (m : Memories) → given_start ≡ None → ((names : Naming) (n i : ℕ) → i < length (instances_seen s n) → m names n i []) → StandsFor e s m []
   waits m without past = record {
     going = made.nothing.4;
-    fine = none_fails e.plan e.option;
-    merged = made.nothing.1 ∙ sym (ap opening_time (made.option_is ∙ without));
-    steps = made.nothing.2 ∙ ap length (sym (none_settled e.plan e.option));
-    lines = made.nothing.3 ∙ ap length (sym (none_told e.plan e.option e.show));
+    fine = none_fails e.plan e.given_start;
+    merged = made.nothing.1 ∙ sym (ap opening_time (made.given_start_is ∙ without));
+    steps = made.nothing.2 ∙ ap length (sym (none_settled e.plan e.given_start));
+    lines = made.nothing.3 ∙ ap length (sym (none_told e.plan e.given_start e.show));
     rows = made.nothing.0;
-    state = inl (record { without = made.option_is ∙ without; none = refl; new = new_of; past = past; clock = made.clock.0 });
+    state = inl (record { without = made.given_start_is ∙ without; none = refl; new = new_of; past = past; clock = made.clock.0 });
   }
 
   module _ (start : ℕ) (le : start ≤ latest) (s2 : Seen) (k : ClockState) (at : k ≡ record e.clock { start = Some start; passed = start }) (shows : s2 ≡ after_start s start) where
-    abbrev opened : Desk
+    abbrev opened : EngineState
     opened = record e { clock = k; merged = start }
 
     shown : s2 ≡ after_start (new_seen (layout_of plan)) start
@@ -77,26 +77,26 @@ module _ (e : Desk) (plan : Plan) (option : Option ℕ) (show : Show) (workers :
         }
 
     -- and stands for what nothing has come to
-    pub opened_stands : (m : Memories) → option ≡ Some start → StandsBetween e.texts.held m s2 (content_after e.plan start []) → StandsFor opened s2 m []
+    pub opened_stands : (m : Memories) → given_start ≡ Some start → StandsBetween e.texts.held m s2 (content_after e.plan start []) → StandsFor opened s2 m []
     opened_stands m given stands =
-        let option_is : e.option ≡ Some start = made.option_is ∙ given in
-        let start_is : start_of e.option [] ≡ start = ap (λ o. start_of o []) option_is in
+        let given_start_is : e.given_start ≡ Some start = made.given_start_is ∙ given in
+        let start_is : start_of e.given_start [] ≡ start = ap (λ o. start_of o []) given_start_is in
         let passed_is : k.passed ≡ start = ap (λ (z : ClockState). z.passed) at in
-        let none = sym (none_settled e.plan e.option) in
+        let none = sym (none_settled e.plan e.given_start) in
         let under_way : IsUnderWay opened s2 m [] = record {
-          begun = λ q. ap is_some option_is;
+          begun = λ q. ap is_some given_start_is;
           run = subst (λ t. IsRun e.plan e.texts.held t) none (record { naming = made.sound.table.naming; texts = made.sound.texts; of_rows = of_no_rows; settled = settled_at_none e.plan });
-          stands = subst (λ t. StandsBetween e.texts.held m s2 (content_after e.plan (start_of e.option []) t)) none
+          stands = subst (λ t. StandsBetween e.texts.held m s2 (content_after e.plan (start_of e.given_start []) t)) none
               (subst (λ z. StandsBetween e.texts.held m s2 (content_after e.plan z [])) (sym start_is) stands);
           clock = ap (λ (z : ClockState). z.start) at ∙ ap (λ z. Some z) (sym start_is);
           passed = omega (arith, passed_is, start_is);
         } in
         record {
           going = made.nothing.4;
-          fine = none_fails e.plan e.option;
-          merged = sym (ap opening_time option_is);
+          fine = none_fails e.plan e.given_start;
+          merged = sym (ap opening_time given_start_is);
           steps = made.nothing.2 ∙ ap length none;
-          lines = made.nothing.3 ∙ ap length (sym (none_told e.plan e.option e.show));
+          lines = made.nothing.3 ∙ ap length (sym (none_told e.plan e.given_start e.show));
           rows = made.nothing.0;
           state = inr under_way;
         }

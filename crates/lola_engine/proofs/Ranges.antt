@@ -23,7 +23,7 @@ use Rattle.lola_engine.specs.Rates.{HaveDeadlinesOf}
 use Rattle.lola_engine.specs.Engines.{AreStarted, IsEngine, IsSound}
 use Rattle.lola_engine.specs.Going.{HasKept, HasTaken, IsBelow}
 use Rattle.lola_engine.specs.Sweeps.{LetsGo}
-use Rattle.lola_engine.specs.declared.engine.Desk.{Desk}
+use Rattle.lola_engine.specs.declared.engine.EngineState.{EngineState}
 use Rattle.lola_engine.proofs.Joining.{some_is, start_low}
 use Rattle.lola_engine.proofs.Loop.{sound_clock}
 use Rattle.lola_engine.proofs.Sweeping.{few_left}
@@ -45,17 +45,17 @@ few_fields plan fields accepted h =
     omega (arith, long, kinds_are_inputs plan.spec.streams, accepted.named.few_inputs)
 
 -- so their texts get numbers
-pub few_numbers : (e : Desk) (s : Seen) (fields : List Field) → IsEngine e s → e.rows < 2 ^ 47 → AllZip IsFieldOf (input_kinds e.plan.spec.streams) fields → e.texts.given + length fields ≤ 2 ^ 62
+pub few_numbers : (e : EngineState) (s : Seen) (fields : List Field) → IsEngine e s → e.rows < 2 ^ 47 → AllZip IsFieldOf (input_kinds e.plan.spec.streams) fields → e.texts.given + length fields ≤ 2 ^ 62
 few_numbers e s fields h more zip = omega (arith, few_fields e.plan fields h.sound.accepted zip, h.few_texts, more)
 
 -- and so is what a sweep leaves
-pub few_swept : (e : Desk) (s : Seen) → IsEngine e s → (bounded : Bool) (holds : List TextId) (between : Texts) (left : ℕ) → LetsGo bounded holds e.plan.spec.texts e.texts e.swept between left
+pub few_swept : (e : EngineState) (s : Seen) → IsEngine e s → (bounded : Bool) (holds : List TextId) (between : Texts) (left : ℕ) → LetsGo bounded holds e.plan.spec.texts e.texts e.swept between left
     → left ≤ 2 ^ 32 + 64 * e.rows
 few_swept e s h bounded holds between left goes =
     few_left bounded holds e.plan.spec.texts e.texts e.swept between left goes (2 ^ 32 + 64 * e.rows) h.sound.table h.few_swept h.few_texts
 
--- a desk with another table that has the texts of its plan
-pub sound_texts : (e : Desk) (s : Seen) (t : Texts) (ids : List TextId) (left : ℕ) → IsTable t → HasTexts t.held e.plan.spec.texts → IsSound e s
+-- a state with another table that has the texts of its plan
+pub sound_texts : (e : EngineState) (s : Seen) (t : Texts) (ids : List TextId) (left : ℕ) → IsTable t → HasTexts t.held e.plan.spec.texts → IsSound e s
     → IsSound (record e { texts = t; ids = ids; swept = left }) s
 sound_texts e s t ids left table texts h = record {
   accepted = h.accepted;
@@ -72,7 +72,7 @@ sound_texts e s t ids left table texts h = record {
 }
 
 -- and with a row more
-pub sound_rows : (e : Desk) (s : Seen) (rows merged : ℕ) → IsSound e s → IsSound (record e { rows = rows; merged = merged }) s
+pub sound_rows : (e : EngineState) (s : Seen) (rows merged : ℕ) → IsSound e s → IsSound (record e { rows = rows; merged = merged }) s
 sound_rows e s rows merged h = record {
   accepted = h.accepted;
   workers = h.workers;
@@ -92,7 +92,7 @@ of_started : (plan : Plan) (s : Seen) (start : ℕ) → start ≤ latest → IsO
 of_started plan s start le h = record { layout = h.layout; streams = h.streams; few = h.few; single = h.single; order = omega arith; in_time = le }
 
 -- store and clock start together
-pub sound_started : (e : Desk) (s s2 : Seen) (k : ClockState) (start : ℕ) → start ≤ latest → k ≡ record e.clock { start = Some start; passed = start } → s2 ≡ after_start s start → IsSound e s
+pub sound_started : (e : EngineState) (s s2 : Seen) (k : ClockState) (start : ℕ) → start ≤ latest → k ≡ record e.clock { start = Some start; passed = start } → s2 ≡ after_start s start → IsSound e s
     → IsSound (record e { clock = k }) s2
 sound_started e s s2 k start le at shows h =
     subst (λ z. IsSound (record e { clock = k }) z) (sym shows) (record {
@@ -109,12 +109,12 @@ sound_started e s s2 k start le at shows h =
       few_lines = h.few_lines;
     })
 
-module _ (e : Desk) (s s2 : Seen) (k : ClockState) (t : Texts) (ids : List TextId) (left : ℕ) (start stamp from : ℕ)
+module _ (e : EngineState) (s s2 : Seen) (k : ClockState) (t : Texts) (ids : List TextId) (left : ℕ) (start stamp from : ℕ)
     (engine : IsEngine e s) (le : stamp ≤ latest) (order : e.merged ≤ stamp) (from_is : from ≡ max e.merged start) (table : IsTable t) (texts : HasTexts t.held e.plan.spec.texts) where
-  abbrev read : Desk
+  abbrev read : EngineState
   read = record e { texts = t; ids = ids; swept = left }
 
-  abbrev ready : Desk
+  abbrev ready : EngineState
   ready = record e { texts = t; ids = ids; swept = left; clock = k }
 
   ready_going : e.clock.start ≡ Some start → k ≡ e.clock → s2 ≡ s → IsBelow ready s2 start from stamp
@@ -160,7 +160,7 @@ module _ (e : Desk) (s s2 : Seen) (k : ClockState) (t : Texts) (ids : List TextI
       go (Some a) q = let f = going a q in ready_going (q ∙ ap (λ z. Some z) (sym f.0)) f.1 f.2
 
   -- and holds again once the row is run
-  pub engine_again : (d : Desk) (s' : Seen) (fields : List Field) → HasTaken ready d s' start stamp → HasKept ready d → e.rows < 2 ^ 47 → AllZip IsFieldOf (input_kinds e.plan.spec.streams) fields
+  pub engine_again : (d : EngineState) (s' : Seen) (fields : List Field) → HasTaken ready d s' start stamp → HasKept ready d → e.rows < 2 ^ 47 → AllZip IsFieldOf (input_kinds e.plan.spec.streams) fields
       → t.given ≤ e.texts.given + length fields → left ≤ 2 ^ 32 + 64 * e.rows → IsEngine (record d { rows = d.rows + 1; merged = stamp }) s'
   engine_again d s' fields taken kept more zip given few =
       let same_given : d.texts.given ≡ t.given = ap (λ (z : Texts). z.given) kept.texts in

@@ -23,12 +23,12 @@ merged_is_last m (e ∷ es) = go e.mark refl (merged_is_last (time_after m e) es
     go (mark.Late t) q ih = ih ∙ (ap (λ n. last_or n (accepted es)) (time_after-late m e t q) ∙ ap (last_or m) (sym (late_is_none e (accepted es) t q)))
 
 -- the start of a longer journal
-pub start_stays : (option : Option ℕ) (rows : List Row) (row : Row) → (rows ≡ [] → IsSome option) → start_of option (rows ++ row ∷ []) ≡ start_of option rows
+pub start_stays : (given_start : Option ℕ) (rows : List Row) (row : Row) → (rows ≡ [] → IsSome given_start) → start_of given_start (rows ++ row ∷ []) ≡ start_of given_start rows
 start_stays (Some t) rows row k = refl
 start_stays None [] row k = let e = k refl in absurd (cc)
 start_stays None (r ∷ rows) row k = refl
 
 -- where there is a start and no row, it is the merged time
-pub opening_is_start : (option : Option ℕ) (rows : List Row) → (rows ≡ [] → IsSome option) → rows ≡ [] → opening_time option ≡ start_of option rows
+pub opening_is_start : (given_start : Option ℕ) (rows : List Row) → (rows ≡ [] → IsSome given_start) → rows ≡ [] → opening_time given_start ≡ start_of given_start rows
 opening_is_start (Some t) rows k e = refl
 opening_is_start None rows k e = let f = k e in absurd (cc)

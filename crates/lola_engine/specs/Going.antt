@@ -16,7 +16,7 @@ use Rattle.lola_step.specs.Progress.{IsRun}
 use Rattle.lola_engine.specs.Engines.{IsSound}
 use Rattle.lola_engine.specs.Read.{numbered}
 use Rattle.lola_engine.specs.Rules.{Come, opened_at}
-use Rattle.lola_engine.specs.declared.engine.Desk.{Desk}
+use Rattle.lola_engine.specs.declared.engine.EngineState.{EngineState}
 use Rattle.lola_engine.specs.declared.end.EngineEnd.{EngineEnd}
 use Rattle.lola_engine.specs.declared.end.EngineEnd.TheVariants.{Fault, Memory}
 
@@ -28,7 +28,7 @@ pub record Tally : Type 0 where
   pub steps : ℕ
   pub lines : ℕ
 
-abbrev pub tally_of : Desk → Tally
+abbrev pub tally_of : EngineState → Tally
 tally_of e = record { plan = e.plan; show = e.show; names = e.texts.held; steps = e.steps; lines = e.lines }
 
 -- the lines of the model over these steps
@@ -111,9 +111,9 @@ abbrev pub IsOpenBehind : ℕ → ℕ → List Row → List TableRow → Type 0
 IsOpenBehind start from rows table = IsOpenAt start from table × (rows_taken table ≡ length rows)
 
 -- what stays while steps are run
-pub record HasKept (old new : Desk) : Type 0 where
+pub record HasKept (old new : EngineState) : Type 0 where
   pub plan : new.plan ≡ old.plan
-  pub option : new.option ≡ old.option
+  pub given_start : new.given_start ≡ old.given_start
   pub show : new.show ≡ old.show
   pub texts : new.texts ≡ old.texts
   pub ids : new.ids ≡ old.ids
@@ -123,15 +123,15 @@ pub record HasKept (old new : Desk) : Type 0 where
   pub ended : new.ended ≡ old.ended
 
 -- and while a row is taken
-pub record HasStayed (old new : Desk) : Type 0 where
+pub record HasStayed (old new : EngineState) : Type 0 where
   pub plan : new.plan ≡ old.plan
-  pub option : new.option ≡ old.option
+  pub given_start : new.given_start ≡ old.given_start
   pub show : new.show ≡ old.show
   pub ended : new.ended ≡ old.ended
 
--- a desk that may run the steps below a moment, where deadlines are open from another on: the last step is not behind that, all deadlines
+-- a state that may run the steps below a moment, where deadlines are open from another on: the last step is not behind that, all deadlines
 -- of the clock before it are passed, and numbers stay in their ranges
-pub record IsBelow (e : Desk) (s : Seen) (start from limit : ℕ) : Type 0 where
+pub record IsBelow (e : EngineState) (s : Seen) (start from limit : ℕ) : Type 0 where
   pub sound : IsSound e s
   pub start_is : e.clock.start ≡ Some start
   pub low : start ≤ from
@@ -142,23 +142,23 @@ pub record IsBelow (e : Desk) (s : Seen) (start from limit : ℕ) : Type 0 where
   pub few_steps : s.steps ≤ e.rows + from
 
 -- the deadlines below a moment were run
-pub record HasPassed (e : Desk) (s : Seen) (start limit : ℕ) : Type 0 where
+pub record HasPassed (e : EngineState) (s : Seen) (start limit : ℕ) : Type 0 where
   pub from : ℕ
   pub below : IsBelow e s start from limit
 
 -- and the row at that moment
-pub record HasTaken (old new : Desk) (s : Seen) (start limit : ℕ) : Type 0 where
+pub record HasTaken (old new : EngineState) (s : Seen) (start limit : ℕ) : Type 0 where
   pub sound : IsSound new s
   pub start_is : new.clock.start ≡ Some start
   pub passed : new.clock.passed ≡ max start (limit - 1)
   pub time : time_seen s ≡ limit
   pub few_steps : s.steps ≤ old.rows + limit + 1
 
--- the desk of an engine that is new
-pub record IsMade (plan : Plan) (option : Option ℕ) (show : Show) (workers : ℕ) (e : Desk) : Type 0 where
+-- the state of an engine that is new
+pub record IsMade (plan : Plan) (given_start : Option ℕ) (show : Show) (workers : ℕ) (e : EngineState) : Type 0 where
   pub sound : IsSound e (new_seen (layout_of plan))
   pub plan_is : e.plan ≡ plan
-  pub option_is : e.option ≡ option
+  pub given_start_is : e.given_start ≡ given_start
   pub show_is : e.show ≡ show
   pub clock : (e.clock.start ≡ None) × (e.clock.passed ≡ 0)
   pub few_texts : e.texts.given ≤ 2 ^ 32

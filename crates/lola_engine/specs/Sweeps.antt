@@ -6,7 +6,7 @@ use Rattle.lola_value.specs.declared.text.Field.TheVariants as field
 use Rattle.lola_value.specs.declared.value.TextId.{TextId}
 use Rattle.lola_value.specs.Naming.{Naming}
 use Rattle.lola_text.specs.Texts.{Texts, swept}
-use Rattle.lola_engine.specs.declared.engine.Desk.{Desk}
+use Rattle.lola_engine.specs.declared.engine.EngineState.{EngineState}
 
 -- the numbers of literals' texts, which are those of their places, counted from n
 abbrev pub literals_from : ℕ → List (List ℕ) → List TextId
@@ -48,5 +48,5 @@ pub record TakesTexts (bounded : Bool) (holds : List TextId) (literals : List (L
   pub adds : AddsTexts fields between.held new.held
 
 -- the same of an engine whose store held the texts of these numbers
-abbrev pub RenewsTexts : Bool → List TextId → List Field → Desk → Desk → Type 0
+abbrev pub RenewsTexts : Bool → List TextId → List Field → EngineState → EngineState → Type 0
 RenewsTexts bounded holds fields old new = TakesTexts bounded holds old.plan.spec.texts fields old.texts old.swept new.texts new.swept

@@ -58,10 +58,10 @@ use std::thread::Threads;
 /// the deadlines that count from the start, whether others count from births, the texts, the list for those that are needed, how many the
 /// newest sweep left, the notes of steps, and what was counted.
 #[derive(Drop)]
-pub struct Desk {
+pub struct EngineState {
     pub(crate) alloc: Global,
     pub(crate) plan: Plan,
-    pub(crate) option: Option<u64>,
+    pub(crate) given_start: Option<u64>,
     pub(crate) show: Show,
     pub(crate) workers: u32,
     pub(crate) clock: Clock,
@@ -81,7 +81,7 @@ pub struct Desk {
 #[derive(Drop)]
 pub struct Engine<S: StreamStore> {
     pub(crate) store: S,
-    pub(crate) desk: Desk,
+    pub(crate) state: EngineState,
     pub(crate) inputs: Vec<Outcome>,
 }
 
@@ -170,17 +170,17 @@ fn new_texts(alloc: Global, hasher: RandomState, plan: &Plan) -> Result<TextTabl
 }
 
 /// All of a new engine but its store, which is new too.
-fn new_desk(
+fn new_state(
     alloc: Global,
     hasher: RandomState,
     plan: Plan,
-    option: Option<u64>,
+    given_start: Option<u64>,
     show: Show,
     workers: u32,
-) -> Result<Desk, Memory>
+) -> Result<EngineState, Memory>
     requires accepted { IsAccepted plan }
     requires workers { (1 ≤ workers) × (workers ≤ 64) }
-    ensures { IfOk result (IsMade plan option show workers) }
+    ensures { IfOk result (IsMade plan given_start show workers) }
 {
     let rates = rates_in(alloc, plan.pacings.as_slice())?;
     let clock = Clock::create(alloc, rates.as_slice())?;
@@ -188,10 +188,10 @@ fn new_desk(
     let scratch = Scratch::create(alloc, &plan)?;
     let texts = new_texts(alloc, hasher, &plan)?;
     let swept = texts.len();
-    Ok(Desk {
+    Ok(EngineState {
         alloc,
         plan,
-        option,
+        given_start,
         show,
         workers,
         clock,
@@ -213,56 +213,56 @@ fn run_step<R: Threads + Sync, S: StreamStore + Sync, G: Gate + Sync>(
     rt: &R,
     gate: &G,
     store: &mut S,
-    desk: &mut Desk,
+    state: &mut EngineState,
     start: u64,
     time: u64,
     is_row: bool,
     inputs: &[Outcome],
     lines: &mut Text,
 ) -> Result<(), EngineEnd>
-    requires sound { IsSound desk.old (S.seen store.old) }
-    requires start { desk.old.clock.start ≡ Some start }
+    requires sound { IsSound state.old (S.seen store.old) }
+    requires start { state.old.clock.start ≡ Some start }
     requires order { time_seen (S.seen store.old) ≤ time }
     requires in_time { time ≤ latest }
     requires steps { (S.seen store.old).steps < 2 ^ 63 }
-    requires inputs { AreInputs is_row desk.old.plan.spec.streams inputs.now }
-    ensures sound { OnOk result (IsSound desk.new (S.seen store.new)) }
-    ensures kept { HasKept desk.old desk.new }
-    ensures clock { desk.new.clock ≡ desk.old.clock }
-    ensures seen { OnOk result (IsStepped desk.old.plan time (S.seen store.old) (S.seen store.new)) }
-    ensures goes { (of : Step) → of.time ≡ time → ReadFields desk.old.texts.held inputs.now is_row of.fields
-        → Goes result start (of ∷ []) (tally_of desk.old) (S.remembers store.old) (S.seen store.old)
-        (tally_of desk.new) (S.remembers store.new) (S.seen store.new) lines.old lines.new }
+    requires inputs { AreInputs is_row state.old.plan.spec.streams inputs.now }
+    ensures sound { OnOk result (IsSound state.new (S.seen store.new)) }
+    ensures kept { HasKept state.old state.new }
+    ensures clock { state.new.clock ≡ state.old.clock }
+    ensures seen { OnOk result (IsStepped state.old.plan time (S.seen store.old) (S.seen store.new)) }
+    ensures goes { (of : Step) → of.time ≡ time → ReadFields state.old.texts.held inputs.now is_row of.fields
+        → Goes result start (of ∷ []) (tally_of state.old) (S.remembers store.old) (S.seen store.old)
+        (tally_of state.new) (S.remembers store.new) (S.seen store.new) lines.old lines.new }
 {
     match step(
         rt,
         gate,
-        &desk.plan,
+        &state.plan,
         store,
-        &mut desk.scratch,
+        &mut state.scratch,
         start,
         time,
         is_row,
         inputs,
-        desk.show,
-        desk.workers,
+        state.show,
+        state.workers,
     ) {
         StepEnd::Memory => return Err(EngineEnd::Memory),
         StepEnd::Fault { stream, kind } => return Err(EngineEnd::Fault { stream, kind, time }),
         StepEnd::Done => {}
     }
     match put_lines(
-        desk.alloc,
-        &desk.plan,
-        desk.show,
+        state.alloc,
+        &state.plan,
+        state.show,
         time,
-        desk.scratch.verdicts(),
-        &desk.texts,
+        state.scratch.verdicts(),
+        &state.texts,
         lines,
     ) {
         Ok(count) => {
-            desk.steps += 1;
-            desk.lines += count as u128;
+            state.steps += 1;
+            state.lines += count as u128;
         }
         Err(_) => return Err(EngineEnd::Memory),
     }
@@ -283,15 +283,15 @@ fn earlier_of(first: Option<u64>, second: Option<u64>) -> Option<u64>
 
 /// The first deadline that is open, where deadlines are open from a moment on: that of the clock, or, where some clause is local, of an
 /// instance that lives.
-fn next_due<S: StreamStore>(store: &S, desk: &Desk, from: u64) -> Option<u64>
-    requires paced { ArePacings desk.now.plan.spec desk.now.plan.pacings }
-    requires layout { (S.seen store.now).layout ≡ layout_of desk.now.plan }
-    ensures value { result ≡ due_told desk.now.local desk.now.clock (S.seen store.now) from }
-    ensures tells { TellsDue desk.now.plan (S.remembers store.now) (S.seen store.now) }
+fn next_due<S: StreamStore>(store: &S, state: &EngineState, from: u64) -> Option<u64>
+    requires paced { ArePacings state.now.plan.spec state.now.plan.pacings }
+    requires layout { (S.seen store.now).layout ≡ layout_of state.now.plan }
+    ensures value { result ≡ due_told state.now.local state.now.clock (S.seen store.now) from }
+    ensures tells { TellsDue state.now.plan (S.remembers store.now) (S.seen store.now) }
 {
-    local_due_stands(&desk.plan, store);
-    let due = desk.clock.next_due();
-    if desk.local {
+    local_due_stands(&state.plan, store);
+    let due = state.clock.next_due();
+    if state.local {
         earlier_of(due, store.local_due(from))
     } else {
         due
@@ -299,13 +299,13 @@ fn next_due<S: StreamStore>(store: &S, desk: &Desk, from: u64) -> Option<u64>
 }
 
 /// Passes the deadlines of a moment: those behind it are open.
-fn pass(desk: &mut Desk, due: u64) -> u64
-    requires started { IsSome desk.old.clock.start }
+fn pass(state: &mut EngineState, due: u64) -> u64
+    requires started { IsSome state.old.clock.start }
     requires in_time { due ≤ latest }
     ensures from { result ≡ due + 1 }
-    ensures desk { desk.new ≡ record desk.old { clock = record desk.old.clock { passed = max desk.old.clock.passed due } } }
+    ensures state { state.new ≡ record state.old { clock = record state.old.clock { passed = max state.old.clock.passed due } } }
 {
-    desk.clock.advance(due);
+    state.clock.advance(due);
     due + 1
 }
 
@@ -314,26 +314,26 @@ fn run_deadlines<R: Threads + Sync, S: StreamStore + Sync, G: Gate + Sync>(
     rt: &R,
     gate: &G,
     store: &mut S,
-    desk: &mut Desk,
+    state: &mut EngineState,
     start: u64,
     from: u64,
     limit: u64,
     lines: &mut Text,
 ) -> Result<(), EngineEnd>
-    requires below { IsBelow desk.old (S.seen store.old) start from limit }
+    requires below { IsBelow state.old (S.seen store.old) start from limit }
     requires in_time { limit ≤ latest }
-    ensures passed { OnOk result (HasPassed desk.new (S.seen store.new) start limit) }
-    ensures kept { HasKept desk.old desk.new }
-    ensures goes { GoesBy result start (IsOpenAt start from) (deadlines_below desk.old.plan start limit) (tally_of desk.old) (S.remembers store.old) (S.seen store.old)
-        (tally_of desk.new) (S.remembers store.new) (S.seen store.new) lines.old lines.new }
+    ensures passed { OnOk result (HasPassed state.new (S.seen store.new) start limit) }
+    ensures kept { HasKept state.old state.new }
+    ensures goes { GoesBy result start (IsOpenAt start from) (deadlines_below state.old.plan start limit) (tally_of state.old) (S.remembers store.old) (S.seen store.old)
+        (tally_of state.new) (S.remembers store.new) (S.seen store.new) lines.old lines.new }
 {
     let mut from = from;
-    while let Some(due) = next_due(store, desk, from) {
+    while let Some(due) = next_due(store, state, from) {
         if due >= limit {
             return Ok(());
         }
-        match run_step(rt, gate, store, desk, start, due, false, &[], lines) {
-            Ok(()) => from = pass(desk, due),
+        match run_step(rt, gate, store, state, start, due, false, &[], lines) {
+            Ok(()) => from = pass(state, due),
             Err(end) => return Err(end),
         }
     }
@@ -345,29 +345,29 @@ fn run_taken<R: Threads + Sync, S: StreamStore + Sync, G: Gate + Sync>(
     rt: &R,
     gate: &G,
     store: &mut S,
-    desk: &mut Desk,
+    state: &mut EngineState,
     start: u64,
     from: u64,
     stamp: u64,
     inputs: &[Outcome],
     lines: &mut Text,
 ) -> Result<(), EngineEnd>
-    requires below { IsBelow desk.old (S.seen store.old) start from stamp }
+    requires below { IsBelow state.old (S.seen store.old) start from stamp }
     requires in_time { stamp ≤ latest }
-    requires inputs { AreOfInputs desk.old.plan.spec.streams inputs.now }
-    ensures taken { OnOk result (HasTaken desk.old desk.new (S.seen store.new) start stamp) }
-    ensures kept { HasKept desk.old desk.new }
-    ensures goes { (rows : List Row) (row : Row) → row.stamp ≡ stamp → ReadAs desk.old.texts.held inputs.now row.fields
-        → GoesBy result start (IsOpenBehind start from rows) (next_settled desk.old.plan start (rows ++ row ∷ []))
-        (tally_of desk.old) (S.remembers store.old) (S.seen store.old)
-        (tally_of desk.new) (S.remembers store.new) (S.seen store.new) lines.old lines.new }
+    requires inputs { AreOfInputs state.old.plan.spec.streams inputs.now }
+    ensures taken { OnOk result (HasTaken state.old state.new (S.seen store.new) start stamp) }
+    ensures kept { HasKept state.old state.new }
+    ensures goes { (rows : List Row) (row : Row) → row.stamp ≡ stamp → ReadAs state.old.texts.held inputs.now row.fields
+        → GoesBy result start (IsOpenBehind start from rows) (next_settled state.old.plan start (rows ++ row ∷ []))
+        (tally_of state.old) (S.remembers store.old) (S.seen store.old)
+        (tally_of state.new) (S.remembers store.new) (S.seen store.new) lines.old lines.new }
 {
-    match run_deadlines(rt, gate, store, desk, start, from, stamp, lines) {
+    match run_deadlines(rt, gate, store, state, start, from, stamp, lines) {
         Ok(()) => {}
         Err(end) => return Err(end),
     }
-    desk.clock.advance(stamp.saturating_sub(1));
-    match run_step(rt, gate, store, desk, start, stamp, true, inputs, lines) {
+    state.clock.advance(stamp.saturating_sub(1));
+    match run_step(rt, gate, store, state, start, stamp, true, inputs, lines) {
         Ok(()) => Ok(()),
         Err(end) => Err(end),
     }
@@ -431,40 +431,40 @@ fn run_row<R: Threads + Sync, S: TextStore + Sync, G: Gate + Sync>(
     rt: &R,
     gate: &G,
     store: &mut S,
-    desk: &mut Desk,
+    state: &mut EngineState,
     inputs: &mut Vec<Outcome>,
     row: &Row,
     lines: &mut Text,
 ) -> Result<(), EngineEnd>
-    requires engine { IsEngine desk.old (S.seen store.old) }
-    requires row { IsTakeable desk.old row.now }
-    ensures engine { OnOk result (IsEngine desk.new (S.seen store.new)) }
-    ensures kept { HasStayed desk.old desk.new }
-    ensures merged { OnOk result (desk.new.merged ≡ row.now.stamp) }
-    ensures rows { OnOk result (desk.new.rows ≡ desk.old.rows + 1) }
-    ensures texts { OnOk result (RenewsTexts S.BOUNDED (S.holds store.old) row.now.fields desk.old desk.new) }
-    ensures few { OnOk result (IsTrue S.BOUNDED → length desk.new.texts.held ≤ 2 * desk.new.swept + 1024) }
-    ensures accepts { Accepts result row.now desk.old (S.seen store.old) (S.remembers store.old)
-        desk.new (S.seen store.new) (S.remembers store.new) lines.old lines.new }
+    requires engine { IsEngine state.old (S.seen store.old) }
+    requires row { IsTakeable state.old row.now }
+    ensures engine { OnOk result (IsEngine state.new (S.seen store.new)) }
+    ensures kept { HasStayed state.old state.new }
+    ensures merged { OnOk result (state.new.merged ≡ row.now.stamp) }
+    ensures rows { OnOk result (state.new.rows ≡ state.old.rows + 1) }
+    ensures texts { OnOk result (RenewsTexts S.BOUNDED (S.holds store.old) row.now.fields state.old state.new) }
+    ensures few { OnOk result (IsTrue S.BOUNDED → length state.new.texts.held ≤ 2 * state.new.swept + 1024) }
+    ensures accepts { Accepts result row.now state.old (S.seen store.old) (S.remembers store.old)
+        state.new (S.seen store.new) (S.remembers store.new) lines.old lines.new }
 {
     if let Err(Memory) = read_row(
-        &desk.plan,
+        &state.plan,
         store,
         row,
-        &mut desk.texts,
-        &mut desk.ids,
-        &mut desk.swept,
+        &mut state.texts,
+        &mut state.ids,
+        &mut state.swept,
         inputs,
     ) {
         return Err(EngineEnd::Memory);
     }
-    let start = started(&desk.plan, store, &mut desk.clock, row.stamp);
-    let from = desk.merged.max(start);
+    let start = started(&state.plan, store, &mut state.clock, row.stamp);
+    let from = state.merged.max(start);
     match run_taken(
         rt,
         gate,
         store,
-        desk,
+        state,
         start,
         from,
         row.stamp,
@@ -472,8 +472,8 @@ fn run_row<R: Threads + Sync, S: TextStore + Sync, G: Gate + Sync>(
         lines,
     ) {
         Ok(()) => {
-            desk.rows += 1;
-            desk.merged = row.stamp;
+            state.rows += 1;
+            state.merged = row.stamp;
             Ok(())
         }
         Err(end) => Err(end),
@@ -485,26 +485,26 @@ fn run_last<R: Threads + Sync, S: StreamStore + Sync, G: Gate + Sync>(
     rt: &R,
     gate: &G,
     store: &mut S,
-    desk: &mut Desk,
+    state: &mut EngineState,
     lines: &mut Text,
 ) -> Result<(), EngineEnd>
-    requires { IsEngine desk.old (S.seen store.old) }
-    ensures kept { HasKept desk.old desk.new }
-    ensures finishes { Finishes result desk.old (S.seen store.old) (S.remembers store.old) desk.new lines.old lines.new }
+    requires { IsEngine state.old (S.seen store.old) }
+    ensures kept { HasKept state.old state.new }
+    ensures finishes { Finishes result state.old (S.seen store.old) (S.remembers store.old) state.new lines.old lines.new }
 {
-    if desk.rows == 0 {
+    if state.rows == 0 {
         return Ok(());
     }
-    let Some(start) = desk.clock.start() else {
+    let Some(start) = state.clock.start() else {
         return Ok(());
     };
-    let Some(due) = next_due(store, desk, desk.merged) else {
+    let Some(due) = next_due(store, state, state.merged) else {
         return Ok(());
     };
-    if due > desk.merged {
+    if due > state.merged {
         return Ok(());
     }
-    match run_step(rt, gate, store, desk, start, due, false, &[], lines) {
+    match run_step(rt, gate, store, state, start, due, false, &[], lines) {
         Ok(()) => Ok(()),
         Err(end) => Err(end),
     }
@@ -528,31 +528,31 @@ impl<S: TextStore + Sync> Engine<S> {
         requires past { (names : Naming) (n i : ℕ) → i < length (instances_seen (S.seen store) n) → S.remembers store names n i [] }
         requires workers { (1 ≤ workers) × (workers ≤ 64) }
         requires start { IsOptionInTime start }
-        ensures engine { IfOk result (λ engine. IsEngine engine.desk (S.seen engine.store)) }
-        ensures plan { IfOk result (λ engine. engine.desk.plan ≡ plan) }
-        ensures option { IfOk result (λ engine. engine.desk.option ≡ start) }
-        ensures show { IfOk result (λ engine. engine.desk.show ≡ show) }
-        ensures counts { IfOk result (λ engine. (engine.desk.steps ≡ 0) × (engine.desk.lines ≡ 0)) }
-        ensures literals { IfOk result (λ engine. engine.desk.texts.held ≡ numbered 0 plan.spec.texts) }
-        ensures swept { IfOk result (λ engine. engine.desk.swept ≡ length engine.desk.texts.held) }
-        ensures stands { IfOk result (λ engine. StandsFor engine.desk (S.seen engine.store) (S.remembers engine.store) []) }
+        ensures engine { IfOk result (λ engine. IsEngine engine.state (S.seen engine.store)) }
+        ensures plan { IfOk result (λ engine. engine.state.plan ≡ plan) }
+        ensures given_start { IfOk result (λ engine. engine.state.given_start ≡ start) }
+        ensures show { IfOk result (λ engine. engine.state.show ≡ show) }
+        ensures counts { IfOk result (λ engine. (engine.state.steps ≡ 0) × (engine.state.lines ≡ 0)) }
+        ensures literals { IfOk result (λ engine. engine.state.texts.held ≡ numbered 0 plan.spec.texts) }
+        ensures swept { IfOk result (λ engine. engine.state.swept ≡ length engine.state.texts.held) }
+        ensures stands { IfOk result (λ engine. StandsFor engine.state (S.seen engine.store) (S.remembers engine.store) []) }
     {
-        let desk = new_desk(alloc, hasher, plan, start, show, workers)?;
+        let state = new_state(alloc, hasher, plan, start, show, workers)?;
         let mut engine = Engine {
             store,
-            desk,
+            state,
             inputs: Vec::new(alloc),
         };
         match start {
             Some(start) => {
                 let opened = &mut engine;
                 started(
-                    &opened.desk.plan,
+                    &opened.state.plan,
                     &mut opened.store,
-                    &mut opened.desk.clock,
+                    &mut opened.state.clock,
                     start,
                 );
-                opened.desk.merged = start;
+                opened.state.merged = start;
                 Ok(engine)
             }
             None => Ok(engine),
@@ -570,37 +570,37 @@ impl<S: TextStore + Sync> Engine<S> {
         row: &Row,
         lines: &mut Text,
     ) -> Result<(), EngineEnd>
-        requires engine { self.old.desk.ended ≡ None → IsEngine self.old.desk (S.seen self.old.store) }
-        requires row { self.old.desk.ended ≡ None → IsTakeable self.old.desk row.now }
-        ensures engine { OnOk result (IsEngine self.new.desk (S.seen self.new.store)) }
-        ensures plan { self.new.desk.plan ≡ self.old.desk.plan }
-        ensures option { self.new.desk.option ≡ self.old.desk.option }
-        ensures show { self.new.desk.show ≡ self.old.desk.show }
-        ensures merged { OnOk result (self.new.desk.merged ≡ row.now.stamp) }
-        ensures rows { OnOk result (self.new.desk.rows ≡ self.old.desk.rows + 1) }
-        ensures texts { OnOk result (RenewsTexts S.BOUNDED (S.holds self.old.store) row.now.fields self.old.desk self.new.desk) }
-        ensures few { OnOk result (IsTrue S.BOUNDED → length self.new.desk.texts.held ≤ 2 * self.new.desk.swept + 1024) }
-        ensures accepts { Accepts result row.now self.old.desk (S.seen self.old.store) (S.remembers self.old.store)
-            self.new.desk (S.seen self.new.store) (S.remembers self.new.store) lines.old lines.new }
-        ensures ok { OnOk result ((self.old.desk.ended ≡ None) × (self.new.desk.ended ≡ None)) }
-        ensures err { IfErr result (λ end. self.new.desk.ended ≡ Some end) }
-        ensures ended { (end : EngineEnd) → self.old.desk.ended ≡ Some end → IfErr result (λ e. e ≡ end) × (self.new ≡ self.old) × (lines.new ≡ lines.old) }
+        requires engine { self.old.state.ended ≡ None → IsEngine self.old.state (S.seen self.old.store) }
+        requires row { self.old.state.ended ≡ None → IsTakeable self.old.state row.now }
+        ensures engine { OnOk result (IsEngine self.new.state (S.seen self.new.store)) }
+        ensures plan { self.new.state.plan ≡ self.old.state.plan }
+        ensures given_start { self.new.state.given_start ≡ self.old.state.given_start }
+        ensures show { self.new.state.show ≡ self.old.state.show }
+        ensures merged { OnOk result (self.new.state.merged ≡ row.now.stamp) }
+        ensures rows { OnOk result (self.new.state.rows ≡ self.old.state.rows + 1) }
+        ensures texts { OnOk result (RenewsTexts S.BOUNDED (S.holds self.old.store) row.now.fields self.old.state self.new.state) }
+        ensures few { OnOk result (IsTrue S.BOUNDED → length self.new.state.texts.held ≤ 2 * self.new.state.swept + 1024) }
+        ensures accepts { Accepts result row.now self.old.state (S.seen self.old.store) (S.remembers self.old.store)
+            self.new.state (S.seen self.new.store) (S.remembers self.new.store) lines.old lines.new }
+        ensures ok { OnOk result ((self.old.state.ended ≡ None) × (self.new.state.ended ≡ None)) }
+        ensures err { IfErr result (λ end. self.new.state.ended ≡ Some end) }
+        ensures ended { (end : EngineEnd) → self.old.state.ended ≡ Some end → IfErr result (λ e. e ≡ end) × (self.new ≡ self.old) × (lines.new ≡ lines.old) }
     {
-        if let Some(end) = self.desk.ended {
+        if let Some(end) = self.state.ended {
             return Err(end);
         }
         match run_row(
             rt,
             gate,
             &mut self.store,
-            &mut self.desk,
+            &mut self.state,
             &mut self.inputs,
             row,
             lines,
         ) {
             Ok(()) => Ok(()),
             Err(end) => {
-                self.desk.ended = Some(end);
+                self.state.ended = Some(end);
                 Err(end)
             }
         }
@@ -614,20 +614,20 @@ impl<S: TextStore + Sync> Engine<S> {
         gate: &G,
         lines: &mut Text,
     ) -> Result<(), EngineEnd>
-        requires engine { self.old.desk.ended ≡ None → IsEngine self.old.desk (S.seen self.old.store) }
-        ensures plan { self.new.desk.plan ≡ self.old.desk.plan }
-        ensures finishes { Finishes result self.old.desk (S.seen self.old.store) (S.remembers self.old.store) self.new.desk lines.old lines.new }
-        ensures ok { OnOk result (self.old.desk.ended ≡ None) }
-        ensures err { IfErr result (λ end. self.new.desk.ended ≡ Some end) }
-        ensures ended { (end : EngineEnd) → self.old.desk.ended ≡ Some end → IfErr result (λ e. e ≡ end) × (self.new ≡ self.old) × (lines.new ≡ lines.old) }
+        requires engine { self.old.state.ended ≡ None → IsEngine self.old.state (S.seen self.old.store) }
+        ensures plan { self.new.state.plan ≡ self.old.state.plan }
+        ensures finishes { Finishes result self.old.state (S.seen self.old.store) (S.remembers self.old.store) self.new.state lines.old lines.new }
+        ensures ok { OnOk result (self.old.state.ended ≡ None) }
+        ensures err { IfErr result (λ end. self.new.state.ended ≡ Some end) }
+        ensures ended { (end : EngineEnd) → self.old.state.ended ≡ Some end → IfErr result (λ e. e ≡ end) × (self.new ≡ self.old) × (lines.new ≡ lines.old) }
     {
-        if let Some(end) = self.desk.ended {
+        if let Some(end) = self.state.ended {
             return Err(end);
         }
-        match run_last(rt, gate, &mut self.store, &mut self.desk, lines) {
+        match run_last(rt, gate, &mut self.store, &mut self.state, lines) {
             Ok(()) => Ok(()),
             Err(end) => {
-                self.desk.ended = Some(end);
+                self.state.ended = Some(end);
                 Err(end)
             }
         }
@@ -635,31 +635,31 @@ impl<S: TextStore + Sync> Engine<S> {
 
     /// What it has counted.
     pub fn counts(&self) -> Counts
-        ensures steps { result.steps ≡ self.now.desk.steps }
-        ensures lines { result.lines ≡ self.now.desk.lines }
+        ensures steps { result.steps ≡ self.now.state.steps }
+        ensures lines { result.lines ≡ self.now.state.lines }
     {
         Counts {
-            steps: self.desk.steps,
-            lines: self.desk.lines,
+            steps: self.state.steps,
+            lines: self.state.lines,
         }
     }
 
     /// How many texts it holds, and how many the newest sweep left.
     pub fn text_counts(&self) -> TextCounts
-        ensures held { result.held ≡ length self.now.desk.texts.held }
-        ensures swept { result.swept ≡ self.now.desk.swept }
+        ensures held { result.held ≡ length self.now.state.texts.held }
+        ensures swept { result.swept ≡ self.now.state.swept }
     {
         TextCounts {
-            held: self.desk.texts.len(),
-            swept: self.desk.swept,
+            held: self.state.texts.len(),
+            swept: self.state.swept,
         }
     }
 
     /// The plan that it was made with.
     pub fn plan(&self) -> &Plan
-        ensures { result.now ≡ self.now.desk.plan }
+        ensures { result.now ≡ self.now.state.plan }
     {
-        &self.desk.plan
+        &self.state.plan
     }
 
     /// Its store.

@@ -6,7 +6,7 @@ use Rattle.lola_model.specs.declared.journal.Entry.{Entry}
 use Rattle.lola_model.specs.declared.journal.Row.{Row}
 use Rattle.lola_model.specs.declared.plan.Plan.{Plan}
 use Rattle.lola_merge.specs.Interleaving.{Interleaves, Situation, list_of}
-use Rattle.lola_engine.specs.declared.engine.Desk.{Desk}
+use Rattle.lola_engine.specs.declared.engine.EngineState.{EngineState}
 use Rattle.lola_engine.specs.declared.end.EngineEnd.{EngineEnd}
 use Rattle.lola_engine_schedules.specs.Handing.{Hands, IsRowFor}
 
@@ -21,7 +21,7 @@ abbrev pub AreFirst : List (List Row) → List Entry → Type 0
 AreFirst lists journal = (source : ℕ) → (later : List Row) × (list_of lists source ≡ rows_of source journal ++ later)
 
 -- what was taken in some order is a legal journal of first rows of these lists, and the engine has run it as it runs any journal
-pub record RunsOrder (result : Result (Unit {0}) EngineEnd) (lists : List (List Row)) (taken : List Entry) (old new : Desk) (s : Seen) (remembers : Memories) (text0 text1 : List ℕ) : Type 0 where
-  pub legal : IsLegal old.option taken
+pub record RunsOrder (result : Result (Unit {0}) EngineEnd) (lists : List (List Row)) (taken : List Entry) (old new : EngineState) (s : Seen) (remembers : Memories) (text0 text1 : List ℕ) : Type 0 where
+  pub legal : IsLegal old.given_start taken
   pub first : AreFirst lists taken
   pub hands : Hands result taken old new s remembers text0 text1

@@ -32,12 +32,12 @@ fn run_entry<R: Threads + Sync, S: TextStore + Sync, G: Gate + Sync>(
     entry: &Entry,
     lines: &mut Text,
 ) -> Result<(), EngineEnd>
-    requires engine { IsEngine engine.old.desk (S.seen engine.old.store) }
-    requires row { entry.now.mark ≡ mark.Accepted → IsTakeable engine.old.desk entry.now.row }
-    ensures engine { OnOk result (IsEngine engine.new.desk (S.seen engine.new.store)) }
-    ensures setting { IsSetAs engine.old.desk engine.new.desk }
-    ensures takes { TakesEntry result entry.now engine.old.desk (S.seen engine.old.store) (S.remembers engine.old.store)
-        engine.new.desk (S.seen engine.new.store) (S.remembers engine.new.store) lines.old lines.new }
+    requires engine { IsEngine engine.old.state (S.seen engine.old.store) }
+    requires row { entry.now.mark ≡ mark.Accepted → IsTakeable engine.old.state entry.now.row }
+    ensures engine { OnOk result (IsEngine engine.new.state (S.seen engine.new.store)) }
+    ensures setting { IsSetAs engine.old.state engine.new.state }
+    ensures takes { TakesEntry result entry.now engine.old.state (S.seen engine.old.store) (S.remembers engine.old.store)
+        engine.new.state (S.seen engine.new.store) (S.remembers engine.new.store) lines.old lines.new }
 {
     match accepted_row(entry) {
         Some(row) => engine.accept(rt, gate, row, lines),
@@ -54,14 +54,14 @@ pub fn run_entries<R: Threads + Sync, S: TextStore + Sync, G: Gate + Sync>(
     entries: &[Entry],
     lines: &mut Text,
 ) -> Result<(), EngineEnd>
-    requires engine { IsEngine engine.old.desk (S.seen engine.old.store) }
-    requires fresh { StandsFor engine.old.desk (S.seen engine.old.store) (S.remembers engine.old.store) [] }
-    requires legal { IsLegal engine.old.desk.option entries.now }
-    requires rows { All (HasRowFor engine.old.desk.plan) entries.now }
+    requires engine { IsEngine engine.old.state (S.seen engine.old.store) }
+    requires fresh { StandsFor engine.old.state (S.seen engine.old.store) (S.remembers engine.old.store) [] }
+    requires legal { IsLegal engine.old.state.given_start entries.now }
+    requires rows { All (HasRowFor engine.old.state.plan) entries.now }
     requires few { length (accepted entries.now) ≤ 2 ^ 47 }
-    ensures engine { OnOk result (IsEngine engine.new.desk (S.seen engine.new.store)) }
-    ensures setting { IsSetAs engine.old.desk engine.new.desk }
-    ensures hands { Hands result entries.now engine.old.desk engine.new.desk (S.seen engine.new.store) (S.remembers engine.new.store) lines.old lines.new }
+    ensures engine { OnOk result (IsEngine engine.new.state (S.seen engine.new.store)) }
+    ensures setting { IsSetAs engine.old.state engine.new.state }
+    ensures hands { Hands result entries.now engine.old.state engine.new.state (S.seen engine.new.store) (S.remembers engine.new.store) lines.old lines.new }
 {
     for entry in entries {
         match run_entry(rt, gate, engine, entry, lines) {

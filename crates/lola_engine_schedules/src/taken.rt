@@ -30,14 +30,14 @@ pub fn run_taken<R: Threads + Sync, S: TextStore + Sync, G: Gate + Sync>(
     world: &World,
     lines: &mut Text,
 ) -> Result<(), EngineEnd>
-    requires engine { IsEngine engine.old.desk (S.seen engine.old.store) }
-    requires fresh { StandsFor engine.old.desk (S.seen engine.old.store) (S.remembers engine.old.store) [] }
-    requires rows { HasRowsFor engine.old.desk.plan engine.old.desk.option world.now }
+    requires engine { IsEngine engine.old.state (S.seen engine.old.store) }
+    requires fresh { StandsFor engine.old.state (S.seen engine.old.store) (S.remembers engine.old.store) [] }
+    requires rows { HasRowsFor engine.old.state.plan engine.old.state.given_start world.now }
     requires few { length (accepted world.now.taken) ≤ 2 ^ 47 }
-    ensures engine { OnOk result (IsEngine engine.new.desk (S.seen engine.new.store)) }
-    ensures setting { IsSetAs engine.old.desk engine.new.desk }
-    ensures every_order { (lists : List (List Row)) (actors : List Actor) → StandRight lists → world.now ≡ run (beginning lists engine.old.desk.option) actors
-        → RunsOrder result lists world.now.taken engine.old.desk engine.new.desk (S.seen engine.new.store) (S.remembers engine.new.store) lines.old lines.new }
+    ensures engine { OnOk result (IsEngine engine.new.state (S.seen engine.new.store)) }
+    ensures setting { IsSetAs engine.old.state engine.new.state }
+    ensures every_order { (lists : List (List Row)) (actors : List Actor) → StandRight lists → world.now ≡ run (beginning lists engine.old.state.given_start) actors
+        → RunsOrder result lists world.now.taken engine.old.state engine.new.state (S.seen engine.new.store) (S.remembers engine.new.store) lines.old lines.new }
 {
     every_order();
     run_entries(rt, gate, engine, world.taken(), lines)

@@ -62,9 +62,9 @@ pub(crate) fn next_row(plan: &Plan, reader: &mut RowReader<MemorySource>) -> Opt
 /// An engine that keeps no more than is needed, and shows outputs.
 pub(crate) fn bounded_engine(alloc: Global, plan: Plan) -> Result<Engine<BoundedStore>, Memory>
     requires { IsAccepted plan }
-    ensures engine { IfOk result (λ engine. IsEngine engine.desk (bounded_seen engine.store)) }
-    ensures plan { IfOk result (λ engine. engine.desk.plan ≡ plan) }
-    ensures fresh { IfOk result (λ engine. (engine.desk.merged ≡ 0) × (engine.desk.rows ≡ 0)) }
+    ensures engine { IfOk result (λ engine. IsEngine engine.state (bounded_seen engine.store)) }
+    ensures plan { IfOk result (λ engine. engine.state.plan ≡ plan) }
+    ensures fresh { IfOk result (λ engine. (engine.state.merged ≡ 0) × (engine.state.rows ≡ 0)) }
 {
     lola_instances::law::accepted_is_storable(&plan);
     let hasher = fixed_keys()?;
@@ -75,9 +75,9 @@ pub(crate) fn bounded_engine(alloc: Global, plan: Plan) -> Result<Engine<Bounded
 /// An engine that keeps all values, and shows outputs.
 pub(crate) fn whole_engine(alloc: Global, plan: Plan) -> Result<Engine<WholeStore>, Memory>
     requires { IsAccepted plan }
-    ensures engine { IfOk result (λ engine. IsEngine engine.desk (whole_seen engine.store)) }
-    ensures plan { IfOk result (λ engine. engine.desk.plan ≡ plan) }
-    ensures fresh { IfOk result (λ engine. (engine.desk.merged ≡ 0) × (engine.desk.rows ≡ 0)) }
+    ensures engine { IfOk result (λ engine. IsEngine engine.state (whole_seen engine.store)) }
+    ensures plan { IfOk result (λ engine. engine.state.plan ≡ plan) }
+    ensures fresh { IfOk result (λ engine. (engine.state.merged ≡ 0) × (engine.state.rows ≡ 0)) }
 {
     lola_store::law::accepted_is_storable(&plan);
     let store = WholeStore::create(alloc, &plan)?;
@@ -91,9 +91,9 @@ pub(crate) fn run_over<R: Threads + Sync, S: TextStore + Sync>(
     reader: &mut RowReader<MemorySource>,
     lines: &mut Text,
 ) -> Result<(), EngineEnd>
-    requires engine { IsEngine engine.old.desk (S.seen engine.old.store) }
-    requires fresh { (engine.old.desk.merged ≡ 0) × (engine.old.desk.rows ≡ 0) }
-    requires shape { reader.old.shape ≡ shape_of engine.old.desk.plan.spec.streams 0 10000 }
+    requires engine { IsEngine engine.old.state (S.seen engine.old.store) }
+    requires fresh { (engine.old.state.merged ≡ 0) × (engine.old.state.rows ≡ 0) }
+    requires shape { reader.old.shape ≡ shape_of engine.old.state.plan.spec.streams 0 10000 }
     requires going { reader.old.ended ≡ None }
 {
     let mut merged = 0;

@@ -136,7 +136,7 @@ disjoined_on names (value.Text id) b h = by_text (text_at names id.0)
     by_text (Some t) = refl
 
 -- a right operand without a value is the outcome
-right_stays : (sign : Binary) (k : Kind) (names : Naming) (x : Value) (r : Outcome) (b : Answer) → decides sign x ≡ false → ((v : Value) → r ≡ outcome.Value v → ⊥) → read_outcome names r ≡ b → read_outcome names r ≡ with_right sign k (read names x) b
+right_stays : (operator : Binary) (k : Kind) (names : Naming) (x : Value) (r : Outcome) (b : Answer) → decides operator x ≡ false → ((v : Value) → r ≡ outcome.Value v → ⊥) → read_outcome names r ≡ b → read_outcome names r ≡ with_right operator k (read names x) b
 right_stays binary.And k names x r b h ne f = f ∙ sym (conjoined_on names x b h)
 right_stays binary.Or k names x r b h ne f = f ∙ sym (disjoined_on names x b h)
 right_stays binary.Add k names x r b h ne f = stays names r b (λ y. operated binary.Add k (read names x) y) ne f
@@ -152,7 +152,7 @@ right_stays binary.Equal k names x r b h ne f = stays names r b (λ y. operated 
 right_stays binary.Different k names x r b h ne f = stays names r b (λ y. operated binary.Different k (read names x) y) ne f
 
 -- and one with a value goes on
-right_value : (sign : Binary) (k : Kind) (names : Naming) (x y : Value) (b : Answer) → decides sign x ≡ false → Given (read names y) ≡ b → operated sign k (read names x) (read names y) ≡ with_right sign k (read names x) b
+right_value : (operator : Binary) (k : Kind) (names : Naming) (x y : Value) (b : Answer) → decides operator x ≡ false → Given (read names y) ≡ b → operated operator k (read names x) (read names y) ≡ with_right operator k (read names x) b
 right_value binary.And k names x y b h f = f ∙ sym (conjoined_on names x b h)
 right_value binary.Or k names x y b h f = f ∙ sym (disjoined_on names x b h)
 right_value binary.Add k names x y b h f = goes_on names y b (λ y. operated binary.Add k (read names x) y) (operated binary.Add k (read names x) (read names y)) f refl
@@ -168,12 +168,12 @@ right_value binary.Equal k names x y b h f = goes_on names y b (λ y. operated b
 right_value binary.Different k names x y b h f = goes_on names y b (λ y. operated binary.Different k (read names x) y) (operated binary.Different k (read names x) (read names y)) f refl
 
 -- the right one is no value
-pub joined_stays : (sign : Binary) (k : Kind) (names : Naming) (x : Value) (r : Outcome) (a b : Answer) → decides sign x ≡ false → ((v : Value) → r ≡ outcome.Value v → ⊥) → Given (read names x) ≡ a → read_outcome names r ≡ b → read_outcome names r ≡ joined sign k a b
-joined_stays sign k names x r a b h ne e f = goes_on names x a (λ v. with_right sign k v b) (read_outcome names r) e (right_stays sign k names x r b h ne f)
+pub joined_stays : (operator : Binary) (k : Kind) (names : Naming) (x : Value) (r : Outcome) (a b : Answer) → decides operator x ≡ false → ((v : Value) → r ≡ outcome.Value v → ⊥) → Given (read names x) ≡ a → read_outcome names r ≡ b → read_outcome names r ≡ joined operator k a b
+joined_stays operator k names x r a b h ne e f = goes_on names x a (λ v. with_right operator k v b) (read_outcome names r) e (right_stays operator k names x r b h ne f)
 
 -- and_from are values
-pub joined_both : (sign : Binary) (k : Kind) (names : Naming) (x y : Value) (r a b : Answer) → decides sign x ≡ false → Given (read names x) ≡ a → Given (read names y) ≡ b → r ≡ operated sign k (read names x) (read names y) → r ≡ joined sign k a b
-joined_both sign k names x y r a b h e f o = goes_on names x a (λ v. with_right sign k v b) r e (o ∙ right_value sign k names x y b h f)
+pub joined_both : (operator : Binary) (k : Kind) (names : Naming) (x y : Value) (r a b : Answer) → decides operator x ≡ false → Given (read names x) ≡ a → Given (read names y) ≡ b → r ≡ operated operator k (read names x) (read names y) → r ≡ joined operator k a b
+joined_both operator k names x y r a b h e f o = goes_on names x a (λ v. with_right operator k v b) r e (o ∙ right_value operator k names x y b h f)
 
 -- a window
 layout_kind : (ss : List Stream) (kept : List ℕ) (pacings : List ClausePacings) (n : ℕ) → n < length (layouts_from ss kept pacings)
@@ -193,7 +193,7 @@ window_read plan s c q r n e lt m = by_window (slice_get plan.spec.windows n) (s
     by_window (Some w) lt m = m ∙ ap (λ k. window_answer c w k q) (layout_kind plan.spec.streams plan.kept plan.pacings w.target lt)
 
 -- a value of the kind of a row fits: before one operand
-pub prefix_fits : (sign : Prefix) (k a : Kind) (v : Value) → prefix_row sign k a ≡ true → is_of_kind a v ≡ true → operand_fits sign k v ≡ true
+pub prefix_fits : (operator : Prefix) (k a : Kind) (v : Value) → prefix_row operator k a ≡ true → is_of_kind a v ≡ true → operand_fits operator k v ≡ true
 prefix_fits prefix.Not k a v row h =
     let e = same_kind-true k kind.Bool (first (same_kind k kind.Bool) (same_kind a kind.Bool) row) in
     let f = same_kind-true a kind.Bool (second (same_kind k kind.Bool) (same_kind a kind.Bool) row) in
@@ -233,8 +233,8 @@ truth_fits k a b x y row h g =
 bool_result : (k : Kind) (q : Bool) → (same_kind k kind.Bool && q) ≡ true → is_bool k ≡ true
 bool_result k q row = ap is_bool (same_kind-true k kind.Bool (first (same_kind k kind.Bool) q row))
 
--- of each sign
-pub binary_fits : (sign : Binary) (k a b : Kind) (x y : Value) → binary_row sign k a b ≡ true → is_of_kind a x ≡ true → is_of_kind b y ≡ true → operands_fit sign k x y ≡ true
+-- of each operator
+pub binary_fits : (operator : Binary) (k a b : Kind) (x y : Value) → binary_row operator k a b ≡ true → is_of_kind a x ≡ true → is_of_kind b y ≡ true → operands_fit operator k x y ≡ true
 binary_fits binary.Add k a b x y row h g = arithmetic_fits k a b x y row h g
 binary_fits binary.Sub k a b x y row h g = arithmetic_fits k a b x y row h g
 binary_fits binary.Mul k a b x y row h g = arithmetic_fits k a b x y row h g

@@ -38,13 +38,13 @@ module _ (f g h : Expr → Bool) (t : (e : Expr) → f e ≡ true → g e ≡ tr
         let y = second (g (Defaults' place u a v b)) (each_part g a && each_part g b) q in
         and_from (h (Defaults' place u a v b)) (each_part h a && each_part h b) (t (Defaults' place u a v b) (first _ (each_part f a && each_part f b) p) (first _ (each_part g a && each_part g b) q))
         (and_from (each_part h a) (each_part h b) (each_of_both a (first (each_part f a) (each_part f b) x) (first (each_part g a) (each_part g b) y)) (each_of_both b (second (each_part f a) (each_part f b) x) (second (each_part g a) (each_part g b) y)))
-    each_of_both (Unary' place sign u a) p q =
-        and_from (h (Unary' place sign u a)) (each_part h a) (t (Unary' place sign u a) (first _ (each_part f a) p) (first _ (each_part g a) q))
-        (each_of_both a (second (f (Unary' place sign u a)) _ p) (second (g (Unary' place sign u a)) _ q))
-    each_of_both (Both' place sign u a v b) p q =
-        let x = second (f (Both' place sign u a v b)) (each_part f a && each_part f b) p in
-        let y = second (g (Both' place sign u a v b)) (each_part g a && each_part g b) q in
-        and_from (h (Both' place sign u a v b)) (each_part h a && each_part h b) (t (Both' place sign u a v b) (first _ (each_part f a && each_part f b) p) (first _ (each_part g a && each_part g b) q))
+    each_of_both (Unary' place operator u a) p q =
+        and_from (h (Unary' place operator u a)) (each_part h a) (t (Unary' place operator u a) (first _ (each_part f a) p) (first _ (each_part g a) q))
+        (each_of_both a (second (f (Unary' place operator u a)) _ p) (second (g (Unary' place operator u a)) _ q))
+    each_of_both (Both' place operator u a v b) p q =
+        let x = second (f (Both' place operator u a v b)) (each_part f a && each_part f b) p in
+        let y = second (g (Both' place operator u a v b)) (each_part g a && each_part g b) q in
+        and_from (h (Both' place operator u a v b)) (each_part h a && each_part h b) (t (Both' place operator u a v b) (first _ (each_part f a && each_part f b) p) (first _ (each_part g a && each_part g b) q))
         (and_from (each_part h a) (each_part h b) (each_of_both a (first (each_part f a) (each_part f b) x) (first (each_part g a) (each_part g b) y)) (each_of_both b (second (each_part f a) (each_part f b) x) (second (each_part g a) (each_part g b) y)))
     each_of_both (Choice' place u a v b w d) p q =
         let x = second (f (Choice' place u a v b w d)) (each_part f a && (each_part f b && each_part f d)) p in
@@ -77,8 +77,8 @@ module _ (s : Seen) (p : Params) (ks : List Kind) (given : are_of_kinds ks (the_
   row_seen (Read place n how args) h = h
   row_seen (Window place n args) h = h
   row_seen (Defaults' place u a v b) h = h
-  row_seen (Unary' place sign u a) h = h
-  row_seen (Both' place sign u a v b) h = h
+  row_seen (Unary' place operator u a) h = h
+  row_seen (Both' place operator u a v b) h = h
   row_seen (Choice' place u a v b w d) h = h
 
   -- a part
@@ -126,8 +126,8 @@ row_in_plan plan ks (Read place n how args) =
     ∙ ap (λ k. is_reference (layouts_from plan.spec.streams plan.kept plan.pacings) n args && same_kind k (kind_of place)) (kind_same plan.spec.streams [] plan.kept [] plan.pacings n)
 row_in_plan plan ks (Window place n args) = window_same plan.spec.streams [] plan.kept [] plan.pacings (slice_get plan.spec.windows n) (kind_of place) args
 row_in_plan plan ks (Defaults' place u a v b) = refl
-row_in_plan plan ks (Unary' place sign u a) = refl
-row_in_plan plan ks (Both' place sign u a v b) = refl
+row_in_plan plan ks (Unary' place operator u a) = refl
+row_in_plan plan ks (Both' place operator u a v b) = refl
 row_in_plan plan ks (Choice' place u a v b w d) = refl
 
 module _ (s : Seen) (p : Params) (ks : List Kind) (given : are_of_kinds ks (the_values p) ≡ true) (plan : Plan) (layout : s.layout ≡ layout_of plan) where

@@ -92,35 +92,35 @@ module _ (s : Seen) (p : Params) where
         right_kind = same_kind-true (noted b) (kind_of place) (first _ _ (second _ _ row));
       }
 
-  -- of a sign before an operand
-  pub record UnaryFacts (e : Expr) (sign : Prefix) (k : Kind) (a : Expr) : Type 0 where
+  -- of an operator before an operand
+  pub record UnaryFacts (e : Expr) (operator : Prefix) (k : Kind) (a : Expr) : Type 0 where
     pub part : can_ask s p a ≡ true
-    pub row : prefix_row sign k (noted a) ≡ true
+    pub row : prefix_row operator k (noted a) ≡ true
 
-  pub unary_facts : (e : Expr) (place : Place) (sign : Prefix) (u : Around) (a : Expr) → e ≡ Unary' place sign u a → can_ask s p e ≡ true → UnaryFacts e sign (kind_of place) a
-  unary_facts e place sign u a is g =
-      let h : can_ask s p (Unary' place sign u a) ≡ true = ap (can_ask s p) (sym is) ∙ g in
-      let here = first (part_can_ask s p (Unary' place sign u a)) (can_ask s p a) h in
+  pub unary_facts : (e : Expr) (place : Place) (operator : Prefix) (u : Around) (a : Expr) → e ≡ Unary' place operator u a → can_ask s p e ≡ true → UnaryFacts e operator (kind_of place) a
+  unary_facts e place operator u a is g =
+      let h : can_ask s p (Unary' place operator u a) ≡ true = ap (can_ask s p) (sym is) ∙ g in
+      let here = first (part_can_ask s p (Unary' place operator u a)) (can_ask s p a) h in
       record {
-        part = second (part_can_ask s p (Unary' place sign u a)) (can_ask s p a) h;
-        row = first _ _ (first (row_holds (scope_seen s p) (Unary' place sign u a)) true here);
+        part = second (part_can_ask s p (Unary' place operator u a)) (can_ask s p a) h;
+        row = first _ _ (first (row_holds (scope_seen s p) (Unary' place operator u a)) true here);
       }
 
-  -- of a sign between two operands
-  pub record BothFacts (e : Expr) (sign : Binary) (k : Kind) (a b : Expr) : Type 0 where
+  -- of an operator between two operands
+  pub record BothFacts (e : Expr) (operator : Binary) (k : Kind) (a b : Expr) : Type 0 where
     pub left : can_ask s p a ≡ true
     pub right : can_ask s p b ≡ true
-    pub row : binary_row sign k (noted a) (noted b) ≡ true
+    pub row : binary_row operator k (noted a) (noted b) ≡ true
 
-  pub both_facts : (e : Expr) (place : Place) (sign : Binary) (u v : Around) (a b : Expr) → e ≡ Both' place sign u a v b → can_ask s p e ≡ true → BothFacts e sign (kind_of place) a b
-  both_facts e place sign u v a b is g =
-      let h : can_ask s p (Both' place sign u a v b) ≡ true = ap (can_ask s p) (sym is) ∙ g in
-      let here = first (part_can_ask s p (Both' place sign u a v b)) (can_ask s p a && can_ask s p b) h in
-      let parts = second (part_can_ask s p (Both' place sign u a v b)) (can_ask s p a && can_ask s p b) h in
+  pub both_facts : (e : Expr) (place : Place) (operator : Binary) (u v : Around) (a b : Expr) → e ≡ Both' place operator u a v b → can_ask s p e ≡ true → BothFacts e operator (kind_of place) a b
+  both_facts e place operator u v a b is g =
+      let h : can_ask s p (Both' place operator u a v b) ≡ true = ap (can_ask s p) (sym is) ∙ g in
+      let here = first (part_can_ask s p (Both' place operator u a v b)) (can_ask s p a && can_ask s p b) h in
+      let parts = second (part_can_ask s p (Both' place operator u a v b)) (can_ask s p a && can_ask s p b) h in
       record {
         left = first (can_ask s p a) (can_ask s p b) parts;
         right = second (can_ask s p a) (can_ask s p b) parts;
-        row = first (binary_row sign (kind_of place) (noted a) (noted b)) (is_certain s.layout.windows a && is_certain s.layout.windows b) (first (row_holds (scope_seen s p) (Both' place sign u a v b)) true here);
+        row = first (binary_row operator (kind_of place) (noted a) (noted b)) (is_certain s.layout.windows a && is_certain s.layout.windows b) (first (row_holds (scope_seen s p) (Both' place operator u a v b)) true here);
       }
 
   -- of a choice
@@ -265,10 +265,10 @@ module _ (f : Expr → Bool) where
       let h = second (f (Defaults' place u a v b)) (each_part f a && each_part f b) (ap (each_part f) (sym is) ∙ g) in
       (first (each_part f a) (each_part f b) h, second (each_part f a) (each_part f b) h)
 
-  -- of a sign between two operands
-  pub each_both : (e : Expr) (place : Place) (sign : Binary) (u v : Around) (a b : Expr) → e ≡ Both' place sign u a v b → each_part f e ≡ true → (each_part f a ≡ true) × (each_part f b ≡ true)
-  each_both e place sign u v a b is g =
-      let h = second (f (Both' place sign u a v b)) (each_part f a && each_part f b) (ap (each_part f) (sym is) ∙ g) in
+  -- of an operator between two operands
+  pub each_both : (e : Expr) (place : Place) (operator : Binary) (u v : Around) (a b : Expr) → e ≡ Both' place operator u a v b → each_part f e ≡ true → (each_part f a ≡ true) × (each_part f b ≡ true)
+  each_both e place operator u v a b is g =
+      let h = second (f (Both' place operator u a v b)) (each_part f a && each_part f b) (ap (each_part f) (sym is) ∙ g) in
       (first (each_part f a) (each_part f b) h, second (each_part f a) (each_part f b) h)
 
   -- of a choice

@@ -1,4 +1,4 @@
--- Operands that a sign takes, as values.
+-- Operands that an operator takes, as values.
 use Rattle.std.specs.Prelude.{ℤ, pos, Bool, true, false, not, ◌&&◌}
 use Rattle.lola_value.specs.declared.value.Kind.{Kind}
 use Rattle.lola_value.specs.declared.value.Value.{Value}
@@ -41,7 +41,7 @@ orders_fit k a b = is_bool k && (is_number a && is_number b)
 abbrev pub truths_fit : Kind → Value → Value → Bool
 truths_fit k a b = is_bool k && (is_truth a && is_truth b)
 
--- operands that a sign takes which gives values of a kind
+-- operands that an operator takes which gives values of a kind
 abbrev pub operands_fit : Binary → Kind → Value → Value → Bool
 operands_fit binary.Add k a b = numbers_fit k a b
 operands_fit binary.Sub k a b = numbers_fit k a b
@@ -57,7 +57,7 @@ operands_fit binary.Different k a b = is_bool k
 operands_fit binary.And k a b = truths_fit k a b
 operands_fit binary.Or k a b = truths_fit k a b
 
--- the same of a sign before one operand
+-- the same of an operator before one operand
 abbrev pub operand_fits : Prefix → Kind → Value → Bool
 operand_fits prefix.Not k a = is_bool k && is_truth a
 operand_fits prefix.Minus k a = is_signed k && is_of_kind k a

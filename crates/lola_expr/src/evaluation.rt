@@ -58,8 +58,8 @@ fn evaluate<S: StreamStore>(expr: &Expr, params: &Params, store: &S) -> Outcome
         Expr::Read(_, stream, how, args) => access(*stream, *how, args, params, store),
         Expr::Window(_, number, args) => window_access(*number, args, params, store),
         Expr::Defaults(_, a, b) => or_default(a, b, params, store),
-        Expr::Unary(place, sign, a) => with_prefix(place, *sign, a, params, store),
-        Expr::Both(place, sign, a, b) => with_sign(place, *sign, a, b, params, store),
+        Expr::Unary(place, operator, a) => with_prefix(place, *operator, a, params, store),
+        Expr::Both(place, operator, a, b) => with_operator(place, *operator, a, b, params, store),
         Expr::Choice(_, test, a, b) => choice(test, a, b, params, store),
     }
 }
@@ -86,12 +86,12 @@ fn or_default<S: StreamStore>(a: &Expr, b: &Expr, params: &Params, store: &S) ->
     }
 }
 
-/// A sign before an operand.
+/// An operator before an operand.
 #[cycle(eval)]
 #[inline(never)]
 fn with_prefix<S: StreamStore>(
     place: &Place,
-    sign: Prefix,
+    operator: Prefix,
     a: &Expr,
     params: &Params,
     store: &S,
@@ -99,26 +99,26 @@ fn with_prefix<S: StreamStore>(
     requires running { IsRunning (S.seen store.now) }
     requires count { params.now.count ≤ 4 }
     requires part { IsTrue (can_ask (S.seen store.now) params.now a.now) }
-    requires row { IsTrue (prefix_row sign (kind_of place.now) (noted a.now)) }
+    requires row { IsTrue (prefix_row operator (kind_of place.now) (noted a.now)) }
     ensures value { (plan : Plan) (names : Naming) (c : Content) → Sees plan names c (S.remembers store.now) (S.seen store.now) params.now
         → IsTrue (is_named names plan.spec.texts a.now)
         → (read_outcome names result ≡ and_then (den plan.spec c (read_params names params.now) a.now)
-        (λ v. negated sign (kind_of place.now) v)) × IsHeldIn names result }
+        (λ v. negated operator (kind_of place.now) v)) × IsHeldIn names result }
     ensures kind { IsTrue (is_outcome_of (kind_of place.now) result) }
 {
     let operand = evaluate(a, params, store);
     match operand {
-        Outcome::Value(v) => negate(sign, kind_at(place), v),
+        Outcome::Value(v) => negate(operator, kind_at(place), v),
         _ => operand,
     }
 }
 
-/// A sign between two operands. The left one is evaluated first, and the right one only where it is needed.
+/// An operator between two operands. The left one is evaluated first, and the right one only where it is needed.
 #[cycle(eval)]
 #[inline(never)]
-fn with_sign<S: StreamStore>(
+fn with_operator<S: StreamStore>(
     place: &Place,
-    sign: Binary,
+    operator: Binary,
     a: &Expr,
     b: &Expr,
     params: &Params,
@@ -128,23 +128,23 @@ fn with_sign<S: StreamStore>(
     requires count { params.now.count ≤ 4 }
     requires left { IsTrue (can_ask (S.seen store.now) params.now a.now) }
     requires right { IsTrue (can_ask (S.seen store.now) params.now b.now) }
-    requires row { IsTrue (binary_row sign (kind_of place.now) (noted a.now) (noted b.now)) }
+    requires row { IsTrue (binary_row operator (kind_of place.now) (noted a.now) (noted b.now)) }
     ensures value { (plan : Plan) (names : Naming) (c : Content) → Sees plan names c (S.remembers store.now) (S.seen store.now) params.now
         → IsTrue (is_named names plan.spec.texts a.now)
         → IsTrue (is_named names plan.spec.texts b.now)
-        → (read_outcome names result ≡ joined sign (kind_of place.now) (den plan.spec c (read_params names params.now) a.now)
+        → (read_outcome names result ≡ joined operator (kind_of place.now) (den plan.spec c (read_params names params.now) a.now)
         (den plan.spec c (read_params names params.now) b.now)) × IsHeldIn names result }
     ensures kind { IsTrue (is_outcome_of (kind_of place.now) result) }
 {
     let left = evaluate(a, params, store);
     match left {
         Outcome::Value(x) => {
-            if is_decided(sign, x) {
+            if is_decided(operator, x) {
                 return left;
             }
             let right = evaluate(b, params, store);
             match right {
-                Outcome::Value(y) => operate(sign, kind_at(place), x, y),
+                Outcome::Value(y) => operate(operator, kind_at(place), x, y),
                 _ => right,
             }
         }

@@ -1,4 +1,4 @@
-//! Signs, on values.
+//! Operators, on values.
 
 ghost use Rattle.std.specs.Prelude.{◌≡◌, IsTrue};
 ghost use Rattle.lola_value.specs.Kinds.{calculated, is_outcome_of};
@@ -53,16 +53,16 @@ fn verdict(b: bool) -> Outcome
     Outcome::Value(Value::Bool(b))
 }
 
-/// What a sign between two values gives, in the kind of the whole. Division cuts toward zero, and what it leaves has the sign
+/// What an operator between two values gives, in the kind of the whole. Division cuts toward zero, and what it leaves has the sign
 /// of the dividend. Of `&&` and `||` the left value is one that does not decide alone, so the right value is the outcome.
-pub fn operate(sign: Binary, kind: Kind, a: Value, b: Value) -> Outcome
-    requires { IsTrue (operands_fit sign kind a b) }
+pub fn operate(operator: Binary, kind: Kind, a: Value, b: Value) -> Outcome
+    requires { IsTrue (operands_fit operator kind a b) }
     ensures value { (names : Naming) → IsNaming names → IsHeld names a → IsHeld names b
-        → read_outcome names result ≡ operated sign kind (read names a) (read names b) }
+        → read_outcome names result ≡ operated operator kind (read names a) (read names b) }
     ensures held { (names : Naming) → IsHeld names b → IsHeldIn names result }
     ensures kind { IsTrue (is_outcome_of kind result) }
 {
-    match sign {
+    match operator {
         Binary::Add => calculation(add(kind, number(a), number(b))),
         Binary::Sub => calculation(sub(kind, number(a), number(b))),
         Binary::Mul => calculation(mul(kind, number(a), number(b))),
@@ -79,24 +79,24 @@ pub fn operate(sign: Binary, kind: Kind, a: Value, b: Value) -> Outcome
     }
 }
 
-/// What a sign before a value gives, in the kind of the whole.
-pub fn negate(sign: Prefix, kind: Kind, a: Value) -> Outcome
-    requires { IsTrue (operand_fits sign kind a) }
-    ensures value { (names : Naming) → read_outcome names result ≡ negated sign kind (read names a) }
+/// What an operator before a value gives, in the kind of the whole.
+pub fn negate(operator: Prefix, kind: Kind, a: Value) -> Outcome
+    requires { IsTrue (operand_fits operator kind a) }
+    ensures value { (names : Naming) → read_outcome names result ≡ negated operator kind (read names a) }
     ensures held { (names : Naming) → IsHeldIn names result }
     ensures kind { IsTrue (is_outcome_of kind result) }
 {
-    match sign {
+    match operator {
         Prefix::Not => verdict(!truth(a)),
         Prefix::Minus => calculation(neg(kind, number(a))),
     }
 }
 
 /// Whether the left value is the outcome, and the right operand is not evaluated.
-pub fn is_decided(sign: Binary, a: Value) -> bool
-    ensures { result ≡ decides sign a }
+pub fn is_decided(operator: Binary, a: Value) -> bool
+    ensures { result ≡ decides operator a }
 {
-    match sign {
+    match operator {
         Binary::And => match a {
             Value::Bool(b) => !b,
             Value::Int(_) => false,

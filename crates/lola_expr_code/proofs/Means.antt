@@ -198,76 +198,76 @@ module _ (remembers : Memories) (s : Seen) (p : Params) where
           kind = subst (λ (k : Kind). is_outcome_of k r ≡ true) f.right_kind e.kind;
         }
 
-  module _ (place : Place) (sign : Prefix) (u : Around) (a : Expr) (h : can_ask s p (Unary' place sign u a) ≡ true) where
-    -- a sign before an operand that it takes
-    pub operand_taken : (x : Value) → Means a (outcome.Value x) → operand_fits sign (kind_of place) x ≡ true
+  module _ (place : Place) (operator : Prefix) (u : Around) (a : Expr) (h : can_ask s p (Unary' place operator u a) ≡ true) where
+    -- an operator before an operand that it takes
+    pub operand_taken : (x : Value) → Means a (outcome.Value x) → operand_fits operator (kind_of place) x ≡ true
     operand_taken x d =
-        let f = unary_facts s p (Unary' place sign u a) place sign u a refl h in
-        prefix_fits sign (kind_of place) (noted a) x f.row d.kind
+        let f = unary_facts s p (Unary' place operator u a) place operator u a refl h in
+        prefix_fits operator (kind_of place) (noted a) x f.row d.kind
 
-    pub negated_means : (x : Value) (r : Outcome) → Means a (outcome.Value x) → Negates sign (kind_of place) x r → Means (Unary' place sign u a) r
+    pub negated_means : (x : Value) (r : Outcome) → Means a (outcome.Value x) → Negates operator (kind_of place) x r → Means (Unary' place operator u a) r
     negated_means x r d e = record {
       value = λ plan names c y n.
-          let l = d.value plan names c y (second (part_is_named names plan.spec.texts (Unary' place sign u a)) _ n) in
-          (goes_on names x (den plan.spec c (read_params names p) a) (λ v. negated sign (kind_of place) v) (read_outcome names r) l.0 (e.value names), e.held names);
+          let l = d.value plan names c y (second (part_is_named names plan.spec.texts (Unary' place operator u a)) _ n) in
+          (goes_on names x (den plan.spec c (read_params names p) a) (λ v. negated operator (kind_of place) v) (read_outcome names r) l.0 (e.value names), e.held names);
       kind = e.kind;
     }
 
     -- before one that has no value
-    pub operand_none : (r : Outcome) → ((v : Value) → r ≡ outcome.Value v → ⊥) → Means a r → Means (Unary' place sign u a) r
+    pub operand_none : (r : Outcome) → ((v : Value) → r ≡ outcome.Value v → ⊥) → Means a r → Means (Unary' place operator u a) r
     operand_none r ne d = record {
       value = λ plan names c y n.
-          let l = d.value plan names c y (second (part_is_named names plan.spec.texts (Unary' place sign u a)) _ n) in
-          (stays names r (den plan.spec c (read_params names p) a) (λ v. negated sign (kind_of place) v) ne l.0, l.1);
+          let l = d.value plan names c y (second (part_is_named names plan.spec.texts (Unary' place operator u a)) _ n) in
+          (stays names r (den plan.spec c (read_params names p) a) (λ v. negated operator (kind_of place) v) ne l.0, l.1);
       kind = stays_of_kind r (kind_of place) ne;
     }
 
-  module _ (place : Place) (sign : Binary) (u v : Around) (a b : Expr) (h : can_ask s p (Both' place sign u a v b) ≡ true) where
-    -- a sign between operands that it takes
-    pub operands_taken : (x y : Value) → Means a (outcome.Value x) → Means b (outcome.Value y) → operands_fit sign (kind_of place) x y ≡ true
+  module _ (place : Place) (operator : Binary) (u v : Around) (a b : Expr) (h : can_ask s p (Both' place operator u a v b) ≡ true) where
+    -- an operator between operands that it takes
+    pub operands_taken : (x y : Value) → Means a (outcome.Value x) → Means b (outcome.Value y) → operands_fit operator (kind_of place) x y ≡ true
     operands_taken x y d e =
-        let f = both_facts s p (Both' place sign u a v b) place sign u v a b refl h in
-        binary_fits sign (kind_of place) (noted a) (noted b) x y f.row d.kind e.kind
+        let f = both_facts s p (Both' place operator u a v b) place operator u v a b refl h in
+        binary_fits operator (kind_of place) (noted a) (noted b) x y f.row d.kind e.kind
 
-    pub operated_means : (x y : Value) (r : Outcome) → decides sign x ≡ false → Means a (outcome.Value x) → Means b (outcome.Value y) → Operates sign (kind_of place) x y r
-        → Means (Both' place sign u a v b) r
+    pub operated_means : (x y : Value) (r : Outcome) → decides operator x ≡ false → Means a (outcome.Value x) → Means b (outcome.Value y) → Operates operator (kind_of place) x y r
+        → Means (Both' place operator u a v b) r
     operated_means x y r nd d e o = record {
       value = λ plan names c z n.
-          let m = each_both (part_is_named names plan.spec.texts) (Both' place sign u a v b) place sign u v a b refl n in
+          let m = each_both (part_is_named names plan.spec.texts) (Both' place operator u a v b) place operator u v a b refl n in
           let l = d.value plan names c z m.0 in
           let w = e.value plan names c z m.1 in (
-            joined_both sign (kind_of place) names x y (read_outcome names r) (den plan.spec c (read_params names p) a) (den plan.spec c (read_params names p) b) nd l.0 w.0 (o.value names z.naming l.1 w.1),
+            joined_both operator (kind_of place) names x y (read_outcome names r) (den plan.spec c (read_params names p) a) (den plan.spec c (read_params names p) b) nd l.0 w.0 (o.value names z.naming l.1 w.1),
             o.held names w.1,
           );
       kind = o.kind;
     }
 
     -- the left one has no value
-    pub left_none : (r : Outcome) → ((v : Value) → r ≡ outcome.Value v → ⊥) → Means a r → Means (Both' place sign u a v b) r
+    pub left_none : (r : Outcome) → ((v : Value) → r ≡ outcome.Value v → ⊥) → Means a r → Means (Both' place operator u a v b) r
     left_none r ne d = record {
       value = λ plan names c z n.
-          let m = each_both (part_is_named names plan.spec.texts) (Both' place sign u a v b) place sign u v a b refl n in
+          let m = each_both (part_is_named names plan.spec.texts) (Both' place operator u a v b) place operator u v a b refl n in
           let l = d.value plan names c z m.0 in
-          (stays names r (den plan.spec c (read_params names p) a) (λ x. with_right sign (kind_of place) x (den plan.spec c (read_params names p) b)) ne l.0, l.1);
+          (stays names r (den plan.spec c (read_params names p) a) (λ x. with_right operator (kind_of place) x (den plan.spec c (read_params names p) b)) ne l.0, l.1);
       kind = stays_of_kind r (kind_of place) ne;
     }
 
     -- the right one has none
-    pub right_none : (x : Value) (r : Outcome) → decides sign x ≡ false → ((v : Value) → r ≡ outcome.Value v → ⊥) → Means a (outcome.Value x) → Means b r → Means (Both' place sign u a v b) r
+    pub right_none : (x : Value) (r : Outcome) → decides operator x ≡ false → ((v : Value) → r ≡ outcome.Value v → ⊥) → Means a (outcome.Value x) → Means b r → Means (Both' place operator u a v b) r
     right_none x r nd ne d e = record {
       value = λ plan names c z n.
-          let m = each_both (part_is_named names plan.spec.texts) (Both' place sign u a v b) place sign u v a b refl n in
+          let m = each_both (part_is_named names plan.spec.texts) (Both' place operator u a v b) place operator u v a b refl n in
           let l = d.value plan names c z m.0 in
           let w = e.value plan names c z m.1 in
-          (joined_stays sign (kind_of place) names x r (den plan.spec c (read_params names p) a) (den plan.spec c (read_params names p) b) nd ne l.0 w.0, w.1);
+          (joined_stays operator (kind_of place) names x r (den plan.spec c (read_params names p) a) (den plan.spec c (read_params names p) b) nd ne l.0 w.0, w.1);
       kind = stays_of_kind r (kind_of place) ne;
     }
 
   -- `&&` and `||`: where the left value is this one, the right operand is the outcome, or the left value is
-  module _ (place : Place) (sign : Binary) (u v : Around) (a b : Expr) (h : can_ask s p (Both' place sign u a v b) ≡ true) (row : (k j l : Kind) → binary_row sign k j l ≡ truth_row k j l) where
+  module _ (place : Place) (operator : Binary) (u v : Around) (a b : Expr) (h : can_ask s p (Both' place operator u a v b) ≡ true) (row : (k j l : Kind) → binary_row operator k j l ≡ truth_row k j l) where
     truth_kinds : (kind_of place ≡ kind.Bool) × (noted a ≡ kind.Bool) × (noted b ≡ kind.Bool)
     truth_kinds =
-        let f = both_facts s p (Both' place sign u a v b) place sign u v a b refl h in
+        let f = both_facts s p (Both' place operator u a v b) place operator u v a b refl h in
         let r : truth_row (kind_of place) (noted a) (noted b) ≡ true = sym (row (kind_of place) (noted a) (noted b)) ∙ f.row in
         let q = second (same_kind (kind_of place) kind.Bool) (same_kind (noted a) kind.Bool && same_kind (noted b) kind.Bool) r in (
           same_kind-true (kind_of place) kind.Bool (first (same_kind (kind_of place) kind.Bool) (same_kind (noted a) kind.Bool && same_kind (noted b) kind.Bool) r),
@@ -279,25 +279,25 @@ module _ (remembers : Memories) (s : Seen) (p : Params) where
     pub left_truth : (x : Value) → Means a (outcome.Value x) → is_truth x ≡ true
     left_truth x d = truth_of_kind x (subst (λ (k : Kind). is_of_kind k x ≡ true) truth_kinds.1 d.kind)
 
-    pub goes_on_means : (t : Bool) (r : Outcome) → ((k : Kind) (y : Answer) → with_right sign k (field.Bool t) y ≡ y) → Means a (outcome.Value (value.Bool t)) → Means b r → Means (Both' place sign u a v b) r
+    pub goes_on_means : (t : Bool) (r : Outcome) → ((k : Kind) (y : Answer) → with_right operator k (field.Bool t) y ≡ y) → Means a (outcome.Value (value.Bool t)) → Means b r → Means (Both' place operator u a v b) r
     goes_on_means t r same d e = record {
       value = λ plan names c z n.
-          let m = each_both (part_is_named names plan.spec.texts) (Both' place sign u a v b) place sign u v a b refl n in
+          let m = each_both (part_is_named names plan.spec.texts) (Both' place operator u a v b) place operator u v a b refl n in
           let l = d.value plan names c z m.0 in
           let y = e.value plan names c z m.1 in (
-            goes_on names (value.Bool t) (den plan.spec c (read_params names p) a) (λ x. with_right sign (kind_of place) x (den plan.spec c (read_params names p) b)) (read_outcome names r) l.0
+            goes_on names (value.Bool t) (den plan.spec c (read_params names p) a) (λ x. with_right operator (kind_of place) x (den plan.spec c (read_params names p) b)) (read_outcome names r) l.0
                 (y.0 ∙ sym (same (kind_of place) (den plan.spec c (read_params names p) b))),
             y.1,
           );
       kind = subst (λ (k : Kind). is_outcome_of k r ≡ true) (truth_kinds.2 ∙ sym truth_kinds.0) e.kind;
     }
 
-    pub decided_means : (t : Bool) → ((k : Kind) (y : Answer) → with_right sign k (field.Bool t) y ≡ Given (field.Bool t)) → Means a (outcome.Value (value.Bool t)) → Means (Both' place sign u a v b) (outcome.Value (value.Bool t))
+    pub decided_means : (t : Bool) → ((k : Kind) (y : Answer) → with_right operator k (field.Bool t) y ≡ Given (field.Bool t)) → Means a (outcome.Value (value.Bool t)) → Means (Both' place operator u a v b) (outcome.Value (value.Bool t))
     decided_means t same d = record {
       value = λ plan names c z n.
-          let m = each_both (part_is_named names plan.spec.texts) (Both' place sign u a v b) place sign u v a b refl n in
+          let m = each_both (part_is_named names plan.spec.texts) (Both' place operator u a v b) place operator u v a b refl n in
           let l = d.value plan names c z m.0 in (
-            goes_on names (value.Bool t) (den plan.spec c (read_params names p) a) (λ x. with_right sign (kind_of place) x (den plan.spec c (read_params names p) b)) (Given (field.Bool t)) l.0
+            goes_on names (value.Bool t) (den plan.spec c (read_params names p) a) (λ x. with_right operator (kind_of place) x (den plan.spec c (read_params names p) b)) (Given (field.Bool t)) l.0
                 (sym (same (kind_of place) (den plan.spec c (read_params names p) b))),
             tt,
           );

@@ -27,7 +27,7 @@ use Rattle.lola_expr_code.specs.declared.instr.Instr.{Instr}
 use Rattle.lola_expr_code.specs.declared.instr.Instr.TheVariants as instr
 use Rattle.lola_expr_code.specs.declared.compile.Target.{Target}
 use Rattle.lola_expr_code.specs.declared.compile.Target.TheVariants as target
-use Rattle.lola_expr_code.specs.Code.{asking, back_arguments, back_code, code_of, defaulted_of, direct_of, giving, joining, literal_of, plain_of, plainly, plainly_or, reading, sign_plainly_or, together, with_argument, with_branches, with_default, with_operands, with_sign}
+use Rattle.lola_expr_code.specs.Code.{asking, back_arguments, back_code, code_of, defaulted_of, direct_of, giving, joining, literal_of, plain_of, plainly, plainly_or, reading, operator_plainly_or, together, with_argument, with_branches, with_default, with_operands, with_operator}
 use Rattle.lola_expr_code.specs.Machine.{Asked, AskedOf, Folded, Leads, or_short, top}
 use Rattle.lola_value.specs.Shorts.{short_of, value_in, widened}
 use Rattle.lola_value.specs.declared.short.Short.{Short}
@@ -73,8 +73,8 @@ is_plain (Read place n how End) q h = let e : (n, how) ≡ q = cc in record { pl
 is_plain (Read place n how (More' u a v rest)) q h = absurd (cc)
 is_plain (Window place n args) q h = absurd (cc)
 is_plain (Defaults' place u a v b) q h = absurd (cc)
-is_plain (Unary' place sign u a) q h = absurd (cc)
-is_plain (Both' place sign u a v b) q h = absurd (cc)
+is_plain (Unary' place operator u a) q h = absurd (cc)
+is_plain (Both' place operator u a v b) q h = absurd (cc)
 is_plain (Choice' place u a v b w d) q h = absurd (cc)
 
 -- a direct access
@@ -92,8 +92,8 @@ is_direct (Read place m (access.Offset k) End) n h = absurd (cc)
 is_direct (Read place m how (More' u a v rest)) n h = absurd (cc)
 is_direct (Window place m args) n h = absurd (cc)
 is_direct (Defaults' place u a v b) n h = absurd (cc)
-is_direct (Unary' place sign u a) n h = absurd (cc)
-is_direct (Both' place sign u a v b) n h = absurd (cc)
+is_direct (Unary' place operator u a) n h = absurd (cc)
+is_direct (Both' place operator u a v b) n h = absurd (cc)
 is_direct (Choice' place u a v b w d) n h = absurd (cc)
 
 -- a literal
@@ -111,8 +111,8 @@ is_literal (Parameter place i) v h = absurd (cc)
 is_literal (Read place n how args) v h = absurd (cc)
 is_literal (Window place n args) v h = absurd (cc)
 is_literal (Defaults' place u a w b) v h = absurd (cc)
-is_literal (Unary' place sign u a) v h = absurd (cc)
-is_literal (Both' place sign u a w b) v h = absurd (cc)
+is_literal (Unary' place operator u a) v h = absurd (cc)
+is_literal (Both' place operator u a w b) v h = absurd (cc)
 is_literal (Choice' place u a w b x d) v h = absurd (cc)
 
 -- a plain access with a literal for a default
@@ -131,8 +131,8 @@ is_defaulted (Literal place w) d h = absurd (cc)
 is_defaulted (Parameter place i) d h = absurd (cc)
 is_defaulted (Read place n how args) d h = absurd (cc)
 is_defaulted (Window place n args) d h = absurd (cc)
-is_defaulted (Unary' place sign u a) d h = absurd (cc)
-is_defaulted (Both' place sign u a w b) d h = absurd (cc)
+is_defaulted (Unary' place operator u a) d h = absurd (cc)
+is_defaulted (Both' place operator u a w b) d h = absurd (cc)
 is_defaulted (Choice' place u a w b x c) d h = absurd (cc)
 is_defaulted (Defaults' place u a w b) d h = by_parts (plain_of a) (literal_of b) refl refl h
   where
@@ -231,42 +231,42 @@ module _ (remembers : Memories) (s : Seen) (p : Params) (wanted : Outcome → Ty
   plainly_or_leads n access.Hold v rest hand st h = h
   plainly_or_leads n (access.Offset k) v rest hand st h = h
 
-  -- a sign that reads its right operand does what the reading and then the sign do
-  sign_plainly_leads : (sign : Binary) (k : Kind) (n : ℕ) (how : Access) (v : Short) (rest : List Instr) (x : Value) (st : List Value)
-      → Goes (plainly_or n how v ∷ (instr.Sign sign k ∷ rest)) 0 (outcome.Value x) (x ∷ st) → Goes (sign_plainly_or sign k n how v ∷ rest) 0 (outcome.Value x) st
-  sign_plainly_leads sign k n access.Direct v rest x st h = h
-  sign_plainly_leads sign k n access.Get v rest x st h = h
-  sign_plainly_leads sign k n access.Hold v rest x st h = h
-  sign_plainly_leads sign k n (access.Offset b) v rest x st h = h
+  -- an operator that reads its right operand does what the reading and then the operator do
+  operator_plainly_leads : (operator : Binary) (k : Kind) (n : ℕ) (how : Access) (v : Short) (rest : List Instr) (x : Value) (st : List Value)
+      → Goes (plainly_or n how v ∷ (instr.Operator operator k ∷ rest)) 0 (outcome.Value x) (x ∷ st) → Goes (operator_plainly_or operator k n how v ∷ rest) 0 (outcome.Value x) st
+  operator_plainly_leads operator k n access.Direct v rest x st h = h
+  operator_plainly_leads operator k n access.Get v rest x st h = h
+  operator_plainly_leads operator k n access.Hold v rest x st h = h
+  operator_plainly_leads operator k n (access.Offset b) v rest x st h = h
 
   -- and nothing where no value is in hand
-  now_stays : (sign : Binary) (k : Kind) (n : ℕ) (v : Short) (rest : List Instr) (o : Outcome) (st : List Value) → ((w : Value) → o ≡ outcome.Value w → ⊥) → Goes rest 0 o st
-      → Goes (instr.SignNowOr sign k n v ∷ rest) 0 o st
-  now_stays sign k n v rest (outcome.Value w) st ne h = absurd (ne w refl)
-  now_stays sign k n v rest outcome.Missing st ne h = h
-  now_stays sign k n v rest (outcome.Fault f) st ne h = h
-  now_stays sign k n v rest outcome.Poison st ne h = h
+  now_stays : (operator : Binary) (k : Kind) (n : ℕ) (v : Short) (rest : List Instr) (o : Outcome) (st : List Value) → ((w : Value) → o ≡ outcome.Value w → ⊥) → Goes rest 0 o st
+      → Goes (instr.OperatorNowOr operator k n v ∷ rest) 0 o st
+  now_stays operator k n v rest (outcome.Value w) st ne h = absurd (ne w refl)
+  now_stays operator k n v rest outcome.Missing st ne h = h
+  now_stays operator k n v rest (outcome.Fault f) st ne h = h
+  now_stays operator k n v rest outcome.Poison st ne h = h
 
-  newest_stays : (sign : Binary) (k : Kind) (n : ℕ) (v : Short) (rest : List Instr) (o : Outcome) (st : List Value) → ((w : Value) → o ≡ outcome.Value w → ⊥) → Goes rest 0 o st
-      → Goes (instr.SignNewestOr sign k n v ∷ rest) 0 o st
-  newest_stays sign k n v rest (outcome.Value w) st ne h = absurd (ne w refl)
-  newest_stays sign k n v rest outcome.Missing st ne h = h
-  newest_stays sign k n v rest (outcome.Fault f) st ne h = h
-  newest_stays sign k n v rest outcome.Poison st ne h = h
+  newest_stays : (operator : Binary) (k : Kind) (n : ℕ) (v : Short) (rest : List Instr) (o : Outcome) (st : List Value) → ((w : Value) → o ≡ outcome.Value w → ⊥) → Goes rest 0 o st
+      → Goes (instr.OperatorNewestOr operator k n v ∷ rest) 0 o st
+  newest_stays operator k n v rest (outcome.Value w) st ne h = absurd (ne w refl)
+  newest_stays operator k n v rest outcome.Missing st ne h = h
+  newest_stays operator k n v rest (outcome.Fault f) st ne h = h
+  newest_stays operator k n v rest outcome.Poison st ne h = h
 
-  back_stays : (sign : Binary) (k : Kind) (n b : ℕ) (v : Short) (rest : List Instr) (o : Outcome) (st : List Value) → ((w : Value) → o ≡ outcome.Value w → ⊥) → Goes rest 0 o st
-      → Goes (instr.SignBackOr sign k n b v ∷ rest) 0 o st
-  back_stays sign k n b v rest (outcome.Value w) st ne h = absurd (ne w refl)
-  back_stays sign k n b v rest outcome.Missing st ne h = h
-  back_stays sign k n b v rest (outcome.Fault f) st ne h = h
-  back_stays sign k n b v rest outcome.Poison st ne h = h
+  back_stays : (operator : Binary) (k : Kind) (n b : ℕ) (v : Short) (rest : List Instr) (o : Outcome) (st : List Value) → ((w : Value) → o ≡ outcome.Value w → ⊥) → Goes rest 0 o st
+      → Goes (instr.OperatorBackOr operator k n b v ∷ rest) 0 o st
+  back_stays operator k n b v rest (outcome.Value w) st ne h = absurd (ne w refl)
+  back_stays operator k n b v rest outcome.Missing st ne h = h
+  back_stays operator k n b v rest (outcome.Fault f) st ne h = h
+  back_stays operator k n b v rest outcome.Poison st ne h = h
 
-  no_left : (sign : Binary) (k : Kind) (n : ℕ) (how : Access) (v : Short) (rest : List Instr) (o : Outcome) (st : List Value) → ((w : Value) → o ≡ outcome.Value w → ⊥)
-      → Goes rest 0 o st → Goes (sign_plainly_or sign k n how v ∷ rest) 0 o st
-  no_left sign k n access.Direct v rest o st ne h = now_stays sign k n v rest o st ne h
-  no_left sign k n access.Get v rest o st ne h = now_stays sign k n v rest o st ne h
-  no_left sign k n access.Hold v rest o st ne h = newest_stays sign k n v rest o st ne h
-  no_left sign k n (access.Offset b) v rest o st ne h = back_stays sign k n b v rest o st ne h
+  no_left : (operator : Binary) (k : Kind) (n : ℕ) (how : Access) (v : Short) (rest : List Instr) (o : Outcome) (st : List Value) → ((w : Value) → o ≡ outcome.Value w → ⊥)
+      → Goes rest 0 o st → Goes (operator_plainly_or operator k n how v ∷ rest) 0 o st
+  no_left operator k n access.Direct v rest o st ne h = now_stays operator k n v rest o st ne h
+  no_left operator k n access.Get v rest o st ne h = now_stays operator k n v rest o st ne h
+  no_left operator k n access.Hold v rest o st ne h = newest_stays operator k n v rest o st ne h
+  no_left operator k n (access.Offset b) v rest o st ne h = back_stays operator k n b v rest o st ne h
 
   -- what is asked with all of them
   reading_leads : (n : ℕ) (how : Access) (m : ℕ) (vs : List Value) (rest : List Instr) (hand : Outcome) (st : List Value) → length vs ≡ m → m ≤ 4
@@ -354,97 +354,97 @@ module _ (remembers : Memories) (s : Seen) (p : Params) (wanted : Outcome → Ty
   default_gives place u v a b ca cb ask g h None (Some x) l t = otherwise_gives place u v a b ca cb ask g h
   default_gives place u v a b ca cb ask g h None None l t = otherwise_gives place u v a b ca cb ask g h
 
-  -- a sign before an operand
-  prefix_gives : (place : Place) (sign : Prefix) (u : Around) (a : Expr) (ca : List Instr) → can_ask s p (Unary' place sign u a) ≡ true → Gives ca a
-      → Gives (instr.Prefix sign (kind_of place) ∷ ca) (Unary' place sign u a)
-  prefix_gives place sign u a ca ask g rest o st fin = behind (instr.Prefix sign (kind_of place)) ca a rest o st g goes
+  -- an operator before an operand
+  prefix_gives : (place : Place) (operator : Prefix) (u : Around) (a : Expr) (ca : List Instr) → can_ask s p (Unary' place operator u a) ≡ true → Gives ca a
+      → Gives (instr.Prefix operator (kind_of place) ∷ ca) (Unary' place operator u a)
+  prefix_gives place operator u a ca ask g rest o st fin = behind (instr.Prefix operator (kind_of place)) ca a rest o st g goes
     where
-      goes : (r : Outcome) → IsMeant a r → Goes (instr.Prefix sign (kind_of place) ∷ rest) 0 r st
-      goes (outcome.Value x) d = (operand_taken remembers s p place sign u a ask x d, λ r e. fin r (negated_means remembers s p place sign u a ask x r d e))
-      goes outcome.Missing d = fin outcome.Missing (operand_none remembers s p place sign u a ask outcome.Missing (λ v q. absurd (cc)) d)
-      goes (outcome.Fault f) d = fin (outcome.Fault f) (operand_none remembers s p place sign u a ask (outcome.Fault f) (λ v q. absurd (cc)) d)
-      goes outcome.Poison d = fin outcome.Poison (operand_none remembers s p place sign u a ask outcome.Poison (λ v q. absurd (cc)) d)
+      goes : (r : Outcome) → IsMeant a r → Goes (instr.Prefix operator (kind_of place) ∷ rest) 0 r st
+      goes (outcome.Value x) d = (operand_taken remembers s p place operator u a ask x d, λ r e. fin r (negated_means remembers s p place operator u a ask x r d e))
+      goes outcome.Missing d = fin outcome.Missing (operand_none remembers s p place operator u a ask outcome.Missing (λ v q. absurd (cc)) d)
+      goes (outcome.Fault f) d = fin (outcome.Fault f) (operand_none remembers s p place operator u a ask (outcome.Fault f) (λ v q. absurd (cc)) d)
+      goes outcome.Poison d = fin outcome.Poison (operand_none remembers s p place operator u a ask outcome.Poison (λ v q. absurd (cc)) d)
 
-  -- a sign between two operands
-  module _ (place : Place) (sign : Binary) (u v : Around) (a b : Expr) (ask : can_ask s p (Both' place sign u a v b) ≡ true) where
+  -- an operator between two operands
+  module _ (place : Place) (operator : Binary) (u v : Around) (a b : Expr) (ask : can_ask s p (Both' place operator u a v b) ≡ true) where
     -- between a value and what the right one means
-    signed : (rest : List Instr) (st : List Value) → ((r : Outcome) → IsMeant (Both' place sign u a v b) r → Goes rest 0 r st) → ((x : Value) → decides sign x ≡ false)
-        → (x : Value) → IsMeant a (outcome.Value x) → (r : Outcome) → IsMeant b r → Goes (instr.Sign sign (kind_of place) ∷ rest) 0 r (x ∷ st)
-    signed rest st fin nd x d (outcome.Value y) e = (operands_taken remembers s p place sign u v a b ask x y d e, λ r w. fin r (operated_means remembers s p place sign u v a b ask x y r (nd x) d e w))
-    signed rest st fin nd x d outcome.Missing e = fin outcome.Missing (right_none remembers s p place sign u v a b ask x outcome.Missing (nd x) (λ v q. absurd (cc)) d e)
-    signed rest st fin nd x d (outcome.Fault f) e = fin (outcome.Fault f) (right_none remembers s p place sign u v a b ask x (outcome.Fault f) (nd x) (λ v q. absurd (cc)) d e)
-    signed rest st fin nd x d outcome.Poison e = fin outcome.Poison (right_none remembers s p place sign u v a b ask x outcome.Poison (nd x) (λ v q. absurd (cc)) d e)
+    signed : (rest : List Instr) (st : List Value) → ((r : Outcome) → IsMeant (Both' place operator u a v b) r → Goes rest 0 r st) → ((x : Value) → decides operator x ≡ false)
+        → (x : Value) → IsMeant a (outcome.Value x) → (r : Outcome) → IsMeant b r → Goes (instr.Operator operator (kind_of place) ∷ rest) 0 r (x ∷ st)
+    signed rest st fin nd x d (outcome.Value y) e = (operands_taken remembers s p place operator u v a b ask x y d e, λ r w. fin r (operated_means remembers s p place operator u v a b ask x y r (nd x) d e w))
+    signed rest st fin nd x d outcome.Missing e = fin outcome.Missing (right_none remembers s p place operator u v a b ask x outcome.Missing (nd x) (λ v q. absurd (cc)) d e)
+    signed rest st fin nd x d (outcome.Fault f) e = fin (outcome.Fault f) (right_none remembers s p place operator u v a b ask x (outcome.Fault f) (nd x) (λ v q. absurd (cc)) d e)
+    signed rest st fin nd x d outcome.Poison e = fin outcome.Poison (right_none remembers s p place operator u v a b ask x outcome.Poison (nd x) (λ v q. absurd (cc)) d e)
 
     -- of which both are evaluated
-    kept_gives : (ca cb : List Instr) → ((x : Value) → decides sign x ≡ false) → Gives ca a → Gives cb b
-        → Gives (instr.Sign sign (kind_of place) ∷ (cb ++ (instr.Keep (length cb + 1) ∷ ca))) (Both' place sign u a v b)
-    kept_gives ca cb nd g h rest o st fin = between (instr.Sign sign (kind_of place) ∷ cb) (instr.Keep (length cb + 1)) ca a rest o st g goes
+    kept_gives : (ca cb : List Instr) → ((x : Value) → decides operator x ≡ false) → Gives ca a → Gives cb b
+        → Gives (instr.Operator operator (kind_of place) ∷ (cb ++ (instr.Keep (length cb + 1) ∷ ca))) (Both' place operator u a v b)
+    kept_gives ca cb nd g h rest o st fin = between (instr.Operator operator (kind_of place) ∷ cb) (instr.Keep (length cb + 1)) ca a rest o st g goes
       where
-        none : (r : Outcome) → ((v : Value) → r ≡ outcome.Value v → ⊥) → IsMeant a r → Goes (reverse (instr.Sign sign (kind_of place) ∷ cb) ++ rest) (length cb + 1) r st
-        none r ne d = past (instr.Sign sign (kind_of place) ∷ cb) rest 0 (length cb + 1) r st (omega arith) (fin r (left_none remembers s p place sign u v a b ask r ne d))
+        none : (r : Outcome) → ((v : Value) → r ≡ outcome.Value v → ⊥) → IsMeant a r → Goes (reverse (instr.Operator operator (kind_of place) ∷ cb) ++ rest) (length cb + 1) r st
+        none r ne d = past (instr.Operator operator (kind_of place) ∷ cb) rest 0 (length cb + 1) r st (omega arith) (fin r (left_none remembers s p place operator u v a b ask r ne d))
 
-        goes : (r : Outcome) → IsMeant a r → Goes (instr.Keep (length cb + 1) ∷ (reverse (instr.Sign sign (kind_of place) ∷ cb) ++ rest)) 0 r st
-        goes (outcome.Value x) d = behind (instr.Sign sign (kind_of place)) cb b rest (outcome.Value x) (x ∷ st) h (signed rest st fin nd x d)
+        goes : (r : Outcome) → IsMeant a r → Goes (instr.Keep (length cb + 1) ∷ (reverse (instr.Operator operator (kind_of place) ∷ cb) ++ rest)) 0 r st
+        goes (outcome.Value x) d = behind (instr.Operator operator (kind_of place)) cb b rest (outcome.Value x) (x ∷ st) h (signed rest st fin nd x d)
         goes outcome.Missing d = none outcome.Missing (λ v q. absurd (cc)) d
         goes (outcome.Fault f) d = none (outcome.Fault f) (λ v q. absurd (cc)) d
         goes outcome.Poison d = none outcome.Poison (λ v q. absurd (cc)) d
 
     -- of which the right one is a literal
-    given_gives : (ca : List Instr) (y : Short) → ((x : Value) → decides sign x ≡ false) → Gives ca a → IsLiteral b y
-        → Gives (instr.SignGiven sign (kind_of place) y ∷ ca) (Both' place sign u a v b)
-    given_gives ca y nd g t rest o st fin = behind (instr.SignGiven sign (kind_of place) y) ca a rest o st g goes
+    given_gives : (ca : List Instr) (y : Short) → ((x : Value) → decides operator x ≡ false) → Gives ca a → IsLiteral b y
+        → Gives (instr.OperatorGiven operator (kind_of place) y ∷ ca) (Both' place operator u a v b)
+    given_gives ca y nd g t rest o st fin = behind (instr.OperatorGiven operator (kind_of place) y) ca a rest o st g goes
       where
         given : IsMeant b (outcome.Value (value_in y))
         given =
-            let facts = both_facts s p (Both' place sign u a v b) place sign u v a b refl ask in
+            let facts = both_facts s p (Both' place operator u a v b) place operator u v a b refl ask in
             subst (λ e. IsMeant e (outcome.Value (value_in y))) (sym t.is) (literal_means remembers s p t.place (value_in y) (ap (can_ask s p) (sym t.is) ∙ facts.right))
 
-        goes : (r : Outcome) → IsMeant a r → Goes (instr.SignGiven sign (kind_of place) y ∷ rest) 0 r st
-        goes (outcome.Value x) d = (operands_taken remembers s p place sign u v a b ask x (value_in y) d given, λ r w. fin r (operated_means remembers s p place sign u v a b ask x (value_in y) r (nd x) d given w))
-        goes outcome.Missing d = fin outcome.Missing (left_none remembers s p place sign u v a b ask outcome.Missing (λ v q. absurd (cc)) d)
-        goes (outcome.Fault f) d = fin (outcome.Fault f) (left_none remembers s p place sign u v a b ask (outcome.Fault f) (λ v q. absurd (cc)) d)
-        goes outcome.Poison d = fin outcome.Poison (left_none remembers s p place sign u v a b ask outcome.Poison (λ v q. absurd (cc)) d)
+        goes : (r : Outcome) → IsMeant a r → Goes (instr.OperatorGiven operator (kind_of place) y ∷ rest) 0 r st
+        goes (outcome.Value x) d = (operands_taken remembers s p place operator u v a b ask x (value_in y) d given, λ r w. fin r (operated_means remembers s p place operator u v a b ask x (value_in y) r (nd x) d given w))
+        goes outcome.Missing d = fin outcome.Missing (left_none remembers s p place operator u v a b ask outcome.Missing (λ v q. absurd (cc)) d)
+        goes (outcome.Fault f) d = fin (outcome.Fault f) (left_none remembers s p place operator u v a b ask (outcome.Fault f) (λ v q. absurd (cc)) d)
+        goes outcome.Poison d = fin outcome.Poison (left_none remembers s p place operator u v a b ask outcome.Poison (λ v q. absurd (cc)) d)
 
     -- of which the right one is a plain access with a literal for a default
-    defaulted_gives : (ca : List Instr) (f : ℕ × (Access × Short)) → ((x : Value) → decides sign x ≡ false) → Gives ca a → IsDefaulted b f
-        → Gives (sign_plainly_or sign (kind_of place) f.0 f.1.0 f.1.1 ∷ ca) (Both' place sign u a v b)
-    defaulted_gives ca f nd g t rest o st fin = behind (sign_plainly_or sign (kind_of place) f.0 f.1.0 f.1.1) ca a rest o st g goes
+    defaulted_gives : (ca : List Instr) (f : ℕ × (Access × Short)) → ((x : Value) → decides operator x ≡ false) → Gives ca a → IsDefaulted b f
+        → Gives (operator_plainly_or operator (kind_of place) f.0 f.1.0 f.1.1 ∷ ca) (Both' place operator u a v b)
+    defaulted_gives ca f nd g t rest o st fin = behind (operator_plainly_or operator (kind_of place) f.0 f.1.0 f.1.1) ca a rest o st g goes
       where
         asked : Gives (plainly_or f.0 f.1.0 f.1.1 ∷ []) b
         asked =
-            let facts = both_facts s p (Both' place sign u a v b) place sign u v a b refl ask in
+            let facts = both_facts s p (Both' place operator u a v b) place operator u v a b refl ask in
             subst (Gives (plainly_or f.0 f.1.0 f.1.1 ∷ [])) (sym t.is)
             (fused_gives t.place t.u t.v t.a t.b (f.0, f.1.0) f.1.1 (ap (can_ask s p) (sym t.is) ∙ facts.right) t.plain t.literal)
 
-        none : (r : Outcome) → ((v : Value) → r ≡ outcome.Value v → ⊥) → IsMeant a r → Goes (sign_plainly_or sign (kind_of place) f.0 f.1.0 f.1.1 ∷ rest) 0 r st
-        none r ne d = no_left sign (kind_of place) f.0 f.1.0 f.1.1 rest r st ne (fin r (left_none remembers s p place sign u v a b ask r ne d))
+        none : (r : Outcome) → ((v : Value) → r ≡ outcome.Value v → ⊥) → IsMeant a r → Goes (operator_plainly_or operator (kind_of place) f.0 f.1.0 f.1.1 ∷ rest) 0 r st
+        none r ne d = no_left operator (kind_of place) f.0 f.1.0 f.1.1 rest r st ne (fin r (left_none remembers s p place operator u v a b ask r ne d))
 
-        goes : (r : Outcome) → IsMeant a r → Goes (sign_plainly_or sign (kind_of place) f.0 f.1.0 f.1.1 ∷ rest) 0 r st
-        goes (outcome.Value x) d = sign_plainly_leads sign (kind_of place) f.0 f.1.0 f.1.1 rest x st (asked (instr.Sign sign (kind_of place) ∷ rest) (outcome.Value x) (x ∷ st) (signed rest st fin nd x d))
+        goes : (r : Outcome) → IsMeant a r → Goes (operator_plainly_or operator (kind_of place) f.0 f.1.0 f.1.1 ∷ rest) 0 r st
+        goes (outcome.Value x) d = operator_plainly_leads operator (kind_of place) f.0 f.1.0 f.1.1 rest x st (asked (instr.Operator operator (kind_of place) ∷ rest) (outcome.Value x) (x ∷ st) (signed rest st fin nd x d))
         goes outcome.Missing d = none outcome.Missing (λ v q. absurd (cc)) d
         goes (outcome.Fault k) d = none (outcome.Fault k) (λ v q. absurd (cc)) d
         goes outcome.Poison d = none outcome.Poison (λ v q. absurd (cc)) d
 
     -- of which the right one is a direct access
-    direct_gives : (ca : List Instr) (n : ℕ) → ((x : Value) → decides sign x ≡ false) → Gives ca a → IsDirect b n
-        → Gives (instr.SignNow sign (kind_of place) n ∷ ca) (Both' place sign u a v b)
-    direct_gives ca n nd g t rest o st fin = behind (instr.SignNow sign (kind_of place) n) ca a rest o st g goes
+    direct_gives : (ca : List Instr) (n : ℕ) → ((x : Value) → decides operator x ≡ false) → Gives ca a → IsDirect b n
+        → Gives (instr.OperatorNow operator (kind_of place) n ∷ ca) (Both' place operator u a v b)
+    direct_gives ca n nd g t rest o st fin = behind (instr.OperatorNow operator (kind_of place) n) ca a rest o st g goes
       where
-        goes : (r : Outcome) → IsMeant a r → Goes (instr.SignNow sign (kind_of place) n ∷ rest) 0 r st
+        goes : (r : Outcome) → IsMeant a r → Goes (instr.OperatorNow operator (kind_of place) n ∷ rest) 0 r st
         goes (outcome.Value x) d =
-            let facts = both_facts s p (Both' place sign u a v b) place sign u v a b refl ask in
+            let facts = both_facts s p (Both' place operator u a v b) place operator u v a b refl ask in
             let f = read_facts s p b t.place n access.Direct End t.is facts.right in (
               f.reference.stream,
               sym f.reference.kinds,
               f.kept,
               λ r e. signed rest st fin nd x d r (read_means remembers s p b t.place n access.Direct End [] r t.is facts.right (end_means remembers s p) e),
             )
-        goes outcome.Missing d = fin outcome.Missing (left_none remembers s p place sign u v a b ask outcome.Missing (λ v q. absurd (cc)) d)
-        goes (outcome.Fault k) d = fin (outcome.Fault k) (left_none remembers s p place sign u v a b ask (outcome.Fault k) (λ v q. absurd (cc)) d)
-        goes outcome.Poison d = fin outcome.Poison (left_none remembers s p place sign u v a b ask outcome.Poison (λ v q. absurd (cc)) d)
+        goes outcome.Missing d = fin outcome.Missing (left_none remembers s p place operator u v a b ask outcome.Missing (λ v q. absurd (cc)) d)
+        goes (outcome.Fault k) d = fin (outcome.Fault k) (left_none remembers s p place operator u v a b ask (outcome.Fault k) (λ v q. absurd (cc)) d)
+        goes outcome.Poison d = fin outcome.Poison (left_none remembers s p place operator u v a b ask outcome.Poison (λ v q. absurd (cc)) d)
 
-    operands_give : (ca cb : List Instr) → ((x : Value) → decides sign x ≡ false) → Gives ca a → Gives cb b → (y : Option Short) (f : Option (ℕ × (Access × Short))) (n : Option ℕ)
-        → literal_of b ≡ y → defaulted_of b ≡ f → direct_of b ≡ n → Gives (with_operands sign (kind_of place) ca cb y f n) (Both' place sign u a v b)
+    operands_give : (ca cb : List Instr) → ((x : Value) → decides operator x ≡ false) → Gives ca a → Gives cb b → (y : Option Short) (f : Option (ℕ × (Access × Short))) (n : Option ℕ)
+        → literal_of b ≡ y → defaulted_of b ≡ f → direct_of b ≡ n → Gives (with_operands operator (kind_of place) ca cb y f n) (Both' place operator u a v b)
     operands_give ca cb nd g h (Some y) f n t q w = given_gives ca y nd g (is_literal b y t)
     operands_give ca cb nd g h None (Some f) n t q w = defaulted_gives ca f nd g (is_defaulted b f q)
     operands_give ca cb nd g h None None (Some n) t q w = direct_gives ca n nd g (is_direct b n w)
@@ -484,22 +484,22 @@ module _ (remembers : Memories) (s : Seen) (p : Params) (wanted : Outcome → Ty
       goes (outcome.Fault f) d = there (outcome.Fault f) (left_none remembers s p place binary.Or u v a b ask (outcome.Fault f) (λ v q. absurd (cc)) d)
       goes outcome.Poison d = there outcome.Poison (left_none remembers s p place binary.Or u v a b ask outcome.Poison (λ v q. absurd (cc)) d)
 
-  -- a sign between operands, by the sign
-  sign_gives : (sign : Binary) (place : Place) (u v : Around) (a b : Expr) → can_ask s p (Both' place sign u a v b) ≡ true → (ca cb : List Instr) → Gives ca a → Gives cb b
-      → Gives (with_sign (joining sign) sign (kind_of place) ca cb (literal_of b) (defaulted_of b) (direct_of b)) (Both' place sign u a v b)
-  sign_gives binary.And place u v a b ask ca cb g h = and_gives place u v a b ask ca cb g h
-  sign_gives binary.Or place u v a b ask ca cb g h = or_gives place u v a b ask ca cb g h
-  sign_gives binary.Add place u v a b ask ca cb g h = operands_give place binary.Add u v a b ask ca cb (λ x. refl) g h (literal_of b) (defaulted_of b) (direct_of b) refl refl refl
-  sign_gives binary.Sub place u v a b ask ca cb g h = operands_give place binary.Sub u v a b ask ca cb (λ x. refl) g h (literal_of b) (defaulted_of b) (direct_of b) refl refl refl
-  sign_gives binary.Mul place u v a b ask ca cb g h = operands_give place binary.Mul u v a b ask ca cb (λ x. refl) g h (literal_of b) (defaulted_of b) (direct_of b) refl refl refl
-  sign_gives binary.Div place u v a b ask ca cb g h = operands_give place binary.Div u v a b ask ca cb (λ x. refl) g h (literal_of b) (defaulted_of b) (direct_of b) refl refl refl
-  sign_gives binary.Rem place u v a b ask ca cb g h = operands_give place binary.Rem u v a b ask ca cb (λ x. refl) g h (literal_of b) (defaulted_of b) (direct_of b) refl refl refl
-  sign_gives binary.Less place u v a b ask ca cb g h = operands_give place binary.Less u v a b ask ca cb (λ x. refl) g h (literal_of b) (defaulted_of b) (direct_of b) refl refl refl
-  sign_gives binary.LessEqual place u v a b ask ca cb g h = operands_give place binary.LessEqual u v a b ask ca cb (λ x. refl) g h (literal_of b) (defaulted_of b) (direct_of b) refl refl refl
-  sign_gives binary.Greater place u v a b ask ca cb g h = operands_give place binary.Greater u v a b ask ca cb (λ x. refl) g h (literal_of b) (defaulted_of b) (direct_of b) refl refl refl
-  sign_gives binary.GreaterEqual place u v a b ask ca cb g h = operands_give place binary.GreaterEqual u v a b ask ca cb (λ x. refl) g h (literal_of b) (defaulted_of b) (direct_of b) refl refl refl
-  sign_gives binary.Equal place u v a b ask ca cb g h = operands_give place binary.Equal u v a b ask ca cb (λ x. refl) g h (literal_of b) (defaulted_of b) (direct_of b) refl refl refl
-  sign_gives binary.Different place u v a b ask ca cb g h = operands_give place binary.Different u v a b ask ca cb (λ x. refl) g h (literal_of b) (defaulted_of b) (direct_of b) refl refl refl
+  -- an operator between operands, by the operator
+  operator_gives : (operator : Binary) (place : Place) (u v : Around) (a b : Expr) → can_ask s p (Both' place operator u a v b) ≡ true → (ca cb : List Instr) → Gives ca a → Gives cb b
+      → Gives (with_operator (joining operator) operator (kind_of place) ca cb (literal_of b) (defaulted_of b) (direct_of b)) (Both' place operator u a v b)
+  operator_gives binary.And place u v a b ask ca cb g h = and_gives place u v a b ask ca cb g h
+  operator_gives binary.Or place u v a b ask ca cb g h = or_gives place u v a b ask ca cb g h
+  operator_gives binary.Add place u v a b ask ca cb g h = operands_give place binary.Add u v a b ask ca cb (λ x. refl) g h (literal_of b) (defaulted_of b) (direct_of b) refl refl refl
+  operator_gives binary.Sub place u v a b ask ca cb g h = operands_give place binary.Sub u v a b ask ca cb (λ x. refl) g h (literal_of b) (defaulted_of b) (direct_of b) refl refl refl
+  operator_gives binary.Mul place u v a b ask ca cb g h = operands_give place binary.Mul u v a b ask ca cb (λ x. refl) g h (literal_of b) (defaulted_of b) (direct_of b) refl refl refl
+  operator_gives binary.Div place u v a b ask ca cb g h = operands_give place binary.Div u v a b ask ca cb (λ x. refl) g h (literal_of b) (defaulted_of b) (direct_of b) refl refl refl
+  operator_gives binary.Rem place u v a b ask ca cb g h = operands_give place binary.Rem u v a b ask ca cb (λ x. refl) g h (literal_of b) (defaulted_of b) (direct_of b) refl refl refl
+  operator_gives binary.Less place u v a b ask ca cb g h = operands_give place binary.Less u v a b ask ca cb (λ x. refl) g h (literal_of b) (defaulted_of b) (direct_of b) refl refl refl
+  operator_gives binary.LessEqual place u v a b ask ca cb g h = operands_give place binary.LessEqual u v a b ask ca cb (λ x. refl) g h (literal_of b) (defaulted_of b) (direct_of b) refl refl refl
+  operator_gives binary.Greater place u v a b ask ca cb g h = operands_give place binary.Greater u v a b ask ca cb (λ x. refl) g h (literal_of b) (defaulted_of b) (direct_of b) refl refl refl
+  operator_gives binary.GreaterEqual place u v a b ask ca cb g h = operands_give place binary.GreaterEqual u v a b ask ca cb (λ x. refl) g h (literal_of b) (defaulted_of b) (direct_of b) refl refl refl
+  operator_gives binary.Equal place u v a b ask ca cb g h = operands_give place binary.Equal u v a b ask ca cb (λ x. refl) g h (literal_of b) (defaulted_of b) (direct_of b) refl refl refl
+  operator_gives binary.Different place u v a b ask ca cb g h = operands_give place binary.Different u v a b ask ca cb (λ x. refl) g h (literal_of b) (defaulted_of b) (direct_of b) refl refl refl
 
   -- a choice
   choice_gives : (place : Place) (u v w : Around) (t a b : Expr) (ct ca cb : List Instr) → can_ask s p (Choice' place u t v a w b) ≡ true → Gives ct t → Gives ca a → Gives cb b
@@ -543,10 +543,10 @@ module _ (remembers : Memories) (s : Seen) (p : Params) (wanted : Outcome → Ty
     gives (Defaults' place u a v b) h rest o st fin =
         let f = defaults_facts s p (Defaults' place u a v b) place u v a b refl h in
         default_gives place u v a b (back_code a) (back_code b) h (gives a f.left) (gives b f.right) (plain_of a) (literal_of b) refl refl rest o st fin
-    gives (Unary' place sign u a) h rest o st fin = prefix_gives place sign u a (back_code a) h (gives a (unary_facts s p (Unary' place sign u a) place sign u a refl h).part) rest o st fin
-    gives (Both' place sign u a v b) h rest o st fin =
-        let f = both_facts s p (Both' place sign u a v b) place sign u v a b refl h in
-        sign_gives sign place u v a b h (back_code a) (back_code b) (gives a f.left) (gives b f.right) rest o st fin
+    gives (Unary' place operator u a) h rest o st fin = prefix_gives place operator u a (back_code a) h (gives a (unary_facts s p (Unary' place operator u a) place operator u a refl h).part) rest o st fin
+    gives (Both' place operator u a v b) h rest o st fin =
+        let f = both_facts s p (Both' place operator u a v b) place operator u v a b refl h in
+        operator_gives operator place u v a b h (back_code a) (back_code b) (gives a f.left) (gives b f.right) rest o st fin
     gives (Choice' place u t v a w b) h rest o st fin =
         let f = choice_facts s p (Choice' place u t v a w b) place u v w t a b refl h in
         choice_gives place u v w t a b (back_code t) (back_code a) (back_code b) h (gives t f.test) (gives a f.left) (gives b f.right) rest o st fin

@@ -72,10 +72,10 @@ held_by : (names : Naming) (z : ℤ) (b : Bool) → IsHeldIn names (if b then ou
 held_by names z true = tt
 held_by names z false = tt
 
--- a sign that gives a number that is tested
-pub gives_number : (sign : Binary) (k : Kind) (a b z : ℤ) (r : Outcome) → is_integer k ≡ true → operated sign k (field.Int a) (field.Int b) ≡ within k z → r ≡ numbered k z
-    → Operates sign k (value.Int a) (value.Int b) r
-gives_number sign k a b z r i e q =
+-- an operator that gives a number that is tested
+pub gives_number : (operator : Binary) (k : Kind) (a b z : ℤ) (r : Outcome) → is_integer k ≡ true → operated operator k (field.Int a) (field.Int b) ≡ within k z → r ≡ numbered k z
+    → Operates operator k (value.Int a) (value.Int b) r
+gives_number operator k a b z r i e q =
     let reads : (names : Naming) → read_outcome names r ≡ within k z = λ names. ap (read_outcome names) q ∙ numbered_reads names k z in
     record {
       value = λ names n p h. reads names ∙ sym e;
@@ -110,11 +110,11 @@ not_missing short.TooManyInstances ne e = absurd (cc)
 not_missing short.Poison ne e = absurd (cc)
 
 -- the same of two short numbers, by an answer that may be none
-pub if_number : (f : ℤ → ℤ → ℤ) (sign : Binary) (k : Kind) (x y : Short) (a b c d : ℤ) (o : Option Short) → x ≡ short.Int a → y ≡ short.Int b → c ≡ a → d ≡ b → is_integer k ≡ true
-    → operated sign k (field.Int a) (field.Int b) ≡ within k (f a b) → IfSome o (λ r. widened r ≡ numbered k (f c d)) → IfSome o (λ r. Operates sign k (value_in x) (value_in y) (widened r))
-if_number f sign k x y a b c d None p q t u i e h = h
-if_number f sign k x y a b c d (Some r) p q t u i e h =
+pub if_number : (f : ℤ → ℤ → ℤ) (operator : Binary) (k : Kind) (x y : Short) (a b c d : ℤ) (o : Option Short) → x ≡ short.Int a → y ≡ short.Int b → c ≡ a → d ≡ b → is_integer k ≡ true
+    → operated operator k (field.Int a) (field.Int b) ≡ within k (f a b) → IfSome o (λ r. widened r ≡ numbered k (f c d)) → IfSome o (λ r. Operates operator k (value_in x) (value_in y) (widened r))
+if_number f operator k x y a b c d None p q t u i e h = h
+if_number f operator k x y a b c d (Some r) p q t u i e h =
     let same : widened r ≡ numbered k (f a b) = h ∙ (ap (λ c. numbered k (f c d)) t ∙ ap (λ d. numbered k (f a d)) u) in
-    let made : Operates sign k (value.Int a) (value.Int b) (widened r) = gives_number sign k a b (f a b) (widened r) i e same in
-    let left : Operates sign k (value_in x) (value.Int b) (widened r) = subst (λ v. Operates sign k v (value.Int b) (widened r)) (sym (ap value_in p)) made in
-    subst (λ v. Operates sign k (value_in x) v (widened r)) (sym (ap value_in q)) left
+    let made : Operates operator k (value.Int a) (value.Int b) (widened r) = gives_number operator k a b (f a b) (widened r) i e same in
+    let left : Operates operator k (value_in x) (value.Int b) (widened r) = subst (λ v. Operates operator k v (value.Int b) (widened r)) (sym (ap value_in p)) made in
+    subst (λ v. Operates operator k (value_in x) v (widened r)) (sym (ap value_in q)) left

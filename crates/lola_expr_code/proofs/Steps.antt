@@ -103,40 +103,40 @@ module _ (remembers : Memories) (s : Seen) (p : Params) (wanted : Outcome → Ty
   with_value : (rest : List Instr) (i j : Instr) (v : Value) (o : Outcome) (st : List Value) → i ≡ j → o ≡ outcome.Value v → Goes (i ∷ rest) 0 o st → Goes (j ∷ rest) 0 (outcome.Value v) st
   with_value rest i j v o st e d h = subst (λ o. Goes (j ∷ rest) 0 o st) d (subst (λ i. Goes (i ∷ rest) 0 o st) e h)
 
-  -- a sign between two values takes them
-  pub sign_taken : (rest : List Instr) (i : Instr) (sign : Binary) (k : Kind) (x y : Value) (o : Outcome) (st st' : List Value) → i ≡ instr.Sign sign k → o ≡ outcome.Value y → st ≡ x ∷ st' → Goes (i ∷ rest) 0 o st
-      → (operands_fit sign k x y ≡ true) × ((r : Outcome) → Operates sign k x y r → Goes rest 0 r st')
-  sign_taken rest i sign k x y o st st' e d q h = with_value rest i (instr.Sign sign k) y o (x ∷ st') e d (subst (λ l. Goes (i ∷ rest) 0 o l) q h)
+  -- an operator between two values takes them
+  pub operator_taken : (rest : List Instr) (i : Instr) (operator : Binary) (k : Kind) (x y : Value) (o : Outcome) (st st' : List Value) → i ≡ instr.Operator operator k → o ≡ outcome.Value y → st ≡ x ∷ st' → Goes (i ∷ rest) 0 o st
+      → (operands_fit operator k x y ≡ true) × ((r : Outcome) → Operates operator k x y r → Goes rest 0 r st')
+  operator_taken rest i operator k x y o st st' e d q h = with_value rest i (instr.Operator operator k) y o (x ∷ st') e d (subst (λ l. Goes (i ∷ rest) 0 o l) q h)
 
-  -- a sign between a value and a literal takes them
-  pub given_taken : (rest : List Instr) (i : Instr) (sign : Binary) (k : Kind) (y : Short) (x : Value) (o : Outcome) (st : List Value) → i ≡ instr.SignGiven sign k y → o ≡ outcome.Value x → Goes (i ∷ rest) 0 o st
-      → (operands_fit sign k x (value_in y) ≡ true) × ((r : Outcome) → Operates sign k x (value_in y) r → Goes rest 0 r st)
-  given_taken rest i sign k y x o st e d h = with_value rest i (instr.SignGiven sign k y) x o st e d h
+  -- an operator between a value and a literal takes them
+  pub given_taken : (rest : List Instr) (i : Instr) (operator : Binary) (k : Kind) (y : Short) (x : Value) (o : Outcome) (st : List Value) → i ≡ instr.OperatorGiven operator k y → o ≡ outcome.Value x → Goes (i ∷ rest) 0 o st
+      → (operands_fit operator k x (value_in y) ≡ true) × ((r : Outcome) → Operates operator k x (value_in y) r → Goes rest 0 r st)
+  given_taken rest i operator k y x o st e d h = with_value rest i (instr.OperatorGiven operator k y) x o st e d h
 
-  -- a sign between a value and what a store answers, or a literal: what stands for the right operand is there
-  pub now_taken : (rest : List Instr) (i : Instr) (sign : Binary) (k : Kind) (n : ℕ) (v : Short) (x : Value) (o : Outcome) (st : List Value) → i ≡ instr.SignNowOr sign k n v → o ≡ outcome.Value x
-      → Goes (i ∷ rest) 0 o st → Asked remembers s n access.Direct (λ r. Goes (instr.Sign sign k ∷ rest) 0 (or_short r v) (x ∷ st))
-  now_taken rest i sign k n v x o st e d h = with_value rest i (instr.SignNowOr sign k n v) x o st e d h
+  -- an operator between a value and what a store answers, or a literal: what stands for the right operand is there
+  pub now_taken : (rest : List Instr) (i : Instr) (operator : Binary) (k : Kind) (n : ℕ) (v : Short) (x : Value) (o : Outcome) (st : List Value) → i ≡ instr.OperatorNowOr operator k n v → o ≡ outcome.Value x
+      → Goes (i ∷ rest) 0 o st → Asked remembers s n access.Direct (λ r. Goes (instr.Operator operator k ∷ rest) 0 (or_short r v) (x ∷ st))
+  now_taken rest i operator k n v x o st e d h = with_value rest i (instr.OperatorNowOr operator k n v) x o st e d h
 
-  pub newest_taken : (rest : List Instr) (i : Instr) (sign : Binary) (k : Kind) (n : ℕ) (v : Short) (x : Value) (o : Outcome) (st : List Value) → i ≡ instr.SignNewestOr sign k n v → o ≡ outcome.Value x
-      → Goes (i ∷ rest) 0 o st → Asked remembers s n access.Hold (λ r. Goes (instr.Sign sign k ∷ rest) 0 (or_short r v) (x ∷ st))
-  newest_taken rest i sign k n v x o st e d h = with_value rest i (instr.SignNewestOr sign k n v) x o st e d h
+  pub newest_taken : (rest : List Instr) (i : Instr) (operator : Binary) (k : Kind) (n : ℕ) (v : Short) (x : Value) (o : Outcome) (st : List Value) → i ≡ instr.OperatorNewestOr operator k n v → o ≡ outcome.Value x
+      → Goes (i ∷ rest) 0 o st → Asked remembers s n access.Hold (λ r. Goes (instr.Operator operator k ∷ rest) 0 (or_short r v) (x ∷ st))
+  newest_taken rest i operator k n v x o st e d h = with_value rest i (instr.OperatorNewestOr operator k n v) x o st e d h
 
-  pub back_taken : (rest : List Instr) (i : Instr) (sign : Binary) (k : Kind) (n b : ℕ) (v : Short) (x : Value) (o : Outcome) (st : List Value) → i ≡ instr.SignBackOr sign k n b v → o ≡ outcome.Value x
-      → Goes (i ∷ rest) 0 o st → Asked remembers s n (access.Offset b) (λ r. Goes (instr.Sign sign k ∷ rest) 0 (or_short r v) (x ∷ st))
-  back_taken rest i sign k n b v x o st e d h = with_value rest i (instr.SignBackOr sign k n b v) x o st e d h
+  pub back_taken : (rest : List Instr) (i : Instr) (operator : Binary) (k : Kind) (n b : ℕ) (v : Short) (x : Value) (o : Outcome) (st : List Value) → i ≡ instr.OperatorBackOr operator k n b v → o ≡ outcome.Value x
+      → Goes (i ∷ rest) 0 o st → Asked remembers s n (access.Offset b) (λ r. Goes (instr.Operator operator k ∷ rest) 0 (or_short r v) (x ∷ st))
+  back_taken rest i operator k n b v x o st e d h = with_value rest i (instr.OperatorBackOr operator k n b v) x o st e d h
 
   -- and where no literal stands for what is missing
-  pub direct_taken : (rest : List Instr) (i : Instr) (sign : Binary) (k : Kind) (n : ℕ) (x : Value) (o : Outcome) (st : List Value) → i ≡ instr.SignNow sign k n → o ≡ outcome.Value x
-      → Goes (i ∷ rest) 0 o st → Asked remembers s n access.Direct (λ r. Goes (instr.Sign sign k ∷ rest) 0 r (x ∷ st))
-  direct_taken rest i sign k n x o st e d h = with_value rest i (instr.SignNow sign k n) x o st e d h
+  pub direct_taken : (rest : List Instr) (i : Instr) (operator : Binary) (k : Kind) (n : ℕ) (x : Value) (o : Outcome) (st : List Value) → i ≡ instr.OperatorNow operator k n → o ≡ outcome.Value x
+      → Goes (i ∷ rest) 0 o st → Asked remembers s n access.Direct (λ r. Goes (instr.Operator operator k ∷ rest) 0 r (x ∷ st))
+  direct_taken rest i operator k n x o st e d h = with_value rest i (instr.OperatorNow operator k n) x o st e d h
 
   -- a right operand that is no value stays in hand
-  pub no_operand : (rest : List Instr) (sign : Binary) (k : Kind) (x : Value) (o : Outcome) (st : List Value) → ((v : Value) → o ≡ outcome.Value v → ⊥) → Goes (instr.Sign sign k ∷ rest) 0 o (x ∷ st) → Goes rest 0 o st
-  no_operand rest sign k x (outcome.Value v) st ne h = absurd (ne v refl)
-  no_operand rest sign k x outcome.Missing st ne h = h
-  no_operand rest sign k x (outcome.Fault f) st ne h = h
-  no_operand rest sign k x outcome.Poison st ne h = h
+  pub no_operand : (rest : List Instr) (operator : Binary) (k : Kind) (x : Value) (o : Outcome) (st : List Value) → ((v : Value) → o ≡ outcome.Value v → ⊥) → Goes (instr.Operator operator k ∷ rest) 0 o (x ∷ st) → Goes rest 0 o st
+  no_operand rest operator k x (outcome.Value v) st ne h = absurd (ne v refl)
+  no_operand rest operator k x outcome.Missing st ne h = h
+  no_operand rest operator k x (outcome.Fault f) st ne h = h
+  no_operand rest operator k x outcome.Poison st ne h = h
 
   -- and anything else passes it
   pub true_off : (rest : List Instr) (i : Instr) (n : ℕ) (s : Short) (st : List Value) → i ≡ instr.WhereTrue n → truth_in (value_in s) ≡ false → Goes (i ∷ rest) 0 (widened s) st → Goes rest n (widened s) st

@@ -39,12 +39,12 @@ plainly_or n access.Get v = instr.ReadNowOr n v
 plainly_or n access.Hold v = instr.ReadNewestOr n v
 plainly_or n (access.Offset k) v = instr.ReadBackOr n k v
 
--- the one that takes what that gives for a sign's right operand
-abbrev pub sign_plainly_or : Binary → Kind → ℕ → Access → Short → Instr
-sign_plainly_or sign k n access.Direct v = instr.SignNowOr sign k n v
-sign_plainly_or sign k n access.Get v = instr.SignNowOr sign k n v
-sign_plainly_or sign k n access.Hold v = instr.SignNewestOr sign k n v
-sign_plainly_or sign k n (access.Offset b) v = instr.SignBackOr sign k n b v
+-- the one that takes what that gives for an operator's right operand
+abbrev pub operator_plainly_or : Binary → Kind → ℕ → Access → Short → Instr
+operator_plainly_or operator k n access.Direct v = instr.OperatorNowOr operator k n v
+operator_plainly_or operator k n access.Get v = instr.OperatorNowOr operator k n v
+operator_plainly_or operator k n access.Hold v = instr.OperatorNewestOr operator k n v
+operator_plainly_or operator k n (access.Offset b) v = instr.OperatorBackOr operator k n b v
 
 -- the instruction that asks a stream, of the instance that so many arguments name
 abbrev pub reading : ℕ → Access → ℕ → Instr
@@ -106,19 +106,19 @@ abbrev pub with_default : List Instr → List Instr → Option (ℕ × Access) �
 with_default ca cb (Some q) (Some v) = plainly_or q.0 q.1 v ∷ []
 with_default ca cb _ _ = cb ++ (instr.Otherwise (length cb) ∷ ca)
 
--- a sign between operands that are both evaluated: of a literal on the right, of a plain access with a literal for a default, or of a
+-- an operator between operands that are both evaluated: of a literal on the right, of a plain access with a literal for a default, or of a
 -- direct access, in one instruction
 abbrev pub with_operands : Binary → Kind → List Instr → List Instr → Option Short → Option (ℕ × (Access × Short)) → Option ℕ → List Instr
-with_operands sign k ca cb (Some v) d n = instr.SignGiven sign k v ∷ ca
-with_operands sign k ca cb None (Some d) n = sign_plainly_or sign k d.0 d.1.0 d.1.1 ∷ ca
-with_operands sign k ca cb None None (Some n) = instr.SignNow sign k n ∷ ca
-with_operands sign k ca cb None None None = instr.Sign sign k ∷ (cb ++ (instr.Keep (length cb + 1) ∷ ca))
+with_operands operator k ca cb (Some v) d n = instr.OperatorGiven operator k v ∷ ca
+with_operands operator k ca cb None (Some d) n = operator_plainly_or operator k d.0 d.1.0 d.1.1 ∷ ca
+with_operands operator k ca cb None None (Some n) = instr.OperatorNow operator k n ∷ ca
+with_operands operator k ca cb None None None = instr.Operator operator k ∷ (cb ++ (instr.Keep (length cb + 1) ∷ ca))
 
--- a sign between operands with this code
-abbrev pub with_sign : Joining → Binary → Kind → List Instr → List Instr → Option Short → Option (ℕ × (Access × Short)) → Option ℕ → List Instr
-with_sign joins.WhereTrue sign k ca cb v d n = cb ++ (instr.WhereTrue (length cb) ∷ ca)
-with_sign joins.WhereFalse sign k ca cb v d n = cb ++ (instr.WhereFalse (length cb) ∷ ca)
-with_sign joins.Both sign k ca cb v d n = with_operands sign k ca cb v d n
+-- an operator between operands with this code
+abbrev pub with_operator : Joining → Binary → Kind → List Instr → List Instr → Option Short → Option (ℕ × (Access × Short)) → Option ℕ → List Instr
+with_operator joins.WhereTrue operator k ca cb v d n = cb ++ (instr.WhereTrue (length cb) ∷ ca)
+with_operator joins.WhereFalse operator k ca cb v d n = cb ++ (instr.WhereFalse (length cb) ∷ ca)
+with_operator joins.Both operator k ca cb v d n = with_operands operator k ca cb v d n
 
 -- the branches of an `if`, and then its condition
 abbrev pub with_branches : List Instr → List Instr → List Instr → List Instr
@@ -137,8 +137,8 @@ abbrev mutual
   back_code (Read place n how args) = back_arguments (target.Stream n how) 0 args
   back_code (Window place n args) = back_arguments (target.Window n) 0 args
   back_code (Defaults' place u a v b) = with_default (back_code a) (back_code b) (plain_of a) (literal_of b)
-  back_code (Unary' place sign u a) = instr.Prefix sign (kind_of place) ∷ back_code a
-  back_code (Both' place sign u a v b) = with_sign (joining sign) sign (kind_of place) (back_code a) (back_code b) (literal_of b) (defaulted_of b) (direct_of b)
+  back_code (Unary' place operator u a) = instr.Prefix operator (kind_of place) ∷ back_code a
+  back_code (Both' place operator u a v b) = with_operator (joining operator) operator (kind_of place) (back_code a) (back_code b) (literal_of b) (defaulted_of b) (direct_of b)
   back_code (Choice' place u a v b w d) = with_branches (back_code a) (back_code b) (back_code d)
 
   -- the code of arguments behind so many others, and of what is asked with all of them

@@ -24,15 +24,15 @@ use Rattle.lola_value.specs.Shorts.{value_in, widened}
 use Rattle.lola_expr_code.specs.declared.instr.Instr.{Instr}
 use Rattle.lola_expr_code.specs.declared.instr.Instr.TheVariants as instr
 
--- what a sign between two values may give
-pub record Operates (sign : Binary) (k : Kind) (x y : Value) (r : Outcome) : Type 0 where
-  pub value : (names : Naming) → IsNaming names → IsHeld names x → IsHeld names y → read_outcome names r ≡ operated sign k (read names x) (read names y)
+-- what an operator between two values may give
+pub record Operates (operator : Binary) (k : Kind) (x y : Value) (r : Outcome) : Type 0 where
+  pub value : (names : Naming) → IsNaming names → IsHeld names x → IsHeld names y → read_outcome names r ≡ operated operator k (read names x) (read names y)
   pub held : (names : Naming) → IsHeld names y → IsHeldIn names r
   pub kind : is_outcome_of k r ≡ true
 
--- what a sign before a value may give
-pub record Negates (sign : Prefix) (k : Kind) (x : Value) (r : Outcome) : Type 0 where
-  pub value : (names : Naming) → read_outcome names r ≡ negated sign k (read names x)
+-- what an operator before a value may give
+pub record Negates (operator : Prefix) (k : Kind) (x : Value) (r : Outcome) : Type 0 where
+  pub value : (names : Naming) → read_outcome names r ≡ negated operator k (read names x)
   pub held : (names : Naming) → IsHeldIn names r
   pub kind : is_outcome_of k r ≡ true
 
@@ -59,21 +59,21 @@ abbrev pub Kept : ℕ → ℕ → Next → Outcome → List Value → Type 0
 Kept n k next (outcome.Value v) stack = next 0 (outcome.Value v) (v ∷ stack)
 Kept n k next o stack = next n o (drop k stack)
 
--- a sign between a value on the stack and the one in hand: they are operands that it takes, and whatever it gives of them comes next
+-- an operator between a value on the stack and the one in hand: they are operands that it takes, and whatever it gives of them comes next
 abbrev pub Signed : Binary → Kind → Next → Outcome → List Value → Type 0
-Signed sign k next o [] = ⊥
-Signed sign k next (outcome.Value y) (x ∷ stack) = (operands_fit sign k x y ≡ true) × ((r : Outcome) → Operates sign k x y r → next 0 r stack)
-Signed sign k next o (x ∷ stack) = next 0 o stack
+Signed operator k next o [] = ⊥
+Signed operator k next (outcome.Value y) (x ∷ stack) = (operands_fit operator k x y ≡ true) × ((r : Outcome) → Operates operator k x y r → next 0 r stack)
+Signed operator k next o (x ∷ stack) = next 0 o stack
 
 -- the same between the value in hand and another
 abbrev pub SignedWith : Binary → Kind → Value → Next → Outcome → List Value → Type 0
-SignedWith sign k y next (outcome.Value x) stack = (operands_fit sign k x y ≡ true) × ((r : Outcome) → Operates sign k x y r → next 0 r stack)
-SignedWith sign k y next o stack = next 0 o stack
+SignedWith operator k y next (outcome.Value x) stack = (operands_fit operator k x y ≡ true) × ((r : Outcome) → Operates operator k x y r → next 0 r stack)
+SignedWith operator k y next o stack = next 0 o stack
 
 -- and before it
 abbrev pub Prefixed : Prefix → Kind → Next → Outcome → List Value → Type 0
-Prefixed sign k next (outcome.Value x) stack = (operand_fits sign k x ≡ true) × ((r : Outcome) → Negates sign k x r → next 0 r stack)
-Prefixed sign k next o stack = next 0 o stack
+Prefixed operator k next (outcome.Value x) stack = (operand_fits operator k x ≡ true) × ((r : Outcome) → Negates operator k x r → next 0 r stack)
+Prefixed operator k next o stack = next 0 o stack
 
 -- what is missing goes on, and anything else passes so many instructions
 abbrev pub Otherwise : ℕ → Next → Outcome → List Value → Type 0
@@ -119,15 +119,15 @@ module _ (remembers : Memories) (s : Seen) where
       (n < length s.layout.streams) × (parameters_of (slice_get s.layout.streams n) ≡ []) × (is_kept (slice_get s.layout.streams n) how ≡ true)
       × ((r : Outcome) → Answers n how [] r → next r)
 
-  -- a sign between the value in hand and what a stream without parameters may answer, or another where that is missing
+  -- an operator between the value in hand and what a stream without parameters may answer, or another where that is missing
   abbrev pub SignedAsked : Binary → Kind → ℕ → Access → Short → Next → Outcome → List Value → Type 0
-  SignedAsked sign k n how v next (outcome.Value x) stack = Asked n how (λ r. Signed sign k next (or_short r v) (x ∷ stack))
-  SignedAsked sign k n how v next o stack = next 0 o stack
+  SignedAsked operator k n how v next (outcome.Value x) stack = Asked n how (λ r. Signed operator k next (or_short r v) (x ∷ stack))
+  SignedAsked operator k n how v next o stack = next 0 o stack
 
   -- the same with what it answers at this step
   abbrev pub SignedNow : Binary → Kind → ℕ → Next → Outcome → List Value → Type 0
-  SignedNow sign k n next (outcome.Value x) stack = Asked n access.Direct (λ r. Signed sign k next r (x ∷ stack))
-  SignedNow sign k n next o stack = next 0 o stack
+  SignedNow operator k n next (outcome.Value x) stack = Asked n access.Direct (λ r. Signed operator k next r (x ∷ stack))
+  SignedNow operator k n next o stack = next 0 o stack
 
   -- a stream may be asked for the instance that these few values name
   abbrev pub AskedOf : ℕ → Access → ℕ → List Value → (Outcome → Type 0) → Type 0
@@ -158,20 +158,20 @@ module _ (remembers : Memories) (s : Seen) where
     Acts (instr.Window n k) next o stack = Folded n k (top k stack) (λ r. next 0 r (drop k stack))
     Acts (instr.Keep n) next o stack = Kept n 0 next o stack
     Acts (instr.KeepArgument n k) next o stack = Kept n k next o stack
-    Acts (instr.Prefix sign k) next o stack = Prefixed sign k next o stack
-    Acts (instr.Sign sign k) next o stack = Signed sign k next o stack
-    Acts (instr.SignGiven sign k v) next o stack = SignedWith sign k (value_in v) next o stack
-    Acts (instr.SignNow sign k n) next o stack = SignedNow sign k n next o stack
-    Acts (instr.SignNowOr sign k n v) next o stack = SignedAsked sign k n access.Direct v next o stack
-    Acts (instr.SignNewestOr sign k n v) next o stack = SignedAsked sign k n access.Hold v next o stack
-    Acts (instr.SignBackOr sign k n b v) next o stack = SignedAsked sign k n (access.Offset b) v next o stack
+    Acts (instr.Prefix operator k) next o stack = Prefixed operator k next o stack
+    Acts (instr.Operator operator k) next o stack = Signed operator k next o stack
+    Acts (instr.OperatorGiven operator k v) next o stack = SignedWith operator k (value_in v) next o stack
+    Acts (instr.OperatorNow operator k n) next o stack = SignedNow operator k n next o stack
+    Acts (instr.OperatorNowOr operator k n v) next o stack = SignedAsked operator k n access.Direct v next o stack
+    Acts (instr.OperatorNewestOr operator k n v) next o stack = SignedAsked operator k n access.Hold v next o stack
+    Acts (instr.OperatorBackOr operator k n b v) next o stack = SignedAsked operator k n (access.Offset b) v next o stack
     Acts (instr.Otherwise n) next o stack = Otherwise n next o stack
     Acts (instr.WhereTrue n) next o stack = WhereTrue n next o stack
     Acts (instr.WhereFalse n) next o stack = WhereFalse n next o stack
     Acts (instr.Test n m) next o stack = Tested n m next o stack
     Acts (instr.Jump n) next o stack = next n o stack
 
-    -- from here each instruction may run, and the outcome at the end is wanted, whatever the store answers and signs give of what they may
+    -- from here each instruction may run, and the outcome at the end is wanted, whatever the store answers and operators give of what they may
     abbrev pub Leads : List Instr → Next
     Leads [] n o stack = wanted o
     Leads (i ∷ is) zero o stack = Acts i (Leads is) o stack

@@ -1,7 +1,7 @@
 //! From expressions to instructions. The code is made from its end, so that a jump knows how much it passes, and then turned round.
 
 ghost use Rattle.std.specs.Prelude.{◌≡◌, [], ◌∷◌, ◌++◌, IfOk, OnOk};
-ghost use Rattle.lola_expr_code.specs.Code.{asking, back_arguments, back_code, code_of, defaulted_of, direct_of, giving, joining, literal_of, plain_of, plainly, plainly_or, sign_plainly_or, with_sign};
+ghost use Rattle.lola_expr_code.specs.Code.{asking, back_arguments, back_code, code_of, defaulted_of, direct_of, giving, joining, literal_of, plain_of, plainly, plainly_or, operator_plainly_or, with_operator};
 ghost use Rattle.lola_value.specs.Shorts.{short_of};
 
 use crate::instr::Instr;
@@ -21,7 +21,7 @@ pub(crate) enum Target {
     Window(u32),
 }
 
-/// How the operands of a sign are evaluated.
+/// How the operands of an operator are evaluated.
 #[derive(Clone, Copy)]
 pub(crate) enum Joining {
     /// The right one where the left one is true.
@@ -32,11 +32,11 @@ pub(crate) enum Joining {
     Both,
 }
 
-/// How the operands of this sign are evaluated.
-fn joining_of(sign: Binary) -> Joining
-    ensures { result ≡ joining sign }
+/// How the operands of this operator are evaluated.
+fn joining_of(operator: Binary) -> Joining
+    ensures { result ≡ joining operator }
 {
-    match sign {
+    match operator {
         Binary::And => Joining::WhereTrue,
         Binary::Or => Joining::WhereFalse,
         _ => Joining::Both,
@@ -67,15 +67,15 @@ fn reading_or(stream: u32, how: Access, v: Short) -> Instr
     }
 }
 
-/// The one that takes what that gives for a sign's right operand.
-fn sign_reading_or(sign: Binary, kind: Kind, stream: u32, how: Access, v: Short) -> Instr
-    ensures { result ≡ sign_plainly_or sign kind stream how v }
+/// The one that takes what that gives for an operator's right operand.
+fn operator_reading_or(operator: Binary, kind: Kind, stream: u32, how: Access, v: Short) -> Instr
+    ensures { result ≡ operator_plainly_or operator kind stream how v }
 {
     match how {
-        Access::Direct => Instr::SignNowOr(sign, kind, stream, v),
-        Access::Get => Instr::SignNowOr(sign, kind, stream, v),
-        Access::Hold => Instr::SignNewestOr(sign, kind, stream, v),
-        Access::Offset(k) => Instr::SignBackOr(sign, kind, stream, k, v),
+        Access::Direct => Instr::OperatorNowOr(operator, kind, stream, v),
+        Access::Get => Instr::OperatorNowOr(operator, kind, stream, v),
+        Access::Hold => Instr::OperatorNewestOr(operator, kind, stream, v),
+        Access::Offset(k) => Instr::OperatorBackOr(operator, kind, stream, k, v),
     }
 }
 
@@ -192,11 +192,11 @@ fn emit(code: &mut Vec<Instr>, e: &Expr) -> Result<(), Memory>
             put(code, Instr::Otherwise(passed))?;
             emit(code, a)
         }
-        Expr::Unary(place, sign, a) => {
-            put(code, Instr::Prefix(*sign, kind_at(place)))?;
+        Expr::Unary(place, operator, a) => {
+            put(code, Instr::Prefix(*operator, kind_at(place)))?;
             emit(code, a)
         }
-        Expr::Both(place, sign, a, b) => match joining_of(*sign) {
+        Expr::Both(place, operator, a, b) => match joining_of(*operator) {
             Joining::WhereTrue => {
                 let start = code.len();
                 emit(code, b)?;
@@ -213,19 +213,22 @@ fn emit(code: &mut Vec<Instr>, e: &Expr) -> Result<(), Memory>
             }
             Joining::Both => {
                 if let Some(v) = literal(b) {
-                    put(code, Instr::SignGiven(*sign, kind_at(place), v))?;
+                    put(code, Instr::OperatorGiven(*operator, kind_at(place), v))?;
                     return emit(code, a);
                 }
                 if let Some((stream, (how, v))) = defaulted(b) {
-                    put(code, sign_reading_or(*sign, kind_at(place), stream, how, v))?;
+                    put(
+                        code,
+                        operator_reading_or(*operator, kind_at(place), stream, how, v),
+                    )?;
                     return emit(code, a);
                 }
                 if let Some(stream) = direct(b) {
-                    put(code, Instr::SignNow(*sign, kind_at(place), stream))?;
+                    put(code, Instr::OperatorNow(*operator, kind_at(place), stream))?;
                     return emit(code, a);
                 }
                 let start = code.len();
-                put(code, Instr::Sign(*sign, kind_at(place)))?;
+                put(code, Instr::Operator(*operator, kind_at(place)))?;
                 emit(code, b)?;
                 let passed = code.len() - start;
                 put(code, Instr::Keep(passed))?;

@@ -5,7 +5,7 @@ use lola_value::short::Short;
 use lola_value::value::Kind;
 
 /// One instruction of a machine that has one outcome in hand, and values on a stack. All that it needs stands in it: numbers of
-/// streams, windows and parameters, signs, kinds and literals. How a stream is read is the instruction's own, so that one jump decides.
+/// streams, windows and parameters, operators, kinds and literals. How a stream is read is the instruction's own, so that one jump decides.
 /// A jump says how many of the instructions behind it are passed.
 #[derive(Clone, Copy, Debug, PartialEq, Eq)]
 pub enum Instr {
@@ -35,20 +35,20 @@ pub enum Instr {
     Keep(usize),
     /// Puts the value in hand on the stack; where there is none, takes off so many as the last number says, and jumps.
     KeepArgument(usize, u32),
-    /// A sign before the value in hand.
+    /// An operator before the value in hand.
     Prefix(Prefix, Kind),
-    /// A sign between the newest value on the stack, which is taken off, and the one in hand.
-    Sign(Binary, Kind),
-    /// A sign between the value in hand and this one.
-    SignGiven(Binary, Kind, Short),
-    /// A sign between the value in hand and the one at this step of a stream without parameters.
-    SignNow(Binary, Kind, u32),
+    /// An operator between the newest value on the stack, which is taken off, and the one in hand.
+    Operator(Binary, Kind),
+    /// An operator between the value in hand and this one.
+    OperatorGiven(Binary, Kind, Short),
+    /// An operator between the value in hand and the one at this step of a stream without parameters.
+    OperatorNow(Binary, Kind, u32),
     /// The same, or with the last value where that is missing.
-    SignNowOr(Binary, Kind, u32, Short),
+    OperatorNowOr(Binary, Kind, u32, Short),
     /// The same with the newest value of such a stream, or the last value.
-    SignNewestOr(Binary, Kind, u32, Short),
+    OperatorNewestOr(Binary, Kind, u32, Short),
     /// The same with an earlier one, or the last value.
-    SignBackOr(Binary, Kind, u32, u32, Short),
+    OperatorBackOr(Binary, Kind, u32, u32, Short),
     /// Jumps unless what is in hand is missing.
     Otherwise(usize),
     /// Jumps unless true is in hand.

@@ -5,7 +5,7 @@ mod asking;
 pub mod compile;
 pub mod instr;
 pub mod machine;
+mod operators;
 pub mod plan;
-mod signs;
 mod stack;
 mod tested;

@@ -12,7 +12,7 @@ ghost use Rattle.lola_value.specs.Shorts.{widened};
 
 use crate::asking::{read_at, read_back, read_newest, read_now, window_at};
 use crate::instr::Instr;
-use crate::signs::{joined, prefixed};
+use crate::operators::{joined, prefixed};
 use crate::stack::Stack;
 use crate::tested::is_true;
 use lola_expr::evaluation::{eval, parameter};
@@ -122,59 +122,59 @@ fn run_code<S: StreamStore>(
                     code = past(code, *n);
                 }
             }
-            Instr::Prefix(sign, kind) => {
+            Instr::Prefix(operator, kind) => {
                 if is_value(hand) {
-                    hand = prefixed(*sign, *kind, hand);
+                    hand = prefixed(*operator, *kind, hand);
                 }
             }
-            Instr::Sign(sign, kind) => match stack.pop() {
+            Instr::Operator(operator, kind) => match stack.pop() {
                 Some(left) => {
                     if is_value(hand) {
-                        hand = joined(*sign, *kind, left, hand);
+                        hand = joined(*operator, *kind, left, hand);
                     }
                 }
                 None => {}
             },
-            Instr::SignGiven(sign, kind, v) => {
+            Instr::OperatorGiven(operator, kind, v) => {
                 if is_value(hand) {
-                    hand = joined(*sign, *kind, hand, *v);
+                    hand = joined(*operator, *kind, hand, *v);
                 }
             }
-            Instr::SignNowOr(sign, kind, stream, v) => {
+            Instr::OperatorNowOr(operator, kind, stream, v) => {
                 if is_value(hand) {
                     let right = or_given(read_now(store, *stream), *v);
                     if is_value(right) {
-                        hand = joined(*sign, *kind, hand, right);
+                        hand = joined(*operator, *kind, hand, right);
                     } else {
                         hand = right;
                     }
                 }
             }
-            Instr::SignNewestOr(sign, kind, stream, v) => {
+            Instr::OperatorNewestOr(operator, kind, stream, v) => {
                 if is_value(hand) {
                     let right = or_given(read_newest(store, *stream), *v);
                     if is_value(right) {
-                        hand = joined(*sign, *kind, hand, right);
+                        hand = joined(*operator, *kind, hand, right);
                     } else {
                         hand = right;
                     }
                 }
             }
-            Instr::SignBackOr(sign, kind, stream, k, v) => {
+            Instr::OperatorBackOr(operator, kind, stream, k, v) => {
                 if is_value(hand) {
                     let right = or_given(read_back(store, *stream, *k), *v);
                     if is_value(right) {
-                        hand = joined(*sign, *kind, hand, right);
+                        hand = joined(*operator, *kind, hand, right);
                     } else {
                         hand = right;
                     }
                 }
             }
-            Instr::SignNow(sign, kind, stream) => {
+            Instr::OperatorNow(operator, kind, stream) => {
                 if is_value(hand) {
                     let right = read_now(store, *stream);
                     if is_value(right) {
-                        hand = joined(*sign, *kind, hand, right);
+                        hand = joined(*operator, *kind, hand, right);
                     } else {
                         hand = right;
                     }

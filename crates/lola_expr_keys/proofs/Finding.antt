@@ -152,8 +152,8 @@ key_other count (Parameter place i) b h = absurd (cc)
 key_other count (Read place n how args) b h = refl
 key_other count (Window place w args) b h = refl
 key_other count (Defaults' place u x v y) b h = refl
-key_other count (Unary' place sign u x) b h = refl
-key_other count (Both' place sign u x v y) b h = refl
+key_other count (Unary' place operator u x) b h = refl
+key_other count (Both' place operator u x v y) b h = refl
 key_other count (Choice' place u x v y w z) b h = refl
 
 right_none : (count : ℕ) (b a : Expr) → is_no_parameter b ≡ true → right_key count b a ≡ []
@@ -162,8 +162,8 @@ right_none count (Parameter place i) a h = absurd (cc)
 right_none count (Read place n how args) a h = refl
 right_none count (Window place w args) a h = refl
 right_none count (Defaults' place u x v y) a h = refl
-right_none count (Unary' place sign u x) a h = refl
-right_none count (Both' place sign u x v y) a h = refl
+right_none count (Unary' place operator u x) a h = refl
+right_none count (Both' place operator u x v y) a h = refl
 right_none count (Choice' place u x v y w z) a h = refl
 
 pub key_right : (count number : ℕ) (place : Place) (a b : Expr) → is_no_parameter a ≡ true → b ≡ Parameter place number → key_between count a b ≡ own_key count number a
@@ -172,25 +172,25 @@ key_right count number place a b h e = key_other count a b h ∙ ap (λ x. right
 pub key_neither : (count : ℕ) (a b : Expr) → is_no_parameter a ≡ true → is_no_parameter b ≡ true → key_between count a b ≡ []
 key_neither count a b h g = key_other count a b h ∙ right_none count b a g
 
--- the keys of a condition, by its sign
+-- the keys of a condition, by its operator
 
-module _ (count : ℕ) (e : Expr) (place : Place) (sign : Binary) (u v : Around) (a b x y : Expr) (is : e ≡ Both' place sign u a v b) (left : x ≡ a) (right : y ≡ b) where
-  pub keys_and : sign ≡ binary.And → (keys_of count e ≡ keys_of count x ++ (if is_keys count x then keys_of count y else [])) × (is_keys count e ≡ (is_keys count x && is_keys count y))
+module _ (count : ℕ) (e : Expr) (place : Place) (operator : Binary) (u v : Around) (a b x y : Expr) (is : e ≡ Both' place operator u a v b) (left : x ≡ a) (right : y ≡ b) where
+  pub keys_and : operator ≡ binary.And → (keys_of count e ≡ keys_of count x ++ (if is_keys count x then keys_of count y else [])) × (is_keys count e ≡ (is_keys count x && is_keys count y))
   keys_and s =
       let l = sym left in
       let r = sym right in
       let all : e ≡ Both' place binary.And u x v y = is ∙ (λ i. Both' place (s i) u (l i) v (r i)) in
       (ap (keys_of count) all, ap (is_keys count) all)
 
-  pub keys_equal : sign ≡ binary.Equal → (keys_of count e ≡ key_between count x y) × (is_keys count e ≡ is_some_key (key_between count x y))
+  pub keys_equal : operator ≡ binary.Equal → (keys_of count e ≡ key_between count x y) × (is_keys count e ≡ is_some_key (key_between count x y))
   keys_equal s =
       let l = sym left in
       let r = sym right in
       let all : e ≡ Both' place binary.Equal u x v y = is ∙ (λ i. Both' place (s i) u (l i) v (r i)) in
       (ap (keys_of count) all, ap (is_keys count) all)
 
-  pub keys_none : is_and sign ≡ false → is_equal sign ≡ false → (keys_of count e ≡ []) × (is_keys count e ≡ false)
-  keys_none h g = let k = by sign h g in (ap (keys_of count) is ∙ k.0, ap (is_keys count) is ∙ k.1)
+  pub keys_none : is_and operator ≡ false → is_equal operator ≡ false → (keys_of count e ≡ []) × (is_keys count e ≡ false)
+  keys_none h g = let k = by operator h g in (ap (keys_of count) is ∙ k.0, ap (is_keys count) is ∙ k.1)
     where
       by : (s : Binary) → is_and s ≡ false → is_equal s ≡ false → (keys_of count (Both' place s u a v b) ≡ []) × (is_keys count (Both' place s u a v b) ≡ false)
       by binary.And p q = absurd (cc)

@@ -36,11 +36,11 @@ module _ (spec : Spec) (c : Content) (p q : List Field) where
         let x = fixed_same a (first (is_fixed a) (is_fixed b) h) in
         let y = fixed_same b (second (is_fixed a) (is_fixed b) h) in
         λ i. defaulted (x i) (y i)
-    fixed_same (Unary' place sign u a) h = ap (λ r. and_then r (λ v. negated sign (kind_of place) v)) (fixed_same a h)
-    fixed_same (Both' place sign u a v b) h =
+    fixed_same (Unary' place operator u a) h = ap (λ r. and_then r (λ v. negated operator (kind_of place) v)) (fixed_same a h)
+    fixed_same (Both' place operator u a v b) h =
         let x = fixed_same a (first (is_fixed a) (is_fixed b) h) in
         let y = fixed_same b (second (is_fixed a) (is_fixed b) h) in
-        λ i. joined sign (kind_of place) (x i) (y i)
+        λ i. joined operator (kind_of place) (x i) (y i)
     fixed_same (Choice' place u a v b w d) h =
         let rest = second (is_fixed a) (is_fixed b && is_fixed d) h in
         let x = fixed_same a (first (is_fixed a) (is_fixed b && is_fixed d) h) in
@@ -186,10 +186,10 @@ module _ (spec : Spec) (names : Naming) (c : Content) (count : ℕ) where
     binds_key_right compares true old new (v, h) = (decided_right v h.0 h.1 compares, adds_at v old new (rules_at_right v h.0 h.1 compares) h.2)
     binds_key_right compares false old new h = adds_same old new h
 
--- what a sign between two operands is, where the sign and the operands are read apart
-pub sign_is : (spec : Spec) (c : Content) (e : Expr) (place : Place) (sign want : Binary) (u v : Around) (a b x y : Expr) → e ≡ Both' place sign u a v b → sign ≡ want → x ≡ a → y ≡ b
+-- what an operator between two operands is, where the operator and the operands are read apart
+pub operator_is : (spec : Spec) (c : Content) (e : Expr) (place : Place) (operator want : Binary) (u v : Around) (a b x y : Expr) → e ≡ Both' place operator u a v b → operator ≡ want → x ≡ a → y ≡ b
     → (q : List Field) → den spec c q e ≡ joined want (kind_of place) (den spec c q x) (den spec c q y)
-sign_is spec c e place sign want u v a b x y is s h g q =
+operator_is spec c e place operator want u v a b x y is s h g q =
     let left = sym h in
     let right = sym g in
     ap (den spec c q) is ∙ (λ i. joined (s i) (kind_of place) (den spec c q (left i)) (den spec c q (right i)))

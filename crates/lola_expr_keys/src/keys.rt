@@ -91,21 +91,21 @@ fn bind_equal<S: StreamStore>(
     }
 }
 
-/// Whether a sign joins two conditions of which both have to hold.
-fn is_conjunction(sign: Binary) -> bool
-    ensures { result ≡ is_and sign }
+/// Whether an operator joins two conditions of which both have to hold.
+fn is_conjunction(operator: Binary) -> bool
+    ensures { result ≡ is_and operator }
 {
-    match sign {
+    match operator {
         Binary::And => true,
         _ => false,
     }
 }
 
-/// Whether a sign compares for equality.
-fn is_equality(sign: Binary) -> bool
-    ensures { result ≡ is_equal sign }
+/// Whether an operator compares for equality.
+fn is_equality(operator: Binary) -> bool
+    ensures { result ≡ is_equal operator }
 {
-    match sign {
+    match operator {
         Binary::Equal => true,
         _ => false,
     }
@@ -130,10 +130,10 @@ pub fn bind<S: StreamStore>(
         (keys_of params.now.count expr.now) (is_keys params.now.count expr.now) (expr.now ∷ []) result bound.old bound.new }
 {
     match expr {
-        Expr::Both(_, sign, a, b) => {
-            if is_conjunction(*sign) {
+        Expr::Both(_, operator, a, b) => {
+            if is_conjunction(*operator) {
                 bind(a, params, store, bound) && bind(b, params, store, bound)
-            } else if is_equality(*sign) {
+            } else if is_equality(*operator) {
                 bind_equal(a, b, params, store, bound)
             } else {
                 false

@@ -43,7 +43,7 @@ places_lent told place [] [] [] are = tt
 places_lent told place (n ∷ names) (r ∷ rooms) (w ∷ workers) are = (ap (λ (w : Working). w.reader.source.place) are.0.is ∙ are.0.place, places_lent told (place + 1) names rooms workers are.1)
 places_lent told place names rooms workers are = absurd are
 
--- asks of sources that have no faults are as they were given
+-- asks of sources that have no failures are as they were given
 pub asks_lent : (told : List ℕ → Option (List ℕ)) (place : ℕ) (names : List (List ℕ)) (rooms : List Shape) (workers : List Working) → AreLentTo told place names rooms workers → asks_of names (counts_of workers) ≡ map given_ask names
 asks_lent told place [] [] [] are = refl
 asks_lent told place (n ∷ names) (r ∷ rooms) (w ∷ workers) are =
@@ -51,11 +51,11 @@ asks_lent told place (n ∷ names) (r ∷ rooms) (w ∷ workers) are =
     ap (λ (c : ℕ). record (given_ask n) { count = c } ∷ asks_of names (counts_of workers)) none ∙ ap (λ (l : List Ask). given_ask n ∷ l) (asks_lent told (place + 1) names rooms workers are.1)
 asks_lent told place names rooms workers are = absurd are
 
-pub faultless : (told : List ℕ → Option (List ℕ)) (place : ℕ) (names : List (List ℕ)) (rooms : List Shape) (workers : List Working) → AreLentTo told place names rooms workers → (k d : ℕ) → k < length (counts_of workers) → get_or (counts_of workers) k d ≡ 0
-faultless told place [] [] [] are k d h = absurd (omega arith)
-faultless told place (n ∷ names) (r ∷ rooms) (w ∷ workers) are zero d h = ap (λ (w : Working). w.reader.source.count) are.0.is ∙ are.0.count
-faultless told place (n ∷ names) (r ∷ rooms) (w ∷ workers) are (suc k) d h = faultless told (place + 1) names rooms workers are.1 k d (omega arith)
-faultless told place names rooms workers are k d h = absurd are
+pub unfailing : (told : List ℕ → Option (List ℕ)) (place : ℕ) (names : List (List ℕ)) (rooms : List Shape) (workers : List Working) → AreLentTo told place names rooms workers → (k d : ℕ) → k < length (counts_of workers) → get_or (counts_of workers) k d ≡ 0
+unfailing told place [] [] [] are k d h = absurd (omega arith)
+unfailing told place (n ∷ names) (r ∷ rooms) (w ∷ workers) are zero d h = ap (λ (w : Working). w.reader.source.count) are.0.is ∙ are.0.count
+unfailing told place (n ∷ names) (r ∷ rooms) (w ∷ workers) are (suc k) d h = unfailing told (place + 1) names rooms workers are.1 k d (omega arith)
+unfailing told place names rooms workers are k d h = absurd are
 
 -- those that were lent are out
 given_here : (before : List Ask) (name : List ℕ) (rest : List Ask) → IsGivenAt (before ++ given_ask name ∷ rest) (length before)

@@ -10,7 +10,7 @@ use Rattle.lola_feed.specs.declared.sources.FetchStop.{FetchStop}
 use Rattle.lola_feed.specs.declared.sources.FetchStop.TheVariants as fetch
 use Rattle.lola_feed.specs.Fetching.{HasFetched, HasLent}
 use Rattle.lola_feed.specs.Lending.{AreGiven, AreInPlace, Fetches, HasReturned, IsLent, IsLentTo, all_back, asks_of, counts_of, places_of, sources_of}
-use Rattle.lola_feed.proofs.Shelves.{HavePlaces, asks_lent, faultless, given_lent, length_last, lengths_lent, places_lent}
+use Rattle.lola_feed.proofs.Shelves.{HavePlaces, asks_lent, unfailing, given_lent, length_last, lengths_lent, places_lent}
 
 count_front : (asks : List Ask) (ask : Ask) (rest : List Ask) (count : ℕ) → count_set (asks ++ ask ∷ rest) (length asks) count ≡ asks ++ record ask { count = count } ∷ rest
 count_front [] ask rest count = refl
@@ -37,7 +37,7 @@ out_back : (shelf : ShelfState) (workers : List Working) → (all_back shelf (so
 out_back shelf [] = omega arith
 out_back shelf (worker ∷ workers) = out_back (back shelf worker.reader.source) workers ∙ (omega arith)
 
--- where no source has faults, the shelf has no more than before
+-- where no source has failures, the shelf has no more than before
 count_same : (shelf : ShelfState) (workers : List Working) → ((k d : ℕ) → k < length (counts_of workers) → get_or (counts_of workers) k d ≡ 0) → (all_back shelf (sources_of workers)).count ≡ shelf.count
 count_same shelf [] none = refl
 count_same shelf (worker ∷ workers) none =
@@ -114,7 +114,7 @@ home names rooms before mid after last workers more so asks out is =
       told = ap (λ (s : ShelfState). s.told) is ∙ told_back after workers;
       asks = ap (λ (s : ShelfState). s.asks) is ∙ asks_back names workers after before.asks more (more_asks names rooms before mid after workers more so asks) have same ∙ ap (λ (l : List Ask). before.asks ++ (l ++ more)) (asks_lent before.told (length before.asks) names rooms workers so.lent);
       out = ap (λ (s : ShelfState). s.out) is ∙ out_back after workers ∙ (omega (arith, out, so.out, same));
-      count = ap (λ (s : ShelfState). s.count) is ∙ count_same after workers (faultless before.told (length before.asks) names rooms workers so.lent);
+      count = ap (λ (s : ShelfState). s.count) is ∙ count_same after workers (unfailing before.told (length before.asks) names rooms workers so.lent);
     }
 
 -- after a fetch that failed, those that were given can come back

@@ -51,5 +51,5 @@ pub answered : (old : Working) (a : RowAnswer) (reader : Reading) â†’ old.kept â
 answered old (answer.Row row) reader none a = (gave-next old row reader none a.0, a.1)
 answered old answer.End reader none a = (ending.End, refl, none, a.0, refl, refl)
 answered old (answer.Malformed kind row) reader none a = (ending.Malformed kind row, refl, none, a.0, refl, refl)
-answered old answer.ReadFault reader none a = (ending.ReadFault, refl, none, a.0, refl, refl)
+answered old answer.ReadFailed reader none a = (ending.ReadFailed, refl, none, a.0, refl, refl)
 answered old answer.Memory reader none a = (ending.Memory, refl, none, a.0, refl, refl)

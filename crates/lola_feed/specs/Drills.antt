@@ -57,7 +57,7 @@ pub record Drilling : Type 0 where
   pub behind : List (List ℕ)
   pub most : ℕ
 
--- it tells all of its bytes, and has no faults
+-- it tells all of its bytes, and has no failures
 abbrev pub drill_state : Drilling → SourceState
 drill_state d = record { left = Some (d.waiting ++ concat d.behind); to_come = length d.waiting + d.most; count = 0; place = 0 }
 

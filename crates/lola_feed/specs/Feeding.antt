@@ -13,7 +13,7 @@ use Rattle.lola_merge.specs.Merging.{Merging, finish_after, offer_after, offer_r
 use Rattle.lola_merge.specs.declared.state.Offer.{Offer}
 use Rattle.lola_merge.specs.declared.state.Offer.TheVariants as reply
 use Rattle.lola_feed.specs.declared.worker.SourceEnd.{SourceEnd}
-use Rattle.lola_feed.specs.declared.worker.SourceEnd.TheVariants.{End, Malformed, ReadFault, Closed, Memory}
+use Rattle.lola_feed.specs.declared.worker.SourceEnd.TheVariants.{End, Malformed, ReadFailed, Closed, Memory}
 use Rattle.lola_feed.specs.declared.worker.Turn.{Turn}
 use Rattle.lola_feed.specs.declared.worker.Turn.TheVariants as turn
 
@@ -66,7 +66,7 @@ to_come w = option_map (led_by w.kept) (rest_of w.reader)
 abbrev pub end_of : Ending → SourceEnd
 end_of ending.End = End
 end_of (ending.Malformed kind row) = Malformed kind row
-end_of ending.ReadFault = ReadFault
+end_of ending.ReadFailed = ReadFailed
 end_of ending.Memory = Memory
 
 -- a number of rows without the one that waits
@@ -79,7 +79,7 @@ abbrev pub row_or_end : RowAnswer → Result Row SourceEnd
 row_or_end (answer.Row row) = Ok row
 row_or_end answer.End = Err End
 row_or_end (answer.Malformed kind row) = Err (Malformed kind row)
-row_or_end answer.ReadFault = Err ReadFault
+row_or_end answer.ReadFailed = Err ReadFailed
 row_or_end answer.Memory = Err Memory
 
 -- how many rows were handed in

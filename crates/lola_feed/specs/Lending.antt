@@ -18,7 +18,7 @@ pub record AreRooms (plan : Plan) (sources most : ℕ) (rooms : List Shape) : Ty
   pub many : length rooms ≡ sources
   pub each : (s : ℕ) → s < sources → slice_get rooms s ≡ Some (shape_of plan.spec.streams s most)
 
--- the sources of workers, their places and their counts of faults
+-- the sources of workers, their places and their counts of failures
 abbrev pub sources_of : List Working → List SourceState
 sources_of workers = map (λ w. w.reader.source) workers
 
@@ -83,12 +83,12 @@ abbrev pub all_back : ShelfState → List SourceState → ShelfState
 all_back shelf [] = shelf
 all_back shelf (file ∷ files) = all_back (back shelf file) files
 
--- asks of these names that were given, with these counts of faults
+-- asks of these names that were given, with these counts of failures
 abbrev pub asks_of : List (List ℕ) → List ℕ → List Ask
 asks_of (name ∷ names) (count ∷ counts) = record (given_ask name) { count = count } ∷ asks_of names counts
 asks_of _ _ = []
 
--- all sources that were lent came back, with these counts of faults
+-- all sources that were lent came back, with these counts of failures
 pub record HasReturned (names : List (List ℕ)) (counts : List ℕ) (before after : ShelfState) : Type 0 where
   pub told : after.told ≡ before.told
   pub asks : after.asks ≡ before.asks ++ asks_of names counts

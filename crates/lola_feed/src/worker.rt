@@ -20,7 +20,7 @@ pub enum SourceEnd {
     /// The line of this row, or the heading for row 0, has another form.
     Malformed { kind: MalformedKind, row: u64 },
     /// A read failed.
-    ReadFault,
+    ReadFailed,
     /// Its desk was closed, and its last row was not let in.
     Closed,
     /// There was no memory for a row.
@@ -263,7 +263,7 @@ fn end_of(ending: Ending) -> SourceEnd
     match ending {
         Ending::End => SourceEnd::End,
         Ending::Malformed { kind, row } => SourceEnd::Malformed { kind, row },
-        Ending::ReadFault => SourceEnd::ReadFault,
+        Ending::ReadFailed => SourceEnd::ReadFailed,
         Ending::Memory => SourceEnd::Memory,
     }
 }
@@ -276,7 +276,7 @@ fn row_or_end(answer: RowAnswer) -> Result<Row, SourceEnd>
         RowAnswer::Row(row) => Ok(row),
         RowAnswer::End => Err(SourceEnd::End),
         RowAnswer::Malformed { kind, row } => Err(SourceEnd::Malformed { kind, row }),
-        RowAnswer::ReadFault => Err(SourceEnd::ReadFault),
+        RowAnswer::ReadFailed => Err(SourceEnd::ReadFailed),
         RowAnswer::Memory => Err(SourceEnd::Memory),
     }
 }

@@ -46,8 +46,8 @@ module _ (count : ℕ) where
       from_reads (Read place n how args) = from_both (edge_to from n (weight_of how) ∷ []) (reads_all ws from args) (from_edge n (weight_of how)) (from_all args)
       from_reads (Window place w args) = from_both (window_edge from (slice_get ws w)) (reads_all ws from args) (from_window (slice_get ws w)) (from_all args)
       from_reads (Defaults' place u a v b) = from_both (reads ws from a) (reads ws from b) (from_reads a) (from_reads b)
-      from_reads (Unary' place sign u a) = from_reads a
-      from_reads (Both' place sign u a v b) = from_both (reads ws from a) (reads ws from b) (from_reads a) (from_reads b)
+      from_reads (Unary' place operator u a) = from_reads a
+      from_reads (Both' place operator u a v b) = from_both (reads ws from a) (reads ws from b) (from_reads a) (from_reads b)
       from_reads (Choice' place u a v b w d) =
           from_both (reads ws from a) (reads ws from b ++ reads ws from d) (from_reads a) (from_both (reads ws from b) (reads ws from d) (from_reads b) (from_reads d))
 

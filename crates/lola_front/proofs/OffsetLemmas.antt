@@ -43,8 +43,8 @@ is_offset n k (Parameter place i) c = absurd (Contains-none k c)
 is_offset n k (Read place m how args) c = is_offset_where (nat_eq m n) (offset_by how) k c
 is_offset n k (Window place w args) c = absurd (Contains-none k c)
 is_offset n k (Defaults' place u a v b) c = absurd (Contains-none k c)
-is_offset n k (Unary' place sign u a) c = absurd (Contains-none k c)
-is_offset n k (Both' place sign u a v b) c = absurd (Contains-none k c)
+is_offset n k (Unary' place operator u a) c = absurd (Contains-none k c)
+is_offset n k (Both' place operator u a v b) c = absurd (Contains-none k c)
 is_offset n k (Choice' place u a v b w d) c = absurd (Contains-none k c)
 
 small_onto : (spec : Spec) → IsNamed spec → (n k : ℕ) → Contains (offsets_onto n spec) k → k ≤ 4096

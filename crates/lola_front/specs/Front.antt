@@ -35,7 +35,7 @@ pub record IsCut (bytes : List ℕ) (tokens : List Token) : Type 0 where
   pub are : tokens_of bytes ≡ Ok tokens
 
 -- the declarations that its tokens spell, and that the reading of the grammar gives, which lets no expression and no formula have
--- more marks than may come
+-- more nestings than may come
 pub record IsRead (bytes : List ℕ) (ds : List Declaration) : Type 0 where
   pub tokens : List Token
   pub cut : IsCut bytes tokens
@@ -67,7 +67,7 @@ pub record IsPlanOf (bytes : List ℕ) (plan : Plan) : Type 0 where
 abbrev pub IsTokenRefusal : List ℕ → Refusal → Type 0
 IsTokenRefusal bytes r = tokens_of bytes ≡ Err r
 
--- its tokens spell no specification, or one that is too deep: whichever ends the reading of the grammar, which counts marks and
+-- its tokens spell no specification, or one that is too deep: whichever ends the reading of the grammar, which counts nestings and
 -- goes from left to right
 pub record IsSyntaxRefusal (bytes : List ℕ) (r : Refusal) : Type 0 where
   pub tokens : List Token

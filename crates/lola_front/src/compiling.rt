@@ -81,7 +81,7 @@ fn completed(alloc: Global, spec: &Spec) -> Result<Parts, FrontEnd>
 
 /// The plan of a specification's text, which is accepted and has one model over each list of steps and over each journal. Or the
 /// refusal by which it has none: that of the first phase that refuses anything, and in it the first by place and then by code.
-/// No whole expression or formula of a text that is accepted has more than 512 marks. `FrontEnd::Memory` where memory runs out.
+/// No whole expression or formula of a text that is accepted has more than 512 nestings. `FrontEnd::Memory` where memory runs out.
 pub fn compile(alloc: Global, bytes: &[u8]) -> Result<Plan, FrontEnd>
     ensures compiles { Compiles bytes.now result }
     ensures one_model { IfOk result (λ plan. HasOneModel plan) }

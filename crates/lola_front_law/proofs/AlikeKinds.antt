@@ -15,7 +15,7 @@ use Rattle.lola_model.specs.declared.expr.Arguments.TheVariants.{End, More'}
 use Rattle.lola_model.specs.declared.spec.WindowSpec.{WindowSpec}
 use Rattle.lola_model.specs.Typing.{is_direct}
 use Rattle.lola_types.specs.Found.{Setting, found, found_all, joint, is_broken, some_broken, arguments_fit, literal_part, parameter_part, reference_part, of_kind, kind_found, parameters_at, window_parameters, window_at, window_part, defaults_part, prefix_part, binary_part, choice_part}
-use Rattle.lola_types.specs.Refused.{literal_refusals, sign_refusals, free_refusals, taking_refusals, own_refusals, argument_refusals, fitting_refusals, refusals_in, refusals_in_all, wanted_refusals, number_kind, whole_refusals, taken, operand_kind}
+use Rattle.lola_types.specs.Refused.{literal_refusals, operator_refusals, free_refusals, taking_refusals, own_refusals, argument_refusals, fitting_refusals, refusals_in, refusals_in_all, wanted_refusals, number_kind, whole_refusals, taken, operand_kind}
 use Rattle.lola_types.specs.declared.found.Found.{Found}
 use Rattle.lola_types.specs.declared.found.Found.TheVariants.{Of, Free, Unknown, Broken}
 use Rattle.lola_front_law.proofs.AlikeTrees.{SameValue, Alike, AlikeAll}
@@ -51,7 +51,7 @@ module _ (ws vs : List WindowSpec) where
   free_alike k (Read p n how args) (Read q m why brgs) h = refl
   free_alike k (Window p n args) (Window q m brgs) h = refl
   free_alike k (Defaults' p u a v b) (Defaults' q x c y d) h = both _ _ _ _ (free_alike k a c h.1) (free_alike k b d h.2)
-  free_alike k (Unary' p s u a) (Unary' q r x c) h = both _ _ _ _ (two (λ (z : Place) (g : Prefix). sign_refusals z.at g k) p q s r h.0 h.1) (free_alike k a c h.2)
+  free_alike k (Unary' p s u a) (Unary' q r x c) h = both _ _ _ _ (two (λ (z : Place) (g : Prefix). operator_refusals z.at g k) p q s r h.0 h.1) (free_alike k a c h.2)
   free_alike k (Both' p s u a v b) (Both' q r x c y d) h = both _ _ _ _ (free_alike k a c h.2) (free_alike k b d h.3)
   free_alike k (Choice' p u t v a w b) (Choice' q x g y c z d) h = both _ _ _ _ (free_alike k a c h.2) (free_alike k b d h.3)
   free_alike k _ _ h = absurd h

@@ -144,11 +144,11 @@ module _ (T : ℕ → ℕ → Type 0) (declarations : List Declaration) (targets
     resolved_alike (e.Defaults' at h (more_of-Expr x end_of-Expr) i (more_of-Expr y end_of-Expr)) (Defaults' p b r c s) (Defaults' q f l g m) j k =
         (j.0 ∙ sym k.0, resolved_alike x r l j.1 k.1, resolved_alike y s m j.2 k.2)
     resolved_alike (e.Defaults' at h (more_of-Expr x end_of-Expr) i (more_of-Expr y end_of-Expr)) (Defaults' p b r c s) _ j k = absurd k
-    resolved_alike (e.Prefix' sign at h (more_of-Expr x end_of-Expr)) (Unary' p o b r) (Unary' q t f l) j k = (j.0 ∙ sym k.0, j.1 ∙ sym k.1, resolved_alike x r l j.2 k.2)
-    resolved_alike (e.Prefix' sign at h (more_of-Expr x end_of-Expr)) (Unary' p o b r) _ j k = absurd k
-    resolved_alike (e.Binary' sign at h (more_of-Expr x end_of-Expr) i (more_of-Expr y end_of-Expr)) (Both' p o b r c s) (Both' q t f l g m) j k =
+    resolved_alike (e.Prefix' operator at h (more_of-Expr x end_of-Expr)) (Unary' p o b r) (Unary' q t f l) j k = (j.0 ∙ sym k.0, j.1 ∙ sym k.1, resolved_alike x r l j.2 k.2)
+    resolved_alike (e.Prefix' operator at h (more_of-Expr x end_of-Expr)) (Unary' p o b r) _ j k = absurd k
+    resolved_alike (e.Binary' operator at h (more_of-Expr x end_of-Expr) i (more_of-Expr y end_of-Expr)) (Both' p o b r c s) (Both' q t f l g m) j k =
         (j.0 ∙ sym k.0, j.1 ∙ sym k.1, resolved_alike x r l j.2 k.2, resolved_alike y s m j.3 k.3)
-    resolved_alike (e.Binary' sign at h (more_of-Expr x end_of-Expr) i (more_of-Expr y end_of-Expr)) (Both' p o b r c s) _ j k = absurd k
+    resolved_alike (e.Binary' operator at h (more_of-Expr x end_of-Expr) i (more_of-Expr y end_of-Expr)) (Both' p o b r c s) _ j k = absurd k
     resolved_alike (e.If' at h (more_of-Expr x end_of-Expr) i (more_of-Expr y end_of-Expr) n (more_of-Expr z end_of-Expr)) (Choice' p b r c s f o) (Choice' q g l t m v w) j k =
         (j.0 ∙ sym k.0, resolved_alike x r l j.1 k.1, resolved_alike y s m j.2 k.2, resolved_alike z o w j.3 k.3)
     resolved_alike (e.If' at h (more_of-Expr x end_of-Expr) i (more_of-Expr y end_of-Expr) n (more_of-Expr z end_of-Expr)) (Choice' p b r c s f o) _ j k = absurd k

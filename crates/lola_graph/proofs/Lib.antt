@@ -1,5 +1,5 @@
 pub mod ReadLemmas
-mod MarkLemmas
+mod FlagLemmas
 mod NodeLemmas
 pub mod ListLemmas
 pub mod CycleLemmas

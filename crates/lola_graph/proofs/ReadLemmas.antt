@@ -76,8 +76,8 @@ module _ (s w : ℕ) (few : s ≤ 1024) where
         (readable_all args r.1 (all_second is_small_offset (offset_by how) (listed_all offset_in args) h))
     readable (Window place n args) r h = readable_all args r.1 h
     readable (Defaults' place u a v b) r h = readable_both a b (λ k. readable a r.0 k) (λ k. readable b r.1 k) h
-    readable (Unary' place sign u a) r h = readable a r h
-    readable (Both' place sign u a v b) r h = readable_both a b (λ k. readable a r.0 k) (λ k. readable b r.1 k) h
+    readable (Unary' place operator u a) r h = readable a r h
+    readable (Both' place operator u a v b) r h = readable_both a b (λ k. readable a r.0 k) (λ k. readable b r.1 k) h
     readable (Choice' place u a v b x d) r h =
         and_from (is_readable a) (is_readable b && is_readable d)
         (readable a r.0 (all_first is_small_offset (listed offset_in a) (listed offset_in b ++ listed offset_in d) h))
@@ -176,8 +176,8 @@ module _ (ws : List WindowSpec) (targets : list_all is_readable_window ws ≡ tr
         (small_all args (and_second (nat_lt n 1024 && is_small_access how) (are_readable args) h))
     small_reads (Window place w args) h = small_both (window_edge from (slice_get ws w)) (reads_all ws from args) (small_window w (slice_get ws w) refl) (small_all args h)
     small_reads (Defaults' place u a v b) h = small_two a b (λ k. small_reads a k) (λ k. small_reads b k) h
-    small_reads (Unary' place sign u a) h = small_reads a h
-    small_reads (Both' place sign u a v b) h = small_two a b (λ k. small_reads a k) (λ k. small_reads b k) h
+    small_reads (Unary' place operator u a) h = small_reads a h
+    small_reads (Both' place operator u a v b) h = small_two a b (λ k. small_reads a k) (λ k. small_reads b k) h
     small_reads (Choice' place u a v b x d) h =
         small_both (reads ws from a) (reads ws from b ++ reads ws from d)
         (small_reads a (and_first (is_readable a) (is_readable b && is_readable d) h))

@@ -1,6 +1,6 @@
 pub mod Small
 pub mod Readable
 pub mod Paths
-pub mod Marks
+pub mod Flags
 pub mod Cycle
 pub mod Worked

@@ -27,8 +27,8 @@ abbrev mutual
   is_readable (Read place n how args) = (nat_lt n 1024 && is_small_access how) && are_readable args
   is_readable (Window place w args) = are_readable args
   is_readable (Defaults' place u a v b) = is_readable a && is_readable b
-  is_readable (Unary' place sign u a) = is_readable a
-  is_readable (Both' place sign u a v b) = is_readable a && is_readable b
+  is_readable (Unary' place operator u a) = is_readable a
+  is_readable (Both' place operator u a v b) = is_readable a && is_readable b
   is_readable (Choice' place u a v b w d) = is_readable a && (is_readable b && is_readable d)
 
   pub are_readable : Arguments → Bool

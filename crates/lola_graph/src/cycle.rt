@@ -15,16 +15,16 @@ use std::alloc::Global;
 /// The least node that reads itself within a step, if there is one.
 fn least_node(
     lists: &[Nodes],
-    marks: &mut [bool],
+    flags: &mut [bool],
     noted: &mut Vec<u32>,
 ) -> Result<Option<u32>, Memory>
     requires count { length lists.now < 2 ^ 32 }
-    requires marks { length marks.old ≡ length lists.now }
+    requires flags { length flags.old ≡ length lists.now }
     requires within { AreWithin lists.now }
     ensures { IfOk result (λ node. IsLeastNode lists.now node) }
 {
     for node in 0..lists.len() as u32 {
-        if reads_itself(lists, node, marks, noted)? {
+        if reads_itself(lists, node, flags, noted)? {
             return Ok(Some(node));
         }
     }
@@ -37,9 +37,9 @@ fn search(alloc: Global, lists: &[Nodes]) -> Result<Option<u32>, Memory>
     requires within { AreWithin lists.now }
     ensures { IfOk result (λ node. IsLeastNode lists.now node) }
 {
-    let mut marks = vec![in alloc; false; lists.len()]?;
+    let mut flags = vec![in alloc; false; lists.len()]?;
     let mut noted = Vec::new(alloc);
-    least_node(lists, &mut marks, &mut noted)
+    least_node(lists, &mut flags, &mut noted)
 }
 
 /// The stream of a node.

@@ -1,77 +1,77 @@
 //! Which nodes a node reads within a step, itself or over others.
 
 ghost use Rattle.std.specs.Prelude.{◌≡◌, ◌<◌, [], ◌∷◌, ◌↔◌, IsTrue, IfOk, OnOk, length, Contains, ℕ};
-ghost use Rattle.lola_graph.specs.Marks.{IsBlank, IsMarked, Marks, MarksReached};
+ghost use Rattle.lola_graph.specs.Flags.{IsBlank, IsFlagged, Flags, FlagsReached};
 ghost use Rattle.lola_graph.specs.Paths.{AreWithin, Reaches, read_by};
 
 use crate::lists::Nodes;
 use lola_value::text::Memory;
 
-/// Takes all marks away.
-fn clear(marks: &mut [bool])
-    ensures { IsBlank marks.new }
+/// Takes all flags away.
+fn clear(flags: &mut [bool])
+    ensures { IsBlank flags.new }
 {
-    for i in 0..marks.len() {
-        marks[i] = false;
+    for i in 0..flags.len() {
+        flags[i] = false;
     }
 }
 
-/// Marks a node, and notes it if it had no mark.
-fn mark_one(node: u32, marks: &mut [bool], noted: &mut Vec<u32>) -> Result<(), Memory>
-    requires { node < length marks.old }
-    ensures { OnOk result (Marks (node ∷ []) marks.old noted.old.items marks.new noted.new.items) }
+/// Flags a node, and notes it if it had no flag.
+fn flag_one(node: u32, flags: &mut [bool], noted: &mut Vec<u32>) -> Result<(), Memory>
+    requires { node < length flags.old }
+    ensures { OnOk result (Flags (node ∷ []) flags.old noted.old.items flags.new noted.new.items) }
 {
-    if marks[node as usize] {
+    if flags[node as usize] {
         return Ok(());
     }
-    marks[node as usize] = true;
+    flags[node as usize] = true;
     noted.push(node)?;
     Ok(())
 }
 
-/// Marks nodes, and notes those that had no mark.
-fn mark(nodes: &[u32], marks: &mut [bool], noted: &mut Vec<u32>) -> Result<(), Memory>
-    requires { (n : ℕ) → Contains nodes.now n → n < length marks.old }
-    ensures { OnOk result (Marks nodes.now marks.old noted.old.items marks.new noted.new.items) }
+/// Flags nodes, and notes those that had no flag.
+fn flag(nodes: &[u32], flags: &mut [bool], noted: &mut Vec<u32>) -> Result<(), Memory>
+    requires { (n : ℕ) → Contains nodes.now n → n < length flags.old }
+    ensures { OnOk result (Flags nodes.now flags.old noted.old.items flags.new noted.new.items) }
 {
     for node in nodes {
-        mark_one(*node, marks, noted)?;
+        flag_one(*node, flags, noted)?;
     }
     Ok(())
 }
 
-/// Marks the nodes that a node itself reads, and notes those that had no mark.
-fn mark_reads(
+/// Flags the nodes that a node itself reads, and notes those that had no flag.
+fn flag_reads(
     lists: &[Nodes],
     node: u32,
-    marks: &mut [bool],
+    flags: &mut [bool],
     noted: &mut Vec<u32>,
 ) -> Result<(), Memory>
     requires node { node < length lists.now }
-    requires marks { length marks.old ≡ length lists.now }
+    requires flags { length flags.old ≡ length lists.now }
     requires within { AreWithin lists.now }
-    ensures { OnOk result (Marks (read_by lists.now node) marks.old noted.old.items marks.new noted.new.items) }
+    ensures { OnOk result (Flags (read_by lists.now node) flags.old noted.old.items flags.new noted.new.items) }
 {
-    mark(lists[node as usize].as_slice(), marks, noted)
+    flag(lists[node as usize].as_slice(), flags, noted)
 }
 
-/// Marks all nodes that a node reads, itself or over others.
+/// Flags all nodes that a node reads, itself or over others.
 fn reach(
     lists: &[Nodes],
     start: u32,
-    marks: &mut [bool],
+    flags: &mut [bool],
     noted: &mut Vec<u32>,
 ) -> Result<(), Memory>
     requires start { start < length lists.now }
-    requires marks { length marks.old ≡ length lists.now }
+    requires flags { length flags.old ≡ length lists.now }
     requires within { AreWithin lists.now }
-    requires blank { IsBlank marks.old }
+    requires blank { IsBlank flags.old }
     requires noted { noted.old.items ≡ [] }
-    ensures { OnOk result (MarksReached lists.now start marks.new) }
+    ensures { OnOk result (FlagsReached lists.now start flags.new) }
 {
-    mark_reads(lists, start, marks, noted)?;
+    flag_reads(lists, start, flags, noted)?;
     while let Some(node) = noted.pop() {
-        mark_reads(lists, node, marks, noted)?;
+        flag_reads(lists, node, flags, noted)?;
     }
     Ok(())
 }
@@ -80,16 +80,16 @@ fn reach(
 pub fn reads_itself(
     lists: &[Nodes],
     node: u32,
-    marks: &mut [bool],
+    flags: &mut [bool],
     noted: &mut Vec<u32>,
 ) -> Result<bool, Memory>
     requires node { node < length lists.now }
-    requires marks { length marks.old ≡ length lists.now }
+    requires flags { length flags.old ≡ length lists.now }
     requires within { AreWithin lists.now }
     ensures { IfOk result (λ b. IsTrue b ↔ Reaches lists.now node node) }
 {
-    clear(marks);
+    clear(flags);
     noted.clear();
-    reach(lists, node, marks, noted)?;
-    Ok(marks[node as usize])
+    reach(lists, node, flags, noted)?;
+    Ok(flags[node as usize])
 }

@@ -73,9 +73,9 @@ module _ (s : Scope) (i : ℕ) where
         let one = in_expr a (first (each_part test a) (each_part test b) t) in
         let two = in_expr b (second (each_part test a) (each_part test b) t) in
         elim (Contains-append_cases (listed window_number a) (listed window_number b) i c) [ inl x ↦ one x | inr y ↦ two y ]
-    in_expr (Unary' place sign u a) h c = in_expr a (second (test (Unary' place sign u a)) (each_part test a) h) c
-    in_expr (Both' place sign u a v b) h c =
-        let t = second (test (Both' place sign u a v b)) (each_part test a && each_part test b) h in
+    in_expr (Unary' place operator u a) h c = in_expr a (second (test (Unary' place operator u a)) (each_part test a) h) c
+    in_expr (Both' place operator u a v b) h c =
+        let t = second (test (Both' place operator u a v b)) (each_part test a && each_part test b) h in
         let one = in_expr a (first (each_part test a) (each_part test b) t) in
         let two = in_expr b (second (each_part test a) (each_part test b) t) in
         elim (Contains-append_cases (listed window_number a) (listed window_number b) i c) [ inl x ↦ one x | inr y ↦ two y ]

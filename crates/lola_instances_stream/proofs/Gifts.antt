@@ -11,7 +11,7 @@ use Rattle.lola_model.specs.Store.{StreamLayout, is_silent}
 use Rattle.lola_instances_one.specs.declared.window.WindowPanes.{WindowPanes}
 use Rattle.lola_instances_one.specs.Holdings.{Holdings, shown, slot_seen}
 use Rattle.lola_instances_stream.specs.Births.{births_of}
-use Rattle.lola_instances_stream.specs.Cells.{AreKnown, AreMarked, IsSlotChanged, living}
+use Rattle.lola_instances_stream.specs.Cells.{AreKnown, AreFlagged, IsSlotChanged, living}
 use Rattle.lola_instances_stream.specs.Crowds.{RemembersAt, shown_at}
 use Rattle.lola_instances_stream.specs.Each.{Each}
 use Rattle.lola_instances_stream.specs.Givings.{AreGiven, AreReadyFor, HasGiven, HasGivenAt, IsReadyAt, IsReadyFor}
@@ -176,14 +176,14 @@ module _ (step offset : ℕ) where
       (ap (λ zs. Some y ∷ zs) rest.0, (one_given r x y (h zero None (omega arith)), rest.1))
 
   -- what is known of the cells stays so
-  marked_given : (xs : List Holdings) (rs : List Outcome) (ys : List Holdings) → AreGiven step offset xs rs ys → (bits : List Bool) → AreMarked (map Some xs) bits → AreMarked (map Some ys) bits
-  marked_given [] [] [] h bits m = m
-  marked_given [] [] (y ∷ ys) h bits m = absurd h
-  marked_given [] (r ∷ rs) ys h bits m = absurd h
-  marked_given (x ∷ xs) [] ys h bits m = absurd h
-  marked_given (x ∷ xs) (r ∷ rs) [] h bits m = absurd h
-  marked_given (x ∷ xs) (r ∷ rs) (y ∷ ys) h [] m = absurd m
-  marked_given (x ∷ xs) (r ∷ rs) (y ∷ ys) h (b ∷ bits) m = (m.0, marked_given xs rs ys h.1 bits m.1)
+  flagged_given : (xs : List Holdings) (rs : List Outcome) (ys : List Holdings) → AreGiven step offset xs rs ys → (bits : List Bool) → AreFlagged (map Some xs) bits → AreFlagged (map Some ys) bits
+  flagged_given [] [] [] h bits m = m
+  flagged_given [] [] (y ∷ ys) h bits m = absurd h
+  flagged_given [] (r ∷ rs) ys h bits m = absurd h
+  flagged_given (x ∷ xs) [] ys h bits m = absurd h
+  flagged_given (x ∷ xs) (r ∷ rs) [] h bits m = absurd h
+  flagged_given (x ∷ xs) (r ∷ rs) (y ∷ ys) h [] m = absurd m
+  flagged_given (x ∷ xs) (r ∷ rs) (y ∷ ys) h (b ∷ bits) m = (m.0, flagged_given xs rs ys h.1 bits m.1)
 
   params_given : (xs : List Holdings) (rs : List Outcome) (ys : List Holdings) → AreGiven step offset xs rs ys → (c : ℕ) (s : Holdings) → slice_get (map Some ys) c ≡ Some (Some s)
       → (t : Holdings) × (slice_get (map Some xs) c ≡ Some (Some t)) × (s.params ≡ t.params)
@@ -197,7 +197,7 @@ module _ (step offset : ℕ) where
 
   pub known_given : (xs : List Holdings) (rs : List Outcome) (ys : List Holdings) → AreGiven step offset xs rs ys → (bits : List Bool) (table : Listing) → AreKnown (map Some xs) bits table → AreKnown (map Some ys) bits table
   known_given xs rs ys h bits table known = record {
-    marked = marked_given xs rs ys h bits known.marked;
+    flagged = flagged_given xs rs ys h bits known.flagged;
     formed = λ c s e. let t = params_given xs rs ys h c s e in subst (λ p. IsTrue (is_well_formed p)) (sym t.2) (known.formed c t.0 t.1);
     listed = λ is c s e. let t = params_given xs rs ys h c s e in subst (λ p. cell_of p table.entries ≡ Some c) (sym t.2) (known.listed is c t.0 t.1);
   }

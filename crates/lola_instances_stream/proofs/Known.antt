@@ -11,14 +11,14 @@ use Rattle.lola_value.specs.Kinds.{is_well_formed, same_params}
 use Rattle.lola_value.proofs.ParamsLemmas.{same_well_formed}
 use Rattle.lola_instances_one.specs.Holdings.{Holdings}
 use Rattle.lola_instances_stream.specs.declared.key.Key.{Key}
-use Rattle.lola_instances_stream.specs.Cells.{AreKnown, AreMarked, IsSlotChanged, StandsIn, living}
+use Rattle.lola_instances_stream.specs.Cells.{AreKnown, AreFlagged, IsSlotChanged, StandsIn, living}
 use Rattle.lola_instances_stream.specs.Changes.{IsChangedAt}
 use Rattle.lola_instances_stream.specs.Crowds.{place_in}
 use Rattle.lola_instances_stream.specs.Keys.{same_places, places_decide, places_equiv}
 use Rattle.lola_instances_stream.specs.Listings.{HasCell, Listing, cell_of, packed}
 use Rattle.lola_instances_stream.proofs.Keys.{same_as_itself}
 use Rattle.lola_instances_stream.proofs.Lists.{same_set, other_set}
-use Rattle.lola_instances_stream.proofs.Taken.{came_from, marked_change, marked_clear, marked_full, marked_longer, marked_more, packed_few, packed_full, stands_at, stands_get, stands_one, stands_place, stands_set}
+use Rattle.lola_instances_stream.proofs.Taken.{came_from, flagged_change, flagged_clear, flagged_full, flagged_longer, flagged_more, packed_few, packed_full, stands_at, stands_get, stands_one, stands_place, stands_set}
 
 -- a number is another one, or not
 same_or_not : (a b : ℕ) → (a ≡ b) ⊎ (a ≡ b → ⊥)
@@ -48,7 +48,7 @@ module _ (cells : List (Option Holdings)) (cell : ℕ) where
       → after.is_kept ≡ table.is_kept → (table.is_kept ≡ true → HasCell gone.params None table.entries after.entries)
       → AreKnown (slice_set cells cell None) (slice_set bits cell false) after
   known_less bits table after gone at known kept has = record {
-    marked = marked_clear cells bits cell known.marked (slice_get_within cells cell (Some gone) at);
+    flagged = flagged_clear cells bits cell known.flagged (slice_get_within cells cell (Some gone) at);
     formed = λ c s e. known.formed c s (kept_apart c s e refl gone at).1;
     listed = λ is c s e.
         let was = sym kept ∙ is in
@@ -88,7 +88,7 @@ pub known_more : (cells : List (Option Holdings)) (bits : List Bool) (table afte
     → place_in slot.params (living cells) 0 ≡ None → after.is_kept ≡ table.is_kept → (table.is_kept ≡ true → HasCell slot.params (Some (length cells)) table.entries after.entries)
     → AreKnown (cells ++ Some slot ∷ []) (slice_set bits (length cells) true) after
 known_more cells bits table after slot formed known room absent kept has = record {
-  marked = marked_more cells bits slot known.marked room;
+  flagged = flagged_more cells bits slot known.flagged room;
   formed = λ c s e. elim (last_or_before cells slot c s e) [
     | inl at ↦ known.formed c s at
     | inr last ↦ subst (λ (x : Holdings). IsTrue (is_well_formed x.params)) last.1 formed
@@ -132,7 +132,7 @@ module _ (R : Holdings → Holdings → Type 0) (cells after : List (Option Hold
 
   pub known_changed : (bits : List Bool) (table : Listing) → AreKnown cells bits table → AreKnown after bits table
   known_changed bits table known = record {
-    marked = subst (λ cs. AreMarked cs bits) (sym set_y) (marked_change cells bits cell h.x h.y known.marked at_x);
+    flagged = subst (λ cs. AreFlagged cs bits) (sym set_y) (flagged_change cells bits cell h.x h.y known.flagged at_x);
     formed = λ c s e. let t = same_names c s e in subst (λ p. IsTrue (is_well_formed p)) (sym t.2) (known.formed c t.0 t.1);
     listed = λ is c s e. let t = same_names c s e in subst (λ p. cell_of p table.entries ≡ Some c) (sym t.2) (known.listed is c t.0 t.1);
   }
@@ -152,7 +152,7 @@ module _ (R : Holdings → Holdings → Type 0) (cells after : List (Option Hold
 -- more bits, which are not set
 pub known_longer : (cells : List (Option Holdings)) (bits more : List Bool) (table : Listing) → AreKnown cells bits table → Extends bits more → AreKnown cells more table
 known_longer cells bits more table known e = record {
-  marked = subst (AreMarked cells) (sym e.bits) (marked_longer cells bits e.more known.marked);
+  flagged = subst (AreFlagged cells) (sym e.bits) (flagged_longer cells bits e.more known.flagged);
   formed = known.formed;
   listed = known.listed;
 }
@@ -181,11 +181,11 @@ known_packed cells bits after_bits table after known kept entries room front =
     let full = packed_full cells in
     let few = packed_few cells in
     record {
-      marked = marked_full (filter is_some cells) after_bits (omega arith) (omega arith) front;
-      formed = λ c s e. let from = came_from cells bits known.marked c s e in known.formed from.cell s from.at;
+      flagged = flagged_full (filter is_some cells) after_bits (omega arith) (omega arith) front;
+      formed = λ c s e. let from = came_from cells bits known.flagged c s e in known.formed from.cell s from.at;
       listed = λ is c s e.
           let was = sym kept ∙ is in
-          let from = came_from cells bits known.marked c s e in
+          let from = came_from cells bits known.flagged c s e in
           let there = moved_entries bits s.params table.entries from.cell (known.listed was from.cell s from.at) in
           let moves : packed bits from.cell ≡ c = ap (λ b. if b then rank bits from.cell else from.cell) (le-leb from.cell (length bits) from.within) ∙ from.moves in
           ap (cell_of s.params) (entries was) ∙ there ∙ ap Some moves;

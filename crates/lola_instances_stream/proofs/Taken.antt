@@ -6,7 +6,7 @@ use Rattle.lola_instances_bits.specs.Bits.{bit, ones, rank}
 use Rattle.lola_instances_bits.proofs.Parts.{below_or_not}
 use Rattle.lola_panes.proofs.Noting.{lt_yes, lt_no}
 use Rattle.lola_instances_one.specs.Holdings.{Holdings}
-use Rattle.lola_instances_stream.specs.Cells.{AreMarked, IsTaken, StandsIn, living}
+use Rattle.lola_instances_stream.specs.Cells.{AreFlagged, IsTaken, StandsIn, living}
 
 -- an instance in a cell
 
@@ -107,100 +107,100 @@ packed_few (Some x ∷ cs) = let k = packed_few cs in omega arith
 
 -- bits
 
-pub marked_ones : (cs : List (Option Holdings)) (bs : List Bool) → AreMarked cs bs → ones bs ≡ length (living cs)
-marked_ones [] bs h = h
-marked_ones (c ∷ cs) [] h = absurd h
-marked_ones (None ∷ cs) (b ∷ bs) h = let k = marked_ones cs bs h.1 in let n = ap bit h.0 in let s = sum_by-cons bit b bs in omega arith
-marked_ones (Some x ∷ cs) (b ∷ bs) h = let k = marked_ones cs bs h.1 in let n = ap bit h.0 in let s = sum_by-cons bit b bs in omega arith
+pub flagged_ones : (cs : List (Option Holdings)) (bs : List Bool) → AreFlagged cs bs → ones bs ≡ length (living cs)
+flagged_ones [] bs h = h
+flagged_ones (c ∷ cs) [] h = absurd h
+flagged_ones (None ∷ cs) (b ∷ bs) h = let k = flagged_ones cs bs h.1 in let n = ap bit h.0 in let s = sum_by-cons bit b bs in omega arith
+flagged_ones (Some x ∷ cs) (b ∷ bs) h = let k = flagged_ones cs bs h.1 in let n = ap bit h.0 in let s = sum_by-cons bit b bs in omega arith
 
-pub marked_long : (cs : List (Option Holdings)) (bs : List Bool) → AreMarked cs bs → length cs ≤ length bs
-marked_long [] bs h = omega arith
-marked_long (c ∷ cs) [] h = absurd h
-marked_long (None ∷ cs) (b ∷ bs) h = let k = marked_long cs bs h.1 in omega arith
-marked_long (Some x ∷ cs) (b ∷ bs) h = let k = marked_long cs bs h.1 in omega arith
+pub flagged_long : (cs : List (Option Holdings)) (bs : List Bool) → AreFlagged cs bs → length cs ≤ length bs
+flagged_long [] bs h = omega arith
+flagged_long (c ∷ cs) [] h = absurd h
+flagged_long (None ∷ cs) (b ∷ bs) h = let k = flagged_long cs bs h.1 in omega arith
+flagged_long (Some x ∷ cs) (b ∷ bs) h = let k = flagged_long cs bs h.1 in omega arith
 
 none_set : (bs : List Bool) → ones bs ≡ 0 → (i : ℕ) → get_or bs i false ≡ true → ⊥
 none_set [] z i e = cc
 none_set (b ∷ bs) z zero e = let n = ap bit e in let s = sum_by-cons bit b bs in omega arith
 none_set (b ∷ bs) z (suc i) e = let s = sum_by-cons bit b bs in none_set bs (omega arith) i e
 
-pub marked_select : (cs : List (Option Holdings)) (bs : List Bool) → AreMarked cs bs → (cell place : ℕ) → get_or bs cell false ≡ true → rank bs cell ≡ place → (s : Holdings) × StandsIn cs cell place s
-marked_select [] bs h cell place e r = absurd (none_set bs h cell e)
-marked_select (c ∷ cs) [] h cell place e r = absurd h
-marked_select (None ∷ cs) (b ∷ bs) h zero place e r = let n = h.0 in absurd (cc)
-marked_select (None ∷ cs) (b ∷ bs) h (suc cell) place e r =
+pub flagged_select : (cs : List (Option Holdings)) (bs : List Bool) → AreFlagged cs bs → (cell place : ℕ) → get_or bs cell false ≡ true → rank bs cell ≡ place → (s : Holdings) × StandsIn cs cell place s
+flagged_select [] bs h cell place e r = absurd (none_set bs h cell e)
+flagged_select (c ∷ cs) [] h cell place e r = absurd h
+flagged_select (None ∷ cs) (b ∷ bs) h zero place e r = let n = h.0 in absurd (cc)
+flagged_select (None ∷ cs) (b ∷ bs) h (suc cell) place e r =
     let n = ap bit h.0 in
     let s = sum_by-cons bit b (take cell bs) in
-    marked_select cs bs h.1 cell place e (omega arith)
-marked_select (Some x ∷ cs) (b ∷ bs) h zero zero e r = (x, refl)
-marked_select (Some x ∷ cs) (b ∷ bs) h zero (suc place) e r = absurd (omega arith)
-marked_select (Some x ∷ cs) (b ∷ bs) h (suc cell) zero e r =
+    flagged_select cs bs h.1 cell place e (omega arith)
+flagged_select (Some x ∷ cs) (b ∷ bs) h zero zero e r = (x, refl)
+flagged_select (Some x ∷ cs) (b ∷ bs) h zero (suc place) e r = absurd (omega arith)
+flagged_select (Some x ∷ cs) (b ∷ bs) h (suc cell) zero e r =
     let n = ap bit h.0 in
     let s = sum_by-cons bit b (take cell bs) in
     absurd (omega arith)
-marked_select (Some x ∷ cs) (b ∷ bs) h (suc cell) (suc place) e r =
+flagged_select (Some x ∷ cs) (b ∷ bs) h (suc cell) (suc place) e r =
     let n = ap bit h.0 in
     let s = sum_by-cons bit b (take cell bs) in
-    marked_select cs bs h.1 cell place e (omega arith)
+    flagged_select cs bs h.1 cell place e (omega arith)
 
 -- the place of a cell is how many before it are taken
-pub marked_rank : (cs : List (Option Holdings)) (bs : List Bool) → AreMarked cs bs → (cell place : ℕ) (s : Holdings) → slice_get cs cell ≡ Some (Some s) → rank bs cell ≡ place → StandsIn cs cell place s
-marked_rank [] bs h cell place s e r = absurd (cc)
-marked_rank (c ∷ cs) [] h cell place s e r = absurd h
-marked_rank (None ∷ cs) (b ∷ bs) h zero place s e r = absurd (cc)
-marked_rank (None ∷ cs) (b ∷ bs) h (suc cell) place s e r =
+pub flagged_rank : (cs : List (Option Holdings)) (bs : List Bool) → AreFlagged cs bs → (cell place : ℕ) (s : Holdings) → slice_get cs cell ≡ Some (Some s) → rank bs cell ≡ place → StandsIn cs cell place s
+flagged_rank [] bs h cell place s e r = absurd (cc)
+flagged_rank (c ∷ cs) [] h cell place s e r = absurd h
+flagged_rank (None ∷ cs) (b ∷ bs) h zero place s e r = absurd (cc)
+flagged_rank (None ∷ cs) (b ∷ bs) h (suc cell) place s e r =
     let n = ap bit h.0 in
     let t = sum_by-cons bit b (take cell bs) in
-    marked_rank cs bs h.1 cell place s e (omega arith)
-marked_rank (Some x ∷ cs) (b ∷ bs) h zero zero s e r = let q : x ≡ s = cc in q
-marked_rank (Some x ∷ cs) (b ∷ bs) h zero (suc place) s e r = absurd (omega arith)
-marked_rank (Some x ∷ cs) (b ∷ bs) h (suc cell) zero s e r =
+    flagged_rank cs bs h.1 cell place s e (omega arith)
+flagged_rank (Some x ∷ cs) (b ∷ bs) h zero zero s e r = let q : x ≡ s = cc in q
+flagged_rank (Some x ∷ cs) (b ∷ bs) h zero (suc place) s e r = absurd (omega arith)
+flagged_rank (Some x ∷ cs) (b ∷ bs) h (suc cell) zero s e r =
     let n = ap bit h.0 in
     let t = sum_by-cons bit b (take cell bs) in
     absurd (omega arith)
-marked_rank (Some x ∷ cs) (b ∷ bs) h (suc cell) (suc place) s e r =
+flagged_rank (Some x ∷ cs) (b ∷ bs) h (suc cell) (suc place) s e r =
     let n = ap bit h.0 in
     let t = sum_by-cons bit b (take cell bs) in
-    marked_rank cs bs h.1 cell place s e (omega arith)
+    flagged_rank cs bs h.1 cell place s e (omega arith)
 
-pub marked_clear : (cs : List (Option Holdings)) (bs : List Bool) (cell : ℕ) → AreMarked cs bs → cell < length cs → AreMarked (slice_set cs cell None) (slice_set bs cell false)
-marked_clear [] bs cell h l = absurd (omega arith)
-marked_clear (c ∷ cs) [] cell h l = absurd h
-marked_clear (None ∷ cs) (b ∷ bs) zero h l = (refl, h.1)
-marked_clear (Some x ∷ cs) (b ∷ bs) zero h l = (refl, h.1)
-marked_clear (None ∷ cs) (b ∷ bs) (suc cell) h l = (h.0, marked_clear cs bs cell h.1 (omega arith))
-marked_clear (Some x ∷ cs) (b ∷ bs) (suc cell) h l = (h.0, marked_clear cs bs cell h.1 (omega arith))
+pub flagged_clear : (cs : List (Option Holdings)) (bs : List Bool) (cell : ℕ) → AreFlagged cs bs → cell < length cs → AreFlagged (slice_set cs cell None) (slice_set bs cell false)
+flagged_clear [] bs cell h l = absurd (omega arith)
+flagged_clear (c ∷ cs) [] cell h l = absurd h
+flagged_clear (None ∷ cs) (b ∷ bs) zero h l = (refl, h.1)
+flagged_clear (Some x ∷ cs) (b ∷ bs) zero h l = (refl, h.1)
+flagged_clear (None ∷ cs) (b ∷ bs) (suc cell) h l = (h.0, flagged_clear cs bs cell h.1 (omega arith))
+flagged_clear (Some x ∷ cs) (b ∷ bs) (suc cell) h l = (h.0, flagged_clear cs bs cell h.1 (omega arith))
 
-pub marked_change : (cs : List (Option Holdings)) (bs : List Bool) (cell : ℕ) (x y : Holdings) → AreMarked cs bs → slice_get cs cell ≡ Some (Some x) → AreMarked (slice_set cs cell (Some y)) bs
-marked_change [] bs cell x y h e = absurd (cc)
-marked_change (c ∷ cs) [] cell x y h e = absurd h
-marked_change (None ∷ cs) (b ∷ bs) zero x y h e = absurd (cc)
-marked_change (Some z ∷ cs) (b ∷ bs) zero x y h e = h
-marked_change (None ∷ cs) (b ∷ bs) (suc cell) x y h e = (h.0, marked_change cs bs cell x y h.1 e)
-marked_change (Some z ∷ cs) (b ∷ bs) (suc cell) x y h e = (h.0, marked_change cs bs cell x y h.1 e)
+pub flagged_change : (cs : List (Option Holdings)) (bs : List Bool) (cell : ℕ) (x y : Holdings) → AreFlagged cs bs → slice_get cs cell ≡ Some (Some x) → AreFlagged (slice_set cs cell (Some y)) bs
+flagged_change [] bs cell x y h e = absurd (cc)
+flagged_change (c ∷ cs) [] cell x y h e = absurd h
+flagged_change (None ∷ cs) (b ∷ bs) zero x y h e = absurd (cc)
+flagged_change (Some z ∷ cs) (b ∷ bs) zero x y h e = h
+flagged_change (None ∷ cs) (b ∷ bs) (suc cell) x y h e = (h.0, flagged_change cs bs cell x y h.1 e)
+flagged_change (Some z ∷ cs) (b ∷ bs) (suc cell) x y h e = (h.0, flagged_change cs bs cell x y h.1 e)
 
-pub marked_more : (cs : List (Option Holdings)) (bs : List Bool) (s : Holdings) → AreMarked cs bs → length cs < length bs → AreMarked (cs ++ Some s ∷ []) (slice_set bs (length cs) true)
-marked_more [] [] s h l = absurd (omega arith)
-marked_more [] (b ∷ bs) s h l = let t = sum_by-cons bit b bs in (refl, omega arith)
-marked_more (c ∷ cs) [] s h l = absurd h
-marked_more (None ∷ cs) (b ∷ bs) s h l = (h.0, marked_more cs bs s h.1 (omega arith))
-marked_more (Some x ∷ cs) (b ∷ bs) s h l = (h.0, marked_more cs bs s h.1 (omega arith))
+pub flagged_more : (cs : List (Option Holdings)) (bs : List Bool) (s : Holdings) → AreFlagged cs bs → length cs < length bs → AreFlagged (cs ++ Some s ∷ []) (slice_set bs (length cs) true)
+flagged_more [] [] s h l = absurd (omega arith)
+flagged_more [] (b ∷ bs) s h l = let t = sum_by-cons bit b bs in (refl, omega arith)
+flagged_more (c ∷ cs) [] s h l = absurd h
+flagged_more (None ∷ cs) (b ∷ bs) s h l = (h.0, flagged_more cs bs s h.1 (omega arith))
+flagged_more (Some x ∷ cs) (b ∷ bs) s h l = (h.0, flagged_more cs bs s h.1 (omega arith))
 
 unset : (n : ℕ) → ones (replicate n false) ≡ 0
 unset zero = refl
 unset (suc n) = let s = sum_by-cons bit false (replicate n false) in let k = unset n in omega arith
 
-pub marked_longer : (cs : List (Option Holdings)) (bs : List Bool) (n : ℕ) → AreMarked cs bs → AreMarked cs (bs ++ replicate n false)
-marked_longer [] bs n h = let a = sum_by-append bit bs (replicate n false) in let u = unset n in omega arith
-marked_longer (c ∷ cs) [] n h = absurd h
-marked_longer (None ∷ cs) (b ∷ bs) n h = (h.0, marked_longer cs bs n h.1)
-marked_longer (Some x ∷ cs) (b ∷ bs) n h = (h.0, marked_longer cs bs n h.1)
+pub flagged_longer : (cs : List (Option Holdings)) (bs : List Bool) (n : ℕ) → AreFlagged cs bs → AreFlagged cs (bs ++ replicate n false)
+flagged_longer [] bs n h = let a = sum_by-append bit bs (replicate n false) in let u = unset n in omega arith
+flagged_longer (c ∷ cs) [] n h = absurd h
+flagged_longer (None ∷ cs) (b ∷ bs) n h = (h.0, flagged_longer cs bs n h.1)
+flagged_longer (Some x ∷ cs) (b ∷ bs) n h = (h.0, flagged_longer cs bs n h.1)
 
-none_marked : (bs : List Bool) → ((i : ℕ) → i < length bs → get_or bs i false ≡ false) → ones bs ≡ 0
-none_marked [] h = refl
-none_marked (b ∷ bs) h =
+none_flagged : (bs : List Bool) → ((i : ℕ) → i < length bs → get_or bs i false ≡ false) → ones bs ≡ 0
+none_flagged [] h = refl
+none_flagged (b ∷ bs) h =
     let n = ap bit (h 0 (omega arith)) in
-    let k = none_marked bs (λ i l. h (suc i) (omega arith)) in
+    let k = none_flagged bs (λ i l. h (suc i) (omega arith)) in
     let s = sum_by-cons bit b bs in
     omega arith
 
@@ -211,13 +211,13 @@ below_next i n = elim (below_or_not i n) [
 ]
 
 -- where no cell is empty, the first bits are set and the others not
-pub marked_full : (cs : List (Option Holdings)) (bs : List Bool) → length cs ≤ length (living cs) → length cs ≤ length bs → ((i : ℕ) → i < length bs → get_or bs i false ≡ nat_lt i (length cs)) → AreMarked cs bs
-marked_full [] bs f l h = none_marked bs (λ i k. h i k ∙ lt_no i 0 (omega arith))
-marked_full (None ∷ cs) bs f l h = let k = few_living cs in absurd (omega arith)
-marked_full (Some x ∷ cs) [] f l h = absurd (omega arith)
-marked_full (Some x ∷ cs) (b ∷ bs) f l h = (
+pub flagged_full : (cs : List (Option Holdings)) (bs : List Bool) → length cs ≤ length (living cs) → length cs ≤ length bs → ((i : ℕ) → i < length bs → get_or bs i false ≡ nat_lt i (length cs)) → AreFlagged cs bs
+flagged_full [] bs f l h = none_flagged bs (λ i k. h i k ∙ lt_no i 0 (omega arith))
+flagged_full (None ∷ cs) bs f l h = let k = few_living cs in absurd (omega arith)
+flagged_full (Some x ∷ cs) [] f l h = absurd (omega arith)
+flagged_full (Some x ∷ cs) (b ∷ bs) f l h = (
   h 0 (omega arith) ∙ lt_yes 0 (suc (length cs)) (omega arith),
-  marked_full cs bs (omega arith) (omega arith) (λ i k. h (suc i) (omega arith) ∙ below_next i (length cs)),
+  flagged_full cs bs (omega arith) (omega arith) (λ i k. h (suc i) (omega arith) ∙ below_next i (length cs)),
 )
 
 -- a cell that is left, before and after
@@ -227,7 +227,7 @@ pub record CameFrom (cs : List (Option Holdings)) (bs : List Bool) (to : ℕ) (s
   pub moves : rank bs cell ≡ to
   pub within : cell ≤ length bs
 
-pub came_from : (cs : List (Option Holdings)) (bs : List Bool) → AreMarked cs bs → (to : ℕ) (s : Holdings) → slice_get (filter is_some cs) to ≡ Some (Some s) → CameFrom cs bs to s
+pub came_from : (cs : List (Option Holdings)) (bs : List Bool) → AreFlagged cs bs → (to : ℕ) (s : Holdings) → slice_get (filter is_some cs) to ≡ Some (Some s) → CameFrom cs bs to s
 came_from [] bs h to s e = absurd (cc)
 came_from (c ∷ cs) [] h to s e = absurd h
 came_from (None ∷ cs) (b ∷ bs) h to s e =

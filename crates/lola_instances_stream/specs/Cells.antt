@@ -28,11 +28,11 @@ IsTaken (Some None) = ⊥
 IsTaken (Some (Some s)) = Unit {0}
 
 -- bits say which cells are taken, and none is set behind them
-abbrev pub AreMarked : List (Option Holdings) → List Bool → Type 0
-AreMarked [] bits = ones bits ≡ 0
-AreMarked (c ∷ cs) [] = ⊥
-AreMarked (None ∷ cs) (b ∷ bits) = (b ≡ false) × AreMarked cs bits
-AreMarked (Some s ∷ cs) (b ∷ bits) = (b ≡ true) × AreMarked cs bits
+abbrev pub AreFlagged : List (Option Holdings) → List Bool → Type 0
+AreFlagged [] bits = ones bits ≡ 0
+AreFlagged (c ∷ cs) [] = ⊥
+AreFlagged (None ∷ cs) (b ∷ bits) = (b ≡ false) × AreFlagged cs bits
+AreFlagged (Some s ∷ cs) (b ∷ bits) = (b ≡ true) × AreFlagged cs bits
 
 -- where a table is kept, it lists each of these instances in its cell
 abbrev pub AreListed : List (Option Holdings) → Listing → Type 0
@@ -44,7 +44,7 @@ AreFormed cells = (cell : ℕ) (s : Holdings) → slice_get cells cell ≡ Some 
 
 -- what is known of cells by their bits and in their table
 pub record AreKnown (cells : List (Option Holdings)) (bits : List Bool) (table : Listing) : Type 0 where
-  pub marked : AreMarked cells bits
+  pub flagged : AreFlagged cells bits
   pub formed : AreFormed cells
   pub listed : AreListed cells table
 

@@ -6,7 +6,7 @@ ghost use Rattle.lola_instances_bits.specs.Bits.{Extends, ones, rank};
 ghost use Rattle.lola_value.specs.Kinds.{is_well_formed, same_params};
 ghost use Rattle.lola_instances_one.specs.Holdings.{Holdings};
 ghost use Rattle.lola_instances_one.specs.Telling.{AllReady};
-ghost use Rattle.lola_instances_stream.specs.Cells.{AreKnown, AreMarked, IsSlotChanged, IsTaken, StandsIn, living};
+ghost use Rattle.lola_instances_stream.specs.Cells.{AreKnown, AreFlagged, IsSlotChanged, IsTaken, StandsIn, living};
 ghost use Rattle.lola_instances_stream.specs.Changes.{HasTold, HasFailed, IsChangedAt};
 ghost use Rattle.lola_instances_stream.specs.Crowds.{place_in};
 ghost use Rattle.lola_instances_stream.specs.Givings.{AreGiven, AreReadyFor};
@@ -29,7 +29,7 @@ use std::thread::Threads;
 #[derive(Drop)]
 pub struct Cells {
     cells: Vec<Option<Instance>>,
-    marks: BitVector,
+    flags: BitVector,
     empty: usize,
     // the cells of instances with parameters
     table: Directory,
@@ -45,44 +45,44 @@ impl Model for Cells {
 
     ghost view = { λ l. record { items = living l.cells.items; capacity = l.capacity; is_kept = l.table.is_kept; room = l.table.room } };
 
-    ghost invariant = { λ l. IsLine l.cells.items l.marks l.table l.empty l.capacity (vec_capacity l.cells) };
+    ghost invariant = { λ l. IsLine l.cells.items l.flags l.table l.empty l.capacity (vec_capacity l.cells) };
 }
 
 // The place of the set bit before which so many are set. It is a function of its own, so that a stream of which no instance was closed
 // has no registers for the search.
 #[inline(never)]
-fn nth_marked(marks: &BitVector, before: usize) -> usize
-    requires { before < ones marks.now }
-    ensures within { result < length marks.now }
-    ensures set { slice_index_or marks.now result false ≡ true }
-    ensures rank { rank marks.now result ≡ before }
+fn nth_flagged(flags: &BitVector, before: usize) -> usize
+    requires { before < ones flags.now }
+    ensures within { result < length flags.now }
+    ensures set { slice_index_or flags.now result false ≡ true }
+    ensures rank { rank flags.now result ≡ before }
 {
-    marks.select(before)
+    flags.select(before)
 }
 
 // The cell of the instance at a place among those that live.
 #[inline(always)]
-fn cell_at(_cells: &Vec<Option<Instance>>, marks: &BitVector, empty: usize, place: usize) -> usize
+fn cell_at(_cells: &Vec<Option<Instance>>, flags: &BitVector, empty: usize, place: usize) -> usize
     requires place { place < length (living _cells.now.items) }
-    requires marked { AreMarked _cells.now.items marks.now }
+    requires flagged { AreFlagged _cells.now.items flags.now }
     requires count { empty + length (living _cells.now.items) ≡ length _cells.now.items }
     ensures { (s : Holdings) × StandsIn _cells.now.items result place s }
 {
     if empty == 0 {
         place
     } else {
-        nth_marked(marks, place)
+        nth_flagged(flags, place)
     }
 }
 
 // The place among those that live of the instance in a cell.
-fn place_of(_cells: &Vec<Option<Instance>>, marks: &BitVector, empty: usize, cell: usize) -> usize
+fn place_of(_cells: &Vec<Option<Instance>>, flags: &BitVector, empty: usize, cell: usize) -> usize
     requires cell { cell < length _cells.now.items }
-    requires marked { AreMarked _cells.now.items marks.now }
+    requires flagged { AreFlagged _cells.now.items flags.now }
     requires count { empty + length (living _cells.now.items) ≡ length _cells.now.items }
     ensures { (s : Holdings) → slice_get _cells.now.items cell ≡ Some (Some s) → StandsIn _cells.now.items cell result s }
 {
-    if empty == 0 { cell } else { marks.rank(cell) }
+    if empty == 0 { cell } else { flags.rank(cell) }
 }
 
 // The instance in a cell.
@@ -171,47 +171,47 @@ fn take_params(slot: &mut Option<Instance>) -> Params
 // Empties a cell.
 fn take_out(
     cells: &mut Vec<Option<Instance>>,
-    marks: &mut BitVector,
+    flags: &mut BitVector,
     table: &mut Directory,
     cell: usize,
 )
     requires taken { IsTaken (slice_get cells.old.items cell) }
-    requires known { AreKnown cells.old.items marks.old table.old }
-    ensures known { AreKnown cells.new.items marks.new table.new }
+    requires known { AreKnown cells.old.items flags.old table.old }
+    ensures known { AreKnown cells.new.items flags.new table.new }
     ensures cells { cells.new.items ≡ slice_set cells.old.items cell None }
     ensures memory { vec_capacity cells.new ≡ vec_capacity cells.old }
-    ensures marks { length marks.new ≡ length marks.old }
+    ensures flags { length flags.new ≡ length flags.old }
     ensures kept { table.new.is_kept ≡ table.old.is_kept }
     ensures room { table.old.room ≤ table.new.room }
 {
     let params = take_params(&mut cells[cell]);
     table.remove(params);
-    marks.set(cell, false);
+    flags.set(cell, false);
 }
 
 // One more instance, in a cell behind the others.
 fn put(
     cells: &mut Vec<Option<Instance>>,
-    marks: &mut BitVector,
+    flags: &mut BitVector,
     table: &mut Directory,
     slot: Instance,
 )
     requires memory { length cells.old.items < vec_capacity cells.old }
-    requires bits { length cells.old.items < length marks.old }
+    requires bits { length cells.old.items < length flags.old }
     requires room { table.old.is_kept ≡ true → 1 ≤ table.old.room }
     requires absent { place_in slot.params (living cells.old.items) 0 ≡ None }
-    requires known { AreKnown cells.old.items marks.old table.old }
-    ensures known { AreKnown cells.new.items marks.new table.new }
+    requires known { AreKnown cells.old.items flags.old table.old }
+    ensures known { AreKnown cells.new.items flags.new table.new }
     ensures cells { cells.new.items ≡ cells.old.items ++ Some slot ∷ [] }
     ensures memory { vec_capacity cells.new ≡ vec_capacity cells.old }
-    ensures marks { length marks.new ≡ length marks.old }
+    ensures flags { length flags.new ≡ length flags.old }
     ensures kept { table.new.is_kept ≡ table.old.is_kept }
     ensures room { table.old.room ≤ table.new.room + 1 }
 {
     let cell = cells.len();
     let params = slot.params();
     cells.push_reserved(Some(slot));
-    marks.set(cell, true);
+    flags.set(cell, true);
     table.add(params, cell);
 }
 
@@ -224,43 +224,43 @@ fn compact(cells: &mut Vec<Option<Instance>>)
 }
 
 // The cells that are taken move together.
-fn pack(cells: &mut Vec<Option<Instance>>, marks: &mut BitVector, table: &mut Directory)
-    requires known { AreKnown cells.old.items marks.old table.old }
-    ensures known { AreKnown cells.new.items marks.new table.new }
+fn pack(cells: &mut Vec<Option<Instance>>, flags: &mut BitVector, table: &mut Directory)
+    requires known { AreKnown cells.old.items flags.old table.old }
+    ensures known { AreKnown cells.new.items flags.new table.new }
     ensures items { living cells.new.items ≡ living cells.old.items }
     ensures full { length (living cells.new.items) ≡ length cells.new.items }
     ensures memory { vec_capacity cells.new ≡ vec_capacity cells.old }
-    ensures marks { length marks.new ≡ length marks.old }
+    ensures flags { length flags.new ≡ length flags.old }
     ensures kept { table.new.is_kept ≡ table.old.is_kept }
     ensures room { table.old.room ≤ table.new.room }
 {
-    table.pack(marks);
+    table.pack(flags);
     compact(cells);
-    marks.fill(cells.len());
+    flags.fill(cells.len());
 }
 
 // The cells that are taken move together where there is no room behind them. How many are empty then is the answer.
 fn make_way(
     cells: &mut Vec<Option<Instance>>,
-    marks: &mut BitVector,
+    flags: &mut BitVector,
     table: &mut Directory,
     empty: usize,
     capacity: usize,
 ) -> usize
-    requires known { AreKnown cells.old.items marks.old table.old }
+    requires known { AreKnown cells.old.items flags.old table.old }
     requires count { empty + length (living cells.old.items) ≡ length cells.old.items }
     requires few { length (living cells.old.items) < capacity }
-    ensures known { AreKnown cells.new.items marks.new table.new }
+    ensures known { AreKnown cells.new.items flags.new table.new }
     ensures items { living cells.new.items ≡ living cells.old.items }
     ensures count { result + length (living cells.new.items) ≡ length cells.new.items }
     ensures way { length cells.new.items < capacity }
     ensures memory { vec_capacity cells.new ≡ vec_capacity cells.old }
-    ensures marks { length marks.new ≡ length marks.old }
+    ensures flags { length flags.new ≡ length flags.old }
     ensures kept { table.new.is_kept ≡ table.old.is_kept }
     ensures room { table.old.room ≤ table.new.room }
 {
     if capacity <= cells.len() {
-        pack(cells, marks, table);
+        pack(cells, flags, table);
         return 0;
     }
     empty
@@ -270,38 +270,38 @@ fn make_way(
 // is the answer.
 fn tidy(
     cells: &mut Vec<Option<Instance>>,
-    marks: &mut BitVector,
+    flags: &mut BitVector,
     table: &mut Directory,
     empty: usize,
 ) -> usize
-    requires known { AreKnown cells.old.items marks.old table.old }
+    requires known { AreKnown cells.old.items flags.old table.old }
     requires count { empty + length (living cells.old.items) ≡ length cells.old.items }
-    ensures known { AreKnown cells.new.items marks.new table.new }
+    ensures known { AreKnown cells.new.items flags.new table.new }
     ensures items { living cells.new.items ≡ living cells.old.items }
     ensures count { result + length (living cells.new.items) ≡ length cells.new.items }
     ensures memory { vec_capacity cells.new ≡ vec_capacity cells.old }
-    ensures marks { length marks.new ≡ length marks.old }
+    ensures flags { length flags.new ≡ length flags.old }
     ensures kept { table.new.is_kept ≡ table.old.is_kept }
     ensures room { table.old.room ≤ table.new.room }
 {
     if cells.len() / 2 + 32 < empty {
-        pack(cells, marks, table);
+        pack(cells, flags, table);
         return 0;
     }
     empty
 }
 
 // Memory for two more cells.
-fn reserve(cells: &mut Vec<Option<Instance>>, marks: &mut BitVector) -> Result<(), Memory>
+fn reserve(cells: &mut Vec<Option<Instance>>, flags: &mut BitVector) -> Result<(), Memory>
     ensures cells { cells.new.items ≡ cells.old.items }
     ensures memory { vec_capacity cells.old ≤ vec_capacity cells.new }
-    ensures marks { Extends marks.old marks.new }
+    ensures flags { Extends flags.old flags.new }
     ensures ok { OnOk result (length cells.new.items + 2 ≤ vec_capacity cells.new) }
-    ensures bits { OnOk result (length cells.new.items + 2 ≤ length marks.new) }
+    ensures bits { OnOk result (length cells.new.items + 2 ≤ length flags.new) }
 {
     match cells.reserve(2) {
         Err(_) => Err(Memory),
-        Ok(()) => marks.grow(cells.len() + 2),
+        Ok(()) => flags.grow(cells.len() + 2),
     }
 }
 
@@ -313,7 +313,7 @@ impl Cells {
     {
         Cells {
             cells: Vec::new(alloc),
-            marks: BitVector::create(alloc),
+            flags: BitVector::create(alloc),
             empty: 0,
             table: Directory::create(alloc, hasher, is_kept),
             capacity: 0,
@@ -339,7 +339,7 @@ impl Cells {
         requires { place < length self.now.items }
         ensures { slice_get self.now.items place ≡ Some result.now }
     {
-        let cell = cell_at(&self.cells, &self.marks, self.empty, place);
+        let cell = cell_at(&self.cells, &self.flags, self.empty, place);
         slot_in(&self.cells, cell)
     }
 
@@ -354,7 +354,7 @@ impl Cells {
             None => None,
             Some(cell) => {
                 if has_params(&self.cells, cell, params) {
-                    Some(place_of(&self.cells, &self.marks, self.empty, cell))
+                    Some(place_of(&self.cells, &self.flags, self.empty, cell))
                 } else {
                     None
                 }
@@ -381,7 +381,7 @@ impl Cells {
         ensures changed { IsChangedAt (HasTold step offset value) place self.old.items self.new.items }
         ensures rest { self.new ≡ record self.old { items = self.new.items } }
     {
-        let cell = cell_at(&self.cells, &self.marks, self.empty, place);
+        let cell = cell_at(&self.cells, &self.flags, self.empty, place);
         tell_in(&mut self.cells[cell], step, offset, value);
     }
 
@@ -391,7 +391,7 @@ impl Cells {
         ensures changed { IsChangedAt (HasFailed step) place self.old.items self.new.items }
         ensures rest { self.new ≡ record self.old { items = self.new.items } }
     {
-        let cell = cell_at(&self.cells, &self.marks, self.empty, place);
+        let cell = cell_at(&self.cells, &self.flags, self.empty, place);
         poison_in(&mut self.cells[cell], step);
     }
 
@@ -434,7 +434,7 @@ impl Cells {
         if wanted <= self.capacity {
             return Ok(());
         }
-        match reserve(&mut self.cells, &mut self.marks) {
+        match reserve(&mut self.cells, &mut self.flags) {
             Err(memory) => Err(memory),
             Ok(()) => {
                 self.capacity = wanted;
@@ -462,12 +462,12 @@ impl Cells {
     {
         self.empty = make_way(
             &mut self.cells,
-            &mut self.marks,
+            &mut self.flags,
             &mut self.table,
             self.empty,
             self.capacity,
         );
-        put(&mut self.cells, &mut self.marks, &mut self.table, slot);
+        put(&mut self.cells, &mut self.flags, &mut self.table, slot);
     }
 
     /// Takes the instance at a place away; later ones move up by one.
@@ -476,11 +476,11 @@ impl Cells {
         ensures rest { self.new ≡ record self.old { items = remove self.old.items place; room = self.new.room } }
         ensures room { self.old.room ≤ self.new.room }
     {
-        let cell = cell_at(&self.cells, &self.marks, self.empty, place);
-        take_out(&mut self.cells, &mut self.marks, &mut self.table, cell);
+        let cell = cell_at(&self.cells, &self.flags, self.empty, place);
+        take_out(&mut self.cells, &mut self.flags, &mut self.table, cell);
         self.empty = tidy(
             &mut self.cells,
-            &mut self.marks,
+            &mut self.flags,
             &mut self.table,
             self.empty + 1,
         );

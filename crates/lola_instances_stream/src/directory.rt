@@ -54,23 +54,23 @@ fn forget(cells: &mut IndexMap<Key, usize, RandomState>, key: Key)
 }
 
 // Where a cell comes to stand when all before it that are not set move together.
-fn moved(marks: &BitVector, cell: usize) -> usize
-    ensures { result ≡ packed marks.now cell }
+fn moved(flags: &BitVector, cell: usize) -> usize
+    ensures { result ≡ packed flags.now cell }
 {
-    if cell <= marks.len() {
-        marks.rank(cell)
+    if cell <= flags.len() {
+        flags.rank(cell)
     } else {
         cell
     }
 }
 
 // Each key has the cell where its own comes to stand.
-fn renumber(cells: &mut IndexMap<Key, usize, RandomState>, marks: &BitVector)
-    ensures entries { cells.new.entries ≡ map (λ e. (e.0, packed marks.now e.1)) cells.old.entries }
+fn renumber(cells: &mut IndexMap<Key, usize, RandomState>, flags: &BitVector)
+    ensures entries { cells.new.entries ≡ map (λ e. (e.0, packed flags.now e.1)) cells.old.entries }
     ensures room { spare cells.old ≤ spare cells.new }
 {
     cells.retain(|_key, cell| {
-        *cell = moved(marks, *cell);
+        *cell = moved(flags, *cell);
         true
     });
 }
@@ -143,13 +143,13 @@ impl Directory {
     }
 
     /// The cells whose bits are set move together, and each instance is listed where its cell comes to stand.
-    pub fn pack(&mut self, marks: &BitVector)
+    pub fn pack(&mut self, flags: &BitVector)
         ensures kept { self.new.is_kept ≡ self.old.is_kept }
-        ensures entries { self.old.is_kept ≡ true → self.new.entries ≡ map (λ e. (e.0, packed marks.now e.1)) self.old.entries }
+        ensures entries { self.old.is_kept ≡ true → self.new.entries ≡ map (λ e. (e.0, packed flags.now e.1)) self.old.entries }
         ensures room { self.old.room ≤ self.new.room }
     {
         if self.is_kept {
-            renumber(&mut self.cells, marks);
+            renumber(&mut self.cells, flags);
         }
     }
 }

@@ -13,7 +13,7 @@ use Rattle.lola_lexer.specs.Spelling.{Bytes, is_blank, in_name}
 use Rattle.lola_lexer.specs.Lexical.{thing_at}
 use Rattle.lola_lexer.specs.Longest.{goes_on}
 use Rattle.lola_lexer.specs.Tokens.{with_front, tokens_from, tokens_of}
-use Rattle.lola_lexer.specs.Written.{Mark, IsMark, written, marks_at, bytes_of}
+use Rattle.lola_lexer.specs.Written.{Spaced, IsSpaced, written, spaced_at, bytes_of}
 use Rattle.lola_lexer.proofs.Classes.{differs}
 use Rattle.lola_lexer.proofs.Goes.{gap_goes, token_goes}
 use Rattle.lola_lexer.proofs.Complete.{complete, token_some}
@@ -70,12 +70,12 @@ blank_at : (b : ℕ) (z : Bytes) → is_blank b ≡ true → thing_at (b ∷ z) 
 unfolding thing_at
 blank_at b z h = rw h refl
 
--- ---- one mark
+-- ---- one token with a blank
 
-mark_goes : (m : Mark) (at : ℕ) (rest : Bytes) → IsMark m
+spaced_goes : (m : Spaced) (at : ℕ) (rest : Bytes) → IsSpaced m
     → tokens_from 0 at (m.text ++ (m.blank ∷ rest))
     ≡ with_front (record { shape = m.shape; from = at; to = at + length m.text } ∷ []) (tokens_from 0 (at + length m.text + 1) rest)
-mark_goes m at rest h =
+spaced_goes m at rest h =
     let z = m.text ++ (m.blank ∷ rest) in
     let n = length m.text in
     let t : Token = record { shape = m.shape; from = at; to = at + n } in
@@ -86,18 +86,18 @@ mark_goes m at rest h =
     ∙ ap (λ l. with_front (t ∷ []) (tokens_from 0 (at + n) l)) behind
     ∙ ap (with_front (t ∷ [])) (gap_goes (m.blank ∷ rest) (at + n) 1 (blank_at m.blank rest h.blank) (omega arith) (omega arith))
 
-pub written_goes : (ms : List Mark) (at : ℕ) → All IsMark ms → tokens_from 0 at (written ms) ≡ Ok (marks_at at ms)
+pub written_goes : (ms : List Spaced) (at : ℕ) → All IsSpaced ms → tokens_from 0 at (written ms) ≡ Ok (spaced_at at ms)
 written_goes [] at all = refl
 written_goes (m ∷ ms) at all =
-    mark_goes m at (written ms) (All-head IsMark m ms all)
+    spaced_goes m at (written ms) (All-head IsSpaced m ms all)
     ∙ ap (with_front (record { shape = m.shape; from = at; to = at + length m.text } ∷ []))
-    (written_goes ms (at + length m.text + 1) (All-tail IsMark m ms all))
+    (written_goes ms (at + length m.text + 1) (All-tail IsSpaced m ms all))
 
 -- ---- the bytes of each
 
--- the bytes of the tokens, where the marks stand behind a front
-texts_behind : (ms : List Mark) (front : Bytes) (at : ℕ) → length front ≡ at
-    → map (bytes_of (front ++ written ms)) (marks_at at ms) ≡ map (λ m. m.text) ms
+-- the bytes of the tokens, where the tokens with blanks stand behind a front
+texts_behind : (ms : List Spaced) (front : Bytes) (at : ℕ) → length front ≡ at
+    → map (bytes_of (front ++ written ms)) (spaced_at at ms) ≡ map (λ m. m.text) ms
 texts_behind [] front at long = refl
 texts_behind (m ∷ ms) front at long =
     let n = length m.text in
@@ -108,12 +108,12 @@ texts_behind (m ∷ ms) front at long =
     let split : front ++ (m.text ++ rest) ≡ longer ++ written ms =
     ap (λ l. front ++ l) (sym (append_assoc m.text (m.blank ∷ []) (written ms))) ∙ sym (append_assoc front (m.text ++ m.blank ∷ []) (written ms)) in
     let long' : length longer ≡ at + n + 1 = simp length-append (omega arith) in
-    ap₂ (λ t ts. t ∷ ts) here (ap (λ z. map (bytes_of z) (marks_at (at + n + 1) ms)) split ∙ texts_behind ms longer (at + n + 1) long')
+    ap₂ (λ t ts. t ∷ ts) here (ap (λ z. map (bytes_of z) (spaced_at (at + n + 1) ms)) split ∙ texts_behind ms longer (at + n + 1) long')
 
-pub texts_are : (ms : List Mark) → map (bytes_of (written ms)) (marks_at 0 ms) ≡ map (λ m. m.text) ms
+pub texts_are : (ms : List Spaced) → map (bytes_of (written ms)) (spaced_at 0 ms) ≡ map (λ m. m.text) ms
 texts_are ms = texts_behind ms [] 0 refl
 
-pub written_is_cut : (ms : List Mark) → All IsMark ms → length (written ms) ≤ 1_048_576 → tokens_of (written ms) ≡ Ok (marks_at 0 ms)
+pub written_is_cut : (ms : List Spaced) → All IsSpaced ms → length (written ms) ≤ 1_048_576 → tokens_of (written ms) ≡ Ok (spaced_at 0 ms)
 unfolding tokens_of
 written_is_cut ms all short =
     let few : nat_lt 1_048_576 (length (written ms)) ≡ false =

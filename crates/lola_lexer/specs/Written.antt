@@ -6,24 +6,24 @@ use Rattle.lola_lexer.specs.Spelling.{Bytes, is_blank, IsToken}
 use Rattle.lola_lexer.specs.Tokens.{tokens_of}
 
 -- a token's spelling, and the blank behind it
-pub record Mark : Type 0 where
+pub record Spaced : Type 0 where
   pub shape : TokenShape
   pub text : Bytes
   pub blank : ℕ
 
-pub record IsMark (m : Mark) : Type 0 where
+pub record IsSpaced (m : Spaced) : Type 0 where
   pub token : IsToken m.shape m.text
   pub blank : is_blank m.blank ≡ true
 
 -- the text
-abbrev pub written : List Mark → Bytes
+abbrev pub written : List Spaced → Bytes
 written [] = []
 written (m ∷ ms) = m.text ++ (m.blank ∷ written ms)
 
 -- the tokens, of which the first stands at the place
-abbrev pub marks_at : ℕ → List Mark → List Token
-marks_at at [] = []
-marks_at at (m ∷ ms) = record { shape = m.shape; from = at; to = at + length m.text } ∷ marks_at (at + length m.text + 1) ms
+abbrev pub spaced_at : ℕ → List Spaced → List Token
+spaced_at at [] = []
+spaced_at at (m ∷ ms) = record { shape = m.shape; from = at; to = at + length m.text } ∷ spaced_at (at + length m.text + 1) ms
 
 -- the bytes of a token
 abbrev pub bytes_of : Bytes → Token → Bytes
@@ -31,5 +31,5 @@ bytes_of z t = take (t.to - t.from) (drop t.from z)
 
 -- what is written is cut into the same tokens again, each with its bytes
 abbrev pub WrittenIsCut : Type 0
-WrittenIsCut = (ms : List Mark) → All IsMark ms → length (written ms) ≤ 1_048_576
-    → (tokens_of (written ms) ≡ Ok (marks_at 0 ms)) × (map (bytes_of (written ms)) (marks_at 0 ms) ≡ map (λ m. m.text) ms)
+WrittenIsCut = (ms : List Spaced) → All IsSpaced ms → length (written ms) ≤ 1_048_576
+    → (tokens_of (written ms) ≡ Ok (spaced_at 0 ms)) × (map (bytes_of (written ms)) (spaced_at 0 ms) ≡ map (λ m. m.text) ms)

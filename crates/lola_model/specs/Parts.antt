@@ -16,8 +16,8 @@ abbrev mutual
   listed f (Read place n how args) = f (Read place n how args) ++ listed_all f args
   listed f (Window place w args) = f (Window place w args) ++ listed_all f args
   listed f (Defaults' place u a v b) = f (Defaults' place u a v b) ++ (listed f a ++ listed f b)
-  listed f (Unary' place sign u a) = f (Unary' place sign u a) ++ listed f a
-  listed f (Both' place sign u a v b) = f (Both' place sign u a v b) ++ (listed f a ++ listed f b)
+  listed f (Unary' place operator u a) = f (Unary' place operator u a) ++ listed f a
+  listed f (Both' place operator u a v b) = f (Both' place operator u a v b) ++ (listed f a ++ listed f b)
   listed f (Choice' place u a v b w d) = f (Choice' place u a v b w d) ++ (listed f a ++ (listed f b ++ listed f d))
 
   -- the same of arguments

@@ -39,8 +39,8 @@ place_in (Parameter place i) = place
 place_in (Read place n how args) = place
 place_in (Window place w args) = place
 place_in (Defaults' place u a v b) = place
-place_in (Unary' place sign u a) = place
-place_in (Both' place sign u a v b) = place
+place_in (Unary' place operator u a) = place
+place_in (Both' place operator u a v b) = place
 place_in (Choice' place u a v b w d) = place
 
 abbrev pub noted : Expr → Kind
@@ -99,8 +99,8 @@ is_certain windows (Parameter place i) = true
 is_certain windows (Read place n how args) = is_direct how
 is_certain windows (Window place w args) = is_certain_window (slice_get windows w)
 is_certain windows (Defaults' place u a v b) = true
-is_certain windows (Unary' place sign u a) = true
-is_certain windows (Both' place sign u a v b) = true
+is_certain windows (Unary' place operator u a) = true
+is_certain windows (Both' place operator u a v b) = true
 is_certain windows (Choice' place u a v b w d) = true
 
 -- the rows
@@ -115,7 +115,7 @@ window_row streams (Some w) k args =
     is_reference streams w.target args
     && (takes w.using (kind_in (target_in streams w)) && same_kind (gives_kind w.using (kind_in (target_in streams w))) k)
 
--- a prefix sign, its kind, and its operand's
+-- a prefix operator, its kind, and its operand's
 abbrev pub prefix_row : Prefix → Kind → Kind → Bool
 prefix_row prefix.Not k a = same_kind k kind.Bool && same_kind a kind.Bool
 prefix_row prefix.Minus k a = is_signed k && same_kind a k
@@ -132,7 +132,7 @@ equality_row k a b = same_kind k kind.Bool && same_kind b a
 abbrev pub truth_row : Kind → Kind → Kind → Bool
 truth_row k a b = same_kind k kind.Bool && (same_kind a kind.Bool && same_kind b kind.Bool)
 
--- a binary sign, its kind, and its operands'
+-- a binary operator, its kind, and its operands'
 abbrev pub binary_row : Binary → Kind → Kind → Kind → Bool
 binary_row binary.Add k a b = arithmetic_row k a b
 binary_row binary.Sub k a b = arithmetic_row k a b
@@ -157,9 +157,9 @@ row_holds s (Read place n how args) =
 row_holds s (Window place w args) = window_row s.streams (slice_get s.windows w) (kind_of place) args
 row_holds s (Defaults' place u a v b) =
     same_kind (noted a) (kind_of place) && (same_kind (noted b) (kind_of place) && is_certain s.windows b)
-row_holds s (Unary' place sign u a) = prefix_row sign (kind_of place) (noted a) && is_certain s.windows a
-row_holds s (Both' place sign u a v b) =
-    binary_row sign (kind_of place) (noted a) (noted b) && (is_certain s.windows a && is_certain s.windows b)
+row_holds s (Unary' place operator u a) = prefix_row operator (kind_of place) (noted a) && is_certain s.windows a
+row_holds s (Both' place operator u a v b) =
+    binary_row operator (kind_of place) (noted a) (noted b) && (is_certain s.windows a && is_certain s.windows b)
 row_holds s (Choice' place u a v b w d) =
     same_kind (noted a) kind.Bool
     && ((same_kind (noted b) (kind_of place) && same_kind (noted d) (kind_of place))
@@ -173,8 +173,8 @@ abbrev mutual
   each_part f (Read place n how args) = f (Read place n how args) && each_argument f args
   each_part f (Window place w args) = f (Window place w args) && each_argument f args
   each_part f (Defaults' place u a v b) = f (Defaults' place u a v b) && (each_part f a && each_part f b)
-  each_part f (Unary' place sign u a) = f (Unary' place sign u a) && each_part f a
-  each_part f (Both' place sign u a v b) = f (Both' place sign u a v b) && (each_part f a && each_part f b)
+  each_part f (Unary' place operator u a) = f (Unary' place operator u a) && each_part f a
+  each_part f (Both' place operator u a v b) = f (Both' place operator u a v b) && (each_part f a && each_part f b)
   each_part f (Choice' place u a v b w d) =
       f (Choice' place u a v b w d) && (each_part f a && (each_part f b && each_part f d))
 

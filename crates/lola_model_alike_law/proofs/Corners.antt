@@ -44,7 +44,7 @@ block_of null_ptr = 0
 
 -- the block of the first box of an expression
 abbrev first_block : Expr → ℕ
-first_block (Both' place sign u a v b) = block_of u.ptr
+first_block (Both' place operator u a v b) = block_of u.ptr
 first_block e = 0
 
 abbrev first_of : List Expr → ℕ
@@ -67,7 +67,7 @@ elsewhere_has_the_same_lines = refl
 
 -- the literal of the first output of a plan
 abbrev literal_of : Expr → Value
-literal_of (Both' place sign u a v (Literal at w)) = w
+literal_of (Both' place operator u a v (Literal at w)) = w
 literal_of e = value.Bool false
 
 abbrev literal_in : List Stream → Value

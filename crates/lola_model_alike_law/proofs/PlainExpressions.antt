@@ -55,8 +55,8 @@ module _ (spec : Spec) (c : Content) where
         same_arguments (den_all (plain_spec spec) c p (plain_all args)) (den_all spec c p args) (λ q. window_of (plain_spec spec) c (slice_get spec.windows w) q)
         (λ q. window_of spec c (slice_get spec.windows w) q) (same_all p args) (same_window (slice_get spec.windows w))
     same_den p (Defaults' place u a v b) = ap₂ defaulted (same_den p a) (same_den p b)
-    same_den p (Unary' place sign u a) = ap (λ x. and_then x (λ v. negated sign (kind_of place) v)) (same_den p a)
-    same_den p (Both' place sign u a v b) = ap₂ (joined sign (kind_of place)) (same_den p a) (same_den p b)
+    same_den p (Unary' place operator u a) = ap (λ x. and_then x (λ v. negated operator (kind_of place) v)) (same_den p a)
+    same_den p (Both' place operator u a v b) = ap₂ (joined operator (kind_of place)) (same_den p a) (same_den p b)
     same_den p (Choice' place u a v b w d) =
         ap (λ x. and_then x (λ t. chosen t (den (plain_spec spec) c p (plain b)) (den (plain_spec spec) c p (plain d)))) (same_den p a)
         ∙ ap₂ (λ y z. and_then (den spec c p a) (λ t. chosen t y z)) (same_den p b) (same_den p d)

@@ -33,8 +33,8 @@ abbrev mutual
   plain (Read place n how args) = Read place n how (plain_all args)
   plain (Window place w args) = Window place w (plain_all args)
   plain (Defaults' place u a v b) = Defaults' place nowhere (plain a) nowhere (plain b)
-  plain (Unary' place sign u a) = Unary' place sign nowhere (plain a)
-  plain (Both' place sign u a v b) = Both' place sign nowhere (plain a) nowhere (plain b)
+  plain (Unary' place operator u a) = Unary' place operator nowhere (plain a)
+  plain (Both' place operator u a v b) = Both' place operator nowhere (plain a) nowhere (plain b)
   plain (Choice' place u a v b w d) = Choice' place nowhere (plain a) nowhere (plain b) nowhere (plain d)
 
   -- arguments

@@ -29,30 +29,30 @@ use Rattle.lola_monitor_run.specs.Feeds as feeds
 use Rattle.lola_monitor_run.specs.Feeds.{AreFed, AreInPlace, AreReady, CameTo, EndedByFault, EndedWith, EndsRun, GoInRounds, HasEnded, HaveEnded, IsListOf, Supply, ThroughWell, World, supply_of, world}
 use Rattle.lola_monitor.specs.Drilling.{AreDrillWorkers, DrillRun, DrillsTo, IsAtDrillDeadline, IsDrillFault, IsDrillWorker, drill_rows, drill_setting}
 use Rattle.lola_monitor.specs.Monitor.{HasItsModels, MalformedSource, done_line, fault_line, first_malformed}
-use Rattle.lola_monitor.specs.Outcomes.{OutcomeAfter, end_by, end_of, ends_of, first_failed, is_read_fault, line_of, malformed_by, source_end}
+use Rattle.lola_monitor.specs.Outcomes.{OutcomeAfter, end_by, end_of, ends_of, first_failed, is_failed_read, line_of, malformed_by, source_end}
 use Rattle.lola_monitor.specs.declared.ending.SourcesEnd.{SourcesEnd}
 use Rattle.lola_monitor.specs.declared.outcome.Outcome.TheVariants.{Line}
-use Rattle.lola_monitor.proofs.Faulty.{none_malformed}
+use Rattle.lola_monitor.proofs.FailedAsks.{none_malformed}
 
 -- ---- a source whose reads do not fail
 
 not_risen : (old new : ℕ) → old ≡ 0 → new ≡ 0 → Rose old new → ⊥
 not_risen old new none still rose = absurd (omega (arith, none, still, rose))
 
-no_read_fault : (end : Option worker.SourceEnd) (old new : Supply) (rows : List Row) → old.count ≡ 0 → new.count ≡ 0 → HasEnded end old new rows → is_read_fault end ≡ false
-no_read_fault None old new rows none still ended = refl
-no_read_fault (Some finish.End) old new rows none still ended = refl
-no_read_fault (Some (finish.Malformed kind row)) old new rows none still ended = refl
-no_read_fault (Some finish.ReadFault) old new rows none still ended = absurd (not_risen old.count new.count none still ended)
-no_read_fault (Some finish.Closed) old new rows none still ended = absurd ended
-no_read_fault (Some finish.Memory) old new rows none still ended = absurd ended
+no_failed_read : (end : Option worker.SourceEnd) (old new : Supply) (rows : List Row) → old.count ≡ 0 → new.count ≡ 0 → HasEnded end old new rows → is_failed_read end ≡ false
+no_failed_read None old new rows none still ended = refl
+no_failed_read (Some finish.End) old new rows none still ended = refl
+no_failed_read (Some (finish.Malformed kind row)) old new rows none still ended = refl
+no_failed_read (Some finish.ReadFailed) old new rows none still ended = absurd (not_risen old.count new.count none still ended)
+no_failed_read (Some finish.Closed) old new rows none still ended = absurd ended
+no_failed_read (Some finish.Memory) old new rows none still ended = absurd ended
 
 -- one that has ended was read to its end
 read_whole : (end : Option worker.SourceEnd) (old new : Supply) (rows : List Row) → IsSome end → old.count ≡ 0 → new.count ≡ 0 → HasEnded end old new rows → EndedWith (source_end end) old.rest rows
 read_whole None old new rows some none still ended = let bad : false ≡ true = some in absurd (cc)
 read_whole (Some finish.End) old new rows some none still ended = ended.0
 read_whole (Some (finish.Malformed kind row)) old new rows some none still ended = ended.0
-read_whole (Some finish.ReadFault) old new rows some none still ended = absurd (not_risen old.count new.count none still ended)
+read_whole (Some finish.ReadFailed) old new rows some none still ended = absurd (not_risen old.count new.count none still ended)
 read_whole (Some finish.Closed) old new rows some none still ended = absurd ended
 read_whole (Some finish.Memory) old new rows some none still ended = absurd ended
 
@@ -70,7 +70,7 @@ two_lists (x ∷ []) a b many is next = absurd (omega (arith, many))
 two_lists (x ∷ y ∷ []) a b many is next = ap (λ (l : List Row). l ∷ y ∷ []) (is x refl) ∙ ap (λ (l : List Row). a ∷ l ∷ []) (next y refl)
 two_lists (x ∷ y ∷ z ∷ lists) a b many is next = absurd (omega (arith, many))
 
-neither_failed : (a b : Option worker.SourceEnd) → is_read_fault a ≡ false → is_read_fault b ≡ false → first_failed (a ∷ b ∷ []) ≡ None
+neither_failed : (a b : Option worker.SourceEnd) → is_failed_read a ≡ false → is_failed_read b ≡ false → first_failed (a ∷ b ∷ []) ≡ None
 neither_failed a b first second = rw (first, second) refl
 
 -- a new worker of a source has all of its rows to come
@@ -132,7 +132,7 @@ module _ (d : DrillCommand) (plan : Plan) (kept0 kept1 : Keeping) (w0 w1 v0 v1 :
     none1 = new_count plan d 1 w1 new1
 
     -- the rows of a source that has not failed are all of its list's
-    list_is : (s : ℕ) (w v : Working) (rows : List Row) → to_come w ≡ Some (drill_rows plan d s) → IsListOf (supply_of w) (supply_of v) rows → (v.end ≡ Some finish.ReadFault → ⊥) → rows ≡ (drill_rows plan d s).rows
+    list_is : (s : ℕ) (w v : Working) (rows : List Row) → to_come w ≡ Some (drill_rows plan d s) → IsListOf (supply_of w) (supply_of v) rows → (v.end ≡ Some finish.ReadFailed → ⊥) → rows ≡ (drill_rows plan d s).rows
     list_is s w v rows rest are sound = sym ((are (drill_rows plan d s) rest).1 sound)
 
     in_turns : (journal : List Entry) → GoInRounds olds news journal → AreFirst ((drill_rows plan d 0).rows ∷ (drill_rows plan d 1).rows ∷ []) journal
@@ -164,7 +164,7 @@ module _ (d : DrillCommand) (plan : Plan) (kept0 kept1 : Keeping) (w0 w1 v0 v1 :
       fed1 = (fed.each 1 (supply_of w1) (supply_of v1) refl refl).end
 
       none_failed : first_failed ends ≡ None
-      none_failed = neither_failed v0.end v1.end (no_read_fault v0.end (supply_of w0) (supply_of v0) (rows_of 0 journal) none0 still0 fed0) (no_read_fault v1.end (supply_of w1) (supply_of v1) (rows_of 1 journal) none1 still1 fed1)
+      none_failed = neither_failed v0.end v1.end (no_failed_read v0.end (supply_of w0) (supply_of v0) (rows_of 0 journal) none0 still0 fed0) (no_failed_read v1.end (supply_of w1) (supply_of v1) (rows_of 1 journal) none1 still1 fed1)
 
       module _ (ended : HaveEnded news) where
         rows0 : drill_rows plan d 0 ≡ record { rows = rows_of 0 journal; end = source_end v0.end }
@@ -191,12 +191,12 @@ module _ (d : DrillCommand) (plan : Plan) (kept0 kept1 : Keeping) (w0 w1 v0 v1 :
               led rows end = record { rows = rows; end = end }
 
     -- the counts of the last line
-    done_is : (w : ThroughWell true first final) → Done kept1.accepted kept1.late kept1.desk.steps kept1.desk.lines ≡ done_line (setting_in kept0) w.through.came.journal
+    done_is : (w : ThroughWell true first final) → Done kept1.accepted kept1.late kept1.state.steps kept1.state.lines ≡ done_line (setting_in kept0) w.through.came.journal
     done_is w =
         let journal = w.through.came.journal in let s = setting_in kept0 in
-        ap (λ a. Done a kept1.late kept1.desk.steps kept1.desk.lines) w.accepted
-        ∙ (ap (λ l. Done (length (accepted journal)) l kept1.desk.steps kept1.desk.lines) w.late
-        ∙ (ap (λ n. Done (length (accepted journal)) (late_count journal) n kept1.desk.lines) w.steps
+        ap (λ a. Done a kept1.late kept1.state.steps kept1.state.lines) w.accepted
+        ∙ (ap (λ l. Done (length (accepted journal)) l kept1.state.steps kept1.state.lines) w.late
+        ∙ (ap (λ n. Done (length (accepted journal)) (late_count journal) n kept1.state.lines) w.steps
         ∙ ap (λ v. Done (length (accepted journal)) (late_count journal) (length (whole_model s.plan s.start journal)) v) w.lines))
 
     by_ends : (m : Option MalformedSource) → first_malformed (map source_end ends) ≡ m → ThroughWell true first final → DrillsTo (line_of (malformed_by m) kept1) d
@@ -276,12 +276,12 @@ few_workers plan d lent last shown are places same = omega (arith, ap length sam
 -- the same of what was shown of the workers and of the run
 pub drilled : (d : DrillCommand) (plan : Plan) (kept0 kept1 : Keeping) (lent last shown : List Working) (how : Result (Unit {0}) Stop) (end : SourcesEnd) (line : EndLine)
     → IsPlanOf drill_text plan → IsAccepted plan → HasItsModels plan → setting_in kept0 ≡ drill_setting plan → AreDrillWorkers plan d lent → AreInPlace lent last
-    → All (λ (w : Working). w.reader.source.count ≡ 0) last → shown ≡ last → end ≡ end_of (ends_of shown) → kept1.desk.plan ≡ kept0.desk.plan
-    → OutcomeAfter how end kept1.desk.plan kept1 (Line line)
+    → All (λ (w : Working). w.reader.source.count ≡ 0) last → shown ≡ last → end ≡ end_of (ends_of shown) → kept1.state.plan ≡ kept0.state.plan
+    → OutcomeAfter how end kept1.state.plan kept1 (Line line)
     → EndsRun true how (world kept0 (map supply_of lent) nowhere nowhere) (world kept1 (map supply_of last) nowhere nowhere) → DrillsTo line d
 drilled d plan kept0 kept1 lent last shown how end line is_plan accepted_plan one_model setting are places still same ends plans is ran =
     let ends_are : end ≡ end_of (ends_of last) = ends ∙ ap (λ (ws : List Working). end_of (ends_of ws)) same in
-    let plan_is : kept1.desk.plan ≡ plan = plans ∙ ap (λ (s : Setting). s.plan) setting in
+    let plan_is : kept1.state.plan ≡ plan = plans ∙ ap (λ (s : Setting). s.plan) setting in
     drills_to d plan kept0 kept1 lent last nowhere nowhere nowhere nowhere how line is_plan accepted_plan one_model setting are (as_many lent last places) still
-    (subst (λ (p : Plan). OutcomeAfter how (end_of (ends_of last)) p kept1 (Line line)) plan_is (subst (λ (e : SourcesEnd). OutcomeAfter how e kept1.desk.plan kept1 (Line line)) ends_are is))
+    (subst (λ (p : Plan). OutcomeAfter how (end_of (ends_of last)) p kept1 (Line line)) plan_is (subst (λ (e : SourcesEnd). OutcomeAfter how e kept1.state.plan kept1 (Line line)) ends_are is))
     ran

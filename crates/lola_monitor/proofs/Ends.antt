@@ -69,7 +69,7 @@ module _ (words : List (List ℕ)) (before after : Outside) (last : SinkState) w
   }
 
   ends_unread : NotRead words before after → Wrote after.out last (end_text UnreadableSpecification) → IsUnread here
-  ends_unread s wrote = record { name = s.name; is_command = s.is_command; faulty = s.faulty; rose = s.rose; trace = s.early.trace; out = wrote_same before.out after.out last _ s.early.out wrote }
+  ends_unread s wrote = record { name = s.name; is_command = s.is_command; has_failed = s.has_failed; rose = s.rose; trace = s.early.trace; out = wrote_same before.out after.out last _ s.early.out wrote }
 
   ends_analysed : (text : List ℕ) → StoodAnalysed text words before after → last ≡ grown after.out text → IsAnalysed here
   ends_analysed text s is = record { analysis = s.analysis; trace = s.early.trace; out = is ∙ ap (λ o. grown o text) s.early.out ∙ ap (grown before.out) s.text_is }

@@ -4,7 +4,7 @@ use Rattle.std.specs.Option.{option_map}
 use Rattle.lola_feed.specs.Feeding.{Working}
 use Rattle.lola_rows.specs.Rows.{SourceEnd, Whole, MalformedAt}
 use Rattle.lola_monitor.specs.Monitor.{MalformedSource, first_malformed, one_further}
-use Rattle.lola_monitor.specs.Outcomes.{ends_of, first_failed, is_read_fault, malformed_at, malformed_by, source_end}
+use Rattle.lola_monitor.specs.Outcomes.{ends_of, first_failed, is_failed_read, malformed_at, malformed_by, source_end}
 use Rattle.lola_monitor.specs.declared.ending.SourcesEnd.{SourcesEnd}
 use Rattle.lola_monitor.specs.declared.ending.SourcesEnd.TheVariants as sources_end
 
@@ -33,13 +33,13 @@ pub from_place : (ws : List Working) (at : ℕ) (w : Working) → slice_get ws a
 from_place ws at w is = let next : suc at ≡ at + 1 = omega arith in from_suc ws at w is ∙ ap (λ (n : ℕ). w ∷ drop n ws) next
 
 -- what is found so far, and from here on
-pub failed_more : (all : Option ℕ) (ws : List Working) (at : ℕ) (w : Working) → slice_get ws at ≡ Some w → is_read_fault w.end ≡ false → all ≡ shifted at (first_failed (ends_of (drop at ws))) → all ≡ shifted (at + 1) (first_failed (ends_of (drop (at + 1) ws)))
+pub failed_more : (all : Option ℕ) (ws : List Working) (at : ℕ) (w : Working) → slice_get ws at ≡ Some w → is_failed_read w.end ≡ false → all ≡ shifted at (first_failed (ends_of (drop at ws))) → all ≡ shifted (at + 1) (first_failed (ends_of (drop (at + 1) ws)))
 failed_more all ws at w there is so =
     so ∙ ap (λ (l : List Working). shifted at (first_failed (ends_of l))) (from_place ws at w there)
     ∙ ap (λ (b : Bool). shifted at (if b then Some 0 else option_map (λ n. n + 1) (first_failed (ends_of (drop (at + 1) ws))))) is
     ∙ shifted_more at (first_failed (ends_of (drop (at + 1) ws)))
 
-pub failed_here : (all : Option ℕ) (ws : List Working) (at : ℕ) (w : Working) → slice_get ws at ≡ Some w → is_read_fault w.end ≡ true → all ≡ shifted at (first_failed (ends_of (drop at ws))) → all ≡ Some at
+pub failed_here : (all : Option ℕ) (ws : List Working) (at : ℕ) (w : Working) → slice_get ws at ≡ Some w → is_failed_read w.end ≡ true → all ≡ shifted at (first_failed (ends_of (drop at ws))) → all ≡ Some at
 failed_here all ws at w there is so =
     so ∙ ap (λ (l : List Working). shifted at (first_failed (ends_of l))) (from_place ws at w there)
     ∙ ap (λ (b : Bool). shifted at (if b then Some 0 else option_map (λ n. n + 1) (first_failed (ends_of (drop (at + 1) ws))))) is

@@ -24,17 +24,17 @@ use Rattle.lola_monitor_run.specs.Running.{Keeping, setting_in}
 use Rattle.lola_monitor_run.specs.declared.stop.Stop.{Stop}
 use Rattle.lola_monitor_run.specs.declared.stop.Stop.TheVariants as stop
 use Rattle.lola_monitor_run.specs.Feeds as feeds
-use Rattle.lola_monitor_run.specs.Feeds.{AreFed, AreReady, BeganWith, CameTo, EndedByCutFault, EndedByFault, EndedWith, EndsRun, GoInRounds, HasEnded, HaveBegun, HaveEnded, IsFed, RanOutOfMemory, RanToPutFault, Supply, Through, ThroughCut, ThroughWell, World, supply_of, world}
+use Rattle.lola_monitor_run.specs.Feeds.{AreFed, AreReady, BeganWith, CameTo, EndedByCutFault, EndedByFault, EndedWith, EndsRun, GoInRounds, HasEnded, HaveBegun, HaveEnded, IsFed, RanOutOfMemory, RanToFailedPut, Supply, Through, ThroughCut, ThroughWell, World, supply_of, world}
 use Rattle.lola_feed.specs.Lending as shelves
 use Rattle.lola_feed.specs.Lending.{AreRooms, Fetches, HasReturned, IsLent, IsNotGiven, IsStopped, asks_of, counts_of, places_of}
 use Rattle.lola_feed.specs.declared.sources.FetchStop.{FetchStop}
 use Rattle.lola_feed.specs.declared.sources.FetchStop.TheVariants as fetch
-use Rattle.lola_monitor.specs.Monitor.{AllBegin, AllEnd, AllRead, Begins, Ends, GoInTurns, IsAtDeadline, MalformedSource, Outside, asks_between, done_line, fault_line, first_faulty, first_malformed, is_faulty, outside, source_rows}
+use Rattle.lola_monitor.specs.Monitor.{AllBegin, AllEnd, AllRead, Begins, Ends, GoInTurns, IsAtDeadline, MalformedSource, Outside, asks_between, done_line, fault_line, first_failed_ask, first_malformed, is_failed_ask, outside, source_rows}
 use Rattle.lola_monitor.specs.Outcomes.{AllHome, ArePut, BrokenRun, CameHome, CutFaultRun, CutRun, EndedRun, FaultRun, Grew, OutcomeAfter, RunsSources, SourcesRun, StoppedRun, end_by, end_of, ends_of, first_failed, line_of, source_end, unfetched}
 use Rattle.lola_monitor.specs.declared.outcome.Outcome.{Outcome}
 use Rattle.lola_monitor.specs.declared.outcome.Outcome.TheVariants.{Line}
 use Rattle.lola_monitor.proofs.Calls.{between, grew_all, grew_none, names_given}
-use Rattle.lola_monitor.proofs.Faulty.{Fits, all_counted, counted, first_is, first_not_given, front_asked, get_counted, given_counted, last_given, names_counted, none_counted, none_failed, none_faulty, none_malformed, plainly_given, some_counted}
+use Rattle.lola_monitor.proofs.FailedAsks.{Fits, all_counted, counted, first_is, first_not_given, front_asked, get_counted, given_counted, last_given, names_counted, none_counted, none_failed, none_failed_ask, none_malformed, plainly_given, some_counted}
 use Rattle.lola_monitor.proofs.Listed.{get_beside, get_image, image_get}
 
 -- the rows of a told source are those to come
@@ -52,7 +52,7 @@ fits : (end : Option worker.SourceEnd) (old new : Supply) (rows : List Row) → 
 fits None old new rows none ended = ended.2 ∙ none
 fits (Some finish.End) old new rows none ended = ended.1 ∙ none
 fits (Some (finish.Malformed kind row)) old new rows none ended = ended.1 ∙ none
-fits (Some finish.ReadFault) old new rows none ended = omega (arith, none, ended)
+fits (Some finish.ReadFailed) old new rows none ended = omega (arith, none, ended)
 fits (Some finish.Closed) old new rows none ended = ended
 fits (Some finish.Memory) old new rows none ended = ended
 
@@ -61,16 +61,16 @@ read_end : (end : Option worker.SourceEnd) (old new : Supply) (rows : List Row) 
 read_end None old new rows some fit none ended = let bad : false ≡ true = some in absurd (cc)
 read_end (Some finish.End) old new rows some fit none ended = ended.0
 read_end (Some (finish.Malformed kind row)) old new rows some fit none ended = ended.0
-read_end (Some finish.ReadFault) old new rows some fit none ended = absurd (omega (arith, fit, none))
+read_end (Some finish.ReadFailed) old new rows some fit none ended = absurd (omega (arith, fit, none))
 read_end (Some finish.Closed) old new rows some fit none ended = absurd ended
 read_end (Some finish.Memory) old new rows some fit none ended = absurd ended
 
 -- one that has no failed read has not failed
-not_failed : (end : Option worker.SourceEnd) (count : ℕ) → (end ≡ Some finish.ReadFault → ⊥) → Fits end count → count ≡ 0
+not_failed : (end : Option worker.SourceEnd) (count : ℕ) → (end ≡ Some finish.ReadFailed → ⊥) → Fits end count → count ≡ 0
 not_failed None count none fit = fit
 not_failed (Some finish.End) count none fit = fit
 not_failed (Some (finish.Malformed kind row)) count none fit = fit
-not_failed (Some finish.ReadFault) count none fit = absurd (none refl)
+not_failed (Some finish.ReadFailed) count none fit = absurd (none refl)
 not_failed (Some finish.Closed) count none fit = absurd fit
 not_failed (Some finish.Memory) count none fit = absurd fit
 
@@ -137,8 +137,8 @@ module _ (in_turns : Bool) (names : List (List ℕ)) (before after : Outside) (k
     ask_at : (n : ℕ) (name : List ℕ) (w : Working) → slice_get names n ≡ Some name → slice_get last n ≡ Some w → slice_get asks n ≡ Some (counted name w.reader.source.count)
     ask_at n name w named is = get_counted names counts n name w.reader.source.count named (image_get (λ (v : Working). v.reader.source.count) last n w is)
 
-    ask_is : (n : ℕ) (name : List ℕ) (w : Working) (ask : Ask) → slice_get names n ≡ Some name → slice_get last n ≡ Some w → slice_get asks n ≡ Some ask → is_faulty ask ≡ nat_lt 0 w.reader.source.count
-    ask_is n name w ask named is there = let at = ask_at n name w named is in let same : ask ≡ counted name w.reader.source.count = cc in ap is_faulty same
+    ask_is : (n : ℕ) (name : List ℕ) (w : Working) (ask : Ask) → slice_get names n ≡ Some name → slice_get last n ≡ Some w → slice_get asks n ≡ Some ask → is_failed_ask ask ≡ nat_lt 0 w.reader.source.count
+    ask_is n name w ask named is there = let at = ask_at n name w named is in let same : ask ≡ counted name w.reader.source.count = cc in ap is_failed_ask same
 
     between_is : asks_between before.shelf after.shelf ≡ asks
     between_is = between before.shelf after.shelf asks returned.asks
@@ -156,15 +156,15 @@ module _ (in_turns : Bool) (names : List (List ℕ)) (before after : Outside) (k
     abbrev grew : Grew names before.shelf after.shelf
     grew = grew_all names before.shelf after.shelf asks returned.asks (names_counted names counts many_counts) returned.out
 
-    all_home : first_faulty asks ≡ None → AllHome names before.shelf after.shelf
+    all_home : first_failed_ask asks ≡ None → AllHome names before.shelf after.shelf
     all_home none =
         let zeros = none_counted names counts many_counts none in
         record { asks = returned.asks ∙ ap (λ (a : List Ask). before.shelf.asks ++ a) (plainly_given names counts many_counts zeros); count = returned.unfailed zeros; out = returned.out }
 
     -- ---- rows in turns
 
-    sound : first_faulty asks ≡ None → (n : ℕ) (name : List ℕ) (w : Working) → slice_get names n ≡ Some name → slice_get last n ≡ Some w → w.reader.source.count ≡ 0
-    sound none n name w named is = zero_of w.reader.source.count (none_faulty asks none n (counted name w.reader.source.count) (ask_at n name w named is))
+    sound : first_failed_ask asks ≡ None → (n : ℕ) (name : List ℕ) (w : Working) → slice_get names n ≡ Some name → slice_get last n ≡ Some w → w.reader.source.count ≡ 0
+    sound none n name w named is = zero_of w.reader.source.count (none_failed_ask asks none n (counted name w.reader.source.count) (ask_at n name w named is))
 
     pub go_in_turns : (journal : List Entry) → GoInRounds olds news journal → GoInTurns names s.plan before.shelf after.shelf journal
     go_in_turns journal rounds = record {
@@ -180,7 +180,7 @@ module _ (in_turns : Bool) (names : List (List ℕ)) (before after : Outside) (k
           let old = image_get supply_of lent n w.0 w.1 in
           let new = image_get supply_of last n v.0 v.1 in
           (rounds.are n (supply_of w.0) (supply_of v.0) rows old new at (source_rows s.plan n bytes) (fresh.rest n name w.0 named w.1 bytes told)).1
-          (λ bad. not_risen w.0 v.0 (fresh.count n name w.0 named w.1) (sound (sym (ap first_faulty between_is) ∙ none) n name v.0 named v.1) (rounds.failed n (supply_of w.0) (supply_of v.0) old new bad));
+          (λ bad. not_risen w.0 v.0 (fresh.count n name w.0 named w.1) (sound (sym (ap first_failed_ask between_is) ∙ none) n name v.0 named v.1) (rounds.failed n (supply_of w.0) (supply_of v.0) old new bad));
       first = rounds.first;
     }
       where
@@ -197,7 +197,7 @@ module _ (in_turns : Bool) (names : List (List ℕ)) (before after : Outside) (k
           let w = old_of n name.0 name.1 in
           fits v.end (supply_of w.0) (supply_of v) (rows_of n journal) (fresh.count n name.0 w.0 name.1 w.1) (fed_at n w.0 v w.1 new).end
 
-      first_is_failed : first_faulty asks ≡ first_failed (ends_of last)
+      first_is_failed : first_failed_ask asks ≡ first_failed (ends_of last)
       first_is_failed = first_is names last many_last fit_at
 
       module _ (ended : HaveEnded news) where
@@ -209,9 +209,9 @@ module _ (in_turns : Bool) (names : List (List ℕ)) (before after : Outside) (k
             (read_end v.end (supply_of w.0) (supply_of v) (rows_of n journal) (ended n (supply_of v) (image_get supply_of last n v new)) (fit_at n v new) none (fed_at n w.0 v w.1 new).end)
 
         all_read : AllRead before.shelf s.plan names asks journal
-        all_read n name ask named there not_faulty =
+        all_read n name ask named there not_failed_ask =
             let v = new_of n name named in
-            (source_end v.0.end, ended_at n name v.0 named v.1 (zero_of v.0.reader.source.count (sym (ask_is n name v.0 ask named v.1 there) ∙ not_faulty)))
+            (source_end v.0.end, ended_at n name v.0 named v.1 (zero_of v.0.reader.source.count (sym (ask_is n name v.0 ask named v.1 there) ∙ not_failed_ask)))
 
         -- where none has failed, all were
         all_end : first_failed (ends_of last) ≡ None → AllEnd before.shelf s.plan names journal (map source_end (ends_of last))
@@ -251,15 +251,15 @@ module _ (in_turns : Bool) (names : List (List ℕ)) (before after : Outside) (k
     put_is through = record { trace = through.trace; out = through.out }
 
     -- the counts of the last line
-    done_is : (w : ThroughWell in_turns first final) → Done kept1.accepted kept1.late kept1.desk.steps kept1.desk.lines ≡ done_line s w.through.came.journal
+    done_is : (w : ThroughWell in_turns first final) → Done kept1.accepted kept1.late kept1.state.steps kept1.state.lines ≡ done_line s w.through.came.journal
     done_is w =
         let journal = w.through.came.journal in
-        ap (λ a. Done a kept1.late kept1.desk.steps kept1.desk.lines) w.accepted
-        ∙ (ap (λ l. Done (length (accepted journal)) l kept1.desk.steps kept1.desk.lines) w.late
-        ∙ (ap (λ n. Done (length (accepted journal)) (late_count journal) n kept1.desk.lines) w.steps
+        ap (λ a. Done a kept1.late kept1.state.steps kept1.state.lines) w.accepted
+        ∙ (ap (λ l. Done (length (accepted journal)) l kept1.state.steps kept1.state.lines) w.late
+        ∙ (ap (λ n. Done (length (accepted journal)) (late_count journal) n kept1.state.lines) w.steps
         ∙ ap (λ v. Done (length (accepted journal)) (late_count journal) (length (whole_model s.plan s.start journal)) v) w.lines))
 
-    none_first : (w : ThroughWell in_turns first final) → first_failed (ends_of last) ≡ None → first_faulty asks ≡ None
+    none_first : (w : ThroughWell in_turns first final) → first_failed (ends_of last) ≡ None → first_failed_ask asks ≡ None
     none_first w none = first_is_failed w.through.came.journal w.fed ∙ none
 
     abbrev ended_run : (w : ThroughWell in_turns first final) → first_failed (ends_of last) ≡ None → EndedRun in_turns s names before after
@@ -267,7 +267,7 @@ module _ (in_turns : Bool) (names : List (List ℕ)) (before after : Outside) (k
 
     cut_run : (w : ThroughWell in_turns first final) (at : ℕ) → first_failed (ends_of last) ≡ Some at → CutRun in_turns (UnreadableSource at) s names before after
     cut_run w at failed =
-        let least : first_faulty asks ≡ Some at = first_is_failed w.through.came.journal w.fed ∙ failed in
+        let least : first_failed_ask asks ≡ Some at = first_is_failed w.through.came.journal w.fed ∙ failed in
         record {
           run = run_through w.through;
           put = put_is w.through;
@@ -330,7 +330,7 @@ module _ (in_turns : Bool) (names : List (List ℕ)) (before after : Outside) (k
     }
 
     -- a failed put ended the run
-    broken_run : RanToPutFault in_turns first final ⊎ ThroughCut in_turns first final → BrokenRun in_turns s names before after
+    broken_run : RanToFailedPut in_turns first final ⊎ ThroughCut in_turns first final → BrokenRun in_turns s names before after
     broken_run (inl (inl t)) = record { run = run_is t.came t.begun; asks = asks; home = came_home; cut = inl (record { no_fault = t.no_fault; trace = t.trace; out = t.out }) }
     broken_run (inl (inr r)) = record { run = run_is r.came r.begun; asks = asks; home = came_home; cut = inr (inl (record { no_fault = r.no_fault; trace = r.trace; out = r.out })) }
     broken_run (inr d) = record {
@@ -397,7 +397,7 @@ pub not_given : (in_turns : Bool) (at : ℕ) (s : Setting) (names : List (List �
     → CutRun in_turns (UnreadableSource at) s names (outside before out trace) (outside after out trace)
 not_given in_turns at s names before after out trace none_of broke =
     let asks : List Ask = map given_ask (take at names) ++ failed_ask broke.name ∷ [] in
-    let least : first_faulty asks ≡ Some at = first_not_given names at broke.name broke.is in
+    let least : first_failed_ask asks ≡ Some at = first_not_given names at broke.name broke.is in
     let front = front_asked names at broke.name broke.is in
     record {
       run = record {
@@ -411,7 +411,7 @@ not_given in_turns at s names before after out trace none_of broke =
           many = length-map names no_rows;
           fronts = λ n name rows named there bytes told.
               ((source_rows s.plan n bytes).rows, ap (λ (r : List Row). r ++ (source_rows s.plan n bytes).rows) (sym (named_empty names n rows there)));
-          whole = λ none. let some : first_faulty (asks_between before after) ≡ Some at = ap first_faulty (between before after asks broke.asks) ∙ least in absurd (cc);
+          whole = λ none. let some : first_failed_ask (asks_between before after) ≡ Some at = ap first_failed_ask (between before after asks broke.asks) ∙ least in absurd (cc);
           first = record { rounds = 0; rest = []; joined = refl };
         };
       };
@@ -456,12 +456,12 @@ pub as_many : (lent last : List Working) → places_of last ≡ places_of lent �
 as_many lent last same = sym (length-map last (λ (w : Working). w.reader.source.place)) ∙ ap length same ∙ length-map lent (λ (w : Working). w.reader.source.place)
 
 pub ran_lent : (in_turns : Bool) (names : List (List ℕ)) (rooms : List Shape) (before mid after : ShelfState) (out0 trace0 out1 trace1 : SinkState) (kept0 kept1 : Keeping) (lent last : List Working) (how : Result (Unit {0}) Stop) (outcome : Outcome)
-    → IsLent names rooms before mid lent → AreRooms kept0.desk.plan (length names) most_rows rooms → places_of last ≡ places_of lent → HasReturned names (counts_of last) before after
-    → kept1.desk.plan ≡ kept0.desk.plan → OutcomeAfter how (end_of (ends_of last)) kept1.desk.plan kept1 outcome
+    → IsLent names rooms before mid lent → AreRooms kept0.state.plan (length names) most_rows rooms → places_of last ≡ places_of lent → HasReturned names (counts_of last) before after
+    → kept1.state.plan ≡ kept0.state.plan → OutcomeAfter how (end_of (ends_of last)) kept1.state.plan kept1 outcome
     → EndsRun in_turns how (world kept0 (map supply_of lent) out0 trace0) (world kept1 (map supply_of last) out1 trace1)
     → RunsSources in_turns outcome (setting_in kept0) names (outside before out0 trace0) (outside after out1 trace1)
 ran_lent in_turns names rooms before mid after out0 trace0 out1 trace1 kept0 kept1 lent last how outcome is are places returned same ends ran =
-    ran_sources in_turns names (outside before out0 trace0) (outside after out1 trace1) kept0 kept1 lent last (lent_fresh kept0.desk.plan names rooms before mid lent is are) (as_many lent last places) returned
+    ran_sources in_turns names (outside before out0 trace0) (outside after out1 trace1) kept0 kept1 lent last (lent_fresh kept0.state.plan names rooms before mid lent is are) (as_many lent last places) returned
     how outcome (subst (λ (p : Plan). OutcomeAfter how (end_of (ends_of last)) p kept1 outcome) same ends) ran
 
 -- they can be given back

@@ -1,5 +1,5 @@
 pub mod Listed
-pub mod Faulty
+pub mod FailedAsks
 pub mod Finding
 pub mod Shelves
 pub mod BytesRead

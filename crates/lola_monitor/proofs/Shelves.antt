@@ -50,7 +50,7 @@ abbrev pub marred : (name : List ℕ) (before after : ShelfState) (file : Source
 marred name before after file came rose = record {
   ask = record (given_ask name) { count = file.count };
   name_is = refl;
-  faulty = grind (arith, nat_tests);
+  has_failed = grind (arith, nat_tests);
   asks = came.asks;
   out = came.out;
   told = came.told;

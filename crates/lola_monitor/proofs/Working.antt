@@ -16,7 +16,7 @@ use Rattle.lola_monitor_run.specs.Verdicts.{IsRowFault, Setting, verdicts}
 use Rattle.lola_monitor_command.specs.declared.command.DrillCommand.{DrillCommand}
 use Rattle.lola_monitor.specs.Command.{Names, analysed_of, drill_of, run_of, specification_of}
 use Rattle.lola_monitor.specs.Drilling.{DrillsBy}
-use Rattle.lola_monitor.specs.Monitor.{AllBegin, AllGiven, AllRead, Begins, CutsOff, Ends, GoInTurns, HasItsModels, HasRows, IsAtDeadline, IsEarly, IsUnfinished, Outside, Plans, Ran, WereGiven, analysis_text, asks_between, call, fault_line, first_faulty, setting_of}
+use Rattle.lola_monitor.specs.Monitor.{AllBegin, AllGiven, AllRead, Begins, CutsOff, Ends, GoInTurns, HasItsModels, HasRows, IsAtDeadline, IsEarly, IsUnfinished, Outside, Plans, Ran, WereGiven, analysis_text, asks_between, call, fault_line, first_failed_ask, setting_of}
 use Rattle.lola_monitor.specs.Outcomes.{AllHome, AreUntouched, ArePut, CameHome, Marred, PlansName, ReadPlan, RunsSources, SourcesRun, UnfinishedRun, Works, noted, without_plan}
 use Rattle.lola_monitor.specs.declared.outcome.Outcome.{Outcome}
 use Rattle.lola_monitor.specs.declared.outcome.Outcome.TheVariants.{Line, Drilled, Report, CutFault, Put, Memory}
@@ -38,7 +38,7 @@ broke_before old new text more broke = record {
   rose = broke.rose;
 }
 
--- no ask is faulty behind one that is not
+-- no ask has failed behind one that is not
 none_behind : (o : Option ℕ) → option_map (λ n. n + 1) o ≡ None → o ≡ None
 none_behind None is = refl
 none_behind (Some n) is = absurd (cc)
@@ -87,7 +87,7 @@ module _ (words : List (List ℕ)) (names : Names) (plan : Plan) (before after :
       fronts = λ n name rows named at. subst (λ t. Begins t plan n rows) (told name) (turns.fronts n name rows named at);
       whole = λ none n name rows named at.
           subst (λ t. HasRows t plan n rows) (told name)
-          (turns.whole (ap first_faulty (between shelf after.shelf asks is) ∙ none_behind (first_faulty asks) (sym (ap first_faulty (asks_after asks is)) ∙ none)) n name rows named at);
+          (turns.whole (ap first_failed_ask (between shelf after.shelf asks is) ∙ none_behind (first_failed_ask asks) (sym (ap first_failed_ask (asks_after asks is)) ∙ none)) n name rows named at);
       first = turns.first;
     }
 
@@ -211,14 +211,14 @@ asks_noted : (name : List ℕ) (before after : ShelfState) → after ≡ noted b
 asks_noted name before after is = between before after (given_ask name ∷ []) (ap (λ s. s.asks) is)
 
 -- the first ask is the first faulty one
-first_is_faulty : (name : List ℕ) (before after : ShelfState) → Marred name before after → first_faulty (asks_between before after) ≡ Some 0
-first_is_faulty name before after m =
-    ap first_faulty (between before after (m.ask ∷ []) m.asks) ∙ ap (λ (b : Bool). if b then Some 0 else option_map (λ n. n + 1) None) m.faulty
+first_is_failed_ask : (name : List ℕ) (before after : ShelfState) → Marred name before after → first_failed_ask (asks_between before after) ≡ Some 0
+first_is_failed_ask name before after m =
+    ap first_failed_ask (between before after (m.ask ∷ []) m.asks) ∙ ap (λ (b : Bool). if b then Some 0 else option_map (λ n. n + 1) None) m.has_failed
 
 module _ (words : List (List ℕ)) (name : List ℕ) (before after : Outside) (early : AreUntouched before after) (is_command : specification_of words ≡ Some name) where
   -- a specification that has no plan, or no memory to tell
   pub works_unplanned : (end : Unplanned) → PlansName (Err end) name before.shelf after.shelf → Works (without_plan end) words before after
-  works_unplanned unplanned.Unreadable p = record { name = name; is_command = is_command; faulty = first_is_faulty name before.shelf after.shelf p; rose = p.rose; early = early }
+  works_unplanned unplanned.Unreadable p = record { name = name; is_command = is_command; has_failed = first_is_failed_ask name before.shelf after.shelf p; rose = p.rose; early = early }
   works_unplanned (unplanned.Refused r) p = record {
     name = name;
     is_command = is_command;

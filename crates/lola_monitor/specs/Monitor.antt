@@ -46,13 +46,13 @@ abbrev pub call : List (List ℕ) → Outside → Outside → Call
 call words before after = record { words = words; before = before; after = after }
 
 -- an ask that was not given, or whose source has failed
-abbrev pub is_faulty : Ask → Bool
-is_faulty ask = not ask.given || nat_lt 0 ask.count
+abbrev pub is_failed_ask : Ask → Bool
+is_failed_ask ask = not ask.given || nat_lt 0 ask.count
 
--- the place of the first faulty ask
-abbrev pub first_faulty : List Ask → Option ℕ
-first_faulty [] = None
-first_faulty (ask ∷ asks) = if is_faulty ask then Some 0 else option_map (λ n. n + 1) (first_faulty asks)
+-- the place of the first failed ask
+abbrev pub first_failed_ask : List Ask → Option ℕ
+first_failed_ask [] = None
+first_failed_ask (ask ∷ asks) = if is_failed_ask ask then Some 0 else option_map (λ n. n + 1) (first_failed_ask asks)
 
 -- the asks of this call
 abbrev pub asks_between : ShelfState → ShelfState → List Ask
@@ -122,12 +122,12 @@ first_malformed (MalformedAt kind row ∷ ends) = Some (record { source = 0; row
 first_malformed (Whole ∷ ends) = option_map one_further (first_malformed ends)
 
 -- the rows of a journal are the first rows of the sources in rounds: source 0, source 1, and so on, one row each. Each of these
--- lists has the first rows of its source, and all of them where no ask of this call is faulty
+-- lists has the first rows of its source, and all of them where no ask of this call has failed
 pub record GoInTurns (sources : List (List ℕ)) (plan : Plan) (before after : ShelfState) (journal : List Entry) : Type 0 where
   pub lists : List (List Row)
   pub many : length lists ≡ length sources
   pub fronts : (s : ℕ) (name : List ℕ) (rows : List Row) → slice_get sources s ≡ Some name → slice_get lists s ≡ Some rows → Begins (before.told name) plan s rows
-  pub whole : first_faulty (asks_between before after) ≡ None
+  pub whole : first_failed_ask (asks_between before after) ≡ None
       → (s : ℕ) (name : List ℕ) (rows : List Row) → slice_get sources s ≡ Some name → slice_get lists s ≡ Some rows → HasRows (before.told name) plan s rows
   pub first : AreFirst lists journal
 
@@ -160,8 +160,8 @@ AreGiven asks = All (λ (ask : Ask). ask.given ≡ true) asks
 pub record WereGiven (sources : List (List ℕ)) (asks : List Ask) (before after : ShelfState) : Type 0 where
   pub named : map (λ ask. ask.name) asks ≡ sources
   pub given : AreGiven asks
-  pub unfailed : first_faulty asks ≡ None → after.count ≡ before.count
-  pub failed : (at : ℕ) → first_faulty asks ≡ Some at → Rose before.count after.count
+  pub unfailed : first_failed_ask asks ≡ None → after.count ≡ before.count
+  pub failed : (at : ℕ) → first_failed_ask asks ≡ Some at → Rose before.count after.count
 
 -- rows were taken under a specification that was given, read and accepted, so that it has one model. They stand in one legal journal,
 -- each entry of which a line of the trace can tell, so that its lines tell no other journal; they are the first rows of the sources.
@@ -194,7 +194,7 @@ pub record AllGiven (names : Names) (before after : ShelfState) : Type 0 where
 
 -- a journal has all rows of each source that was given and has not failed
 abbrev pub AllRead : ShelfState → Plan → List (List ℕ) → List Ask → List Entry → Type 0
-AllRead shelf plan sources asks journal = (s : ℕ) (name : List ℕ) (ask : Ask) → slice_get sources s ≡ Some name → slice_get asks s ≡ Some ask → is_faulty ask ≡ false
+AllRead shelf plan sources asks journal = (s : ℕ) (name : List ℕ) (ask : Ask) → slice_get sources s ≡ Some name → slice_get asks s ≡ Some ask → is_failed_ask ask ≡ false
     → (end : SourceEnd) × Ends (shelf.told name) plan s (rows_of s journal) end
 
 -- all rows of all sources were taken, no step has a fault, and each source ends well
@@ -236,7 +236,7 @@ pub record UpToFault (words : List (List ℕ)) (before after : ShelfState) (line
 pub record CutShort (words : List (List ℕ)) (before after : ShelfState) (line : EndLine) : Type 0 where
   pub run : Ran words before after
   pub at : ℕ
-  pub least : first_faulty run.asks ≡ Some at
+  pub least : first_failed_ask run.asks ≡ Some at
   pub rose : Rose before.count after.count
   pub unless_given : (s : ℕ) (ask : Ask) → slice_get run.asks s ≡ Some ask → ask.given ≡ false → run.journal ≡ []
   pub read : AreGiven run.asks → (map (λ ask. ask.name) run.asks ≡ run.names.sources) × AllRead before run.plan run.names.sources run.asks run.journal
@@ -313,7 +313,7 @@ pub record IsFault (c : Call) : Type 0 where
 pub record IsUnread (c : Call) : Type 0 where
   pub name : List ℕ
   pub is_command : specification_of c.words ≡ Some name
-  pub faulty : first_faulty (asks_between c.before.shelf c.after.shelf) ≡ Some 0
+  pub has_failed : first_failed_ask (asks_between c.before.shelf c.after.shelf) ≡ Some 0
   pub rose : Rose c.before.shelf.count c.after.shelf.count
   pub trace : IsUntraced c
   pub out : Wrote c.before.out c.after.out (end_text UnreadableSpecification)

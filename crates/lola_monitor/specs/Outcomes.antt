@@ -27,7 +27,7 @@ use Rattle.lola_feed.specs.declared.sources.FetchStop.{FetchStop}
 use Rattle.lola_feed.specs.declared.sources.FetchStop.TheVariants as fetch
 use Rattle.lola_monitor.specs.Command.{specification_of}
 use Rattle.lola_monitor.specs.Drilling.{DrillsTo, OfDrill}
-use Rattle.lola_monitor.specs.Monitor.{AllBegin, AllEnd, AllRead, AllWell, Analysis, AreGiven, CutShort, CutsOff, Ends, GoInTurns, HasItsModels, IsAtDeadline, IsCutOff, IsEarly, IsFault, IsFrontOf, IsRefusedBy, IsUnfinished, MalformedSource, Outside, Plans, SomeMalformed, UpToFault, analysis_text, asks_between, call, done_line, fault_line, first_faulty, first_malformed, is_faulty, setting_of}
+use Rattle.lola_monitor.specs.Monitor.{AllBegin, AllEnd, AllRead, AllWell, Analysis, AreGiven, CutShort, CutsOff, Ends, GoInTurns, HasItsModels, IsAtDeadline, IsCutOff, IsEarly, IsFault, IsFrontOf, IsRefusedBy, IsUnfinished, MalformedSource, Outside, Plans, SomeMalformed, UpToFault, analysis_text, asks_between, call, done_line, fault_line, first_failed_ask, first_malformed, is_failed_ask, setting_of}
 use Rattle.lola_monitor.specs.declared.ending.SourcesEnd.{SourcesEnd}
 use Rattle.lola_monitor.specs.declared.ending.SourcesEnd.TheVariants as sources_end
 use Rattle.lola_monitor.specs.declared.outcome.Outcome.{Outcome}
@@ -50,11 +50,11 @@ pub record AppendsRead (count : ℕ) (before after : List ℕ) (old new : Source
 abbrev pub noted : ShelfState → List ℕ → ShelfState
 noted shelf name = record shelf { asks = shelf.asks ++ given_ask name ∷ [] }
 
--- one ask more, which is faulty
+-- one ask more, which has failed
 pub record Marred (name : List ℕ) (before after : ShelfState) : Type 0 where
   pub ask : Ask
   pub name_is : ask.name ≡ name
-  pub faulty : is_faulty ask ≡ true
+  pub has_failed : is_failed_ask ask ≡ true
   pub asks : after.asks ≡ before.asks ++ ask ∷ []
   pub out : after.out ≡ before.out
   pub told : after.told ≡ before.told
@@ -83,8 +83,8 @@ pub record CameHome (names : List (List ℕ)) (asks : List Ask) (before after : 
   pub appended : after.asks ≡ before.asks ++ asks
   pub named : map (λ ask. ask.name) asks ≡ names
   pub given : AreGiven asks
-  pub unfailed : first_faulty asks ≡ None → after.count ≡ before.count
-  pub failed : (at : ℕ) → first_faulty asks ≡ Some at → Rose before.count after.count
+  pub unfailed : first_failed_ask asks ≡ None → after.count ≡ before.count
+  pub failed : (at : ℕ) → first_failed_ask asks ≡ Some at → Rose before.count after.count
   pub out : after.out ≡ before.out
 
 -- the rows that were taken of sources
@@ -155,7 +155,7 @@ pub record CutRun (in_turns : Bool) (line : EndLine) (s : Setting) (names : List
   pub asked : Grew names before.shelf after.shelf
   pub home : (run.journal ≡ []) ⊎ CameHome names asked.asks before.shelf after.shelf
   pub at : ℕ
-  pub least : first_faulty asked.asks ≡ Some at
+  pub least : first_failed_ask asked.asks ≡ Some at
   pub rose : Rose before.shelf.count after.shelf.count
   pub unless_given : (n : ℕ) (ask : Ask) → slice_get asked.asks n ≡ Some ask → ask.given ≡ false → run.journal ≡ []
   pub read : AreGiven asked.asks → (map (λ ask. ask.name) asked.asks ≡ names) × AllRead before.shelf s.plan names asked.asks run.journal
@@ -244,25 +244,25 @@ abbrev pub ends_of : List Working → List (Option worker.SourceEnd)
 ends_of workers = map (λ w. w.end) workers
 
 -- whether a read failed
-abbrev pub is_read_fault : Option worker.SourceEnd → Bool
-is_read_fault None = false
-is_read_fault (Some finish.End) = false
-is_read_fault (Some (finish.Malformed kind row)) = false
-is_read_fault (Some finish.ReadFault) = true
-is_read_fault (Some finish.Closed) = false
-is_read_fault (Some finish.Memory) = false
+abbrev pub is_failed_read : Option worker.SourceEnd → Bool
+is_failed_read None = false
+is_failed_read (Some finish.End) = false
+is_failed_read (Some (finish.Malformed kind row)) = false
+is_failed_read (Some finish.ReadFailed) = true
+is_failed_read (Some finish.Closed) = false
+is_failed_read (Some finish.Memory) = false
 
 -- the least source whose read failed
 abbrev pub first_failed : List (Option worker.SourceEnd) → Option ℕ
 first_failed [] = None
-first_failed (end ∷ ends) = if is_read_fault end then Some 0 else option_map (λ n. n + 1) (first_failed ends)
+first_failed (end ∷ ends) = if is_failed_read end then Some 0 else option_map (λ n. n + 1) (first_failed ends)
 
 -- the end of a source whose worker ended so, where its reads did not fail
 abbrev pub source_end : Option worker.SourceEnd → SourceEnd
 source_end None = Whole
 source_end (Some finish.End) = Whole
 source_end (Some (finish.Malformed kind row)) = MalformedAt kind row
-source_end (Some finish.ReadFault) = Whole
+source_end (Some finish.ReadFailed) = Whole
 source_end (Some finish.Closed) = Whole
 source_end (Some finish.Memory) = Whole
 
@@ -286,7 +286,7 @@ end_of ends = end_by (first_failed ends) (first_malformed (map source_end ends))
 
 -- the last line of a run that no fault ended
 abbrev pub line_of : SourcesEnd → Keeping → EndLine
-line_of sources_end.Whole kept = Done kept.accepted kept.late kept.desk.steps kept.desk.lines
+line_of sources_end.Whole kept = Done kept.accepted kept.late kept.state.steps kept.state.lines
 line_of (sources_end.Failed at) kept = UnreadableSource at
 line_of (sources_end.Malformed source row kind) kept = Malformed source row kind
 
@@ -337,7 +337,7 @@ pub record NoPlan (r : Refusal) (words : List (List ℕ)) (before after : Outsid
 pub record NotRead (words : List (List ℕ)) (before after : Outside) : Type 0 where
   pub name : List ℕ
   pub is_command : specification_of words ≡ Some name
-  pub faulty : first_faulty (asks_between before.shelf after.shelf) ≡ Some 0
+  pub has_failed : first_failed_ask (asks_between before.shelf after.shelf) ≡ Some 0
   pub rose : Rose before.shelf.count after.shelf.count
   pub early : AreUntouched before after
 

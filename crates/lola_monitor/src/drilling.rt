@@ -108,11 +108,11 @@ fn run_workers<R: Threads + Sync, G: Gate + Sync>(
     _command: &DrillCommand,
     gate: &G,
 ) -> Outcome
-    requires accepted { IsAccepted (keeping run.old).desk.plan }
+    requires accepted { IsAccepted (keeping run.old).state.plan }
     requires stands { Stands [] (keeping run.old) }
-    requires setting { setting_in (keeping run.old) ≡ drill_setting (keeping run.old).desk.plan }
-    requires workers { AreDrillWorkers (keeping run.old).desk.plan _command.now workers.items }
-    ensures { IsPlanOf drill_text (keeping run.old).desk.plan → HasItsModels (keeping run.old).desk.plan → DrillsBy result _command.now }
+    requires setting { setting_in (keeping run.old) ≡ drill_setting (keeping run.old).state.plan }
+    requires workers { AreDrillWorkers (keeping run.old).state.plan _command.now workers.items }
+    ensures { IsPlanOf drill_text (keeping run.old).state.plan → HasItsModels (keeping run.old).state.plan → DrillsBy result _command.now }
 {
     let mut out = Nowhere;
     let mut trace = Nowhere;

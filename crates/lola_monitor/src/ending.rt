@@ -2,7 +2,7 @@
 ghost use Rattle.std.specs.Prelude.{◌≡◌, ◌≤◌, IfOk, length, map};
 ghost use Rattle.lola_monitor_run.specs.Running.{keeping};
 ghost use Rattle.lola_monitor.specs.Monitor.{fault_line as fault_line_of, first_malformed};
-ghost use Rattle.lola_monitor.specs.Outcomes.{OutcomeAfter, end_of as end_of_all, ends_of, first_failed, is_read_fault as is_read_fault_of, line_of, malformed_at as malformed_at_of, malformed_by, source_end};
+ghost use Rattle.lola_monitor.specs.Outcomes.{OutcomeAfter, end_of as end_of_all, ends_of, first_failed, is_failed_read as is_failed_read_of, line_of, malformed_at as malformed_at_of, malformed_by, source_end};
 
 use crate::outcome::Outcome;
 use lola_feed::worker::{SourceEnd, SourceWorker};
@@ -32,10 +32,10 @@ pub enum SourcesEnd {
 }
 
 // Whether a read failed.
-fn is_read_fault(end: Option<SourceEnd>) -> bool
-    ensures { result ≡ is_read_fault_of end }
+fn is_failed_read(end: Option<SourceEnd>) -> bool
+    ensures { result ≡ is_failed_read_of end }
 {
-    matches!(end, Some(SourceEnd::ReadFault))
+    matches!(end, Some(SourceEnd::ReadFailed))
 }
 
 // How sources ended together where this one has a malformed line.
@@ -56,7 +56,7 @@ fn failed_in<S: Source>(workers: &[SourceWorker<S>]) -> Option<u32>
     ensures { result ≡ first_failed (ends_of workers.now) }
 {
     for at in 0..workers.len() {
-        if is_read_fault(workers[at].end()) {
+        if is_failed_read(workers[at].end()) {
             return Some(at as u32);
         }
     }
@@ -131,7 +131,7 @@ pub fn outcome_after(
     stopped: Result<(), Stop>,
     end: SourcesEnd,
 ) -> Outcome
-    ensures { OutcomeAfter stopped end (keeping run.now).desk.plan (keeping run.now) result }
+    ensures { OutcomeAfter stopped end (keeping run.now).state.plan (keeping run.now) result }
 {
     match stopped {
         Ok(()) => Outcome::Line(last_line(run, end)),

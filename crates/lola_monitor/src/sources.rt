@@ -93,12 +93,12 @@ fn run_workers<R: Threads + Wait + Sync, S: Source + Send, K: Sink, T: Sink, G: 
     gate: &G,
 ) -> (Vec<SourceWorker<S>>, Result<(), Stop>)
     requires stands { Stands [] (keeping run.old) }
-    requires ready { AreReady (keeping run.old).desk.plan workers.items }
-    requires start { start ≡ (keeping run.old).desk.option }
+    requires ready { AreReady (keeping run.old).state.plan workers.items }
+    requires start { start ≡ (keeping run.old).state.given_start }
     ensures run { EndsRun in_turns result.1 (world (keeping run.old) (map supply_of workers.items) (K.state out.old) (T.state trace.old))
         (world (keeping run.new) (map supply_of result.0.items) (K.state out.new) (T.state trace.new)) }
     ensures places { AreInPlace workers.items result.0.items }
-    ensures plan { (keeping run.new).desk.plan ≡ (keeping run.old).desk.plan }
+    ensures plan { (keeping run.new).state.plan ≡ (keeping run.old).state.plan }
 {
     if in_turns {
         run_in_turns(rt, alloc, run, workers, start, out, trace, gate)
@@ -121,12 +121,12 @@ fn run_lent<R: Threads + Wait + Sync, F: Shelf, K: Sink, T: Sink, G: Gate + Sync
     gate: &G,
 ) -> Outcome
     requires stands { Stands [] (keeping run.old) }
-    requires ready { AreReady (keeping run.old).desk.plan workers.items }
-    requires start { start ≡ (keeping run.old).desk.option }
+    requires ready { AreReady (keeping run.old).state.plan workers.items }
+    requires start { start ≡ (keeping run.old).state.given_start }
     requires given { AreGiven (F.state shelf.old).asks (places_of workers.items) }
     requires out { length workers.items ≤ (F.state shelf.old).out }
     ensures { (names : List (List ℕ)) (rooms : List Shape) (before : ShelfState)
-        → IsLent names rooms before (F.state shelf.old) workers.items → AreRooms (keeping run.old).desk.plan (length names) most_rows rooms
+        → IsLent names rooms before (F.state shelf.old) workers.items → AreRooms (keeping run.old).state.plan (length names) most_rows rooms
         → RunsSources in_turns result (setting_in (keeping run.old)) names (outside before (K.state out.old) (T.state trace.old))
         (outside (F.state shelf.new) (K.state out.new) (T.state trace.new)) }
 {
@@ -153,8 +153,8 @@ fn run_room<R: Threads + Wait + Sync, F: Shelf, K: Sink, T: Sink, G: Gate + Sync
     requires out { (F.state shelf.old).out ≡ 0 }
     requires sources { (1 ≤ length command.now.sources) × (length command.now.sources ≤ 64) }
     requires run { Stands [] (keeping room.run) }
-    requires start { command.now.start ≡ (keeping room.run).desk.option }
-    requires readers { AreRooms (keeping room.run).desk.plan (length command.now.sources) most_rows room.readers.items }
+    requires start { command.now.start ≡ (keeping room.run).state.given_start }
+    requires readers { AreRooms (keeping room.run).state.plan (length command.now.sources) most_rows room.readers.items }
     requires none { room.workers.items ≡ [] }
     requires places { length command.now.sources ≤ vec_capacity room.workers }
     ensures { RunsSources command.now.in_turns result (setting_in (keeping room.run)) (names_at (map string_bytes words.now) command.now.sources)

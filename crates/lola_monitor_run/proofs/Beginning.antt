@@ -22,7 +22,7 @@ ready_fresh plan feed ready = record {
 }
 
 -- at a merge object that has just been made they are between turns
-pub ready_idle : (kept : Keeping) (feed : Feeding) (sources : ℕ) (start : Option ℕ) → Stands [] kept → AreReady kept.desk.plan feed.workers → start ≡ kept.desk.option
+pub ready_idle : (kept : Keeping) (feed : Feeding) (sources : ℕ) (start : Option ℕ) → Stands [] kept → AreReady kept.state.plan feed.workers → start ≡ kept.state.given_start
     → sources ≡ length feed.workers → feed.merging ≡ opening sources start → feed.batch ≡ [] → IsIdle feed kept
 ready_idle kept feed sources start stands ready same many made batch = record {
   pending = ap (λ (m : Merging). m.pending) made;
@@ -49,9 +49,9 @@ cut_at_first first so = record {
 }
 
 -- a run of ready workers for which there was no memory to begin
-pub never_begun : (kept : Keeping) (workers : List Working) (out trace : SinkState) → Stands [] kept → AreReady kept.desk.plan workers
+pub never_begun : (kept : Keeping) (workers : List Working) (out trace : SinkState) → Stands [] kept → AreReady kept.state.plan workers
     → RanOutOfMemory true (world kept (map supply_of workers) out trace) (world kept (map supply_of workers) out trace)
 never_begun kept workers out trace stands ready =
     let feed : Feeding = record { workers = workers; merging = opening 0 None; batch = [] } in
     cut_at_first (world kept (supplies_of feed) out trace)
-    (started (world kept (supplies_of feed) out trace) (few_sources feed ready.many.1) stands (fresh_sources feed (ready_fresh kept.desk.plan feed ready)))
+    (started (world kept (supplies_of feed) out trace) (few_sources feed ready.many.1) stands (fresh_sources feed (ready_fresh kept.state.plan feed ready)))

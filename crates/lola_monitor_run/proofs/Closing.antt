@@ -35,7 +35,7 @@ module _ (in_turns : Bool) (first : World) (k1 k2 : Keeping) (sources : List Sup
   fine : settled_fault_in (setting_in first.kept) journal ≡ None
   fine = ap (λ (s : Setting). settled_fault_in s journal) (sym ran.setting) ∙ ran.stands.engine.fine
 
-  text_all : (lines : List (List ℕ)) → Completes k1.desk journal lines → verdicts (setting_in first.kept) journal ≡ settled_text (setting_in first.kept) journal ++ text_of lines
+  text_all : (lines : List (List ℕ)) → Completes k1.state journal lines → verdicts (setting_in first.kept) journal ≡ settled_text (setting_in first.kept) journal ++ text_of lines
   text_all lines completes = all_text (setting_in first.kept) journal lines (subst (λ (s : Setting). CompletesIn s journal lines) ran.setting completes)
 
   abbrev came_last : CameTo in_turns first last

@@ -101,7 +101,7 @@ fed_ended how old mid new rows enough fed went_on over stopped = record {
     by_end : (how : worker.SourceEnd) → (how ≡ end.Memory → ⊥) → HasEnded None old mid rows → Stopped how mid new → HasEnded (Some how) old new rows
     by_end end.End enough was stopped = (passes_ends old.rest mid.rest rows Whole was.0 stopped.0, stopped.1 ∙ was.2)
     by_end (end.Malformed kind row) enough was stopped = (passes_ends old.rest mid.rest rows (MalformedAt kind row) was.0 stopped.0, stopped.1 ∙ was.2)
-    by_end end.ReadFault enough was stopped = subst (λ n. Rose n new.count) was.2 stopped
+    by_end end.ReadFailed enough was stopped = subst (λ n. Rose n new.count) was.2 stopped
     by_end end.Closed enough was stopped = absurd stopped
     by_end end.Memory enough was stopped = absurd (enough refl)
 

@@ -75,13 +75,13 @@ mark_in_time mark.Accepted row merged most right = tt
 mark_in_time (mark.Late t) row merged most right = subst (λ n. n ≤ latest) (sym right.0) most
 
 -- an entry that a run takes is one that a line of its plan's trace can tell
-pub taken_is_told : (kept : Keeping) (entry : Entry) → entry.row.source < 2 ^ 32 → entry.row.number < 2 ^ 64 → IsGoing kept → IsRowFor kept.desk.plan entry.row → IsNext kept entry → IsTraceable kept.desk.plan entry
+pub taken_is_told : (kept : Keeping) (entry : Entry) → entry.row.source < 2 ^ 32 → entry.row.number < 2 ^ 64 → IsGoing kept → IsRowFor kept.state.plan entry.row → IsNext kept entry → IsTraceable kept.state.plan entry
 taken_is_told kept entry source number going fits next = record {
   fields = fits.fields;
   source = source;
   number = number;
   stamp = fits.stamp;
-  mark = mark_in_time entry.mark entry.row kept.desk.merged going.merged next;
+  mark = mark_in_time entry.mark entry.row kept.state.merged going.merged next;
 }
 
 -- one entry more that a line can tell

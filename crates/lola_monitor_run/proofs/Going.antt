@@ -24,7 +24,7 @@ chosen None how given = given
 chosen (Some all) None given = all.rows
 chosen (Some all) (Some end.End) given = all.rows
 chosen (Some all) (Some (end.Malformed kind row)) given = all.rows
-chosen (Some all) (Some end.ReadFault) given = given
+chosen (Some all) (Some end.ReadFailed) given = given
 chosen (Some all) (Some end.Closed) given = all.rows
 chosen (Some all) (Some end.Memory) given = all.rows
 
@@ -36,7 +36,7 @@ chosen_at (Some old) (Some new) given = chosen old.rest new.end given
 
 -- the rows of all are a list that begins with each front
 abbrev IsListAt : Option SourceRows → Option worker.SourceEnd → List Row → Type 0
-IsListAt rest how list = (all : SourceRows) → rest ≡ Some all → ((more : List Row) × (all.rows ≡ list ++ more)) × ((how ≡ Some end.ReadFault → ⊥) → all.rows ≡ list)
+IsListAt rest how list = (all : SourceRows) → rest ≡ Some all → ((more : List Row) × (all.rows ≡ list ++ more)) × ((how ≡ Some end.ReadFailed → ⊥) → all.rows ≡ list)
 
 whole_list : (all : SourceRows) (how : Option worker.SourceEnd) → IsListAt (Some all) how all.rows
 whole_list all how other is = let same : other.rows ≡ all.rows = ap (λ (r : SourceRows). r.rows) (sym (some_is is)) in (([], same ∙ sym (append-nil all.rows)), λ sound. same)
@@ -46,7 +46,7 @@ chosen_is None how given began = λ all is. absurd (some_not (sym is))
 chosen_is (Some all) None given began = whole_list all None
 chosen_is (Some all) (Some end.End) given began = whole_list all (Some end.End)
 chosen_is (Some all) (Some (end.Malformed kind row)) given began = whole_list all (Some (end.Malformed kind row))
-chosen_is (Some all) (Some end.ReadFault) given began = λ other is. (began other is, λ sound. absurd (sound refl))
+chosen_is (Some all) (Some end.ReadFailed) given began = λ other is. (began other is, λ sound. absurd (sound refl))
 chosen_is (Some all) (Some end.Closed) given began = whole_list all (Some end.Closed)
 chosen_is (Some all) (Some end.Memory) given began = whole_list all (Some end.Memory)
 
@@ -56,7 +56,7 @@ prolongs goes old new given None how told ended on = inl refl
 prolongs goes old new given (Some all) None told ended on = let p = ended.0 all told in inr (on refl, (p.0.rows, ap (λ (r : SourceRows). r.rows) p.2))
 prolongs goes old new given (Some all) (Some end.End) told ended on = inl (ap (λ (r : SourceRows). r.rows) (ended.0 all told))
 prolongs goes old new given (Some all) (Some (end.Malformed kind row)) told ended on = inl (ap (λ (r : SourceRows). r.rows) (ended.0 all told))
-prolongs goes old new given (Some all) (Some end.ReadFault) told ended on = inl refl
+prolongs goes old new given (Some all) (Some end.ReadFailed) told ended on = inl refl
 prolongs goes old new given (Some all) (Some end.Closed) told ended on = absurd ended
 prolongs goes old new given (Some all) (Some end.Memory) told ended on = absurd ended
 

@@ -17,7 +17,7 @@ use Rattle.lola_monitor_run.proofs.Entries.{BringsIn, accepted_is, all_put, cut_
 use Rattle.lola_monitor_run.proofs.Fronts.{nothing_settled}
 use Rattle.lola_monitor_run.proofs.Sinks.{broke_behind, grown_nil, more_text}
 use Rattle.lola_monitor_run.proofs.Taking.{legal_more}
-use Rattle.lola_monitor_run.specs.Feeds.{CameTo, GoInRounds, HaveEnded, IsSound, RanOutOfMemory, RanToCutFault, RanToEnd, RanToFault, RanToPutFault, RanToRowCut, RanToTraceCut, Runs, Supply, World}
+use Rattle.lola_monitor_run.specs.Feeds.{CameTo, GoInRounds, HaveEnded, IsSound, RanOutOfMemory, RanToCutFault, RanToEnd, RanToFault, RanToFailedPut, RanToRowCut, RanToTraceCut, Runs, Supply, World}
 use Rattle.lola_monitor_run.specs.Turning.{Drawn, NotTraced, OutCut, OutKept, Passed, SawCutFault, SawFault, SoFar, Stepped, Steps, Touched, TraceCut, Traced}
 use Rattle.lola_monitor_run.proofs.Drawing.{drawn_none, draws, round_drawn, sits}
 use Rattle.lola_monitor_run.proofs.Going.{begun, in_rounds, touched_in_rounds}
@@ -37,27 +37,27 @@ started first few fresh none = record {
 }
 
 -- a journal that is legal for a run is so for what the run was made for
-legal_first : (first now : World) (journal : List Entry) → IsSetAs first.kept now.kept → IsLegal now.kept.desk.option journal → IsLegal first.kept.desk.option journal
+legal_first : (first now : World) (journal : List Entry) → IsSetAs first.kept now.kept → IsLegal now.kept.state.given_start journal → IsLegal first.kept.state.given_start journal
 legal_first first now journal setting legal = subst (λ (o : Option ℕ). IsLegal o journal) (ap (λ (s : Setting). s.start) setting) legal
 
 module _ (first : World) (n k : ℕ) (now next : World) (within : k < length first.sources) (so : SoFar first n k now) (entry : Entry) (traced : Traced k entry now next) where
   -- the journal with the entry is legal, and all of it was drawn and traced
-  pub legal_is : IsLegal first.kept.desk.option (so.journal ++ entry ∷ [])
+  pub legal_is : IsLegal first.kept.state.given_start (so.journal ++ entry ∷ [])
   legal_is = legal_first first now (so.journal ++ entry ∷ []) so.setting (legal_more so.journal entry now.kept so.stands traced.mark)
 
   pub drawn_is : Drawn first n (suc k) next.sources (so.journal ++ entry ∷ [])
-  drawn_is = draws first n k now.sources so.journal so.drawn now.kept.desk.plan next.sources entry traced.took
+  drawn_is = draws first n k now.sources so.journal so.drawn now.kept.state.plan next.sources entry traced.took
 
   pub rounds_are : GoInRounds first.sources next.sources (so.journal ++ entry ∷ [])
   rounds_are = in_rounds first n (suc k) next.sources (so.journal ++ entry ∷ []) (omega (arith, within)) drawn_is
 
-  pub told_is : AreTraceable first.kept.desk.plan (so.journal ++ entry ∷ [])
-  told_is = told_more first.kept.desk.plan so.journal entry so.traceable (subst (λ (s : Setting). IsTraceable s.plan entry) so.setting traced.traceable)
+  pub told_is : AreTraceable first.kept.state.plan (so.journal ++ entry ∷ [])
+  told_is = told_more first.kept.state.plan so.journal entry so.traceable (subst (λ (s : Setting). IsTraceable s.plan entry) so.setting traced.traceable)
 
   pub trace_is : next.trace ≡ grown first.trace (trace_text (so.journal ++ entry ∷ []))
   trace_is = more_text _ _ _ _ _ _ so.trace traced.trace (trace_text-append_one so.journal entry)
 
-  pub text_is : (lines : List (List ℕ)) → Brings now.kept.desk so.journal entry lines → settled_text (setting_in first.kept) (so.journal ++ entry ∷ []) ≡ settled_text (setting_in first.kept) so.journal ++ text_of lines
+  pub text_is : (lines : List (List ℕ)) → Brings now.kept.state so.journal entry lines → settled_text (setting_in first.kept) (so.journal ++ entry ∷ []) ≡ settled_text (setting_in first.kept) so.journal ++ text_of lines
   text_is lines brings = text_more (setting_in first.kept) so.journal entry lines (subst (λ (s : Setting). BringsIn s so.journal entry lines) so.setting brings)
 
   abbrev came_on : CameTo true first next
@@ -224,7 +224,7 @@ module _ (first : World) (n k : ℕ) (now last : World) (within : k < length fir
             (text_is first n k now last within so kept.entry kept.traced c.lines c.brings) (c.out ∙ so.out);
       }
 
-  put_fault : TraceCut k now last ⊎ OutCut k now last → RanToPutFault true first last
+  put_fault : TraceCut k now last ⊎ OutCut k now last → RanToFailedPut true first last
   put_fault (inl cut) = inl (trace_cut cut)
   put_fault (inr cut) = inr (row_cut cut)
 

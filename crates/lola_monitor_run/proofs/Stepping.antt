@@ -25,7 +25,7 @@ use Rattle.lola_monitor_run.proofs.Turns.{GaveEntry, GaveNone, after_turn, idle_
 sound_on : (source : Supply) → source.end ≡ None → IsSound source
 sound_on source none failed = some_not (sym failed ∙ none)
 
-module _ (k0 : Keeping) (o0 t0 : SinkState) (entry : Entry) (mark : IsNext k0 entry) (told : IsTraceable k0.desk.plan entry) (s : ℕ) (olds news : List Supply) (took : TookRow k0.desk.plan s entry.row olds news) where
+module _ (k0 : Keeping) (o0 t0 : SinkState) (entry : Entry) (mark : IsNext k0 entry) (told : IsTraceable k0.state.plan entry) (s : ℕ) (olds news : List Supply) (took : TookRow k0.state.plan s entry.row olds news) where
   -- a row was taken, and its trace line was not put whole
   pub not_traced : (t1 : SinkState) (how : Stop) → Puts (Err how) (trace_line entry) t0 t1 → Steps (Err how) s (world k0 olds o0 t0) (world k0 news o0 t1)
   not_traced t1 (stop.Fault stream kind time) puts = absurd puts
@@ -46,14 +46,14 @@ module _ (k0 : Keeping) (o0 t0 : SinkState) (entry : Entry) (mark : IsNext k0 en
     stepped (Err stop.Memory) takes = inr (record { entry = entry; traced = traced; runs = takes.0 })
 
 -- the merged time after an entry
-time_next : (journal : List Entry) (entry : Entry) (old new : Keeping) (o0 o1 : SinkState) → Stands journal old → StandsNext journal entry old new o0 o1 → IsSetAs old new → new.desk.merged ≡ time_after old.desk.merged entry
+time_next : (journal : List Entry) (entry : Entry) (old new : Keeping) (o0 o1 : SinkState) → Stands journal old → StandsNext journal entry old new o0 o1 → IsSetAs old new → new.state.merged ≡ time_after old.state.merged entry
 time_next journal entry old new o0 o1 stands next setting =
     merged_is (journal ++ entry ∷ []) new next.stands
     ∙ (ap (λ (s : Setting). merged_from (opening_time s.start) (journal ++ entry ∷ [])) setting
-    ∙ (merged_from-append (opening_time old.desk.option) journal (entry ∷ [])
+    ∙ (merged_from-append (opening_time old.state.given_start) journal (entry ∷ [])
     ∙ ap (λ t. time_after t entry) (sym (merged_is journal old stands))))
 
-pub merged_next : (result : Result (Unit {0}) Stop) (entry : Entry) (old new : Keeping) (o0 o1 : SinkState) → IsStanding old → Takes result entry old new o0 o1 → OnOk result (new.desk.merged ≡ time_after old.desk.merged entry)
+pub merged_next : (result : Result (Unit {0}) Stop) (entry : Entry) (old new : Keeping) (o0 o1 : SinkState) → IsStanding old → Takes result entry old new o0 o1 → OnOk result (new.state.merged ≡ time_after old.state.merged entry)
 merged_next (Ok done) entry old new o0 o1 standing takes = time_next standing.0 entry old new o0 o1 standing.1 (takes.0 standing.0 standing.1) takes.1
 merged_next (Err how) entry old new o0 o1 standing takes = tt
 
@@ -73,7 +73,7 @@ module _ (s : ℕ) (old mid new : Feeding) (kept : Keeping) (idle : IsIdle old k
           f.2.at,
           λ failed.
               let e : turn.Done f.0 ≡ turn.Done end.Memory = sym f.1 ∙ is in
-              let d : Some f.0 ≡ Some end.ReadFault = sym f.2.over ∙ failed in
+              let d : Some f.0 ≡ Some end.ReadFailed = sym f.2.over ∙ failed in
               absurd (cc (e, d)),
         ))
       ]
@@ -109,9 +109,9 @@ module _ (s : ℕ) (old mid new : Feeding) (kept : Keeping) (idle : IsIdle old k
 
     -- an entry was pending
     pub record Gave (e : Entry) : Type 0 where
-      pub took_row : TookRow kept.desk.plan s e.row (supplies_of old) (supplies_of new)
+      pub took_row : TookRow kept.state.plan s e.row (supplies_of old) (supplies_of new)
       pub mark : IsNext kept e
-      pub merged : mid.merging.merged ≡ time_after kept.desk.merged e
+      pub merged : mid.merging.merged ≡ time_after kept.state.merged e
       pub rest : new.batch ≡ []
       pub lets_in : mid.merging.closed ≡ false
 
@@ -128,15 +128,15 @@ module _ (s : ℕ) (old mid new : Feeding) (kept : Keeping) (idle : IsIdle old k
               let same : gave.entry ≡ e = cc (both) in
               let none : new.batch ≡ [] = cc (both) in
               record {
-                took_row = subst (λ l. TookRow kept.desk.plan s e.row (supplies_of old) l) (sym sources_same) (subst (λ (x : Entry). TookRow kept.desk.plan s x.row (supplies_of old) (supplies_of mid)) same gave.took);
+                took_row = subst (λ l. TookRow kept.state.plan s e.row (supplies_of old) l) (sym sources_same) (subst (λ (x : Entry). TookRow kept.state.plan s x.row (supplies_of old) (supplies_of mid)) same gave.took);
                 mark = subst (λ (x : Entry). IsNext kept x) same gave.mark;
-                merged = gave.merged ∙ ap (time_after kept.desk.merged) same;
+                merged = gave.merged ∙ ap (time_after kept.state.merged) same;
                 rest = none;
                 lets_in = gave.lets_in;
               }
           by_answer (inr g) = let p = pending_is in let q = g.pending in absurd (cc (p, q))
 
-      pub idle_then : (after : Keeping) → after.desk.merged ≡ time_after kept.desk.merged e → IsSetAs kept after → IsIdle new after
+      pub idle_then : (after : Keeping) → after.state.merged ≡ time_after kept.state.merged e → IsSetAs kept after → IsIdle new after
       idle_then after merged setting =
           let g = gave_it in
           idle_next s old mid new kept after idle answer t entry took (ap (λ (x : Setting). x.plan) setting) g.rest g.lets_in (g.merged ∙ sym merged) (sources_of_turn (after_turn s old mid kept idle answer t))

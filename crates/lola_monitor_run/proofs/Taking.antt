@@ -17,7 +17,7 @@ use Rattle.lola_model.proofs.Journals.{IsLegalFrom-append_one, accepted-append_a
 use Rattle.lola_instances.specs.Stores.{bounded_remembers, bounded_seen}
 use Rattle.lola_instances.specs.declared.store.BoundedStore.{BoundedStore}
 use Rattle.lola_engine.specs.Engines.{Accepts, Finishes, IsUnderWay, IsWaiting, StandsFor, accepted_entry}
-use Rattle.lola_engine.specs.declared.engine.Desk.{Desk}
+use Rattle.lola_engine.specs.declared.engine.EngineState.{EngineState}
 use Rattle.lola_engine.specs.declared.end.EngineEnd.{EngineEnd}
 use Rattle.lola_engine.specs.declared.end.EngineEnd.TheVariants as engine_end
 use Rattle.lola_model.specs.Store.{Memories, Seen}
@@ -53,15 +53,15 @@ accepted_length journal row = ap length (accepted-append_accepted journal (accep
 -- the run stands for the journal with an accepted row
 
 -- the merged time of a run is that of its journal
-pub merged_is : (journal : List Entry) (kept : Keeping) → Stands journal kept → kept.desk.merged ≡ merged_from (opening_time kept.desk.option) journal
+pub merged_is : (journal : List Entry) (kept : Keeping) → Stands journal kept → kept.state.merged ≡ merged_from (opening_time kept.state.given_start) journal
 merged_is journal kept stands = stands.engine.merged
 
 -- one entry more, rightly marked, leaves the journal legal
-pub legal_more : (journal : List Entry) (entry : Entry) (kept : Keeping) → Stands journal kept → IsNext kept entry → IsLegal kept.desk.option (journal ++ entry ∷ [])
-legal_more journal entry kept stands next = IsLegalFrom-append_one (opening_time kept.desk.option) journal entry stands.legal (subst (λ m. IsRightlyMarked m entry) (merged_is journal kept stands) next)
+pub legal_more : (journal : List Entry) (entry : Entry) (kept : Keeping) → Stands journal kept → IsNext kept entry → IsLegal kept.state.given_start (journal ++ entry ∷ [])
+legal_more journal entry kept stands next = IsLegalFrom-append_one (opening_time kept.state.given_start) journal entry stands.legal (subst (λ m. IsRightlyMarked m entry) (merged_is journal kept stands) next)
 
 stands_more : (row : Row) (old new : Keeping) (text : List ℕ) (journal : List Entry) (stands : Stands journal old) (next : IsNext old (accepted_entry row)) (ran : RanRow row old new text)
-    → StandsFor new.desk (bounded_seen new.store) (bounded_remembers new.store) (journal ++ accepted_entry row ∷ []) → Stands (journal ++ accepted_entry row ∷ []) new
+    → StandsFor new.state (bounded_seen new.store) (bounded_remembers new.store) (journal ++ accepted_entry row ∷ []) → Stands (journal ++ accepted_entry row ∷ []) new
 stands_more row old new text journal stands next ran engine = record {
   legal = subst (λ o. IsLegal o (journal ++ accepted_entry row ∷ [])) (sym (ap (λ (s : Setting). s.start) ran.setting)) (legal_more journal (accepted_entry row) old stands next);
   accepted = ran.accepted ∙ ap (λ n. n + 1) stands.accepted ∙ sym (accepted_length journal row);
@@ -115,50 +115,50 @@ takes_accepted (Err stop.Put) row old new out0 out1 next setting ran = (cut_acce
 takes_accepted (Err stop.Memory) row old new out0 out1 next setting ran = (kept_accepted row old new out0 out1 ran.0 ran.1 ran.2, setting)
 
 -- an engine stands for a journal with a late row
-pub late_state : (e : Desk) (seen : Seen) (remembers : Memories) (journal : List Entry) (late : Entry) (t : ℕ) → late.mark ≡ mark.Late t
+pub late_state : (e : EngineState) (seen : Seen) (remembers : Memories) (journal : List Entry) (late : Entry) (t : ℕ) → late.mark ≡ mark.Late t
     → IsWaiting e seen remembers journal ⊎ IsUnderWay e seen remembers journal → IsWaiting e seen remembers (journal ++ late ∷ []) ⊎ IsUnderWay e seen remembers (journal ++ late ∷ [])
 late_state e seen remembers journal late t is (inl w) = inl (record { without = w.without; none = accepted-append_late journal late t is ∙ w.none; new = w.new; past = w.past; clock = w.clock })
 late_state e seen remembers journal late t is (inr u) =
-    let model = sym (settled_model-append_late e.plan e.option journal late t is) in
-    let start = sym (run_start-append_late e.plan e.option journal late t is) in
+    let model = sym (settled_model-append_late e.plan e.given_start journal late t is) in
+    let start = sym (run_start-append_late e.plan e.given_start journal late t is) in
     inr (record {
       begun = λ none. u.begun (sym (accepted-append_late journal late t is) ∙ none);
       run = subst (λ (rows : List TableRow). IsRun e.plan e.texts.held rows) model u.run;
-      stands = subst (λ (n : ℕ). StandsBetween e.texts.held remembers seen (content_after e.plan n (settled_model e.plan e.option (journal ++ late ∷ [])))) start
-          (subst (λ (rows : List TableRow). StandsBetween e.texts.held remembers seen (content_after e.plan (run_start e.plan e.option journal) rows)) model u.stands);
+      stands = subst (λ (n : ℕ). StandsBetween e.texts.held remembers seen (content_after e.plan n (settled_model e.plan e.given_start (journal ++ late ∷ [])))) start
+          (subst (λ (rows : List TableRow). StandsBetween e.texts.held remembers seen (content_after e.plan (run_start e.plan e.given_start journal) rows)) model u.stands);
       clock = u.clock ∙ ap Some start;
       passed = u.passed ∙ ap (λ n. max n (e.merged - 1)) start;
     })
 
-pub late_stands : (e : Desk) (seen : Seen) (remembers : Memories) (journal : List Entry) (late : Entry) (t : ℕ) → late.mark ≡ mark.Late t → StandsFor e seen remembers journal → StandsFor e seen remembers (journal ++ late ∷ [])
+pub late_stands : (e : EngineState) (seen : Seen) (remembers : Memories) (journal : List Entry) (late : Entry) (t : ℕ) → late.mark ≡ mark.Late t → StandsFor e seen remembers journal → StandsFor e seen remembers (journal ++ late ∷ [])
 late_stands e seen remembers journal late t is s = record {
   going = s.going;
-  fine = settled_fault-append_late e.plan e.option journal late t is ∙ s.fine;
-  merged = s.merged ∙ sym (merged_from-append_late (opening_time e.option) journal late t is);
-  steps = s.steps ∙ ap length (sym (settled_model-append_late e.plan e.option journal late t is));
-  lines = s.lines ∙ ap length (sym (settled_lines-append_late e.plan e.option journal late t is e.show));
+  fine = settled_fault-append_late e.plan e.given_start journal late t is ∙ s.fine;
+  merged = s.merged ∙ sym (merged_from-append_late (opening_time e.given_start) journal late t is);
+  steps = s.steps ∙ ap length (sym (settled_model-append_late e.plan e.given_start journal late t is));
+  lines = s.lines ∙ ap length (sym (settled_lines-append_late e.plan e.given_start journal late t is e.show));
   rows = s.rows ∙ ap length (sym (accepted-append_late journal late t is));
   state = late_state e seen remembers journal late t is s.state;
 }
 
 -- a late row: it is counted, and nothing else changes
 takes_late : (row : Row) (t : ℕ) (old new : Keeping) (out : SinkState) → IsNext old (record { row = row; mark = mark.Late t })
-    → new ≡ record { desk = old.desk; store = old.store; accepted = old.accepted; late = old.late + 1 }
+    → new ≡ record { state = old.state; store = old.store; accepted = old.accepted; late = old.late + 1 }
     → Takes (Ok tt) (record { row = row; mark = mark.Late t }) old new out out
 takes_late row t old new out next is =
     let entry : Entry = record { row = row; mark = mark.Late t } in
-    let counted : Keeping = record { desk = old.desk; store = old.store; accepted = old.accepted; late = old.late + 1 } in
+    let counted : Keeping = record { state = old.state; store = old.store; accepted = old.accepted; late = old.late + 1 } in
     subst (λ (k : Keeping). Takes (Ok tt) entry old k out out) (sym is) (
       λ journal stands. record {
         stands = record {
           legal = legal_more journal entry old stands next;
           accepted = stands.accepted ∙ ap length (sym (accepted-append_late journal entry t refl));
           late = ap (λ n. n + 1) stands.late ∙ sym (late_more_late journal row t);
-          engine = late_stands old.desk (bounded_seen old.store) (bounded_remembers old.store) journal entry t refl stands.engine;
+          engine = late_stands old.state (bounded_seen old.store) (bounded_remembers old.store) journal entry t refl stands.engine;
           going = stands.going;
         };
         lines = [];
-        brings = settled_lines-append_late old.desk.plan old.desk.option journal entry t refl old.desk.show ∙ sym (append-nil _);
+        brings = settled_lines-append_late old.state.plan old.state.given_start journal entry t refl old.state.show ∙ sym (append-nil _);
         out = sym (grown_nil out);
       },
       refl,
@@ -196,14 +196,14 @@ takes_entry_accepted result entry old new out0 out1 is next setting ran =
     takes_as result entry mark.Accepted old new out0 out1 is (takes_accepted result entry.row old new out0 out1 (next_as entry mark.Accepted old is next) setting ran)
 
 pub takes_entry_late : (entry : Entry) (t : ℕ) (old new : Keeping) (out : SinkState) → entry.mark ≡ mark.Late t → IsNext old entry
-    → new ≡ record { desk = old.desk; store = old.store; accepted = old.accepted; late = old.late + 1 } → Takes (Ok tt) entry old new out out
+    → new ≡ record { state = old.state; store = old.store; accepted = old.accepted; late = old.late + 1 } → Takes (Ok tt) entry old new out out
 takes_entry_late entry t old new out is next same = takes_as (Ok tt) entry (mark.Late t) old new out out is (takes_late entry.row t old new out (next_as entry (mark.Late t) old is next) same)
 
 -- what is run at the end of a run
 
 -- an engine's answer at the end, over an empty text
 abbrev pub FinishesWith : Result (Unit {0}) EngineEnd → Keeping → Keeping → List ℕ → Type 0
-FinishesWith result old new text = Finishes result old.desk (bounded_seen old.store) (bounded_remembers old.store) new.desk [] text
+FinishesWith result old new text = Finishes result old.state (bounded_seen old.store) (bounded_remembers old.store) new.state [] text
 
 -- no part of nothing is put
 none_cut : (out0 out1 : SinkState) (text : List ℕ) → text ≡ [] → PutBroke out0 out1 text → ⊥
@@ -236,18 +236,18 @@ closed_and_put (Err stop.Put) old new out0 out1 text finishes count late puts = 
 closed_and_put (Err stop.Memory) old new out0 out1 text finishes count late puts = puts
 
 -- the same from an empty text
-pub accepts_as : (result : Result (Unit {0}) EngineEnd) (row : Row) (desk0 desk1 : Desk) (store0 store1 : BoundedStore) (text0 text1 : List ℕ) → text0 ≡ []
-    → Accepts result row desk0 (bounded_seen store0) (bounded_remembers store0) desk1 (bounded_seen store1) (bounded_remembers store1) text0 text1
-    → Accepts result row desk0 (bounded_seen store0) (bounded_remembers store0) desk1 (bounded_seen store1) (bounded_remembers store1) [] text1
-accepts_as result row desk0 desk1 store0 store1 text0 text1 empty accepts =
-    subst (λ (t : List ℕ). Accepts result row desk0 (bounded_seen store0) (bounded_remembers store0) desk1 (bounded_seen store1) (bounded_remembers store1) t text1) empty accepts
+pub accepts_as : (result : Result (Unit {0}) EngineEnd) (row : Row) (state0 state1 : EngineState) (store0 store1 : BoundedStore) (text0 text1 : List ℕ) → text0 ≡ []
+    → Accepts result row state0 (bounded_seen store0) (bounded_remembers store0) state1 (bounded_seen store1) (bounded_remembers store1) text0 text1
+    → Accepts result row state0 (bounded_seen store0) (bounded_remembers store0) state1 (bounded_seen store1) (bounded_remembers store1) [] text1
+accepts_as result row state0 state1 store0 store1 text0 text1 empty accepts =
+    subst (λ (t : List ℕ). Accepts result row state0 (bounded_seen store0) (bounded_remembers store0) state1 (bounded_seen store1) (bounded_remembers store1) t text1) empty accepts
 
-pub finishes_as : (result : Result (Unit {0}) EngineEnd) (desk0 desk1 : Desk) (store0 : BoundedStore) (text0 text1 : List ℕ) → text0 ≡ []
-    → Finishes result desk0 (bounded_seen store0) (bounded_remembers store0) desk1 text0 text1 → Finishes result desk0 (bounded_seen store0) (bounded_remembers store0) desk1 [] text1
-finishes_as result desk0 desk1 store0 text0 text1 empty finishes = subst (λ (t : List ℕ). Finishes result desk0 (bounded_seen store0) (bounded_remembers store0) desk1 t text1) empty finishes
+pub finishes_as : (result : Result (Unit {0}) EngineEnd) (state0 state1 : EngineState) (store0 : BoundedStore) (text0 text1 : List ℕ) → text0 ≡ []
+    → Finishes result state0 (bounded_seen store0) (bounded_remembers store0) state1 text0 text1 → Finishes result state0 (bounded_seen store0) (bounded_remembers store0) state1 [] text1
+finishes_as result state0 state1 store0 text0 text1 empty finishes = subst (λ (t : List ℕ). Finishes result state0 (bounded_seen store0) (bounded_remembers store0) state1 t text1) empty finishes
 
 -- an engine that is for the same plan, start and lines
-pub set_as : (desk0 desk1 : Desk) → desk1.plan ≡ desk0.plan → desk1.option ≡ desk0.option → desk1.show ≡ desk0.show → setting_at desk1 ≡ setting_at desk0
-set_as desk0 desk1 plan option show =
-    ap (λ (p : Plan). record { plan = p; start = desk1.option; show = desk1.show }) plan
-    ∙ (ap (λ (o : Option ℕ). record { plan = desk0.plan; start = o; show = desk1.show }) option ∙ ap (λ (w : Show). record { plan = desk0.plan; start = desk0.option; show = w }) show)
+pub set_as : (state0 state1 : EngineState) → state1.plan ≡ state0.plan → state1.given_start ≡ state0.given_start → state1.show ≡ state0.show → setting_at state1 ≡ setting_at state0
+set_as state0 state1 plan given_start show =
+    ap (λ (p : Plan). record { plan = p; start = state1.given_start; show = state1.show }) plan
+    ∙ (ap (λ (o : Option ℕ). record { plan = state0.plan; start = o; show = state1.show }) given_start ∙ ap (λ (w : Show). record { plan = state0.plan; start = state0.given_start; show = w }) show)

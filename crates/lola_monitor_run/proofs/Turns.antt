@@ -98,14 +98,14 @@ module _ (s : ℕ) (old new : Feeding) (kept : Keeping) (idle : IsIdle old kept)
   }
 
   -- the row that a worker read fits the plan
-  fits : (w : Working) (row : Row) → slice_get old.workers s ≡ Some w → reader.IsRowOf w.reader.shape (handed_in w) row → IsRowFor kept.desk.plan row
+  fits : (w : Working) (row : Row) → slice_get old.workers s ≡ Some w → reader.IsRowOf w.reader.shape (handed_in w) row → IsRowFor kept.state.plan row
   fits w row was is = record {
     stamp = is.stamp;
-    fields = subst (λ (ks : List Kind). AllZip IsFieldOf ks row.fields) (ap (λ (x : reader.Shape). map (λ i. i.kind) x.inputs) (idle.workers s w was) ∙ kinds-are kept.desk.plan.spec.streams) is.fields;
+    fields = subst (λ (ks : List Kind). AllZip IsFieldOf ks row.fields) (ap (λ (x : reader.Shape). map (λ i. i.kind) x.inputs) (idle.workers s w was) ∙ kinds-are kept.state.plan.spec.streams) is.fields;
   }
 
   took_row : (before after : Working) (row : Row) → slice_get old.workers s ≡ Some before → new.workers ≡ set old.workers s after → before.end ≡ None
-      → IsNext row before after.reader → after.kept ≡ None → after.end ≡ None → TookRow kept.desk.plan s row (supplies_of old) (supplies_of new)
+      → IsNext row before after.reader → after.kept ≡ None → after.end ≡ None → TookRow kept.state.plan s row (supplies_of old) (supplies_of new)
   took_row before after row was now went_on next none goes_on =
       let shape = idle.workers s before was in
       let given : handed_in after ≡ after.reader.given = ap (λ (k : Option Row). without k after.reader.given) none in
@@ -126,16 +126,16 @@ module _ (s : ℕ) (old new : Feeding) (kept : Keeping) (idle : IsIdle old kept)
   stopped : (how : Ending) (before after : Working) → before.kept ≡ None → reader.Stops how before.reader after.reader → Stopped (end_of how) (supply_of before) (supply_of after)
   stopped ending.End before after none stops = (subst (IsAt Whole) (sym (to_come_is before none)) (at_is _ Whole stops.0), stops.1)
   stopped (ending.Malformed kind row) before after none stops = (subst (IsAt (MalformedAt kind row)) (sym (to_come_is before none)) (at_is _ (MalformedAt kind row) stops.0), stops.2)
-  stopped ending.ReadFault before after none stops = stops.rose
+  stopped ending.ReadFailed before after none stops = stops.rose
   stopped ending.Memory before after none stops = tt
 
 -- a row that a source handed in is pending
 pub record GaveEntry (s : ℕ) (old mid : Feeding) (kept : Keeping) : Type 0 where
   pub entry : Entry
-  pub took : TookRow kept.desk.plan s entry.row (supplies_of old) (supplies_of mid)
+  pub took : TookRow kept.state.plan s entry.row (supplies_of old) (supplies_of mid)
   pub mark : IsNextFor kept entry
   pub pending : mid.merging.pending ≡ entry ∷ []
-  pub merged : mid.merging.merged ≡ time_after kept.desk.merged entry
+  pub merged : mid.merging.merged ≡ time_after kept.state.merged entry
   pub lets_in : mid.merging.closed ≡ false
   pub sources : sources_of mid.merging ≡ sources_of old.merging
 
@@ -143,7 +143,7 @@ pub record GaveEntry (s : ℕ) (old mid : Feeding) (kept : Keeping) : Type 0 whe
 pub record GaveNone (answer : Turn) (s : ℕ) (old mid : Feeding) (kept : Keeping) : Type 0 where
   pub sat : Rested s (supplies_of old) (supplies_of mid) ⊎ ((how : worker.SourceEnd) × (answer ≡ turn.Done how) × Finished s how (supplies_of old) (supplies_of mid))
   pub pending : mid.merging.pending ≡ []
-  pub merged : mid.merging.merged ≡ kept.desk.merged
+  pub merged : mid.merging.merged ≡ kept.state.merged
   pub lets_in : mid.merging.closed ≡ false
   pub sources : sources_of mid.merging ≡ sources_of old.merging
 
@@ -162,7 +162,7 @@ module _ (s : ℕ) (old mid : Feeding) (kept : Keeping) (idle : IsIdle old kept)
       let is : mid.merging ≡ replied old.merging row r = merging ∙ ap (replied old.merging row) (sym answer) in
       record {
         entry = l.entry;
-        took = subst (λ (x : Row). TookRow kept.desk.plan s x (supplies_of old) (supplies_of mid)) (sym l.row_is) (took_row s old mid kept idle before after row was now went_on next none goes_on);
+        took = subst (λ (x : Row). TookRow kept.state.plan s x (supplies_of old) (supplies_of mid)) (sym l.row_is) (took_row s old mid kept idle before after row was now went_on next none goes_on);
         mark = subst (λ (t : ℕ). IsRightlyMarked t l.entry) idle.merged l.mark;
         pending = ap (λ (m : Merging). m.pending) is ∙ l.pending;
         merged = ap (λ (m : Merging). m.merged) is ∙ (l.merged ∙ ap (λ (t : ℕ). time_after t l.entry) idle.merged);
@@ -225,18 +225,18 @@ module _ (s : ℕ) (old mid : Feeding) (kept : Keeping) (idle : IsIdle old kept)
 
 -- after a turn, and once what it handed in was taken out, a feed waits for the next
 module _ (s : ℕ) (old mid new : Feeding) (kept after : Keeping) (idle : IsIdle old kept) (answer : Turn) (t : TookTurn s answer old mid) (entry : Option Entry) (took : TookEntry entry mid new) where
-  shapes : after.desk.plan ≡ kept.desk.plan → AreOfPlan after.desk.plan new.workers
+  shapes : after.state.plan ≡ kept.state.plan → AreOfPlan after.state.plan new.workers
   shapes plan k w is = dite (ℕ_discrete k s)
       (λ same.
       let before = idle.workers s t.before t.was in
       let there = slice_get_within old.workers s t.before t.was in
       let w_is : w ≡ t.after = some_is (sym is ∙ (ap (λ l. slice_get l k) (took.workers ∙ t.now) ∙ (ap (λ n. slice_get (set old.workers s t.after) n) same ∙ set_here old.workers s t.after there))) in
-      ap (λ (x : Working). x.reader.shape) w_is ∙ (t.kept.shape ∙ (before ∙ (ap (λ n. reader.shape_of kept.desk.plan.spec.streams n most_rows) (sym same) ∙ ap (λ (p : Plan). reader.shape_of p.spec.streams k most_rows) (sym plan)))))
+      ap (λ (x : Working). x.reader.shape) w_is ∙ (t.kept.shape ∙ (before ∙ (ap (λ n. reader.shape_of kept.state.plan.spec.streams n most_rows) (sym same) ∙ ap (λ (p : Plan). reader.shape_of p.spec.streams k most_rows) (sym plan)))))
       (λ apart.
       idle.workers k w (sym (ap (λ l. slice_get l k) (took.workers ∙ t.now) ∙ set_else old.workers s k t.after apart) ∙ is)
       ∙ ap (λ (p : Plan). reader.shape_of p.spec.streams k most_rows) (sym plan))
 
-  pub idle_next : after.desk.plan ≡ kept.desk.plan → new.batch ≡ [] → mid.merging.closed ≡ false → mid.merging.merged ≡ after.desk.merged → sources_of mid.merging ≡ sources_of old.merging → IsIdle new after
+  pub idle_next : after.state.plan ≡ kept.state.plan → new.batch ≡ [] → mid.merging.closed ≡ false → mid.merging.merged ≡ after.state.merged → sources_of mid.merging ≡ sources_of old.merging → IsIdle new after
   idle_next plan batch lets_in merged sources = record {
     pending = ap (λ (m : Merging). m.pending) took.merging;
     batch = batch;

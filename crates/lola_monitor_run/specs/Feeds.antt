@@ -13,7 +13,7 @@ use Rattle.lola_rows.specs.Reading.{shape_of}
 use Rattle.lola_merge.specs.Merging.{Merging, sources_of}
 use Rattle.lola_feed.specs.Feeding.{Working, beginning, bound_of, handed_in, to_come}
 use Rattle.lola_feed.specs.declared.worker.SourceEnd as worker
-use Rattle.lola_feed.specs.declared.worker.SourceEnd.TheVariants.{End, Malformed, ReadFault, Closed, Memory}
+use Rattle.lola_feed.specs.declared.worker.SourceEnd.TheVariants.{End, Malformed, ReadFailed, Closed, Memory}
 use Rattle.lola_monitor_run.specs.Verdicts.{AreOfSources, AreTraceable, HasFront, IsCutAtDeadline, IsCutAtRow, IsCutInLine, IsRowFault, fault_in, late_count, most_rows, settled_fault_in, settled_text, verdicts}
 use Rattle.lola_monitor_run.specs.Running.{Keeping, IsSetAs, Stands, setting_in}
 use Rattle.lola_monitor_run.specs.Rounds.{AreFirst}
@@ -57,7 +57,7 @@ abbrev pub HasEnded : Option worker.SourceEnd → Supply → Supply → List Row
 HasEnded None old new rows = Passes old.rest new.rest rows × (new.number ≡ length rows) × (new.count ≡ old.count)
 HasEnded (Some End) old new rows = EndedWith Whole old.rest rows × (new.count ≡ old.count)
 HasEnded (Some (Malformed kind row)) old new rows = EndedWith (MalformedAt kind row) old.rest rows × (new.count ≡ old.count)
-HasEnded (Some ReadFault) old new rows = Rose old.count new.count
+HasEnded (Some ReadFailed) old new rows = Rose old.count new.count
 HasEnded (Some Closed) old new rows = ⊥
 HasEnded (Some Memory) old new rows = ⊥
 
@@ -78,7 +78,7 @@ HaveBegun olds journal = (s : ℕ) (old : Supply) → slice_get olds s ≡ Some 
 
 -- a source that has not failed
 abbrev pub IsSound : Supply → Type 0
-IsSound s = s.end ≡ Some ReadFault → ⊥
+IsSound s = s.end ≡ Some ReadFailed → ⊥
 
 -- these are the first rows of a source, and all of them where it has not failed
 abbrev pub IsListOf : Supply → Supply → List Row → Type 0
@@ -90,7 +90,7 @@ pub record GoInRounds (olds news : List Supply) (journal : List Entry) : Type 0 
   pub many : length lists ≡ length olds
   pub are : (s : ℕ) (old new : Supply) (rows : List Row) → slice_get olds s ≡ Some old → slice_get news s ≡ Some new → slice_get lists s ≡ Some rows → IsListOf old new rows
   pub first : AreFirst lists journal
-  pub failed : (s : ℕ) (old new : Supply) → slice_get olds s ≡ Some old → slice_get news s ≡ Some new → new.end ≡ Some ReadFault → Rose old.count new.count
+  pub failed : (s : ℕ) (old new : Supply) → slice_get olds s ≡ Some old → slice_get news s ≡ Some new → new.end ≡ Some ReadFailed → Rose old.count new.count
 
 -- all have ended
 abbrev pub HaveEnded : List Supply → Type 0
@@ -109,9 +109,9 @@ world kept sources out trace = record { kept = kept; sources = sources; out = ou
 -- where a run came to: where its sources are read in turns, their rows came in rounds
 pub record CameTo (in_turns : Bool) (first last : World) : Type 0 where
   pub journal : List Entry
-  pub legal : IsLegal first.kept.desk.option journal
+  pub legal : IsLegal first.kept.state.given_start journal
   pub sources : AreOfSources (length first.sources) journal
-  pub traceable : AreTraceable first.kept.desk.plan journal
+  pub traceable : AreTraceable first.kept.state.plan journal
   pub rounds : in_turns ≡ true → GoInRounds first.sources last.sources journal
 
 -- the trace received the lines of a journal
@@ -149,7 +149,7 @@ pub record RanToTraceCut (in_turns : Bool) (first last : World) : Type 0 where
   pub came : CameTo in_turns first last
   pub begun : HaveBegun first.sources came.journal
   pub no_fault : settled_fault_in (setting_in first.kept) came.journal ≡ None
-  pub trace : IsCutInLine first.kept.desk.plan first.trace last.trace came.journal
+  pub trace : IsCutInLine first.kept.state.plan first.trace last.trace came.journal
   pub out : last.out ≡ grown first.out (settled_text (setting_in first.kept) came.journal)
 
 -- a run without a fault to a row that was traced, and whose verdicts were cut short
@@ -161,8 +161,8 @@ pub record RanToRowCut (in_turns : Bool) (first last : World) : Type 0 where
   pub out : IsCutAtRow (setting_in first.kept) first.out last.out came.journal
 
 -- a run that a failed put cut short
-abbrev pub RanToPutFault : Bool → World → World → Type 0
-RanToPutFault in_turns first last = RanToTraceCut in_turns first last ⊎ RanToRowCut in_turns first last
+abbrev pub RanToFailedPut : Bool → World → World → Type 0
+RanToFailedPut in_turns first last = RanToTraceCut in_turns first last ⊎ RanToRowCut in_turns first last
 
 -- a run that ended for want of memory: all its rows were traced, and a front of their verdicts was put
 pub record RanOutOfMemory (in_turns : Bool) (first last : World) : Type 0 where
@@ -176,7 +176,7 @@ abbrev pub Runs : Bool → Result (Unit {0}) Stop → World → World → Type 0
 Runs in_turns (Ok done) first last = RanToEnd in_turns first last
 Runs in_turns (Err (stop.Fault stream kind time)) first last = RanToFault in_turns (record { stream = stream; kind = kind; time = time }) first last
 Runs in_turns (Err (stop.CutFault stream kind time)) first last = RanToCutFault in_turns (record { stream = stream; kind = kind; time = time }) first last
-Runs in_turns (Err stop.Put) first last = RanToPutFault in_turns first last
+Runs in_turns (Err stop.Put) first last = RanToFailedPut in_turns first last
 Runs in_turns (Err stop.Memory) first last = RanOutOfMemory in_turns first last
 
 -- a whole run, with the deadlines at its last stamp: all verdicts were put
@@ -193,10 +193,10 @@ pub record ThroughWell (in_turns : Bool) (first last : World) : Type 0 where
   pub ended : HaveEnded last.sources
   pub no_fault : fault_in (setting_in first.kept) through.came.journal ≡ None
   pub settled : settled_fault_in (setting_in first.kept) through.came.journal ≡ None
-  pub steps : last.kept.desk.steps ≡ length (whole_model first.kept.desk.plan first.kept.desk.option through.came.journal)
+  pub steps : last.kept.state.steps ≡ length (whole_model first.kept.state.plan first.kept.state.given_start through.came.journal)
   pub accepted : last.kept.accepted ≡ length (accepted through.came.journal)
   pub late : last.kept.late ≡ late_count through.came.journal
-  pub lines : last.kept.desk.lines ≡ length (final_lines first.kept.desk.plan first.kept.desk.option through.came.journal first.kept.desk.show)
+  pub lines : last.kept.state.lines ≡ length (final_lines first.kept.state.plan first.kept.state.given_start through.came.journal first.kept.state.show)
 
 -- the deadline at the last stamp has the fault, and all sources have ended
 pub record IsAtDeadline (journal : List Entry) (first last : World) : Type 0 where
@@ -233,7 +233,7 @@ abbrev pub EndsRun : Bool → Result (Unit {0}) Stop → World → World → Typ
 EndsRun in_turns (Ok done) first last = ThroughWell in_turns first last
 EndsRun in_turns (Err (stop.Fault stream kind time)) first last = EndedByFault in_turns (record { stream = stream; kind = kind; time = time }) first last
 EndsRun in_turns (Err (stop.CutFault stream kind time)) first last = EndedByCutFault in_turns (record { stream = stream; kind = kind; time = time }) first last
-EndsRun in_turns (Err stop.Put) first last = RanToPutFault in_turns first last ⊎ ThroughCut in_turns first last
+EndsRun in_turns (Err stop.Put) first last = RanToFailedPut in_turns first last ⊎ ThroughCut in_turns first last
 EndsRun in_turns (Err stop.Memory) first last = RanOutOfMemory in_turns first last
 
 -- workers of some sources before their first turn, of which that of source s reads the rows of source s of a plan
@@ -261,9 +261,9 @@ pub record IsIdle (feed : Feeding) (kept : Keeping) : Type 0 where
   pub pending : feed.merging.pending ≡ []
   pub batch : feed.batch ≡ []
   pub lets_in : feed.merging.closed ≡ false
-  pub merged : feed.merging.merged ≡ kept.desk.merged
+  pub merged : feed.merging.merged ≡ kept.state.merged
   pub many : sources_of feed.merging ≡ length feed.workers
-  pub workers : AreOfPlan kept.desk.plan feed.workers
+  pub workers : AreOfPlan kept.state.plan feed.workers
 
 -- before the first turn
 pub record IsFresh (feed : Feeding) : Type 0 where

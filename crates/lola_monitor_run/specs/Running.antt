@@ -17,7 +17,7 @@ use Rattle.lola_model.specs.declared.journal.Mark.TheVariants as mark
 use Rattle.lola_instances.specs.declared.store.BoundedStore.{BoundedStore}
 use Rattle.lola_instances.specs.Stores.{bounded_remembers, bounded_seen}
 use Rattle.lola_engine.specs.Engines.{Accepts, Brings, Completes, IsEngine, StandsFor}
-use Rattle.lola_engine.specs.declared.engine.Desk.{Desk}
+use Rattle.lola_engine.specs.declared.engine.EngineState.{EngineState}
 use Rattle.lola_engine.specs.declared.end.EngineEnd.{EngineEnd}
 use Rattle.lola_engine.specs.declared.end.EngineEnd.TheVariants as engine_end
 use Rattle.lola_monitor_run.specs.Verdicts.{Setting, fault_in, late_count, settled_fault_in}
@@ -32,52 +32,52 @@ pub record IsRowFor (plan : Plan) (row : Row) : Type 0 where
 
 -- what a run keeps: its engine with the store, and how many rows were accepted and late
 pub record Keeping : Type 0 where
-  pub desk : Desk
+  pub state : EngineState
   pub store : BoundedStore
   pub accepted : ℕ
   pub late : ℕ
 
 -- what a run keeps but its room for lines
 abbrev pub keeping : Run → Keeping
-keeping r = record { desk = r.engine.desk; store = r.engine.store; accepted = r.accepted; late = r.late }
+keeping r = record { state = r.engine.state; store = r.engine.store; accepted = r.accepted; late = r.late }
 
 -- what an engine was made for
-abbrev pub setting_at : Desk → Setting
-setting_at e = record { plan = e.plan; start = e.option; show = e.show }
+abbrev pub setting_at : EngineState → Setting
+setting_at e = record { plan = e.plan; start = e.given_start; show = e.show }
 
 -- what a run is made for
 abbrev pub setting_in : Keeping → Setting
-setting_in kept = setting_at kept.desk
+setting_in kept = setting_at kept.state
 
 -- a run that goes on
 abbrev pub IsGoing : Keeping → Type 0
-IsGoing kept = IsEngine kept.desk (bounded_seen kept.store)
+IsGoing kept = IsEngine kept.state (bounded_seen kept.store)
 
 -- the run has taken the entries of a journal, and no step so far has a fault
 pub record Stands (journal : List Entry) (kept : Keeping) : Type 0 where
-  pub legal : IsLegal kept.desk.option journal
+  pub legal : IsLegal kept.state.given_start journal
   pub accepted : kept.accepted ≡ length (accepted journal)
   pub late : kept.late ≡ late_count journal
-  pub engine : StandsFor kept.desk (bounded_seen kept.store) (bounded_remembers kept.store) journal
+  pub engine : StandsFor kept.state (bounded_seen kept.store) (bounded_remembers kept.store) journal
   pub going : IsGoing kept
 
 -- one row more can be counted
 pub record HasRoom (kept : Keeping) : Type 0 where
-  pub engine : kept.desk.rows < 2 ^ 47
+  pub engine : kept.state.rows < 2 ^ 47
   pub rows : kept.accepted + kept.late < 2 ^ 62
 
 -- an entry was run without a fault: whatever journal the run stood for, it stands for one entry more
 pub record StandsNext (journal : List Entry) (entry : Entry) (old new : Keeping) (out0 out1 : SinkState) : Type 0 where
   pub stands : Stands (journal ++ entry ∷ []) new
   pub lines : List (List ℕ)
-  pub brings : Brings old.desk journal entry lines
+  pub brings : Brings old.state journal entry lines
   pub out : out1 ≡ grown out0 (text_of lines)
 
 -- a step of an entry has a fault: the lines of the steps before it were put
 pub record FaultNext (fault : RunFault) (journal : List Entry) (entry : Entry) (old : Keeping) (out0 out1 : SinkState) : Type 0 where
   pub is_fault : settled_fault_in (setting_in old) (journal ++ entry ∷ []) ≡ Some fault
   pub lines : List (List ℕ)
-  pub brings : Brings old.desk journal entry lines
+  pub brings : Brings old.state journal entry lines
   pub out : out1 ≡ grown out0 (text_of lines)
 
 -- an accepted entry
@@ -88,25 +88,25 @@ IsAccepted entry = elim entry.mark [ mark.Accepted ↦ Unit {0} | mark.Late m �
 pub record CutFaultNext (fault : RunFault) (journal : List Entry) (entry : Entry) (old : Keeping) (out0 out1 : SinkState) : Type 0 where
   pub is_fault : settled_fault_in (setting_in old) (journal ++ entry ∷ []) ≡ Some fault
   pub lines : List (List ℕ)
-  pub brings : Brings old.desk journal entry lines
+  pub brings : Brings old.state journal entry lines
   pub out : PutBroke out0 out1 (text_of lines)
 
 -- the lines of an entry were cut short, and no step of it has a fault
 pub record CutNext (journal : List Entry) (entry : Entry) (old : Keeping) (out0 out1 : SinkState) : Type 0 where
   pub fine : settled_fault_in (setting_in old) (journal ++ entry ∷ []) ≡ None
   pub lines : List (List ℕ)
-  pub brings : Brings old.desk journal entry lines
+  pub brings : Brings old.state journal entry lines
   pub out : PutBroke out0 out1 (text_of lines)
 
 -- the lines of an entry were not put
 pub record KeptNext (journal : List Entry) (entry : Entry) (old : Keeping) (out0 out1 : SinkState) : Type 0 where
   pub lines : List (List ℕ)
-  pub brings : Brings old.desk journal entry lines
+  pub brings : Brings old.state journal entry lines
   pub out : out1 ≡ out0
 
 -- an entry is marked as the merged time of a run asks
 abbrev pub IsNext : Keeping → Entry → Type 0
-IsNext kept entry = IsRightlyMarked kept.desk.merged entry
+IsNext kept entry = IsRightlyMarked kept.state.merged entry
 
 -- a run is made for the same as before
 abbrev pub IsSetAs : Keeping → Keeping → Type 0
@@ -125,13 +125,13 @@ Takes (Err stop.Memory) entry old new out0 out1 = ((journal : List Entry) → St
 -- what an engine of a run does with a row that is given an empty text
 abbrev pub AcceptsRow : Result (Unit {0}) EngineEnd → Row → Keeping → Keeping → List ℕ → Type 0
 AcceptsRow result row old new text =
-    Accepts result row old.desk (bounded_seen old.store) (bounded_remembers old.store) new.desk (bounded_seen new.store) (bounded_remembers new.store) [] text
+    Accepts result row old.state (bounded_seen old.store) (bounded_remembers old.store) new.state (bounded_seen new.store) (bounded_remembers new.store) [] text
 
 -- the engine has run a row, and appended this text; what the run keeps goes with it
 pub record RanRow (row : Row) (old new : Keeping) (text : List ℕ) : Type 0 where
   pub accepts : AcceptsRow (Ok tt) row old new text
   pub going : IsGoing new
-  pub merged : new.desk.merged ≡ row.stamp
+  pub merged : new.state.merged ≡ row.stamp
   pub accepted : new.accepted ≡ old.accepted + 1
   pub late : new.late ≡ old.late
   pub setting : IsSetAs old new
@@ -162,24 +162,24 @@ StopsAt engine_end.Memory end text out0 out1 = (end ≡ stop.Memory) × (out1 �
 pub record Closed (journal : List Entry) (old new : Keeping) (out0 out1 : SinkState) : Type 0 where
   pub fine : fault_in (setting_in old) journal ≡ None
   pub lines : List (List ℕ)
-  pub completes : Completes old.desk journal lines
+  pub completes : Completes old.state journal lines
   pub out : out1 ≡ grown out0 (text_of lines)
-  pub steps : new.desk.steps ≡ length (whole_model old.desk.plan old.desk.option journal)
+  pub steps : new.state.steps ≡ length (whole_model old.state.plan old.state.given_start journal)
   pub accepted : new.accepted ≡ old.accepted
   pub late : new.late ≡ old.late
-  pub counted : new.desk.lines ≡ length (final_lines old.desk.plan old.desk.option journal old.desk.show)
+  pub counted : new.state.lines ≡ length (final_lines old.state.plan old.state.given_start journal old.state.show)
 
 -- their step has a fault
 pub record ClosedByFault (fault : RunFault) (journal : List Entry) (old : Keeping) (out0 out1 : SinkState) : Type 0 where
   pub is_fault : fault_in (setting_in old) journal ≡ Some fault
-  pub completes : Completes old.desk journal []
+  pub completes : Completes old.state journal []
   pub out : out1 ≡ out0
 
 -- their lines were cut short, and their step has no fault
 pub record CutClose (journal : List Entry) (old : Keeping) (out0 out1 : SinkState) : Type 0 where
   pub fine : fault_in (setting_in old) journal ≡ None
   pub lines : List (List ℕ)
-  pub completes : Completes old.desk journal lines
+  pub completes : Completes old.state journal lines
   pub out : PutBroke out0 out1 (text_of lines)
 
 -- what is run at the end of a run's rows, whatever journal the run stands for. Their step is one, so no line comes before its fault

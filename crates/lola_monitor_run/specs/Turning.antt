@@ -72,7 +72,7 @@ pub record TookRow (plan : Plan) (s : ℕ) (row : Row) (olds news : List Supply)
 abbrev pub Stopped : worker.SourceEnd → Supply → Supply → Type 0
 Stopped end.End old new = IsAt Whole old.rest × (new.count ≡ old.count)
 Stopped (end.Malformed kind row) old new = IsAt (MalformedAt kind row) old.rest × (new.count ≡ old.count)
-Stopped end.ReadFault old new = Rose old.count new.count
+Stopped end.ReadFailed old new = Rose old.count new.count
 Stopped end.Closed old new = ⊥
 Stopped end.Memory old new = Unit {0}
 
@@ -102,9 +102,9 @@ pub record OnlySources (old new : World) : Type 0 where
 
 -- a row of a source was taken and traced
 pub record Traced (s : ℕ) (entry : Entry) (old new : World) : Type 0 where
-  pub took : TookRow old.kept.desk.plan s entry.row old.sources new.sources
+  pub took : TookRow old.kept.state.plan s entry.row old.sources new.sources
   pub mark : IsNext old.kept entry
-  pub traceable : IsTraceable old.kept.desk.plan entry
+  pub traceable : IsTraceable old.kept.state.plan entry
   pub trace : new.trace ≡ grown old.trace (trace_line entry)
 
 -- one row was taken, traced, and run without a fault
@@ -138,7 +138,7 @@ pub record TraceCut (s : ℕ) (old new : World) : Type 0 where
   pub at : Touched s old.sources new.sources
   pub sound : IsSound at.new
   pub entry : Entry
-  pub traceable : IsTraceable old.kept.desk.plan entry
+  pub traceable : IsTraceable old.kept.state.plan entry
   pub trace : PutBroke old.trace new.trace (trace_line entry)
   pub out : new.out ≡ old.out
 
@@ -177,7 +177,7 @@ RunsTaken (Err end) s old new = Steps (Err end) s old new
 
 -- an entry was traced and run, whichever source its row was taken of
 abbrev pub RunsEntry : Result (Unit {0}) Stop → Entry → (List Supply → World) → (List Supply → World) → Type 0
-RunsEntry result entry old new = (s : ℕ) (olds news : List Supply) → TookRow (old olds).kept.desk.plan s entry.row olds news → RunsTaken result s (old olds) (new news)
+RunsEntry result entry old new = (s : ℕ) (olds news : List Supply) → TookRow (old olds).kept.state.plan s entry.row olds news → RunsTaken result s (old olds) (new news)
 
 -- this source has not ended
 abbrev pub Goes : List Supply → ℕ → Type 0
@@ -196,7 +196,7 @@ pub record SoFar (first : World) (round turn : ℕ) (now : World) : Type 0 where
   pub stands : Stands journal now.kept
   pub drawn : Drawn first round turn now.sources journal
   pub setting : IsSetAs first.kept now.kept
-  pub traceable : AreTraceable first.kept.desk.plan journal
+  pub traceable : AreTraceable first.kept.state.plan journal
   pub trace : now.trace ≡ grown first.trace (trace_text journal)
   pub out : now.out ≡ grown first.out (settled_text (setting_in first.kept) journal)
 

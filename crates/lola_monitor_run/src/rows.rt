@@ -33,11 +33,11 @@ fn run_entry<R: Threads + Sync, K: Sink, T: Sink, G: Gate + Sync>(
 ) -> Result<(), Stop>
     requires standing { IsStanding (keeping run.old) }
     requires room { HasRoom (keeping run.old) }
-    requires fits { IsRowFor (keeping run.old).desk.plan entry.now.row }
+    requires fits { IsRowFor (keeping run.old).state.plan entry.now.row }
     requires mark { IsNext (keeping run.old) entry.now }
     ensures runs { RunsEntry result entry.now (λ sources. world (keeping run.old) sources (K.state out.old) (T.state trace.old))
         (λ sources. world (keeping run.new) sources (K.state out.new) (T.state trace.new)) }
-    ensures merged { OnOk result ((keeping run.new).desk.merged ≡ time_after (keeping run.old).desk.merged entry.now) }
+    ensures merged { OnOk result ((keeping run.new).state.merged ≡ time_after (keeping run.old).state.merged entry.now) }
     ensures setting { IsSetAs (keeping run.old) (keeping run.new) }
 {
     if let Err(stop) = run.trace(entry, trace) {
@@ -161,7 +161,7 @@ pub fn run_out<R: Threads + Sync, K: Sink, G: Gate + Sync>(
     requires going { IsGoing (keeping run.old) }
     ensures run { (in_turns : Bool) (first : World) (sources : List Supply) (trace : SinkState) → RanToEnd in_turns first (world (keeping run.old) sources (K.state out.old) trace)
         → EndsRun in_turns result first (world (keeping run.new) sources (K.state out.new) trace) }
-    ensures plan { (keeping run.new).desk.plan ≡ (keeping run.old).desk.plan }
+    ensures plan { (keeping run.new).state.plan ≡ (keeping run.old).state.plan }
 {
     run.close(rt, out, gate)
 }
@@ -182,7 +182,7 @@ fn run_whole<R: Threads + Sync, S: Source, K: Sink, T: Sink, G: Gate + Sync>(
     ensures run { EndsRun true result (world (keeping run.old) (supplies_of feed.old) (K.state out.old) (T.state trace.old))
         (world (keeping run.new) (supplies_of feed.new) (K.state out.new) (T.state trace.new)) }
     ensures places { AreInPlace feed.old.workers feed.new.workers }
-    ensures plan { (keeping run.new).desk.plan ≡ (keeping run.old).desk.plan }
+    ensures plan { (keeping run.new).state.plan ≡ (keeping run.old).state.plan }
 {
     match run_rows(rt, run, feed, out, trace, gate) {
         Ok(()) => run_out(rt, run, out, gate),
@@ -203,12 +203,12 @@ pub fn run_in_turns<R: Threads + Sync, S: Source, K: Sink, T: Sink, G: Gate + Sy
     gate: &G,
 ) -> (Vec<SourceWorker<S>>, Result<(), Stop>)
     requires stands { Stands [] (keeping run.old) }
-    requires ready { AreReady (keeping run.old).desk.plan workers.items }
-    requires start { start ≡ (keeping run.old).desk.option }
+    requires ready { AreReady (keeping run.old).state.plan workers.items }
+    requires start { start ≡ (keeping run.old).state.given_start }
     ensures run { EndsRun true result.1 (world (keeping run.old) (map supply_of workers.items) (K.state out.old) (T.state trace.old))
         (world (keeping run.new) (map supply_of result.0.items) (K.state out.new) (T.state trace.new)) }
     ensures places { AreInPlace workers.items result.0.items }
-    ensures plan { (keeping run.new).desk.plan ≡ (keeping run.old).desk.plan }
+    ensures plan { (keeping run.new).state.plan ≡ (keeping run.old).state.plan }
 {
     let sources = workers.len() as u32;
     let (state, batch) = match make_room(alloc, sources, start) {

@@ -59,9 +59,9 @@ fn new_engine(
     requires accepted { IsAccepted plan }
     requires workers { (1 ≤ workers) × (workers ≤ 64) }
     requires start { IsOptionInTime start }
-    ensures engine { IfOk result (λ engine. IsEngine engine.desk (bounded_seen engine.store)) }
-    ensures setting { IfOk result (λ engine. setting_at engine.desk ≡ record { plan = plan; start = start; show = show }) }
-    ensures stands { IfOk result (λ engine. StandsFor engine.desk (bounded_seen engine.store) (bounded_remembers engine.store) []) }
+    ensures engine { IfOk result (λ engine. IsEngine engine.state (bounded_seen engine.store)) }
+    ensures setting { IfOk result (λ engine. setting_at engine.state ≡ record { plan = plan; start = start; show = show }) }
+    ensures stands { IfOk result (λ engine. StandsFor engine.state (bounded_seen engine.store) (bounded_remembers engine.store) []) }
 {
     accepted_is_storable(&plan);
     let store = BoundedStore::create(alloc, hasher, &plan)?;
@@ -101,7 +101,7 @@ impl Run {
     /// Puts the line of an entry to the trace. An entry that the run takes is one that a line can tell.
     pub fn trace<T: Sink>(&mut self, entry: &Entry, trace: &mut T) -> Result<(), Stop>
         ensures puts { Puts result (trace_line entry.now) (T.state trace.old) (T.state trace.new) }
-        ensures told { IsGoing (keeping self.old) → IsRowFor (keeping self.old).desk.plan entry.now.row → IsNext (keeping self.old) entry.now → IsTraceable (keeping self.old).desk.plan entry.now }
+        ensures told { IsGoing (keeping self.old) → IsRowFor (keeping self.old).state.plan entry.now.row → IsNext (keeping self.old) entry.now → IsTraceable (keeping self.old).state.plan entry.now }
         ensures kept { keeping self.new ≡ keeping self.old }
     {
         numbers_are_in_range(entry);
@@ -117,8 +117,8 @@ impl Run {
         gate: &G,
     ) -> Result<(), Stop>
         requires going { IsGoing (keeping self.old) }
-        requires fits { IsRowFor self.old.engine.desk.plan row.now }
-        requires order { self.old.engine.desk.merged ≤ row.now.stamp }
+        requires fits { IsRowFor self.old.engine.state.plan row.now }
+        requires order { self.old.engine.state.merged ≤ row.now.stamp }
         requires room { HasRoom (keeping self.old) }
         ensures runs { RunsAccepted result row.now (keeping self.old) (keeping self.new) (K.state out.old) (K.state out.new) }
         ensures setting { IsSetAs (keeping self.old) (keeping self.new) }
@@ -140,7 +140,7 @@ impl Run {
         gate: &G,
     ) -> Result<(), Stop>
         requires going { IsGoing (keeping self.old) }
-        requires fits { IsRowFor self.old.engine.desk.plan entry.now.row }
+        requires fits { IsRowFor self.old.engine.state.plan entry.now.row }
         requires room { HasRoom (keeping self.old) }
         requires mark { IsNext (keeping self.old) entry.now }
         ensures takes { Takes result entry.now (keeping self.old) (keeping self.new) (K.state out.old) (K.state out.new) }
@@ -164,7 +164,7 @@ impl Run {
     ) -> Result<(), Stop>
         requires going { IsGoing (keeping self.old) }
         ensures closes { Closes result (keeping self.old) (keeping self.new) (K.state out.old) (K.state out.new) }
-        ensures plan { self.new.engine.desk.plan ≡ self.old.engine.desk.plan }
+        ensures plan { self.new.engine.state.plan ≡ self.old.engine.state.plan }
     {
         self.lines.clear();
         if let Err(end) = self.engine.finish(rt, gate, &mut self.lines) {
@@ -175,7 +175,7 @@ impl Run {
 
     /// The plan that it runs.
     pub fn plan(&self) -> &Plan
-        ensures { result.now ≡ (keeping self.now).desk.plan }
+        ensures { result.now ≡ (keeping self.now).state.plan }
     {
         self.engine.plan()
     }
@@ -196,8 +196,8 @@ impl Run {
 
     /// How many steps were run, and lines made of them.
     pub fn counts(&self) -> Counts
-        ensures steps { result.steps ≡ (keeping self.now).desk.steps }
-        ensures lines { result.lines ≡ (keeping self.now).desk.lines }
+        ensures steps { result.steps ≡ (keeping self.now).state.steps }
+        ensures lines { result.lines ≡ (keeping self.now).state.lines }
     {
         self.engine.counts()
     }

@@ -23,15 +23,15 @@ use Rattle.lola_monitor_threads.specs.Takings.{HasFailed, HasRun, Halts, IsCutAt
 use Rattle.lola_monitor_threads.specs.declared.halt.Halt.{Halt}
 use Rattle.lola_monitor_threads.specs.declared.halt.Halt.TheVariants as halt
 
-module _ (first : Place) (journal : List Entry) (k0 : Keeping) (o0 t0 : SinkState) (so : HasRun first journal (place k0 o0 t0)) (entry : Entry) (told : IsTraceable k0.desk.plan entry) where
+module _ (first : Place) (journal : List Entry) (k0 : Keeping) (o0 t0 : SinkState) (so : HasRun first journal (place k0 o0 t0)) (entry : Entry) (told : IsTraceable k0.state.plan entry) where
   fine_so_far : settled_fault_in (setting_in first.kept) journal ≡ None
   fine_so_far = ap (λ (s : Setting). settled_fault_in s journal) (sym so.setting) ∙ so.stands.engine.fine
 
-  told_first : IsTraceable first.kept.desk.plan entry
+  told_first : IsTraceable first.kept.state.plan entry
   told_first = subst (λ (s : Setting). IsTraceable s.plan entry) so.setting told
 
-  all_told : AreTraceable first.kept.desk.plan (journal ++ entry ∷ [])
-  all_told = told_more first.kept.desk.plan journal entry so.traceable told_first
+  all_told : AreTraceable first.kept.state.plan (journal ++ entry ∷ [])
+  all_told = told_more first.kept.state.plan journal entry so.traceable told_first
 
   pub not_traced : (t1 : SinkState) (how : Stop) → Puts (Err how) (trace_line entry) t0 t1 → RunsOne (Err how) first journal entry (place k0 o0 t1)
   not_traced t1 (stop.Fault stream kind time) puts = absurd puts
@@ -56,7 +56,7 @@ module _ (first : Place) (journal : List Entry) (k0 : Keeping) (o0 t0 : SinkStat
     trace_is : t1 ≡ grown first.trace (trace_text (journal ++ entry ∷ []))
     trace_is = more_text _ _ _ _ _ _ so.trace traced (trace_text-append_one journal entry)
 
-    text_is : (lines : List (List ℕ)) → Brings k0.desk journal entry lines → settled_text (setting_in first.kept) (journal ++ entry ∷ []) ≡ settled_text (setting_in first.kept) journal ++ text_of lines
+    text_is : (lines : List (List ℕ)) → Brings k0.state journal entry lines → settled_text (setting_in first.kept) (journal ++ entry ∷ []) ≡ settled_text (setting_in first.kept) journal ++ text_of lines
     text_is lines brings = text_more (setting_in first.kept) journal entry lines (subst (λ (s : Setting). BringsIn s journal entry lines) so.setting brings)
 
     row_fault : (fault : RunFault) → IsAccepted entry → settled_fault_in (setting_in k0) (journal ++ entry ∷ []) ≡ Some fault → IsRowFault (setting_in first.kept) (journal ++ entry ∷ []) fault
@@ -151,7 +151,7 @@ more_behind halt.Unfit count first front behind whole now is h = record {
 -- the next entry is rightly marked
 pub next_marked : (now : Place) (entry : Entry) (more : List Entry) → IsPartlyRun now (entry ∷ more) → IsNext now.kept entry
 next_marked now entry more way =
-    let legal = IsLegalFrom-append_right (opening_time now.kept.desk.option) way.journal (entry ∷ more) way.marked in
+    let legal = IsLegalFrom-append_right (opening_time now.kept.state.given_start) way.journal (entry ∷ more) way.marked in
     subst (λ t. IsRightlyMarked t entry) (sym (merged_is way.journal now.kept way.run.stands)) legal.0
 
 -- the next entry alone
@@ -160,8 +160,8 @@ way_to_next now entry more way = record {
   first = way.first;
   journal = way.journal;
   run = way.run;
-  marked = IsLegalFrom-append_left (opening_time now.kept.desk.option) (way.journal ++ entry ∷ []) more
-      (subst (IsLegalFrom (opening_time now.kept.desk.option)) (sym (append_assoc way.journal (entry ∷ []) more)) way.marked);
+  marked = IsLegalFrom-append_left (opening_time now.kept.state.given_start) (way.journal ++ entry ∷ []) more
+      (subst (IsLegalFrom (opening_time now.kept.state.given_start)) (sym (append_assoc way.journal (entry ∷ []) more)) way.marked);
 }
 
 -- the way goes on behind an entry
@@ -172,13 +172,13 @@ way_on now next entry more way goes setting = record {
   journal = way.journal ++ entry ∷ [];
   run = goes way.first way.journal way.run;
   marked = subst (λ (o : Option ℕ). IsLegal o ((way.journal ++ entry ∷ []) ++ more)) (sym (ap (λ (s : Setting). s.start) setting))
-      (subst (IsLegalFrom (opening_time now.kept.desk.option)) (sym (append_assoc way.journal (entry ∷ []) more)) way.marked);
+      (subst (IsLegalFrom (opening_time now.kept.state.given_start)) (sym (append_assoc way.journal (entry ∷ []) more)) way.marked);
 }
 
 -- a run that may count one row more has room for it
 pub has_room : (now : Place) (more : List Entry) → IsPartlyRun now more → now.kept.accepted + now.kept.late < most_taken → HasRoom now.kept
 has_room now more way few =
-    let rows : now.kept.desk.rows ≡ now.kept.accepted = way.run.stands.engine.rows ∙ sym way.run.stands.accepted in
+    let rows : now.kept.state.rows ≡ now.kept.accepted = way.run.stands.engine.rows ∙ sym way.run.stands.accepted in
     record { engine = omega arith; rows = omega arith }
 
 -- some entries were run one after another, and these are left

@@ -58,7 +58,7 @@ told_last : (e : Option worker.SourceEnd) (s : ℕ) (mine : List Event) → HasT
 told_last None s mine told finished = absurd (true≢false (sym finished ∙ told s))
 told_last (Some end.End) s mine told finished = told
 told_last (Some (end.Malformed kind row)) s mine told finished = told
-told_last (Some end.ReadFault) s mine told finished = told
+told_last (Some end.ReadFailed) s mine told finished = told
 told_last (Some end.Closed) s mine told finished = absurd (true≢false (sym finished ∙ told s))
 told_last (Some end.Memory) s mine told finished = told
 
@@ -66,7 +66,7 @@ told_over : (e : Option worker.SourceEnd) (s : ℕ) (mine : List Event) (old new
 told_over None s mine old new rows told finished stopped = absurd (true≢false (sym finished ∙ told s))
 told_over (Some end.End) s mine old new rows told finished stopped = stopped
 told_over (Some (end.Malformed kind row)) s mine old new rows told finished stopped = stopped
-told_over (Some end.ReadFault) s mine old new rows told finished stopped = stopped
+told_over (Some end.ReadFailed) s mine old new rows told finished stopped = stopped
 told_over (Some end.Closed) s mine old new rows told finished stopped = absurd (true≢false (sym finished ∙ told s))
 told_over (Some end.Memory) s mine old new rows told finished stopped = stopped
 
@@ -109,7 +109,7 @@ module _ (plan : Plan) (start : Option ℕ) (olds news : List Working) (seats : 
   none_left : EndsDone engine.mine false → left ≡ []
   none_left done = j.whole.done done (λ s p at. let f = from_at s p at in told_last f.1.end s p.mine f.2.offered.told (subst (λ (k : ℕ). has_finish p.mine k ≡ true) f.2.source (j.whole.finished done s p at)))
 
-  module _ (first now : Keeping) (out0 out1 trace0 trace1 : SinkState) (option : first.desk.option ≡ start) (made : first.desk.plan ≡ plan) where
+  module _ (first now : Keeping) (out0 out1 trace0 trace1 : SinkState) (given_start : first.state.given_start ≡ start) (made : first.state.plan ≡ plan) where
     abbrev from : Place
     from = place first out0 trace0
 
@@ -121,7 +121,7 @@ module _ (plan : Plan) (start : Option ℕ) (olds news : List Working) (seats : 
         let whole : journal ≡ taken engine.mine = ap (λ (l : List Entry). taken engine.mine ++ l) (none_left done) ∙ append-nil (taken engine.mine) in
         record {
           journal = taken engine.mine;
-          legal = subst (λ (o : Option ℕ). IsLegal o (taken engine.mine)) (sym option) (IsLegalFrom-append_left (opening_time start) (taken engine.mine) left legal);
+          legal = subst (λ (o : Option ℕ). IsLegal o (taken engine.mine)) (sym given_start) (IsLegalFrom-append_left (opening_time start) (taken engine.mine) left legal);
           sources = subst (λ (n : ℕ). AreOfSources n (taken engine.mine)) (sym (length-map olds supply_of)) sources;
           run = run;
           many = length-map news supply_of ∙ (j.many ∙ sym (length-map olds supply_of));
@@ -145,7 +145,7 @@ module _ (plan : Plan) (start : Option ℕ) (olds news : List Working) (seats : 
         let whole : journal ≡ stopped.front ++ (stopped.behind ++ left) = ap (λ (l : List Entry). l ++ left) stopped.joined ∙ append_assoc stopped.front stopped.behind left in
         record {
           journal = stopped.front;
-          legal = subst (λ (o : Option ℕ). IsLegal o stopped.front) (sym option) (IsLegalFrom-append_left (opening_time start) stopped.front (stopped.behind ++ left) (subst (IsLegal start) whole legal));
+          legal = subst (λ (o : Option ℕ). IsLegal o stopped.front) (sym given_start) (IsLegalFrom-append_left (opening_time start) stopped.front (stopped.behind ++ left) (subst (IsLegal start) whole legal));
           sources = subst (λ (n : ℕ). AreOfSources n stopped.front) (sym (length-map olds supply_of)) stopped.sources;
           begun = λ s old was.
               let w0 = from_mapped supply_of olds s old was in
@@ -159,7 +159,7 @@ module _ (plan : Plan) (start : Option ℕ) (olds news : List Working) (seats : 
         }
 
     -- the row of an entry that was let in is one that a run takes
-    fits : (front behind : List Entry) (entry : Entry) → journal ≡ front ++ entry ∷ behind → now.desk.plan ≡ plan → IsRowFor now.desk.plan entry.row
+    fits : (front behind : List Entry) (entry : Entry) → journal ≡ front ++ entry ∷ behind → now.state.plan ≡ plan → IsRowFor now.state.plan entry.row
     fits front behind entry whole same =
         let s = entry.row.source in
         let less : s < length olds = All-head (λ (e : Entry). e.row.source < length olds) entry behind (all_behind (λ (e : Entry). e.row.source < length olds) front (entry ∷ behind) (subst (AreOfSources (length olds)) whole theirs)) in

@@ -187,13 +187,13 @@ module _ (from old new : Working) (d0 d1 : Shown) (h : HasOffered from (seated o
   has_stopped : (how : Ending) → old.kept ≡ None → reader.Stops how old.reader new.reader → HasStopped (Some (end_of how)) (supply_of from) (supply_of new) (rows_in d0.mine)
   has_stopped ending.End none stops = (passes_ends _ (to_come old) _ Whole was.0 (subst (IsAt Whole) (sym (to_come_is old none)) (at_is _ Whole stops.0)), stops.1 ∙ was.2)
   has_stopped (ending.Malformed kind row) none stops = (passes_ends _ (to_come old) _ (MalformedAt kind row) was.0 (subst (IsAt (MalformedAt kind row)) (sym (to_come_is old none)) (at_is _ (MalformedAt kind row) stops.0)), stops.2 ∙ was.2)
-  has_stopped ending.ReadFault none stops = subst (λ n. Rose n new.reader.source.count) was.2 stops.rose
+  has_stopped ending.ReadFailed none stops = subst (λ n. Rose n new.reader.source.count) was.2 stops.rose
   has_stopped ending.Memory none stops = tt
 
   has_told : (how : Ending) → FinishesLast d1.mine → HasTold (Some (end_of how)) d1.mine
   has_told ending.End last = last
   has_told (ending.Malformed kind row) last = last
-  has_told ending.ReadFault last = last
+  has_told ending.ReadFailed last = last
   has_told ending.Memory last = last
 
   finishes : (how : Ending) → old.kept ≡ None → reader.Stops how old.reader new.reader → d1.mine ≡ d0.mine ++ Finished d0.source ∷ [] → new.end ≡ Some (end_of how) → HasOffered from (seated new d1)

@@ -10,7 +10,7 @@ use Rattle.lola_feed.specs.declared.worker.SourceEnd.TheVariants as end
 use Rattle.lola_monitor_run.specs.Running.{setting_in}
 use Rattle.lola_monitor_run.specs.declared.stop.Stop.{Stop}
 use Rattle.lola_monitor_run.specs.declared.stop.Stop.TheVariants as stop
-use Rattle.lola_monitor_run.specs.Feeds.{CameTo, HasEnded, RanOutOfMemory, RanToEnd, RanToPutFault, Runs, Supply, World, supply_of}
+use Rattle.lola_monitor_run.specs.Feeds.{CameTo, HasEnded, RanOutOfMemory, RanToEnd, RanToFailedPut, Runs, Supply, World, supply_of}
 use Rattle.lola_monitor_run.proofs.Lists.{from_mapped}
 use Rattle.lola_monitor_run.proofs.Entries.{all_put}
 use Rattle.lola_monitor_threads.specs.Joining.{AllCame, IsOver, SomeCame, place_in}
@@ -29,7 +29,7 @@ over_well : (e : Option worker.SourceEnd) (old new : Supply) (rows : List Row) �
 over_well None old new rows enough over = absurd over
 over_well (Some end.End) old new rows enough over = over
 over_well (Some (end.Malformed kind row)) old new rows enough over = over
-over_well (Some end.ReadFault) old new rows enough over = over
+over_well (Some end.ReadFailed) old new rows enough over = over
 over_well (Some end.Closed) old new rows enough over = absurd over
 over_well (Some end.Memory) old new rows enough over = absurd (enough refl)
 
@@ -75,7 +75,7 @@ abbrev came_so : (how : Stop) (first last : World) → SomeCame how first last �
 came_so how first last some = record { journal = some.journal; legal = some.legal; sources = some.sources; traceable = some.stops.traceable; rounds = not_in_turns }
 
 -- by a failed put
-cut_so : (first last : World) (some : SomeCame stop.Put first last) → IsCutInTrace (place_in first) some.journal (place_in last) ⊎ IsCutInRow (place_in first) some.journal (place_in last) → RanToPutFault false first last
+cut_so : (first last : World) (some : SomeCame stop.Put first last) → IsCutInTrace (place_in first) some.journal (place_in last) ⊎ IsCutInRow (place_in first) some.journal (place_in last) → RanToFailedPut false first last
 cut_so first last some (inl cut) = inl (record { came = came_so stop.Put first last some; begun = some.begun; no_fault = cut.no_fault; trace = cut.trace; out = cut.out })
 cut_so first last some (inr cut) = inr (record { came = came_so stop.Put first last some; begun = some.begun; no_fault = cut.no_fault; trace = cut.trace; out = cut.out })
 

@@ -44,8 +44,8 @@ still_going (Err how) count first entries now halts = tt
 -- a taker that has taken nothing
 abbrev pub new_taker : Keeping → TableId → ℕ → Taking
 new_taker kept id count = record {
-  seat = new_seat id (setting count kept.desk.option) 0 0;
-  inputs = record { count = count; kinds = input_kinds kept.desk.plan.spec.streams };
+  seat = new_seat id (setting count kept.state.given_start) 0 0;
+  inputs = record { count = count; kinds = input_kinds kept.state.plan.spec.streams };
   batch = [];
 }
 
@@ -61,11 +61,11 @@ ends_with halted result first k1 k2 out1 out2 trace news slice is ends came =
     subst (λ (l : List Working). EndsRun false result first (world k2 (map supply_of l) out2 trace)) is
     (ends first trace (subst (λ (l : List Working). Joins halted first (world k1 (map supply_of l) out1 trace)) (sym is) came))
 
-module _ (kept : Keeping) (id : TableId) (olds : List Working) (seats : List Shown) (ready : AreReady kept.desk.plan olds) (fresh : AreNewSeats id (setting (length olds) kept.desk.option) (length olds) seats) where
+module _ (kept : Keeping) (id : TableId) (olds : List Working) (seats : List Shown) (ready : AreReady kept.state.plan olds) (fresh : AreNewSeats id (setting (length olds) kept.state.given_start) (length olds) seats) where
   module _ (waiting back : List Seated) (news : List Working) (backs : List Shown) (are : reverse waiting ≡ all_seated olds seats) (went : AllZip WentOn waiting back)
       (parted : all_seated news backs ≡ reverse back) (many : (length news ≡ length back) × (length backs ≡ length back)) where
     all_back : length back ≡ length olds
-    all_back = zip_long WentOn waiting back went ∙ as_many kept.desk.plan kept.desk.option id olds seats ready fresh waiting are
+    all_back = zip_long WentOn waiting back went ∙ as_many kept.state.plan kept.state.given_start id olds seats ready fresh waiting are
 
     news_many : length news ≡ length olds
     news_many = many.0 ∙ all_back
@@ -77,17 +77,17 @@ module _ (kept : Keeping) (id : TableId) (olds : List Working) (seats : List Sho
     all_went = subst (λ (l : List Seated). AllZip WentOn l (all_seated news backs)) are (subst (AllZip WentOn (reverse waiting)) (sym parted) (reverse_zip WentOn waiting back went))
 
     pub seats_back : AreSeatsOf id backs
-    seats_back = own_seats kept.desk.plan kept.desk.option id olds seats ready fresh news backs news_many backs_many all_went
+    seats_back = own_seats kept.state.plan kept.state.given_start id olds seats ready fresh news backs news_many backs_many all_went
 
     pub places_kept : AreInPlace olds news
-    places_kept = in_place kept.desk.plan kept.desk.option id olds seats ready fresh news backs news_many backs_many all_went
+    places_kept = in_place kept.state.plan kept.state.given_start id olds seats ready fresh news backs news_many backs_many all_went
 
     module _ (taker : Taking) (made : taker ≡ new_taker kept id (length olds)) (engine : Shown) (same : IsSameSeat taker.seat engine) (left : List Entry) (whole : Whole engine backs left) where
-      setting_is : engine.setting ≡ setting (length olds) kept.desk.option
+      setting_is : engine.setting ≡ setting (length olds) kept.state.given_start
       setting_is = same.setting ∙ ap (λ (t : Taking). t.seat.setting) made
 
-      all_joined : AreJoined kept.desk.plan kept.desk.option olds news backs engine left
-      all_joined = joined kept.desk.plan kept.desk.option id olds seats ready fresh news backs news_many backs_many all_went engine left setting_is whole
+      all_joined : AreJoined kept.state.plan kept.state.given_start olds news backs engine left
+      all_joined = joined kept.state.plan kept.state.given_start id olds seats ready fresh news backs news_many backs_many all_went engine left setting_is whole
 
       module _ (now : Keeping) (out0 out1 trace0 trace1 : SinkState) (halted : Result (Unit {0}) Halt)
           (halts : (first : Place) → HasRun first (taken taker.seat.mine) (place kept out0 trace0) → AreOfSources taker.inputs.count (taken taker.seat.mine) → Halts halted taker.inputs.count first (taken engine.mine) (place now out1 trace1))
@@ -102,7 +102,7 @@ module _ (kept : Keeping) (id : TableId) (olds : List Working) (seats : List Sho
         has_halted = subst (λ (n : ℕ). Halts halted n (place kept out0 trace0) (taken engine.mine) (place now out1 trace1)) (ap (λ (t : Taking). t.inputs.count) made) (halts (place kept out0 trace0) begins of_none)
 
         pub has_joined : Joins halted (world kept (map supply_of olds) out0 trace0) (world now (map supply_of news) out1 trace1)
-        has_joined = joins kept.desk.plan kept.desk.option olds news backs engine left all_joined kept now out0 out1 trace0 trace1 refl refl halted has_halted ends
+        has_joined = joins kept.state.plan kept.state.given_start olds news backs engine left all_joined kept now out0 out1 trace0 trace1 refl refl halted has_halted ends
 
         pub goes_on : OnOk halted (IsGoing now)
         goes_on = still_going halted (length olds) (place kept out0 trace0) (taken engine.mine) (place now out1 trace1) has_halted

@@ -4,7 +4,7 @@ use Rattle.lola_model.specs.Journal.{IsLegal, rows_of}
 use Rattle.lola_model.specs.declared.journal.Row.{Row}
 use Rattle.lola_model.specs.declared.journal.Entry.{Entry}
 use Rattle.lola_feed.specs.declared.worker.SourceEnd.{SourceEnd}
-use Rattle.lola_feed.specs.declared.worker.SourceEnd.TheVariants.{End, Malformed, ReadFault, Closed, Memory}
+use Rattle.lola_feed.specs.declared.worker.SourceEnd.TheVariants.{End, Malformed, ReadFailed, Closed, Memory}
 use Rattle.lola_monitor_run.specs.Verdicts.{AreOfSources, most_rows}
 use Rattle.lola_monitor_run.specs.declared.stop.Stop.{Stop}
 use Rattle.lola_monitor_run.specs.Feeds.{BeganWith, HasEnded, HaveBegun, Supply, World}
@@ -26,7 +26,7 @@ abbrev pub IsOver : Option SourceEnd → Supply → Supply → List Row → Type
 IsOver None old new rows = ⊥
 IsOver (Some End) old new rows = HasEnded (Some End) old new rows
 IsOver (Some (Malformed kind row)) old new rows = HasEnded (Some (Malformed kind row)) old new rows
-IsOver (Some ReadFault) old new rows = HasEnded (Some ReadFault) old new rows
+IsOver (Some ReadFailed) old new rows = HasEnded (Some ReadFailed) old new rows
 IsOver (Some Closed) old new rows = ⊥
 IsOver (Some Memory) old new rows = Unit {0}
 
@@ -39,7 +39,7 @@ pub record HasCome (old new : Supply) (rows : List Row) : Type 0 where
 -- all rows of all sources stand in a journal, and were run
 pub record AllCame (first last : World) : Type 0 where
   pub journal : List Entry
-  pub legal : IsLegal first.kept.desk.option journal
+  pub legal : IsLegal first.kept.state.given_start journal
   pub sources : AreOfSources (length first.sources) journal
   pub run : HasRun (place_in first) journal (place_in last)
   pub many : length last.sources ≡ length first.sources
@@ -48,7 +48,7 @@ pub record AllCame (first last : World) : Type 0 where
 -- the first rows of the sources stand in a journal, at which the run was stopped
 pub record SomeCame (how : Stop) (first last : World) : Type 0 where
   pub journal : List Entry
-  pub legal : IsLegal first.kept.desk.option journal
+  pub legal : IsLegal first.kept.state.given_start journal
   pub sources : AreOfSources (length first.sources) journal
   pub begun : HaveBegun first.sources journal
   pub stops : StopsAt how (place_in first) journal (place_in last)

@@ -12,7 +12,7 @@ use Rattle.lola_intake.specs.declared.event.Setting.{Setting}
 use Rattle.lola_intake.specs.Intakes.{AreSeatsOf, Shown, new_seat}
 use Rattle.lola_feed.specs.Feeding.{Working, to_come}
 use Rattle.lola_feed.specs.declared.worker.SourceEnd.{SourceEnd}
-use Rattle.lola_feed.specs.declared.worker.SourceEnd.TheVariants.{End, Malformed, ReadFault, Closed, Memory}
+use Rattle.lola_feed.specs.declared.worker.SourceEnd.TheVariants.{End, Malformed, ReadFailed, Closed, Memory}
 use Rattle.lola_feed.specs.Seating.{IsSameSeat}
 use Rattle.lola_monitor_run.specs.Feeds.{BeganWith, HasEnded, Supply, supply_of}
 
@@ -40,7 +40,7 @@ abbrev pub HasStopped : Option SourceEnd → Supply → Supply → List Row → 
 HasStopped None old new rows = HasEnded None old new rows
 HasStopped (Some End) old new rows = HasEnded (Some End) old new rows
 HasStopped (Some (Malformed kind row)) old new rows = HasEnded (Some (Malformed kind row)) old new rows
-HasStopped (Some ReadFault) old new rows = HasEnded (Some ReadFault) old new rows
+HasStopped (Some ReadFailed) old new rows = HasEnded (Some ReadFailed) old new rows
 HasStopped (Some Closed) old new rows = Unit {0}
 HasStopped (Some Memory) old new rows = Unit {0}
 
@@ -49,7 +49,7 @@ abbrev pub HasTold : Option SourceEnd → List Event → Type 0
 HasTold None mine = (s : ℕ) → has_finish mine s ≡ false
 HasTold (Some End) mine = FinishesLast mine
 HasTold (Some (Malformed kind row)) mine = FinishesLast mine
-HasTold (Some ReadFault) mine = FinishesLast mine
+HasTold (Some ReadFailed) mine = FinishesLast mine
 HasTold (Some Closed) mine = (s : ℕ) → has_finish mine s ≡ false
 HasTold (Some Memory) mine = FinishesLast mine
 

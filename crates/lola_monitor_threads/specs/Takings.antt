@@ -28,7 +28,7 @@ place kept out trace = record { kept = kept; out = out; trace = trace }
 pub record HasRun (first : Place) (journal : List Entry) (now : Place) : Type 0 where
   pub stands : Stands journal now.kept
   pub setting : IsSetAs first.kept now.kept
-  pub traceable : AreTraceable first.kept.desk.plan journal
+  pub traceable : AreTraceable first.kept.state.plan journal
   pub trace : now.trace ≡ grown first.trace (trace_text journal)
   pub out : now.out ≡ grown first.out (settled_text (setting_in first.kept) journal)
 
@@ -47,7 +47,7 @@ pub record IsCutAtFault (fault : RunFault) (first : Place) (journal : List Entry
 -- the line of one entry more was cut short: the verdicts of all of them were put, and none has a fault
 pub record IsCutInTrace (first : Place) (journal : List Entry) (now : Place) : Type 0 where
   pub no_fault : settled_fault_in (setting_in first.kept) journal ≡ None
-  pub trace : IsCutInLine first.kept.desk.plan first.trace now.trace journal
+  pub trace : IsCutInLine first.kept.state.plan first.trace now.trace journal
   pub out : now.out ≡ grown first.out (settled_text (setting_in first.kept) journal)
 
 -- the verdicts of the last of them were cut short, and none has a fault
@@ -70,7 +70,7 @@ StopsBy stop.Memory first journal now = IsOutOfMemory first journal now
 
 -- how a run is stopped at a journal
 pub record StopsAt (how : Stop) (first : Place) (journal : List Entry) (now : Place) : Type 0 where
-  pub traceable : AreTraceable first.kept.desk.plan journal
+  pub traceable : AreTraceable first.kept.state.plan journal
   pub by : StopsBy how first journal now
 
 -- an entry behind a journal was traced and run, or what stopped the run at it
@@ -100,14 +100,14 @@ pub record Taking : Type 0 where
 -- it takes rows of an intake for a run: nothing is in its batch, and it was made for the run's plan and start
 pub record IsReady (taking : Taking) (intake : TableId) (kept : Keeping) : Type 0 where
   pub own : taking.seat.intake ≡ intake
-  pub kinds : taking.inputs.kinds ≡ input_kinds kept.desk.plan.spec.streams
-  pub start : taking.seat.setting.start ≡ kept.desk.option
+  pub kinds : taking.inputs.kinds ≡ input_kinds kept.state.plan.spec.streams
+  pub start : taking.seat.setting.start ≡ kept.state.given_start
   pub empty : taking.batch ≡ []
 
 -- an entry that a run of a plan takes: its source is one of so many, its row fits the plan, and one row more can be counted
 pub record IsFit (count : ℕ) (kept : Keeping) (entry : Entry) : Type 0 where
   pub source : entry.row.source < count
-  pub row : IsRowFor kept.desk.plan entry.row
+  pub row : IsRowFor kept.state.plan entry.row
   pub room : kept.accepted + kept.late < most_taken
 
 -- entries were run up to one that no run takes
@@ -139,7 +139,7 @@ pub record IsPartlyRun (now : Place) (more : List Entry) : Type 0 where
   pub first : Place
   pub journal : List Entry
   pub run : HasRun first journal now
-  pub marked : IsLegal now.kept.desk.option (journal ++ more)
+  pub marked : IsLegal now.kept.state.given_start (journal ++ more)
 
 -- what a take came to, whether or not all is done
 abbrev pub was_taken : Result Bool Halt → Result (Unit {0}) Halt

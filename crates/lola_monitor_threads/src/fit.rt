@@ -58,7 +58,7 @@ impl Inputs {
 
     /// Whether a run of a plan with these inputs takes this entry.
     pub fn fit(&self, run: &Run, entry: &Entry) -> bool
-        requires { self.now.kinds ≡ input_kinds (keeping run.now).desk.plan.spec.streams }
+        requires { self.now.kinds ≡ input_kinds (keeping run.now).state.plan.spec.streams }
         ensures { IsTrue result ↔ IsFit self.now.count (keeping run.now) entry.now }
     {
         entry.row.source < self.count

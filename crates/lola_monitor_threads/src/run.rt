@@ -192,7 +192,7 @@ fn settle<R: Threads + Sync, S: Source, K: Sink, G: Gate + Sync>(
     requires fit { halted ≡ Err halt.Unfit → ⊥ }
     ensures run { (first : World) (trace : SinkState) → Joins halted first (world (keeping run.old) (map supply_of workers.now) (K.state out.old) trace)
         → EndsRun false result first (world (keeping run.new) (map supply_of workers.now) (K.state out.new) trace) }
-    ensures plan { (keeping run.new).desk.plan ≡ (keeping run.old).desk.plan }
+    ensures plan { (keeping run.new).state.plan ≡ (keeping run.old).state.plan }
 {
     match halted {
         Ok(()) => {
@@ -221,9 +221,9 @@ fn run_room<R: Threads + Wait + Sync, S: Source + Send, K: Sink, T: Sink, G: Gat
     gate: &G,
 ) -> (Vec<SourceWorker<S>>, Result<(), Stop>)
     requires stands { Stands [] (keeping run.old) }
-    requires ready { AreReady (keeping run.old).desk.plan workers.items }
-    requires taker { room.taker ≡ record { seat = new_seat room.intake (setting (length workers.items) (keeping run.old).desk.option) 0 0; inputs = record { count = length workers.items; kinds = input_kinds (keeping run.old).desk.plan.spec.streams }; batch = [] } }
-    requires seats { AreNewSeats room.intake (setting (length workers.items) (keeping run.old).desk.option) (length workers.items) room.seats.items }
+    requires ready { AreReady (keeping run.old).state.plan workers.items }
+    requires taker { room.taker ≡ record { seat = new_seat room.intake (setting (length workers.items) (keeping run.old).state.given_start) 0 0; inputs = record { count = length workers.items; kinds = input_kinds (keeping run.old).state.plan.spec.streams }; batch = [] } }
+    requires seats { AreNewSeats room.intake (setting (length workers.items) (keeping run.old).state.given_start) (length workers.items) room.seats.items }
     requires flags { length room.flags.items ≡ length workers.items }
     requires waiting { (room.waiting.items ≡ []) × (length workers.items ≤ vec_capacity room.waiting) }
     requires back { (room.back.items ≡ []) × (length workers.items ≤ vec_capacity room.back) }
@@ -231,7 +231,7 @@ fn run_room<R: Threads + Wait + Sync, S: Source + Send, K: Sink, T: Sink, G: Gat
     ensures run { EndsRun false result.1 (world (keeping run.old) (map supply_of workers.items) (K.state out.old) (T.state trace.old))
         (world (keeping run.new) (map supply_of result.0.items) (K.state out.new) (T.state trace.new)) }
     ensures places { AreInPlace workers.items result.0.items }
-    ensures plan { (keeping run.new).desk.plan ≡ (keeping run.old).desk.plan }
+    ensures plan { (keeping run.new).state.plan ≡ (keeping run.old).state.plan }
 {
     let Room {
         intake,
@@ -275,12 +275,12 @@ pub fn run_in_threads<R: Threads + Wait + Sync, S: Source + Send, K: Sink, T: Si
     gate: &G,
 ) -> (Vec<SourceWorker<S>>, Result<(), Stop>)
     requires stands { Stands [] (keeping run.old) }
-    requires ready { AreReady (keeping run.old).desk.plan workers.items }
-    requires start { start ≡ (keeping run.old).desk.option }
+    requires ready { AreReady (keeping run.old).state.plan workers.items }
+    requires start { start ≡ (keeping run.old).state.given_start }
     ensures run { EndsRun false result.1 (world (keeping run.old) (map supply_of workers.items) (K.state out.old) (T.state trace.old))
         (world (keeping run.new) (map supply_of result.0.items) (K.state out.new) (T.state trace.new)) }
     ensures places { AreInPlace workers.items result.0.items }
-    ensures plan { (keeping run.new).desk.plan ≡ (keeping run.old).desk.plan }
+    ensures plan { (keeping run.new).state.plan ≡ (keeping run.old).state.plan }
 {
     match Room::create(alloc, run.plan(), workers.len() as u32, start) {
         Ok(room) => run_room(rt, alloc, room, run, workers, out, trace, gate),

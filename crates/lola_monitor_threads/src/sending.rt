@@ -163,7 +163,7 @@ fn send_each<
     ensures done { OnOk result.2 (EndsDone taker.new.seat.mine false) }
     ensures marked { IsLegalFrom (opening_time taker.old.seat.setting.start) (taken taker.new.seat.mine) }
     ensures seat { IsSameSeat taker.old.seat taker.new.seat }
-    ensures plan { (keeping run.new).desk.plan ≡ (keeping run.old).desk.plan }
+    ensures plan { (keeping run.new).state.plan ≡ (keeping run.old).state.plan }
     ensures here { AllZip WentOn here.entry.items result.0.items }
     ensures back { (sent : List Seated) × (result.1.items ≡ back.items ++ sent) × AllZip WentOn waiting.items sent }
     ensures room_here { vec_capacity result.0 ≡ vec_capacity here.entry }
@@ -237,7 +237,7 @@ pub fn send_all<'s, S: Source + Send, R: Threads + Wait + Sync, K: Sink, T: Sink
     ensures done { OnOk result.1 (EndsDone taker.new.seat.mine false) }
     ensures marked { IsLegalFrom (opening_time taker.old.seat.setting.start) (taken taker.new.seat.mine) }
     ensures seat { IsSameSeat taker.old.seat taker.new.seat }
-    ensures plan { (keeping run.new).desk.plan ≡ (keeping run.old).desk.plan }
+    ensures plan { (keeping run.new).state.plan ≡ (keeping run.old).state.plan }
     ensures back { AllZip WentOn waiting.items result.0.items }
 {
     let context = ThreadContext {
@@ -276,7 +276,7 @@ pub fn send_all<'s, S: Source + Send, R: Threads + Wait + Sync, K: Sink, T: Sink
             ensures done { OnOk result.5 (EndsDone result.0.now.seat.mine false) }
             ensures marked { IsLegalFrom (opening_time taker.entry.now.seat.setting.start) (taken result.0.now.seat.mine) }
             ensures seat { IsSameSeat taker.entry.now.seat result.0.now.seat }
-            ensures plan { (keeping result.1.now).desk.plan ≡ (keeping run.entry.now).desk.plan }
+            ensures plan { (keeping result.1.now).state.plan ≡ (keeping run.entry.now).state.plan }
             ensures back { AllZip WentOn waiting.items result.4.items }
         {
             let (_, back, halted) = send_each(

@@ -39,7 +39,7 @@ fn run_entry<R: Threads + Sync, K: Sink, T: Sink, G: Gate + Sync>(
     gate: &G,
 ) -> Result<(), Stop>
     requires going { IsGoing (keeping run.old) }
-    requires fits { IsRowFor (keeping run.old).desk.plan entry.now.row }
+    requires fits { IsRowFor (keeping run.old).state.plan entry.now.row }
     requires room { HasRoom (keeping run.old) }
     requires mark { IsNext (keeping run.old) entry.now }
     ensures runs { (first : Place) (journal : List Entry) → HasRun first journal (place (keeping run.old) (K.state out.old) (T.state trace.old))
@@ -62,7 +62,7 @@ fn test_entry<R: Threads + Sync, K: Sink, T: Sink, G: Gate + Sync>(
     trace: &mut T,
     gate: &G,
 ) -> Result<(), Halt>
-    requires inputs { inputs.now.kinds ≡ input_kinds (keeping run.old).desk.plan.spec.streams }
+    requires inputs { inputs.now.kinds ≡ input_kinds (keeping run.old).state.plan.spec.streams }
     requires under_way { IsPartlyRun (place (keeping run.old) (K.state out.old) (T.state trace.old)) (entry.now ∷ []) }
     ensures halts { (first : Place) (journal : List Entry) → HasRun first journal (place (keeping run.old) (K.state out.old) (T.state trace.old)) → AreOfSources inputs.now.count journal
         → Halts result inputs.now.count first (journal ++ entry.now ∷ []) (place (keeping run.new) (K.state out.new) (T.state trace.new)) }
@@ -89,7 +89,7 @@ fn run_batch<R: Threads + Sync, K: Sink, T: Sink, G: Gate + Sync>(
     trace: &mut T,
     gate: &G,
 ) -> Result<(), Halt>
-    requires inputs { inputs.now.kinds ≡ input_kinds (keeping run.old).desk.plan.spec.streams }
+    requires inputs { inputs.now.kinds ≡ input_kinds (keeping run.old).state.plan.spec.streams }
     requires under_way { IsPartlyRun (place (keeping run.old) (K.state out.old) (T.state trace.old)) batch.old }
     ensures halts { (first : Place) (journal : List Entry) → HasRun first journal (place (keeping run.old) (K.state out.old) (T.state trace.old)) → AreOfSources inputs.now.count journal
         → Halts result inputs.now.count first (journal ++ batch.old) (place (keeping run.new) (K.state out.new) (T.state trace.new)) }
@@ -218,7 +218,7 @@ impl Taker {
         ensures seat { IsSameSeat self.old.seat self.new.seat }
         ensures here { AllZip WentOn here.entry.items result.0.items }
         ensures room { vec_capacity result.0 ≡ vec_capacity here.entry }
-        ensures plan { (keeping run.new).desk.plan ≡ (keeping run.old).desk.plan }
+        ensures plan { (keeping run.new).state.plan ≡ (keeping run.old).state.plan }
     {
         let mut here = here;
         for _ in rt.forever() {

@@ -44,18 +44,18 @@ module _ (declarations : List Declaration) (targets : Targets) (texts : List (Li
   abbrev Is : TreeExpr → Expr → Type 0
   Is x r = IsResolved declarations targets texts windows here x r
 
-  pub is-Prefix : (sign : Prefix) (at : ℕ) (x : TreeExpr) (place : Place) (op : ModelPrefix) (u : _) (s : Expr) → place ≡ place_at at → op ≡ prefix_of sign → Is x s → Is (e.Prefix sign at x) (Unary' place op u s)
+  pub is-Prefix : (operator : Prefix) (at : ℕ) (x : TreeExpr) (place : Place) (op : ModelPrefix) (u : _) (s : Expr) → place ≡ place_at at → op ≡ prefix_of operator → Is x s → Is (e.Prefix operator at x) (Unary' place op u s)
   unfolding X.shape-the_row-Expr-1 X.hidden-the_row-Expr-1 denote.Hole.Carrier.hidden denote.Hole.Carrier.shown denote.Hole.Carrier.roll denote.Hole.Carrier.out
-  is-Prefix sign at x place op u s p q r = (p, q, r)
+  is-Prefix operator at x place op u s p q r = (p, q, r)
 
   pub is-Defaults : (at : ℕ) (x y : TreeExpr) (place : Place) (u : _) (s : Expr) (v : _) (t : Expr) → place ≡ place_at at → Is x s → Is y t → Is (e.Defaults at x y) (Defaults' place u s v t)
   unfolding X.shape-the_row-Expr-1 X.hidden-the_row-Expr-1 denote.Hole.Carrier.hidden denote.Hole.Carrier.shown denote.Hole.Carrier.roll denote.Hole.Carrier.out
   is-Defaults at x y place u s v t p r k = (p, r, k)
 
-  pub is-Binary : (sign : Binary) (at : ℕ) (x y : TreeExpr) (place : Place) (op : ModelBinary) (u : _) (s : Expr) (v : _) (t : Expr) → place ≡ place_at at → op ≡ binary_of sign → Is x s → Is y t
-      → Is (e.Binary sign at x y) (Both' place op u s v t)
+  pub is-Binary : (operator : Binary) (at : ℕ) (x y : TreeExpr) (place : Place) (op : ModelBinary) (u : _) (s : Expr) (v : _) (t : Expr) → place ≡ place_at at → op ≡ binary_of operator → Is x s → Is y t
+      → Is (e.Binary operator at x y) (Both' place op u s v t)
   unfolding X.shape-the_row-Expr-1 X.hidden-the_row-Expr-1 denote.Hole.Carrier.hidden denote.Hole.Carrier.shown denote.Hole.Carrier.roll denote.Hole.Carrier.out
-  is-Binary sign at x y place op u s v t p q r k = (p, q, r, k)
+  is-Binary operator at x y place op u s v t p q r k = (p, q, r, k)
 
   pub is-If : (at : ℕ) (x y z : TreeExpr) (place : Place) (u : _) (s : Expr) (v : _) (t : Expr) (w : _) (q : Expr) → place ≡ place_at at → Is x s → Is y t → Is z q
       → Is (e.If at x y z) (Choice' place u s v t w q)
@@ -109,20 +109,20 @@ pub carried : (scope : Scope) (made : Made) (x x' : TreeExpr) (r r' : Expr) → 
 carried scope made x x' r r' same is f =
     subst (λ (y : TreeExpr). ResolvesTo scope made y r') same (subst (λ (q : Expr). ResolvesTo scope made x' q) (sym is) f)
 
-pub resolves-Prefix : (scope : Scope) (made : Made) (sign : Prefix) (at : ℕ) (x : TreeExpr) (place : Place) (op : ModelPrefix) (u : _) (s : Expr) → place ≡ place_at at → op ≡ prefix_of sign
-    → ResolvesTo scope made x s → ResolvesTo scope made (e.Prefix sign at x) (Unary' place op u s)
-resolves-Prefix scope made sign at x place op u s p q r targets parameters sc texts windows b =
-    is-Prefix scope.declarations.now targets texts windows (standing_in scope parameters) sign at x place op u s p q (r targets parameters sc texts windows b)
+pub resolves-Prefix : (scope : Scope) (made : Made) (operator : Prefix) (at : ℕ) (x : TreeExpr) (place : Place) (op : ModelPrefix) (u : _) (s : Expr) → place ≡ place_at at → op ≡ prefix_of operator
+    → ResolvesTo scope made x s → ResolvesTo scope made (e.Prefix operator at x) (Unary' place op u s)
+resolves-Prefix scope made operator at x place op u s p q r targets parameters sc texts windows b =
+    is-Prefix scope.declarations.now targets texts windows (standing_in scope parameters) operator at x place op u s p q (r targets parameters sc texts windows b)
 
 pub resolves-Defaults : (scope : Scope) (made : Made) (at : ℕ) (x y : TreeExpr) (place : Place) (u : _) (s : Expr) (v : _) (t : Expr) → place ≡ place_at at
     → ResolvesTo scope made x s → ResolvesTo scope made y t → ResolvesTo scope made (e.Defaults at x y) (Defaults' place u s v t)
 resolves-Defaults scope made at x y place u s v t p r k targets parameters sc texts windows b =
     is-Defaults scope.declarations.now targets texts windows (standing_in scope parameters) at x y place u s v t p (r targets parameters sc texts windows b) (k targets parameters sc texts windows b)
 
-pub resolves-Binary : (scope : Scope) (made : Made) (sign : Binary) (at : ℕ) (x y : TreeExpr) (place : Place) (op : ModelBinary) (u : _) (s : Expr) (v : _) (t : Expr) → place ≡ place_at at → op ≡ binary_of sign
-    → ResolvesTo scope made x s → ResolvesTo scope made y t → ResolvesTo scope made (e.Binary sign at x y) (Both' place op u s v t)
-resolves-Binary scope made sign at x y place op u s v t p q r k targets parameters sc texts windows b =
-    is-Binary scope.declarations.now targets texts windows (standing_in scope parameters) sign at x y place op u s v t p q (r targets parameters sc texts windows b) (k targets parameters sc texts windows b)
+pub resolves-Binary : (scope : Scope) (made : Made) (operator : Binary) (at : ℕ) (x y : TreeExpr) (place : Place) (op : ModelBinary) (u : _) (s : Expr) (v : _) (t : Expr) → place ≡ place_at at → op ≡ binary_of operator
+    → ResolvesTo scope made x s → ResolvesTo scope made y t → ResolvesTo scope made (e.Binary operator at x y) (Both' place op u s v t)
+resolves-Binary scope made operator at x y place op u s v t p q r k targets parameters sc texts windows b =
+    is-Binary scope.declarations.now targets texts windows (standing_in scope parameters) operator at x y place op u s v t p q (r targets parameters sc texts windows b) (k targets parameters sc texts windows b)
 
 pub resolves-If : (scope : Scope) (made : Made) (at : ℕ) (x y z : TreeExpr) (place : Place) (u : _) (s : Expr) (v : _) (t : Expr) (w : _) (q : Expr) → place ≡ place_at at
     → ResolvesTo scope made x s → ResolvesTo scope made y t → ResolvesTo scope made z q → ResolvesTo scope made (e.If at x y z) (Choice' place u s v t w q)

@@ -154,10 +154,10 @@ module _ (declarations : List Declaration) (targets : Targets) (texts : List (Li
         × Where (is_stream (target_of here.parameters targets n.text)) (AreArguments row (arguments_in r))
     IsResolved (e.Defaults' at h (more_of-Expr x end_of-Expr) i (more_of-Expr y end_of-Expr)) (Defaults' place u s v t) =
         (place ≡ place_at at) × IsResolved x s × IsResolved y t
-    IsResolved (e.Prefix' sign at h (more_of-Expr x end_of-Expr)) (Unary' place op u s) =
-        (place ≡ place_at at) × (op ≡ prefix_of sign) × IsResolved x s
-    IsResolved (e.Binary' sign at h (more_of-Expr x end_of-Expr) i (more_of-Expr y end_of-Expr)) (Both' place op u s v t) =
-        (place ≡ place_at at) × (op ≡ binary_of sign) × IsResolved x s × IsResolved y t
+    IsResolved (e.Prefix' operator at h (more_of-Expr x end_of-Expr)) (Unary' place op u s) =
+        (place ≡ place_at at) × (op ≡ prefix_of operator) × IsResolved x s
+    IsResolved (e.Binary' operator at h (more_of-Expr x end_of-Expr) i (more_of-Expr y end_of-Expr)) (Both' place op u s v t) =
+        (place ≡ place_at at) × (op ≡ binary_of operator) × IsResolved x s × IsResolved y t
     IsResolved (e.If' at h (more_of-Expr x end_of-Expr) i (more_of-Expr y end_of-Expr) j (more_of-Expr z end_of-Expr)) (Choice' place u s v t w q) =
         (place ≡ place_at at) × IsResolved x s × IsResolved y t × IsResolved z q
     IsResolved _ _ = ⊥

@@ -94,8 +94,8 @@ abbrev mutual
   expr_ranges (e.Literal l) = []
   expr_ranges (e.Reference' n bracket shape row how) = access_ranges how ++ argument_ranges row
   expr_ranges (e.Defaults' at h (more_of-Expr x end_of-Expr) i (more_of-Expr y end_of-Expr)) = expr_ranges x ++ expr_ranges y
-  expr_ranges (e.Prefix' sign at h (more_of-Expr x end_of-Expr)) = expr_ranges x
-  expr_ranges (e.Binary' sign at h (more_of-Expr x end_of-Expr) i (more_of-Expr y end_of-Expr)) = expr_ranges x ++ expr_ranges y
+  expr_ranges (e.Prefix' operator at h (more_of-Expr x end_of-Expr)) = expr_ranges x
+  expr_ranges (e.Binary' operator at h (more_of-Expr x end_of-Expr) i (more_of-Expr y end_of-Expr)) = expr_ranges x ++ expr_ranges y
   expr_ranges (e.If' at h (more_of-Expr x end_of-Expr) i (more_of-Expr y end_of-Expr) j (more_of-Expr z end_of-Expr)) =
       expr_ranges x ++ (expr_ranges y ++ expr_ranges z)
 

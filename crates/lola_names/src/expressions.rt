@@ -48,19 +48,19 @@ fn bare(at: u32) -> Place
     Place { at, kind: None }
 }
 
-fn prefix(sign: tree::Prefix) -> expr::Prefix
-    ensures { result ≡ prefix_of sign }
+fn prefix(operator: tree::Prefix) -> expr::Prefix
+    ensures { result ≡ prefix_of operator }
 {
-    match sign {
+    match operator {
         tree::Prefix::Not => expr::Prefix::Not,
         tree::Prefix::Negate => expr::Prefix::Minus,
     }
 }
 
-fn binary(sign: tree::Binary) -> expr::Binary
-    ensures { result ≡ binary_of sign }
+fn binary(operator: tree::Binary) -> expr::Binary
+    ensures { result ≡ binary_of operator }
 {
-    match sign {
+    match operator {
         tree::Binary::Or => expr::Binary::Or,
         tree::Binary::And => expr::Binary::And,
         tree::Binary::Equal => expr::Binary::Equal,
@@ -285,17 +285,17 @@ pub fn expression(
             let b = boxed(alloc, second)?;
             Ok(Expr::Defaults(bare(*at), a, b))
         }
-        tree::Expr::Prefix(sign, at, x) => {
+        tree::Expr::Prefix(operator, at, x) => {
             let operand = expression(alloc, scope, x.get(), made)?;
             let a = boxed(alloc, operand)?;
-            Ok(Expr::Unary(bare(*at), prefix(*sign), a))
+            Ok(Expr::Unary(bare(*at), prefix(*operator), a))
         }
-        tree::Expr::Binary(sign, at, x, y) => {
+        tree::Expr::Binary(operator, at, x, y) => {
             let first = expression(alloc, scope, x.get(), made)?;
             let second = expression(alloc, scope, y.get(), made)?;
             let a = boxed(alloc, first)?;
             let b = boxed(alloc, second)?;
-            Ok(Expr::Both(bare(*at), binary(*sign), a, b))
+            Ok(Expr::Both(bare(*at), binary(*operator), a, b))
         }
         tree::Expr::If(at, x, y, z) => {
             let test = expression(alloc, scope, x.get(), made)?;

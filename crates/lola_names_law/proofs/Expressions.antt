@@ -157,9 +157,9 @@ module _ (u : Around) (texts : List (List ℕ)) (windows : List WindowSpec) (her
             (and_from (each_part t s) (each_part t r)
             (resolved_passes x s (none_left (uses parameters names x) (uses parameters names y) none) (λ g. none_left (expr_ranges x) (expr_ranges y) (ranged g)) is.1)
             (resolved_passes y r (none_right (uses parameters names x) (uses parameters names y) none) (λ g. none_right (expr_ranges x) (expr_ranges y) (ranged g)) is.2))
-        resolved_passes (e.Prefix' sign at h (more_of-Expr x end_of-Expr)) (Unary' place op v s) none ranged is =
+        resolved_passes (e.Prefix' operator at h (more_of-Expr x end_of-Expr)) (Unary' place op v s) none ranged is =
             and_from (t (Unary' place op v s)) (each_part t s) (p.unary place op v s) (resolved_passes x s none ranged is.2)
-        resolved_passes (e.Binary' sign at h (more_of-Expr x end_of-Expr) i (more_of-Expr y end_of-Expr)) (Both' place op v s w r) none ranged is =
+        resolved_passes (e.Binary' operator at h (more_of-Expr x end_of-Expr) i (more_of-Expr y end_of-Expr)) (Both' place op v s w r) none ranged is =
             and_from (t (Both' place op v s w r)) (each_part t s && each_part t r) (p.binary place op v s w r)
             (and_from (each_part t s) (each_part t r)
             (resolved_passes x s (none_left (uses parameters names x) (uses parameters names y) none) (λ g. none_left (expr_ranges x) (expr_ranges y) (ranged g)) is.2)

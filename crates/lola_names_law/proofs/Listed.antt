@@ -61,11 +61,11 @@ module _ (f : ℕ → Bool) (g : Expr → List ℕ) where
         let rest = right_of (passes (Defaults' place u a v b)) (each_part passes a && each_part passes b) h in
         numbers_both f (g (Defaults' place u a v b)) (listed g a ++ listed g b) (left_of (passes (Defaults' place u a v b)) (each_part passes a && each_part passes b) h)
         (numbers_both f (listed g a) (listed g b) (each_listed a (left_of (each_part passes a) (each_part passes b) rest)) (each_listed b (right_of (each_part passes a) (each_part passes b) rest)))
-    each_listed (Unary' place sign u a) h =
-        numbers_both f (g (Unary' place sign u a)) (listed g a) (left_of (passes (Unary' place sign u a)) (each_part passes a) h) (each_listed a (right_of (passes (Unary' place sign u a)) (each_part passes a) h))
-    each_listed (Both' place sign u a v b) h =
-        let rest = right_of (passes (Both' place sign u a v b)) (each_part passes a && each_part passes b) h in
-        numbers_both f (g (Both' place sign u a v b)) (listed g a ++ listed g b) (left_of (passes (Both' place sign u a v b)) (each_part passes a && each_part passes b) h)
+    each_listed (Unary' place operator u a) h =
+        numbers_both f (g (Unary' place operator u a)) (listed g a) (left_of (passes (Unary' place operator u a)) (each_part passes a) h) (each_listed a (right_of (passes (Unary' place operator u a)) (each_part passes a) h))
+    each_listed (Both' place operator u a v b) h =
+        let rest = right_of (passes (Both' place operator u a v b)) (each_part passes a && each_part passes b) h in
+        numbers_both f (g (Both' place operator u a v b)) (listed g a ++ listed g b) (left_of (passes (Both' place operator u a v b)) (each_part passes a && each_part passes b) h)
         (numbers_both f (listed g a) (listed g b) (each_listed a (left_of (each_part passes a) (each_part passes b) rest)) (each_listed b (right_of (each_part passes a) (each_part passes b) rest)))
     each_listed (Choice' place u a v b w c) h =
         let rest = right_of (passes (Choice' place u a v b w c)) (each_part passes a && (each_part passes b && each_part passes c)) h in
@@ -151,8 +151,8 @@ module _ (spec : Spec) where
       resolved_range (Window place w args) h =
           (window_below spec.streams spec.windows w (count_of args) (left_of (t (Window place w args)) (each_argument t args) h), resolved_ranges args (right_of (t (Window place w args)) (each_argument t args) h))
       resolved_range (Defaults' place u a v b) h = (resolved_range a (left_of (each_part t a) (each_part t b) h), resolved_range b (right_of (each_part t a) (each_part t b) h))
-      resolved_range (Unary' place sign u a) h = resolved_range a h
-      resolved_range (Both' place sign u a v b) h = (resolved_range a (left_of (each_part t a) (each_part t b) h), resolved_range b (right_of (each_part t a) (each_part t b) h))
+      resolved_range (Unary' place operator u a) h = resolved_range a h
+      resolved_range (Both' place operator u a v b) h = (resolved_range a (left_of (each_part t a) (each_part t b) h), resolved_range b (right_of (each_part t a) (each_part t b) h))
       resolved_range (Choice' place u a v b w c) h =
           let others = right_of (each_part t a) (each_part t b && each_part t c) h in
           (resolved_range a (left_of (each_part t a) (each_part t b && each_part t c) h), resolved_range b (left_of (each_part t b) (each_part t c) others), resolved_range c (right_of (each_part t b) (each_part t c) others))

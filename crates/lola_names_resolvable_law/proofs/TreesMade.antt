@@ -138,10 +138,10 @@ module _ (declarations : List Declaration) (targets : Targets) (here : Standing)
       expression_of (e.Defaults' at h (more_of-Expr x end_of-Expr) i (more_of-Expr y end_of-Expr)) =
           mapped (λ p. Defaults' (place_at at) around p.0 around p.1) (λ p. refl) (λ p. refl) (λ texts windows p are. (refl, are.0, are.1))
           (paired (expression_of x) (expression_of y))
-      expression_of (e.Prefix' sign at h (more_of-Expr x end_of-Expr)) =
-          mapped (λ s. Unary' (place_at at) (prefix_of sign) around s) (λ s. refl) (λ s. refl) (λ texts windows s is. (refl, refl, is)) (expression_of x)
-      expression_of (e.Binary' sign at h (more_of-Expr x end_of-Expr) i (more_of-Expr y end_of-Expr)) =
-          mapped (λ p. Both' (place_at at) (binary_of sign) around p.0 around p.1) (λ p. refl) (λ p. refl) (λ texts windows p are. (refl, refl, are.0, are.1))
+      expression_of (e.Prefix' operator at h (more_of-Expr x end_of-Expr)) =
+          mapped (λ s. Unary' (place_at at) (prefix_of operator) around s) (λ s. refl) (λ s. refl) (λ texts windows s is. (refl, refl, is)) (expression_of x)
+      expression_of (e.Binary' operator at h (more_of-Expr x end_of-Expr) i (more_of-Expr y end_of-Expr)) =
+          mapped (λ p. Both' (place_at at) (binary_of operator) around p.0 around p.1) (λ p. refl) (λ p. refl) (λ texts windows p are. (refl, refl, are.0, are.1))
           (paired (expression_of x) (expression_of y))
       expression_of (e.If' at h (more_of-Expr x end_of-Expr) i (more_of-Expr y end_of-Expr) j (more_of-Expr z end_of-Expr)) =
           mapped (λ p. Choice' (place_at at) around p.0 around p.1.0 around p.1.1) (λ p. refl) (λ p. refl) (λ texts windows p are. (refl, are.0, are.1.0, are.1.1))

@@ -38,12 +38,12 @@ module _ (A B : Type 0) (f : Expr → List A) (g : Expr → List B) (x : A) (P :
         has_both A B x P (f (Defaults' place u a v b)) (listed f a ++ listed f b) (g (Defaults' place u a v b)) (listed g a ++ listed g b)
         (λ d. each (Defaults' place u a v b) d)
         (λ d. has_both A B x P (listed f a) (listed f b) (listed g a) (listed g b) (λ q. maps a q) (λ q. maps b q) d) c
-    maps (Unary' place sign u a) c =
-        has_both A B x P (f (Unary' place sign u a)) (listed f a) (g (Unary' place sign u a)) (listed g a)
-        (λ d. each (Unary' place sign u a) d) (λ d. maps a d) c
-    maps (Both' place sign u a v b) c =
-        has_both A B x P (f (Both' place sign u a v b)) (listed f a ++ listed f b) (g (Both' place sign u a v b)) (listed g a ++ listed g b)
-        (λ d. each (Both' place sign u a v b) d)
+    maps (Unary' place operator u a) c =
+        has_both A B x P (f (Unary' place operator u a)) (listed f a) (g (Unary' place operator u a)) (listed g a)
+        (λ d. each (Unary' place operator u a) d) (λ d. maps a d) c
+    maps (Both' place operator u a v b) c =
+        has_both A B x P (f (Both' place operator u a v b)) (listed f a ++ listed f b) (g (Both' place operator u a v b)) (listed g a ++ listed g b)
+        (λ d. each (Both' place operator u a v b) d)
         (λ d. has_both A B x P (listed f a) (listed f b) (listed g a) (listed g b) (λ q. maps a q) (λ q. maps b q) d) c
     maps (Choice' place u a v b w e) c =
         has_both A B x P (f (Choice' place u a v b w e)) (listed f a ++ (listed f b ++ listed f e)) (g (Choice' place u a v b w e)) (listed g a ++ (listed g b ++ listed g e))

@@ -78,8 +78,8 @@ is_used i (Parameter place j) c = absurd (Contains-none i c)
 is_used i (Read place n how args) c = absurd (Contains-none i c)
 is_used i (Window place w args) c = only_this place.at w i c
 is_used i (Defaults' place u a v b) c = absurd (Contains-none i c)
-is_used i (Unary' place sign u a) c = absurd (Contains-none i c)
-is_used i (Both' place sign u a v b) c = absurd (Contains-none i c)
+is_used i (Unary' place operator u a) c = absurd (Contains-none i c)
+is_used i (Both' place operator u a v b) c = absurd (Contains-none i c)
 is_used i (Choice' place u a v b w d) c = absurd (Contains-none i c)
 
 -- whole expressions

@@ -16,8 +16,8 @@ use Rattle.lola_model.specs.declared.expr.Expr.TheVariants.{Literal, Parameter, 
 use Rattle.lola_model.specs.declared.spec.Clause.{Clause}
 use Rattle.lola_model.specs.declared.spec.Stream.{Stream}
 use Rattle.lola_model.specs.Leaves.{followed_by, followed, followed_in, is_end, is_end_of, onward, list_at, AreLeaves}
-use Rattle.lola_pacing_leaves.specs.Marks.{MarksVisited, IsEndBelow, AreEndsBelow}
-use Rattle.lola_pacing_leaves.proofs.MarkLemmas.{no_element}
+use Rattle.lola_pacing_leaves.specs.Flags.{FlagsVisited, IsEndBelow, AreEndsBelow}
+use Rattle.lola_pacing_leaves.proofs.FlagLemmas.{no_element}
 
 -- what is followed in an expression is one of the streams
 module _ (s w : ℕ) where
@@ -40,8 +40,8 @@ module _ (s w : ℕ) where
     low (Read place m how args) r n c = low_both (followed_by how m) (listed_all followed args) (low_access how m r.0) (low_all args r.1) n c
     low (Window place m args) r n c = low_all args r.1 n c
     low (Defaults' place u a v b) r n c = low_both (listed followed a) (listed followed b) (low a r.0) (low b r.1) n c
-    low (Unary' place sign u a) r n c = low a r n c
-    low (Both' place sign u a v b) r n c = low_both (listed followed a) (listed followed b) (low a r.0) (low b r.1) n c
+    low (Unary' place operator u a) r n c = low a r n c
+    low (Both' place operator u a v b) r n c = low_both (listed followed a) (listed followed b) (low a r.0) (low b r.1) n c
     low (Choice' place u a v b x d) r n c =
         low_both (listed followed a) (listed followed b ++ listed followed d) (low a r.0) (low_both (listed followed b) (listed followed d) (low b r.1) (low d r.2)) n c
 
@@ -78,37 +78,37 @@ pub length-lists : (ss : List Stream) → length (map onward ss) ≡ length ss
 length-lists [] = refl
 length-lists (t ∷ ts) = ap suc (length-lists ts)
 
-module _ (streams : List Stream) (marks : List Bool) where
+module _ (streams : List Stream) (flags : List Bool) where
   -- below 0 there is none
-  pub no_ends : AreEndsBelow streams marks 0 []
+  pub no_ends : AreEndsBelow streams flags 0 []
   no_ends = record {
     ordered = λ i j d lt low. absurd (omega arith);
     members = λ n. (λ c. absurd (no_element n c), λ e. (let k : n < 0 = e.below in absurd (omega arith)));
   }
 
-  module _ (k : ℕ) (leaves : List ℕ) (h : AreEndsBelow streams marks k leaves) where
-    raised : (n : ℕ) → IsEndBelow streams marks k n → IsEndBelow streams marks (k + 1) n
-    raised n e = record { below = omega (arith, e.below); marked = e.marked; ends = e.ends }
+  module _ (k : ℕ) (leaves : List ℕ) (h : AreEndsBelow streams flags k leaves) where
+    raised : (n : ℕ) → IsEndBelow streams flags k n → IsEndBelow streams flags (k + 1) n
+    raised n e = record { below = omega (arith, e.below); flagged = e.flagged; ends = e.ends }
 
-    lowered : (n : ℕ) → n ≢ k → IsEndBelow streams marks (k + 1) n → IsEndBelow streams marks k n
-    lowered n ne e = record { below = omega (arith, e.below, ne); marked = e.marked; ends = e.ends }
+    lowered : (n : ℕ) → n ≢ k → IsEndBelow streams flags (k + 1) n → IsEndBelow streams flags k n
+    lowered n ne e = record { below = omega (arith, e.below, ne); flagged = e.flagged; ends = e.ends }
 
     -- a stream that is none of them
-    pub ends_same : ¬ (IsEndBelow streams marks (k + 1) k) → AreEndsBelow streams marks (k + 1) leaves
+    pub ends_same : ¬ (IsEndBelow streams flags (k + 1) k) → AreEndsBelow streams flags (k + 1) leaves
     ends_same never = record {
       ordered = h.ordered;
-      members = λ n. (λ c. raised n ((h.members n).0 c), λ e. (h.members n).1 (lowered n (λ q. never (subst (λ (m : ℕ). IsEndBelow streams marks (k + 1) m) q e)) e));
+      members = λ n. (λ c. raised n ((h.members n).0 c), λ e. (h.members n).1 (lowered n (λ q. never (subst (λ (m : ℕ). IsEndBelow streams flags (k + 1) m) q e)) e));
     }
 
     below_last : (i d : ℕ) → i < length leaves → slice_index_or leaves i d < k
     below_last i d lt = ((h.members (slice_index_or leaves i d)).0 (i, lt, sym (get_or_default leaves i d (slice_index_or leaves i d) lt))).below
 
     -- one more of them
-    pub ends_more : IsEndBelow streams marks (k + 1) k → AreEndsBelow streams marks (k + 1) (leaves ++ k ∷ [])
+    pub ends_more : IsEndBelow streams flags (k + 1) k → AreEndsBelow streams flags (k + 1) (leaves ++ k ∷ [])
     ends_more here = record {
       ordered = all_pairs_push (λ m n. m < n) leaves k h.ordered below_last;
       members = λ n. (
-        λ c. elim (Contains-push_cases leaves k n c) [ inl a ↦ raised n ((h.members n).0 a) | inr e ↦ subst (λ (m : ℕ). IsEndBelow streams marks (k + 1) m) e here ],
+        λ c. elim (Contains-push_cases leaves k n c) [ inl a ↦ raised n ((h.members n).0 a) | inr e ↦ subst (λ (m : ℕ). IsEndBelow streams flags (k + 1) m) e here ],
         λ e. elim (cases_eq n k) [
           | inl q ↦ rw q (Contains-push leaves k)
           | inr ne ↦ Contains-append_left leaves (k ∷ []) n ((h.members n).1 (lowered n ne e))
@@ -121,14 +121,14 @@ end_low [] n h = absurd (cc)
 end_low (t ∷ ts) zero h = omega arith
 end_low (t ∷ ts) (suc n) h = omega (arith, end_low ts n h)
 
--- the streams that are marked and at which the search ends are the leaves, where the marks are on what is visited
-pub ends_are_leaves : (streams : List Stream) (own : ℕ) (clause : Option Clause) (marks : List Bool) (leaves : List ℕ)
-    → MarksVisited (map onward streams) own (followed_in clause) marks → AreEndsBelow streams marks (length streams) leaves → AreLeaves streams own clause leaves
-ends_are_leaves streams own clause marks leaves v h = record {
+-- the streams that are flagged and at which the search ends are the leaves, where the flags are on what is visited
+pub ends_are_leaves : (streams : List Stream) (own : ℕ) (clause : Option Clause) (flags : List Bool) (leaves : List ℕ)
+    → FlagsVisited (map onward streams) own (followed_in clause) flags → AreEndsBelow streams flags (length streams) leaves → AreLeaves streams own clause leaves
+ends_are_leaves streams own clause flags leaves v h = record {
   ordered = h.ordered;
   members = λ n. (
-    λ c. (let e = (h.members n).0 c in record { visited = (v n).0 e.marked; ends = e.ends }),
-    λ l. (h.members n).1 (record { below = end_low streams n l.ends; marked = (v n).1 l.visited; ends = l.ends }),
+    λ c. (let e = (h.members n).0 c in record { visited = (v n).0 e.flagged; ends = e.ends }),
+    λ l. (h.members n).1 (record { below = end_low streams n l.ends; flagged = (v n).1 l.visited; ends = l.ends }),
   );
 }
 

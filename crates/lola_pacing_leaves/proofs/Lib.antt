@@ -1,2 +1,2 @@
-mod MarkLemmas
+mod FlagLemmas
 pub mod LeafLemmas

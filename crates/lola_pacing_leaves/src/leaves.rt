@@ -3,7 +3,7 @@
 ghost use Rattle.std.specs.Prelude.{◌≡◌, ◌≤◌, ◌<◌, ◌+◌, ◌^◌, [], IfOk, OnOk, length, map};
 ghost use Rattle.lola_model.specs.Accepted.{IsClauseInRange, IsSpecInRange};
 ghost use Rattle.lola_model.specs.Leaves.{AreLeaves, onward};
-ghost use Rattle.lola_pacing_leaves.specs.Marks.{AreEndsBelow, IsBlank};
+ghost use Rattle.lola_pacing_leaves.specs.Flags.{AreEndsBelow, IsBlank};
 
 use crate::follow::followed_from;
 pub use crate::follow::{is_end, lists_of};
@@ -13,19 +13,19 @@ use lola_model::spec::{Clause, Spec, Stream};
 use lola_value::text::Memory;
 use std::alloc::Global;
 
-/// Puts a stream, if it is marked and the search ends there.
+/// Puts a stream, if it is flagged and the search ends there.
 fn put_end(
     streams: &[Stream],
-    marks: &[bool],
+    flags: &[bool],
     stream: u32,
     leaves: &mut Numbers,
 ) -> Result<(), Memory>
     requires stream { stream < length streams.now }
-    requires marks { length marks.now ≡ length streams.now }
-    requires before { AreEndsBelow streams.now marks.now stream leaves.old }
-    ensures { OnOk result (AreEndsBelow streams.now marks.now (stream + 1) leaves.new) }
+    requires flags { length flags.now ≡ length streams.now }
+    requires before { AreEndsBelow streams.now flags.now stream leaves.old }
+    ensures { OnOk result (AreEndsBelow streams.now flags.now (stream + 1) leaves.new) }
 {
-    if !marks[stream as usize] {
+    if !flags[stream as usize] {
         return Ok(());
     }
     if !is_end(&streams[stream as usize]) {
@@ -35,41 +35,41 @@ fn put_end(
     Ok(())
 }
 
-/// The streams that are marked and at which the search ends.
-fn marked_ends(alloc: Global, streams: &[Stream], marks: &[bool]) -> Result<Numbers, Memory>
+/// The streams that are flagged and at which the search ends.
+fn flagged_ends(alloc: Global, streams: &[Stream], flags: &[bool]) -> Result<Numbers, Memory>
     requires count { length streams.now < 2 ^ 32 }
-    requires marks { length marks.now ≡ length streams.now }
-    ensures { IfOk result (λ leaves. AreEndsBelow streams.now marks.now (length streams.now) leaves) }
+    requires flags { length flags.now ≡ length streams.now }
+    ensures { IfOk result (λ leaves. AreEndsBelow streams.now flags.now (length streams.now) leaves) }
 {
     let mut leaves = Numbers::create(alloc);
     for stream in 0..streams.len() as u32 {
-        put_end(streams, marks, stream, &mut leaves)?;
+        put_end(streams, flags, stream, &mut leaves)?;
     }
     Ok(leaves)
 }
 
-/// The leaves of a clause, found in room for a mark of each stream and for streams to be looked at.
+/// The leaves of a clause, found in room for a flag of each stream and for streams to be looked at.
 fn found(
     alloc: Global,
     spec: &Spec,
     lists: &[Numbers],
     own: u32,
     clause: &Option<Clause>,
-    marks: &mut [bool],
+    flags: &mut [bool],
     noted: &mut Vec<u32>,
 ) -> Result<Numbers, Memory>
     requires numbers { IsSpecInRange spec.now }
     requires streams { length spec.now.streams ≤ 1024 }
     requires clause { IsClauseInRange (length spec.now.streams) (length spec.now.windows) clause.now }
     requires lists { lists.now ≡ map onward spec.now.streams }
-    requires marks { length marks.old ≡ length lists.now }
-    requires blank { IsBlank marks.old }
+    requires flags { length flags.old ≡ length lists.now }
+    requires blank { IsBlank flags.old }
     requires noted { noted.old.items ≡ [] }
     ensures { IfOk result (λ leaves. AreLeaves spec.now.streams own clause.now leaves) }
 {
     let first = followed_from(alloc, clause)?;
-    visit(lists, own, first.as_slice(), marks, noted)?;
-    let leaves = marked_ends(alloc, spec.streams.as_slice(), marks)?;
+    visit(lists, own, first.as_slice(), flags, noted)?;
+    let leaves = flagged_ends(alloc, spec.streams.as_slice(), flags)?;
     Ok(leaves)
 }
 
@@ -89,7 +89,7 @@ pub fn leaves(
     requires lists { lists.now ≡ map onward spec.now.streams }
     ensures { IfOk result (λ leaves. AreLeaves spec.now.streams own clause.now leaves) }
 {
-    let mut marks = vec![in alloc; false; lists.len()]?;
+    let mut flags = vec![in alloc; false; lists.len()]?;
     let mut noted = Vec::new(alloc);
-    found(alloc, spec, lists, own, clause, &mut marks, &mut noted)
+    found(alloc, spec, lists, own, clause, &mut flags, &mut noted)
 }

@@ -5,12 +5,12 @@ use Rattle.lola_lexer.specs.declared.shape.TokenShape.TheVariants as is
 use Rattle.lola_lexer.specs.declared.token.Token.{Token}
 use Rattle.lola_lexer.specs.Tokens.{AreInOrder, StandIn}
 use Rattle.lola_parser_grammars_law.specs.Syntax.{Lexeme, Terminal, Of, any_fits, fits, same_shape, starts}
-use Rattle.lola_parser_grammars_law.specs.Marks.{is_mark, one_if, marks_in}
+use Rattle.lola_parser_grammars_law.specs.Nestings.{is_nesting, one_if, nestings_in}
 use Rattle.lola_parser_grammar.specs.Cursor.{lexeme, lexemes}
-use Rattle.lola_parser_grammar.specs.Grammar.{all_marks, expr_in}
+use Rattle.lola_parser_grammar.specs.Grammar.{all_nestings, expr_in}
 use Rattle.lola_parser.specs.Looking as looking
-use Rattle.lola_parser.specs.Looking.{is_either, is_mark_shape, marks_among, IsLast}
-use Rattle.lola_parser.specs.Places.{cut_last, clause_words, is_spawn, behind_with, behind_bracket, ends_within, is_enclosed, mark_or, place_behind, place_too_deep}
+use Rattle.lola_parser.specs.Looking.{is_either, is_nesting_shape, nestings_among, IsLast}
+use Rattle.lola_parser.specs.Places.{cut_last, clause_words, is_spawn, behind_with, behind_bracket, ends_within, is_enclosed, nesting_or, place_behind, place_too_deep}
 use Rattle.lola_parser.specs.Turns.{Left}
 use Rattle.lola_parser.specs.Skims.{skim}
 use Rattle.lola_parser.specs.Parts.{IsRecognized}
@@ -38,13 +38,13 @@ one_tells a t = by (same_shape a t.shape)
     by true = refl
     by false = refl
 
-mark_tells_at : (s : TokenShape) (w : List ℕ) (a b : ℕ) → any_fits all_marks (record { shape = s; text = w; from = a; to = b }) ≡ is_mark_shape s
-unfolding fits same_shape is_mark_shape
-mark_tells_at is.Open w a b = refl
-mark_tells_at _ w a b = refl
+nesting_tells_at : (s : TokenShape) (w : List ℕ) (a b : ℕ) → any_fits all_nestings (record { shape = s; text = w; from = a; to = b }) ≡ is_nesting_shape s
+unfolding fits same_shape is_nesting_shape
+nesting_tells_at is.Open w a b = refl
+nesting_tells_at _ w a b = refl
 
-pub marks_tell : Tells all_marks is_mark_shape
-marks_tell t = mark_tells_at t.shape t.text t.from t.to
+pub nestings_tell : Tells all_nestings is_nesting_shape
+nestings_tell t = nesting_tells_at t.shape t.text t.from t.to
 
 -- ---- the last
 
@@ -133,15 +133,15 @@ module _ (bytes : List ℕ) (ts : List Token) (w : ℕ) (m : Lexeme) (e : cut_la
 
 -- ---- counts
 
-one_if_same : (b : Bool) → looking.one_if b ≡ one_if all_marks b
+one_if_same : (b : Bool) → looking.one_if b ≡ one_if all_nestings b
 one_if_same true = refl
 one_if_same false = refl
 
-pub marks_same : (bytes : List ℕ) (ts : List Token) → marks_among ts ≡ marks_in all_marks (lexemes bytes ts)
-marks_same bytes [] = refl
-marks_same bytes (t ∷ ts) =
-    let e : looking.one_if (is_mark_shape t.shape) ≡ one_if all_marks (is_mark all_marks (lexeme bytes t)) = one_if_same (is_mark_shape t.shape) ∙ ap (one_if all_marks) (sym (marks_tell (lexeme bytes t))) in
-    omega (arith, e, marks_same bytes ts)
+pub nestings_same : (bytes : List ℕ) (ts : List Token) → nestings_among ts ≡ nestings_in all_nestings (lexemes bytes ts)
+nestings_same bytes [] = refl
+nestings_same bytes (t ∷ ts) =
+    let e : looking.one_if (is_nesting_shape t.shape) ≡ one_if all_nestings (is_nesting all_nestings (lexeme bytes t)) = one_if_same (is_nesting_shape t.shape) ∙ ap (one_if all_nestings) (sym (nestings_tell (lexeme bytes t))) in
+    omega (arith, e, nestings_same bytes ts)
 
 pub left_from : (bytes : List ℕ) (ts : List Token) (i : ℕ) → length (lexemes bytes (drop i ts)) ≡ length ts - i
 left_from bytes [] zero = refl
@@ -217,8 +217,8 @@ pub own_place : (u d : List Lexeme) (at : ℕ) → behind_bracket u ≡ None →
 own_place u d at e = ap (λ (h : Left). place_behind h u d at) e
 
 module _ (u d head : List Lexeme) (at : ℕ) (e : behind_bracket u ≡ Some head) where
-  pub other_count : (marks_in all_marks head ≡ 512 → ⊥) → place_too_deep u d at ≡ at
-  other_count other = ap (λ (h : Left). place_behind h u d at) e ∙ rw (ne_eqb (marks_in all_marks head) 512 other) refl
+  pub other_count : (nestings_in all_nestings head ≡ 512 → ⊥) → place_too_deep u d at ≡ at
+  other_count other = ap (λ (h : Left). place_behind h u d at) e ∙ rw (ne_eqb (nestings_in all_nestings head) 512 other) refl
 
-  pub mark_before : marks_in all_marks head ≡ 512 → is_enclosed head d ≡ true → place_too_deep u d at ≡ mark_or (cut_last all_marks u) at
-  mark_before many h = ap (λ (h : Left). place_behind h u d at) e ∙ rw (eq-eqb (marks_in all_marks head) 512 many, h) refl
+  pub nesting_before : nestings_in all_nestings head ≡ 512 → is_enclosed head d ≡ true → place_too_deep u d at ≡ nesting_or (cut_last all_nestings u) at
+  nesting_before many h = ap (λ (h : Left). place_behind h u d at) e ∙ rw (eq-eqb (nestings_in all_nestings head) 512 many, h) refl

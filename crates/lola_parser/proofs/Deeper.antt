@@ -2,21 +2,21 @@
 use Rattle.std.proofs.Common.{◌≡◌, ℕ, suc, ◌<◌, ◌≤◌, Bool, true, false, List, [], ◌∷◌, length, Ok, Err, refl, sym, ap, ◌∙◌, arith}
 use Rattle.std.proofs.lemmas.List.{length-append}
 use Rattle.lola_parser_grammars_law.specs.Syntax.{Lexeme, Syntax, Unexpected, TooDeep, Outcome, read}
-use Rattle.lola_parser_grammars_law.specs.Marks.{is_mark, one_if, marks_in}
+use Rattle.lola_parser_grammars_law.specs.Nestings.{is_nesting, one_if, nestings_in}
 use Rattle.lola_parser_grammars_law.proofs.Over.{over}
-use Rattle.lola_parser_grammar.specs.Grammar.{all_marks, level, expr_in, other_in}
+use Rattle.lola_parser_grammar.specs.Grammar.{all_nestings, level, expr_in, other_in}
 use Rattle.lola_parser_grammar.proofs.Depth.{level_tallies, level_deep}
 use Rattle.lola_parser_grammar.proofs.Levels.{levels_same}
 use Rattle.lola_parser.specs.Skims.{skim}
 use Rattle.lola_parser.proofs.Skims.{skims_read, skims_misses}
 
-one_most : (b : Bool) → one_if all_marks b ≤ 1
+one_most : (b : Bool) → one_if all_nestings b ≤ 1
 one_most true = omega arith
 one_most false = omega arith
 
-pub at_most : (u : List Lexeme) → marks_in all_marks u ≤ length u
+pub at_most : (u : List Lexeme) → nestings_in all_nestings u ≤ length u
 at_most [] = omega arith
-at_most (t ∷ u) = omega (arith, one_most (is_mark all_marks t), at_most u)
+at_most (t ∷ u) = omega (arith, one_most (is_nesting all_nestings t), at_most u)
 
 same_left : {A : Type 0} (s s' : Syntax A) (m : ℕ) (ts : List Lexeme) → read s m ts ≡ read s' m ts → ((d : List Lexeme) → read s m ts ≡ Err (TooDeep d) → ⊥) → skim s ts ≡ skim s' ts
 same_left {A} s s' m ts e never = by (read s m ts) refl
@@ -28,7 +28,7 @@ same_left {A} s s' m ts e never = by (read s m ts) refl
 
 never_deep : (b : Bool) (n : ℕ) (ts : List Lexeme) → length ts < n → (d : List Lexeme) → read (level b n) (length ts) ts ≡ Err (TooDeep d) → ⊥
 never_deep b n ts less d h =
-    let p = over all_marks (level b n) (level_tallies b n) n (level_deep b n n (omega arith)) (length ts) ts d less h in
+    let p = over all_nestings (level b n) (level_tallies b n) n (level_deep b n n (omega arith)) (length ts) ts d less h in
     omega (arith, p.5, at_most p.0, ap length p.4, length-append p.0 (p.1 ∷ p.2))
 
 pub expr_deeper : (n : ℕ) (ts : List Lexeme) → length ts < n → skim (expr_in n) ts ≡ skim (expr_in (suc n)) ts

@@ -5,7 +5,7 @@ use Rattle.lola_lexer.specs.declared.shape.TokenShape.TheVariants as is
 use Rattle.lola_parser_grammars_law.specs.Syntax.{Lexeme, Terminal, Of, Word, any_fits, starts}
 use Rattle.lola_parser.specs.declared.pending.Pending.{Pending}
 use Rattle.lola_parser.specs.declared.pending.Pending.TheVariants as p
-use Rattle.lola_parser.specs.Turns.{Left, ◌>->◌, behind, shape, word, Turn, and_parts, and_turn, if_next, distance, frame, to, defaults_to, inner, expression_turn, operand_turn, substitute, access, signs_turn, token_turn, turned, over_words, held_words, product_marks, product, sum_marks, sum, comparison_marks, conjunction, disjunction, conditional, prefix_signs, literals, arguments}
+use Rattle.lola_parser.specs.Turns.{Left, ◌>->◌, behind, shape, word, Turn, and_parts, and_turn, if_next, distance, frame, to, defaults_to, inner, expression_turn, operand_turn, substitute, access, operators_turn, token_turn, turned, over_words, held_words, product_nestings, product, sum_nestings, sum, comparison_nestings, conjunction, disjunction, conditional, prefix_operators, literals, arguments}
 use Rattle.lola_parser.proofs.Skims.{left_some, shortens_behind}
 
 -- an expression is more than the parts that stand for it
@@ -102,13 +102,13 @@ access_falls q ts xs le =
     (falls_if q ts (starts (Word (codes "aggregate") ∷ []) xs) three four (falls_parts q ts (p.Defaults ∷ []) (frame (drop 1 xs)) (omega arith) (λ rest e. omega (arith, le, less_one xs, frame_shorter (drop 1 xs) rest e)))
     (falls_parts q ts inner (defaults_to xs) (omega arith) (λ rest e. omega (arith, le, defaults_shorter xs rest e)))))
 
-signs_falls : (q r : Pending) (ts : List Lexeme) → Falls q ts (signs_turn r ts)
-signs_falls q p.Products ts = falls_next q ts product_marks product (Some ([], ts)) (omega arith) (falls_nothing q ts)
-signs_falls q p.Sums ts = falls_next q ts sum_marks sum (Some ([], ts)) (omega arith) (falls_nothing q ts)
-signs_falls q p.Comparison ts = falls_next q ts comparison_marks sum (Some ([], ts)) (omega arith) (falls_nothing q ts)
-signs_falls q p.Conjunctions ts = falls_next q ts (Of is.And ∷ []) conjunction (Some ([], ts)) (omega arith) (falls_nothing q ts)
-signs_falls q p.Disjunctions ts = falls_next q ts (Of is.Or ∷ []) disjunction (Some ([], ts)) (omega arith) (falls_nothing q ts)
-signs_falls q _ ts = tt
+operators_falls : (q r : Pending) (ts : List Lexeme) → Falls q ts (operators_turn r ts)
+operators_falls q p.Products ts = falls_next q ts product_nestings product (Some ([], ts)) (omega arith) (falls_nothing q ts)
+operators_falls q p.Sums ts = falls_next q ts sum_nestings sum (Some ([], ts)) (omega arith) (falls_nothing q ts)
+operators_falls q p.Comparison ts = falls_next q ts comparison_nestings sum (Some ([], ts)) (omega arith) (falls_nothing q ts)
+operators_falls q p.Conjunctions ts = falls_next q ts (Of is.And ∷ []) conjunction (Some ([], ts)) (omega arith) (falls_nothing q ts)
+operators_falls q p.Disjunctions ts = falls_next q ts (Of is.Or ∷ []) disjunction (Some ([], ts)) (omega arith) (falls_nothing q ts)
+operators_falls q _ ts = tt
 
 token_falls : (q : Pending) (s : TokenShape) (ts : List Lexeme) → Falls q ts (token_turn s ts)
 token_falls q s ts = falls_parts q ts [] (shape s ts) (omega arith) (shorter_behind (Of s ∷ []) ts)
@@ -118,7 +118,7 @@ operand_falls q ts =
     let four = if_next literals (p.Defaults ∷ []) None ts in
     let three = if_next (Of is.Name ∷ []) (p.Arguments ∷ p.Access ∷ []) four ts in
     let two = if_next (Of is.Open ∷ []) inner three ts in
-    falls_next q ts prefix_signs (p.Operand ∷ []) two (omega arith) (falls_next q ts (Of is.Open ∷ []) inner three (omega arith)
+    falls_next q ts prefix_operators (p.Operand ∷ []) two (omega arith) (falls_next q ts (Of is.Open ∷ []) inner three (omega arith)
     (falls_next q ts (Of is.Name ∷ []) (p.Arguments ∷ p.Access ∷ []) four (omega arith) (falls_next q ts literals (p.Defaults ∷ []) None (omega arith) tt)))
 
 expression_falls : (ts : List Lexeme) → Falls p.Expr ts (expression_turn ts)
@@ -129,11 +129,11 @@ expression_falls ts =
 pub falls : (q : Pending) (ts : List Lexeme) → Falls q ts (turned q ts)
 falls p.Expr ts = expression_falls ts
 falls p.Operand ts = operand_falls p.Operand ts
-falls p.Products ts = signs_falls p.Products p.Products ts
-falls p.Sums ts = signs_falls p.Sums p.Sums ts
-falls p.Comparison ts = signs_falls p.Comparison p.Comparison ts
-falls p.Conjunctions ts = signs_falls p.Conjunctions p.Conjunctions ts
-falls p.Disjunctions ts = signs_falls p.Disjunctions p.Disjunctions ts
+falls p.Products ts = operators_falls p.Products p.Products ts
+falls p.Sums ts = operators_falls p.Sums p.Sums ts
+falls p.Comparison ts = operators_falls p.Comparison p.Comparison ts
+falls p.Conjunctions ts = operators_falls p.Conjunctions p.Conjunctions ts
+falls p.Disjunctions ts = operators_falls p.Disjunctions p.Disjunctions ts
 falls p.Defaults ts = falls_if p.Defaults ts (starts (Of is.Dot ∷ []) ts) (and_parts inner (defaults_to (drop 1 ts))) (Some ([], ts)) (falls_parts p.Defaults ts inner (defaults_to (drop 1 ts)) (omega arith) (shorter_one ts (defaults_to (drop 1 ts)) (defaults_shorter (drop 1 ts)))) (falls_nothing p.Defaults ts)
 falls p.Arguments ts = falls_next p.Arguments ts (Of is.Open ∷ []) arguments (Some ([], ts)) (omega arith) (falls_nothing p.Arguments ts)
 falls p.FurtherArguments ts = falls_next p.FurtherArguments ts (Of is.Comma ∷ []) arguments (token_turn is.Shut ts) (omega arith) (token_falls p.FurtherArguments is.Shut ts)

@@ -1,11 +1,11 @@
--- Where a bracket that is a mark after all begins an expression, it stands behind the last `with`, which a spawn clause has.
+-- Where a bracket that is a nesting after all begins an expression, it stands behind the last `with`, which a spawn clause has.
 use Rattle.std.proofs.Common.{◌≡◌, ℕ, Bool, true, false, ◌&&◌, ◌||◌, cond, List, [], ◌∷◌, ◌++◌, Option, Some, None, refl, sym, ap, ◌∙◌, append_assoc, inl, inr, subst}
 use Rattle.std.proofs.lemmas.Bool.{and_parts}
 use Rattle.lola_lexer.specs.declared.shape.TokenShape.TheVariants as is
 use Rattle.lola_parser_tree.specs.declared.expressions.Expr.{Expr}
 use Rattle.lola_parser_tree.specs.declared.declarations.Declaration.{Declaration}
-use Rattle.lola_parser_grammars_law.specs.Syntax.{Lexeme, Terminal, Of, fits, any_fits, same_shape, within, Syntax, Past, Token, Mark, Whole, Known, Then, Map, Either, Maybe, Many, Fork, Spells, max_marks}
-use Rattle.lola_parser_grammars_law.specs.Marks.{marks_in}
+use Rattle.lola_parser_grammars_law.specs.Syntax.{Lexeme, Terminal, Of, fits, any_fits, same_shape, within, Syntax, Past, Token, Nesting, Whole, Known, Then, Map, Either, Maybe, Many, Fork, Spells, max_nestings}
+use Rattle.lola_parser_grammars_law.specs.Nestings.{nestings_in}
 use Rattle.lola_parser_grammars_law.specs.Exceeding.{ExceedsAmong}
 use Rattle.lola_parser_grammars_law.proofs.Tests.{shape_is}
 use Rattle.lola_parser_limit_law.specs.Late.{IsNextBehindBracket}
@@ -13,7 +13,7 @@ use Rattle.lola_parser_tree.specs.declared.clauses.Part.{Part}
 use Rattle.lola_parser_tree.specs.declared.clauses.Spawn.{Spawn}
 use Rattle.lola_parser_tree.specs.declared.pacing.Pacing.{Pacing}
 use Rattle.lola_parser_grammar.specs.Grammar as g
-use Rattle.lola_parser_grammar.specs.Grammar.{all_marks, expr_in, specification}
+use Rattle.lola_parser_grammar.specs.Grammar.{all_nestings, expr_in, specification}
 use Rattle.lola_parser.specs.Places.{Cut, cut_last, clause_words, is_spawn, behind_with}
 use Rattle.lola_parser.specs.Law.{IsBehind}
 use Rattle.lola_parser.proofs.Lacks.{words, cut_more, cut_here, not_here, front_none, none_append, none_in, fewer, expr_lacks, pacing_lacks, when_lacks}
@@ -23,7 +23,7 @@ use Rattle.lola_parser.proofs.Lacks.{words, cut_more, cut_here, not_here, front_
 unfoldable forkless : {A : Type 0} → Syntax A → Bool
 forkless (Past a) = true
 forkless (Token k) = true
-forkless (Mark k) = true
+forkless (Nesting k) = true
 forkless (Whole a) = true
 forkless (Known fs ms a) = forkless a
 forkless (Then a b) = forkless a && forkless b
@@ -34,18 +34,18 @@ forkless (Many a) = forkless a
 forkless (Fork ks a b c) = false
 
 Never : {A : Type 0} → Syntax A → Type 0
-Never {A} s = (u : List Lexeme) (t : Lexeme) (v : List Lexeme) (x : A) → IsNextBehindBracket all_marks s u t v x → ⊥
+Never {A} s = (u : List Lexeme) (t : Lexeme) (v : List Lexeme) (x : A) → IsNextBehindBracket all_nestings s u t v x → ⊥
 
-pub never_among : {A : Type 0} (a : Syntax A) → ((u : List Lexeme) (t : Lexeme) (v : List Lexeme) (x : A) → IsNextBehindBracket all_marks a u t v x → ⊥) → (u : List Lexeme) (t : Lexeme) (v : List Lexeme) (xs : List A) → ExceedsAmong (IsNextBehindBracket all_marks a) (Spells a) u t v xs → ⊥
+pub never_among : {A : Type 0} (a : Syntax A) → ((u : List Lexeme) (t : Lexeme) (v : List Lexeme) (x : A) → IsNextBehindBracket all_nestings a u t v x → ⊥) → (u : List Lexeme) (t : Lexeme) (v : List Lexeme) (xs : List A) → ExceedsAmong (IsNextBehindBracket all_nestings a) (Spells a) u t v xs → ⊥
 never_among a f u t v [] h = h
 never_among a f u t v (x ∷ xs) (inl h) = f u t h.0 x h.3
 never_among a f u t v (x ∷ xs) (inr h) = never_among a f h.1 t v xs h.4
 
-pub never : {A : Type 0} (s : Syntax A) → forkless s ≡ true → (u : List Lexeme) (t : Lexeme) (v : List Lexeme) (x : A) → IsNextBehindBracket all_marks s u t v x → ⊥
+pub never : {A : Type 0} (s : Syntax A) → forkless s ≡ true → (u : List Lexeme) (t : Lexeme) (v : List Lexeme) (x : A) → IsNextBehindBracket all_nestings s u t v x → ⊥
 unfolding forkless IsNextBehindBracket
 never (Past a) f u t v x h = h
 never (Token k) f u t v x h = h
-never (Mark k) f u t v x h = h
+never (Nesting k) f u t v x h = h
 never (Whole a) f u t v x h = h
 never (Known fs ms a) f u t v x h = never a f u t v x h
 never (Then a b) f u t v x (inl h) = never a (and_parts (forkless a) (forkless b) f).0 u t h.0 x.0 h.3
@@ -100,7 +100,7 @@ clause_within = refl
 
 -- a spawn clause up to the bracket behind its `with`, and what stands behind it
 spawned : (sp : Lexeme) (a b : List Lexeme) (wt o : Lexeme) (head : List Lexeme) → fits (Of is.Spawn) sp ≡ true → cut_last words a ≡ None → cut_last words b ≡ None → fits (Of is.With) wt ≡ true → fits (Of is.Open) o ≡ true
-    → cut_last words head ≡ None → marks_in all_marks head ≡ max_marks → IsBehind ((sp ∷ (a ++ b)) ++ wt ∷ (o ∷ head))
+    → cut_last words head ≡ None → nestings_in all_nestings head ≡ max_nestings → IsBehind ((sp ∷ (a ++ b)) ++ wt ∷ (o ∷ head))
 spawned sp a b wt o head s na nb w op nh m =
     let tail : cut_last (Of is.With ∷ []) (o ∷ head) ≡ None = not_here (Of is.With ∷ []) o head (open_no_with o op) (fewer (Of is.With ∷ []) words with_within head nh) in
     let cut = cut_more (Of is.With ∷ []) (sp ∷ (a ++ b)) (wt ∷ (o ∷ head)) [] wt (o ∷ head) (cut_here (Of is.With ∷ []) wt (o ∷ head) (with_there (Of is.With) wt w) tail) in
@@ -110,21 +110,21 @@ spawned sp a b wt o head s na nb w op nh m =
     (head, ap behind_with cut ∙ rw (is, op) refl, m)
 
 module _ {A B : Type 0} (a : Syntax A) (b : Syntax B) where
-  then_right : forkless a ≡ true → ((z : List Lexeme) (t : Lexeme) (v : List Lexeme) (y : B) → IsNextBehindBracket all_marks b z t v y → IsBehind z)
-      → (u : List Lexeme) (t : Lexeme) (v : List Lexeme) (x : A × B) → IsNextBehindBracket all_marks (Then a b) u t v x → IsBehind u
+  then_right : forkless a ≡ true → ((z : List Lexeme) (t : Lexeme) (v : List Lexeme) (y : B) → IsNextBehindBracket all_nestings b z t v y → IsBehind z)
+      → (u : List Lexeme) (t : Lexeme) (v : List Lexeme) (x : A × B) → IsNextBehindBracket all_nestings (Then a b) u t v x → IsBehind u
   unfolding IsNextBehindBracket
   then_right f next u t v x (inl h) = absurd (never a f u t h.0 x.0 h.3)
   then_right f next u t v x (inr h) = subst IsBehind (sym h.2) (behind_more h.0 h.1 (next h.1 t v x.1 h.4))
 
-  then_left : forkless b ≡ true → ((z : List Lexeme) (t : Lexeme) (v : List Lexeme) (y : A) → IsNextBehindBracket all_marks a z t v y → IsBehind z)
-      → (u : List Lexeme) (t : Lexeme) (v : List Lexeme) (x : A × B) → IsNextBehindBracket all_marks (Then a b) u t v x → IsBehind u
+  then_left : forkless b ≡ true → ((z : List Lexeme) (t : Lexeme) (v : List Lexeme) (y : A) → IsNextBehindBracket all_nestings a z t v y → IsBehind z)
+      → (u : List Lexeme) (t : Lexeme) (v : List Lexeme) (x : A × B) → IsNextBehindBracket all_nestings (Then a b) u t v x → IsBehind u
   unfolding IsNextBehindBracket
   then_left f next u t v x (inl h) = next u t h.0 x.0 h.3
   then_left f next u t v x (inr h) = absurd (never b f h.1 t v x.1 h.4)
 
 -- behind one token
 Behind : {A : Type 0} → Syntax A → List Lexeme → Lexeme → List Lexeme → Type 0
-Behind {A} s u t v = (x : A) × IsNextBehindBracket all_marks s u t v x
+Behind {A} s u t v = (x : A) × IsNextBehindBracket all_nestings s u t v x
 
 output_never : forkless (g.token is.Output) ≡ true
 unfolding forkless g.token
@@ -148,9 +148,9 @@ module _ (n : ℕ) where
   more_never = refl
 
   abbrev Headed : List Lexeme → Type 0
-  Headed u = (cut_last words u ≡ None) × (marks_in all_marks u ≡ max_marks)
+  Headed u = (cut_last words u ≡ None) × (nestings_in all_nestings u ≡ max_nestings)
 
-  at_forked : (u : List Lexeme) (t : Lexeme) (v : List Lexeme) (x : Expr × g.Parts) → IsNextBehindBracket all_marks (g.forked n) u t v x → Headed u
+  at_forked : (u : List Lexeme) (t : Lexeme) (v : List Lexeme) (x : Expr × g.Parts) → IsNextBehindBracket all_nestings (g.forked n) u t v x → Headed u
   unfolding g.forked IsNextBehindBracket
   at_forked u t v x (inl h) = (front_none words u (t ∷ h.0) (none_in words (expr_in n) (expr_lacks n) (u ++ t ∷ h.0) x.0 h.3), h.5)
   at_forked u t v x (inr h) = absurd (never (g.more_parts n) more_never h.1 t v x.1 h.4)
@@ -158,12 +158,12 @@ module _ (n : ℕ) where
   abbrev Opened : List Lexeme → Type 0
   Opened u = (o : Lexeme) × (head : List Lexeme) × (u ≡ o ∷ head) × (fits (Of is.Open) o ≡ true) × Headed head
 
-  at_open : (u : List Lexeme) (t : Lexeme) (v : List Lexeme) (x : ℕ × (Expr × g.Parts)) → IsNextBehindBracket all_marks (Then (g.token is.Open) (g.forked n)) u t v x → Opened u
+  at_open : (u : List Lexeme) (t : Lexeme) (v : List Lexeme) (x : ℕ × (Expr × g.Parts)) → IsNextBehindBracket all_nestings (Then (g.token is.Open) (g.forked n)) u t v x → Opened u
   unfolding g.token Spells IsNextBehindBracket
   at_open u t v x (inl h) = absurd h.3.2
   at_open u t v x (inr h) = (h.3.0, h.1, h.2 ∙ ap (λ (w : List Lexeme). w ++ h.1) h.3.2.0, h.3.2.1, at_forked h.1 t v x.1 h.4)
 
-  at_parts : (u : List Lexeme) (t : Lexeme) (v : List Lexeme) (x : ℕ → List Part) → IsNextBehindBracket all_marks (g.parts n) u t v x → Opened u
+  at_parts : (u : List Lexeme) (t : Lexeme) (v : List Lexeme) (x : ℕ → List Part) → IsNextBehindBracket all_nestings (g.parts n) u t v x → Opened u
   unfolding g.parts g.whole_unbracketed IsNextBehindBracket
   at_parts u t v x (inl h) = at_open u t v h.0 h.2
   at_parts u t v x (inr h) = absurd h.2
@@ -171,12 +171,12 @@ module _ (n : ℕ) where
   abbrev Led : List Lexeme → Type 0
   Led u = (wt : Lexeme) × (z : List Lexeme) × (u ≡ wt ∷ z) × (fits (Of is.With) wt ≡ true) × Opened z
 
-  at_then_with : (u : List Lexeme) (t : Lexeme) (v : List Lexeme) (x : ℕ × (ℕ → List Part)) → IsNextBehindBracket all_marks (Then (g.token is.With) (g.parts n)) u t v x → Led u
+  at_then_with : (u : List Lexeme) (t : Lexeme) (v : List Lexeme) (x : ℕ × (ℕ → List Part)) → IsNextBehindBracket all_nestings (Then (g.token is.With) (g.parts n)) u t v x → Led u
   unfolding g.token Spells IsNextBehindBracket
   at_then_with u t v x (inl h) = absurd h.3.2
   at_then_with u t v x (inr h) = (h.3.0, h.1, h.2 ∙ ap (λ (w : List Lexeme). w ++ h.1) h.3.2.0, h.3.2.1, at_parts h.1 t v x.1 h.4)
 
-  at_maybe_with : (u : List Lexeme) (t : Lexeme) (v : List Lexeme) (x : Option (List Part)) → IsNextBehindBracket all_marks (Maybe (g.with_parts n)) u t v x → Led u
+  at_maybe_with : (u : List Lexeme) (t : Lexeme) (v : List Lexeme) (x : Option (List Part)) → IsNextBehindBracket all_nestings (Maybe (g.with_parts n)) u t v x → Led u
   unfolding g.with_parts IsNextBehindBracket
   at_maybe_with u t v None h = absurd h
   at_maybe_with u t v (Some x) h = at_then_with u t v h.0 h.2
@@ -192,7 +192,7 @@ module _ (n : ℕ) where
   unfolding forkless g.pacing g.rhythm g.whole_formula g.clock g.quantity g.other_name g.token g.word
   pacing_never = refl
 
-  at_when : (u : List Lexeme) (t : Lexeme) (v : List Lexeme) (x : Option Part × Option (List Part)) → IsNextBehindBracket all_marks (Then (Maybe (g.part_behind n is.When)) (Maybe (g.with_parts n))) u t v x → Conditioned u
+  at_when : (u : List Lexeme) (t : Lexeme) (v : List Lexeme) (x : Option Part × Option (List Part)) → IsNextBehindBracket all_nestings (Then (Maybe (g.part_behind n is.When)) (Maybe (g.with_parts n))) u t v x → Conditioned u
   unfolding IsNextBehindBracket
   at_when u t v x (inl h) = absurd (never (Maybe (g.part_behind n is.When)) when_never u t h.0 x.0 h.3)
   at_when u t v x (inr h) = (h.0, h.1, h.2, none_in words (Maybe (g.part_behind n is.When)) (when_lacks n) h.0 x.0 h.3, at_maybe_with h.1 t v x.1 h.4)
@@ -201,7 +201,7 @@ module _ (n : ℕ) where
   Paced u = (a : List Lexeme) × (z : List Lexeme) × (u ≡ a ++ z) × (cut_last words a ≡ None) × Conditioned z
 
   at_pacing : (u : List Lexeme) (t : Lexeme) (v : List Lexeme) (x : Option Pacing × (Option Part × Option (List Part)))
-      → IsNextBehindBracket all_marks (Then (Maybe (g.pacing n)) (Then (Maybe (g.part_behind n is.When)) (Maybe (g.with_parts n)))) u t v x → Paced u
+      → IsNextBehindBracket all_nestings (Then (Maybe (g.pacing n)) (Then (Maybe (g.part_behind n is.When)) (Maybe (g.with_parts n)))) u t v x → Paced u
   unfolding IsNextBehindBracket
   at_pacing u t v x (inl h) = absurd (never (Maybe (g.pacing n)) pacing_never u t h.0 x.0 h.3)
   at_pacing u t v x (inr h) = (h.0, h.1, h.2, none_in words (Maybe (g.pacing n)) (pacing_lacks n) h.0 x.0 h.3, at_when h.1 t v x.1 h.4)
@@ -216,14 +216,14 @@ module _ (n : ℕ) where
       subst (λ (w : List Lexeme). IsBehind (sp ∷ w)) (sym whole) (spawned sp h.0 c.0 l.0 o.0 o.1 s h.3 c.3 l.3 o.3 o.4.0 o.4.1)
 
   at_then_spawn : (u : List Lexeme) (t : Lexeme) (v : List Lexeme) (x : ℕ × (Option Pacing × (Option Part × Option (List Part))))
-      → IsNextBehindBracket all_marks (Then (g.token is.Spawn) (Then (Maybe (g.pacing n)) (Then (Maybe (g.part_behind n is.When)) (Maybe (g.with_parts n))))) u t v x → IsBehind u
+      → IsNextBehindBracket all_nestings (Then (g.token is.Spawn) (Then (Maybe (g.pacing n)) (Then (Maybe (g.part_behind n is.When)) (Maybe (g.with_parts n))))) u t v x → IsBehind u
   unfolding g.token Spells IsNextBehindBracket
   at_then_spawn u t v x (inl h) = absurd h.3.2
   at_then_spawn u t v x (inr h) =
       let whole : u ≡ h.3.0 ∷ h.1 = h.2 ∙ ap (λ (w : List Lexeme). w ++ h.1) h.3.2.0 in
       subst IsBehind (sym whole) (joined h.3.0 h.1 h.3.2.1 (at_pacing h.1 t v x.1 h.4))
 
-  at_spawn : (u : List Lexeme) (t : Lexeme) (v : List Lexeme) (x : Spawn) → IsNextBehindBracket all_marks (g.spawn n) u t v x → IsBehind u
+  at_spawn : (u : List Lexeme) (t : Lexeme) (v : List Lexeme) (x : Spawn) → IsNextBehindBracket all_nestings (g.spawn n) u t v x → IsBehind u
   unfolding g.spawn IsNextBehindBracket
   at_spawn u t v x h = at_then_spawn u t v h.0 h.2
 
@@ -239,13 +239,13 @@ module _ (n : ℕ) where
   unfolding forkless g.eval g.pacing g.rhythm g.whole_formula g.clock g.quantity g.other_name g.token g.word g.part_behind g.whole
   eval_never = refl
 
-  at_body : (u : List Lexeme) (t : Lexeme) (v : List Lexeme) (x : g.Body) → IsNextBehindBracket all_marks (g.body n) u t v x → IsBehind u
+  at_body : (u : List Lexeme) (t : Lexeme) (v : List Lexeme) (x : g.Body) → IsNextBehindBracket all_nestings (g.body n) u t v x → IsBehind u
   unfolding g.body IsNextBehindBracket
   at_body u t v x (inl h) = absurd (never (g.short_eval n) short_never u t v h.0 h.2)
   at_body u t v x (inr (inl h)) = absurd (never (g.eval n) eval_never u t v h.0 h.2)
   at_body u t v x (inr (inr h)) = then_left (g.spawn n) (Then (g.eval n) (Maybe (g.close n))) after_never at_spawn u t v h.0 h.2
 
-  at_output : (u : List Lexeme) (t : Lexeme) (v : List Lexeme) (x : Declaration) → IsNextBehindBracket all_marks (g.output n) u t v x → IsBehind u
+  at_output : (u : List Lexeme) (t : Lexeme) (v : List Lexeme) (x : Declaration) → IsNextBehindBracket all_nestings (g.output n) u t v x → IsBehind u
   unfolding g.output IsNextBehindBracket
   at_output u t v x h =
       then_right (g.token is.Output) _ output_never (then_right g.name _ name_never (then_right (Maybe g.parameters) _ parameters_never (then_right (Maybe g.kind) (g.body n) kind_never at_body))) u t v h.0 h.2
@@ -262,18 +262,18 @@ module _ (n : ℕ) where
   unfolding forkless g.trigger g.pacing g.rhythm g.whole_formula g.clock g.quantity g.other_name g.token g.word g.whole g.message g.text
   trigger_never = refl
 
-  at_declaration : (u : List Lexeme) (t : Lexeme) (v : List Lexeme) (x : Declaration) → IsNextBehindBracket all_marks (g.declaration n) u t v x → IsBehind u
+  at_declaration : (u : List Lexeme) (t : Lexeme) (v : List Lexeme) (x : Declaration) → IsNextBehindBracket all_nestings (g.declaration n) u t v x → IsBehind u
   unfolding g.declaration IsNextBehindBracket
   at_declaration u t v x (inl h) = absurd (never g.inputs inputs_never u t v x h)
   at_declaration u t v x (inr (inl h)) = absurd (never g.constant constant_never u t v x h)
   at_declaration u t v x (inr (inr (inl h))) = at_output u t v x h
   at_declaration u t v x (inr (inr (inr h))) = absurd (never (g.trigger n) trigger_never u t v x h)
 
-  at_some : (u : List Lexeme) (t : Lexeme) (v : List Lexeme) (xs : List Declaration) → ExceedsAmong (IsNextBehindBracket all_marks (g.declaration n)) (Spells (g.declaration n)) u t v xs → IsBehind u
+  at_some : (u : List Lexeme) (t : Lexeme) (v : List Lexeme) (xs : List Declaration) → ExceedsAmong (IsNextBehindBracket all_nestings (g.declaration n)) (Spells (g.declaration n)) u t v xs → IsBehind u
   at_some u t v [] h = absurd h
   at_some u t v (x ∷ xs) (inl h) = at_declaration u t h.0 x h.3
   at_some u t v (x ∷ xs) (inr h) = subst IsBehind (sym h.2) (behind_more h.0 h.1 (at_some h.1 t v xs h.4))
 
-  pub next_is_behind : (u : List Lexeme) (t : Lexeme) (v : List Lexeme) (xs : List Declaration) → IsNextBehindBracket all_marks (specification n) u t v xs → IsBehind u
+  pub next_is_behind : (u : List Lexeme) (t : Lexeme) (v : List Lexeme) (xs : List Declaration) → IsNextBehindBracket all_nestings (specification n) u t v xs → IsBehind u
   unfolding g.specification IsNextBehindBracket
   next_is_behind u t v xs h = at_some u t v xs h

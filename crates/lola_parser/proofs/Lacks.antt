@@ -2,7 +2,7 @@
 use Rattle.std.proofs.Common.{◌≡◌, ℕ, zero, suc, Bool, true, false, not, ◌&&◌, List, [], ◌∷◌, ◌++◌, Some, None, refl, ap, ◌∙◌, inl, inr}
 use Rattle.std.proofs.lemmas.Bool.{and_parts, not-true, false_from_ne_true}
 use Rattle.lola_lexer.specs.declared.shape.TokenShape.TheVariants as is
-use Rattle.lola_parser_grammars_law.specs.Syntax.{Lexeme, Terminal, Of, fits, any_fits, clashes, within, same_shape, Syntax, Past, Token, Mark, Whole, Known, Then, Map, Either, Maybe, Many, Fork, Repeats, Spells}
+use Rattle.lola_parser_grammars_law.specs.Syntax.{Lexeme, Terminal, Of, fits, any_fits, clashes, within, same_shape, Syntax, Past, Token, Nesting, Whole, Known, Then, Map, Either, Maybe, Many, Fork, Repeats, Spells}
 use Rattle.lola_parser_grammars_law.proofs.Tests.{clashes_true, within_fits}
 use Rattle.lola_parser_grammars_law.proofs.Complete.{and_three}
 use Rattle.lola_parser_grammar.specs.Grammar as g
@@ -36,7 +36,7 @@ module _ (ks : List Terminal) where
   unfoldable pub lacks : {A : Type 0} → Syntax A → Bool
   lacks (Past a) = lacks a
   lacks (Token k) = not (clashes k ks)
-  lacks (Mark k) = not (clashes k ks)
+  lacks (Nesting k) = not (clashes k ks)
   lacks (Whole a) = lacks a
   lacks (Known fs ms a) = lacks a
   lacks (Then a b) = lacks a && lacks b
@@ -59,7 +59,7 @@ module _ (ks : List Terminal) where
   unfolding lacks Spells
   none_in (Past a) l u x h = none_in a l u x h
   none_in (Token k) l u x h = none_one k x u l h.0 h.1
-  none_in (Mark k) l u x h = none_one k x u l h.0 h.1
+  none_in (Nesting k) l u x h = none_one k x u l h.0 h.1
   none_in (Whole a) l u x h = none_in a l u x h
   none_in (Known fs ms a) l u x h = none_in a l u x h
   none_in (Then a b) l u x h =
@@ -88,14 +88,14 @@ abbrev pub words : List Terminal
 words = Of is.With ∷ Of is.Spawn ∷ Of is.Eval ∷ []
 
 pub level_lacks : (b : Bool) (n : ℕ) → lacks words (level b n) ≡ true
-unfolding level lacks same_shape g.token g.mark g.word g.name g.other_name g.integer g.text g.quantity g.sign g.product_signs g.sum_signs g.comparison_signs g.and_signs g.or_signs g.word_literal g.offset g.over g.window g.arguments g.stand_in g.hold g.get g.last g.default g.reading g.dotted_default g.defaults g.dotted g.suffix g.named g.number g.worded g.bracketed g.operand g.negation g.negative g.minus g.plain g.other_with g.unary g.products g.product g.sums g.sum g.comparisons g.comparison g.conjunctions g.conjunction g.disjunctions g.conditional g.expr_with
+unfolding level lacks same_shape g.token g.nesting g.word g.name g.other_name g.integer g.text g.quantity g.operator g.product_operators g.sum_operators g.comparison_operators g.and_operators g.or_operators g.word_literal g.offset g.over g.window g.arguments g.stand_in g.hold g.get g.last g.default g.reading g.dotted_default g.defaults g.dotted g.suffix g.named g.number g.worded g.bracketed g.operand g.negation g.negative g.minus g.plain g.other_with g.unary g.products g.product g.sums g.sum g.comparisons g.comparison g.conjunctions g.conjunction g.disjunctions g.conditional g.expr_with
 level_lacks true zero = refl
 level_lacks false zero = refl
 level_lacks true (suc n) = rw (level_lacks true n, level_lacks false n) refl
 level_lacks false (suc n) = rw (level_lacks true n, level_lacks false n) refl
 
 formula_lacks : (n : ℕ) → lacks words (formula_level n) ≡ true
-unfolding formula_level lacks same_shape g.token g.mark g.name g.atom g.conjunctions_of g.conjunct g.alternatives_of g.formula_with
+unfolding formula_level lacks same_shape g.token g.nesting g.name g.atom g.conjunctions_of g.conjunct g.alternatives_of g.formula_with
 formula_lacks zero = refl
 formula_lacks (suc n) = rw (formula_lacks n) refl
 

@@ -1,8 +1,8 @@
--- What is left where no mark is counted is what reading leaves where the marks suffice.
+-- What is left where no nesting is counted is what reading leaves where the nestings suffice.
 use Rattle.std.proofs.Common.{◌≡◌, ℕ, zero, suc, ◌-◌, ◌<◌, ◌≤◌, Bool, true, false, cond, ◌||◌, List, [], ◌∷◌, ◌++◌, length, Some, None, Ok, Err, refl, sym, ap, ◌∙◌, append_assoc, arith, inl, inr}
 use Rattle.std.proofs.lemmas.List.{length-append}
 use Rattle.std.proofs.lemmas.Bool.{or_cases}
-use Rattle.lola_parser_grammars_law.specs.Syntax.{Lexeme, Terminal, fits, any_fits, Syntax, Past, Token, Mark, Whole, Known, Then, Map, Either, Maybe, Many, Fork, Repeats, Spells, starts, first, nullable, is_fine, Refusal, Unexpected, TooDeep, Outcome, Reader, counted, repeated, read, max_marks, charged, either_rest, last_mark}
+use Rattle.lola_parser_grammars_law.specs.Syntax.{Lexeme, Terminal, fits, any_fits, Syntax, Past, Token, Nesting, Whole, Known, Then, Map, Either, Maybe, Many, Fork, Repeats, Spells, starts, first, nullable, is_fine, Refusal, Unexpected, TooDeep, Outcome, Reader, counted, repeated, read, max_nestings, charged, either_rest, last_nesting}
 use Rattle.lola_parser_grammars_law.proofs.Laws.{chosen, done_is, bind_ok, counted_ok}
 use Rattle.lola_parser_grammars_law.proofs.Viable.{bind_err}
 use Rattle.lola_parser_grammars_law.proofs.Complete.{spells_nil}
@@ -69,7 +69,7 @@ pub leaves : {A : Type 0} (s : Syntax A) → Leaves (skim s) (Spells s)
 unfolding skim Spells
 leaves (Past a) ts rest h = leaves a ts rest h
 leaves (Token k) ts rest h = token_leaves k ts rest h
-leaves (Mark k) ts rest h = token_leaves k ts rest h
+leaves (Nesting k) ts rest h = token_leaves k ts rest h
 leaves (Whole a) ts rest h = leaves a ts rest h
 leaves (Known fs ms a) ts rest h = leaves a ts rest h
 leaves (Then a b) ts rest h =
@@ -115,10 +115,10 @@ token_read k m (t ∷ ts) x i rest e =
       | inr c ↦ absurd cc
     ]
 
-mark_read : (k : Terminal) (m : ℕ) (ts : List Lexeme) (x : Lexeme) (i : ℕ) (rest : List Lexeme) → read (Mark k) m ts ≡ Ok (x, i, rest) → behind (k ∷ []) ts ≡ Some rest
+nesting_read : (k : Terminal) (m : ℕ) (ts : List Lexeme) (x : Lexeme) (i : ℕ) (rest : List Lexeme) → read (Nesting k) m ts ≡ Ok (x, i, rest) → behind (k ∷ []) ts ≡ Some rest
 unfolding read
-mark_read k m [] x i rest e = absurd cc
-mark_read k m (t ∷ ts) x i rest e =
+nesting_read k m [] x i rest e = absurd cc
+nesting_read k m (t ∷ ts) x i rest e =
     elim (chosen (fits k t) _ _ _ e) [
       | inl c ↦
           let d = counted_ok t m ts x i rest c.1 in
@@ -154,8 +154,8 @@ pub skims_read : {A : Type 0} (s : Syntax A) → SkimsOk (read s) (skim s)
 unfolding read skim
 skims_read (Past a) m ts x i rest e = absurd cc
 skims_read (Token k) m ts x i rest e = token_read k m ts x i rest e
-skims_read (Mark k) m ts x i rest e = mark_read k m ts x i rest e
-skims_read (Whole a) m ts x i rest e = skims_read a max_marks ts x i rest e
+skims_read (Nesting k) m ts x i rest e = nesting_read k m ts x i rest e
+skims_read (Whole a) m ts x i rest e = skims_read a max_nestings ts x i rest e
 skims_read (Known fs ms a) m ts x i rest e = skims_read a m ts x i rest e
 skims_read (Then a b) m ts x i rest e =
     let p = bind_ok (read a m ts) _ x i rest e in
@@ -181,12 +181,12 @@ skims_read (Maybe a) m ts x i rest e =
     ]
 skims_read (Many a) m ts x i rest e = again_read (read a) (skim a) (first a) (skims_read a) (length ts) m ts x i rest e
 skims_read (Fork ks a b c) m ts x i rest e =
-    let p = bind_ok (read a max_marks ts) _ x i rest e in
-    let deep = last_mark ks (length ts - length p.2) p.2 ts in
+    let p = bind_ok (read a max_nestings ts) _ x i rest e in
+    let deep = last_nesting ks (length ts - length p.2) p.2 ts in
     let q = bind_ok (either_rest (first b) (read b) (first c) (charged deep (read c)) p.1 p.2) _ x i rest p.4 in
     let d = done_is (p.0, q.0) x q.1 i q.2 rest q.4 in
     let then_ = λ (mid : List Lexeme). cond (starts (first b) mid) (skim b mid) (cond (starts (first c) mid) (skim c mid) None) in
-    is_left (skim a ts) then_ p.2 rest (skims_read a max_marks ts p.0 p.1 p.2 p.3)
+    is_left (skim a ts) then_ p.2 rest (skims_read a max_nestings ts p.0 p.1 p.2 p.3)
     (elim (chosen (starts (first b) p.2) _ _ _ q.3) [
       | inl k ↦ if_true (starts (first b) p.2) _ _ (Some rest) k.0 (skims_read b p.1 p.2 q.0 q.1 q.2 k.1 ∙ ap (λ (w : List Lexeme). Some w) d.2)
       | inr k ↦
@@ -216,10 +216,10 @@ counted_fits : (t : Lexeme) (m : ℕ) (ts rest : List Lexeme) → counted t m ts
 counted_fits t zero ts rest e = absurd (let q : TooDeep (t ∷ ts) ≡ Unexpected rest = cc in cc)
 counted_fits t (suc m) ts rest e = absurd cc
 
-mark_misses : (k : Terminal) (m : ℕ) (ts rest : List Lexeme) → read (Mark k) m ts ≡ Err (Unexpected rest) → behind (k ∷ []) ts ≡ None
+nesting_misses : (k : Terminal) (m : ℕ) (ts rest : List Lexeme) → read (Nesting k) m ts ≡ Err (Unexpected rest) → behind (k ∷ []) ts ≡ None
 unfolding read
-mark_misses k m [] rest e = refl
-mark_misses k m (t ∷ ts) rest e =
+nesting_misses k m [] rest e = refl
+nesting_misses k m (t ∷ ts) rest e =
     elim (chosen (fits k t) _ _ _ e) [
       | inl c ↦ absurd (counted_fits t m ts rest c.1)
       | inr c ↦ if_false (fits k t || false) (Some ts) None None (or_false (fits k t) c.0) refl
@@ -250,8 +250,8 @@ pub skims_misses : {A : Type 0} (s : Syntax A) → SkimsNone (read s) (skim s)
 unfolding read skim
 skims_misses (Past a) m ts rest e = absurd (let q : TooDeep ts ≡ Unexpected rest = cc in cc)
 skims_misses (Token k) m ts rest e = token_misses k m ts rest e
-skims_misses (Mark k) m ts rest e = mark_misses k m ts rest e
-skims_misses (Whole a) m ts rest e = skims_misses a max_marks ts rest e
+skims_misses (Nesting k) m ts rest e = nesting_misses k m ts rest e
+skims_misses (Whole a) m ts rest e = skims_misses a max_nestings ts rest e
 skims_misses (Known fs ms a) m ts rest e = skims_misses a m ts rest e
 skims_misses (Then a b) m ts rest e =
     elim (bind_err (read a m ts) _ (Unexpected rest) e) [
@@ -276,11 +276,11 @@ skims_misses (Maybe a) m ts rest e =
 skims_misses (Many a) m ts rest e = again_misses (read a) (skim a) (first a) (skims_read a) (skims_misses a) (length ts) m ts rest e
 skims_misses (Fork ks a b c) m ts rest e =
     let then_ = λ (mid : List Lexeme). cond (starts (first b) mid) (skim b mid) (cond (starts (first c) mid) (skim c mid) None) in
-    elim (bind_err (read a max_marks ts) _ (Unexpected rest) e) [
-      | inl g ↦ none_left (skim a ts) then_ (skims_misses a max_marks ts rest g)
+    elim (bind_err (read a max_nestings ts) _ (Unexpected rest) e) [
+      | inl g ↦ none_left (skim a ts) then_ (skims_misses a max_nestings ts rest g)
       | inr q ↦
-          let deep = last_mark ks (length ts - length q.2) q.2 ts in
-          next_none (skim a ts) then_ q.2 (skims_read a max_marks ts q.0 q.1 q.2 q.3)
+          let deep = last_nesting ks (length ts - length q.2) q.2 ts in
+          next_none (skim a ts) then_ q.2 (skims_read a max_nestings ts q.0 q.1 q.2 q.3)
           (elim (bind_err (either_rest (first b) (read b) (first c) (charged deep (read c)) q.1 q.2) _ (Unexpected rest) q.4) [
             | inl g ↦
                 elim (chosen (starts (first b) q.2) _ _ _ g) [

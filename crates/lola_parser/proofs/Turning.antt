@@ -8,7 +8,7 @@ use Rattle.lola_parser_grammar.specs.Grammar as g
 use Rattle.lola_parser_grammar.specs.Grammar.{expr_in, other_in, level, ◌*>◌, ◌<*◌}
 use Rattle.lola_parser.specs.declared.pending.Pending.{Pending}
 use Rattle.lola_parser.specs.declared.pending.Pending.TheVariants as p
-use Rattle.lola_parser.specs.Turns.{Left, ◌>->◌, behind, shape, Turn, and_parts, and_turn, distance, frame, defaults_to, inner, expression_turn, operand_turn, substitute, access, defaults_turn, access_turn, further_turn, signs_turn, token_turn, turned, or_nothing, arguments, over_words}
+use Rattle.lola_parser.specs.Turns.{Left, ◌>->◌, behind, shape, Turn, and_parts, and_turn, distance, frame, defaults_to, inner, expression_turn, operand_turn, substitute, access, defaults_turn, access_turn, further_turn, operators_turn, token_turn, turned, or_nothing, arguments, over_words}
 use Rattle.lola_parser.specs.Skims.{skim}
 use Rattle.lola_parser.specs.Parts.{left_by, left_by_all, after_turn}
 use Rattle.lola_parser.proofs.Skims.{Shortens, same_next, one_turn, shortens, shortens_then, shortens_behind}
@@ -42,22 +42,22 @@ token_right : (n : ℕ) (s : TokenShape) (ts : List Lexeme) → skim (g.token s)
 unfolding skim g.token
 token_right n s ts = sym (after_parts n [] (shape s ts) ∙ next_some (shape s ts))
 
--- ---- signs
+-- ---- operators
 
-product_fine : is_fine g.product_signs ≡ true
-unfolding is_fine first more nullable same_shape g.product_signs g.sign g.mark
+product_fine : is_fine g.product_operators ≡ true
+unfolding is_fine first more nullable same_shape g.product_operators g.operator g.nesting
 product_fine = refl
 
-sum_fine : is_fine g.sum_signs ≡ true
-unfolding is_fine first more nullable same_shape g.sum_signs g.sign g.mark
+sum_fine : is_fine g.sum_operators ≡ true
+unfolding is_fine first more nullable same_shape g.sum_operators g.operator g.nesting
 sum_fine = refl
 
-and_fine : is_fine g.and_signs ≡ true
-unfolding is_fine first more nullable same_shape g.and_signs g.sign g.mark
+and_fine : is_fine g.and_operators ≡ true
+unfolding is_fine first more nullable same_shape g.and_operators g.operator g.nesting
 and_fine = refl
 
-or_fine : is_fine g.or_signs ≡ true
-unfolding is_fine first more nullable same_shape g.or_signs g.sign g.mark
+or_fine : is_fine g.or_operators ≡ true
+unfolding is_fine first more nullable same_shape g.or_operators g.operator g.nesting
 or_fine = refl
 
 over_is : (ts : List Lexeme) → skim g.over ts ≡ behind over_words ts
@@ -79,12 +79,12 @@ module _ (n : ℕ) where
   O = other_in n
 
   expr_at : (s : TokenShape) (w : List ℕ) (a b : ℕ) (ts : List Lexeme) → skim (g.expr_with E O) (lex s w a b ∷ ts) ≡ after_turn n (expression_turn (lex s w a b ∷ ts))
-  unfolding skim first nullable fits same_shape g.expr_with g.conditional g.disjunctions g.conjunctions g.comparisons g.sums g.mark g.token
+  unfolding skim first nullable fits same_shape g.expr_with g.conditional g.disjunctions g.conjunctions g.comparisons g.sums g.nesting g.token
   expr_at is.If w a b ts = simp (next_next, next_some)
   expr_at _ w a b ts = simp (next_next, next_some)
 
   expr_none : skim (g.expr_with E O) [] ≡ after_turn n (expression_turn [])
-  unfolding skim first nullable g.expr_with g.conditional g.disjunctions g.conjunctions g.comparisons g.sums g.mark g.token
+  unfolding skim first nullable g.expr_with g.conditional g.disjunctions g.conjunctions g.comparisons g.sums g.nesting g.token
   expr_none = simp (next_next, next_some)
 
   expr_right : (ts : List Lexeme) → length ts < n → skim (expr_in n) ts ≡ after_turn n (expression_turn ts)
@@ -103,7 +103,7 @@ module _ (n : ℕ) where
   operand_same ts less = ap (λ o. cond (starts (first (g.number E O)) ts) (skim (g.number E O) ts) o) (other_is ts less)
 
   operand_at : (s : TokenShape) (w : List ℕ) (a b : ℕ) (ts : List Lexeme) → length ts < n → skim (g.unary E O) (lex s w a b ∷ ts) ≡ after_turn n (operand_turn (lex s w a b ∷ ts))
-  unfolding skim first nullable fits same_shape g.unary g.number g.other_with g.bracketed g.plain g.negation g.minus g.named g.worded g.word_literal g.negative g.integer g.text g.name g.mark g.token
+  unfolding skim first nullable fits same_shape g.unary g.number g.other_with g.bracketed g.plain g.negation g.minus g.named g.worded g.word_literal g.negative g.integer g.text g.name g.nesting g.token
   operand_at is.Integer w a b ts less = sym (next_some _)
   operand_at is.Open w a b ts less = simp (next_next, next_some)
   operand_at is.Not w a b ts less = operand_same ts less ∙ sym (next_some (skim (g.unary E O) ts))
@@ -115,51 +115,51 @@ module _ (n : ℕ) where
   operand_at _ w a b ts less = refl
 
   operand_right : (ts : List Lexeme) → length ts < n → skim (g.unary E O) ts ≡ after_turn n (operand_turn ts)
-  unfolding skim first nullable g.unary g.number g.other_with g.bracketed g.plain g.negation g.minus g.named g.worded g.word_literal g.negative g.integer g.text g.name g.mark g.token
+  unfolding skim first nullable g.unary g.number g.other_with g.bracketed g.plain g.negation g.minus g.named g.worded g.word_literal g.negative g.integer g.text g.name g.nesting g.token
   operand_right [] less = refl
   operand_right (t ∷ ts) less = operand_at t.shape t.text t.from t.to ts (omega (arith, less))
 
-  -- ---- signs
+  -- ---- operators
 
-  abbrev Times : Syntax ((g.Sign) × Expr)
-  Times = Then g.product_signs (g.unary E O)
+  abbrev Times : Syntax ((g.Operator) × Expr)
+  Times = Then g.product_operators (g.unary E O)
 
   times_short : Shortens (skim Times)
-  times_short = shortens_then g.product_signs (g.unary E O) (shortens g.product_signs product_fine product_full)
+  times_short = shortens_then g.product_operators (g.unary E O) (shortens g.product_operators product_fine product_full)
 
   times_at : (s : TokenShape) (w : List ℕ) (a b : ℕ) (ts : List Lexeme)
-      → cond (starts (first Times) (lex s w a b ∷ ts)) (skim Times (lex s w a b ∷ ts) >-> skim (Many Times)) (Some (lex s w a b ∷ ts)) ≡ after_turn n (signs_turn p.Products (lex s w a b ∷ ts))
-  unfolding skim first nullable fits same_shape g.product_signs g.sign g.mark g.products
+      → cond (starts (first Times) (lex s w a b ∷ ts)) (skim Times (lex s w a b ∷ ts) >-> skim (Many Times)) (Some (lex s w a b ∷ ts)) ≡ after_turn n (operators_turn p.Products (lex s w a b ∷ ts))
+  unfolding skim first nullable fits same_shape g.product_operators g.operator g.nesting g.products
   times_at is.Star w a b ts = simp next_some
   times_at is.Slash w a b ts = simp next_some
   times_at is.Percent w a b ts = simp next_some
   times_at _ w a b ts = refl
 
-  products_right : (ts : List Lexeme) → skim (g.products E O) ts ≡ after_turn n (signs_turn p.Products ts)
+  products_right : (ts : List Lexeme) → skim (g.products E O) ts ≡ after_turn n (operators_turn p.Products ts)
   unfolding skim g.products
   products_right [] = refl
   products_right (t ∷ ts) = one_turn Times times_short (t ∷ ts) ∙ times_at t.shape t.text t.from t.to ts
 
-  abbrev Plus : Syntax ((g.Sign) × Expr)
-  Plus = Then g.sum_signs (g.product E O)
+  abbrev Plus : Syntax ((g.Operator) × Expr)
+  Plus = Then g.sum_operators (g.product E O)
 
   plus_short : Shortens (skim Plus)
-  plus_short = shortens_then g.sum_signs (g.product E O) (shortens g.sum_signs sum_fine sum_full)
+  plus_short = shortens_then g.sum_operators (g.product E O) (shortens g.sum_operators sum_fine sum_full)
 
   plus_at : (s : TokenShape) (w : List ℕ) (a b : ℕ) (ts : List Lexeme)
-      → cond (starts (first Plus) (lex s w a b ∷ ts)) (skim Plus (lex s w a b ∷ ts) >-> skim (Many Plus)) (Some (lex s w a b ∷ ts)) ≡ after_turn n (signs_turn p.Sums (lex s w a b ∷ ts))
-  unfolding skim first nullable fits same_shape g.sum_signs g.sign g.mark g.product
+      → cond (starts (first Plus) (lex s w a b ∷ ts)) (skim Plus (lex s w a b ∷ ts) >-> skim (Many Plus)) (Some (lex s w a b ∷ ts)) ≡ after_turn n (operators_turn p.Sums (lex s w a b ∷ ts))
+  unfolding skim first nullable fits same_shape g.sum_operators g.operator g.nesting g.product
   plus_at is.Plus w a b ts = simp (next_next, next_some)
   plus_at is.Minus w a b ts = simp (next_next, next_some)
   plus_at _ w a b ts = refl
 
-  sums_right : (ts : List Lexeme) → left_by n p.Sums ts ≡ after_turn n (signs_turn p.Sums ts)
+  sums_right : (ts : List Lexeme) → left_by n p.Sums ts ≡ after_turn n (operators_turn p.Sums ts)
   unfolding skim
   sums_right [] = refl
   sums_right (t ∷ ts) = one_turn Plus plus_short (t ∷ ts) ∙ plus_at t.shape t.text t.from t.to ts
 
-  comparison_at : (s : TokenShape) (w : List ℕ) (a b : ℕ) (ts : List Lexeme) → left_by n p.Comparison (lex s w a b ∷ ts) ≡ after_turn n (signs_turn p.Comparison (lex s w a b ∷ ts))
-  unfolding skim first nullable fits same_shape g.comparison_signs g.sign g.mark g.sum g.sums
+  comparison_at : (s : TokenShape) (w : List ℕ) (a b : ℕ) (ts : List Lexeme) → left_by n p.Comparison (lex s w a b ∷ ts) ≡ after_turn n (operators_turn p.Comparison (lex s w a b ∷ ts))
+  unfolding skim first nullable fits same_shape g.comparison_operators g.operator g.nesting g.sum g.sums
   comparison_at is.Equal w a b ts = simp (next_next, next_some)
   comparison_at is.Unequal w a b ts = simp (next_next, next_some)
   comparison_at is.Less w a b ts = simp (next_next, next_some)
@@ -168,49 +168,49 @@ module _ (n : ℕ) where
   comparison_at is.GreaterEqual w a b ts = simp (next_next, next_some)
   comparison_at _ w a b ts = refl
 
-  comparison_right : (ts : List Lexeme) → left_by n p.Comparison ts ≡ after_turn n (signs_turn p.Comparison ts)
+  comparison_right : (ts : List Lexeme) → left_by n p.Comparison ts ≡ after_turn n (operators_turn p.Comparison ts)
   unfolding skim
   comparison_right [] = refl
   comparison_right (t ∷ ts) = comparison_at t.shape t.text t.from t.to ts
 
-  abbrev And : Syntax ((g.Sign) × Expr)
-  And = Then g.and_signs (g.comparison E O)
+  abbrev And : Syntax ((g.Operator) × Expr)
+  And = Then g.and_operators (g.comparison E O)
 
   and_short : Shortens (skim And)
-  and_short = shortens_then g.and_signs (g.comparison E O) (shortens g.and_signs and_fine and_full)
+  and_short = shortens_then g.and_operators (g.comparison E O) (shortens g.and_operators and_fine and_full)
 
-  comparison_is : (ts : List Lexeme) → skim (g.comparison E O) ts ≡ (skim (g.unary E O) ts >-> λ r. (skim (g.products E O) r >-> λ r. (skim (g.joined g.sum_signs (g.product E O)) r >-> skim (g.joined_once g.comparison_signs (g.sum E O)))))
+  comparison_is : (ts : List Lexeme) → skim (g.comparison E O) ts ≡ (skim (g.unary E O) ts >-> λ r. (skim (g.products E O) r >-> λ r. (skim (g.joined g.sum_operators (g.product E O)) r >-> skim (g.joined_once g.comparison_operators (g.sum E O)))))
   unfolding skim g.comparison g.comparisons g.sums
   comparison_is ts = simp next_next
 
   and_at : (s : TokenShape) (w : List ℕ) (a b : ℕ) (ts : List Lexeme)
-      → cond (starts (first And) (lex s w a b ∷ ts)) (skim And (lex s w a b ∷ ts) >-> skim (Many And)) (Some (lex s w a b ∷ ts)) ≡ after_turn n (signs_turn p.Conjunctions (lex s w a b ∷ ts))
-  unfolding skim first nullable fits same_shape g.and_signs g.sign g.mark
+      → cond (starts (first And) (lex s w a b ∷ ts)) (skim And (lex s w a b ∷ ts) >-> skim (Many And)) (Some (lex s w a b ∷ ts)) ≡ after_turn n (operators_turn p.Conjunctions (lex s w a b ∷ ts))
+  unfolding skim first nullable fits same_shape g.and_operators g.operator g.nesting
   and_at is.And w a b ts = ap (λ o. o >-> skim (Many And)) (comparison_is ts) ∙ simp (next_next, next_some)
   and_at _ w a b ts = refl
 
-  conjunctions_right : (ts : List Lexeme) → left_by n p.Conjunctions ts ≡ after_turn n (signs_turn p.Conjunctions ts)
+  conjunctions_right : (ts : List Lexeme) → left_by n p.Conjunctions ts ≡ after_turn n (operators_turn p.Conjunctions ts)
   unfolding skim
   conjunctions_right [] = refl
   conjunctions_right (t ∷ ts) = one_turn And and_short (t ∷ ts) ∙ and_at t.shape t.text t.from t.to ts
 
-  abbrev Or : Syntax ((g.Sign) × Expr)
-  Or = Then g.or_signs (g.conjunction E O)
+  abbrev Or : Syntax ((g.Operator) × Expr)
+  Or = Then g.or_operators (g.conjunction E O)
 
   or_short : Shortens (skim Or)
-  or_short = shortens_then g.or_signs (g.conjunction E O) (shortens g.or_signs or_fine or_full)
+  or_short = shortens_then g.or_operators (g.conjunction E O) (shortens g.or_operators or_fine or_full)
 
-  conjunction_is : (ts : List Lexeme) → skim (g.conjunction E O) ts ≡ (skim (g.unary E O) ts >-> λ r. (skim (g.products E O) r >-> λ r. (skim (g.joined g.sum_signs (g.product E O)) r >-> λ r. (skim (g.joined_once g.comparison_signs (g.sum E O)) r >-> skim (g.joined g.and_signs (g.comparison E O))))))
+  conjunction_is : (ts : List Lexeme) → skim (g.conjunction E O) ts ≡ (skim (g.unary E O) ts >-> λ r. (skim (g.products E O) r >-> λ r. (skim (g.joined g.sum_operators (g.product E O)) r >-> λ r. (skim (g.joined_once g.comparison_operators (g.sum E O)) r >-> skim (g.joined g.and_operators (g.comparison E O))))))
   unfolding skim g.conjunction g.conjunctions g.comparisons g.sums
   conjunction_is ts = simp next_next
 
   or_at : (s : TokenShape) (w : List ℕ) (a b : ℕ) (ts : List Lexeme)
-      → cond (starts (first Or) (lex s w a b ∷ ts)) (skim Or (lex s w a b ∷ ts) >-> skim (Many Or)) (Some (lex s w a b ∷ ts)) ≡ after_turn n (signs_turn p.Disjunctions (lex s w a b ∷ ts))
-  unfolding skim first nullable fits same_shape g.or_signs g.sign g.mark
+      → cond (starts (first Or) (lex s w a b ∷ ts)) (skim Or (lex s w a b ∷ ts) >-> skim (Many Or)) (Some (lex s w a b ∷ ts)) ≡ after_turn n (operators_turn p.Disjunctions (lex s w a b ∷ ts))
+  unfolding skim first nullable fits same_shape g.or_operators g.operator g.nesting
   or_at is.Or w a b ts = ap (λ o. o >-> skim (Many Or)) (conjunction_is ts) ∙ simp (next_next, next_some)
   or_at _ w a b ts = refl
 
-  disjunctions_right : (ts : List Lexeme) → left_by n p.Disjunctions ts ≡ after_turn n (signs_turn p.Disjunctions ts)
+  disjunctions_right : (ts : List Lexeme) → left_by n p.Disjunctions ts ≡ after_turn n (operators_turn p.Disjunctions ts)
   unfolding skim
   disjunctions_right [] = refl
   disjunctions_right (t ∷ ts) = one_turn Or or_short (t ∷ ts) ∙ or_at t.shape t.text t.from t.to ts
@@ -224,18 +224,18 @@ module _ (n : ℕ) where
   inner_is r = simp next_some
 
   default_is : (ts : List Lexeme) → (skim (g.default E O) ts >-> skim (g.defaults E O)) ≡ after_turn n (and_parts inner (defaults_to ts))
-  unfolding skim g.default g.word g.mark g.token
+  unfolding skim g.default g.word g.nesting g.token
   default_is ts =
       let e : (skim (g.default E O) ts >-> skim (g.defaults E O)) ≡ (defaults_to ts >-> inside) = simp next_next in
       e ∙ same_next (defaults_to ts) inside (left_by_all n inner) (λ r h. inner_is r) ∙ sym (after_parts n inner (defaults_to ts))
 
   dot_short : Shortens (skim (g.dotted_default E O))
-  unfolding skim g.dotted_default g.mark
-  dot_short = shortens_then (g.mark is.Dot) (g.default E O) (λ ts rest h. shortens_behind (Of is.Dot ∷ []) ts rest h)
+  unfolding skim g.dotted_default g.nesting
+  dot_short = shortens_then (g.nesting is.Dot) (g.default E O) (λ ts rest h. shortens_behind (Of is.Dot ∷ []) ts rest h)
 
   defaults_at : (s : TokenShape) (w : List ℕ) (a b : ℕ) (ts : List Lexeme)
       → cond (starts (first (g.dotted_default E O)) (lex s w a b ∷ ts)) (skim (g.dotted_default E O) (lex s w a b ∷ ts) >-> skim (Many (g.dotted_default E O))) (Some (lex s w a b ∷ ts)) ≡ after_turn n (defaults_turn (lex s w a b ∷ ts))
-  unfolding skim first nullable fits same_shape g.dotted_default g.mark g.defaults
+  unfolding skim first nullable fits same_shape g.dotted_default g.nesting g.defaults
   defaults_at is.Dot w a b ts = default_is ts
   defaults_at _ w a b ts = refl
 
@@ -245,7 +245,7 @@ module _ (n : ℕ) where
   defaults_right (t ∷ ts) = one_turn (g.dotted_default E O) dot_short (t ∷ ts) ∙ defaults_at t.shape t.text t.from t.to ts
 
   arguments_at : (s : TokenShape) (w : List ℕ) (a b : ℕ) (ts : List Lexeme) → left_by n p.Arguments (lex s w a b ∷ ts) ≡ after_turn n (or_nothing (Of is.Open ∷ []) arguments (lex s w a b ∷ ts))
-  unfolding skim first nullable fits same_shape g.arguments g.mark g.token
+  unfolding skim first nullable fits same_shape g.arguments g.nesting g.token
   arguments_at is.Open w a b ts = simp (next_next, next_some)
   arguments_at _ w a b ts = refl
 
@@ -273,16 +273,16 @@ module _ (n : ℕ) where
   -- ---- accesses
 
   module _ (ts : List Lexeme) where
-    distance_is : (skim (g.mark is.Open *> g.word (codes "by") *> g.token is.Colon *> g.mark is.Minus *> g.integer <* g.token is.Shut) ts >-> skim (g.defaults E O)) ≡ after_turn n (and_parts (p.Defaults ∷ []) (distance ts))
-    unfolding skim g.mark g.word g.token g.integer
+    distance_is : (skim (g.nesting is.Open *> g.word (codes "by") *> g.token is.Colon *> g.nesting is.Minus *> g.integer <* g.token is.Shut) ts >-> skim (g.defaults E O)) ≡ after_turn n (and_parts (p.Defaults ∷ []) (distance ts))
+    unfolding skim g.nesting g.word g.token g.integer
     distance_is =
-        let e : (skim (g.mark is.Open *> g.word (codes "by") *> g.token is.Colon *> g.mark is.Minus *> g.integer <* g.token is.Shut) ts >-> skim (g.defaults E O)) ≡ (distance ts >-> skim (g.defaults E O)) = simp next_next in
+        let e : (skim (g.nesting is.Open *> g.word (codes "by") *> g.token is.Colon *> g.nesting is.Minus *> g.integer <* g.token is.Shut) ts >-> skim (g.defaults E O)) ≡ (distance ts >-> skim (g.defaults E O)) = simp next_next in
         e ∙ same_next (distance ts) (skim (g.defaults E O)) (left_by_all n (p.Defaults ∷ [])) (λ r h. sym (next_some (skim (g.defaults E O) r))) ∙ sym (after_parts n (p.Defaults ∷ []) (distance ts))
 
-    frame_is : (skim (g.mark is.Open *> Then g.over (Then (g.token is.Colon *> g.quantity) (g.token is.Comma *> g.word (codes "using") *> g.token is.Colon *> g.name)) <* g.token is.Shut) ts >-> skim (g.defaults E O)) ≡ after_turn n (and_parts (p.Defaults ∷ []) (frame ts))
-    unfolding skim g.mark g.word g.token g.quantity g.name
+    frame_is : (skim (g.nesting is.Open *> Then g.over (Then (g.token is.Colon *> g.quantity) (g.token is.Comma *> g.word (codes "using") *> g.token is.Colon *> g.name)) <* g.token is.Shut) ts >-> skim (g.defaults E O)) ≡ after_turn n (and_parts (p.Defaults ∷ []) (frame ts))
+    unfolding skim g.nesting g.word g.token g.quantity g.name
     frame_is =
-        let e : (skim (g.mark is.Open *> Then g.over (Then (g.token is.Colon *> g.quantity) (g.token is.Comma *> g.word (codes "using") *> g.token is.Colon *> g.name)) <* g.token is.Shut) ts >-> skim (g.defaults E O)) ≡ (frame ts >-> skim (g.defaults E O)) = simp (over_is, next_next) in
+        let e : (skim (g.nesting is.Open *> Then g.over (Then (g.token is.Colon *> g.quantity) (g.token is.Comma *> g.word (codes "using") *> g.token is.Colon *> g.name)) <* g.token is.Shut) ts >-> skim (g.defaults E O)) ≡ (frame ts >-> skim (g.defaults E O)) = simp (over_is, next_next) in
         e ∙ same_next (frame ts) (skim (g.defaults E O)) (left_by_all n (p.Defaults ∷ [])) (λ r h. sym (next_some (skim (g.defaults E O) r))) ∙ sym (after_parts n (p.Defaults ∷ []) (frame ts))
 
     colon_is : ((skim (g.token is.Colon *> E) ts >-> skim (g.token is.Shut)) >-> skim (g.defaults E O)) ≡ after_turn n (and_parts inner (shape is.Colon ts))
@@ -302,7 +302,7 @@ module _ (n : ℕ) where
         by false h = rw h (simp next_some)
 
     held_is : (skim (g.stand_in E O) ts >-> skim (g.defaults E O)) ≡ after_turn n (and_turn (shape is.Open ts) substitute)
-    unfolding skim g.stand_in g.mark
+    unfolding skim g.stand_in g.nesting
     held_is =
         next_next (shape is.Open ts) (λ r. skim (Maybe (g.word (codes "or") *> g.token is.Colon *> E) <* g.token is.Shut) r) (skim (g.defaults E O))
         ∙ same_next (shape is.Open ts) _ (λ r. after_turn n (substitute r)) (λ r h. or_is r)
@@ -337,7 +337,7 @@ module _ (n : ℕ) where
       by_offset false h = by_hold (fits (Word (codes "hold")) t) h refl
 
   access_at : (s : TokenShape) (w : List ℕ) (a b : ℕ) (ts : List Lexeme) → left_by n p.Access (lex s w a b ∷ ts) ≡ after_turn n (access_turn (lex s w a b ∷ ts))
-  unfolding skim first nullable fits same_shape g.suffix g.dotted g.mark
+  unfolding skim first nullable fits same_shape g.suffix g.dotted g.nesting
   access_at is.Dot w a b ts = reading_right ts
   access_at _ w a b ts = refl
 

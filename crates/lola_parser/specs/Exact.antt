@@ -7,15 +7,15 @@ use Rattle.lola_parser_tree.specs.declared.declarations.Declaration.{Declaration
 use Rattle.lola_parser_grammars_law.specs.Syntax.{Lexeme}
 use Rattle.lola_parser_limit_law.specs.Late.{IsDeepPlace}
 use Rattle.lola_parser_limit_law.specs.Fronts.{IsLongestFront}
-use Rattle.lola_parser_grammar.specs.Grammar.{all_marks, specification}
+use Rattle.lola_parser_grammar.specs.Grammar.{all_nestings, specification}
 use Rattle.lola_parser_grammar.specs.Whole.{most_levels}
 use Rattle.lola_parser.specs.Law.{IsBehind}
 
--- The place is that of the first mark that is one too many in every specification that begins with the tokens before the first
--- one that does not fit, unless before the mark at which reading ended a spawn clause's bracket has as many marks as may come.
+-- The place is that of the first nesting that is one too many in every specification that begins with the tokens before the first
+-- one that does not fit, unless before the nesting at which reading ended a spawn clause's bracket has as many nestings as may come.
 abbrev pub IsExactAt : List Lexeme → ℕ → Type 0
 IsExactAt ts at = (n : ℕ) → most_levels ≤ n → (p rest : List Lexeme) → IsLongestFront (specification n) ts p rest
-    → (u : List Lexeme) × (t : Lexeme) × (w : List Lexeme) × (p ≡ u ++ t ∷ w) × ((IsBehind u → ⊥) → (at ≡ t.from) × IsDeepPlace all_marks (specification n) u t w)
+    → (u : List Lexeme) × (t : Lexeme) × (w : List Lexeme) × (p ≡ u ++ t ∷ w) × ((IsBehind u → ⊥) → (at ≡ t.from) × IsDeepPlace all_nestings (specification n) u t w)
 
 -- a refusal as too deep stands there
 abbrev pub PlacesExactly : List Lexeme → Result (List Declaration) FrontEnd → Type 0

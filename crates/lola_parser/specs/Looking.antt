@@ -6,25 +6,25 @@ use Rattle.lola_lexer.specs.declared.token.Token.{Token}
 use Rattle.lola_parser_grammars_law.specs.Syntax.{same_shape}
 
 -- the tokens that are counted in an expression or formula
-unfoldable pub is_mark_shape : TokenShape → Bool
-is_mark_shape is.Open = true
-is_mark_shape is.Dot = true
-is_mark_shape is.If = true
-is_mark_shape is.Not = true
-is_mark_shape is.Minus = true
-is_mark_shape is.Plus = true
-is_mark_shape is.Star = true
-is_mark_shape is.Slash = true
-is_mark_shape is.Percent = true
-is_mark_shape is.And = true
-is_mark_shape is.Or = true
-is_mark_shape is.Equal = true
-is_mark_shape is.Unequal = true
-is_mark_shape is.Less = true
-is_mark_shape is.LessEqual = true
-is_mark_shape is.Greater = true
-is_mark_shape is.GreaterEqual = true
-is_mark_shape _ = false
+unfoldable pub is_nesting_shape : TokenShape → Bool
+is_nesting_shape is.Open = true
+is_nesting_shape is.Dot = true
+is_nesting_shape is.If = true
+is_nesting_shape is.Not = true
+is_nesting_shape is.Minus = true
+is_nesting_shape is.Plus = true
+is_nesting_shape is.Star = true
+is_nesting_shape is.Slash = true
+is_nesting_shape is.Percent = true
+is_nesting_shape is.And = true
+is_nesting_shape is.Or = true
+is_nesting_shape is.Equal = true
+is_nesting_shape is.Unequal = true
+is_nesting_shape is.Less = true
+is_nesting_shape is.LessEqual = true
+is_nesting_shape is.Greater = true
+is_nesting_shape is.GreaterEqual = true
+is_nesting_shape _ = false
 
 abbrev pub is_either : TokenShape → TokenShape → TokenShape → Bool
 is_either a b s = same_shape a s || same_shape b s
@@ -39,7 +39,7 @@ abbrev pub one_if : Bool → ℕ
 one_if true = 1
 one_if false = 0
 
--- how many of the tokens are marks
-abbrev pub marks_among : List Token → ℕ
-marks_among [] = 0
-marks_among (t ∷ ts) = one_if (is_mark_shape t.shape) + marks_among ts
+-- how many of the tokens are nestings
+abbrev pub nestings_among : List Token → ℕ
+nestings_among [] = 0
+nestings_among (t ∷ ts) = one_if (is_nesting_shape t.shape) + nestings_among ts

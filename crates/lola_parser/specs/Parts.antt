@@ -1,8 +1,8 @@
--- What the parts that are still to be read leave of a text, where no mark is counted.
+-- What the parts that are still to be read leave of a text, where no nesting is counted.
 use Rattle.std.specs.Prelude.{◌≡◌, ◌<◌, ℕ, Bool, true, false, List, [], ◌∷◌, length, Some, None}
 use Rattle.lola_lexer.specs.declared.shape.TokenShape.TheVariants as is
 use Rattle.lola_parser_grammars_law.specs.Syntax.{Lexeme, Then, Maybe, Many}
-use Rattle.lola_parser_grammar.specs.Grammar.{expr_in, other_in, token, unary, products, joined, joined_once, sum_signs, product, comparison_signs, sum, and_signs, comparison, or_signs, conjunction, defaults, arguments, further, suffix}
+use Rattle.lola_parser_grammar.specs.Grammar.{expr_in, other_in, token, unary, products, joined, joined_once, sum_operators, product, comparison_operators, sum, and_operators, comparison, or_operators, conjunction, defaults, arguments, further, suffix}
 use Rattle.lola_parser.specs.declared.pending.Pending.{Pending}
 use Rattle.lola_parser.specs.declared.pending.Pending.TheVariants as p
 use Rattle.lola_parser.specs.Turns.{Left, ◌>->◌, Turn}
@@ -13,10 +13,10 @@ abbrev pub left_by : ℕ → Pending → List Lexeme → Left
 left_by n p.Expr ts = skim (expr_in n) ts
 left_by n p.Operand ts = skim (unary (expr_in n) (other_in n)) ts
 left_by n p.Products ts = skim (products (expr_in n) (other_in n)) ts
-left_by n p.Sums ts = skim (joined sum_signs (product (expr_in n) (other_in n))) ts
-left_by n p.Comparison ts = skim (joined_once comparison_signs (sum (expr_in n) (other_in n))) ts
-left_by n p.Conjunctions ts = skim (joined and_signs (comparison (expr_in n) (other_in n))) ts
-left_by n p.Disjunctions ts = skim (joined or_signs (conjunction (expr_in n) (other_in n))) ts
+left_by n p.Sums ts = skim (joined sum_operators (product (expr_in n) (other_in n))) ts
+left_by n p.Comparison ts = skim (joined_once comparison_operators (sum (expr_in n) (other_in n))) ts
+left_by n p.Conjunctions ts = skim (joined and_operators (comparison (expr_in n) (other_in n))) ts
+left_by n p.Disjunctions ts = skim (joined or_operators (conjunction (expr_in n) (other_in n))) ts
 left_by n p.Defaults ts = skim (defaults (expr_in n) (other_in n)) ts
 left_by n p.Arguments ts = skim (Maybe (arguments (expr_in n) (other_in n))) ts
 left_by n p.FurtherArguments ts = skim (Then (Many (further (expr_in n))) (token is.Shut)) ts

@@ -1,15 +1,15 @@
--- Where a refusal as too deep stands, by the tokens before the mark at which reading ended and those from it on.
+-- Where a refusal as too deep stands, by the tokens before the nesting at which reading ended and those from it on.
 use Rattle.std.specs.Prelude.{◌≡◌, ℕ, suc, Bool, true, false, ◌&&◌, nat_eq, nat_lt, if◌then◌else◌, List, [], ◌∷◌, ◌++◌, length, Option, Some, None, ◌⊎◌, Result, Ok, Err}
 use Rattle.lola_lexer.specs.declared.shape.TokenShape.TheVariants as is
 use Rattle.lola_value.specs.declared.front.Code.TheVariants as code
 use Rattle.lola_value.specs.declared.front.FrontEnd.{FrontEnd}
 use Rattle.lola_value.specs.declared.front.FrontEnd.TheVariants as front_end
 use Rattle.lola_parser_tree.specs.declared.declarations.Declaration.{Declaration}
-use Rattle.lola_parser_grammars_law.specs.Syntax.{Lexeme, Terminal, Of, any_fits, fits, starts, max_marks, Spells, read_all}
+use Rattle.lola_parser_grammars_law.specs.Syntax.{Lexeme, Terminal, Of, any_fits, fits, starts, max_nestings, Spells, read_all}
 use Rattle.lola_parser_grammars_law.specs.Syntax as reading
-use Rattle.lola_parser_grammars_law.specs.Marks.{marks_in}
+use Rattle.lola_parser_grammars_law.specs.Nestings.{nestings_in}
 use Rattle.lola_parser_grammar.specs.Cursor.{place_of}
-use Rattle.lola_parser_grammar.specs.Grammar.{expr_in, all_marks, specification}
+use Rattle.lola_parser_grammar.specs.Grammar.{expr_in, all_nestings, specification}
 use Rattle.lola_parser_grammar.specs.Whole.{most_levels, IsMisfitAt}
 use Rattle.lola_parser.specs.Turns.{Left, shape}
 use Rattle.lola_parser.specs.Skims.{skim}
@@ -53,24 +53,24 @@ ends_within k (Some rest) = nat_lt (length rest) k && starts (Of is.Shut ∷ [])
 abbrev pub is_enclosed : List Lexeme → List Lexeme → Bool
 is_enclosed head d = ends_within (length d) (skim (expr_in (suc (length (head ++ d)))) (head ++ d))
 
-abbrev pub mark_or : Cut → ℕ → ℕ
-mark_or None at = at
-mark_or (Some c) at = c.1.from
+abbrev pub nesting_or : Cut → ℕ → ℕ
+nesting_or None at = at
+nesting_or (Some c) at = c.1.from
 
--- where exactly as many marks as may come stand between the bracket and the mark, the bracket makes the mark before it the one too many
+-- where exactly as many nestings as may come stand between the bracket and the nesting, the bracket makes the nesting before it the one too many
 abbrev pub place_behind : Left → List Lexeme → List Lexeme → ℕ → ℕ
 place_behind None u d at = at
-place_behind (Some head) u d at = if nat_eq (marks_in all_marks head) max_marks && is_enclosed head d then mark_or (cut_last all_marks u) at else at
+place_behind (Some head) u d at = if nat_eq (nestings_in all_nestings head) max_nestings && is_enclosed head d then nesting_or (cut_last all_nestings u) at else at
 
--- the place of the mark too many, where reading ended between u and d, at this place
+-- the place of the nesting too many, where reading ended between u and d, at this place
 abbrev pub place_too_deep : List Lexeme → List Lexeme → ℕ → ℕ
 place_too_deep u d at = place_behind (behind_bracket u) u d at
 
--- the place is that of the mark too many
+-- the place is that of the nesting too many
 abbrev pub IsPlacedAt : List Lexeme → ℕ → Type 0
 IsPlacedAt ts at = (u : List Lexeme) × (t : Lexeme) × (w : List Lexeme) × (ts ≡ u ++ t ∷ w) × (read_all (specification most_levels) ts ≡ Err (reading.TooDeep (t ∷ w))) × (at ≡ place_too_deep u (t ∷ w) t.from)
 
--- What is returned is what the grammar's reading gives, unless memory ran out; what it refuses as too deep, at the mark too many.
+-- What is returned is what the grammar's reading gives, unless memory ran out; what it refuses as too deep, at the nesting too many.
 abbrev pub Answers : List Lexeme → ℕ → Result (List Declaration) FrontEnd → Type 0
 Answers ts end (Ok v) = read_all (specification most_levels) ts ≡ Ok v
 Answers ts end (Err front_end.Memory) = Unit {0}

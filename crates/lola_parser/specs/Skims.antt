@@ -1,6 +1,6 @@
--- What a part of the grammar leaves of a text, where no mark is counted and no value is kept.
+-- What a part of the grammar leaves of a text, where no nesting is counted and no value is kept.
 use Rattle.std.specs.Prelude.{ℕ, zero, suc, if◌then◌else◌, List, [], ◌∷◌, length, Some, None}
-use Rattle.lola_parser_grammars_law.specs.Syntax.{Lexeme, Terminal, Syntax, Past, Token, Mark, Whole, Known, Then, Map, Either, Maybe, Many, Fork, starts, first}
+use Rattle.lola_parser_grammars_law.specs.Syntax.{Lexeme, Terminal, Syntax, Past, Token, Nesting, Whole, Known, Then, Map, Either, Maybe, Many, Fork, starts, first}
 use Rattle.lola_parser.specs.Turns.{Left, ◌>->◌, behind}
 
 -- as often as it begins, which is no more often than there are tokens
@@ -12,7 +12,7 @@ again f ks (suc n) ts = if starts ks ts then (f ts >-> again f ks n) else Some t
 unfoldable pub skim : {A : Type 0} → Syntax A → List Lexeme → Left
 skim (Past a) ts = skim a ts
 skim (Token k) ts = behind (k ∷ []) ts
-skim (Mark k) ts = behind (k ∷ []) ts
+skim (Nesting k) ts = behind (k ∷ []) ts
 skim (Whole a) ts = skim a ts
 skim (Known fs ms a) ts = skim a ts
 skim (Then a b) ts = skim a ts >-> skim b

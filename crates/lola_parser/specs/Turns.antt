@@ -89,20 +89,20 @@ conjunction = p.Operand ∷ p.Products ∷ p.Sums ∷ p.Comparison ∷ p.Conjunc
 abbrev pub disjunction : List Pending
 disjunction = p.Operand ∷ p.Products ∷ p.Sums ∷ p.Comparison ∷ p.Conjunctions ∷ p.Disjunctions ∷ []
 
-abbrev pub prefix_signs : List Terminal
-prefix_signs = Of is.Not ∷ Of is.Minus ∷ []
+abbrev pub prefix_operators : List Terminal
+prefix_operators = Of is.Not ∷ Of is.Minus ∷ []
 
 abbrev pub literals : List Terminal
 literals = Of is.Integer ∷ Of is.True ∷ Of is.False ∷ Of is.Text ∷ []
 
-abbrev pub product_marks : List Terminal
-product_marks = Of is.Star ∷ Of is.Slash ∷ Of is.Percent ∷ []
+abbrev pub product_nestings : List Terminal
+product_nestings = Of is.Star ∷ Of is.Slash ∷ Of is.Percent ∷ []
 
-abbrev pub sum_marks : List Terminal
-sum_marks = Of is.Plus ∷ Of is.Minus ∷ []
+abbrev pub sum_nestings : List Terminal
+sum_nestings = Of is.Plus ∷ Of is.Minus ∷ []
 
-abbrev pub comparison_marks : List Terminal
-comparison_marks = Of is.Equal ∷ Of is.Unequal ∷ Of is.Less ∷ Of is.LessEqual ∷ Of is.Greater ∷ Of is.GreaterEqual ∷ []
+abbrev pub comparison_nestings : List Terminal
+comparison_nestings = Of is.Equal ∷ Of is.Unequal ∷ Of is.Less ∷ Of is.LessEqual ∷ Of is.Greater ∷ Of is.GreaterEqual ∷ []
 
 abbrev pub conditional : List Pending
 conditional = p.Expr ∷ p.Then ∷ p.Expr ∷ p.Else ∷ p.Expr ∷ []
@@ -112,7 +112,7 @@ expression_turn ts = if_next (Of is.If ∷ []) conditional (Some (disjunction, t
 
 abbrev pub operand_turn : List Lexeme → Turn
 operand_turn ts =
-    if_next prefix_signs (p.Operand ∷ []) (if_next (Of is.Open ∷ []) inner (if_next (Of is.Name ∷ []) (p.Arguments ∷ p.Access ∷ [])
+    if_next prefix_operators (p.Operand ∷ []) (if_next (Of is.Open ∷ []) inner (if_next (Of is.Name ∷ []) (p.Arguments ∷ p.Access ∷ [])
     (if_next literals (p.Defaults ∷ []) None ts) ts) ts) ts
 
 -- behind `hold`, `get` or `last` and an opening bracket
@@ -146,14 +146,14 @@ arguments = p.Expr ∷ p.FurtherArguments ∷ []
 abbrev pub further_turn : List Lexeme → Turn
 further_turn ts = if_next (Of is.Comma ∷ []) arguments (and_parts [] (shape is.Shut ts)) ts
 
--- signs with what they join, or nothing
-abbrev pub signs_turn : Pending → List Lexeme → Turn
-signs_turn p.Products ts = or_nothing product_marks product ts
-signs_turn p.Sums ts = or_nothing sum_marks sum ts
-signs_turn p.Comparison ts = or_nothing comparison_marks sum ts
-signs_turn p.Conjunctions ts = or_nothing (Of is.And ∷ []) conjunction ts
-signs_turn p.Disjunctions ts = or_nothing (Of is.Or ∷ []) disjunction ts
-signs_turn _ ts = None
+-- operators with what they join, or nothing
+abbrev pub operators_turn : Pending → List Lexeme → Turn
+operators_turn p.Products ts = or_nothing product_nestings product ts
+operators_turn p.Sums ts = or_nothing sum_nestings sum ts
+operators_turn p.Comparison ts = or_nothing comparison_nestings sum ts
+operators_turn p.Conjunctions ts = or_nothing (Of is.And ∷ []) conjunction ts
+operators_turn p.Disjunctions ts = or_nothing (Of is.Or ∷ []) disjunction ts
+operators_turn _ ts = None
 
 abbrev pub token_turn : TokenShape → List Lexeme → Turn
 token_turn s ts = and_parts [] (shape s ts)
@@ -161,11 +161,11 @@ token_turn s ts = and_parts [] (shape s ts)
 abbrev pub turned : Pending → List Lexeme → Turn
 turned p.Expr ts = expression_turn ts
 turned p.Operand ts = operand_turn ts
-turned p.Products ts = signs_turn p.Products ts
-turned p.Sums ts = signs_turn p.Sums ts
-turned p.Comparison ts = signs_turn p.Comparison ts
-turned p.Conjunctions ts = signs_turn p.Conjunctions ts
-turned p.Disjunctions ts = signs_turn p.Disjunctions ts
+turned p.Products ts = operators_turn p.Products ts
+turned p.Sums ts = operators_turn p.Sums ts
+turned p.Comparison ts = operators_turn p.Comparison ts
+turned p.Conjunctions ts = operators_turn p.Conjunctions ts
+turned p.Disjunctions ts = operators_turn p.Disjunctions ts
 turned p.Defaults ts = defaults_turn ts
 turned p.Arguments ts = or_nothing (Of is.Open ∷ []) arguments ts
 turned p.FurtherArguments ts = further_turn ts

@@ -1,4 +1,4 @@
-//! Recognizes an expression, however many marks it has and however deep it is nested. No tree is built: what is still to
+//! Recognizes an expression, however many nestings it has and however deep it is nested. No tree is built: what is still to
 //! be read stands in a list, so that nothing recurses.
 
 ghost use Rattle.std.specs.Prelude.{◌≡◌, [], drop, if◌then◌else◌, MatchOption, IfOk};
@@ -14,8 +14,8 @@ use lola_value::text::Memory;
 use std::alloc::Global;
 
 #[tactic(auto, using(lola_parser_cursor::proofs::Starts::starts_more))]
-fn sees_product_sign(cursor: &Cursor<'_>) -> bool
-    ensures { result ≡ starts turns.product_marks cursor.now }
+fn sees_product_operator(cursor: &Cursor<'_>) -> bool
+    ensures { result ≡ starts turns.product_nestings cursor.now }
 {
     cursor.sees(TokenShape::Star)
         || cursor.sees(TokenShape::Slash)
@@ -23,15 +23,15 @@ fn sees_product_sign(cursor: &Cursor<'_>) -> bool
 }
 
 #[tactic(auto, using(lola_parser_cursor::proofs::Starts::starts_more))]
-fn sees_sum_sign(cursor: &Cursor<'_>) -> bool
-    ensures { result ≡ starts turns.sum_marks cursor.now }
+fn sees_sum_operator(cursor: &Cursor<'_>) -> bool
+    ensures { result ≡ starts turns.sum_nestings cursor.now }
 {
     cursor.sees(TokenShape::Plus) || cursor.sees(TokenShape::Minus)
 }
 
 #[tactic(auto, using(lola_parser_cursor::proofs::Starts::starts_more))]
-fn sees_comparison_sign(cursor: &Cursor<'_>) -> bool
-    ensures { result ≡ starts turns.comparison_marks cursor.now }
+fn sees_comparison_operator(cursor: &Cursor<'_>) -> bool
+    ensures { result ≡ starts turns.comparison_nestings cursor.now }
 {
     cursor.sees(TokenShape::Equal)
         || cursor.sees(TokenShape::Unequal)
@@ -42,8 +42,8 @@ fn sees_comparison_sign(cursor: &Cursor<'_>) -> bool
 }
 
 #[tactic(auto, using(lola_parser_cursor::proofs::Starts::starts_more))]
-fn sees_prefix_sign(cursor: &Cursor<'_>) -> bool
-    ensures { result ≡ starts turns.prefix_signs cursor.now }
+fn sees_prefix_operator(cursor: &Cursor<'_>) -> bool
+    ensures { result ≡ starts turns.prefix_operators cursor.now }
 {
     cursor.sees(TokenShape::Not) || cursor.sees(TokenShape::Minus)
 }
@@ -164,7 +164,7 @@ fn access(cursor: &mut Cursor<'_>) -> Option<&'static [Pending]>
 fn operand(cursor: &mut Cursor<'_>) -> Option<&'static [Pending]>
     ensures { MatchOption result (turns.operand_turn cursor.old ≡ None) (λ ps. turns.operand_turn cursor.old ≡ Some (ps.now, cursor.new)) }
 {
-    if sees_prefix_sign(cursor) {
+    if sees_prefix_operator(cursor) {
         cursor.advance();
         return Some(&[Pending::Operand]);
     }
@@ -257,17 +257,17 @@ fn or_nothing(
     parts
 }
 
-/// Signs with what they join, or nothing.
-fn signs(part: Pending, cursor: &mut Cursor<'_>) -> Option<&'static [Pending]>
-    ensures { MatchOption result (turns.signs_turn part cursor.old ≡ None) (λ ps. turns.signs_turn part cursor.old ≡ Some (ps.now, cursor.new)) }
+/// Operators with what they join, or nothing.
+fn operators(part: Pending, cursor: &mut Cursor<'_>) -> Option<&'static [Pending]>
+    ensures { MatchOption result (turns.operators_turn part cursor.old ≡ None) (λ ps. turns.operators_turn part cursor.old ≡ Some (ps.now, cursor.new)) }
 {
     match part {
         Pending::Products => {
-            let is_next = sees_product_sign(cursor);
+            let is_next = sees_product_operator(cursor);
             Some(or_nothing(is_next, &[Pending::Operand, Pending::Products], cursor))
         }
         Pending::Sums => {
-            let is_next = sees_sum_sign(cursor);
+            let is_next = sees_sum_operator(cursor);
             Some(or_nothing(
                 is_next,
                 &[Pending::Operand, Pending::Products, Pending::Sums],
@@ -275,7 +275,7 @@ fn signs(part: Pending, cursor: &mut Cursor<'_>) -> Option<&'static [Pending]>
             ))
         }
         Pending::Comparison => {
-            let is_next = sees_comparison_sign(cursor);
+            let is_next = sees_comparison_operator(cursor);
             Some(or_nothing(
                 is_next,
                 &[Pending::Operand, Pending::Products, Pending::Sums],
@@ -330,11 +330,11 @@ fn turn(part: Pending, cursor: &mut Cursor<'_>) -> Option<&'static [Pending]>
     match part {
         Pending::Expr => expression(cursor),
         Pending::Operand => operand(cursor),
-        Pending::Products => signs(part, cursor),
-        Pending::Sums => signs(part, cursor),
-        Pending::Comparison => signs(part, cursor),
-        Pending::Conjunctions => signs(part, cursor),
-        Pending::Disjunctions => signs(part, cursor),
+        Pending::Products => operators(part, cursor),
+        Pending::Sums => operators(part, cursor),
+        Pending::Comparison => operators(part, cursor),
+        Pending::Conjunctions => operators(part, cursor),
+        Pending::Disjunctions => operators(part, cursor),
         Pending::Defaults => defaults(cursor),
         Pending::Arguments => {
             let is_next = cursor.sees(TokenShape::Open);

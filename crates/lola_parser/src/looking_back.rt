@@ -5,15 +5,15 @@ ghost use Rattle.lola_parser_grammar.specs.Cursor.{lexemes};
 ghost use Rattle.lola_lexer.specs.declared.shape.TokenShape.TheVariants as is;
 ghost use Rattle.lola_parser.specs.Places as places;
 ghost use Rattle.lola_parser_grammars_law.specs.Syntax.{Of, starts, same_shape};
-ghost use Rattle.lola_parser.specs.Looking.{is_either, is_mark_shape, marks_among, IsLast};
+ghost use Rattle.lola_parser.specs.Looking.{is_either, is_nesting_shape, nestings_among, IsLast};
 
 use lola_lexer::shape::TokenShape;
 use lola_lexer::token::Token;
 
 /// The token is one of those that are counted in an expression or formula.
-#[tactic(auto, unfolding(crate::specs::Looking::is_mark_shape))]
-fn is_mark(shape: TokenShape) -> bool
-    ensures { result ≡ is_mark_shape shape }
+#[tactic(auto, unfolding(crate::specs::Looking::is_nesting_shape))]
+fn is_nesting(shape: TokenShape) -> bool
+    ensures { result ≡ is_nesting_shape shape }
 {
     matches!(
         shape,
@@ -37,28 +37,28 @@ fn is_mark(shape: TokenShape) -> bool
     )
 }
 
-/// Where the last of these tokens that is a mark stands.
-pub fn last_mark(tokens: &[Token]) -> Option<usize>
-    ensures { IsLast is_mark_shape tokens.now result }
+/// Where the last of these tokens that is a nesting stands.
+pub fn last_nesting(tokens: &[Token]) -> Option<usize>
+    ensures { IsLast is_nesting_shape tokens.now result }
 {
     let mut at = tokens.len();
     while at > 0 {
         at -= 1;
-        if is_mark(tokens[at].shape) {
+        if is_nesting(tokens[at].shape) {
             return Some(at);
         }
     }
     None
 }
 
-/// How many of the tokens from `start` on are marks.
-pub fn count_of_marks(tokens: &[Token], start: usize) -> usize
+/// How many of the tokens from `start` on are nestings.
+pub fn count_of_nestings(tokens: &[Token], start: usize) -> usize
     requires { start ≤ length tokens.now }
-    ensures { result ≡ marks_among (drop start tokens.now) }
+    ensures { result ≡ nestings_among (drop start tokens.now) }
 {
     let mut count = 0;
     for at in start..tokens.len() {
-        if is_mark(tokens[at].shape) {
+        if is_nesting(tokens[at].shape) {
             count += 1;
         }
     }

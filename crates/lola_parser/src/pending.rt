@@ -11,7 +11,7 @@ use std::marker::Model;
 pub enum Pending {
     /// An expression.
     Expr,
-    /// A literal, a name or a bracket, with the prefix signs before it and the accesses behind it.
+    /// A literal, a name or a bracket, with the prefix operators before it and the accesses behind it.
     Operand,
     /// `*`, `/` and `%`, each with an operand.
     Products,

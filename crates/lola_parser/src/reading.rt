@@ -12,7 +12,7 @@ ghost use Rattle.lola_parser.specs.Places as places;
 
 use crate::cursor::Cursor;
 use crate::expressions::expression_is_read;
-use crate::looking_back::{behind_bracket, count_of_marks, last_mark};
+use crate::looking_back::{behind_bracket, count_of_nestings, last_nesting};
 use lola_lexer::shape::TokenShape;
 use lola_lexer::token::{Token, Tokens};
 use lola_parser_declarations::reading::parse;
@@ -21,8 +21,8 @@ use lola_value::front::{Code, FrontEnd, Refusal};
 use lola_value::text::Memory;
 use std::alloc::Global;
 
-/// The most marks that a whole expression or formula may have.
-const MAX_MARKS: usize = 512;
+/// The most nestings that a whole expression or formula may have.
+const MAX_Nestings: usize = 512;
 
 /// The token at `deep` stands in an expression that begins behind the bracket, at `start`, and ends at a `)`.
 fn is_enclosed(
@@ -48,8 +48,8 @@ fn is_enclosed(
     Ok(cursor.sees(TokenShape::Shut))
 }
 
-/// The place of the mark at which the expression of the token at `deep` has one too many: that token, or the mark before
-/// it, where the bracket behind the `with` of a spawn clause is a mark after all.
+/// The place of the nesting at which the expression of the token at `deep` has one too many: that token, or the nesting before
+/// it, where the bracket behind the `with` of a spawn clause is a nesting after all.
 fn place_from(alloc: Global, bytes: &[u8], tokens: &[Token], deep: usize) -> Result<u32, Memory>
     requires within { StandIn bytes.now tokens.now }
     requires stands { deep < length tokens.now }
@@ -60,15 +60,15 @@ fn place_from(alloc: Global, bytes: &[u8], tokens: &[Token], deep: usize) -> Res
     let Some(start) = behind_bracket(front) else {
         return Ok(own);
     };
-    if count_of_marks(front, start) != MAX_MARKS {
+    if count_of_nestings(front, start) != MAX_Nestings {
         return Ok(own);
     }
     if !is_enclosed(alloc, bytes, tokens, start, deep)? {
         return Ok(own);
     }
-    match last_mark(front) {
+    match last_nesting(front) {
         None => Ok(own),
-        Some(mark) => Ok(front[mark].from),
+        Some(nesting) => Ok(front[nesting].from),
     }
 }
 
@@ -84,7 +84,7 @@ fn found(tokens: &[Token], at: u32) -> Option<usize>
     None
 }
 
-/// The place of the mark too many, where reading was refused as too deep at the token at `at`.
+/// The place of the nesting too many, where reading was refused as too deep at the token at `at`.
 fn place(alloc: Global, bytes: &[u8], tokens: &[Token], at: u32) -> Result<u32, Memory>
     requires within { StandIn bytes.now tokens.now }
     requires in_order { AreInOrder 0 tokens.now }
@@ -96,7 +96,7 @@ fn place(alloc: Global, bytes: &[u8], tokens: &[Token], at: u32) -> Result<u32, 
     }
 }
 
-/// The same refusal, at the mark too many if that is its cause; or want of memory.
+/// The same refusal, at the nesting too many if that is its cause; or want of memory.
 fn placed(alloc: Global, bytes: &[u8], tokens: &[Token], refusal: Refusal) -> FrontEnd
     requires within { StandIn bytes.now tokens.now }
     requires in_order { AreInOrder 0 tokens.now }
@@ -118,13 +118,13 @@ fn placed(alloc: Global, bytes: &[u8], tokens: &[Token], refusal: Refusal) -> Fr
 /// The specification that the tokens of these bytes spell, or the refusal with which its reading ends.
 ///
 /// Tokens that are no specification are refused as `Unexpected` at the first token such that no specification begins
-/// with the tokens up to it, or at the length of the text. Where a whole expression or formula has more than 512 marks,
+/// with the tokens up to it, or at the length of the text. Where a whole expression or formula has more than 512 nestings,
 /// `TooDeep` stands at the 513th, if it comes before such a token.
 ///
-/// A bracket directly behind the `with` of a spawn clause is a mark where the expression in it ends at a `)`, and none where
-/// a `,` follows, or neither can be seen. So where 512 marks stand between it and the mark at which reading ended, the
-/// expression is read on, however many marks it has, and where a `)` ends it, `TooDeep` stands at the mark before. Of these
-/// refusals `exact` tells the place by the tokens; of all others `deep` says that it is the first mark too many in every
+/// A bracket directly behind the `with` of a spawn clause is a nesting where the expression in it ends at a `)`, and none where
+/// a `,` follows, or neither can be seen. So where 512 nestings stand between it and the nesting at which reading ended, the
+/// expression is read on, however many nestings it has, and where a `)` ends it, `TooDeep` stands at the nesting before. Of these
+/// refusals `exact` tells the place by the tokens; of all others `deep` says that it is the first nesting too many in every
 /// specification that begins with the tokens before the first that does not fit.
 #[tactic(auto, using(crate::proofs::Refusing::refuses, crate::proofs::Own::places_exactly))]
 pub fn specification(alloc: Global, bytes: &[u8], tokens: &Tokens) -> Result<Ast, FrontEnd>

@@ -5,7 +5,7 @@ use Rattle.std.specs.Prelude.{fold}
 use Rattle.lola_parser_grammars_law.specs.Syntax.{Lexeme, Terminal, Syntax, Then, Map, Maybe, Many, starts, first, nullable, Refusal, Outcome, ◌>>=◌, repeated, read}
 use Rattle.lola_parser_grammars_law.proofs.Laws.{done_is}
 use Rattle.lola_parser_tree.specs.declared.expressions.Expr.{Expr}
-use Rattle.lola_parser_grammar.specs.Grammar.{Sign, join, onto, folded, added, joined_once, mark, sign, product_signs, sum_signs, comparison_signs, and_signs, or_signs}
+use Rattle.lola_parser_grammar.specs.Grammar.{Operator, join, onto, folded, added, joined_once, nesting, operator, product_operators, sum_operators, comparison_operators, and_operators, or_operators}
 
 -- what is joined to the left side from here on, in at most so many turns
 abbrev pub goes_on : {A B : Type 0} → (B → A → B) → Syntax A → ℕ → B → ℕ → List Lexeme → Outcome B
@@ -96,106 +96,106 @@ maybe_err true (Ok p) m ts d h = absurd cc
 maybe_err true (Err e) m ts d h = (refl, let q : e ≡ d = cc in ap (λ x. Err x) q)
 maybe_err false o m ts d h = absurd cc
 
--- ---- one turn, by what was read of a sign and the operand behind it
+-- ---- one turn, by what was read of an operator and the operand behind it
 
-abbrev pub signs_on : Syntax Sign → Syntax Expr → ℕ → Expr → ℕ → List Lexeme → Outcome Expr
-signs_on signs operand n left m ts = goes_on join (Then signs operand) n left m ts
+abbrev pub operators_on : Syntax Operator → Syntax Expr → ℕ → Expr → ℕ → List Lexeme → Outcome Expr
+operators_on operators operand n left m ts = goes_on join (Then operators operand) n left m ts
 
-module _ (signs : Syntax Sign) (operand : Syntax Expr) (full : nullable signs ≡ false) (left : Expr) (m : ℕ) (ts : List Lexeme) where
-  same_first : first (Then signs operand) ≡ first signs
+module _ (operators : Syntax Operator) (operand : Syntax Expr) (full : nullable operators ≡ false) (left : Expr) (m : ℕ) (ts : List Lexeme) where
+  same_first : first (Then operators operand) ≡ first operators
   unfolding first
   same_first = rw full refl
 
-  both_read : (s : Sign) (i : ℕ) (rest : List Lexeme) (x : Expr) (j : ℕ) (end : List Lexeme) → read signs m ts ≡ Ok (s, i, rest) → read operand i rest ≡ Ok (x, j, end) → read (Then signs operand) m ts ≡ Ok ((s, x), j, end)
+  both_read : (s : Operator) (i : ℕ) (rest : List Lexeme) (x : Expr) (j : ℕ) (end : List Lexeme) → read operators m ts ≡ Ok (s, i, rest) → read operand i rest ≡ Ok (x, j, end) → read (Then operators operand) m ts ≡ Ok ((s, x), j, end)
   unfolding read
   both_read s i rest x j end h k = rw (h, k) refl
 
-  sign_fails : (d : Refusal) → read signs m ts ≡ Err d → read (Then signs operand) m ts ≡ Err d
+  operator_fails : (d : Refusal) → read operators m ts ≡ Err d → read (Then operators operand) m ts ≡ Err d
   unfolding read
-  sign_fails d h = rw h refl
+  operator_fails d h = rw h refl
 
-  operand_fails : (s : Sign) (i : ℕ) (rest : List Lexeme) (d : Refusal) → read signs m ts ≡ Ok (s, i, rest) → read operand i rest ≡ Err d → read (Then signs operand) m ts ≡ Err d
+  operand_fails : (s : Operator) (i : ℕ) (rest : List Lexeme) (d : Refusal) → read operators m ts ≡ Ok (s, i, rest) → read operand i rest ≡ Err d → read (Then operators operand) m ts ≡ Err d
   unfolding read
   operand_fails s i rest d h k = rw (h, k) refl
 
-  opens : starts (first signs) ts ≡ true → starts (first (Then signs operand)) ts ≡ true
+  opens : starts (first operators) ts ≡ true → starts (first (Then operators operand)) ts ≡ true
   opens h = ap (λ (ks : List Terminal). starts ks ts) same_first ∙ h
 
-  closes : starts (first signs) ts ≡ false → starts (first (Then signs operand)) ts ≡ false
+  closes : starts (first operators) ts ≡ false → starts (first (Then operators operand)) ts ≡ false
   closes h = ap (λ (ks : List Terminal). starts ks ts) same_first ∙ h
 
   module _ (n : ℕ) where
-    pub turn_ends : (i : ℕ) (rest : List Lexeme) → read (Maybe signs) m ts ≡ Ok (None, i, rest) → signs_on signs operand (suc n) left m ts ≡ Ok (left, i, rest)
+    pub turn_ends : (i : ℕ) (rest : List Lexeme) → read (Maybe operators) m ts ≡ Ok (None, i, rest) → operators_on operators operand (suc n) left m ts ≡ Ok (left, i, rest)
     unfolding read
     turn_ends i rest h =
-        let q = maybe_none (starts (first signs) ts) (read signs m ts) m ts i rest h in
-        goes_ends join (Then signs operand) n left m ts (closes q.0) ∙ rw (q.1, q.2) refl
+        let q = maybe_none (starts (first operators) ts) (read operators m ts) m ts i rest h in
+        goes_ends join (Then operators operand) n left m ts (closes q.0) ∙ rw (q.1, q.2) refl
 
-    pub turn_fails : (d : Refusal) → read (Maybe signs) m ts ≡ Err d → signs_on signs operand (suc n) left m ts ≡ Err d
+    pub turn_fails : (d : Refusal) → read (Maybe operators) m ts ≡ Err d → operators_on operators operand (suc n) left m ts ≡ Err d
     unfolding read
     turn_fails d h =
-        let q = maybe_err (starts (first signs) ts) (read signs m ts) m ts d h in
-        goes_fails join (Then signs operand) n left m ts d (opens q.0) (sign_fails d q.1)
+        let q = maybe_err (starts (first operators) ts) (read operators m ts) m ts d h in
+        goes_fails join (Then operators operand) n left m ts d (opens q.0) (operator_fails d q.1)
 
-    pub turn_breaks : (s : Sign) (i : ℕ) (rest : List Lexeme) (d : Refusal) → read (Maybe signs) m ts ≡ Ok (Some s, i, rest) → read operand i rest ≡ Err d → signs_on signs operand (suc n) left m ts ≡ Err d
+    pub turn_breaks : (s : Operator) (i : ℕ) (rest : List Lexeme) (d : Refusal) → read (Maybe operators) m ts ≡ Ok (Some s, i, rest) → read operand i rest ≡ Err d → operators_on operators operand (suc n) left m ts ≡ Err d
     unfolding read
     turn_breaks s i rest d h k =
-        let q = maybe_some (starts (first signs) ts) (read signs m ts) m ts s i rest h in
-        goes_fails join (Then signs operand) n left m ts d (opens q.0) (operand_fails s i rest d q.1 k)
+        let q = maybe_some (starts (first operators) ts) (read operators m ts) m ts s i rest h in
+        goes_fails join (Then operators operand) n left m ts d (opens q.0) (operand_fails s i rest d q.1 k)
 
-    pub turn_goes : (s : Sign) (i : ℕ) (rest : List Lexeme) (x : Expr) (j : ℕ) (end : List Lexeme) → read (Maybe signs) m ts ≡ Ok (Some s, i, rest) → read operand i rest ≡ Ok (x, j, end)
-        → signs_on signs operand (suc n) left m ts ≡ signs_on signs operand n (join left (s, x)) j end
+    pub turn_goes : (s : Operator) (i : ℕ) (rest : List Lexeme) (x : Expr) (j : ℕ) (end : List Lexeme) → read (Maybe operators) m ts ≡ Ok (Some s, i, rest) → read operand i rest ≡ Ok (x, j, end)
+        → operators_on operators operand (suc n) left m ts ≡ operators_on operators operand n (join left (s, x)) j end
     unfolding read
     turn_goes s i rest x j end h k =
-        let q = maybe_some (starts (first signs) ts) (read signs m ts) m ts s i rest h in
-        goes_further join (Then signs operand) n left m ts (s, x) j end (opens q.0) (both_read s i rest x j end q.1 k)
+        let q = maybe_some (starts (first operators) ts) (read operators m ts) m ts s i rest h in
+        goes_further join (Then operators operand) n left m ts (s, x) j end (opens q.0) (both_read s i rest x j end q.1 k)
 
   -- one more operand, or none
   abbrev pub once : Outcome Expr
-  once = read (onto left (joined_once signs operand)) m ts
+  once = read (onto left (joined_once operators operand)) m ts
 
-  pub once_ends : (i : ℕ) (rest : List Lexeme) → read (Maybe signs) m ts ≡ Ok (None, i, rest) → once ≡ Ok (left, i, rest)
+  pub once_ends : (i : ℕ) (rest : List Lexeme) → read (Maybe operators) m ts ≡ Ok (None, i, rest) → once ≡ Ok (left, i, rest)
   unfolding read
   once_ends i rest h =
-      let q = maybe_none (starts (first signs) ts) (read signs m ts) m ts i rest h in
+      let q = maybe_none (starts (first operators) ts) (read operators m ts) m ts i rest h in
       rw (closes q.0, q.1, q.2) refl
 
-  pub once_fails : (d : Refusal) → read (Maybe signs) m ts ≡ Err d → once ≡ Err d
+  pub once_fails : (d : Refusal) → read (Maybe operators) m ts ≡ Err d → once ≡ Err d
   unfolding read
   once_fails d h =
-      let q = maybe_err (starts (first signs) ts) (read signs m ts) m ts d h in
+      let q = maybe_err (starts (first operators) ts) (read operators m ts) m ts d h in
       rw (opens q.0, q.1) refl
 
-  pub once_breaks : (s : Sign) (i : ℕ) (rest : List Lexeme) (d : Refusal) → read (Maybe signs) m ts ≡ Ok (Some s, i, rest) → read operand i rest ≡ Err d → once ≡ Err d
+  pub once_breaks : (s : Operator) (i : ℕ) (rest : List Lexeme) (d : Refusal) → read (Maybe operators) m ts ≡ Ok (Some s, i, rest) → read operand i rest ≡ Err d → once ≡ Err d
   unfolding read
   once_breaks s i rest d h k =
-      let q = maybe_some (starts (first signs) ts) (read signs m ts) m ts s i rest h in
+      let q = maybe_some (starts (first operators) ts) (read operators m ts) m ts s i rest h in
       rw (opens q.0, q.1, k) refl
 
-  pub once_goes : (s : Sign) (i : ℕ) (rest : List Lexeme) (x : Expr) (j : ℕ) (end : List Lexeme) → read (Maybe signs) m ts ≡ Ok (Some s, i, rest) → read operand i rest ≡ Ok (x, j, end) → once ≡ Ok (join left (s, x), j, end)
+  pub once_goes : (s : Operator) (i : ℕ) (rest : List Lexeme) (x : Expr) (j : ℕ) (end : List Lexeme) → read (Maybe operators) m ts ≡ Ok (Some s, i, rest) → read operand i rest ≡ Ok (x, j, end) → once ≡ Ok (join left (s, x), j, end)
   unfolding read
   once_goes s i rest x j end h k =
-      let q = maybe_some (starts (first signs) ts) (read signs m ts) m ts s i rest h in
+      let q = maybe_some (starts (first operators) ts) (read operators m ts) m ts s i rest h in
       rw (opens q.0, q.1, k) refl
 
-pub product_full : nullable product_signs ≡ false
-unfolding nullable product_signs sign mark
+pub product_full : nullable product_operators ≡ false
+unfolding nullable product_operators operator nesting
 product_full = refl
 
-pub sum_full : nullable sum_signs ≡ false
-unfolding nullable sum_signs sign mark
+pub sum_full : nullable sum_operators ≡ false
+unfolding nullable sum_operators operator nesting
 sum_full = refl
 
-pub comparison_full : nullable comparison_signs ≡ false
-unfolding nullable comparison_signs sign mark
+pub comparison_full : nullable comparison_operators ≡ false
+unfolding nullable comparison_operators operator nesting
 comparison_full = refl
 
-pub and_full : nullable and_signs ≡ false
-unfolding nullable and_signs sign mark
+pub and_full : nullable and_operators ≡ false
+unfolding nullable and_operators operator nesting
 and_full = refl
 
-pub or_full : nullable or_signs ≡ false
-unfolding nullable or_signs sign mark
+pub or_full : nullable or_operators ≡ false
+unfolding nullable or_operators operator nesting
 or_full = refl
 
 -- ---- something read by a function, and then what follows it

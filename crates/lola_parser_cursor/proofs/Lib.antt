@@ -1,5 +1,5 @@
 pub mod Starts
-pub mod Marked
+pub mod WithNestings
 pub mod Steps
 pub mod Values
 pub mod Turns

@@ -4,7 +4,7 @@ use Rattle.lola_lexer.specs.declared.shape.TokenShape.{TokenShape}
 use Rattle.lola_lexer.specs.declared.token.Token.{Token}
 use Rattle.lola_parser_grammars_law.specs.Syntax.{Lexeme, Of, Word, Other, fits, same_shape, starts, read, Unexpected, TooDeep}
 use Rattle.lola_parser_grammar.specs.Cursor.{lexemes, text_of}
-use Rattle.lola_parser_grammar.specs.Grammar.{token, mark, word}
+use Rattle.lola_parser_grammar.specs.Grammar.{token, nesting, word}
 use Rattle.lola_lexer.specs.declared.shape.TokenShape.TheVariants as is
 use Rattle.std.specs.Str.{bytes_eq}
 
@@ -46,23 +46,23 @@ pub token_ended : (s : TokenShape) (m : ℕ) (ts : List Lexeme) → ts ≡ [] �
 unfolding token read
 token_ended s m ts h = rw h refl
 
-pub mark_taken : (s : TokenShape) (t : Token) (m : ℕ) (ts : List Lexeme) → Front t ts → same_shape s t.shape ≡ true → 0 < m → read (mark s) m ts ≡ Ok (t.from, m - 1, drop 1 ts)
-unfolding mark read fits
-mark_taken s t zero ts h e some = absurd (omega (arith, some))
-mark_taken s t (suc m) ts h e some = let k : m ≡ suc m - 1 = omega arith in ap (read (mark s) (suc m)) h ∙ rw e (ap (λ i. Ok (t.from, i, drop 1 ts)) k)
+pub nesting_taken : (s : TokenShape) (t : Token) (m : ℕ) (ts : List Lexeme) → Front t ts → same_shape s t.shape ≡ true → 0 < m → read (nesting s) m ts ≡ Ok (t.from, m - 1, drop 1 ts)
+unfolding nesting read fits
+nesting_taken s t zero ts h e some = absurd (omega (arith, some))
+nesting_taken s t (suc m) ts h e some = let k : m ≡ suc m - 1 = omega arith in ap (read (nesting s) (suc m)) h ∙ rw e (ap (λ i. Ok (t.from, i, drop 1 ts)) k)
 
-pub mark_deep : (s : TokenShape) (t : Token) (m : ℕ) (ts : List Lexeme) → Front t ts → same_shape s t.shape ≡ true → m ≡ 0 → read (mark s) m ts ≡ Err (TooDeep ts)
-unfolding mark read fits
-mark_deep s t zero ts h e none = ap (read (mark s) zero) h ∙ rw e (ap (λ w. Err (TooDeep w)) (sym h))
-mark_deep s t (suc m) ts h e none = absurd (omega (arith, none))
+pub nesting_deep : (s : TokenShape) (t : Token) (m : ℕ) (ts : List Lexeme) → Front t ts → same_shape s t.shape ≡ true → m ≡ 0 → read (nesting s) m ts ≡ Err (TooDeep ts)
+unfolding nesting read fits
+nesting_deep s t zero ts h e none = ap (read (nesting s) zero) h ∙ rw e (ap (λ w. Err (TooDeep w)) (sym h))
+nesting_deep s t (suc m) ts h e none = absurd (omega (arith, none))
 
-pub mark_missed : (s : TokenShape) (t : Token) (m : ℕ) (ts : List Lexeme) → Front t ts → same_shape s t.shape ≡ false → read (mark s) m ts ≡ Err (Unexpected ts)
-unfolding mark read fits
-mark_missed s t m ts h e = ap (read (mark s) m) h ∙ rw e (ap (λ w. Err (Unexpected w)) (sym h))
+pub nesting_missed : (s : TokenShape) (t : Token) (m : ℕ) (ts : List Lexeme) → Front t ts → same_shape s t.shape ≡ false → read (nesting s) m ts ≡ Err (Unexpected ts)
+unfolding nesting read fits
+nesting_missed s t m ts h e = ap (read (nesting s) m) h ∙ rw e (ap (λ w. Err (Unexpected w)) (sym h))
 
-pub mark_ended : (s : TokenShape) (m : ℕ) (ts : List Lexeme) → ts ≡ [] → read (mark s) m ts ≡ Err (Unexpected ts)
-unfolding mark read
-mark_ended s m ts h = rw h refl
+pub nesting_ended : (s : TokenShape) (m : ℕ) (ts : List Lexeme) → ts ≡ [] → read (nesting s) m ts ≡ Err (Unexpected ts)
+unfolding nesting read
+nesting_ended s m ts h = rw h refl
 
 pub sees_word_is : (w : List ℕ) (t : Token) (ts : List Lexeme) → Front t ts → (same_shape is.Name t.shape && bytes_eq w (text_of ts)) ≡ starts (Word w ∷ []) ts
 unfolding fits

@@ -1,8 +1,8 @@
-//! A cursor over tokens, which counts the marks of an expression.
+//! A cursor over tokens, which counts the nestings of an expression.
 
 ghost use Rattle.std.specs.Prelude.{◌≡◌, ◌≢◌, ◌<◌, ◌≤◌, ◌∷◌, ◌-◌, nat_lt, not, ◌||◌, length, drop, [], MatchOption};
 ghost use Rattle.std.specs.Str.{bytes_eq};
-ghost use Rattle.lola_parser_grammars_law.specs.Syntax.{Of, Word, Other, Lexeme, same_shape, starts, max_marks, last_mark};
+ghost use Rattle.lola_parser_grammars_law.specs.Syntax.{Of, Word, Other, Lexeme, same_shape, starts, max_nestings, last_nesting};
 ghost use Rattle.lola_parser_grammar.specs.Cursor.{IsRead, lexemes, place_of, text_of};
 ghost use Rattle.lola_lexer.specs.Tokens.{StandIn};
 ghost use Rattle.lola_parser_grammar.specs.Grammar as spec;
@@ -16,21 +16,21 @@ use lola_value::text::Text;
 use std::alloc::Global;
 use std::marker::Model;
 
-/// The most marks that a whole expression or formula may have.
-pub const MAX_MARKS: u32 = 512;
+/// The most nestings that a whole expression or formula may have.
+pub const MAX_Nestings: u32 = 512;
 
-/// Levels that may be nested: more than an expression has marks, of which each level takes one.
+/// Levels that may be nested: more than an expression has nestings, of which each level takes one.
 pub const MAX_LEVELS: usize = 514;
 
-/// A cursor over tokens, which counts the marks of an expression. Contracts see the tokens that are still to read, and
-/// how many marks may still come.
+/// A cursor over tokens, which counts the nestings of an expression. Contracts see the tokens that are still to read, and
+/// how many nestings may still come.
 #[derive(Drop)]
 pub struct Parser<'a> {
     bytes: &'a [u8],
     tokens: &'a [Token],
     /// How many of them were read.
     at: usize,
-    /// How many marks may still come in the expression.
+    /// How many nestings may still come in the expression.
     room: u32,
 }
 
@@ -69,13 +69,13 @@ impl<'a> Parser<'a> {
     pub fn new(bytes: &'a [u8], tokens: &'a [Token]) -> Parser<'a>
         requires { StandIn bytes.now tokens.now }
         ensures rest { result.rest ≡ lexemes bytes.now tokens.now }
-        ensures room { result.room ≡ max_marks }
+        ensures room { result.room ≡ max_nestings }
     {
         Parser {
             bytes,
             tokens,
             at: 0,
-            room: MAX_MARKS,
+            room: MAX_Nestings,
         }
     }
 
@@ -111,9 +111,9 @@ impl<'a> Parser<'a> {
     /// A new expression begins.
     pub fn begin(&mut self)
         ensures rest { self.new.rest ≡ self.old.rest }
-        ensures room { self.new.room ≡ max_marks }
+        ensures room { self.new.room ≡ max_nestings }
     {
-        self.room = MAX_MARKS;
+        self.room = MAX_Nestings;
     }
 
     fn front(&self) -> Option<Token>
@@ -134,14 +134,14 @@ impl<'a> Parser<'a> {
         self.at += 1;
     }
 
-    /// Whether one more mark may come.
+    /// Whether one more nesting may come.
     pub fn has_room(&self) -> bool
         ensures { result ≡ nat_lt 0 self.now.room }
     {
         self.room > 0
     }
 
-    /// One more mark came.
+    /// One more nesting came.
     pub fn spend(&mut self)
         requires { 0 < self.old.room }
         ensures rest { self.new.rest ≡ self.old.rest }
@@ -213,9 +213,9 @@ impl<'a> Parser<'a> {
         Ok(token.from)
     }
 
-    /// Takes a mark of this shape.
-    pub fn mark(&mut self, shape: TokenShape) -> Result<u32, ParseError>
-        ensures { IsRead (spec.mark shape) self.old result self.new }
+    /// Takes a nesting of this shape.
+    pub fn nesting(&mut self, shape: TokenShape) -> Result<u32, ParseError>
+        ensures { IsRead (spec.nesting shape) self.old result self.new }
     {
         let Some(token) = self.front() else {
             return Err(ParseError::Unexpected);
@@ -315,8 +315,8 @@ impl<'a> Parser<'a> {
     }
 
     #[tactic(auto, using(crate::proofs::Starts::starts_more))]
-    fn sees_opening_mark(&self) -> bool
-        ensures { result ≡ starts spec.opening_marks self.now.rest }
+    fn sees_opening_nesting(&self) -> bool
+        ensures { result ≡ starts spec.opening_nestings self.now.rest }
     {
         self.sees(TokenShape::Open)
             || self.sees(TokenShape::Dot)
@@ -325,8 +325,8 @@ impl<'a> Parser<'a> {
     }
 
     #[tactic(auto, using(crate::proofs::Starts::starts_more))]
-    fn sees_joining_mark(&self) -> bool
-        ensures { result ≡ starts spec.joining_marks self.now.rest }
+    fn sees_joining_nesting(&self) -> bool
+        ensures { result ≡ starts spec.joining_nestings self.now.rest }
     {
         self.sees(TokenShape::Minus)
             || self.sees(TokenShape::Plus)
@@ -338,8 +338,8 @@ impl<'a> Parser<'a> {
     }
 
     #[tactic(auto, using(crate::proofs::Starts::starts_more))]
-    fn sees_comparing_mark(&self) -> bool
-        ensures { result ≡ starts spec.comparing_marks self.now.rest }
+    fn sees_comparing_nesting(&self) -> bool
+        ensures { result ≡ starts spec.comparing_nestings self.now.rest }
     {
         self.sees(TokenShape::Equal)
             || self.sees(TokenShape::Unequal)
@@ -349,31 +349,31 @@ impl<'a> Parser<'a> {
             || self.sees(TokenShape::GreaterEqual)
     }
 
-    #[tactic(auto, using(crate::proofs::Marked::signs_split))]
-    fn sees_sign_mark(&self) -> bool
-        ensures { result ≡ starts spec.sign_marks self.now.rest }
+    #[tactic(auto, using(crate::proofs::WithNestings::operators_split))]
+    fn sees_operator_nesting(&self) -> bool
+        ensures { result ≡ starts spec.operator_nestings self.now.rest }
     {
-        self.sees_joining_mark() || self.sees_comparing_mark()
+        self.sees_joining_nesting() || self.sees_comparing_nesting()
     }
 
-    /// The next token is a mark.
-    #[tactic(auto, using(crate::proofs::Marked::marks_split))]
-    fn sees_mark(&self) -> bool
-        ensures { result ≡ starts spec.all_marks self.now.rest }
+    /// The next token is a nesting.
+    #[tactic(auto, using(crate::proofs::WithNestings::nestings_split))]
+    fn sees_nesting(&self) -> bool
+        ensures { result ≡ starts spec.all_nestings self.now.rest }
     {
-        self.sees_opening_mark() || self.sees_sign_mark()
+        self.sees_opening_nesting() || self.sees_operator_nesting()
     }
 
-    /// Goes back to the last mark that was read since `start`, if there was one.
-    pub fn back_to_last_mark(&mut self, start: Parser<'a>)
+    /// Goes back to the last nesting that was read since `start`, if there was one.
+    pub fn back_to_last_nesting(&mut self, start: Parser<'a>)
         requires { length self.old.rest ≤ length start.rest }
-        ensures { self.new.rest ≡ last_mark spec.all_marks (length start.entry.rest - length self.old.rest) self.old.rest start.entry.rest }
+        ensures { self.new.rest ≡ last_nesting spec.all_nestings (length start.entry.rest - length self.old.rest) self.old.rest start.entry.rest }
     {
         let count = start.left() - self.left();
         let mut here = start;
         let mut last = self.fork();
         for _turn in 0..count {
-            if here.sees_mark() {
+            if here.sees_nesting() {
                 last = here.fork();
             }
             here.advance();

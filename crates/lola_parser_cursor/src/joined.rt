@@ -6,14 +6,14 @@ use lola_parser_tree::expressions::{Binary, Expr, Prefix};
 use sqlite_items::Boxed;
 use std::alloc::{AllocError, Global};
 
-/// A sign with the operand behind it, which gets room of its own.
+/// An operator with the operand behind it, which gets room of its own.
 pub fn prefix(alloc: Global, op: Prefix, at: u32, a: Expr) -> Result<Expr, AllocError>
     ensures { IfOk result (λ e. e ≡ Expr.Prefix op at a) }
 {
     Ok(Expr::Prefix(op, at, Boxed::new(alloc, a)?))
 }
 
-/// A sign with the operands on its two sides.
+/// An operator with the operands on its two sides.
 pub fn binary(alloc: Global, op: Binary, at: u32, a: Expr, b: Expr) -> Result<Expr, AllocError>
     ensures { IfOk result (λ e. e ≡ Expr.Binary op at a b) }
 {

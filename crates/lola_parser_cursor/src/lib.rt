@@ -1,8 +1,8 @@
-//! A cursor over the tokens of a specification, and what is read without anything nested: words, literals and signs.
+//! A cursor over the tokens of a specification, and what is read without anything nested: words, literals and operators.
 #![tactic(auto)]
 
 pub mod cursor;
 pub mod joined;
 mod literals;
-pub mod signs;
+pub mod operators;
 pub mod words;

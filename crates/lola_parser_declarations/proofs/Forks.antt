@@ -3,14 +3,14 @@ use Rattle.std.proofs.Common.{◌≡◌, ℕ, suc, ◌-◌, ◌≤◌, ◌<◌, 
 use Rattle.std.proofs.lemmas.List.{length-append}
 use Rattle.lola_parser_tree.specs.declared.clauses.Part.{Part}
 use Rattle.lola_parser_tree.specs.declared.expressions.Expr.{Expr}
-use Rattle.lola_parser_grammars_law.specs.Syntax.{Lexeme, Terminal, Syntax, Fork, Map, starts, first, Unexpected, TooDeep, Outcome, ◌>>=◌, last_mark, max_marks, read}
+use Rattle.lola_parser_grammars_law.specs.Syntax.{Lexeme, Terminal, Syntax, Fork, Map, starts, first, Unexpected, TooDeep, Outcome, ◌>>=◌, last_nesting, max_nestings, read}
 use Rattle.lola_parser_grammars_law.proofs.Laws.{sound}
 use Rattle.lola_parser_grammar.specs.Grammar.{Parts, placed, given}
 
 pub shorter : {A : Type 0} (s : Syntax A) (m : ℕ) (ts : List Lexeme) (x : A) (i : ℕ) (mid : List Lexeme) → read s m ts ≡ Ok (x, i, mid) → length mid ≤ length ts
 shorter s m ts x i mid h = let p = sound s m ts x i mid h in omega (arith, ap length p.1, length-append p.0 mid)
 
-module _ (ks : List Terminal) (a : Syntax Expr) (b c : Syntax Parts) (bracket at m : ℕ) (ts : List Lexeme) (x : Expr) (i : ℕ) (mid : List Lexeme) (was : read a max_marks ts ≡ Ok (x, i, mid)) where
+module _ (ks : List Terminal) (a : Syntax Expr) (b c : Syntax Parts) (bracket at m : ℕ) (ts : List Lexeme) (x : Expr) (i : ℕ) (mid : List Lexeme) (was : read a max_nestings ts ≡ Ok (x, i, mid)) where
   abbrev pairing : Parts → ℕ → List Lexeme → Outcome (Expr × Parts)
   pairing y j end = Ok ((x, y), j, end)
 
@@ -32,7 +32,7 @@ module _ (ks : List Terminal) (a : Syntax Expr) (b c : Syntax Parts) (bracket at
   unfolding read
   fork_stops h k = rw (was, h, k) refl
 
-  pub fork_deep : starts (first b) mid ≡ false → starts (first c) mid ≡ true → i ≡ 0 → read (Map (placed bracket at) (Fork ks a b c)) m ts ≡ Err (TooDeep (last_mark ks (length ts - length mid) mid ts))
+  pub fork_deep : starts (first b) mid ≡ false → starts (first c) mid ≡ true → i ≡ 0 → read (Map (placed bracket at) (Fork ks a b c)) m ts ≡ Err (TooDeep (last_nesting ks (length ts - length mid) mid ts))
   unfolding read
   fork_deep h k z = rw (was, h, k, z) refl
 

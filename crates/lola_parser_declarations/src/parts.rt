@@ -106,7 +106,7 @@ fn one_part(
     Ok(single(alloc, Part { at: with, expr })?)
 }
 
-/// Behind a bracket, which is a mark only where the first expression goes on behind its end.
+/// Behind a bracket, which is a nesting only where the first expression goes on behind its end.
 #[tactic(auto, unfolding(lola_parser_grammars_law::specs::Syntax::read, lola_parser_grammars_law::specs::Syntax::first, lola_parser_grammars_law::specs::Syntax::nullable, lola_parser_grammar::specs::Grammar::forked))]
 fn forked(
     alloc: Global,
@@ -126,7 +126,7 @@ fn forked(
         return Err(ParseError::Unexpected);
     }
     if !parser.has_room() {
-        parser.back_to_last_mark(start);
+        parser.back_to_last_nesting(start);
         return Err(ParseError::TooDeep);
     }
     parser.spend();

@@ -45,7 +45,7 @@ fn read(alloc: Global, bytes: &[u8], tokens: &[Token]) -> Result<Ast, FrontEnd>
 /// The specification that the tokens of these bytes spell, or the refusal with which its reading ends.
 ///
 /// Tokens that are no specification are refused as `Unexpected` at the first token such that no specification begins
-/// with the tokens up to it, or at the length of the text. Where a whole expression or formula has more than 512 marks,
+/// with the tokens up to it, or at the length of the text. Where a whole expression or formula has more than 512 nestings,
 /// `TooDeep` stands at the 513th, if it comes before such a token.
 pub fn parse(alloc: Global, bytes: &[u8], tokens: &Tokens) -> Result<Ast, FrontEnd>
     requires within { StandIn bytes.now tokens.now }

@@ -86,14 +86,14 @@ impl<F: Fn(Global, &mut Parser<'_>, bool, usize) -> Result<Expr, ParseError>> Ru
         requires { Nests self.now.depth (F.pre self.now.nested) (F.post self.now.nested) }
         ensures { IsRead (spec.conditional (spec.expr_in self.now.depth) (spec.other_in self.now.depth)) parser.old result parser.new }
     {
-        let at = parser.mark(TokenShape::If)?;
+        let at = parser.nesting(TokenShape::If)?;
         let test = self.expr(parser)?;
         let (yes, no) = self.branches(parser)?;
         Ok(choice(self.alloc, at, test, yes, no)?)
     }
 
     /// An expression.
-    #[tactic(auto, unfolding(lola_parser_grammars_law::specs::Syntax::read, lola_parser_grammars_law::specs::Syntax::first, lola_parser_grammars_law::specs::Syntax::nullable, lola_parser_grammar::specs::Grammar::expr_with, lola_parser_grammar::specs::Grammar::conditional, lola_parser_grammar::specs::Grammar::mark))]
+    #[tactic(auto, unfolding(lola_parser_grammars_law::specs::Syntax::read, lola_parser_grammars_law::specs::Syntax::first, lola_parser_grammars_law::specs::Syntax::nullable, lola_parser_grammar::specs::Grammar::expr_with, lola_parser_grammar::specs::Grammar::conditional, lola_parser_grammar::specs::Grammar::nesting))]
     pub(crate) fn expr_with(&self, parser: &mut Parser<'_>) -> Result<Expr, ParseError>
         requires { Nests self.now.depth (F.pre self.now.nested) (F.post self.now.nested) }
         ensures { IsRead (spec.expr_with (spec.expr_in self.now.depth) (spec.other_in self.now.depth)) parser.old result parser.new }
@@ -118,7 +118,7 @@ impl<F: Fn(Global, &mut Parser<'_>, bool, usize) -> Result<Expr, ParseError>> Ru
     }
 
     /// An expression that begins with no bracket.
-    #[tactic(auto, unfolding(lola_parser_grammars_law::specs::Syntax::read, lola_parser_grammars_law::specs::Syntax::first, lola_parser_grammars_law::specs::Syntax::nullable, lola_parser_grammar::specs::Grammar::open_expr, lola_parser_grammar::specs::Grammar::conditional, lola_parser_grammar::specs::Grammar::mark))]
+    #[tactic(auto, unfolding(lola_parser_grammars_law::specs::Syntax::read, lola_parser_grammars_law::specs::Syntax::first, lola_parser_grammars_law::specs::Syntax::nullable, lola_parser_grammar::specs::Grammar::open_expr, lola_parser_grammar::specs::Grammar::conditional, lola_parser_grammar::specs::Grammar::nesting))]
     pub(crate) fn open_expr(&self, parser: &mut Parser<'_>) -> Result<Expr, ParseError>
         requires { Nests self.now.depth (F.pre self.now.nested) (F.post self.now.nested) }
         ensures { IsRead (spec.open_expr (spec.expr_in self.now.depth) (spec.other_in self.now.depth)) parser.old result parser.new }

@@ -53,14 +53,14 @@ impl<F: Fn(Global, &mut Parser<'_>, usize) -> Result<Formula, ParseError>> Formu
             let name = parser.name(self.alloc)?;
             return Ok(Formula::Input(name));
         }
-        parser.mark(TokenShape::Open)?;
+        parser.nesting(TokenShape::Open)?;
         let found = self.inner(parser)?;
         parser.take(TokenShape::Shut)?;
         Ok(found)
     }
 
     /// `&&` with its operands.
-    #[tactic(auto, unfolding(lola_parser_grammars_law::specs::Syntax::read, lola_parser_grammars_law::specs::Syntax::first, lola_parser_grammars_law::specs::Syntax::nullable, lola_parser_grammar::specs::Grammar::conjunctions_of, lola_parser_grammar::specs::Grammar::mark))]
+    #[tactic(auto, unfolding(lola_parser_grammars_law::specs::Syntax::read, lola_parser_grammars_law::specs::Syntax::first, lola_parser_grammars_law::specs::Syntax::nullable, lola_parser_grammar::specs::Grammar::conjunctions_of, lola_parser_grammar::specs::Grammar::nesting))]
     fn conjunctions(&self, parser: &mut Parser<'_>, start: Formula) -> Result<Formula, ParseError>
         requires { NestsFormula self.now.depth (F.pre self.now.nested) (F.post self.now.nested) }
         ensures { IsRead (spec.onto start (spec.conjunctions_of (spec.formula_in self.now.depth))) parser.old result parser.new }
@@ -70,7 +70,7 @@ impl<F: Fn(Global, &mut Parser<'_>, usize) -> Result<Formula, ParseError>> Formu
             if !parser.sees(TokenShape::And) {
                 return Ok(left);
             }
-            let at = parser.mark(TokenShape::And)?;
+            let at = parser.nesting(TokenShape::And)?;
             let right = self.atom(parser)?;
             left = both(self.alloc, at, left, right)?;
         }
@@ -87,7 +87,7 @@ impl<F: Fn(Global, &mut Parser<'_>, usize) -> Result<Formula, ParseError>> Formu
     }
 
     /// `||` with its operands.
-    #[tactic(auto, unfolding(lola_parser_grammars_law::specs::Syntax::read, lola_parser_grammars_law::specs::Syntax::first, lola_parser_grammars_law::specs::Syntax::nullable, lola_parser_grammar::specs::Grammar::alternatives_of, lola_parser_grammar::specs::Grammar::mark))]
+    #[tactic(auto, unfolding(lola_parser_grammars_law::specs::Syntax::read, lola_parser_grammars_law::specs::Syntax::first, lola_parser_grammars_law::specs::Syntax::nullable, lola_parser_grammar::specs::Grammar::alternatives_of, lola_parser_grammar::specs::Grammar::nesting))]
     fn alternatives(&self, parser: &mut Parser<'_>, start: Formula) -> Result<Formula, ParseError>
         requires { NestsFormula self.now.depth (F.pre self.now.nested) (F.post self.now.nested) }
         ensures { IsRead (spec.onto start (spec.alternatives_of (spec.formula_in self.now.depth))) parser.old result parser.new }
@@ -97,7 +97,7 @@ impl<F: Fn(Global, &mut Parser<'_>, usize) -> Result<Formula, ParseError>> Formu
             if !parser.sees(TokenShape::Or) {
                 return Ok(left);
             }
-            let at = parser.mark(TokenShape::Or)?;
+            let at = parser.nesting(TokenShape::Or)?;
             let right = self.conjunct(parser)?;
             left = either(self.alloc, at, left, right)?;
         }

@@ -1,23 +1,23 @@
--- Each level that is nested takes a mark, and each mark is counted.
+-- Each level that is nested takes a nesting, and each nesting is counted.
 use Rattle.std.proofs.Common.{◌≡◌, ℕ, zero, suc, ◌≤◌, Bool, true, false, ◌&&◌, List, refl, arith}
 use Rattle.lola_lexer.specs.declared.shape.TokenShape.{TokenShape}
 use Rattle.lola_lexer.specs.declared.shape.TokenShape.TheVariants as is
 use Rattle.lola_parser_tree.specs.declared.expressions.Expr.{Expr}
 use Rattle.lola_parser_tree.specs.declared.pacing.Formula.{Formula}
-use Rattle.lola_parser_grammars_law.specs.Syntax.{Syntax, Then, Maybe, Many, same_shape, within, max_marks}
-use Rattle.lola_parser_grammars_law.specs.Marks.{least, guards, tallies, is_counted}
+use Rattle.lola_parser_grammars_law.specs.Syntax.{Syntax, Then, Maybe, Many, same_shape, within, max_nestings}
+use Rattle.lola_parser_grammars_law.specs.Nestings.{least, guards, tallies, is_counted}
 use Rattle.lola_parser_grammars_law.proofs.Deep.{IsDeep, deep_less, deep_map, deep_then, deep_behind, deep_either, deep_maybe, deep_many}
-use Rattle.lola_parser_grammar.specs.Grammar.{all_marks, Sign, join, with_default, folded, joined, joined_once, listed, further, either, both, level, formula_level, expr_in, other_in, formula_in, ◌*>◌, ◌<*◌, ◌|>◌, ◌>>◌, token, mark, word, name, other_name, integer, text, quantity, sign, product_signs, sum_signs, comparison_signs, and_signs, or_signs, word_literal, offset, over, window, arguments, stand_in, hold, get, last, default, reading, dotted_default, defaults, dotted, suffix, named, number, worded, bracketed, operand, negation, negative, minus, plain, other_with, unary, products, product, sums, sum, comparisons, comparison, conjunctions, conjunction, disjunctions, conditional, expr_with, atom, conjunctions_of, conjunct, alternatives_of, formula_with, typed, parameters, kind, clock, message, whole, whole_formula, whole_unbracketed, rhythm, pacing, part_behind, more_parts, one_part, forked, parts, with_parts, spawn, eval, close, short_eval, body, literal, inputs, constant, output, trigger, declaration, specification, open_operand, open_expr, closed, unbracketed}
+use Rattle.lola_parser_grammar.specs.Grammar.{all_nestings, Operator, join, with_default, folded, joined, joined_once, listed, further, either, both, level, formula_level, expr_in, other_in, formula_in, ◌*>◌, ◌<*◌, ◌|>◌, ◌>>◌, token, nesting, word, name, other_name, integer, text, quantity, operator, product_operators, sum_operators, comparison_operators, and_operators, or_operators, word_literal, offset, over, window, arguments, stand_in, hold, get, last, default, reading, dotted_default, defaults, dotted, suffix, named, number, worded, bracketed, operand, negation, negative, minus, plain, other_with, unary, products, product, sums, sum, comparisons, comparison, conjunctions, conjunction, disjunctions, conditional, expr_with, atom, conjunctions_of, conjunct, alternatives_of, formula_with, typed, parameters, kind, clock, message, whole, whole_formula, whole_unbracketed, rhythm, pacing, part_behind, more_parts, one_part, forked, parts, with_parts, spawn, eval, close, short_eval, body, literal, inputs, constant, output, trigger, declaration, specification, open_operand, open_expr, closed, unbracketed}
 
-pub level_tallies : (b : Bool) (n : ℕ) → tallies all_marks (level b n) ≡ true
-unfolding level tallies same_shape token mark word name other_name integer text quantity sign product_signs sum_signs comparison_signs and_signs or_signs word_literal offset over window arguments stand_in hold get last default reading dotted_default defaults dotted suffix named number worded bracketed operand negation negative minus plain other_with unary products product sums sum comparisons comparison conjunctions conjunction disjunctions conditional expr_with
+pub level_tallies : (b : Bool) (n : ℕ) → tallies all_nestings (level b n) ≡ true
+unfolding level tallies same_shape token nesting word name other_name integer text quantity operator product_operators sum_operators comparison_operators and_operators or_operators word_literal offset over window arguments stand_in hold get last default reading dotted_default defaults dotted suffix named number worded bracketed operand negation negative minus plain other_with unary products product sums sum comparisons comparison conjunctions conjunction disjunctions conditional expr_with
 level_tallies true zero = refl
 level_tallies false zero = refl
 level_tallies true (suc n) = rw (level_tallies true n, level_tallies false n) refl
 level_tallies false (suc n) = rw (level_tallies true n, level_tallies false n) refl
 
-pub formula_tallies : (n : ℕ) → tallies all_marks (formula_level n) ≡ true
-unfolding formula_level tallies same_shape token mark word name other_name integer text quantity sign product_signs sum_signs comparison_signs and_signs or_signs word_literal offset over window atom conjunctions_of conjunct alternatives_of formula_with
+pub formula_tallies : (n : ℕ) → tallies all_nestings (formula_level n) ≡ true
+unfolding formula_level tallies same_shape token nesting word name other_name integer text quantity operator product_operators sum_operators comparison_operators and_operators or_operators word_literal offset over window atom conjunctions_of conjunct alternatives_of formula_with
 formula_tallies zero = refl
 formula_tallies (suc n) = rw (formula_tallies n) refl
 
@@ -27,9 +27,9 @@ any_token : (s : TokenShape) (n : ℕ) → IsDeep n (token s)
 unfolding guards token
 any_token s n k low = refl
 
-any_mark : (s : TokenShape) (n : ℕ) → IsDeep n (mark s)
-unfolding guards mark
-any_mark s n k low = refl
+any_nesting : (s : TokenShape) (n : ℕ) → IsDeep n (nesting s)
+unfolding guards nesting
+any_nesting s n k low = refl
 
 any_word : (w : List ℕ) (n : ℕ) → IsDeep n (word w)
 unfolding guards word
@@ -48,36 +48,36 @@ unfolding guards word_literal text token
 any_literal n k low = refl
 
 any_offset : (n : ℕ) → IsDeep n offset
-unfolding guards offset token mark word integer
+unfolding guards offset token nesting word integer
 any_offset n k low = refl
 
 any_window : (n : ℕ) → IsDeep n window
-unfolding guards window over token mark word quantity name
+unfolding guards window over token nesting word quantity name
 any_window n k low = refl
 
-any_product : (n : ℕ) → IsDeep n product_signs
-unfolding guards product_signs sign mark
+any_product : (n : ℕ) → IsDeep n product_operators
+unfolding guards product_operators operator nesting
 any_product n k low = refl
 
-any_sum : (n : ℕ) → IsDeep n sum_signs
-unfolding guards sum_signs sign mark
+any_sum : (n : ℕ) → IsDeep n sum_operators
+unfolding guards sum_operators operator nesting
 any_sum n k low = refl
 
-any_comparison : (n : ℕ) → IsDeep n comparison_signs
-unfolding guards comparison_signs sign mark
+any_comparison : (n : ℕ) → IsDeep n comparison_operators
+unfolding guards comparison_operators operator nesting
 any_comparison n k low = refl
 
-any_and : (n : ℕ) → IsDeep n and_signs
-unfolding guards and_signs sign mark
+any_and : (n : ℕ) → IsDeep n and_operators
+unfolding guards and_operators operator nesting
 any_and n k low = refl
 
-any_or : (n : ℕ) → IsDeep n or_signs
-unfolding guards or_signs sign mark
+any_or : (n : ℕ) → IsDeep n or_operators
+unfolding guards or_operators operator nesting
 any_or n k low = refl
 
-one_mark : (s : TokenShape) → least (mark s) ≡ 1
-unfolding least mark
-one_mark s = refl
+one_nesting : (s : TokenShape) → least (nesting s) ≡ 1
+unfolding least nesting
+one_nesting s = refl
 
 -- ---- how parts are put together
 
@@ -87,11 +87,11 @@ after a b n h i = deep_map (λ p. p.1) (Then a b) n (deep_then a b n h i)
 before : {A B : Type 0} (a : Syntax A) (b : Syntax B) (n : ℕ) → IsDeep n a → IsDeep n b → IsDeep n (a <* b)
 before a b n h i = deep_map (λ p. p.0) (Then a b) n (deep_then a b n h i)
 
-marked : {B : Type 0} (s : TokenShape) (b : Syntax B) (n : ℕ) → IsDeep n b → IsDeep (suc n) (Then (mark s) b)
-marked s b n h = deep_behind (mark s) b n (one_mark s) (any_mark s (suc n)) h
+with_nestings : {B : Type 0} (s : TokenShape) (b : Syntax B) (n : ℕ) → IsDeep n b → IsDeep (suc n) (Then (nesting s) b)
+with_nestings s b n h = deep_behind (nesting s) b n (one_nesting s) (any_nesting s (suc n)) h
 
-after_mark : {B : Type 0} (s : TokenShape) (b : Syntax B) (n : ℕ) → IsDeep n b → IsDeep (suc n) (mark s *> b)
-after_mark s b n h = deep_map (λ p. p.1) (Then (mark s) b) (suc n) (marked s b n h)
+after_nesting : {B : Type 0} (s : TokenShape) (b : Syntax B) (n : ℕ) → IsDeep n b → IsDeep (suc n) (nesting s *> b)
+after_nesting s b n h = deep_map (λ p. p.1) (Then (nesting s) b) (suc n) (with_nestings s b n h)
 
 led : {A : Type 0} (a : Syntax A) (b : Syntax (A → A)) (n : ℕ) → IsDeep n a → IsDeep n b → IsDeep n (a |> b)
 led a b n h i = deep_map (λ p. p.1 p.0) (Then a b) n (deep_then a b n h i)
@@ -102,11 +102,11 @@ led_on a b n h i = deep_map (λ p left. p.1 (p.0 left)) (Then a b) n (deep_then 
 folds : {A B : Type 0} (f : B → A → B) (s : Syntax A) (n : ℕ) → IsDeep n s → IsDeep n (folded f s)
 folds f s n h = deep_map _ (Many s) n (deep_many s n h)
 
-joins : (signs : Syntax Sign) (operand : Syntax Expr) (n : ℕ) → IsDeep n signs → IsDeep n operand → IsDeep n (joined signs operand)
-joins signs operand n h i = folds join (Then signs operand) n (deep_then signs operand n h i)
+joins : (operators : Syntax Operator) (operand : Syntax Expr) (n : ℕ) → IsDeep n operators → IsDeep n operand → IsDeep n (joined operators operand)
+joins operators operand n h i = folds join (Then operators operand) n (deep_then operators operand n h i)
 
-joins_once : (signs : Syntax Sign) (operand : Syntax Expr) (n : ℕ) → IsDeep n signs → IsDeep n operand → IsDeep n (joined_once signs operand)
-joins_once signs operand n h i = deep_map _ (Maybe (Then signs operand)) n (deep_maybe (Then signs operand) n (deep_then signs operand n h i))
+joins_once : (operators : Syntax Operator) (operand : Syntax Expr) (n : ℕ) → IsDeep n operators → IsDeep n operand → IsDeep n (joined_once operators operand)
+joins_once operators operand n h i = deep_map _ (Maybe (Then operators operand)) n (deep_maybe (Then operators operand) n (deep_then operators operand n h i))
 
 lists : {A : Type 0} (s : Syntax A) (n : ℕ) → IsDeep n s → IsDeep n (listed s)
 lists s n h = deep_map _ (Then s (Many (further s))) n (deep_then s (Many (further s)) n h (deep_many (further s) n (after (token is.Comma) s n (any_token is.Comma n) h)))
@@ -116,11 +116,11 @@ lists s n h = deep_map _ (Then s (Many (further s))) n (deep_then s (Many (furth
 module _ (E O : Syntax Expr) (n : ℕ) (in_E : IsDeep n E) (in_O : IsDeep n O) where
   arguments_deep : IsDeep (suc n) (arguments E O)
   unfolding arguments
-  arguments_deep = marked is.Open (listed E <* token is.Shut) n (before (listed E) (token is.Shut) n (lists E n in_E) (any_token is.Shut n))
+  arguments_deep = with_nestings is.Open (listed E <* token is.Shut) n (before (listed E) (token is.Shut) n (lists E n in_E) (any_token is.Shut n))
 
   stand_in_deep : IsDeep n (stand_in E O)
   unfolding stand_in
-  stand_in_deep = after (mark is.Open) _ n (any_mark is.Open n) (before (Maybe (word _ *> token is.Colon *> E)) (token is.Shut) n (deep_maybe _ n (after (word _) _ n (any_word _ n) (after (token is.Colon) E n (any_token is.Colon n) in_E))) (any_token is.Shut n))
+  stand_in_deep = after (nesting is.Open) _ n (any_nesting is.Open n) (before (Maybe (word _ *> token is.Colon *> E)) (token is.Shut) n (deep_maybe _ n (after (word _) _ n (any_word _ n) (after (token is.Colon) E n (any_token is.Colon n) in_E))) (any_token is.Shut n))
 
   hold_deep : IsDeep n (hold E O)
   unfolding hold
@@ -136,7 +136,7 @@ module _ (E O : Syntax Expr) (n : ℕ) (in_E : IsDeep n E) (in_O : IsDeep n O) w
 
   default_deep : IsDeep n (default E O)
   unfolding default
-  default_deep = after (word _) _ n (any_word _ n) (after (mark is.Open) _ n (any_mark is.Open n) (after (word _) _ n (any_word _ n) (after (token is.Colon) _ n (any_token is.Colon n) (before E (token is.Shut) n in_E (any_token is.Shut n)))))
+  default_deep = after (word _) _ n (any_word _ n) (after (nesting is.Open) _ n (any_nesting is.Open n) (after (word _) _ n (any_word _ n) (after (token is.Colon) _ n (any_token is.Colon n) (before E (token is.Shut) n in_E (any_token is.Shut n)))))
 
   reading_deep : IsDeep n (reading E O)
   unfolding reading
@@ -144,7 +144,7 @@ module _ (E O : Syntax Expr) (n : ℕ) (in_E : IsDeep n E) (in_O : IsDeep n O) w
 
   dotted_default_deep : IsDeep (suc n) (dotted_default E O)
   unfolding dotted_default
-  dotted_default_deep = marked is.Dot (default E O) n default_deep
+  dotted_default_deep = with_nestings is.Dot (default E O) n default_deep
 
   defaults_deep : IsDeep (suc n) (defaults E O)
   unfolding defaults
@@ -152,7 +152,7 @@ module _ (E O : Syntax Expr) (n : ℕ) (in_E : IsDeep n E) (in_O : IsDeep n O) w
 
   dotted_deep : IsDeep (suc n) (dotted E O)
   unfolding dotted
-  dotted_deep = deep_map _ _ (suc n) (marked is.Dot (reading E O) n reading_deep)
+  dotted_deep = deep_map _ _ (suc n) (with_nestings is.Dot (reading E O) n reading_deep)
 
   suffix_deep : IsDeep (suc n) (suffix E O)
   unfolding suffix
@@ -172,7 +172,7 @@ module _ (E O : Syntax Expr) (n : ℕ) (in_E : IsDeep n E) (in_O : IsDeep n O) w
 
   bracketed_deep : IsDeep (suc n) (bracketed E O)
   unfolding bracketed
-  bracketed_deep = led _ (defaults E O) (suc n) (after_mark is.Open (E <* token is.Shut) n (before E (token is.Shut) n in_E (any_token is.Shut n))) defaults_deep
+  bracketed_deep = led _ (defaults E O) (suc n) (after_nesting is.Open (E <* token is.Shut) n (before E (token is.Shut) n in_E (any_token is.Shut n))) defaults_deep
 
   operand_deep : IsDeep n (operand E O)
   unfolding operand
@@ -180,7 +180,7 @@ module _ (E O : Syntax Expr) (n : ℕ) (in_E : IsDeep n E) (in_O : IsDeep n O) w
 
   negation_deep : IsDeep (suc n) (negation E O)
   unfolding negation
-  negation_deep = deep_map _ _ (suc n) (marked is.Not (operand E O) n operand_deep)
+  negation_deep = deep_map _ _ (suc n) (with_nestings is.Not (operand E O) n operand_deep)
 
   negative_deep : IsDeep n (negative E O)
   unfolding negative
@@ -188,7 +188,7 @@ module _ (E O : Syntax Expr) (n : ℕ) (in_E : IsDeep n E) (in_O : IsDeep n O) w
 
   minus_deep : IsDeep (suc n) (minus E O)
   unfolding minus
-  minus_deep = deep_map _ _ (suc n) (marked is.Minus _ n (deep_either (negative E O) _ n negative_deep (deep_map _ O n in_O)))
+  minus_deep = deep_map _ _ (suc n) (with_nestings is.Minus _ n (deep_either (negative E O) _ n negative_deep (deep_map _ O n in_O)))
 
   plain_deep : IsDeep (suc n) (plain E O)
   unfolding plain
@@ -204,7 +204,7 @@ module _ (E O : Syntax Expr) (n : ℕ) (in_E : IsDeep n E) (in_O : IsDeep n O) w
 
   products_deep : IsDeep (suc n) (products E O)
   unfolding products
-  products_deep = joins product_signs (unary E O) (suc n) (any_product (suc n)) unary_deep
+  products_deep = joins product_operators (unary E O) (suc n) (any_product (suc n)) unary_deep
 
   product_deep : IsDeep (suc n) (product E O)
   unfolding product
@@ -212,7 +212,7 @@ module _ (E O : Syntax Expr) (n : ℕ) (in_E : IsDeep n E) (in_O : IsDeep n O) w
 
   sums_deep : IsDeep (suc n) (sums E O)
   unfolding sums
-  sums_deep = led_on (products E O) _ (suc n) products_deep (joins sum_signs (product E O) (suc n) (any_sum (suc n)) product_deep)
+  sums_deep = led_on (products E O) _ (suc n) products_deep (joins sum_operators (product E O) (suc n) (any_sum (suc n)) product_deep)
 
   sum_deep : IsDeep (suc n) (sum E O)
   unfolding sum
@@ -220,7 +220,7 @@ module _ (E O : Syntax Expr) (n : ℕ) (in_E : IsDeep n E) (in_O : IsDeep n O) w
 
   comparisons_deep : IsDeep (suc n) (comparisons E O)
   unfolding comparisons
-  comparisons_deep = led_on (sums E O) _ (suc n) sums_deep (joins_once comparison_signs (sum E O) (suc n) (any_comparison (suc n)) sum_deep)
+  comparisons_deep = led_on (sums E O) _ (suc n) sums_deep (joins_once comparison_operators (sum E O) (suc n) (any_comparison (suc n)) sum_deep)
 
   comparison_deep : IsDeep (suc n) (comparison E O)
   unfolding comparison
@@ -228,7 +228,7 @@ module _ (E O : Syntax Expr) (n : ℕ) (in_E : IsDeep n E) (in_O : IsDeep n O) w
 
   conjunctions_deep : IsDeep (suc n) (conjunctions E O)
   unfolding conjunctions
-  conjunctions_deep = led_on (comparisons E O) _ (suc n) comparisons_deep (joins and_signs (comparison E O) (suc n) (any_and (suc n)) comparison_deep)
+  conjunctions_deep = led_on (comparisons E O) _ (suc n) comparisons_deep (joins and_operators (comparison E O) (suc n) (any_and (suc n)) comparison_deep)
 
   conjunction_deep : IsDeep (suc n) (conjunction E O)
   unfolding conjunction
@@ -236,11 +236,11 @@ module _ (E O : Syntax Expr) (n : ℕ) (in_E : IsDeep n E) (in_O : IsDeep n O) w
 
   disjunctions_deep : IsDeep (suc n) (disjunctions E O)
   unfolding disjunctions
-  disjunctions_deep = led_on (conjunctions E O) _ (suc n) conjunctions_deep (joins or_signs (conjunction E O) (suc n) (any_or (suc n)) conjunction_deep)
+  disjunctions_deep = led_on (conjunctions E O) _ (suc n) conjunctions_deep (joins or_operators (conjunction E O) (suc n) (any_or (suc n)) conjunction_deep)
 
   conditional_deep : IsDeep (suc n) (conditional E O)
   unfolding conditional
-  conditional_deep = deep_map _ _ (suc n) (marked is.If _ n (deep_then E _ n in_E (deep_then _ _ n (after (token is.Then) E n (any_token is.Then n) in_E) (after (token is.Else) E n (any_token is.Else n) in_E))))
+  conditional_deep = deep_map _ _ (suc n) (with_nestings is.If _ n (deep_then E _ n in_E (deep_then _ _ n (after (token is.Then) E n (any_token is.Then n) in_E) (after (token is.Else) E n (any_token is.Else n) in_E))))
 
   expr_deep : IsDeep (suc n) (expr_with E O)
   unfolding expr_with
@@ -284,15 +284,15 @@ level_deep false (suc n) = other_deep (expr_in n) (other_in n) n (known_deep n n
 module _ (F : Syntax Formula) (n : ℕ) (in_F : IsDeep n F) where
   atom_deep : IsDeep (suc n) (atom F)
   unfolding atom
-  atom_deep = deep_either _ _ (suc n) (deep_map _ name (suc n) (any_name (suc n))) (after_mark is.Open (F <* token is.Shut) n (before F (token is.Shut) n in_F (any_token is.Shut n)))
+  atom_deep = deep_either _ _ (suc n) (deep_map _ name (suc n) (any_name (suc n))) (after_nesting is.Open (F <* token is.Shut) n (before F (token is.Shut) n in_F (any_token is.Shut n)))
 
   conjunct_deep : IsDeep (suc n) (conjunct F)
   unfolding conjunct conjunctions_of
-  conjunct_deep = led (atom F) _ (suc n) atom_deep (folds both _ (suc n) (deep_then (mark is.And) (atom F) (suc n) (any_mark is.And (suc n)) atom_deep))
+  conjunct_deep = led (atom F) _ (suc n) atom_deep (folds both _ (suc n) (deep_then (nesting is.And) (atom F) (suc n) (any_nesting is.And (suc n)) atom_deep))
 
   formula_deep : IsDeep (suc n) (formula_with F)
   unfolding formula_with alternatives_of
-  formula_deep = led (conjunct F) _ (suc n) conjunct_deep (folds either _ (suc n) (deep_then (mark is.Or) (conjunct F) (suc n) (any_mark is.Or (suc n)) conjunct_deep))
+  formula_deep = led (conjunct F) _ (suc n) conjunct_deep (folds either _ (suc n) (deep_then (nesting is.Or) (conjunct F) (suc n) (any_nesting is.Or (suc n)) conjunct_deep))
 
 known_formula : (n m : ℕ) → IsDeep n (formula_level m) → IsDeep n (formula_in m)
 unfolding guards
@@ -308,91 +308,91 @@ unfolding formula_level
 formula_level_deep zero = formula_bottom
 formula_level_deep (suc n) = formula_deep (formula_in n) n (known_formula n n (formula_level_deep n))
 
--- ---- whole specifications, in which more levels are nested than marks may come
+-- ---- whole specifications, in which more levels are nested than nestings may come
 
-whole_counted : (n : ℕ) → suc max_marks ≤ n → is_counted all_marks (whole n) ≡ true
+whole_counted : (n : ℕ) → suc max_nestings ≤ n → is_counted all_nestings (whole n) ≡ true
 unfolding is_counted tallies guards whole
-whole_counted n deep = simp (level_tallies true n, level_deep true n (suc max_marks) deep)
+whole_counted n deep = simp (level_tallies true n, level_deep true n (suc max_nestings) deep)
 
-whole_formula_counted : (n : ℕ) → suc max_marks ≤ n → is_counted all_marks (whole_formula n) ≡ true
+whole_formula_counted : (n : ℕ) → suc max_nestings ≤ n → is_counted all_nestings (whole_formula n) ≡ true
 unfolding is_counted tallies guards whole_formula
-whole_formula_counted n deep = simp (formula_tallies n, formula_level_deep n (suc max_marks) deep)
+whole_formula_counted n deep = simp (formula_tallies n, formula_level_deep n (suc max_nestings) deep)
 
-rhythm_counted : (n : ℕ) → suc max_marks ≤ n → is_counted all_marks (rhythm n) ≡ true
+rhythm_counted : (n : ℕ) → suc max_nestings ≤ n → is_counted all_nestings (rhythm n) ≡ true
 unfolding is_counted rhythm clock quantity other_name word token
 rhythm_counted n deep = simp (whole_formula_counted n deep)
 
-pacing_counted : (n : ℕ) → suc max_marks ≤ n → is_counted all_marks (pacing n) ≡ true
+pacing_counted : (n : ℕ) → suc max_nestings ≤ n → is_counted all_nestings (pacing n) ≡ true
 unfolding is_counted pacing token
 pacing_counted n deep = simp (rhythm_counted n deep)
 
-part_behind_counted : (n : ℕ) (s : TokenShape) → suc max_marks ≤ n → is_counted all_marks (part_behind n s) ≡ true
+part_behind_counted : (n : ℕ) (s : TokenShape) → suc max_nestings ≤ n → is_counted all_nestings (part_behind n s) ≡ true
 unfolding is_counted part_behind token
 part_behind_counted n s deep = simp (whole_counted n deep)
 
-more_parts_counted : (n : ℕ) → suc max_marks ≤ n → is_counted all_marks (more_parts n) ≡ true
+more_parts_counted : (n : ℕ) → suc max_nestings ≤ n → is_counted all_nestings (more_parts n) ≡ true
 unfolding is_counted more_parts token
 more_parts_counted n deep = simp (part_behind_counted n is.Comma deep)
 
-more_deep : (n : ℕ) → suc max_marks ≤ n → suc max_marks ≤ suc n
+more_deep : (n : ℕ) → suc max_nestings ≤ n → suc max_nestings ≤ suc n
 more_deep n deep = omega (arith, deep)
 
-one_part_tallies : (n : ℕ) → tallies all_marks (one_part n) ≡ true
-unfolding tallies same_shape one_part closed token mark word name other_name integer text quantity sign product_signs sum_signs comparison_signs and_signs or_signs word_literal offset over window arguments stand_in hold get last default reading dotted_default defaults dotted suffix named number worded bracketed operand negation negative minus plain other_with unary products product sums sum comparisons comparison conjunctions conjunction disjunctions conditional expr_with
+one_part_tallies : (n : ℕ) → tallies all_nestings (one_part n) ≡ true
+unfolding tallies same_shape one_part closed token nesting word name other_name integer text quantity operator product_operators sum_operators comparison_operators and_operators or_operators word_literal offset over window arguments stand_in hold get last default reading dotted_default defaults dotted suffix named number worded bracketed operand negation negative minus plain other_with unary products product sums sum comparisons comparison conjunctions conjunction disjunctions conditional expr_with
 one_part_tallies n = rw (level_tallies true n, level_tallies false n) refl
 
-one_part_deep : (n : ℕ) → suc max_marks ≤ n → guards (suc max_marks) (one_part n) ≡ true
+one_part_deep : (n : ℕ) → suc max_nestings ≤ n → guards (suc max_nestings) (one_part n) ≡ true
 unfolding guards one_part
-one_part_deep n deep = closed_deep (expr_in n) (other_in n) n (known_deep n n (level_deep true n)) (known_other n n (level_deep false n)) (suc max_marks) (more_deep n deep)
+one_part_deep n deep = closed_deep (expr_in n) (other_in n) n (known_deep n n (level_deep true n)) (known_other n n (level_deep false n)) (suc max_nestings) (more_deep n deep)
 
-unbracketed_tallies : (n : ℕ) → tallies all_marks (unbracketed n) ≡ true
-unfolding tallies same_shape unbracketed open_operand open_expr token mark word name other_name integer text quantity sign product_signs sum_signs comparison_signs and_signs or_signs word_literal offset over window arguments stand_in hold get last default reading dotted_default defaults dotted suffix named number worded bracketed operand negation negative minus plain other_with unary products product sums sum comparisons comparison conjunctions conjunction disjunctions conditional expr_with
+unbracketed_tallies : (n : ℕ) → tallies all_nestings (unbracketed n) ≡ true
+unfolding tallies same_shape unbracketed open_operand open_expr token nesting word name other_name integer text quantity operator product_operators sum_operators comparison_operators and_operators or_operators word_literal offset over window arguments stand_in hold get last default reading dotted_default defaults dotted suffix named number worded bracketed operand negation negative minus plain other_with unary products product sums sum comparisons comparison conjunctions conjunction disjunctions conditional expr_with
 unbracketed_tallies n = rw (level_tallies true n, level_tallies false n) refl
 
-unbracketed_deep : (n : ℕ) → suc max_marks ≤ n → guards (suc max_marks) (unbracketed n) ≡ true
+unbracketed_deep : (n : ℕ) → suc max_nestings ≤ n → guards (suc max_nestings) (unbracketed n) ≡ true
 unfolding guards unbracketed
-unbracketed_deep n deep = open_deep (expr_in n) (other_in n) n (known_deep n n (level_deep true n)) (known_other n n (level_deep false n)) (suc max_marks) (more_deep n deep)
+unbracketed_deep n deep = open_deep (expr_in n) (other_in n) n (known_deep n n (level_deep true n)) (known_other n n (level_deep false n)) (suc max_nestings) (more_deep n deep)
 
-same_marks : (within all_marks all_marks && within all_marks all_marks) ≡ true
+same_nestings : (within all_nestings all_nestings && within all_nestings all_nestings) ≡ true
 unfolding same_shape
-same_marks = refl
+same_nestings = refl
 
-forked_counted : (n : ℕ) → suc max_marks ≤ n → is_counted all_marks (forked n) ≡ true
+forked_counted : (n : ℕ) → suc max_nestings ≤ n → is_counted all_nestings (forked n) ≡ true
 unfolding is_counted tallies guards forked
-forked_counted n deep = rw (level_tallies true n, level_deep true n (suc max_marks) deep, more_parts_counted n deep, one_part_tallies n, one_part_deep n deep) same_marks
+forked_counted n deep = rw (level_tallies true n, level_deep true n (suc max_nestings) deep, more_parts_counted n deep, one_part_tallies n, one_part_deep n deep) same_nestings
 
-whole_unbracketed_counted : (n : ℕ) → suc max_marks ≤ n → is_counted all_marks (whole_unbracketed n) ≡ true
+whole_unbracketed_counted : (n : ℕ) → suc max_nestings ≤ n → is_counted all_nestings (whole_unbracketed n) ≡ true
 unfolding is_counted whole_unbracketed
 whole_unbracketed_counted n deep = rw (unbracketed_tallies n, unbracketed_deep n deep) refl
 
-parts_counted : (n : ℕ) → suc max_marks ≤ n → is_counted all_marks (parts n) ≡ true
+parts_counted : (n : ℕ) → suc max_nestings ≤ n → is_counted all_nestings (parts n) ≡ true
 unfolding is_counted parts token
 parts_counted n deep = simp (forked_counted n deep, whole_unbracketed_counted n deep)
 
-with_parts_counted : (n : ℕ) → suc max_marks ≤ n → is_counted all_marks (with_parts n) ≡ true
+with_parts_counted : (n : ℕ) → suc max_nestings ≤ n → is_counted all_nestings (with_parts n) ≡ true
 unfolding is_counted with_parts token
 with_parts_counted n deep = simp (parts_counted n deep)
 
-spawn_counted : (n : ℕ) → suc max_marks ≤ n → is_counted all_marks (spawn n) ≡ true
+spawn_counted : (n : ℕ) → suc max_nestings ≤ n → is_counted all_nestings (spawn n) ≡ true
 unfolding is_counted spawn token
 spawn_counted n deep = simp (pacing_counted n deep, part_behind_counted n is.When deep, with_parts_counted n deep)
 
-eval_counted : (n : ℕ) → suc max_marks ≤ n → is_counted all_marks (eval n) ≡ true
+eval_counted : (n : ℕ) → suc max_nestings ≤ n → is_counted all_nestings (eval n) ≡ true
 unfolding is_counted eval token
 eval_counted n deep = simp (pacing_counted n deep, part_behind_counted n is.When deep, part_behind_counted n is.With deep)
 
-close_counted : (n : ℕ) → suc max_marks ≤ n → is_counted all_marks (close n) ≡ true
+close_counted : (n : ℕ) → suc max_nestings ≤ n → is_counted all_nestings (close n) ≡ true
 unfolding is_counted close token
 close_counted n deep = simp (pacing_counted n deep, part_behind_counted n is.When deep)
 
-short_eval_counted : (n : ℕ) → suc max_marks ≤ n → is_counted all_marks (short_eval n) ≡ true
+short_eval_counted : (n : ℕ) → suc max_nestings ≤ n → is_counted all_nestings (short_eval n) ≡ true
 unfolding is_counted short_eval
 short_eval_counted n deep = simp (pacing_counted n deep, part_behind_counted n is.Define deep)
 
-body_counted : (n : ℕ) → suc max_marks ≤ n → is_counted all_marks (body n) ≡ true
+body_counted : (n : ℕ) → suc max_nestings ≤ n → is_counted all_nestings (body n) ≡ true
 unfolding is_counted body
 body_counted n deep = simp (short_eval_counted n deep, spawn_counted n deep, eval_counted n deep, close_counted n deep)
 
-pub specification_counted : (n : ℕ) → suc max_marks ≤ n → is_counted all_marks (specification n) ≡ true
+pub specification_counted : (n : ℕ) → suc max_nestings ≤ n → is_counted all_nestings (specification n) ≡ true
 unfolding is_counted specification declaration inputs constant output trigger typed parameters kind message literal word_literal name integer text token
 specification_counted n deep = simp (body_counted n deep, pacing_counted n deep, whole_counted n deep)

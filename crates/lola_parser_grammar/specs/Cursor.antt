@@ -5,7 +5,7 @@ use Rattle.lola_parser_grammars_law.specs.Syntax.{Lexeme, Syntax, Outcome, Unexp
 use Rattle.lola_parser_grammar.specs.declared.error.ParseError.{ParseError}
 use Rattle.lola_parser_grammar.specs.declared.error.ParseError.TheVariants as errors
 
--- the tokens that are still to read, and how many marks may come in the expression
+-- the tokens that are still to read, and how many nestings may come in the expression
 pub record Cursor : Type 0 where
   pub rest : List Lexeme
   pub room : ℕ

@@ -28,7 +28,7 @@ use Rattle.lola_parser_tree.specs.declared.clauses.Eval.{Eval}
 use Rattle.lola_parser_tree.specs.declared.clauses.Close.{Close}
 use Rattle.lola_parser_tree.specs.declared.declarations.Declaration.{Declaration}
 use Rattle.lola_parser_tree.specs.declared.declarations.Declaration.TheVariants as d
-use Rattle.lola_parser_grammars_law.specs.Syntax.{Lexeme, Terminal, Of, Word, Other, Syntax, Past, Token, Mark, Whole, Known, Then, Map, Either, Maybe, Many, Fork}
+use Rattle.lola_parser_grammars_law.specs.Syntax.{Lexeme, Terminal, Of, Word, Other, Syntax, Past, Token, Nesting, Whole, Known, Then, Map, Either, Maybe, Many, Fork}
 use Rattle.lola_parser_grammar.specs.Literals.{number_of, digits_in, decimals_in, unit_of, text_of_literal}
 
 -- ---- tokens
@@ -40,8 +40,8 @@ place t = t.from
 unfoldable pub token : TokenShape → Syntax ℕ
 token s = Map place (Token (Of s))
 
-unfoldable pub mark : TokenShape → Syntax ℕ
-mark s = Map place (Mark (Of s))
+unfoldable pub nesting : TokenShape → Syntax ℕ
+nesting s = Map place (Nesting (Of s))
 
 unfoldable pub word : List ℕ → Syntax ℕ
 word w = Map place (Token (Word w))
@@ -86,7 +86,7 @@ infixl 13 ◌<*◌
 abbrev pub ◌<*◌ : {A B : Type 0} → Syntax A → Syntax B → Syntax A
 a <* b = Map (λ p. p.0) (Then a b)
 
--- in brackets that are no marks
+-- in brackets that are no nestings
 abbrev pub enclosed : {A : Type 0} → Syntax A → Syntax A
 enclosed s = token is.Open *> s <* token is.Shut
 
@@ -116,52 +116,52 @@ infixl 11 ◌>>◌
 abbrev pub ◌>>◌ : {A : Type 0} → Syntax (A → A) → Syntax (A → A) → Syntax (A → A)
 a >> b = Map (λ p left. p.1 (p.0 left)) (Then a b)
 
--- ---- signs between operands
+-- ---- operators between operands
 
-abbrev pub Sign : Type 0
-Sign = Binary × ℕ
+abbrev pub Operator : Type 0
+Operator = Binary × ℕ
 
 abbrev pub Joined : Type 0
-Joined = Sign × Expr
+Joined = Operator × Expr
 
 abbrev pub join : Expr → Joined → Expr
 join left r = e.Binary r.0.0 r.0.1 left r.1
 
-unfoldable pub sign : TokenShape → Binary → Syntax Sign
-sign s op = Map (λ at. (op, at)) (mark s)
+unfoldable pub operator : TokenShape → Binary → Syntax Operator
+operator s op = Map (λ at. (op, at)) (nesting s)
 
-unfoldable pub product_signs : Syntax Sign
-product_signs = Either (sign is.Star by.Multiply) (Either (sign is.Slash by.Divide) (sign is.Percent by.Remainder))
+unfoldable pub product_operators : Syntax Operator
+product_operators = Either (operator is.Star by.Multiply) (Either (operator is.Slash by.Divide) (operator is.Percent by.Remainder))
 
-unfoldable pub sum_signs : Syntax Sign
-sum_signs = Either (sign is.Plus by.Add) (sign is.Minus by.Subtract)
+unfoldable pub sum_operators : Syntax Operator
+sum_operators = Either (operator is.Plus by.Add) (operator is.Minus by.Subtract)
 
-unfoldable pub comparison_signs : Syntax Sign
-comparison_signs =
-    Either (sign is.Equal by.Equal) (Either (sign is.Unequal by.Unequal) (Either (sign is.Less by.Less)
-    (Either (sign is.LessEqual by.LessEqual) (Either (sign is.Greater by.Greater) (sign is.GreaterEqual by.GreaterEqual)))))
+unfoldable pub comparison_operators : Syntax Operator
+comparison_operators =
+    Either (operator is.Equal by.Equal) (Either (operator is.Unequal by.Unequal) (Either (operator is.Less by.Less)
+    (Either (operator is.LessEqual by.LessEqual) (Either (operator is.Greater by.Greater) (operator is.GreaterEqual by.GreaterEqual)))))
 
-unfoldable pub and_signs : Syntax Sign
-and_signs = sign is.And by.And
+unfoldable pub and_operators : Syntax Operator
+and_operators = operator is.And by.And
 
-unfoldable pub or_signs : Syntax Sign
-or_signs = sign is.Or by.Or
+unfoldable pub or_operators : Syntax Operator
+or_operators = operator is.Or by.Or
 
 -- parts that are joined from the left to what they follow
 abbrev pub folded : {A B : Type 0} → (B → A → B) → Syntax A → Syntax (B → B)
 folded f s = Map (λ rs left. fold f left rs) (Many s)
 
--- signs with operands
-abbrev pub joined : Syntax Sign → Syntax Expr → Syntax (Expr → Expr)
-joined signs operand = folded join (Then signs operand)
+-- operators with operands
+abbrev pub joined : Syntax Operator → Syntax Expr → Syntax (Expr → Expr)
+joined operators operand = folded join (Then operators operand)
 
 abbrev pub compared : Option Joined → Expr → Expr
 compared None left = left
 compared (Some r) left = join left r
 
--- a sign with an operand, or none
-abbrev pub joined_once : Syntax Sign → Syntax Expr → Syntax (Expr → Expr)
-joined_once signs operand = Map compared (Maybe (Then signs operand))
+-- an operator with an operand, or none
+abbrev pub joined_once : Syntax Operator → Syntax Expr → Syntax (Expr → Expr)
+joined_once operators operand = Map compared (Maybe (Then operators operand))
 
 -- ---- literals
 
@@ -198,7 +198,7 @@ with_default left p = e.Defaults p.0 left p.1
 unfoldable pub offset : Syntax (ℕ → Reading)
 offset =
     Map (λ p dot. (a.Offset dot p.0 p.1, None))
-    (word (codes "offset") *> mark is.Open *> word (codes "by") *> token is.Colon *> mark is.Minus *> integer <* token is.Shut)
+    (word (codes "offset") *> nesting is.Open *> word (codes "by") *> token is.Colon *> nesting is.Minus *> integer <* token is.Shut)
 
 -- whether a window counts only where it lies within the run
 unfoldable pub over : Syntax Bool
@@ -207,7 +207,7 @@ over = Either (Map (λ at. false) (word (codes "over"))) (Map (λ at. true) (wor
 unfoldable pub window : Syntax (ℕ → Reading)
 window =
     Map (λ p dot. (a.Window dot p.0 p.1.0 p.1.1, None))
-    (word (codes "aggregate") *> mark is.Open
+    (word (codes "aggregate") *> nesting is.Open
     *> Then over (Then (token is.Colon *> quantity) (token is.Comma *> word (codes "using") *> token is.Colon *> name)) <* token is.Shut)
 
 -- such a reading behind a point there
@@ -244,11 +244,11 @@ of_name n p s = Map (λ g. g (reference n p)) s
 
 module _ (expr other : Syntax Expr) where
   unfoldable pub arguments : Syntax Arguments
-  arguments = Then (mark is.Open) (listed expr <* token is.Shut)
+  arguments = Then (nesting is.Open) (listed expr <* token is.Shut)
 
   -- in brackets, what stands in
   unfoldable pub stand_in : Syntax (Option Expr)
-  stand_in = mark is.Open *> Maybe (word (codes "or") *> token is.Colon *> expr) <* token is.Shut
+  stand_in = nesting is.Open *> Maybe (word (codes "or") *> token is.Colon *> expr) <* token is.Shut
 
   unfoldable pub hold : Syntax (ℕ → Reading)
   hold = Map (λ b dot. (a.Hold dot, b)) (word (codes "hold") *> stand_in)
@@ -261,20 +261,20 @@ module _ (expr other : Syntax Expr) where
   last = Map (λ p dot. (a.Offset dot 1 p.0, p.1)) (Then (word (codes "last")) stand_in)
 
   unfoldable pub default : Syntax Expr
-  default = word (codes "defaults") *> mark is.Open *> word (codes "to") *> token is.Colon *> expr <* token is.Shut
+  default = word (codes "defaults") *> nesting is.Open *> word (codes "to") *> token is.Colon *> expr <* token is.Shut
 
   -- what may stand behind the point after a name
   unfoldable pub reading : Syntax (ℕ → Reading)
   reading = Either offset (Either hold (Either get (Either last (Either window (Map (λ b dot. (a.Direct, Some b)) default)))))
 
   unfoldable pub dotted_default : Syntax (ℕ × Expr)
-  dotted_default = Then (mark is.Dot) default
+  dotted_default = Then (nesting is.Dot) default
 
   unfoldable pub defaults : Syntax (Expr → Expr)
   defaults = folded with_default dotted_default
 
   unfoldable pub dotted : Syntax Suffix
-  dotted = Map (λ p. read_by p.0 (p.1 p.0)) (Then (mark is.Dot) reading)
+  dotted = Map (λ p. read_by p.0 (p.1 p.0)) (Then (nesting is.Dot) reading)
 
   unfoldable pub suffix : Syntax Suffix
   suffix = Map (λ p named. p.1 (p.0 named)) (Then dotted defaults)
@@ -289,21 +289,21 @@ module _ (expr other : Syntax Expr) where
   worded = Map (λ l. e.Literal l) word_literal |> defaults
 
   unfoldable pub bracketed : Syntax Expr
-  bracketed = mark is.Open *> expr <* token is.Shut |> defaults
+  bracketed = nesting is.Open *> expr <* token is.Shut |> defaults
 
-  -- an operand behind a sign
+  -- an operand behind an operator
   unfoldable pub operand : Syntax Expr
   operand = Either number other
 
   unfoldable pub negation : Syntax Expr
-  negation = Map (λ p. e.Prefix pre.Not p.0 p.1) (Then (mark is.Not) operand)
+  negation = Map (λ p. e.Prefix pre.Not p.0 p.1) (Then (nesting is.Not) operand)
 
   -- a `-` directly before an integer makes one literal
   unfoldable pub negative : Syntax (ℕ → Expr)
   negative = Map (λ p at. p.1 (e.Literal (whole_number true p.0.0 at))) (Then integer defaults)
 
   unfoldable pub minus : Syntax Expr
-  minus = Map (λ p. p.1 p.0) (Then (mark is.Minus) (Either negative (Map (λ x at. e.Prefix pre.Negate at x) other)))
+  minus = Map (λ p. p.1 p.0) (Then (nesting is.Minus) (Either negative (Map (λ x at. e.Prefix pre.Negate at x) other)))
 
   -- an operand that begins with no integer and no bracket
   unfoldable pub plain : Syntax Expr
@@ -316,35 +316,35 @@ module _ (expr other : Syntax Expr) where
   unary = Either number other_with
 
   unfoldable pub products : Syntax (Expr → Expr)
-  products = joined product_signs unary
+  products = joined product_operators unary
 
   unfoldable pub product : Syntax Expr
   product = unary |> products
 
   unfoldable pub sums : Syntax (Expr → Expr)
-  sums = products >> joined sum_signs product
+  sums = products >> joined sum_operators product
 
   unfoldable pub sum : Syntax Expr
   sum = unary |> sums
 
   unfoldable pub comparisons : Syntax (Expr → Expr)
-  comparisons = sums >> joined_once comparison_signs sum
+  comparisons = sums >> joined_once comparison_operators sum
 
   unfoldable pub comparison : Syntax Expr
   comparison = unary |> comparisons
 
   unfoldable pub conjunctions : Syntax (Expr → Expr)
-  conjunctions = comparisons >> joined and_signs comparison
+  conjunctions = comparisons >> joined and_operators comparison
 
   unfoldable pub conjunction : Syntax Expr
   conjunction = unary |> conjunctions
 
   -- all that may follow an operand
   unfoldable pub disjunctions : Syntax (Expr → Expr)
-  disjunctions = conjunctions >> joined or_signs conjunction
+  disjunctions = conjunctions >> joined or_operators conjunction
 
   unfoldable pub conditional : Syntax Expr
-  conditional = Map (λ p. e.If p.0 p.1.0 p.1.1.0 p.1.1.1) (Then (mark is.If) (Then expr (Then (token is.Then *> expr) (token is.Else *> expr))))
+  conditional = Map (λ p. e.If p.0 p.1.0 p.1.1.0 p.1.1.1) (Then (nesting is.If) (Then expr (Then (token is.Then *> expr) (token is.Else *> expr))))
 
   unfoldable pub expr_with : Syntax Expr
   expr_with = Either conditional (unary |> disjunctions)
@@ -393,21 +393,21 @@ abbrev pub nested : Bool → ℕ → Syntax Expr
 nested true n = expr_in n
 nested false n = other_in n
 
--- what counts as a mark in an expression and in a formula
-abbrev pub opening_marks : List Terminal
-opening_marks = Of is.Open ∷ Of is.Dot ∷ Of is.If ∷ Of is.Not ∷ []
+-- what counts as a nesting in an expression and in a formula
+abbrev pub opening_nestings : List Terminal
+opening_nestings = Of is.Open ∷ Of is.Dot ∷ Of is.If ∷ Of is.Not ∷ []
 
-abbrev pub joining_marks : List Terminal
-joining_marks = Of is.Minus ∷ Of is.Plus ∷ Of is.Star ∷ Of is.Slash ∷ Of is.Percent ∷ Of is.And ∷ Of is.Or ∷ []
+abbrev pub joining_nestings : List Terminal
+joining_nestings = Of is.Minus ∷ Of is.Plus ∷ Of is.Star ∷ Of is.Slash ∷ Of is.Percent ∷ Of is.And ∷ Of is.Or ∷ []
 
-abbrev pub comparing_marks : List Terminal
-comparing_marks = Of is.Equal ∷ Of is.Unequal ∷ Of is.Less ∷ Of is.LessEqual ∷ Of is.Greater ∷ Of is.GreaterEqual ∷ []
+abbrev pub comparing_nestings : List Terminal
+comparing_nestings = Of is.Equal ∷ Of is.Unequal ∷ Of is.Less ∷ Of is.LessEqual ∷ Of is.Greater ∷ Of is.GreaterEqual ∷ []
 
-abbrev pub sign_marks : List Terminal
-sign_marks = joining_marks ++ comparing_marks
+abbrev pub operator_nestings : List Terminal
+operator_nestings = joining_nestings ++ comparing_nestings
 
-abbrev pub all_marks : List Terminal
-all_marks = opening_marks ++ sign_marks
+abbrev pub all_nestings : List Terminal
+all_nestings = opening_nestings ++ operator_nestings
 
 -- ---- pacings
 
@@ -419,16 +419,16 @@ either left p = f.Either p.0 left p.1
 
 module _ (formula : Syntax Formula) where
   unfoldable pub atom : Syntax Formula
-  atom = Either (Map (λ n. f.Input n) name) (mark is.Open *> formula <* token is.Shut)
+  atom = Either (Map (λ n. f.Input n) name) (nesting is.Open *> formula <* token is.Shut)
 
   unfoldable pub conjunctions_of : Syntax (Formula → Formula)
-  conjunctions_of = folded both (Then (mark is.And) atom)
+  conjunctions_of = folded both (Then (nesting is.And) atom)
 
   unfoldable pub conjunct : Syntax Formula
   conjunct = atom |> conjunctions_of
 
   unfoldable pub alternatives_of : Syntax (Formula → Formula)
-  alternatives_of = folded either (Then (mark is.Or) conjunct)
+  alternatives_of = folded either (Then (nesting is.Or) conjunct)
 
   unfoldable pub formula_with : Syntax Formula
   formula_with = conjunct |> alternatives_of
@@ -547,9 +547,9 @@ module _ (n : ℕ) where
   unfoldable pub whole_unbracketed : Syntax Expr
   whole_unbracketed = Whole unbracketed
 
-  -- behind a bracket, which is a mark only where the first expression goes on behind its end
+  -- behind a bracket, which is a nesting only where the first expression goes on behind its end
   unfoldable pub forked : Syntax (Expr × Parts)
-  forked = Fork all_marks (expr_in n) more_parts one_part
+  forked = Fork all_nestings (expr_in n) more_parts one_part
 
   -- an expression or a list of them, by the place of the `with`
   unfoldable pub parts : Syntax (ℕ → List Part)

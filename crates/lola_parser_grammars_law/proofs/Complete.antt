@@ -2,7 +2,7 @@
 use Rattle.std.proofs.Common.{◌≡◌, ℕ, zero, suc, ◌-◌, ◌≤◌, Bool, true, false, cond, not, ◌&&◌, List, [], ◌∷◌, ◌++◌, length, Some, None, Ok, Err, refl, sym, ap, subst, ◌∙◌, append_assoc, arith, inl, inr, ◌⊎◌}
 use Rattle.std.proofs.lemmas.List.{length-append}
 use Rattle.std.proofs.lemmas.Bool.{and_parts, or_left, not-true, false_from_ne_true}
-use Rattle.lola_parser_grammars_law.specs.Syntax.{Lexeme, Terminal, fits, any_fits, Syntax, Past, Token, Mark, Whole, Known, Then, Map, Either, Maybe, Many, Fork, charged, either_rest, last_mark, is_rest, Repeats, Spells, starts, first, nullable, more, apart, within, is_fine, TooDeep, Outcome, Reader, ◌>>=◌, counted, max_marks, repeated, read}
+use Rattle.lola_parser_grammars_law.specs.Syntax.{Lexeme, Terminal, fits, any_fits, Syntax, Past, Token, Nesting, Whole, Known, Then, Map, Either, Maybe, Many, Fork, charged, either_rest, last_nesting, is_rest, Repeats, Spells, starts, first, nullable, more, apart, within, is_fine, TooDeep, Outcome, Reader, ◌>>=◌, counted, max_nestings, repeated, read}
 use Rattle.lola_parser_grammars_law.proofs.Tests.{apart_excludes, any_left, any_right, within_fits}
 
 pub nil_parts : (u v : List Lexeme) → [] ≡ u ++ v → (u ≡ []) × (v ≡ [])
@@ -57,7 +57,7 @@ pub spells_nil : {A : Type 0} (s : Syntax A) → is_fine s ≡ true → (x : A) 
 unfolding Spells nullable is_fine
 spells_nil (Past a) fine x h = spells_nil a fine x h
 spells_nil (Token k) fine x h = absurd (let e = h.0 in cc)
-spells_nil (Mark k) fine x h = absurd (let e = h.0 in cc)
+spells_nil (Nesting k) fine x h = absurd (let e = h.0 in cc)
 spells_nil (Whole a) fine x h = spells_nil a fine x h
 spells_nil (Known fs ms a) fine x h =
     let f = known_parts (is_fine a) (nullable a) (within (first a) fs) (within (more a) ms) fine in
@@ -97,7 +97,7 @@ pub begins : {A : Type 0} (s : Syntax A) → is_fine s ≡ true → (t : Lexeme)
 unfolding Spells first is_fine
 begins (Past a) fine t ts x h = begins a fine t ts x h
 begins (Token k) fine t ts x h = let e : x ≡ t = (let d = h.0 in cc) in or_left (fits k t) false (subst (λ w. fits k w ≡ true) e h.1)
-begins (Mark k) fine t ts x h = let e : x ≡ t = (let d = h.0 in cc) in or_left (fits k t) false (subst (λ w. fits k w ≡ true) e h.1)
+begins (Nesting k) fine t ts x h = let e : x ≡ t = (let d = h.0 in cc) in or_left (fits k t) false (subst (λ w. fits k w ≡ true) e h.1)
 begins (Whole a) fine t ts x h = begins a fine t ts x h
 begins (Known fs ms a) fine t ts x h =
     let f = known_parts (is_fine a) (nullable a) (within (first a) fs) (within (more a) ms) fine in
@@ -195,9 +195,9 @@ repeated_complete r P firsts mores part (suc n) m u (x ∷ xs) rest le h stop =
     let next : length (h.1 ++ rest) ≤ n → (i : ℕ) → OkOrDeep (repeated r firsts n i (h.1 ++ rest)) xs rest = λ shorter i. repeated_complete r P firsts mores part n i h.1 xs rest shorter h.4 stop in
     rw regrouped (one_more r P firsts mores part n m h.0 h.1 x xs rest fits h.3 h.4 stop next)
 
-mark_read : (t : Lexeme) (m : ℕ) (rest : List Lexeme) → OkOrDeep (counted t m rest) t rest
-mark_read t zero rest = inr (t ∷ rest, refl)
-mark_read t (suc m) rest = inl (m, refl)
+nesting_read : (t : Lexeme) (m : ℕ) (rest : List Lexeme) → OkOrDeep (counted t m rest) t rest
+nesting_read t zero rest = inr (t ∷ rest, refl)
+nesting_read t (suc m) rest = inl (m, refl)
 
 pub stops_within : (ks ls : List Terminal) (rest : List Lexeme) → within ks ls ≡ true → starts ls rest ≡ false → starts ks rest ≡ false
 stops_within ks ls [] e h = refl
@@ -235,8 +235,8 @@ pub complete : {A : Type 0} (s : Syntax A) → is_fine s ≡ true → IsComplete
 unfolding read Spells more is_fine nullable first
 complete (Past a) fine m u x rest h stop = inr (u ++ rest, refl)
 complete (Token k) fine m u x rest h stop = inl (m, rw (h.0, h.1) refl)
-complete (Mark k) fine m u x rest h stop = rw (h.0, h.1) (mark_read x m rest)
-complete (Whole a) fine m u x rest h stop = complete a fine max_marks u x rest h stop
+complete (Nesting k) fine m u x rest h stop = rw (h.0, h.1) (nesting_read x m rest)
+complete (Whole a) fine m u x rest h stop = complete a fine max_nestings u x rest h stop
 complete (Known fs ms a) fine m u x rest h stop =
     let f = known_parts (is_fine a) (nullable a) (within (first a) fs) (within (more a) ms) fine in
     complete a f.0 m u x rest h (stops_within (more a) ms rest f.3 stop)
@@ -281,8 +281,8 @@ complete (Fork ks a b c) fine m u x rest h stop =
     let f = fork_is ks a b c fine in
     let s = any_split (more b) (more c) rest stop in
     let clear : starts (more a) (h.1 ++ rest) ≡ false = fork_follows (more a) b c f.one f.two h.1 x.1 rest h.4 in
-    let one = complete a f.head max_marks h.0 x.0 (h.1 ++ rest) h.3 clear in
-    let deep = last_mark ks (length (h.0 ++ (h.1 ++ rest)) - length (h.1 ++ rest)) (h.1 ++ rest) (h.0 ++ (h.1 ++ rest)) in
+    let one = complete a f.head max_nestings h.0 x.0 (h.1 ++ rest) h.3 clear in
+    let deep = last_nesting ks (length (h.0 ++ (h.1 ++ rest)) - length (h.1 ++ rest)) (h.1 ++ rest) (h.0 ++ (h.1 ++ rest)) in
     let rest_b : Rest (read b) (Spells b) (first b) (more b) = record { whole = complete b f.one.0; some = full_is b f.one.0 f.one.1; opens = begins b f.one.0 } in
     let rest_c : Rest (charged deep (read c)) (Spells c) (first c) (more c) = record { whole = charged_complete deep (read c) (Spells c) (more c) (complete c f.two.0); some = full_is c f.two.0 f.two.1; opens = begins c f.two.0 } in
     let r = either_rest (first b) (read b) (first c) (charged deep (read c)) in
@@ -290,6 +290,6 @@ complete (Fork ks a b c) fine m u x rest h stop =
     λ i. bind_again (r i (h.1 ++ rest)) (λ z j end. Ok ((x.0, z), j, end)) x.1 rest x rest
     (rest_complete (first b) (first c) (more b) (more c) (read b) (charged deep (read c)) (Spells b) (Spells c) rest_b rest_c f.clear i h.1 x.1 rest h.4 s.0 s.1) (λ j. inl (j, refl)) in
     let regrouped : u ++ rest ≡ h.0 ++ (h.1 ++ rest) = ap (λ (w : List Lexeme). w ++ rest) h.2 ∙ append_assoc h.0 h.1 rest in
-    rw regrouped (bind_again (read a max_marks (h.0 ++ (h.1 ++ rest)))
-    (λ y i end. either_rest (first b) (read b) (first c) (charged (last_mark ks (length (h.0 ++ (h.1 ++ rest)) - length end) end (h.0 ++ (h.1 ++ rest))) (read c)) i end >>= λ z j last. Ok ((y, z), j, last))
+    rw regrouped (bind_again (read a max_nestings (h.0 ++ (h.1 ++ rest)))
+    (λ y i end. either_rest (first b) (read b) (first c) (charged (last_nesting ks (length (h.0 ++ (h.1 ++ rest)) - length end) end (h.0 ++ (h.1 ++ rest))) (read c)) i end >>= λ z j last. Ok ((y, z), j, last))
     x.0 (h.1 ++ rest) x rest one two)

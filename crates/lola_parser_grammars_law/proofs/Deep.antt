@@ -1,11 +1,11 @@
--- What takes a mark for each level that is nested.
+-- What takes a nesting for each level that is nested.
 use Rattle.std.proofs.Common.{◌≡◌, ℕ, suc, ◌≤◌, true, arith}
 use Rattle.std.proofs.lemmas.Bool.{and_from}
 use Rattle.lola_parser_grammars_law.specs.Syntax.{Syntax, Then, Map, Either, Maybe, Many}
-use Rattle.lola_parser_grammars_law.specs.Marks.{lower, least, guards}
+use Rattle.lola_parser_grammars_law.specs.Nestings.{lower, least, guards}
 use Rattle.lola_parser_grammars_law.proofs.Within.{lower_is}
 
--- whatever is nested deeper than all is read after at least n marks
+-- whatever is nested deeper than all is read after at least n nestings
 abbrev pub IsDeep : {A : Type 0} → ℕ → Syntax A → Type 0
 IsDeep n s = (k : ℕ) → k ≤ n → guards k s ≡ true
 
@@ -20,7 +20,7 @@ pub deep_then : {A B : Type 0} (a : Syntax A) (b : Syntax B) (n : ℕ) → IsDee
 unfolding guards
 deep_then a b n h i k low = and_from (guards k a) (guards (lower k (least a)) b) (h k low) (i (lower k (least a)) (omega (arith, low, lower_is k (least a))))
 
--- behind a mark there is one level more
+-- behind a nesting there is one level more
 pub deep_behind : {A B : Type 0} (a : Syntax A) (b : Syntax B) (n : ℕ) → least a ≡ 1 → IsDeep (suc n) a → IsDeep n b → IsDeep (suc n) (Then a b)
 unfolding guards
 deep_behind a b n one h i k low = and_from (guards k a) (guards (lower k (least a)) b) (h k low) (i (lower k (least a)) (omega (arith, low, one, lower_is k (least a))))

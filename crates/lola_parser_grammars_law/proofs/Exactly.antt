@@ -1,13 +1,13 @@
--- What is spelled so is read, or is refused at a mark that is one too many in it.
+-- What is spelled so is read, or is refused at a nesting that is one too many in it.
 use Rattle.std.proofs.Common.{◌≡◌, ℕ, zero, suc, ◌+◌, ◌-◌, ◌≤◌, ◌<◌, true, false, not, List, [], ◌∷◌, ◌++◌, length, Some, None, Ok, Err, refl, sym, ap, subst, ◌∙◌, append_assoc, arith, inl, inr, ◌⊎◌}
 use Rattle.std.proofs.lemmas.List.{append-nil, length-append, append_cancel_right}
 use Rattle.std.proofs.lemmas.Bool.{and_parts, not-true, false_from_ne_true}
-use Rattle.lola_parser_grammars_law.specs.Syntax.{Lexeme, Terminal, any_fits, Syntax, Past, Token, Mark, Whole, Known, Then, Map, Either, Maybe, Many, Fork, charged, either_rest, last_mark, Repeats, Spells, starts, first, nullable, more, apart, within, is_fine, TooDeep, Outcome, Reader, ◌>>=◌, repeated, read, max_marks}
-use Rattle.lola_parser_grammars_law.specs.Marks.{is_mark, marks_in, tallies, guards, is_counted}
+use Rattle.lola_parser_grammars_law.specs.Syntax.{Lexeme, Terminal, any_fits, Syntax, Past, Token, Nesting, Whole, Known, Then, Map, Either, Maybe, Many, Fork, charged, either_rest, last_nesting, Repeats, Spells, starts, first, nullable, more, apart, within, is_fine, TooDeep, Outcome, Reader, ◌>>=◌, repeated, read, max_nestings}
+use Rattle.lola_parser_grammars_law.specs.Nestings.{is_nesting, nestings_in, tallies, guards, is_counted}
 use Rattle.lola_parser_grammars_law.specs.Exceeding.{Exceeds, ExceedsAmong}
 use Rattle.lola_parser_grammars_law.proofs.Tests.{apart_excludes}
 use Rattle.lola_parser_grammars_law.proofs.Complete.{spells_nil, begins, and_three, choice_parts, known_parts, any_split, follows, tail_stops, stops_within, repeats_begin, complete, fork_is, full_is, fork_follows}
-use Rattle.lola_parser_grammars_law.proofs.Within.{marks-append, complete_within}
+use Rattle.lola_parser_grammars_law.proofs.Within.{nestings-append, complete_within}
 use Rattle.lola_parser_grammars_law.proofs.Over.{last_is, counts, over, fork_counted}
 
 -- two splits of one list
@@ -28,31 +28,31 @@ few_or_more zero b = inl (omega arith)
 few_or_more (suc a) zero = inr (omega arith)
 few_or_more (suc a) (suc b) = elim (few_or_more a b) [ inl h ↦ inl (omega (arith, h)) | inr h ↦ inr (omega (arith, h)) ]
 
-module _ (marks : List Terminal) where
+module _ (nestings : List Terminal) where
   abbrev IsDone : {A : Type 0} → Outcome A → A → List Lexeme → Type 0
   IsDone r x rest = (i : ℕ) × (r ≡ Ok (x, i, rest))
 
-  -- the reading of u ends at a mark that exceeds
+  -- the reading of u ends at a nesting that exceeds
   abbrev pub IsDeep : {A : Type 0} → Outcome A → (List Lexeme → Lexeme → List Lexeme → Type 0) → List Lexeme → List Lexeme → Type 0
   IsDeep r Q u rest = (v : List Lexeme) × (t : Lexeme) × (w : List Lexeme) × (u ≡ v ++ t ∷ w) × (r ≡ Err (TooDeep (t ∷ (w ++ rest)))) × Q v t w
 
   abbrev IsEither : {A : Type 0} → Reader A → (List Lexeme → A → Type 0) → (List Lexeme → Lexeme → List Lexeme → A → Type 0) → List Terminal → Type 0
   IsEither {A} r P Q ks = (m : ℕ) (u : List Lexeme) (x : A) (rest : List Lexeme) → P u x → starts ks rest ≡ false → IsDone (r m (u ++ rest)) x rest ⊎ IsDeep (r m (u ++ rest)) (λ v t w. Q v t w x) u rest
 
-  -- more marks than may come: the reading of the part ends at the one that is too many
-  pub too_many : {A : Type 0} (a : Syntax A) → is_fine a ≡ true → tallies marks a ≡ true → guards (suc max_marks) a ≡ true → (m : ℕ) → m ≤ max_marks → (u : List Lexeme) (x : A) (rest : List Lexeme) → Spells a u x → starts (more a) rest ≡ false → m < marks_in marks u
-      → IsDeep (read a m (u ++ rest)) (λ v t w. (marks_in marks v ≡ m) × (is_mark marks t ≡ true)) u rest
+  -- more nestings than may come: the reading of the part ends at the one that is too many
+  pub too_many : {A : Type 0} (a : Syntax A) → is_fine a ≡ true → tallies nestings a ≡ true → guards (suc max_nestings) a ≡ true → (m : ℕ) → m ≤ max_nestings → (u : List Lexeme) (x : A) (rest : List Lexeme) → Spells a u x → starts (more a) rest ≡ false → m < nestings_in nestings u
+      → IsDeep (read a m (u ++ rest)) (λ v t w. (nestings_in nestings v ≡ m) × (is_nesting nestings t ≡ true)) u rest
   too_many a fine tally guard m low u x rest h stop many =
       elim (complete a fine m u x rest h stop) [
         | inl e ↦
-            let c = counts marks a tally m (u ++ rest) x e.0 rest e.1 in
+            let c = counts nestings a tally m (u ++ rest) x e.0 rest e.1 in
             let same : c.0 ≡ u = append_cancel_right c.0 u rest (sym c.1) in
-            absurd (omega (arith, c.3, ap (marks_in marks) same, many))
+            absurd (omega (arith, c.3, ap (nestings_in nestings) same, many))
         | inr e ↦
-            let p = over marks a tally (suc max_marks) guard m (u ++ rest) e.0 (omega (arith, low)) e.1 in
+            let p = over nestings a tally (suc max_nestings) guard m (u ++ rest) e.0 (omega (arith, low)) e.1 in
             elim (split_two u rest p.0 p.1 p.2 p.4) [
               | inl s ↦ (p.0, p.1, s.0, s.1, e.1 ∙ ap (λ (d : List Lexeme). Err (TooDeep d)) (p.3 ∙ ap (λ (w : List Lexeme). p.1 ∷ w) s.2), (p.5, p.6))
-              | inr s ↦ absurd (omega (arith, p.5, ap (marks_in marks) s.1, marks-append marks u s.0, many))
+              | inr s ↦ absurd (omega (arith, p.5, ap (nestings_in nestings) s.1, nestings-append nestings u s.0, many))
             ]
       ]
 
@@ -153,16 +153,16 @@ module _ (marks : List Terminal) where
 
   module _ {A B : Type 0} (ks : List Terminal) (a : Syntax A) (b c : Syntax B) (m : ℕ) (ts : List Lexeme) where
     abbrev deep_of : List Lexeme → List Lexeme
-    deep_of mid = last_mark ks (length ts - length mid) mid ts
+    deep_of mid = last_nesting ks (length ts - length mid) mid ts
 
     abbrev rest_of : Reader B
     rest_of i mid = either_rest (first b) (read b) (first c) (charged (deep_of mid) (read c)) i mid
 
-    fork_first : (d : List Lexeme) → read a max_marks ts ≡ Err (TooDeep d) → read (Fork ks a b c) m ts ≡ Err (TooDeep d)
+    fork_first : (d : List Lexeme) → read a max_nestings ts ≡ Err (TooDeep d) → read (Fork ks a b c) m ts ≡ Err (TooDeep d)
     unfolding read
     fork_first d e = rw e refl
 
-    module _ (x : A) (i : ℕ) (mid : List Lexeme) (was : read a max_marks ts ≡ Ok (x, i, mid)) where
+    module _ (x : A) (i : ℕ) (mid : List Lexeme) (was : read a max_nestings ts ≡ Ok (x, i, mid)) where
       fork_ok : (y : B) (j : ℕ) (rest : List Lexeme) → rest_of i mid ≡ Ok (y, j, rest) → read (Fork ks a b c) m ts ≡ Ok ((x, y), j, rest)
       unfolding read
       fork_ok y j rest g = rw (was, g) refl
@@ -180,17 +180,17 @@ module _ (marks : List Terminal) where
     rest_none : (i : ℕ) (mid : List Lexeme) → starts (first b) mid ≡ false → starts (first c) mid ≡ true → i ≡ 0 → rest_of i mid ≡ Err (TooDeep (deep_of mid))
     rest_none i mid h k e = rw (h, k, e) refl
 
-  pub exactly : {A : Type 0} (s : Syntax A) → is_fine s ≡ true → is_counted marks s ≡ true → IsEither (read s) (Spells s) (Exceeds marks s) (more s)
+  pub exactly : {A : Type 0} (s : Syntax A) → is_fine s ≡ true → is_counted nestings s ≡ true → IsEither (read s) (Spells s) (Exceeds nestings s) (more s)
   unfolding read Spells Exceeds more is_fine nullable first is_counted
   exactly (Past a) fine count m u x rest h stop = absurd cc
   exactly (Token k) fine count m u x rest h stop = inl (m, rw (h.0, h.1) refl)
-  exactly (Mark k) fine count m u x rest h stop = absurd cc
+  exactly (Nesting k) fine count m u x rest h stop = absurd cc
   exactly (Whole a) fine count m u x rest h stop =
-      let c = and_parts (tallies marks a) (guards (suc max_marks) a) count in
-      elim (few_or_more (marks_in marks u) max_marks) [
-        | inl few ↦ inl (_, complete_within marks a fine c.0 (suc max_marks) c.1 max_marks u x rest (omega arith) h stop few)
+      let c = and_parts (tallies nestings a) (guards (suc max_nestings) a) count in
+      elim (few_or_more (nestings_in nestings u) max_nestings) [
+        | inl few ↦ inl (_, complete_within nestings a fine c.0 (suc max_nestings) c.1 max_nestings u x rest (omega arith) h stop few)
         | inr many ↦
-            let d = too_many a fine c.0 c.1 max_marks (omega arith) u x rest h stop many in
+            let d = too_many a fine c.0 c.1 max_nestings (omega arith) u x rest h stop many in
             inr (d.0, d.1, d.2, d.3, d.4, (subst (λ (w : List Lexeme). Spells a w x) d.3 h, d.5.0, d.5.1))
       ]
   exactly (Known fs ms a) fine count m u x rest h stop =
@@ -198,7 +198,7 @@ module _ (marks : List Terminal) where
       exactly a f.0 count m u x rest h (stops_within (more a) ms rest f.3 stop)
   exactly (Then a b) fine count m u x rest h stop =
       let f = and_three (is_fine a) (is_fine b) (apart (more a) (first b)) fine in
-      let c = and_parts (is_counted marks a) (is_counted marks b) count in
+      let c = and_parts (is_counted nestings a) (is_counted nestings b) count in
       let t = tail_stops (nullable b) (more b) (more a) rest stop in
       let clear : starts (more a) (h.1 ++ rest) ≡ false = follows (more a) b f.1 h.1 x.1 rest f.2 h.4 t.1 in
       let regrouped : u ++ rest ≡ h.0 ++ (h.1 ++ rest) = ap (λ (w : List Lexeme). w ++ rest) h.2 ∙ append_assoc h.0 h.1 rest in
@@ -246,12 +246,12 @@ module _ (marks : List Terminal) where
       absurd (let e = spells_nil b f.1 x h in let d = f.3 in cc)
   exactly (Either a b) fine count m (t ∷ u) x rest (inl h) stop =
       let f = choice_parts (is_fine a) (is_fine b) (nullable a) (nullable b) (apart (first a) (first b)) fine in
-      let c = and_parts (is_counted marks a) (is_counted marks b) count in
+      let c = and_parts (is_counted nestings a) (is_counted nestings b) count in
       let back : read (Either a b) m ((t ∷ u) ++ rest) ≡ read a m ((t ∷ u) ++ rest) = rw (begins a f.0 t u x h) refl in
       elim (exactly a f.0 c.0 m (t ∷ u) x rest h (any_split (more a) (more b) rest stop).0) [ inl d ↦ inl (d.0, back ∙ d.1) | inr d ↦ inr (d.0, d.1, d.2, d.3, back ∙ d.4, inl d.5) ]
   exactly (Either a b) fine count m (t ∷ u) x rest (inr h) stop =
       let f = choice_parts (is_fine a) (is_fine b) (nullable a) (nullable b) (apart (first a) (first b)) fine in
-      let c = and_parts (is_counted marks a) (is_counted marks b) count in
+      let c = and_parts (is_counted nestings a) (is_counted nestings b) count in
       let misses : any_fits (first a) t ≡ false = false_from_ne_true (any_fits (first a) t) (λ k. apart_excludes (first a) (first b) t f.4 k (begins b f.1 t u x h)) in
       let back : read (Either a b) m ((t ∷ u) ++ rest) ≡ read b m ((t ∷ u) ++ rest) = rw misses refl in
       elim (exactly b f.1 c.1 m (t ∷ u) x rest h (any_split (more a) (more b) rest stop).1) [ inl d ↦ inl (d.0, back ∙ d.1) | inr d ↦ inr (d.0, d.1, d.2, d.3, back ∙ d.4, inr d.5) ]
@@ -268,20 +268,20 @@ module _ (marks : List Terminal) where
       ]
   exactly (Many a) fine count m u x rest h stop =
       let f = and_three (is_fine a) (not (nullable a)) (apart (more a) (first a)) fine in
-      let part : Part (read a) (Spells a) (Exceeds marks a) (first a) (more a) = record { whole = exactly a f.0 count; some = λ y k. (let e = spells_nil a f.0 y k in let d = not-true (nullable a) f.1 in absurd cc); opens = begins a f.0; clear = f.2 } in
-      repeated_either (read a) (Spells a) (Exceeds marks a) (first a) (more a) part (length (u ++ rest)) m u x rest (omega arith) h stop
+      let part : Part (read a) (Spells a) (Exceeds nestings a) (first a) (more a) = record { whole = exactly a f.0 count; some = λ y k. (let e = spells_nil a f.0 y k in let d = not-true (nullable a) f.1 in absurd cc); opens = begins a f.0; clear = f.2 } in
+      repeated_either (read a) (Spells a) (Exceeds nestings a) (first a) (more a) part (length (u ++ rest)) m u x rest (omega arith) h stop
   exactly (Fork ks a b c) fine count m u x rest h stop =
       let f = fork_is ks a b c fine in
-      let g = fork_counted marks ks a b c count in
+      let g = fork_counted nestings ks a b c count in
       let s = any_split (more b) (more c) rest stop in
       let mid = h.1 ++ rest in
       let ts = h.0 ++ mid in
       let clear : starts (more a) mid ≡ false = fork_follows (more a) b c f.one f.two h.1 x.1 rest h.4 in
       let regrouped : u ++ rest ≡ ts = ap (λ (w : List Lexeme). w ++ rest) h.2 ∙ append_assoc h.0 h.1 rest in
       let back : read (Fork ks a b c) m (u ++ rest) ≡ read (Fork ks a b c) m ts = ap (λ (w : List Lexeme). read (Fork ks a b c) m w) regrouped in
-      elim (few_or_more (marks_in marks h.0) max_marks) [
+      elim (few_or_more (nestings_in nestings h.0) max_nestings) [
         | inr many ↦
-            let d = too_many a f.head g.head g.head_guard max_marks (omega arith) h.0 x.0 mid h.3 clear many in
+            let d = too_many a f.head g.head g.head_guard max_nestings (omega arith) h.0 x.0 mid h.3 clear many in
             inr (
               d.0,
               d.1,
@@ -291,8 +291,8 @@ module _ (marks : List Terminal) where
               inl (inl (d.2, h.1, refl, subst (λ (w : List Lexeme). Spells a w x.0) d.3 h.3, h.4, d.5.0, d.5.1)),
             )
         | inl few ↦
-            let i = max_marks - marks_in marks h.0 in
-            let one : read a max_marks ts ≡ Ok (x.0, i, mid) = complete_within marks a f.head g.head (suc max_marks) g.head_guard max_marks h.0 x.0 mid (omega arith) h.3 clear few in
+            let i = max_nestings - nestings_in nestings h.0 in
+            let one : read a max_nestings ts ≡ Ok (x.0, i, mid) = complete_within nestings a f.head g.head (suc max_nestings) g.head_guard max_nestings h.0 x.0 mid (omega arith) h.3 clear few in
             elim h.4 [
               | inl hb ↦
                   let o = opens_part b f.one.0 f.one.1 h.1 x.1 rest hb in
@@ -313,26 +313,26 @@ module _ (marks : List Terminal) where
                   let o = opens_part c f.two.0 f.two.1 h.1 x.1 rest hc in
                   elim (zero_or_suc i) [
                     | inl z ↦
-                        let full : marks_in marks h.0 ≡ suc 511 = omega (arith, z, few) in
-                        let p = last_is marks ks g.same h.0 mid mid 511 full in
+                        let full : nestings_in nestings h.0 ≡ suc 511 = omega (arith, z, few) in
+                        let p = last_is nestings ks g.same h.0 mid mid 511 full in
                         let len : length ts - length mid ≡ length h.0 = omega (arith, length-append h.0 mid) in
-                        let there : last_mark ks (length ts - length mid) mid ts ≡ p.1 ∷ (p.2 ++ mid) = ap (λ (k : ℕ). last_mark ks k mid ts) len ∙ p.7 in
+                        let there : last_nesting ks (length ts - length mid) mid ts ≡ p.1 ∷ (p.2 ++ mid) = ap (λ (k : ℕ). last_nesting ks k mid ts) len ∙ p.7 in
                         inr (
                           p.0,
                           p.1,
                           p.2 ++ h.1,
                           h.2 ∙ ap (λ (w : List Lexeme). w ++ h.1) p.3 ∙ append_assoc p.0 (p.1 ∷ p.2) h.1,
-                          back ∙ fork_err ks a b c m ts x.0 i mid one (last_mark ks (length ts - length mid) mid ts) (rest_none ks a b c m ts i mid n o z)
+                          back ∙ fork_err ks a b c m ts x.0 i mid one (last_nesting ks (length ts - length mid) mid ts) (rest_none ks a b c m ts i mid n o z)
                               ∙ ap (λ (w : List Lexeme). Err (TooDeep w)) (there ∙ ap (λ (w : List Lexeme). p.1 ∷ w) (sym (append_assoc p.2 h.1 rest))),
                           inl (inr (p.2, h.1, refl, subst (λ (w : List Lexeme). Spells a w x.0) p.3 h.3, hc, omega (arith, p.5), p.4)),
                         )
                     | inr k ↦
-                        elim (few_or_more (marks_in marks h.1) k.0) [
+                        elim (few_or_more (nestings_in nestings h.1) k.0) [
                           | inl low ↦
                               inl (
                                 _,
-                                back ∙ fork_ok ks a b c m ts x.0 i mid one x.1 (k.0 - marks_in marks h.1) rest (rest_c ks a b c m ts i k.0 mid n o k.1
-                                    ∙ complete_within marks c f.two.0 g.two (suc max_marks) g.two_guard k.0 h.1 x.1 rest (omega (arith, k.1)) hc s.1 low),
+                                back ∙ fork_ok ks a b c m ts x.0 i mid one x.1 (k.0 - nestings_in nestings h.1) rest (rest_c ks a b c m ts i k.0 mid n o k.1
+                                    ∙ complete_within nestings c f.two.0 g.two (suc max_nestings) g.two_guard k.0 h.1 x.1 rest (omega (arith, k.1)) hc s.1 low),
                               )
                           | inr many ↦
                               let d = too_many c f.two.0 g.two g.two_guard k.0 (omega (arith, k.1)) h.1 x.1 rest hc s.1 many in
@@ -349,9 +349,9 @@ module _ (marks : List Terminal) where
             ]
       ]
 
-  -- of a whole text that is a sentence: where its reading is too deep, the token is one mark too many in it
-  pub deep_in_sentence : {A : Type 0} (s : Syntax A) → is_fine s ≡ true → is_counted marks s ≡ true → (m : ℕ) (ts d : List Lexeme) (x : A) → read s m ts ≡ Err (TooDeep d) → Spells s ts x
-      → (u : List Lexeme) × (t : Lexeme) × (v : List Lexeme) × (ts ≡ u ++ t ∷ v) × (d ≡ t ∷ v) × Exceeds marks s u t v x
+  -- of a whole text that is a sentence: where its reading is too deep, the token is one nesting too many in it
+  pub deep_in_sentence : {A : Type 0} (s : Syntax A) → is_fine s ≡ true → is_counted nestings s ≡ true → (m : ℕ) (ts d : List Lexeme) (x : A) → read s m ts ≡ Err (TooDeep d) → Spells s ts x
+      → (u : List Lexeme) × (t : Lexeme) × (v : List Lexeme) × (ts ≡ u ++ t ∷ v) × (d ≡ t ∷ v) × Exceeds nestings s u t v x
   deep_in_sentence s fine count m ts d x deep h =
       let whole : ts ++ [] ≡ ts = append-nil ts in
       let again : read s m (ts ++ []) ≡ Err (TooDeep d) = ap (λ (w : List Lexeme). read s m w) whole ∙ deep in

@@ -1,6 +1,6 @@
 -- What is read is spelled so.
 use Rattle.std.proofs.Common.{◌≡◌, ℕ, zero, suc, ◌-◌, Bool, true, false, cond, List, [], ◌∷◌, ◌++◌, length, Some, None, Ok, Err, refl, sym, ap, subst, ◌∙◌, append_assoc, inl, inr, ◌⊎◌}
-use Rattle.lola_parser_grammars_law.specs.Syntax.{Lexeme, Terminal, fits, Syntax, Past, Token, Mark, Whole, Known, Then, Map, Either, Maybe, Many, Fork, charged, either_rest, last_mark, Repeats, Perhaps, Spells, starts, first, Outcome, Reader, ◌>>=◌, counted, max_marks, repeated, read}
+use Rattle.lola_parser_grammars_law.specs.Syntax.{Lexeme, Terminal, fits, Syntax, Past, Token, Nesting, Whole, Known, Then, Map, Either, Maybe, Many, Fork, charged, either_rest, last_nesting, Repeats, Perhaps, Spells, starts, first, Outcome, Reader, ◌>>=◌, counted, max_nestings, repeated, read}
 
 -- a step that did not fail
 pub bind_ok : {A B : Type 0} (r : Outcome A) (f : A → Reader B) (y : B) (j : ℕ) (end : List Lexeme) → (r >>= f) ≡ Ok (y, j, end)
@@ -71,10 +71,10 @@ sound (Past a) m ts x i rest e = absurd cc
 sound (Token k) m [] x i rest e = absurd cc
 sound (Token k) m (t ∷ ts) x i rest e =
     elim (chosen (fits k t) _ _ _ e) [ inl c ↦ one_taken k t ts x m i rest c.0 c.1 | inr c ↦ absurd cc ]
-sound (Mark k) m [] x i rest e = absurd cc
-sound (Mark k) m (t ∷ ts) x i rest e =
+sound (Nesting k) m [] x i rest e = absurd cc
+sound (Nesting k) m (t ∷ ts) x i rest e =
     elim (chosen (fits k t) _ _ _ e) [ inl c ↦ let d = counted_ok t m ts x i rest c.1 in one_taken k t ts x d.0 i rest c.0 d.1 | inr c ↦ absurd cc ]
-sound (Whole a) m ts x i rest e = sound a max_marks ts x i rest e
+sound (Whole a) m ts x i rest e = sound a max_nestings ts x i rest e
 sound (Known fs ms a) m ts x i rest e = sound a m ts x i rest e
 sound (Then a b) m ts x i rest e =
     let p = bind_ok (read a m ts) _ x i rest e in
@@ -105,12 +105,12 @@ sound (Maybe a) m ts x i rest e =
     ]
 sound (Many a) m ts x i rest e = repeated_sound (read a) (Spells a) (first a) (length ts) (sound a) m ts x i rest e
 sound (Fork ks a b c) m ts x i rest e =
-    let p = bind_ok (read a max_marks ts) _ x i rest e in
-    let d = last_mark ks (length ts - length p.2) p.2 ts in
+    let p = bind_ok (read a max_nestings ts) _ x i rest e in
+    let d = last_nesting ks (length ts - length p.2) p.2 ts in
     let r = either_rest (first b) (read b) (first c) (charged d (read c)) in
     let q = bind_ok (r p.1 p.2) _ x i rest p.4 in
     let f = done_is (p.0, q.0) x q.1 i q.2 rest q.4 in
-    let t = sound a max_marks ts p.0 p.1 p.2 p.3 in
+    let t = sound a max_nestings ts p.0 p.1 p.2 p.3 in
     let u = rest_sound (first b) (first c) (read b) (charged d (read c)) (Spells b) (Spells c) (sound b) (charged_sound d (read c) (Spells c) (sound c)) p.1 p.2 q.0 q.1 q.2 q.3 in
     let parts : ts ≡ (t.0 ++ u.0) ++ rest = t.1 ∙ ap (λ (w : List Lexeme). t.0 ++ w) (u.1 ∙ ap (λ (w : List Lexeme). u.0 ++ w) f.2) ∙ sym (append_assoc t.0 u.0 rest) in
     (t.0 ++ u.0, parts, subst (Spells (Fork ks a b c) (t.0 ++ u.0)) f.0 (t.0, u.0, refl, t.2, u.2))

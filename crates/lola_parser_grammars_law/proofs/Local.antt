@@ -2,7 +2,7 @@
 use Rattle.std.proofs.Common.{◌≡◌, ℕ, zero, suc, ◌+◌, ◌-◌, ◌≤◌, ◌<◌, Bool, true, false, cond, not, List, [], ◌∷◌, ◌++◌, length, Some, None, Ok, Err, refl, sym, ap, subst, ◌∙◌, append_assoc, arith, inl, inr}
 use Rattle.std.proofs.lemmas.List.{length-append, append_cancel_right}
 use Rattle.std.proofs.lemmas.Bool.{and_parts, not-true}
-use Rattle.lola_parser_grammars_law.specs.Syntax.{Lexeme, Terminal, fits, Syntax, Past, Token, Mark, Whole, Known, Then, Map, Either, Maybe, Many, Fork, charged, either_rest, last_mark, Spells, starts, first, nullable, more, apart, within, is_fine, Refusal, Unexpected, TooDeep, Outcome, Reader, ◌>>=◌, counted, take_token, max_marks, repeated, read}
+use Rattle.lola_parser_grammars_law.specs.Syntax.{Lexeme, Terminal, fits, Syntax, Past, Token, Nesting, Whole, Known, Then, Map, Either, Maybe, Many, Fork, charged, either_rest, last_nesting, Spells, starts, first, nullable, more, apart, within, is_fine, Refusal, Unexpected, TooDeep, Outcome, Reader, ◌>>=◌, counted, take_token, max_nestings, repeated, read}
 use Rattle.lola_parser_grammars_law.proofs.Laws.{chosen, done_is, sound}
 use Rattle.lola_parser_grammars_law.proofs.Complete.{spells_nil, and_three, choice_parts, known_parts, fork_is}
 
@@ -113,10 +113,10 @@ token_local : (k : Terminal) → IsLocal (take_token k)
 token_local k = one_local k pure
     (λ s m ts e t rest h. let q = ends_at s m ts e (t ∷ rest) h in (s ∷ [], ap (λ (w : List Lexeme). s ∷ w) q.0, λ other g. rw g (q.1 (t ∷ other))))
 
-mark_takes : (k : Terminal) → TakesOne k counted
-mark_takes k s zero ts (Read x j) t rest h = absurd cc
-mark_takes k s zero ts Stopped t rest h = absurd (let q : TooDeep (s ∷ ts) ≡ Unexpected (t ∷ rest) = cc in cc)
-mark_takes k s (suc m) ts e t rest h = let q = ends_at s m ts e (t ∷ rest) h in (s ∷ [], ap (λ (w : List Lexeme). s ∷ w) q.0, λ other g. rw g (q.1 (t ∷ other)))
+nesting_takes : (k : Terminal) → TakesOne k counted
+nesting_takes k s zero ts (Read x j) t rest h = absurd cc
+nesting_takes k s zero ts Stopped t rest h = absurd (let q : TooDeep (s ∷ ts) ≡ Unexpected (t ∷ rest) = cc in cc)
+nesting_takes k s (suc m) ts e t rest h = let q = ends_at s m ts e (t ∷ rest) h in (s ∷ [], ap (λ (w : List Lexeme). s ∷ w) q.0, λ other g. rw g (q.1 (t ∷ other)))
 
 abbrev deep : {A : Type 0} → Reader A
 deep m ts = Err (TooDeep ts)
@@ -252,8 +252,8 @@ pub local : {A : Type 0} (s : Syntax A) → is_fine s ≡ true → IsLocal (read
 unfolding read is_fine
 local (Past a) fine = deep_local
 local (Token k) fine = token_local k
-local (Mark k) fine = one_local k counted (mark_takes k)
-local (Whole a) fine = λ m. local a fine max_marks
+local (Nesting k) fine = one_local k counted (nesting_takes k)
+local (Whole a) fine = λ m. local a fine max_nestings
 local (Known fs ms a) fine = local a (known_parts (is_fine a) (nullable a) (within (first a) fs) (within (more a) ms) fine).0
 local (Then a b) fine =
     let f = and_three (is_fine a) (is_fine b) (apart (more a) (first b)) fine in
@@ -270,5 +270,5 @@ local (Many a) fine =
     many_local a f.0 (not-true (nullable a) f.1) (local a f.0)
 local (Fork ks a b c) fine = λ m ts.
     let f = fork_is ks a b c fine in
-    let deep = λ (us rest : List Lexeme). last_mark ks (length us - length rest) rest us in
-    fork_cases (read a) (λ x y. (x, y)) (one_of (first b) (read b) (first c) (read c)) deep (local a f.head) (rest_local (first b) (first c) (read b) (read c) (local b f.one.0) (local c f.two.0)) max_marks ts (read a max_marks ts) refl
+    let deep = λ (us rest : List Lexeme). last_nesting ks (length us - length rest) rest us in
+    fork_cases (read a) (λ x y. (x, y)) (one_of (first b) (read b) (first c) (read c)) deep (local a f.head) (rest_local (first b) (first c) (read b) (read c) (local b f.one.0) (local c f.two.0)) max_nestings ts (read a max_nestings ts) refl

@@ -1,22 +1,22 @@
--- Two grammars that are read alike, where fewer marks may come than some number.
+-- Two grammars that are read alike, where fewer nestings may come than some number.
 use Rattle.std.proofs.Common.{◌≡◌, ℕ, zero, suc, ◌-◌, ◌≤◌, ◌<◌, Bool, true, cond, ◌||◌, ◌&&◌, List, [], ◌∷◌, ◌++◌, length, Option, Some, None, Ok, Err, refl, ap, ◌∙◌, arith, inl, inr}
-use Rattle.lola_parser_grammars_law.specs.Syntax.{Lexeme, Terminal, fits, Syntax, Mark, Whole, Known, Then, Map, Either, Maybe, Many, Fork, starts, first, nullable, Unexpected, Outcome, Reader, ◌>>=◌, counted, take_mark, repeated, charged, either_rest, last_mark, max_marks, read}
-use Rattle.lola_parser_grammars_law.specs.Marks.{tallies}
+use Rattle.lola_parser_grammars_law.specs.Syntax.{Lexeme, Terminal, fits, Syntax, Nesting, Whole, Known, Then, Map, Either, Maybe, Many, Fork, starts, first, nullable, Unexpected, Outcome, Reader, ◌>>=◌, counted, take_nesting, repeated, charged, either_rest, last_nesting, max_nestings, read}
+use Rattle.lola_parser_grammars_law.specs.Nestings.{tallies}
 use Rattle.lola_parser_grammars_law.proofs.Laws.{bind_ok, done_is, chosen}
 use Rattle.lola_parser_grammars_law.proofs.Over.{counts}
 
--- no more marks may come after it than before
+-- no more nestings may come after it than before
 abbrev pub Spends : {A : Type 0} → Reader A → Type 0
 Spends {A} r = (m : ℕ) (ts : List Lexeme) (x : A) (i : ℕ) (rest : List Lexeme) → r m ts ≡ Ok (x, i, rest) → i ≤ m
 
--- read alike where fewer than k marks may come
+-- read alike where fewer than k nestings may come
 pub record SameBelow {A : Type 0} (k : ℕ) (s t : Syntax A) : Type 0 where
   pub reads : (m : ℕ) (ts : List Lexeme) → m < k → read s m ts ≡ read t m ts
   pub firsts : first s ≡ first t
   pub fulls : nullable s ≡ nullable t
   pub spends : Spends (read s)
 
--- read alike however many marks may come
+-- read alike however many nestings may come
 pub record SameAlways {A : Type 0} (s t : Syntax A) : Type 0 where
   pub reads : (m : ℕ) (ts : List Lexeme) → read s m ts ≡ read t m ts
   pub firsts : first s ≡ first t
@@ -44,13 +44,13 @@ both_full a b c d e f = rw (e, f) refl
 either_full : (a b c d : Bool) → a ≡ c → b ≡ d → (a || b) ≡ (c || d)
 either_full a b c d e f = rw (e, f) refl
 
--- ---- where fewer than k marks may come
+-- ---- where fewer than k nestings may come
 
-pub tallied_spends : {A : Type 0} (marks : List Terminal) (s : Syntax A) → tallies marks s ≡ true → Spends (read s)
-tallied_spends marks s tally m ts x i rest e = let p = counts marks s tally m ts x i rest e in omega (arith, p.3)
+pub tallied_spends : {A : Type 0} (nestings : List Terminal) (s : Syntax A) → tallies nestings s ≡ true → Spends (read s)
+tallied_spends nestings s tally m ts x i rest e = let p = counts nestings s tally m ts x i rest e in omega (arith, p.3)
 
-pub same_self : {A : Type 0} (marks : List Terminal) (s : Syntax A) (k : ℕ) → tallies marks s ≡ true → SameBelow k s s
-same_self marks s k tally = record { reads = λ m ts low. refl; firsts = refl; fulls = refl; spends = tallied_spends marks s tally }
+pub same_self : {A : Type 0} (nestings : List Terminal) (s : Syntax A) (k : ℕ) → tallies nestings s ≡ true → SameBelow k s s
+same_self nestings s k tally = record { reads = λ m ts low. refl; firsts = refl; fulls = refl; spends = tallied_spends nestings s tally }
 
 pub same_less : {A : Type 0} (k j : ℕ) (s t : Syntax A) → j ≤ k → SameBelow k s t → SameBelow j s t
 same_less k j s t le h = record { reads = λ m ts low. h.reads m ts (omega (arith, le, low)); firsts = h.firsts; fulls = h.fulls; spends = h.spends }
@@ -102,29 +102,29 @@ counted_less : (t : Lexeme) (m : ℕ) (ts : List Lexeme) (x : Lexeme) (i : ℕ) 
 counted_less t zero ts x i rest e = absurd cc
 counted_less t (suc m) ts x i rest e = let q = done_is t x m i ts rest e in omega (arith, q.1)
 
-mark_less : (k : Terminal) (m : ℕ) (ts : List Lexeme) (x : Lexeme) (i : ℕ) (rest : List Lexeme) → take_mark k m ts ≡ Ok (x, i, rest) → i < m
-mark_less k m [] x i rest e = absurd cc
-mark_less k m (t ∷ ts) x i rest e = elim (chosen (fits k t) _ _ _ e) [ inl c ↦ counted_less t m ts x i rest c.1 | inr c ↦ absurd cc ]
+nesting_less : (k : Terminal) (m : ℕ) (ts : List Lexeme) (x : Lexeme) (i : ℕ) (rest : List Lexeme) → take_nesting k m ts ≡ Ok (x, i, rest) → i < m
+nesting_less k m [] x i rest e = absurd cc
+nesting_less k m (t ∷ ts) x i rest e = elim (chosen (fits k t) _ _ _ e) [ inl c ↦ counted_less t m ts x i rest c.1 | inr c ↦ absurd cc ]
 
-marked_less : {A : Type 0} (f : Lexeme → A) (k : Terminal) (m : ℕ) (ts : List Lexeme) (x : A) (i : ℕ) (rest : List Lexeme) → read (Map f (Mark k)) m ts ≡ Ok (x, i, rest) → i < m
+with_nestings_less : {A : Type 0} (f : Lexeme → A) (k : Terminal) (m : ℕ) (ts : List Lexeme) (x : A) (i : ℕ) (rest : List Lexeme) → read (Map f (Nesting k)) m ts ≡ Ok (x, i, rest) → i < m
 unfolding read
-marked_less f k m ts x i rest e =
-    let p = bind_ok (take_mark k m ts) _ x i rest e in
+with_nestings_less f k m ts x i rest e =
+    let p = bind_ok (take_nesting k m ts) _ x i rest e in
     let q = done_is (f p.0) x p.1 i p.2 rest p.4 in
-    let less = mark_less k m ts p.0 p.1 p.2 p.3 in
+    let less = nesting_less k m ts p.0 p.1 p.2 p.3 in
     omega (arith, less, q.1)
 
-marked_spends : {A : Type 0} (f : Lexeme → A) (k : Terminal) → Spends (read (Map f (Mark k)))
-marked_spends f k m ts x i rest e = let less = marked_less f k m ts x i rest e in omega (arith, less)
+with_nestings_spends : {A : Type 0} (f : Lexeme → A) (k : Terminal) → Spends (read (Map f (Nesting k)))
+with_nestings_spends f k m ts x i rest e = let less = with_nestings_less f k m ts x i rest e in omega (arith, less)
 
--- behind a mark one more may come
-pub same_behind : {A B : Type 0} (f : Lexeme → A) (t : Terminal) (k : ℕ) (b b' : Syntax B) → SameBelow k b b' → SameBelow (suc k) (Then (Map f (Mark t)) b) (Then (Map f (Mark t)) b')
+-- behind a nesting one more may come
+pub same_behind : {A B : Type 0} (f : Lexeme → A) (t : Terminal) (k : ℕ) (b b' : Syntax B) → SameBelow k b b' → SameBelow (suc k) (Then (Map f (Nesting t)) b) (Then (Map f (Nesting t)) b')
 unfolding read first nullable
 same_behind f t k b b' g = record {
-  reads = λ m ts low. alike (read (Map f (Mark t)) m ts) (with_next (read b)) (with_next (read b')) (λ x i rest e. let less = marked_less f t m ts x i rest e in next_same (read b) (read b') x i rest (g.reads i rest (omega (arith, less, low))));
+  reads = λ m ts low. alike (read (Map f (Nesting t)) m ts) (with_next (read b)) (with_next (read b')) (λ x i rest e. let less = with_nestings_less f t m ts x i rest e in next_same (read b) (read b') x i rest (g.reads i rest (omega (arith, less, low))));
   firsts = refl;
   fulls = refl;
-  spends = then_spends (read (Map f (Mark t))) (read b) (marked_spends f t) g.spends;
+  spends = then_spends (read (Map f (Nesting t))) (read b) (with_nestings_spends f t) g.spends;
 }
 
 choice_spends : {A : Type 0} (ks : List Terminal) (r s : Reader A) → Spends r → Spends s → Spends (λ m ts. cond (starts ks ts) (r m ts) (s m ts))
@@ -193,9 +193,9 @@ same_many k a a' h = record {
 pub always_self : {A : Type 0} (s : Syntax A) → SameAlways s s
 always_self s = record { reads = λ m ts. refl; firsts = refl; fulls = refl }
 
-pub always_whole : {A : Type 0} (a a' : Syntax A) → SameBelow (suc max_marks) a a' → SameAlways (Whole a) (Whole a')
+pub always_whole : {A : Type 0} (a a' : Syntax A) → SameBelow (suc max_nestings) a a' → SameAlways (Whole a) (Whole a')
 unfolding read first nullable
-always_whole a a' h = record { reads = λ m ts. h.reads max_marks ts (omega arith); firsts = h.firsts; fulls = h.fulls }
+always_whole a a' h = record { reads = λ m ts. h.reads max_nestings ts (omega arith); firsts = h.firsts; fulls = h.fulls }
 
 pub always_known : {A : Type 0} (fs ms : List Terminal) (a a' : Syntax A) → SameAlways a a' → SameAlways (Known fs ms a) (Known fs ms a')
 unfolding read first nullable
@@ -250,18 +250,18 @@ charged_same : {A : Type 0} (k : ℕ) (deep : List Lexeme) (r s : Reader A) → 
 charged_same k deep r s same zero ts low = refl
 charged_same k deep r s same (suc m) ts low = same m ts (omega (arith, low))
 
-pub always_fork : {A B : Type 0} (ks : List Terminal) (a a' : Syntax A) (b b' c c' : Syntax B) → SameBelow (suc max_marks) a a' → SameAlways b b' → SameBelow (suc max_marks) c c' → SameAlways (Fork ks a b c) (Fork ks a' b' c')
+pub always_fork : {A B : Type 0} (ks : List Terminal) (a a' : Syntax A) (b b' c c' : Syntax B) → SameBelow (suc max_nestings) a a' → SameAlways b b' → SameBelow (suc max_nestings) c c' → SameAlways (Fork ks a b c) (Fork ks a' b' c')
 unfolding read first nullable
 always_fork {A} {B} ks a a' b b' c c' h g f = record {
   reads = λ m ts.
-      let deep = λ (rest : List Lexeme). last_mark ks (length ts - length rest) rest ts in
+      let deep = λ (rest : List Lexeme). last_nesting ks (length ts - length rest) rest ts in
       let one : ℕ → List Lexeme → Outcome B = λ i rest. either_rest (first b) (read b) (first c) (charged (deep rest) (read c)) i rest in
       let two : ℕ → List Lexeme → Outcome B = λ i rest. either_rest (first b') (read b') (first c') (charged (deep rest) (read c')) i rest in
-      let same : (i : ℕ) (rest : List Lexeme) → i ≤ max_marks → one i rest ≡ two i rest = λ i rest few.
+      let same : (i : ℕ) (rest : List Lexeme) → i ≤ max_nestings → one i rest ≡ two i rest = λ i rest few.
       same_cond (starts (first b) rest) (starts (first b') rest) (read b i rest) _ (read b' i rest) _ (same_start (first b) (first b') rest g.firsts) (g.reads i rest)
-      (same_cond (starts (first c) rest) (starts (first c') rest) (charged (deep rest) (read c) i rest) (Err (Unexpected rest)) (charged (deep rest) (read c') i rest) (Err (Unexpected rest)) (same_start (first c) (first c') rest f.firsts) (charged_same (suc max_marks) (deep rest) (read c) (read c') f.reads i rest (omega (arith, few))) refl) in
-      alike (read a max_marks ts) (λ x i rest. one i rest >>= λ y j end. Ok ((x, y), j, end)) (λ x i rest. two i rest >>= λ y j end. Ok ((x, y), j, end)) (λ x i rest e. let few = h.spends max_marks ts x i rest e in ap (λ (o : Outcome B). o >>= λ y j end. Ok ((x, y), j, end)) (same i rest few))
-      ∙ ap (λ (o : Outcome A). o >>= λ x i rest. two i rest >>= λ y j end. Ok ((x, y), j, end)) (h.reads max_marks ts (omega arith));
+      (same_cond (starts (first c) rest) (starts (first c') rest) (charged (deep rest) (read c) i rest) (Err (Unexpected rest)) (charged (deep rest) (read c') i rest) (Err (Unexpected rest)) (same_start (first c) (first c') rest f.firsts) (charged_same (suc max_nestings) (deep rest) (read c) (read c') f.reads i rest (omega (arith, few))) refl) in
+      alike (read a max_nestings ts) (λ x i rest. one i rest >>= λ y j end. Ok ((x, y), j, end)) (λ x i rest. two i rest >>= λ y j end. Ok ((x, y), j, end)) (λ x i rest e. let few = h.spends max_nestings ts x i rest e in ap (λ (o : Outcome B). o >>= λ y j end. Ok ((x, y), j, end)) (same i rest few))
+      ∙ ap (λ (o : Outcome A). o >>= λ x i rest. two i rest >>= λ y j end. Ok ((x, y), j, end)) (h.reads max_nestings ts (omega arith));
   firsts = h.firsts;
   fulls = refl;
 }

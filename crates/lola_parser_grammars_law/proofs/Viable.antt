@@ -5,7 +5,7 @@ use Rattle.std.specs.Str.{bytes_eq}
 use Rattle.std.proofs.lemmas.Slice.Eq.{bytes_eq-Decides}
 use Rattle.std.proofs.lemmas.Bool.{or_cases, false_from_ne_true}
 use Rattle.lola_lexer.specs.declared.shape.TokenShape.TheVariants as is
-use Rattle.lola_parser_grammars_law.specs.Syntax.{Lexeme, Terminal, Of, Word, Other, is_among, fits, Syntax, Past, Token, Mark, Whole, Known, Then, Map, Either, Maybe, Many, Fork, charged, either_rest, last_mark, Repeats, Spells, starts, first, Refusal, Unexpected, TooDeep, Outcome, Reader, ◌>>=◌, counted, max_marks, repeated, read}
+use Rattle.lola_parser_grammars_law.specs.Syntax.{Lexeme, Terminal, Of, Word, Other, is_among, fits, Syntax, Past, Token, Nesting, Whole, Known, Then, Map, Either, Maybe, Many, Fork, charged, either_rest, last_nesting, Repeats, Spells, starts, first, Refusal, Unexpected, TooDeep, Outcome, Reader, ◌>>=◌, counted, max_nestings, repeated, read}
 use Rattle.lola_parser_grammars_law.proofs.Laws.{chosen, IsSound, sound}
 use Rattle.lola_parser_grammars_law.proofs.Tests.{shapes_same}
 
@@ -51,7 +51,7 @@ pub sample : {A : Type 0} (s : Syntax A) → Sample s
 unfolding Spells
 sample (Past a) = sample a
 sample (Token k) = let p = one_token k in (p.0 ∷ [], p.0, (refl, p.1))
-sample (Mark k) = let p = one_token k in (p.0 ∷ [], p.0, (refl, p.1))
+sample (Nesting k) = let p = one_token k in (p.0 ∷ [], p.0, (refl, p.1))
 sample (Whole a) = sample a
 sample (Known fs ms a) = sample a
 sample (Then a b) = let p = sample a in let q = sample b in (p.0 ++ q.0, (p.1, q.1), (p.0, q.0, refl, p.2, q.2))
@@ -122,13 +122,13 @@ viable (Token k) m (t ∷ ts) rest h =
       | inl c ↦ absurd (let d = c.1 in cc)
       | inr c ↦ let e : t ∷ ts ≡ rest = (let d = c.1 in cc) in let p = one_token k in ([], e, p.0 ∷ [], p.0, (refl, p.1))
     ]
-viable (Mark k) m [] rest h = let e : [] ≡ rest = (let d : Unexpected [] ≡ Unexpected rest = cc in cc) in let p = one_token k in ([], e, p.0 ∷ [], p.0, (refl, p.1))
-viable (Mark k) m (t ∷ ts) rest h =
+viable (Nesting k) m [] rest h = let e : [] ≡ rest = (let d : Unexpected [] ≡ Unexpected rest = cc in cc) in let p = one_token k in ([], e, p.0 ∷ [], p.0, (refl, p.1))
+viable (Nesting k) m (t ∷ ts) rest h =
     elim (chosen (fits k t) _ _ _ h) [
       | inl c ↦ absurd (counted_goes t m ts rest c.1)
       | inr c ↦ let e : t ∷ ts ≡ rest = (let d = c.1 in cc) in let p = one_token k in ([], e, p.0 ∷ [], p.0, (refl, p.1))
     ]
-viable (Whole a) m ts rest h = viable a max_marks ts rest h
+viable (Whole a) m ts rest h = viable a max_nestings ts rest h
 viable (Known fs ms a) m ts rest h = viable a m ts rest h
 viable (Then a b) m ts rest h =
     elim (bind_err (read a m ts) _ (Unexpected rest) h) [
@@ -167,17 +167,17 @@ viable (Maybe a) m ts rest h =
     ]
 viable (Many a) m ts rest h = repeated_viable (read a) (Spells a) (first a) (sound a) (viable a) (length ts) m ts rest h
 viable (Fork ks a b c) m ts rest h =
-    elim (bind_err (read a max_marks ts) _ (Unexpected rest) h) [
+    elim (bind_err (read a max_nestings ts) _ (Unexpected rest) h) [
       | inl e ↦
-          let p = viable a max_marks ts rest e in
+          let p = viable a max_nestings ts rest e in
           let q = sample b in
           (p.0, p.1, p.2 ++ q.0, (p.3, q.1), (p.0 ++ p.2, q.0, sym (append_assoc p.0 p.2 q.0), p.4, inl q.2))
       | inr q ↦
-          let d = last_mark ks (length ts - length q.2) q.2 ts in
+          let d = last_nesting ks (length ts - length q.2) q.2 ts in
           elim (bind_err (either_rest (first b) (read b) (first c) (charged d (read c)) q.1 q.2) _ (Unexpected rest) q.4) [
             | inl e ↦
                 let p = rest_viable (first b) (first c) (read b) (charged d (read c)) (Spells b) (Spells c) (viable b) (charged_viable d (read c) (Spells c) (viable c)) (sample b) q.1 q.2 rest e in
-                let t = sound a max_marks ts q.0 q.1 q.2 q.3 in
+                let t = sound a max_nestings ts q.0 q.1 q.2 q.3 in
                 let parts : ts ≡ (t.0 ++ p.0) ++ rest = t.1 ∙ ap (λ (w : List Lexeme). t.0 ++ w) p.1 ∙ sym (append_assoc t.0 p.0 rest) in
                 (t.0 ++ p.0, parts, p.2, (q.0, p.3), (t.0, p.0 ++ p.2, append_assoc t.0 p.0 p.2, t.2, p.4))
             | inr z ↦ absurd (let w = z.4 in cc)

@@ -37,9 +37,9 @@ pub data Syntax : Type 0 → Type 1 where
   -- what is nested deeper than anything is read: its sentences are known, and none is read
   Past : {A : Type 0} → Syntax A → Syntax A
   Token : Terminal → Syntax Lexeme
-  -- a token that counts as a mark
-  Mark : Terminal → Syntax Lexeme
-  -- a whole expression, in which the marks are counted
+  -- a token that counts as a nesting
+  Nesting : Terminal → Syntax Lexeme
+  -- a whole expression, in which the nestings are counted
   Whole : {A : Type 0} → Syntax A → Syntax A
   -- a part that begins with one of the first tokens, and that only one of the others can go on
   Known : {A : Type 0} → List Terminal → List Terminal → Syntax A → Syntax A
@@ -49,7 +49,7 @@ pub data Syntax : Type 0 → Type 1 where
   Maybe : {A : Type 0} → Syntax A → Syntax (Option A)
   Many : {A : Type 0} → Syntax A → Syntax (List A)
   -- Behind an opening bracket, a whole expression. Only behind that it shows what the bracket was: where the first of the two
-  -- rests follows, it was no mark, and where the second does, it was one, and the expression goes on. With the tokens that are marks.
+  -- rests follows, it was no nesting, and where the second does, it was one, and the expression goes on. With the tokens that are nestings.
   Fork : {A B : Type 0} → List Terminal → Syntax A → Syntax B → Syntax B → Syntax (A × B)
 
 -- ---- what it spells
@@ -66,7 +66,7 @@ Perhaps P ts (Some x) = P ts x
 unfoldable pub Spells : {A : Type 0} → Syntax A → List Lexeme → A → Type 0
 Spells (Past a) ts x = Spells a ts x
 Spells (Token k) ts x = (ts ≡ x ∷ []) × (fits k x ≡ true)
-Spells (Mark k) ts x = (ts ≡ x ∷ []) × (fits k x ≡ true)
+Spells (Nesting k) ts x = (ts ≡ x ∷ []) × (fits k x ≡ true)
 Spells (Whole a) ts x = Spells a ts x
 Spells (Known fs ms a) ts x = Spells a ts x
 Spells (Then a b) ts x = (u v : List Lexeme) × (ts ≡ u ++ v) × Spells a u x.0 × Spells b v x.1
@@ -91,7 +91,7 @@ starts ks (t ∷ ts) = any_fits ks t
 unfoldable pub nullable : {A : Type 0} → Syntax A → Bool
 nullable (Past a) = nullable a
 nullable (Token k) = false
-nullable (Mark k) = false
+nullable (Nesting k) = false
 nullable (Whole a) = nullable a
 nullable (Known fs ms a) = false
 nullable (Then a b) = nullable a && nullable b
@@ -105,7 +105,7 @@ nullable (Fork ks a b c) = false
 unfoldable pub first : {A : Type 0} → Syntax A → List Terminal
 first (Past a) = first a
 first (Token k) = k ∷ []
-first (Mark k) = k ∷ []
+first (Nesting k) = k ∷ []
 first (Whole a) = first a
 first (Known fs ms a) = fs
 first (Then a b) = if nullable a then first a ++ first b else first a
@@ -120,7 +120,7 @@ pub data Refusal : Type 0 where
   Unexpected : List Lexeme → Refusal
   TooDeep : List Lexeme → Refusal
 
--- a value, how many more marks may come in the expression, and the tokens after it
+-- a value, how many more nestings may come in the expression, and the tokens after it
 abbrev pub Outcome : Type 0 → Type 0
 Outcome A = Result (A × ℕ × List Lexeme) Refusal
 
@@ -140,25 +140,25 @@ abbrev pub counted : Lexeme → Reader Lexeme
 counted t zero ts = Err (TooDeep (t ∷ ts))
 counted t (suc m) ts = Ok (t, m, ts)
 
-abbrev pub take_mark : Terminal → Reader Lexeme
-take_mark k m [] = Err (Unexpected [])
-take_mark k m (t ∷ ts) = if fits k t then counted t m ts else Err (Unexpected (t ∷ ts))
+abbrev pub take_nesting : Terminal → Reader Lexeme
+take_nesting k m [] = Err (Unexpected [])
+take_nesting k m (t ∷ ts) = if fits k t then counted t m ts else Err (Unexpected (t ∷ ts))
 
 -- as often as it begins, which is no more often than there are tokens
 abbrev pub repeated : {A : Type 0} → Reader A → List Terminal → ℕ → Reader (List A)
 repeated r ks zero m ts = Ok ([], m, ts)
 repeated r ks (suc n) m ts = if starts ks ts then (r m ts >>= λ x i rest. repeated r ks n i rest >>= λ xs j rest. Ok (x ∷ xs, j, rest)) else Ok ([], m, ts)
 
-abbrev pub max_marks : ℕ
-max_marks = 512
+abbrev pub max_nestings : ℕ
+max_nestings = 512
 
--- the tokens from the last mark on that stands among the first n of these, or `best` where none does
-abbrev pub last_mark : List Terminal → ℕ → List Lexeme → List Lexeme → List Lexeme
-last_mark ks n best [] = best
-last_mark ks zero best (t ∷ ts) = best
-last_mark ks (suc n) best (t ∷ ts) = last_mark ks n (if any_fits ks t then t ∷ ts else best) ts
+-- the tokens from the last nesting on that stands among the first n of these, or `best` where none does
+abbrev pub last_nesting : List Terminal → ℕ → List Lexeme → List Lexeme → List Lexeme
+last_nesting ks n best [] = best
+last_nesting ks zero best (t ∷ ts) = best
+last_nesting ks (suc n) best (t ∷ ts) = last_nesting ks n (if any_fits ks t then t ∷ ts else best) ts
 
--- an earlier token is a mark after all, by which the tokens from `deep` on may be too deep
+-- an earlier token is a nesting after all, by which the tokens from `deep` on may be too deep
 abbrev pub charged : {A : Type 0} → List Lexeme → Reader A → Reader A
 charged deep r zero ts = Err (TooDeep deep)
 charged deep r (suc m) ts = r m ts
@@ -170,16 +170,16 @@ either_rest fs r gs s m ts = if starts fs ts then r m ts else (if starts gs ts t
 unfoldable pub read : {A : Type 0} → Syntax A → Reader A
 read (Past a) m ts = Err (TooDeep ts)
 read (Token k) m ts = take_token k m ts
-read (Mark k) m ts = take_mark k m ts
-read (Whole a) m ts = read a max_marks ts
+read (Nesting k) m ts = take_nesting k m ts
+read (Whole a) m ts = read a max_nestings ts
 read (Known fs ms a) m ts = read a m ts
 read (Then a b) m ts = read a m ts >>= λ x i rest. read b i rest >>= λ y j rest. Ok ((x, y), j, rest)
 read (Map f a) m ts = read a m ts >>= λ x i rest. Ok (f x, i, rest)
 read (Either a b) m ts = if starts (first a) ts then read a m ts else read b m ts
 read (Maybe a) m ts = if starts (first a) ts then (read a m ts >>= λ x i rest. Ok (Some x, i, rest)) else Ok (None, m, ts)
 read (Many a) m ts = repeated (read a) (first a) (length ts) m ts
-read (Fork ks a b c) m ts = read a max_marks ts >>= λ x i rest.
-    either_rest (first b) (read b) (first c) (charged (last_mark ks (length ts - length rest) rest ts) (read c)) i rest >>= λ y j end. Ok ((x, y), j, end)
+read (Fork ks a b c) m ts = read a max_nestings ts >>= λ x i rest.
+    either_rest (first b) (read b) (first c) (charged (last_nesting ks (length ts - length rest) rest ts) (read c)) i rest >>= λ y j end. Ok ((x, y), j, end)
 
 -- ---- the grammars that one token ahead is enough for
 
@@ -187,7 +187,7 @@ read (Fork ks a b c) m ts = read a max_marks ts >>= λ x i rest.
 unfoldable pub more : {A : Type 0} → Syntax A → List Terminal
 more (Past a) = more a
 more (Token k) = []
-more (Mark k) = []
+more (Nesting k) = []
 more (Whole a) = more a
 more (Known fs ms a) = ms
 more (Then a b) = if nullable b then more b ++ more a else more b
@@ -240,7 +240,7 @@ is_rest ms fine empty fs = fine && (not empty && apart ms fs)
 unfoldable pub is_fine : {A : Type 0} → Syntax A → Bool
 is_fine (Past a) = is_fine a
 is_fine (Token k) = true
-is_fine (Mark k) = true
+is_fine (Nesting k) = true
 is_fine (Whole a) = is_fine a
 is_fine (Known fs ms a) = is_fine a && (not (nullable a) && (within (first a) fs && within (more a) ms))
 is_fine (Then a b) = is_fine a && (is_fine b && apart (more a) (first b))
@@ -259,7 +259,7 @@ all_read (Ok (x, m, (t ∷ ts))) = Err (Unexpected (t ∷ ts))
 all_read (Err d) = Err d
 
 unfoldable pub read_all : {A : Type 0} → Syntax A → List Lexeme → Result A Refusal
-read_all s ts = all_read (read s max_marks ts)
+read_all s ts = all_read (read s max_nestings ts)
 
 -- some sentence begins with these tokens
 abbrev pub Begins : {A : Type 0} → Syntax A → List Lexeme → Type 0

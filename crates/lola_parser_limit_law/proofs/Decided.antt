@@ -2,8 +2,8 @@
 use Rattle.std.proofs.Common.{◌≡◌, ℕ, zero, suc, ◌+◌, ◌-◌, ◌<◌, Bool, true, false, cond, not, List, [], ◌∷◌, ◌++◌, length, Some, Ok, Err, refl, sym, ap, subst, ◌∙◌, append_assoc, arith, inl, inr, ◌⊎◌}
 use Rattle.std.proofs.lemmas.List.{append-nil, length-append, append_cancel_right}
 use Rattle.std.proofs.lemmas.Bool.{and_parts, not-true}
-use Rattle.lola_parser_grammars_law.specs.Syntax.{Lexeme, Terminal, fits, any_fits, Syntax, Past, Token, Mark, Whole, Known, Then, Map, Either, Maybe, Many, Fork, charged, either_rest, last_mark, Repeats, Spells, starts, first, nullable, more, apart, within, is_fine, Refusal, Unexpected, TooDeep, Outcome, Reader, ◌>>=◌, max_marks, repeated, read}
-use Rattle.lola_parser_grammars_law.specs.Marks.{lower, least, guards, is_mark, marks_in, tallies, is_counted}
+use Rattle.lola_parser_grammars_law.specs.Syntax.{Lexeme, Terminal, fits, any_fits, Syntax, Past, Token, Nesting, Whole, Known, Then, Map, Either, Maybe, Many, Fork, charged, either_rest, last_nesting, Repeats, Spells, starts, first, nullable, more, apart, within, is_fine, Refusal, Unexpected, TooDeep, Outcome, Reader, ◌>>=◌, max_nestings, repeated, read}
+use Rattle.lola_parser_grammars_law.specs.Nestings.{lower, least, guards, is_nesting, nestings_in, tallies, is_counted}
 use Rattle.lola_parser_grammars_law.proofs.Laws.{IsSound, sound, chosen}
 use Rattle.lola_parser_grammars_law.proofs.Complete.{and_three, choice_parts, known_parts, fork_is}
 use Rattle.lola_parser_grammars_law.proofs.Local.{IsLocal, local, through, same_start, fuel, eats}
@@ -140,47 +140,47 @@ many_decided a fine full m ts d p = (
   p.7,
 )
 
--- the tokens from the last mark on, whatever follows
-last_step : (ks : List Terminal) (t : Lexeme) (u best rest : List Lexeme) → ((b : List Lexeme) → last_mark ks (length u) (b ++ rest) (u ++ rest) ≡ last_mark ks (length u) b u ++ rest) → (b : Bool)
-    → last_mark ks (length u) (cond b (t ∷ (u ++ rest)) (best ++ rest)) (u ++ rest) ≡ last_mark ks (length u) (cond b (t ∷ u) best) u ++ rest
+-- the tokens from the last nesting on, whatever follows
+last_step : (ks : List Terminal) (t : Lexeme) (u best rest : List Lexeme) → ((b : List Lexeme) → last_nesting ks (length u) (b ++ rest) (u ++ rest) ≡ last_nesting ks (length u) b u ++ rest) → (b : Bool)
+    → last_nesting ks (length u) (cond b (t ∷ (u ++ rest)) (best ++ rest)) (u ++ rest) ≡ last_nesting ks (length u) (cond b (t ∷ u) best) u ++ rest
 last_step ks t u best rest next true = next (t ∷ u)
 last_step ks t u best rest next false = next best
 
-last_append : (ks : List Terminal) (u best rest : List Lexeme) → last_mark ks (length u) (best ++ rest) (u ++ rest) ≡ last_mark ks (length u) best u ++ rest
+last_append : (ks : List Terminal) (u best rest : List Lexeme) → last_nesting ks (length u) (best ++ rest) (u ++ rest) ≡ last_nesting ks (length u) best u ++ rest
 last_append ks [] best [] = refl
 last_append ks [] best (t ∷ rest) = refl
 last_append ks (t ∷ u) best rest = last_step ks t u best rest (λ b. last_append ks u b rest) (any_fits ks t)
 
-module _ (marks : List Terminal) where
-  -- its marks are counted, and what is nested too deep is never read
+module _ (nestings : List Terminal) where
+  -- its nestings are counted, and what is nested too deep is never read
   abbrev pub Guarded : {A : Type 0} → Syntax A → ℕ → Type 0
-  Guarded s m = ((k : ℕ) × (tallies marks s ≡ true) × (guards k s ≡ true) × (m < k)) ⊎ ((is_counted marks s ≡ true) × (forks_open s ≡ true))
+  Guarded s m = ((k : ℕ) × (tallies nestings s ≡ true) × (guards k s ≡ true) × (m < k)) ⊎ ((is_counted nestings s ≡ true) × (forks_open s ≡ true))
 
   guard_first : {A B : Type 0} (a : Syntax A) (b : Syntax B) (m : ℕ) → Guarded (Then a b) m → Guarded a m
   unfolding tallies guards is_counted forks_open
-  guard_first a b m (inl g) = inl (g.0, (and_parts (tallies marks a) (tallies marks b) g.1).0, (and_parts (guards g.0 a) (guards (lower g.0 (least a)) b) g.2).0, g.3)
-  guard_first a b m (inr g) = inr ((and_parts (is_counted marks a) (is_counted marks b) g.0).0, (and_parts (forks_open a) (forks_open b) g.1).0)
+  guard_first a b m (inl g) = inl (g.0, (and_parts (tallies nestings a) (tallies nestings b) g.1).0, (and_parts (guards g.0 a) (guards (lower g.0 (least a)) b) g.2).0, g.3)
+  guard_first a b m (inr g) = inr ((and_parts (is_counted nestings a) (is_counted nestings b) g.0).0, (and_parts (forks_open a) (forks_open b) g.1).0)
 
   guard_next : {A B : Type 0} (a : Syntax A) (b : Syntax B) (m : ℕ) → Guarded (Then a b) m → (ts : List Lexeme) (x : A) (i : ℕ) (mid : List Lexeme) → read a m ts ≡ Ok (x, i, mid) → Guarded b i
   unfolding tallies guards is_counted forks_open
   guard_next a b m (inl g) ts x i mid e =
-      let w = and_parts (tallies marks a) (tallies marks b) g.1 in
-      let t = counts marks a w.0 m ts x i mid e in
-      inl (lower g.0 (least a), w.1, (and_parts (guards g.0 a) (guards (lower g.0 (least a)) b) g.2).1, omega (arith, t.3, g.3, spells_least marks a w.0 t.0 x t.2, lower_is g.0 (least a)))
-  guard_next a b m (inr g) ts x i mid e = inr ((and_parts (is_counted marks a) (is_counted marks b) g.0).1, (and_parts (forks_open a) (forks_open b) g.1).1)
+      let w = and_parts (tallies nestings a) (tallies nestings b) g.1 in
+      let t = counts nestings a w.0 m ts x i mid e in
+      inl (lower g.0 (least a), w.1, (and_parts (guards g.0 a) (guards (lower g.0 (least a)) b) g.2).1, omega (arith, t.3, g.3, spells_least nestings a w.0 t.0 x t.2, lower_is g.0 (least a)))
+  guard_next a b m (inr g) ts x i mid e = inr ((and_parts (is_counted nestings a) (is_counted nestings b) g.0).1, (and_parts (forks_open a) (forks_open b) g.1).1)
 
   guard_left : {A : Type 0} (a b : Syntax A) (m : ℕ) → Guarded (Either a b) m → Guarded a m
   unfolding tallies guards is_counted forks_open
-  guard_left a b m (inl g) = inl (g.0, (and_parts (tallies marks a) (tallies marks b) g.1).0, (and_parts (guards g.0 a) (guards g.0 b) g.2).0, g.3)
-  guard_left a b m (inr g) = inr ((and_parts (is_counted marks a) (is_counted marks b) g.0).0, (and_parts (forks_open a) (forks_open b) g.1).0)
+  guard_left a b m (inl g) = inl (g.0, (and_parts (tallies nestings a) (tallies nestings b) g.1).0, (and_parts (guards g.0 a) (guards g.0 b) g.2).0, g.3)
+  guard_left a b m (inr g) = inr ((and_parts (is_counted nestings a) (is_counted nestings b) g.0).0, (and_parts (forks_open a) (forks_open b) g.1).0)
 
   guard_right : {A : Type 0} (a b : Syntax A) (m : ℕ) → Guarded (Either a b) m → Guarded b m
   unfolding tallies guards is_counted forks_open
-  guard_right a b m (inl g) = inl (g.0, (and_parts (tallies marks a) (tallies marks b) g.1).1, (and_parts (guards g.0 a) (guards g.0 b) g.2).1, g.3)
-  guard_right a b m (inr g) = inr ((and_parts (is_counted marks a) (is_counted marks b) g.0).1, (and_parts (forks_open a) (forks_open b) g.1).1)
+  guard_right a b m (inl g) = inl (g.0, (and_parts (tallies nestings a) (tallies nestings b) g.1).1, (and_parts (guards g.0 a) (guards g.0 b) g.2).1, g.3)
+  guard_right a b m (inr g) = inr ((and_parts (is_counted nestings a) (is_counted nestings b) g.0).1, (and_parts (forks_open a) (forks_open b) g.1).1)
 
   guard_keeps : {A : Type 0} (a : Syntax A) (m : ℕ) (ts : List Lexeme) (x : A) (i : ℕ) (mid : List Lexeme) → Guarded a m → read a m ts ≡ Ok (x, i, mid) → Guarded a i
-  guard_keeps a m ts x i mid (inl g) e = let t = counts marks a g.1 m ts x i mid e in inl (g.0, g.1, g.2, omega (arith, t.3, g.3))
+  guard_keeps a m ts x i mid (inl g) e = let t = counts nestings a g.1 m ts x i mid e in inl (g.0, g.1, g.2, omega (arith, t.3, g.3))
   guard_keeps a m ts x i mid (inr g) e = inr g
 
   taken : {A : Type 0} (a : Syntax A) (m : ℕ) (ts : List Lexeme) (x : A) (i : ℕ) (mid : List Lexeme) → read a m ts ≡ Ok (x, i, mid) → (u : List Lexeme) → ts ≡ u ++ mid → Spells a u x
@@ -203,7 +203,7 @@ module _ (marks : List Terminal) where
   choice_right : {A : Type 0} (b : Bool) (o q : Outcome A) (d : List Lexeme) → b ≡ false → q ≡ Err (TooDeep d) → cond b o q ≡ Err (TooDeep d)
   choice_right b o q d e h = rw (e, h) refl
 
-  module _ {A B : Type 0} (ks : List Terminal) (a : Syntax A) (b c : Syntax B) (m : ℕ) (ts : List Lexeme) (x : A) (i : ℕ) (mid : List Lexeme) (was : read a max_marks ts ≡ Ok (x, i, mid)) where
+  module _ {A B : Type 0} (ks : List Terminal) (a : Syntax A) (b c : Syntax B) (m : ℕ) (ts : List Lexeme) (x : A) (i : ℕ) (mid : List Lexeme) (was : read a max_nestings ts ≡ Ok (x, i, mid)) where
     fork_list : (d : List Lexeme) → starts (first b) mid ≡ true → read b i mid ≡ Err (TooDeep d) → read (Fork ks a b c) m ts ≡ Err (TooDeep d)
     unfolding read
     fork_list d e h = rw (was, e, h) refl
@@ -212,31 +212,31 @@ module _ (marks : List Terminal) where
     unfolding read
     fork_goes d j e f g h = rw (was, e, f, g, h) refl
 
-    fork_none : starts (first b) mid ≡ false → starts (first c) mid ≡ true → i ≡ 0 → read (Fork ks a b c) m ts ≡ Err (TooDeep (last_mark ks (length ts - length mid) mid ts))
+    fork_none : starts (first b) mid ≡ false → starts (first c) mid ≡ true → i ≡ 0 → read (Fork ks a b c) m ts ≡ Err (TooDeep (last_nesting ks (length ts - length mid) mid ts))
     unfolding read
     fork_none e f g = rw (was, e, f, g) refl
 
-  -- where the token behind the first part of a fork shows that its bracket was a mark, of which there are too many then
-  module _ {A B : Type 0} (ks : List Terminal) (a : Syntax A) (b c : Syntax B) (fine : is_fine a ≡ true) (same : (t : Lexeme) → any_fits ks t ≡ is_mark marks t) (opens : is_open c ≡ true) (m : ℕ) (x : A) where
+  -- where the token behind the first part of a fork shows that its bracket was a nesting, of which there are too many then
+  module _ {A B : Type 0} (ks : List Terminal) (a : Syntax A) (b c : Syntax B) (fine : is_fine a ≡ true) (same : (t : Lexeme) → any_fits ks t ≡ is_nesting nestings t) (opens : is_open c ≡ true) (m : ℕ) (x : A) where
     abbrev SplitsLast : List Lexeme → Type 0
-    SplitsLast u = (v : List Lexeme) × (t : Lexeme) × (w : List Lexeme) × (u ≡ v ++ t ∷ w) × (last_mark ks (length u) [] u ≡ t ∷ w)
+    SplitsLast u = (v : List Lexeme) × (t : Lexeme) × (w : List Lexeme) × (u ≡ v ++ t ∷ w) × (last_nesting ks (length u) [] u ≡ t ∷ w)
 
-    last_here : (u rest : List Lexeme) → (p : SplitsLast u) → last_mark ks (length (u ++ rest) - length rest) rest (u ++ rest) ≡ p.1 ∷ (p.2 ++ rest)
+    last_here : (u rest : List Lexeme) → (p : SplitsLast u) → last_nesting ks (length (u ++ rest) - length rest) rest (u ++ rest) ≡ p.1 ∷ (p.2 ++ rest)
     last_here u rest p =
         let len : length (u ++ rest) - length rest ≡ length u = omega (arith, length-append u rest) in
-        ap (λ (k : ℕ). last_mark ks k rest (u ++ rest)) len ∙ last_append ks u [] rest ∙ ap (λ (w : List Lexeme). w ++ rest) p.4
+        ap (λ (k : ℕ). last_nesting ks k rest (u ++ rest)) len ∙ last_append ks u [] rest ∙ ap (λ (w : List Lexeme). w ++ rest) p.4
 
-    last_decided : (ts d u : List Lexeme) (s : Lexeme) (mid : List Lexeme) → read a max_marks ts ≡ Ok (x, 0, s ∷ mid) → ts ≡ u ++ s ∷ mid → max_marks ≡ marks_in marks u → Spells a u x
-        → any_fits (first b) s ≡ false → any_fits (first c) s ≡ true → d ≡ last_mark ks (length ts - length (s ∷ mid)) (s ∷ mid) ts → IsDecided (read (Fork ks a b c)) (Spells (Fork ks a b c)) m ts d
+    last_decided : (ts d u : List Lexeme) (s : Lexeme) (mid : List Lexeme) → read a max_nestings ts ≡ Ok (x, 0, s ∷ mid) → ts ≡ u ++ s ∷ mid → max_nestings ≡ nestings_in nestings u → Spells a u x
+        → any_fits (first b) s ≡ false → any_fits (first c) s ≡ true → d ≡ last_nesting ks (length ts - length (s ∷ mid)) (s ∷ mid) ts → IsDecided (read (Fork ks a b c)) (Spells (Fork ks a b c)) m ts d
     unfolding Spells
     last_decided ts d u s mid ok parts full spelled misses fits_c is =
-        let l = last_is marks ks same u [] [] 511 (omega (arith, full)) in
+        let l = last_is nestings ks same u [] [] 511 (omega (arith, full)) in
         let none : u ++ [] ≡ u = append-nil u in
-        let found : last_mark ks (length u) [] u ≡ l.1 ∷ l.2 = ap (λ (w : List Lexeme). last_mark ks (length u) [] w) (sym none) ∙ l.7 ∙ ap (λ (w : List Lexeme). l.1 ∷ w) (append-nil l.2) in
+        let found : last_nesting ks (length u) [] u ≡ l.1 ∷ l.2 = ap (λ (w : List Lexeme). last_nesting ks (length u) [] w) (sym none) ∙ l.7 ∙ ap (λ (w : List Lexeme). l.1 ∷ w) (append-nil l.2) in
         let p : SplitsLast u = (l.0, l.1, l.2, l.3, found) in
-        let q = through (read a) (local a fine) max_marks ts x 0 [] s mid ok in
+        let q = through (read a) (local a fine) max_nestings ts x 0 [] s mid ok in
         let front : q.0 ≡ u = append_cancel_right q.0 u (s ∷ mid) (sym q.1 ∙ parts) in
-        let again : (other : List Lexeme) → read a max_marks (u ++ s ∷ other) ≡ Ok (x, 0, s ∷ other) = λ other. subst (λ (w : List Lexeme). read a max_marks (w ++ s ∷ other) ≡ Ok (x, 0, s ∷ other)) front (q.2 other) in
+        let again : (other : List Lexeme) → read a max_nestings (u ++ s ∷ other) ≡ Ok (x, 0, s ∷ other) = λ other. subst (λ (w : List Lexeme). read a max_nestings (w ++ s ∷ other) ≡ Ok (x, 0, s ∷ other)) front (q.2 other) in
         let regroup : (other : List Lexeme) → l.0 ++ l.1 ∷ ((l.2 ++ s ∷ []) ++ other) ≡ u ++ s ∷ other =
         λ other. ap (λ (w : List Lexeme). l.0 ++ l.1 ∷ w) (append_assoc l.2 (s ∷ []) other) ∙ sym (append_assoc l.0 (l.1 ∷ l.2) (s ∷ other)) ∙ ap (λ (w : List Lexeme). w ++ s ∷ other) (sym l.3) in
         let o = first_begins c opens s fits_c in (
@@ -245,7 +245,7 @@ module _ (marks : List Terminal) where
           l.2 ++ s ∷ [],
           mid,
           parts ∙ sym (regroup mid),
-          is ∙ ap (λ (w : List Lexeme). last_mark ks (length w - length (s ∷ mid)) (s ∷ mid) w) parts ∙ last_here u (s ∷ mid) p ∙ ap (λ (w : List Lexeme). l.1 ∷ w) (sym (append_assoc l.2 (s ∷ []) mid)),
+          is ∙ ap (λ (w : List Lexeme). last_nesting ks (length w - length (s ∷ mid)) (s ∷ mid) w) parts ∙ last_here u (s ∷ mid) p ∙ ap (λ (w : List Lexeme). l.1 ∷ w) (sym (append_assoc l.2 (s ∷ []) mid)),
           λ other.
               ap (λ (w : List Lexeme). read (Fork ks a b c) m w) (regroup other) ∙ fork_none ks a b c m (u ++ s ∷ other) x 0 (s ∷ other) (again other) misses fits_c refl
               ∙ ap (λ (w : List Lexeme). Err (TooDeep w)) (last_here u (s ∷ other) p ∙ ap (λ (w : List Lexeme). l.1 ∷ w) (sym (append_assoc l.2 (s ∷ []) other))),
@@ -262,8 +262,8 @@ module _ (marks : List Terminal) where
           ),
         )
 
-    last_any : (ts d u mid : List Lexeme) (i : ℕ) → read a max_marks ts ≡ Ok (x, i, mid) → i ≡ 0 → ts ≡ u ++ mid → max_marks ≡ marks_in marks u → Spells a u x
-        → starts (first b) mid ≡ false → starts (first c) mid ≡ true → d ≡ last_mark ks (length ts - length mid) mid ts → IsDecided (read (Fork ks a b c)) (Spells (Fork ks a b c)) m ts d
+    last_any : (ts d u mid : List Lexeme) (i : ℕ) → read a max_nestings ts ≡ Ok (x, i, mid) → i ≡ 0 → ts ≡ u ++ mid → max_nestings ≡ nestings_in nestings u → Spells a u x
+        → starts (first b) mid ≡ false → starts (first c) mid ≡ true → d ≡ last_nesting ks (length ts - length mid) mid ts → IsDecided (read (Fork ks a b c)) (Spells (Fork ks a b c)) m ts d
     last_any ts d u [] i ok none parts full spelled misses fits_c is = absurd cc
     last_any ts d u (s ∷ mid) i ok none parts full spelled misses fits_c is = last_decided ts d u s mid (ok ∙ ap (λ (j : ℕ). Ok (x, j, s ∷ mid)) none) parts full spelled misses fits_c is
 
@@ -274,16 +274,16 @@ module _ (marks : List Terminal) where
   decided (Token k) fine m [] d g h = absurd (let e : Unexpected [] ≡ TooDeep d = cc in cc)
   decided (Token k) fine m (t ∷ ts) d g h =
       elim (chosen (fits k t) _ _ _ h) [ inl c ↦ absurd (let w = c.1 in cc) | inr c ↦ absurd (let w = c.1 in let e : Unexpected (t ∷ ts) ≡ TooDeep d = cc in cc) ]
-  decided (Mark k) fine m [] d g h = absurd (let e : Unexpected [] ≡ TooDeep d = cc in cc)
-  decided (Mark k) fine m (t ∷ ts) d g h =
+  decided (Nesting k) fine m [] d g h = absurd (let e : Unexpected [] ≡ TooDeep d = cc in cc)
+  decided (Nesting k) fine m (t ∷ ts) d g h =
       elim (chosen (fits k t) _ _ _ h) [
-        | inl c ↦ let q = one_over marks t m ts d c.1 in ([], t, [], ts, refl, q.1, λ other. rw (q.0, c.0) refl, ([], t, (refl, c.0)))
+        | inl c ↦ let q = one_over nestings t m ts d c.1 in ([], t, [], ts, refl, q.1, λ other. rw (q.0, c.0) refl, ([], t, (refl, c.0)))
         | inr c ↦ absurd (let w = c.1 in let e : Unexpected (t ∷ ts) ≡ TooDeep d = cc in cc)
       ]
   decided (Whole a) fine m ts d (inl g) h = absurd (let e = g.1 in cc)
   decided (Whole a) fine m ts d (inr g) h =
-      let c = and_parts (tallies marks a) (guards (suc max_marks) a) g.0 in
-      decided a fine max_marks ts d (inl (suc max_marks, c.0, c.1, omega arith)) h
+      let c = and_parts (tallies nestings a) (guards (suc max_nestings) a) g.0 in
+      decided a fine max_nestings ts d (inl (suc max_nestings, c.0, c.1, omega arith)) h
   decided (Known fs ms a) fine m ts d g h =
       let f = known_parts (is_fine a) (nullable a) (within (first a) fs) (within (more a) ms) fine in
       decided a f.0 m ts d g h
@@ -347,37 +347,37 @@ module _ (marks : List Terminal) where
   decided (Fork ks a b c) fine m ts d (inl g) h = absurd (let e = g.1 in cc)
   decided (Fork ks a b c) fine m ts d (inr g) h =
       let f = fork_is ks a b c fine in
-      let k = fork_counted marks ks a b c g.0 in
+      let k = fork_counted nestings ks a b c g.0 in
       let opens = and_parts (is_open c) (forks_open b) g.1 in
-      elim (bind_err (read a max_marks ts) _ (TooDeep d) h) [
+      elim (bind_err (read a max_nestings ts) _ (TooDeep d) h) [
         | inl e ↦
-            let p = decided a f.head max_marks ts d (inl (suc max_marks, k.head, k.head_guard, omega arith)) e in
-            first_decided (read a) (read (Fork ks a b c)) (Spells a) (Spells (Fork ks a b c)) max_marks m ts d p
-            (λ other c k. bind_deep (read a max_marks (p.0 ++ p.1 ∷ (p.2 ++ other))) _ c k)
+            let p = decided a f.head max_nestings ts d (inl (suc max_nestings, k.head, k.head_guard, omega arith)) e in
+            first_decided (read a) (read (Fork ks a b c)) (Spells a) (Spells (Fork ks a b c)) max_nestings m ts d p
+            (λ other c k. bind_deep (read a max_nestings (p.0 ++ p.1 ∷ (p.2 ++ other))) _ c k)
             (λ z o. let q = sample b in (o.0 ++ q.0, (o.1, q.1), (z ++ o.0, q.0, sym (append_assoc z o.0 q.0), o.2, inl q.2)))
         | inr q ↦
-            let t = counts marks a k.head max_marks ts q.0 q.1 q.2 q.3 in
-            let deep = last_mark ks (length ts - length q.2) q.2 ts in
+            let t = counts nestings a k.head max_nestings ts q.0 q.1 q.2 q.3 in
+            let deep = last_nesting ks (length ts - length q.2) q.2 ts in
             elim (bind_err (either_rest (first b) (read b) (first c) (charged deep (read c)) q.1 q.2) _ (TooDeep d) q.4) [
               | inl e ↦
                   elim (chosen (starts (first b) q.2) _ _ _ e) [
                     | inl s ↦
                         let p = decided b f.one.0 q.1 q.2 d (inr (k.one, opens.1)) s.1 in
-                        next_decided (λ l us. read a max_marks us) (read b) (read (Fork ks a b c)) (Spells b) (Spells (Fork ks a b c)) (λ l. local a f.head max_marks) m ts d q.0 q.1 q.1 q.2 q.3 p
+                        next_decided (λ l us. read a max_nestings us) (read b) (read (Fork ks a b c)) (Spells b) (Spells (Fork ks a b c)) (λ l. local a f.head max_nestings) m ts d q.0 q.1 q.1 q.2 q.3 p
                         (λ u other c' parts ok l. fork_list ks a b c m (u ++ (p.0 ++ p.1 ∷ (p.2 ++ other))) q.0 q.1 (p.0 ++ p.1 ∷ (p.2 ++ other)) ok c' (starts_so (first b) true q.2 p.0 p.1 (p.2 ++ p.3) (p.2 ++ other) p.4 s.0) l)
-                        (λ u parts z o. (o.0, (q.0, o.1), (u, z ++ o.0, append_assoc u z o.0, taken a max_marks ts q.0 q.1 q.2 q.3 u parts, inl o.2)))
+                        (λ u parts z o. (o.0, (q.0, o.1), (u, z ++ o.0, append_assoc u z o.0, taken a max_nestings ts q.0 q.1 q.2 q.3 u parts, inl o.2)))
                     | inr s ↦
                         elim (chosen (starts (first c) q.2) _ _ _ s.1) [
                           | inl v ↦
-                              elim (charged_ends marks (read c) deep q.2 d q.1 v.1) [
+                              elim (charged_ends nestings (read c) deep q.2 d q.1 v.1) [
                                 | inl z ↦ last_any ks a b c f.head k.same opens.0 m q.0 ts d t.0 q.2 q.1 q.3 z.0 t.1 (omega (arith, t.3, z.0)) t.2 s.0 v.0 z.1
                                 | inr z ↦
-                                    let p = decided c f.two.0 z.0 q.2 d (inl (suc max_marks, k.two, k.two_guard, omega (arith, t.3, z.1))) z.2 in
-                                    next_decided (λ l us. read a max_marks us) (read c) (read (Fork ks a b c)) (Spells c) (Spells (Fork ks a b c)) (λ l. local a f.head max_marks) m ts d q.0 q.1 z.0 q.2 q.3 p
+                                    let p = decided c f.two.0 z.0 q.2 d (inl (suc max_nestings, k.two, k.two_guard, omega (arith, t.3, z.1))) z.2 in
+                                    next_decided (λ l us. read a max_nestings us) (read c) (read (Fork ks a b c)) (Spells c) (Spells (Fork ks a b c)) (λ l. local a f.head max_nestings) m ts d q.0 q.1 z.0 q.2 q.3 p
                                     (λ u other c' parts ok l.
                                     fork_goes ks a b c m (u ++ (p.0 ++ p.1 ∷ (p.2 ++ other))) q.0 q.1 (p.0 ++ p.1 ∷ (p.2 ++ other)) ok c' z.0 (starts_so (first b) false q.2 p.0 p.1 (p.2 ++ p.3) (p.2 ++ other) p.4 s.0)
                                     (starts_so (first c) true q.2 p.0 p.1 (p.2 ++ p.3) (p.2 ++ other) p.4 v.0) z.1 l)
-                                    (λ u parts z' o. (o.0, (q.0, o.1), (u, z' ++ o.0, append_assoc u z' o.0, taken a max_marks ts q.0 q.1 q.2 q.3 u parts, inr o.2)))
+                                    (λ u parts z' o. (o.0, (q.0, o.1), (u, z' ++ o.0, append_assoc u z' o.0, taken a max_nestings ts q.0 q.1 q.2 q.3 u parts, inr o.2)))
                               ]
                           | inr v ↦ absurd (let w = v.1 in let e : Unexpected q.2 ≡ TooDeep d = cc in cc)
                         ]

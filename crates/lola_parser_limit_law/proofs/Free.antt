@@ -1,8 +1,8 @@
--- The same grammar with no mark counted: a text has one front that is a sentence which what follows does not go on.
+-- The same grammar with no nesting counted: a text has one front that is a sentence which what follows does not go on.
 use Rattle.std.proofs.Common.{◌≡◌, ℕ, zero, suc, Bool, true, false, not, ◌||◌, List, [], ◌∷◌, ◌++◌, length, Some, None, Ok, Err, refl, sym, ap, ◌∙◌, inl, inr, Result, subst}
 use Rattle.std.proofs.lemmas.List.{append-nil, append_cancel_right}
 use Rattle.std.proofs.lemmas.Bool.{and_parts, not-true}
-use Rattle.lola_parser_grammars_law.specs.Syntax.{Lexeme, Terminal, fits, clash, clashes, apart, within, Syntax, Past, Token, Mark, Whole, Known, Then, Map, Either, Maybe, Many, Fork, Repeats, Spells, starts, first, nullable, more, is_fine, Unexpected, TooDeep, Reader, max_marks, repeated, read, Outcome, all_read, read_all, Begins, IsFirstMisfit, Refusal}
+use Rattle.lola_parser_grammars_law.specs.Syntax.{Lexeme, Terminal, fits, clash, clashes, apart, within, Syntax, Past, Token, Nesting, Whole, Known, Then, Map, Either, Maybe, Many, Fork, Repeats, Spells, starts, first, nullable, more, is_fine, Unexpected, TooDeep, Reader, max_nestings, repeated, read, Outcome, all_read, read_all, Begins, IsFirstMisfit, Refusal}
 use Rattle.lola_parser_grammars_law.proofs.Laws.{chosen, done_is}
 use Rattle.lola_parser_grammars_law.proofs.Complete.{and_three, choice_parts, known_parts, fork_is, complete}
 use Rattle.lola_parser_grammars_law.proofs.Viable.{bind_err}
@@ -12,7 +12,7 @@ use Rattle.lola_parser_limit_law.specs.Fronts.{IsLongestFront}
 unfoldable pub free : {A : Type 0} → Syntax A → Syntax A
 free (Past a) = free a
 free (Token k) = Token k
-free (Mark k) = Token k
+free (Nesting k) = Token k
 free (Whole a) = free a
 free (Known fs ms a) = Known fs ms (free a)
 free (Then a b) = Then (free a) (free b)
@@ -30,7 +30,7 @@ spells_free : {A : Type 0} (s : Syntax A) (u : List Lexeme) (x : A) → Spells s
 unfolding free Spells
 spells_free (Past a) u x h = spells_free a u x h
 spells_free (Token k) u x h = h
-spells_free (Mark k) u x h = h
+spells_free (Nesting k) u x h = h
 spells_free (Whole a) u x h = spells_free a u x h
 spells_free (Known fs ms a) u x h = spells_free a u x h
 spells_free (Then a b) u x h = (h.0, h.1, h.2, spells_free a h.0 x.0 h.3, spells_free b h.1 x.1 h.4)
@@ -46,7 +46,7 @@ spells_back : {A : Type 0} (s : Syntax A) (u : List Lexeme) (x : A) → Spells (
 unfolding free Spells
 spells_back (Past a) u x h = spells_back a u x h
 spells_back (Token k) u x h = h
-spells_back (Mark k) u x h = h
+spells_back (Nesting k) u x h = h
 spells_back (Whole a) u x h = spells_back a u x h
 spells_back (Known fs ms a) u x h = spells_back a u x h
 spells_back (Then a b) u x h = (h.0, h.1, h.2, spells_back a h.0 x.0 h.3, spells_back b h.1 x.1 h.4)
@@ -81,7 +81,7 @@ free_is : {A : Type 0} (s : Syntax A) → is_fine s ≡ true → FreeIs s
 unfolding free first nullable more is_fine
 free_is (Past a) fine = free_is a fine
 free_is (Token k) fine = (refl, refl, refl, refl)
-free_is (Mark k) fine = (refl, refl, refl, refl)
+free_is (Nesting k) fine = (refl, refl, refl, refl)
 free_is (Whole a) fine = free_is a fine
 free_is (Known fs ms a) fine =
     let f = known_parts (is_fine a) (nullable a) (within (first a) fs) (within (more a) ms) fine in
@@ -161,7 +161,7 @@ never_deep : {A : Type 0} (s : Syntax A) → NeverDeep (read (free s))
 unfolding free read NeverDeep
 never_deep (Past a) m ts d h = never_deep a m ts d h
 never_deep (Token k) m ts d h = token_never k m ts d h
-never_deep (Mark k) m ts d h = token_never k m ts d h
+never_deep (Nesting k) m ts d h = token_never k m ts d h
 never_deep (Whole a) m ts d h = never_deep a m ts d h
 never_deep (Known fs ms a) m ts d h = never_deep a m ts d h
 never_deep (Then a b) m ts d h = then_never (free a) (free b) (never_deep a) (never_deep b) m ts d h
@@ -177,14 +177,14 @@ never_deep (Fork ks a b c) m ts d h = then_never (free a) (Either (free b) (free
 
 -- ---- one front
 
-reads_free : {A : Type 0} (s : Syntax A) → is_fine s ≡ true → (u : List Lexeme) (x : A) (rest : List Lexeme) → Spells s u x → starts (more s) rest ≡ false → (i : ℕ) × (read (free s) max_marks (u ++ rest) ≡ Ok (x, i, rest))
+reads_free : {A : Type 0} (s : Syntax A) → is_fine s ≡ true → (u : List Lexeme) (x : A) (rest : List Lexeme) → Spells s u x → starts (more s) rest ≡ false → (i : ℕ) × (read (free s) max_nestings (u ++ rest) ≡ Ok (x, i, rest))
 unfolding NeverDeep
 reads_free s fine u x rest h stop =
     let f = free_is s fine in
     let stop' : starts (more (free s)) rest ≡ false = ap (λ (ks : List Terminal). starts ks rest) f.2 ∙ stop in
-    elim (complete (free s) f.3 max_marks u x rest (spells_free s u x h) stop') [
+    elim (complete (free s) f.3 max_nestings u x rest (spells_free s u x h) stop') [
       | inl e ↦ e
-      | inr e ↦ absurd (never_deep s max_marks (u ++ rest) e.0 e.1)
+      | inr e ↦ absurd (never_deep s max_nestings (u ++ rest) e.0 e.1)
     ]
 
 -- a text begins with one sentence that what follows it does not go on, and that has one value
@@ -193,7 +193,7 @@ pub unique : {A : Type 0} (s : Syntax A) → is_fine s ≡ true → (u v : List 
 unique s fine u v x y rest after h g stop stops e =
     let p = reads_free s fine u x rest h stop in
     let q = reads_free s fine v y after g stops in
-    let same = done_is x y p.0 q.0 rest after (sym p.1 ∙ ap (λ (w : List Lexeme). read (free s) max_marks w) e ∙ q.1) in
+    let same = done_is x y p.0 q.0 rest after (sym p.1 ∙ ap (λ (w : List Lexeme). read (free s) max_nestings w) e ∙ q.1) in
     (append_cancel_right u v rest (e ∙ ap (λ (w : List Lexeme). v ++ w) (sym same.2)), same.2, same.0)
 
 -- ---- the longest front
@@ -206,12 +206,12 @@ begins_free s p b = (b.0, b.1, spells_free s (p ++ b.0) b.1 b.2)
 
 all_deep : {A : Type 0} (s : Syntax A) (ts d : List Lexeme) → read_all (free s) ts ≡ Err (TooDeep d) → ⊥
 unfolding read_all NeverDeep
-all_deep {A} s ts d h = by (read (free s) max_marks ts) refl h
+all_deep {A} s ts d h = by (read (free s) max_nestings ts) refl h
   where
-    by : (o : Outcome A) → read (free s) max_marks ts ≡ o → all_read o ≡ Err (TooDeep d) → ⊥
+    by : (o : Outcome A) → read (free s) max_nestings ts ≡ o → all_read o ≡ Err (TooDeep d) → ⊥
     by (Ok (x, i, [])) is e = absurd cc
     by (Ok (x, i, (t ∷ rest))) is e = let c : Unexpected (t ∷ rest) ≡ TooDeep d = cc in absurd cc
-    by (Err c) is e = let k : c ≡ TooDeep d = cc in never_deep s max_marks ts d (is ∙ ap (λ z. Err z) k)
+    by (Err c) is e = let k : c ≡ TooDeep d = cc in never_deep s max_nestings ts d (is ∙ ap (λ z. Err z) k)
 
 pub has_front : {A : Type 0} (s : Syntax A) → is_fine s ≡ true → (ts : List Lexeme) → (p : List Lexeme) × (rest : List Lexeme) × IsLongestFront s ts p rest
 has_front {A} s fine ts = by (read_all (free s) ts) refl

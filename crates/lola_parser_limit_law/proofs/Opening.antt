@@ -2,7 +2,7 @@
 use Rattle.std.proofs.Common.{◌≡◌, Bool, true, false, not, ◌&&◌, ◌||◌, cond, List, [], ◌∷◌, ◌++◌, Some, refl, sym, ap, append_assoc, inl, inr, ◌⊎◌}
 use Rattle.std.proofs.lemmas.List.{append-nil}
 use Rattle.std.proofs.lemmas.Bool.{and_parts, or_cases, not-true}
-use Rattle.lola_parser_grammars_law.specs.Syntax.{Lexeme, Terminal, fits, any_fits, within, Syntax, Past, Token, Mark, Whole, Known, Then, Map, Either, Maybe, Many, Fork, Spells, nullable, first}
+use Rattle.lola_parser_grammars_law.specs.Syntax.{Lexeme, Terminal, fits, any_fits, within, Syntax, Past, Token, Nesting, Whole, Known, Then, Map, Either, Maybe, Many, Fork, Spells, nullable, first}
 use Rattle.lola_parser_grammars_law.proofs.Tests.{within_fits}
 use Rattle.lola_parser_grammars_law.proofs.Viable.{sample}
 
@@ -18,7 +18,7 @@ opens_then a b z h = let q = sample b in (h.0 ++ q.0, (h.1, q.1), (z ++ h.0, q.0
 unfoldable pub is_open : {A : Type 0} → Syntax A → Bool
 is_open (Past a) = is_open a
 is_open (Token k) = true
-is_open (Mark k) = true
+is_open (Nesting k) = true
 is_open (Whole a) = is_open a
 is_open (Known fs ms a) = within fs (first a) && is_open a
 is_open (Then a b) = not (nullable a) && is_open a
@@ -51,7 +51,7 @@ pub first_begins : {A : Type 0} (s : Syntax A) → is_open s ≡ true → (t : L
 unfolding is_open first Spells
 first_begins (Past a) fine t h = first_begins a fine t h
 first_begins (Token k) fine t h = ([], t, (refl, one_of k t h))
-first_begins (Mark k) fine t h = ([], t, (refl, one_of k t h))
+first_begins (Nesting k) fine t h = ([], t, (refl, one_of k t h))
 first_begins (Whole a) fine t h = first_begins a fine t h
 first_begins (Known fs ms a) fine t h =
     let f = and_parts (within fs (first a)) (is_open a) fine in
@@ -73,11 +73,11 @@ first_begins (Fork ks a b c) fine t h =
     let q = sample b in
     (p.0 ++ q.0, (p.1, q.1), ((t ∷ []) ++ p.0, q.0, refl, p.2, inl q.2))
 
--- the same of what goes an expression on behind a bracket that is a mark
+-- the same of what goes an expression on behind a bracket that is a nesting
 unfoldable pub forks_open : {A : Type 0} → Syntax A → Bool
 forks_open (Past a) = true
 forks_open (Token k) = true
-forks_open (Mark k) = true
+forks_open (Nesting k) = true
 forks_open (Whole a) = true
 forks_open (Known fs ms a) = forks_open a
 forks_open (Then a b) = forks_open a && forks_open b

@@ -1,67 +1,67 @@
 -- The place at which a text is refused as too deep.
 use Rattle.std.proofs.Common.{◌≡◌, ℕ, zero, suc, ◌<◌, true, List, [], ◌∷◌, ◌++◌, length, Some, None, Err, refl, sym, ap, subst, ◌∙◌, append_assoc, arith, inl, inr, ◌⊎◌}
 use Rattle.std.proofs.lemmas.List.{append-nil, length-append, append_cancel_right}
-use Rattle.lola_parser_grammars_law.specs.Syntax.{Lexeme, Terminal, Syntax, Past, Token, Mark, Whole, Known, Then, Map, Either, Maybe, Many, Fork, Spells, is_fine, TooDeep, max_marks, read, read_all}
-use Rattle.lola_parser_grammars_law.specs.Marks.{is_counted}
+use Rattle.lola_parser_grammars_law.specs.Syntax.{Lexeme, Terminal, Syntax, Past, Token, Nesting, Whole, Known, Then, Map, Either, Maybe, Many, Fork, Spells, is_fine, TooDeep, max_nestings, read, read_all}
+use Rattle.lola_parser_grammars_law.specs.Nestings.{is_counted}
 use Rattle.lola_parser_grammars_law.specs.Exceeding.{ExceedsAmong}
-use Rattle.lola_parser_limit_law.specs.Late.{IsMarkBehind, IsNextBehindBracket, IsLate, IsLateInEvery, NoneIsLate, IsFirstLate, IsDeepPlace, IsNextInEvery, HasNoNext}
+use Rattle.lola_parser_limit_law.specs.Late.{IsNestingBehind, IsNextBehindBracket, IsLate, IsLateInEvery, NoneIsLate, IsFirstLate, IsDeepPlace, IsNextInEvery, HasNoNext}
 use Rattle.lola_parser_limit_law.specs.Fronts.{IsLongestFront}
 use Rattle.lola_parser_limit_law.proofs.Opening.{forks_open}
 use Rattle.lola_parser_limit_law.proofs.Placed.{fronts, in_front, decided_all}
 use Rattle.lola_parser_limit_law.proofs.First.{first_late}
 use Rattle.lola_parser_limit_law.proofs.Answered.{late_is_deep}
 
-module _ (marks : List Terminal) where
+module _ (nestings : List Terminal) where
   next_among : {A : Type 0} (P : List Lexeme → A → Type 0) (Q R : List Lexeme → Lexeme → List Lexeme → A → Type 0) → ((u : List Lexeme) (t : Lexeme) (v : List Lexeme) (x : A) → Q u t v x → R u t v x)
       → (u : List Lexeme) (t : Lexeme) (v : List Lexeme) (xs : List A) → ExceedsAmong Q P u t v xs → ExceedsAmong R P u t v xs
   next_among P Q R f u t v [] h = h
   next_among P Q R f u t v (x ∷ xs) (inl h) = inl (h.0, h.1, h.2, f u t h.0 x h.3, h.4)
   next_among P Q R f u t v (x ∷ xs) (inr h) = inr (h.0, h.1, h.2, h.3, next_among P Q R f h.1 t v xs h.4)
 
-  next_mark : {A : Type 0} (s : Syntax A) (u : List Lexeme) (t : Lexeme) (v : List Lexeme) (x : A) → IsNextBehindBracket marks s u t v x → IsMarkBehind marks (suc max_marks) s u t v x
-  unfolding IsMarkBehind IsNextBehindBracket
-  next_mark (Past a) u t v x h = h
-  next_mark (Token k) u t v x h = h
-  next_mark (Mark k) u t v x h = h
-  next_mark (Whole a) u t v x h = absurd h
-  next_mark (Known fs ms a) u t v x h = next_mark a u t v x h
-  next_mark (Then a b) u t v x (inl h) = inl (h.0, h.1, h.2, next_mark a u t h.0 x.0 h.3, h.4)
-  next_mark (Then a b) u t v x (inr h) = inr (h.0, h.1, h.2, h.3, next_mark b h.1 t v x.1 h.4)
-  next_mark (Map f a) u t v y h = (h.0, h.1, next_mark a u t v h.0 h.2)
-  next_mark (Either a b) u t v x (inl h) = inl (next_mark a u t v x h)
-  next_mark (Either a b) u t v x (inr h) = inr (next_mark b u t v x h)
-  next_mark (Maybe a) u t v None h = h
-  next_mark (Maybe a) u t v (Some x) h = next_mark a u t v x h
-  next_mark (Many a) u t v xs h = next_among (Spells a) (IsNextBehindBracket marks a) (IsMarkBehind marks (suc max_marks) a) (next_mark a) u t v xs h
-  next_mark (Fork ks a b c) u t v x (inl h) = inl (inr (h.0, h.1, h.2, h.3, h.4, ap suc h.5, h.6))
-  next_mark (Fork ks a b c) u t v x (inr h) = inr (inl (h.0, h.1, h.2, h.3, next_mark b h.1 t v x.1 h.4))
+  next_nesting : {A : Type 0} (s : Syntax A) (u : List Lexeme) (t : Lexeme) (v : List Lexeme) (x : A) → IsNextBehindBracket nestings s u t v x → IsNestingBehind nestings (suc max_nestings) s u t v x
+  unfolding IsNestingBehind IsNextBehindBracket
+  next_nesting (Past a) u t v x h = h
+  next_nesting (Token k) u t v x h = h
+  next_nesting (Nesting k) u t v x h = h
+  next_nesting (Whole a) u t v x h = absurd h
+  next_nesting (Known fs ms a) u t v x h = next_nesting a u t v x h
+  next_nesting (Then a b) u t v x (inl h) = inl (h.0, h.1, h.2, next_nesting a u t h.0 x.0 h.3, h.4)
+  next_nesting (Then a b) u t v x (inr h) = inr (h.0, h.1, h.2, h.3, next_nesting b h.1 t v x.1 h.4)
+  next_nesting (Map f a) u t v y h = (h.0, h.1, next_nesting a u t v h.0 h.2)
+  next_nesting (Either a b) u t v x (inl h) = inl (next_nesting a u t v x h)
+  next_nesting (Either a b) u t v x (inr h) = inr (next_nesting b u t v x h)
+  next_nesting (Maybe a) u t v None h = h
+  next_nesting (Maybe a) u t v (Some x) h = next_nesting a u t v x h
+  next_nesting (Many a) u t v xs h = next_among (Spells a) (IsNextBehindBracket nestings a) (IsNestingBehind nestings (suc max_nestings) a) (next_nesting a) u t v xs h
+  next_nesting (Fork ks a b c) u t v x (inl h) = inl (inr (h.0, h.1, h.2, h.3, h.4, ap suc h.5, h.6))
+  next_nesting (Fork ks a b c) u t v x (inr h) = inr (inl (h.0, h.1, h.2, h.3, next_nesting b h.1 t v x.1 h.4))
 
   abbrev pub IsFirstOrNext : {A : Type 0} → Syntax A → List Lexeme → Lexeme → List Lexeme → A → Type 0
-  IsFirstOrNext s u t v x = IsFirstLate marks s u t v x ⊎ IsNextBehindBracket marks s u t v x
+  IsFirstOrNext s u t v x = IsFirstLate nestings s u t v x ⊎ IsNextBehindBracket nestings s u t v x
 
   moved : {A : Type 0} (s : Syntax A) (u u' : List Lexeme) (t t' : Lexeme) (v v' : List Lexeme) (x : A) → u ≡ u' → t ≡ t' → v ≡ v' → IsFirstOrNext s u t v x → IsFirstOrNext s u' t' v' x
   moved s u u' t t' v v' x e f g h =
       subst (λ (w : List Lexeme). IsFirstOrNext s u' t' w x) g (subst (λ (y : Lexeme). IsFirstOrNext s u' y v x) f (subst (λ (w : List Lexeme). IsFirstOrNext s w t v x) e h))
 
   -- in a sentence, of which reading ends there
-  ends_first : {A : Type 0} (s : Syntax A) → is_fine s ≡ true → is_counted marks s ≡ true → (u : List Lexeme) (t : Lexeme) (v : List Lexeme) (x : A) → Spells s (u ++ t ∷ v) x → read s max_marks (u ++ t ∷ v) ≡ Err (TooDeep (t ∷ v)) → IsFirstOrNext s u t v x
+  ends_first : {A : Type 0} (s : Syntax A) → is_fine s ≡ true → is_counted nestings s ≡ true → (u : List Lexeme) (t : Lexeme) (v : List Lexeme) (x : A) → Spells s (u ++ t ∷ v) x → read s max_nestings (u ++ t ∷ v) ≡ Err (TooDeep (t ∷ v)) → IsFirstOrNext s u t v x
   ends_first s fine count u t v x h e =
       let z = u ++ t ∷ v in
-      let p = first_late marks s fine count max_marks z x [] (t ∷ v) h refl (ap (λ (w : List Lexeme). read s max_marks w) (append-nil z) ∙ e) in
+      let p = first_late nestings s fine count max_nestings z x [] (t ∷ v) h refl (ap (λ (w : List Lexeme). read s max_nestings w) (append-nil z) ∙ e) in
       let there : t ∷ v ≡ p.1 ∷ p.2 = p.4 ∙ ap (λ (w : List Lexeme). p.1 ∷ w) (append-nil p.2) in
       let front : p.0 ≡ u = append_cancel_right p.0 u (t ∷ v) (ap (λ (w : List Lexeme). p.0 ++ w) there ∙ sym p.3) in
       let token : p.1 ≡ t = cc in
       let behind : p.2 ≡ v = cc in
       moved s p.0 u p.1 t p.2 v x front token behind
       (elim p.5 [
-        | inl q ↦ inl (q.0, subst (λ (w : List Lexeme). NoneIsLate marks s (length p.0) w x) p.3 q.1)
+        | inl q ↦ inl (q.0, subst (λ (w : List Lexeme). NoneIsLate nestings s (length p.0) w x) p.3 q.1)
         | inr q ↦ inr q
       ])
 
-  pub deep_is_first : {A : Type 0} (s : Syntax A) → is_fine s ≡ true → is_counted marks s ≡ true → forks_open s ≡ true → (ts d p rest : List Lexeme) → read_all s ts ≡ Err (TooDeep d) → IsLongestFront s ts p rest
+  pub deep_is_first : {A : Type 0} (s : Syntax A) → is_fine s ≡ true → is_counted nestings s ≡ true → forks_open s ≡ true → (ts d p rest : List Lexeme) → read_all s ts ≡ Err (TooDeep d) → IsLongestFront s ts p rest
       → (u : List Lexeme) × (t : Lexeme) × (w : List Lexeme) × (p ≡ u ++ t ∷ w) × (d ≡ t ∷ (w ++ rest)) × ((q : List Lexeme) (x : A) → Spells s (u ++ t ∷ (w ++ q)) x → IsFirstOrNext s u t (w ++ q) x)
   deep_is_first s fine count opens ts d p rest h l =
-      let c = decided_all marks s fine count opens ts d h in
+      let c = decided_all nestings s fine count opens ts d h in
       let z = c.0 ++ c.1 ∷ c.2 in
       let whole : ts ≡ z ++ c.3 = c.4 ∙ sym (append_assoc c.0 (c.1 ∷ c.2) c.3) in
       let f = in_front s z c.3 p rest c.7 (sym whole ∙ l.0, l.1, l.2) in (
@@ -76,21 +76,21 @@ module _ (marks : List Terminal) where
             subst (λ (w : List Lexeme). IsFirstOrNext s c.0 c.1 w x) (sym regroup) (ends_first s fine count c.0 c.1 (c.2 ++ (f.0 ++ q)) x g' (c.6 (f.0 ++ q))),
       )
 
-  first_is_late : {A : Type 0} (s : Syntax A) (u : List Lexeme) (t : Lexeme) (v : List Lexeme) (x : A) → IsFirstOrNext s u t v x → IsLate marks s u t v x
-  first_is_late s u t v x (inl h) = (max_marks, omega arith, h.0)
-  first_is_late s u t v x (inr h) = (suc max_marks, omega arith, next_mark s u t v x h)
+  first_is_late : {A : Type 0} (s : Syntax A) (u : List Lexeme) (t : Lexeme) (v : List Lexeme) (x : A) → IsFirstOrNext s u t v x → IsLate nestings s u t v x
+  first_is_late s u t v x (inl h) = (max_nestings, omega arith, h.0)
+  first_is_late s u t v x (inr h) = (suc max_nestings, omega arith, next_nesting s u t v x h)
 
-  pub deep_in_every : {A : Type 0} (s : Syntax A) → is_fine s ≡ true → is_counted marks s ≡ true → forks_open s ≡ true → (ts d p rest : List Lexeme) → read_all s ts ≡ Err (TooDeep d) → IsLongestFront s ts p rest
-      → (u : List Lexeme) × (t : Lexeme) × (w : List Lexeme) × (p ≡ u ++ t ∷ w) × (d ≡ t ∷ (w ++ rest)) × IsLateInEvery marks s u t w
+  pub deep_in_every : {A : Type 0} (s : Syntax A) → is_fine s ≡ true → is_counted nestings s ≡ true → forks_open s ≡ true → (ts d p rest : List Lexeme) → read_all s ts ≡ Err (TooDeep d) → IsLongestFront s ts p rest
+      → (u : List Lexeme) × (t : Lexeme) × (w : List Lexeme) × (p ≡ u ++ t ∷ w) × (d ≡ t ∷ (w ++ rest)) × IsLateInEvery nestings s u t w
   deep_in_every s fine count opens ts d p rest h l =
       let f = deep_is_first s fine count opens ts d p rest h l in
       (f.0, f.1, f.2, f.3, f.4, λ q x g. first_is_late s f.0 f.1 (f.2 ++ q) x (f.5 q x g))
 
-  -- ---- the first mark that is late in every sentence that begins so
+  -- ---- the first nesting that is late in every sentence that begins so
 
-  -- a mark before it that is late makes it the next
-  is_next : {A : Type 0} (s : Syntax A) (u : List Lexeme) (t : Lexeme) (w u' : List Lexeme) (t' : Lexeme) (w' : List Lexeme) → u ++ t ∷ w ≡ u' ++ t' ∷ w' → length u < length u' → IsLateInEvery marks s u t w
-      → (q : List Lexeme) (x : A) → Spells s (u' ++ t' ∷ (w' ++ q)) x → IsFirstOrNext s u' t' (w' ++ q) x → IsNextBehindBracket marks s u' t' (w' ++ q) x
+  -- a nesting before it that is late makes it the next
+  is_next : {A : Type 0} (s : Syntax A) (u : List Lexeme) (t : Lexeme) (w u' : List Lexeme) (t' : Lexeme) (w' : List Lexeme) → u ++ t ∷ w ≡ u' ++ t' ∷ w' → length u < length u' → IsLateInEvery nestings s u t w
+      → (q : List Lexeme) (x : A) → Spells s (u' ++ t' ∷ (w' ++ q)) x → IsFirstOrNext s u' t' (w' ++ q) x → IsNextBehindBracket nestings s u' t' (w' ++ q) x
   is_next s u t w u' t' w' same less late q x g (inr h) = h
   is_next s u t w u' t' w' same less late q x g (inl h) =
       let whole : u' ++ t' ∷ (w' ++ q) ≡ u ++ t ∷ (w ++ q) = sym (append_assoc u' (t' ∷ w') q) ∙ ap (λ (y : List Lexeme). y ++ q) (sym same) ∙ append_assoc u (t ∷ w) q in
@@ -104,7 +104,7 @@ module _ (marks : List Terminal) where
   order (suc a) zero = inr (inr (omega arith))
   order (suc a) (suc b) = elim (order a b) [ inl h ↦ inl (omega (arith, h)) | inr h ↦ elim h [ inl e ↦ inr (inl (ap suc e)) | inr l ↦ inr (inr (omega (arith, l))) ] ]
 
-  -- two marks of one text at one place
+  -- two nestings of one text at one place
   same_place : (u u' : List Lexeme) (t t' : Lexeme) (w w' : List Lexeme) → u ++ t ∷ w ≡ u' ++ t' ∷ w' → length u ≡ length u' → t' ∷ w' ≡ t ∷ w
   same_place u u' t t' w w' e l =
       elim (fronts u (t ∷ w) u' (t' ∷ w') e) [
@@ -116,12 +116,12 @@ module _ (marks : List Terminal) where
       at_once [] f n = sym f
       at_once (s ∷ y) f n = absurd (omega (arith, n))
 
-  pub deep_stands_there : {A : Type 0} (s : Syntax A) → is_fine s ≡ true → is_counted marks s ≡ true → forks_open s ≡ true → (ts p rest : List Lexeme) → IsLongestFront s ts p rest
-      → (u : List Lexeme) (t : Lexeme) (w : List Lexeme) → p ≡ u ++ t ∷ w → IsDeepPlace marks s u t w
+  pub deep_stands_there : {A : Type 0} (s : Syntax A) → is_fine s ≡ true → is_counted nestings s ≡ true → forks_open s ≡ true → (ts p rest : List Lexeme) → IsLongestFront s ts p rest
+      → (u : List Lexeme) (t : Lexeme) (w : List Lexeme) → p ≡ u ++ t ∷ w → IsDeepPlace nestings s u t w
       → (read_all s ts ≡ Err (TooDeep (t ∷ (w ++ rest))))
-      ⊎ ((u' : List Lexeme) × (t' : Lexeme) × (w' : List Lexeme) × (p ≡ u' ++ t' ∷ w') × (length u < length u') × (read_all s ts ≡ Err (TooDeep (t' ∷ (w' ++ rest)))) × IsNextInEvery marks s u' t' w')
+      ⊎ ((u' : List Lexeme) × (t' : Lexeme) × (w' : List Lexeme) × (p ≡ u' ++ t' ∷ w') × (length u < length u') × (read_all s ts ≡ Err (TooDeep (t' ∷ (w' ++ rest)))) × IsNextInEvery nestings s u' t' w')
   deep_stands_there s fine count opens ts p rest l u t w e place =
-      let d = late_is_deep marks s fine count ts p rest l u t w e place.0 in
+      let d = late_is_deep nestings s fine count ts p rest l u t w e place.0 in
       let f = deep_is_first s fine count opens ts d.0 p rest d.1 l in
       elim (order (length u) (length f.0)) [
         | inl less ↦
@@ -144,7 +144,7 @@ module _ (marks : List Terminal) where
             ]
       ]
 
-  -- ---- where it is not always the next mark
+  -- ---- where it is not always the next nesting
 
   with_more : (p q u w : List Lexeme) (t : Lexeme) → p ≡ u ++ t ∷ w → p ++ q ≡ u ++ t ∷ (w ++ q)
   with_more p q u w t e = ap (λ (y : List Lexeme). y ++ q) e ∙ append_assoc u (t ∷ w) q
@@ -152,17 +152,17 @@ module _ (marks : List Terminal) where
   inside : (p u w : List Lexeme) (t : Lexeme) → p ≡ u ++ t ∷ w → length u < length p
   inside p u w t e = omega (arith, ap length e, length-append u (t ∷ w))
 
-  not_next : {A : Type 0} (s : Syntax A) (p u : List Lexeme) (t : Lexeme) (w : List Lexeme) → p ≡ u ++ t ∷ w → HasNoNext marks s p → IsNextInEvery marks s u t w → ⊥
+  not_next : {A : Type 0} (s : Syntax A) (p u : List Lexeme) (t : Lexeme) (w : List Lexeme) → p ≡ u ++ t ∷ w → HasNoNext nestings s p → IsNextInEvery nestings s u t w → ⊥
   not_next s p u t w e none next =
       let whole = with_more p none.0 u w t e in
       none.3 u t (w ++ none.0) whole (inside p u w t e) (next none.0 none.1 (subst (λ (y : List Lexeme). Spells s y none.1) whole none.2))
 
-  only_first : {A : Type 0} (s : Syntax A) (u : List Lexeme) (t : Lexeme) (v : List Lexeme) (x : A) → (IsNextBehindBracket marks s u t v x → ⊥) → IsFirstOrNext s u t v x → IsFirstLate marks s u t v x
+  only_first : {A : Type 0} (s : Syntax A) (u : List Lexeme) (t : Lexeme) (v : List Lexeme) (x : A) → (IsNextBehindBracket nestings s u t v x → ⊥) → IsFirstOrNext s u t v x → IsFirstLate nestings s u t v x
   only_first s u t v x none (inl h) = h
   only_first s u t v x none (inr h) = absurd (none h)
 
-  -- what is the first in one of the sentences and a mark too many in all
-  first_in_one : {A : Type 0} (s : Syntax A) (p u : List Lexeme) (t : Lexeme) (w : List Lexeme) → p ≡ u ++ t ∷ w → HasNoNext marks s p → ((q : List Lexeme) (x : A) → Spells s (u ++ t ∷ (w ++ q)) x → IsFirstOrNext s u t (w ++ q) x) → IsDeepPlace marks s u t w
+  -- what is the first in one of the sentences and a nesting too many in all
+  first_in_one : {A : Type 0} (s : Syntax A) (p u : List Lexeme) (t : Lexeme) (w : List Lexeme) → p ≡ u ++ t ∷ w → HasNoNext nestings s p → ((q : List Lexeme) (x : A) → Spells s (u ++ t ∷ (w ++ q)) x → IsFirstOrNext s u t (w ++ q) x) → IsDeepPlace nestings s u t w
   first_in_one s p u t w e none each = (
     λ q x g. first_is_late s u t (w ++ q) x (each q x g),
     λ u' t' w' same less late.
@@ -175,19 +175,19 @@ module _ (marks : List Terminal) where
         omega (arith, low, l.1),
   )
 
-  pub deep_stands_exactly : {A : Type 0} (s : Syntax A) → is_fine s ≡ true → is_counted marks s ≡ true → forks_open s ≡ true → (ts p rest : List Lexeme) → IsLongestFront s ts p rest → HasNoNext marks s p
+  pub deep_stands_exactly : {A : Type 0} (s : Syntax A) → is_fine s ≡ true → is_counted nestings s ≡ true → forks_open s ≡ true → (ts p rest : List Lexeme) → IsLongestFront s ts p rest → HasNoNext nestings s p
       → (u : List Lexeme) (t : Lexeme) (w : List Lexeme) → p ≡ u ++ t ∷ w
-      → (IsDeepPlace marks s u t w → read_all s ts ≡ Err (TooDeep (t ∷ (w ++ rest)))) × (read_all s ts ≡ Err (TooDeep (t ∷ (w ++ rest))) → IsDeepPlace marks s u t w)
+      → (IsDeepPlace nestings s u t w → read_all s ts ≡ Err (TooDeep (t ∷ (w ++ rest)))) × (read_all s ts ≡ Err (TooDeep (t ∷ (w ++ rest))) → IsDeepPlace nestings s u t w)
   deep_stands_exactly s fine count opens ts p rest l none u t w e = (there, back)
     where
-      there : IsDeepPlace marks s u t w → read_all s ts ≡ Err (TooDeep (t ∷ (w ++ rest)))
+      there : IsDeepPlace nestings s u t w → read_all s ts ≡ Err (TooDeep (t ∷ (w ++ rest)))
       there place =
           elim (deep_stands_there s fine count opens ts p rest l u t w e place) [
             | inl h ↦ h
             | inr h ↦ absurd (not_next s p h.0 h.1 h.2 h.3 none h.6)
           ]
 
-      back : read_all s ts ≡ Err (TooDeep (t ∷ (w ++ rest))) → IsDeepPlace marks s u t w
+      back : read_all s ts ≡ Err (TooDeep (t ∷ (w ++ rest))) → IsDeepPlace nestings s u t w
       back h =
           let f = deep_is_first s fine count opens ts (t ∷ (w ++ rest)) p rest h l in
           let token : t ≡ f.1 = (let k = f.4 in cc) in

@@ -1,7 +1,7 @@
 -- What decides that reading is too deep stands before the first token that does not fit.
 use Rattle.std.proofs.Common.{◌≡◌, true, List, [], ◌∷◌, ◌++◌, Ok, Err, refl, sym, ap, subst, ◌∙◌, append_assoc, inl, inr, ◌⊎◌}
-use Rattle.lola_parser_grammars_law.specs.Syntax.{Lexeme, Terminal, Syntax, Spells, is_fine, Unexpected, TooDeep, Outcome, max_marks, read, all_read, read_all, Begins}
-use Rattle.lola_parser_grammars_law.specs.Marks.{is_counted}
+use Rattle.lola_parser_grammars_law.specs.Syntax.{Lexeme, Terminal, Syntax, Spells, is_fine, Unexpected, TooDeep, Outcome, max_nestings, read, all_read, read_all, Begins}
+use Rattle.lola_parser_grammars_law.specs.Nestings.{is_counted}
 use Rattle.lola_parser_limit_law.specs.Fronts.{EndsThere, IsLongestFront}
 use Rattle.lola_parser_limit_law.proofs.Opening.{forks_open}
 use Rattle.lola_parser_limit_law.proofs.Decided.{IsDecided, decided}
@@ -38,12 +38,12 @@ in_front s z rest p after b l =
         let whole : z ≡ p ++ t ∷ f.1 = f.2 ∙ ap (λ (y : Lexeme). p ++ y ∷ f.1) (sym same) in
         h (begins_less s p f.1 t (subst (λ (w : List Lexeme). Begins s w) whole b))
 
-module _ (marks : List Terminal) where
+module _ (nestings : List Terminal) where
   -- ---- whole texts
 
-  pub deep_read : {A : Type 0} (s : Syntax A) (ts d : List Lexeme) → read_all s ts ≡ Err (TooDeep d) → read s max_marks ts ≡ Err (TooDeep d)
+  pub deep_read : {A : Type 0} (s : Syntax A) (ts d : List Lexeme) → read_all s ts ≡ Err (TooDeep d) → read s max_nestings ts ≡ Err (TooDeep d)
   unfolding read_all
-  deep_read {A} s ts d h = by (read s max_marks ts) h
+  deep_read {A} s ts d h = by (read s max_nestings ts) h
     where
       by : (o : Outcome A) → all_read o ≡ Err (TooDeep d) → o ≡ Err (TooDeep d)
       by (Ok (x, i, [])) e = absurd cc
@@ -51,5 +51,5 @@ module _ (marks : List Terminal) where
       by (Err c) e = let k : c ≡ TooDeep d = cc in ap (λ z. Err z) k
 
   -- what some sentence begins with decides that reading is too deep
-  pub decided_all : {A : Type 0} (s : Syntax A) → is_fine s ≡ true → is_counted marks s ≡ true → forks_open s ≡ true → (ts d : List Lexeme) → read_all s ts ≡ Err (TooDeep d) → IsDecided (read s) (Spells s) max_marks ts d
-  decided_all s fine count opens ts d h = decided marks s fine max_marks ts d (inr (count, opens)) (deep_read s ts d h)
+  pub decided_all : {A : Type 0} (s : Syntax A) → is_fine s ≡ true → is_counted nestings s ≡ true → forks_open s ≡ true → (ts d : List Lexeme) → read_all s ts ≡ Err (TooDeep d) → IsDecided (read s) (Spells s) max_nestings ts d
+  decided_all s fine count opens ts d h = decided nestings s fine max_nestings ts d (inr (count, opens)) (deep_read s ts d h)

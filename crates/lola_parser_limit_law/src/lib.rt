@@ -1,4 +1,4 @@
-//! The law of the limit of marks: where a specification is refused as too deep.
+//! The law of the limit of nestings: where a specification is refused as too deep.
 #![tactic(auto)]
 
 pub mod law;

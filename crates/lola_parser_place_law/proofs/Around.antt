@@ -12,7 +12,7 @@ use Rattle.lola_parser_grammars_law.proofs.Complete.{begins, full_is}
 use Rattle.lola_parser_limit_law.specs.Late.{IsNextBehindBracket}
 use Rattle.lola_parser_limit_law.proofs.Placed.{fronts}
 use Rattle.lola_parser_grammar.specs.Grammar as g
-use Rattle.lola_parser_grammar.specs.Grammar.{all_marks, expr_in, specification}
+use Rattle.lola_parser_grammar.specs.Grammar.{all_nestings, expr_in, specification}
 use Rattle.lola_parser_grammar.proofs.Fine.{unbracketed_first, unbracketed_fine}
 use Rattle.lola_parser.specs.Places.{Cut, cut_at, cut_last, clause_words}
 use Rattle.lola_parser.proofs.Lacks.{lacks, words, cut_more, cut_here, front_none, none_append, none_in, not_here, fewer, level_lacks, expr_lacks, pacing_lacks, when_lacks}
@@ -51,7 +51,7 @@ module _ (n : ℕ) where
   IsAround {A} s z pre wt x =
       (o : Lexeme) × (inside : List Lexeme) × (tail : List Lexeme) × (y : Expr × g.Parts) × (z ≡ pre ++ wt ∷ (o ∷ (inside ++ tail))) × Spells (g.forked n) inside y
       × ((other : List Lexeme) (y' : Expr × g.Parts) → Spells (g.forked n) other y' → (x' : A) × Spells s (pre ++ wt ∷ (o ∷ (other ++ tail))) x')
-      × ((u : List Lexeme) (t : Lexeme) (v : List Lexeme) → IsNextBehindBracket all_marks (g.forked n) u t v y → IsNextBehindBracket all_marks s (pre ++ wt ∷ (o ∷ u)) t (v ++ tail) x)
+      × ((u : List Lexeme) (t : Lexeme) (v : List Lexeme) → IsNextBehindBracket all_nestings (g.forked n) u t v y → IsNextBehindBracket all_nestings s (pre ++ wt ∷ (o ∷ u)) t (v ++ tail) x)
 
   abbrev pub Around : {A : Type 0} → Syntax A → Type 0
   Around {A} s = (z : List Lexeme) (x : A) → Spells s z x → (pre : List Lexeme) (wt : Lexeme) (rest : List Lexeme) → z ≡ pre ++ wt ∷ rest → fits (Of is.With) wt ≡ true → OpensNext rest → NotEval pre → IsAround s z pre wt x
@@ -159,7 +159,7 @@ module _ (n : ℕ) where
   -- ---- each part
 
   parts_lack : lacks words (g.parts n) ≡ true
-  unfolding lacks same_shape g.parts g.forked g.more_parts g.one_part g.closed g.unbracketed g.whole_unbracketed g.open_expr g.open_operand g.part_behind g.whole g.token g.mark g.word g.name g.other_name g.integer g.text g.quantity g.sign g.product_signs g.sum_signs g.comparison_signs g.and_signs g.or_signs g.word_literal g.offset g.over g.window g.arguments g.stand_in g.hold g.get g.last g.default g.reading g.dotted_default g.defaults g.dotted g.suffix g.named g.number g.worded g.bracketed g.operand g.negation g.negative g.minus g.plain g.other_with g.unary g.products g.product g.sums g.sum g.comparisons g.comparison g.conjunctions g.conjunction g.disjunctions g.conditional g.expr_with
+  unfolding lacks same_shape g.parts g.forked g.more_parts g.one_part g.closed g.unbracketed g.whole_unbracketed g.open_expr g.open_operand g.part_behind g.whole g.token g.nesting g.word g.name g.other_name g.integer g.text g.quantity g.operator g.product_operators g.sum_operators g.comparison_operators g.and_operators g.or_operators g.word_literal g.offset g.over g.window g.arguments g.stand_in g.hold g.get g.last g.default g.reading g.dotted_default g.defaults g.dotted g.suffix g.named g.number g.worded g.bracketed g.operand g.negation g.negative g.minus g.plain g.other_with g.unary g.products g.product g.sums g.sum g.comparisons g.comparison g.conjunctions g.conjunction g.disjunctions g.conditional g.expr_with
   parts_lack = rw (level_lacks true n, level_lacks false n) refl
 
   open_apart : apart (Of is.Open ∷ []) g.open_begins ≡ true
@@ -211,7 +211,7 @@ module _ (n : ℕ) where
             o ∷ u,
             refl,
             (k.0, k.1, (ap (λ (t : Lexeme). t ∷ []) (sym token), k.2.1)),
-            inl (f.0, f.1, inr (o ∷ [], u, refl, (o, f.2.3.1, (refl, f.2.3.2.1)), subst (λ (w : List Lexeme). IsNextBehindBracket all_marks (g.forked n) u t w f.0.1) (sym (append-nil v)) s)),
+            inl (f.0, f.1, inr (o ∷ [], u, refl, (o, f.2.3.1, (refl, f.2.3.2.1)), subst (λ (w : List Lexeme). IsNextBehindBracket all_nestings (g.forked n) u t w f.0.1) (sym (append-nil v)) s)),
           ),
         ),
       )

@@ -1,23 +1,23 @@
--- Where the bracketed expression goes past the mark at which reading ended and ends at a bracket, that mark is always the next.
+-- Where the bracketed expression goes past the nesting at which reading ended and ends at a bracket, that nesting is always the next.
 use Rattle.std.proofs.Common.{◌≡◌, ℕ, suc, ◌-◌, ◌<◌, Bool, true, false, nat_lt, cond, List, [], ◌∷◌, ◌++◌, length, Option, Some, None, refl, sym, ap, subst, ◌∙◌, append_assoc, arith, inl, inr}
 use Rattle.std.proofs.lemmas.List.{length-append}
 use Rattle.std.proofs.lemmas.Bool.{ltb-true, and_parts, or_cases}
 use Rattle.lola_lexer.specs.declared.shape.TokenShape.TheVariants as is
 use Rattle.lola_parser_tree.specs.declared.expressions.Expr.{Expr}
 use Rattle.lola_parser_tree.specs.declared.declarations.Declaration.{Declaration}
-use Rattle.lola_parser_grammars_law.specs.Syntax.{Lexeme, Terminal, Of, any_fits, fits, apart, same_shape, starts, within, Syntax, Past, Token, Mark, Whole, Known, Then, Map, Either, Maybe, Many, Fork, Spells, Begins, first, nullable, more, is_fine, max_marks}
-use Rattle.lola_parser_grammars_law.specs.Marks.{is_mark, marks_in}
+use Rattle.lola_parser_grammars_law.specs.Syntax.{Lexeme, Terminal, Of, any_fits, fits, apart, same_shape, starts, within, Syntax, Past, Token, Nesting, Whole, Known, Then, Map, Either, Maybe, Many, Fork, Spells, Begins, first, nullable, more, is_fine, max_nestings}
+use Rattle.lola_parser_grammars_law.specs.Nestings.{is_nesting, nestings_in}
 use Rattle.lola_parser_grammars_law.specs.Exceeding.{ExceedsAmong}
 use Rattle.lola_parser_grammars_law.proofs.Tests.{apart_excludes}
 use Rattle.lola_parser_grammars_law.proofs.Complete.{and_three, choice_parts, known_parts, fork_is, fork_follows}
 use Rattle.lola_parser_grammars_law.proofs.Exactly.{opens_part}
-use Rattle.lola_parser_limit_law.specs.Late.{IsMarkBehind, IsNextBehindBracket}
+use Rattle.lola_parser_limit_law.specs.Late.{IsNestingBehind, IsNextBehindBracket}
 use Rattle.lola_parser_limit_law.specs.Fronts.{IsLongestFront}
 use Rattle.lola_parser_limit_law.proofs.Opening.{is_open, first_begins}
 use Rattle.lola_parser_limit_law.proofs.Placed.{fronts, in_front}
 use Rattle.lola_parser_limit_law.proofs.Free.{unique}
 use Rattle.lola_parser_grammar.specs.Grammar as g
-use Rattle.lola_parser_grammar.specs.Grammar.{expr_in, expr_goes_on, all_marks, specification}
+use Rattle.lola_parser_grammar.specs.Grammar.{expr_in, expr_goes_on, all_nestings, specification}
 use Rattle.lola_parser_grammar.proofs.Fine.{whole_fine, parts_fine, more_parts_first, one_part_first}
 use Rattle.lola_parser.specs.Turns.{Left, shape}
 use Rattle.lola_parser.specs.Skims.{skim}
@@ -27,7 +27,7 @@ use Rattle.lola_parser_place_law.specs.Law.{IsEnclosedBehind}
 use Rattle.lola_parser_place_law.proofs.Around.{NotEval, OpensNext, IsAround, around_specification}
 use Rattle.lola_parser_place_law.proofs.InList.{deeper, shut_stops}
 use Rattle.lola_parser_place_law.proofs.Last.{IsFirstOrLast}
-use Rattle.lola_parser_place_law.proofs.Marked.{same_cut}
+use Rattle.lola_parser_place_law.proofs.WithNestings.{same_cut}
 
 -- ---- what a cut says
 
@@ -117,33 +117,33 @@ ending n head t d less h = by (skim (expr_in (suc (length (head ++ t ∷ d)))) (
           | inr f ↦ absurd (omega (arith, short, ap length f.3, length-append f.1 (t ∷ d)))
         ]
 
--- ---- a mark is one
+-- ---- a nesting is one
 
-among_mark : {A : Type 0} (P : List Lexeme → A → Type 0) (Q : List Lexeme → Lexeme → List Lexeme → A → Type 0) → ((u : List Lexeme) (t : Lexeme) (v : List Lexeme) (x : A) → Q u t v x → is_mark all_marks t ≡ true)
-    → (u : List Lexeme) (t : Lexeme) (v : List Lexeme) (xs : List A) → ExceedsAmong Q P u t v xs → is_mark all_marks t ≡ true
-among_mark P Q f u t v [] h = absurd h
-among_mark P Q f u t v (x ∷ xs) (inl h) = f u t h.0 x h.3
-among_mark P Q f u t v (x ∷ xs) (inr h) = among_mark P Q f h.1 t v xs h.4
+among_nesting : {A : Type 0} (P : List Lexeme → A → Type 0) (Q : List Lexeme → Lexeme → List Lexeme → A → Type 0) → ((u : List Lexeme) (t : Lexeme) (v : List Lexeme) (x : A) → Q u t v x → is_nesting all_nestings t ≡ true)
+    → (u : List Lexeme) (t : Lexeme) (v : List Lexeme) (xs : List A) → ExceedsAmong Q P u t v xs → is_nesting all_nestings t ≡ true
+among_nesting P Q f u t v [] h = absurd h
+among_nesting P Q f u t v (x ∷ xs) (inl h) = f u t h.0 x h.3
+among_nesting P Q f u t v (x ∷ xs) (inr h) = among_nesting P Q f h.1 t v xs h.4
 
-mark_is : {A : Type 0} (s : Syntax A) (k : ℕ) (u : List Lexeme) (t : Lexeme) (v : List Lexeme) (x : A) → IsMarkBehind all_marks k s u t v x → is_mark all_marks t ≡ true
-unfolding IsMarkBehind
-mark_is (Past a) k u t v x h = absurd h
-mark_is (Token c) k u t v x h = absurd h
-mark_is (Mark c) k u t v x h = absurd h
-mark_is (Whole a) k u t v x h = h.2
-mark_is (Known fs ms a) k u t v x h = mark_is a k u t v x h
-mark_is (Then a b) k u t v x (inl h) = mark_is a k u t h.0 x.0 h.3
-mark_is (Then a b) k u t v x (inr h) = mark_is b k h.1 t v x.1 h.4
-mark_is (Map f a) k u t v y h = mark_is a k u t v h.0 h.2
-mark_is (Either a b) k u t v x (inl h) = mark_is a k u t v x h
-mark_is (Either a b) k u t v x (inr h) = mark_is b k u t v x h
-mark_is (Maybe a) k u t v None h = absurd h
-mark_is (Maybe a) k u t v (Some x) h = mark_is a k u t v x h
-mark_is (Many a) k u t v xs h = among_mark (Spells a) (IsMarkBehind all_marks k a) (mark_is a k) u t v xs h
-mark_is (Fork ks a b c) k u t v x (inl (inl h)) = h.6
-mark_is (Fork ks a b c) k u t v x (inl (inr h)) = h.6
-mark_is (Fork ks a b c) k u t v x (inr (inl h)) = mark_is b k h.1 t v x.1 h.4
-mark_is (Fork ks a b c) k u t v x (inr (inr h)) = h.6
+nesting_is : {A : Type 0} (s : Syntax A) (k : ℕ) (u : List Lexeme) (t : Lexeme) (v : List Lexeme) (x : A) → IsNestingBehind all_nestings k s u t v x → is_nesting all_nestings t ≡ true
+unfolding IsNestingBehind
+nesting_is (Past a) k u t v x h = absurd h
+nesting_is (Token c) k u t v x h = absurd h
+nesting_is (Nesting c) k u t v x h = absurd h
+nesting_is (Whole a) k u t v x h = h.2
+nesting_is (Known fs ms a) k u t v x h = nesting_is a k u t v x h
+nesting_is (Then a b) k u t v x (inl h) = nesting_is a k u t h.0 x.0 h.3
+nesting_is (Then a b) k u t v x (inr h) = nesting_is b k h.1 t v x.1 h.4
+nesting_is (Map f a) k u t v y h = nesting_is a k u t v h.0 h.2
+nesting_is (Either a b) k u t v x (inl h) = nesting_is a k u t v x h
+nesting_is (Either a b) k u t v x (inr h) = nesting_is b k u t v x h
+nesting_is (Maybe a) k u t v None h = absurd h
+nesting_is (Maybe a) k u t v (Some x) h = nesting_is a k u t v x h
+nesting_is (Many a) k u t v xs h = among_nesting (Spells a) (IsNestingBehind all_nestings k a) (nesting_is a k) u t v xs h
+nesting_is (Fork ks a b c) k u t v x (inl (inl h)) = h.6
+nesting_is (Fork ks a b c) k u t v x (inl (inr h)) = h.6
+nesting_is (Fork ks a b c) k u t v x (inr (inl h)) = nesting_is b k h.1 t v x.1 h.4
+nesting_is (Fork ks a b c) k u t v x (inr (inr h)) = h.6
 
 -- ---- what stands behind the bracket
 
@@ -213,12 +213,12 @@ module _ (n : ℕ) where
         (end, p.0, subst (λ (y : List Lexeme). Spells (specification n) y p.0) whole p.1)
 
     -- where they are followed by more, t is the next
-    next_so : (y : List Lexeme) (x : List Declaration) → marks_in all_marks head ≡ max_marks → is_mark all_marks t ≡ true → Spells (specification n) (u ++ t ∷ (w ++ s ∷ y)) x → IsNextBehindBracket all_marks (specification n) u t (w ++ s ∷ y) x
+    next_so : (y : List Lexeme) (x : List Declaration) → nestings_in all_nestings head ≡ max_nestings → is_nesting all_nestings t ≡ true → Spells (specification n) (u ++ t ∷ (w ++ s ∷ y)) x → IsNextBehindBracket all_nestings (specification n) u t (w ++ s ∷ y) x
     unfolding g.forked Spells IsNextBehindBracket more
-    next_so y x many mark h =
+    next_so y x many nesting h =
         let r = around (t ∷ (w ++ s ∷ y)) x h in
         let i = same_inside (t ∷ (w ++ s ∷ y)) x r in
-        let f = fork_is all_marks (expr_in n) (g.more_parts n) (g.one_part n) forked_fine in
+        let f = fork_is all_nestings (expr_in n) (g.more_parts n) (g.one_part n) forked_fine in
         let k = r.5 in
         let both : (head ++ t ∷ w) ++ (s ∷ y) ≡ k.0 ++ (k.1 ++ r.2) = append_assoc head (t ∷ w) (s ∷ y) ∙ i.1 ∙ ap (λ (z : List Lexeme). z ++ r.2) k.2 ∙ append_assoc k.0 k.1 r.2 in
         let p = unique (expr_in n) expr_fine (head ++ t ∷ w) k.0 e r.3.0 (s ∷ y) (k.1 ++ r.2) hs k.3 (shut_stops (s ∷ y) (there (Of is.Shut) s shut)) (fork_follows expr_goes_on (g.more_parts n) (g.one_part n) f.one f.two k.1 r.3.1 r.2 k.4) both in
@@ -226,17 +226,17 @@ module _ (n : ℕ) where
         let back : (w ++ k.1) ++ r.2 ≡ w ++ s ∷ y = append_assoc w k.1 r.2 ∙ ap (λ (z : List Lexeme). w ++ z) (sym p.1) in
         elim k.4 [
           | inl hb ↦
-              let o = opens_part all_marks (g.more_parts n) f.one.0 f.one.1 k.1 r.3.1 r.2 hb in
+              let o = opens_part all_nestings (g.more_parts n) f.one.0 f.one.1 k.1 r.3.1 r.2 hb in
               let c : any_fits (Of is.Comma ∷ []) s ≡ true = ap (λ (ks : List Terminal). any_fits ks s) (sym (more_parts_first n)) ∙ ap (starts (first (g.more_parts n))) p.1 ∙ o in
               absurd (apart_excludes (Of is.Comma ∷ []) (Of is.Shut ∷ []) s comma_apart c (there (Of is.Shut) s shut))
           | inr hc ↦
-              let next = r.7 head t (w ++ k.1) (inl (w, k.1, refl, subst (λ (z : List Lexeme). Spells (expr_in n) z r.3.0) (sym p.0) k.3, hc, many, mark)) in
-              subst (λ (z : List Lexeme). IsNextBehindBracket all_marks (specification n) u t z x) back (subst (λ (z : List Lexeme). IsNextBehindBracket all_marks (specification n) z t ((w ++ k.1) ++ r.2) x) front next)
+              let next = r.7 head t (w ++ k.1) (inl (w, k.1, refl, subst (λ (z : List Lexeme). Spells (expr_in n) z r.3.0) (sym p.0) k.3, hc, many, nesting)) in
+              subst (λ (z : List Lexeme). IsNextBehindBracket all_nestings (specification n) u t z x) back (subst (λ (z : List Lexeme). IsNextBehindBracket all_nestings (specification n) z t ((w ++ k.1) ++ r.2) x) front next)
         ]
 
 -- in a sentence whose reading ended at t
-pub enclosed_is_next : (n : ℕ) (u : List Lexeme) (t : Lexeme) (v : List Lexeme) (x : List Declaration) → length (u ++ t ∷ v) < n → IsEnclosedBehind u (t ∷ v) → IsFirstOrLast all_marks (specification n) u t v x → Spells (specification n) (u ++ t ∷ v) x
-    → IsNextBehindBracket all_marks (specification n) u t v x
+pub enclosed_is_next : (n : ℕ) (u : List Lexeme) (t : Lexeme) (v : List Lexeme) (x : List Declaration) → length (u ++ t ∷ v) < n → IsEnclosedBehind u (t ∷ v) → IsFirstOrLast all_nestings (specification n) u t v x → Spells (specification n) (u ++ t ∷ v) x
+    → IsNextBehindBracket all_nestings (specification n) u t v x
 enclosed_is_next n u t v x less h (inr c) g = c.0
 enclosed_is_next n u t v x less h (inl c) g =
     let head = h.0 in
@@ -245,13 +245,13 @@ enclosed_is_next n u t v x less h (inl c) g =
     let parts : u ≡ size ++ head = b.3 ∙ sym (append_assoc b.0 (b.1 ∷ (b.2 ∷ [])) head) in
     let short : length (head ++ t ∷ v) < n = omega (arith, less, length-append u (t ∷ v), ap length parts, length-append size head, length-append head (t ∷ v)) in
     let k = ending n head t v short h.3 in
-    let mark = mark_is (specification n) max_marks u t v x c.0 in
-    subst (λ (y : List Lexeme). IsNextBehindBracket all_marks (specification n) u t y x) (sym k.4)
-    (next_so n u t head b k.0 k.1 k.3 k.5 k.6 k.2 x h.2 mark (subst (λ (y : List Lexeme). Spells (specification n) (u ++ t ∷ y) x) k.4 g))
+    let nesting = nesting_is (specification n) max_nestings u t v x c.0 in
+    subst (λ (y : List Lexeme). IsNextBehindBracket all_nestings (specification n) u t y x) (sym k.4)
+    (next_so n u t head b k.0 k.1 k.3 k.5 k.6 k.2 x h.2 nesting (subst (λ (y : List Lexeme). Spells (specification n) (u ++ t ∷ y) x) k.4 g))
 
 pub next_in_every : (n : ℕ) (ts p rest u : List Lexeme) (t : Lexeme) (w : List Lexeme) → length ts < n → IsLongestFront (specification n) ts p rest → p ≡ u ++ t ∷ w → IsEnclosedBehind u (t ∷ (w ++ rest))
-    → ((q : List Lexeme) (x : List Declaration) → Spells (specification n) (u ++ t ∷ (w ++ q)) x → IsFirstOrLast all_marks (specification n) u t (w ++ q) x)
-    → (q : List Lexeme) (x : List Declaration) → Spells (specification n) (u ++ t ∷ (w ++ q)) x → IsNextBehindBracket all_marks (specification n) u t (w ++ q) x
+    → ((q : List Lexeme) (x : List Declaration) → Spells (specification n) (u ++ t ∷ (w ++ q)) x → IsFirstOrLast all_nestings (specification n) u t (w ++ q) x)
+    → (q : List Lexeme) (x : List Declaration) → Spells (specification n) (u ++ t ∷ (w ++ q)) x → IsNextBehindBracket all_nestings (specification n) u t (w ++ q) x
 next_in_every n ts p rest u t w less l e h each q x g =
     let head = h.0 in
     let b = bracket_inv u head h.1 in
@@ -272,7 +272,7 @@ next_in_every n ts p rest u t w less l e h each q x g =
     elim (each q x g) [
       | inr c ↦ c.0
       | inl c ↦
-          let mark = mark_is (specification n) max_marks u t (w ++ q) x c.0 in
-          subst (λ (y : List Lexeme). IsNextBehindBracket all_marks (specification n) u t y x) back
-          (next_so n u t head b k.0 k.1 k.3 k.5 k.6 (f.0 ++ q) x h.2 mark (subst (λ (y : List Lexeme). Spells (specification n) (u ++ t ∷ y) x) (sym back) g))
+          let nesting = nesting_is (specification n) max_nestings u t (w ++ q) x c.0 in
+          subst (λ (y : List Lexeme). IsNextBehindBracket all_nestings (specification n) u t y x) back
+          (next_so n u t head b k.0 k.1 k.3 k.5 k.6 (f.0 ++ q) x h.2 nesting (subst (λ (y : List Lexeme). Spells (specification n) (u ++ t ∷ y) x) (sym back) g))
     ]

@@ -1,20 +1,20 @@
--- Where the bracketed expression does not end at a bracket, the mark at which reading ends is the place of the rule.
+-- Where the bracketed expression does not end at a bracket, the nesting at which reading ends is the place of the rule.
 use Rattle.std.proofs.Common.{◌≡◌, ℕ, zero, suc, ◌+◌, ◌-◌, ◌<◌, ◌≤◌, Bool, true, false, cond, List, [], ◌∷◌, ◌++◌, length, Some, None, Err, refl, sym, ap, subst, ◌∙◌, append_assoc, arith, inl, inr}
 use Rattle.std.proofs.lemmas.List.{append-nil, length-append}
 use Rattle.std.proofs.lemmas.Bool.{lt-ltb, false_from_ne_true}
 use Rattle.lola_lexer.specs.declared.shape.TokenShape.TheVariants as is
 use Rattle.lola_parser_tree.specs.declared.expressions.Expr.{Expr}
 use Rattle.lola_parser_tree.specs.declared.declarations.Declaration.{Declaration}
-use Rattle.lola_parser_grammars_law.specs.Syntax.{Lexeme, Terminal, Of, any_fits, fits, apart, same_shape, starts, TooDeep, Spells, max_marks, read_all}
-use Rattle.lola_parser_grammars_law.specs.Marks.{marks_in}
+use Rattle.lola_parser_grammars_law.specs.Syntax.{Lexeme, Terminal, Of, any_fits, fits, apart, same_shape, starts, TooDeep, Spells, max_nestings, read_all}
+use Rattle.lola_parser_grammars_law.specs.Nestings.{nestings_in}
 use Rattle.lola_parser_grammars_law.proofs.Tests.{apart_excludes}
-use Rattle.lola_parser_grammars_law.proofs.Within.{marks-append}
+use Rattle.lola_parser_grammars_law.proofs.Within.{nestings-append}
 use Rattle.lola_parser_limit_law.specs.Late.{IsNextBehindBracket, IsLateInEvery, NoneIsLate, IsDeepPlace}
 use Rattle.lola_parser_limit_law.specs.Fronts.{IsLongestFront}
 use Rattle.lola_parser_limit_law.proofs.Levels.{counted_at}
 use Rattle.lola_parser_limit_law.proofs.Open.{specification_open}
 use Rattle.lola_parser_limit_law.proofs.Placed.{fronts}
-use Rattle.lola_parser_grammar.specs.Grammar.{expr_in, expr_goes_on, all_marks, specification}
+use Rattle.lola_parser_grammar.specs.Grammar.{expr_in, expr_goes_on, all_nestings, specification}
 use Rattle.lola_parser_grammar.specs.Whole.{most_levels}
 use Rattle.lola_parser_grammar.proofs.Fine.{specification_fine}
 use Rattle.lola_parser.specs.Turns.{shape}
@@ -27,7 +27,7 @@ use Rattle.lola_parser.proofs.Forking.{next_is_behind}
 use Rattle.lola_parser_place_law.specs.Law.{IsEnclosedBehind}
 use Rattle.lola_parser_place_law.proofs.Before.{IsBehindLast}
 use Rattle.lola_parser_place_law.proofs.Last.{IsFirstOrLast, deep_is_first}
-use Rattle.lola_parser_place_law.proofs.Next.{next_mark}
+use Rattle.lola_parser_place_law.proofs.Next.{next_nesting}
 use Rattle.lola_parser_place_law.proofs.Listed.{IsLow, Led, IsListed, walk_specification}
 
 -- ---- an expression that ends at a bracket
@@ -82,15 +82,15 @@ bracket_there u pre head other e n l none h =
     let there : behind_bracket u ≡ cond (is_spawn (cut_last clause_words (l.0 ++ []))) (shape is.Open (l.2 ∷ head)) None = ap behind_bracket whole ∙ ap behind_with cut in
     there ∙ what_opens (is_spawn (cut_last clause_words (l.0 ++ []))) l.2 head other l.5 (sym there ∙ h)
 
--- ---- what stands before the last mark
+-- ---- what stands before the last nesting
 
-low_before : (u a : List Lexeme) (m : Lexeme) (b : List Lexeme) → u ≡ a ++ m ∷ b → marks_in all_marks b ≡ 0 → IsLow u (length a)
+low_before : (u a : List Lexeme) (m : Lexeme) (b : List Lexeme) → u ≡ a ++ m ∷ b → nestings_in all_nestings b ≡ 0 → IsLow u (length a)
 low_before u a m b whole none front head e many =
     elim (fronts front head a (m ∷ b) (sym e ∙ whole)) [
       | inl k ↦ omega (arith, ap length k.1, length-append front k.0)
       | inr k ↦
           let rest : b ≡ k.1 ++ head = (let q = k.3 in cc) in
-          absurd (omega (arith, ap (marks_in all_marks) rest, marks-append all_marks k.1 head, none, many))
+          absurd (omega (arith, ap (nestings_in all_nestings) rest, nestings-append all_nestings k.1 head, none, many))
     ]
 
 with_more : (p q u w : List Lexeme) (t : Lexeme) → p ≡ u ++ t ∷ w → p ++ q ≡ u ++ t ∷ (w ++ q)
@@ -98,7 +98,7 @@ with_more p q u w t e = ap (λ (y : List Lexeme). y ++ q) e ∙ append_assoc u (
 
 -- ---- a sentence that has an expression behind the bracket
 
-module _ (n : ℕ) (ts d rest u : List Lexeme) (t : Lexeme) (w : List Lexeme) (less : length ts < n) (text : ts ≡ u ++ d) (back : d ≡ t ∷ (w ++ rest)) (v : List Lexeme) (x : List Declaration) (next : IsNextBehindBracket all_marks (specification n) u t v x) where
+module _ (n : ℕ) (ts d rest u : List Lexeme) (t : Lexeme) (w : List Lexeme) (less : length ts < n) (text : ts ≡ u ++ d) (back : d ≡ t ∷ (w ++ rest)) (v : List Lexeme) (x : List Declaration) (next : IsNextBehindBracket all_nestings (specification n) u t v x) where
   listed_encloses : (r : IsListed n (Led n) (specification n) u t v) → (s : Lexeme) (y : List Lexeme) → w ≡ r.2 ++ s ∷ y → starts (Of is.Shut ∷ []) (s ∷ y) ≡ true → IsEnclosedBehind u d
   listed_encloses r s y e shut =
       let split : d ≡ t ∷ (r.2 ++ s ∷ (y ++ rest)) = back ∙ ap (λ (z : List Lexeme). t ∷ z) (ap (λ (z : List Lexeme). z ++ rest) e ∙ append_assoc r.2 (s ∷ y) rest) in
@@ -107,9 +107,9 @@ module _ (n : ℕ) (ts d rest u : List Lexeme) (t : Lexeme) (w : List Lexeme) (l
       let b = next_is_behind n u t v x next in
       (r.1, bracket_there u r.0 r.1 b.0 r.7 n r.8 r.13 b.1, r.12, enclosed n r.1 t r.2 (s ∷ (y ++ rest)) d r.6 r.11 shut split short)
 
--- in this sentence t is the next mark behind the first too many, and none before that one is
+-- in this sentence t is the next nesting behind the first too many, and none before that one is
 abbrev pub NextIn : (n : ℕ) → List Lexeme → Lexeme → List Lexeme → List Declaration → Type 0
-NextIn n u t v x = IsBehindLast all_marks (λ u t v. IsNextBehindBracket all_marks (specification n) u t v x) (λ l. NoneIsLate all_marks (specification n) l (u ++ t ∷ v) x) u t v
+NextIn n u t v x = IsBehindLast all_nestings (λ u t v. IsNextBehindBracket all_nestings (specification n) u t v x) (λ l. NoneIsLate all_nestings (specification n) l (u ++ t ∷ v) x) u t v
 
 module _ (n : ℕ) (u : List Lexeme) (t : Lexeme) (v : List Lexeme) (x : List Declaration) where
   listed_past : NextIn n u t v x → IsListed n (Led n) (specification n) u t v
@@ -126,37 +126,37 @@ module _ (n : ℕ) (u : List Lexeme) (t : Lexeme) (v : List Lexeme) (x : List De
 -- ---- the place
 
 module _ (n : ℕ) (ts d p rest u : List Lexeme) (t : Lexeme) (w : List Lexeme) (less : length ts < n) (text : ts ≡ p ++ rest) (e : p ≡ u ++ t ∷ w) (back : d ≡ t ∷ (w ++ rest))
-    (none : IsEnclosedBehind u d → ⊥) (u' : List Lexeme) (t' : Lexeme) (w' : List Lexeme) (same : u ++ t ∷ w ≡ u' ++ t' ∷ w') (before : length u' < length u) (late : IsLateInEvery all_marks (specification n) u' t' w') where
+    (none : IsEnclosedBehind u d → ⊥) (u' : List Lexeme) (t' : Lexeme) (w' : List Lexeme) (same : u ++ t ∷ w ≡ u' ++ t' ∷ w') (before : length u' < length u) (late : IsLateInEvery all_nestings (specification n) u' t' w') where
   -- no sentence that begins so keeps the limit before t
-  none_keeps : (q : List Lexeme) (x : List Declaration) → Spells (specification n) (u ++ t ∷ (w ++ q)) x → NoneIsLate all_marks (specification n) (length u) (u ++ t ∷ (w ++ q)) x → ⊥
+  none_keeps : (q : List Lexeme) (x : List Declaration) → Spells (specification n) (u ++ t ∷ (w ++ q)) x → NoneIsLate all_nestings (specification n) (length u) (u ++ t ∷ (w ++ q)) x → ⊥
   none_keeps q x g few =
       let whole : u ++ t ∷ (w ++ q) ≡ u' ++ t' ∷ (w' ++ q) = sym (with_more p q u w t e) ∙ with_more p q u' w' t' (e ∙ same) in
       let l = late q x (subst (λ (y : List Lexeme). Spells (specification n) y x) whole g) in
       let low = few l.0 u' t' (w' ++ q) whole before l.2 in
       omega (arith, low, l.1)
 
-  not_enclosed : (q : List Lexeme) (x : List Declaration) → IsNextBehindBracket all_marks (specification n) u t (w ++ q) x → IsListed n (Led n) (specification n) u t (w ++ q) → ⊥
+  not_enclosed : (q : List Lexeme) (x : List Declaration) → IsNextBehindBracket all_nestings (specification n) u t (w ++ q) x → IsListed n (Led n) (specification n) u t (w ++ q) → ⊥
   not_enclosed q x next r =
       elim (fronts w q r.2 r.3 r.9) [
         | inl k ↦
             let new : u ++ t ∷ (r.2 ++ r.4) ≡ u ++ t ∷ (w ++ (k.0 ++ r.4)) = ap (λ (y : List Lexeme). u ++ t ∷ y) (ap (λ (y : List Lexeme). y ++ r.4) k.1 ∙ append_assoc w k.0 r.4) in
-            none_keeps (k.0 ++ r.4) r.5 (subst (λ (y : List Lexeme). Spells (specification n) y r.5) new r.14) (subst (λ (y : List Lexeme). NoneIsLate all_marks (specification n) (length u) y r.5) new r.15)
+            none_keeps (k.0 ++ r.4) r.5 (subst (λ (y : List Lexeme). Spells (specification n) y r.5) new r.14) (subst (λ (y : List Lexeme). NoneIsLate all_nestings (specification n) (length u) y r.5) new r.15)
         | inr k ↦
             let parts : ts ≡ u ++ d = text ∙ ap (λ (z : List Lexeme). z ++ rest) e ∙ append_assoc u (t ∷ w) rest ∙ ap (λ (z : List Lexeme). u ++ z) (sym back) in
             none (listed_encloses n ts d rest u t w less parts back (w ++ q) x next r k.0 k.1 k.2 (sym (ap (starts (Of is.Shut ∷ [])) k.3) ∙ r.10))
       ]
 
-  not_before : (q : List Lexeme) (x : List Declaration) → Spells (specification n) (u ++ t ∷ (w ++ q)) x → IsFirstOrLast all_marks (specification n) u t (w ++ q) x → ⊥
+  not_before : (q : List Lexeme) (x : List Declaration) → Spells (specification n) (u ++ t ∷ (w ++ q)) x → IsFirstOrLast all_nestings (specification n) u t (w ++ q) x → ⊥
   not_before q x g (inl f) = none_keeps q x g f.1
   not_before q x g (inr b) = not_enclosed q x b.0 (listed_past n u t (w ++ q) x b)
 
 pub list_is_deep : (n : ℕ) (ts d p rest u : List Lexeme) (t : Lexeme) (w : List Lexeme) → length ts < n → IsLongestFront (specification n) ts p rest → p ≡ u ++ t ∷ w → d ≡ t ∷ (w ++ rest)
-    → ((q : List Lexeme) (x : List Declaration) → Spells (specification n) (u ++ t ∷ (w ++ q)) x → IsFirstOrLast all_marks (specification n) u t (w ++ q) x) → (IsEnclosedBehind u d → ⊥) → IsDeepPlace all_marks (specification n) u t w
+    → ((q : List Lexeme) (x : List Declaration) → Spells (specification n) (u ++ t ∷ (w ++ q)) x → IsFirstOrLast all_nestings (specification n) u t (w ++ q) x) → (IsEnclosedBehind u d → ⊥) → IsDeepPlace all_nestings (specification n) u t w
 list_is_deep n ts d p rest u t w less l e back each none = (
   λ q x g.
       elim (each q x g) [
-        | inl a ↦ (max_marks, omega arith, a.0)
-        | inr b ↦ (suc max_marks, omega arith, next_mark (specification n) u t (w ++ q) x b.0)
+        | inl a ↦ (max_nestings, omega arith, a.0)
+        | inr b ↦ (suc max_nestings, omega arith, next_nesting (specification n) u t (w ++ q) x b.0)
       ],
   λ u' t' w' same before late.
       let g = subst (λ (y : List Lexeme). Spells (specification n) y l.1.1) (with_more p l.1.0 u w t e) l.1.2 in
@@ -164,9 +164,9 @@ list_is_deep n ts d p rest u t w less l e back each none = (
 )
 
 pub in_list : (n : ℕ) → most_levels ≤ n → (ts d p rest : List Lexeme) → length ts < n → read_all (specification n) ts ≡ Err (TooDeep d) → IsLongestFront (specification n) ts p rest
-    → (u : List Lexeme) × (t : Lexeme) × (w : List Lexeme) × (p ≡ u ++ t ∷ w) × (d ≡ t ∷ (w ++ rest)) × ((IsEnclosedBehind u d → ⊥) → IsDeepPlace all_marks (specification n) u t w)
+    → (u : List Lexeme) × (t : Lexeme) × (w : List Lexeme) × (p ≡ u ++ t ∷ w) × (d ≡ t ∷ (w ++ rest)) × ((IsEnclosedBehind u d → ⊥) → IsDeepPlace all_nestings (specification n) u t w)
 in_list n le ts d p rest less h l =
-    let f = deep_is_first all_marks (specification n) (specification_fine n) (counted_at n le) (specification_open n) ts d p rest h l in (
+    let f = deep_is_first all_nestings (specification n) (specification_fine n) (counted_at n le) (specification_open n) ts d p rest h l in (
       f.0,
       f.1,
       f.2,

@@ -1,42 +1,42 @@
--- Where a text is refused as too deep: at the first mark too many, or behind a bracket that is a mark at the next one, and then no
--- mark before the last one is too many.
+-- Where a text is refused as too deep: at the first nesting too many, or behind a bracket that is a nesting at the next one, and then no
+-- nesting before the last one is too many.
 use Rattle.std.proofs.Common.{◌≡◌, true, List, [], ◌∷◌, ◌++◌, length, Err, refl, sym, ap, subst, ◌∙◌, append_assoc, inl, inr, ◌⊎◌}
 use Rattle.std.proofs.lemmas.List.{append-nil, append_cancel_right}
-use Rattle.lola_parser_grammars_law.specs.Syntax.{Lexeme, Terminal, Syntax, Spells, is_fine, TooDeep, max_marks, read, read_all}
-use Rattle.lola_parser_grammars_law.specs.Marks.{is_counted}
+use Rattle.lola_parser_grammars_law.specs.Syntax.{Lexeme, Terminal, Syntax, Spells, is_fine, TooDeep, max_nestings, read, read_all}
+use Rattle.lola_parser_grammars_law.specs.Nestings.{is_counted}
 use Rattle.lola_parser_limit_law.specs.Late.{IsNextBehindBracket, NoneIsLate, IsFirstLate}
 use Rattle.lola_parser_limit_law.specs.Fronts.{IsLongestFront}
 use Rattle.lola_parser_limit_law.proofs.Opening.{forks_open}
 use Rattle.lola_parser_limit_law.proofs.Placed.{in_front, decided_all}
 use Rattle.lola_parser_place_law.proofs.Before.{IsBehindLast, first_late}
 
-module _ (marks : List Terminal) where
+module _ (nestings : List Terminal) where
   abbrev pub IsFirstOrLast : {A : Type 0} → Syntax A → List Lexeme → Lexeme → List Lexeme → A → Type 0
-  IsFirstOrLast s u t v x = IsFirstLate marks s u t v x ⊎ IsBehindLast marks (λ u t v. IsNextBehindBracket marks s u t v x) (λ n. NoneIsLate marks s n (u ++ t ∷ v) x) u t v
+  IsFirstOrLast s u t v x = IsFirstLate nestings s u t v x ⊎ IsBehindLast nestings (λ u t v. IsNextBehindBracket nestings s u t v x) (λ n. NoneIsLate nestings s n (u ++ t ∷ v) x) u t v
 
   moved : {A : Type 0} (s : Syntax A) (u u' : List Lexeme) (t t' : Lexeme) (v v' : List Lexeme) (x : A) → u ≡ u' → t ≡ t' → v ≡ v' → IsFirstOrLast s u t v x → IsFirstOrLast s u' t' v' x
   moved s u u' t t' v v' x e f g h =
       subst (λ (w : List Lexeme). IsFirstOrLast s u' t' w x) g (subst (λ (y : Lexeme). IsFirstOrLast s u' y v x) f (subst (λ (w : List Lexeme). IsFirstOrLast s w t v x) e h))
 
   -- in a sentence, of which reading ends there
-  pub ends_first : {A : Type 0} (s : Syntax A) → is_fine s ≡ true → is_counted marks s ≡ true → (u : List Lexeme) (t : Lexeme) (v : List Lexeme) (x : A) → Spells s (u ++ t ∷ v) x → read s max_marks (u ++ t ∷ v) ≡ Err (TooDeep (t ∷ v)) → IsFirstOrLast s u t v x
+  pub ends_first : {A : Type 0} (s : Syntax A) → is_fine s ≡ true → is_counted nestings s ≡ true → (u : List Lexeme) (t : Lexeme) (v : List Lexeme) (x : A) → Spells s (u ++ t ∷ v) x → read s max_nestings (u ++ t ∷ v) ≡ Err (TooDeep (t ∷ v)) → IsFirstOrLast s u t v x
   ends_first s fine count u t v x h e =
       let z = u ++ t ∷ v in
-      let p = first_late marks s fine count max_marks z x [] (t ∷ v) h refl (ap (λ (w : List Lexeme). read s max_marks w) (append-nil z) ∙ e) in
+      let p = first_late nestings s fine count max_nestings z x [] (t ∷ v) h refl (ap (λ (w : List Lexeme). read s max_nestings w) (append-nil z) ∙ e) in
       let there : t ∷ v ≡ p.1 ∷ p.2 = p.4 ∙ ap (λ (w : List Lexeme). p.1 ∷ w) (append-nil p.2) in
       let front : p.0 ≡ u = append_cancel_right p.0 u (t ∷ v) (ap (λ (w : List Lexeme). p.0 ++ w) there ∙ sym p.3) in
       let token : p.1 ≡ t = cc in
       let behind : p.2 ≡ v = cc in
       moved s p.0 u p.1 t p.2 v x front token behind
       (elim p.5 [
-        | inl q ↦ inl (q.0, subst (λ (w : List Lexeme). NoneIsLate marks s (length p.0) w x) p.3 q.1)
-        | inr q ↦ inr (q.0, q.1, q.2, q.3, q.4, q.5, q.6, subst (λ (w : List Lexeme). NoneIsLate marks s (length q.1) w x) p.3 q.7)
+        | inl q ↦ inl (q.0, subst (λ (w : List Lexeme). NoneIsLate nestings s (length p.0) w x) p.3 q.1)
+        | inr q ↦ inr (q.0, q.1, q.2, q.3, q.4, q.5, q.6, subst (λ (w : List Lexeme). NoneIsLate nestings s (length q.1) w x) p.3 q.7)
       ])
 
-  pub deep_is_first : {A : Type 0} (s : Syntax A) → is_fine s ≡ true → is_counted marks s ≡ true → forks_open s ≡ true → (ts d p rest : List Lexeme) → read_all s ts ≡ Err (TooDeep d) → IsLongestFront s ts p rest
+  pub deep_is_first : {A : Type 0} (s : Syntax A) → is_fine s ≡ true → is_counted nestings s ≡ true → forks_open s ≡ true → (ts d p rest : List Lexeme) → read_all s ts ≡ Err (TooDeep d) → IsLongestFront s ts p rest
       → (u : List Lexeme) × (t : Lexeme) × (w : List Lexeme) × (p ≡ u ++ t ∷ w) × (d ≡ t ∷ (w ++ rest)) × ((q : List Lexeme) (x : A) → Spells s (u ++ t ∷ (w ++ q)) x → IsFirstOrLast s u t (w ++ q) x)
   deep_is_first s fine count opens ts d p rest h l =
-      let c = decided_all marks s fine count opens ts d h in
+      let c = decided_all nestings s fine count opens ts d h in
       let z = c.0 ++ c.1 ∷ c.2 in
       let whole : ts ≡ z ++ c.3 = c.4 ∙ sym (append_assoc c.0 (c.1 ∷ c.2) c.3) in
       let f = in_front s z c.3 p rest c.7 (sym whole ∙ l.0, l.1, l.2) in (

@@ -3,7 +3,7 @@ pub mod Next
 pub mod Last
 pub mod Listed
 pub mod InList
-pub mod Marked
+pub mod WithNestings
 pub mod Around
 pub mod Enclosed
 pub mod Both

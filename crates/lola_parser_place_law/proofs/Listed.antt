@@ -1,19 +1,19 @@
--- In place of a bracketed expression with too many marks, a list: no mark before the one at which reading ends is then too many.
+-- In place of a bracketed expression with too many nestings, a list: no nesting before the one at which reading ends is then too many.
 use Rattle.std.proofs.Common.{◌≡◌, ℕ, ◌-◌, ◌≤◌, true, not, List, [], ◌∷◌, ◌++◌, length, Some, None, refl, sym, ap, subst, ◌∙◌, append_assoc, arith, inl, inr}
 use Rattle.std.proofs.lemmas.List.{append-nil, length-append}
 use Rattle.std.proofs.lemmas.Bool.{and_parts}
 use Rattle.lola_lexer.specs.declared.shape.TokenShape.TheVariants as is
 use Rattle.lola_parser_tree.specs.declared.expressions.Expr.{Expr}
-use Rattle.lola_parser_grammars_law.specs.Syntax.{Lexeme, Terminal, Of, fits, starts, apart, within, Syntax, Known, Then, Map, Either, Maybe, Many, Repeats, Spells, first, nullable, more, is_fine, max_marks}
-use Rattle.lola_parser_grammars_law.specs.Marks.{marks_in}
+use Rattle.lola_parser_grammars_law.specs.Syntax.{Lexeme, Terminal, Of, fits, starts, apart, within, Syntax, Known, Then, Map, Either, Maybe, Many, Repeats, Spells, first, nullable, more, is_fine, max_nestings}
+use Rattle.lola_parser_grammars_law.specs.Nestings.{nestings_in}
 use Rattle.lola_parser_grammars_law.specs.Exceeding.{ExceedsAmong}
 use Rattle.lola_parser_grammars_law.proofs.Complete.{and_three, choice_parts, known_parts, fork_is}
 use Rattle.lola_parser_grammars_law.proofs.Exactly.{opens_part}
 use Rattle.lola_parser_grammars_law.proofs.Viable.{sample}
-use Rattle.lola_parser_limit_law.specs.Late.{IsMarkBehind, IsNextBehindBracket}
+use Rattle.lola_parser_limit_law.specs.Late.{IsNestingBehind, IsNextBehindBracket}
 use Rattle.lola_parser_limit_law.proofs.Keeps.{Keeps, KeepsAmong, few_front, keeps_none, keeps_then, keeps_left, keeps_right, keeps_map, keeps_some, keeps_cons, keeps_list}
 use Rattle.lola_parser_grammar.specs.Grammar as g
-use Rattle.lola_parser_grammar.specs.Grammar.{all_marks, expr_in, specification}
+use Rattle.lola_parser_grammar.specs.Grammar.{all_nestings, expr_in, specification}
 use Rattle.lola_parser_grammar.proofs.Fine.{one_part_first}
 use Rattle.lola_parser.specs.Places.{cut_last}
 use Rattle.lola_parser.proofs.Lacks.{words, front_none, none_in, expr_lacks}
@@ -23,26 +23,26 @@ starts_more : (ks : List Terminal) (y z : List Lexeme) → starts ks y ≡ true 
 starts_more ks [] z h = absurd cc
 starts_more ks (t ∷ y) z h = h
 
--- no suffix of u with as many marks as may come begins behind the first j tokens
+-- no suffix of u with as many nestings as may come begins behind the first j tokens
 abbrev pub IsLow : List Lexeme → ℕ → Type 0
-IsLow u j = (front head : List Lexeme) → u ≡ front ++ head → marks_in all_marks head ≡ max_marks → length front ≤ j
+IsLow u j = (front head : List Lexeme) → u ≡ front ++ head → nestings_in all_nestings head ≡ max_nestings → length front ≤ j
 
 abbrev pub Few : {A : Type 0} → Syntax A → ℕ → List Lexeme → A → Type 0
-Few s j z x = Keeps all_marks max_marks s j z x
+Few s j z x = Keeps all_nestings max_nestings s j z x
 
 few_all : {A : Type 0} (a : Syntax A) (z : List Lexeme) (x : A) (m : ℕ) → Few a (length z) z x → Few a m z x
 few_all a z x m h k u t v parts low q = h k u t v parts (omega (arith, ap length parts, length-append u (t ∷ v))) q
 
 module _ (n : ℕ) where
   -- Behind `head` goes an expression past t and ends at a closing bracket. With a list in its place, some sentence begins so in
-  -- which no mark before t is too many.
+  -- which no nesting before t is too many.
   abbrev pub IsListed : {A : Type 0} → (List Lexeme → Type 0) → Syntax A → List Lexeme → Lexeme → List Lexeme → Type 0
   IsListed {A} L s u t v =
       (pre : List Lexeme) × (head : List Lexeme) × (w : List Lexeme) × (y : List Lexeme) × (v' : List Lexeme) × (x : A) × (e : Expr) × (u ≡ pre ++ head) × L pre × (v ≡ w ++ y) × (starts (Of is.Shut ∷ []) y ≡ true) × Spells (expr_in n) (head ++ t ∷ w) e
-      × (marks_in all_marks head ≡ max_marks) × (cut_last words head ≡ None) × Spells s (u ++ t ∷ (w ++ v')) x × Few s (length u) (u ++ t ∷ (w ++ v')) x
+      × (nestings_in all_nestings head ≡ max_nestings) × (cut_last words head ≡ None) × Spells s (u ++ t ∷ (w ++ v')) x × Few s (length u) (u ++ t ∷ (w ++ v')) x
 
   abbrev Walk : {A : Type 0} → (List Lexeme → Type 0) → Syntax A → Type 0
-  Walk {A} L s = is_fine s ≡ true → (u : List Lexeme) (t : Lexeme) (v : List Lexeme) (x : A) (j : ℕ) → IsNextBehindBracket all_marks s u t v x → Few s j (u ++ t ∷ v) x → IsLow u j → IsListed L s u t v
+  Walk {A} L s = is_fine s ≡ true → (u : List Lexeme) (t : Lexeme) (v : List Lexeme) (x : A) (j : ℕ) → IsNextBehindBracket all_nestings s u t v x → Few s j (u ++ t ∷ v) x → IsLow u j → IsListed L s u t v
 
   module _ {A B : Type 0} (a : Syntax A) (b : Syntax B) where
     listed_left : (L : List Lexeme → Type 0) → is_fine a ≡ true → is_fine b ≡ true → apart (more a) (first b) ≡ true → (u : List Lexeme) (t : Lexeme) (v z : List Lexeme) (x : B) → Spells b z x → IsListed L a u t v → IsListed L (Then a b) u t (v ++ z)
@@ -66,7 +66,7 @@ module _ (n : ℕ) where
           r.13,
           subst (λ (w : List Lexeme). Spells (Then a b) w (r.5, x)) group (new, z, refl, r.14, hb),
           subst (λ (w : List Lexeme). Few (Then a b) (length u) w (r.5, x)) group
-              (keeps_then all_marks max_marks a b fa fb away (length u) 0 new z [] (r.5, x) r.14 hb refl r.15 (keeps_none all_marks max_marks b z x) (omega (arith, length-append u (t ∷ (r.2 ++ r.4))))),
+              (keeps_then all_nestings max_nestings a b fa fb away (length u) 0 new z [] (r.5, x) r.14 hb refl r.15 (keeps_none all_nestings max_nestings b z x) (omega (arith, length-append u (t ∷ (r.2 ++ r.4))))),
         )
 
     listed_right : (L M : List Lexeme → Type 0) → is_fine a ≡ true → is_fine b ≡ true → apart (more a) (first b) ≡ true → (z : List Lexeme) (x : A) → Spells a z x → Few a (length z) z x → ((pre : List Lexeme) → L pre → M (z ++ pre))
@@ -91,11 +91,11 @@ module _ (n : ℕ) where
           r.13,
           subst (λ (w : List Lexeme). Spells (Then a b) w (x, r.5)) group (z, new, refl, ha, r.14),
           subst (λ (w : List Lexeme). Few (Then a b) (length (z ++ u)) w (x, r.5)) group
-              (keeps_then all_marks max_marks a b fa fb away (length (z ++ u)) (length u) z new [] (x, r.5) ha r.14 refl (few_all a z x (length (z ++ u)) one) r.15 (omega (arith, length-append z u))),
+              (keeps_then all_nestings max_nestings a b fa fb away (length (z ++ u)) (length u) z new [] (x, r.5) ha r.14 refl (few_all a z x (length (z ++ u)) one) r.15 (omega (arith, length-append z u))),
         )
 
     walk_left : (L : List Lexeme → Type 0) → Never b → Walk L a → Walk L (Then a b)
-    unfolding is_fine IsNextBehindBracket IsMarkBehind
+    unfolding is_fine IsNextBehindBracket IsNestingBehind
     walk_left L nev walk fine u t v x j (inr h) keep low = absurd (nev h.1 t v x.1 h.4)
     walk_left L nev walk fine u t v x j (inl h) keep low =
         let f = and_three (is_fine a) (is_fine b) (apart (more a) (first b)) fine in
@@ -104,7 +104,7 @@ module _ (n : ℕ) where
         subst (IsListed L (Then a b) u t) (sym h.2) (listed_left L f.0 f.1 f.2 u t h.0 h.1 x.1 h.4 (walk f.0 u t h.0 x.0 j h.3 keep' low))
 
     walk_right : (L M : List Lexeme → Type 0) → Never a → ((z : List Lexeme) (x : A) → Spells a z x → (pre : List Lexeme) → L pre → M (z ++ pre)) → Walk L b → Walk M (Then a b)
-    unfolding is_fine IsNextBehindBracket IsMarkBehind
+    unfolding is_fine IsNextBehindBracket IsNestingBehind
     walk_right L M nev grow walk fine u t v x j (inl h) keep low = absurd (nev u t h.0 x.0 h.3)
     walk_right L M nev grow walk fine u t v x j (inr h) keep low =
         let f = and_three (is_fine a) (is_fine b) (apart (more a) (first b)) fine in
@@ -124,43 +124,43 @@ module _ (n : ℕ) where
         subst (λ (w : List Lexeme). IsListed M (Then a b) w t v) (sym h.2) (listed_right L M f.0 f.1 f.2 z x.0 h.3 one (grow z x.0 h.3) h.1 t v r)
 
   walk_map : {A B : Type 0} (L : List Lexeme → Type 0) (f : A → B) (a : Syntax A) → Walk L a → Walk L (Map f a)
-  unfolding is_fine IsNextBehindBracket IsMarkBehind Spells
+  unfolding is_fine IsNextBehindBracket IsNestingBehind Spells
   walk_map L f a walk fine u t v y j h keep low =
       let r = walk fine u t v h.0 j h.2 (λ k p s q parts less m. keep k p s q parts less (h.0, h.1, m)) low in
-      (r.0, r.1, r.2, r.3, r.4, f r.5, r.6, r.7, r.8, r.9, r.10, r.11, r.12, r.13, (r.5, refl, r.14), keeps_map all_marks max_marks f a fine (length u) (u ++ t ∷ (r.2 ++ r.4)) r.5 r.14 r.15)
+      (r.0, r.1, r.2, r.3, r.4, f r.5, r.6, r.7, r.8, r.9, r.10, r.11, r.12, r.13, (r.5, refl, r.14), keeps_map all_nestings max_nestings f a fine (length u) (u ++ t ∷ (r.2 ++ r.4)) r.5 r.14 r.15)
 
   walk_either : {A : Type 0} (L : List Lexeme → Type 0) (a b : Syntax A) → Walk L a → Walk L b → Walk L (Either a b)
-  unfolding is_fine IsNextBehindBracket IsMarkBehind Spells
+  unfolding is_fine IsNextBehindBracket IsNestingBehind Spells
   walk_either L a b one two fine u t v x j (inl h) keep low =
       let f = choice_parts (is_fine a) (is_fine b) (nullable a) (nullable b) (apart (first a) (first b)) fine in
       let r = one f.0 u t v x j h (λ k p s q parts less m. keep k p s q parts less (inl m)) low in
-      (r.0, r.1, r.2, r.3, r.4, r.5, r.6, r.7, r.8, r.9, r.10, r.11, r.12, r.13, inl r.14, keeps_left all_marks max_marks a b f.0 f.1 f.4 (length u) (u ++ t ∷ (r.2 ++ r.4)) r.5 r.14 r.15)
+      (r.0, r.1, r.2, r.3, r.4, r.5, r.6, r.7, r.8, r.9, r.10, r.11, r.12, r.13, inl r.14, keeps_left all_nestings max_nestings a b f.0 f.1 f.4 (length u) (u ++ t ∷ (r.2 ++ r.4)) r.5 r.14 r.15)
   walk_either L a b one two fine u t v x j (inr h) keep low =
       let f = choice_parts (is_fine a) (is_fine b) (nullable a) (nullable b) (apart (first a) (first b)) fine in
       let r = two f.1 u t v x j h (λ k p s q parts less m. keep k p s q parts less (inr m)) low in
-      (r.0, r.1, r.2, r.3, r.4, r.5, r.6, r.7, r.8, r.9, r.10, r.11, r.12, r.13, inr r.14, keeps_right all_marks max_marks a b f.0 f.1 f.4 (length u) (u ++ t ∷ (r.2 ++ r.4)) r.5 r.14 r.15)
+      (r.0, r.1, r.2, r.3, r.4, r.5, r.6, r.7, r.8, r.9, r.10, r.11, r.12, r.13, inr r.14, keeps_right all_nestings max_nestings a b f.0 f.1 f.4 (length u) (u ++ t ∷ (r.2 ++ r.4)) r.5 r.14 r.15)
 
   walk_never : {A : Type 0} (L : List Lexeme → Type 0) (a : Syntax A) → Never a → Walk L a
   walk_never L a nev fine u t v x j h keep low = absurd (nev u t v x h)
 
   walk_maybe : {A : Type 0} (L : List Lexeme → Type 0) (a : Syntax A) → Walk L a → Walk L (Maybe a)
-  unfolding is_fine IsNextBehindBracket IsMarkBehind Spells
+  unfolding is_fine IsNextBehindBracket IsNestingBehind Spells
   walk_maybe L a walk fine u t v None j h keep low = absurd h
   walk_maybe L a walk fine u t v (Some x) j h keep low =
       let f = and_parts (is_fine a) (not (nullable a)) fine in
       let r = walk f.0 u t v x j h (λ k p s q parts less m. keep k p s q parts less m) low in
-      (r.0, r.1, r.2, r.3, r.4, Some r.5, r.6, r.7, r.8, r.9, r.10, r.11, r.12, r.13, r.14, keeps_some all_marks max_marks a (length u) (u ++ t ∷ (r.2 ++ r.4)) r.5 r.15)
+      (r.0, r.1, r.2, r.3, r.4, Some r.5, r.6, r.7, r.8, r.9, r.10, r.11, r.12, r.13, r.14, keeps_some all_nestings max_nestings a (length u) (u ++ t ∷ (r.2 ++ r.4)) r.5 r.15)
 
   walk_known : {A : Type 0} (L : List Lexeme → Type 0) (fs ms : List Terminal) (a : Syntax A) → Walk L a → Walk L (Known fs ms a)
-  unfolding is_fine IsNextBehindBracket IsMarkBehind Spells
+  unfolding is_fine IsNextBehindBracket IsNestingBehind Spells
   walk_known L fs ms a walk fine u t v x j h keep low =
       let f = known_parts (is_fine a) (nullable a) (within (first a) fs) (within (more a) ms) fine in
       let r = walk f.0 u t v x j h (λ k p s q parts less m. keep k p s q parts less m) low in
       (r.0, r.1, r.2, r.3, r.4, r.5, r.6, r.7, r.8, r.9, r.10, r.11, r.12, r.13, r.14, r.15)
 
   module _ {A : Type 0} (L : List Lexeme → Type 0) (grow : (z pre : List Lexeme) → L pre → L (z ++ pre)) (a : Syntax A) (walk : Walk L a) (fine : is_fine a ≡ true) (away : apart (more a) (first a) ≡ true) where
-    walk_among : (u : List Lexeme) (t : Lexeme) (v : List Lexeme) (xs : List A) (j : ℕ) → ExceedsAmong (IsNextBehindBracket all_marks a) (Spells a) u t v xs → KeepsAmong all_marks max_marks a j (u ++ t ∷ v) xs → IsLow u j → IsListed L (Many a) u t v
-    unfolding Spells IsMarkBehind IsNextBehindBracket
+    walk_among : (u : List Lexeme) (t : Lexeme) (v : List Lexeme) (xs : List A) (j : ℕ) → ExceedsAmong (IsNextBehindBracket all_nestings a) (Spells a) u t v xs → KeepsAmong all_nestings max_nestings a j (u ++ t ∷ v) xs → IsLow u j → IsListed L (Many a) u t v
+    unfolding Spells IsNestingBehind IsNextBehindBracket
     walk_among u t v [] j h keep low = absurd h
     walk_among u t v (x ∷ xs) j (inl h) keep low =
         let z = h.1 in
@@ -184,14 +184,14 @@ module _ (n : ℕ) where
           r.12,
           r.13,
           subst (λ (w : List Lexeme). Repeats (Spells a) w (r.5 ∷ xs)) group (new, z, refl, r.14, h.4),
-          subst (λ (w : List Lexeme). KeepsAmong all_marks max_marks a (length u) w (r.5 ∷ xs)) group
-              (keeps_cons all_marks max_marks a fine away (length u) 0 new z [] r.5 xs r.14 h.4 refl r.15 (λ k p s q parts less m. absurd (omega (arith, less))) (omega (arith, length-append u (t ∷ (r.2 ++ r.4))))),
+          subst (λ (w : List Lexeme). KeepsAmong all_nestings max_nestings a (length u) w (r.5 ∷ xs)) group
+              (keeps_cons all_nestings max_nestings a fine away (length u) 0 new z [] r.5 xs r.14 h.4 refl r.15 (λ k p s q parts less m. absurd (omega (arith, less))) (omega (arith, length-append u (t ∷ (r.2 ++ r.4))))),
         )
     walk_among u t v (x ∷ xs) j (inr h) keep low =
         let z = h.0 in
         let tail = h.1 ++ t ∷ v in
         let whole : u ++ t ∷ v ≡ z ++ tail = ap (λ (w : List Lexeme). w ++ t ∷ v) h.2 ∙ append_assoc z h.1 (t ∷ v) in
-        let keep' : KeepsAmong all_marks max_marks a (j - length z) tail xs = λ k p s q parts less m.
+        let keep' : KeepsAmong all_nestings max_nestings a (j - length z) tail xs = λ k p s q parts less m.
         keep k (z ++ p) s q (whole ∙ ap (λ (w : List Lexeme). z ++ w) parts ∙ sym (append_assoc z p (s ∷ q))) (omega (arith, less, length-append z p)) (inr (z, p, refl, h.3, m)) in
         let low' : IsLow h.1 (j - length z) = λ front head e m.
         let l = low (z ++ front) head (h.2 ∙ ap (λ (w : List Lexeme). z ++ w) e ∙ sym (append_assoc z front head)) m in
@@ -218,12 +218,12 @@ module _ (n : ℕ) where
           r.12,
           r.13,
           subst (λ (w : List Lexeme). Repeats (Spells a) w (x ∷ r.5)) group (z, new, refl, h.3, r.14),
-          subst (λ (w : List Lexeme). KeepsAmong all_marks max_marks a (length u) w (x ∷ r.5)) group
-              (keeps_cons all_marks max_marks a fine away (length u) (length h.1) z new [] x r.5 h.3 r.14 refl (few_all a z x (length u) one) r.15 (omega (arith, ap length h.2, length-append z h.1))),
+          subst (λ (w : List Lexeme). KeepsAmong all_nestings max_nestings a (length u) w (x ∷ r.5)) group
+              (keeps_cons all_nestings max_nestings a fine away (length u) (length h.1) z new [] x r.5 h.3 r.14 refl (few_all a z x (length u) one) r.15 (omega (arith, ap length h.2, length-append z h.1))),
         )
 
   walk_many : {A : Type 0} (L : List Lexeme → Type 0) → ((z pre : List Lexeme) → L pre → L (z ++ pre)) → (a : Syntax A) → Walk L a → Walk L (Many a)
-  unfolding is_fine IsNextBehindBracket IsMarkBehind
+  unfolding is_fine IsNextBehindBracket IsNestingBehind
   walk_many L grow a walk fine u t v xs j h keep low =
       let f = and_three (is_fine a) (not (nullable a)) (apart (more a) (first a)) fine in
       walk_among L grow a walk f.0 f.2 u t v xs j h keep low
@@ -247,11 +247,11 @@ module _ (n : ℕ) where
   unfolding g.forked IsNextBehindBracket Spells
   walk_forked fine u t v x j (inr h) keep low = absurd (more_never n h.1 t v x.1 h.4)
   walk_forked fine u t v x j (inl h) keep low =
-      let f = fork_is all_marks (expr_in n) (g.more_parts n) (g.one_part n) fine in
+      let f = fork_is all_nestings (expr_in n) (g.more_parts n) (g.one_part n) fine in
       let q = sample (g.more_parts n) in
       let new = u ++ t ∷ h.0 in
       let group : new ++ q.0 ≡ u ++ t ∷ (h.0 ++ q.0) = append_assoc u (t ∷ h.0) q.0 in
-      let o = opens_part all_marks (g.one_part n) f.two.0 f.two.1 h.1 x.1 [] h.4 in
+      let o = opens_part all_nestings (g.one_part n) f.two.0 f.two.1 h.1 x.1 [] h.4 in
       let shut : starts (Of is.Shut ∷ []) h.1 ≡ true = ap (λ (w : List Lexeme). starts (Of is.Shut ∷ []) w) (sym (append-nil h.1)) ∙ ap (λ (ks : List Terminal). starts ks (h.1 ++ [])) (sym (one_part_first n)) ∙ o in (
         [],
         u,
@@ -269,8 +269,8 @@ module _ (n : ℕ) where
         front_none words u (t ∷ h.0) (none_in words (expr_in n) (expr_lacks n) new x.0 h.3),
         subst (λ (w : List Lexeme). Spells (g.forked n) w (x.0, q.1)) group (new, q.0, refl, h.3, inl q.2),
         subst (λ (w : List Lexeme). Few (g.forked n) (length u) w (x.0, q.1)) group
-            (keeps_list all_marks max_marks all_marks (expr_in n) (g.more_parts n) (g.one_part n) f (length u) 0 new q.0 (x.0, q.1) h.3 q.2 (few_front all_marks max_marks 0 new u (t ∷ h.0) refl (omega (arith, h.5)))
-            (keeps_none all_marks max_marks (g.more_parts n) q.0 q.1) (omega (arith, length-append u (t ∷ h.0)))),
+            (keeps_list all_nestings max_nestings all_nestings (expr_in n) (g.more_parts n) (g.one_part n) f (length u) 0 new q.0 (x.0, q.1) h.3 q.2 (few_front all_nestings max_nestings 0 new u (t ∷ h.0) refl (omega (arith, h.5)))
+            (keeps_none all_nestings max_nestings (g.more_parts n) q.0 q.1) (omega (arith, length-append u (t ∷ h.0)))),
       )
 
   open_grows : (z : List Lexeme) (x : ℕ) → Spells (g.token is.Open) z x → (pre : List Lexeme) → AtOnce pre → Opened (z ++ pre)

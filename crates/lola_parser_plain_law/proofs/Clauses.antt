@@ -5,7 +5,7 @@ use Rattle.lola_lexer.specs.declared.shape.TokenShape.TheVariants as is
 use Rattle.lola_parser_tree.specs.declared.expressions.Expr.{Expr}
 use Rattle.lola_parser_tree.specs.declared.pacing.Formula.{Formula}
 use Rattle.lola_parser_grammars_law.specs.Syntax.{Syntax, Whole, Either, Spells}
-use Rattle.lola_parser_grammars_law.specs.Marks.{Fits}
+use Rattle.lola_parser_grammars_law.specs.Nestings.{Fits}
 use Rattle.lola_parser_grammar.specs.Grammar as g
 use Rattle.lola_parser_grammar.specs.Grammar.{token, ◌<*◌}
 use Rattle.lola_parser_plain_law.specs.Plain as plain

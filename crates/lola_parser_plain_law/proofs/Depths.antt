@@ -8,7 +8,7 @@ use Rattle.lola_parser_tree.specs.declared.pacing.Formula.{Formula}
 use Rattle.lola_parser_tree.specs.declared.pacing.Formula.TheVariants as f
 use Rattle.lola_parser_grammars_law.specs.Syntax.{Terminal, Syntax, Map, Known, Spells}
 use Rattle.lola_parser_grammar.specs.Grammar as g
-use Rattle.lola_parser_grammar.specs.Grammar.{token, mark, name, both, either}
+use Rattle.lola_parser_grammar.specs.Grammar.{token, nesting, name, both, either}
 use Rattle.lola_parser_plain_law.specs.Plain as plain
 use Rattle.lola_parser_plain_law.proofs.Within.{Within, Same, within_self, within_chain, within_map, within_either, within_many, within_cases, within_left, within_right, same_chain, same_then}
 use Rattle.lola_parser_plain_law.proofs.Turns.{led_from_left, same_from_left}
@@ -177,20 +177,20 @@ expr_plain n = (read_plain n).0
 
 module _ (X : Syntax Formula) where
   atom_same : Same (g.atom X) (plain.atom X)
-  unfolding Spells g.atom plain.atom mark token
+  unfolding Spells g.atom plain.atom nesting token
   atom_same = record { to = record { spells = λ ts x s. s }; back = record { spells = λ ts x s. s } }
 
-  sign_same : (s : TokenShape) → Same (mark s) (token s)
-  unfolding Spells mark token
-  sign_same s = record { to = record { spells = λ ts x s. s }; back = record { spells = λ ts x s. s } }
+  operator_same : (s : TokenShape) → Same (nesting s) (token s)
+  unfolding Spells nesting token
+  operator_same s = record { to = record { spells = λ ts x s. s }; back = record { spells = λ ts x s. s } }
 
   conjunct_same : Same (g.conjunct X) (plain.conj X)
   unfolding g.conjunct g.conjunctions_of plain.conj
-  conjunct_same = same_chain _ _ _ (led_from_left both (g.atom X) _) (same_from_left both _ _ _ _ atom_same (same_then _ _ _ _ (sign_same is.And) atom_same))
+  conjunct_same = same_chain _ _ _ (led_from_left both (g.atom X) _) (same_from_left both _ _ _ _ atom_same (same_then _ _ _ _ (operator_same is.And) atom_same))
 
   formula_same : Same (g.formula_with X) (plain.form_with X)
   unfolding g.formula_with g.alternatives_of plain.form_with
-  formula_same = same_chain _ _ _ (led_from_left either (g.conjunct X) _) (same_from_left either _ _ _ _ conjunct_same (same_then _ _ _ _ (sign_same is.Or) conjunct_same))
+  formula_same = same_chain _ _ _ (led_from_left either (g.conjunct X) _) (same_from_left either _ _ _ _ conjunct_same (same_then _ _ _ _ (operator_same is.Or) conjunct_same))
 
 input_in_form : (X : Syntax Formula) → Within (Map (λ n. f.Input n) name) (plain.form_with X)
 unfolding plain.atom plain.conj plain.form_with

@@ -6,39 +6,39 @@ use Rattle.lola_parser_tree.specs.declared.expressions.Expr.{Expr}
 use Rattle.lola_parser_tree.specs.declared.expressions.Expr.TheVariants as e
 use Rattle.lola_parser_grammars_law.specs.Syntax.{Lexeme, Syntax, Then, Map, Spells}
 use Rattle.lola_parser_grammar.specs.Grammar as g
-use Rattle.lola_parser_grammar.specs.Grammar.{token, mark, ◌*>◌, ◌|>◌, ◌>>◌, Sign, join, compared}
+use Rattle.lola_parser_grammar.specs.Grammar.{token, nesting, ◌*>◌, ◌|>◌, ◌>>◌, Operator, join, compared}
 use Rattle.lola_parser_plain_law.specs.Plain as plain
 use Rattle.lola_parser_plain_law.specs.Plain.{from_left, ◌∣◌}
 use Rattle.lola_parser_plain_law.proofs.Within.{Same, same_chain, same_back, same_then, same_either}
 use Rattle.lola_parser_plain_law.proofs.Turns.{regroup, four, led_from_left, same_from_left, level_same, once_same}
 use Rattle.lola_parser_plain_law.proofs.Operands.{U, unary_same}
 
--- ---- signs
+-- ---- operators
 
-product_signs : Same g.product_signs (plain.sign is.Star by.Multiply ∣ plain.sign is.Slash by.Divide ∣ plain.sign is.Percent by.Remainder)
-unfolding Spells g.product_signs g.sign mark token
-product_signs = record { to = record { spells = λ ts x h. h }; back = record { spells = λ ts x h. h } }
+product_operators : Same g.product_operators (plain.operator is.Star by.Multiply ∣ plain.operator is.Slash by.Divide ∣ plain.operator is.Percent by.Remainder)
+unfolding Spells g.product_operators g.operator nesting token
+product_operators = record { to = record { spells = λ ts x h. h }; back = record { spells = λ ts x h. h } }
 
-sum_signs : Same g.sum_signs (plain.sign is.Plus by.Add ∣ plain.sign is.Minus by.Subtract)
-unfolding Spells g.sum_signs g.sign mark token
-sum_signs = record { to = record { spells = λ ts x h. h }; back = record { spells = λ ts x h. h } }
+sum_operators : Same g.sum_operators (plain.operator is.Plus by.Add ∣ plain.operator is.Minus by.Subtract)
+unfolding Spells g.sum_operators g.operator nesting token
+sum_operators = record { to = record { spells = λ ts x h. h }; back = record { spells = λ ts x h. h } }
 
-abbrev comparing : Syntax Sign
+abbrev comparing : Syntax Operator
 comparing =
-    plain.sign is.Equal by.Equal ∣ plain.sign is.Unequal by.Unequal ∣ plain.sign is.Less by.Less ∣ plain.sign is.LessEqual by.LessEqual
-    ∣ plain.sign is.Greater by.Greater ∣ plain.sign is.GreaterEqual by.GreaterEqual
+    plain.operator is.Equal by.Equal ∣ plain.operator is.Unequal by.Unequal ∣ plain.operator is.Less by.Less ∣ plain.operator is.LessEqual by.LessEqual
+    ∣ plain.operator is.Greater by.Greater ∣ plain.operator is.GreaterEqual by.GreaterEqual
 
-comparison_signs : Same g.comparison_signs comparing
-unfolding Spells g.comparison_signs g.sign mark token
-comparison_signs = record { to = record { spells = λ ts x h. h }; back = record { spells = λ ts x h. h } }
+comparison_operators : Same g.comparison_operators comparing
+unfolding Spells g.comparison_operators g.operator nesting token
+comparison_operators = record { to = record { spells = λ ts x h. h }; back = record { spells = λ ts x h. h } }
 
-and_signs : Same g.and_signs (plain.sign is.And by.And)
-unfolding Spells g.and_signs g.sign mark token
-and_signs = record { to = record { spells = λ ts x h. h }; back = record { spells = λ ts x h. h } }
+and_operators : Same g.and_operators (plain.operator is.And by.And)
+unfolding Spells g.and_operators g.operator nesting token
+and_operators = record { to = record { spells = λ ts x h. h }; back = record { spells = λ ts x h. h } }
 
-or_signs : Same g.or_signs (plain.sign is.Or by.Or)
-unfolding Spells g.or_signs g.sign mark token
-or_signs = record { to = record { spells = λ ts x h. h }; back = record { spells = λ ts x h. h } }
+or_operators : Same g.or_operators (plain.operator is.Or by.Or)
+unfolding Spells g.or_operators g.operator nesting token
+or_operators = record { to = record { spells = λ ts x h. h }; back = record { spells = λ ts x h. h } }
 
 module _ (E O : Syntax Expr) where
   -- ---- from products to alternatives
@@ -49,24 +49,24 @@ module _ (E O : Syntax Expr) where
   product_same : Same (g.product E O) (plain.prod E (U E O) O)
   unfolding g.product g.products plain.prod
   product_same =
-      same_chain _ _ _ (led_from_left join (g.unary E O) (Then g.product_signs (g.unary E O)))
-      (same_from_left join _ _ _ _ operand (same_then _ _ _ _ product_signs operand))
+      same_chain _ _ _ (led_from_left join (g.unary E O) (Then g.product_operators (g.unary E O)))
+      (same_from_left join _ _ _ _ operand (same_then _ _ _ _ product_operators operand))
 
   sum_same : Same (g.sum E O) (plain.sum E (U E O) O)
   unfolding g.product g.sum g.sums plain.sum
-  sum_same = level_same join (g.unary E O) _ (g.products E O) (Then g.sum_signs (g.product E O)) _ product_same (same_then _ _ _ _ sum_signs product_same)
+  sum_same = level_same join (g.unary E O) _ (g.products E O) (Then g.sum_operators (g.product E O)) _ product_same (same_then _ _ _ _ sum_operators product_same)
 
   comparison_same : Same (g.comparison E O) (plain.cmp E (U E O) O)
   unfolding g.sum g.comparison g.comparisons plain.cmp
-  comparison_same = once_same (g.unary E O) _ (g.sums E O) g.comparison_signs (g.sum E O) _ sum_same (same_then _ _ _ _ comparison_signs sum_same)
+  comparison_same = once_same (g.unary E O) _ (g.sums E O) g.comparison_operators (g.sum E O) _ sum_same (same_then _ _ _ _ comparison_operators sum_same)
 
   conjunction_same : Same (g.conjunction E O) (plain.and E (U E O) O)
   unfolding g.comparison g.conjunction g.conjunctions plain.and
-  conjunction_same = level_same join (g.unary E O) _ (g.comparisons E O) (Then g.and_signs (g.comparison E O)) _ comparison_same (same_then _ _ _ _ and_signs comparison_same)
+  conjunction_same = level_same join (g.unary E O) _ (g.comparisons E O) (Then g.and_operators (g.comparison E O)) _ comparison_same (same_then _ _ _ _ and_operators comparison_same)
 
   disjunction_same : Same (g.unary E O |> g.disjunctions E O) (plain.or E (U E O) O)
   unfolding g.conjunction g.disjunctions plain.or
-  disjunction_same = level_same join (g.unary E O) _ (g.conjunctions E O) (Then g.or_signs (g.conjunction E O)) _ conjunction_same (same_then _ _ _ _ or_signs conjunction_same)
+  disjunction_same = level_same join (g.unary E O) _ (g.conjunctions E O) (Then g.or_operators (g.conjunction E O)) _ conjunction_same (same_then _ _ _ _ or_operators conjunction_same)
 
   -- ---- conditionals
 
@@ -74,7 +74,7 @@ module _ (E O : Syntax Expr) where
   conditional = Map (λ p. e.If p.0 p.1.0 p.1.1.0 p.1.1.1) (Then (token is.If) (Then E (Then (token is.Then *> E) (token is.Else *> E))))
 
   conditional_same : Same (g.conditional E O) conditional
-  unfolding Spells g.conditional mark token
+  unfolding Spells g.conditional nesting token
   conditional_same = record { to = record { spells = λ ts x h. h }; back = record { spells = λ ts x h. h } }
 
   pub expr_same : Same (g.expr_with E O) (plain.expr_with E (U E O) O)
@@ -100,7 +100,7 @@ module _ (E O : Syntax Expr) where
     pub closes : Spells (g.closed E O) end rest
 
   first_to : (ts : List Lexeme) (y : Expr) → Bracketed ts y → Spells (g.bracketed E O |> g.disjunctions E O) ts y
-  unfolding Spells g.bracketed g.closed mark token
+  unfolding Spells g.bracketed g.closed nesting token
   first_to ts y b = joined b.closes
     where
       joined : Spells (g.closed E O) b.end b.rest → Spells (g.bracketed E O |> g.disjunctions E O) ts y
@@ -129,7 +129,7 @@ module _ (E O : Syntax Expr) where
           )
 
   first_back : (ts : List Lexeme) (y : Expr) → Spells (g.bracketed E O |> g.disjunctions E O) ts y → Bracketed ts y
-  unfolding Spells g.bracketed g.closed mark token
+  unfolding Spells g.bracketed g.closed nesting token
   first_back ts y (p, d, (u, v, c, (q, f, (w, z, i, (r, j, (k, l, m, opener, (s, n, (t, o, h, inside, shut)))), defaults)), tail)) = record {
     bracket = r.0;
     inside = s.0;

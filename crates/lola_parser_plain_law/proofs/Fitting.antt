@@ -1,15 +1,15 @@
--- Parts of which one spells what the other does, also within the limit of marks.
+-- Parts of which one spells what the other does, also within the limit of nestings.
 use Rattle.std.proofs.Common.{inl, inr, List, refl, ap, ◌∙◌}
 use Rattle.lola_parser_grammars_law.specs.Syntax.{Lexeme, Syntax, Then, Map, Either, Maybe, Many, Spells}
-use Rattle.lola_parser_grammars_law.specs.Marks.{Fits}
-use Rattle.lola_parser_grammar.specs.Grammar.{all_marks, ◌*>◌, ◌<*◌}
+use Rattle.lola_parser_grammars_law.specs.Nestings.{Fits}
+use Rattle.lola_parser_grammar.specs.Grammar.{all_nestings, ◌*>◌, ◌<*◌}
 use Rattle.lola_parser_plain_law.proofs.Within.{Within, within_map, within_then, within_either, within_maybe, within_many, perhaps_within, repeats_within}
 use Rattle.lola_parser_plain_law.proofs.Turns.{map_twice}
 
 -- what the first spells, within the limit or not, the second spells so too
 pub record Fitting {A : Type 0} (a b : Syntax A) : Type 0 where
   pub spells : (ts : List Lexeme) (x : A) → Spells a ts x → Spells b ts x
-  pub fits : (ts : List Lexeme) (x : A) → Fits all_marks a ts x → Fits all_marks b ts x
+  pub fits : (ts : List Lexeme) (x : A) → Fits all_nestings a ts x → Fits all_nestings b ts x
 
 abbrev within_of : {A : Type 0} (a b : Syntax A) → Fitting a b → Within a b
 within_of a b h = record { spells = h.spells }
@@ -40,11 +40,11 @@ fitting_either a a' b b' h k = record {
 
 pub fitting_maybe : {A : Type 0} (a a' : Syntax A) → Fitting a a' → Fitting (Maybe a) (Maybe a')
 unfolding Fits
-fitting_maybe a a' h = record { spells = (within_maybe a a' (within_of a a' h)).spells; fits = perhaps_within (Fits all_marks a) (Fits all_marks a') h.fits }
+fitting_maybe a a' h = record { spells = (within_maybe a a' (within_of a a' h)).spells; fits = perhaps_within (Fits all_nestings a) (Fits all_nestings a') h.fits }
 
 pub fitting_many : {A : Type 0} (a a' : Syntax A) → Fitting a a' → Fitting (Many a) (Many a')
 unfolding Fits
-fitting_many a a' h = record { spells = (within_many a a' (within_of a a' h)).spells; fits = repeats_within (Fits all_marks a) (Fits all_marks a') h.fits }
+fitting_many a a' h = record { spells = (within_many a a' (within_of a a' h)).spells; fits = repeats_within (Fits all_nestings a) (Fits all_nestings a') h.fits }
 
 -- behind or before something that stays the same
 
@@ -59,11 +59,11 @@ before a a' b h = fitting_map _ _ _ (fitting_then _ _ _ _ h (fitting_self b))
 
 -- a value of a value
 module _ {A B C : Type 0} (f : B → C) (h : A → B) (a : Syntax A) where
-  twice_to : (ts : List Lexeme) (x : C) → Fits all_marks (Map f (Map h a)) ts x → Fits all_marks (Map (λ y. f (h y)) a) ts x
+  twice_to : (ts : List Lexeme) (x : C) → Fits all_nestings (Map f (Map h a)) ts x → Fits all_nestings (Map (λ y. f (h y)) a) ts x
   unfolding Fits
   twice_to ts x (y, e, (z, g, s)) = (z, e ∙ ap f g, s)
 
-  twice_back : (ts : List Lexeme) (x : C) → Fits all_marks (Map (λ y. f (h y)) a) ts x → Fits all_marks (Map f (Map h a)) ts x
+  twice_back : (ts : List Lexeme) (x : C) → Fits all_nestings (Map (λ y. f (h y)) a) ts x → Fits all_nestings (Map f (Map h a)) ts x
   unfolding Fits
   twice_back ts x (z, e, s) = (h z, e, (z, refl, s))
 

@@ -1,9 +1,9 @@
--- A grammar in which marks are not counted and nothing is nested too deep. It spells the same, and whatever it spells is read:
+-- A grammar in which nestings are not counted and nothing is nested too deep. It spells the same, and whatever it spells is read:
 -- so no tokens spell two values.
 use Rattle.std.proofs.Common.{◌≡◌, ℕ, ◌-◌, true, false, not, List, [], ◌∷◌, ◌++◌, Ok, inl, inr, refl, sym, ◌∙◌, arith}
 use Rattle.std.proofs.lemmas.Bool.{and_parts, or_parts, not-true}
-use Rattle.lola_parser_grammars_law.specs.Syntax.{Lexeme, Terminal, Syntax, Past, Token, Mark, Whole, Known, Then, Map, Either, Maybe, Many, Fork, Spells, clash, clashes, apart, within, first, nullable, more, is_fine, read}
-use Rattle.lola_parser_grammars_law.specs.Marks.{lower, least, guards, tallies, marks_in}
+use Rattle.lola_parser_grammars_law.specs.Syntax.{Lexeme, Terminal, Syntax, Past, Token, Nesting, Whole, Known, Then, Map, Either, Maybe, Many, Fork, Spells, clash, clashes, apart, within, first, nullable, more, is_fine, read}
+use Rattle.lola_parser_grammars_law.specs.Nestings.{lower, least, guards, tallies, nestings_in}
 use Rattle.lola_parser_grammars_law.proofs.Laws.{done_is}
 use Rattle.lola_parser_grammars_law.proofs.Complete.{and_three, choice_parts, known_parts, fork_is}
 use Rattle.lola_parser_grammars_law.proofs.Within.{complete_within}
@@ -12,7 +12,7 @@ use Rattle.lola_parser_plain_law.proofs.Within.{perhaps_within, repeats_within}
 unfoldable freed : {A : Type 0} → Syntax A → Syntax A
 freed (Past a) = freed a
 freed (Token k) = Token k
-freed (Mark k) = Token k
+freed (Nesting k) = Token k
 freed (Whole a) = freed a
 freed (Known fs ms a) = Known fs ms (freed a)
 freed (Then a b) = Then (freed a) (freed b)
@@ -26,7 +26,7 @@ spells_freed : {A : Type 0} (s : Syntax A) (ts : List Lexeme) (x : A) → Spells
 unfolding Spells freed
 spells_freed (Past a) ts x h = spells_freed a ts x h
 spells_freed (Token k) ts x h = h
-spells_freed (Mark k) ts x h = h
+spells_freed (Nesting k) ts x h = h
 spells_freed (Whole a) ts x h = spells_freed a ts x h
 spells_freed (Known fs ms a) ts x h = spells_freed a ts x h
 spells_freed (Then a b) ts x h = (h.0, h.1, h.2, spells_freed a h.0 x.0 h.3, spells_freed b h.1 x.1 h.4)
@@ -61,7 +61,7 @@ alike : {A : Type 0} (s : Syntax A) → is_fine s ≡ true → Alike s
 unfolding first more nullable is_fine freed
 alike (Past a) h = let p = alike a h in record { firsts = p.firsts; mores = p.mores; empties = p.empties; fine = p.fine }
 alike (Token k) h = record { firsts = refl; mores = refl; empties = refl; fine = refl }
-alike (Mark k) h = record { firsts = refl; mores = refl; empties = refl; fine = refl }
+alike (Nesting k) h = record { firsts = refl; mores = refl; empties = refl; fine = refl }
 alike (Whole a) h = let p = alike a h in record { firsts = p.firsts; mores = p.mores; empties = p.empties; fine = p.fine }
 alike (Known fs ms a) h =
     let f = known_parts (is_fine a) (nullable a) (within (first a) fs) (within (more a) ms) h in
@@ -109,13 +109,13 @@ alike (Fork ks a b c) h =
       fine = rw (p.fine, q.fine, r.fine, q.empties, r.empties, f.one.1, f.two.1, q.firsts, r.firsts, f.clear, p.mores, clear) refl;
     }
 
--- ---- it counts no marks
+-- ---- it counts no nestings
 
 tallied : {A : Type 0} (s : Syntax A) → tallies [] (freed s) ≡ true
 unfolding tallies freed
 tallied (Past a) = tallied a
 tallied (Token k) = refl
-tallied (Mark k) = refl
+tallied (Nesting k) = refl
 tallied (Whole a) = tallied a
 tallied (Known fs ms a) = tallied a
 tallied (Then a b) = rw (tallied a, tallied b) refl
@@ -129,7 +129,7 @@ guarded : {A : Type 0} (s : Syntax A) (k : ℕ) → guards k (freed s) ≡ true
 unfolding guards freed
 guarded (Past a) k = guarded a k
 guarded (Token t) k = refl
-guarded (Mark t) k = refl
+guarded (Nesting t) k = refl
 guarded (Whole a) k = guarded a k
 guarded (Known fs ms a) k = guarded a k
 guarded (Then a b) k = rw (guarded a k, guarded b (lower k (least (freed a)))) refl
@@ -139,12 +139,12 @@ guarded (Maybe a) k = guarded a k
 guarded (Many a) k = guarded a k
 guarded (Fork ks a b c) k = rw (guarded a k, guarded b (lower k (least (freed a))), guarded c (lower k (least (freed a)))) refl
 
-unmarked : (ts : List Lexeme) → marks_in [] ts ≡ 0
-unmarked [] = refl
-unmarked (t ∷ ts) = omega (arith, unmarked ts)
+without_nestings : (ts : List Lexeme) → nestings_in [] ts ≡ 0
+without_nestings [] = refl
+without_nestings (t ∷ ts) = omega (arith, without_nestings ts)
 
 pub one_value : {A : Type 0} (s : Syntax A) → is_fine s ≡ true → (ts : List Lexeme) (x y : A) → Spells s ts x → Spells s ts y → x ≡ y
 one_value {A} s fine ts x y h k = (done_is x y _ _ _ _ (sym (reads x h) ∙ reads y k)).0
   where
-    reads : (z : A) → Spells s ts z → read (freed s) 0 (ts ++ []) ≡ Ok (z, 0 - marks_in [] ts, [])
-    reads z i = complete_within [] (freed s) (alike s fine).fine (tallied s) 1 (guarded s 1) 0 ts z [] (omega arith) (spells_freed s ts z i) refl (omega (arith, unmarked ts))
+    reads : (z : A) → Spells s ts z → read (freed s) 0 (ts ++ []) ≡ Ok (z, 0 - nestings_in [] ts, [])
+    reads z i = complete_within [] (freed s) (alike s fine).fine (tallied s) 1 (guarded s 1) 0 ts z [] (omega arith) (spells_freed s ts z i) refl (omega (arith, without_nestings ts))

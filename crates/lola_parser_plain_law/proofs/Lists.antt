@@ -4,10 +4,10 @@ use Rattle.lola_lexer.specs.declared.shape.TokenShape.TheVariants as is
 use Rattle.lola_parser_tree.specs.declared.expressions.Expr.{Expr}
 use Rattle.lola_parser_tree.specs.declared.clauses.Part.{Part}
 use Rattle.lola_parser_grammars_law.specs.Syntax.{Lexeme, Of, fits, Syntax, Whole, Then, Map, Many, Spells}
-use Rattle.lola_parser_grammars_law.specs.Marks.{Fits, marks_in}
-use Rattle.lola_parser_grammars_law.proofs.Within.{marks-append}
+use Rattle.lola_parser_grammars_law.specs.Nestings.{Fits, nestings_in}
+use Rattle.lola_parser_grammars_law.proofs.Within.{nestings-append}
 use Rattle.lola_parser_grammar.specs.Grammar as g
-use Rattle.lola_parser_grammar.specs.Grammar.{token, ◌<*◌, part, all_marks}
+use Rattle.lola_parser_grammar.specs.Grammar.{token, ◌<*◌, part, all_nestings}
 use Rattle.lola_parser_plain_law.specs.Plain.{◌∣◌}
 use Rattle.lola_parser_plain_law.proofs.Fitting.{Fitting}
 use Rattle.lola_parser_plain_law.proofs.Turns.{regroup, four}
@@ -116,27 +116,27 @@ module _ (n : ℕ) where
       )
   parts_back ts y (inr (x, e, h)) = inl (x, e, without_bracket E O ts x h)
 
-  -- ---- within the limit of marks
+  -- ---- within the limit of nestings
 
-  abbrev marks : List Lexeme → ℕ
-  marks ts = marks_in all_marks ts
+  abbrev nestings : List Lexeme → ℕ
+  nestings ts = nestings_in all_nestings ts
 
-  bracket_mark : (t : Lexeme) → fits (Of is.Open) t ≡ true → marks (t ∷ []) ≡ 1
-  bracket_mark t h = rw h refl
+  bracket_nesting : (t : Lexeme) → fits (Of is.Open) t ≡ true → nestings (t ∷ []) ≡ 1
+  bracket_nesting t h = rw h refl
 
-  one_bracket : (front : List Lexeme) (at : ℕ) → Spells (token is.Open) front at → marks front ≡ 1
+  one_bracket : (front : List Lexeme) (at : ℕ) → Spells (token is.Open) front at → nestings front ≡ 1
   unfolding Spells token
-  one_bracket front at (t, e, (h, k)) = ap marks h ∙ bracket_mark t k
+  one_bracket front at (t, e, (h, k)) = ap nestings h ∙ bracket_nesting t k
 
-  -- the bracket is a mark
-  counted : (ts : List Lexeme) (x : Expr) (b : Bracketed E O ts x) → marks ts ≡ suc (marks b.inner + marks b.end)
+  -- the bracket is a nesting
+  counted : (ts : List Lexeme) (x : Expr) (b : Bracketed E O ts x) → nestings ts ≡ suc (nestings b.inner + nestings b.end)
   counted ts x b =
       let front = one_bracket b.front b.bracket b.opens in
-      let outer = ap marks b.cut ∙ marks-append all_marks b.front b.behind in
-      let inner = ap marks b.cut_behind ∙ marks-append all_marks b.inner b.end in
+      let outer = ap nestings b.cut ∙ nestings-append all_nestings b.front b.behind in
+      let inner = ap nestings b.cut_behind ∙ nestings-append all_nestings b.inner b.end in
       omega (arith, front, outer, inner)
 
-  list_fits : (ts : List Lexeme) (y : Y) → Fits all_marks in_brackets ts y → Fits all_marks (g.parts n) ts y
+  list_fits : (ts : List Lexeme) (y : Y) → Fits all_nestings in_brackets ts y → Fits all_nestings (g.parts n) ts y
   unfolding Spells Fits g.parts g.forked g.more_parts g.part_behind g.whole
   list_fits ts y (p, e, (q, d, (u, v, c, (w, z, i, (a, f, (k, l, j, opener, inside)), more), shut))) =
       inl (
@@ -151,7 +151,7 @@ module _ (n : ℕ) where
         ),
       )
 
-  one_fits : (ts : List Lexeme) (y : Y) → Fits all_marks one ts y → Fits all_marks (g.parts n) ts y
+  one_fits : (ts : List Lexeme) (y : Y) → Fits all_nestings one ts y → Fits all_nestings (g.parts n) ts y
   unfolding Spells Fits g.parts g.forked g.one_part g.whole_unbracketed g.unbracketed token
   one_fits ts y (x, e, (s, le)) = elim (apart_at_bracket E O ts x s) [
     | inl h ↦ inr (x, e, (h, le))
@@ -163,12 +163,12 @@ module _ (n : ℕ) where
         ))
   ]
 
-  fits_to : (ts : List Lexeme) (y : Y) → Fits all_marks (one ∣ in_brackets) ts y → Fits all_marks (g.parts n) ts y
+  fits_to : (ts : List Lexeme) (y : Y) → Fits all_nestings (one ∣ in_brackets) ts y → Fits all_nestings (g.parts n) ts y
   unfolding Fits
   fits_to ts y (inl h) = one_fits ts y h
   fits_to ts y (inr h) = list_fits ts y h
 
-  fits_back : (ts : List Lexeme) (y : Y) → Fits all_marks (g.parts n) ts y → Fits all_marks (one ∣ in_brackets) ts y
+  fits_back : (ts : List Lexeme) (y : Y) → Fits all_nestings (g.parts n) ts y → Fits all_nestings (one ∣ in_brackets) ts y
   unfolding Spells Fits g.parts g.forked g.more_parts g.one_part g.part_behind g.whole g.whole_unbracketed g.unbracketed token
   fits_back ts y (inl (p, e, (k, w, i, opener, (l, m, j, inside, inl (le, (q, f, (r, d, (u, v, c, more, shut)))))))) =
       inr (

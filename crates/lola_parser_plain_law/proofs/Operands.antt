@@ -10,7 +10,7 @@ use Rattle.lola_parser_tree.specs.declared.expressions.Expr.{Expr}
 use Rattle.lola_parser_tree.specs.declared.expressions.Expr.TheVariants as e
 use Rattle.lola_parser_grammars_law.specs.Syntax.{Lexeme, Syntax, Then, Map, Either, Maybe, Many, Spells}
 use Rattle.lola_parser_grammar.specs.Grammar as g
-use Rattle.lola_parser_grammar.specs.Grammar.{token, mark, integer, name, ◌*>◌, ◌<*◌, ◌|>◌, ◌>>◌, Reading, Arguments, Suffix, with_default, folded, reference, read_by, named_by, whole_number}
+use Rattle.lola_parser_grammar.specs.Grammar.{token, nesting, integer, name, ◌*>◌, ◌<*◌, ◌|>◌, ◌>>◌, Reading, Arguments, Suffix, with_default, folded, reference, read_by, named_by, whole_number}
 use Rattle.lola_parser_plain_law.specs.Plain as plain
 use Rattle.lola_parser_plain_law.specs.Plain.{from_left, read_so}
 use Rattle.lola_parser_plain_law.proofs.Within.{Same, same_self, same_chain, same_back}
@@ -18,14 +18,14 @@ use Rattle.lola_parser_plain_law.proofs.Wider.{other_in_unary}
 use Rattle.lola_parser_plain_law.proofs.Turns.{regroup, ungroup, four, led_from_left, same_from_left, split_from_left, map_twice, map_either}
 
 module _ (E O : Syntax Expr) where
-  -- an operand behind a sign
+  -- an operand behind an operator
   abbrev pub U : Syntax Expr
   U = g.operand E O
 
   -- ---- what may stand behind a point
 
   access_to : (ts : List Lexeme) (x : ℕ → Reading) → Spells (plain.access E U O) ts x → Spells (g.reading E O) ts x
-  unfolding Spells plain.access plain.stand_in g.reading g.offset g.hold g.get g.last g.window g.over g.stand_in token mark
+  unfolding Spells plain.access plain.stand_in g.reading g.offset g.hold g.get g.last g.window g.over g.stand_in token nesting
   access_to ts x (inl h) = inl h
   access_to ts x (inr (inl h)) = inr (inl h)
   access_to ts x (inr (inr (inl h))) = inr (inr (inl h))
@@ -36,7 +36,7 @@ module _ (E O : Syntax Expr) where
   direct = Map (λ b dot. (a.Direct, Some b)) (g.default E O)
 
   reading_cases : (ts : List Lexeme) (x : ℕ → Reading) → Spells (g.reading E O) ts x → Spells (plain.access E U O) ts x ⊎ Spells direct ts x
-  unfolding Spells plain.access plain.stand_in g.reading g.offset g.hold g.get g.last g.window g.over g.stand_in token mark
+  unfolding Spells plain.access plain.stand_in g.reading g.offset g.hold g.get g.last g.window g.over g.stand_in token nesting
   reading_cases ts x (inl h) = inl (inl h)
   reading_cases ts x (inr (inl h)) = inl (inr (inl h))
   reading_cases ts x (inr (inr (inl h))) = inl (inr (inr (inl h)))
@@ -49,7 +49,7 @@ module _ (E O : Syntax Expr) where
   direct_reads ts b h = inr (inr (inr (inr (inr (b, refl, h)))))
 
   pub default_same : Same (plain.default E U O) (g.dotted_default E O)
-  unfolding Spells plain.default g.dotted_default g.default token mark
+  unfolding Spells plain.default g.dotted_default g.default token nesting
   default_same = record { to = record { spells = λ ts x h. h }; back = record { spells = λ ts x h. h } }
 
   -- ---- a name, its arguments, and what follows it
@@ -74,7 +74,7 @@ module _ (E O : Syntax Expr) where
 
   tail_to : (n : Name') (how : How) (rs : List (ℕ × Expr)) (t v : List Lexeme) → Spells pointed t how → Defaulted v rs
       → (s : Option Suffix) × (with_all (read_so (n, how)) rs ≡ of_reference n s) × Spells (Maybe (g.suffix E O)) (t ++ v) s
-  unfolding Spells g.suffix g.dotted g.defaults g.dotted_default token mark
+  unfolding Spells g.suffix g.dotted g.defaults g.dotted_default token nesting
   tail_to n None [] t v h k = (None, refl, ap (λ (w : List Lexeme). w ++ v) h ∙ k)
   tail_to n None (r ∷ rs) t v h (u, w, c, (p, q, d, i, j), more) = (
     Some (λ named. with_all (read_by r.0 (a.Direct, Some r.1) named) rs),
@@ -93,7 +93,7 @@ module _ (E O : Syntax Expr) where
 
   tail_back : (n : Name') (s : Option Suffix) (w : List Lexeme) → Spells (Maybe (g.suffix E O)) w s
       → (how : How) × (rs : List (ℕ × Expr)) × (t : List Lexeme) × (v : List Lexeme) × (w ≡ t ++ v) × (with_all (read_so (n, how)) rs ≡ of_reference n s) × Spells pointed t how × Defaulted v rs
-  unfolding Spells g.suffix g.dotted g.defaults g.dotted_default token mark
+  unfolding Spells g.suffix g.dotted g.defaults g.dotted_default token nesting
   tail_back n None w h = (None, [], [], [], h, refl, refl, refl)
   tail_back n (Some z) w (p, e, (u, v, c, (q, d, (k, l, i, dot, reads)), (rs, f, more))) =
       let named = reference n.0 n.1 in
@@ -108,7 +108,7 @@ module _ (E O : Syntax Expr) where
   a_name = Map read_so (Then (plain.ref E U O) pointed)
 
   named_to : (ts : List Lexeme) (x : Expr) → Spells (from_left with_default a_name (g.dotted_default E O)) ts x → Spells (g.named E O) ts x
-  unfolding Spells g.named g.arguments plain.ref token mark
+  unfolding Spells g.named g.arguments plain.ref token nesting
   named_to ts x (p, e, (w, v, c, (q, d, (r, t, k, (s, u, l, i, args), how)), rs)) =
       let tail = tail_to q.0 q.1 p.1 t v how rs in (
         (q.0.0, (q.0.1, tail.0)),
@@ -117,7 +117,7 @@ module _ (E O : Syntax Expr) where
       )
 
   named_back : (ts : List Lexeme) (x : Expr) → Spells (g.named E O) ts x → Spells (from_left with_default a_name (g.dotted_default E O)) ts x
-  unfolding Spells g.named g.arguments plain.ref token mark
+  unfolding Spells g.named g.arguments plain.ref token nesting
   named_back ts x (n, e, (s, w, c, i, (u, z, k, args, suffix))) =
       let tail = tail_back (n.0, n.1.0) n.1.1 z suffix in (
         (read_so ((n.0, n.1.0), tail.0), tail.1),
@@ -146,11 +146,11 @@ module _ (E O : Syntax Expr) where
   bracket = token is.Open *> E <* token is.Shut
 
   bracketed_same : Same (with_defaults bracket) (g.bracketed E O)
-  unfolding Spells g.bracketed g.defaults token mark
+  unfolding Spells g.bracketed g.defaults token nesting
   bracketed_same =
-      same_chain (with_defaults bracket) (with_defaults (mark is.Open *> E <* token is.Shut)) (g.bracketed E O)
+      same_chain (with_defaults bracket) (with_defaults (nesting is.Open *> E <* token is.Shut)) (g.bracketed E O)
       (record { to = record { spells = λ ts x h. h }; back = record { spells = λ ts x h. h } })
-      (same_back (g.bracketed E O) _ (led_from_left with_default (mark is.Open *> E <* token is.Shut) (g.dotted_default E O)))
+      (same_back (g.bracketed E O) _ (led_from_left with_default (nesting is.Open *> E <* token is.Shut) (g.dotted_default E O)))
 
   abbrev positive : Syntax Literal
   positive = Map (λ p. whole_number false p.0 p.1) integer
@@ -174,7 +174,7 @@ module _ (E O : Syntax Expr) where
   negative = with_defaults (of_literal minus_one)
 
   minus_to : (ts : List Lexeme) (x : Expr) → Spells (g.minus E O) ts x → Spells (Either negative (plain.minus_unary E U O)) ts x
-  unfolding Spells g.minus g.negative g.defaults plain.minus_unary token mark
+  unfolding Spells g.minus g.negative g.defaults plain.minus_unary token nesting
   minus_to ts x (p, d, (u, v, c, s, inl (q, f, (w, z, k, i, (rs, h, more))))) =
       let value = e.Literal (whole_number true q.0.0 p.0) in
       inl (
@@ -185,7 +185,7 @@ module _ (E O : Syntax Expr) where
   minus_to ts x (p, d, (u, v, c, s, inr (y, f, o))) = inr ((p.0, y), d ∙ ap (λ (y : ℕ → Expr). y p.0) f, (u, v, c, s, o))
 
   minus_back : (ts : List Lexeme) (x : Expr) → Spells (Either negative (plain.minus_unary E U O)) ts x → Spells (g.minus E O) ts x
-  unfolding Spells g.minus g.negative g.defaults plain.minus_unary token mark
+  unfolding Spells g.minus g.negative g.defaults plain.minus_unary token nesting
   minus_back ts x (inl (p, d, (w, v, c, (l, h, (q, f, (u, z, k, s, i))), more))) = (
     (q.0, λ at. with_all (e.Literal (whole_number true q.1.0 at)) p.1),
     d ∙ ap (λ (y : Expr). with_all y p.1) (h ∙ ap (λ (y : Literal). e.Literal y) f),
@@ -195,7 +195,7 @@ module _ (E O : Syntax Expr) where
 
   -- ---- operands
 
-  -- what begins with no integer and no sign that stands before an operand
+  -- what begins with no integer and no operator that stands before an operand
   abbrev bare : Syntax Expr
   bare = Either (Either negative (g.worded E O)) (Either (g.bracketed E O) (g.named E O))
 
@@ -238,13 +238,13 @@ module _ (E O : Syntax Expr) where
   bare_other ts x (inr (inr h)) = inr (inr (inr (inl h)))
 
   other_to : (ts : List Lexeme) (x : Expr) → Spells (plain.other_with E U O) ts x → Spells (g.other_with E O) ts x
-  unfolding Spells plain.other_with plain.not_unary g.other_with g.plain g.negation mark token
+  unfolding Spells plain.other_with plain.not_unary g.other_with g.plain g.negation nesting token
   other_to ts x (inl h) = inr (inl h)
   other_to ts x (inr (inl h)) = inr (inr (inl (minus_back ts x (inr h))))
   other_to ts x (inr (inr h)) = bare_other ts x (other_post.to.spells ts x h)
 
   other_back : (ts : List Lexeme) (x : Expr) → Spells (g.other_with E O) ts x → Spells (plain.other_with E U O) ts x
-  unfolding Spells plain.other_with plain.not_unary g.other_with g.plain g.negation mark token
+  unfolding Spells plain.other_with plain.not_unary g.other_with g.plain g.negation nesting token
   other_back ts x (inl h) = inr (inr (other_post.back.spells ts x (inr (inl h))))
   other_back ts x (inr (inl h)) = inl h
   other_back ts x (inr (inr (inl h))) = elim (minus_to ts x h) [ inl j ↦ inr (inr (other_post.back.spells ts x (inl (inl j)))) | inr j ↦ inr (inl j) ]

@@ -3,7 +3,7 @@ use Rattle.std.proofs.Common.{◌≡◌, inl, inr, List, ◌++◌, refl, sym, ap
 use Rattle.std.specs.Prelude.{fold}
 use Rattle.lola_parser_grammars_law.specs.Syntax.{Lexeme, Syntax, Then, Map, Either, Maybe, Many, Spells}
 use Rattle.lola_parser_tree.specs.declared.expressions.Expr.{Expr}
-use Rattle.lola_parser_grammar.specs.Grammar.{◌|>◌, ◌>>◌, folded, Sign, Joined, compared, joined_once}
+use Rattle.lola_parser_grammar.specs.Grammar.{◌|>◌, ◌>>◌, folded, Operator, Joined, compared, joined_once}
 use Rattle.lola_parser_plain_law.specs.Plain.{from_left}
 use Rattle.lola_parser_plain_law.proofs.Within.{Within, Same, within_map, within_then, within_many, same_chain, same_map, same_then, same_either, same_maybe}
 
@@ -88,7 +88,7 @@ module _ {A B : Type 0} (f : A → B) (a b : Syntax A) where
   pub map_either : Same (Map f (Either a b)) (Either (Map f a) (Map f b))
   map_either = record { to = record { spells = map_either_to }; back = record { spells = map_either_back } }
 
--- ---- signs between operands
+-- ---- operators between operands
 
 pub within_from_left : {A B : Type 0} (f : B → A → B) (a a' : Syntax B) (b b' : Syntax A) → Within a a' → Within b b' → Within (from_left f a b) (from_left f a' b')
 within_from_left f a a' b b' h k = within_map _ _ _ (within_then _ _ _ _ h (within_many _ _ k))
@@ -108,7 +108,7 @@ pub level_same : {A B : Type 0} (f : B → A → B) (a a' : Syntax B) (t : Synta
 level_same f a a' t b b' h k =
     same_chain _ _ _ (along a t (folded f b)) (same_chain _ _ _ (led_from_left f (a |> t) b) (same_from_left f (a |> t) a' b b' h k))
 
-pub once_same : (a a' : Syntax Expr) (t : Syntax (Expr → Expr)) (signs : Syntax Sign) (b : Syntax Expr) (c : Syntax Joined) → Same (a |> t) a' → Same (Then signs b) c
-    → Same (a |> (t >> joined_once signs b)) (Map (λ p. compared p.1 p.0) (Then a' (Maybe c)))
-once_same a a' t signs b c h k =
-    same_chain _ _ _ (along a t (joined_once signs b)) (same_chain _ _ _ (led (a |> t) compared (Maybe (Then signs b))) (same_map _ _ _ (same_then _ _ _ _ h (same_maybe _ _ k))))
+pub once_same : (a a' : Syntax Expr) (t : Syntax (Expr → Expr)) (operators : Syntax Operator) (b : Syntax Expr) (c : Syntax Joined) → Same (a |> t) a' → Same (Then operators b) c
+    → Same (a |> (t >> joined_once operators b)) (Map (λ p. compared p.1 p.0) (Then a' (Maybe c)))
+once_same a a' t operators b c h k =
+    same_chain _ _ _ (along a t (joined_once operators b)) (same_chain _ _ _ (led (a |> t) compared (Maybe (Then operators b))) (same_map _ _ _ (same_then _ _ _ _ h (same_maybe _ _ k))))

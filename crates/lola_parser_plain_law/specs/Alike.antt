@@ -5,10 +5,10 @@ use Rattle.lola_value.specs.declared.front.FrontEnd.{FrontEnd}
 use Rattle.lola_value.specs.declared.front.FrontEnd.TheVariants as front_end
 use Rattle.lola_parser_tree.specs.declared.declarations.Declaration.{Declaration}
 use Rattle.lola_parser_grammars_law.specs.Syntax.{Lexeme, Spells, Begins}
-use Rattle.lola_parser_grammars_law.specs.Marks.{Fits}
+use Rattle.lola_parser_grammars_law.specs.Nestings.{Fits}
 use Rattle.lola_parser_grammar.specs.Cursor.{place_of}
 use Rattle.lola_parser_grammar.specs.Grammar as factored
-use Rattle.lola_parser_grammar.specs.Grammar.{all_marks}
+use Rattle.lola_parser_grammar.specs.Grammar.{all_nestings}
 use Rattle.lola_parser_grammar.specs.Whole.{Refuses, ReadsAll, IsThat}
 use Rattle.lola_parser_plain_law.specs.Plain as plain
 
@@ -44,11 +44,11 @@ RefusesPlainly ts end (Ok x) = SpellsPlainly ts x
 RefusesPlainly ts end (Err front_end.Memory) = Unit {0}
 RefusesPlainly ts end (Err (front_end.Refused r)) = r.code ≡ code.Unexpected → (rest : List Lexeme) × (r.at ≡ place_of rest end) × IsFirstPlainMisfit ts rest
 
--- the same, and no expression or formula that is directly a part of a clause has more marks than may come
+-- the same, and no expression or formula that is directly a part of a clause has more nestings than may come
 abbrev pub FitsPlainly : List Lexeme → List Declaration → Type 0
-FitsPlainly ts x = (n : ℕ) × Fits all_marks (plain.specification n) ts x
+FitsPlainly ts x = (n : ℕ) × Fits all_nestings (plain.specification n) ts x
 
--- what is spelled plainly within the limit of marks is given, unless memory ran out
+-- what is spelled plainly within the limit of nestings is given, unless memory ran out
 abbrev pub ReadsPlainly : List Lexeme → Result (List Declaration) FrontEnd → Type 0
 ReadsPlainly ts r = (x : List Declaration) → FitsPlainly ts x → IsThat x r
 

@@ -25,7 +25,7 @@ use Rattle.lola_parser_tree.specs.declared.clauses.Close.{Close}
 use Rattle.lola_parser_tree.specs.declared.declarations.Declaration.{Declaration}
 use Rattle.lola_parser_tree.specs.declared.declarations.Declaration.TheVariants as d
 use Rattle.lola_parser_grammars_law.specs.Syntax.{Syntax, Whole, Then, Map, Either, Maybe, Many}
-use Rattle.lola_parser_grammar.specs.Grammar.{token, word, name, other_name, integer, text, quantity, ◌*>◌, ◌<*◌, enclosed, listed, whole_number, truth_at, text_at, Sign, join, compared, Reading, or_else, with_default, Arguments, reference, both, either, clock_words, part, Body, bracket_of, parameters_of, parts_or_none, message_of}
+use Rattle.lola_parser_grammar.specs.Grammar.{token, word, name, other_name, integer, text, quantity, ◌*>◌, ◌<*◌, enclosed, listed, whole_number, truth_at, text_at, Operator, join, compared, Reading, or_else, with_default, Arguments, reference, both, either, clock_words, part, Body, bracket_of, parameters_of, parts_or_none, message_of}
 
 -- one or the other
 infixr 10 ◌∣◌
@@ -46,9 +46,9 @@ other_literal =
 unfoldable pub literal : Syntax Literal
 literal = Map (λ p. whole_number false p.0 p.1) integer ∣ other_literal
 
--- a sign between operands
-abbrev pub sign : TokenShape → Binary → Syntax Sign
-sign s op = Map (λ at. (op, at)) (token s)
+-- an operator between operands
+abbrev pub operator : TokenShape → Binary → Syntax Operator
+operator s op = Map (λ at. (op, at)) (token s)
 
 -- a name with its arguments, and behind a point, with its place, how it is read
 abbrev pub read_so : (Name × Option Arguments) × Option (ℕ × (ℕ → Reading)) → Expr
@@ -111,24 +111,24 @@ module _ (expr unary other : Syntax Expr) where
 
   -- Prod = Unary { ( "*" | "/" | "%" ) Unary }
   unfoldable pub prod : Syntax Expr
-  prod = from_left join unary_with (Then (sign is.Star by.Multiply ∣ sign is.Slash by.Divide ∣ sign is.Percent by.Remainder) unary_with)
+  prod = from_left join unary_with (Then (operator is.Star by.Multiply ∣ operator is.Slash by.Divide ∣ operator is.Percent by.Remainder) unary_with)
 
   -- Sum = Prod { ( "+" | "-" ) Prod }
   unfoldable pub sum : Syntax Expr
-  sum = from_left join prod (Then (sign is.Plus by.Add ∣ sign is.Minus by.Subtract) prod)
+  sum = from_left join prod (Then (operator is.Plus by.Add ∣ operator is.Minus by.Subtract) prod)
 
   -- Cmp = Sum [ ( "==" | "!=" | "<" | "<=" | ">" | ">=" ) Sum ]
   unfoldable pub cmp : Syntax Expr
-  cmp = Map (λ p. compared p.1 p.0) (Then sum (Maybe (Then (sign is.Equal by.Equal ∣ sign is.Unequal by.Unequal ∣ sign is.Less by.Less
-      ∣ sign is.LessEqual by.LessEqual ∣ sign is.Greater by.Greater ∣ sign is.GreaterEqual by.GreaterEqual) sum)))
+  cmp = Map (λ p. compared p.1 p.0) (Then sum (Maybe (Then (operator is.Equal by.Equal ∣ operator is.Unequal by.Unequal ∣ operator is.Less by.Less
+      ∣ operator is.LessEqual by.LessEqual ∣ operator is.Greater by.Greater ∣ operator is.GreaterEqual by.GreaterEqual) sum)))
 
   -- And = Cmp { "&&" Cmp }
   unfoldable pub and : Syntax Expr
-  and = from_left join cmp (Then (sign is.And by.And) cmp)
+  and = from_left join cmp (Then (operator is.And by.And) cmp)
 
   -- Or = And { "||" And }
   unfoldable pub or : Syntax Expr
-  or = from_left join and (Then (sign is.Or by.Or) and)
+  or = from_left join and (Then (operator is.Or by.Or) and)
 
   -- Expr = "if" Expr "then" Expr "else" Expr | Or
   unfoldable pub expr_with : Syntax Expr
@@ -248,6 +248,6 @@ module _ (expr : Syntax Expr) (form : Syntax Formula) where
   spec = Many (input ∣ constant ∣ output ∣ trigger)
 
 -- A specification in whose expressions and formulas at most so many levels are nested. Each expression and formula that is
--- directly a part of a clause is a whole one, in which the marks are counted.
+-- directly a part of a clause is a whole one, in which the nestings are counted.
 abbrev pub specification : ℕ → Syntax (List Declaration)
 specification n = spec (Whole (expr_in n)) (Whole (form_in n))

@@ -13,7 +13,7 @@ pub fn has_one_tree()
     ensures { HasOneTree }
 {}
 
-/// What `parse` promises, said of the plain grammar. What it gives is spelled, what is spelled within the limit of marks
+/// What `parse` promises, said of the plain grammar. What it gives is spelled, what is spelled within the limit of nestings
 /// it gives, and the place of a token that does not fit is that of the first token such that no specification begins
 /// with the tokens up to it.
 pub fn answers_plainly()

@@ -150,9 +150,9 @@ access_or (a.Hold dot) ts = call (codes "hold") (labelled (codes "or") ts)
 access_or (a.Get dot) ts = call (codes "get") (labelled (codes "or") ts)
 access_or how ts = access how ++ default_tail ts
 
--- ---- signs
+-- ---- operators
 
--- how tightly a sign binds, from 1 to 5
+-- how tightly an operator binds, from 1 to 5
 abbrev pub tightness : Binary → ℕ
 tightness by.Or = 1
 tightness by.And = 2
@@ -205,7 +205,7 @@ heads (e.Literal l) = begins_with_integer l.value
 heads (e.Defaults' at p (more_of-Expr x end_of-Expr) q row) = heads x
 heads _ = false
 
--- how tightly an expression binds: its sign, or more than any sign
+-- how tightly an expression binds: its operator, or more than any operator
 abbrev pub level : Expr → ℕ
 level (e.Prefix' op at p row) = 6
 level (e.Binary' op at p row q row') = tightness op
@@ -238,7 +238,7 @@ abbrev mutual
   further end_of-Expr = []
   further (more_of-Expr x rest) = lex is.Comma ∷ (bare x ++ further rest)
 
--- An expression as an operand of a tightness: 0 an expression, 6 an operand with prefix signs, 7 one without.
+-- An expression as an operand of a tightness: 0 an expression, 6 an operand with prefix operators, 7 one without.
 abbrev pub print : Expr → ℕ → List Lexeme
 print x k = fitted (level x) k (bare x)
 

@@ -23,12 +23,12 @@ fn formula_level(x: &Formula) -> u8
     }
 }
 
-/// A sign and the formula behind it.
+/// An operator and the formula behind it.
 #[cycle(formulas)]
-fn behind(sign: &[u8], x: &Formula, k: u8, to: &mut Text) -> Result<(), Memory>
-    ensures { OnOk result (to.new ≡ to.old ++ (sign.now ++ out.spelled_out (out.print_formula x.now k))) }
+fn behind(operator: &[u8], x: &Formula, k: u8, to: &mut Text) -> Result<(), Memory>
+    ensures { OnOk result (to.new ≡ to.old ++ (operator.now ++ out.spelled_out (out.print_formula x.now k))) }
 {
-    to.append(sign)?;
+    to.append(operator)?;
     formula(x, k, to)
 }
 

@@ -108,11 +108,11 @@ fn constant(x: &Constant, to: &mut Text) -> Result<(), Memory>
     ensures { OnOk result (out.Adds (out.constant x.now) to.old to.new) }
 {
     put_name(&x.name, to)?;
-    kind_then_sign(&x.kind, to)?;
+    kind_then_operator(&x.kind, to)?;
     literal(&x.literal.value, to)
 }
 
-fn kind_then_sign(x: &Name, to: &mut Text) -> Result<(), Memory>
+fn kind_then_operator(x: &Name, to: &mut Text) -> Result<(), Memory>
     ensures { OnOk result (out.Adds (out.lex is.Colon ∷ out.name x.now ∷ out.lex is.Define ∷ []) to.old to.new) }
 {
     to.append(b": ")?;

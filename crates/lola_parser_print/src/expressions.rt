@@ -12,7 +12,7 @@ use lola_parser_tree::expressions::{Access, Binary, Expr, Prefix};
 use lola_parser_tree::literals::{Name, Value};
 use lola_value::text::{Memory, Text};
 
-/// How tightly a sign binds its operands.
+/// How tightly an operator binds its operands.
 fn tightness(op: Binary) -> u8
     ensures { result ≡ out.tightness op }
 {
@@ -37,7 +37,7 @@ fn left_of(op: Binary) -> u8
     }
 }
 
-fn sign(op: Binary) -> &'static [u8]
+fn operator(op: Binary) -> &'static [u8]
     ensures { result.now ≡ spelling (out.shape_of op) }
 {
     match op {
@@ -84,7 +84,7 @@ pub(crate) fn literal(value: &Value, to: &mut Text) -> Result<(), Memory>
     }
 }
 
-/// How tightly an expression binds: as its sign, or more than any sign.
+/// How tightly an expression binds: as its operator, or more than any operator.
 fn level(x: &Expr) -> u8
     ensures { result ≡ out.level x.now }
 {
@@ -249,12 +249,12 @@ fn signed(op: Prefix, x: &Expr, to: &mut Text) -> Result<(), Memory>
     }
 }
 
-/// A sign and the operand behind it.
+/// An operator and the operand behind it.
 #[cycle(printing)]
 fn second(op: Binary, x: &Expr, to: &mut Text) -> Result<(), Memory>
     ensures { OnOk result (out.Adds (out.second op x.now) to.old to.new) }
 {
-    put(sign(op), to)?;
+    put(operator(op), to)?;
     expr(x, tightness(op) + 1, to)
 }
 
@@ -296,7 +296,7 @@ pub(crate) fn bare(x: &Expr, to: &mut Text) -> Result<(), Memory>
     }
 }
 
-/// An expression as an operand of a tightness: 0 an expression, 6 an operand with prefix signs, 7 one without.
+/// An expression as an operand of a tightness: 0 an expression, 6 an operand with prefix operators, 7 one without.
 #[cycle(printing)]
 pub(crate) fn expr(x: &Expr, k: u8, to: &mut Text) -> Result<(), Memory>
     ensures { OnOk result (out.Adds (out.print x.now k) to.old to.new) }

@@ -5,9 +5,9 @@ use Rattle.std.proofs.Common.{◌≡◌, ℕ, suc, ◌+◌, ◌≤◌, true, ◌
 use Rattle.std.specs.Str.{bytes_eq}
 use Rattle.lola_lexer.specs.declared.shape.TokenShape.{TokenShape}
 use Rattle.lola_lexer.specs.declared.shape.TokenShape.TheVariants as is
-use Rattle.lola_parser_grammars_law.specs.Syntax.{Lexeme, Terminal, Of, Word, Other, is_among, same_shape, fits, any_fits, Syntax, Past, Token, Mark, Whole, Known, Then, Map, Either, Maybe, Many, Fork, Repeats, Perhaps, Spells, max_marks}
-use Rattle.lola_parser_grammars_law.specs.Marks.{Fits, one_if, marks_in}
-use Rattle.lola_parser_grammar.specs.Grammar.{all_marks, place, ◌*>◌, ◌<*◌, ◌|>◌, ◌>>◌, folded, enclosed, further, listed}
+use Rattle.lola_parser_grammars_law.specs.Syntax.{Lexeme, Terminal, Of, Word, Other, is_among, same_shape, fits, any_fits, Syntax, Past, Token, Nesting, Whole, Known, Then, Map, Either, Maybe, Many, Fork, Repeats, Perhaps, Spells, max_nestings}
+use Rattle.lola_parser_grammars_law.specs.Nestings.{Fits, one_if, nestings_in}
+use Rattle.lola_parser_grammar.specs.Grammar.{all_nestings, place, ◌*>◌, ◌<*◌, ◌|>◌, ◌>>◌, folded, enclosed, further, listed}
 use Rattle.lola_parser_grammar.specs.Grammar as g
 use Rattle.lola_parser_print_law.specs.Places.{IsLexed, AreLexed, IsSame, AreSame}
 
@@ -68,11 +68,11 @@ any_same : (ks : List Terminal) (t u : Lexeme) → IsSame t u → any_fits ks t 
 any_same [] t u h = refl
 any_same (k ∷ ks) t u h = rw (fits_same k t u h, any_same ks t u h) refl
 
-marks_same : (W : Type 0) (ts us : List Lexeme) → AreAlike W ts us → marks_in all_marks ts ≡ marks_in all_marks us
-marks_same W [] [] h = refl
-marks_same W [] (u ∷ us) h = absurd h
-marks_same W (t ∷ ts) [] h = absurd h
-marks_same W (t ∷ ts) (u ∷ us) h = ap₂ (λ a n. one_if all_marks a + n) (any_same all_marks t u h.0.same) (marks_same W ts us h.1)
+nestings_same : (W : Type 0) (ts us : List Lexeme) → AreAlike W ts us → nestings_in all_nestings ts ≡ nestings_in all_nestings us
+nestings_same W [] [] h = refl
+nestings_same W [] (u ∷ us) h = absurd h
+nestings_same W (t ∷ ts) [] h = absurd h
+nestings_same W (t ∷ ts) (u ∷ us) h = ap₂ (λ a n. one_if all_nestings a + n) (any_same all_nestings t u h.0.same) (nestings_same W ts us h.1)
 
 -- ---- values in step
 
@@ -82,7 +82,7 @@ Found {A} R P us x = (y : A) × P us y × R x y
 
 pub record Carries {A : Type 0} (W : Type 0) (R : A → A → Type 0) (s : Syntax A) : Type 0 where
   pub spelled : (ts us : List Lexeme) → AreAlike W ts us → (x : A) → Spells s ts x → Found R (Spells s) us x
-  pub fitted : (ts us : List Lexeme) → AreAlike W ts us → (x : A) → Fits all_marks s ts x → Found R (Fits all_marks s) us x
+  pub fitted : (ts us : List Lexeme) → AreAlike W ts us → (x : A) → Fits all_nestings s ts x → Found R (Fits all_nestings s) us x
 
 -- whatever they are
 abbrev pub Any : {A : Type 0} → A → A → Type 0
@@ -122,9 +122,9 @@ pub token_carried : (W : Type 0) (k : Terminal) → Carries W (SameToken W k) (T
 unfolding Spells Fits
 token_carried W k = record { spelled = token_found W k; fitted = token_found W k }
 
-pub mark_carried : (W : Type 0) (k : Terminal) → Carries W (SameToken W k) (Mark k)
+pub nesting_carried : (W : Type 0) (k : Terminal) → Carries W (SameToken W k) (Nesting k)
 unfolding Spells Fits
-mark_carried W k = record { spelled = token_found W k; fitted = token_found W k }
+nesting_carried W k = record { spelled = token_found W k; fitted = token_found W k }
 
 pub past_carried : {A : Type 0} (W : Type 0) (R : A → A → Type 0) (a : Syntax A) → Carries W R a → Carries W R (Past a)
 unfolding Spells Fits
@@ -141,7 +141,7 @@ whole_carried W R a h =
       spelled = h.spelled;
       fitted = λ ts us l x s.
           let r = h.spelled ts us l x s.0 in
-          (r.0, (r.1, subst (λ (n : ℕ). n ≤ max_marks) (marks_same W ts us l) s.1), r.2);
+          (r.0, (r.1, subst (λ (n : ℕ). n ≤ max_nestings) (nestings_same W ts us l) s.1), r.2);
     }
 
 pub then_carried : {A B : Type 0} (W : Type 0) (R : A → A → Type 0) (Q : B → B → Type 0) (a : Syntax A) (b : Syntax B) → Carries W R a → Carries W Q b
@@ -212,12 +212,12 @@ repeats_kept W R P h ts us l (x ∷ xs) s =
 pub maybe_carried : {A : Type 0} (W : Type 0) (R : A → A → Type 0) (a : Syntax A) → Carries W R a → Carries W (Opt R) (Maybe a)
 unfolding Spells Fits
 maybe_carried W R a h =
-    record { spelled = perhaps_kept W R (Spells a) h.spelled; fitted = perhaps_kept W R (Fits all_marks a) h.fitted }
+    record { spelled = perhaps_kept W R (Spells a) h.spelled; fitted = perhaps_kept W R (Fits all_nestings a) h.fitted }
 
 pub many_carried : {A : Type 0} (W : Type 0) (R : A → A → Type 0) (a : Syntax A) → Carries W R a → Carries W (Each R) (Many a)
 unfolding Spells Fits
 many_carried W R a h =
-    record { spelled = repeats_kept W R (Spells a) h.spelled; fitted = repeats_kept W R (Fits all_marks a) h.fitted }
+    record { spelled = repeats_kept W R (Spells a) h.spelled; fitted = repeats_kept W R (Fits all_nestings a) h.fitted }
 
 pub fork_carried : {A B : Type 0} (W : Type 0) (R : A → A → Type 0) (Q : B → B → Type 0) (ks : List Terminal) (a : Syntax A) (b c : Syntax B)
     → Carries W R a → Carries W Q b → Carries W Q c → Carries W (Both R Q) (Fork ks a b c)
@@ -237,11 +237,11 @@ fork_carried W R Q ks a b c h i j =
           elim (s.4) [
             | inl m ↦
                 let q = i.fitted s.1 e.1 e.4 x.1 m.1 in
-                let few = subst (λ (n : ℕ). n ≤ max_marks) (marks_same W s.0 e.0 e.3) m.0 in
+                let few = subst (λ (n : ℕ). n ≤ max_nestings) (nestings_same W s.0 e.0 e.3) m.0 in
                 ((p.0, q.0), (e.0, e.1, e.2, p.1, inl (few, q.1)), (p.2, q.2))
             | inr m ↦
                 let q = j.spelled s.1 e.1 e.4 x.1 m.1 in
-                let few = subst (λ (n : ℕ). n ≤ max_marks) (ap₂ (λ n k. suc (n + k)) (marks_same W s.0 e.0 e.3) (marks_same W s.1 e.1 e.4)) m.0 in
+                let few = subst (λ (n : ℕ). n ≤ max_nestings) (ap₂ (λ n k. suc (n + k)) (nestings_same W s.0 e.0 e.3) (nestings_same W s.1 e.1 e.4)) m.0 in
                 ((p.0, q.0), (e.0, e.1, e.2, p.1, inr (few, q.1)), (p.2, q.2))
           ];
     }
@@ -276,9 +276,9 @@ module _ (W : Type 0) where
   unfolding g.token
   token_any s = map_carried W (SameToken W (Of s)) Any place (Token (Of s)) (λ x y r. tt) (token_carried W (Of s))
 
-  pub mark_any : (s : TokenShape) → Carries W Any (g.mark s)
-  unfolding g.mark
-  mark_any s = map_carried W (SameToken W (Of s)) Any place (Mark (Of s)) (λ x y r. tt) (mark_carried W (Of s))
+  pub nesting_any : (s : TokenShape) → Carries W Any (g.nesting s)
+  unfolding g.nesting
+  nesting_any s = map_carried W (SameToken W (Of s)) Any place (Nesting (Of s)) (λ x y r. tt) (nesting_carried W (Of s))
 
   pub word_any : (w : List ℕ) → Carries W Any (g.word w)
   unfolding g.word
@@ -287,8 +287,8 @@ module _ (W : Type 0) where
   pub behind_token : {A : Type 0} (R : A → A → Type 0) (s : TokenShape) (a : Syntax A) → Carries W R a → Carries W R (g.token s *> a)
   behind_token R s a h = after Any R (g.token s) a (token_any s) h
 
-  pub behind_mark : {A : Type 0} (R : A → A → Type 0) (s : TokenShape) (a : Syntax A) → Carries W R a → Carries W R (g.mark s *> a)
-  behind_mark R s a h = after Any R (g.mark s) a (mark_any s) h
+  pub behind_nesting : {A : Type 0} (R : A → A → Type 0) (s : TokenShape) (a : Syntax A) → Carries W R a → Carries W R (g.nesting s *> a)
+  behind_nesting R s a h = after Any R (g.nesting s) a (nesting_any s) h
 
   pub behind_word : {A : Type 0} (R : A → A → Type 0) (w : List ℕ) (a : Syntax A) → Carries W R a → Carries W R (g.word w *> a)
   behind_word R w a h = after Any R (g.word w) a (word_any w) h

@@ -11,7 +11,7 @@ use Rattle.lola_parser_tree.specs.declared.clauses.Eval.{Eval}
 use Rattle.lola_parser_tree.specs.declared.clauses.Close.{Close}
 use Rattle.lola_parser_grammars_law.specs.Syntax.{Syntax, Then, Map, Either, Maybe, Many, Known, Of}
 use Rattle.lola_parser_grammar.specs.Grammar as g
-use Rattle.lola_parser_grammar.specs.Grammar.{token, mark, word, ◌*>◌, ◌<*◌, ◌|>◌, all_marks}
+use Rattle.lola_parser_grammar.specs.Grammar.{token, nesting, word, ◌*>◌, ◌<*◌, ◌|>◌, all_nestings}
 use Rattle.lola_parser_print.specs.Print as out
 use Rattle.lola_parser_print.specs.Print.{lex, bare, print_formula}
 use Rattle.lola_parser_print_law.specs.Erased as erased
@@ -76,7 +76,7 @@ module _ (W : Type 0) where
   forked_carried : (n : ℕ) → Carries W (Both RE SameParts) (g.forked n)
   unfolding g.forked
   forked_carried n =
-      fork_carried W RE SameParts all_marks (g.expr_in n) (g.more_parts n) (g.one_part n) (expr_in_carried W n) (more_parts_carried n) (one_part_carried n)
+      fork_carried W RE SameParts all_nestings (g.expr_in n) (g.more_parts n) (g.one_part n) (expr_in_carried W n) (more_parts_carried n) (one_part_carried n)
 
   -- lists of parts by the place of their `with`
   abbrev SamePlaced : (ℕ → List Part) → (ℕ → List Part) → Type 0

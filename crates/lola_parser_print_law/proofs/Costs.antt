@@ -1,25 +1,25 @@
--- Parts of a grammar whose sentences have at least so many marks.
+-- Parts of a grammar whose sentences have at least so many nestings.
 use Rattle.std.proofs.Common.{◌≡◌, ℕ, suc, ◌+◌, ◌≤◌, true, List, [], ◌∷◌, ap, arith, inl, inr}
 use Rattle.std.specs.Prelude.{fold}
 use Rattle.lola_lexer.specs.declared.shape.TokenShape.{TokenShape}
 use Rattle.lola_parser_grammars_law.specs.Syntax.{Lexeme, Terminal, Of, listed, Syntax, Past, Known, Then, Map, Either, Repeats, Spells}
-use Rattle.lola_parser_grammar.specs.Grammar.{all_marks, mark, folded, ◌*>◌, ◌<*◌, ◌|>◌, ◌>>◌}
-use Rattle.lola_parser_print_law.proofs.Counts.{count, count-append, one_mark}
+use Rattle.lola_parser_grammar.specs.Grammar.{all_nestings, nesting, folded, ◌*>◌, ◌<*◌, ◌|>◌, ◌>>◌}
+use Rattle.lola_parser_print_law.proofs.Counts.{count, count-append, one_nesting}
 
--- each sentence has at least so many marks as its value takes
+-- each sentence has at least so many nestings as its value takes
 abbrev pub Costs : {A : Type 0} → Syntax A → (A → ℕ) → Type 0
 Costs {A} s c = (ts : List Lexeme) (x : A) → Spells s ts x → c x ≤ count ts
 
--- what follows something: together they take no more than that and its own marks
+-- what follows something: together they take no more than that and its own nestings
 abbrev pub Adds : {A : Type 0} → Syntax (A → A) → (A → ℕ) → (A → ℕ) → Type 0
 Adds {A} s c d = (ts : List Lexeme) (f : A → A) → Spells s ts f → (left : A) → d (f left) ≤ c left + count ts
 
 pub nothing : {A : Type 0} (s : Syntax A) → Costs s (λ _. 0)
 nothing s ts x h = omega arith
 
-pub marked : (s : TokenShape) → listed (Of s) all_marks ≡ true → Costs (mark s) (λ _. 1)
-unfolding Spells mark
-marked s m ts x h = omega (arith, ap count h.2.0, one_mark s h.0 m h.2.1)
+pub with_nestings : (s : TokenShape) → listed (Of s) all_nestings ≡ true → Costs (nesting s) (λ _. 1)
+unfolding Spells nesting
+with_nestings s m ts x h = omega (arith, ap count h.2.0, one_nesting s h.0 m h.2.1)
 
 pub past : {A : Type 0} (s : Syntax A) (c : A → ℕ) → Costs s c → Costs (Past s) c
 unfolding Spells
@@ -42,14 +42,14 @@ unfolding Spells
 either a b c p q ts x (inl h) = p ts x h
 either a b c p q ts x (inr h) = q ts x h
 
--- behind a mark
-pub behind_mark : {A : Type 0} (s : TokenShape) (b : Syntax A) (d : A → ℕ) → listed (Of s) all_marks ≡ true → Costs b d → Costs (mark s *> b) (λ y. suc (d y))
+-- behind a nesting
+pub behind_nesting : {A : Type 0} (s : TokenShape) (b : Syntax A) (d : A → ℕ) → listed (Of s) all_nestings ≡ true → Costs b d → Costs (nesting s *> b) (λ y. suc (d y))
 unfolding Spells
-behind_mark s b d m q ts y h =
+behind_nesting s b d m q ts y h =
     let p = h.2 in
-    omega (arith, ap d h.1, ap count p.2, count-append p.0 p.1, marked s m p.0 h.0.0 p.3, q p.1 h.0.1 p.4)
+    omega (arith, ap d h.1, ap count p.2, count-append p.0 p.1, with_nestings s m p.0 h.0.0 p.3, q p.1 h.0.1 p.4)
 
--- behind what takes no mark
+-- behind what takes no nesting
 pub behind : {A B : Type 0} (a : Syntax A) (b : Syntax B) (d : B → ℕ) → Costs b d → Costs (a *> b) d
 unfolding Spells
 behind a b d q ts y h =

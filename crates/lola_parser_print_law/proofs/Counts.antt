@@ -1,4 +1,4 @@
--- How many marks are printed of each form of a tree.
+-- How many nestings are printed of each form of a tree.
 use Rattle.std.proofs.Common.{◌≡◌, ℕ, suc, ◌+◌, ◌≤◌, ◌<◌, Bool, true, false, not, ◌||◌, List, [], ◌∷◌, ◌++◌, Option, refl, ap, ◌∙◌, ◌⊎◌, arith, inl, inr, lt-ltb, ltb-true}
 use Rattle.std.specs.Bool.{if◌then◌else◌}
 use Rattle.std.specs.Prelude.{nat_lt, codes, ◌==◌}
@@ -18,19 +18,19 @@ use Rattle.lola_parser_tree.specs.declared.expressions.Expr.{Expr}
 use Rattle.lola_parser_tree.specs.declared.expressions.Expr.TheVariants as e
 use Rattle.lola_parser_tree.specs.declared.expressions.Expr.TheBlock as X
 use Rattle.lola_parser_grammars_law.specs.Syntax.{Lexeme, Of, fits, clashes, listed, same_shape}
-use Rattle.lola_parser_grammars_law.specs.Marks.{marks_in}
+use Rattle.lola_parser_grammars_law.specs.Nestings.{nestings_in}
 use Rattle.lola_parser_grammars_law.proofs.Tests.{shapes_same}
-use Rattle.lola_parser_grammars_law.proofs.Within.{marks-append, mark_one, token_none}
-use Rattle.lola_parser_grammar.specs.Grammar.{all_marks}
+use Rattle.lola_parser_grammars_law.proofs.Within.{nestings-append, nesting_one, token_none}
+use Rattle.lola_parser_grammar.specs.Grammar.{all_nestings}
 use Rattle.lola_parser_print.specs.Print as out
 use Rattle.lola_parser_print.specs.Print.{lex, lex_of, bare, print, level, heads, tightness, left_of, shape_of, bracketed, bracketed_if}
 use Rattle.lola_parser_print.proofs.Equations.{bare-Binary, bare-Prefix, bare-If, bare-Reference, bare-Defaults, default_of-Reference, heads-Defaults, level-Prefix, level-Binary, level-Defaults}
 
--- how many marks there are among the tokens
+-- how many nestings there are among the tokens
 unfoldable pub count : List Lexeme → ℕ
-count ts = marks_in all_marks ts
+count ts = nestings_in all_nestings ts
 
-pub count_is : (ts : List Lexeme) → count ts ≡ marks_in all_marks ts
+pub count_is : (ts : List Lexeme) → count ts ≡ nestings_in all_nestings ts
 unfolding count
 count_is ts = refl
 
@@ -40,7 +40,7 @@ count-nil = refl
 
 pub count-append : (u v : List Lexeme) → count (u ++ v) ≡ count u + count v
 unfolding count
-count-append u v = marks-append all_marks u v
+count-append u v = nestings-append all_nestings u v
 
 pub count-cons : (t : Lexeme) (ts : List Lexeme) → count (t ∷ ts) ≡ count (t ∷ []) + count ts
 count-cons t ts = count-append (t ∷ []) ts
@@ -49,57 +49,57 @@ shape_fits : (s : TokenShape) (w : List ℕ) → fits (Of s) (lex_of s w) ≡ tr
 unfolding fits
 shape_fits s w = shapes_same s s refl
 
-pub one_mark : (s : TokenShape) (t : Lexeme) → listed (Of s) all_marks ≡ true → fits (Of s) t ≡ true → count (t ∷ []) ≡ 1
+pub one_nesting : (s : TokenShape) (t : Lexeme) → listed (Of s) all_nestings ≡ true → fits (Of s) t ≡ true → count (t ∷ []) ≡ 1
 unfolding count
-one_mark s t h f = mark_one all_marks (Of s) t h f
+one_nesting s t h f = nesting_one all_nestings (Of s) t h f
 
-no_mark : (s : TokenShape) (w : List ℕ) → not (clashes (Of s) all_marks) ≡ true → count (lex_of s w ∷ []) ≡ 0
+no_nesting : (s : TokenShape) (w : List ℕ) → not (clashes (Of s) all_nestings) ≡ true → count (lex_of s w ∷ []) ≡ 0
 unfolding count
-no_mark s w h = token_none all_marks (Of s) (lex_of s w) h (shape_fits s w)
+no_nesting s w h = token_none all_nestings (Of s) (lex_of s w) h (shape_fits s w)
 
-pub marked : (s : TokenShape) → listed (Of s) all_marks ≡ true → (ts : List Lexeme) → count (lex s ∷ ts) ≡ suc (count ts)
-marked s h ts = omega (arith, count-cons (lex s) ts, one_mark s (lex s) h (shape_fits s (lex s).text))
+pub with_nestings : (s : TokenShape) → listed (Of s) all_nestings ≡ true → (ts : List Lexeme) → count (lex s ∷ ts) ≡ suc (count ts)
+with_nestings s h ts = omega (arith, count-cons (lex s) ts, one_nesting s (lex s) h (shape_fits s (lex s).text))
 
-free : (s : TokenShape) (w : List ℕ) → not (clashes (Of s) all_marks) ≡ true → (ts : List Lexeme) → count (lex_of s w ∷ ts) ≡ count ts
-free s w h ts = omega (arith, count-cons (lex_of s w) ts, no_mark s w h)
+free : (s : TokenShape) (w : List ℕ) → not (clashes (Of s) all_nestings) ≡ true → (ts : List Lexeme) → count (lex_of s w ∷ ts) ≡ count ts
+free s w h ts = omega (arith, count-cons (lex_of s w) ts, no_nesting s w h)
 
--- ---- which tokens are marks
+-- ---- which tokens are nestings
 
-pub is-Open : listed (Of is.Open) all_marks ≡ true
+pub is-Open : listed (Of is.Open) all_nestings ≡ true
 unfolding same_shape
 is-Open = refl
 
-pub is-Dot : listed (Of is.Dot) all_marks ≡ true
+pub is-Dot : listed (Of is.Dot) all_nestings ≡ true
 unfolding same_shape
 is-Dot = refl
 
-pub is-If : listed (Of is.If) all_marks ≡ true
+pub is-If : listed (Of is.If) all_nestings ≡ true
 unfolding same_shape
 is-If = refl
 
-pub is-Not : listed (Of is.Not) all_marks ≡ true
+pub is-Not : listed (Of is.Not) all_nestings ≡ true
 unfolding same_shape
 is-Not = refl
 
-pub is-Minus : listed (Of is.Minus) all_marks ≡ true
+pub is-Minus : listed (Of is.Minus) all_nestings ≡ true
 unfolding same_shape
 is-Minus = refl
 
-pub is-sign : (op : Binary) → listed (Of (shape_of op)) all_marks ≡ true
+pub is-operator : (op : Binary) → listed (Of (shape_of op)) all_nestings ≡ true
 unfolding same_shape
-is-sign by.Or = refl
-is-sign by.And = refl
-is-sign by.Equal = refl
-is-sign by.Unequal = refl
-is-sign by.Less = refl
-is-sign by.LessEqual = refl
-is-sign by.Greater = refl
-is-sign by.GreaterEqual = refl
-is-sign by.Add = refl
-is-sign by.Subtract = refl
-is-sign by.Multiply = refl
-is-sign by.Divide = refl
-is-sign by.Remainder = refl
+is-operator by.Or = refl
+is-operator by.And = refl
+is-operator by.Equal = refl
+is-operator by.Unequal = refl
+is-operator by.Less = refl
+is-operator by.LessEqual = refl
+is-operator by.Greater = refl
+is-operator by.GreaterEqual = refl
+is-operator by.Add = refl
+is-operator by.Subtract = refl
+is-operator by.Multiply = refl
+is-operator by.Divide = refl
+is-operator by.Remainder = refl
 
 -- ---- and which are none
 
@@ -150,7 +150,7 @@ else_free ts = free is.Else (lex is.Else).text refl ts
 -- ---- brackets
 
 pub bracketed_count : (ts : List Lexeme) → count (bracketed ts) ≡ suc (count ts)
-bracketed_count ts = omega (arith, marked is.Open is-Open (ts ++ lex is.Shut ∷ []), count-append ts (lex is.Shut ∷ []), shut_free [], count-nil)
+bracketed_count ts = omega (arith, with_nestings is.Open is-Open (ts ++ lex is.Shut ∷ []), count-append ts (lex is.Shut ∷ []), shut_free [], count-nil)
 
 pub if_most : (b : Bool) (ts : List Lexeme) → count (bracketed_if b ts) ≤ suc (count ts)
 if_most true ts = omega (arith, bracketed_count ts)
@@ -170,7 +170,7 @@ if_false false ts h = refl
 
 -- ---- at a tightness
 
--- the marks of a tree without brackets, as an operand of a tightness, as one behind a `-`, and as one that takes defaults behind it
+-- the nestings of a tree without brackets, as an operand of a tightness, as one behind a `-`, and as one that takes defaults behind it
 abbrev pub alone : Expr → ℕ
 alone x = count (bare x)
 
@@ -212,23 +212,23 @@ at_rises j k x le = elim (cases_lt (level x) j) [
 
 pub count-Binary : (op : Binary) (p : ℕ) (x y : Expr) → alone (e.Binary op p x y) ≡ at (left_of op) x + suc (at (suc (tightness op)) y)
 count-Binary op p x y =
-    ap count (bare-Binary op p x y) ∙ omega (arith, count-append (print x (left_of op)) (out.second op y), marked (shape_of op) (is-sign op) (print y (suc (tightness op))))
+    ap count (bare-Binary op p x y) ∙ omega (arith, count-append (print x (left_of op)) (out.second op y), with_nestings (shape_of op) (is-operator op) (print y (suc (tightness op))))
 
 pub at-Binary : (op : Binary) (p : ℕ) (x y : Expr) → at (tightness op) (e.Binary op p x y) ≡ at (left_of op) x + suc (at (suc (tightness op)) y)
 at-Binary op p x y = at_tight (tightness op) (e.Binary op p x y) (omega (arith, level-Binary op p x y)) ∙ count-Binary op p x y
 
 pub count-Not : (p : ℕ) (x : Expr) → alone (e.Prefix pre.Not p x) ≡ suc (at 6 x)
-count-Not p x = ap count (bare-Prefix pre.Not p x) ∙ marked is.Not is-Not (print x 6)
+count-Not p x = ap count (bare-Prefix pre.Not p x) ∙ with_nestings is.Not is-Not (print x 6)
 
 pub count-Negate : (p : ℕ) (x : Expr) → alone (e.Prefix pre.Negate p x) ≡ suc (behind_minus x)
-count-Negate p x = ap count (bare-Prefix pre.Negate p x) ∙ marked is.Minus is-Minus (out.guarded x)
+count-Negate p x = ap count (bare-Prefix pre.Negate p x) ∙ with_nestings is.Minus is-Minus (out.guarded x)
 
 pub count-If : (p : ℕ) (x y z : Expr) → alone (e.If p x y z) ≡ suc (alone x + (alone y + alone z))
 count-If p x y z =
     ap count (bare-If p x y z)
     ∙ omega (
       arith,
-      marked is.If is-If (bare x ++ (lex is.Then ∷ (bare y ++ (lex is.Else ∷ bare z)))),
+      with_nestings is.If is-If (bare x ++ (lex is.Then ∷ (bare y ++ (lex is.Else ∷ bare z)))),
       count-append (bare x) (lex is.Then ∷ (bare y ++ (lex is.Else ∷ bare z))),
       then_free (bare y ++ (lex is.Else ∷ bare z)),
       count-append (bare y) (lex is.Else ∷ bare z),
@@ -238,7 +238,7 @@ count-If p x y z =
 -- ---- calls and defaults
 
 call_count : (w : List ℕ) (ts : List Lexeme) → count (out.call w ts) ≡ suc (suc (count ts))
-call_count w ts = marked is.Dot is-Dot (out.word w ∷ bracketed ts) ∙ ap suc (name_free w (bracketed ts) ∙ bracketed_count ts)
+call_count w ts = with_nestings is.Dot is-Dot (out.word w ∷ bracketed ts) ∙ ap suc (name_free w (bracketed ts) ∙ bracketed_count ts)
 
 labelled_count : (w : List ℕ) (ts : List Lexeme) → count (out.labelled w ts) ≡ count ts
 labelled_count w ts = name_free w (lex is.Colon ∷ ts) ∙ colon_free ts
@@ -252,12 +252,12 @@ offset_count k =
       arith,
       call_count (codes "offset") (out.labelled (codes "by") (lex is.Minus ∷ out.integer k ∷ [])),
       labelled_count (codes "by") (lex is.Minus ∷ out.integer k ∷ []),
-      marked is.Minus is-Minus (out.integer k ∷ []),
+      with_nestings is.Minus is-Minus (out.integer k ∷ []),
       integer_free k [],
       count-nil,
     )
 
--- the marks that an access takes by itself
+-- the nestings that an access takes by itself
 pub last_count : (dot p : ℕ) → count (out.access (a.Offset dot 1 p)) ≡ 2
 last_count dot p = omega (arith, call_count (codes "last") [], count-nil)
 
@@ -297,7 +297,7 @@ or_call w ts = call_count w (out.labelled (codes "or") ts) ∙ ap (λ (n : ℕ).
 behind : (u ts : List Lexeme) → count (u ++ out.default_tail ts) ≡ count u + suc (suc (count ts))
 behind u ts = omega (arith, count-append u (out.default_tail ts), default_count ts)
 
--- a default takes two marks more at most
+-- a default takes two nestings more at most
 pub access_or_most : (how : Access) (ts : List Lexeme) → count (out.access_or how ts) ≤ count (out.access how) + suc (suc (count ts))
 access_or_most a.Direct ts = omega (arith, behind (out.access a.Direct) ts)
 access_or_most (a.Offset dot k p) ts = by (k == 1)
@@ -359,7 +359,7 @@ count-Defaults p x y = omega (arith, ap count (bare-Defaults p x y), by x)
 
 pub arguments_count : (x : Expr) (xs : List Expr) → count (out.argument_list (x ∷ xs)) ≡ suc (alone x + count (out.further_list xs))
 arguments_count x xs =
-    omega (arith, marked is.Open is-Open (bare x ++ (out.further_list xs ++ lex is.Shut ∷ [])), count-append (bare x) (out.further_list xs ++ lex is.Shut ∷ []), count-append (out.further_list xs) (lex is.Shut ∷ []), shut_free [], count-nil)
+    omega (arith, with_nestings is.Open is-Open (bare x ++ (out.further_list xs ++ lex is.Shut ∷ [])), count-append (bare x) (out.further_list xs ++ lex is.Shut ∷ []), count-append (out.further_list xs) (lex is.Shut ∷ []), shut_free [], count-nil)
 
 pub further_count : (x : Expr) (xs : List Expr) → count (out.further_list (x ∷ xs)) ≡ alone x + count (out.further_list xs)
 further_count x xs = comma_free (bare x ++ out.further_list xs) ∙ count-append (bare x) (out.further_list xs)
@@ -368,7 +368,7 @@ pub integer_count : (n p : ℕ) → alone (e.Literal (record { value = value.Int
 integer_count n p = integer_free n [] ∙ count-nil
 
 pub negative_count : (n p : ℕ) → alone (e.Literal (record { value = value.Integer true n; at = p })) ≡ 1
-negative_count n p = marked is.Minus is-Minus (out.integer n ∷ []) ∙ ap suc (integer_free n [] ∙ count-nil)
+negative_count n p = with_nestings is.Minus is-Minus (out.integer n ∷ []) ∙ ap suc (integer_free n [] ∙ count-nil)
 
 pub truth_count : (b : Bool) (p : ℕ) → alone (e.Literal (record { value = value.Truth b; at = p })) ≡ 0
 truth_count true p = true_free [] ∙ count-nil
@@ -382,7 +382,7 @@ text_count z p = text_free z [] ∙ count-nil
 or_second : (b c : Bool) → b ≡ false → (b || c) ≡ c
 or_second b c h = ap (λ (d : Bool). d || c) h
 
--- what has an integer at its front binds more tightly than any sign
+-- what has an integer at its front binds more tightly than any operator
 level_top : (x : Expr) → heads x ≡ true → level x ≡ 8
 level_top (e.Literal l) h = refl
 level_top (e.Reference' n b shape row how) h = refl

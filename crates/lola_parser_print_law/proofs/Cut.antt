@@ -11,7 +11,7 @@ use Rattle.lola_lexer.specs.declared.scan.thing.Thing.TheVariants as thing
 use Rattle.lola_lexer.specs.declared.token.Token.{Token}
 use Rattle.lola_lexer.specs.Spelling.{Bytes, IsToken}
 use Rattle.lola_lexer.specs.Tokens.{tokens_of, tokens_from}
-use Rattle.lola_lexer.specs.Written.{Mark, IsMark, written, marks_at, bytes_of}
+use Rattle.lola_lexer.specs.Written.{Spaced, IsSpaced, written, spaced_at, bytes_of}
 use Rattle.lola_lexer.specs.Cuts.{Covers, IsWhole, tokens_among}
 use Rattle.lola_lexer.proofs.Cutting.{given_is_cut}
 use Rattle.lola_lexer.proofs.Writing.{written_is_cut, texts_are}
@@ -22,30 +22,30 @@ use Rattle.lola_parser_print_law.specs.Places.{AreLexed, AreSame, CutIsLexed, Pr
 
 -- ---- what is printed
 
-abbrev mark_of : Lexeme → Mark
-mark_of t = record { shape = t.shape; text = t.text; blank = 32 }
+abbrev nesting_of : Lexeme → Spaced
+nesting_of t = record { shape = t.shape; text = t.text; blank = 32 }
 
-printed_is : (ts : List Lexeme) → spelled_out ts ≡ written (map mark_of ts)
+printed_is : (ts : List Lexeme) → spelled_out ts ≡ written (map nesting_of ts)
 printed_is [] = refl
 printed_is (t ∷ ts) = ap (λ l. t.text ++ (32 ∷ l)) (printed_is ts)
 
-are_marks : (ts : List Lexeme) → AreLexed ts → All IsMark (map mark_of ts)
-are_marks [] h = All-nil IsMark
-are_marks (t ∷ ts) h = All-cons IsMark (mark_of t) (map mark_of ts) (record { token = h.0; blank = refl }) (are_marks ts h.1)
+are_nestings : (ts : List Lexeme) → AreLexed ts → All IsSpaced (map nesting_of ts)
+are_nestings [] h = All-nil IsSpaced
+are_nestings (t ∷ ts) h = All-cons IsSpaced (nesting_of t) (map nesting_of ts) (record { token = h.0; blank = refl }) (are_nestings ts h.1)
 
-same_from : (z : Bytes) (ts : List Lexeme) (at : ℕ) → map (bytes_of z) (marks_at at (map mark_of ts)) ≡ map (λ m. m.text) (map mark_of ts)
-    → AreSame ts (lexemes z (marks_at at (map mark_of ts)))
+same_from : (z : Bytes) (ts : List Lexeme) (at : ℕ) → map (bytes_of z) (spaced_at at (map nesting_of ts)) ≡ map (λ m. m.text) (map nesting_of ts)
+    → AreSame ts (lexemes z (spaced_at at (map nesting_of ts)))
 same_from z [] at h = tt
 same_from z (t ∷ ts) at h = (record { shape = refl; text = cc }, same_from z ts (at + length t.text + 1) cc)
 
 pub printed_cut : PrintedIsCut
 printed_cut ts h short =
-    let ms = map mark_of ts in
+    let ms = map nesting_of ts in
     let e = printed_is ts in
-    let cut : tokens_of (written ms) ≡ Ok (marks_at 0 ms) = written_is_cut ms (are_marks ts h) (omega (arith, short, ap length e)) in (
-      marks_at 0 ms,
+    let cut : tokens_of (written ms) ≡ Ok (spaced_at 0 ms) = written_is_cut ms (are_nestings ts h) (omega (arith, short, ap length e)) in (
+      spaced_at 0 ms,
       ap tokens_of e ∙ cut,
-      subst (λ (z : List ℕ). AreSame ts (lexemes z (marks_at 0 ms))) (sym e) (same_from (written ms) ts 0 (texts_are ms)),
+      subst (λ (z : List ℕ). AreSame ts (lexemes z (spaced_at 0 ms))) (sym e) (same_from (written ms) ts 0 (texts_are ms)),
     )
 
 -- ---- what is cut

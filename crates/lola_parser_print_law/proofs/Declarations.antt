@@ -16,7 +16,7 @@ use Rattle.lola_parser_tree.specs.declared.declarations.Declaration.{Declaration
 use Rattle.lola_parser_tree.specs.declared.declarations.Declaration.TheVariants as d
 use Rattle.lola_parser_grammars_law.specs.Syntax.{Then, Maybe}
 use Rattle.lola_parser_grammar.specs.Grammar as g
-use Rattle.lola_parser_grammar.specs.Grammar.{token, mark, word, ◌*>◌, ◌<*◌, ◌|>◌, all_marks}
+use Rattle.lola_parser_grammar.specs.Grammar.{token, nesting, word, ◌*>◌, ◌<*◌, ◌|>◌, all_nestings}
 use Rattle.lola_parser_print.specs.Print as out
 use Rattle.lola_parser_print.specs.Print.{lex, bare, print_formula}
 use Rattle.lola_parser_print_law.specs.Erased as erased

@@ -14,9 +14,9 @@ use Rattle.lola_parser_tree.specs.declared.expressions.Expr.{Expr}
 use Rattle.lola_parser_tree.specs.declared.expressions.Expr.TheVariants as e
 use Rattle.lola_parser_grammars_law.specs.Syntax.{Syntax, Then, Map, Either, Maybe}
 use Rattle.lola_parser_grammar.specs.Grammar as g
-use Rattle.lola_parser_grammar.specs.Grammar.{token, mark, word, ◌*>◌, ◌<*◌, ◌|>◌, ◌>>◌, Sign, Joined}
+use Rattle.lola_parser_grammar.specs.Grammar.{token, nesting, word, ◌*>◌, ◌<*◌, ◌|>◌, ◌>>◌, Operator, Joined}
 use Rattle.lola_parser_print_law.specs.Erased as erased
-use Rattle.lola_parser_print_law.proofs.Carried.{Carries, Any, Both, Opt, Each, Fun, Some_each, then_carried, map_carried, either_carried, maybe_carried, past_carried, known_carried, weaker, onto, behind, token_any, mark_any, word_any, behind_token, behind_mark, behind_word, before_token, listed_carried, folded_carried}
+use Rattle.lola_parser_print_law.proofs.Carried.{Carries, Any, Both, Opt, Each, Fun, Some_each, then_carried, map_carried, either_carried, maybe_carried, past_carried, known_carried, weaker, onto, behind, token_any, nesting_any, word_any, behind_token, behind_nesting, behind_word, before_token, listed_carried, folded_carried}
 use Rattle.lola_parser_print_law.proofs.Leaves.{IntegerIs, integer_is, SameName, erased_name, name_carried, SameInteger, integer_carried, SameQuantity, quantity_carried, SameLiteral, same_number, same_truth, word_literal_carried}
 use Rattle.lola_parser_print_law.proofs.Forms.{direct_is, offset_is, hold_is, get_is, window_is, SameAccess, SameExpr, same_literal, same_binary, same_defaults, same_prefix, same_if, same_reference}
 
@@ -34,9 +34,9 @@ module _ (W : Type 0) where
   abbrev SA : Access → Access → Type 0
   SA = SameAccess W
 
-  -- a sign, whatever its place is
-  abbrev SameSign : Sign → Sign → Type 0
-  SameSign s t = s.0 ≡ t.0
+  -- an operator, whatever its place is
+  abbrev SameOperator : Operator → Operator → Type 0
+  SameOperator s t = s.0 ≡ t.0
 
   abbrev SameReading : g.Reading → g.Reading → Type 0
   SameReading = Both SA (Opt RE)
@@ -74,8 +74,8 @@ module _ (W : Type 0) where
   unfolding g.offset
   offset_carried =
       map_carried W (SameInteger W) SameDotted (λ p dot. (a.Offset dot p.0 p.1, None)) _ (λ x y r m n t. (same_offset m n x.0 y.0 x.1 y.1 r, tt))
-      (behind_word W (SameInteger W) (codes "offset") _ (behind_mark W (SameInteger W) is.Open _ (behind_word W (SameInteger W) (codes "by") _
-      (behind_token W (SameInteger W) is.Colon _ (behind_mark W (SameInteger W) is.Minus _ (before_token W (SameInteger W) is.Shut g.integer (integer_carried W)))))))
+      (behind_word W (SameInteger W) (codes "offset") _ (behind_nesting W (SameInteger W) is.Open _ (behind_word W (SameInteger W) (codes "by") _
+      (behind_token W (SameInteger W) is.Colon _ (behind_nesting W (SameInteger W) is.Minus _ (before_token W (SameInteger W) is.Shut g.integer (integer_carried W)))))))
 
   over_carried : Carries W Same g.over
   unfolding g.over
@@ -91,7 +91,7 @@ module _ (W : Type 0) where
       let R = Both Same QN in
       map_carried W R SameDotted (λ p dot. (a.Window dot p.0 p.1.0 p.1.1, None)) _
       (λ x y r m n t. (same_window m n x.0 y.0 x.1.0 y.1.0 x.1.1 y.1.1 r.0 r.1.0 r.1.1, tt))
-      (behind_word W R (codes "aggregate") _ (behind_mark W R is.Open _ (before_token W R is.Shut _
+      (behind_word W R (codes "aggregate") _ (behind_nesting W R is.Open _ (before_token W R is.Shut _
       (then_carried W Same QN g.over _ over_carried
       (then_carried W (SameQuantity W) (SameName W) _ _ (behind_token W (SameQuantity W) is.Colon g.quantity (quantity_carried W))
       (behind_token W (SameName W) is.Comma _ (behind_word W (SameName W) (codes "using") _ (behind_token W (SameName W) is.Colon g.name (name_carried W)))))))))
@@ -129,13 +129,13 @@ module _ (W : Type 0) where
     arguments_carried : Carries W SameArguments (g.arguments E O)
     unfolding g.arguments
     arguments_carried =
-        then_carried W Any (Each RE) (mark is.Open) (g.listed E <* token is.Shut) (mark_any W is.Open)
+        then_carried W Any (Each RE) (nesting is.Open) (g.listed E <* token is.Shut) (nesting_any W is.Open)
         (before_token W (Each RE) is.Shut (g.listed E) (weaker W (Some_each W RE) (Each RE) (g.listed E) some_each (listed_carried W RE E hE)))
 
     stand_in_carried : Carries W (Opt RE) (g.stand_in E O)
     unfolding g.stand_in
     stand_in_carried =
-        behind_mark W (Opt RE) is.Open _ (before_token W (Opt RE) is.Shut _ (maybe_carried W RE _ (behind_word W RE (codes "or") _ (behind_token W RE is.Colon E hE))))
+        behind_nesting W (Opt RE) is.Open _ (before_token W (Opt RE) is.Shut _ (maybe_carried W RE _ (behind_word W RE (codes "or") _ (behind_token W RE is.Colon E hE))))
 
     hold_carried : Carries W SameDotted (g.hold E O)
     unfolding g.hold
@@ -159,7 +159,7 @@ module _ (W : Type 0) where
     default_carried : Carries W RE (g.default E O)
     unfolding g.default
     default_carried =
-        behind_word W RE (codes "defaults") _ (behind_mark W RE is.Open _ (behind_word W RE (codes "to") _ (behind_token W RE is.Colon _ (before_token W RE is.Shut E hE))))
+        behind_word W RE (codes "defaults") _ (behind_nesting W RE is.Open _ (behind_word W RE (codes "to") _ (behind_token W RE is.Colon _ (before_token W RE is.Shut E hE))))
 
     reading_carried : Carries W SameDotted (g.reading E O)
     unfolding g.reading
@@ -171,7 +171,7 @@ module _ (W : Type 0) where
 
     dotted_default_carried : Carries W (Both Any RE) (g.dotted_default E O)
     unfolding g.dotted_default
-    dotted_default_carried = then_carried W Any RE (mark is.Dot) (g.default E O) (mark_any W is.Dot) default_carried
+    dotted_default_carried = then_carried W Any RE (nesting is.Dot) (g.default E O) (nesting_any W is.Dot) default_carried
 
     defaults_carried : Carries W (Fun RE RE) (g.defaults E O)
     unfolding g.defaults
@@ -181,9 +181,9 @@ module _ (W : Type 0) where
     dotted_carried : Carries W SameSuffix (g.dotted E O)
     unfolding g.dotted
     dotted_carried =
-        map_carried W (Both Any SameDotted) SameSuffix (λ p. g.read_by p.0 (p.1 p.0)) (Then (mark is.Dot) (g.reading E O))
+        map_carried W (Both Any SameDotted) SameSuffix (λ p. g.read_by p.0 (p.1 p.0)) (Then (nesting is.Dot) (g.reading E O))
         (λ x y r. same_read_by x.0 y.0 (x.1 x.0) (y.1 y.0) (r.1 x.0 y.0 tt))
-        (then_carried W Any SameDotted (mark is.Dot) (g.reading E O) (mark_any W is.Dot) reading_carried)
+        (then_carried W Any SameDotted (nesting is.Dot) (g.reading E O) (nesting_any W is.Dot) reading_carried)
 
     suffix_carried : Carries W SameSuffix (g.suffix E O)
     unfolding g.suffix
@@ -215,7 +215,7 @@ module _ (W : Type 0) where
 
     bracketed_carried : Carries W RE (g.bracketed E O)
     unfolding g.bracketed
-    bracketed_carried = onto W RE (mark is.Open *> E <* token is.Shut) (g.defaults E O) (behind_mark W RE is.Open _ (before_token W RE is.Shut E hE)) defaults_carried
+    bracketed_carried = onto W RE (nesting is.Open *> E <* token is.Shut) (g.defaults E O) (behind_nesting W RE is.Open _ (before_token W RE is.Shut E hE)) defaults_carried
 
     operand_carried : Carries W RE (g.operand E O)
     unfolding g.operand
@@ -224,8 +224,8 @@ module _ (W : Type 0) where
     negation_carried : Carries W RE (g.negation E O)
     unfolding g.negation
     negation_carried =
-        map_carried W (Both Any RE) RE (λ p. e.Prefix pre.Not p.0 p.1) (Then (mark is.Not) (g.operand E O)) (λ x y r. same_prefix W pre.Not x.0 y.0 x.1 y.1 r.1)
-        (then_carried W Any RE (mark is.Not) (g.operand E O) (mark_any W is.Not) operand_carried)
+        map_carried W (Both Any RE) RE (λ p. e.Prefix pre.Not p.0 p.1) (Then (nesting is.Not) (g.operand E O)) (λ x y r. same_prefix W pre.Not x.0 y.0 x.1 y.1 r.1)
+        (then_carried W Any RE (nesting is.Not) (g.operand E O) (nesting_any W is.Not) operand_carried)
 
     negative_carried : Carries W (Fun Any RE) (g.negative E O)
     unfolding g.negative
@@ -239,8 +239,8 @@ module _ (W : Type 0) where
     unfolding g.minus
     minus_carried =
         let S = Either (g.negative E O) (Map (λ x at. e.Prefix pre.Negate at x) O) in
-        map_carried W (Both Any (Fun Any RE)) RE (λ p. p.1 p.0) (Then (mark is.Minus) S) (λ x y r. r.1 x.0 y.0 tt)
-        (then_carried W Any (Fun Any RE) (mark is.Minus) S (mark_any W is.Minus)
+        map_carried W (Both Any (Fun Any RE)) RE (λ p. p.1 p.0) (Then (nesting is.Minus) S) (λ x y r. r.1 x.0 y.0 tt)
+        (then_carried W Any (Fun Any RE) (nesting is.Minus) S (nesting_any W is.Minus)
         (either_carried W (Fun Any RE) (g.negative E O) (Map (λ x at. e.Prefix pre.Negate at x) O) negative_carried
         (map_carried W RE (Fun Any RE) (λ x at. e.Prefix pre.Negate at x) O (λ x y r m n t. same_prefix W pre.Negate m n x y r) hO)))
 
@@ -258,65 +258,65 @@ module _ (W : Type 0) where
     unfolding g.unary
     unary_carried = either_carried W RE (g.number E O) (g.other_with E O) number_carried other_with_carried
 
-    -- ---- signs
+    -- ---- operators
 
-    sign_carried : (s : TokenShape) (op : Binary) → Carries W SameSign (g.sign s op)
-    unfolding g.sign
-    sign_carried s op = map_carried W Any SameSign (λ at. (op, at)) (mark s) (λ x y r. refl) (mark_any W s)
+    operator_carried : (s : TokenShape) (op : Binary) → Carries W SameOperator (g.operator s op)
+    unfolding g.operator
+    operator_carried s op = map_carried W Any SameOperator (λ at. (op, at)) (nesting s) (λ x y r. refl) (nesting_any W s)
 
-    same_join : (x y : Expr) → RE x y → (r s : Joined) → Both SameSign RE r s → RE (g.join x r) (g.join y s)
+    same_join : (x y : Expr) → RE x y → (r s : Joined) → Both SameOperator RE r s → RE (g.join x r) (g.join y s)
     same_join x y h r s k = same_binary W r.0.0 s.0.0 r.0.1 s.0.1 x y r.1 s.1 k.0 h k.1
 
-    joined_carried : (signs : Syntax Sign) (operand : Syntax Expr) → Carries W SameSign signs → Carries W RE operand → Carries W (Fun RE RE) (g.joined signs operand)
-    joined_carried signs operand h k =
-        folded_carried W RE (Both SameSign RE) g.join (Then signs operand) (λ x y r b c q. same_join x y r b c q) (then_carried W SameSign RE signs operand h k)
+    joined_carried : (operators : Syntax Operator) (operand : Syntax Expr) → Carries W SameOperator operators → Carries W RE operand → Carries W (Fun RE RE) (g.joined operators operand)
+    joined_carried operators operand h k =
+        folded_carried W RE (Both SameOperator RE) g.join (Then operators operand) (λ x y r b c q. same_join x y r b c q) (then_carried W SameOperator RE operators operand h k)
 
-    same_compared : (r s : Option Joined) → Opt (Both SameSign RE) r s → Fun RE RE (g.compared r) (g.compared s)
+    same_compared : (r s : Option Joined) → Opt (Both SameOperator RE) r s → Fun RE RE (g.compared r) (g.compared s)
     same_compared None None k x y h = h
     same_compared None (Some s) k x y h = absurd k
     same_compared (Some r) None k x y h = absurd k
     same_compared (Some r) (Some s) k x y h = same_join x y h r s k
 
-    joined_once_carried : (signs : Syntax Sign) (operand : Syntax Expr) → Carries W SameSign signs → Carries W RE operand
-        → Carries W (Fun RE RE) (g.joined_once signs operand)
-    joined_once_carried signs operand h k =
-        map_carried W (Opt (Both SameSign RE)) (Fun RE RE) g.compared (Maybe (Then signs operand)) (λ x y r. same_compared x y r)
-        (maybe_carried W (Both SameSign RE) (Then signs operand) (then_carried W SameSign RE signs operand h k))
+    joined_once_carried : (operators : Syntax Operator) (operand : Syntax Expr) → Carries W SameOperator operators → Carries W RE operand
+        → Carries W (Fun RE RE) (g.joined_once operators operand)
+    joined_once_carried operators operand h k =
+        map_carried W (Opt (Both SameOperator RE)) (Fun RE RE) g.compared (Maybe (Then operators operand)) (λ x y r. same_compared x y r)
+        (maybe_carried W (Both SameOperator RE) (Then operators operand) (then_carried W SameOperator RE operators operand h k))
 
-    product_signs_carried : Carries W SameSign g.product_signs
-    unfolding g.product_signs
-    product_signs_carried =
-        either_carried W SameSign (g.sign is.Star by.Multiply) _ (sign_carried is.Star by.Multiply)
-        (either_carried W SameSign (g.sign is.Slash by.Divide) (g.sign is.Percent by.Remainder) (sign_carried is.Slash by.Divide) (sign_carried is.Percent by.Remainder))
+    product_operators_carried : Carries W SameOperator g.product_operators
+    unfolding g.product_operators
+    product_operators_carried =
+        either_carried W SameOperator (g.operator is.Star by.Multiply) _ (operator_carried is.Star by.Multiply)
+        (either_carried W SameOperator (g.operator is.Slash by.Divide) (g.operator is.Percent by.Remainder) (operator_carried is.Slash by.Divide) (operator_carried is.Percent by.Remainder))
 
-    sum_signs_carried : Carries W SameSign g.sum_signs
-    unfolding g.sum_signs
-    sum_signs_carried =
-        either_carried W SameSign (g.sign is.Plus by.Add) (g.sign is.Minus by.Subtract) (sign_carried is.Plus by.Add) (sign_carried is.Minus by.Subtract)
+    sum_operators_carried : Carries W SameOperator g.sum_operators
+    unfolding g.sum_operators
+    sum_operators_carried =
+        either_carried W SameOperator (g.operator is.Plus by.Add) (g.operator is.Minus by.Subtract) (operator_carried is.Plus by.Add) (operator_carried is.Minus by.Subtract)
 
-    comparison_signs_carried : Carries W SameSign g.comparison_signs
-    unfolding g.comparison_signs
-    comparison_signs_carried =
-        either_carried W SameSign (g.sign is.Equal by.Equal) _ (sign_carried is.Equal by.Equal)
-        (either_carried W SameSign (g.sign is.Unequal by.Unequal) _ (sign_carried is.Unequal by.Unequal)
-        (either_carried W SameSign (g.sign is.Less by.Less) _ (sign_carried is.Less by.Less)
-        (either_carried W SameSign (g.sign is.LessEqual by.LessEqual) _ (sign_carried is.LessEqual by.LessEqual)
-        (either_carried W SameSign (g.sign is.Greater by.Greater) (g.sign is.GreaterEqual by.GreaterEqual) (sign_carried is.Greater by.Greater)
-        (sign_carried is.GreaterEqual by.GreaterEqual)))))
+    comparison_operators_carried : Carries W SameOperator g.comparison_operators
+    unfolding g.comparison_operators
+    comparison_operators_carried =
+        either_carried W SameOperator (g.operator is.Equal by.Equal) _ (operator_carried is.Equal by.Equal)
+        (either_carried W SameOperator (g.operator is.Unequal by.Unequal) _ (operator_carried is.Unequal by.Unequal)
+        (either_carried W SameOperator (g.operator is.Less by.Less) _ (operator_carried is.Less by.Less)
+        (either_carried W SameOperator (g.operator is.LessEqual by.LessEqual) _ (operator_carried is.LessEqual by.LessEqual)
+        (either_carried W SameOperator (g.operator is.Greater by.Greater) (g.operator is.GreaterEqual by.GreaterEqual) (operator_carried is.Greater by.Greater)
+        (operator_carried is.GreaterEqual by.GreaterEqual)))))
 
-    and_signs_carried : Carries W SameSign g.and_signs
-    unfolding g.and_signs
-    and_signs_carried = sign_carried is.And by.And
+    and_operators_carried : Carries W SameOperator g.and_operators
+    unfolding g.and_operators
+    and_operators_carried = operator_carried is.And by.And
 
-    or_signs_carried : Carries W SameSign g.or_signs
-    unfolding g.or_signs
-    or_signs_carried = sign_carried is.Or by.Or
+    or_operators_carried : Carries W SameOperator g.or_operators
+    unfolding g.or_operators
+    or_operators_carried = operator_carried is.Or by.Or
 
     -- ---- what follows an operand
 
     products_carried : Carries W (Fun RE RE) (g.products E O)
     unfolding g.products
-    products_carried = joined_carried g.product_signs (g.unary E O) product_signs_carried unary_carried
+    products_carried = joined_carried g.product_operators (g.unary E O) product_operators_carried unary_carried
 
     product_carried : Carries W RE (g.product E O)
     unfolding g.product
@@ -324,7 +324,7 @@ module _ (W : Type 0) where
 
     sums_carried : Carries W (Fun RE RE) (g.sums E O)
     unfolding g.sums
-    sums_carried = behind W RE (g.products E O) _ products_carried (joined_carried g.sum_signs (g.product E O) sum_signs_carried product_carried)
+    sums_carried = behind W RE (g.products E O) _ products_carried (joined_carried g.sum_operators (g.product E O) sum_operators_carried product_carried)
 
     sum_carried : Carries W RE (g.sum E O)
     unfolding g.sum
@@ -332,7 +332,7 @@ module _ (W : Type 0) where
 
     comparisons_carried : Carries W (Fun RE RE) (g.comparisons E O)
     unfolding g.comparisons
-    comparisons_carried = behind W RE (g.sums E O) _ sums_carried (joined_once_carried g.comparison_signs (g.sum E O) comparison_signs_carried sum_carried)
+    comparisons_carried = behind W RE (g.sums E O) _ sums_carried (joined_once_carried g.comparison_operators (g.sum E O) comparison_operators_carried sum_carried)
 
     comparison_carried : Carries W RE (g.comparison E O)
     unfolding g.comparison
@@ -340,7 +340,7 @@ module _ (W : Type 0) where
 
     conjunctions_carried : Carries W (Fun RE RE) (g.conjunctions E O)
     unfolding g.conjunctions
-    conjunctions_carried = behind W RE (g.comparisons E O) _ comparisons_carried (joined_carried g.and_signs (g.comparison E O) and_signs_carried comparison_carried)
+    conjunctions_carried = behind W RE (g.comparisons E O) _ comparisons_carried (joined_carried g.and_operators (g.comparison E O) and_operators_carried comparison_carried)
 
     conjunction_carried : Carries W RE (g.conjunction E O)
     unfolding g.conjunction
@@ -348,14 +348,14 @@ module _ (W : Type 0) where
 
     disjunctions_carried : Carries W (Fun RE RE) (g.disjunctions E O)
     unfolding g.disjunctions
-    disjunctions_carried = behind W RE (g.conjunctions E O) _ conjunctions_carried (joined_carried g.or_signs (g.conjunction E O) or_signs_carried conjunction_carried)
+    disjunctions_carried = behind W RE (g.conjunctions E O) _ conjunctions_carried (joined_carried g.or_operators (g.conjunction E O) or_operators_carried conjunction_carried)
 
     conditional_carried : Carries W RE (g.conditional E O)
     unfolding g.conditional
     conditional_carried =
         map_carried W (Both Any (Both RE (Both RE RE))) RE (λ p. e.If p.0 p.1.0 p.1.1.0 p.1.1.1) _
         (λ x y r. same_if W x.0 y.0 x.1.0 y.1.0 x.1.1.0 y.1.1.0 x.1.1.1 y.1.1.1 r.1.0 r.1.1.0 r.1.1.1)
-        (then_carried W Any (Both RE (Both RE RE)) (mark is.If) _ (mark_any W is.If)
+        (then_carried W Any (Both RE (Both RE RE)) (nesting is.If) _ (nesting_any W is.If)
         (then_carried W RE (Both RE RE) E _ hE (then_carried W RE RE (token is.Then *> E) (token is.Else *> E) (behind_token W RE is.Then E hE) (behind_token W RE is.Else E hE))))
 
     expr_with_carried : Carries W RE (g.expr_with E O)

@@ -1,4 +1,4 @@
--- What expressions cost: no spelling has fewer marks than the printed one.
+-- What expressions cost: no spelling has fewer nestings than the printed one.
 use Rattle.std.proofs.Common.{◌≡◌, ℕ, zero, suc, ◌+◌, ◌≤◌, true, false, List, Option, Some, None, refl, ap, ◌∙◌, arith, inl, inr}
 use Rattle.lola_lexer.specs.declared.shape.TokenShape.TheVariants as is
 use Rattle.lola_parser_tree.specs.declared.literals.Literal.{Literal}
@@ -8,78 +8,78 @@ use Rattle.lola_parser_tree.specs.declared.expressions.Binary.TheVariants as by
 use Rattle.lola_parser_tree.specs.declared.expressions.Expr.{Expr}
 use Rattle.lola_parser_tree.specs.declared.expressions.Expr.TheVariants as e
 use Rattle.lola_parser_grammars_law.specs.Syntax.{Lexeme, Syntax, Then, Map, Either, Perhaps, Spells}
-use Rattle.lola_parser_grammars_law.specs.Marks.{marks_in}
+use Rattle.lola_parser_grammars_law.specs.Nestings.{nestings_in}
 use Rattle.lola_parser_grammar.specs.Grammar as g
-use Rattle.lola_parser_grammar.specs.Grammar.{all_marks, token, mark, whole_number, truth_at, join, compared, folded, expr_in, other_in, expr_begins, expr_goes_on, other_begins, other_goes_on, ◌*>◌, ◌<*◌, ◌|>◌, ◌>>◌}
+use Rattle.lola_parser_grammar.specs.Grammar.{all_nestings, token, nesting, whole_number, truth_at, join, compared, folded, expr_in, other_in, expr_begins, expr_goes_on, other_begins, other_goes_on, ◌*>◌, ◌<*◌, ◌|>◌, ◌>>◌}
 use Rattle.lola_parser_print.specs.Print.{bare, tightness, left_of, shape_of}
-use Rattle.lola_parser_print_law.proofs.Counts.{count, count-append, alone, at, behind_minus, of_other, at_tight, at_least, at_most, at_rises, minus_least, operand_least, no_heads_other, at-Binary, count-Not, count-Negate, count-If, negative_count, truth_count, minus_Prefix, is-If, is-Not, is-Minus, is-sign}
-use Rattle.lola_parser_print_law.proofs.Costs.{Costs, Adds, marked, past, known, both, mapped, either, behind, weaker, followed, chained, from_more, joined}
+use Rattle.lola_parser_print_law.proofs.Counts.{count, count-append, alone, at, behind_minus, of_other, at_tight, at_least, at_most, at_rises, minus_least, operand_least, no_heads_other, at-Binary, count-Not, count-Negate, count-If, negative_count, truth_count, minus_Prefix, is-If, is-Not, is-Minus, is-operator}
+use Rattle.lola_parser_print_law.proofs.Costs.{Costs, Adds, with_nestings, past, known, both, mapped, either, behind, weaker, followed, chained, from_more, joined}
 use Rattle.lola_parser_print_law.proofs.FewestOperands.{number_costs, worded_costs, bracketed_costs, named_costs, defaults_add, defaults_other}
 
--- ---- signs between operands
+-- ---- operators between operands
 
--- a sign is a mark, and asks its operands to bind so tightly
-abbrev pub Signs : Syntax g.Sign → ℕ → ℕ → Type 0
-Signs s l t = (ts : List Lexeme) (x : g.Sign) → Spells s ts x → (1 ≤ count ts) × (left_of x.0 ≡ l) × (tightness x.0 ≡ t)
+-- an operator is a nesting, and asks its operands to bind so tightly
+abbrev pub Operators : Syntax g.Operator → ℕ → ℕ → Type 0
+Operators s l t = (ts : List Lexeme) (x : g.Operator) → Spells s ts x → (1 ≤ count ts) × (left_of x.0 ≡ l) × (tightness x.0 ≡ t)
 
-one_sign : (op : Binary) → Signs (g.sign (shape_of op) op) (left_of op) (tightness op)
-unfolding Spells g.sign
-one_sign op ts x h = (marked (shape_of op) (is-sign op) ts h.0 h.2, ap (λ (s : g.Sign). left_of s.0) h.1, ap (λ (s : g.Sign). tightness s.0) h.1)
+one_operator : (op : Binary) → Operators (g.operator (shape_of op) op) (left_of op) (tightness op)
+unfolding Spells g.operator
+one_operator op ts x h = (with_nestings (shape_of op) (is-operator op) ts h.0 h.2, ap (λ (s : g.Operator). left_of s.0) h.1, ap (λ (s : g.Operator). tightness s.0) h.1)
 
-either_sign : (a b : Syntax g.Sign) (l t : ℕ) → Signs a l t → Signs b l t → Signs (Either a b) l t
+either_operator : (a b : Syntax g.Operator) (l t : ℕ) → Operators a l t → Operators b l t → Operators (Either a b) l t
 unfolding Spells
-either_sign a b l t p q ts x (inl h) = p ts x h
-either_sign a b l t p q ts x (inr h) = q ts x h
+either_operator a b l t p q ts x (inl h) = p ts x h
+either_operator a b l t p q ts x (inr h) = q ts x h
 
-product_signs : Signs g.product_signs 5 5
-unfolding g.product_signs
-product_signs = either_sign _ _ 5 5 (one_sign by.Multiply) (either_sign _ _ 5 5 (one_sign by.Divide) (one_sign by.Remainder))
+product_operators : Operators g.product_operators 5 5
+unfolding g.product_operators
+product_operators = either_operator _ _ 5 5 (one_operator by.Multiply) (either_operator _ _ 5 5 (one_operator by.Divide) (one_operator by.Remainder))
 
-sum_signs : Signs g.sum_signs 4 4
-unfolding g.sum_signs
-sum_signs = either_sign _ _ 4 4 (one_sign by.Add) (one_sign by.Subtract)
+sum_operators : Operators g.sum_operators 4 4
+unfolding g.sum_operators
+sum_operators = either_operator _ _ 4 4 (one_operator by.Add) (one_operator by.Subtract)
 
-comparison_signs : Signs g.comparison_signs 4 3
-unfolding g.comparison_signs
-comparison_signs =
-    either_sign _ _ 4 3 (one_sign by.Equal)
-    (either_sign _ _ 4 3 (one_sign by.Unequal)
-    (either_sign _ _ 4 3 (one_sign by.Less)
-    (either_sign _ _ 4 3 (one_sign by.LessEqual) (either_sign _ _ 4 3 (one_sign by.Greater) (one_sign by.GreaterEqual)))))
+comparison_operators : Operators g.comparison_operators 4 3
+unfolding g.comparison_operators
+comparison_operators =
+    either_operator _ _ 4 3 (one_operator by.Equal)
+    (either_operator _ _ 4 3 (one_operator by.Unequal)
+    (either_operator _ _ 4 3 (one_operator by.Less)
+    (either_operator _ _ 4 3 (one_operator by.LessEqual) (either_operator _ _ 4 3 (one_operator by.Greater) (one_operator by.GreaterEqual)))))
 
-and_signs : Signs g.and_signs 2 2
-unfolding g.and_signs
-and_signs = one_sign by.And
+and_operators : Operators g.and_operators 2 2
+unfolding g.and_operators
+and_operators = one_operator by.And
 
-or_signs : Signs g.or_signs 1 1
-unfolding g.or_signs
-or_signs = one_sign by.Or
+or_operators : Operators g.or_operators 1 1
+unfolding g.or_operators
+or_operators = one_operator by.Or
 
--- a sign with its right operand, behind a left one
-sign_costs : (signs : Syntax g.Sign) (operand : Syntax Expr) (l t : ℕ) → Signs signs l t → Costs operand (at (suc t))
-    → (ts : List Lexeme) (r : g.Joined) → Spells (Then signs operand) ts r → (left : Expr) → at t (join left r) ≤ at l left + count ts
+-- an operator with its right operand, behind a left one
+operator_costs : (operators : Syntax g.Operator) (operand : Syntax Expr) (l t : ℕ) → Operators operators l t → Costs operand (at (suc t))
+    → (ts : List Lexeme) (r : g.Joined) → Spells (Then operators operand) ts r → (left : Expr) → at t (join left r) ≤ at l left + count ts
 unfolding Spells
-sign_costs signs operand l t p q ts r h left =
+operator_costs operators operand l t p q ts r h left =
     let s = p h.0 r.0 h.3 in
     let left_same : at (left_of r.0.0) left ≡ at l left = ap (λ (k : ℕ). at k left) s.1 in
     let right_same : at (suc (tightness r.0.0)) r.1 ≡ at (suc t) r.1 = ap (λ (k : ℕ). at (suc k) r.1) s.2 in
     let whole_same : at (tightness r.0.0) (join left r) ≡ at t (join left r) = ap (λ (k : ℕ). at k (join left r)) s.2 in
     omega (arith, at-Binary r.0.0 r.0.1 left r.1, left_same, right_same, whole_same, s.0, q h.1 r.1 h.4, ap count h.2, count-append h.0 h.1)
 
-signs_add : (signs : Syntax g.Sign) (operand : Syntax Expr) (t : ℕ) → Signs signs t t → Costs operand (at (suc t)) → Adds (g.joined signs operand) (at t) (at t)
-signs_add signs operand t p q = joined join (Then signs operand) (at t) (sign_costs signs operand t t p q)
+operators_add : (operators : Syntax g.Operator) (operand : Syntax Expr) (t : ℕ) → Operators operators t t → Costs operand (at (suc t)) → Adds (g.joined operators operand) (at t) (at t)
+operators_add operators operand t p q = joined join (Then operators operand) (at t) (operator_costs operators operand t t p q)
 
--- a sign with its right operand, or none
-once_add : (signs : Syntax g.Sign) (operand : Syntax Expr) → Signs signs 4 3 → Costs operand (at 4) → Adds (g.joined_once signs operand) (at 4) (at 3)
+-- an operator with its right operand, or none
+once_add : (operators : Syntax g.Operator) (operand : Syntax Expr) → Operators operators 4 3 → Costs operand (at 4) → Adds (g.joined_once operators operand) (at 4) (at 3)
 unfolding Spells
-once_add signs operand p q ts f h left = omega (arith, ap (λ (k : Expr → Expr). at 3 (k left)) h.1, by h.0 ts h.2)
+once_add operators operand p q ts f h left = omega (arith, ap (λ (k : Expr → Expr). at 3 (k left)) h.1, by h.0 ts h.2)
   where
-    by : (o : Option g.Joined) (u : List Lexeme) → Perhaps (Spells (Then signs operand)) u o → at 3 (compared o left) ≤ at 4 left + count u
+    by : (o : Option g.Joined) (u : List Lexeme) → Perhaps (Spells (Then operators operand)) u o → at 3 (compared o left) ≤ at 4 left + count u
     by None u k = omega (arith, at_rises 3 4 left (omega arith))
-    by (Some r) u k = sign_costs signs operand 4 3 p q u r k left
+    by (Some r) u k = operator_costs operators operand 4 3 p q u r k left
 
 module _ (E O : Syntax Expr) (inner : Costs E alone) (inner_other : Costs O behind_minus) where
-  -- ---- signs before operands
+  -- ---- operators before operands
 
   operand_costs : Costs (g.operand E O) (at 6)
   unfolding g.operand
@@ -89,9 +89,9 @@ module _ (E O : Syntax Expr) (inner : Costs E alone) (inner_other : Costs O behi
   negation_costs : Costs (g.negation E O) behind_minus
   unfolding g.negation
   negation_costs =
-      mapped (λ p. e.Prefix pre.Not p.0 p.1) (Then (mark is.Not) (g.operand E O)) behind_minus
-      (weaker (Then (mark is.Not) (g.operand E O)) (λ p. 1 + at 6 p.1) (λ p. behind_minus (e.Prefix pre.Not p.0 p.1)) (λ p. omega (arith, minus_Prefix pre.Not p.0 p.1, count-Not p.0 p.1))
-      (both (mark is.Not) (g.operand E O) (λ _. 1) (at 6) (marked is.Not is-Not) operand_costs))
+      mapped (λ p. e.Prefix pre.Not p.0 p.1) (Then (nesting is.Not) (g.operand E O)) behind_minus
+      (weaker (Then (nesting is.Not) (g.operand E O)) (λ p. 1 + at 6 p.1) (λ p. behind_minus (e.Prefix pre.Not p.0 p.1)) (λ p. omega (arith, minus_Prefix pre.Not p.0 p.1, count-Not p.0 p.1))
+      (both (nesting is.Not) (g.operand E O) (λ _. 1) (at 6) (with_nestings is.Not is-Not) operand_costs))
 
   -- behind a `-`, by its place
   abbrev Negated : Syntax (ℕ → Expr) → Type 0
@@ -114,7 +114,7 @@ module _ (E O : Syntax Expr) (inner : Costs E alone) (inner_other : Costs O behi
   unfolding Spells g.minus
   minus_costs ts x h =
       let l = h.2 in
-      omega (arith, ap behind_minus h.1, ap count l.2, count-append l.0 l.1, marked is.Minus is-Minus l.0 h.0.0 l.3, by h.0.1 h.0.0 l.1 l.4)
+      omega (arith, ap behind_minus h.1, ap count l.2, count-append l.0 l.1, with_nestings is.Minus is-Minus l.0 h.0.0 l.3, by h.0.1 h.0.0 l.1 l.4)
     where
       by : (f : ℕ → Expr) (p : ℕ) (u : List Lexeme) → Spells (Either (g.negative E O) (Map (λ x p. e.Prefix pre.Negate p x) O)) u f → behind_minus (f p) ≤ suc (count u)
       by f p u (inl k) = literal_negated u f k p
@@ -149,7 +149,7 @@ module _ (E O : Syntax Expr) (inner : Costs E alone) (inner_other : Costs O behi
 
   products_add : Adds (g.products E O) (at 5) (at 5)
   unfolding g.products
-  products_add = signs_add g.product_signs (g.unary E O) 5 product_signs unary_costs
+  products_add = operators_add g.product_operators (g.unary E O) 5 product_operators unary_costs
 
   product_costs : Costs (g.product E O) (at 5)
   unfolding g.product
@@ -158,8 +158,8 @@ module _ (E O : Syntax Expr) (inner : Costs E alone) (inner_other : Costs O behi
   sums_add : Adds (g.sums E O) (at 5) (at 4)
   unfolding g.sums
   sums_add =
-      chained (g.products E O) (g.joined g.sum_signs (g.product E O)) (at 5) (at 5) (at 4) products_add
-      (from_more _ (at 5) (at 4) (at 4) (λ x. at_rises 4 5 x (omega arith)) (signs_add g.sum_signs (g.product E O) 4 sum_signs product_costs))
+      chained (g.products E O) (g.joined g.sum_operators (g.product E O)) (at 5) (at 5) (at 4) products_add
+      (from_more _ (at 5) (at 4) (at 4) (λ x. at_rises 4 5 x (omega arith)) (operators_add g.sum_operators (g.product E O) 4 sum_operators product_costs))
 
   sum_costs : Costs (g.sum E O) (at 4)
   unfolding g.sum
@@ -167,7 +167,7 @@ module _ (E O : Syntax Expr) (inner : Costs E alone) (inner_other : Costs O behi
 
   comparisons_add : Adds (g.comparisons E O) (at 5) (at 3)
   unfolding g.comparisons
-  comparisons_add = chained (g.sums E O) (g.joined_once g.comparison_signs (g.sum E O)) (at 5) (at 4) (at 3) sums_add (once_add g.comparison_signs (g.sum E O) comparison_signs sum_costs)
+  comparisons_add = chained (g.sums E O) (g.joined_once g.comparison_operators (g.sum E O)) (at 5) (at 4) (at 3) sums_add (once_add g.comparison_operators (g.sum E O) comparison_operators sum_costs)
 
   comparison_costs : Costs (g.comparison E O) (at 3)
   unfolding g.comparison
@@ -176,8 +176,8 @@ module _ (E O : Syntax Expr) (inner : Costs E alone) (inner_other : Costs O behi
   conjunctions_add : Adds (g.conjunctions E O) (at 5) (at 2)
   unfolding g.conjunctions
   conjunctions_add =
-      chained (g.comparisons E O) (g.joined g.and_signs (g.comparison E O)) (at 5) (at 3) (at 2) comparisons_add
-      (from_more _ (at 3) (at 2) (at 2) (λ x. at_rises 2 3 x (omega arith)) (signs_add g.and_signs (g.comparison E O) 2 and_signs comparison_costs))
+      chained (g.comparisons E O) (g.joined g.and_operators (g.comparison E O)) (at 5) (at 3) (at 2) comparisons_add
+      (from_more _ (at 3) (at 2) (at 2) (λ x. at_rises 2 3 x (omega arith)) (operators_add g.and_operators (g.comparison E O) 2 and_operators comparison_costs))
 
   conjunction_costs : Costs (g.conjunction E O) (at 2)
   unfolding g.conjunction
@@ -186,18 +186,18 @@ module _ (E O : Syntax Expr) (inner : Costs E alone) (inner_other : Costs O behi
   pub disjunctions_add : Adds (g.disjunctions E O) (at 5) (at 1)
   unfolding g.disjunctions
   disjunctions_add =
-      chained (g.conjunctions E O) (g.joined g.or_signs (g.conjunction E O)) (at 5) (at 2) (at 1) conjunctions_add
-      (from_more _ (at 2) (at 1) (at 1) (λ x. at_rises 1 2 x (omega arith)) (signs_add g.or_signs (g.conjunction E O) 1 or_signs conjunction_costs))
+      chained (g.conjunctions E O) (g.joined g.or_operators (g.conjunction E O)) (at 5) (at 2) (at 1) conjunctions_add
+      (from_more _ (at 2) (at 1) (at 1) (λ x. at_rises 1 2 x (omega arith)) (operators_add g.or_operators (g.conjunction E O) 1 or_operators conjunction_costs))
 
   -- ---- whole expressions
 
   conditional_costs : Costs (g.conditional E O) alone
   unfolding g.conditional
   conditional_costs =
-      mapped (λ p. e.If p.0 p.1.0 p.1.1.0 p.1.1.1) (Then (mark is.If) (Then E (Then (token is.Then *> E) (token is.Else *> E)))) alone
-      (weaker (Then (mark is.If) (Then E (Then (token is.Then *> E) (token is.Else *> E)))) (λ p. 1 + (alone p.1.0 + (alone p.1.1.0 + alone p.1.1.1))) (λ p. alone (e.If p.0 p.1.0 p.1.1.0 p.1.1.1))
+      mapped (λ p. e.If p.0 p.1.0 p.1.1.0 p.1.1.1) (Then (nesting is.If) (Then E (Then (token is.Then *> E) (token is.Else *> E)))) alone
+      (weaker (Then (nesting is.If) (Then E (Then (token is.Then *> E) (token is.Else *> E)))) (λ p. 1 + (alone p.1.0 + (alone p.1.1.0 + alone p.1.1.1))) (λ p. alone (e.If p.0 p.1.0 p.1.1.0 p.1.1.1))
       (λ p. omega (arith, count-If p.0 p.1.0 p.1.1.0 p.1.1.1))
-      (both (mark is.If) _ (λ _. 1) (λ p. alone p.0 + (alone p.1.0 + alone p.1.1)) (marked is.If is-If)
+      (both (nesting is.If) _ (λ _. 1) (λ p. alone p.0 + (alone p.1.0 + alone p.1.1)) (with_nestings is.If is-If)
       (both E _ alone (λ p. alone p.0 + alone p.1) inner
       (both (token is.Then *> E) (token is.Else *> E) alone alone (behind (token is.Then) E alone inner) (behind (token is.Else) E alone inner)))))
 
@@ -212,7 +212,7 @@ module _ (E O : Syntax Expr) (inner : Costs E alone) (inner_other : Costs O behi
       (weaker (g.open_operand E O |> g.disjunctions E O) (at 1) alone (λ x. at_least 1 x)
       (followed (g.open_operand E O) (g.disjunctions E O) (at 6) (at 1) open_costs (from_more (g.disjunctions E O) (at 6) (at 5) (at 1) (λ x. at_rises 5 6 x (omega arith)) disjunctions_add)))
 
-  -- behind a bracket and an expression: the bracket is a mark
+  -- behind a bracket and an expression: the bracket is a nesting
   pub closed_add : Adds (g.closed E O) (λ x. suc (alone x)) alone
   unfolding Spells g.closed
   closed_add ts f h left =
@@ -256,6 +256,6 @@ expr_in_costs n = known expr_begins expr_goes_on (g.level true n) alone (expr_at
 pub other_in_costs : (n : ℕ) → Costs (other_in n) behind_minus
 other_in_costs n = known other_begins other_goes_on (g.level false n) behind_minus (other_at n)
 
-pub fewest : (n : ℕ) (ts : List Lexeme) (x : Expr) → Spells (expr_in n) ts x → marks_in all_marks (bare x) ≤ marks_in all_marks ts
+pub fewest : (n : ℕ) (ts : List Lexeme) (x : Expr) → Spells (expr_in n) ts x → nestings_in all_nestings (bare x) ≤ nestings_in all_nestings ts
 unfolding count
 fewest n ts x h = expr_in_costs n ts x h

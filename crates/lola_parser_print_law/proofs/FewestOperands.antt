@@ -1,4 +1,4 @@
--- What operands without prefix signs cost: no spelling has fewer marks than the printed one.
+-- What operands without prefix operators cost: no spelling has fewer nestings than the printed one.
 use Rattle.std.proofs.Common.{◌≡◌, ℕ, suc, ◌+◌, ◌≤◌, true, false, List, [], ◌∷◌, Option, Some, None, refl, ap, ◌∙◌, arith, inl, inr}
 use Rattle.std.specs.Prelude.{codes}
 use Rattle.lola_lexer.specs.declared.shape.TokenShape.TheVariants as is
@@ -10,14 +10,14 @@ use Rattle.lola_parser_tree.specs.declared.expressions.Expr.{Expr}
 use Rattle.lola_parser_tree.specs.declared.expressions.Expr.TheVariants as e
 use Rattle.lola_parser_grammars_law.specs.Syntax.{Lexeme, Syntax, Then, Map, Either, Maybe, Many, Perhaps, Spells}
 use Rattle.lola_parser_grammar.specs.Grammar as g
-use Rattle.lola_parser_grammar.specs.Grammar.{token, mark, word, whole_number, truth_at, text_at, with_default, reference, or_else, read_by, named_by, ◌*>◌, ◌<*◌, ◌|>◌, ◌>>◌}
+use Rattle.lola_parser_grammar.specs.Grammar.{token, nesting, word, whole_number, truth_at, text_at, with_default, reference, or_else, read_by, named_by, ◌*>◌, ◌<*◌, ◌|>◌, ◌>>◌}
 use Rattle.lola_parser_print.specs.Print as out
 use Rattle.lola_parser_print.specs.Print.{level, heads}
 use Rattle.lola_parser_print.proofs.Equations.{heads-Defaults, level-Defaults}
 use Rattle.lola_parser_print_law.proofs.Counts.{count, count-nil, count-append, alone, at, of_other, at_tight, other_most, no_heads_other, at_defaults, other_defaults, count-Reference, count-Reference_or, access_most, last_count, hold_count, get_count, window_count, direct_or, last_or, hold_or, get_or, arguments_count, further_count, integer_count, truth_count, text_count, is-Open, is-Dot, is-Minus}
-use Rattle.lola_parser_print_law.proofs.Costs.{Costs, Adds, nothing, marked, both, mapped, either, behind_mark, behind, before, weaker, followed, joined}
+use Rattle.lola_parser_print_law.proofs.Costs.{Costs, Adds, nothing, with_nestings, both, mapped, either, behind_nesting, behind, before, weaker, followed, joined}
 
--- the marks of the arguments of a name
+-- the nestings of the arguments of a name
 abbrev pub of_arguments : Option g.Arguments → ℕ
 of_arguments None = 0
 of_arguments (Some p) = count (out.argument_list p.1)
@@ -65,17 +65,17 @@ unfolding g.offset
 offset_costs =
     reads_mapped (λ p dot. (a.Offset dot p.0 p.1, None)) _ (λ _. 2)
     (behind (word (codes "offset")) _ (λ _. 2)
-    (behind_mark is.Open _ (λ _. 1) is-Open
+    (behind_nesting is.Open _ (λ _. 1) is-Open
     (behind (word (codes "by")) _ (λ _. 1)
     (behind (token is.Colon) _ (λ _. 1)
-    (behind_mark is.Minus _ (λ _. 0) is-Minus (nothing (g.integer <* token is.Shut)))))))
+    (behind_nesting is.Minus _ (λ _. 0) is-Minus (nothing (g.integer <* token is.Shut)))))))
     (λ x dot n p. omega (arith, reference_count n p (a.Offset dot x.0 x.1), access_most (a.Offset dot x.0 x.1)))
 
 window_costs : Reads g.window
 unfolding g.window
 window_costs =
     reads_mapped (λ p dot. (a.Window dot p.0 p.1.0 p.1.1, None)) _ (λ _. 1)
-    (behind (word (codes "aggregate")) _ (λ _. 1) (behind_mark is.Open _ (λ _. 0) is-Open (nothing _)))
+    (behind (word (codes "aggregate")) _ (λ _. 1) (behind_nesting is.Open _ (λ _. 0) is-Open (nothing _)))
     (λ x dot n p. omega (arith, reference_count n p (a.Window dot x.0 x.1.0 x.1.1), window_count dot x.0 x.1.0 x.1.1))
 
 module _ (E O : Syntax Expr) (inner : Costs E alone) where
@@ -85,14 +85,14 @@ module _ (E O : Syntax Expr) (inner : Costs E alone) where
   unfolding g.default
   default_costs =
       behind (word (codes "defaults")) _ (λ b. suc (alone b))
-      (behind_mark is.Open _ alone is-Open
+      (behind_nesting is.Open _ alone is-Open
       (behind (word (codes "to")) _ alone
       (behind (token is.Colon) _ alone
       (before E (token is.Shut) alone inner))))
 
   dotted_costs : Costs (g.dotted_default E O) (λ p. suc (suc (alone p.1)))
   unfolding g.dotted_default
-  dotted_costs = weaker (Then (mark is.Dot) (g.default E O)) (λ p. 1 + suc (alone p.1)) (λ p. suc (suc (alone p.1))) (λ p. omega arith) (both (mark is.Dot) (g.default E O) (λ _. 1) (λ b. suc (alone b)) (marked is.Dot is-Dot) default_costs)
+  dotted_costs = weaker (Then (nesting is.Dot) (g.default E O)) (λ p. 1 + suc (alone p.1)) (λ p. suc (suc (alone p.1))) (λ p. omega arith) (both (nesting is.Dot) (g.default E O) (λ _. 1) (λ b. suc (alone b)) (with_nestings is.Dot is-Dot) default_costs)
 
   pub defaults_add : Adds (g.defaults E O) (at 7) (at 7)
   unfolding g.defaults
@@ -128,8 +128,8 @@ module _ (E O : Syntax Expr) (inner : Costs E alone) where
   pub bracketed_costs : Costs (g.bracketed E O) of_other
   unfolding g.bracketed
   bracketed_costs =
-      followed (mark is.Open *> E <* token is.Shut) (g.defaults E O) of_other of_other
-      (weaker (mark is.Open *> E <* token is.Shut) (λ x. suc (alone x)) of_other other_most (behind_mark is.Open (E <* token is.Shut) alone is-Open (before E (token is.Shut) alone inner)))
+      followed (nesting is.Open *> E <* token is.Shut) (g.defaults E O) of_other of_other
+      (weaker (nesting is.Open *> E <* token is.Shut) (λ x. suc (alone x)) of_other other_most (behind_nesting is.Open (E <* token is.Shut) alone is-Open (before E (token is.Shut) alone inner)))
       defaults_other
 
   -- ---- names
@@ -153,8 +153,8 @@ module _ (E O : Syntax Expr) (inner : Costs E alone) where
   stand_costs : Costs (g.stand_in E O) stands_in
   unfolding g.stand_in
   stand_costs =
-      weaker (mark is.Open *> Maybe or_part <* token is.Shut) (λ o. suc (perhaps o)) stands_in least
-      (behind_mark is.Open (Maybe or_part <* token is.Shut) perhaps is-Open (before (Maybe or_part) (token is.Shut) perhaps may))
+      weaker (nesting is.Open *> Maybe or_part <* token is.Shut) (λ o. suc (perhaps o)) stands_in least
+      (behind_nesting is.Open (Maybe or_part <* token is.Shut) perhaps is-Open (before (Maybe or_part) (token is.Shut) perhaps may))
 
   -- an access with what stands in for its missing value, where its word takes that
   stood_in : (dot : ℕ) (n : Name) (p : Option g.Arguments) (how : Access) (b : Option Expr) → count (out.access how) ≡ 2 → ((ts : List Lexeme) → count (out.access_or how ts) ≡ suc (suc (count ts)))
@@ -196,7 +196,7 @@ module _ (E O : Syntax Expr) (inner : Costs E alone) where
   unfolding Spells g.dotted
   dotted_named ts f h n p =
       let l = h.2 in
-      omega (arith, ap (λ (k : g.Suffix). of_other (k (reference n p))) h.1, ap count l.2, count-append l.0 l.1, marked is.Dot is-Dot l.0 h.0.0 l.3, reading_costs l.1 h.0.1 l.4 h.0.0 n p)
+      omega (arith, ap (λ (k : g.Suffix). of_other (k (reference n p))) h.1, ap count l.2, count-append l.0 l.1, with_nestings is.Dot is-Dot l.0 h.0.0 l.3, reading_costs l.1 h.0.1 l.4 h.0.0 n p)
 
   suffix_named : Named (g.suffix E O)
   unfolding Spells g.suffix
@@ -228,8 +228,8 @@ module _ (E O : Syntax Expr) (inner : Costs E alone) where
   some_arguments : Costs (g.arguments E O) (λ p. count (out.argument_list p.1))
   unfolding g.arguments
   some_arguments =
-      weaker (Then (mark is.Open) (g.listed E <* token is.Shut)) (λ p. 1 + of_listed p.1) (λ p. count (out.argument_list p.1)) (λ p. omega (arith, listed_least p.1))
-      (both (mark is.Open) (g.listed E <* token is.Shut) (λ _. 1) of_listed (marked is.Open is-Open) (before (g.listed E) (token is.Shut) of_listed listed_costs))
+      weaker (Then (nesting is.Open) (g.listed E <* token is.Shut)) (λ p. 1 + of_listed p.1) (λ p. count (out.argument_list p.1)) (λ p. omega (arith, listed_least p.1))
+      (both (nesting is.Open) (g.listed E <* token is.Shut) (λ _. 1) of_listed (with_nestings is.Open is-Open) (before (g.listed E) (token is.Shut) of_listed listed_costs))
 
   arguments_costs : Costs (Maybe (g.arguments E O)) of_arguments
   unfolding Spells

@@ -171,27 +171,27 @@ pub erased-If : (at : ℕ) (x y z : Expr) → erased.expr (e.If at x y z) ≡ e.
 unfolding X.shape-the_row-Expr-1 X.hidden-the_row-Expr-1 denote.Hole.Carrier.hidden denote.Hole.Carrier.shown denote.Hole.Carrier.roll denote.Hole.Carrier.out
 erased-If at x y z = refl
 
-sign_lexed : (op : Binary) → IsLexed (lex (shape_of op))
-sign_lexed by.Or = refl
-sign_lexed by.And = refl
-sign_lexed by.Equal = refl
-sign_lexed by.Unequal = refl
-sign_lexed by.Less = refl
-sign_lexed by.LessEqual = refl
-sign_lexed by.Greater = refl
-sign_lexed by.GreaterEqual = refl
-sign_lexed by.Add = refl
-sign_lexed by.Subtract = refl
-sign_lexed by.Multiply = refl
-sign_lexed by.Divide = refl
-sign_lexed by.Remainder = refl
+operator_lexed : (op : Binary) → IsLexed (lex (shape_of op))
+operator_lexed by.Or = refl
+operator_lexed by.And = refl
+operator_lexed by.Equal = refl
+operator_lexed by.Unequal = refl
+operator_lexed by.Less = refl
+operator_lexed by.LessEqual = refl
+operator_lexed by.Greater = refl
+operator_lexed by.GreaterEqual = refl
+operator_lexed by.Add = refl
+operator_lexed by.Subtract = refl
+operator_lexed by.Multiply = refl
+operator_lexed by.Divide = refl
+operator_lexed by.Remainder = refl
 
 binary_is : (op : Binary) (at : ℕ) (x y : Expr) → ExprIs x → ExprIs y → ExprIs (e.Binary op at x y)
 binary_is op at x y h k =
     record {
       reads = reads-Binary op at x y h.reads k.reads;
       lexed = subst AreLexed (sym (bare-Binary op at x y))
-          (lexed-append (print x (left_of op)) (second op y) (lexed_print x (left_of op) h.lexed) (sign_lexed op, lexed_print y (suc (tightness op)) k.lexed));
+          (lexed-append (print x (left_of op)) (second op y) (lexed_print x (left_of op) h.lexed) (operator_lexed op, lexed_print y (suc (tightness op)) k.lexed));
     }
 
 signed_lexed : (op : Prefix) (x : Expr) → AreLexed (bare x) → AreLexed (signed op x)

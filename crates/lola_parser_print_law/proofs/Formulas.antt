@@ -1,4 +1,4 @@
--- What formulas of pacings cost: no spelling has fewer marks than the printed one.
+-- What formulas of pacings cost: no spelling has fewer nestings than the printed one.
 use Rattle.std.proofs.Common.{◌≡◌, ℕ, zero, suc, ◌+◌, ◌≤◌, ◌<◌, List, [], ◌∷◌, refl, ap, ◌∙◌, arith, inl, inr, lt-ltb}
 use Rattle.std.specs.Prelude.{nat_lt}
 use Rattle.std.proofs.lemmas.Bool.{cases_lt}
@@ -9,16 +9,16 @@ use Rattle.lola_parser_tree.specs.declared.pacing.Formula.TheVariants as f
 use Rattle.lola_parser_tree.specs.declared.pacing.Formula.TheBlock as X
 use Rattle.lola_parser_tree.specs.declared.expressions.Binary.TheVariants as by
 use Rattle.lola_parser_grammars_law.specs.Syntax.{Lexeme, Syntax, Then, Map, Spells}
-use Rattle.lola_parser_grammars_law.specs.Marks.{marks_in}
+use Rattle.lola_parser_grammars_law.specs.Nestings.{nestings_in}
 use Rattle.lola_parser_grammar.specs.Grammar as g
-use Rattle.lola_parser_grammar.specs.Grammar.{all_marks, token, mark, name, formula_in, formula_begins, formula_goes_on, ◌*>◌, ◌<*◌, ◌|>◌}
+use Rattle.lola_parser_grammar.specs.Grammar.{all_nestings, token, nesting, name, formula_in, formula_begins, formula_goes_on, ◌*>◌, ◌<*◌, ◌|>◌}
 use Rattle.lola_parser_print.specs.Print.{lex, bare_formula, print_formula, formula_level}
 use Rattle.lola_parser_print.proofs.Formulas.{bare_formula-Both, bare_formula-Either}
-use Rattle.lola_parser_print_law.proofs.Counts.{count, count-nil, count-append, marked, name_free, if_most, if_least, if_true, if_false, not_below, is-Open, is-sign}
+use Rattle.lola_parser_print_law.proofs.Counts.{count, count-nil, count-append, with_nestings, name_free, if_most, if_least, if_true, if_false, not_below, is-Open, is-operator}
 use Rattle.lola_parser_print_law.proofs.Costs as costs
-use Rattle.lola_parser_print_law.proofs.Costs.{Costs, Adds, past, known, both, mapped, either, behind_mark, before, weaker, followed, joined}
+use Rattle.lola_parser_print_law.proofs.Costs.{Costs, Adds, past, known, both, mapped, either, behind_nesting, before, weaker, followed, joined}
 
--- the marks of a formula without brackets, and as an operand of a tightness
+-- the nestings of a formula without brackets, and as an operand of a tightness
 abbrev pub alone : Formula → ℕ
 alone x = count (bare_formula x)
 
@@ -50,12 +50,12 @@ level-Both p x y = refl
 at-Both : (p : ℕ) (x y : Formula) → at 1 (f.Both p x y) ≡ at 1 x + suc (at 2 y)
 at-Both p x y =
     at_tight 1 (f.Both p x y) (omega (arith, level-Both p x y)) ∙ ap count (bare_formula-Both p x y)
-    ∙ omega (arith, count-append (print_formula x 1) (lex is.And ∷ print_formula y 2), marked is.And (is-sign by.And) (print_formula y 2))
+    ∙ omega (arith, count-append (print_formula x 1) (lex is.And ∷ print_formula y 2), with_nestings is.And (is-operator by.And) (print_formula y 2))
 
 at-Either : (p : ℕ) (x y : Formula) → at 0 (f.Either p x y) ≡ at 0 x + suc (at 1 y)
 at-Either p x y =
     at_tight 0 (f.Either p x y) (omega arith) ∙ ap count (bare_formula-Either p x y)
-    ∙ omega (arith, count-append (print_formula x 0) (lex is.Or ∷ print_formula y 1), marked is.Or (is-sign by.Or) (print_formula y 1))
+    ∙ omega (arith, count-append (print_formula x 0) (lex is.Or ∷ print_formula y 1), with_nestings is.Or (is-operator by.Or) (print_formula y 1))
 
 input_count : (n : Name) → at 2 (f.Input n) ≡ 0
 input_count n = at_tight 2 (f.Input n) (omega arith) ∙ name_free n.text [] ∙ count-nil
@@ -64,14 +64,14 @@ module _ (F : Syntax Formula) (inner : Costs F alone) where
   atom_costs : Costs (g.atom F) (at 2)
   unfolding g.atom
   atom_costs =
-      either (Map (λ n. f.Input n) name) (mark is.Open *> F <* token is.Shut) (at 2) (mapped (λ n. f.Input n) name (at 2) (λ ts n h. omega (arith, input_count n)))
-      (weaker (mark is.Open *> F <* token is.Shut) (λ x. suc (alone x)) (at 2) (at_most 2) (behind_mark is.Open (F <* token is.Shut) alone is-Open (before F (token is.Shut) alone inner)))
+      either (Map (λ n. f.Input n) name) (nesting is.Open *> F <* token is.Shut) (at 2) (mapped (λ n. f.Input n) name (at 2) (λ ts n h. omega (arith, input_count n)))
+      (weaker (nesting is.Open *> F <* token is.Shut) (λ x. suc (alone x)) (at 2) (at_most 2) (behind_nesting is.Open (F <* token is.Shut) alone is-Open (before F (token is.Shut) alone inner)))
 
   conjunctions_add : Adds (g.conjunctions_of F) (at 1) (at 1)
   unfolding g.conjunctions_of
   conjunctions_add =
-      joined g.both (Then (mark is.And) (g.atom F)) (at 1)
-      (λ ts p h left. omega (arith, at-Both p.0 left p.1, both (mark is.And) (g.atom F) (λ _. 1) (at 2) (costs.marked is.And (is-sign by.And)) atom_costs ts p h))
+      joined g.both (Then (nesting is.And) (g.atom F)) (at 1)
+      (λ ts p h left. omega (arith, at-Both p.0 left p.1, both (nesting is.And) (g.atom F) (λ _. 1) (at 2) (costs.with_nestings is.And (is-operator by.And)) atom_costs ts p h))
 
   conjunct_costs : Costs (g.conjunct F) (at 1)
   unfolding g.conjunct
@@ -80,8 +80,8 @@ module _ (F : Syntax Formula) (inner : Costs F alone) where
   alternatives_add : Adds (g.alternatives_of F) (at 0) (at 0)
   unfolding g.alternatives_of
   alternatives_add =
-      joined g.either (Then (mark is.Or) (g.conjunct F)) (at 0)
-      (λ ts p h left. omega (arith, at-Either p.0 left p.1, both (mark is.Or) (g.conjunct F) (λ _. 1) (at 1) (costs.marked is.Or (is-sign by.Or)) conjunct_costs ts p h))
+      joined g.either (Then (nesting is.Or) (g.conjunct F)) (at 0)
+      (λ ts p h left. omega (arith, at-Either p.0 left p.1, both (nesting is.Or) (g.conjunct F) (λ _. 1) (at 1) (costs.with_nestings is.Or (is-operator by.Or)) conjunct_costs ts p h))
 
   formula_costs : Costs (g.formula_with F) alone
   unfolding g.formula_with
@@ -97,6 +97,6 @@ formula_at (suc n) = formula_costs (formula_in n) (known formula_begins formula_
 pub formula_in_costs : (n : ℕ) → Costs (formula_in n) alone
 formula_in_costs n = known formula_begins formula_goes_on (g.formula_level n) alone (formula_at n)
 
-pub fewest_of_formula : (n : ℕ) (ts : List Lexeme) (x : Formula) → Spells (formula_in n) ts x → marks_in all_marks (bare_formula x) ≤ marks_in all_marks ts
+pub fewest_of_formula : (n : ℕ) (ts : List Lexeme) (x : Formula) → Spells (formula_in n) ts x → nestings_in all_nestings (bare_formula x) ≤ nestings_in all_nestings ts
 unfolding count
 fewest_of_formula n ts x h = formula_in_costs n ts x h

@@ -1,4 +1,4 @@
--- Signs between operands, and signs before them.
+-- Operators between operands, and operators before them.
 use Rattle.std.proofs.Common.{◌≡◌, ℕ, zero, suc, ◌≤◌, ◌<◌, Bool, true, false, List, [], ◌∷◌, ◌++◌, refl, subst, arith, inl, inr, ◌⊎◌}
 use Rattle.std.proofs.lemmas.Bool.{cases_lt}
 use Rattle.lola_lexer.specs.declared.shape.TokenShape.TheVariants as is
@@ -9,9 +9,9 @@ use Rattle.lola_parser_tree.specs.declared.expressions.Expr.{Expr}
 use Rattle.lola_parser_tree.specs.declared.expressions.Expr.TheVariants as e
 use Rattle.lola_parser_grammars_law.specs.Syntax.{Lexeme, Syntax, Then, Spells}
 use Rattle.lola_parser_grammar.specs.Grammar as g
-use Rattle.lola_parser_grammar.specs.Grammar.{token, mark, join, ◌*>◌, ◌<*◌, ◌|>◌, ◌>>◌}
+use Rattle.lola_parser_grammar.specs.Grammar.{token, nesting, join, ◌*>◌, ◌<*◌, ◌|>◌, ◌>>◌}
 use Rattle.lola_parser_print.specs.Print.{lex, tightness, left_of, shape_of}
-use Rattle.lola_parser_print_law.proofs.Single.{token_spelled, mark_spelled, joined_none, joined_more, tail_none, tail_more, once_none, once_one, sign_spelled, after}
+use Rattle.lola_parser_print_law.proofs.Single.{token_spelled, nesting_spelled, joined_none, joined_more, tail_none, tail_more, once_none, once_one, operator_spelled, after}
 use Rattle.lola_parser_print_law.proofs.Operands.{Negative, Named, negative_spelled, named_spelled, negative_more, named_more, worded_more, bracketed_more, number_more}
 use Rattle.lola_parser_print.specs.Print as out
 
@@ -28,11 +28,11 @@ module _ (E O : Syntax Expr) (u : List Lexeme) (x : Expr) where
   up : (j : ℕ) → j < 6 → Spells (At (suc j) E O) u x → Spells (At j E O) u x
   unfolding Spells g.expr_with g.disjunctions g.conjunctions g.conjunction g.comparisons g.comparison g.sums g.sum g.products g.product
   up zero l h = inr h
-  up (suc zero) l h = tail_none join (g.unary E O) (g.conjunctions E O) (Then g.or_signs (g.conjunction E O)) u x h
-  up (suc (suc zero)) l h = tail_none join (g.unary E O) (g.comparisons E O) (Then g.and_signs (g.comparison E O)) u x h
-  up (suc (suc (suc zero))) l h = once_none (g.unary E O) (g.sums E O) g.comparison_signs (g.sum E O) u x h
-  up (suc (suc (suc (suc zero)))) l h = tail_none join (g.unary E O) (g.products E O) (Then g.sum_signs (g.product E O)) u x h
-  up (suc (suc (suc (suc (suc zero))))) l h = joined_none join (g.unary E O) (Then g.product_signs (g.unary E O)) u x h
+  up (suc zero) l h = tail_none join (g.unary E O) (g.conjunctions E O) (Then g.or_operators (g.conjunction E O)) u x h
+  up (suc (suc zero)) l h = tail_none join (g.unary E O) (g.comparisons E O) (Then g.and_operators (g.comparison E O)) u x h
+  up (suc (suc (suc zero))) l h = once_none (g.unary E O) (g.sums E O) g.comparison_operators (g.sum E O) u x h
+  up (suc (suc (suc (suc zero)))) l h = tail_none join (g.unary E O) (g.products E O) (Then g.sum_operators (g.product E O)) u x h
+  up (suc (suc (suc (suc (suc zero))))) l h = joined_none join (g.unary E O) (Then g.product_operators (g.unary E O)) u x h
   up (suc (suc (suc (suc (suc (suc j)))))) l h = absurd (omega (arith, l))
 
   pub down : (j k : ℕ) → k ≤ j → j ≤ 6 → Spells (At j E O) u x → Spells (At k E O) u x
@@ -42,23 +42,23 @@ module _ (E O : Syntax Expr) (u : List Lexeme) (x : Expr) where
     | inr ge ↦ (let e : suc j ≡ k = omega (arith, le, ge) in subst (λ i. Spells (At i E O) u x) e h)
   ]
 
--- two operands of a sign
+-- two operands of an operator
 pub binary_spelled : (op : Binary) (E O : Syntax Expr) (u w : List Lexeme) (a b : Expr) → Spells (At (left_of op) E O) u a → Spells (At (suc (tightness op)) E O) w b
     → Spells (At (tightness op) E O) (u ++ (lex (shape_of op) ∷ w)) (e.Binary op 0 a b)
-unfolding Spells g.disjunctions g.conjunctions g.conjunction g.comparisons g.comparison g.sums g.sum g.products g.product g.product_signs g.sum_signs g.comparison_signs g.and_signs g.or_signs
-binary_spelled by.Or E O u w a b h k = tail_more join (g.unary E O) (g.conjunctions E O) (Then g.or_signs (g.conjunction E O)) u (lex is.Or ∷ w) a ((by.Or, 0), b) h (lex is.Or ∷ [], w, refl, ((sign_spelled is.Or by.Or)), k)
-binary_spelled by.And E O u w a b h k = tail_more join (g.unary E O) (g.comparisons E O) (Then g.and_signs (g.comparison E O)) u (lex is.And ∷ w) a ((by.And, 0), b) h (lex is.And ∷ [], w, refl, ((sign_spelled is.And by.And)), k)
-binary_spelled by.Equal E O u w a b h k = once_one (g.unary E O) (g.sums E O) g.comparison_signs (g.sum E O) u (lex is.Equal ∷ []) w a (by.Equal, 0) b h (inl (sign_spelled is.Equal by.Equal)) k
-binary_spelled by.Unequal E O u w a b h k = once_one (g.unary E O) (g.sums E O) g.comparison_signs (g.sum E O) u (lex is.Unequal ∷ []) w a (by.Unequal, 0) b h (inr (inl (sign_spelled is.Unequal by.Unequal))) k
-binary_spelled by.Less E O u w a b h k = once_one (g.unary E O) (g.sums E O) g.comparison_signs (g.sum E O) u (lex is.Less ∷ []) w a (by.Less, 0) b h (inr (inr (inl (sign_spelled is.Less by.Less)))) k
-binary_spelled by.LessEqual E O u w a b h k = once_one (g.unary E O) (g.sums E O) g.comparison_signs (g.sum E O) u (lex is.LessEqual ∷ []) w a (by.LessEqual, 0) b h (inr (inr (inr (inl (sign_spelled is.LessEqual by.LessEqual))))) k
-binary_spelled by.Greater E O u w a b h k = once_one (g.unary E O) (g.sums E O) g.comparison_signs (g.sum E O) u (lex is.Greater ∷ []) w a (by.Greater, 0) b h (inr (inr (inr (inr (inl (sign_spelled is.Greater by.Greater)))))) k
-binary_spelled by.GreaterEqual E O u w a b h k = once_one (g.unary E O) (g.sums E O) g.comparison_signs (g.sum E O) u (lex is.GreaterEqual ∷ []) w a (by.GreaterEqual, 0) b h (inr (inr (inr (inr (inr (sign_spelled is.GreaterEqual by.GreaterEqual)))))) k
-binary_spelled by.Add E O u w a b h k = tail_more join (g.unary E O) (g.products E O) (Then g.sum_signs (g.product E O)) u (lex is.Plus ∷ w) a ((by.Add, 0), b) h (lex is.Plus ∷ [], w, refl, (inl (sign_spelled is.Plus by.Add)), k)
-binary_spelled by.Subtract E O u w a b h k = tail_more join (g.unary E O) (g.products E O) (Then g.sum_signs (g.product E O)) u (lex is.Minus ∷ w) a ((by.Subtract, 0), b) h (lex is.Minus ∷ [], w, refl, (inr (sign_spelled is.Minus by.Subtract)), k)
-binary_spelled by.Multiply E O u w a b h k = joined_more join (g.unary E O) (Then g.product_signs (g.unary E O)) u (lex is.Star ∷ w) a ((by.Multiply, 0), b) h (lex is.Star ∷ [], w, refl, (inl (sign_spelled is.Star by.Multiply)), k)
-binary_spelled by.Divide E O u w a b h k = joined_more join (g.unary E O) (Then g.product_signs (g.unary E O)) u (lex is.Slash ∷ w) a ((by.Divide, 0), b) h (lex is.Slash ∷ [], w, refl, (inr (inl (sign_spelled is.Slash by.Divide))), k)
-binary_spelled by.Remainder E O u w a b h k = joined_more join (g.unary E O) (Then g.product_signs (g.unary E O)) u (lex is.Percent ∷ w) a ((by.Remainder, 0), b) h (lex is.Percent ∷ [], w, refl, (inr (inr (sign_spelled is.Percent by.Remainder))), k)
+unfolding Spells g.disjunctions g.conjunctions g.conjunction g.comparisons g.comparison g.sums g.sum g.products g.product g.product_operators g.sum_operators g.comparison_operators g.and_operators g.or_operators
+binary_spelled by.Or E O u w a b h k = tail_more join (g.unary E O) (g.conjunctions E O) (Then g.or_operators (g.conjunction E O)) u (lex is.Or ∷ w) a ((by.Or, 0), b) h (lex is.Or ∷ [], w, refl, ((operator_spelled is.Or by.Or)), k)
+binary_spelled by.And E O u w a b h k = tail_more join (g.unary E O) (g.comparisons E O) (Then g.and_operators (g.comparison E O)) u (lex is.And ∷ w) a ((by.And, 0), b) h (lex is.And ∷ [], w, refl, ((operator_spelled is.And by.And)), k)
+binary_spelled by.Equal E O u w a b h k = once_one (g.unary E O) (g.sums E O) g.comparison_operators (g.sum E O) u (lex is.Equal ∷ []) w a (by.Equal, 0) b h (inl (operator_spelled is.Equal by.Equal)) k
+binary_spelled by.Unequal E O u w a b h k = once_one (g.unary E O) (g.sums E O) g.comparison_operators (g.sum E O) u (lex is.Unequal ∷ []) w a (by.Unequal, 0) b h (inr (inl (operator_spelled is.Unequal by.Unequal))) k
+binary_spelled by.Less E O u w a b h k = once_one (g.unary E O) (g.sums E O) g.comparison_operators (g.sum E O) u (lex is.Less ∷ []) w a (by.Less, 0) b h (inr (inr (inl (operator_spelled is.Less by.Less)))) k
+binary_spelled by.LessEqual E O u w a b h k = once_one (g.unary E O) (g.sums E O) g.comparison_operators (g.sum E O) u (lex is.LessEqual ∷ []) w a (by.LessEqual, 0) b h (inr (inr (inr (inl (operator_spelled is.LessEqual by.LessEqual))))) k
+binary_spelled by.Greater E O u w a b h k = once_one (g.unary E O) (g.sums E O) g.comparison_operators (g.sum E O) u (lex is.Greater ∷ []) w a (by.Greater, 0) b h (inr (inr (inr (inr (inl (operator_spelled is.Greater by.Greater)))))) k
+binary_spelled by.GreaterEqual E O u w a b h k = once_one (g.unary E O) (g.sums E O) g.comparison_operators (g.sum E O) u (lex is.GreaterEqual ∷ []) w a (by.GreaterEqual, 0) b h (inr (inr (inr (inr (inr (operator_spelled is.GreaterEqual by.GreaterEqual)))))) k
+binary_spelled by.Add E O u w a b h k = tail_more join (g.unary E O) (g.products E O) (Then g.sum_operators (g.product E O)) u (lex is.Plus ∷ w) a ((by.Add, 0), b) h (lex is.Plus ∷ [], w, refl, (inl (operator_spelled is.Plus by.Add)), k)
+binary_spelled by.Subtract E O u w a b h k = tail_more join (g.unary E O) (g.products E O) (Then g.sum_operators (g.product E O)) u (lex is.Minus ∷ w) a ((by.Subtract, 0), b) h (lex is.Minus ∷ [], w, refl, (inr (operator_spelled is.Minus by.Subtract)), k)
+binary_spelled by.Multiply E O u w a b h k = joined_more join (g.unary E O) (Then g.product_operators (g.unary E O)) u (lex is.Star ∷ w) a ((by.Multiply, 0), b) h (lex is.Star ∷ [], w, refl, (inl (operator_spelled is.Star by.Multiply)), k)
+binary_spelled by.Divide E O u w a b h k = joined_more join (g.unary E O) (Then g.product_operators (g.unary E O)) u (lex is.Slash ∷ w) a ((by.Divide, 0), b) h (lex is.Slash ∷ [], w, refl, (inr (inl (operator_spelled is.Slash by.Divide))), k)
+binary_spelled by.Remainder E O u w a b h k = joined_more join (g.unary E O) (Then g.product_operators (g.unary E O)) u (lex is.Percent ∷ w) a ((by.Remainder, 0), b) h (lex is.Percent ∷ [], w, refl, (inr (inr (operator_spelled is.Percent by.Remainder))), k)
 
 -- ---- operands
 
@@ -108,11 +108,11 @@ module _ (E O : Syntax Expr) where
   -- an operand of `!`: an integer here, or another one level further in
   pub not_spelled : (u : List Lexeme) (x : Expr) → (Spells (g.number E O) u x ⊎ Spells O u x) → Spells (g.other_with E O) (lex is.Not ∷ u) (e.Prefix pre.Not 0 x)
   unfolding Spells g.other_with g.plain g.negation g.operand
-  not_spelled u x h = inr (inl ((0, x), refl, (lex is.Not ∷ [], u, refl, mark_spelled is.Not, h)))
+  not_spelled u x h = inr (inl ((0, x), refl, (lex is.Not ∷ [], u, refl, nesting_spelled is.Not, h)))
 
   pub minus_spelled : (u : List Lexeme) (x : Expr) → Spells O u x → Spells (g.other_with E O) (lex is.Minus ∷ u) (e.Prefix pre.Negate 0 x)
   unfolding Spells g.other_with g.plain g.minus
-  minus_spelled u x h = inr (inr (inl ((0, λ at. e.Prefix pre.Negate at x), refl, (lex is.Minus ∷ [], u, refl, mark_spelled is.Minus, inr (x, refl, h)))))
+  minus_spelled u x h = inr (inr (inl ((0, λ at. e.Prefix pre.Negate at x), refl, (lex is.Minus ∷ [], u, refl, nesting_spelled is.Minus, inr (x, refl, h)))))
 
   pub if_spelled : (u v w : List Lexeme) (a b c : Expr) → Spells E u a → Spells E v b → Spells E w c
       → Spells (g.expr_with E O) (lex is.If ∷ (u ++ (lex is.Then ∷ (v ++ (lex is.Else ∷ w))))) (e.If 0 a b c)
@@ -120,4 +120,4 @@ module _ (E O : Syntax Expr) where
   if_spelled u v w a b c h k l =
       let two : Spells (token is.Then *> E) (lex is.Then ∷ v) b = after (token is.Then) E (lex is.Then ∷ []) v 0 b (token_spelled is.Then) k in
       let three : Spells (token is.Else *> E) (lex is.Else ∷ w) c = after (token is.Else) E (lex is.Else ∷ []) w 0 c (token_spelled is.Else) l in
-      inl ((0, (a, (b, c))), refl, (lex is.If ∷ [], _, refl, mark_spelled is.If, (u, _, refl, h, (lex is.Then ∷ v, lex is.Else ∷ w, refl, two, three))))
+      inl ((0, (a, (b, c))), refl, (lex is.If ∷ [], _, refl, nesting_spelled is.If, (u, _, refl, h, (lex is.Then ∷ v, lex is.Else ∷ w, refl, two, three))))

@@ -1,4 +1,4 @@
--- Where a spelling of a specification keeps the limit of marks, the trees of its whole expressions and formulas need no more.
+-- Where a spelling of a specification keeps the limit of nestings, the trees of its whole expressions and formulas need no more.
 use Rattle.std.proofs.Common.{ℕ, suc, ◌+◌, ◌≤◌, List, [], ◌∷◌, Option, Some, None, sym, ap, subst, arith, inl, inr}
 use Rattle.lola_lexer.specs.declared.shape.TokenShape.{TokenShape}
 use Rattle.lola_lexer.specs.declared.shape.TokenShape.TheVariants as is
@@ -13,10 +13,10 @@ use Rattle.lola_parser_tree.specs.declared.clauses.Eval.{Eval}
 use Rattle.lola_parser_tree.specs.declared.clauses.Close.{Close}
 use Rattle.lola_parser_tree.specs.declared.declarations.Declaration.{Declaration}
 use Rattle.lola_parser_tree.specs.declared.declarations.Declaration.TheVariants as d
-use Rattle.lola_parser_grammars_law.specs.Syntax.{Lexeme, Terminal, Syntax, Whole, Known, Then, Map, Either, Maybe, Many, Spells, max_marks}
-use Rattle.lola_parser_grammars_law.specs.Marks.{Fits}
+use Rattle.lola_parser_grammars_law.specs.Syntax.{Lexeme, Terminal, Syntax, Whole, Known, Then, Map, Either, Maybe, Many, Spells, max_nestings}
+use Rattle.lola_parser_grammars_law.specs.Nestings.{Fits}
 use Rattle.lola_parser_grammar.specs.Grammar as g
-use Rattle.lola_parser_grammar.specs.Grammar.{all_marks, token, expr_in, other_in, formula_in, ◌*>◌, ◌<*◌}
+use Rattle.lola_parser_grammar.specs.Grammar.{all_nestings, token, expr_in, other_in, formula_in, ◌*>◌, ◌<*◌}
 use Rattle.lola_parser_print.specs.Print.{bare, bare_formula}
 use Rattle.lola_parser_print_law.proofs.Counts.{count, count_is, alone, name_free, count-nil}
 use Rattle.lola_parser_print_law.proofs.Costs as costs
@@ -24,13 +24,13 @@ use Rattle.lola_parser_print_law.proofs.Costs.{Costs}
 use Rattle.lola_parser_print_law.proofs.FewestExpressions.{expr_in_costs, other_in_costs, open_expr_costs, closed_add}
 use Rattle.lola_parser_print_law.proofs.Formulas as formulas
 
--- ---- what needs no more marks than may come
+-- ---- what needs no more nestings than may come
 
 abbrev pub Small : Expr → Type 0
-Small x = count (bare x) ≤ max_marks
+Small x = count (bare x) ≤ max_nestings
 
 abbrev pub SmallRhythm : Rhythm → Type 0
-SmallRhythm (r.Formula x) = count (bare_formula x) ≤ max_marks
+SmallRhythm (r.Formula x) = count (bare_formula x) ≤ max_nestings
 SmallRhythm _ = Unit {0}
 
 abbrev pub IfSome : {A : Type 0} → (A → Type 0) → Option A → Type 0
@@ -75,7 +75,7 @@ SmallDeclaration (d.Trigger t) = IfSome SmallPacing t.pacing × SmallPart t.when
 -- ---- what the sentences of a part leave
 
 abbrev Leaves : {A : Type 0} → Syntax A → (A → Type 0) → Type 0
-Leaves {A} s P = (ts : List Lexeme) (x : A) → Fits all_marks s ts x → P x
+Leaves {A} s P = (ts : List Lexeme) (x : A) → Fits all_nestings s ts x → P x
 
 whatever : {A : Type 0} (s : Syntax A) → Leaves s (λ _. Unit {0})
 whatever s ts x h = tt
@@ -115,7 +115,7 @@ unfolding Fits
 each s P p ts [] h = tt
 each s P p ts (x ∷ xs) h = (p h.0 x h.3, each s P p h.1 xs h.4)
 
-limited : {A : Type 0} (s : Syntax A) (c : A → ℕ) → Costs s c → Leaves (Whole s) (λ x. c x ≤ max_marks)
+limited : {A : Type 0} (s : Syntax A) (c : A → ℕ) → Costs s c → Leaves (Whole s) (λ x. c x ≤ max_nestings)
 unfolding Fits
 limited s c p ts x h = omega (arith, p ts x h.0, count_is ts, h.1)
 
@@ -152,7 +152,7 @@ module _ (n : ℕ) where
   part_small s = mapped _ (Then (token s) (g.whole n)) SmallPart (second (token s) (g.whole n) Small whole_small)
 
   -- behind `with`
-  more_small : (ts : List Lexeme) (ps : g.Parts) → Fits all_marks (g.more_parts n) ts ps → (x : Expr) (bracket at : ℕ) → Small x → Each SmallPart (ps x bracket at)
+  more_small : (ts : List Lexeme) (ps : g.Parts) → Fits all_nestings (g.more_parts n) ts ps → (x : Expr) (bracket at : ℕ) → Small x → Each SmallPart (ps x bracket at)
   unfolding Fits g.more_parts
   more_small ts ps h x bracket at small =
       let inner = h.2 in
@@ -165,14 +165,14 @@ module _ (n : ℕ) where
         ),
       )
 
-  one_small : (u v : List Lexeme) (ps : g.Parts) (x : Expr) → Spells (expr_in n) u x → Spells (g.one_part n) v ps → suc (count u + count v) ≤ max_marks → (bracket at : ℕ) → Each SmallPart (ps x bracket at)
+  one_small : (u v : List Lexeme) (ps : g.Parts) (x : Expr) → Spells (expr_in n) u x → Spells (g.one_part n) v ps → suc (count u + count v) ≤ max_nestings → (bracket at : ℕ) → Each SmallPart (ps x bracket at)
   unfolding Spells g.one_part
   one_small u v ps x h k few bracket at =
       let value : count (bare (k.0 x)) ≤ suc (alone x) + count v = closed_add (expr_in n) (other_in n) (expr_in_costs n) (other_in_costs n) v k.0 k.2 x in
       let small : Small (k.0 x) = omega (arith, value, expr_in_costs n u x h, few) in
       subst (λ (m : g.Parts). Each SmallPart (m x bracket at)) (sym k.1) (small, tt)
 
-  forked_small : (ts : List Lexeme) (p : Expr × g.Parts) → Fits all_marks (g.forked n) ts p → (bracket at : ℕ) → Each SmallPart (g.placed bracket at p)
+  forked_small : (ts : List Lexeme) (p : Expr × g.Parts) → Fits all_nestings (g.forked n) ts p → (bracket at : ℕ) → Each SmallPart (g.placed bracket at p)
   unfolding Fits g.forked
   forked_small ts p (u, v, is, h, inl k) bracket at = more_small v p.1 k.1 p.0 bracket at (omega (arith, expr_in_costs n u p.0 h, count_is u, k.0))
   forked_small ts p (u, v, is, h, inr k) bracket at = one_small u v p.1 p.0 h k.1 (omega (arith, count_is u, count_is v, k.0)) bracket at
@@ -284,6 +284,6 @@ module _ (n : ℕ) where
   unfolding g.declaration
   declaration_small = either _ _ SmallDeclaration inputs_small (either _ _ SmallDeclaration constant_small (either _ _ SmallDeclaration output_small trigger_small))
 
-  pub specification_small : (ts : List Lexeme) (xs : List Declaration) → Fits all_marks (g.specification n) ts xs → Each SmallDeclaration xs
+  pub specification_small : (ts : List Lexeme) (xs : List Declaration) → Fits all_nestings (g.specification n) ts xs → Each SmallDeclaration xs
   unfolding g.specification
   specification_small = each (g.declaration n) SmallDeclaration declaration_small

@@ -1,4 +1,4 @@
--- Operands without prefix signs.
+-- Operands without prefix operators.
 use Rattle.std.proofs.Common.{◌≡◌, ℕ, Bool, true, false, List, [], ◌∷◌, ◌++◌, Option, Some, None, refl, sym, ap, subst, ◌∙◌, append_assoc, append-nil, inl, inr, eqb-true}
 use Rattle.std.specs.Bool.{if◌then◌else◌}
 use Rattle.std.specs.Prelude.{fold, codes, ◌==◌}
@@ -12,12 +12,12 @@ use Rattle.lola_parser_tree.specs.declared.expressions.Expr.{Expr}
 use Rattle.lola_parser_tree.specs.declared.expressions.Expr.TheVariants as e
 use Rattle.lola_parser_grammars_law.specs.Syntax.{Lexeme, Syntax, Then, Map, Maybe, Spells}
 use Rattle.lola_parser_grammar.specs.Grammar as g
-use Rattle.lola_parser_grammar.specs.Grammar.{token, mark, word, whole_number, truth_at, text_at, with_default, reference, ◌*>◌, ◌<*◌, ◌|>◌, ◌>>◌}
+use Rattle.lola_parser_grammar.specs.Grammar.{token, nesting, word, whole_number, truth_at, text_at, with_default, reference, ◌*>◌, ◌<*◌, ◌|>◌, ◌>>◌}
 use Rattle.lola_parser_print.specs.Print as out
 use Rattle.lola_parser_print.specs.Print.{lex}
 use Rattle.lola_parser_print_law.specs.Erased as erased
 use Rattle.lola_parser_print_law.specs.Erased.{IntegerReads, TextReads, QuantityReads, ValueReads, AccessReads}
-use Rattle.lola_parser_print_law.proofs.Single.{token_spelled, mark_spelled, shape_spelled, word_spelled, name_spelled, after, before, both, mapped, joined_none, joined_more, repeats_snoc, fold_snoc}
+use Rattle.lola_parser_print_law.proofs.Single.{token_spelled, nesting_spelled, shape_spelled, word_spelled, name_spelled, after, before, both, mapped, joined_none, joined_more, repeats_snoc, fold_snoc}
 
 -- ---- literals
 
@@ -41,14 +41,14 @@ module _ (E O : Syntax Expr) where
   unfolding g.default
   default_body w b h =
       after (word (codes "defaults")) _ (out.word (codes "defaults") ∷ []) _ _ b (word_spelled (codes "defaults"))
-      (after (mark is.Open) _ (lex is.Open ∷ []) _ _ b (mark_spelled is.Open)
+      (after (nesting is.Open) _ (lex is.Open ∷ []) _ _ b (nesting_spelled is.Open)
       (after (word (codes "to")) _ (out.word (codes "to") ∷ []) _ _ b (word_spelled (codes "to"))
       (after (token is.Colon) _ (lex is.Colon ∷ []) _ _ b (token_spelled is.Colon)
       (before E (token is.Shut) w (lex is.Shut ∷ []) b _ h (token_spelled is.Shut)))))
 
   pub default_spelled : (w : List Lexeme) (b : Expr) → Spells E w b → Spells (g.dotted_default E O) (out.default_tail w) (0, b)
   unfolding g.dotted_default
-  default_spelled w b h = both (mark is.Dot) (g.default E O) (lex is.Dot ∷ []) _ 0 b (mark_spelled is.Dot) (default_body w b h)
+  default_spelled w b h = both (nesting is.Dot) (g.default E O) (lex is.Dot ∷ []) _ 0 b (nesting_spelled is.Dot) (default_body w b h)
 
   -- something, with no default behind it and with one more
   module _ (start : Syntax Expr) where
@@ -92,13 +92,13 @@ module _ (E O : Syntax Expr) where
   pub in_brackets : (u : List Lexeme) (x : Expr) → Spells E u x → Spells (g.bracketed E O) (out.bracketed u) x
   unfolding g.bracketed
   in_brackets u x h =
-      start_none (mark is.Open *> E <* token is.Shut) (out.bracketed u) x
-      (after (mark is.Open) (E <* token is.Shut) (lex is.Open ∷ []) (u ++ lex is.Shut ∷ []) 0 x (mark_spelled is.Open)
+      start_none (nesting is.Open *> E <* token is.Shut) (out.bracketed u) x
+      (after (nesting is.Open) (E <* token is.Shut) (lex is.Open ∷ []) (u ++ lex is.Shut ∷ []) 0 x (nesting_spelled is.Open)
       (before E (token is.Shut) u (lex is.Shut ∷ []) x 0 h (token_spelled is.Shut)))
 
   pub bracketed_more : (u w : List Lexeme) (x b : Expr) → Spells (g.bracketed E O) u x → Spells E w b → Spells (g.bracketed E O) (u ++ out.default_tail w) (e.Defaults 0 x b)
   unfolding g.bracketed
-  bracketed_more u w x b h k = start_more (mark is.Open *> E <* token is.Shut) u w x b h k
+  bracketed_more u w x b h k = start_more (nesting is.Open *> E <* token is.Shut) u w x b h k
 
   -- ---- negative literals: a `-` and then these
 
@@ -154,7 +154,7 @@ module _ (E O : Syntax Expr) where
 
   pub negative_spelled : (u : List Lexeme) (x : Expr) → Negative u x → Spells (g.minus E O) u x
   unfolding Spells g.minus
-  negative_spelled u x h = ((0, h.value), h.at_zero, (lex is.Minus ∷ [], h.behind, h.is, mark_spelled is.Minus, inl h.spelled))
+  negative_spelled u x h = ((0, h.value), h.at_zero, (lex is.Minus ∷ [], h.behind, h.is, nesting_spelled is.Minus, inl h.spelled))
 
   -- ---- what stands behind the point after a name
 
@@ -168,13 +168,13 @@ module _ (E O : Syntax Expr) where
   stand_none : Spells (g.stand_in E O) (out.bracketed []) None
   unfolding Spells g.stand_in
   stand_none =
-      after (mark is.Open) (Maybe (word (codes "or") *> token is.Colon *> E) <* token is.Shut) (lex is.Open ∷ []) (lex is.Shut ∷ []) 0 None (mark_spelled is.Open)
+      after (nesting is.Open) (Maybe (word (codes "or") *> token is.Colon *> E) <* token is.Shut) (lex is.Open ∷ []) (lex is.Shut ∷ []) 0 None (nesting_spelled is.Open)
       (before (Maybe (word (codes "or") *> token is.Colon *> E)) (token is.Shut) [] (lex is.Shut ∷ []) None 0 refl (token_spelled is.Shut))
 
   stand_some : (w : List Lexeme) (b : Expr) → Spells E w b → Spells (g.stand_in E O) (out.bracketed (out.labelled (codes "or") w)) (Some b)
   unfolding Spells g.stand_in
   stand_some w b h =
-      after (mark is.Open) (Maybe (word (codes "or") *> token is.Colon *> E) <* token is.Shut) (lex is.Open ∷ []) (out.labelled (codes "or") w ++ lex is.Shut ∷ []) 0 (Some b) (mark_spelled is.Open)
+      after (nesting is.Open) (Maybe (word (codes "or") *> token is.Colon *> E) <* token is.Shut) (lex is.Open ∷ []) (out.labelled (codes "or") w ++ lex is.Shut ∷ []) 0 (Some b) (nesting_spelled is.Open)
       (before (Maybe (word (codes "or") *> token is.Colon *> E)) (token is.Shut) (out.labelled (codes "or") w) (lex is.Shut ∷ []) (Some b) 0
       (after (word (codes "or")) (token is.Colon *> E) (out.word (codes "or") ∷ []) (lex is.Colon ∷ w) 0 b (word_spelled (codes "or"))
       (after (token is.Colon) E (lex is.Colon ∷ []) w 0 b (token_spelled is.Colon) h))
@@ -208,15 +208,15 @@ module _ (E O : Syntax Expr) where
       }
 
   offset_body : (k : ℕ) → IntegerReads k
-      → Spells (word (codes "offset") *> mark is.Open *> word (codes "by") *> token is.Colon *> mark is.Minus *> g.integer <* token is.Shut)
+      → Spells (word (codes "offset") *> nesting is.Open *> word (codes "by") *> token is.Colon *> nesting is.Minus *> g.integer <* token is.Shut)
       (out.word (codes "offset") ∷ lex is.Open ∷ out.word (codes "by") ∷ lex is.Colon ∷ lex is.Minus ∷ (out.integer k ∷ [] ++ lex is.Shut ∷ [])) (k, 0)
   offset_body k reads =
       let v : ℕ × ℕ = (k, 0) in
       after (word (codes "offset")) _ (out.word (codes "offset") ∷ []) _ 0 v (word_spelled (codes "offset"))
-      (after (mark is.Open) _ (lex is.Open ∷ []) _ 0 v (mark_spelled is.Open)
+      (after (nesting is.Open) _ (lex is.Open ∷ []) _ 0 v (nesting_spelled is.Open)
       (after (word (codes "by")) _ (out.word (codes "by") ∷ []) _ 0 v (word_spelled (codes "by"))
       (after (token is.Colon) _ (lex is.Colon ∷ []) _ 0 v (token_spelled is.Colon)
-      (after (mark is.Minus) _ (lex is.Minus ∷ []) _ 0 v (mark_spelled is.Minus)
+      (after (nesting is.Minus) _ (lex is.Minus ∷ []) _ 0 v (nesting_spelled is.Minus)
       (before g.integer (token is.Shut) (out.integer k ∷ []) (lex is.Shut ∷ []) v 0 (integer_spelled k reads) (token_spelled is.Shut))))))
 
   pub offset_reads : (k : ℕ) → IntegerReads k
@@ -248,13 +248,13 @@ module _ (E O : Syntax Expr) where
       both g.over (Then (token is.Colon *> g.quantity) (token is.Comma *> word (codes "using") *> token is.Colon *> g.name)) (out.word (out.over_word exactly) ∷ []) _ exactly v (over_spelled exactly) (using_body q n reads)
 
   window_call : (exactly : Bool) (q : Quantity) (n : Name) → QuantityReads q
-      → Spells (word (codes "aggregate") *> mark is.Open *> Then g.over (Then (token is.Colon *> g.quantity) (token is.Comma *> word (codes "using") *> token is.Colon *> g.name)) <* token is.Shut)
+      → Spells (word (codes "aggregate") *> nesting is.Open *> Then g.over (Then (token is.Colon *> g.quantity) (token is.Comma *> word (codes "using") *> token is.Colon *> g.name)) <* token is.Shut)
       (out.word (codes "aggregate") ∷ out.bracketed (out.labelled (out.over_word exactly) (out.quantity q ∷ lex is.Comma ∷ out.labelled (codes "using") (out.name n ∷ []))))
       (exactly, (erased.quantity q, erased.name n))
   window_call exactly q n reads =
       let v : Bool × (Quantity × Name) = (exactly, (erased.quantity q, erased.name n)) in
       after (word (codes "aggregate")) _ (out.word (codes "aggregate") ∷ []) _ 0 v (word_spelled (codes "aggregate"))
-      (after (mark is.Open) _ (lex is.Open ∷ []) _ 0 v (mark_spelled is.Open)
+      (after (nesting is.Open) _ (lex is.Open ∷ []) _ 0 v (nesting_spelled is.Open)
       (before (Then g.over (Then (token is.Colon *> g.quantity) (token is.Comma *> word (codes "using") *> token is.Colon *> g.name))) (token is.Shut) _ (lex is.Shut ∷ []) v 0
       (window_body exactly q n reads) (token_spelled is.Shut)))
 
@@ -299,7 +299,7 @@ module _ (E O : Syntax Expr) where
         spelled = (
           (λ m. g.read_by 0 (h.value 0) m, λ x. x),
           refl,
-          (lex is.Dot ∷ u, [], ap (λ l. lex is.Dot ∷ l) (sym (append-nil u)), ((0, h.value), refl, (lex is.Dot ∷ [], u, refl, mark_spelled is.Dot, h.spelled)), no_defaults),
+          (lex is.Dot ∷ u, [], ap (λ l. lex is.Dot ∷ l) (sym (append-nil u)), ((0, h.value), refl, (lex is.Dot ∷ [], u, refl, nesting_spelled is.Dot, h.spelled)), no_defaults),
         );
         is = ap (λ (r : g.Reading). g.read_by 0 r named) (sym h.at_zero);
       }

@@ -12,7 +12,7 @@ use Rattle.lola_parser_tree.specs.declared.pacing.Rhythm.TheVariants as r
 use Rattle.lola_parser_tree.specs.declared.pacing.Pacing.{Pacing}
 use Rattle.lola_parser_grammars_law.specs.Syntax.{Syntax, Then, Map, Whole}
 use Rattle.lola_parser_grammar.specs.Grammar as g
-use Rattle.lola_parser_grammar.specs.Grammar.{token, mark, word, ◌*>◌, ◌<*◌, ◌|>◌, all_marks}
+use Rattle.lola_parser_grammar.specs.Grammar.{token, nesting, word, ◌*>◌, ◌<*◌, ◌|>◌, all_nestings}
 use Rattle.lola_parser_print.specs.Print as out
 use Rattle.lola_parser_print.specs.Print.{lex, bare, print_formula}
 use Rattle.lola_parser_print.proofs.Formulas.{bare_formula-Both, bare_formula-Either}
@@ -21,7 +21,7 @@ use Rattle.lola_parser_print_law.specs.Erased.{formula_need, QuantityReads, Text
 use Rattle.lola_parser_print_law.specs.Fitting.{RhythmFits, PacingFits}
 use Rattle.lola_parser_print_law.specs.Places.{IsLexed, AreLexed}
 use Rattle.lola_parser_print_law.specs.Round.{Eventually}
-use Rattle.lola_parser_print_law.proofs.Carried.{Carries, Any, Both, Fun, then_carried, map_carried, either_carried, past_carried, known_carried, whole_carried, onto, token_any, mark_any, behind_token, behind_mark, behind_word, before_token, folded_carried}
+use Rattle.lola_parser_print_law.proofs.Carried.{Carries, Any, Both, Fun, then_carried, map_carried, either_carried, past_carried, known_carried, whole_carried, onto, token_any, nesting_any, behind_token, behind_nesting, behind_word, before_token, folded_carried}
 use Rattle.lola_parser_print_law.proofs.Leaves.{lexed-append, lexed_bracketed, lexed_if, SameName, erased_name, name_carried, other_name_carried, SameQuantity, quantity_carried}
 use Rattle.lola_parser_print_law.proofs.Forms.{global_lexed, local_lexed}
 use Rattle.lola_parser_print_law.proofs.InStep.{always}
@@ -81,13 +81,13 @@ module _ (W : Type 0) where
     atom_carried =
         either_carried W SameFormula (Map (λ n. f.Input n) g.name) _
         (map_carried W (SameName W) SameFormula (λ n. f.Input n) g.name (λ x y r. same_input x y r) (name_carried W))
-        (behind_mark W SameFormula is.Open _ (before_token W SameFormula is.Shut F hF))
+        (behind_nesting W SameFormula is.Open _ (before_token W SameFormula is.Shut F hF))
 
     conjunctions_carried : Carries W (Fun SameFormula SameFormula) (g.conjunctions_of F)
     unfolding g.conjunctions_of
     conjunctions_carried =
-        folded_carried W SameFormula (Both Any SameFormula) g.both (Then (mark is.And) (g.atom F)) (λ x y r b c q. same_both b.0 c.0 x y b.1 c.1 r q.1)
-        (then_carried W Any SameFormula (mark is.And) (g.atom F) (mark_any W is.And) atom_carried)
+        folded_carried W SameFormula (Both Any SameFormula) g.both (Then (nesting is.And) (g.atom F)) (λ x y r b c q. same_both b.0 c.0 x y b.1 c.1 r q.1)
+        (then_carried W Any SameFormula (nesting is.And) (g.atom F) (nesting_any W is.And) atom_carried)
 
     conjunct_carried : Carries W SameFormula (g.conjunct F)
     unfolding g.conjunct
@@ -96,8 +96,8 @@ module _ (W : Type 0) where
     alternatives_carried : Carries W (Fun SameFormula SameFormula) (g.alternatives_of F)
     unfolding g.alternatives_of
     alternatives_carried =
-        folded_carried W SameFormula (Both Any SameFormula) g.either (Then (mark is.Or) (g.conjunct F)) (λ x y r b c q. same_either b.0 c.0 x y b.1 c.1 r q.1)
-        (then_carried W Any SameFormula (mark is.Or) (g.conjunct F) (mark_any W is.Or) conjunct_carried)
+        folded_carried W SameFormula (Both Any SameFormula) g.either (Then (nesting is.Or) (g.conjunct F)) (λ x y r b c q. same_either b.0 c.0 x y b.1 c.1 r q.1)
+        (then_carried W Any SameFormula (nesting is.Or) (g.conjunct F) (nesting_any W is.Or) conjunct_carried)
 
     formula_with_carried : Carries W SameFormula (g.formula_with F)
     unfolding g.formula_with

@@ -12,9 +12,9 @@ use Rattle.lola_parser_tree.specs.declared.pacing.Formula.{Formula, more_of-Form
 use Rattle.lola_parser_tree.specs.declared.pacing.Formula.TheVariants as f
 use Rattle.lola_parser_tree.specs.declared.pacing.Formula.TheBlock as F
 use Rattle.lola_parser_grammars_law.specs.Syntax.{Lexeme, Spells}
-use Rattle.lola_parser_grammars_law.specs.Marks.{marks_in}
+use Rattle.lola_parser_grammars_law.specs.Nestings.{nestings_in}
 use Rattle.lola_parser_grammar.specs.Grammar as g
-use Rattle.lola_parser_grammar.specs.Grammar.{all_marks}
+use Rattle.lola_parser_grammar.specs.Grammar.{all_nestings}
 use Rattle.lola_parser_print.specs.Print as out
 use Rattle.lola_parser_print.specs.Print.{lex, bare, print, level, heads, tightness, left_of, shape_of, bracketed_if, default_tail, bare_formula, print_formula, formula_level}
 use Rattle.lola_parser_print.proofs.Equations.{bare-Reference, bare-Defaults, default_of-Reference}
@@ -125,15 +125,15 @@ mutual
   further_same (more_of-Expr x rest) =
       ap (λ (ts : List Lexeme). lex is.Comma ∷ (ts ++ out.further_list (erased.exprs rest))) (bare_same x) ∙ ap (λ (ts : List Lexeme). lex is.Comma ∷ (bare x ++ ts)) (further_same rest)
 
--- the printed tokens spell the tree, and nothing that spells it has fewer marks, places left aside
+-- the printed tokens spell the tree, and nothing that spells it has fewer nestings, places left aside
 pub printed_fewest : PrintedIsFewest
 unfolding Spells g.whole
 printed_fewest m x fit = (whole_spelled m x fit, anywhere)
   where
-    anywhere : (n : ℕ) (ts : List Lexeme) (y : Expr) → Spells (g.expr_in n) ts y → erased.expr y ≡ erased.expr x → marks_in all_marks (bare x) ≤ marks_in all_marks ts
+    anywhere : (n : ℕ) (ts : List Lexeme) (y : Expr) → Spells (g.expr_in n) ts y → erased.expr y ≡ erased.expr x → nestings_in all_nestings (bare x) ≤ nestings_in all_nestings ts
     anywhere n ts y h same =
         let printed : bare y ≡ bare x = sym (bare_same y) ∙ ap bare same ∙ bare_same x in
-        subst (λ (us : List Lexeme). marks_in all_marks us ≤ marks_in all_marks ts) printed (fewest n ts y h)
+        subst (λ (us : List Lexeme). nestings_in all_nestings us ≤ nestings_in all_nestings ts) printed (fewest n ts y h)
 
 -- ---- formulas
 
@@ -160,7 +160,7 @@ formula_same (f.Either' p q (more_of-Formula x end_of-Formula) r (more_of-Formul
 pub printed_formula_fewest : PrintedFormulaIsFewest
 printed_formula_fewest m x fit = (formula_whole x m (formula_printed x m fit), anywhere)
   where
-    anywhere : (n : ℕ) (ts : List Lexeme) (y : Formula) → Spells (g.formula_in n) ts y → erased.formula y ≡ erased.formula x → marks_in all_marks (bare_formula x) ≤ marks_in all_marks ts
+    anywhere : (n : ℕ) (ts : List Lexeme) (y : Formula) → Spells (g.formula_in n) ts y → erased.formula y ≡ erased.formula x → nestings_in all_nestings (bare_formula x) ≤ nestings_in all_nestings ts
     anywhere n ts y h same =
         let printed : bare_formula y ≡ bare_formula x = sym (formula_same y) ∙ ap bare_formula same ∙ formula_same x in
-        subst (λ (us : List Lexeme). marks_in all_marks us ≤ marks_in all_marks ts) printed (fewest_of_formula n ts y h)
+        subst (λ (us : List Lexeme). nestings_in all_nestings us ≤ nestings_in all_nestings ts) printed (fewest_of_formula n ts y h)

@@ -18,7 +18,7 @@ use Rattle.lola_parser_tree.specs.declared.clauses.Part.{Part}
 use Rattle.lola_parser_grammars_law.specs.Syntax.{Lexeme, fits, Syntax, Then, Maybe, Many, Spells}
 use Rattle.lola_parser_grammars_law.proofs.Tests.{shapes_same}
 use Rattle.lola_parser_grammar.specs.Grammar as g
-use Rattle.lola_parser_grammar.specs.Grammar.{token, mark, word, expr_in, other_in, formula_in, ◌*>◌, ◌<*◌}
+use Rattle.lola_parser_grammar.specs.Grammar.{token, nesting, word, expr_in, other_in, formula_in, ◌*>◌, ◌<*◌}
 use Rattle.lola_parser_print.specs.Print as out
 use Rattle.lola_parser_print.specs.Print.{lex, bare}
 use Rattle.lola_parser_print_law.specs.Erased as erased
@@ -126,7 +126,7 @@ regrouped o i c b w = simp append_assoc
 
 module _ (E O : Syntax Expr) where
   of_bracket : (u v w : List Lexeme) (x y : Expr) (tail : Expr → Expr) → u ≡ v ++ w → x ≡ tail y → Spells (g.bracketed E O) v y → Spells (g.disjunctions E O) w tail → Opened E O u x
-  unfolding Spells g.bracketed g.closed token mark
+  unfolding Spells g.bracketed g.closed token nesting
   of_bracket u v w x y tail eu ex h hw =
       let outer = h.2 in
       let opened = outer.3.2 in

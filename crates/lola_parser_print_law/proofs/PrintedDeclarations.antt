@@ -17,7 +17,7 @@ use Rattle.lola_parser_tree.specs.declared.declarations.Declaration.{Declaration
 use Rattle.lola_parser_tree.specs.declared.declarations.Declaration.TheVariants as d
 use Rattle.lola_parser_grammars_law.specs.Syntax.{Lexeme, Then, Maybe, Many, Spells}
 use Rattle.lola_parser_grammar.specs.Grammar as g
-use Rattle.lola_parser_grammar.specs.Grammar.{token, mark, ◌*>◌, ◌<*◌}
+use Rattle.lola_parser_grammar.specs.Grammar.{token, nesting, ◌*>◌, ◌<*◌}
 use Rattle.lola_parser_print.specs.Print as out
 use Rattle.lola_parser_print.specs.Print.{lex, bare}
 use Rattle.lola_parser_print_law.specs.Erased as erased

@@ -16,13 +16,13 @@ use Rattle.lola_parser_tree.specs.declared.expressions.Expr.TheBlock as X
 use Rattle.lola_parser_tree.specs.declared.literals.Name.{Name}
 use Rattle.lola_parser_grammars_law.specs.Syntax.{Lexeme, Syntax, Maybe, Many, Spells}
 use Rattle.lola_parser_grammar.specs.Grammar as g
-use Rattle.lola_parser_grammar.specs.Grammar.{token, mark, reference, expr_in, other_in, ◌*>◌, ◌<*◌}
+use Rattle.lola_parser_grammar.specs.Grammar.{token, nesting, reference, expr_in, other_in, ◌*>◌, ◌<*◌}
 use Rattle.lola_parser_print.specs.Print as out
 use Rattle.lola_parser_print.specs.Print.{lex, print, bare, level, heads, tightness, left_of, shape_of, bracketed_if}
 use Rattle.lola_parser_print_law.specs.Erased as erased
 use Rattle.lola_parser_print_law.specs.Fitting.{need, need_row}
 use Rattle.lola_parser_print_law.specs.Erased.{ValueReads, AccessReads, ExprReads, RowReads}
-use Rattle.lola_parser_print_law.proofs.Single.{token_spelled, mark_spelled, after, before}
+use Rattle.lola_parser_print_law.proofs.Single.{token_spelled, nesting_spelled, after, before}
 use Rattle.lola_parser_print_law.proofs.Operands.{number_only, negative_only, truth_spelled, text_literal_spelled, in_brackets, bare_name, access_suffixed, access_or_suffixed}
 use Rattle.lola_parser_print_law.proofs.Levels.{At, down, binary_spelled, Tail, tail_other, Operand, Post, post_operand, post_default, operand_unary, not_spelled, minus_spelled, if_spelled, plain_name}
 
@@ -212,7 +212,7 @@ args_spelled E O u w x xs h k = (
   lex is.Open ∷ [],
   u ++ (w ++ lex is.Shut ∷ []),
   refl,
-  mark_spelled is.Open,
+  nesting_spelled is.Open,
   subst (λ (l : List Lexeme). Spells (g.listed E <* token is.Shut) l (x ∷ xs)) (append_assoc u w (lex is.Shut ∷ []))
       (before (g.listed E) (token is.Shut) (u ++ w) (lex is.Shut ∷ []) (x ∷ xs) 0 ((x, xs), refl, (u, w, refl, h, k)) (token_spelled is.Shut)),
 )

@@ -9,12 +9,12 @@ use Rattle.lola_parser_tree.specs.declared.pacing.Formula.TheVariants as f
 use Rattle.lola_parser_tree.specs.declared.pacing.Formula.TheBlock as X
 use Rattle.lola_parser_grammars_law.specs.Syntax.{Lexeme, Syntax, Then, Spells}
 use Rattle.lola_parser_grammar.specs.Grammar as g
-use Rattle.lola_parser_grammar.specs.Grammar.{token, mark, formula_in, ◌*>◌, ◌<*◌}
+use Rattle.lola_parser_grammar.specs.Grammar.{token, nesting, formula_in, ◌*>◌, ◌<*◌}
 use Rattle.lola_parser_print.specs.Print as out
 use Rattle.lola_parser_print.specs.Print.{lex, bracketed_if, print_formula, bare_formula, formula_level}
 use Rattle.lola_parser_print_law.specs.Erased as erased
 use Rattle.lola_parser_print_law.specs.Erased.{formula_need}
-use Rattle.lola_parser_print_law.proofs.Single.{token_spelled, mark_spelled, name_spelled, after, before, both, joined_none, joined_more}
+use Rattle.lola_parser_print_law.proofs.Single.{token_spelled, nesting_spelled, name_spelled, after, before, both, joined_none, joined_more}
 
 abbrev pub FormulaAt : ℕ → Syntax Formula → Syntax Formula
 FormulaAt zero F = g.formula_with F
@@ -24,8 +24,8 @@ FormulaAt (suc (suc k)) F = g.atom F
 module _ (F : Syntax Formula) where
   up : (u : List Lexeme) (x : Formula) (j : ℕ) → j < 2 → Spells (FormulaAt (suc j) F) u x → Spells (FormulaAt j F) u x
   unfolding g.formula_with g.alternatives_of g.conjunct g.conjunctions_of
-  up u x zero l h = joined_none g.either (g.conjunct F) (Then (mark is.Or) (g.conjunct F)) u x h
-  up u x (suc zero) l h = joined_none g.both (g.atom F) (Then (mark is.And) (g.atom F)) u x h
+  up u x zero l h = joined_none g.either (g.conjunct F) (Then (nesting is.Or) (g.conjunct F)) u x h
+  up u x (suc zero) l h = joined_none g.both (g.atom F) (Then (nesting is.And) (g.atom F)) u x h
   up u x (suc (suc j)) l h = absurd (omega (arith, l))
 
   down : (u : List Lexeme) (x : Formula) (j k : ℕ) → k ≤ j → j ≤ 2 → Spells (FormulaAt j F) u x → Spells (FormulaAt k F) u x
@@ -38,12 +38,12 @@ module _ (F : Syntax Formula) where
   both_spelled : (u w : List Lexeme) (a b : Formula) → Spells (FormulaAt 1 F) u a → Spells (FormulaAt 2 F) w b → Spells (FormulaAt 1 F) (u ++ (lex is.And ∷ w)) (f.Both 0 a b)
   unfolding g.conjunct g.conjunctions_of
   both_spelled u w a b h k =
-      joined_more g.both (g.atom F) (Then (mark is.And) (g.atom F)) u (lex is.And ∷ w) a (0, b) h (both (mark is.And) (g.atom F) (lex is.And ∷ []) w 0 b (mark_spelled is.And) k)
+      joined_more g.both (g.atom F) (Then (nesting is.And) (g.atom F)) u (lex is.And ∷ w) a (0, b) h (both (nesting is.And) (g.atom F) (lex is.And ∷ []) w 0 b (nesting_spelled is.And) k)
 
   either_spelled : (u w : List Lexeme) (a b : Formula) → Spells (FormulaAt 0 F) u a → Spells (FormulaAt 1 F) w b → Spells (FormulaAt 0 F) (u ++ (lex is.Or ∷ w)) (f.Either 0 a b)
   unfolding g.formula_with g.alternatives_of
   either_spelled u w a b h k =
-      joined_more g.either (g.conjunct F) (Then (mark is.Or) (g.conjunct F)) u (lex is.Or ∷ w) a (0, b) h (both (mark is.Or) (g.conjunct F) (lex is.Or ∷ []) w 0 b (mark_spelled is.Or) k)
+      joined_more g.either (g.conjunct F) (Then (nesting is.Or) (g.conjunct F)) u (lex is.Or ∷ w) a (0, b) h (both (nesting is.Or) (g.conjunct F) (lex is.Or ∷ []) w 0 b (nesting_spelled is.Or) k)
 
   input_spelled : (n : Name) → Spells (FormulaAt 2 F) (out.name n ∷ []) (f.Input (erased.name n))
   unfolding Spells g.atom
@@ -53,9 +53,9 @@ module _ (F : Syntax Formula) where
   unfolding Spells g.atom
   in_brackets u x h = inr (closed u x h)
     where
-      closed : (u : List Lexeme) (x : Formula) → Spells F u x → Spells (mark is.Open *> F <* token is.Shut) (out.bracketed u) x
+      closed : (u : List Lexeme) (x : Formula) → Spells F u x → Spells (nesting is.Open *> F <* token is.Shut) (out.bracketed u) x
       closed u x h =
-          after (mark is.Open) (F <* token is.Shut) (lex is.Open ∷ []) (u ++ lex is.Shut ∷ []) 0 x (mark_spelled is.Open)
+          after (nesting is.Open) (F <* token is.Shut) (lex is.Open ∷ []) (u ++ lex is.Shut ∷ []) 0 x (nesting_spelled is.Open)
           (before F (token is.Shut) u (lex is.Shut ∷ []) x 0 h (token_spelled is.Shut))
 
 pub record PrintedFormula (x : Formula) (n : ℕ) : Type 0 where

@@ -1,11 +1,11 @@
 -- The round trip.
 use Rattle.std.proofs.Common.{◌≡◌, ℕ, suc, ◌+◌, ◌≤◌, List, map, Ok, sym, ap, ◌∙◌, arith}
 use Rattle.lola_parser_tree.specs.declared.declarations.Declaration.{Declaration}
-use Rattle.lola_parser_grammars_law.specs.Syntax.{Lexeme, max_marks, read_all}
-use Rattle.lola_parser_grammars_law.specs.Marks.{Fits}
+use Rattle.lola_parser_grammars_law.specs.Syntax.{Lexeme, max_nestings, read_all}
+use Rattle.lola_parser_grammars_law.specs.Nestings.{Fits}
 use Rattle.lola_parser_grammars_law.proofs.All.{fitting_is_read}
 use Rattle.lola_parser_grammar.specs.Cursor.{lexemes}
-use Rattle.lola_parser_grammar.specs.Grammar.{specification, all_marks}
+use Rattle.lola_parser_grammar.specs.Grammar.{specification, all_nestings}
 use Rattle.lola_parser_grammar.specs.Whole.{most_levels}
 use Rattle.lola_parser_grammar.proofs.Fine.{specification_fine}
 use Rattle.lola_parser_grammar.proofs.Depth.{specification_counted}
@@ -35,13 +35,13 @@ places_free =
           (r.0, r.1, sym (same_erased ⊥ xs r.0 r.2));
     }
 
-enough : suc max_marks ≤ most_levels
+enough : suc max_nestings ≤ most_levels
 enough = omega arith
 
 pub within : ReadIsWithin
-within ts xs e = read_is_within all_marks (specification most_levels) (specification_counted most_levels enough) ts xs e
+within ts xs e = read_is_within all_nestings (specification most_levels) (specification_counted most_levels enough) ts xs e
 
-printable : (n : ℕ) (ts : List Lexeme) (xs : List Declaration) → AreLexed ts → Fits all_marks (specification n) ts xs → IsPrintable xs
+printable : (n : ℕ) (ts : List Lexeme) (xs : List Declaration) → AreLexed ts → Fits all_nestings (specification n) ts xs → IsPrintable xs
 printable n ts xs h s =
     let r = (specification_carried (Unit {0}) n).fitted ts ts (alike_from (Unit {0}) ts ts (same_self ts) (λ w. h)) xs s in
     record { fits = same_fit (Unit {0}) tt xs r.0 r.2; lexed = same_lexed (Unit {0}) tt xs r.0 r.2 }
@@ -51,10 +51,10 @@ read_printable z xs h =
     printable most_levels (lexemes z h.tokens) xs (cut_lexed z h.tokens h.cut) (within (lexemes z h.tokens) xs h.read)
 
 -- what is spelled within the limit, however many levels there are, is read
-read_at_last : (n : ℕ) → most_levels ≤ n → (ts : List Lexeme) (xs : List Declaration) → Fits all_marks (specification n) ts xs → read_all (specification most_levels) ts ≡ Ok xs
+read_at_last : (n : ℕ) → most_levels ≤ n → (ts : List Lexeme) (xs : List Declaration) → Fits all_nestings (specification n) ts xs → read_all (specification most_levels) ts ≡ Ok xs
 read_at_last n le ts xs h =
-    let more : suc max_marks ≤ n = omega (arith, le) in
-    sym (read_alike n most_levels more enough ts) ∙ fitting_is_read all_marks (specification n) (specification_fine n) (specification_counted n more) ts xs h
+    let more : suc max_nestings ≤ n = omega (arith, le) in
+    sym (read_alike n most_levels more enough ts) ∙ fitting_is_read all_nestings (specification n) (specification_fine n) (specification_counted n more) ts xs h
 
 pub reprinted : IsReprinted
 reprinted z xs h short =

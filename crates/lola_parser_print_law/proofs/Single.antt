@@ -9,7 +9,7 @@ use Rattle.lola_parser_tree.specs.declared.expressions.Binary.{Binary}
 use Rattle.lola_parser_tree.specs.declared.expressions.Expr.{Expr}
 use Rattle.lola_parser_grammars_law.specs.Syntax.{Lexeme, Of, fits, Syntax, Then, Map, Token, Repeats, Spells}
 use Rattle.lola_parser_grammars_law.proofs.Tests.{shapes_same}
-use Rattle.lola_parser_grammar.specs.Grammar.{token, mark, word, name, sign, Sign, join, joined_once, folded, ◌*>◌, ◌<*◌, ◌|>◌, ◌>>◌}
+use Rattle.lola_parser_grammar.specs.Grammar.{token, nesting, word, name, operator, Operator, join, joined_once, folded, ◌*>◌, ◌<*◌, ◌|>◌, ◌>>◌}
 use Rattle.lola_parser_print.specs.Print as out
 use Rattle.lola_parser_print.specs.Print.{lex, lex_of}
 
@@ -23,9 +23,9 @@ pub token_spelled : (s : TokenShape) → Spells (token s) (lex s ∷ []) 0
 unfolding Spells token
 token_spelled s = (lex s, refl, (refl, shape_fits s (lex s).text))
 
-pub mark_spelled : (s : TokenShape) → Spells (mark s) (lex s ∷ []) 0
-unfolding Spells mark
-mark_spelled s = (lex s, refl, (refl, shape_fits s (lex s).text))
+pub nesting_spelled : (s : TokenShape) → Spells (nesting s) (lex s ∷ []) 0
+unfolding Spells nesting
+nesting_spelled s = (lex s, refl, (refl, shape_fits s (lex s).text))
 
 pub shape_spelled : (s : TokenShape) (w : List ℕ) → Spells (Token (Of s)) (lex_of s w ∷ []) (lex_of s w)
 unfolding Spells
@@ -123,15 +123,15 @@ module _ {A B : Type 0} (f : B → A → B) (start : Syntax B) (tail : Syntax (B
       )
 
 -- A comparison, behind a tail.
-module _ (start : Syntax Expr) (tail : Syntax (Expr → Expr)) (signs : Syntax Sign) (operand : Syntax Expr) where
-  pub once_none : (u : List Lexeme) (x : Expr) → Spells (start |> tail) u x → Spells (start |> (tail >> joined_once signs operand)) u x
+module _ (start : Syntax Expr) (tail : Syntax (Expr → Expr)) (operators : Syntax Operator) (operand : Syntax Expr) where
+  pub once_none : (u : List Lexeme) (x : Expr) → Spells (start |> tail) u x → Spells (start |> (tail >> joined_once operators operand)) u x
   unfolding Spells
   once_none u x h =
       let p = h.2 in
       ((h.0.0, λ left. h.0.1 left), h.1, (p.0, p.1, p.2, p.3, ((h.0.1, λ left. left), refl, (p.1, [], sym (append-nil p.1), p.4, (None, refl, refl)))))
 
-  pub once_one : (u v w : List Lexeme) (x : Expr) (s : Sign) (y : Expr) → Spells (start |> tail) u x → Spells signs v s → Spells operand w y
-      → Spells (start |> (tail >> joined_once signs operand)) (u ++ (v ++ w)) (join x (s, y))
+  pub once_one : (u v w : List Lexeme) (x : Expr) (s : Operator) (y : Expr) → Spells (start |> tail) u x → Spells operators v s → Spells operand w y
+      → Spells (start |> (tail >> joined_once operators operand)) (u ++ (v ++ w)) (join x (s, y))
   unfolding Spells
   once_one u v w x s y h k l =
       let p = h.2 in
@@ -141,6 +141,6 @@ module _ (start : Syntax Expr) (tail : Syntax (Expr → Expr)) (signs : Syntax S
         (p.0, p.1 ++ (v ++ w), parts, p.3, ((h.0.1, λ left. join left (s, y)), refl, (p.1, v ++ w, refl, p.4, (Some (s, y), refl, (v, w, refl, k, l))))),
       )
 
-pub sign_spelled : (s : TokenShape) (op : Binary) → Spells (sign s op) (lex s ∷ []) (op, 0)
-unfolding Spells sign
-sign_spelled s op = (0, refl, mark_spelled s)
+pub operator_spelled : (s : TokenShape) (op : Binary) → Spells (operator s op) (lex s ∷ []) (op, 0)
+unfolding Spells operator
+operator_spelled s op = (0, refl, nesting_spelled s)

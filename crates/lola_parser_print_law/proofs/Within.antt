@@ -1,4 +1,4 @@
--- What is printed keeps the limit of marks in each whole expression and formula, where the trees need no more.
+-- What is printed keeps the limit of nestings in each whole expression and formula, where the trees need no more.
 use Rattle.std.proofs.Common.{◌≡◌, ℕ, suc, ◌+◌, ◌≤◌, Bool, true, false, ◌&&◌, List, [], ◌∷◌, ◌++◌, map, Option, Some, None, refl, sym, ap, subst, ◌∙◌, append-nil, arith, inl, inr, ◌⊎◌}
 use Rattle.std.specs.Prelude.{codes}
 use Rattle.std.proofs.lemmas.Bool.{and_parts}
@@ -21,11 +21,11 @@ use Rattle.lola_parser_tree.specs.declared.declarations.Output.{Output}
 use Rattle.lola_parser_tree.specs.declared.declarations.Trigger.{Trigger}
 use Rattle.lola_parser_tree.specs.declared.declarations.Declaration.{Declaration}
 use Rattle.lola_parser_tree.specs.declared.declarations.Declaration.TheVariants as d
-use Rattle.lola_parser_grammars_law.specs.Syntax.{Lexeme, Syntax, Past, Token, Mark, Whole, Known, Then, Map, Either, Maybe, Many, Fork, Repeats, Spells, max_marks}
-use Rattle.lola_parser_grammars_law.specs.Marks as marks
-use Rattle.lola_parser_grammars_law.specs.Marks.{marks_in}
+use Rattle.lola_parser_grammars_law.specs.Syntax.{Lexeme, Syntax, Past, Token, Nesting, Whole, Known, Then, Map, Either, Maybe, Many, Fork, Repeats, Spells, max_nestings}
+use Rattle.lola_parser_grammars_law.specs.Nestings as nestings
+use Rattle.lola_parser_grammars_law.specs.Nestings.{nestings_in}
 use Rattle.lola_parser_grammar.specs.Grammar as g
-use Rattle.lola_parser_grammar.specs.Grammar.{all_marks, token, mark, word, expr_in, other_in, formula_in, ◌*>◌, ◌<*◌}
+use Rattle.lola_parser_grammar.specs.Grammar.{all_nestings, token, nesting, word, expr_in, other_in, formula_in, ◌*>◌, ◌<*◌}
 use Rattle.lola_parser_print.specs.Print as out
 use Rattle.lola_parser_print.specs.Print.{lex, bare, bare_formula}
 use Rattle.lola_parser_print_law.specs.Erased as erased
@@ -37,19 +37,19 @@ use Rattle.lola_parser_print_law.proofs.PrintedFormulas.{formula_printed, formul
 use Rattle.lola_parser_print_law.proofs.PrintedClauses.{other_spelled, clock_call, whole_spelled, whole_level, Opened, open_or, some_parts}
 use Rattle.lola_parser_print_law.proofs.PrintedDeclarations.{inputs_spelled, constant_spelled, parameters_spelled, bracketed_typed, kind_spelled, message_spelled, bracket_is, parameters_are, parts_are}
 use Rattle.lola_parser_print_law.proofs.Counts.{count, count_is, count-append, is-Open, name_free, count-nil}
-use Rattle.lola_parser_print_law.proofs.Costs.{marked}
+use Rattle.lola_parser_print_law.proofs.Costs.{with_nestings}
 use Rattle.lola_parser_print_law.proofs.Limits.{Small, SmallRhythm, IfSome, Each, SmallPacing, SmallPart, SmallSpawn, SmallEval, SmallClose, SmallBody, SmallDeclaration}
 
 -- the tokens are a sentence of it, with this value, within the limit
 abbrev Keeps : {A : Type 0} → Syntax A → List Lexeme → A → Type 0
-Keeps s ts x = marks.Fits all_marks s ts x
+Keeps s ts x = nestings.Fits all_nestings s ts x
 
 -- ---- parts without whole expressions
 
 unfoldable is_plain : {A : Type 0} → Syntax A → Bool
 is_plain (Past a) = is_plain a
 is_plain (Token k) = true
-is_plain (Mark k) = true
+is_plain (Nesting k) = true
 is_plain (Whole a) = false
 is_plain (Known fs ms a) = is_plain a
 is_plain (Then a b) = is_plain a && is_plain b
@@ -64,10 +64,10 @@ repeats_all P Q each ts [] h = h
 repeats_all P Q each ts (x ∷ xs) h = (h.0, h.1, h.2, each h.0 x h.3, repeats_all P Q each h.1 xs h.4)
 
 plain : {A : Type 0} (s : Syntax A) → is_plain s ≡ true → (ts : List Lexeme) (x : A) → Spells s ts x → Keeps s ts x
-unfolding Spells marks.Fits is_plain
+unfolding Spells nestings.Fits is_plain
 plain (Past a) p ts x h = plain a p ts x h
 plain (Token k) p ts x h = h
-plain (Mark k) p ts x h = h
+plain (Nesting k) p ts x h = h
 plain (Whole a) p ts x h = absurd cc
 plain (Known fs ms a) p ts x h = plain a p ts x h
 plain (Then a b) p ts x h = let q = and_parts (is_plain a) (is_plain b) p in (h.0, h.1, h.2, plain a q.0 h.0 x.0 h.3, plain b q.1 h.1 x.1 h.4)
@@ -82,28 +82,28 @@ plain (Fork ks a b c) p ts x h = absurd cc
 -- ---- one after the other
 
 after : {A B : Type 0} (a : Syntax A) (b : Syntax B) (u v : List Lexeme) (x : A) (y : B) → Keeps a u x → Keeps b v y → Keeps (a *> b) (u ++ v) y
-unfolding marks.Fits
+unfolding nestings.Fits
 after a b u v x y h k = ((x, y), refl, (u, v, refl, h, k))
 
 before : {A B : Type 0} (a : Syntax A) (b : Syntax B) (u v : List Lexeme) (x : A) (y : B) → Keeps a u x → Keeps b v y → Keeps (a <* b) (u ++ v) x
-unfolding marks.Fits
+unfolding nestings.Fits
 before a b u v x y h k = ((x, y), refl, (u, v, refl, h, k))
 
 both : {A B : Type 0} (a : Syntax A) (b : Syntax B) (u v : List Lexeme) (x : A) (y : B) → Keeps a u x → Keeps b v y → Keeps (Then a b) (u ++ v) (x, y)
-unfolding marks.Fits
+unfolding nestings.Fits
 both a b u v x y h k = (u, v, refl, h, k)
 
 mapped : {A B : Type 0} (f : A → B) (a : Syntax A) (u : List Lexeme) (x : A) → Keeps a u x → Keeps (Map f a) u (f x)
-unfolding marks.Fits
+unfolding nestings.Fits
 mapped f a u x h = (x, refl, h)
 
 token_kept : (s : TokenShape) → Keeps (token s) (lex s ∷ []) 0
-unfolding marks.Fits token is_plain
+unfolding nestings.Fits token is_plain
 token_kept s = plain (token s) refl (lex s ∷ []) 0 (token_spelled s)
 
--- a whole expression or formula that needs no more marks
-within : {A : Type 0} (s : Syntax A) (ts : List Lexeme) (x : A) → Spells s ts x → count ts ≤ max_marks → Keeps (Whole s) ts x
-unfolding marks.Fits
+-- a whole expression or formula that needs no more nestings
+within : {A : Type 0} (s : Syntax A) (ts : List Lexeme) (x : A) → Spells s ts x → count ts ≤ max_nestings → Keeps (Whole s) ts x
+unfolding nestings.Fits
 within s ts x h few = (h, omega (arith, count_is ts, few))
 
 -- ---- pacings
@@ -113,8 +113,8 @@ enclosed_kept s u x h =
     after (token is.Open) (s <* token is.Shut) (lex is.Open ∷ []) (u ++ lex is.Shut ∷ []) 0 x (token_kept is.Open)
     (before s (token is.Shut) u (lex is.Shut ∷ []) x 0 h (token_kept is.Shut))
 
-formula_kept : (n : ℕ) (x : Formula) → formula_need x ≤ n → count (bare_formula x) ≤ max_marks → Keeps (g.rhythm (suc n)) (out.bracketed (bare_formula x)) (r.Formula (erased.formula x))
-unfolding marks.Fits g.rhythm g.whole_formula
+formula_kept : (n : ℕ) (x : Formula) → formula_need x ≤ n → count (bare_formula x) ≤ max_nestings → Keeps (g.rhythm (suc n)) (out.bracketed (bare_formula x)) (r.Formula (erased.formula x))
+unfolding nestings.Fits g.rhythm g.whole_formula
 formula_kept n x le few =
     inr (inr (inl (
       erased.formula x,
@@ -123,11 +123,11 @@ formula_kept n x le few =
     )))
 
 input_kept : (n : ℕ) (nm : Name) (b : Bool) → out.is_clock nm.text ≡ b → Keeps (g.rhythm (suc n)) (out.bracketed_if b (out.name nm ∷ [])) (r.Formula (f.Input (erased.name nm)))
-unfolding marks.Fits g.rhythm g.other_name is_plain
+unfolding nestings.Fits g.rhythm g.other_name is_plain
 input_kept n nm true h = formula_kept n (f.Input nm) (omega arith) (omega (arith, name_free nm.text [], count-nil))
 input_kept n nm false h = inr (inl (erased.name nm, refl, plain (g.other_name g.clock_words) refl (out.name nm ∷ []) (erased.name nm) (other_spelled nm h)))
 
-event_kept : (n : ℕ) (x : Formula) → formula_need x ≤ n → count (bare_formula x) ≤ max_marks → Keeps (g.rhythm (suc n)) (out.event x) (r.Formula (erased.formula x))
+event_kept : (n : ℕ) (x : Formula) → formula_need x ≤ n → count (bare_formula x) ≤ max_nestings → Keeps (g.rhythm (suc n)) (out.event x) (r.Formula (erased.formula x))
 event_kept n (f.Input nm) le few = input_kept n nm (out.is_clock nm.text) refl
 event_kept n x le few = formula_kept n x le few
 
@@ -140,7 +140,7 @@ unfolding word token g.quantity is_plain
 clock_kept w q h = plain (word w *> g.enclosed g.quantity) refl (out.word w ∷ out.bracketed (out.quantity q ∷ [])) (erased.quantity q) (clock_call w q h)
 
 rhythm_kept : (n : ℕ) (x : Rhythm) → RhythmFits n x → SmallRhythm x → Keeps (g.rhythm (suc n)) (out.rhythm x) (erased.rhythm x)
-unfolding marks.Fits g.rhythm g.clock
+unfolding nestings.Fits g.rhythm g.clock
 rhythm_kept n (r.Rate q) h k = inl (erased.quantity q, refl, quantity_kept q h)
 rhythm_kept n (r.Formula x) h k = event_kept n x h k
 rhythm_kept n (r.Global q) h k = inr (inr (inr (inl (erased.quantity q, refl, clock_kept (codes "Global") q h))))
@@ -152,7 +152,7 @@ pacing_kept n p h k = mapped _ _ (out.pacing p) (0, erased.rhythm p.rhythm) (bot
 
 maybe_kept : {A : Type 0} (s : Syntax A) (f : A → List Lexeme) (e : A → A) (P Q : A → Type 0) → ((x : A) → P x → Q x → Keeps s (f x) (e x))
     → (o : Option A) → Perhaps P o → IfSome Q o → Keeps (Maybe s) (out.maybe f o) (erased.perhaps e o)
-unfolding marks.Fits
+unfolding nestings.Fits
 maybe_kept s f e P Q each None h k = refl
 maybe_kept s f e P Q each (Some x) h k = each x h k
 
@@ -173,23 +173,23 @@ part_kept n s p h k = mapped _ _ (out.part s p) (0, erased.expr p.expr) (both (t
 -- ---- what stands behind `with`
 
 one_open : (u : List Lexeme) (x : ℕ) → Spells (token is.Open) u x → 1 ≤ count u
-unfolding Spells token mark
-one_open u x h = marked is.Open is-Open u x h
+unfolding Spells token nesting
+one_open u x h = with_nestings is.Open is-Open u x h
 
 -- one expression
 module _ (n : ℕ) where
   abbrev Placed : List Lexeme → List Part → Type 0
   Placed u ps = (v : ℕ → List Part) × Keeps (g.parts n) u v × (v 0 ≡ ps)
 
-  unbracketed_part : (u : List Lexeme) (x : Expr) → count u ≤ max_marks → Spells (g.open_expr (expr_in n) (other_in n)) u x → Placed u (g.part 0 x ∷ [])
-  unfolding Spells marks.Fits g.parts g.whole_unbracketed g.unbracketed
+  unbracketed_part : (u : List Lexeme) (x : Expr) → count u ≤ max_nestings → Spells (g.open_expr (expr_in n) (other_in n)) u x → Placed u (g.part 0 x ∷ [])
+  unfolding Spells nestings.Fits g.parts g.whole_unbracketed g.unbracketed
   unbracketed_part u x few h = ((λ at. g.part at x ∷ []), inr (x, refl, (h, omega (arith, count_is u, few))), refl)
 
-  bracketed_part : (u : List Lexeme) (x : Expr) → count u ≤ max_marks → Opened (expr_in n) (other_in n) u x → Placed u (g.part 0 x ∷ [])
-  unfolding Spells marks.Fits g.parts g.forked g.one_part token
+  bracketed_part : (u : List Lexeme) (x : Expr) → count u ≤ max_nestings → Opened (expr_in n) (other_in n) u x → Placed u (g.part 0 x ∷ [])
+  unfolding Spells nestings.Fits g.parts g.forked g.one_part token
   bracketed_part u x few h =
       let all : count u ≡ count h.bracket + (count h.inner + count h.rest) = ap count h.joins ∙ omega (arith, count-append h.bracket (h.inner ++ h.rest), count-append h.inner h.rest) in
-      let limit : suc (marks_in all_marks h.inner + marks_in all_marks h.rest) ≤ max_marks = omega (arith, count_is h.inner, count_is h.rest, all, few, one_open h.bracket h.place h.opens) in (
+      let limit : suc (nestings_in all_nestings h.inner + nestings_in all_nestings h.rest) ≤ max_nestings = omega (arith, count_is h.inner, count_is h.rest, all, few, one_open h.bracket h.place h.opens) in (
         (λ at. g.part at (h.goes_on h.value) ∷ []),
         inl (
           (h.place, (h.value, λ y bracket at. g.part at (h.goes_on y) ∷ [])),
@@ -199,14 +199,14 @@ module _ (n : ℕ) where
         ap (λ (z : Expr). g.part 0 z ∷ []) (sym h.whole),
       )
 
-  one_by : (u : List Lexeme) (x : Expr) → count u ≤ max_marks → Spells (g.open_expr (expr_in n) (other_in n)) u x ⊎ Opened (expr_in n) (other_in n) u x → Placed u (g.part 0 x ∷ [])
+  one_by : (u : List Lexeme) (x : Expr) → count u ≤ max_nestings → Spells (g.open_expr (expr_in n) (other_in n)) u x ⊎ Opened (expr_in n) (other_in n) u x → Placed u (g.part 0 x ∷ [])
   one_by u x few (inl h) = unbracketed_part u x few h
   one_by u x few (inr h) = bracketed_part u x few h
 
   -- several behind a bracket
-  more_by : (u w : List Lexeme) (x : Expr) (q : Part) (qs : List Part) → count u ≤ max_marks → Spells (expr_in n) u x → Keeps (Then (g.part_behind n is.Comma) (Many (g.part_behind n is.Comma))) w (q, qs)
+  more_by : (u w : List Lexeme) (x : Expr) (q : Part) (qs : List Part) → count u ≤ max_nestings → Spells (expr_in n) u x → Keeps (Then (g.part_behind n is.Comma) (Many (g.part_behind n is.Comma))) w (q, qs)
       → Placed (lex is.Open ∷ (u ++ (w ++ lex is.Shut ∷ []))) (g.part 0 x ∷ q ∷ qs)
-  unfolding marks.Fits g.parts g.forked g.more_parts
+  unfolding nestings.Fits g.parts g.forked g.more_parts
   more_by u w x q qs few h k = (
     (λ at. g.part 0 x ∷ q ∷ qs),
     inl (
@@ -233,11 +233,11 @@ module _ (n : ℕ) where
   )
 
   with_by : (u : List Lexeme) (ps : List Part) → Placed u ps → Keeps (g.with_parts n) (lex is.With ∷ u) ps
-  unfolding marks.Fits g.with_parts
+  unfolding nestings.Fits g.with_parts
   with_by u ps (v, h, e) = ((0, v), sym e, (lex is.With ∷ [], u, refl, token_kept is.With, h))
 
 commas_kept : (n : ℕ) (ps : List Part) → AllFit n ps → Each SmallPart ps → Keeps (Many (g.part_behind (suc n) is.Comma)) (out.further_parts ps) (map erased.part ps)
-unfolding marks.Fits
+unfolding nestings.Fits
 commas_kept n [] h k = refl
 commas_kept n (p ∷ ps) h k = (out.part is.Comma p, out.further_parts ps, refl, part_kept n is.Comma p h.0 k.0, commas_kept n ps h.1 k.1)
 
@@ -247,7 +247,7 @@ comma_list n p ps h few hs fews =
     both (g.part_behind (suc n) is.Comma) (Many (g.part_behind (suc n) is.Comma)) (out.part is.Comma p) (out.further_parts ps) (erased.part p) (map erased.part ps) (part_kept n is.Comma p h few) (commas_kept n ps hs fews)
 
 parts_kept : (n : ℕ) (ps : List Part) → AllFit n ps → Each SmallPart ps → Keeps (Maybe (g.with_parts (suc n))) (out.with_parts ps) (some_parts ps)
-unfolding marks.Fits
+unfolding nestings.Fits
 parts_kept n [] h k = refl
 parts_kept n (p ∷ []) h k =
     with_by (suc n) (bare p.expr) (erased.part p ∷ [])
@@ -305,14 +305,14 @@ module _ (n : ℕ) where
 
   alone_kept : (at : ℕ) (p : Option Pacing) (w : Option Part) (q : Part) → EvalFits n (record { at = at; pacing = p; when = w; with = q }) → SmallEval (record { at = at; pacing = p; when = w; with = q })
       → Body None (record { at = at; pacing = p; when = w; with = q }) None
-  unfolding marks.Fits g.body
+  unfolding nestings.Fits g.body
   alone_kept at p None q h k = inl (erased.eval (record { at = at; pacing = p; when = None; with = q }), refl, short_kept at p q h.pacing k.pacing h.with k.with)
   alone_kept at p (Some w) q h k =
       let x : Eval = record { at = at; pacing = p; when = Some w; with = q } in
       inr (inl (erased.eval x, refl, subst (λ (l : List Lexeme). Keeps (g.eval (suc n)) l (erased.eval x)) (sym (append-nil (out.eval x))) (eval_kept x h k)))
 
   body_kept : (s : Option Spawn) (x : Eval) (c : Option Close) → BodyFits n s x c → SmallBody s x c → Body s x c
-  unfolding marks.Fits g.body
+  unfolding nestings.Fits g.body
   body_kept None x None h k = alone_kept x.at x.pacing x.when x.with h.eval k.eval
   body_kept None x (Some c) h k = absurd (clash (h.alone refl))
     where
@@ -384,13 +384,13 @@ trigger_kept n t h k =
     (plain g.message message_plain (out.message t.message) t.message (message_spelled t.message h.2)))))
 
 declaration_kept : (n : ℕ) (x : Declaration) → DeclarationFits n x → SmallDeclaration x → Keeps (g.declaration (suc n)) (out.declaration x) (erased.declaration x)
-unfolding marks.Fits g.declaration
+unfolding nestings.Fits g.declaration
 declaration_kept n (d.Inputs i) h k = inl (plain g.inputs inputs_plain (out.declaration (d.Inputs i)) (erased.declaration (d.Inputs i)) (inputs_spelled i.at i.inputs h))
 declaration_kept n (d.Constant c) h k = inr (inl (plain g.constant constant_plain (out.declaration (d.Constant c)) (erased.declaration (d.Constant c)) (constant_spelled c h)))
 declaration_kept n (d.Output o) h k = inr (inr (inl (output_kept n o h k)))
 declaration_kept n (d.Trigger t) h k = inr (inr (inr (trigger_kept n t h k)))
 
-pub specification_kept : (n : ℕ) (xs : List Declaration) → AllDeclarationsFit n xs → Each SmallDeclaration xs → marks.Fits all_marks (g.specification (suc n)) (out.specification xs) (map erased.declaration xs)
-unfolding marks.Fits g.specification
+pub specification_kept : (n : ℕ) (xs : List Declaration) → AllDeclarationsFit n xs → Each SmallDeclaration xs → nestings.Fits all_nestings (g.specification (suc n)) (out.specification xs) (map erased.declaration xs)
+unfolding nestings.Fits g.specification
 specification_kept n [] h k = refl
 specification_kept n (x ∷ xs) h k = (out.declaration x, out.specification xs, refl, declaration_kept n x h.0 k.0, specification_kept n xs h.1 k.1)

@@ -4,22 +4,22 @@ use Rattle.lola_lexer.specs.declared.token.Token.{Token}
 use Rattle.lola_lexer.specs.Tokens.{tokens_of}
 use Rattle.lola_parser_tree.specs.declared.declarations.Declaration.{Declaration}
 use Rattle.lola_parser_grammars_law.specs.Syntax.{Lexeme, Spells, read_all}
-use Rattle.lola_parser_grammars_law.specs.Marks.{Fits}
+use Rattle.lola_parser_grammars_law.specs.Nestings.{Fits}
 use Rattle.lola_parser_grammar.specs.Cursor.{lexemes}
-use Rattle.lola_parser_grammar.specs.Grammar.{specification, all_marks}
+use Rattle.lola_parser_grammar.specs.Grammar.{specification, all_nestings}
 use Rattle.lola_parser_grammar.specs.Whole.{most_levels}
 use Rattle.lola_parser_print.specs.Print as out
 use Rattle.lola_parser_print.specs.Print.{spelled_out}
 use Rattle.lola_parser_print_law.specs.Fitting.{AllDeclarationsFit}
 use Rattle.lola_parser_print_law.specs.Places.{AreLexed, AreSame, DifferInPlaces}
 
--- what tokens spell is spelled by the same tokens at other places too, places left aside; and within the limit of marks, if
+-- what tokens spell is spelled by the same tokens at other places too, places left aside; and within the limit of nestings, if
 -- it was
 pub record PlacesAreFree : Type 0 where
   pub spelled : (n : ℕ) (ts us : List Lexeme) → AreSame ts us → (xs : List Declaration) → Spells (specification n) ts xs
       → (ys : List Declaration) × Spells (specification n) us ys × DifferInPlaces xs ys
-  pub fitted : (n : ℕ) (ts us : List Lexeme) → AreSame ts us → (xs : List Declaration) → Fits all_marks (specification n) ts xs
-      → (ys : List Declaration) × Fits all_marks (specification n) us ys × DifferInPlaces xs ys
+  pub fitted : (n : ℕ) (ts us : List Lexeme) → AreSame ts us → (xs : List Declaration) → Fits all_nestings (specification n) ts xs
+      → (ys : List Declaration) × Fits all_nestings (specification n) us ys × DifferInPlaces xs ys
 
 -- the text is cut, and its tokens are read as this tree
 pub record IsReadAs (z : List ℕ) (xs : List Declaration) : Type 0 where
@@ -31,9 +31,9 @@ pub record IsReadAs (z : List ℕ) (xs : List Declaration) : Type 0 where
 abbrev pub Eventually : (ℕ → Type 0) → Type 0
 Eventually P = (m : ℕ) × ((n : ℕ) → m ≤ n → P n)
 
--- what is read is spelled by the text within the limit of marks
+-- what is read is spelled by the text within the limit of nestings
 abbrev pub ReadIsWithin : Type 0
-ReadIsWithin = (ts : List Lexeme) (xs : List Declaration) → read_all (specification most_levels) ts ≡ Ok xs → Fits all_marks (specification most_levels) ts xs
+ReadIsWithin = (ts : List Lexeme) (xs : List Declaration) → read_all (specification most_levels) ts ≡ Ok xs → Fits all_nestings (specification most_levels) ts xs
 
 -- what is read of a text is of the grammar's shape, its literals are read back as they are printed, and what is printed of it
 -- are tokens of the language

@@ -34,7 +34,7 @@ pub fn places_are_free()
     ensures { PlacesAreFree }
 {}
 
-/// What is read is spelled by its tokens within the limit of marks.
+/// What is read is spelled by its tokens within the limit of nestings.
 pub fn read_is_within()
     ensures { ReadIsWithin }
 {}

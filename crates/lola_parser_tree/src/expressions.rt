@@ -3,7 +3,7 @@
 use crate::literals::{Literal, Name, Quantity};
 use sqlite_items::{Boxed, Items};
 
-/// A sign before an operand.
+/// An operator before an operand.
 #[derive(Clone, Copy, Debug, PartialEq, Eq)]
 pub enum Prefix {
     /// `!`
@@ -12,7 +12,7 @@ pub enum Prefix {
     Negate,
 }
 
-/// A sign between two operands.
+/// An operator between two operands.
 #[derive(Clone, Copy, Debug, PartialEq, Eq)]
 pub enum Binary {
     /// `||`
@@ -69,9 +69,9 @@ pub enum Expr {
     Reference(Name, Option<u32>, Items<Expr>, Access),
     /// `a.defaults(to: b)`, with the place of the point; of a short form as `a.hold(or: b)` it is that one's point.
     Defaults(u32, Boxed<Expr>, Boxed<Expr>),
-    /// A sign, its place, and what it stands before.
+    /// An operator, its place, and what it stands before.
     Prefix(Prefix, u32, Boxed<Expr>),
-    /// A sign, its place, and what it stands between.
+    /// An operator, its place, and what it stands between.
     Binary(Binary, u32, Boxed<Expr>, Boxed<Expr>),
     /// `if a then b else c`, with the place of the `if`.
     If(u32, Boxed<Expr>, Boxed<Expr>, Boxed<Expr>),

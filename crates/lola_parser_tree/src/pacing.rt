@@ -7,9 +7,9 @@ use sqlite_items::Boxed;
 #[derive(Drop)]
 pub enum Formula {
     Input(Name),
-    /// `a && b`, with the place of the sign.
+    /// `a && b`, with the place of the operator.
     Both(u32, Boxed<Formula>, Boxed<Formula>),
-    /// `a || b`, with the place of the sign.
+    /// `a || b`, with the place of the operator.
     Either(u32, Boxed<Formula>, Boxed<Formula>),
 }
 

@@ -3,7 +3,7 @@ use Rattle.std.specs.Prelude.{ℕ, List, None}
 use Rattle.lola_port.specs.declared.traits.Ask.{Ask}
 use Rattle.lola_port.specs.States.{ShelfState}
 
--- the files of the machine: what was asked for, the faults, and how many sources are out
+-- the files of the machine: what was asked for, the failures, and how many sources are out
 pub record FolderShelfState : Type 0 where
   pub asks : List Ask
   pub count : ℕ

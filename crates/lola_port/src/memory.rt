@@ -30,7 +30,7 @@ pub struct MemorySink {
     bytes: Vec<u8>,
     fails: Vec<u64>,
     puts: u64,
-    faults: u64,
+    failures: u64,
 }
 
 impl Model for MemorySink {
@@ -38,7 +38,7 @@ impl Model for MemorySink {
 
     ghost Value = { MemorySinkState };
 
-    ghost view = { λ s. record { written = s.bytes.items; fails = s.fails.items; puts = s.puts; count = s.faults } };
+    ghost view = { λ s. record { written = s.bytes.items; fails = s.fails.items; puts = s.puts; count = s.failures } };
 }
 
 impl MemorySink {
@@ -50,7 +50,7 @@ impl MemorySink {
             bytes: Vec::new(alloc),
             fails: fails.to_vec(alloc)?,
             puts: 0,
-            faults: 0,
+            failures: 0,
         })
     }
 
@@ -81,7 +81,7 @@ impl Sink for MemorySink {
     {
         if self.fails.contains(&self.puts) {
             self.puts = self.puts.saturating_add(1);
-            self.faults = self.faults.saturating_add(1);
+            self.failures = self.failures.saturating_add(1);
             return Err(PutEnd::Failed);
         }
         if self.bytes.extend_from_slice(bytes).is_err() {
@@ -101,7 +101,7 @@ pub struct MemorySource {
     pub(crate) piece: u32,
     pub(crate) fails: Vec<u64>,
     pub(crate) reads: u64,
-    pub(crate) faults: u64,
+    pub(crate) failures: u64,
     pub(crate) place: usize,
 }
 
@@ -116,7 +116,7 @@ impl Model for MemorySource {
       piece = s.piece;
       fails = s.fails.items;
       reads = s.reads;
-      count = s.faults;
+      count = s.failures;
       place = s.place;
     } };
 
@@ -143,7 +143,7 @@ impl Source for MemorySource {
         let number = self.reads;
         self.reads = self.reads.saturating_add(1);
         if self.fails.contains(&number) {
-            self.faults = self.faults.saturating_add(1);
+            self.failures = self.failures.saturating_add(1);
             return Err(ReadFailed);
         }
         let most = buf.len().min(self.piece as usize);

@@ -42,7 +42,7 @@ pub struct MemoryShelf {
     failing: Vec<Text>,
     asks: Vec<Ask>,
     sources_out: u64,
-    faults: u64,
+    failures: u64,
 }
 
 impl Model for MemoryShelf {
@@ -54,7 +54,7 @@ impl Model for MemoryShelf {
       files = s.stored.items;
       failing = s.failing.items;
       asks = s.asks.items;
-      count = s.faults;
+      count = s.failures;
       out = s.sources_out;
     } };
 }
@@ -70,7 +70,7 @@ impl MemoryShelf {
             failing: Vec::new(alloc),
             asks: Vec::new(alloc),
             sources_out: 0,
-            faults: 0,
+            failures: 0,
         }
     }
 
@@ -121,7 +121,7 @@ impl MemoryShelf {
     {
         match note(self.alloc, &mut self.asks, name, false) {
             Ok(()) => {
-                self.faults = self.faults.saturating_add(1);
+                self.failures = self.failures.saturating_add(1);
                 FetchEnd::Failed
             }
             Err(_) => FetchEnd::Memory,
@@ -187,9 +187,9 @@ impl Shelf for MemoryShelf {
         ensures back { shelf_state self.new ≡ back (shelf_state self.old) (source_state source) }
         ensures rest { (self.new.files ≡ self.old.files) × (self.new.failing ≡ self.old.failing) }
     {
-        set_count(&mut self.asks, source.place, source.faults);
+        set_count(&mut self.asks, source.place, source.failures);
         self.sources_out -= 1;
-        self.faults = self.faults.saturating_add(source.faults);
+        self.failures = self.failures.saturating_add(source.failures);
     }
 }
 
@@ -216,7 +216,7 @@ fn open(alloc: Global, file: &Stored, place: usize) -> Result<MemorySource, Memo
         piece: file.piece,
         fails: file.fails.to_vec(alloc)?,
         reads: 0,
-        faults: 0,
+        failures: 0,
         place,
     })
 }

@@ -1,5 +1,5 @@
 //! The outside as the monitor sees it: where bytes come from, where lines go, and hooks for tests. Each source, shelf
-//! and sink has a count of its faults, which never falls and rises with each call that answers a failure; it ends at
+//! and sink has a count of its failures, which never falls and rises with each call that answers a failure; it ends at
 //! the greatest u64. An object may tell its content: those in memory do, files and streams do not.
 
 ghost use Rattle.std.specs.Prelude.{◌≡◌, ◌<◌, length, take, IfOk, OnOk, OnErr, IsErrOf};
@@ -54,7 +54,7 @@ pub trait Source: Drop {
     }
 }
 
-/// One ask of a shelf: for which name, whether a source was given, and how many faults there were: 1 where none was
+/// One ask of a shelf: for which name, whether a source was given, and how many failures there were: 1 where none was
 /// given, and else those of the source, once it is given back.
 #[derive(Drop)]
 pub struct Ask {
@@ -81,7 +81,7 @@ pub trait Shelf {
     /// What is known of it.
     ghost state: { Self → ShelfState };
 
-    /// A source with all bytes of a name, and no faults yet. Its place is that of its ask. A name may be fetched more
+    /// A source with all bytes of a name, and no failures yet. Its place is that of its ask. A name may be fetched more
     /// than once. Fewer than 65,536 sources are to be out.
     fn fetch(&mut self, name: &str) -> Result<Self::File, FetchEnd>
         requires { (state self.old).out < 65536 }

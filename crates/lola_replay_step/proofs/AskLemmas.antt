@@ -49,7 +49,7 @@ module _ (P : Question → Type 0) where
   default-asks (Ok (Failed k)) s hr hs = known-asks _
   default-asks (Ok Poisoned) s hr hs = known-asks _
 
-  right-asks : (sign : Binary) (k : Kind) (v : Field) (s : Try) → Asks s → Asks (then_right sign k v s)
+  right-asks : (operator : Binary) (k : Kind) (v : Field) (s : Try) → Asks s → Asks (then_right operator k v s)
   right-asks binary.And k (field.Bool false) s hs = known-asks _
   right-asks binary.And k (field.Bool true) s hs = hs
   right-asks binary.And k (field.Int z) s hs = hs
@@ -116,11 +116,11 @@ module _ (P : Question → Type 0) where
       try-asks p (Defaults' place u a v b) good =
           default-asks (tried spec read window p a) (tried spec read window p b)
           (try-asks p a (all-left IsGood (reads spec.windows from a) (reads spec.windows from b) good)) (try-asks p b (all-right IsGood (reads spec.windows from a) (reads spec.windows from b) good))
-      try-asks p (Unary' place sign u a) good = value-asks (tried spec read window p a) (λ v. Ok (negated sign (kind_of place) v)) (try-asks p a good) (λ v. known-asks _)
-      try-asks p (Both' place sign u a v b) good =
-          value-asks (tried spec read window p a) (λ x. then_right sign (kind_of place) x (tried spec read window p b))
+      try-asks p (Unary' place operator u a) good = value-asks (tried spec read window p a) (λ v. Ok (negated operator (kind_of place) v)) (try-asks p a good) (λ v. known-asks _)
+      try-asks p (Both' place operator u a v b) good =
+          value-asks (tried spec read window p a) (λ x. then_right operator (kind_of place) x (tried spec read window p b))
           (try-asks p a (all-left IsGood (reads spec.windows from a) (reads spec.windows from b) good))
-          (λ x. right-asks sign (kind_of place) x (tried spec read window p b) (try-asks p b (all-right IsGood (reads spec.windows from a) (reads spec.windows from b) good)))
+          (λ x. right-asks operator (kind_of place) x (tried spec read window p b) (try-asks p b (all-right IsGood (reads spec.windows from a) (reads spec.windows from b) good)))
       try-asks p (Choice' place u a v b w d) good =
           let rest = all-right IsGood (reads spec.windows from a) (reads spec.windows from b ++ reads spec.windows from d) good in
           value-asks (tried spec read window p a) (λ t. then_branch t (tried spec read window p b) (tried spec read window p d))

@@ -39,10 +39,10 @@ default-right (Ok Missing) s x y hx hy a e = ap (λ z. defaulted z y) (hx Missin
 default-right (Ok (Failed k)) s x y hx hy a e = ap (λ z. defaulted z y) (hx (Failed k) refl) ∙ is-ok (Failed k) a e
 default-right (Ok Poisoned) s x y hx hy a e = ap (λ z. defaulted z y) (hx Poisoned refl) ∙ is-ok Poisoned a e
 
-plain-right : (sign : Binary) (k : Kind) (v : Field) (s : Try) (y : Answer) → Answers s y → Answers (then_value s (λ w. Ok (operated sign k v w))) (and_then y (λ w. operated sign k v w))
-plain-right sign k v s y hy = value-right s (λ w. Ok (operated sign k v w)) y (λ w. operated sign k v w) hy (λ w a e. is-ok (operated sign k v w) a e)
+plain-right : (operator : Binary) (k : Kind) (v : Field) (s : Try) (y : Answer) → Answers s y → Answers (then_value s (λ w. Ok (operated operator k v w))) (and_then y (λ w. operated operator k v w))
+plain-right operator k v s y hy = value-right s (λ w. Ok (operated operator k v w)) y (λ w. operated operator k v w) hy (λ w a e. is-ok (operated operator k v w) a e)
 
-pub right-right : (sign : Binary) (k : Kind) (v : Field) (s : Try) (y : Answer) → Answers s y → Answers (then_right sign k v s) (with_right sign k v y)
+pub right-right : (operator : Binary) (k : Kind) (v : Field) (s : Try) (y : Answer) → Answers s y → Answers (then_right operator k v s) (with_right operator k v y)
 right-right binary.And k (field.Bool false) s y hy = λ a e. is-ok _ a e
 right-right binary.And k (field.Bool true) s y hy = λ a e. hy a e
 right-right binary.And k (field.Int z) s y hy = λ a e. hy a e
@@ -102,11 +102,11 @@ module _ (spec : Spec) (c : Content) (read : Access → ℕ → List Field → T
         arguments-right (tried_all spec read window p args) (λ q. window w q) (den_all spec c p args) (λ q. window_of spec c (slice_get spec.windows w) q) (try-all-right p args) (λ q. windows w q)
     try-right p (Defaults' place u a v b) =
         default-right (tried spec read window p a) (tried spec read window p b) (den spec c p a) (den spec c p b) (try-right p a) (try-right p b)
-    try-right p (Unary' place sign u a) =
-        value-right (tried spec read window p a) (λ v. Ok (negated sign (kind_of place) v)) (den spec c p a) (λ v. negated sign (kind_of place) v) (try-right p a) (λ v b e. is-ok _ b e)
-    try-right p (Both' place sign u a v b) =
-        value-right (tried spec read window p a) (λ x. then_right sign (kind_of place) x (tried spec read window p b)) (den spec c p a) (λ x. with_right sign (kind_of place) x (den spec c p b))
-        (try-right p a) (λ x. right-right sign (kind_of place) x (tried spec read window p b) (den spec c p b) (try-right p b))
+    try-right p (Unary' place operator u a) =
+        value-right (tried spec read window p a) (λ v. Ok (negated operator (kind_of place) v)) (den spec c p a) (λ v. negated operator (kind_of place) v) (try-right p a) (λ v b e. is-ok _ b e)
+    try-right p (Both' place operator u a v b) =
+        value-right (tried spec read window p a) (λ x. then_right operator (kind_of place) x (tried spec read window p b)) (den spec c p a) (λ x. with_right operator (kind_of place) x (den spec c p b))
+        (try-right p a) (λ x. right-right operator (kind_of place) x (tried spec read window p b) (den spec c p b) (try-right p b))
     try-right p (Choice' place u a v b w d) =
         value-right (tried spec read window p a) (λ t. then_branch t (tried spec read window p b) (tried spec read window p d)) (den spec c p a) (λ t. chosen t (den spec c p b) (den spec c p d))
         (try-right p a) (λ t. branch-right t (tried spec read window p b) (tried spec read window p d) (den spec c p b) (den spec c p d) (try-right p b) (try-right p d))

@@ -13,8 +13,8 @@ abbrev mutual
   size_of (Read place n how args) = 1 + size_all args
   size_of (Window place w args) = 1 + size_all args
   size_of (Defaults' place u a v b) = 1 + (size_of a + size_of b)
-  size_of (Unary' place sign u a) = 1 + size_of a
-  size_of (Both' place sign u a v b) = 1 + (size_of a + size_of b)
+  size_of (Unary' place operator u a) = 1 + size_of a
+  size_of (Both' place operator u a v b) = 1 + (size_of a + size_of b)
   size_of (Choice' place u a v b w d) = 1 + (size_of a + (size_of b + size_of d))
 
   -- how many arguments have, each counted once more

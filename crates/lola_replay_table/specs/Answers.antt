@@ -46,7 +46,7 @@ kept_spawn (spawn.Named p) = Named p
 kept_spawn (spawn.Failed k) = SpawnFailed k
 kept_spawn spawn.Poisoned = SpawnPoisoned
 
--- a sign between two numbers
+-- an operator between two numbers
 abbrev pub of_numbers : Binary → Kind → ℤ → ℤ → Answer
 of_numbers binary.Add k x y = within k (x +ℤ y)
 of_numbers binary.Sub k x y = within k (x -ℤ y)

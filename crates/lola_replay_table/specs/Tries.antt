@@ -168,7 +168,7 @@ then_right binary.And k (field.Bool false) b = Ok (truth false)
 then_right binary.And k x b = b
 then_right binary.Or k (field.Bool true) b = Ok (truth true)
 then_right binary.Or k x b = b
-then_right sign k x b = then_value b (λ y. Ok (operated sign k x y))
+then_right operator k x b = then_value b (λ y. Ok (operated operator k x y))
 
 -- the branch that a condition chooses
 abbrev pub then_branch : Field → Try → Try → Try
@@ -198,8 +198,8 @@ module _ (spec : Spec) (read : Access → ℕ → List Field → Try) (window : 
     tried p (Read place n how args) = on_arguments (tried_all p args) (λ q. read how n q)
     tried p (Window place w args) = on_arguments (tried_all p args) (λ q. window w q)
     tried p (Defaults' place u a v b) = then_default (tried p a) (tried p b)
-    tried p (Unary' place sign u a) = then_value (tried p a) (λ v. Ok (negated sign (kind_of place) v))
-    tried p (Both' place sign u a v b) = then_value (tried p a) (λ x. then_right sign (kind_of place) x (tried p b))
+    tried p (Unary' place operator u a) = then_value (tried p a) (λ v. Ok (negated operator (kind_of place) v))
+    tried p (Both' place operator u a v b) = then_value (tried p a) (λ x. then_right operator (kind_of place) x (tried p b))
     tried p (Choice' place u a v b w d) = then_value (tried p a) (λ t. then_branch t (tried p b) (tried p d))
 
     pub tried_all : List Field → Arguments → Result (Result (List Field) Answer) Question

@@ -64,8 +64,8 @@ pub fn attempt<'a>(
         Expr::Read(_, stream, how, args) => access(scene, params, *how, *stream, args),
         Expr::Window(_, number, args) => window_access(scene, params, *number, args),
         Expr::Defaults(_, a, b) => or_default(scene, params, a, b),
-        Expr::Unary(place, sign, a) => with_prefix(scene, params, place, *sign, a),
-        Expr::Both(place, sign, a, b) => with_sign(scene, params, place, *sign, a, b),
+        Expr::Unary(place, operator, a) => with_prefix(scene, params, place, *operator, a),
+        Expr::Both(place, operator, a, b) => with_operator(scene, params, place, *operator, a, b),
         Expr::Choice(_, test, a, b) => choice(scene, params, test, a, b),
     }
 }
@@ -88,47 +88,47 @@ fn or_default<'a>(
     }
 }
 
-// A sign before an operand.
+// An operator before an operand.
 #[cycle(attempt)]
 fn with_prefix<'a>(
     scene: &Scene<'a>,
     params: &'a [Field],
     place: &Place,
-    sign: Prefix,
+    operator: Prefix,
     a: &'a Expr,
 ) -> Result<LentAnswer<'a>, Stop>
     ensures { Gives (then_value (tried_at scene.now params.now a.now)
-        (λ v. Ok (negated sign (kind_of place.now) v))) result }
+        (λ v. Ok (negated operator (kind_of place.now) v))) result }
 {
     let operand = attempt(scene, params, a)?;
     match operand {
-        LentAnswer::Given(v) => Ok(negate(sign, kind_at(place), v)),
+        LentAnswer::Given(v) => Ok(negate(operator, kind_at(place), v)),
         _ => Ok(operand),
     }
 }
 
-// A sign between two operands. The right one is evaluated only where it is needed.
+// An operator between two operands. The right one is evaluated only where it is needed.
 #[cycle(attempt)]
-fn with_sign<'a>(
+fn with_operator<'a>(
     scene: &Scene<'a>,
     params: &'a [Field],
     place: &Place,
-    sign: Binary,
+    operator: Binary,
     a: &'a Expr,
     b: &'a Expr,
 ) -> Result<LentAnswer<'a>, Stop>
     ensures { Gives (then_value (tried_at scene.now params.now a.now)
-        (λ x. then_right sign (kind_of place.now) x (tried_at scene.now params.now b.now))) result }
+        (λ x. then_right operator (kind_of place.now) x (tried_at scene.now params.now b.now))) result }
 {
     let left = attempt(scene, params, a)?;
     match left {
         LentAnswer::Given(x) => {
-            if is_decided(sign, x) {
+            if is_decided(operator, x) {
                 return Ok(left);
             }
             let right = attempt(scene, params, b)?;
             match right {
-                LentAnswer::Given(y) => Ok(operate(sign, kind_at(place), x, y)),
+                LentAnswer::Given(y) => Ok(operate(operator, kind_at(place), x, y)),
                 _ => Ok(right),
             }
         }

@@ -1,4 +1,4 @@
-//! Signs, on lent values.
+//! Operators, on lent values.
 
 ghost use Rattle.std.specs.Prelude.{◌≡◌, ◌+ℤ◌, ◌-ℤ◌, ◌*ℤ◌, neg_ℤ, int_div, int_rem, not};
 ghost use Rattle.lola_value.specs.Arithmetic.{bytes_equal, divided, fields_equal, within};
@@ -124,11 +124,11 @@ pub fn equal(a: LentField, b: LentField) -> bool
     }
 }
 
-// What a sign between two numbers gives; without a sign for numbers, and of values that are no numbers, nothing.
-fn on_numbers<'a>(sign: Binary, kind: Kind, a: i128, b: i128) -> LentAnswer<'a>
-    ensures { the_answer result ≡ of_numbers sign kind a b }
+// What an operator between two numbers gives; without a sign for numbers, and of values that are no numbers, nothing.
+fn on_numbers<'a>(operator: Binary, kind: Kind, a: i128, b: i128) -> LentAnswer<'a>
+    ensures { the_answer result ≡ of_numbers operator kind a b }
 {
-    match sign {
+    match operator {
         Binary::Add => calculation(sum(kind, a, b)),
         Binary::Sub => calculation(difference(kind, a, b)),
         Binary::Mul => calculation(product(kind, a, b)),
@@ -142,28 +142,33 @@ fn on_numbers<'a>(sign: Binary, kind: Kind, a: i128, b: i128) -> LentAnswer<'a>
     }
 }
 
-/// What a sign between two values gives, in the kind of the whole. Of `&&` and `||` the left value is one that does not decide
+/// What an operator between two values gives, in the kind of the whole. Of `&&` and `||` the left value is one that does not decide
 /// alone, so the right value is the outcome.
-pub fn operate<'a>(sign: Binary, kind: Kind, a: LentField<'a>, b: LentField<'a>) -> LentAnswer<'a>
-    ensures { the_answer result ≡ operated sign kind (the_field a.entry) (the_field b.entry) }
+pub fn operate<'a>(
+    operator: Binary,
+    kind: Kind,
+    a: LentField<'a>,
+    b: LentField<'a>,
+) -> LentAnswer<'a>
+    ensures { the_answer result ≡ operated operator kind (the_field a.entry) (the_field b.entry) }
 {
-    match sign {
+    match operator {
         Binary::Equal => verdict(equal(a, b)),
         Binary::Different => verdict(!equal(a, b)),
         Binary::And => LentAnswer::Given(b),
         Binary::Or => LentAnswer::Given(b),
         _ => match (a, b) {
-            (LentField::Int(x), LentField::Int(y)) => on_numbers(sign, kind, x, y),
+            (LentField::Int(x), LentField::Int(y)) => on_numbers(operator, kind, x, y),
             _ => LentAnswer::Missing,
         },
     }
 }
 
-/// What a sign before a value gives, in the kind of the whole.
-pub fn negate<'a>(sign: Prefix, kind: Kind, a: LentField<'a>) -> LentAnswer<'a>
-    ensures { the_answer result ≡ negated sign kind (the_field a.entry) }
+/// What an operator before a value gives, in the kind of the whole.
+pub fn negate<'a>(operator: Prefix, kind: Kind, a: LentField<'a>) -> LentAnswer<'a>
+    ensures { the_answer result ≡ negated operator kind (the_field a.entry) }
 {
-    match (sign, a) {
+    match (operator, a) {
         (Prefix::Not, LentField::Bool(b)) => verdict(!b),
         (Prefix::Minus, LentField::Int(z)) => calculation(opposite(kind, z)),
         _ => LentAnswer::Missing,
@@ -171,10 +176,10 @@ pub fn negate<'a>(sign: Prefix, kind: Kind, a: LentField<'a>) -> LentAnswer<'a>
 }
 
 /// Whether the left value is the outcome, and the right operand is not evaluated.
-pub fn is_decided(sign: Binary, a: LentField) -> bool
-    ensures { result ≡ decides sign (the_field a.entry) }
+pub fn is_decided(operator: Binary, a: LentField) -> bool
+    ensures { result ≡ decides operator (the_field a.entry) }
 {
-    match (sign, a) {
+    match (operator, a) {
         (Binary::And, LentField::Bool(b)) => !b,
         (Binary::Or, LentField::Bool(b)) => b,
         _ => false,

@@ -122,7 +122,7 @@ pub seeks : (old new : Reading) (r : Found) → Alike old new → (old.stage ≡
 seeks old new (found.Line e) alike past finds = (goes old new alike past finds.0, finds.1)
 seeks old new found.TooLong alike past finds = (goes old new alike past finds.0, finds.1)
 seeks old new found.Nothing alike past finds = (goes old new alike past finds.0, finds.1)
-seeks old new found.Fault alike past lost = record {
+seeks old new found.ReadFailed alike past lost = record {
   later = lost.later;
   rose = lost.rose;
   rest = lines-rest old new alike past lost.lines;
@@ -256,14 +256,14 @@ over-ends r is =
 pub goes-stops : (old new : Reading) (how : Ending) → Goes old new → Stops how new new → Stops how old new
 goes-stops old new ending.End goes stops = (subst (λ o. Ends o Whole) goes.rest stops.0, goes.count)
 goes-stops old new (ending.Malformed kind row) goes stops = (subst (λ o. Ends o (MalformedAt kind row)) goes.rest stops.0, omega (arith, stops.1, goes.given), goes.count)
-goes-stops old new ending.ReadFault goes stops = record { later = omega (arith, goes.count, stops.later); rose = subst (λ n. Rose n new.source.count) goes.count stops.rose; rest = goes.rest; waiting = stops.waiting }
+goes-stops old new ending.ReadFailed goes stops = record { later = omega (arith, goes.count, stops.later); rose = subst (λ n. Rose n new.source.count) goes.count stops.rose; rest = goes.rest; waiting = stops.waiting }
 goes-stops old new ending.Memory goes stops = record { rest = goes.rest; count = goes.count }
 
 -- steps, one after the other
 pub goes-then-stops : (old mid new : Reading) (how : Ending) → Goes old mid → Stops how mid new → Stops how old new
 goes-then-stops old mid new ending.End goes stops = (subst (λ o. Ends o Whole) goes.rest stops.0, stops.1 ∙ goes.count)
 goes-then-stops old mid new (ending.Malformed kind row) goes stops = (subst (λ o. Ends o (MalformedAt kind row)) goes.rest stops.0, omega (arith, stops.1, goes.given), stops.2 ∙ goes.count)
-goes-then-stops old mid new ending.ReadFault goes stops = record {
+goes-then-stops old mid new ending.ReadFailed goes stops = record {
   later = omega (arith, goes.count, stops.later);
   rose = subst (λ n. Rose n new.source.count) goes.count stops.rose;
   rest = stops.rest ∙ goes.rest;
@@ -399,10 +399,10 @@ pub fills : (old new : Reading) (r : Filled) → Alike old new → held.Fills r 
 fills old new (filled.Line n) alike came = (brought old new alike came.1, inr (inl (there is_line_end new.held n came.0)))
 fills old new filled.Last alike came = (brought old new alike came.2, inr (inr came.1))
 fills old new filled.TooLong alike came = (brought old new alike came.2, inl (omega (arith, came.1)))
-fills old new filled.Fault alike came = failed old new alike came
+fills old new filled.ReadFailed alike came = failed old new alike came
 
-pub filled-shows : (old new : Reading) (r : Filled) → (r ≡ filled.Fault → ⊥) → Fills r old new → Goes old new × ShowsMark new.held new.source.left
+pub filled-shows : (old new : Reading) (r : Filled) → (r ≡ filled.ReadFailed → ⊥) → Fills r old new → Goes old new × ShowsMark new.held new.source.left
 filled-shows old new (filled.Line n) some fill = fill
 filled-shows old new filled.Last some fill = fill
 filled-shows old new filled.TooLong some fill = fill
-filled-shows old new filled.Fault some fill = absurd (some refl)
+filled-shows old new filled.ReadFailed some fill = absurd (some refl)

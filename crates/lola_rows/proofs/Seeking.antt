@@ -162,7 +162,7 @@ finds-last h0 held old new (found.Line e) sought none end last =
 finds-last h0 held old new found.TooLong sought none end last = absurd last
 finds-last h0 held old new found.Nothing sought none end last =
     (sought, λ bytes told. ap (λ (l : List ℕ). lines_of (l ++ bytes)) last ∙ ap lines_of (at-end new.left bytes end told))
-finds-last h0 held old new found.Fault sought none end last = absurd last
+finds-last h0 held old new found.ReadFailed sought none end last = absurd last
 
 -- a read failed
 pub lost-after : (h0 h1 h2 : List ℕ) (a b c : SourceState) → Sought h0 h1 a b → Failed h1 h2 b c → Lost h0 h2 a c

@@ -40,7 +40,7 @@ abbrev pub Fills : Filled → List ℕ → List ℕ → SourceState → SourceSt
 Fills (filled.Line n) held0 held1 old new = (position is_line_end held1 ≡ Some n) × Brought held0 held1 old new
 Fills filled.Last held0 held1 old new = (position is_line_end held1 ≡ None) × IsAtEnd new.left × Brought held0 held1 old new
 Fills filled.TooLong held0 held1 old new = (position is_line_end held1 ≡ None) × (longest_line + 3 < length held1) × Brought held0 held1 old new
-Fills filled.Fault held0 held1 old new = Failed held0 held1 old new
+Fills filled.ReadFailed held0 held1 old new = Failed held0 held1 old new
 
 -- empty lines were taken, and bytes came in
 pub record Sought (held0 held1 : List ℕ) (old new : SourceState) : Type 0 where
@@ -90,11 +90,11 @@ abbrev pub Finds : Found → List ℕ → List ℕ → SourceState → SourceSta
 Finds (found.Line e) held0 held1 old new = Sought held0 held1 old new × IsFront e held1 new.left
 Finds found.TooLong held0 held1 old new = Sought held0 held1 old new × ((bytes : List ℕ) → new.left ≡ Some bytes → BeginsTooLong (lines_of (held1 ++ bytes)))
 Finds found.Nothing held0 held1 old new = Sought held0 held1 old new × ((bytes : List ℕ) → new.left ≡ Some bytes → lines_of (held1 ++ bytes) ≡ [])
-Finds found.Fault held0 held1 old new = Lost held0 held1 old new
+Finds found.ReadFailed held0 held1 old new = Lost held0 held1 old new
 
 -- bytes without a line feed, as the last line
 abbrev pub LastFound : Found → List ℕ → Type 0
 LastFound (found.Line e) held = (0 < length held) × (e ≡ record { size = length held; text = length held; whole = length held })
 LastFound found.TooLong held = ⊥
 LastFound found.Nothing held = held ≡ []
-LastFound found.Fault held = ⊥
+LastFound found.ReadFailed held = ⊥

@@ -115,14 +115,14 @@ pub record RanOut (old new : Reading) : Type 0 where
 abbrev pub Stops : Ending → Reading → Reading → Type 0
 Stops ending.End old new = Ends (rest_of old) Whole × (new.source.count ≡ old.source.count)
 Stops (ending.Malformed kind row) old new = Ends (rest_of old) (MalformedAt kind row) × (row ≤ old.given + 1) × (new.source.count ≡ old.source.count)
-Stops ending.ReadFault old new = BrokeOff old new
+Stops ending.ReadFailed old new = BrokeOff old new
 Stops ending.Memory old new = RanOut old new
 
 -- the answer that tells an ending
 abbrev pub answer_of : Ending → RowAnswer
 answer_of ending.End = answer.End
 answer_of (ending.Malformed kind row) = answer.Malformed kind row
-answer_of ending.ReadFault = answer.ReadFault
+answer_of ending.ReadFailed = answer.ReadFailed
 answer_of ending.Memory = answer.Memory
 
 -- an answer of a reader that has not ended: after all but a row it has
@@ -130,7 +130,7 @@ abbrev pub Answers : RowAnswer → Reading → Reading → Type 0
 Answers (answer.Row row) old new = GaveRow row old new × (new.ended ≡ None)
 Answers answer.End old new = Stops ending.End old new × (new.ended ≡ Some ending.End)
 Answers (answer.Malformed kind row) old new = Stops (ending.Malformed kind row) old new × (new.ended ≡ Some (ending.Malformed kind row))
-Answers answer.ReadFault old new = Stops ending.ReadFault old new × (new.ended ≡ Some ending.ReadFault)
+Answers answer.ReadFailed old new = Stops ending.ReadFailed old new × (new.ended ≡ Some ending.ReadFailed)
 Answers answer.Memory old new = Stops ending.Memory old new × (new.ended ≡ Some ending.Memory)
 
 -- a reader that has ended answers the same, and nothing is read

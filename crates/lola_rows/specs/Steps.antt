@@ -34,14 +34,14 @@ abbrev pub Fills : Filled → Reading → Reading → Type 0
 Fills (filled.Line n) old new = Goes old new × ShowsMark new.held new.source.left
 Fills filled.Last old new = Goes old new × ShowsMark new.held new.source.left
 Fills filled.TooLong old new = Goes old new × ShowsMark new.held new.source.left
-Fills filled.Fault old new = BrokeOff old new
+Fills filled.ReadFailed old new = BrokeOff old new
 
 -- the next line that is not empty stands at the front, or why not
 abbrev pub Seeks : Found → Reading → Reading → Type 0
 Seeks (found.Line e) old new = Goes old new × IsFront e new.held new.source.left
 Seeks found.TooLong old new = Goes old new × ((bytes : List ℕ) → new.source.left ≡ Some bytes → BeginsTooLong (lines_of (new.held ++ bytes)))
 Seeks found.Nothing old new = Goes old new × ((bytes : List ℕ) → new.source.left ≡ Some bytes → lines_of (new.held ++ bytes) ≡ [])
-Seeks found.Fault old new = BrokeOff old new
+Seeks found.ReadFailed old new = BrokeOff old new
 
 -- the mark was dropped, or the heading was taken, or why not
 abbrev pub Begins : Result (Unit {0}) Ending → Reading → Reading → Type 0

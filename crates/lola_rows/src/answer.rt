@@ -12,7 +12,7 @@ pub enum Ending {
     /// The line of this row, or the heading for row 0, has another form.
     Malformed { kind: MalformedKind, row: u64 },
     /// A read failed.
-    ReadFault,
+    ReadFailed,
     /// There was no memory for a row.
     Memory,
 }
@@ -27,7 +27,7 @@ pub enum RowAnswer {
     /// The line of this row, or the heading for row 0, has another form.
     Malformed { kind: MalformedKind, row: u64 },
     /// A read failed.
-    ReadFault,
+    ReadFailed,
     /// There was no memory for a row.
     Memory,
 }
@@ -42,7 +42,7 @@ impl From<Ending> for RowAnswer {
         match ending {
             Ending::End => RowAnswer::End,
             Ending::Malformed { kind, row } => RowAnswer::Malformed { kind, row },
-            Ending::ReadFault => RowAnswer::ReadFault,
+            Ending::ReadFailed => RowAnswer::ReadFailed,
             Ending::Memory => RowAnswer::Memory,
         }
     }

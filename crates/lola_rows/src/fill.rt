@@ -26,7 +26,7 @@ pub(crate) enum Filled {
     /// More bytes than a line may have, without a line end.
     TooLong,
     /// A read failed.
-    Fault,
+    ReadFailed,
 }
 
 /// Reads until a line is held whole, or none will come.
@@ -44,7 +44,7 @@ pub(crate) fn fill_line<S: Source>(window: &mut Window, source: &mut S) -> Fille
         match window.read_from(source) {
             Ok(0) => return Filled::Last,
             Ok(_) => {}
-            Err(_) => return Filled::Fault,
+            Err(_) => return Filled::ReadFailed,
         }
     }
 }

@@ -242,7 +242,7 @@ impl<S: Source> RowReader<S> {
             return Ok(());
         };
         match self.fill() {
-            Filled::Fault => Err(Ending::ReadFault),
+            Filled::ReadFailed => Err(Ending::ReadFailed),
             _ => {
                 self.window.drop_mark();
                 self.stage = Stage::Heading;
@@ -289,7 +289,7 @@ impl<S: Source> RowReader<S> {
             Found::Line(extent) => self.use_heading(extent),
             Found::TooLong => Err(malformed(MalformedKind::RowTooLong, 0)),
             Found::Nothing => Err(malformed(MalformedKind::BadHeading, 0)),
-            Found::Fault => Err(Ending::ReadFault),
+            Found::ReadFailed => Err(Ending::ReadFailed),
         }
     }
 
@@ -323,7 +323,7 @@ impl<S: Source> RowReader<S> {
             Found::Line(extent) => self.use_line(extent),
             Found::TooLong => Err(malformed(MalformedKind::RowTooLong, self.given + 1)),
             Found::Nothing => Err(Ending::End),
-            Found::Fault => Err(Ending::ReadFault),
+            Found::ReadFailed => Err(Ending::ReadFailed),
         }
     }
 

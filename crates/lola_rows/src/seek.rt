@@ -43,7 +43,7 @@ pub(crate) enum Found {
     /// No line is left.
     Nothing,
     /// A read failed.
-    Fault,
+    ReadFailed,
 }
 
 /// Takes empty lines, and finds the next one that is not.
@@ -62,7 +62,7 @@ pub(crate) fn seek_line<S: Source>(window: &mut Window, source: &mut S) -> Found
             }
             Filled::Last => return last_line(window),
             Filled::TooLong => return Found::TooLong,
-            Filled::Fault => return Found::Fault,
+            Filled::ReadFailed => return Found::ReadFailed,
         }
     }
 }

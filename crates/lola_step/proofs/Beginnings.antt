@@ -185,7 +185,7 @@ module _ (plan : Plan) (show : Show) (start time : ℕ) (is_row : Bool) (inputs 
       → start_seen s2 ≡ start → s2.layout ≡ layout_of plan
       → TakesInputs plan is_row inputs r2 s2 r3 s3
       → EvaluatesAll plan m r3 s3 r4 s4 n
-      → Concludes plan show m n.marks.items n.spans.items n.tasks.items n.results.items r4 s4 end r5 s5 verdicts
+      → Concludes plan show m n.spawn_results.items n.spans.items n.tasks.items n.results.items r4 s4 end r5 s5 verdicts
       → (names : Naming) (rows : List TableRow) (step : Step) → IsRun plan names rows → step.time ≡ time → ReadFields names inputs is_row step.fields
       → StandsBetween names r0 s0 (content_after plan start rows)
       → StepEnds end plan show start rows step names r5 s5 verdicts

@@ -26,8 +26,8 @@ use Rattle.lola_step.specs.Schedules.{has_parameters, has_turn}
 use Rattle.lola_step.specs.Sought.{AreUnsought}
 use Rattle.lola_step.specs.Spawns.{IsNextSpawn}
 use Rattle.lola_step.specs.Steps.{AreInputs}
-use Rattle.lola_step.specs.declared.mark.Mark.{Mark}
-use Rattle.lola_step.specs.declared.mark.Mark.TheVariants as mark
+use Rattle.lola_step.specs.declared.spawn_result.SpawnResult.{SpawnResult}
+use Rattle.lola_step.specs.declared.spawn_result.SpawnResult.TheVariants as spawn_result
 use Rattle.lola_step.specs.declared.moment.Moment.{Moment}
 use Rattle.lola_step.specs.declared.schedule.Turn.{Turn}
 use Rattle.lola_step.specs.declared.schedule.Turn.TheVariants as turn
@@ -67,12 +67,12 @@ not_first true true c e = absurd (cc)
 not_first true false c e = refl
 not_first false b c e = refl
 
-module _ (plan : Plan) (m : Moment) (marks : List Mark) (layer n : ℕ) (x : Stream) where
+module _ (plan : Plan) (m : Moment) (spawn_results : List SpawnResult) (layer n : ℕ) (x : Stream) where
   abbrev paced : Bool
-  paced = may_be_active_in m (eval_pacing (slice_get plan.pacings n)) && is_fine (slice_get marks n)
+  paced = may_be_active_in m (eval_pacing (slice_get plan.pacings n)) && is_fine (slice_get spawn_results n)
 
   -- a stream without a turn in a layer does not run in it
-  pub never_runs : has_turn plan (turn.Eval layer) n x ≡ false → runs_in plan m marks layer n x ≡ false
+  pub never_runs : has_turn plan (turn.Eval layer) n x ≡ false → runs_in plan m spawn_results layer n x ≡ false
   never_runs e = not_first (not (is_input x)) (nat_eq (layer_of plan.layers (eval_node n)) layer) paced e
 
 -- close clauses
@@ -111,12 +111,12 @@ module _ (plan : Plan) (m : Moment) (remembers : Memories) (s : Seen) (closing :
 
 -- instances of a layer
 
-module _ (plan : Plan) (m : Moment) (marks : List Mark) (sought : List Whereabouts) (s : Seen) (layer : ℕ) where
+module _ (plan : Plan) (m : Moment) (spawn_results : List SpawnResult) (sought : List Whereabouts) (s : Seen) (layer : ℕ) where
   -- the tasks of the streams below a number are listed, and their spans are noted
   pub record AreGathered (old : List Task) (spans : List Span) (new : List Task) (spans' : List Span) (n : ℕ) : Type 0 where
-    pub tasks : new ++ layer_tasks plan m marks sought s layer n (drop n plan.spec.streams) ≡ old ++ layer_tasks plan m marks sought s layer 0 plan.spec.streams
-    pub noted : take n spans' ++ layer_spans plan m marks sought s layer (length new) n (drop n plan.spec.streams) (drop n spans')
-        ≡ layer_spans plan m marks sought s layer (length old) 0 plan.spec.streams spans
+    pub tasks : new ++ layer_tasks plan m spawn_results sought s layer n (drop n plan.spec.streams) ≡ old ++ layer_tasks plan m spawn_results sought s layer 0 plan.spec.streams
+    pub noted : take n spans' ++ layer_spans plan m spawn_results sought s layer (length new) n (drop n plan.spec.streams) (drop n spans')
+        ≡ layer_spans plan m spawn_results sought s layer (length old) 0 plan.spec.streams spans
 
   -- below the first there are none
   pub gathered_first : (old : List Task) (spans : List Span) → AreGathered old spans old spans 0
@@ -126,21 +126,21 @@ module _ (plan : Plan) (m : Moment) (marks : List Mark) (sought : List Whereabou
       → (n : ℕ) (x : Stream) → slice_get plan.spec.streams n ≡ Some x → has_turn plan (turn.Eval layer) n x ≡ false
       → AreGathered old spans new spans' n → AreGathered old spans new spans' (n + 1)
   gathered_past old spans new spans' long n x at none h =
-      let idle : runs_in plan m marks layer n x ≡ false = never_runs plan m marks layer n x none in
-      let empty : stream_tasks plan m marks sought s layer n x ≡ [] = ap (λ b. if b then asked_tasks plan m marks sought s layer n else []) idle in
+      let idle : runs_in plan m spawn_results layer n x ≡ false = never_runs plan m spawn_results layer n x none in
+      let empty : stream_tasks plan m spawn_results sought s layer n x ≡ [] = ap (λ b. if b then asked_tasks plan m spawn_results sought s layer n else []) idle in
       let there : drop n plan.spec.streams ≡ x ∷ drop (n + 1) plan.spec.streams = cut plan.spec.streams n x at in
       let below : n < length spans' = omega (arith, long, slice_get_within plan.spec.streams n x at) in
       record {
-        tasks = gathers_tasks plan m marks sought s layer n x plan.spec.streams new new _ there (sym (append-nil new) ∙ ap (λ ts. new ++ ts) (sym empty)) h.tasks;
-        noted = gathers_spans plan m marks sought s layer n x plan.spec.streams (length new) (length new) (length new) spans' spans' _ below there
+        tasks = gathers_tasks plan m spawn_results sought s layer n x plan.spec.streams new new _ there (sym (append-nil new) ∙ ap (λ ts. new ++ ts) (sym empty)) h.tasks;
+        noted = gathers_spans plan m spawn_results sought s layer n x plan.spec.streams (length new) (length new) (length new) spans' spans' _ below there
             (omega (arith, ap length empty)) refl
-            (sym (ap (λ b. if b then set spans' n (record { from = length new; count = length (stream_tasks plan m marks sought s layer n x) }) else spans') idle)) h.noted;
+            (sym (ap (λ b. if b then set spans' n (record { from = length new; count = length (stream_tasks plan m spawn_results sought s layer n x) }) else spans') idle)) h.noted;
       }
 
   -- and past the last that is all
   pub record IsGathered (old : List Task) (spans : List Span) (new : List Task) (spans' : List Span) : Type 0 where
-    pub tasks : new ≡ old ++ layer_tasks plan m marks sought s layer 0 plan.spec.streams
-    pub noted : spans' ≡ layer_spans plan m marks sought s layer (length old) 0 plan.spec.streams spans
+    pub tasks : new ≡ old ++ layer_tasks plan m spawn_results sought s layer 0 plan.spec.streams
+    pub noted : spans' ≡ layer_spans plan m spawn_results sought s layer (length old) 0 plan.spec.streams spans
 
   pub gathered_all : (old : List Task) (spans : List Span) (new : List Task) (spans' : List Span)
       → AreGathered old spans new spans' (length plan.spec.streams) → IsGathered old spans new spans'
@@ -148,8 +148,8 @@ module _ (plan : Plan) (m : Moment) (marks : List Mark) (sought : List Whereabou
       let n : ℕ = length plan.spec.streams in
       let none : drop n plan.spec.streams ≡ [] = drop_past plan.spec.streams n (omega arith) in
       record {
-        tasks = sym (append-nil new) ∙ (ap (λ xs. new ++ layer_tasks plan m marks sought s layer n xs) (sym none) ∙ h.tasks);
-        noted = sym (take-append-drop n spans') ∙ (ap (λ xs. take n spans' ++ layer_spans plan m marks sought s layer (length new) n xs (drop n spans')) (sym none) ∙ h.noted);
+        tasks = sym (append-nil new) ∙ (ap (λ xs. new ++ layer_tasks plan m spawn_results sought s layer n xs) (sym none) ∙ h.tasks);
+        noted = sym (take-append-drop n spans') ∙ (ap (λ xs. take n spans' ++ layer_spans plan m spawn_results sought s layer (length new) n xs (drop n spans')) (sym none) ∙ h.noted);
       }
 
   module _ (old : List Task) (spans : List Span) (new : List Task) (spans' : List Span) (long : length spans' ≡ length plan.spec.streams)
@@ -186,10 +186,10 @@ seek_evals plan layer n x e = is_second (has_parameters x) (not (is_input x) && 
 pub seek_has : (plan : Plan) (layer n : ℕ) (x : Stream) → has_turn plan (turn.Seek layer) n x ≡ true → has_parameters x ≡ true
 seek_has plan layer n x e = is_first (has_parameters x) (not (is_input x) && nat_eq (layer_of plan.layers (eval_node n)) layer) e
 
-module _ (plan : Plan) (m : Moment) (marks : List Mark) (remembers : Memories) (s : Seen) (layer : ℕ) where
+module _ (plan : Plan) (m : Moment) (spawn_results : List SpawnResult) (remembers : Memories) (s : Seen) (layer : ℕ) where
   -- of the streams below a number it is noted, and nothing of those without parameters
   abbrev pub AreNotedBelow : List Whereabouts → ℕ → Type 0
-  AreNotedBelow sought n = SoughtUpTo plan m marks remembers s layer n sought × AreUnsought plan sought
+  AreNotedBelow sought n = SoughtUpTo plan m spawn_results remembers s layer n sought × AreUnsought plan sought
 
   -- below the first nothing is to be noted
   pub sought_first : (sought : List Whereabouts) → AreUnsought plan sought → AreNotedBelow sought 0
@@ -199,11 +199,11 @@ module _ (plan : Plan) (m : Moment) (marks : List Mark) (remembers : Memories) (
       → AreNotedBelow sought n → AreNotedBelow sought (n + 1)
   sought_past sought n x at none h = (by (has_parameters x) refl, h.1)
     where
-      by : (b : Bool) → has_parameters x ≡ b → SoughtUpTo plan m marks remembers s layer (n + 1) sought
-      by false e = sought_kept plan m marks remembers s layer n x sought at (unknown_silent plan m remembers s n (sought_at sought n) (h.1 n x at e)) h.0
+      by : (b : Bool) → has_parameters x ≡ b → SoughtUpTo plan m spawn_results remembers s layer (n + 1) sought
+      by false e = sought_kept plan m spawn_results remembers s layer n x sought at (unknown_silent plan m remembers s n (sought_at sought n) (h.1 n x at e)) h.0
       by true e =
-          sought_none plan m marks remembers s layer n x sought at
-          (never_runs plan m marks layer n x (later_false (has_parameters x) (not (is_input x) && nat_eq (layer_of plan.layers (eval_node n)) layer) e none)) h.0
+          sought_none plan m spawn_results remembers s layer n x sought at
+          (never_runs plan m spawn_results layer n x (later_false (has_parameters x) (not (is_input x) && nat_eq (layer_of plan.layers (eval_node n)) layer) e none)) h.0
 
   module _ (sought : List Whereabouts) (turns : List ℕ) (k : ℕ) (walk : IsWalk (has_turn plan (turn.Seek layer)) plan.spec.streams (AreNotedBelow sought) (drop k turns)) where
     -- the next of them
@@ -216,33 +216,33 @@ module _ (plan : Plan) (m : Moment) (marks : List Mark) (remembers : Memories) (
 
 -- spawn clauses
 
-module _ (plan : Plan) (accepted : IsAccepted plan) (m : Moment) (layer : ℕ) (marks marks' : List Mark) (remembers : Memories) (s : Seen) (remembers' : Memories) (s' : Seen)
-    (long : length marks' ≡ length plan.spec.streams) where
+module _ (plan : Plan) (accepted : IsAccepted plan) (m : Moment) (layer : ℕ) (spawn_results spawn_results' : List SpawnResult) (remembers : Memories) (s : Seen) (remembers' : Memories) (s' : Seen)
+    (long : length spawn_results' ≡ length plan.spec.streams) where
   pub spawned_past : (n : ℕ) (x : Stream) → slice_get plan.spec.streams n ≡ Some x → has_turn plan (turn.Spawn layer) n x ≡ false
-      → AreSpawned plan m layer n marks marks' remembers s remembers' s' → AreSpawned plan m layer (n + 1) marks marks' remembers s remembers' s'
+      → AreSpawned plan m layer n spawn_results spawn_results' remembers s remembers' s' → AreSpawned plan m layer (n + 1) spawn_results spawn_results' remembers s remembers' s'
   spawned_past n x at none h =
-      let k : Mark = get_or marks' n mark.Fine in
+      let k : SpawnResult = get_or spawn_results' n spawn_result.Fine in
       let below : n < length plan.spec.streams = slice_get_within plan.spec.streams n x at in
-      let P : List Mark → Type 0 = λ ms. AreSpawned plan m layer (n + 1) marks ms remembers s remembers' s' in
-      subst P (set-get_or marks' n mark.Fine)
-      (one_more_spawned plan m layer n marks marks' remembers s remembers' s' remembers' s' k k h long below (slice_get-get_or marks' n mark.Fine (omega (arith, long, below)))
+      let P : List SpawnResult → Type 0 = λ ms. AreSpawned plan m layer (n + 1) spawn_results ms remembers s remembers' s' in
+      subst P (set-get_or spawn_results' n spawn_result.Fine)
+      (one_more_spawned plan m layer n spawn_results spawn_results' remembers s remembers' s' remembers' s' k k h long below (slice_get-get_or spawn_results' n spawn_result.Fine (omega (arith, long, below)))
       (by k (has_clause x.spawn) (nat_eq (layer_of plan.layers (spawn_node n)) layer) refl refl none))
     where
-      by : (k : Mark) (b c : Bool) → has_clause x.spawn ≡ b → nat_eq (layer_of plan.layers (spawn_node n)) layer ≡ c → (has_clause x.spawn && nat_eq (layer_of plan.layers (spawn_node n)) layer) ≡ false
+      by : (k : SpawnResult) (b c : Bool) → has_clause x.spawn ≡ b → nat_eq (layer_of plan.layers (spawn_node n)) layer ≡ c → (has_clause x.spawn && nat_eq (layer_of plan.layers (spawn_node n)) layer) ≡ false
           → IsNextSpawn plan m layer n k k remembers' s' remembers' s'
       by k false c e f g = no_clause_next plan accepted m layer n x at k remembers' s' h.at (no_clause x.spawn e)
       by k true false e f g = other_layer_next plan accepted m layer n x at k remembers' s' h.at (not_equal (layer_of plan.layers (spawn_node n)) layer f)
       by k true true e f g = absurd (not_both (has_clause x.spawn) (nat_eq (layer_of plan.layers (spawn_node n)) layer) e f g)
 
-  module _ (turns : List ℕ) (k : ℕ) (walk : IsWalk (has_turn plan (turn.Spawn layer)) plan.spec.streams (λ n. AreSpawned plan m layer n marks marks' remembers s remembers' s') (drop k turns)) where
+  module _ (turns : List ℕ) (k : ℕ) (walk : IsWalk (has_turn plan (turn.Spawn layer)) plan.spec.streams (λ n. AreSpawned plan m layer n spawn_results spawn_results' remembers s remembers' s') (drop k turns)) where
     -- the next of them
     pub spawned_turn : k < length turns
-        → IsTurn (has_turn plan (turn.Spawn layer)) plan.spec.streams (λ n. AreSpawned plan m layer n marks marks' remembers s remembers' s') (get_or turns k 0) (drop (k + 1) turns)
-    spawned_turn lt = walk_item (has_turn plan (turn.Spawn layer)) plan.spec.streams (λ n. AreSpawned plan m layer n marks marks' remembers s remembers' s') spawned_past turns k lt walk
+        → IsTurn (has_turn plan (turn.Spawn layer)) plan.spec.streams (λ n. AreSpawned plan m layer n spawn_results spawn_results' remembers s remembers' s') (get_or turns k 0) (drop (k + 1) turns)
+    spawned_turn lt = walk_item (has_turn plan (turn.Spawn layer)) plan.spec.streams (λ n. AreSpawned plan m layer n spawn_results spawn_results' remembers s remembers' s') spawned_past turns k lt walk
 
     -- all of them
-    pub spawned_end : length turns ≤ k → AreSpawned plan m layer (length plan.spec.streams) marks marks' remembers s remembers' s'
-    spawned_end past = walk_done (has_turn plan (turn.Spawn layer)) plan.spec.streams (λ n. AreSpawned plan m layer n marks marks' remembers s remembers' s') spawned_past turns k past walk
+    pub spawned_end : length turns ≤ k → AreSpawned plan m layer (length plan.spec.streams) spawn_results spawn_results' remembers s remembers' s'
+    spawned_end past = walk_done (has_turn plan (turn.Spawn layer)) plan.spec.streams (λ n. AreSpawned plan m layer n spawn_results spawn_results' remembers s remembers' s') spawned_past turns k past walk
 
 -- inputs
 

@@ -18,7 +18,7 @@ use Rattle.lola_step.specs.Moments.{IsMoment}
 use Rattle.lola_step.specs.Notes.{AreNoted, AreSpans, AreWithin, places_of}
 use Rattle.lola_step.specs.Progress.{IsRun}
 use Rattle.lola_step.specs.Steps.{IsDoneStep}
-use Rattle.lola_step.specs.declared.mark.Mark.{Mark}
+use Rattle.lola_step.specs.declared.spawn_result.SpawnResult.{SpawnResult}
 use Rattle.lola_step.specs.declared.moment.Moment.{Moment}
 use Rattle.lola_step.specs.declared.scratch.Span.{Span}
 use Rattle.lola_step.specs.declared.tasks.Task.{Task}
@@ -35,12 +35,12 @@ pub same_spans : (s : Seen) (tasks asked : List Task) (results others : List Out
 same_spans s tasks asked results others spans more d e f h =
     subst (λ ts. AreSpans s ts others more) (sym d) (subst (λ os. AreSpans s tasks os more) (sym e) (subst (λ ps. AreSpans s tasks results ps) (sym f) h))
 
-pub same_fault : (plan : Plan) (marks marks' : List Mark) (spans spans' : List Span) (tasks : List Task) (results results' : List Outcome) (found : Option (ℕ × FaultKind))
-    → marks' ≡ marks → spans' ≡ spans → results' ≡ results → FindsFault plan marks' spans' tasks results' found → FindsFault plan marks spans tasks results found
-same_fault plan marks marks' spans spans' tasks results results' found e f g h =
+pub same_fault : (plan : Plan) (spawn_results spawn_results' : List SpawnResult) (spans spans' : List Span) (tasks : List Task) (results results' : List Outcome) (found : Option (ℕ × FaultKind))
+    → spawn_results' ≡ spawn_results → spans' ≡ spans → results' ≡ results → FindsFault plan spawn_results' spans' tasks results' found → FindsFault plan spawn_results spans tasks results found
+same_fault plan spawn_results spawn_results' spans spans' tasks results results' found e f g h =
     subst (λ ms. FindsFault plan ms spans tasks results found) e
-    (subst (λ ps. FindsFault plan marks' ps tasks results found) f
-    (subst (λ os. FindsFault plan marks' spans' tasks os found) g h))
+    (subst (λ ps. FindsFault plan spawn_results' ps tasks results found) f
+    (subst (λ os. FindsFault plan spawn_results' spans' tasks os found) g h))
 
 pub same_verdicts : (plan : Plan) (show : Show) (spans spans' : List Span) (tasks tasks' : List Task) (results results' : List Outcome) (remembers : Memories) (s : Seen) (verdicts : List Verdict)
     → spans' ≡ spans → tasks' ≡ tasks → results' ≡ results → CollectsVerdicts plan show spans' tasks' results' remembers s verdicts → CollectsVerdicts plan show spans tasks results remembers s verdicts
@@ -49,20 +49,20 @@ same_verdicts plan show spans spans' tasks tasks' results results' remembers s v
     (subst (λ ts. CollectsVerdicts plan show spans' ts results remembers s verdicts) f
     (subst (λ os. CollectsVerdicts plan show spans' tasks' os remembers s verdicts) g h))
 
-module _ (plan : Plan) (m : Moment) (marks : List Mark) (spans : List Span) (tasks : List Task) (results : List Outcome) where
+module _ (plan : Plan) (m : Moment) (spawn_results : List SpawnResult) (spans : List Span) (tasks : List Task) (results : List Outcome) where
   -- by the fault of a spawn clause or of an instance
-  pub fails_by_evaluation : (stream : ℕ) (kind : FaultKind) → FindsFault plan marks spans tasks results (Some (stream, kind))
+  pub fails_by_evaluation : (stream : ℕ) (kind : FaultKind) → FindsFault plan spawn_results spans tasks results (Some (stream, kind))
       → (names : Naming) (rows : List TableRow) (step : Step) → IsRun plan names rows
-      → AreNoted plan (full_row plan m.start rows step).streams names marks spans tasks results
+      → AreNoted plan (full_row plan m.start rows step).streams names spawn_results spans tasks results
       → IsFaulty plan m.start rows step stream kind
   fails_by_evaluation stream kind finds names rows step run noted =
       (each_step_ends plan m.start rows step).evaluation (record { stream = stream; kind = kind }) (sym (finds names m.start rows step run noted))
 
-  module _ (remembers : Memories) (s : Seen) (none : FindsFault plan marks spans tasks results None) where
+  module _ (remembers : Memories) (s : Seen) (none : FindsFault plan spawn_results spans tasks results None) where
     -- by that of a close clause
     pub fails_by_closing : (stream : ℕ) (kind : FaultKind) (closing : List Task) → FindsClosings plan m remembers s (Some (stream, kind)) closing
         → (names : Naming) (rows : List TableRow) (step : Step) → IsRun plan names rows → IsMoment m.start step m
-        → AreNoted plan (full_row plan m.start rows step).streams names marks spans tasks results
+        → AreNoted plan (full_row plan m.start rows step).streams names spawn_results spans tasks results
         → Stands names remembers s (content m.start rows (full_row plan m.start rows step))
         → IsFaulty plan m.start rows step stream kind
     fails_by_closing stream kind closing finds names rows step run moment noted stands =
@@ -75,14 +75,14 @@ module _ (plan : Plan) (m : Moment) (marks : List Mark) (spans : List Span) (tas
         → CollectsVerdicts plan show spans tasks results remembers s verdicts
         → ((names : Naming) (c : Content) → Stands names remembers s c → Stands names remembers' s' (closed_each c (reverse (places_of closed))))
         → (names : Naming) (rows : List TableRow) (step : Step) → IsRun plan names rows → IsMoment m.start step m
-        → AreNoted plan (full_row plan m.start rows step).streams names marks spans tasks results
+        → AreNoted plan (full_row plan m.start rows step).streams names spawn_results spans tasks results
         → Stands names remembers s (content m.start rows (full_row plan m.start rows step))
         → IsDoneStep plan show m.start rows step names remembers' s' verdicts
     is_done show remembers' s' closing closed verdicts finds same collects closes names rows step run moment noted stands =
         let no_fault : evaluation_fault plan m.start rows step ≡ None = sym (none names m.start rows step run noted) in
         let found = finds names rows step run moment stands in
         let fine : IsFine plan m.start rows step = (each_step_ends plan m.start rows step).none no_fault (sym found.0) in
-        let values = collects names m.start rows step marks run noted stands in
+        let values = collects names m.start rows step spawn_results run noted stands in
         let places : places_of closed ≡ closings plan m.start rows step = ap places_of same ∙ found.1 refl in
         let left : closed_each (full_content plan m.start rows step) (reverse (places_of closed)) ≡ content_left m.start rows (answered plan m.start rows step) =
         ap (λ ps. closed_each (full_content plan m.start rows step) (reverse ps)) places ∙ sym fine.left in

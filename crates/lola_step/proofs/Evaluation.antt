@@ -19,12 +19,12 @@ use Rattle.lola_step_law.specs.Stages.{Stage, eval_stage, full_row, is_behind, i
 use Rattle.lola_step_law.proofs.Behind.{layer_behind}
 use Rattle.lola_step_law.proofs.Complete.{completes}
 use Rattle.lola_step.specs.Evals.{EvalsTake, HasRooms, IsReadyFor, ShowsMore}
-use Rattle.lola_step.specs.Notes.{AreMarks, AreNoted, AreOutcomesOf, IsSpan, ShowResults, asked_in, done_of, in_span, mark_of}
+use Rattle.lola_step.specs.Notes.{AreSpawnResults, AreNoted, AreOutcomesOf, IsSpan, ShowResults, asked_in, done_of, in_span, spawn_result_of}
 use Rattle.lola_step.specs.Progress.{GoesOn, IsAt, IsMomentOf, IsRunAt, TakesTo}
 use Rattle.lola_step.specs.Rooms.{rooms, to_come, total}
 use Rattle.lola_step.specs.Scratches.{no_span}
-use Rattle.lola_step.specs.declared.mark.Mark.{Mark}
-use Rattle.lola_step.specs.declared.mark.Mark.TheVariants as mark
+use Rattle.lola_step.specs.declared.spawn_result.SpawnResult.{SpawnResult}
+use Rattle.lola_step.specs.declared.spawn_result.SpawnResult.TheVariants as spawn_result
 use Rattle.lola_step.specs.declared.moment.Moment.{Moment}
 use Rattle.lola_step.specs.declared.scratch.Span.{Span}
 use Rattle.lola_step.specs.declared.tasks.Task.{Task}
@@ -66,15 +66,15 @@ none_behind l n = rw (le-ltb l 0 (omega arith), le-ltb n 0 (omega arith)) (go (n
     go false = refl
 
 -- nothing is spawned
-first_marks : (plan : Plan) (full : List StreamRow) (marks : List Mark) → length marks ≡ length plan.spec.streams → marks ≡ replicate (length marks) mark.Fine
-    → AreMarks plan full (layer_stage (length plan.spec.streams) 0) marks
-first_marks plan full marks e f n lt =
-    let within : n < length marks = omega arith in
-    let fine : get_or marks n mark.Fine ≡ mark.Fine =
-    ap (λ ms. get_or ms n mark.Fine) f ∙ get_or-replicate (length marks) n mark.Fine mark.Fine within in
-    slice_get-get_or marks n mark.Fine within
+first_spawn_results : (plan : Plan) (full : List StreamRow) (spawn_results : List SpawnResult) → length spawn_results ≡ length plan.spec.streams → spawn_results ≡ replicate (length spawn_results) spawn_result.Fine
+    → AreSpawnResults plan full (layer_stage (length plan.spec.streams) 0) spawn_results
+first_spawn_results plan full spawn_results e f n lt =
+    let within : n < length spawn_results = omega arith in
+    let fine : get_or spawn_results n spawn_result.Fine ≡ spawn_result.Fine =
+    ap (λ ms. get_or ms n spawn_result.Fine) f ∙ get_or-replicate (length spawn_results) n spawn_result.Fine spawn_result.Fine within in
+    slice_get-get_or spawn_results n spawn_result.Fine within
     ∙ (ap (λ m. Some m) fine
-    ∙ sym (ap (λ b. Some (mark_of (done_of b (spawned_in (slice_get full n))))) (none_behind (layer_of plan.layers (spawn_node n)) n)))
+    ∙ sym (ap (λ b. Some (spawn_result_of (done_of b (spawned_in (slice_get full n))))) (none_behind (layer_of plan.layers (spawn_node n)) n)))
 
 -- of a stream that is no input
 as_node : (layers : List ℕ) (g : Stage) (n : ℕ) (s : Stream) → is_input s ≡ false → is_evaluated layers g n s ≡ is_behind (layer_of layers (eval_node n)) n g.layer g.evals
@@ -136,36 +136,36 @@ first_rooms plan s places tasks results idle none p a b =
 -- before a layer
 
 -- what a run comes to: where the store stands, what spawn clauses did, and the outcomes so far
-pub record IsRunSoFar (plan : Plan) (m : Moment) (layer : ℕ) (remembers : Memories) (s : Seen) (marks : List Mark) (spans : List Span) (tasks : List Task) (results : List Outcome) (names : Naming) (rows : List TableRow) (step : Step) : Type 0 where
+pub record IsRunSoFar (plan : Plan) (m : Moment) (layer : ℕ) (remembers : Memories) (s : Seen) (spawn_results : List SpawnResult) (spans : List Span) (tasks : List Task) (results : List Outcome) (names : Naming) (rows : List TableRow) (step : Step) : Type 0 where
   pub run : IsRunAt plan m (layer_stage (length plan.spec.streams) layer) remembers s names rows step
-  pub marks_are : AreMarks plan (full_row plan m.start rows step).streams (layer_stage (length plan.spec.streams) layer) marks
+  pub spawn_results_are : AreSpawnResults plan (full_row plan m.start rows step).streams (layer_stage (length plan.spec.streams) layer) spawn_results
   pub results_show : ShowResults plan (full_row plan m.start rows step).streams (layer_stage (length plan.spec.streams) layer) names spans tasks results
 
 -- the layers below are evaluated, in each run that stood before the first layer
-pub record IsSoFar (plan : Plan) (m : Moment) (layer : ℕ) (remembers : Memories) (s : Seen) (remembers' : Memories) (s' : Seen) (marks : List Mark) (spans : List Span) (places : Vec ℕ) (tasks : Vec Task) (results : Vec Outcome) : Type 0 where
+pub record IsSoFar (plan : Plan) (m : Moment) (layer : ℕ) (remembers : Memories) (s : Seen) (remembers' : Memories) (s' : Seen) (spawn_results : List SpawnResult) (spans : List Span) (places : Vec ℕ) (tasks : Vec Task) (results : Vec Outcome) : Type 0 where
   pub at : IsAt plan (layer_stage (length plan.spec.streams) layer) s'
   pub goes_on : GoesOn s s'
   pub has_rooms : HasRooms plan (layer_stage (length plan.spec.streams) layer) s' places tasks results
   pub ready : IsReadyFor plan (layer_stage (length plan.spec.streams) layer) s' tasks.items results.items spans
   pub runs : (names : Naming) (rows : List TableRow) (step : Step) → IsRunAt plan m (layer_stage (length plan.spec.streams) 0) remembers s names rows step
-      → IsRunSoFar plan m layer remembers' s' marks spans tasks.items results.items names rows step
+      → IsRunSoFar plan m layer remembers' s' spawn_results spans tasks.items results.items names rows step
 
 -- before the first
-pub first_layer : (plan : Plan) (m : Moment) (remembers : Memories) (s : Seen) (marks : List Mark) (spans : List Span) (places : Vec ℕ) (tasks : Vec Task) (results : Vec Outcome)
+pub first_layer : (plan : Plan) (m : Moment) (remembers : Memories) (s : Seen) (spawn_results : List SpawnResult) (spans : List Span) (places : Vec ℕ) (tasks : Vec Task) (results : Vec Outcome)
     → IsAt plan (layer_stage (length plan.spec.streams) 0) s
-    → length marks ≡ length plan.spec.streams → marks ≡ replicate (length marks) mark.Fine
+    → length spawn_results ≡ length plan.spec.streams → spawn_results ≡ replicate (length spawn_results) spawn_result.Fine
     → length spans ≡ length plan.spec.streams → spans ≡ replicate (length spans) no_span
     → tasks.items ≡ [] → results.items ≡ []
     → total (rooms s) ≤ vec_capacity places → total (rooms s) ≤ vec_capacity tasks → total (rooms s) ≤ vec_capacity results
-    → IsSoFar plan m 0 remembers s remembers s marks spans places tasks results
-first_layer plan m remembers s marks spans places tasks results at ms fine ss empty idle none p a b = record {
+    → IsSoFar plan m 0 remembers s remembers s spawn_results spans places tasks results
+first_layer plan m remembers s spawn_results spans places tasks results at ms fine ss empty idle none p a b = record {
   at = at;
   goes_on = stays s;
   has_rooms = first_rooms plan s places tasks results idle none p a b;
   ready = first_spans plan s tasks.items results.items spans ss empty;
   runs = λ names rows step run. record {
     run = run;
-    marks_are = first_marks plan (full_row plan m.start rows step).streams marks ms fine;
+    spawn_results_are = first_spawn_results plan (full_row plan m.start rows step).streams spawn_results ms fine;
     results_show = first_results plan (full_row plan m.start rows step).streams names spans tasks.items results.items;
   };
 }
@@ -192,45 +192,45 @@ spans_then plan layer s t tasks results spans g h = record {
 -- once its instances are evaluated
 
 -- the spawn clauses of the layer are done
-marks_then : (plan : Plan) (full : List StreamRow) (layer : ℕ) (marks : List Mark)
-    → AreMarks plan full (eval_stage (length plan.spec.streams) layer) marks → AreMarks plan full (layer_stage (length plan.spec.streams) (layer + 1)) marks
-marks_then plan full layer marks h n lt =
+spawn_results_then : (plan : Plan) (full : List StreamRow) (layer : ℕ) (spawn_results : List SpawnResult)
+    → AreSpawnResults plan full (eval_stage (length plan.spec.streams) layer) spawn_results → AreSpawnResults plan full (layer_stage (length plan.spec.streams) (layer + 1)) spawn_results
+spawn_results_then plan full layer spawn_results h n lt =
     h n lt
-    ∙ ap (λ b. Some (mark_of (done_of b (spawned_in (slice_get full n))))) (layer_behind (layer_of plan.layers (spawn_node n)) n layer (length plan.spec.streams) lt)
+    ∙ ap (λ b. Some (spawn_result_of (done_of b (spawned_in (slice_get full n))))) (layer_behind (layer_of plan.layers (spawn_node n)) n layer (length plan.spec.streams) lt)
 
--- in each run: marks of a layer before its spawn clauses become those after
-abbrev pub MarksThen : Plan → Moment → ℕ → Memories → Seen → List Mark → List Mark → Type 0
-MarksThen plan m layer remembers s marks marks' =
+-- in each run: spawn results of a layer before its spawn clauses become those after
+abbrev pub SpawnResultsThen : Plan → Moment → ℕ → Memories → Seen → List SpawnResult → List SpawnResult → Type 0
+SpawnResultsThen plan m layer remembers s spawn_results spawn_results' =
     (names : Naming) (rows : List TableRow) (step : Step)
     → IsRunAt plan m (layer_stage (length plan.spec.streams) layer) remembers s names rows step
-    → AreMarks plan (full_row plan m.start rows step).streams (layer_stage (length plan.spec.streams) layer) marks
-    → AreMarks plan (full_row plan m.start rows step).streams (eval_stage (length plan.spec.streams) layer) marks'
+    → AreSpawnResults plan (full_row plan m.start rows step).streams (layer_stage (length plan.spec.streams) layer) spawn_results
+    → AreSpawnResults plan (full_row plan m.start rows step).streams (eval_stage (length plan.spec.streams) layer) spawn_results'
 
 -- and so layer by layer
 module _ (plan : Plan) (m : Moment) (layer : ℕ) (remembers : Memories) (s : Seen) (r1 : Memories) (s1 : Seen) (r2 : Memories) (s2 : Seen) (r3 : Memories) (s3 : Seen) where
-  pub next_layer : (marks marks' : List Mark) (spans spans' : List Span) (places places' : Vec ℕ) (tasks tasks' : Vec Task) (results results' : Vec Outcome)
-      → IsSoFar plan m layer remembers s r1 s1 marks spans places tasks results
+  pub next_layer : (spawn_results spawn_results' : List SpawnResult) (spans spans' : List Span) (places places' : Vec ℕ) (tasks tasks' : Vec Task) (results results' : Vec Outcome)
+      → IsSoFar plan m layer remembers s r1 s1 spawn_results spans places tasks results
       → GoesOn s1 s2 → TakesTo plan m (layer_stage (length plan.spec.streams) layer) (eval_stage (length plan.spec.streams) layer) r1 s1 r2 s2
-      → MarksThen plan m layer r1 s1 marks marks'
+      → SpawnResultsThen plan m layer r1 s1 spawn_results spawn_results'
       → IsAt plan (layer_stage (length plan.spec.streams) (layer + 1)) s3 → GoesOn s2 s3
       → HasRooms plan (layer_stage (length plan.spec.streams) (layer + 1)) s3 places' tasks' results'
       → IsReadyFor plan (layer_stage (length plan.spec.streams) (layer + 1)) s3 tasks'.items results'.items spans'
-      → EvalsTake plan m layer marks' r2 s2 r3 s3
-      → ShowsMore plan m layer marks' r2 s2 spans tasks.items results.items spans' tasks'.items results'.items
-      → IsSoFar plan m (layer + 1) remembers s r3 s3 marks' spans' places' tasks' results'
-  next_layer marks marks' spans spans' places places' tasks tasks' results results' h on takes marked at on' has_rooms ready evals shows = record {
+      → EvalsTake plan m layer spawn_results' r2 s2 r3 s3
+      → ShowsMore plan m layer spawn_results' r2 s2 spans tasks.items results.items spans' tasks'.items results'.items
+      → IsSoFar plan m (layer + 1) remembers s r3 s3 spawn_results' spans' places' tasks' results'
+  next_layer spawn_results spawn_results' spans spans' places places' tasks tasks' results results' h on takes with_spawn_results at on' has_rooms ready evals shows = record {
     at = at;
     goes_on = goes_on_again s s2 s3 (goes_on_again s s1 s2 h.goes_on on) on';
     has_rooms = has_rooms;
     ready = ready;
     runs = λ names rows step run.
-        let so_far : IsRunSoFar plan m layer r1 s1 marks spans tasks.items results.items names rows step = h.runs names rows step run in
+        let so_far : IsRunSoFar plan m layer r1 s1 spawn_results spans tasks.items results.items names rows step = h.runs names rows step run in
         let full : List StreamRow = (full_row plan m.start rows step).streams in
         let there : IsRunAt plan m (eval_stage (length plan.spec.streams) layer) r2 s2 names rows step = takes names rows step so_far.run in
-        let ms : AreMarks plan full (eval_stage (length plan.spec.streams) layer) marks' = marked names rows step so_far.run so_far.marks_are in
+        let ms : AreSpawnResults plan full (eval_stage (length plan.spec.streams) layer) spawn_results' = with_spawn_results names rows step so_far.run so_far.spawn_results_are in
         record {
           run = evals names rows step there ms;
-          marks_are = marks_then plan full layer marks' ms;
+          spawn_results_are = spawn_results_then plan full layer spawn_results' ms;
           results_show = shows names rows step there ms so_far.results_show;
         };
   }
@@ -241,19 +241,19 @@ all_behind : (l n layers : ℕ) → l < layers → is_behind l n layers 0 ≡ tr
 all_behind l n layers lt = rw (lt-ltb l layers lt) refl
 
 -- all is noted, and the store stands for the whole row
-pub all_layers : (plan : Plan) (m : Moment) (layers : ℕ) (remembers : Memories) (s : Seen) (remembers' : Memories) (s' : Seen) (marks : List Mark) (spans : List Span) (places : Vec ℕ) (tasks : Vec Task) (results : Vec Outcome)
+pub all_layers : (plan : Plan) (m : Moment) (layers : ℕ) (remembers : Memories) (s : Seen) (remembers' : Memories) (s' : Seen) (spawn_results : List SpawnResult) (spans : List Span) (places : Vec ℕ) (tasks : Vec Task) (results : Vec Outcome)
     → IsAccepted plan → ((node : ℕ) → layer_of plan.layers node < layers)
-    → IsSoFar plan m layers remembers s remembers' s' marks spans places tasks results
+    → IsSoFar plan m layers remembers s remembers' s' spawn_results spans places tasks results
     → (names : Naming) (rows : List TableRow) (step : Step) → IsRunAt plan m (layer_stage (length plan.spec.streams) 0) remembers s names rows step
-    → AreNoted plan (full_row plan m.start rows step).streams names marks spans tasks.items results.items
+    → AreNoted plan (full_row plan m.start rows step).streams names spawn_results spans tasks.items results.items
     × Stands names remembers' s' (content m.start rows (full_row plan m.start rows step))
-all_layers plan m layers remembers s remembers' s' marks spans places tasks results accepted low h names rows step run =
-    let so_far : IsRunSoFar plan m layers remembers' s' marks spans tasks.items results.items names rows step = h.runs names rows step run in
+all_layers plan m layers remembers s remembers' s' spawn_results spans places tasks results accepted low h names rows step run =
+    let so_far : IsRunSoFar plan m layers remembers' s' spawn_results spans tasks.items results.items names rows step = h.runs names rows step run in
     let full : List StreamRow = (full_row plan m.start rows step).streams in (
       record {
-        marks_are = λ n lt.
-            so_far.marks_are n lt
-            ∙ ap (λ b. Some (mark_of (done_of b (spawned_in (slice_get full n))))) (all_behind (layer_of plan.layers (spawn_node n)) n layers (low (spawn_node n)));
+        spawn_results_are = λ n lt.
+            so_far.spawn_results_are n lt
+            ∙ ap (λ b. Some (spawn_result_of (done_of b (spawned_in (slice_get full n))))) (all_behind (layer_of plan.layers (spawn_node n)) n layers (low (spawn_node n)));
         results_show = λ n x at no_input.
             so_far.results_show n x at no_input
             (as_node plan.layers (layer_stage (length plan.spec.streams) layers) n x no_input ∙ all_behind (layer_of plan.layers (eval_node n)) n layers (low (eval_node n)));

@@ -8,8 +8,8 @@ use Rattle.lola_value.specs.declared.value.Outcome.{Outcome}
 use Rattle.lola_value.specs.declared.value.Outcome.TheVariants as outcome
 use Rattle.lola_step.specs.Found.{NoneFailed, add_fault, fault_of, fault_or, first_among, has_fault, is_failed, is_fault, least_among}
 use Rattle.lola_step.specs.Notes.{in_span}
-use Rattle.lola_step.specs.declared.mark.Mark.{Mark}
-use Rattle.lola_step.specs.declared.mark.Mark.TheVariants as mark
+use Rattle.lola_step.specs.declared.spawn_result.SpawnResult.{SpawnResult}
+use Rattle.lola_step.specs.declared.spawn_result.SpawnResult.TheVariants as spawn_result
 use Rattle.lola_step.specs.declared.scratch.Span.{Span}
 use Rattle.lola_step.proofs.Elements.{drop_past}
 use Rattle.lola_step.proofs.Shown.{set_else, set_here}
@@ -74,35 +74,35 @@ none_least (o ∷ os) e =
     let p = or_parts (is_fault o) (has_fault os) e in
     one_least o (least_among os) p.0 ∙ none_least os p.1
 
--- marks
+-- spawn results
 
-pub fine_first : (marks : List Mark) → marks ≡ replicate (length marks) mark.Fine → NoneFailed marks
-fine_first marks e n k at =
-    let within : n < length marks = slice_get_within marks n k at in
-    let fine : get_or marks n mark.Fine ≡ mark.Fine = ap (λ ms. get_or ms n mark.Fine) e ∙ get_or-replicate (length marks) n mark.Fine mark.Fine within in
-    ap is_failed (sym (get_or_from_slice_get marks n k mark.Fine at) ∙ fine)
+pub fine_first : (spawn_results : List SpawnResult) → spawn_results ≡ replicate (length spawn_results) spawn_result.Fine → NoneFailed spawn_results
+fine_first spawn_results e n k at =
+    let within : n < length spawn_results = slice_get_within spawn_results n k at in
+    let fine : get_or spawn_results n spawn_result.Fine ≡ spawn_result.Fine = ap (λ ms. get_or ms n spawn_result.Fine) e ∙ get_or-replicate (length spawn_results) n spawn_result.Fine spawn_result.Fine within in
+    ap is_failed (sym (get_or_from_slice_get spawn_results n k spawn_result.Fine at) ∙ fine)
 
-pub fine_next : (marks : List Mark) (n : ℕ) (m : Mark) → n < length marks → is_failed m ≡ false → NoneFailed marks → NoneFailed (set marks n m)
-fine_next marks n m lt e h i k at = by (cases_eq i n)
+pub fine_next : (spawn_results : List SpawnResult) (n : ℕ) (m : SpawnResult) → n < length spawn_results → is_failed m ≡ false → NoneFailed spawn_results → NoneFailed (set spawn_results n m)
+fine_next spawn_results n m lt e h i k at = by (cases_eq i n)
   where
     by : (i ≡ n) ⊎ (i ≡ n → ⊥) → is_failed k ≡ false
     by (inl q) =
-        let a : slice_get (set marks n m) n ≡ Some k = ap (λ j. slice_get (set marks n m) j) (sym q) ∙ at in
-        let b : Some m ≡ Some k = sym (set_here marks n m lt) ∙ a in
+        let a : slice_get (set spawn_results n m) n ≡ Some k = ap (λ j. slice_get (set spawn_results n m) j) (sym q) ∙ at in
+        let b : Some m ≡ Some k = sym (set_here spawn_results n m lt) ∙ a in
         let p : m ≡ k = cc in
         ap is_failed (sym p) ∙ e
-    by (inr d) = h i k (sym (set_else marks n i m d) ∙ at)
+    by (inr d) = h i k (sym (set_else spawn_results n i m d) ∙ at)
 
-marked : (m : Mark) (os : List Outcome) → is_failed m ≡ false → fault_of m os ≡ least_among os
-marked mark.Fine os e = refl
-marked (mark.Failed k) os e = absurd (cc)
-marked mark.Poisoned os e = refl
+with_spawn_results : (m : SpawnResult) (os : List Outcome) → is_failed m ≡ false → fault_of m os ≡ least_among os
+with_spawn_results spawn_result.Fine os e = refl
+with_spawn_results (spawn_result.Failed k) os e = absurd (cc)
+with_spawn_results spawn_result.Poisoned os e = refl
 
 -- all streams
-pub none_first : (results : List Outcome) (n : ℕ) (ms : List Mark) (ps : List Span) → NoneFailed ms → has_fault results ≡ false → first_among results n ms ps ≡ None
+pub none_first : (results : List Outcome) (n : ℕ) (ms : List SpawnResult) (ps : List Span) → NoneFailed ms → has_fault results ≡ false → first_among results n ms ps ≡ None
 none_first results n [] ps h e = refl
 none_first results n (m ∷ ms) [] h e = refl
 none_first results n (m ∷ ms) (p ∷ ps) h e =
     ap (λ o. fault_or n o (first_among results (n + 1) ms ps))
-    (marked m (in_span results (Some p)) (h 0 m refl) ∙ none_least (in_span results (Some p)) (fault_taken p.count (drop p.from results) (fault_dropped p.from results e)))
+    (with_spawn_results m (in_span results (Some p)) (h 0 m refl) ∙ none_least (in_span results (Some p)) (fault_taken p.count (drop p.from results) (fault_dropped p.from results e)))
     ∙ none_first results (n + 1) ms ps (λ i k at. h (suc i) k at) e

@@ -20,9 +20,9 @@ use Rattle.lola_step_law.specs.Stages.{full_row}
 use Rattle.lola_step_law.proofs.Inputs.{inputs_go}
 use Rattle.lola_step.specs.Ends.{FindsFault}
 use Rattle.lola_step.specs.Found.{least_of, add_fault, least_among, fault_of, fault_or, first_among}
-use Rattle.lola_step.specs.Notes.{AreNoted, AreSilent, OneOf, ReadEach, ShowLiving, asked_in, in_span, mark_of, read_fault}
+use Rattle.lola_step.specs.Notes.{AreNoted, AreSilent, OneOf, ReadEach, ShowLiving, asked_in, in_span, spawn_result_of, read_fault}
 use Rattle.lola_step.specs.Progress.{IsRun}
-use Rattle.lola_step.specs.declared.mark.Mark.{Mark}
+use Rattle.lola_step.specs.declared.spawn_result.SpawnResult.{SpawnResult}
 use Rattle.lola_step.specs.declared.scratch.Span.{Span}
 use Rattle.lola_step.specs.declared.tasks.Task.{Task}
 use Rattle.lola_step.proofs.Elements.{Element, cut, drop_past, element}
@@ -109,7 +109,7 @@ input_is_fine i None = refl
 input_is_fine i (Some fields) = field_is_fine (slice_get fields i)
 
 of_spawned : (sp : Spawned) (os : List Outcome) (least : Option FaultKind) → least_among os ≡ least
-    → fault_of (mark_of sp) os ≡ elim sp as (λ _. Option FaultKind) [ Idle ↦ least | Named p ↦ least | SpawnFailed k ↦ Some k | SpawnPoisoned ↦ least ]
+    → fault_of (spawn_result_of sp) os ≡ elim sp as (λ _. Option FaultKind) [ Idle ↦ least | Named p ↦ least | SpawnFailed k ↦ Some k | SpawnPoisoned ↦ least ]
 of_spawned Idle os least e = e
 of_spawned (Named p) os least e = e
 of_spawned (SpawnFailed k) os least e = refl
@@ -119,7 +119,7 @@ of_spawned SpawnPoisoned os least e = e
 
 module _ (results : List Outcome) where
   -- what is noted of a stream has the fault of its row
-  abbrev HasSameFault : Mark → Span → StreamRow → Type 0
+  abbrev HasSameFault : SpawnResult → Span → StreamRow → Type 0
   HasSameFault m p y = fault_of m (in_span results (Some p)) ≡ own_fault y
 
   with_first : (n : ℕ) (o : Option FaultKind) (rest : Option (ℕ × FaultKind)) (others : Option RowFault) → read_fault rest ≡ others
@@ -127,8 +127,8 @@ module _ (results : List Outcome) where
   with_first n None rest others e = e
   with_first n (Some k) rest others e = refl
 
-  first_is : (n : ℕ) (ms : List Mark) (ps : List Span) (ys : List StreamRow) → length ms ≡ length ys → length ps ≡ length ys
-      → ((i : ℕ) (m : Mark) (p : Span) (y : StreamRow) → slice_get ms i ≡ Some m → slice_get ps i ≡ Some p → slice_get ys i ≡ Some y → HasSameFault m p y)
+  first_is : (n : ℕ) (ms : List SpawnResult) (ps : List Span) (ys : List StreamRow) → length ms ≡ length ys → length ps ≡ length ys
+      → ((i : ℕ) (m : SpawnResult) (p : Span) (y : StreamRow) → slice_get ms i ≡ Some m → slice_get ps i ≡ Some p → slice_get ys i ≡ Some y → HasSameFault m p y)
       → read_fault (first_among results n ms ps) ≡ first_with own_fault n ys
   first_is n [] ps [] e f each = refl
   first_is n [] ps (y ∷ ys) e f each = absurd (omega arith)
@@ -139,12 +139,12 @@ module _ (results : List Outcome) where
       (first_is (n + 1) ms ps ys (omega arith) (omega arith) (λ i k q z a b c. each (suc i) k q z a b c))
       ∙ ap (λ o. elim o as (λ _. Option RowFault) [ None ↦ first_with own_fault (n + 1) ys | Some k ↦ Some (record { stream = n; kind = k }) ]) (each 0 m p y refl refl refl)
 
-module _ (plan : Plan) (accepted : IsAccepted plan) (marks : List Mark) (spans : List Span) (tasks : List Task) (results : List Outcome) where
-  module _ (names : Naming) (start : ℕ) (rows : List TableRow) (step : Step) (run : IsRun plan names rows) (noted : AreNoted plan (full_row plan start rows step).streams names marks spans tasks results) where
+module _ (plan : Plan) (accepted : IsAccepted plan) (spawn_results : List SpawnResult) (spans : List Span) (tasks : List Task) (results : List Outcome) where
+  module _ (names : Naming) (start : ℕ) (rows : List TableRow) (step : Step) (run : IsRun plan names rows) (noted : AreNoted plan (full_row plan start rows step).streams names spawn_results spans tasks results) where
     abbrev full : List StreamRow
     full = (full_row plan start rows step).streams
 
-    module _ (n : ℕ) (m : Mark) (p : Span) (y : StreamRow) (is_mark : slice_get marks n ≡ Some m) (is_span : slice_get spans n ≡ Some p) (is_row : slice_get full n ≡ Some y) where
+    module _ (n : ℕ) (m : SpawnResult) (p : Span) (y : StreamRow) (is_spawn_result : slice_get spawn_results n ≡ Some m) (is_span : slice_get spans n ≡ Some p) (is_row : slice_get full n ≡ Some y) where
       below : n < length plan.spec.streams
       below = omega (arith, slice_get_within full n y is_row, length-full plan accepted.acyclic start rows step)
 
@@ -170,24 +170,24 @@ module _ (plan : Plan) (accepted : IsAccepted plan) (marks : List Mark) (spans :
       least true i = input_least i
       least false i = other_least i
 
-      mark_is : m ≡ mark_of y.spawned
-      mark_is =
-          let a : slice_get marks n ≡ Some (mark_of (spawned_in (slice_get full n))) = noted.marks_are n below in
-          let b : mark_of (spawned_in (slice_get full n)) ≡ mark_of y.spawned = ap (λ o. mark_of (spawned_in o)) is_row in
+      spawn_result_is : m ≡ spawn_result_of y.spawned
+      spawn_result_is =
+          let a : slice_get spawn_results n ≡ Some (spawn_result_of (spawned_in (slice_get full n))) = noted.spawn_results_are n below in
+          let b : spawn_result_of (spawned_in (slice_get full n)) ≡ spawn_result_of y.spawned = ap (λ o. spawn_result_of (spawned_in o)) is_row in
           cc
 
       same_fault : HasSameFault results m p y
       same_fault =
-          ap (λ k. fault_of k (in_span results (Some p))) mark_is
+          ap (λ k. fault_of k (in_span results (Some p))) spawn_result_is
           ∙ of_spawned y.spawned (in_span results (Some p)) (least_failed y.living) (least (is_input there.at) refl)
 
-    found : length marks ≡ length plan.spec.streams → length spans ≡ length plan.spec.streams → read_fault (first_among results 0 marks spans) ≡ evaluation_fault plan start rows step
+    found : length spawn_results ≡ length plan.spec.streams → length spans ≡ length plan.spec.streams → read_fault (first_among results 0 spawn_results spans) ≡ evaluation_fault plan start rows step
     found a b =
         let c : length full ≡ length plan.spec.streams = length-full plan accepted.acyclic start rows step in
-        first_is results 0 marks spans full (omega arith) (omega arith) same_fault
+        first_is results 0 spawn_results spans full (omega arith) (omega arith) same_fault
 
   -- the first fault among what is noted is that of the evaluation
-  pub finds_fault : length marks ≡ length plan.spec.streams → length spans ≡ length plan.spec.streams → FindsFault plan marks spans tasks results (first_among results 0 marks spans)
+  pub finds_fault : length spawn_results ≡ length plan.spec.streams → length spans ≡ length plan.spec.streams → FindsFault plan spawn_results spans tasks results (first_among results 0 spawn_results spans)
   finds_fault a b names start rows step run noted = found names start rows step run noted a b
 
 -- the steps of the loops
@@ -201,11 +201,11 @@ least_step os i d least next below e so_far =
     ∙ (ap (λ ys. least_of least (least_among ys)) (sym (cut os i o (slice_get-get_or os i d below)))
     ∙ so_far))
 
-module _ (results : List Outcome) (ms : List Mark) (ps : List Span) (n : ℕ) (so_far : first_among results n (drop n ms) (drop n ps) ≡ first_among results 0 ms ps) where
-  pub first_here : (e : Mark) (d : Span) (k : FaultKind) → n < length ms → n < length ps → Some k ≡ fault_of (get_or ms n e) (in_span results (Some (get_or ps n d)))
+module _ (results : List Outcome) (ms : List SpawnResult) (ps : List Span) (n : ℕ) (so_far : first_among results n (drop n ms) (drop n ps) ≡ first_among results 0 ms ps) where
+  pub first_here : (e : SpawnResult) (d : Span) (k : FaultKind) → n < length ms → n < length ps → Some k ≡ fault_of (get_or ms n e) (in_span results (Some (get_or ps n d)))
       → first_among results 0 ms ps ≡ Some (n, k)
   first_here e d k below within is =
-      let m : Mark = get_or ms n e in
+      let m : SpawnResult = get_or ms n e in
       let p : Span = get_or ps n d in
       sym so_far
       ∙ (ap (λ ys. first_among results n ys (drop n ps)) (cut ms n m (slice_get-get_or ms n e below))

@@ -14,7 +14,7 @@ use Rattle.lola_step_law.specs.Stages.{Stage, eval_stage, is_behind, is_evaluate
 use Rattle.lola_step_law.proofs.Behind.{equal_behind, layer_behind, same_behind}
 use Rattle.lola_step.specs.Notes.{layer_spans, layer_tasks, places_asked, runs_in, sought_at, stream_tasks, tasks_at}
 use Rattle.lola_step.specs.Rooms.{room_of, rooms, to_come}
-use Rattle.lola_step.specs.declared.mark.Mark.{Mark}
+use Rattle.lola_step.specs.declared.spawn_result.SpawnResult.{SpawnResult}
 use Rattle.lola_step.specs.declared.moment.Moment.{Moment}
 use Rattle.lola_step.specs.declared.scratch.Span.{Span}
 use Rattle.lola_step.specs.declared.tasks.Task.{Task}
@@ -25,8 +25,8 @@ pub record Runs (plan : Plan) (layer n : ℕ) (x : Stream) : Type 0 where
   pub no_input : is_input x ≡ false
   pub layer_is : layer_of plan.layers (eval_node n) ≡ layer
 
-module _ (plan : Plan) (m : Moment) (marks : List Mark) (sought : List Whereabouts) (s : Seen) (layer : ℕ) where
-  pub runs_so : (n : ℕ) (x : Stream) → runs_in plan m marks layer n x ≡ true → Runs plan layer n x
+module _ (plan : Plan) (m : Moment) (spawn_results : List SpawnResult) (sought : List Whereabouts) (s : Seen) (layer : ℕ) where
+  pub runs_so : (n : ℕ) (x : Stream) → runs_in plan m spawn_results layer n x ≡ true → Runs plan layer n x
   runs_so n x e =
       let a = and_parts (not (is_input x)) _ e in
       let b = and_parts (nat_eq (layer_of plan.layers (eval_node n)) layer) _ a.1 in
@@ -37,16 +37,16 @@ module _ (plan : Plan) (m : Moment) (marks : List Mark) (sought : List Whereabou
   asked_tasks n = tasks_at n (places_asked (sought_at sought n) (eval_pacing (slice_get plan.pacings n)) m s n)
 
   -- no more than it has
-  pub few_tasks : (n : ℕ) (x : Stream) → length (stream_tasks plan m marks sought s layer n x) ≤ length (instances_seen s n)
-  few_tasks n x = by (runs_in plan m marks layer n x)
+  pub few_tasks : (n : ℕ) (x : Stream) → length (stream_tasks plan m spawn_results sought s layer n x) ≤ length (instances_seen s n)
+  few_tasks n x = by (runs_in plan m spawn_results layer n x)
     where
       by : (b : Bool) → length (if b then asked_tasks n else []) ≤ length (instances_seen s n)
       by true = few_asked (sought_at sought n) (eval_pacing (slice_get plan.pacings n)) m s n
       by false = omega arith
 
   -- as many as the places that are asked, where it runs
-  pub count_asked : (n : ℕ) (x : Stream) (w : Whereabouts) (p : Option Pacing) → runs_in plan m marks layer n x ≡ true → w ≡ sought_at sought n → p ≡ eval_pacing (slice_get plan.pacings n)
-      → length (places_asked w p m s n) ≡ length (stream_tasks plan m marks sought s layer n x)
+  pub count_asked : (n : ℕ) (x : Stream) (w : Whereabouts) (p : Option Pacing) → runs_in plan m spawn_results layer n x ≡ true → w ≡ sought_at sought n → p ≡ eval_pacing (slice_get plan.pacings n)
+      → length (places_asked w p m s n) ≡ length (stream_tasks plan m spawn_results sought s layer n x)
   count_asked n x w p r f e =
       ap (λ v. length (places_asked v p m s n)) f
       ∙ (ap (λ q. length (places_asked (sought_at sought n) q m s n)) e
@@ -102,10 +102,10 @@ module _ (plan : Plan) (m : Moment) (marks : List Mark) (sought : List Whereabou
   not_more false false false k h = omega arith
 
   stream_fits : (n : ℕ) (x : Stream) (k : ℕ) → n < count → length (instances_seen s n) ≤ k
-      → length (stream_tasks plan m marks sought s layer n x) + if_to_come next n x k ≤ if_to_come now n x k
-  stream_fits n x k h few = by (runs_in plan m marks layer n x) refl
+      → length (stream_tasks plan m spawn_results sought s layer n x) + if_to_come next n x k ≤ if_to_come now n x k
+  stream_fits n x k h few = by (runs_in plan m spawn_results layer n x) refl
     where
-      by : (b : Bool) → runs_in plan m marks layer n x ≡ b
+      by : (b : Bool) → runs_in plan m spawn_results layer n x ≡ b
           → length (if b then asked_tasks n else []) + if_to_come next n x k ≤ if_to_come now n x k
       by true e =
           let r = runs_so n x e in
@@ -117,32 +117,32 @@ module _ (plan : Plan) (m : Moment) (marks : List Mark) (sought : List Whereabou
           omega (arith, a)
 
   pub layer_fits : (n : ℕ) (xs : List Stream) (ks : List ℕ) → n + length xs ≤ count → HasRoom n xs ks
-      → length (layer_tasks plan m marks sought s layer n xs) + to_come plan.layers next n xs ks ≤ to_come plan.layers now n xs ks
+      → length (layer_tasks plan m spawn_results sought s layer n xs) + to_come plan.layers next n xs ks ≤ to_come plan.layers now n xs ks
   layer_fits n [] ks h r = omega arith
   layer_fits n (x ∷ xs) [] h r = absurd r
   layer_fits n (x ∷ xs) (k ∷ ks) h r =
       let a = stream_fits n x k (omega arith) r.0 in
       let b = layer_fits (n + 1) xs ks (omega arith) r.1 in
-      let c = length-append (stream_tasks plan m marks sought s layer n x) (layer_tasks plan m marks sought s layer (n + 1) xs) in
+      let c = length-append (stream_tasks plan m spawn_results sought s layer n x) (layer_tasks plan m spawn_results sought s layer (n + 1) xs) in
       omega (arith, a, b, c)
 
   nothing : Span
   nothing = record { from = 0; count = 0 }
 
   abbrev span_of : ℕ → ℕ → Stream → Span
-  span_of from n x = record { from = from; count = length (stream_tasks plan m marks sought s layer n x) }
+  span_of from n x = record { from = from; count = length (stream_tasks plan m spawn_results sought s layer n x) }
 
   abbrev spans_past : ℕ → ℕ → Stream → List Stream → List Span → List Span
-  spans_past from n x xs ps = layer_spans plan m marks sought s layer (from + length (stream_tasks plan m marks sought s layer n x)) (n + 1) xs ps
+  spans_past from n x xs ps = layer_spans plan m spawn_results sought s layer (from + length (stream_tasks plan m spawn_results sought s layer n x)) (n + 1) xs ps
 
   -- as one more stream is looked at
   pub span_step : (from n : ℕ) (x : Stream) (xs : List Stream) (spans : List Span) → n < length spans
-      → take (n + 1) (if runs_in plan m marks layer n x then set spans n (span_of from n x) else spans)
-      ++ layer_spans plan m marks sought s layer (from + length (stream_tasks plan m marks sought s layer n x)) (n + 1) xs (drop (n + 1) (if runs_in plan m marks layer n x then set spans n (span_of from n x) else spans))
-      ≡ take n spans ++ layer_spans plan m marks sought s layer from n (x ∷ xs) (drop n spans)
+      → take (n + 1) (if runs_in plan m spawn_results layer n x then set spans n (span_of from n x) else spans)
+      ++ layer_spans plan m spawn_results sought s layer (from + length (stream_tasks plan m spawn_results sought s layer n x)) (n + 1) xs (drop (n + 1) (if runs_in plan m spawn_results layer n x then set spans n (span_of from n x) else spans))
+      ≡ take n spans ++ layer_spans plan m spawn_results sought s layer from n (x ∷ xs) (drop n spans)
   span_step from n x xs spans h =
-      by (runs_in plan m marks layer n x)
-      ∙ ap (λ ps. take n spans ++ layer_spans plan m marks sought s layer from n (x ∷ xs) ps) (sym (drop_more spans n nothing h))
+      by (runs_in plan m spawn_results layer n x)
+      ∙ ap (λ ps. take n spans ++ layer_spans plan m spawn_results sought s layer from n (x ∷ xs) ps) (sym (drop_more spans n nothing h))
     where
       by : (b : Bool)
           → take (n + 1) (if b then set spans n (span_of from n x) else spans) ++ spans_past from n x xs (drop (n + 1) (if b then set spans n (span_of from n x) else spans))
@@ -155,10 +155,10 @@ module _ (plan : Plan) (m : Moment) (marks : List Mark) (sought : List Whereabou
           ap (λ ys. ys ++ spans_past from n x xs (drop (n + 1) spans)) (take_more spans n nothing h)
           ∙ append_assoc (take n spans) (get_or spans n nothing ∷ []) (spans_past from n x xs (drop (n + 1) spans))
 
-  pub length_spans : (n : ℕ) (xs : List Stream) (ps : List Span) (from : ℕ) → length (layer_spans plan m marks sought s layer from n xs ps) ≡ length ps
+  pub length_spans : (n : ℕ) (xs : List Stream) (ps : List Span) (from : ℕ) → length (layer_spans plan m spawn_results sought s layer from n xs ps) ≡ length ps
   length_spans n [] ps from = refl
   length_spans n (x ∷ xs) [] from = refl
-  length_spans n (x ∷ xs) (p ∷ ps) from = ap suc (length_spans (n + 1) xs ps (from + length (stream_tasks plan m marks sought s layer n x)))
+  length_spans n (x ∷ xs) (p ∷ ps) from = ap suc (length_spans (n + 1) xs ps (from + length (stream_tasks plan m spawn_results sought s layer n x)))
 
   -- the rooms of a store are such
   rooms_by : (n : ℕ) (xs : List Stream) (ys : List SeenStream) → length ys ≡ length xs → ((i : ℕ) → slice_get s.streams (n + i) ≡ slice_get ys i) → HasRoom n xs (map room_of ys)
@@ -178,23 +178,23 @@ module _ (plan : Plan) (m : Moment) (marks : List Mark) (sought : List Whereabou
   -- the loop goes on
 
   pub gathers_tasks : (n : ℕ) (x : Stream) (streams : List Stream) (old new all : List Task) → drop n streams ≡ x ∷ drop (n + 1) streams
-      → new ≡ old ++ stream_tasks plan m marks sought s layer n x
-      → old ++ layer_tasks plan m marks sought s layer n (drop n streams) ≡ all → new ++ layer_tasks plan m marks sought s layer (n + 1) (drop (n + 1) streams) ≡ all
+      → new ≡ old ++ stream_tasks plan m spawn_results sought s layer n x
+      → old ++ layer_tasks plan m spawn_results sought s layer n (drop n streams) ≡ all → new ++ layer_tasks plan m spawn_results sought s layer (n + 1) (drop (n + 1) streams) ≡ all
   gathers_tasks n x streams old new all at is so =
-      ap (λ ts. ts ++ layer_tasks plan m marks sought s layer (n + 1) (drop (n + 1) streams)) is
-      ∙ (append_assoc old (stream_tasks plan m marks sought s layer n x) (layer_tasks plan m marks sought s layer (n + 1) (drop (n + 1) streams))
-      ∙ (ap (λ xs. old ++ layer_tasks plan m marks sought s layer n xs) (sym at) ∙ so))
+      ap (λ ts. ts ++ layer_tasks plan m spawn_results sought s layer (n + 1) (drop (n + 1) streams)) is
+      ∙ (append_assoc old (stream_tasks plan m spawn_results sought s layer n x) (layer_tasks plan m spawn_results sought s layer (n + 1) (drop (n + 1) streams))
+      ∙ (ap (λ xs. old ++ layer_tasks plan m spawn_results sought s layer n xs) (sym at) ∙ so))
 
   pub gathers_spans : (n : ℕ) (x : Stream) (streams : List Stream) (from later noted : ℕ) (old new all : List Span) → n < length old → drop n streams ≡ x ∷ drop (n + 1) streams
-      → later ≡ from + length (stream_tasks plan m marks sought s layer n x) → noted ≡ from
-      → new ≡ (if runs_in plan m marks layer n x then set old n (span_of noted n x) else old)
-      → take n old ++ layer_spans plan m marks sought s layer from n (drop n streams) (drop n old) ≡ all
-      → take (n + 1) new ++ layer_spans plan m marks sought s layer later (n + 1) (drop (n + 1) streams) (drop (n + 1) new) ≡ all
+      → later ≡ from + length (stream_tasks plan m spawn_results sought s layer n x) → noted ≡ from
+      → new ≡ (if runs_in plan m spawn_results layer n x then set old n (span_of noted n x) else old)
+      → take n old ++ layer_spans plan m spawn_results sought s layer from n (drop n streams) (drop n old) ≡ all
+      → take (n + 1) new ++ layer_spans plan m spawn_results sought s layer later (n + 1) (drop (n + 1) streams) (drop (n + 1) new) ≡ all
   gathers_spans n x streams from later noted old new all h at e f is so =
-      ap (λ k. take (n + 1) new ++ layer_spans plan m marks sought s layer k (n + 1) (drop (n + 1) streams) (drop (n + 1) new)) e
-      ∙ (ap (λ ps. take (n + 1) ps ++ spans_past from n x (drop (n + 1) streams) (drop (n + 1) ps)) (is ∙ ap (λ k. if runs_in plan m marks layer n x then set old n (span_of k n x) else old) f)
+      ap (λ k. take (n + 1) new ++ layer_spans plan m spawn_results sought s layer k (n + 1) (drop (n + 1) streams) (drop (n + 1) new)) e
+      ∙ (ap (λ ps. take (n + 1) ps ++ spans_past from n x (drop (n + 1) streams) (drop (n + 1) ps)) (is ∙ ap (λ k. if runs_in plan m spawn_results layer n x then set old n (span_of k n x) else old) f)
       ∙ (span_step from n x (drop (n + 1) streams) old h
-      ∙ (ap (λ xs. take n old ++ layer_spans plan m marks sought s layer from n xs (drop n old)) (sym at) ∙ so)))
+      ∙ (ap (λ xs. take n old ++ layer_spans plan m spawn_results sought s layer from n xs (drop n old)) (sym at) ∙ so)))
 
 -- an element that is read at a place
 pub drop_here : {A : Type 0} (xs : List A) (i : ℕ) (x : A) → i < length xs → x ≡ get_or xs i x → drop i xs ≡ x ∷ drop (i + 1) xs

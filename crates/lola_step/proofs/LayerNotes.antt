@@ -17,7 +17,7 @@ use Rattle.lola_step.specs.Given.{AreResults, after_all}
 use Rattle.lola_step.specs.Notes.{AreOfStream, AreOutcomesOf, IsSpan, asked_in, in_span, layer_spans, layer_tasks, sought_at}
 use Rattle.lola_step.specs.Progress.{IsAt}
 use Rattle.lola_step.specs.Rooms.{rooms, to_come, total}
-use Rattle.lola_step.specs.declared.mark.Mark.{Mark}
+use Rattle.lola_step.specs.declared.spawn_result.SpawnResult.{SpawnResult}
 use Rattle.lola_step.specs.declared.moment.Moment.{Moment}
 use Rattle.lola_step.specs.declared.scratch.Span.{Span}
 use Rattle.lola_step.specs.declared.tasks.Task.{Task}
@@ -38,7 +38,7 @@ same_asked_in first more p h =
     ap (take p.count) (drop-append-le p.from first more (omega (arith, h)))
     ∙ take-append-le p.count (drop p.from first) more (omega (arith, h, length-drop p.from first))
 
-module _ (plan : Plan) (m : Moment) (marks : List Mark) (sought : List Whereabouts) (remembers : Memories) (s : Seen) (layer : ℕ) (before : List Task) (first fresh : List Outcome) (spans : List Span) where
+module _ (plan : Plan) (m : Moment) (spawn_results : List SpawnResult) (sought : List Whereabouts) (remembers : Memories) (s : Seen) (layer : ℕ) (before : List Task) (first fresh : List Outcome) (spans : List Span) where
   abbrev count : ℕ
   count = length plan.spec.streams
 
@@ -49,21 +49,21 @@ module _ (plan : Plan) (m : Moment) (marks : List Mark) (sought : List Whereabou
   next = layer_stage count (layer + 1)
 
   abbrev tasks : List Task
-  tasks = layer_tasks plan m marks sought s layer 0 plan.spec.streams
+  tasks = layer_tasks plan m spawn_results sought s layer 0 plan.spec.streams
 
   abbrev after : Seen
   after = after_all s tasks fresh
 
   abbrev pub spans_after : List Span
-  spans_after = layer_spans plan m marks sought s layer (length before) 0 plan.spec.streams spans
+  spans_after = layer_spans plan m spawn_results sought s layer (length before) 0 plan.spec.streams spans
 
   module _ (each : length before ≡ length first) (results : AreResults plan m remembers s tasks fresh) where
     abbrev SpanNow : ℕ → Stream → Span → Type 0
-    SpanNow n x p = SpanOf plan m remembers s marks sought layer n x (slice_get spans n) p (before ++ tasks) (first ++ fresh)
+    SpanNow n x p = SpanOf plan m remembers s spawn_results sought layer n x (slice_get spans n) p (before ++ tasks) (first ++ fresh)
 
     pub span_of : (n : ℕ) (x : Stream) (p : Span) → slice_get plan.spec.streams n ≡ Some x → slice_get spans_after n ≡ Some p → SpanNow n x p
     span_of n x p e f =
-        each_span plan m remembers s marks sought layer 0 plan.spec.streams spans (length before) before (before ++ tasks) first fresh (first ++ fresh) refl refl refl each results n n x p (omega arith) e f
+        each_span plan m remembers s spawn_results sought layer 0 plan.spec.streams spans (length before) before (before ++ tasks) first fresh (first ++ fresh) refl refl refl each results n n x p (omega arith) e f
 
     module _ (ready : IsReadyFor plan now s before first spans) where
       keeps : Keeps s after
@@ -83,7 +83,7 @@ module _ (plan : Plan) (m : Moment) (marks : List Mark) (sought : List Whereabou
       span_is : (n : ℕ) (x : Stream) (p : Span) → SpanNow n x p → IsSpanAfter n p
       span_is n x p (inl h) =
           let own = asked_of_stream (sought_at sought n) (eval_pacing (slice_get plan.pacings n)) m s n in
-          let ts = asked_tasks plan m marks sought s layer n in
+          let ts = asked_tasks plan m spawn_results sought s layer n in
           record {
             within = h.within;
             few = omega (arith, h.few, keeps.counts n);
@@ -100,7 +100,7 @@ module _ (plan : Plan) (m : Moment) (marks : List Mark) (sought : List Whereabou
           }
 
       pub as_many_spans : length spans_after ≡ count
-      as_many_spans = length_spans plan m marks sought s layer 0 plan.spec.streams spans (length before) ∙ ready.each
+      as_many_spans = length_spans plan m spawn_results sought s layer 0 plan.spec.streams spans (length before) ∙ ready.each
 
       within_after : (n : ℕ) (p : Span) → slice_get spans_after n ≡ Some p → ((x : Stream) × (slice_get plan.spec.streams n ≡ Some x)) ⊎ (slice_get plan.spec.streams n ≡ None) → IsSpanAfter n p
       within_after n p e (inl h) = span_is n h.0 p (span_of n h.0 p h.1 e)
@@ -113,17 +113,17 @@ module _ (plan : Plan) (m : Moment) (marks : List Mark) (sought : List Whereabou
 
       to_come_still : (n : ℕ) (x : Stream) → slice_get plan.spec.streams n ≡ Some x → is_evaluated plan.layers next n x ≡ false → (b : Bool) → is_evaluated plan.layers now n x ≡ b → is_evaluated plan.layers now n x ≡ false
       to_come_still n x e f false g = g
-      to_come_still n x e f true g = absurd (let h = done_stays plan m marks sought s layer n x (slice_get_within plan.spec.streams n x e) g in cc)
+      to_come_still n x e f true g = absurd (let h = done_stays plan m spawn_results sought s layer n x (slice_get_within plan.spec.streams n x e) g in cc)
 
       empty_after : (n : ℕ) (x : Stream) (p : Span) → slice_get plan.spec.streams n ≡ Some x → is_evaluated plan.layers next n x ≡ false
           → SpanNow n x p → p.count ≡ 0
       empty_after n x p e f (inl h) =
-          absurd (let g = run_is_done plan m marks sought s layer n x (runs_so plan m marks sought s layer n x h.runs) (slice_get_within plan.spec.streams n x e) in cc)
+          absurd (let g = run_is_done plan m spawn_results sought s layer n x (runs_so plan m spawn_results sought s layer n x h.runs) (slice_get_within plan.spec.streams n x e) in cc)
       empty_after n x p e f (inr h) = ready.empty n x p e (to_come_still n x e f (is_evaluated plan.layers now n x) refl) h.same
 
       inputs_after : (n : ℕ) (x : Stream) (p : Span) → slice_get plan.spec.streams n ≡ Some x → is_input x ≡ true
           → SpanNow n x p → p.count ≡ 0
-      inputs_after n x p e f (inl h) = absurd (let g = (runs_so plan m marks sought s layer n x h.runs).no_input in cc)
+      inputs_after n x p e f (inl h) = absurd (let g = (runs_so plan m spawn_results sought s layer n x h.runs).no_input in cc)
       inputs_after n x p e f (inr h) = ready.inputs n x p e f h.same
 
       pub ready_after : IsReadyFor plan next after (before ++ tasks) (first ++ fresh) spans_after
@@ -135,14 +135,14 @@ module _ (plan : Plan) (m : Moment) (marks : List Mark) (sought : List Whereabou
       }
 
 -- the room that is left
-pub rooms_after : (plan : Plan) (m : Moment) (marks : List Mark) (sought : List Whereabouts) (s t : Seen) (layer : ℕ) (old_places new_places : Vec ℕ) (old_tasks new_tasks : Vec Task) (old new : Vec Outcome)
+pub rooms_after : (plan : Plan) (m : Moment) (spawn_results : List SpawnResult) (sought : List Whereabouts) (s t : Seen) (layer : ℕ) (old_places new_places : Vec ℕ) (old_tasks new_tasks : Vec Task) (old new : Vec Outcome)
     → IsAt plan (eval_stage (length plan.spec.streams) layer) s → HasRooms plan (eval_stage (length plan.spec.streams) layer) s old_places old_tasks old → rooms t ≡ rooms s
     → vec_capacity new_places ≡ vec_capacity old_places → vec_capacity new_tasks ≡ vec_capacity old_tasks → vec_capacity new ≡ vec_capacity old
-    → vec_len new_tasks ≡ vec_len old_tasks + length (layer_tasks plan m marks sought s layer 0 plan.spec.streams)
-    → vec_len new ≡ vec_len old + length (layer_tasks plan m marks sought s layer 0 plan.spec.streams)
+    → vec_len new_tasks ≡ vec_len old_tasks + length (layer_tasks plan m spawn_results sought s layer 0 plan.spec.streams)
+    → vec_len new ≡ vec_len old + length (layer_tasks plan m spawn_results sought s layer 0 plan.spec.streams)
     → HasRooms plan (layer_stage (length plan.spec.streams) (layer + 1)) t new_places new_tasks new
-rooms_after plan m marks sought s t layer old_places new_places old_tasks new_tasks old new at h same p a b c d =
-    let fits = layer_fits plan m marks sought s layer 0 plan.spec.streams (rooms s) (omega arith) (all_rooms plan m marks sought s layer at.of.streams) in
+rooms_after plan m spawn_results sought s t layer old_places new_places old_tasks new_tasks old new at h same p a b c d =
+    let fits = layer_fits plan m spawn_results sought s layer 0 plan.spec.streams (rooms s) (omega arith) (all_rooms plan m spawn_results sought s layer at.of.streams) in
     let rest = ap (to_come plan.layers (layer_stage (length plan.spec.streams) (layer + 1)) 0 plan.spec.streams) same in
     record {
       each = omega (arith, h.each, c, d, new_tasks.ok.0, old_tasks.ok.0, new.ok.0, old.ok.0);

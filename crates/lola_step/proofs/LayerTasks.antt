@@ -25,7 +25,7 @@ use Rattle.lola_step.specs.Moments.{born_seen, may_be_active_in}
 use Rattle.lola_step.specs.Notes.{AreOfStream, is_fine, layer_tasks, runs_in, sought_at, stream_tasks}
 use Rattle.lola_step.specs.Progress.{GoesOn, IsAt, IsMomentOf, IsOf}
 use Rattle.lola_step.specs.Tasks.{AreTasks, IsActiveTask, IsTask, is_active_task, pacing_of_task, params_given}
-use Rattle.lola_step.specs.declared.mark.Mark.{Mark}
+use Rattle.lola_step.specs.declared.spawn_result.SpawnResult.{SpawnResult}
 use Rattle.lola_step.specs.declared.moment.Moment.{Moment}
 use Rattle.lola_step.specs.declared.tasks.Task.{Task}
 use Rattle.lola_step.proofs.Activities.{active_for_is}
@@ -54,7 +54,7 @@ has_eval x h i = by x.sort refl
         let f : is_trigger_shape x ≡ true = sym (ap (λ t. elim t [ sort.Input ↦ is_input_shape x | sort.Output ↦ is_output_shape x | sort.Trigger ↦ is_trigger_shape x ]) e) ∙ h in
         has_one x.eval (and_parts (nat_eq (count_with x.eval) 1) _ (and_parts (is_of_bool x.kind) _ f).1).0
 
-module _ (plan : Plan) (m : Moment) (marks : List Mark) (sought : List Whereabouts) (s : Seen) (layer : ℕ) where
+module _ (plan : Plan) (m : Moment) (spawn_results : List SpawnResult) (sought : List Whereabouts) (s : Seen) (layer : ℕ) where
   abbrev count : ℕ
   count = length plan.spec.streams
 
@@ -65,43 +65,43 @@ module _ (plan : Plan) (m : Moment) (marks : List Mark) (sought : List Whereabou
   next = layer_stage count (layer + 1)
 
   abbrev tasks : List Task
-  tasks = layer_tasks plan m marks sought s layer 0 plan.spec.streams
+  tasks = layer_tasks plan m spawn_results sought s layer 0 plan.spec.streams
 
   -- a task of a stream that runs in the layer, and of an instance that lives
   pub record OfLayer (t : Task) : Type 0 where
     pub stream : Stream
     pub stream_is : slice_get plan.spec.streams t.stream ≡ Some stream
-    pub runs : runs_in plan m marks layer t.stream stream ≡ true
+    pub runs : runs_in plan m spawn_results layer t.stream stream ≡ true
     pub lives : t.index < length (instances_seen s t.stream)
 
-  each_of_stream : (n : ℕ) (x : Stream) → slice_get plan.spec.streams n ≡ Some x → runs_in plan m marks layer n x ≡ true
+  each_of_stream : (n : ℕ) (x : Stream) → slice_get plan.spec.streams n ≡ Some x → runs_in plan m spawn_results layer n x ≡ true
       → (i : ℕ) (ts : List Task) → AreOfStream n i (length (instances_seen s n)) ts → EachTask OfLayer ts
   each_of_stream n x e r i [] h = tt
   each_of_stream n x e r i (t ∷ ts) h = (
     record {
       stream = x;
       stream_is = ap (λ k. slice_get plan.spec.streams k) h.0 ∙ e;
-      runs = ap (λ k. runs_in plan m marks layer k x) h.0 ∙ r;
+      runs = ap (λ k. runs_in plan m spawn_results layer k x) h.0 ∙ r;
       lives = subst (λ k. t.index < length (instances_seen s k)) (sym h.0) h.2;
     },
     each_of_stream n x e r (t.index + 1) ts h.3,
   )
 
   abbrev asked : ℕ → List Task
-  asked n = asked_tasks plan m marks sought s layer n
+  asked n = asked_tasks plan m spawn_results sought s layer n
 
   of_stream : (n : ℕ) → AreOfStream n 0 (length (instances_seen s n)) (asked n)
   of_stream n = asked_of_stream (sought_at sought n) (eval_pacing (slice_get plan.pacings n)) m s n
 
-  each_if_runs : (n : ℕ) (x : Stream) → slice_get plan.spec.streams n ≡ Some x → (b : Bool) → runs_in plan m marks layer n x ≡ b → EachTask OfLayer (if b then asked n else [])
+  each_if_runs : (n : ℕ) (x : Stream) → slice_get plan.spec.streams n ≡ Some x → (b : Bool) → runs_in plan m spawn_results layer n x ≡ b → EachTask OfLayer (if b then asked n else [])
   each_if_runs n x e true r = each_of_stream n x e r 0 (asked n) (of_stream n)
   each_if_runs n x e false r = tt
 
-  each_of_streams : (n : ℕ) (xs : List Stream) → ((i : ℕ) → slice_get plan.spec.streams (n + i) ≡ slice_get xs i) → EachTask OfLayer (layer_tasks plan m marks sought s layer n xs)
+  each_of_streams : (n : ℕ) (xs : List Stream) → ((i : ℕ) → slice_get plan.spec.streams (n + i) ≡ slice_get xs i) → EachTask OfLayer (layer_tasks plan m spawn_results sought s layer n xs)
   each_of_streams n [] h = tt
   each_of_streams n (x ∷ xs) h =
-      each_both OfLayer (stream_tasks plan m marks sought s layer n x) (layer_tasks plan m marks sought s layer (n + 1) xs)
-      (each_if_runs n x (ap (λ k. slice_get plan.spec.streams k) (sym (add-zero n)) ∙ h 0) (runs_in plan m marks layer n x) refl)
+      each_both OfLayer (stream_tasks plan m spawn_results sought s layer n x) (layer_tasks plan m spawn_results sought s layer (n + 1) xs)
+      (each_if_runs n x (ap (λ k. slice_get plan.spec.streams k) (sym (add-zero n)) ∙ h 0) (runs_in plan m spawn_results layer n x) refl)
       (each_of_streams (n + 1) xs (λ i. ap (λ k. slice_get plan.spec.streams k) (same_place n i) ∙ h (suc i)))
     where
       same_place : (a b : ℕ) → (a + 1) + b ≡ a + suc b
@@ -131,18 +131,18 @@ module _ (plan : Plan) (m : Moment) (marks : List Mark) (sought : List Whereabou
   ordered_if n true us o = ordered_stream n 0 (length (instances_seen s n)) (asked n) us (of_stream n) o
   ordered_if n false us o = ordered_before n 0 us o
 
-  pub ordered : (n : ℕ) (xs : List Stream) → OrderedFrom n 0 (layer_tasks plan m marks sought s layer n xs)
+  pub ordered : (n : ℕ) (xs : List Stream) → OrderedFrom n 0 (layer_tasks plan m spawn_results sought s layer n xs)
   ordered n [] = tt
-  ordered n (x ∷ xs) = ordered_if n (runs_in plan m marks layer n x) (layer_tasks plan m marks sought s layer (n + 1) xs) (ordered (n + 1) xs)
+  ordered n (x ∷ xs) = ordered_if n (runs_in plan m spawn_results layer n x) (layer_tasks plan m spawn_results sought s layer (n + 1) xs) (ordered (n + 1) xs)
 
   -- there are few
 
-  few_of_streams : ((n : ℕ) → length (instances_seen s n) ≤ 65536) → (n : ℕ) (xs : List Stream) → length (layer_tasks plan m marks sought s layer n xs) ≤ 65536 * length xs
+  few_of_streams : ((n : ℕ) → length (instances_seen s n) ≤ 65536) → (n : ℕ) (xs : List Stream) → length (layer_tasks plan m spawn_results sought s layer n xs) ≤ 65536 * length xs
   few_of_streams few n [] = omega arith
   few_of_streams few n (x ∷ xs) =
-      let a = few_tasks plan m marks sought s layer n x in
+      let a = few_tasks plan m spawn_results sought s layer n x in
       let b = few_of_streams few (n + 1) xs in
-      omega (arith, a, few n, b, length-append (stream_tasks plan m marks sought s layer n x) (layer_tasks plan m marks sought s layer (n + 1) xs))
+      omega (arith, a, few n, b, length-append (stream_tasks plan m spawn_results sought s layer n x) (layer_tasks plan m spawn_results sought s layer (n + 1) xs))
 
   module _ (accepted : IsAccepted plan) (at : IsAt plan now s) (moment : IsMomentOf m s) where
     pub numbered : length tasks < 2 ^ 32
@@ -157,14 +157,14 @@ module _ (plan : Plan) (m : Moment) (marks : List Mark) (sought : List Whereabou
       order = omega (arith, at.of.order, moment.start_is, moment.time_is, moment.is.time_is);
     }
 
-    pub may_there : (n : ℕ) (x : Stream) → runs_in plan m marks layer n x ≡ true → may_be_active_in m (eval_pacing (slice_get plan.pacings n)) ≡ true
+    pub may_there : (n : ℕ) (x : Stream) → runs_in plan m spawn_results layer n x ≡ true → may_be_active_in m (eval_pacing (slice_get plan.pacings n)) ≡ true
     may_there n x e =
-        (and_parts (may_be_active_in m (eval_pacing (slice_get plan.pacings n))) (is_fine (slice_get marks n))
+        (and_parts (may_be_active_in m (eval_pacing (slice_get plan.pacings n))) (is_fine (slice_get spawn_results n))
         (and_parts (nat_eq (layer_of plan.layers (eval_node n)) layer) _ (and_parts (not (is_input x)) _ e).1).1).0
 
     of_active : (t : Task) → OfLayer t → is_active_task plan m s t ≡ true → IsActiveTask plan s t
     of_active t h active =
-        let clause = has_eval h.stream (passes_at is_well_shaped plan.spec.streams t.stream h.stream accepted.named.shapes h.stream_is) (runs_so plan m marks sought s layer t.stream h.stream h.runs).no_input in
+        let clause = has_eval h.stream (passes_at is_well_shaped plan.spec.streams t.stream h.stream accepted.named.shapes h.stream_is) (runs_so plan m spawn_results sought s layer t.stream h.stream h.runs).no_input in
         let born = born_seen s t.stream t.index in
         record {
           stream = h.stream;
@@ -199,7 +199,7 @@ module _ (plan : Plan) (m : Moment) (marks : List Mark) (sought : List Whereabou
       record {
         running = at.running;
         lives = h.0.lives;
-        silent = at.silent t.stream t.index h.0.stream h.0.stream_is (run_is_to_come plan m marks sought s layer t.stream h.0.stream (runs_so plan m marks sought s layer t.stream h.0.stream h.0.runs));
+        silent = at.silent t.stream t.index h.0.stream h.0.stream_is (run_is_to_come plan m spawn_results sought s layer t.stream h.0.stream (runs_so plan m spawn_results sought s layer t.stream h.0.stream h.0.runs));
         kind = r.0.kind;
       },
       givable remembers ts rs h.1 r.1,
@@ -237,8 +237,8 @@ module _ (plan : Plan) (m : Moment) (marks : List Mark) (sought : List Whereabou
       other_stream n x e f t h q =
           let a : slice_get plan.spec.streams n ≡ Some h.stream = ap (λ k. slice_get plan.spec.streams k) q ∙ h.stream_is in
           let same : h.stream ≡ x = cc in
-          let r = runs_so plan m marks sought s layer t.stream h.stream h.runs in
-          let done : is_evaluated plan.layers next t.stream h.stream ≡ true = run_is_done plan m marks sought s layer t.stream h.stream r (slice_get_within plan.spec.streams t.stream h.stream h.stream_is) in
+          let r = runs_so plan m spawn_results sought s layer t.stream h.stream h.runs in
+          let done : is_evaluated plan.layers next t.stream h.stream ≡ true = run_is_done plan m spawn_results sought s layer t.stream h.stream r (slice_get_within plan.spec.streams t.stream h.stream h.stream_is) in
           let here : is_evaluated plan.layers next n x ≡ true = ap (λ k. is_evaluated plan.layers next k x) q ∙ (ap (λ y. is_evaluated plan.layers next t.stream y) (sym same) ∙ done) in
           absurd (cc)
 
@@ -249,7 +249,7 @@ module _ (plan : Plan) (m : Moment) (marks : List Mark) (sought : List Whereabou
         where
           to_come_still : (b : Bool) → is_evaluated plan.layers now n x ≡ b → is_evaluated plan.layers now n x ≡ false
           to_come_still false g = g
-          to_come_still true g = absurd (let h = done_stays plan m marks sought s layer n x (slice_get_within plan.spec.streams n x e) g in cc)
+          to_come_still true g = absurd (let h = done_stays plan m spawn_results sought s layer n x (slice_get_within plan.spec.streams n x e) g in cc)
 
       unspawned_after : (n : ℕ) → (n < count) ⊎ (count ≤ n) → is_spawned plan.layers next n ≡ false → has_spawned (slice_get after.streams n) ≡ false
       unspawned_after n (inl h) e = keeps.spawned n ∙ at.unspawned n (layer_behind (layer_of plan.layers (spawn_node n)) n layer count h ∙ e)

@@ -32,11 +32,11 @@ use Rattle.lola_step.specs.Clauses.{IsAnswer, eval_answer}
 use Rattle.lola_step.specs.Evals.{IsReadyFor}
 use Rattle.lola_step.specs.Given.{AreHeldIn, AreResults, told_outcomes}
 use Rattle.lola_step.specs.Moments.{active_for_in, birth_at, born_seen}
-use Rattle.lola_step.specs.Notes.{AreMarks, AreOfStream, AreSilent, ReadEach, ShowLiving, ShowResults, asked_in, done_of, in_span, is_fine, layer_tasks, mark_of, runs_in, sought_at, stream_tasks, tasks_at}
+use Rattle.lola_step.specs.Notes.{AreSpawnResults, AreOfStream, AreSilent, ReadEach, ShowLiving, ShowResults, asked_in, done_of, in_span, is_fine, layer_tasks, spawn_result_of, runs_in, sought_at, stream_tasks, tasks_at}
 use Rattle.lola_step.specs.Progress.{IsAt, IsRunAt}
 use Rattle.lola_step.specs.Sought.{AreSought, IsSilentElsewhere}
 use Rattle.lola_step.specs.Tasks.{IsResult, params_given}
-use Rattle.lola_step.specs.declared.mark.Mark.{Mark}
+use Rattle.lola_step.specs.declared.spawn_result.SpawnResult.{SpawnResult}
 use Rattle.lola_step.specs.declared.moment.Moment.{Moment}
 use Rattle.lola_step.specs.declared.scratch.Span.{Span}
 use Rattle.lola_step.specs.declared.tasks.Task.{Task}
@@ -96,7 +96,7 @@ missing_where spec c false false (Some k) p e = refl
 missing_where spec c false true (Some k) p e = absurd (cc)
 
 -- what is fine is not bad
-fine_is : (d : Spawned) → is_fine (Some (mark_of d)) ≡ not (is_bad d)
+fine_is : (d : Spawned) → is_fine (Some (spawn_result_of d)) ≡ not (is_bad d)
 fine_is Idle = refl
 fine_is (Named p) = refl
 fine_is (SpawnFailed k) = refl
@@ -131,7 +131,7 @@ module _ (names : Naming) where
   held_in_parts (suc k) [] h g = tt
   held_in_parts (suc k) (r ∷ rs) h g = (h.0, held_in_parts k rs h.1 g)
 
-module _ (plan : Plan) (m : Moment) (marks : List Mark) (sought : List Whereabouts) (remembers : Memories) (s : Seen) (layer : ℕ) (accepted : IsAccepted plan)
+module _ (plan : Plan) (m : Moment) (spawn_results : List SpawnResult) (sought : List Whereabouts) (remembers : Memories) (s : Seen) (layer : ℕ) (accepted : IsAccepted plan)
     (names : Naming) (rows : List TableRow) (step : Step) where
   abbrev count : ℕ
   count = length plan.spec.streams
@@ -154,8 +154,8 @@ module _ (plan : Plan) (m : Moment) (marks : List Mark) (sought : List Whereabou
   go : EvalsGo plan m.start rows step layer
   go = evals_go plan accepted m.start rows step layer
 
-  module _ (layout_at : IsAt plan now s) (run : IsRunAt plan m now remembers s names rows step) (marked : AreMarks plan full now marks)
-      (seeks : AreSought plan m marks sought remembers s layer) where
+  module _ (layout_at : IsAt plan now s) (run : IsRunAt plan m now remembers s names rows step) (with_spawn_results : AreSpawnResults plan full now spawn_results)
+      (seeks : AreSought plan m spawn_results sought remembers s layer) where
     module _ (n : ℕ) (x : Stream) (at : slice_get plan.spec.streams n ≡ Some x) where
       abbrev did : Spawned
       did = spawned_in (slice_get full n)
@@ -172,20 +172,20 @@ module _ (plan : Plan) (m : Moment) (marks : List Mark) (sought : List Whereabou
       abbrev active : Instance → Bool
       active y = is_active_for m.start (time_of_birth y) step pacing
 
-      fine_here : EvalIs plan m.start rows step layer n x → is_fine (slice_get marks n) ≡ not (is_bad did)
+      fine_here : EvalIs plan m.start rows step layer n x → is_fine (slice_get spawn_results n) ≡ not (is_bad did)
       fine_here here =
-          ap is_fine (marked n (slice_get_within plan.spec.streams n x at) ∙ ap (λ b. Some (mark_of (done_of b did))) here.spawned)
+          ap is_fine (with_spawn_results n (slice_get_within plan.spec.streams n x at) ∙ ap (λ b. Some (spawn_result_of (done_of b did))) here.spawned)
           ∙ fine_is did
 
       here_is : not (is_input x) ≡ true → nat_eq (layer_of plan.layers (eval_node n)) layer ≡ true → EvalIs plan m.start rows step layer n x
       here_is i e = go.here n x at (not-true (is_input x) i) (eqb-true (layer_of plan.layers (eval_node n)) layer e)
 
       -- the code runs a stream where the model does
-      pub same_runs : runs_in plan m marks layer n x ≡ is_run_in plan m.start step full layer n x
+      pub same_runs : runs_in plan m spawn_results layer n x ≡ is_run_in plan m.start step full layer n x
       same_runs =
           and_same (not (is_input x)) _ _ (λ i.
           and_same (nat_eq (layer_of plan.layers (eval_node n)) layer) _ _ (λ e.
-          ap (λ b. b && is_fine (slice_get marks n)) (may_be_is m.start step m run.moment pacing)
+          ap (λ b. b && is_fine (slice_get spawn_results n)) (may_be_is m.start step m run.moment pacing)
           ∙ ap (λ b. may && b) (fine_here (here_is i e))))
 
       -- where it runs, the outcomes read as the model's
@@ -198,7 +198,7 @@ module _ (plan : Plan) (m : Moment) (marks : List Mark) (sought : List Whereabou
         pub quiet_here : is_input x ≡ false → layer_of plan.layers (eval_node n) ≡ layer → IsQuiet content_now n 0
         quiet_here i l =
             quiet_lives names remembers n (instances_seen s n) content_now stands_here
-            (λ j. layout_at.silent n j x at (run_is_to_come plan m marks sought s layer n x (record { no_input = i; layer_is = l })))
+            (λ j. layout_at.silent n j x at (run_is_to_come plan m spawn_results sought s layer n x (record { no_input = i; layer_is = l })))
 
         births_here : is_local pacing ≡ true → map (λ (y : SeenInstance). y.born) (instances_seen s n) ≡ map (λ (l : Living). time_of_birth l.instance) (living n)
         births_here local =
@@ -316,8 +316,8 @@ module _ (plan : Plan) (m : Moment) (marks : List Mark) (sought : List Whereabou
             same_place : (a b : ℕ) → (a + 1) + b ≡ a + suc b
             same_place a b = omega arith
 
-        read_here : IsSilentElsewhere plan m remembers s n (sought_at sought n) → is_input x ≡ false → is_bad did ≡ false → (rs : List Outcome) → AreResults plan m remembers s (asked_tasks plan m marks sought s layer n) rs
-            → ReadEach names 0 (asked_tasks plan m marks sought s layer n) rs (living n)
+        read_here : IsSilentElsewhere plan m remembers s n (sought_at sought n) → is_input x ≡ false → is_bad did ≡ false → (rs : List Outcome) → AreResults plan m remembers s (asked_tasks plan m spawn_results sought s layer n) rs
+            → ReadEach names 0 (asked_tasks plan m spawn_results sought s layer n) rs (living n)
         read_here elsewhere no_input b rs =
             subst (λ ps. AreResults plan m remembers s (tasks_at n ps) rs → ReadEach names 0 (tasks_at n ps) rs (living n)) (sym (asked_where (sought_at sought n) pacing m s n))
             (read_each elsewhere 0 (instances_seen s n) (lives_in (slice_get content_now.streams n)) (living n)
@@ -330,7 +330,7 @@ module _ (plan : Plan) (m : Moment) (marks : List Mark) (sought : List Whereabou
         pub no_input : is_input x ≡ false
         pub layer_is : layer_of plan.layers (eval_node n) ≡ layer
 
-      reads : runs_in plan m marks layer n x ≡ true → KnownToRun
+      reads : runs_in plan m spawn_results layer n x ≡ true → KnownToRun
       reads e =
           let run_there : is_run_in plan m.start step full layer n x ≡ true = sym same_runs ∙ e in
           let a = and_parts (not (is_input x)) _ run_there in
@@ -343,15 +343,15 @@ module _ (plan : Plan) (m : Moment) (marks : List Mark) (sought : List Whereabou
             layer_is = eqb-true (layer_of plan.layers (eval_node n)) layer b.0;
           }
 
-      pub read_stream : runs_in plan m marks layer n x ≡ true → (rs : List Outcome) → AreResults plan m remembers s (asked_tasks plan m marks sought s layer n) rs
-          → ReadEach names 0 (asked_tasks plan m marks sought s layer n) rs (living n)
+      pub read_stream : runs_in plan m spawn_results layer n x ≡ true → (rs : List Outcome) → AreResults plan m remembers s (asked_tasks plan m spawn_results sought s layer n) rs
+          → ReadEach names 0 (asked_tasks plan m spawn_results sought s layer n) rs (living n)
       read_stream e rs h = let k = reads e in read_here k.here (seeks n x at e) k.no_input k.is_good rs h
 
-      pub quiet_stream : runs_in plan m marks layer n x ≡ true → IsQuiet content_now n 0
+      pub quiet_stream : runs_in plan m spawn_results layer n x ≡ true → IsQuiet content_now n 0
       quiet_stream e = let k = reads e in quiet_here k.here k.no_input k.layer_is
 
       -- one that does not run, though it belongs to the layer, is silent
-      pub silent_stream : runs_in plan m marks layer n x ≡ false → is_input x ≡ false → layer_of plan.layers (eval_node n) ≡ layer → AreSilent (living n)
+      pub silent_stream : runs_in plan m spawn_results layer n x ≡ false → is_input x ≡ false → layer_of plan.layers (eval_node n) ≡ layer → AreSilent (living n)
       silent_stream e i l =
           silent_here (go.here n x at i l)
           (sym (ap (λ b. not b && (nat_eq (layer_of plan.layers (eval_node n)) layer && (may && not (is_bad did)))) i
@@ -366,10 +366,10 @@ module _ (plan : Plan) (m : Moment) (marks : List Mark) (sought : List Whereabou
       pub held : AreHeldIn names rs
 
     abbrev asked : ℕ → List Task
-    asked n = asked_tasks plan m marks sought s layer n
+    asked n = asked_tasks plan m spawn_results sought s layer n
 
-    tells_stream : (n : ℕ) (x : Stream) → slice_get plan.spec.streams n ≡ Some x → (d : Content) (rs : List Outcome) (b e : Bool) → runs_in plan m marks layer n x ≡ b → e ≡ b
-        → (runs_in plan m marks layer n x ≡ true → IsQuiet d n 0)
+    tells_stream : (n : ℕ) (x : Stream) → slice_get plan.spec.streams n ≡ Some x → (d : Content) (rs : List Outcome) (b e : Bool) → runs_in plan m spawn_results layer n x ≡ b → e ≡ b
+        → (runs_in plan m spawn_results layer n x ≡ true → IsQuiet d n 0)
         → AreResults plan m remembers s (if b then asked n else []) rs
         → TellsSame d (if b then asked n else []) rs (if e then told_from n 0 (living n) else [])
     tells_stream n x at d [] false false r q quiet h = record { same = refl; held = tt }
@@ -385,23 +385,23 @@ module _ (plan : Plan) (m : Moment) (marks : List Mark) (sought : List Whereabou
 
     -- the streams from number n on that run in the layer have no outcomes yet
     abbrev AreQuiet : ℕ → Content → Type 0
-    AreQuiet n d = (k : ℕ) (x : Stream) → n ≤ k → slice_get plan.spec.streams k ≡ Some x → runs_in plan m marks layer k x ≡ true → IsQuiet d k 0
+    AreQuiet n d = (k : ℕ) (x : Stream) → n ≤ k → slice_get plan.spec.streams k ≡ Some x → runs_in plan m spawn_results layer k x ≡ true → IsQuiet d k 0
 
     tells_streams : (n : ℕ) (xs : List Stream) → ((i : ℕ) → slice_get plan.spec.streams (n + i) ≡ slice_get xs i) → (d : Content) (rs : List Outcome) → AreQuiet n d
-        → AreResults plan m remembers s (layer_tasks plan m marks sought s layer n xs) rs
-        → TellsSame d (layer_tasks plan m marks sought s layer n xs) rs (told_in_layer plan m.start step full layer n xs)
+        → AreResults plan m remembers s (layer_tasks plan m spawn_results sought s layer n xs) rs
+        → TellsSame d (layer_tasks plan m spawn_results sought s layer n xs) rs (told_in_layer plan m.start step full layer n xs)
     tells_streams n [] at d [] quiet h = record { same = refl; held = tt }
     tells_streams n [] at d (r ∷ rs) quiet h = absurd h
     tells_streams n (x ∷ xs) at d rs quiet h =
-        let ts = stream_tasks plan m marks sought s layer n x in
-        let us = layer_tasks plan m marks sought s layer (n + 1) xs in
+        let ts = stream_tasks plan m spawn_results sought s layer n x in
+        let us = layer_tasks plan m spawn_results sought s layer (n + 1) xs in
         let size = length ts in
         let here : slice_get plan.spec.streams n ≡ Some x = ap (λ k. slice_get plan.spec.streams k) (sym (add-zero n)) ∙ at 0 in
         let run_here = is_run_in plan m.start step full layer n x in
         let told_here = if run_here then told_from n 0 (living n) else [] in
         let parts = split_results plan m remembers s ts us rs h in
         let one : TellsSame d ts (take size rs) told_here =
-        tells_stream n x here d (take size rs) (runs_in plan m marks layer n x) run_here refl (sym (same_runs n x here)) (quiet n x (omega arith) here) parts.0 in
+        tells_stream n x here d (take size rs) (runs_in plan m spawn_results layer n x) run_here refl (sym (same_runs n x here)) (quiet n x (omega arith) here) parts.0 in
         let later : AreQuiet (n + 1) (told_outcomes names d ts (take size rs)) =
         λ k y le there runs. quiet_same d (told_outcomes names d ts (take size rs)) k 0
         (ap (λ (c : Content). slice_get c.streams k) one.same ∙ told_else run_here n k (living n) d (λ e. omega (arith, le, e)))
@@ -419,8 +419,8 @@ module _ (plan : Plan) (m : Moment) (marks : List Mark) (sought : List Whereabou
         same_place : (a b : ℕ) → (a + 1) + b ≡ a + suc b
         same_place a b = omega arith
 
-    module _ (fresh : List Outcome) (results : AreResults plan m remembers s (layer_tasks plan m marks sought s layer 0 plan.spec.streams) fresh) where
-      tells_all : TellsSame content_now (layer_tasks plan m marks sought s layer 0 plan.spec.streams) fresh (told_in_layer plan m.start step full layer 0 plan.spec.streams)
+    module _ (fresh : List Outcome) (results : AreResults plan m remembers s (layer_tasks plan m spawn_results sought s layer 0 plan.spec.streams) fresh) where
+      tells_all : TellsSame content_now (layer_tasks plan m spawn_results sought s layer 0 plan.spec.streams) fresh (told_in_layer plan m.start step full layer 0 plan.spec.streams)
       tells_all =
           tells_streams 0 plan.spec.streams (λ i. ap (λ k. slice_get plan.spec.streams k) (zero-add i)) content_now fresh (λ k x le there runs. quiet_stream k x there runs) results
 
@@ -428,7 +428,7 @@ module _ (plan : Plan) (m : Moment) (marks : List Mark) (sought : List Whereabou
       pub held_all : AreHeldIn names fresh
       held_all = tells_all.held
 
-      pub next_content : told_outcomes names content_now (layer_tasks plan m marks sought s layer 0 plan.spec.streams) fresh ≡ content_so_far plan m.start rows step next
+      pub next_content : told_outcomes names content_now (layer_tasks plan m spawn_results sought s layer 0 plan.spec.streams) fresh ≡ content_so_far plan m.start rows step next
       next_content = tells_all.same ∙ sym go.next
 
       -- the spans show them
@@ -436,13 +436,13 @@ module _ (plan : Plan) (m : Moment) (marks : List Mark) (sought : List Whereabou
       module _ (before : List Task) (first : List Outcome) (each : length before ≡ length first) (spans : List Span) (ready : IsReadyFor plan now s before first spans)
           (shown : ShowResults plan full now names spans before first) where
         abbrev tasks : List Task
-        tasks = before ++ layer_tasks plan m marks sought s layer 0 plan.spec.streams
+        tasks = before ++ layer_tasks plan m spawn_results sought s layer 0 plan.spec.streams
 
         abbrev all : List Outcome
         all = first ++ fresh
 
         abbrev later : List Span
-        later = spans_after plan m marks sought remembers s layer before first fresh spans
+        later = spans_after plan m spawn_results sought remembers s layer before first fresh spans
 
         abbrev ShownSo : ℕ → Option Span → Type 0
         ShownSo n o = ShowLiving names (asked_in tasks o) (in_span all o) (living n)
@@ -455,7 +455,7 @@ module _ (plan : Plan) (m : Moment) (marks : List Mark) (sought : List Whereabou
             let P : List Outcome → Type 0 = λ os. ShowLiving names (asked_in before (Some p)) os (living n) in
             let Q : Option Span → Type 0 = λ o. ShowLiving names (asked_in before o) (in_span first o) (living n) in
             let R : List Task → Type 0 = λ ts. ShowLiving names ts (in_span all (Some p)) (living n) in
-            subst R (sym (same_asked_in before (layer_tasks plan m marks sought s layer 0 plan.spec.streams) p (omega (arith, within, each))))
+            subst R (sym (same_asked_in before (layer_tasks plan m spawn_results sought s layer 0 plan.spec.streams) p (omega (arith, within, each))))
             (subst P (sym (same_in_span first fresh p within)) (subst Q g (shown n x e i d)))
 
         -- nothing of a silent one
@@ -469,7 +469,7 @@ module _ (plan : Plan) (m : Moment) (marks : List Mark) (sought : List Whereabou
         evaluated_by g x n i = ap (λ t. if t then nat_lt n g.inputs else is_behind (layer_of plan.layers (eval_node n)) n g.layer g.evals) i
 
         shown_at_rest : (n : ℕ) (x : Stream) (p : Span) → slice_get plan.spec.streams n ≡ Some x → is_input x ≡ false → is_evaluated plan.layers next n x ≡ true
-            → runs_in plan m marks layer n x ≡ false → slice_get spans n ≡ Some p
+            → runs_in plan m spawn_results layer n x ≡ false → slice_get spans n ≡ Some p
             → (b : Bool) → is_evaluated plan.layers now n x ≡ b → (layer_of plan.layers (eval_node n) ≡ layer) ⊎ (layer_of plan.layers (eval_node n) ≡ layer → ⊥)
             → ShownSo n (Some p)
         shown_at_rest n x p e i d r g true b l = shown_before n x p e i g b
@@ -478,7 +478,7 @@ module _ (plan : Plan) (m : Moment) (marks : List Mark) (sought : List Whereabou
             absurd (let f : is_evaluated plan.layers now n x ≡ true = evaluated_by now x n i ∙ (same_behind (layer_of plan.layers (eval_node n)) n layer l ∙ (sym (evaluated_by next x n i) ∙ d)) in cc)
 
         shown_by : (n : ℕ) (x : Stream) (p : Span) → slice_get plan.spec.streams n ≡ Some x → is_input x ≡ false → is_evaluated plan.layers next n x ≡ true
-            → SpanOf plan m remembers s marks sought layer n x (slice_get spans n) p tasks all → ShownSo n (Some p)
+            → SpanOf plan m remembers s spawn_results sought layer n x (slice_get spans n) p tasks all → ShownSo n (Some p)
         shown_by n x p e i d (inl h) =
             let P : List Task → Type 0 = λ ts. ShowLiving names ts (in_span all (Some p)) (living n) in
             subst P (sym h.asked_are) (read_stream n x e h.runs (in_span all (Some p)) h.results_are)
@@ -486,8 +486,8 @@ module _ (plan : Plan) (m : Moment) (marks : List Mark) (sought : List Whereabou
 
         pub shows_more : ShowResults plan full next names later tasks all
         shows_more n x e i d =
-            let within : n < length later = omega (arith, slice_get_within plan.spec.streams n x e, as_many_spans plan m marks sought remembers s layer before first fresh spans each results ready) in
+            let within : n < length later = omega (arith, slice_get_within plan.spec.streams n x e, as_many_spans plan m spawn_results sought remembers s layer before first fresh spans each results ready) in
             let p = get_or later n (record { from = 0; count = 0 }) in
             let there : slice_get later n ≡ Some p = slice_get-get_or later n (record { from = 0; count = 0 }) within in
             let P : Option Span → Type 0 = λ o. ShownSo n o in
-            subst P (sym there) (shown_by n x p e i d (span_of plan m marks sought remembers s layer before first fresh spans each results n x p e there))
+            subst P (sym there) (shown_by n x p e i d (span_of plan m spawn_results sought remembers s layer before first fresh spans each results n x p e there))

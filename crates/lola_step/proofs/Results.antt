@@ -11,7 +11,7 @@ use Rattle.lola_model.specs.declared.store.Whereabouts.{Whereabouts}
 use Rattle.lola_step.specs.Given.{AreAnswered, AreResults}
 use Rattle.lola_step.specs.Notes.{AreOfStream, AreOutcomesOf, asked_in, in_span, layer_spans, layer_tasks, runs_in, span_after, stream_tasks}
 use Rattle.lola_step.specs.Tasks.{IsResult, IsResultAt}
-use Rattle.lola_step.specs.declared.mark.Mark.{Mark}
+use Rattle.lola_step.specs.declared.spawn_result.SpawnResult.{SpawnResult}
 use Rattle.lola_step.specs.declared.moment.Moment.{Moment}
 use Rattle.lola_step.specs.declared.scratch.Span.{Span}
 use Rattle.lola_step.specs.declared.tasks.Task.{Task}
@@ -71,13 +71,13 @@ module _ (plan : Plan) (m : Moment) (remembers : Memories) (s : Seen) where
 
   -- the spans after a layer
 
-  module _ (marks : List Mark) (sought : List Whereabouts) (layer : ℕ) where
+  module _ (spawn_results : List SpawnResult) (sought : List Whereabouts) (layer : ℕ) where
     abbrev asked : ℕ → List Task
-    asked n = asked_tasks plan m marks sought s layer n
+    asked n = asked_tasks plan m spawn_results sought s layer n
 
     -- a stream that ran: its span has its tasks and their outcomes
     pub record HasRun (n : ℕ) (x : Stream) (p : Span) (tasks : List Task) (all : List Outcome) : Type 0 where
-      pub runs : runs_in plan m marks layer n x ≡ true
+      pub runs : runs_in plan m spawn_results layer n x ≡ true
       pub within : p.from + p.count ≤ length all
       pub few : p.count ≤ length (instances_seen s n)
       pub asked_are : asked_in tasks (Some p) ≡ asked n
@@ -85,7 +85,7 @@ module _ (plan : Plan) (m : Moment) (remembers : Memories) (s : Seen) where
 
     -- one that did not: its span is as before
     pub record HasNotRun (n : ℕ) (x : Stream) (before : Option Span) (p : Span) : Type 0 where
-      pub rests : runs_in plan m marks layer n x ≡ false
+      pub rests : runs_in plan m spawn_results layer n x ≡ false
       pub same : before ≡ Some p
 
     abbrev pub SpanOf : ℕ → Stream → Option Span → Span → List Task → List Outcome → Type 0
@@ -98,18 +98,18 @@ module _ (plan : Plan) (m : Moment) (remembers : Memories) (s : Seen) where
 
     -- lists that begin with a stream's own tasks and their outcomes
     first_span : (n : ℕ) (x : Stream) (q p : Span) (us fore tasks : List Task) (front rest all : List Outcome) (from : ℕ)
-        → tasks ≡ fore ++ (stream_tasks plan m marks sought s layer n x ++ us) → from ≡ length fore → all ≡ front ++ rest → from ≡ length front
-        → AreResults plan m remembers s (stream_tasks plan m marks sought s layer n x ++ us) rest
-        → span_after plan m marks sought s layer from n x q ≡ p → SpanOf n x (Some q) p tasks all
-    first_span n x q p us fore tasks front rest all from d c e f h g = by (runs_in plan m marks layer n x) refl
+        → tasks ≡ fore ++ (stream_tasks plan m spawn_results sought s layer n x ++ us) → from ≡ length fore → all ≡ front ++ rest → from ≡ length front
+        → AreResults plan m remembers s (stream_tasks plan m spawn_results sought s layer n x ++ us) rest
+        → span_after plan m spawn_results sought s layer from n x q ≡ p → SpanOf n x (Some q) p tasks all
+    first_span n x q p us fore tasks front rest all from d c e f h g = by (runs_in plan m spawn_results layer n x) refl
       where
         size : ℕ
-        size = length (stream_tasks plan m marks sought s layer n x)
+        size = length (stream_tasks plan m spawn_results sought s layer n x)
 
-        by : (b : Bool) → runs_in plan m marks layer n x ≡ b → SpanOf n x (Some q) p tasks all
+        by : (b : Bool) → runs_in plan m spawn_results layer n x ≡ b → SpanOf n x (Some q) p tasks all
         by false r = inr (record { rests = r; same = ap Some (sym (ap (λ b. if b then record { from = from; count = size } else q) r) ∙ g) })
         by true r =
-            let ts = stream_tasks plan m marks sought s layer n x in
+            let ts = stream_tasks plan m spawn_results sought s layer n x in
             let is : record { from = from; count = size } ≡ p = sym (ap (λ b. if b then record { from = from; count = size } else q) r) ∙ g in
             let own : ts ≡ asked n = ap (λ b. if b then asked n else []) r in
             let parts = split_results ts us rest h in
@@ -121,15 +121,15 @@ module _ (plan : Plan) (m : Moment) (remembers : Memories) (s : Seen) where
             subst R is (inl (record {
               runs = r;
               within = omega (arith, few, f, ap length e, length-append front rest);
-              few = few_tasks plan m marks sought s layer n x;
+              few = few_tasks plan m spawn_results sought s layer n x;
               asked_are = cut fore ts us tasks from size d c refl ∙ own;
               results_are = subst P here (subst Q own parts.0);
             }))
 
     pub each_span : (n : ℕ) (xs : List Stream) (ps : List Span) (from : ℕ) (fore tasks : List Task) (front rest all : List Outcome)
-        → tasks ≡ fore ++ layer_tasks plan m marks sought s layer n xs → from ≡ length fore → all ≡ front ++ rest → from ≡ length front
-        → AreResults plan m remembers s (layer_tasks plan m marks sought s layer n xs) rest
-        → (i k : ℕ) (x : Stream) (p : Span) → k ≡ n + i → slice_get xs i ≡ Some x → slice_get (layer_spans plan m marks sought s layer from n xs ps) i ≡ Some p
+        → tasks ≡ fore ++ layer_tasks plan m spawn_results sought s layer n xs → from ≡ length fore → all ≡ front ++ rest → from ≡ length front
+        → AreResults plan m remembers s (layer_tasks plan m spawn_results sought s layer n xs) rest
+        → (i k : ℕ) (x : Stream) (p : Span) → k ≡ n + i → slice_get xs i ≡ Some x → slice_get (layer_spans plan m spawn_results sought s layer from n xs ps) i ≡ Some p
         → SpanOf k x (slice_get ps i) p tasks all
     each_span n [] ps from fore tasks front rest all d c e f h i k x p q a b = absurd (cc)
     each_span n (y ∷ xs) [] from fore tasks front rest all d c e f h i k x p q a b = absurd (cc)
@@ -139,10 +139,10 @@ module _ (plan : Plan) (m : Moment) (remembers : Memories) (s : Seen) where
         let g = same_Some _ _ b in
         let P : ℕ → Type 0 = λ j. SpanOf j x (Some o) p tasks all in
         let Q : Stream → Type 0 = λ v. SpanOf n v (Some o) p tasks all in
-        subst P (sym z) (subst Q w (first_span n y o p (layer_tasks plan m marks sought s layer (n + 1) xs) fore tasks front rest all from d c e f h g))
+        subst P (sym z) (subst Q w (first_span n y o p (layer_tasks plan m spawn_results sought s layer (n + 1) xs) fore tasks front rest all from d c e f h g))
     each_span n (y ∷ xs) (o ∷ ps) from fore tasks front rest all d c e f h (suc i) k x p q a b =
-        let ts = stream_tasks plan m marks sought s layer n y in
-        let us = layer_tasks plan m marks sought s layer (n + 1) xs in
+        let ts = stream_tasks plan m spawn_results sought s layer n y in
+        let us = layer_tasks plan m spawn_results sought s layer (n + 1) xs in
         let size = length ts in
         let parts = split_results ts us rest h in
         let counted = count_results ts (take size rest) parts.0 in

@@ -26,7 +26,7 @@ use Rattle.lola_step.specs.Notes.{runs_in, sought_at}
 use Rattle.lola_step.specs.Progress.{IsAt, IsMomentOf}
 use Rattle.lola_step.specs.Schedules.{has_parameters}
 use Rattle.lola_step.specs.Sought.{AreSought, AreUnsought, IsFalseElsewhere, IsSilentElsewhere, MayAskWhen}
-use Rattle.lola_step.specs.declared.mark.Mark.{Mark}
+use Rattle.lola_step.specs.declared.spawn_result.SpawnResult.{SpawnResult}
 use Rattle.lola_step.specs.declared.moment.Moment.{Moment}
 use Rattle.lola_step.proofs.Activities.{active_for_is}
 use Rattle.lola_step.proofs.Alone.{active_alike}
@@ -48,14 +48,14 @@ module _ (plan : Plan) (m : Moment) (remembers : Memories) (s : Seen) (n : ℕ) 
       ∙ none_where_false plan.spec c active k p (false_there names c shown i y at out))
 
   -- the clause of a stream that runs may be asked for its condition, if it is active for all instances alike
-  pub eval_may_ask_when : (accepted : IsAccepted plan) (marks : List Mark) (sought : List Whereabouts) (layer : ℕ) (at : IsAt plan (eval_stage (length plan.spec.streams) layer) s) (moment : IsMomentOf m s)
-      → runs_in plan m marks layer n x ≡ true → is_local (eval_pacing (slice_get plan.pacings n)) ≡ false → MayAskWhen plan s n k
-  eval_may_ask_when accepted marks sought layer at moment runs alike p kinds =
+  pub eval_may_ask_when : (accepted : IsAccepted plan) (spawn_results : List SpawnResult) (sought : List Whereabouts) (layer : ℕ) (at : IsAt plan (eval_stage (length plan.spec.streams) layer) s) (moment : IsMomentOf m s)
+      → runs_in plan m spawn_results layer n x ≡ true → is_local (eval_pacing (slice_get plan.pacings n)) ≡ false → MayAskWhen plan s n k
+  eval_may_ask_when accepted spawn_results sought layer at moment runs alike p kinds =
       let pacing = eval_pacing (slice_get plan.pacings n) in
       let same : parameters_of (slice_get s.layout.streams n) ≡ x.parameters =
       ap (λ (l : Layout). parameters_of (slice_get l.streams n)) at.of.layout ∙ parameters_there plan.spec.streams plan.kept plan.pacings n x there in
-      let active = active_alike m pacing 0 alike (may_there plan m marks sought s layer accepted at moment n x runs) in
-      (eval_may_ask plan m.start moment.step s n x k p accepted (at_step plan m marks sought s layer accepted at moment) there evals 0
+      let active = active_alike m pacing 0 alike (may_there plan m spawn_results sought s layer accepted at moment n x runs) in
+      (eval_may_ask plan m.start moment.step s n x k p accepted (at_step plan m spawn_results sought s layer accepted at moment) there evals 0
       (sym (active_for_is m.start moment.step m moment.is 0 0 pacing (λ l. refl)) ∙ active) (subst (λ (ks : List Kind). IsTrue (are_of_kinds ks (the_values p))) same kinds)).when
 
 -- one place of a list is written
@@ -87,14 +87,14 @@ within [] i y e = absurd (cc)
 within (z ∷ xs) zero y e = omega arith
 within (z ∷ xs) (suc i) y e = omega (arith, within xs i y e)
 
-module _ (plan : Plan) (m : Moment) (marks : List Mark) (remembers : Memories) (s : Seen) (layer : ℕ) where
+module _ (plan : Plan) (m : Moment) (spawn_results : List SpawnResult) (remembers : Memories) (s : Seen) (layer : ℕ) where
   -- of the streams before one of a number it is noted
   abbrev pub SoughtUpTo : ℕ → List Whereabouts → Type 0
   SoughtUpTo k sought =
-      (n : ℕ) (x : Stream) → n < k → slice_get plan.spec.streams n ≡ Some x → runs_in plan m marks layer n x ≡ true → IsSilentElsewhere plan m remembers s n (sought_at sought n)
+      (n : ℕ) (x : Stream) → n < k → slice_get plan.spec.streams n ≡ Some x → runs_in plan m spawn_results layer n x ≡ true → IsSilentElsewhere plan m remembers s n (sought_at sought n)
 
   pub sought_next : (k : ℕ) (y : Stream) (w : Whereabouts) (sought : List Whereabouts) → k < length sought → slice_get plan.spec.streams k ≡ Some y
-      → (runs_in plan m marks layer k y ≡ true → IsSilentElsewhere plan m remembers s k w) → SoughtUpTo k sought → SoughtUpTo (k + 1) (slice_set sought k w)
+      → (runs_in plan m spawn_results layer k y ≡ true → IsSilentElsewhere plan m remembers s k w) → SoughtUpTo k sought → SoughtUpTo (k + 1) (slice_set sought k w)
   sought_next k y w sought within there here h n x below at runs = by (cases_eq n k)
     where
       by : (n ≡ k) ⊎ (n ≡ k → ⊥) → IsSilentElsewhere plan m remembers s n (sought_at (slice_set sought k w) n)
@@ -102,22 +102,22 @@ module _ (plan : Plan) (m : Moment) (marks : List Mark) (remembers : Memories) (
           let same : x ≡ y = one_stream x y (slice_get plan.spec.streams k) (ap (λ i. slice_get plan.spec.streams i) (sym e) ∙ at) there in
           let P : ℕ → Type 0 = λ i. IsSilentElsewhere plan m remembers s i (sought_at (slice_set sought k w) i) in
           let Q : Whereabouts → Type 0 = λ v. IsSilentElsewhere plan m remembers s k v in
-          let R : ℕ → Type 0 = λ i. runs_in plan m marks layer i y ≡ true in
-          subst P (sym e) (subst Q (sym (read_set sought k w within)) (here (subst R e (subst (λ (z : Stream). runs_in plan m marks layer n z ≡ true) same runs))))
+          let R : ℕ → Type 0 = λ i. runs_in plan m spawn_results layer i y ≡ true in
+          subst P (sym e) (subst Q (sym (read_set sought k w within)) (here (subst R e (subst (λ (z : Stream). runs_in plan m spawn_results layer n z ≡ true) same runs))))
       by (inr ne) =
           let Q : Whereabouts → Type 0 = λ v. IsSilentElsewhere plan m remembers s n v in
           subst Q (sym (read_else sought k n w ne)) (h n x (under n k ne below) at runs)
 
   -- where a stream does not run nothing is to be noted of it
-  pub sought_none : (k : ℕ) (y : Stream) (sought : List Whereabouts) → slice_get plan.spec.streams k ≡ Some y → runs_in plan m marks layer k y ≡ false
+  pub sought_none : (k : ℕ) (y : Stream) (sought : List Whereabouts) → slice_get plan.spec.streams k ≡ Some y → runs_in plan m spawn_results layer k y ≡ false
       → SoughtUpTo k sought → SoughtUpTo (k + 1) sought
   sought_none k y sought there idle h n x below at runs = by (cases_eq n k)
     where
       by : (n ≡ k) ⊎ (n ≡ k → ⊥) → IsSilentElsewhere plan m remembers s n (sought_at sought n)
       by (inl e) =
           let same : x ≡ y = one_stream x y (slice_get plan.spec.streams k) (ap (λ i. slice_get plan.spec.streams i) (sym e) ∙ at) there in
-          let R : ℕ → Type 0 = λ i. runs_in plan m marks layer i y ≡ true in
-          let run : runs_in plan m marks layer k y ≡ true = subst R e (subst (λ (z : Stream). runs_in plan m marks layer n z ≡ true) same runs) in
+          let R : ℕ → Type 0 = λ i. runs_in plan m spawn_results layer i y ≡ true in
+          let run : runs_in plan m spawn_results layer k y ≡ true = subst R e (subst (λ (z : Stream). runs_in plan m spawn_results layer n z ≡ true) same runs) in
           absurd (cc)
       by (inr ne) = h n x (under n k ne below) at runs
 
@@ -132,7 +132,7 @@ module _ (plan : Plan) (m : Moment) (marks : List Mark) (remembers : Memories) (
           subst P (sym e) here
       by (inr ne) = h n x (under n k ne below) at runs
 
-  pub sought_all : (k : ℕ) (sought : List Whereabouts) → length plan.spec.streams ≤ k → SoughtUpTo k sought → AreSought plan m marks sought remembers s layer
+  pub sought_all : (k : ℕ) (sought : List Whereabouts) → length plan.spec.streams ≤ k → SoughtUpTo k sought → AreSought plan m spawn_results sought remembers s layer
   sought_all k sought past h n x at runs = h n x (omega (arith, past, within plan.spec.streams n x at)) at runs
 
 -- where nothing is known no instance stands elsewhere

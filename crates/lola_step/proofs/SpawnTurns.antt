@@ -24,11 +24,11 @@ use Rattle.lola_step_law.proofs.Shapes.{input_never_spawns, passes_at}
 use Rattle.lola_step_law.proofs.Spawns.{spawns_go}
 use Rattle.lola_step.specs.Clauses.{IsSpawning, IsWellNamed}
 use Rattle.lola_step.specs.Moments.{IsMoment, active_in}
-use Rattle.lola_step.specs.Notes.{AreMarks, done_of, mark_of}
+use Rattle.lola_step.specs.Notes.{AreSpawnResults, done_of, spawn_result_of}
 use Rattle.lola_step.specs.Progress.{GoesOn, IsAt, IsMomentOf, IsRunAt, TakesTo}
-use Rattle.lola_step.specs.Spawns.{IsAfterClause, IsFor, IsNextSpawn, IsTaken, MaySpawn, mark_at}
+use Rattle.lola_step.specs.Spawns.{IsAfterClause, IsFor, IsNextSpawn, IsTaken, MaySpawn, spawn_result_at}
 use Rattle.lola_step.specs.declared.clauses.Spawning.{Spawning}
-use Rattle.lola_step.specs.declared.mark.Mark.{Mark}
+use Rattle.lola_step.specs.declared.spawn_result.SpawnResult.{SpawnResult}
 use Rattle.lola_step.specs.declared.moment.Moment.{Moment}
 use Rattle.lola_step.proofs.Activities.{active_is, at_step}
 use Rattle.lola_step.proofs.Births.{at_changed, at_next, clause_changes, done_here, to_come_here}
@@ -69,15 +69,15 @@ names_all s k h has = by_sort s.sort refl
     by_sort sort.Output e = ap count_with (sym has) ∙ output_names s (sym (ap (shape_of s) e) ∙ h)
     by_sort sort.Trigger e = absurd (without k s.spawn has (trigger_never_spawns s (sym (ap (shape_of s) e) ∙ h)))
 
--- a mark of what is idle is the same done or not
-idle_mark : (b c : Bool) (sp : Spawned) → sp ≡ Idle → mark_of (done_of b sp) ≡ mark_of (done_of c sp)
-idle_mark true true sp e = refl
-idle_mark true false sp e = ap mark_of e
-idle_mark false true sp e = ap mark_of (sym e)
-idle_mark false false sp e = refl
+-- a spawn result of what is idle is the same done or not
+idle_spawn_result : (b c : Bool) (sp : Spawned) → sp ≡ Idle → spawn_result_of (done_of b sp) ≡ spawn_result_of (done_of c sp)
+idle_spawn_result true true sp e = refl
+idle_spawn_result true false sp e = ap spawn_result_of e
+idle_spawn_result false true sp e = ap spawn_result_of (sym e)
+idle_spawn_result false false sp e = refl
 
 module _ (plan : Plan) (accepted : IsAccepted plan) (m : Moment) (layer n : ℕ) (stream : Stream) (at : slice_get plan.spec.streams n ≡ Some stream)
-    (mark : Mark) (remembers : Memories) (s : Seen) (here : IsAt plan (spawn_stage (length plan.spec.streams) layer n) s) where
+    (spawn_result : SpawnResult) (remembers : Memories) (s : Seen) (here : IsAt plan (spawn_stage (length plan.spec.streams) layer n) s) where
   abbrev stage : ℕ → Stage
   stage k = spawn_stage (length plan.spec.streams) layer k
 
@@ -88,39 +88,39 @@ module _ (plan : Plan) (accepted : IsAccepted plan) (m : Moment) (layer n : ℕ)
   abbrev pub NothingHappens : Type 0
   NothingHappens = (names : Naming) (rows : List TableRow) (step : Step) → IsRunAt plan m (stage n) remembers s names rows step → NothingSpawns plan m.start rows step layer n
 
-  nothing_next : NothingHappens → IsNextSpawn plan m layer n mark mark remembers s remembers s
+  nothing_next : NothingHappens → IsNextSpawn plan m layer n spawn_result spawn_result remembers s remembers s
   nothing_next nothing = record {
     at = at_next plan layer n s here;
     goes_on = goes_on_same s;
     takes = λ names rows step run.
         record { run = run.run; moment = run.moment; stands = subst (λ c. Stands names remembers s c) (sym (nothing names rows step run).next) run.stands };
-    marks = λ names rows step run is. is ∙ same rows step (nothing names rows step run) (cases_eq node_layer layer);
+    spawn_results = λ names rows step run is. is ∙ same rows step (nothing names rows step run) (cases_eq node_layer layer);
   }
     where
       same : (rows : List TableRow) (step : Step) → NothingSpawns plan m.start rows step layer n → (node_layer ≡ layer) ⊎ (node_layer ≡ layer → ⊥)
-          → mark_at plan (full_row plan m.start rows step).streams (stage n) n ≡ mark_at plan (full_row plan m.start rows step).streams (stage (n + 1)) n
+          → spawn_result_at plan (full_row plan m.start rows step).streams (stage n) n ≡ spawn_result_at plan (full_row plan m.start rows step).streams (stage (n + 1)) n
       same rows step nothing (inl e) =
-          idle_mark (is_spawned plan.layers (stage n) n) (is_spawned plan.layers (stage (n + 1)) n) (spawned_in (slice_get (full_row plan m.start rows step).streams n)) (nothing.did e)
-      same rows step nothing (inr d) = ap (λ b. mark_of (done_of b (spawned_in (slice_get (full_row plan m.start rows step).streams n)))) (other_behind node_layer n layer n (n + 1) d)
+          idle_spawn_result (is_spawned plan.layers (stage n) n) (is_spawned plan.layers (stage (n + 1)) n) (spawned_in (slice_get (full_row plan m.start rows step).streams n)) (nothing.did e)
+      same rows step nothing (inr d) = ap (λ b. spawn_result_of (done_of b (spawned_in (slice_get (full_row plan m.start rows step).streams n)))) (other_behind node_layer n layer n (n + 1) d)
 
   -- the node of its spawn clause is of another layer
-  pub other_layer_next : (node_layer ≡ layer → ⊥) → IsNextSpawn plan m layer n mark mark remembers s remembers s
+  pub other_layer_next : (node_layer ≡ layer → ⊥) → IsNextSpawn plan m layer n spawn_result spawn_result remembers s remembers s
   other_layer_next d = nothing_next (λ names rows step run. (spawns_go plan accepted m.start rows step layer).others n stream at d)
 
   -- it has no spawn clause
-  pub no_clause_next : stream.spawn ≡ None → IsNextSpawn plan m layer n mark mark remembers s remembers s
+  pub no_clause_next : stream.spawn ≡ None → IsNextSpawn plan m layer n spawn_result spawn_result remembers s remembers s
   no_clause_next e = nothing_next (λ names rows step run. (spawns_go plan accepted m.start rows step layer).none n stream at e)
 
   -- the clause is not active
-  pub passive_next : active_in m (spawn_pacing (slice_get plan.pacings n)) ≡ false → IsNextSpawn plan m layer n mark mark remembers s remembers s
+  pub passive_next : active_in m (spawn_pacing (slice_get plan.pacings n)) ≡ false → IsNextSpawn plan m layer n spawn_result spawn_result remembers s remembers s
   passive_next e = nothing_next
       (λ names rows step run. (spawns_go plan accepted m.start rows step layer).passive n stream at (sym (active_is m.start step m run.moment (spawn_pacing (slice_get plan.pacings n))) ∙ e))
 
   module _ (k : Clause) (has : stream.spawn ≡ Some k) (of_layer : node_layer ≡ layer) (active : active_in m (spawn_pacing (slice_get plan.pacings n)) ≡ true) where
     -- it is asked, and what it asks for is taken
-    pub asked_next : (asked : Spawning) (mark' : Mark) (remembers' : Memories) (s' : Seen) → IsSpawning plan remembers s k asked → IsAfterClause s n s'
-        → IsTaken asked n mark' remembers s remembers' s' → IsNextSpawn plan m layer n mark mark' remembers s remembers' s'
-    asked_next asked mark' remembers' s' asks after taken =
+    pub asked_next : (asked : Spawning) (spawn_result' : SpawnResult) (remembers' : Memories) (s' : Seen) → IsSpawning plan remembers s k asked → IsAfterClause s n s'
+        → IsTaken asked n spawn_result' remembers s remembers' s' → IsNextSpawn plan m layer n spawn_result spawn_result' remembers s remembers' s'
+    asked_next asked spawn_result' remembers' s' asks after taken =
         let change = clause_changes plan n s s' stream k at has here.of (here.unspawned n (to_come_here plan layer n of_layer)) after in
         record {
           at = at_changed plan layer n s s' of_layer here change;
@@ -133,12 +133,12 @@ module _ (plan : Plan) (accepted : IsAccepted plan) (m : Moment) (layer n : ℕ)
                 moment = run.moment;
                 stands = subst (λ c. Stands names remembers' s' c) (sym (goes rows step run.moment).next) (subst (λ q. Stands names remembers' s' (after_asking q now n)) a.0 t.stands);
               });
-          marks = λ names rows step run is. (let now = content_so_far plan m.start rows step (stage n) in
+          spawn_results = λ names rows step run is. (let now = content_so_far plan m.start rows step (stage n) in
               let a = asks names now (seen_by names rows step run) run.run.texts in
               let t = taken names now run.run.naming a.1 run.stands in
               let full = (full_row plan m.start rows step).streams in
-              t.marks ∙ (ap (λ q. mark_of (did_of q now n)) a.0
-              ∙ (ap mark_of (sym (goes rows step run.moment).did) ∙ ap (λ b. mark_of (done_of b (spawned_in (slice_get full n)))) (sym (done_here plan layer n of_layer)))));
+              t.spawn_results ∙ (ap (λ q. spawn_result_of (did_of q now n)) a.0
+              ∙ (ap spawn_result_of (sym (goes rows step run.moment).did) ∙ ap (λ b. spawn_result_of (done_of b (spawned_in (slice_get full n)))) (sym (done_here plan layer n of_layer)))));
         }
       where
         seen_by : (names : Naming) (rows : List TableRow) (step : Step) → IsRunAt plan m (stage n) remembers s names rows step
@@ -179,37 +179,37 @@ module _ (plan : Plan) (accepted : IsAccepted plan) (m : Moment) (layer n : ℕ)
         (sym (ap (λ l. parameters_of (slice_get l.streams n)) here.of.layout ∙ parameters_there plan.spec.streams plan.kept plan.pacings n stream at)) h
 
 -- the spawn clauses of the streams below a number are done
-pub record AreSpawned (plan : Plan) (m : Moment) (layer n : ℕ) (marks marks' : List Mark) (remembers : Memories) (s : Seen) (remembers' : Memories) (s' : Seen) : Type 0 where
+pub record AreSpawned (plan : Plan) (m : Moment) (layer n : ℕ) (spawn_results spawn_results' : List SpawnResult) (remembers : Memories) (s : Seen) (remembers' : Memories) (s' : Seen) : Type 0 where
   pub at : IsAt plan (spawn_stage (length plan.spec.streams) layer n) s'
   pub goes_on : GoesOn s s'
   pub takes : TakesTo plan m (layer_stage (length plan.spec.streams) layer) (spawn_stage (length plan.spec.streams) layer n) remembers s remembers' s'
-  pub marked : (names : Naming) (rows : List TableRow) (step : Step) → IsRunAt plan m (layer_stage (length plan.spec.streams) layer) remembers s names rows step
-      → AreMarks plan (full_row plan m.start rows step).streams (layer_stage (length plan.spec.streams) layer) marks
-      → AreMarks plan (full_row plan m.start rows step).streams (spawn_stage (length plan.spec.streams) layer n) marks'
+  pub with_spawn_results : (names : Naming) (rows : List TableRow) (step : Step) → IsRunAt plan m (layer_stage (length plan.spec.streams) layer) remembers s names rows step
+      → AreSpawnResults plan (full_row plan m.start rows step).streams (layer_stage (length plan.spec.streams) layer) spawn_results
+      → AreSpawnResults plan (full_row plan m.start rows step).streams (spawn_stage (length plan.spec.streams) layer n) spawn_results'
 
 -- of one more
-module _ (plan : Plan) (m : Moment) (layer n : ℕ) (marks marks' : List Mark) (remembers : Memories) (s : Seen) (before : Memories) (t : Seen) (after : Memories) (u : Seen) (mark mark' : Mark) where
-  pub one_more_spawned : AreSpawned plan m layer n marks marks' remembers s before t → length marks' ≡ length plan.spec.streams → n < length plan.spec.streams → slice_get marks' n ≡ Some mark
-      → IsNextSpawn plan m layer n mark mark' before t after u → AreSpawned plan m layer (n + 1) marks (set marks' n mark') remembers s after u
+module _ (plan : Plan) (m : Moment) (layer n : ℕ) (spawn_results spawn_results' : List SpawnResult) (remembers : Memories) (s : Seen) (before : Memories) (t : Seen) (after : Memories) (u : Seen) (spawn_result spawn_result' : SpawnResult) where
+  pub one_more_spawned : AreSpawned plan m layer n spawn_results spawn_results' remembers s before t → length spawn_results' ≡ length plan.spec.streams → n < length plan.spec.streams → slice_get spawn_results' n ≡ Some spawn_result
+      → IsNextSpawn plan m layer n spawn_result spawn_result' before t after u → AreSpawned plan m layer (n + 1) spawn_results (set spawn_results' n spawn_result') remembers s after u
   one_more_spawned so_far long below is next = record {
     at = next.at;
     goes_on = goes_on_far s t u so_far.goes_on next.goes_on;
     takes = λ names rows step run. next.takes names rows step (so_far.takes names rows step run);
-    marked = λ names rows step run old. (let known = so_far.marked names rows step run old in
+    with_spawn_results = λ names rows step run old. (let known = so_far.with_spawn_results names rows step run old in
         let full = (full_row plan m.start rows step).streams in
         let g = spawn_stage (length plan.spec.streams) layer n in
         let h = spawn_stage (length plan.spec.streams) layer (n + 1) in
-        let same : mark ≡ mark_at plan full g n = (let a = known n below in cc) in
-        let new = next.marks names rows step (so_far.takes names rows step run) same in
+        let same : spawn_result ≡ spawn_result_at plan full g n = (let a = known n below in cc) in
+        let new = next.spawn_results names rows step (so_far.takes names rows step run) same in
         λ i lt. by names rows step i lt (known i lt) new (cases_eq i n));
   }
     where
       by : (names : Naming) (rows : List TableRow) (step : Step) (i : ℕ) → i < length plan.spec.streams
-          → slice_get marks' i ≡ Some (mark_at plan (full_row plan m.start rows step).streams (spawn_stage (length plan.spec.streams) layer n) i)
-          → mark' ≡ mark_at plan (full_row plan m.start rows step).streams (spawn_stage (length plan.spec.streams) layer (n + 1)) n
+          → slice_get spawn_results' i ≡ Some (spawn_result_at plan (full_row plan m.start rows step).streams (spawn_stage (length plan.spec.streams) layer n) i)
+          → spawn_result' ≡ spawn_result_at plan (full_row plan m.start rows step).streams (spawn_stage (length plan.spec.streams) layer (n + 1)) n
           → (i ≡ n) ⊎ (i ≡ n → ⊥)
-          → slice_get (set marks' n mark') i ≡ Some (mark_at plan (full_row plan m.start rows step).streams (spawn_stage (length plan.spec.streams) layer (n + 1)) i)
-      by names rows step i lt known new (inl e) = rw e (set_here marks' n mark' (omega (arith, long, below)) ∙ ap Some new)
+          → slice_get (set spawn_results' n spawn_result') i ≡ Some (spawn_result_at plan (full_row plan m.start rows step).streams (spawn_stage (length plan.spec.streams) layer (n + 1)) i)
+      by names rows step i lt known new (inl e) = rw e (set_here spawn_results' n spawn_result' (omega (arith, long, below)) ∙ ap Some new)
       by names rows step i lt known new (inr d) =
-          set_else marks' n i mark' d
-          ∙ (known ∙ ap (λ b. Some (mark_of (done_of b (spawned_in (slice_get (full_row plan m.start rows step).streams i))))) (next_behind (layer_of plan.layers (spawn_node i)) i layer n d))
+          set_else spawn_results' n i spawn_result' d
+          ∙ (known ∙ ap (λ b. Some (spawn_result_of (done_of b (spawned_in (slice_get (full_row plan m.start rows step).streams i))))) (next_behind (layer_of plan.layers (spawn_node i)) i layer n d))

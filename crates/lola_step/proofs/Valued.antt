@@ -28,7 +28,7 @@ use Rattle.lola_step.specs.Found.{FitLayout, add_verdict, verdicts_among, verdic
 use Rattle.lola_step.specs.Notes.{AreNoted, AreOfStream, AreOutcomesOf, AreSilent, AreSpans, AreVerdicts, AreVerdictsHeld, OneOf, ReadEach, ShowLiving, asked_in, in_span, read_verdict}
 use Rattle.lola_step.specs.Tasks.{params_given}
 use Rattle.lola_step.specs.Progress.{IsRun}
-use Rattle.lola_step.specs.declared.mark.Mark.{Mark}
+use Rattle.lola_step.specs.declared.spawn_result.SpawnResult.{SpawnResult}
 use Rattle.lola_step.specs.declared.scratch.Span.{Span}
 use Rattle.lola_step.specs.declared.tasks.Task.{Task}
 use Rattle.lola_step.specs.declared.verdict.Verdict.{Verdict}
@@ -210,7 +210,7 @@ module _ (names : Naming) (remembers : Memories) where
 
 -- what is collected, where a span is noted for each stream
 module _ (plan : Plan) (accepted : IsAccepted plan) (show : Show) (spans : List Span) (tasks : List Task) (results : List Outcome) (remembers : Memories) (s : Seen) (layout : s.layout ≡ layout_of plan) where
-  module _ (names : Naming) (start : ℕ) (rows : List TableRow) (step : Step) (run : IsRun plan names rows) (marks : List Mark) (noted : AreNoted plan (full_row plan start rows step).streams names marks spans tasks results)
+  module _ (names : Naming) (start : ℕ) (rows : List TableRow) (step : Step) (run : IsRun plan names rows) (spawn_results : List SpawnResult) (noted : AreNoted plan (full_row plan start rows step).streams names spawn_results spans tasks results)
       (stands : Stands names remembers s (content start rows (full_row plan start rows step))) where
     abbrev full : List StreamRow
     full = (full_row plan start rows step).streams
@@ -231,9 +231,9 @@ module _ (plan : Plan) (accepted : IsAccepted plan) (show : Show) (spans : List 
         (λ none. subst (λ (o : Option StreamRow). AreBare (living_in o)) is_row (bare_living plan accepted start rows step run.settled m x is_stream other none))
 
   collects_verdicts : length spans ≡ length plan.spec.streams → CollectsVerdicts plan show spans tasks results remembers s (all_verdicts show s tasks results 0 plan.spec.streams spans)
-  collects_verdicts count names start rows step marks run noted stands =
+  collects_verdicts count names start rows step spawn_results run noted stands =
       all_read names remembers show s tasks results 0 plan.spec.streams spans (full_row plan start rows step).streams count (length-full plan accepted.acyclic start rows step)
-      (each names start rows step run marks noted stands)
+      (each names start rows step run spawn_results noted stands)
 
 -- where no instance has parameters of its own, all have the same
 pub among_alone : (s : Seen) (n : ℕ) (p : Params) → ((i : ℕ) → params_given s n i ≡ p) → (ts : List Task) (os : List Outcome) → length ts ≡ length os → verdicts_among s n ts os ≡ verdicts_with n p os

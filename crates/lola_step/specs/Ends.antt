@@ -15,17 +15,17 @@ use Rattle.lola_step.specs.Found.{is_hidden}
 use Rattle.lola_step.specs.Moments.{IsMoment}
 use Rattle.lola_step.specs.Notes.{AreNoted, AreVerdictsHeld, places_of, read_fault, read_verdict}
 use Rattle.lola_step.specs.Progress.{IsRun}
-use Rattle.lola_step.specs.declared.mark.Mark.{Mark}
+use Rattle.lola_step.specs.declared.spawn_result.SpawnResult.{SpawnResult}
 use Rattle.lola_step.specs.declared.moment.Moment.{Moment}
 use Rattle.lola_step.specs.declared.scratch.Span.{Span}
 use Rattle.lola_step.specs.declared.tasks.Task.{Task}
 use Rattle.lola_step.specs.declared.verdict.Verdict.{Verdict}
 
 -- in each run of which all is noted so, that is the fault of spawn clauses and instances
-abbrev pub FindsFault : Plan → List Mark → List Span → List Task → List Outcome → Option (ℕ × FaultKind) → Type 0
-FindsFault plan marks spans tasks results found =
+abbrev pub FindsFault : Plan → List SpawnResult → List Span → List Task → List Outcome → Option (ℕ × FaultKind) → Type 0
+FindsFault plan spawn_results spans tasks results found =
     (names : Naming) (start : ℕ) (rows : List TableRow) (step : Step) → IsRun plan names rows
-    → AreNoted plan (full_row plan start rows step).streams names marks spans tasks results
+    → AreNoted plan (full_row plan start rows step).streams names spawn_results spans tasks results
     → read_fault found ≡ evaluation_fault plan start rows step
 
 -- the values of a row that may have lines, by the streams' numbers and in the order of birth, from stream n on
@@ -36,8 +36,8 @@ shown_values show n _ _ = []
 -- in each run of which all is noted so, and for whose row the store stands, these are its values that may have lines, and their texts are held
 abbrev pub CollectsVerdicts : Plan → Show → List Span → List Task → List Outcome → Memories → Seen → List Verdict → Type 0
 CollectsVerdicts plan show spans tasks results remembers s verdicts =
-    (names : Naming) (start : ℕ) (rows : List TableRow) (step : Step) (marks : List Mark) → IsRun plan names rows
-    → AreNoted plan (full_row plan start rows step).streams names marks spans tasks results
+    (names : Naming) (start : ℕ) (rows : List TableRow) (step : Step) (spawn_results : List SpawnResult) → IsRun plan names rows
+    → AreNoted plan (full_row plan start rows step).streams names spawn_results spans tasks results
     → Stands names remembers s (content start rows (full_row plan start rows step))
     → (map (read_verdict names) verdicts ≡ shown_values show 0 plan.spec.streams (full_row plan start rows step).streams) × AreVerdictsHeld names verdicts
 

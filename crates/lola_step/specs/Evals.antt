@@ -10,10 +10,10 @@ use Rattle.lola_model.specs.Table.{Step, TableRow}
 use Rattle.lola_model.specs.declared.plan.Plan.{Plan}
 use Rattle.lola_model.specs.declared.spec.Stream.{Stream}
 use Rattle.lola_step_law.specs.Stages.{Stage, eval_stage, full_row, layer_stage}
-use Rattle.lola_step.specs.Notes.{AreEmpty, AreMarks, AreSpans, ShowResults}
+use Rattle.lola_step.specs.Notes.{AreEmpty, AreSpawnResults, AreSpans, ShowResults}
 use Rattle.lola_step.specs.Progress.{IsRunAt}
 use Rattle.lola_step.specs.Rooms.{rooms, to_come, total}
-use Rattle.lola_step.specs.declared.mark.Mark.{Mark}
+use Rattle.lola_step.specs.declared.spawn_result.SpawnResult.{SpawnResult}
 use Rattle.lola_step.specs.declared.moment.Moment.{Moment}
 use Rattle.lola_step.specs.declared.scratch.Span.{Span}
 use Rattle.lola_step.specs.declared.tasks.Task.{Task}
@@ -32,17 +32,17 @@ pub record IsReadyFor (plan : Plan) (g : Stage) (s : Seen) (tasks : List Task) (
   pub empty : AreEmpty plan g spans
   pub inputs : (n : ℕ) (stream : Stream) (p : Span) → slice_get plan.spec.streams n ≡ Some stream → is_input stream ≡ true → slice_get spans n ≡ Some p → p.count ≡ 0
 
--- in each run whose marks these are: a store that stood before the instances of a layer stands before the next layer
-abbrev pub EvalsTake : Plan → Moment → ℕ → List Mark → Memories → Seen → Memories → Seen → Type 0
-EvalsTake plan m layer marks remembers s remembers' s' =
+-- in each run whose spawn results these are: a store that stood before the instances of a layer stands before the next layer
+abbrev pub EvalsTake : Plan → Moment → ℕ → List SpawnResult → Memories → Seen → Memories → Seen → Type 0
+EvalsTake plan m layer spawn_results remembers s remembers' s' =
     (names : Naming) (rows : List TableRow) (step : Step) → IsRunAt plan m (eval_stage (length plan.spec.streams) layer) remembers s names rows step
-    → AreMarks plan (full_row plan m.start rows step).streams (eval_stage (length plan.spec.streams) layer) marks
+    → AreSpawnResults plan (full_row plan m.start rows step).streams (eval_stage (length plan.spec.streams) layer) spawn_results
     → IsRunAt plan m (layer_stage (length plan.spec.streams) (layer + 1)) remembers' s' names rows step
 
 -- and what showed the outcomes so far shows those of the layer too
-abbrev pub ShowsMore : Plan → Moment → ℕ → List Mark → Memories → Seen → List Span → List Task → List Outcome → List Span → List Task → List Outcome → Type 0
-ShowsMore plan m layer marks remembers s spans tasks results spans' tasks' results' =
+abbrev pub ShowsMore : Plan → Moment → ℕ → List SpawnResult → Memories → Seen → List Span → List Task → List Outcome → List Span → List Task → List Outcome → Type 0
+ShowsMore plan m layer spawn_results remembers s spans tasks results spans' tasks' results' =
     (names : Naming) (rows : List TableRow) (step : Step) → IsRunAt plan m (eval_stage (length plan.spec.streams) layer) remembers s names rows step
-    → AreMarks plan (full_row plan m.start rows step).streams (eval_stage (length plan.spec.streams) layer) marks
+    → AreSpawnResults plan (full_row plan m.start rows step).streams (eval_stage (length plan.spec.streams) layer) spawn_results
     → ShowResults plan (full_row plan m.start rows step).streams (eval_stage (length plan.spec.streams) layer) names spans tasks results
     → ShowResults plan (full_row plan m.start rows step).streams (layer_stage (length plan.spec.streams) (layer + 1)) names spans' tasks' results'

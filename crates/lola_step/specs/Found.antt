@@ -14,8 +14,8 @@ use Rattle.lola_model.specs.declared.spec.Sort.TheVariants as sort
 use Rattle.lola_model.specs.declared.spec.Stream.{Stream}
 use Rattle.lola_step.specs.Notes.{asked_in, in_span}
 use Rattle.lola_step.specs.Tasks.{params_given}
-use Rattle.lola_step.specs.declared.mark.Mark.{Mark}
-use Rattle.lola_step.specs.declared.mark.Mark.TheVariants as mark
+use Rattle.lola_step.specs.declared.spawn_result.SpawnResult.{SpawnResult}
+use Rattle.lola_step.specs.declared.spawn_result.SpawnResult.TheVariants as spawn_result
 use Rattle.lola_step.specs.declared.scratch.Span.{Span}
 use Rattle.lola_step.specs.declared.tasks.Task.{Task}
 use Rattle.lola_step.specs.declared.verdict.Verdict.{Verdict}
@@ -38,8 +38,8 @@ least_among [] = None
 least_among (o ∷ os) = add_fault o (least_among os)
 
 -- of a stream: its spawn clause's, or else the least of its instances
-abbrev pub fault_of : Mark → List Outcome → Option FaultKind
-fault_of (mark.Failed k) os = Some k
+abbrev pub fault_of : SpawnResult → List Outcome → Option FaultKind
+fault_of (spawn_result.Failed k) os = Some k
 fault_of _ os = least_among os
 
 -- the fault of stream n, or else that of later streams
@@ -48,18 +48,18 @@ fault_or n None rest = rest
 fault_or n (Some k) rest = Some (n, k)
 
 -- the first of the streams from number n on that has one
-abbrev pub first_among : List Outcome → ℕ → List Mark → List Span → Option (ℕ × FaultKind)
+abbrev pub first_among : List Outcome → ℕ → List SpawnResult → List Span → Option (ℕ × FaultKind)
 first_among results n (m ∷ ms) (p ∷ ps) = fault_or n (fault_of m (in_span results (Some p))) (first_among results (n + 1) ms ps)
 first_among results n _ _ = None
 
 -- whether a spawn clause failed
-abbrev pub is_failed : Mark → Bool
-is_failed (mark.Failed k) = true
+abbrev pub is_failed : SpawnResult → Bool
+is_failed (spawn_result.Failed k) = true
 is_failed _ = false
 
 -- none did
-abbrev pub NoneFailed : List Mark → Type 0
-NoneFailed marks = (n : ℕ) (k : Mark) → slice_get marks n ≡ Some k → is_failed k ≡ false
+abbrev pub NoneFailed : List SpawnResult → Type 0
+NoneFailed spawn_results = (n : ℕ) (k : SpawnResult) → slice_get spawn_results n ≡ Some k → is_failed k ≡ false
 
 -- whether an outcome is a fault
 abbrev pub is_fault : Outcome → Bool
@@ -72,8 +72,8 @@ has_fault [] = false
 has_fault (o ∷ os) = is_fault o || has_fault os
 
 -- no spawn clause failed, and no outcome is a fault
-abbrev pub IsFaultless : List Mark → List Outcome → Type 0
-IsFaultless marks results = NoneFailed marks × (has_fault results ≡ false)
+abbrev pub IsFaultless : List SpawnResult → List Outcome → Type 0
+IsFaultless spawn_results results = NoneFailed spawn_results × (has_fault results ≡ false)
 
 -- values
 

@@ -22,31 +22,31 @@ use Rattle.lola_step_law.specs.Ends.{RowValue, Place}
 use Rattle.lola_step_law.specs.Nexts.{living_in}
 use Rattle.lola_step_law.specs.Stages.{Stage, is_evaluated, is_spawned}
 use Rattle.lola_step.specs.Moments.{may_be_active_in}
-use Rattle.lola_step.specs.declared.mark.Mark.{Mark}
-use Rattle.lola_step.specs.declared.mark.Mark.TheVariants as mark
+use Rattle.lola_step.specs.declared.spawn_result.SpawnResult.{SpawnResult}
+use Rattle.lola_step.specs.declared.spawn_result.SpawnResult.TheVariants as spawn_result
 use Rattle.lola_step.specs.declared.moment.Moment.{Moment}
 use Rattle.lola_step.specs.declared.scratch.Span.{Span}
 use Rattle.lola_step.specs.declared.tasks.Task.{Task}
 use Rattle.lola_step.specs.declared.verdict.Verdict.{Verdict}
 
--- marks
+-- spawn results
 
 -- what a spawn clause did, as far as faults go
-abbrev pub mark_of : Spawned → Mark
-mark_of Idle = mark.Fine
-mark_of (Named p) = mark.Fine
-mark_of (SpawnFailed k) = mark.Failed k
-mark_of SpawnPoisoned = mark.Poisoned
+abbrev pub spawn_result_of : Spawned → SpawnResult
+spawn_result_of Idle = spawn_result.Fine
+spawn_result_of (Named p) = spawn_result.Fine
+spawn_result_of (SpawnFailed k) = spawn_result.Failed k
+spawn_result_of SpawnPoisoned = spawn_result.Poisoned
 
 -- as far as it is done
 abbrev pub done_of : Bool → Spawned → Spawned
 done_of true s = s
 done_of false s = Idle
 
--- the marks of all streams at a stage
-abbrev pub AreMarks : Plan → List StreamRow → Stage → List Mark → Type 0
-AreMarks plan full g marks =
-    (n : ℕ) → n < length plan.spec.streams → slice_get marks n ≡ Some (mark_of (done_of (is_spawned plan.layers g n) (spawned_in (slice_get full n))))
+-- the spawn results of all streams at a stage
+abbrev pub AreSpawnResults : Plan → List StreamRow → Stage → List SpawnResult → Type 0
+AreSpawnResults plan full g spawn_results =
+    (n : ℕ) → n < length plan.spec.streams → slice_get spawn_results n ≡ Some (spawn_result_of (done_of (is_spawned plan.layers g n) (spawned_in (slice_get full n))))
 
 -- spans
 
@@ -118,24 +118,24 @@ abbrev pub AreEmpty : Plan → Stage → List Span → Type 0
 AreEmpty plan g spans =
     (n : ℕ) (s : Stream) (p : Span) → slice_get plan.spec.streams n ≡ Some s → is_evaluated plan.layers g n s ≡ false → slice_get spans n ≡ Some p → p.count ≡ 0
 
--- all that is noted once the streams are evaluated: the marks, the outcomes of instances, and of inputs nothing
-pub record AreNoted (plan : Plan) (full : List StreamRow) (names : Naming) (marks : List Mark) (spans : List Span) (tasks : List Task) (results : List Outcome) : Type 0 where
-  pub marks_are : (n : ℕ) → n < length plan.spec.streams → slice_get marks n ≡ Some (mark_of (spawned_in (slice_get full n)))
+-- all that is noted once the streams are evaluated: the spawn results, the outcomes of instances, and of inputs nothing
+pub record AreNoted (plan : Plan) (full : List StreamRow) (names : Naming) (spawn_results : List SpawnResult) (spans : List Span) (tasks : List Task) (results : List Outcome) : Type 0 where
+  pub spawn_results_are : (n : ℕ) → n < length plan.spec.streams → slice_get spawn_results n ≡ Some (spawn_result_of (spawned_in (slice_get full n)))
   pub results_show : (n : ℕ) (s : Stream) → slice_get plan.spec.streams n ≡ Some s → is_input s ≡ false
       → ShowLiving names (asked_in tasks (slice_get spans n)) (in_span results (slice_get spans n)) (living_in (slice_get full n))
   pub inputs_empty : (n : ℕ) (s : Stream) (p : Span) → slice_get plan.spec.streams n ≡ Some s → is_input s ≡ true → slice_get spans n ≡ Some p → p.count ≡ 0
 
 -- the tasks of a layer
 
-abbrev pub is_fine : Option Mark → Bool
-is_fine (Some mark.Fine) = true
+abbrev pub is_fine : Option SpawnResult → Bool
+is_fine (Some spawn_result.Fine) = true
 is_fine _ = false
 
 -- a stream runs in a layer: it is no input, its node is of the layer, its clause may be active for some instance, and its spawn
 -- clause did not fail
-abbrev pub runs_in : Plan → Moment → List Mark → ℕ → ℕ → Stream → Bool
-runs_in plan m marks layer n s =
-    not (is_input s) && (nat_eq (layer_of plan.layers (eval_node n)) layer && (may_be_active_in m (eval_pacing (slice_get plan.pacings n)) && is_fine (slice_get marks n)))
+abbrev pub runs_in : Plan → Moment → List SpawnResult → ℕ → ℕ → Stream → Bool
+runs_in plan m spawn_results layer n s =
+    not (is_input s) && (nat_eq (layer_of plan.layers (eval_node n)) layer && (may_be_active_in m (eval_pacing (slice_get plan.pacings n)) && is_fine (slice_get spawn_results n)))
 
 -- so many places from a number on
 abbrev pub places_from : ℕ → ℕ → List ℕ
@@ -165,26 +165,26 @@ tasks_at n [] = []
 tasks_at n (i ∷ is) = record { stream = n; index = i } ∷ tasks_at n is
 
 -- the tasks of stream n in a layer
-abbrev pub stream_tasks : Plan → Moment → List Mark → List Whereabouts → Seen → ℕ → ℕ → Stream → List Task
-stream_tasks plan m marks sought s layer n x =
-    if runs_in plan m marks layer n x then tasks_at n (places_asked (sought_at sought n) (eval_pacing (slice_get plan.pacings n)) m s n) else []
+abbrev pub stream_tasks : Plan → Moment → List SpawnResult → List Whereabouts → Seen → ℕ → ℕ → Stream → List Task
+stream_tasks plan m spawn_results sought s layer n x =
+    if runs_in plan m spawn_results layer n x then tasks_at n (places_asked (sought_at sought n) (eval_pacing (slice_get plan.pacings n)) m s n) else []
 
 -- of the streams from number n on
-abbrev pub layer_tasks : Plan → Moment → List Mark → List Whereabouts → Seen → ℕ → ℕ → List Stream → List Task
-layer_tasks plan m marks sought s layer n [] = []
-layer_tasks plan m marks sought s layer n (x ∷ xs) = stream_tasks plan m marks sought s layer n x ++ layer_tasks plan m marks sought s layer (n + 1) xs
+abbrev pub layer_tasks : Plan → Moment → List SpawnResult → List Whereabouts → Seen → ℕ → ℕ → List Stream → List Task
+layer_tasks plan m spawn_results sought s layer n [] = []
+layer_tasks plan m spawn_results sought s layer n (x ∷ xs) = stream_tasks plan m spawn_results sought s layer n x ++ layer_tasks plan m spawn_results sought s layer (n + 1) xs
 
 -- where the outcomes of stream n stand that begin at a place of the results, if it runs in a layer
-abbrev pub span_after : Plan → Moment → List Mark → List Whereabouts → Seen → ℕ → ℕ → ℕ → Stream → Span → Span
-span_after plan m marks sought s layer from n x p =
-    if runs_in plan m marks layer n x then record { from = from; count = length (stream_tasks plan m marks sought s layer n x) } else p
+abbrev pub span_after : Plan → Moment → List SpawnResult → List Whereabouts → Seen → ℕ → ℕ → ℕ → Stream → Span → Span
+span_after plan m spawn_results sought s layer from n x p =
+    if runs_in plan m spawn_results layer n x then record { from = from; count = length (stream_tasks plan m spawn_results sought s layer n x) } else p
 
 -- the spans after the tasks of a layer, whose outcomes begin at a place of the results
-abbrev pub layer_spans : Plan → Moment → List Mark → List Whereabouts → Seen → ℕ → ℕ → ℕ → List Stream → List Span → List Span
-layer_spans plan m marks sought s layer from n (x ∷ xs) (p ∷ ps) =
-    span_after plan m marks sought s layer from n x p
-    ∷ layer_spans plan m marks sought s layer (from + length (stream_tasks plan m marks sought s layer n x)) (n + 1) xs ps
-layer_spans plan m marks sought s layer from n _ ps = ps
+abbrev pub layer_spans : Plan → Moment → List SpawnResult → List Whereabouts → Seen → ℕ → ℕ → ℕ → List Stream → List Span → List Span
+layer_spans plan m spawn_results sought s layer from n (x ∷ xs) (p ∷ ps) =
+    span_after plan m spawn_results sought s layer from n x p
+    ∷ layer_spans plan m spawn_results sought s layer (from + length (stream_tasks plan m spawn_results sought s layer n x)) (n + 1) xs ps
+layer_spans plan m spawn_results sought s layer from n _ ps = ps
 
 -- verdicts
 

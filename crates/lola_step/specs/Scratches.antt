@@ -13,7 +13,7 @@ use Rattle.lola_step.specs.Progress.{IsRunAt}
 use Rattle.lola_step.specs.Rooms.{total}
 use Rattle.lola_step.specs.Schedules.{IsScheduleOf}
 use Rattle.lola_step.specs.Sought.{AreUnsought}
-use Rattle.lola_step.specs.declared.mark.Mark.TheVariants as mark
+use Rattle.lola_step.specs.declared.spawn_result.SpawnResult.TheVariants as spawn_result
 use Rattle.lola_step.specs.declared.moment.Moment.{Moment}
 use Rattle.lola_step.specs.declared.scratch.Scratch.{Scratch}
 use Rattle.lola_step.specs.declared.scratch.Span.{Span}
@@ -30,10 +30,10 @@ pub record HasRoom (n : Scratch) (room : ℕ) : Type 0 where
 abbrev pub least_room : Plan → ℕ
 least_room plan = 2 * length plan.spec.streams
 
--- notes of a plan: a mark, a span and whereabouts for each stream, where those of streams without parameters are never known, more layers than that of any node, the turns of its streams in each of
+-- notes of a plan: a spawn result, a span and whereabouts for each stream, where those of streams without parameters are never known, more layers than that of any node, the turns of its streams in each of
 -- them, the code of its specification, and at least the least room
 pub record IsScratchOf (plan : Plan) (n : Scratch) : Type 0 where
-  pub marks : length n.marks.items ≡ length plan.spec.streams
+  pub spawn_results : length n.spawn_results.items ≡ length plan.spec.streams
   pub spans : length n.spans.items ≡ length plan.spec.streams
   pub sought : length n.sought.items ≡ length plan.spec.streams
   pub unsought : AreUnsought plan n.sought.items
@@ -58,7 +58,7 @@ no_span = record { from = 0; count = 0 }
 
 -- nothing is noted, and there is room for what a step notes
 pub record IsFresh (n : Scratch) (room : ℕ) : Type 0 where
-  pub marks : n.marks.items ≡ replicate (length n.marks.items) mark.Fine
+  pub spawn_results : n.spawn_results.items ≡ replicate (length n.spawn_results.items) spawn_result.Fine
   pub spans : n.spans.items ≡ replicate (length n.spans.items) no_span
   pub tasks : n.tasks.items ≡ []
   pub results : n.results.items ≡ []
@@ -74,5 +74,5 @@ pub record IsFresh (n : Scratch) (room : ℕ) : Type 0 where
 abbrev pub EvaluatesAll : Plan → Moment → Memories → Seen → Memories → Seen → Scratch → Type 0
 EvaluatesAll plan m remembers s remembers' s' n =
     (names : Naming) (rows : List TableRow) (step : Step) → IsRunAt plan m (layer_stage (length plan.spec.streams) 0) remembers s names rows step
-    → AreNoted plan (full_row plan m.start rows step).streams names n.marks.items n.spans.items n.tasks.items n.results.items
+    → AreNoted plan (full_row plan m.start rows step).streams names n.spawn_results.items n.spans.items n.tasks.items n.results.items
     × Stands names remembers' s' (content m.start rows (full_row plan m.start rows step))

@@ -20,7 +20,7 @@ use Rattle.lola_step.specs.Closings.{IsShown}
 use Rattle.lola_step.specs.Moments.{active_for_in}
 use Rattle.lola_step.specs.Notes.{runs_in, sought_at}
 use Rattle.lola_step.specs.Schedules.{has_parameters}
-use Rattle.lola_step.specs.declared.mark.Mark.{Mark}
+use Rattle.lola_step.specs.declared.spawn_result.SpawnResult.{SpawnResult}
 use Rattle.lola_step.specs.declared.moment.Moment.{Moment}
 
 -- the condition of a clause of stream n may be asked for each instance
@@ -41,9 +41,9 @@ IsSilentElsewhere plan m remembers s n w =
     → eval_answer plan.spec (active_for_in m x.born (eval_pacing (slice_get plan.pacings n))) (slice_get plan.spec.streams n) c (read_params names x.params) ≡ Missing
 
 -- of each stream that runs in a layer
-abbrev pub AreSought : Plan → Moment → List Mark → List Whereabouts → Memories → Seen → ℕ → Type 0
-AreSought plan m marks sought remembers s layer =
-    (n : ℕ) (x : Stream) → slice_get plan.spec.streams n ≡ Some x → runs_in plan m marks layer n x ≡ true → IsSilentElsewhere plan m remembers s n (sought_at sought n)
+abbrev pub AreSought : Plan → Moment → List SpawnResult → List Whereabouts → Memories → Seen → ℕ → Type 0
+AreSought plan m spawn_results sought remembers s layer =
+    (n : ℕ) (x : Stream) → slice_get plan.spec.streams n ≡ Some x → runs_in plan m spawn_results layer n x ≡ true → IsSilentElsewhere plan m remembers s n (sought_at sought n)
 
 -- nothing is noted of streams without parameters, whose one instance is always asked
 abbrev pub AreUnsought : Plan → List Whereabouts → Type 0

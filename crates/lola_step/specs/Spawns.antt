@@ -10,10 +10,10 @@ use Rattle.lola_model.specs.declared.plan.Plan.{Plan}
 use Rattle.lola_step_law.specs.Nexts.{after_asking, did_of}
 use Rattle.lola_step_law.specs.Stages.{Stage, full_row, is_spawned, spawn_stage}
 use Rattle.lola_step.specs.Clauses.{IsSpawningHeld, IsWellNamed, read_spawning}
-use Rattle.lola_step.specs.Notes.{done_of, mark_of}
+use Rattle.lola_step.specs.Notes.{done_of, spawn_result_of}
 use Rattle.lola_step.specs.Progress.{GoesOn, IsAt, IsRunAt, TakesTo}
 use Rattle.lola_step.specs.declared.clauses.Spawning.{Spawning}
-use Rattle.lola_step.specs.declared.mark.Mark.{Mark}
+use Rattle.lola_step.specs.declared.spawn_result.SpawnResult.{SpawnResult}
 use Rattle.lola_step.specs.declared.moment.Moment.{Moment}
 
 -- stream n of a store in a step has a spawn clause, and no instance of it was born in the step
@@ -39,29 +39,29 @@ pub record IsAfterClause (old : Seen) (n : ℕ) (new : Seen) : Type 0 where
   pub room : born ≡ true → length (instances_seen old n) < most_instances
   pub is : new ≡ after_clause old n params born bad
 
--- a store stands for what becomes of a content where this is asked for, and the mark says what the clause did then
-pub record IsTakenFor (asked : Spawning) (n : ℕ) (mark : Mark) (names : Naming) (c : Content) (remembers' : Memories) (s' : Seen) : Type 0 where
+-- a store stands for what becomes of a content where this is asked for, and the spawn result says what the clause did then
+pub record IsTakenFor (asked : Spawning) (n : ℕ) (spawn_result : SpawnResult) (names : Naming) (c : Content) (remembers' : Memories) (s' : Seen) : Type 0 where
   pub stands : Stands names remembers' s' (after_asking (read_spawning names asked) c n)
-  pub marks : mark ≡ mark_of (did_of (read_spawning names asked) c n)
+  pub spawn_results : spawn_result ≡ spawn_result_of (did_of (read_spawning names asked) c n)
 
 -- whatever a store stood for before
-abbrev pub IsTaken : Spawning → ℕ → Mark → Memories → Seen → Memories → Seen → Type 0
-IsTaken asked n mark remembers s remembers' s' =
-    (names : Naming) (c : Content) → IsNaming names → IsSpawningHeld names asked → Stands names remembers s c → IsTakenFor asked n mark names c remembers' s'
+abbrev pub IsTaken : Spawning → ℕ → SpawnResult → Memories → Seen → Memories → Seen → Type 0
+IsTaken asked n spawn_result remembers s remembers' s' =
+    (names : Naming) (c : Content) → IsNaming names → IsSpawningHeld names asked → Stands names remembers s c → IsTakenFor asked n spawn_result names c remembers' s'
 
--- the mark of stream n at a stage
-abbrev pub mark_at : Plan → List StreamRow → Stage → ℕ → Mark
-mark_at plan full g n = mark_of (done_of (is_spawned plan.layers g n) (spawned_in (slice_get full n)))
+-- the spawn result of stream n at a stage
+abbrev pub spawn_result_at : Plan → List StreamRow → Stage → ℕ → SpawnResult
+spawn_result_at plan full g n = spawn_result_of (done_of (is_spawned plan.layers g n) (spawned_in (slice_get full n)))
 
--- in each run at a stage in which the mark of stream n is this one, the other is its mark at the next stage
-abbrev pub MarksNext : Plan → Moment → Stage → Stage → ℕ → Mark → Mark → Memories → Seen → Type 0
-MarksNext plan m g h n mark mark' remembers s =
+-- in each run at a stage in which the spawn result of stream n is this one, the other is its spawn result at the next stage
+abbrev pub SpawnResultsNext : Plan → Moment → Stage → Stage → ℕ → SpawnResult → SpawnResult → Memories → Seen → Type 0
+SpawnResultsNext plan m g h n spawn_result spawn_result' remembers s =
     (names : Naming) (rows : List TableRow) (step : Step) → IsRunAt plan m g remembers s names rows step
-    → mark ≡ mark_at plan (full_row plan m.start rows step).streams g n → mark' ≡ mark_at plan (full_row plan m.start rows step).streams h n
+    → spawn_result ≡ spawn_result_at plan (full_row plan m.start rows step).streams g n → spawn_result' ≡ spawn_result_at plan (full_row plan m.start rows step).streams h n
 
 -- a layer's spawn clauses go on by one stream
-pub record IsNextSpawn (plan : Plan) (m : Moment) (layer n : ℕ) (mark mark' : Mark) (remembers : Memories) (s : Seen) (remembers' : Memories) (s' : Seen) : Type 0 where
+pub record IsNextSpawn (plan : Plan) (m : Moment) (layer n : ℕ) (spawn_result spawn_result' : SpawnResult) (remembers : Memories) (s : Seen) (remembers' : Memories) (s' : Seen) : Type 0 where
   pub at : IsAt plan (spawn_stage (length plan.spec.streams) layer (n + 1)) s'
   pub goes_on : GoesOn s s'
   pub takes : TakesTo plan m (spawn_stage (length plan.spec.streams) layer n) (spawn_stage (length plan.spec.streams) layer (n + 1)) remembers s remembers' s'
-  pub marks : MarksNext plan m (spawn_stage (length plan.spec.streams) layer n) (spawn_stage (length plan.spec.streams) layer (n + 1)) n mark mark' remembers s
+  pub spawn_results : SpawnResultsNext plan m (spawn_stage (length plan.spec.streams) layer n) (spawn_stage (length plan.spec.streams) layer (n + 1)) n spawn_result spawn_result' remembers s

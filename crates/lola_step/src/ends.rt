@@ -16,9 +16,9 @@ ghost use Rattle.lola_step.specs.Tasks.{params_given};
 ghost use Rattle.lola_step.specs.declared.schedule.Turn.TheVariants as turn;
 ghost use Rattle.lola_step.specs.declared.tasks.Task.{Task};
 
-use crate::mark::Mark;
 use crate::schedule::{has_clause, stream_at};
 use crate::scratch::Span;
+use crate::spawn_result::SpawnResult;
 use crate::tasks::{Task, no_parameters};
 use crate::verdict::Verdict;
 use lola_model::journal::Show;
@@ -60,11 +60,11 @@ fn least_fault(results: &[Brief]) -> Option<FaultKind>
 }
 
 /// The fault of a stream: that of its spawn clause, or else the least of its instances'.
-fn stream_fault(mark: Mark, results: &[Brief]) -> Option<FaultKind>
-    ensures { result ≡ fault_of mark results.now }
+fn stream_fault(spawn_result: SpawnResult, results: &[Brief]) -> Option<FaultKind>
+    ensures { result ≡ fault_of spawn_result results.now }
 {
-    match mark {
-        Mark::Failed(kind) => Some(kind),
+    match spawn_result {
+        SpawnResult::Failed(kind) => Some(kind),
         _ => least_fault(results),
     }
 }
@@ -90,18 +90,18 @@ fn tasks_of(tasks: &[Task], span: Span) -> &[Task]
 /// The first stream of which a spawn clause or an instance has a fault, with the fault's kind.
 fn first_fault(
     plan: &Plan,
-    marks: &[Mark],
+    spawn_results: &[SpawnResult],
     spans: &[Span],
     results: &[Brief],
 ) -> Option<(u32, FaultKind)>
     requires accepted { IsAccepted plan.now }
-    requires marks { length marks.now ≡ length plan.now.spec.streams }
+    requires spawn_results { length spawn_results.now ≡ length plan.now.spec.streams }
     requires spans { length spans.now ≡ length plan.now.spec.streams }
     requires within { AreWithin results.now spans.now }
-    ensures { (tasks : List Task) → FindsFault plan.now marks.now spans.now tasks results.now result }
+    ensures { (tasks : List Task) → FindsFault plan.now spawn_results.now spans.now tasks results.now result }
 {
-    for (n, mark) in marks.iter().enumerate() {
-        if let Some(kind) = stream_fault(*mark, outcomes_of(results, spans[n])) {
+    for (n, spawn_result) in spawn_results.iter().enumerate() {
+        if let Some(kind) = stream_fault(*spawn_result, outcomes_of(results, spans[n])) {
             return Some((n as u32, kind));
         }
     }
@@ -112,19 +112,19 @@ fn first_fault(
 pub(crate) fn fault_of_step(
     plan: &Plan,
     is_faulty: bool,
-    marks: &[Mark],
+    spawn_results: &[SpawnResult],
     spans: &[Span],
     results: &[Brief],
 ) -> Option<(u32, FaultKind)>
     requires accepted { IsAccepted plan.now }
-    requires faultless { is_faulty ≡ false → IsFaultless marks.now results.now }
-    requires marks { length marks.now ≡ length plan.now.spec.streams }
+    requires faultless { is_faulty ≡ false → IsFaultless spawn_results.now results.now }
+    requires spawn_results { length spawn_results.now ≡ length plan.now.spec.streams }
     requires spans { length spans.now ≡ length plan.now.spec.streams }
     requires within { AreWithin results.now spans.now }
-    ensures { (tasks : List Task) → FindsFault plan.now marks.now spans.now tasks results.now result }
+    ensures { (tasks : List Task) → FindsFault plan.now spawn_results.now spans.now tasks results.now result }
 {
     if is_faulty {
-        first_fault(plan, marks, spans, results)
+        first_fault(plan, spawn_results, spans, results)
     } else {
         None
     }

@@ -18,7 +18,7 @@ ghost use Rattle.lola_step_law.specs.Stages.{eval_stage, layer_stage};
 ghost use Rattle.lola_step.specs.Evals.{EvalsTake, HasRooms, IsReadyFor, ShowsMore};
 ghost use Rattle.lola_step.specs.Found.{has_fault, is_fault};
 ghost use Rattle.lola_step.specs.Given.{AreAnswered, AreHeldIn, AreResults, CanGive, CanGiveAll, after_all, after_giving, told_outcomes};
-ghost use Rattle.lola_step.specs.Notes.{is_fine as is_fine_mark, layer_spans, layer_tasks, places_asked, places_from, places_paced, runs_in, sought_at, stream_tasks, tasks_at};
+ghost use Rattle.lola_step.specs.Notes.{is_fine as is_fine_spawn_result, layer_spans, layer_tasks, places_asked, places_from, places_paced, runs_in, sought_at, stream_tasks, tasks_at};
 ghost use Rattle.lola_step.specs.Progress.{GoesOn, IsAt, IsMomentOf, IsOf};
 ghost use Rattle.lola_step.specs.Rooms.{rooms, to_come, total};
 ghost use Rattle.lola_step.specs.Rates.{IsKnownAt};
@@ -28,11 +28,11 @@ ghost use Rattle.lola_step.specs.Tasks.{AreTasks};
 ghost use Rattle.lola_step.specs.declared.schedule.Turn.TheVariants as turn;
 
 use crate::giving::give_shared;
-use crate::mark::Mark;
 use crate::moment::{LastRate, Moment, may_be_active, may_be_active_now};
 use crate::schedule::{has_clause, stream_at};
 use crate::scratch::Span;
 use crate::seek::seek;
+use crate::spawn_result::SpawnResult;
 use crate::tasks::{Task, eval_pacing_at, run_tasks, task_outcome};
 use lola_expr_code::plan::PlanCode;
 use lola_model::pacing::Pacing;
@@ -46,38 +46,45 @@ use lola_workers::Share;
 use std::thread::Threads;
 
 /// Whether a spawn clause did not fail.
-fn is_fine(mark: Mark) -> bool
-    ensures { result ≡ is_fine_mark (Some mark) }
+fn is_fine(spawn_result: SpawnResult) -> bool
+    ensures { result ≡ is_fine_spawn_result (Some spawn_result) }
 {
-    match mark {
-        Mark::Fine => true,
+    match spawn_result {
+        SpawnResult::Fine => true,
         _ => false,
     }
 }
 
 /// Whether a stream that has a turn in a layer runs in it: its clause may be active for some of its instances and its spawn clause did
 /// not fail.
-fn runs(plan: &Plan, moment: &Moment, marks: &[Mark], n: usize) -> bool
+fn runs(plan: &Plan, moment: &Moment, spawn_results: &[SpawnResult], n: usize) -> bool
     requires pacings { n < length plan.now.pacings }
-    requires marks { n < length marks.now }
+    requires spawn_results { n < length spawn_results.now }
     requires in_time { moment.now.time ≤ latest }
     requires order { moment.now.start ≤ moment.now.time }
-    ensures { (layer : ℕ) (stream : Stream) → has_turn plan.now (turn.Eval layer) n stream ≡ true → result ≡ runs_in plan.now moment.now marks.now layer n stream }
+    ensures { (layer : ℕ) (stream : Stream) → has_turn plan.now (turn.Eval layer) n stream ≡ true → result ≡ runs_in plan.now moment.now spawn_results.now layer n stream }
 {
-    may_be_active(moment, eval_pacing_at(plan.pacings.as_slice(), n)) && is_fine(marks[n])
+    may_be_active(moment, eval_pacing_at(plan.pacings.as_slice(), n)) && is_fine(spawn_results[n])
 }
 
 /// The same, where the rate that was asked about last is known.
-fn runs_now(plan: &Plan, moment: &Moment, marks: &[Mark], n: usize, last: &mut LastRate) -> bool
+fn runs_now(
+    plan: &Plan,
+    moment: &Moment,
+    spawn_results: &[SpawnResult],
+    n: usize,
+    last: &mut LastRate,
+) -> bool
     requires pacings { n < length plan.now.pacings }
-    requires marks { n < length marks.now }
+    requires spawn_results { n < length spawn_results.now }
     requires in_time { moment.now.time ≤ latest }
     requires order { moment.now.start ≤ moment.now.time }
     requires known { IsKnownAt moment.now last.old }
     ensures known { IsKnownAt moment.now last.new }
-    ensures runs { (layer : ℕ) (stream : Stream) → has_turn plan.now (turn.Eval layer) n stream ≡ true → result ≡ runs_in plan.now moment.now marks.now layer n stream }
+    ensures runs { (layer : ℕ) (stream : Stream) → has_turn plan.now (turn.Eval layer) n stream ≡ true → result ≡ runs_in plan.now moment.now spawn_results.now layer n stream }
 {
-    may_be_active_now(moment, eval_pacing_at(plan.pacings.as_slice(), n), last) && is_fine(marks[n])
+    may_be_active_now(moment, eval_pacing_at(plan.pacings.as_slice(), n), last)
+        && is_fine(spawn_results[n])
 }
 
 /// Where the one instance of stream `n` stands that its eval clause is to be asked for, if the stream runs in a layer and the clause is
@@ -87,7 +94,7 @@ fn seek_stream<S: StreamStore>(
     moment: &Moment,
     store: &S,
     layer: u32,
-    marks: &[Mark],
+    spawn_results: &[SpawnResult],
     n: usize,
     stream: &Stream,
 ) -> Whereabouts
@@ -96,15 +103,15 @@ fn seek_stream<S: StreamStore>(
     requires accepted { IsAccepted plan.now }
     requires at { IsAt plan.now (eval_stage (length plan.now.spec.streams) layer) (S.seen store.now) }
     requires moment { IsMomentOf moment.now (S.seen store.now) }
-    requires marks { length marks.now ≡ length plan.now.spec.streams }
+    requires spawn_results { length spawn_results.now ≡ length plan.now.spec.streams }
     requires there { slice_get plan.now.spec.streams n ≡ Some stream.now }
-    ensures { runs_in plan.now moment.now marks.now layer n stream.now ≡ true
+    ensures { runs_in plan.now moment.now spawn_results.now layer n stream.now ≡ true
         → IsSilentElsewhere plan.now moment.now (S.remembers store.now) (S.seen store.now) n result }
 {
     let Some(clause) = &stream.eval else {
         return Whereabouts::Unknown;
     };
-    if !runs(plan, moment, marks, n) {
+    if !runs(plan, moment, spawn_results, n) {
         return Whereabouts::Unknown;
     }
     match eval_pacing_at(plan.pacings.as_slice(), n) {
@@ -121,23 +128,23 @@ fn seek_layer<S: StreamStore>(
     moment: &Moment,
     store: &S,
     layer: u32,
-    marks: &[Mark],
+    spawn_results: &[SpawnResult],
     sought: &mut [Whereabouts],
 )
     requires turns { turns.now ≡ turns_of plan.now (turn.Seek layer) }
     requires accepted { IsAccepted plan.now }
     requires at { IsAt plan.now (eval_stage (length plan.now.spec.streams) layer) (S.seen store.now) }
     requires moment { IsMomentOf moment.now (S.seen store.now) }
-    requires marks { length marks.now ≡ length plan.now.spec.streams }
+    requires spawn_results { length spawn_results.now ≡ length plan.now.spec.streams }
     requires sought { length sought.old ≡ length plan.now.spec.streams }
     requires unsought { AreUnsought plan.now sought.old }
     ensures unsought { AreUnsought plan.now sought.new }
-    ensures sought { AreSought plan.now moment.now marks.now sought.new (S.remembers store.now) (S.seen store.now) layer }
+    ensures sought { AreSought plan.now moment.now spawn_results.now sought.new (S.remembers store.now) (S.seen store.now) layer }
 {
     for number in turns {
         let n = *number as usize;
         let stream = stream_at(plan, *number);
-        sought[n] = seek_stream(plan, moment, store, layer, marks, n, stream);
+        sought[n] = seek_stream(plan, moment, store, layer, spawn_results, n, stream);
     }
 }
 
@@ -268,7 +275,7 @@ fn gather_stream<S: StreamStore>(
     moment: &Moment,
     store: &S,
     layer: u32,
-    marks: &[Mark],
+    spawn_results: &[SpawnResult],
     sought: &[Whereabouts],
     n: usize,
     stream: &Stream,
@@ -280,7 +287,7 @@ fn gather_stream<S: StreamStore>(
     requires few { n ≤ 1024 }
     requires turn { has_turn plan.now (turn.Eval layer) n stream.now ≡ true }
     requires pacings { n < length plan.now.pacings }
-    requires marks { n < length marks.now }
+    requires spawn_results { n < length spawn_results.now }
     requires in_time { moment.now.time ≤ latest }
     requires order { moment.now.start ≤ moment.now.time }
     requires single { has_clause_of stream.now.spawn ≡ false → (is_local (eval_pacing (slice_get plan.now.pacings n)) ≡ false) × (length (instances_seen (S.seen store.now) n) ≡ 1) }
@@ -288,15 +295,15 @@ fn gather_stream<S: StreamStore>(
     requires known { IsKnownAt moment.now last.old }
     requires store { n < length (S.seen store.now).layout.streams }
     requires places_room { length (instances_seen (S.seen store.now) n) ≤ vec_capacity places.old }
-    requires tasks_room { vec_len tasks.old + length (stream_tasks plan.now moment.now marks.now sought.now (S.seen store.now) layer n stream.now) ≤ vec_capacity tasks.old }
+    requires tasks_room { vec_len tasks.old + length (stream_tasks plan.now moment.now spawn_results.now sought.now (S.seen store.now) layer n stream.now) ≤ vec_capacity tasks.old }
     ensures known { IsKnownAt moment.now last.new }
-    ensures tasks { tasks.new.items ≡ tasks.old.items ++ stream_tasks plan.now moment.now marks.now sought.now (S.seen store.now) layer n stream.now }
-    ensures spans { spans.new ≡ (if runs_in plan.now moment.now marks.now layer n stream.now
-        then slice_set spans.old n (record { from = vec_len tasks.old; count = length (stream_tasks plan.now moment.now marks.now sought.now (S.seen store.now) layer n stream.now) }) else spans.old) }
+    ensures tasks { tasks.new.items ≡ tasks.old.items ++ stream_tasks plan.now moment.now spawn_results.now sought.now (S.seen store.now) layer n stream.now }
+    ensures spans { spans.new ≡ (if runs_in plan.now moment.now spawn_results.now layer n stream.now
+        then slice_set spans.old n (record { from = vec_len tasks.old; count = length (stream_tasks plan.now moment.now spawn_results.now sought.now (S.seen store.now) layer n stream.now) }) else spans.old) }
     ensures places { vec_capacity places.new ≡ vec_capacity places.old }
     ensures capacity { vec_capacity tasks.new ≡ vec_capacity tasks.old }
 {
-    if runs_now(plan, moment, marks, n, last) {
+    if runs_now(plan, moment, spawn_results, n, last) {
         let from = tasks.len();
         let pacing = eval_pacing_at(plan.pacings.as_slice(), n);
         let whereabouts = sought_of(sought, n);
@@ -325,7 +332,7 @@ fn gather<S: StreamStore>(
     moment: &Moment,
     store: &S,
     layer: u32,
-    marks: &[Mark],
+    spawn_results: &[SpawnResult],
     sought: &[Whereabouts],
     places: &mut Vec<u32>,
     tasks: &mut Vec<Task>,
@@ -337,13 +344,13 @@ fn gather<S: StreamStore>(
     requires of { IsOf plan.now (S.seen store.now) }
     requires moment { IsMomentOf moment.now (S.seen store.now) }
     requires known { IsKnownAt moment.now last.old }
-    requires marks { length marks.now ≡ length plan.now.spec.streams }
+    requires spawn_results { length spawn_results.now ≡ length plan.now.spec.streams }
     requires spans { length spans.old ≡ length plan.now.spec.streams }
     requires places_room { total (rooms (S.seen store.now)) ≤ vec_capacity places.old }
     requires tasks_room { vec_len tasks.old + to_come plan.now.layers (eval_stage (length plan.now.spec.streams) layer) 0 plan.now.spec.streams (rooms (S.seen store.now)) ≤ vec_capacity tasks.old }
     ensures known { IsKnownAt moment.now last.new }
-    ensures tasks { tasks.new.items ≡ tasks.old.items ++ layer_tasks plan.now moment.now marks.now sought.now (S.seen store.now) layer 0 plan.now.spec.streams }
-    ensures spans { spans.new ≡ layer_spans plan.now moment.now marks.now sought.now (S.seen store.now) layer (length tasks.old.items) 0 plan.now.spec.streams spans.old }
+    ensures tasks { tasks.new.items ≡ tasks.old.items ++ layer_tasks plan.now moment.now spawn_results.now sought.now (S.seen store.now) layer 0 plan.now.spec.streams }
+    ensures spans { spans.new ≡ layer_spans plan.now moment.now spawn_results.now sought.now (S.seen store.now) layer (length tasks.old.items) 0 plan.now.spec.streams spans.old }
     ensures places { vec_capacity places.new ≡ vec_capacity places.old }
     ensures capacity { vec_capacity tasks.new ≡ vec_capacity tasks.old }
 {
@@ -354,7 +361,7 @@ fn gather<S: StreamStore>(
             moment,
             store,
             layer,
-            marks,
+            spawn_results,
             sought,
             n,
             stream_at(plan, *number),
@@ -554,7 +561,7 @@ pub(crate) fn eval_layer<R: Threads + Sync, S: StreamStore + Sync, G: Gate + Syn
     none: &Params,
     store: &mut S,
     layer: u32,
-    marks: &[Mark],
+    spawn_results: &[SpawnResult],
     places: &mut Vec<u32>,
     tasks: &mut Vec<Task>,
     shares: &mut [Share],
@@ -574,7 +581,7 @@ pub(crate) fn eval_layer<R: Threads + Sync, S: StreamStore + Sync, G: Gate + Syn
     requires at { IsAt plan.now (eval_stage (length plan.now.spec.streams) layer) (S.seen store.old) }
     requires moment { IsMomentOf moment.now (S.seen store.old) }
     requires known { IsKnownAt moment.now last.old }
-    requires marks { length marks.now ≡ length plan.now.spec.streams }
+    requires spawn_results { length spawn_results.now ≡ length plan.now.spec.streams }
     requires rooms { HasRooms plan.now (eval_stage (length plan.now.spec.streams) layer) (S.seen store.old) places.old tasks.old results.old }
     requires sought { length sought.old ≡ length plan.now.spec.streams }
     requires unsought { AreUnsought plan.now sought.old }
@@ -587,15 +594,25 @@ pub(crate) fn eval_layer<R: Threads + Sync, S: StreamStore + Sync, G: Gate + Syn
     ensures places { vec_capacity places.new ≡ vec_capacity places.old }
     ensures capacities { (vec_capacity tasks.new ≡ vec_capacity tasks.old) × (vec_capacity results.new ≡ vec_capacity results.old) }
     ensures unsought { AreUnsought plan.now sought.new }
-    ensures takes { EvalsTake plan.now moment.now layer marks.now (S.remembers store.old) (S.seen store.old) (S.remembers store.new) (S.seen store.new) }
-    ensures shows { ShowsMore plan.now moment.now layer marks.now (S.remembers store.old) (S.seen store.old) spans.old tasks.old.items results.old.items spans.new tasks.new.items results.new.items }
+    ensures takes { EvalsTake plan.now moment.now layer spawn_results.now (S.remembers store.old) (S.seen store.old) (S.remembers store.new) (S.seen store.new) }
+    ensures shows { ShowsMore plan.now moment.now layer spawn_results.now (S.remembers store.old) (S.seen store.old) spans.old tasks.old.items results.old.items spans.new tasks.new.items results.new.items }
     ensures faultless { result ≡ false → has_fault results.old.items ≡ false → has_fault results.new.items ≡ false }
 {
     let from = tasks.len();
     let done = results.len();
-    seek_layer(plan, seeks, moment, store, layer, marks, sought);
+    seek_layer(plan, seeks, moment, store, layer, spawn_results, sought);
     gather(
-        plan, turns, moment, store, layer, marks, sought, places, tasks, spans, last,
+        plan,
+        turns,
+        moment,
+        store,
+        layer,
+        spawn_results,
+        sought,
+        places,
+        tasks,
+        spans,
+        last,
     );
     let sharers = sharers_of(workers, tasks.len() - from, is_first);
     answer_tasks(

@@ -7,11 +7,11 @@ ghost use Rattle.lola_model.specs.Graph.{layer_of};
 ghost use Rattle.lola_step.specs.Progress.{IsOf};
 ghost use Rattle.lola_step.specs.Scratches.{HasRoom, IsFresh, IsScratchOf, instances_to_come, no_span};
 ghost use Rattle.lola_step.specs.Schedules.{turns_of};
-ghost use Rattle.lola_step.specs.declared.mark.Mark.TheVariants as mark;
+ghost use Rattle.lola_step.specs.declared.spawn_result.SpawnResult.TheVariants as spawn_result;
 ghost use Rattle.lola_step.specs.declared.schedule.Turn.TheVariants as turn;
 
-use crate::mark::Mark;
 use crate::schedule::Schedule;
+use crate::spawn_result::SpawnResult;
 use crate::tasks::Task;
 use crate::verdict::Verdict;
 use lola_expr_code::plan::PlanCode;
@@ -36,7 +36,7 @@ pub struct Span {
 /// their outcomes, which instances are closed, and the values.
 #[derive(Drop)]
 pub struct Scratch {
-    pub(crate) marks: Vec<Mark>,
+    pub(crate) spawn_results: Vec<SpawnResult>,
     pub(crate) spans: Vec<Span>,
     // where the instances stand that are to be asked
     pub(crate) sought: Vec<Whereabouts>,
@@ -118,13 +118,13 @@ impl Scratch {
     {
         let count = plan.spec.streams.as_slice().len();
         let room = 2 * count;
-        let marks = vec![in alloc; Mark::Fine; count]?;
+        let spawn_results = vec![in alloc; SpawnResult::Fine; count]?;
         let spans = vec![in alloc; Span { from: 0, count: 0 }; count]?;
         let sought = vec![in alloc; Whereabouts::Unknown; count]?;
         let layers = layer_count(plan.layers.as_slice());
         let schedule = Schedule::create(alloc, plan, layers)?;
         Ok(Scratch {
-            marks,
+            spawn_results,
             spans,
             sought,
             places: Vec::with_capacity(alloc, room)?,
@@ -163,7 +163,7 @@ pub(crate) fn make_room<S: StreamStore>(
     ensures enough { HasRoom scratch.old (instances_to_come (S.seen store.now)) → IsOk result }
 {
     let room = instances_in_step(plan, scratch.schedule.births.as_slice(), store);
-    forget_marks(&mut scratch.marks);
+    forget_spawn_results(&mut scratch.spawn_results);
     forget_spans(&mut scratch.spans);
     clear_for(&mut scratch.places, room)?;
     clear_for(&mut scratch.tasks, room)?;
@@ -187,11 +187,11 @@ fn clear_for<T: Drop>(list: &mut Vec<T>, room: usize) -> Result<(), Memory>
     }
 }
 
-fn forget_marks(marks: &mut [Mark])
-    ensures { marks.new ≡ replicate (length marks.old) mark.Fine }
+fn forget_spawn_results(spawn_results: &mut [SpawnResult])
+    ensures { spawn_results.new ≡ replicate (length spawn_results.old) spawn_result.Fine }
 {
-    for mark in marks.iter_mut() {
-        *mark = Mark::Fine;
+    for spawn_result in spawn_results.iter_mut() {
+        *spawn_result = SpawnResult::Fine;
     }
 }
 

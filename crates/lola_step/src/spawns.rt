@@ -8,7 +8,7 @@ ghost use Rattle.lola_model.specs.Model.{spawn_pacing};
 ghost use Rattle.lola_model.specs.Table.{Step, TableRow};
 ghost use Rattle.lola_step_law.specs.Stages.{eval_stage, full_row, layer_stage, spawn_stage};
 ghost use Rattle.lola_step.specs.Found.{NoneFailed, is_failed};
-ghost use Rattle.lola_step.specs.Notes.{AreMarks};
+ghost use Rattle.lola_step.specs.Notes.{AreSpawnResults};
 ghost use Rattle.lola_step.specs.Progress.{GoesOn, IsAt, IsMomentOf, IsRunAt, TakesTo};
 ghost use Rattle.lola_step.specs.Schedules.{turns_of};
 ghost use Rattle.lola_step.specs.Spawns.{IsAfterClause, IsFor, IsNextSpawn, IsTaken, MaySpawn};
@@ -16,9 +16,9 @@ ghost use Rattle.lola_step.specs.declared.clauses.Spawning.TheVariants as spawni
 ghost use Rattle.lola_step.specs.declared.schedule.Turn.TheVariants as turn;
 
 use crate::clauses::{Spawning, spawning_of};
-use crate::mark::Mark;
 use crate::moment::{Moment, is_active};
 use crate::schedule::stream_at;
+use crate::spawn_result::SpawnResult;
 use lola_model::pacing::{ClausePacings, Pacing};
 use lola_model::plan::Plan;
 use lola_model::spec::Stream;
@@ -45,44 +45,44 @@ fn spawn_pacing_at(pacings: &[ClausePacings], n: usize) -> &Option<Pacing>
 }
 
 /// Spawns the instance that a spawn clause asks for. Where there is no room for it, the stream is poisoned.
-fn take_named<S: StreamStore>(store: &mut S, stream: u32, params: Params) -> Mark
+fn take_named<S: StreamStore>(store: &mut S, stream: u32, params: Params) -> SpawnResult
     requires may { MaySpawn (S.seen store.old) stream }
     requires fits { IsFor (S.seen store.old) stream (spawning.Named params) }
     ensures seen { IsAfterClause (S.seen store.old) stream (S.seen store.new) }
     ensures taken { IsTaken (spawning.Named params) stream result (S.remembers store.old) (S.seen store.old) (S.remembers store.new) (S.seen store.new) }
 {
     match spawn(store, stream, params) {
-        SpawnEnd::Born => Mark::Fine,
-        SpawnEnd::Living => Mark::Fine,
+        SpawnEnd::Born => SpawnResult::Fine,
+        SpawnEnd::Living => SpawnResult::Fine,
         SpawnEnd::TooMany => {
             poison_stream(store, stream);
-            Mark::Failed(FaultKind::TooManyInstances)
+            SpawnResult::Failed(FaultKind::TooManyInstances)
         }
     }
 }
 
 /// What becomes of what a spawn clause asks for.
-fn take<S: StreamStore>(store: &mut S, stream: u32, asked: Spawning) -> Mark
+fn take<S: StreamStore>(store: &mut S, stream: u32, asked: Spawning) -> SpawnResult
     requires may { MaySpawn (S.seen store.old) stream }
     requires fits { IsFor (S.seen store.old) stream asked }
     ensures seen { IsAfterClause (S.seen store.old) stream (S.seen store.new) }
     ensures taken { IsTaken asked stream result (S.remembers store.old) (S.seen store.old) (S.remembers store.new) (S.seen store.new) }
 {
     match asked {
-        Spawning::Idle => Mark::Fine,
+        Spawning::Idle => SpawnResult::Fine,
         Spawning::Named(params) => take_named(store, stream, params),
         Spawning::Fault(kind) => {
             poison_stream(store, stream);
-            Mark::Failed(kind)
+            SpawnResult::Failed(kind)
         }
         Spawning::Poison => {
             poison_stream(store, stream);
-            Mark::Poisoned
+            SpawnResult::Poisoned
         }
     }
 }
 
-/// Runs the spawn clause of stream `n` where it is of this layer and active; what it did is the stream's mark then.
+/// Runs the spawn clause of stream `n` where it is of this layer and active; what it did is the stream's spawn result then.
 fn spawn_stream<S: StreamStore>(
     plan: &Plan,
     moment: &Moment,
@@ -90,41 +90,41 @@ fn spawn_stream<S: StreamStore>(
     layer: u32,
     n: usize,
     stream: &Stream,
-    mark: Mark,
-) -> Mark
+    spawn_result: SpawnResult,
+) -> SpawnResult
     requires accepted { IsAccepted plan.now }
     requires at { IsAt plan.now (spawn_stage (length plan.now.spec.streams) layer n) (S.seen store.old) }
     requires moment { IsMomentOf moment.now (S.seen store.old) }
     requires stream { slice_get plan.now.spec.streams n ≡ Some stream.now }
-    ensures { IsNextSpawn plan.now moment.now layer n mark result (S.remembers store.old) (S.seen store.old) (S.remembers store.new) (S.seen store.new) }
+    ensures { IsNextSpawn plan.now moment.now layer n spawn_result result (S.remembers store.old) (S.seen store.old) (S.remembers store.new) (S.seen store.new) }
 {
     if layer_at(plan.layers.as_slice(), 2 * n + 1) != layer {
-        return mark;
+        return spawn_result;
     }
     match &stream.spawn {
-        None => mark,
+        None => spawn_result,
         Some(clause) => {
             if is_active(moment, spawn_pacing_at(plan.pacings.as_slice(), n)) {
                 let asked = spawning_of(plan, stream, clause, store);
                 take(store, n as u32, asked)
             } else {
-                mark
+                spawn_result
             }
         }
     }
 }
 
 /// Whether a spawn clause failed so far, or this one did.
-fn or_failed(failed: bool, mark: Mark) -> bool
-    ensures { result ≡ (is_failed mark || failed) }
+fn or_failed(failed: bool, spawn_result: SpawnResult) -> bool
+    ensures { result ≡ (is_failed spawn_result || failed) }
 {
-    match mark {
-        Mark::Failed(_) => true,
+    match spawn_result {
+        SpawnResult::Failed(_) => true,
         _ => failed,
     }
 }
 
-/// Runs the spawn clauses of a layer that are active, by the streams' numbers, and marks what they did. The streams whose spawn clause
+/// Runs the spawn clauses of a layer that are active, by the streams' numbers, and notes what they did. The streams whose spawn clause
 /// belongs to the layer are told. Answers whether one of them failed.
 pub(crate) fn spawn_layer<S: StreamStore>(
     plan: &Plan,
@@ -132,30 +132,30 @@ pub(crate) fn spawn_layer<S: StreamStore>(
     moment: &Moment,
     store: &mut S,
     layer: u32,
-    marks: &mut [Mark],
+    spawn_results: &mut [SpawnResult],
 ) -> bool
     requires turns { turns.now ≡ turns_of plan.now (turn.Spawn layer) }
     requires accepted { IsAccepted plan.now }
     requires at { IsAt plan.now (layer_stage (length plan.now.spec.streams) layer) (S.seen store.old) }
     requires moment { IsMomentOf moment.now (S.seen store.old) }
-    requires marks { length marks.old ≡ length plan.now.spec.streams }
+    requires spawn_results { length spawn_results.old ≡ length plan.now.spec.streams }
     ensures at { IsAt plan.now (eval_stage (length plan.now.spec.streams) layer) (S.seen store.new) }
     ensures goes_on { GoesOn (S.seen store.old) (S.seen store.new) }
     ensures takes { TakesTo plan.now moment.now (layer_stage (length plan.now.spec.streams) layer) (eval_stage (length plan.now.spec.streams) layer)
         (S.remembers store.old) (S.seen store.old) (S.remembers store.new) (S.seen store.new) }
-    ensures marked { (names : Naming) (rows : List TableRow) (step : Step)
+    ensures with_spawn_results { (names : Naming) (rows : List TableRow) (step : Step)
         → IsRunAt plan.now moment.now (layer_stage (length plan.now.spec.streams) layer) (S.remembers store.old) (S.seen store.old) names rows step
-        → AreMarks plan.now (full_row plan.now moment.now.start rows step).streams (layer_stage (length plan.now.spec.streams) layer) marks.old
-        → AreMarks plan.now (full_row plan.now moment.now.start rows step).streams (eval_stage (length plan.now.spec.streams) layer) marks.new }
-    ensures fine { result ≡ false → NoneFailed marks.old → NoneFailed marks.new }
+        → AreSpawnResults plan.now (full_row plan.now moment.now.start rows step).streams (layer_stage (length plan.now.spec.streams) layer) spawn_results.old
+        → AreSpawnResults plan.now (full_row plan.now moment.now.start rows step).streams (eval_stage (length plan.now.spec.streams) layer) spawn_results.new }
+    ensures fine { result ≡ false → NoneFailed spawn_results.old → NoneFailed spawn_results.new }
 {
     let mut failed = false;
     for number in turns {
         let n = *number as usize;
         let stream = stream_at(plan, *number);
-        let mark = spawn_stream(plan, moment, store, layer, n, stream, marks[n]);
-        failed = or_failed(failed, mark);
-        marks[n] = mark;
+        let spawn_result = spawn_stream(plan, moment, store, layer, n, stream, spawn_results[n]);
+        failed = or_failed(failed, spawn_result);
+        spawn_results[n] = spawn_result;
     }
     failed
 }

@@ -90,7 +90,7 @@ fn evaluate<R: Threads + Sync, S: StreamStore + Sync, G: Gate + Sync>(
     ensures each { length scratch.new.tasks.items ≡ length scratch.new.results.items }
     ensures places { vec_capacity scratch.new.places ≡ vec_capacity scratch.old.places }
     ensures kept { (scratch.new.closing ≡ scratch.old.closing) × (scratch.new.verdicts ≡ scratch.old.verdicts) }
-    ensures faultless { scratch.new.is_faulty ≡ false → IsFaultless scratch.new.marks.items scratch.new.results.items }
+    ensures faultless { scratch.new.is_faulty ≡ false → IsFaultless scratch.new.spawn_results.items scratch.new.results.items }
     ensures evaluates { EvaluatesAll plan.now moment.now (S.remembers store.old) (S.seen store.old) (S.remembers store.new) (S.seen store.new) scratch.new }
 {
     let mut faulty = false;
@@ -102,7 +102,7 @@ fn evaluate<R: Threads + Sync, S: StreamStore + Sync, G: Gate + Sync>(
             moment,
             store,
             layer as u32,
-            &mut scratch.marks,
+            &mut scratch.spawn_results,
         );
         let given = eval_layer(
             rt,
@@ -115,7 +115,7 @@ fn evaluate<R: Threads + Sync, S: StreamStore + Sync, G: Gate + Sync>(
             none,
             store,
             layer as u32,
-            &scratch.marks,
+            &scratch.spawn_results,
             &mut scratch.places,
             &mut scratch.tasks,
             &mut scratch.shares,
@@ -147,7 +147,7 @@ fn conclude<S: StreamStore>(
     requires made { IsScratchOf plan.now scratch.old }
     requires each { length scratch.old.tasks.items ≡ length scratch.old.results.items }
     requires within { AreSpans (S.seen store.old) scratch.old.tasks.items scratch.old.results.items scratch.old.spans.items }
-    requires faultless { scratch.old.is_faulty ≡ false → IsFaultless scratch.old.marks.items scratch.old.results.items }
+    requires faultless { scratch.old.is_faulty ≡ false → IsFaultless scratch.old.spawn_results.items scratch.old.results.items }
     requires none { (scratch.old.closing.items ≡ []) × (scratch.old.verdicts.items ≡ []) }
     requires places_room { total (rooms (S.seen store.old)) ≤ vec_capacity scratch.old.places }
     requires closing_room { total (rooms (S.seen store.old)) ≤ vec_capacity scratch.old.closing }
@@ -155,13 +155,13 @@ fn conclude<S: StreamStore>(
     ensures made { IsScratchOf plan.now scratch.new }
     ensures verdicts { result ≡ end.Done → AreVerdicts plan.now scratch.new.verdicts.items }
     ensures seen { ShowsConcluded result plan.now (S.seen store.old) (S.seen store.new) }
-    ensures concludes { Concludes plan.now show moment.now scratch.old.marks.items scratch.old.spans.items scratch.old.tasks.items scratch.old.results.items (S.remembers store.old) (S.seen store.old)
+    ensures concludes { Concludes plan.now show moment.now scratch.old.spawn_results.items scratch.old.spans.items scratch.old.tasks.items scratch.old.results.items (S.remembers store.old) (S.seen store.old)
         result (S.remembers store.new) (S.seen store.new) scratch.new.verdicts.items }
 {
     if let Some((stream, kind)) = fault_of_step(
         plan,
         scratch.is_faulty,
-        &scratch.marks,
+        &scratch.spawn_results,
         &scratch.spans,
         &scratch.results,
     ) {

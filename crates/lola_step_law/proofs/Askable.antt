@@ -85,8 +85,8 @@ module _ (plan : Plan) (s : Seen) where
     part_named (Read place n how args) k = refl
     part_named (Window place n args) k = refl
     part_named (Defaults' place u a v b) k = refl
-    part_named (Unary' place sign u a) k = refl
-    part_named (Both' place sign u a v b) k = refl
+    part_named (Unary' place operator u a) k = refl
+    part_named (Both' place operator u a v b) k = refl
     part_named (Choice' place u a v b w d) k = refl
 
 module _ (plan : Plan) (s : Seen) (accepted : IsAccepted plan) (layout : s.layout ≡ layout_of plan) (ks : List Kind) where
@@ -122,8 +122,8 @@ module _ (plan : Plan) (s : Seen) (accepted : IsAccepted plan) (layout : s.layou
       subst (λ (l : Layout). (target_few l.streams (slice_get l.windows i) && is_whole_pane s (pane_of (slice_get l.panes i))) ≡ true) (sym layout)
       (k Windows i (Contains-here i []))
   part_ready (Defaults' place u a v b) h k = refl
-  part_ready (Unary' place sign u a) h k = refl
-  part_ready (Both' place sign u a v b) h k = refl
+  part_ready (Unary' place operator u a) h k = refl
+  part_ready (Both' place operator u a v b) h k = refl
   part_ready (Choice' place u a v b w d) h k = refl
 
 module _ (plan : Plan) (start : ℕ) (step : Step) (s : Seen) (accepted : IsAccepted plan) (at : IsAtStep plan start step s) where

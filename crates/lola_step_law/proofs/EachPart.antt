@@ -43,14 +43,14 @@ module _ (I : Type 0) (g : I → Expr → List ℕ) (Q : I → ℕ → Type 0) w
           (λ i. g i (Defaults' place u a v b)) (λ i. listed (g i) a ++ listed (g i) b)
           (λ q l. t (Defaults' place u a v b) q l)
           (λ q l. pair (each_part f a) (each_part f b) (each_part h a) (each_part h b) (λ i. listed (g i) a) (λ i. listed (g i) b) (λ r m. each_where a r m) (λ r m. each_where b r m) q l) p k
-      each_where (Unary' place sign u a) p k =
-          pair (f (Unary' place sign u a)) (each_part f a) (h (Unary' place sign u a)) (each_part h a)
-          (λ i. g i (Unary' place sign u a)) (λ i. listed (g i) a)
-          (λ q l. t (Unary' place sign u a) q l) (λ q l. each_where a q l) p k
-      each_where (Both' place sign u a v b) p k =
-          pair (f (Both' place sign u a v b)) (each_part f a && each_part f b) (h (Both' place sign u a v b)) (each_part h a && each_part h b)
-          (λ i. g i (Both' place sign u a v b)) (λ i. listed (g i) a ++ listed (g i) b)
-          (λ q l. t (Both' place sign u a v b) q l)
+      each_where (Unary' place operator u a) p k =
+          pair (f (Unary' place operator u a)) (each_part f a) (h (Unary' place operator u a)) (each_part h a)
+          (λ i. g i (Unary' place operator u a)) (λ i. listed (g i) a)
+          (λ q l. t (Unary' place operator u a) q l) (λ q l. each_where a q l) p k
+      each_where (Both' place operator u a v b) p k =
+          pair (f (Both' place operator u a v b)) (each_part f a && each_part f b) (h (Both' place operator u a v b)) (each_part h a && each_part h b)
+          (λ i. g i (Both' place operator u a v b)) (λ i. listed (g i) a ++ listed (g i) b)
+          (λ q l. t (Both' place operator u a v b) q l)
           (λ q l. pair (each_part f a) (each_part f b) (each_part h a) (each_part h b) (λ i. listed (g i) a) (λ i. listed (g i) b) (λ r m. each_where a r m) (λ r m. each_where b r m) q l) p k
       each_where (Choice' place u a v b w d) p k =
           pair (f (Choice' place u a v b w d)) (each_part f a && (each_part f b && each_part f d)) (h (Choice' place u a v b w d)) (each_part h a && (each_part h b && each_part h d))

@@ -44,8 +44,8 @@ module _ (node : ℕ) (ws : List WindowSpec) (from : ℕ) (other : from ≡ node
     none_of_reads (Read place n how args) = none_of_both node (edge_to from n (weight_of how) ∷ []) (reads_all ws from args) (none_of_one node _ other) (none_of_all args)
     none_of_reads (Window place w args) = none_of_both node (window_edge from (slice_get ws w)) (reads_all ws from args) (none_of_window (slice_get ws w)) (none_of_all args)
     none_of_reads (Defaults' place u a v b) = none_of_both node (reads ws from a) (reads ws from b) (none_of_reads a) (none_of_reads b)
-    none_of_reads (Unary' place sign u a) = none_of_reads a
-    none_of_reads (Both' place sign u a v b) = none_of_both node (reads ws from a) (reads ws from b) (none_of_reads a) (none_of_reads b)
+    none_of_reads (Unary' place operator u a) = none_of_reads a
+    none_of_reads (Both' place operator u a v b) = none_of_both node (reads ws from a) (reads ws from b) (none_of_reads a) (none_of_reads b)
     none_of_reads (Choice' place u a v b w d) =
         none_of_both node (reads ws from a) (reads ws from b ++ reads ws from d) (none_of_reads a)
         (none_of_both node (reads ws from b) (reads ws from d) (none_of_reads b) (none_of_reads d))

@@ -8,7 +8,7 @@ use Rattle.std.proofs.lemmas.Bool.{cases_lt, eq-eqb, ne_eqb, or_parts}
 use Rattle.std.proofs.lemmas.Bool.Decides.{nat_tests}
 use Rattle.std.proofs.lemmas.List.Folds.{list_any_none}
 use Rattle.lola_value.specs.Naming.{text_at}
-use Rattle.lola_text.specs.Marks.{Entry, IsPlaceOf, NumbersRise, RiseFrom, has_number, naming_of}
+use Rattle.lola_text.specs.Flags.{Entry, IsPlaceOf, NumbersRise, RiseFrom, has_number, naming_of}
 
 -- a number is at least the bound from which they rise
 pub rise-least : (low : ℕ) (es : List Entry) (j : ℕ) (d : Entry) → RiseFrom low es → j < length es → low ≤ (get_or es j d).1.number

@@ -5,7 +5,7 @@ use Rattle.std.specs.Map.{lookup}
 use Rattle.std.proofs.lemmas.Bool.{cases_Bool, eqb-true, eq-eqb, ne_eqb}
 use Rattle.lola_value.specs.Arithmetic.{bytes_equal}
 use Rattle.lola_value.specs.Naming.{IsNaming, Naming, text_at}
-use Rattle.lola_text.specs.Marks.{Entry, RiseFrom, naming_of}
+use Rattle.lola_text.specs.Flags.{Entry, RiseFrom, naming_of}
 use Rattle.lola_text.specs.Texts.{AreBetween, Gives, Interns, IsTable, Texts, number_in, with_text}
 
 equal-self : (xs : List ℕ) → bytes_equal xs xs ≡ true

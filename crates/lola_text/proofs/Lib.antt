@@ -1,4 +1,4 @@
 pub mod Held
 pub mod Entering
-pub mod Marking
+pub mod Flagging
 pub mod Finding

@@ -1,3 +1,3 @@
 pub mod Texts
-pub mod Marks
+pub mod Flags
 pub mod TextKeys

@@ -1,6 +1,6 @@
-//! Texts by their numbers, and the marks of a sweep, over the entries of a table.
+//! Texts by their numbers, and the flags of a sweep, over the entries of a table.
 ghost use Rattle.std.specs.Prelude.{◌≡◌, IfOk, IsTrue, OnErr, map, filter};
-ghost use Rattle.lola_text.specs.Marks.{IsFoundOrNew, IsPlaceOf, NumbersRise, held_as, is_same, is_marked, marked_all, marked_at};
+ghost use Rattle.lola_text.specs.Flags.{IsFoundOrNew, IsPlaceOf, NumbersRise, held_as, is_same, is_flagged, flagged_all, flagged_at};
 
 use crate::text_key::TextKey;
 use indexmap::IndexMap;
@@ -8,11 +8,11 @@ use lola_value::text::Memory;
 use lola_value::value::TextId;
 use std::hash::RandomState;
 
-/// The number of a text, and the mark that the newest sweep left.
+/// The number of a text, and the flag that the newest sweep left.
 #[derive(Clone, Copy, Debug)]
 pub(crate) struct Held {
     pub(crate) number: u64,
-    pub(crate) mark: bool,
+    pub(crate) flag: bool,
 }
 
 /// The texts that are held, in the order in which they got their numbers.
@@ -51,35 +51,35 @@ pub(crate) fn number_or_new(texts: &mut Entries, text: TextKey, fresh: Held) -> 
     Ok(held.number)
 }
 
-// Marks the text with this number, where it is held.
-fn mark_one(texts: &mut Entries, number: u64, mark: bool)
+// Flags the text with this number, where it is held.
+fn flag_one(texts: &mut Entries, number: u64, flag: bool)
     requires { NumbersRise texts.old.entries }
-    ensures { texts.new.entries ≡ map (marked_at number mark) texts.old.entries }
+    ensures { texts.new.entries ≡ map (flagged_at number flag) texts.old.entries }
 {
     if let Some(place) = place_of(texts, number) {
         if let Some(held) = texts.get_index_mut(place) {
-            held.mark = mark;
+            held.flag = flag;
         }
     }
 }
 
-/// Marks the texts with these numbers.
-pub(crate) fn mark_all(texts: &mut Entries, ids: &[TextId], mark: bool)
+/// Flags the texts with these numbers.
+pub(crate) fn flag_all(texts: &mut Entries, ids: &[TextId], flag: bool)
     requires { NumbersRise texts.old.entries }
-    ensures { texts.new.entries ≡ marked_all ids.now mark texts.old.entries }
+    ensures { texts.new.entries ≡ flagged_all ids.now flag texts.old.entries }
 {
     for id in ids {
-        mark_one(texts, id.0, mark);
+        flag_one(texts, id.0, flag);
     }
 }
 
-/// Drops the texts without this mark.
-pub(crate) fn keep_marked(texts: &mut Entries, mark: bool)
-    ensures { texts.new.entries ≡ filter (is_marked mark) texts.old.entries }
+/// Drops the texts without this flag.
+pub(crate) fn keep_flagged(texts: &mut Entries, flag: bool)
+    ensures { texts.new.entries ≡ filter (is_flagged flag) texts.old.entries }
 {
     texts.retain(
         |_text: &TextKey, held: &mut Held| -> bool
-            ensures { (result ≡ is_same held.old.mark mark) × (held.new ≡ held.old) }
-        { held.mark == mark },
+            ensures { (result ≡ is_same held.old.flag flag) × (held.new ≡ held.old) }
+        { held.flag == flag },
     );
 }

@@ -3,7 +3,7 @@ ghost use Rattle.std.specs.Prelude.{◌≡◌, ◌+◌, ◌<◌, ◌==◌, ◌^�
 ghost use Rattle.lola_value.specs.Naming.{text_at};
 ghost use Rattle.lola_text.specs.Texts.{Interns, IsTable, no_texts, swept};
 
-use crate::search::{Entries, Held, keep_marked, mark_all, number_or_new, place_of};
+use crate::search::{Entries, Held, flag_all, keep_flagged, number_or_new, place_of};
 use crate::text_key::TextKey;
 use indexmap::IndexMap;
 use lola_value::text::Memory;
@@ -33,18 +33,18 @@ pub struct TextTable {
     // The text that is looked up, in room that is kept.
     asked: TextKey,
     given: u64,
-    mark: bool,
+    flag: bool,
 }
 
 impl Model for TextTable {
-    ghost use Rattle.lola_text.specs.Marks.{AreMarked, naming_of};
+    ghost use Rattle.lola_text.specs.Flags.{AreFlagged, naming_of};
     ghost use Rattle.lola_text.specs.Texts.{IsTable, Texts};
 
     ghost Value = { Texts };
 
     ghost view = { λ t. record { held = naming_of t.texts.entries; given = t.given } };
 
-    ghost invariant = { λ t. IsTable (record { held = naming_of t.texts.entries; given = t.given }) × AreMarked t.mark t.texts.entries };
+    ghost invariant = { λ t. IsTable (record { held = naming_of t.texts.entries; given = t.given }) × AreFlagged t.flag t.texts.entries };
 }
 
 impl TextTable {
@@ -58,7 +58,7 @@ impl TextTable {
             texts: IndexMap::with_hasher(alloc, hasher),
             asked: TextKey::empty(alloc),
             given: 0,
-            mark: false,
+            flag: false,
         }
     }
 
@@ -114,7 +114,7 @@ impl TextTable {
         let text = TextKey::copied(self.alloc, bytes)?;
         let fresh = Held {
             number: self.given,
-            mark: self.mark,
+            flag: self.flag,
         };
         let number = number_or_new(&mut self.texts, text, fresh)?;
         self.given = given_after(self.given, number);
@@ -136,9 +136,9 @@ impl TextTable {
         ensures swept { self.new ≡ swept self.old kept.now }
         ensures table { IsTable self.new }
     {
-        self.mark = !self.mark;
-        mark_all(&mut self.texts, kept, self.mark);
-        keep_marked(&mut self.texts, self.mark);
+        self.flag = !self.flag;
+        flag_all(&mut self.texts, kept, self.flag);
+        keep_flagged(&mut self.texts, self.flag);
     }
 
     /// How many texts are held.

@@ -56,11 +56,11 @@ abbrev one_source : Kind → Setting
 one_source k = record { streams = source k ∷ []; windows = []; kinds = Some k ∷ []; parameters = [] }
 
 module _ (u : Around) where
-  -- true < 1, as a whole Bool: at the sign alone
+  -- true < 1, as a whole Bool: at the operator alone
   order_of_truth : whole_refusals empty kind.Bool 1 (Both' (bare 7) binary.Less u (yes 5) u (number 9 1)) ≡ wrong_type 7
   order_of_truth = refl
 
-  -- 300 + (true + 1), of Int8: the inner sign alone, and no range of 300
+  -- 300 + (true + 1), of Int8: the inner operator alone, and no range of 300
   sum_of_truth : whole_refusals empty kind.Int8 1 (Both' (bare 6) binary.Add u (number 2 300) u (Both' (bare 14) binary.Add u (yes 9) u (number 16 1))) ≡ wrong_type 14
   sum_of_truth = refl
 
@@ -68,9 +68,9 @@ module _ (u : Around) where
   minus_in_sum : first_of (whole_refusals empty kind.UInt8 1 (Both' (bare 6) binary.Add u (number 2 300) u (Unary' (bare 8) prefix.Minus u (number 10 1)))) ≡ Some (record { code = code.LiteralRange; at = 2 })
   minus_in_sum = refl
 
-  -- -(-(1)), of UInt8: both signs
-  two_signs : whole_refusals empty kind.UInt8 0 (Unary' (bare 2) prefix.Minus u (Unary' (bare 4) prefix.Minus u (number 6 1))) ≡ record { code = code.WrongType; at = 2 } ∷ record { code = code.WrongType; at = 4 } ∷ []
-  two_signs = refl
+  -- -(-(1)), of UInt8: both operators
+  two_operators : whole_refusals empty kind.UInt8 0 (Unary' (bare 2) prefix.Minus u (Unary' (bare 4) prefix.Minus u (number 6 1))) ≡ record { code = code.WrongType; at = 2 } ∷ record { code = code.WrongType; at = 4 } ∷ []
+  two_operators = refl
 
   -- 18446744073709551615 > 1: compared parts that are both free are of Int64
   both_free : whole_refusals empty kind.Bool 0 (Both' (bare 22) binary.Greater u (number 1 18446744073709551615) u (number 24 1)) ≡ out_of_range 1

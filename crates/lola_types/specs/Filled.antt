@@ -41,8 +41,8 @@ settled k (Parameter place i) = Parameter place i
 settled k (Read place n how args) = Read place n how args
 settled k (Window place w args) = Window place w args
 settled k (Defaults' place u a v b) = Defaults' (note place k) u (settled k a) v (settled k b)
-settled k (Unary' place sign u a) = Unary' (note place k) sign u (settled k a)
-settled k (Both' place sign u a v b) = Both' (note place k) sign u (settled k a) v (settled k b)
+settled k (Unary' place operator u a) = Unary' (note place k) operator u (settled k a)
+settled k (Both' place operator u a v b) = Both' (note place k) operator u (settled k a) v (settled k b)
 settled k (Choice' place u t v a w b) = Choice' (note place k) u t v (settled k a) w (settled k b)
 
 -- an operand, with the kind that it takes, if there is one and it is free
@@ -65,12 +65,12 @@ module _ (s : Setting) where
         Defaults' (note_part place (found s (Defaults' place u a v b)))
         u (settled_if (taken (found s (Defaults' place u a v b))) (found s a) (filled a))
         v (settled_if (taken (found s (Defaults' place u a v b))) (found s b) (filled b))
-    filled (Unary' place sign u a) =
-        Unary' (note_part place (found s (Unary' place sign u a))) sign u (settled_if (taken (found s (Unary' place sign u a))) (found s a) (filled a))
-    filled (Both' place sign u a v b) =
-        Both' (note_part place (found s (Both' place sign u a v b))) sign
-        u (settled_if (operand_kind sign (found s (Both' place sign u a v b)) (joint (found s a) (found s b))) (found s a) (filled a))
-        v (settled_if (operand_kind sign (found s (Both' place sign u a v b)) (joint (found s a) (found s b))) (found s b) (filled b))
+    filled (Unary' place operator u a) =
+        Unary' (note_part place (found s (Unary' place operator u a))) operator u (settled_if (taken (found s (Unary' place operator u a))) (found s a) (filled a))
+    filled (Both' place operator u a v b) =
+        Both' (note_part place (found s (Both' place operator u a v b))) operator
+        u (settled_if (operand_kind operator (found s (Both' place operator u a v b)) (joint (found s a) (found s b))) (found s a) (filled a))
+        v (settled_if (operand_kind operator (found s (Both' place operator u a v b)) (joint (found s a) (found s b))) (found s b) (filled b))
     filled (Choice' place u t v a w b) =
         Choice' (note_part place (found s (Choice' place u t v a w b))) u (filled t)
         v (settled_if (taken (found s (Choice' place u t v a w b))) (found s a) (filled a))

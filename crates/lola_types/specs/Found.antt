@@ -246,8 +246,8 @@ module _ (s : Setting) where
     found (Window place w args) =
         reference_part (some_broken (found_all args)) (arguments_fit (found_all args) (window_parameters s (slice_get s.windows w))) (window_at s (slice_get s.windows w))
     found (Defaults' place u a v b) = defaults_part (found a) (found b)
-    found (Unary' place sign u a) = prefix_part sign (found a)
-    found (Both' place sign u a v b) = binary_part sign (found a) (found b)
+    found (Unary' place operator u a) = prefix_part operator (found a)
+    found (Both' place operator u a v b) = binary_part operator (found a) (found b)
     found (Choice' place u t v a w b) = choice_part (found t) (found a) (found b)
 
     pub found_all : Arguments → List Found

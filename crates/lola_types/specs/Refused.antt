@@ -56,7 +56,7 @@ where_it_holds Free o = o
 where_it_holds Unknown o = o
 where_it_holds Broken o = None
 
--- the kind that free operands of a binary sign take there
+-- the kind that free operands of a binary operator take there
 abbrev pub operand_kind : Binary → (whole operands : Found) → Option Kind
 operand_kind binary.Add whole operands = taken whole
 operand_kind binary.Sub whole operands = taken whole
@@ -80,10 +80,10 @@ literal_refusals at (value.Int z) k = if is_within k z then [] else out_of_range
 literal_refusals at (value.Bool b) k = []
 literal_refusals at (value.Text id) k = []
 
--- a prefix sign in a free part that takes this kind: a minus where the kind has no negative numbers
-abbrev pub sign_refusals : ℕ → Prefix → Kind → List Refusal
-sign_refusals at prefix.Minus k = if is_signed k then [] else wrong_type at
-sign_refusals at prefix.Not k = []
+-- a prefix operator in a free part that takes this kind: a minus where the kind has no negative numbers
+abbrev pub operator_refusals : ℕ → Prefix → Kind → List Refusal
+operator_refusals at prefix.Minus k = if is_signed k then [] else wrong_type at
+operator_refusals at prefix.Not k = []
 
 -- what a free part refuses of the kind that it takes, with all free parts in it
 abbrev pub free_refusals : Kind → Expr → List Refusal
@@ -92,8 +92,8 @@ free_refusals k (Parameter place i) = []
 free_refusals k (Read place n how args) = []
 free_refusals k (Window place w args) = []
 free_refusals k (Defaults' place u a v b) = free_refusals k a ++ free_refusals k b
-free_refusals k (Unary' place sign u a) = sign_refusals place.at sign k ++ free_refusals k a
-free_refusals k (Both' place sign u a v b) = free_refusals k a ++ free_refusals k b
+free_refusals k (Unary' place operator u a) = operator_refusals place.at operator k ++ free_refusals k a
+free_refusals k (Both' place operator u a v b) = free_refusals k a ++ free_refusals k b
 free_refusals k (Choice' place u t v a w b) = free_refusals k a ++ free_refusals k b
 
 -- an operand, which takes this kind if there is one and the operand is free
@@ -136,15 +136,15 @@ module _ (s : Setting) where
         ++ (own_refusals place.at (is_broken (found s a) || is_broken (found s b)) (found s (Defaults' place u a v b))
         ++ (taking_refusals (taken (found s (Defaults' place u a v b))) (found s a) a
         ++ taking_refusals (taken (found s (Defaults' place u a v b))) (found s b) b)))
-    refusals_in (Unary' place sign u a) =
+    refusals_in (Unary' place operator u a) =
         refusals_in a
-        ++ (own_refusals place.at (is_broken (found s a)) (found s (Unary' place sign u a))
-        ++ taking_refusals (taken (found s (Unary' place sign u a))) (found s a) a)
-    refusals_in (Both' place sign u a v b) =
+        ++ (own_refusals place.at (is_broken (found s a)) (found s (Unary' place operator u a))
+        ++ taking_refusals (taken (found s (Unary' place operator u a))) (found s a) a)
+    refusals_in (Both' place operator u a v b) =
         refusals_in a ++ (refusals_in b
-        ++ (own_refusals place.at (is_broken (found s a) || is_broken (found s b)) (found s (Both' place sign u a v b))
-        ++ (taking_refusals (operand_kind sign (found s (Both' place sign u a v b)) (joint (found s a) (found s b))) (found s a) a
-        ++ taking_refusals (operand_kind sign (found s (Both' place sign u a v b)) (joint (found s a) (found s b))) (found s b) b)))
+        ++ (own_refusals place.at (is_broken (found s a) || is_broken (found s b)) (found s (Both' place operator u a v b))
+        ++ (taking_refusals (operand_kind operator (found s (Both' place operator u a v b)) (joint (found s a) (found s b))) (found s a) a
+        ++ taking_refusals (operand_kind operator (found s (Both' place operator u a v b)) (joint (found s a) (found s b))) (found s b) b)))
     refusals_in (Choice' place u t v a w b) =
         refusals_in t ++ (refusals_in a ++ (refusals_in b
         ++ (own_refusals place.at (is_broken (found s t) || (is_broken (found s a) || is_broken (found s b))) (found s (Choice' place u t v a w b))

@@ -136,21 +136,21 @@ pub fn fill(alloc: Global, around: &Around, expr: &Expr) -> Result<Filled, Memor
             let expr = Expr::Defaults(noted(*place, part), a, b);
             Ok(Filled { expr, part })
         }
-        Expr::Unary(place, sign, a) => {
+        Expr::Unary(place, operator, a) => {
             let first = fill(alloc, around, a)?;
-            let part = found::prefix(*sign, first.part);
+            let part = found::prefix(*operator, first.part);
             let a = boxed(alloc, taken(part), first)?;
-            let expr = Expr::Unary(noted(*place, part), *sign, a);
+            let expr = Expr::Unary(noted(*place, part), *operator, a);
             Ok(Filled { expr, part })
         }
-        Expr::Both(place, sign, a, b) => {
+        Expr::Both(place, operator, a, b) => {
             let first = fill(alloc, around, a)?;
             let second = fill(alloc, around, b)?;
-            let part = found::binary(*sign, first.part, second.part);
-            let kind = operand_kind(*sign, part, first.part.joint(second.part));
+            let part = found::binary(*operator, first.part, second.part);
+            let kind = operand_kind(*operator, part, first.part.joint(second.part));
             let a = boxed(alloc, kind, first)?;
             let b = boxed(alloc, kind, second)?;
-            let expr = Expr::Both(noted(*place, part), *sign, a, b);
+            let expr = Expr::Both(noted(*place, part), *operator, a, b);
             Ok(Filled { expr, part })
         }
         Expr::Choice(place, t, a, b) => {

@@ -219,11 +219,11 @@ fn connected(a: Found, b: Found) -> Found
     by_two(a, b, a.truth().unless_broken(b.truth()), A_TRUTH)
 }
 
-/// A sign between two operands.
-pub fn binary(sign: Binary, a: Found, b: Found) -> Found
-    ensures { result ≡ binary_part sign a b }
+/// An operator between two operands.
+pub fn binary(operator: Binary, a: Found, b: Found) -> Found
+    ensures { result ≡ binary_part operator a b }
 {
-    match sign {
+    match operator {
         Binary::Add | Binary::Sub | Binary::Mul | Binary::Div | Binary::Rem => arithmetic(a, b),
         Binary::Less | Binary::LessEqual | Binary::Greater | Binary::GreaterEqual => order(a, b),
         Binary::Equal | Binary::Different => equality(a, b),
@@ -231,11 +231,11 @@ pub fn binary(sign: Binary, a: Found, b: Found) -> Found
     }
 }
 
-/// A sign before an operand.
-pub fn prefix(sign: Prefix, a: Found) -> Found
-    ensures { result ≡ prefix_part sign a }
+/// An operator before an operand.
+pub fn prefix(operator: Prefix, a: Found) -> Found
+    ensures { result ≡ prefix_part operator a }
 {
-    match sign {
+    match operator {
         Prefix::Not => by_row(a.is_broken(), a.is_unknown(), a.truth(), A_TRUTH),
         Prefix::Minus => by_row(a.is_broken(), a.is_unknown(), a.signed(), Found::Unknown),
     }

@@ -128,8 +128,8 @@ pub fn find(around: &Around, expr: &Expr) -> Found
             found::reference(fitting.broken, fitting.fits, fitting_window(around, spec))
         }
         Expr::Defaults(_, a, b) => found::defaults(find(around, a), find(around, b)),
-        Expr::Unary(_, sign, a) => found::prefix(*sign, find(around, a)),
-        Expr::Both(_, sign, a, b) => found::binary(*sign, find(around, a), find(around, b)),
+        Expr::Unary(_, operator, a) => found::prefix(*operator, find(around, a)),
+        Expr::Both(_, operator, a, b) => found::binary(*operator, find(around, a), find(around, b)),
         Expr::Choice(_, t, a, b) => {
             found::choice(find(around, t), find(around, a), find(around, b))
         }

@@ -5,7 +5,7 @@ ghost use Rattle.std.specs.Prelude.{◌≡◌, ◌++◌, if◌then◌else◌};
 ghost use Rattle.lola_model.specs.Refusals.{earlier};
 ghost use Rattle.lola_types.specs.Around.{setting};
 ghost use Rattle.lola_types.specs.Found.{found as found_in, found_all, is_broken as is_broken_part, reference_part, some_broken, arguments_fit};
-ghost use Rattle.lola_types.specs.Refused.{with_more as and_more, taken as kind_taken, compared as kind_compared, where_it_holds, operand_kind as kind_of_operands, literal_refusals, sign_refusals, free_refusals, taking_refusals, own_refusals, argument_refusals, fitting_refusals, refusals_in, refusals_in_all, wanted_refusals, number_kind as number_kind_of, whole_refusals};
+ghost use Rattle.lola_types.specs.Refused.{with_more as and_more, taken as kind_taken, compared as kind_compared, where_it_holds, operand_kind as kind_of_operands, literal_refusals, operator_refusals, free_refusals, taking_refusals, own_refusals, argument_refusals, fitting_refusals, refusals_in, refusals_in_all, wanted_refusals, number_kind as number_kind_of, whole_refusals};
 
 use crate::around::Around;
 use crate::found::{self, Found, is_integer, is_signed};
@@ -41,11 +41,11 @@ fn compared(whole: Found, operands: Found) -> Option<Kind>
     }
 }
 
-/// The kind that the free operands of a binary sign take.
-pub fn operand_kind(sign: Binary, whole: Found, operands: Found) -> Option<Kind>
-    ensures { result ≡ kind_of_operands sign whole operands }
+/// The kind that the free operands of a binary operator take.
+pub fn operand_kind(operator: Binary, whole: Found, operands: Found) -> Option<Kind>
+    ensures { result ≡ kind_of_operands operator whole operands }
 {
-    match sign {
+    match operator {
         Binary::Add | Binary::Sub | Binary::Mul | Binary::Div | Binary::Rem => taken(whole),
         Binary::And | Binary::Or => None,
         _ => compared(whole, operands),
@@ -64,11 +64,11 @@ pub fn take_literal(at: u32, value: Value, kind: Kind, refusals: &mut Refusals)
     }
 }
 
-/// A prefix sign takes a kind: a minus is refused where the kind has no negative numbers.
-fn take_sign(at: u32, sign: Prefix, kind: Kind, refusals: &mut Refusals)
-    ensures { refusals.new ≡ and_more refusals.old (sign_refusals at sign kind) }
+/// A prefix operator takes a kind: a minus is refused where the kind has no negative numbers.
+fn take_operator(at: u32, operator: Prefix, kind: Kind, refusals: &mut Refusals)
+    ensures { refusals.new ≡ and_more refusals.old (operator_refusals at operator kind) }
 {
-    if sign == Prefix::Minus && !is_signed(kind) {
+    if operator == Prefix::Minus && !is_signed(kind) {
         refusals.note(Code::WrongType, at);
     }
 }
@@ -80,8 +80,8 @@ fn take(expr: &Expr, kind: Kind, refusals: &mut Refusals)
     match expr {
         Expr::Literal(place, value) => take_literal(place.at, *value, kind, refusals),
         Expr::Parameter(_, _) | Expr::Read(_, _, _, _) | Expr::Window(_, _, _) => {}
-        Expr::Unary(place, sign, a) => {
-            take_sign(place.at, *sign, kind, refusals);
+        Expr::Unary(place, operator, a) => {
+            take_operator(place.at, *operator, kind, refusals);
             take(a, kind, refusals);
         }
         Expr::Defaults(_, a, b) | Expr::Both(_, _, a, b) | Expr::Choice(_, _, a, b) => {
@@ -156,24 +156,24 @@ pub fn judge(around: &Around, expr: &Expr, refusals: &mut Refusals) -> Found
             take_if_free(taken(whole), second, b, refusals);
             whole
         }
-        Expr::Unary(place, sign, a) => {
+        Expr::Unary(place, operator, a) => {
             let first = judge(around, a, refusals);
-            let whole = found::prefix(*sign, first);
+            let whole = found::prefix(*operator, first);
             note_own(place.at, first.is_broken(), whole, refusals);
             take_if_free(taken(whole), first, a, refusals);
             whole
         }
-        Expr::Both(place, sign, a, b) => {
+        Expr::Both(place, operator, a, b) => {
             let first = judge(around, a, refusals);
             let second = judge(around, b, refusals);
-            let whole = found::binary(*sign, first, second);
+            let whole = found::binary(*operator, first, second);
             note_own(
                 place.at,
                 first.is_broken() || second.is_broken(),
                 whole,
                 refusals,
             );
-            let kind = operand_kind(*sign, whole, first.joint(second));
+            let kind = operand_kind(*operator, whole, first.joint(second));
             take_if_free(kind, first, a, refusals);
             take_if_free(kind, second, b, refusals);
             whole

@@ -320,12 +320,12 @@ module _ (s : Setting) where
       alike_settled_if (taken (found s (Defaults' p u a v b))) (found s a) a (filled s a) (alike_filled a),
       alike_settled_if (taken (found s (Defaults' p u a v b))) (found s b) b (filled s b) (alike_filled b),
     )
-    alike_filled (Unary' p sign u a) = (tt, refl, alike_settled_if (taken (found s (Unary' p sign u a))) (found s a) a (filled s a) (alike_filled a))
-    alike_filled (Both' p sign u a v b) = (
+    alike_filled (Unary' p operator u a) = (tt, refl, alike_settled_if (taken (found s (Unary' p operator u a))) (found s a) a (filled s a) (alike_filled a))
+    alike_filled (Both' p operator u a v b) = (
       tt,
       refl,
-      alike_settled_if (operand_kind sign (found s (Both' p sign u a v b)) (joint (found s a) (found s b))) (found s a) a (filled s a) (alike_filled a),
-      alike_settled_if (operand_kind sign (found s (Both' p sign u a v b)) (joint (found s a) (found s b))) (found s b) b (filled s b) (alike_filled b),
+      alike_settled_if (operand_kind operator (found s (Both' p operator u a v b)) (joint (found s a) (found s b))) (found s a) a (filled s a) (alike_filled a),
+      alike_settled_if (operand_kind operator (found s (Both' p operator u a v b)) (joint (found s a) (found s b))) (found s b) b (filled s b) (alike_filled b),
     )
     alike_filled (Choice' p u t v a w b) = (
       tt,

@@ -177,25 +177,25 @@ module _ (spec : Spec) (kinds : List (Option Kind)) (ks : List Kind) (ls : List 
         (or_from _ _ (ready_unbroken (found here a) (ready scope (found here a) a (filled here a) ha)) (ready_unbroken (found here b) (ready scope (found here b) b (filled here b) hb))) in
         defaults_holds scope place u v (found here a) (found here b) a b (filled here a) (filled here b) ha hb unbroken
         (none_left (taking_refusals (taken w) (found here a) a) _ r3) (none_right (taking_refusals (taken w) (found here a) a) _ r3)
-    sound (Unary' place sign u a) g r =
+    sound (Unary' place operator u a) g r =
         let ha = sound a g (none_left (refusals_in here a) _ r) in
         let r2 = none_right (refusals_in here a) _ r in
-        let w = prefix_part sign (found here a) in
+        let w = prefix_part operator (found here a) in
         let own = own_refusals place.at (is_broken (found here a)) w in
         let unbroken = own_holds place.at false (is_broken (found here a)) w (none_left own _ r2) (ready_unbroken (found here a) (ready scope (found here a) a (filled here a) ha)) in
-        prefix_holds scope place u sign (found here a) a (filled here a) ha unbroken (none_right own _ r2)
-    sound (Both' place sign u a v b) g r =
+        prefix_holds scope place u operator (found here a) a (filled here a) ha unbroken (none_right own _ r2)
+    sound (Both' place operator u a v b) g r =
         let ha = sound a (left_of (each_part is_good a) (each_part is_good b) g) (none_left (refusals_in here a) _ r) in
         let r1 = none_right (refusals_in here a) _ r in
         let hb = sound b (right_of (each_part is_good a) (each_part is_good b) g) (none_left (refusals_in here b) _ r1) in
         let r2 = none_right (refusals_in here b) _ r1 in
-        let w = binary_part sign (found here a) (found here b) in
-        let o = operand_kind sign w (joint (found here a) (found here b)) in
+        let w = binary_part operator (found here a) (found here b) in
+        let o = operand_kind operator w (joint (found here a) (found here b)) in
         let own = own_refusals place.at (is_broken (found here a) || is_broken (found here b)) w in
         let r3 = none_right own _ r2 in
         let unbroken = own_holds place.at false (is_broken (found here a) || is_broken (found here b)) w (none_left own _ r2)
         (or_from _ _ (ready_unbroken (found here a) (ready scope (found here a) a (filled here a) ha)) (ready_unbroken (found here b) (ready scope (found here b) b (filled here b) hb))) in
-        binary_holds scope place u v sign (found here a) (found here b) a b (filled here a) (filled here b) ha hb unbroken
+        binary_holds scope place u v operator (found here a) (found here b) a b (filled here a) (filled here b) ha hb unbroken
         (none_left (taking_refusals o (found here a) a) _ r3) (none_right (taking_refusals o (found here a) a) _ r3)
     sound (Choice' place u t v a w b) g r =
         let gr = right_of (each_part is_good t) (each_part is_good a && each_part is_good b) g in

@@ -55,35 +55,35 @@ module _ (z : Scope) where
   sure_operand k p o a f h m s e r = fits_at k k (is_sure p) true (settled_if o p f) refl s (operand k p o a f h m e r)
 
   module _ (place : Place) (u v : Around) where
-    -- two operands of a binary sign
+    -- two operands of a binary operator
 
-    row_at : (sign : Binary) (k ka kb la lb : Kind) → la ≡ ka → lb ≡ kb → binary_row sign k ka kb ≡ true → binary_row sign k la lb ≡ true
-    row_at sign k ka kb la lb p q h = subst (λ x. binary_row sign k x lb ≡ true) (sym p) (subst (λ x. binary_row sign k ka x ≡ true) (sym q) h)
+    row_at : (operator : Binary) (k ka kb la lb : Kind) → la ≡ ka → lb ≡ kb → binary_row operator k ka kb ≡ true → binary_row operator k la lb ≡ true
+    row_at operator k ka kb la lb p q h = subst (λ x. binary_row operator k x lb ≡ true) (sym p) (subst (λ x. binary_row operator k ka x ≡ true) (sym q) h)
 
-    both_fits : (sign : Binary) (k ka kb : Kind) (f g : Expr) → Fits ka true f → Fits kb true g → binary_row sign k ka kb ≡ true → Fits k true (Both' (note place k) sign u f v g)
-    both_fits sign k ka kb f g p q r = (and_from _ _ (and_from _ _ (row_at sign k ka kb (noted f) (noted g) p.1 q.1 r) (and_from _ _ p.2 q.2)) (and_from _ _ p.0 q.0), refl, refl)
+    both_fits : (operator : Binary) (k ka kb : Kind) (f g : Expr) → Fits ka true f → Fits kb true g → binary_row operator k ka kb ≡ true → Fits k true (Both' (note place k) operator u f v g)
+    both_fits operator k ka kb f g p q r = (and_from _ _ (and_from _ _ (row_at operator k ka kb (noted f) (noted g) p.1 q.1 r) (and_from _ _ p.2 q.2)) (and_from _ _ p.0 q.0), refl, refl)
 
-    module _ (sign : Binary) (p q : Found) (a b f g : Expr) (hp : Holds p a f) (hq : Holds q b g) where
-      -- operands of one kind k, which free ones take; the sign gives the kind l
-      one_kind_holds : (w : Found) (o : Option Kind) (l k : Kind) → w ≡ Of l true → o ≡ Some k → binary_row sign l k k ≡ true
+    module _ (operator : Binary) (p q : Found) (a b f g : Expr) (hp : Holds p a f) (hq : Holds q b g) where
+      -- operands of one kind k, which free ones take; the operator gives the kind l
+      one_kind_holds : (w : Found) (o : Option Kind) (l k : Kind) → w ≡ Of l true → o ≡ Some k → binary_row operator l k k ≡ true
           → matches k p ≡ true → is_sure p ≡ true → matches k q ≡ true → is_sure q ≡ true → taking_refusals o p a ≡ [] → taking_refusals o q b ≡ []
-          → Holds w (Both' place sign u a v b) (Both' (note_part place w) sign u (settled_if o p f) v (settled_if o q g))
+          → Holds w (Both' place operator u a v b) (Both' (note_part place w) operator u (settled_if o p f) v (settled_if o q g))
       one_kind_holds w o l k e eo row mp sp mq sq ra rb =
-          subst (λ x. Holds x (Both' place sign u a v b) (Both' (note_part place x) sign u (settled_if o p f) v (settled_if o q g))) (sym e)
-          (both_fits sign l k k (settled_if o p f) (settled_if o q g) (sure_operand k p o a f hp mp sp eo ra) (sure_operand k q o b g hq mq sq eo rb) row)
+          subst (λ x. Holds x (Both' place operator u a v b) (Both' (note_part place x) operator u (settled_if o p f) v (settled_if o q g))) (sym e)
+          (both_fits operator l k k (settled_if o p f) (settled_if o q g) (sure_operand k p o a f hp mp sp eo ra) (sure_operand k q o b g hq mq sq eo rb) row)
 
-      arithmetic_one : ((k : Kind) → is_integer k ≡ true → binary_row sign k k k ≡ true) → IsOneKind p q → is_broken (arithmetic_part p q) ≡ false
+      arithmetic_one : ((k : Kind) → is_integer k ≡ true → binary_row operator k k k ≡ true) → IsOneKind p q → is_broken (arithmetic_part p q) ≡ false
           → taking_refusals (taken (arithmetic_part p q)) p a ≡ [] → taking_refusals (taken (arithmetic_part p q)) q b ≡ []
-          → Holds (arithmetic_part p q) (Both' place sign u a v b) (Both' (note_part place (arithmetic_part p q)) sign u (settled_if (taken (arithmetic_part p q)) p f) v (settled_if (taken (arithmetic_part p q)) q g))
+          → Holds (arithmetic_part p q) (Both' place operator u a v b) (Both' (note_part place (arithmetic_part p q)) operator u (settled_if (taken (arithmetic_part p q)) p f) v (settled_if (taken (arithmetic_part p q)) q g))
       arithmetic_one row j h ra rb =
           let k = j.0 in
           let i = arithmetic_is p q (ready p a f hp) (ready q b g hq) k j.1 j.2 h in
           let s = j.5 i.2 in
           one_kind_holds (arithmetic_part p q) (taken (arithmetic_part p q)) k k i.0 (ap taken i.0) (row k i.1) j.3 s.0 j.4 s.1 ra rb
 
-      order_one : ((k : Kind) → is_integer k ≡ true → binary_row sign kind.Bool k k ≡ true) → IsOneKind p q → is_broken (order_part p q) ≡ false
+      order_one : ((k : Kind) → is_integer k ≡ true → binary_row operator kind.Bool k k ≡ true) → IsOneKind p q → is_broken (order_part p q) ≡ false
           → taking_refusals (where_it_holds (order_part p q) (compared (joint p q))) p a ≡ [] → taking_refusals (where_it_holds (order_part p q) (compared (joint p q))) q b ≡ []
-          → Holds (order_part p q) (Both' place sign u a v b) (Both' (note_part place (order_part p q)) sign u (settled_if (where_it_holds (order_part p q) (compared (joint p q))) p f) v (settled_if (where_it_holds (order_part p q) (compared (joint p q))) q g))
+          → Holds (order_part p q) (Both' place operator u a v b) (Both' (note_part place (order_part p q)) operator u (settled_if (where_it_holds (order_part p q) (compared (joint p q))) p f) v (settled_if (where_it_holds (order_part p q) (compared (joint p q))) q g))
       order_one row j h ra rb =
           let k = j.0 in
           let i = order_is p q (ready p a f hp) (ready q b g hq) k j.1 j.2 h in
@@ -91,9 +91,9 @@ module _ (z : Scope) where
           one_kind_holds (order_part p q) (where_it_holds (order_part p q) (compared (joint p q))) kind.Bool k i.0
           (ap (λ x. where_it_holds x (compared (joint p q))) i.0 ∙ ap compared j.2) (row k i.1) j.3 s.0 j.4 s.1 ra rb
 
-      equality_one : ((k : Kind) → binary_row sign kind.Bool k k ≡ true) → IsOneKind p q → is_broken (equality_part p q) ≡ false
+      equality_one : ((k : Kind) → binary_row operator kind.Bool k k ≡ true) → IsOneKind p q → is_broken (equality_part p q) ≡ false
           → taking_refusals (where_it_holds (equality_part p q) (compared (joint p q))) p a ≡ [] → taking_refusals (where_it_holds (equality_part p q) (compared (joint p q))) q b ≡ []
-          → Holds (equality_part p q) (Both' place sign u a v b) (Both' (note_part place (equality_part p q)) sign u (settled_if (where_it_holds (equality_part p q) (compared (joint p q))) p f) v (settled_if (where_it_holds (equality_part p q) (compared (joint p q))) q g))
+          → Holds (equality_part p q) (Both' place operator u a v b) (Both' (note_part place (equality_part p q)) operator u (settled_if (where_it_holds (equality_part p q) (compared (joint p q))) p f) v (settled_if (where_it_holds (equality_part p q) (compared (joint p q))) q g))
       equality_one row j h ra rb =
           let k = j.0 in
           let i = equality_is p q (ready p a f hp) (ready q b g hq) k j.1 j.2 h in
@@ -107,45 +107,45 @@ module _ (z : Scope) where
       truth_fits Unknown e m h mk s = absurd h
       truth_fits Broken e m h mk s = absurd h
 
-      connected_holds : binary_row sign kind.Bool kind.Bool kind.Bool ≡ true → is_broken (connected_part p q) ≡ false
-          → Holds (connected_part p q) (Both' place sign u a v b) (Both' (note_part place (connected_part p q)) sign u f v g)
+      connected_holds : binary_row operator kind.Bool kind.Bool kind.Bool ≡ true → is_broken (connected_part p q) ≡ false
+          → Holds (connected_part p q) (Both' place operator u a v b) (Both' (note_part place (connected_part p q)) operator u f v g)
       connected_holds row h =
           let i = connected_is p q (ready p a f hp) (ready q b g hq) h in
-          subst (λ x. Holds x (Both' place sign u a v b) (Both' (note_part place x) sign u f v g)) (sym i.0)
-          (both_fits sign kind.Bool kind.Bool kind.Bool f g (truth_fits p a f hp i.1 i.2) (truth_fits q b g hq i.3 i.4) row)
+          subst (λ x. Holds x (Both' place operator u a v b) (Both' (note_part place x) operator u f v g)) (sym i.0)
+          (both_fits operator kind.Bool kind.Bool kind.Bool f g (truth_fits p a f hp i.1 i.2) (truth_fits q b g hq i.3 i.4) row)
 
-    arithmetic_holds : (sign : Binary) (p q : Found) (a b f g : Expr) → Holds p a f → Holds q b g → ((k : Kind) → is_integer k ≡ true → binary_row sign k k k ≡ true) → is_broken (arithmetic_part p q) ≡ false
+    arithmetic_holds : (operator : Binary) (p q : Found) (a b f g : Expr) → Holds p a f → Holds q b g → ((k : Kind) → is_integer k ≡ true → binary_row operator k k k ≡ true) → is_broken (arithmetic_part p q) ≡ false
         → taking_refusals (taken (arithmetic_part p q)) p a ≡ [] → taking_refusals (taken (arithmetic_part p q)) q b ≡ []
-        → Holds (arithmetic_part p q) (Both' place sign u a v b) (Both' (note_part place (arithmetic_part p q)) sign u (settled_if (taken (arithmetic_part p q)) p f) v (settled_if (taken (arithmetic_part p q)) q g))
-    arithmetic_holds sign Free Free a b f g hp hq row h ra rb = λ k i r. both_fits sign k k k (settled k f) (settled k g) (hp k i (none_left _ _ r)) (hq k i (none_right (free_refusals k a) (free_refusals k b) r)) (row k i)
-    arithmetic_holds sign (Of k c) q a b f g hp hq row h ra rb = arithmetic_one sign (Of k c) q a b f g hp hq row (one_kind k c q (ready q b g hq) (arithmetic_joint (Of k c) q refl (ready q b g hq) h)) h ra rb
-    arithmetic_holds sign Free (Of k c) a b f g hp hq row h ra rb = arithmetic_one sign Free (Of k c) a b f g hp hq row (free_kind k c (arithmetic_joint Free (Of k c) refl refl h)) h ra rb
-    arithmetic_holds sign Free Unknown a b f g hp hq row h ra rb = absurd hq
-    arithmetic_holds sign Free Broken a b f g hp hq row h ra rb = absurd hq
-    arithmetic_holds sign Unknown q a b f g hp hq row h ra rb = absurd hp
-    arithmetic_holds sign Broken q a b f g hp hq row h ra rb = absurd hp
+        → Holds (arithmetic_part p q) (Both' place operator u a v b) (Both' (note_part place (arithmetic_part p q)) operator u (settled_if (taken (arithmetic_part p q)) p f) v (settled_if (taken (arithmetic_part p q)) q g))
+    arithmetic_holds operator Free Free a b f g hp hq row h ra rb = λ k i r. both_fits operator k k k (settled k f) (settled k g) (hp k i (none_left _ _ r)) (hq k i (none_right (free_refusals k a) (free_refusals k b) r)) (row k i)
+    arithmetic_holds operator (Of k c) q a b f g hp hq row h ra rb = arithmetic_one operator (Of k c) q a b f g hp hq row (one_kind k c q (ready q b g hq) (arithmetic_joint (Of k c) q refl (ready q b g hq) h)) h ra rb
+    arithmetic_holds operator Free (Of k c) a b f g hp hq row h ra rb = arithmetic_one operator Free (Of k c) a b f g hp hq row (free_kind k c (arithmetic_joint Free (Of k c) refl refl h)) h ra rb
+    arithmetic_holds operator Free Unknown a b f g hp hq row h ra rb = absurd hq
+    arithmetic_holds operator Free Broken a b f g hp hq row h ra rb = absurd hq
+    arithmetic_holds operator Unknown q a b f g hp hq row h ra rb = absurd hp
+    arithmetic_holds operator Broken q a b f g hp hq row h ra rb = absurd hp
 
-    order_holds : (sign : Binary) (p q : Found) (a b f g : Expr) → Holds p a f → Holds q b g → ((k : Kind) → is_integer k ≡ true → binary_row sign kind.Bool k k ≡ true) → is_broken (order_part p q) ≡ false
+    order_holds : (operator : Binary) (p q : Found) (a b f g : Expr) → Holds p a f → Holds q b g → ((k : Kind) → is_integer k ≡ true → binary_row operator kind.Bool k k ≡ true) → is_broken (order_part p q) ≡ false
         → taking_refusals (where_it_holds (order_part p q) (compared (joint p q))) p a ≡ [] → taking_refusals (where_it_holds (order_part p q) (compared (joint p q))) q b ≡ []
-        → Holds (order_part p q) (Both' place sign u a v b) (Both' (note_part place (order_part p q)) sign u (settled_if (where_it_holds (order_part p q) (compared (joint p q))) p f) v (settled_if (where_it_holds (order_part p q) (compared (joint p q))) q g))
-    order_holds sign Free Free a b f g hp hq row h ra rb = one_kind_holds sign Free Free a b f g hp hq a_truth (Some kind.Int64) kind.Bool kind.Int64 refl refl (row kind.Int64 refl) refl refl refl refl ra rb
-    order_holds sign (Of k c) q a b f g hp hq row h ra rb = order_one sign (Of k c) q a b f g hp hq row (one_kind k c q (ready q b g hq) (order_joint (Of k c) q refl (ready q b g hq) h)) h ra rb
-    order_holds sign Free (Of k c) a b f g hp hq row h ra rb = order_one sign Free (Of k c) a b f g hp hq row (free_kind k c (order_joint Free (Of k c) refl refl h)) h ra rb
-    order_holds sign Free Unknown a b f g hp hq row h ra rb = absurd hq
-    order_holds sign Free Broken a b f g hp hq row h ra rb = absurd hq
-    order_holds sign Unknown q a b f g hp hq row h ra rb = absurd hp
-    order_holds sign Broken q a b f g hp hq row h ra rb = absurd hp
+        → Holds (order_part p q) (Both' place operator u a v b) (Both' (note_part place (order_part p q)) operator u (settled_if (where_it_holds (order_part p q) (compared (joint p q))) p f) v (settled_if (where_it_holds (order_part p q) (compared (joint p q))) q g))
+    order_holds operator Free Free a b f g hp hq row h ra rb = one_kind_holds operator Free Free a b f g hp hq a_truth (Some kind.Int64) kind.Bool kind.Int64 refl refl (row kind.Int64 refl) refl refl refl refl ra rb
+    order_holds operator (Of k c) q a b f g hp hq row h ra rb = order_one operator (Of k c) q a b f g hp hq row (one_kind k c q (ready q b g hq) (order_joint (Of k c) q refl (ready q b g hq) h)) h ra rb
+    order_holds operator Free (Of k c) a b f g hp hq row h ra rb = order_one operator Free (Of k c) a b f g hp hq row (free_kind k c (order_joint Free (Of k c) refl refl h)) h ra rb
+    order_holds operator Free Unknown a b f g hp hq row h ra rb = absurd hq
+    order_holds operator Free Broken a b f g hp hq row h ra rb = absurd hq
+    order_holds operator Unknown q a b f g hp hq row h ra rb = absurd hp
+    order_holds operator Broken q a b f g hp hq row h ra rb = absurd hp
 
-    equality_holds : (sign : Binary) (p q : Found) (a b f g : Expr) → Holds p a f → Holds q b g → ((k : Kind) → binary_row sign kind.Bool k k ≡ true) → is_broken (equality_part p q) ≡ false
+    equality_holds : (operator : Binary) (p q : Found) (a b f g : Expr) → Holds p a f → Holds q b g → ((k : Kind) → binary_row operator kind.Bool k k ≡ true) → is_broken (equality_part p q) ≡ false
         → taking_refusals (where_it_holds (equality_part p q) (compared (joint p q))) p a ≡ [] → taking_refusals (where_it_holds (equality_part p q) (compared (joint p q))) q b ≡ []
-        → Holds (equality_part p q) (Both' place sign u a v b) (Both' (note_part place (equality_part p q)) sign u (settled_if (where_it_holds (equality_part p q) (compared (joint p q))) p f) v (settled_if (where_it_holds (equality_part p q) (compared (joint p q))) q g))
-    equality_holds sign Free Free a b f g hp hq row h ra rb = one_kind_holds sign Free Free a b f g hp hq a_truth (Some kind.Int64) kind.Bool kind.Int64 refl refl (row kind.Int64) refl refl refl refl ra rb
-    equality_holds sign (Of k c) q a b f g hp hq row h ra rb = equality_one sign (Of k c) q a b f g hp hq row (one_kind k c q (ready q b g hq) (equality_joint (Of k c) q refl (ready q b g hq) h)) h ra rb
-    equality_holds sign Free (Of k c) a b f g hp hq row h ra rb = equality_one sign Free (Of k c) a b f g hp hq row (free_kind k c (equality_joint Free (Of k c) refl refl h)) h ra rb
-    equality_holds sign Free Unknown a b f g hp hq row h ra rb = absurd hq
-    equality_holds sign Free Broken a b f g hp hq row h ra rb = absurd hq
-    equality_holds sign Unknown q a b f g hp hq row h ra rb = absurd hp
-    equality_holds sign Broken q a b f g hp hq row h ra rb = absurd hp
+        → Holds (equality_part p q) (Both' place operator u a v b) (Both' (note_part place (equality_part p q)) operator u (settled_if (where_it_holds (equality_part p q) (compared (joint p q))) p f) v (settled_if (where_it_holds (equality_part p q) (compared (joint p q))) q g))
+    equality_holds operator Free Free a b f g hp hq row h ra rb = one_kind_holds operator Free Free a b f g hp hq a_truth (Some kind.Int64) kind.Bool kind.Int64 refl refl (row kind.Int64) refl refl refl refl ra rb
+    equality_holds operator (Of k c) q a b f g hp hq row h ra rb = equality_one operator (Of k c) q a b f g hp hq row (one_kind k c q (ready q b g hq) (equality_joint (Of k c) q refl (ready q b g hq) h)) h ra rb
+    equality_holds operator Free (Of k c) a b f g hp hq row h ra rb = equality_one operator Free (Of k c) a b f g hp hq row (free_kind k c (equality_joint Free (Of k c) refl refl h)) h ra rb
+    equality_holds operator Free Unknown a b f g hp hq row h ra rb = absurd hq
+    equality_holds operator Free Broken a b f g hp hq row h ra rb = absurd hq
+    equality_holds operator Unknown q a b f g hp hq row h ra rb = absurd hp
+    equality_holds operator Broken q a b f g hp hq row h ra rb = absurd hp
 
     arithmetic_self : (k : Kind) → is_integer k ≡ true → (is_integer k && (same_kind k k && same_kind k k)) ≡ true
     arithmetic_self k i = and_from _ _ i (and_from _ _ (same_self k) (same_self k))
@@ -153,9 +153,9 @@ module _ (z : Scope) where
     order_self : (k : Kind) → is_integer k ≡ true → (is_integer k && same_kind k k) ≡ true
     order_self k i = and_from _ _ i (same_self k)
 
-    pub binary_holds : (sign : Binary) (p q : Found) (a b f g : Expr) → Holds p a f → Holds q b g → is_broken (binary_part sign p q) ≡ false
-        → taking_refusals (operand_kind sign (binary_part sign p q) (joint p q)) p a ≡ [] → taking_refusals (operand_kind sign (binary_part sign p q) (joint p q)) q b ≡ []
-        → Holds (binary_part sign p q) (Both' place sign u a v b) (Both' (note_part place (binary_part sign p q)) sign u (settled_if (operand_kind sign (binary_part sign p q) (joint p q)) p f) v (settled_if (operand_kind sign (binary_part sign p q) (joint p q)) q g))
+    pub binary_holds : (operator : Binary) (p q : Found) (a b f g : Expr) → Holds p a f → Holds q b g → is_broken (binary_part operator p q) ≡ false
+        → taking_refusals (operand_kind operator (binary_part operator p q) (joint p q)) p a ≡ [] → taking_refusals (operand_kind operator (binary_part operator p q) (joint p q)) q b ≡ []
+        → Holds (binary_part operator p q) (Both' place operator u a v b) (Both' (note_part place (binary_part operator p q)) operator u (settled_if (operand_kind operator (binary_part operator p q) (joint p q)) p f) v (settled_if (operand_kind operator (binary_part operator p q) (joint p q)) q g))
     binary_holds binary.Add p q a b f g hp hq h ra rb = arithmetic_holds binary.Add p q a b f g hp hq arithmetic_self h ra rb
     binary_holds binary.Sub p q a b f g hp hq h ra rb = arithmetic_holds binary.Sub p q a b f g hp hq arithmetic_self h ra rb
     binary_holds binary.Mul p q a b f g hp hq h ra rb = arithmetic_holds binary.Mul p q a b f g hp hq arithmetic_self h ra rb

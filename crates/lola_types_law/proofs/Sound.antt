@@ -12,7 +12,7 @@ use Rattle.lola_model.specs.declared.expr.Expr.{Expr}
 use Rattle.lola_model.specs.declared.expr.Expr.TheVariants.{Defaults', Unary', Choice'}
 use Rattle.lola_model.proofs.Build.{Around}
 use Rattle.lola_types.specs.Found.{is_broken, prefix_part, defaults_part, choice_part}
-use Rattle.lola_types.specs.Refused.{taken, sign_refusals, free_refusals, taking_refusals}
+use Rattle.lola_types.specs.Refused.{taken, operator_refusals, free_refusals, taking_refusals}
 use Rattle.lola_types.specs.Filled.{note, note_part, settled, settled_if}
 use Rattle.lola_types.specs.declared.found.Found.{Found}
 use Rattle.lola_types.specs.declared.found.Found.TheVariants.{Of, Free, Unknown, Broken}
@@ -27,17 +27,17 @@ module _ (z : Scope) where
   truth_fits Unknown e m h mk s = absurd h
   truth_fits Broken e m h mk s = absurd h
 
-  -- prefix signs
+  -- prefix operators
 
-  row_at : (sign : Prefix) (k ka la : Kind) → la ≡ ka → prefix_row sign k ka ≡ true → prefix_row sign k la ≡ true
-  row_at sign k ka la p h = subst (λ x. prefix_row sign k x ≡ true) (sym p) h
+  row_at : (operator : Prefix) (k ka la : Kind) → la ≡ ka → prefix_row operator k ka ≡ true → prefix_row operator k la ≡ true
+  row_at operator k ka la p h = subst (λ x. prefix_row operator k x ≡ true) (sym p) h
 
   module _ (place : Place) (u : Around) where
-    unary_fits : (sign : Prefix) (k ka : Kind) (f : Expr) → Fits z ka true f → prefix_row sign k ka ≡ true → Fits z k true (Unary' (note place k) sign u f)
-    unary_fits sign k ka f p r = (and_from _ _ (and_from _ _ (row_at sign k ka (noted f) p.1 r) p.2) p.0, refl, refl)
+    unary_fits : (operator : Prefix) (k ka : Kind) (f : Expr) → Fits z ka true f → prefix_row operator k ka ≡ true → Fits z k true (Unary' (note place k) operator u f)
+    unary_fits operator k ka f p r = (and_from _ _ (and_from _ _ (row_at operator k ka (noted f) p.1 r) p.2) p.0, refl, refl)
 
-    pub prefix_holds : (sign : Prefix) (p : Found) (a f : Expr) → Holds z p a f → is_broken (prefix_part sign p) ≡ false → taking_refusals (taken (prefix_part sign p)) p a ≡ []
-        → Holds z (prefix_part sign p) (Unary' place sign u a) (Unary' (note_part place (prefix_part sign p)) sign u (settled_if (taken (prefix_part sign p)) p f))
+    pub prefix_holds : (operator : Prefix) (p : Found) (a f : Expr) → Holds z p a f → is_broken (prefix_part operator p) ≡ false → taking_refusals (taken (prefix_part operator p)) p a ≡ []
+        → Holds z (prefix_part operator p) (Unary' place operator u a) (Unary' (note_part place (prefix_part operator p)) operator u (settled_if (taken (prefix_part operator p)) p f))
     prefix_holds prefix.Not (Of k c) a f hp h r =
         let i = truth_is (Of k c) refl h in
         subst (λ x. Holds z x (Unary' place prefix.Not u a) (Unary' (note_part place x) prefix.Not u (settled_if (taken x) (Of k c) f))) (sym i.0)
@@ -50,8 +50,8 @@ module _ (z : Scope) where
         subst (λ x. Holds z x (Unary' place prefix.Minus u a) (Unary' (note_part place x) prefix.Minus u (settled_if (taken x) (Of k c) f))) (sym i.0)
         (unary_fits prefix.Minus k k f (fits_at z k k c true f refl i.2 hp) (and_from _ _ i.1 (same_self k)))
     prefix_holds prefix.Minus Free a f hp h r = λ k i q.
-        unary_fits prefix.Minus k k (settled k f) (hp k i (none_right (sign_refusals place.at prefix.Minus k) (free_refusals k a) q))
-        (and_from _ _ (taken_where (is_signed k) _ _ (none_left (sign_refusals place.at prefix.Minus k) (free_refusals k a) q)) (same_self k))
+        unary_fits prefix.Minus k k (settled k f) (hp k i (none_right (operator_refusals place.at prefix.Minus k) (free_refusals k a) q))
+        (and_from _ _ (taken_where (is_signed k) _ _ (none_left (operator_refusals place.at prefix.Minus k) (free_refusals k a) q)) (same_self k))
     prefix_holds prefix.Minus Unknown a f hp h r = absurd hp
     prefix_holds prefix.Minus Broken a f hp h r = absurd hp
 

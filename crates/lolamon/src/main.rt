@@ -16,7 +16,7 @@ use std::sync::Wait;
 use std::thread::{Builder, Promise, Threads};
 use std::time::Clock;
 
-// The stack of the thread that does the work, in bytes. The deepest specifications within the limit of marks take a quarter of it to
+// The stack of the thread that does the work, in bytes. The deepest specifications within the limit of nestings take a quarter of it to
 // be read, so that what the system gives a program does not matter.
 const STACK: usize = 16 * 1024 * 1024;
 

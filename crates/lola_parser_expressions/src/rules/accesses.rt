@@ -45,11 +45,11 @@ fn or_else(alloc: Global, dot: u32, left: Expr, other: Option<Expr>) -> Result<E
 /// Behind the bracket of an offset, `by: -n)`: how many values back, and the place of the number.
 #[tactic(auto, unfolding(lola_parser_grammars_law::specs::Syntax::read, lola_parser_grammars_law::specs::Syntax::first, lola_parser_grammars_law::specs::Syntax::nullable))]
 fn steps_back(parser: &mut Parser<'_>) -> Result<(u128, u32), ParseError>
-    ensures { IsRead (spec.word (codes "by") *> spec.token is.Colon *> spec.mark is.Minus *> spec.integer <* spec.token is.Shut) parser.old result parser.new }
+    ensures { IsRead (spec.word (codes "by") *> spec.token is.Colon *> spec.nesting is.Minus *> spec.integer <* spec.token is.Shut) parser.old result parser.new }
 {
     parser.word(b"by")?;
     parser.take(TokenShape::Colon)?;
-    parser.mark(TokenShape::Minus)?;
+    parser.nesting(TokenShape::Minus)?;
     let found = parser.integer()?;
     parser.take(TokenShape::Shut)?;
     Ok(found)
@@ -60,7 +60,7 @@ fn offset(parser: &mut Parser<'_>, dot: u32) -> Result<Reading, ParseError>
     ensures { IsRead (spec.at_dot dot spec.offset) parser.old result parser.new }
 {
     parser.word(b"offset")?;
-    parser.mark(TokenShape::Open)?;
+    parser.nesting(TokenShape::Open)?;
     let (steps, at) = steps_back(parser)?;
     Ok((Access::Offset(dot, steps, at), None))
 }
@@ -107,7 +107,7 @@ fn window(alloc: Global, parser: &mut Parser<'_>, dot: u32) -> Result<Reading, P
     ensures { IsRead (spec.at_dot dot spec.window) parser.old result parser.new }
 {
     parser.word(b"aggregate")?;
-    parser.mark(TokenShape::Open)?;
+    parser.nesting(TokenShape::Open)?;
     let (is_exact, (length, aggregation)) = windowed(alloc, parser)?;
     parser.take(TokenShape::Shut)?;
     Ok((Access::Window(dot, is_exact, length, aggregation), None))
@@ -142,7 +142,7 @@ impl<F: Fn(Global, &mut Parser<'_>, bool, usize) -> Result<Expr, ParseError>> Ru
         requires { Nests self.now.depth (F.pre self.now.nested) (F.post self.now.nested) }
         ensures { IsRead (spec.arguments (spec.expr_in self.now.depth) (spec.other_in self.now.depth)) parser.old result parser.new }
     {
-        let bracket = parser.mark(TokenShape::Open)?;
+        let bracket = parser.nesting(TokenShape::Open)?;
         let first = self.expr(parser)?;
         let mut all = Items::new(self.alloc);
         all.push(first)?;
@@ -157,7 +157,7 @@ impl<F: Fn(Global, &mut Parser<'_>, bool, usize) -> Result<Expr, ParseError>> Ru
         requires { Nests self.now.depth (F.pre self.now.nested) (F.post self.now.nested) }
         ensures { IsRead (spec.stand_in (spec.expr_in self.now.depth) (spec.other_in self.now.depth)) parser.old result parser.new }
     {
-        parser.mark(TokenShape::Open)?;
+        parser.nesting(TokenShape::Open)?;
         let found = if parser.sees_word(b"or") {
             parser.word(b"or")?;
             parser.take(TokenShape::Colon)?;
@@ -225,7 +225,7 @@ impl<F: Fn(Global, &mut Parser<'_>, bool, usize) -> Result<Expr, ParseError>> Ru
         Ok((Access::Direct, Some(other)))
     }
 
-    #[tactic(auto, unfolding(lola_parser_grammars_law::specs::Syntax::read, lola_parser_grammars_law::specs::Syntax::first, lola_parser_grammars_law::specs::Syntax::nullable, lola_parser_grammar::specs::Grammar::arguments, lola_parser_grammar::specs::Grammar::mark))]
+    #[tactic(auto, unfolding(lola_parser_grammars_law::specs::Syntax::read, lola_parser_grammars_law::specs::Syntax::first, lola_parser_grammars_law::specs::Syntax::nullable, lola_parser_grammar::specs::Grammar::arguments, lola_parser_grammar::specs::Grammar::nesting))]
     fn maybe_arguments(&self, parser: &mut Parser<'_>) -> Result<Option<Arguments>, ParseError>
         requires { Nests self.now.depth (F.pre self.now.nested) (F.post self.now.nested) }
         ensures { IsRead (Maybe (spec.arguments (spec.expr_in self.now.depth) (spec.other_in self.now.depth))) parser.old result parser.new }
@@ -248,7 +248,7 @@ impl<F: Fn(Global, &mut Parser<'_>, bool, usize) -> Result<Expr, ParseError>> Ru
         requires { Nests self.now.depth (F.pre self.now.nested) (F.post self.now.nested) }
         ensures { IsRead (spec.of_name name arguments (spec.dotted (spec.expr_in self.now.depth) (spec.other_in self.now.depth))) parser.old result parser.new }
     {
-        let dot = parser.mark(TokenShape::Dot)?;
+        let dot = parser.nesting(TokenShape::Dot)?;
         let (access, other) = self.reading(parser, dot)?;
         let named = reference(self.alloc, name, arguments, access);
         Ok(or_else(self.alloc, dot, named, other)?)
@@ -270,7 +270,7 @@ impl<F: Fn(Global, &mut Parser<'_>, bool, usize) -> Result<Expr, ParseError>> Ru
     }
 
     /// An operand that begins with a name.
-    #[tactic(auto, unfolding(lola_parser_grammars_law::specs::Syntax::read, lola_parser_grammars_law::specs::Syntax::first, lola_parser_grammars_law::specs::Syntax::nullable, lola_parser_grammar::specs::Grammar::named, lola_parser_grammar::specs::Grammar::suffix, lola_parser_grammar::specs::Grammar::dotted, lola_parser_grammar::specs::Grammar::mark))]
+    #[tactic(auto, unfolding(lola_parser_grammars_law::specs::Syntax::read, lola_parser_grammars_law::specs::Syntax::first, lola_parser_grammars_law::specs::Syntax::nullable, lola_parser_grammar::specs::Grammar::named, lola_parser_grammar::specs::Grammar::suffix, lola_parser_grammar::specs::Grammar::dotted, lola_parser_grammar::specs::Grammar::nesting))]
     pub(crate) fn named(&self, parser: &mut Parser<'_>) -> Result<Expr, ParseError>
         requires { Nests self.now.depth (F.pre self.now.nested) (F.post self.now.nested) }
         ensures { IsRead (spec.named (spec.expr_in self.now.depth) (spec.other_in self.now.depth)) parser.old result parser.new }

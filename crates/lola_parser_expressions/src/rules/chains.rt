@@ -1,4 +1,4 @@
-//! Operands with signs between them, which are joined from the left.
+//! Operands with operators between them, which are joined from the left.
 
 ghost use Rattle.std.specs.Prelude.{◌≡◌};
 ghost use Rattle.lola_parser_grammar.specs.Cursor.{IsRead};
@@ -8,7 +8,7 @@ ghost use Rattle.lola_parser_expressions.specs.Nests.{Nests};
 use super::Rules;
 use lola_parser_cursor::cursor::Parser;
 use lola_parser_cursor::joined::binary;
-use lola_parser_cursor::signs;
+use lola_parser_cursor::operators;
 use lola_parser_grammar::error::ParseError;
 use lola_parser_tree::expressions::Expr;
 use std::alloc::Global;
@@ -22,7 +22,7 @@ impl<F: Fn(Global, &mut Parser<'_>, bool, usize) -> Result<Expr, ParseError>> Ru
     {
         let mut left = start;
         for _turn in 0..parser.left() {
-            let Some((op, at)) = signs::product_sign(parser)? else {
+            let Some((op, at)) = operators::product_operator(parser)? else {
                 return Ok(left);
             };
             let right = self.unary(parser)?;
@@ -44,11 +44,11 @@ impl<F: Fn(Global, &mut Parser<'_>, bool, usize) -> Result<Expr, ParseError>> Ru
     #[tactic(auto, unfolding(lola_parser_grammars_law::specs::Syntax::read, lola_parser_grammars_law::specs::Syntax::first, lola_parser_grammars_law::specs::Syntax::nullable))]
     fn further_sums(&self, parser: &mut Parser<'_>, start: Expr) -> Result<Expr, ParseError>
         requires { Nests self.now.depth (F.pre self.now.nested) (F.post self.now.nested) }
-        ensures { IsRead (spec.onto start (spec.joined spec.sum_signs (spec.product (spec.expr_in self.now.depth) (spec.other_in self.now.depth)))) parser.old result parser.new }
+        ensures { IsRead (spec.onto start (spec.joined spec.sum_operators (spec.product (spec.expr_in self.now.depth) (spec.other_in self.now.depth)))) parser.old result parser.new }
     {
         let mut left = start;
         for _turn in 0..parser.left() {
-            let Some((op, at)) = signs::sum_sign(parser)? else {
+            let Some((op, at)) = operators::sum_operator(parser)? else {
                 return Ok(left);
             };
             let right = self.product(parser)?;
@@ -79,9 +79,9 @@ impl<F: Fn(Global, &mut Parser<'_>, bool, usize) -> Result<Expr, ParseError>> Ru
     #[tactic(auto, unfolding(lola_parser_grammars_law::specs::Syntax::read, lola_parser_grammars_law::specs::Syntax::first, lola_parser_grammars_law::specs::Syntax::nullable))]
     fn further_comparison(&self, parser: &mut Parser<'_>, start: Expr) -> Result<Expr, ParseError>
         requires { Nests self.now.depth (F.pre self.now.nested) (F.post self.now.nested) }
-        ensures { IsRead (spec.onto start (spec.joined_once spec.comparison_signs (spec.sum (spec.expr_in self.now.depth) (spec.other_in self.now.depth)))) parser.old result parser.new }
+        ensures { IsRead (spec.onto start (spec.joined_once spec.comparison_operators (spec.sum (spec.expr_in self.now.depth) (spec.other_in self.now.depth)))) parser.old result parser.new }
     {
-        let Some((op, at)) = signs::comparison_sign(parser)? else {
+        let Some((op, at)) = operators::comparison_operator(parser)? else {
             return Ok(start);
         };
         let right = self.sum(parser)?;
@@ -110,11 +110,11 @@ impl<F: Fn(Global, &mut Parser<'_>, bool, usize) -> Result<Expr, ParseError>> Ru
     #[tactic(auto, unfolding(lola_parser_grammars_law::specs::Syntax::read, lola_parser_grammars_law::specs::Syntax::first, lola_parser_grammars_law::specs::Syntax::nullable))]
     fn further_conjunctions(&self, parser: &mut Parser<'_>, start: Expr) -> Result<Expr, ParseError>
         requires { Nests self.now.depth (F.pre self.now.nested) (F.post self.now.nested) }
-        ensures { IsRead (spec.onto start (spec.joined spec.and_signs (spec.comparison (spec.expr_in self.now.depth) (spec.other_in self.now.depth)))) parser.old result parser.new }
+        ensures { IsRead (spec.onto start (spec.joined spec.and_operators (spec.comparison (spec.expr_in self.now.depth) (spec.other_in self.now.depth)))) parser.old result parser.new }
     {
         let mut left = start;
         for _turn in 0..parser.left() {
-            let Some((op, at)) = signs::and_sign(parser)? else {
+            let Some((op, at)) = operators::and_operator(parser)? else {
                 return Ok(left);
             };
             let right = self.comparison(parser)?;
@@ -145,11 +145,11 @@ impl<F: Fn(Global, &mut Parser<'_>, bool, usize) -> Result<Expr, ParseError>> Ru
     #[tactic(auto, unfolding(lola_parser_grammars_law::specs::Syntax::read, lola_parser_grammars_law::specs::Syntax::first, lola_parser_grammars_law::specs::Syntax::nullable))]
     fn further_disjunctions(&self, parser: &mut Parser<'_>, start: Expr) -> Result<Expr, ParseError>
         requires { Nests self.now.depth (F.pre self.now.nested) (F.post self.now.nested) }
-        ensures { IsRead (spec.onto start (spec.joined spec.or_signs (spec.conjunction (spec.expr_in self.now.depth) (spec.other_in self.now.depth)))) parser.old result parser.new }
+        ensures { IsRead (spec.onto start (spec.joined spec.or_operators (spec.conjunction (spec.expr_in self.now.depth) (spec.other_in self.now.depth)))) parser.old result parser.new }
     {
         let mut left = start;
         for _turn in 0..parser.left() {
-            let Some((op, at)) = signs::or_sign(parser)? else {
+            let Some((op, at)) = operators::or_operator(parser)? else {
                 return Ok(left);
             };
             let right = self.conjunction(parser)?;

@@ -38,13 +38,13 @@ impl<F: Fn(Global, &mut Parser<'_>, bool, usize) -> Result<Expr, ParseError>> Ru
         ensures { IsRead (spec.default (spec.expr_in self.now.depth) (spec.other_in self.now.depth)) parser.old result parser.new }
     {
         parser.word(b"defaults")?;
-        parser.mark(TokenShape::Open)?;
+        parser.nesting(TokenShape::Open)?;
         let found = self.default_value(parser)?;
         Ok(found)
     }
 
     /// The defaults behind an operand.
-    #[tactic(auto, unfolding(lola_parser_grammars_law::specs::Syntax::read, lola_parser_grammars_law::specs::Syntax::first, lola_parser_grammars_law::specs::Syntax::nullable, lola_parser_grammar::specs::Grammar::defaults, lola_parser_grammar::specs::Grammar::dotted_default, lola_parser_grammar::specs::Grammar::mark))]
+    #[tactic(auto, unfolding(lola_parser_grammars_law::specs::Syntax::read, lola_parser_grammars_law::specs::Syntax::first, lola_parser_grammars_law::specs::Syntax::nullable, lola_parser_grammar::specs::Grammar::defaults, lola_parser_grammar::specs::Grammar::dotted_default, lola_parser_grammar::specs::Grammar::nesting))]
     pub(crate) fn with_defaults(
         &self,
         parser: &mut Parser<'_>,
@@ -58,7 +58,7 @@ impl<F: Fn(Global, &mut Parser<'_>, bool, usize) -> Result<Expr, ParseError>> Ru
             if !parser.sees(TokenShape::Dot) {
                 return Ok(left);
             }
-            let dot = parser.mark(TokenShape::Dot)?;
+            let dot = parser.nesting(TokenShape::Dot)?;
             let other = self.default(parser)?;
             left = defaults(self.alloc, dot, left, other)?;
         }
@@ -82,7 +82,7 @@ impl<F: Fn(Global, &mut Parser<'_>, bool, usize) -> Result<Expr, ParseError>> Ru
         requires { Nests self.now.depth (F.pre self.now.nested) (F.post self.now.nested) }
         ensures { IsRead (spec.bracketed (spec.expr_in self.now.depth) (spec.other_in self.now.depth)) parser.old result parser.new }
     {
-        parser.mark(TokenShape::Open)?;
+        parser.nesting(TokenShape::Open)?;
         let found = self.expr(parser)?;
         parser.take(TokenShape::Shut)?;
         self.with_defaults(parser, found)
@@ -102,7 +102,7 @@ impl<F: Fn(Global, &mut Parser<'_>, bool, usize) -> Result<Expr, ParseError>> Ru
         requires { Nests self.now.depth (F.pre self.now.nested) (F.post self.now.nested) }
         ensures { IsRead (spec.negation (spec.expr_in self.now.depth) (spec.other_in self.now.depth)) parser.old result parser.new }
     {
-        let at = parser.mark(TokenShape::Not)?;
+        let at = parser.nesting(TokenShape::Not)?;
         let inner = self.operand(parser)?;
         Ok(prefix(self.alloc, Prefix::Not, at, inner)?)
     }
@@ -125,7 +125,7 @@ impl<F: Fn(Global, &mut Parser<'_>, bool, usize) -> Result<Expr, ParseError>> Ru
         requires { Nests self.now.depth (F.pre self.now.nested) (F.post self.now.nested) }
         ensures { IsRead (spec.minus (spec.expr_in self.now.depth) (spec.other_in self.now.depth)) parser.old result parser.new }
     {
-        let at = parser.mark(TokenShape::Minus)?;
+        let at = parser.nesting(TokenShape::Minus)?;
         if parser.sees(TokenShape::Integer) {
             let (number, _) = parser.integer()?;
             let value = Value::Integer(true, number);
@@ -136,7 +136,7 @@ impl<F: Fn(Global, &mut Parser<'_>, bool, usize) -> Result<Expr, ParseError>> Ru
     }
 
     /// An operand that begins with no integer and no bracket.
-    #[tactic(auto, using(lola_parser_cursor::proofs::Starts::starts_more), unfolding(lola_parser_grammars_law::specs::Syntax::read, lola_parser_grammars_law::specs::Syntax::first, lola_parser_grammars_law::specs::Syntax::nullable, lola_parser_grammar::specs::Grammar::plain, lola_parser_grammar::specs::Grammar::negation, lola_parser_grammar::specs::Grammar::minus, lola_parser_grammar::specs::Grammar::named, lola_parser_grammar::specs::Grammar::name, lola_parser_grammar::specs::Grammar::mark))]
+    #[tactic(auto, using(lola_parser_cursor::proofs::Starts::starts_more), unfolding(lola_parser_grammars_law::specs::Syntax::read, lola_parser_grammars_law::specs::Syntax::first, lola_parser_grammars_law::specs::Syntax::nullable, lola_parser_grammar::specs::Grammar::plain, lola_parser_grammar::specs::Grammar::negation, lola_parser_grammar::specs::Grammar::minus, lola_parser_grammar::specs::Grammar::named, lola_parser_grammar::specs::Grammar::name, lola_parser_grammar::specs::Grammar::nesting))]
     pub(crate) fn plain(&self, parser: &mut Parser<'_>) -> Result<Expr, ParseError>
         requires { Nests self.now.depth (F.pre self.now.nested) (F.post self.now.nested) }
         ensures { IsRead (spec.plain (spec.expr_in self.now.depth) (spec.other_in self.now.depth)) parser.old result parser.new }
@@ -154,7 +154,7 @@ impl<F: Fn(Global, &mut Parser<'_>, bool, usize) -> Result<Expr, ParseError>> Ru
     }
 
     /// An operand that begins with no integer.
-    #[tactic(auto, unfolding(lola_parser_grammars_law::specs::Syntax::read, lola_parser_grammars_law::specs::Syntax::first, lola_parser_grammars_law::specs::Syntax::nullable, lola_parser_grammar::specs::Grammar::other_with, lola_parser_grammar::specs::Grammar::bracketed, lola_parser_grammar::specs::Grammar::mark))]
+    #[tactic(auto, unfolding(lola_parser_grammars_law::specs::Syntax::read, lola_parser_grammars_law::specs::Syntax::first, lola_parser_grammars_law::specs::Syntax::nullable, lola_parser_grammar::specs::Grammar::other_with, lola_parser_grammar::specs::Grammar::bracketed, lola_parser_grammar::specs::Grammar::nesting))]
     pub(crate) fn other_with(&self, parser: &mut Parser<'_>) -> Result<Expr, ParseError>
         requires { Nests self.now.depth (F.pre self.now.nested) (F.post self.now.nested) }
         ensures { IsRead (spec.other_with (spec.expr_in self.now.depth) (spec.other_in self.now.depth)) parser.old result parser.new }

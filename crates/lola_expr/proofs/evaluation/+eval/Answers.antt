@@ -108,16 +108,16 @@ evaluate-with_prefix-requires g t c κs within =
     let d = c.decreases in
     let z : size_of c.args.expr.now ≡ 1 + size_of c.in-Unary.a.value = ap size_of c.in-Unary.is in
     let s0 = ap size_of c.deref-in-Unary.ensures in
-    (omega (arith, d, z, s0), (search rules, (c.requires.running, (c.requires.count, (ap (can_ask (g.S.StreamStore.seen c.args.store.now) c.args.params.now) c.deref-in-Unary.ensures ∙ f.part, ap (λ e. prefix_row c.in-Unary.sign (kind_of c.in-Unary.place) (noted e)) c.deref-in-Unary.ensures ∙ f.row)))))
+    (omega (arith, d, z, s0), (search rules, (c.requires.running, (c.requires.count, (ap (can_ask (g.S.StreamStore.seen c.args.store.now) c.args.params.now) c.deref-in-Unary.ensures ∙ f.part, ap (λ e. prefix_row c.in-Unary.operator (kind_of c.in-Unary.place) (noted e)) c.deref-in-Unary.ensures ∙ f.row)))))
 
-pub evaluate-with_sign-requires : goal.evaluate-with_sign-requires
-evaluate-with_sign-requires g t c κs within =
+pub evaluate-with_operator-requires : goal.evaluate-with_operator-requires
+evaluate-with_operator-requires g t c κs within =
     let f = both_facts (g.S.StreamStore.seen c.args.store.now) c.args.params.now c.args.expr.now _ _ _ _ _ _ c.in-Both.is c.requires.asks in
     let d = c.decreases in
     let z : size_of c.args.expr.now ≡ 1 + (size_of c.in-Both.a.value + size_of c.in-Both.b.value) = ap size_of c.in-Both.is in
     let s0 = ap size_of c.deref-in-Both.ensures in
     let s1 = ap size_of c.deref-in-Both-2.ensures in
-    (omega (arith, d, z, s0, s1), (search rules, (c.requires.running, (c.requires.count, (ap (can_ask (g.S.StreamStore.seen c.args.store.now) c.args.params.now) c.deref-in-Both.ensures ∙ f.left, (ap (can_ask (g.S.StreamStore.seen c.args.store.now) c.args.params.now) c.deref-in-Both-2.ensures ∙ f.right, ap (λ e. binary_row c.in-Both.sign (kind_of c.in-Both.place) (noted e) (noted c.deref-in-Both-2.result.now)) c.deref-in-Both.ensures ∙ (ap (λ e. binary_row c.in-Both.sign (kind_of c.in-Both.place) (noted c.in-Both.a.value) (noted e)) c.deref-in-Both-2.ensures ∙ f.row)))))))
+    (omega (arith, d, z, s0, s1), (search rules, (c.requires.running, (c.requires.count, (ap (can_ask (g.S.StreamStore.seen c.args.store.now) c.args.params.now) c.deref-in-Both.ensures ∙ f.left, (ap (can_ask (g.S.StreamStore.seen c.args.store.now) c.args.params.now) c.deref-in-Both-2.ensures ∙ f.right, ap (λ e. binary_row c.in-Both.operator (kind_of c.in-Both.place) (noted e) (noted c.deref-in-Both-2.result.now)) c.deref-in-Both.ensures ∙ (ap (λ e. binary_row c.in-Both.operator (kind_of c.in-Both.place) (noted c.in-Both.a.value) (noted e)) c.deref-in-Both-2.ensures ∙ f.row)))))))
 
 pub evaluate-choice-requires : goal.evaluate-choice-requires
 evaluate-choice-requires g t c κs within =
@@ -174,10 +174,10 @@ evaluate-returns-in-Defaults-clause-kind g t c =
 pub evaluate-returns-in-Both-clause-value : goal.evaluate-returns-in-Both-clause-value
 evaluate-returns-in-Both-clause-value g t c = λ plan names c' h n.
     let w = each_both (part_is_named names plan.spec.texts) c.args.expr.now _ _ _ _ _ _ c.in-Both.is n in
-    let r = c.with_sign.ensures.value plan names c' h (ap (is_named names plan.spec.texts) c.deref-in-Both.ensures ∙ w.0) (ap (is_named names plan.spec.texts) c.deref-in-Both-2.ensures ∙ w.1) in (
+    let r = c.with_operator.ensures.value plan names c' h (ap (is_named names plan.spec.texts) c.deref-in-Both.ensures ∙ w.0) (ap (is_named names plan.spec.texts) c.deref-in-Both-2.ensures ∙ w.1) in (
       r.0
-          ∙ (ap (λ e. joined c.in-Both.sign (kind_of c.in-Both.place) (den plan.spec c' (read_params names c.args.params.now) e) (den plan.spec c' (read_params names c.args.params.now) c.deref-in-Both-2.result.now)) c.deref-in-Both.ensures
-          ∙ (ap (λ e. joined c.in-Both.sign (kind_of c.in-Both.place) (den plan.spec c' (read_params names c.args.params.now) c.in-Both.a.value) (den plan.spec c' (read_params names c.args.params.now) e)) c.deref-in-Both-2.ensures
+          ∙ (ap (λ e. joined c.in-Both.operator (kind_of c.in-Both.place) (den plan.spec c' (read_params names c.args.params.now) e) (den plan.spec c' (read_params names c.args.params.now) c.deref-in-Both-2.result.now)) c.deref-in-Both.ensures
+          ∙ (ap (λ e. joined c.in-Both.operator (kind_of c.in-Both.place) (den plan.spec c' (read_params names c.args.params.now) c.in-Both.a.value) (den plan.spec c' (read_params names c.args.params.now) e)) c.deref-in-Both-2.ensures
           ∙ ap (λ e. den plan.spec c' (read_params names c.args.params.now) e) (sym c.in-Both.is))),
       r.1,
     )
@@ -224,31 +224,31 @@ gather-returns-in-Err-clause-err g t c = λ plan names c' h n.
 
 pub with_prefix-negate-requires : goal.with_prefix-negate-requires
 with_prefix-negate-requires g t c =
-    ap (λ k. operand_fits c.args.sign k c.in-Value.v) c.kind_at.ensures
-    ∙ prefix_fits c.args.sign (kind_of c.args.place.now) (noted c.args.a.now) c.in-Value.v c.requires.row c.in-Value.ensures.kind
+    ap (λ k. operand_fits c.args.operator k c.in-Value.v) c.kind_at.ensures
+    ∙ prefix_fits c.args.operator (kind_of c.args.place.now) (noted c.args.a.now) c.in-Value.v c.requires.row c.in-Value.ensures.kind
 
-pub with_sign-operate-requires : goal.with_sign-operate-requires
-with_sign-operate-requires g t c =
-    ap (λ k. operands_fit c.args.sign k c.in-Value.x c.in-Value-right.y) c.kind_at.ensures
-    ∙ binary_fits c.args.sign (kind_of c.args.place.now) (noted c.args.a.now) (noted c.args.b.now) c.in-Value.x c.in-Value-right.y c.requires.row c.in-Value.ensures.kind c.in-Value-right.ensures.kind
+pub with_operator-operate-requires : goal.with_operator-operate-requires
+with_operator-operate-requires g t c =
+    ap (λ k. operands_fit c.args.operator k c.in-Value.x c.in-Value-right.y) c.kind_at.ensures
+    ∙ binary_fits c.args.operator (kind_of c.args.place.now) (noted c.args.a.now) (noted c.args.b.now) c.in-Value.x c.in-Value-right.y c.requires.row c.in-Value.ensures.kind c.in-Value-right.ensures.kind
 
-pub with_sign-returns-in-Value-right-clause-value : goal.with_sign-returns-in-Value-right-clause-value
-with_sign-returns-in-Value-right-clause-value g t c = λ plan names c' h n0 n1.
+pub with_operator-returns-in-Value-right-clause-value : goal.with_operator-returns-in-Value-right-clause-value
+with_operator-returns-in-Value-right-clause-value g t c = λ plan names c' h n0 n1.
     let a = c.in-Value.ensures.value plan names c' h n0 in
     let b = c.in-Value-right.ensures.value plan names c' h n1 in (
-      joined_both c.args.sign (kind_of c.args.place.now) names c.in-Value.x c.in-Value-right.y (read_outcome names c.operate.result) (den plan.spec c' (read_params names c.args.params.now) c.args.a.now) (den plan.spec c' (read_params names c.args.params.now) c.args.b.now)
+      joined_both c.args.operator (kind_of c.args.place.now) names c.in-Value.x c.in-Value-right.y (read_outcome names c.operate.result) (den plan.spec c' (read_params names c.args.params.now) c.args.a.now) (den plan.spec c' (read_params names c.args.params.now) c.args.b.now)
           (sym c.is_decided.ensures ∙ c.if-is_decided.false) a.0 b.0
-          (c.operate.ensures.value names h.naming a.1 b.1 ∙ ap (λ k. operated c.args.sign k (read names c.in-Value.x) (read names c.in-Value-right.y)) c.kind_at.ensures),
+          (c.operate.ensures.value names h.naming a.1 b.1 ∙ ap (λ k. operated c.args.operator k (read names c.in-Value.x) (read names c.in-Value-right.y)) c.kind_at.ensures),
       c.operate.ensures.held names b.1,
     )
 
-pub with_sign-returns-in_default-right : goal.with_sign-returns-in_default-right
-with_sign-returns-in_default-right g t c =
+pub with_operator-returns-in_default-right : goal.with_operator-returns-in_default-right
+with_operator-returns-in_default-right g t c =
     record {
       value = λ plan names c' h n0 n1.
           let a = c.in-Value.ensures.value plan names c' h n0 in
           let b = c.evaluate-right.ensures.value plan names c' h n1 in (
-            joined_stays c.args.sign (kind_of c.args.place.now) names c.in-Value.x c.evaluate-right.result (den plan.spec c' (read_params names c.args.params.now) c.args.a.now) (den plan.spec c' (read_params names c.args.params.now) c.args.b.now)
+            joined_stays c.args.operator (kind_of c.args.place.now) names c.in-Value.x c.evaluate-right.result (den plan.spec c' (read_params names c.args.params.now) c.args.a.now) (den plan.spec c' (read_params names c.args.params.now) c.args.b.now)
                 (sym c.is_decided.ensures ∙ c.if-is_decided.false) c.in_default-right.not-Value a.0 b.0,
             b.1,
           );

@@ -12,8 +12,8 @@ decreases-or_default g l = 3 * (size_of l.a.now + size_of l.b.now) + 1
 abbrev pub decreases-with_prefix : goal.decreases-with_prefix
 decreases-with_prefix g l = 3 * size_of l.a.now + 1
 
-abbrev pub decreases-with_sign : goal.decreases-with_sign
-decreases-with_sign g l = 3 * (size_of l.a.now + size_of l.b.now) + 1
+abbrev pub decreases-with_operator : goal.decreases-with_operator
+decreases-with_operator g l = 3 * (size_of l.a.now + size_of l.b.now) + 1
 
 abbrev pub decreases-choice : goal.decreases-choice
 decreases-choice g l = 3 * (size_of l.test.now + (size_of l.a.now + size_of l.b.now)) + 1

@@ -8,7 +8,7 @@ use Rattle.lola_value.specs.Shorts.{value_in, widened}
 use Rattle.lola_expr_code.proofs.Means.{Means}
 use Rattle.lola_expr_code.proofs.Runs.{comes_to}
 use Rattle.lola_expr_code.proofs.Shorts.{is_no_value, is_the_value, not_missing}
-use Rattle.lola_expr_code.proofs.Steps.{back_taken, direct_taken, ended, false_none, false_off, given_taken, jumps, newest_taken, no_argument, no_operand, none_kept, now_taken, sign_taken, test_none, test_off, there_already, true_off}
+use Rattle.lola_expr_code.proofs.Steps.{back_taken, direct_taken, ended, false_none, false_off, given_taken, jumps, newest_taken, no_argument, no_operand, none_kept, now_taken, operator_taken, test_none, test_off, there_already, true_off}
 use Rattle.lola_expr_code.proofs.machine.run_code.Goals as goal
 
 pub run-init : goal.run-init
@@ -48,7 +48,7 @@ run-preserved-else-is_value-2 g c =
     jumps remembers seen c.args.params.now wanted c.run.code.now c.in-Some.rest.now c.past-code-else-is_value-2.result.now c.in-Some.instr.now c.in-KeepArgument.n (widened c.run.hand) c.run.stack c.let_go.new.stack c.in-Some.ensures.cases.0 c.past-code-else-is_value-2.ensures.rest
     (no_argument remembers seen c.args.params.now wanted c.in-Some.rest.now c.in-Some.instr.now c.in-KeepArgument.n c.in-KeepArgument.count (widened c.run.hand) c.run.stack c.let_go.new.stack c.in-KeepArgument.is c.let_go.ensures.rest (is_no_value c.run.hand (sym c.is_value-in-KeepArgument.ensures ∙ c.if-is_value-2.false))) i
 
--- the operands that a sign takes
+-- the operands that an operator takes
 pub joined-hand-requires : goal.joined-hand-requires
 joined-hand-requires g c =
     let remembers = g.S.StreamStore.remembers c.args.store.now in
@@ -56,7 +56,7 @@ joined-hand-requires g c =
     let wanted : Outcome → Type 0 = λ r. Means remembers seen c.args.params.now c.args._expr.now r in
     let i = c.run.invariant in
     let h = subst (λ l. Leads remembers seen c.args.params.now wanted l 0 (widened c.run.hand) c.run.stack) c.in-Some.ensures.cases.0 i in
-    (sign_taken remembers seen c.args.params.now wanted c.in-Some.rest.now c.in-Some.instr.now c.in-Sign.sign c.in-Sign.kind (value_in c.in-Some-pop.left) (value_in c.run.hand) (widened c.run.hand) c.run.stack c.pop.new.self c.in-Sign.is
+    (operator_taken remembers seen c.args.params.now wanted c.in-Some.rest.now c.in-Some.instr.now c.in-Operator.operator c.in-Operator.kind (value_in c.in-Some-pop.left) (value_in c.run.hand) (widened c.run.hand) c.run.stack c.pop.new.self c.in-Operator.is
     (is_the_value c.run.hand (sym c.is_value-in-Some-pop.ensures ∙ c.if-is_value-4.true)) c.in-Some-pop.ensures h).0
 
 pub joined-hand-requires-then-is_value-5 : goal.joined-hand-requires-then-is_value-5
@@ -66,8 +66,8 @@ joined-hand-requires-then-is_value-5 g c =
     let wanted : Outcome → Type 0 = λ r. Means remembers seen c.args.params.now c.args._expr.now r in
     let i = c.run.invariant in
     let h = subst (λ l. Leads remembers seen c.args.params.now wanted l 0 (widened c.run.hand) c.run.stack) c.in-Some.ensures.cases.0 i in
-    (given_taken remembers seen c.args.params.now wanted c.in-Some.rest.now c.in-Some.instr.now c.in-SignGiven.sign c.in-SignGiven.kind c.in-SignGiven.v (value_in c.run.hand) (widened c.run.hand) c.run.stack c.in-SignGiven.is
-    (is_the_value c.run.hand (sym c.is_value-in-SignGiven.ensures ∙ c.if-is_value-5.true)) h).0
+    (given_taken remembers seen c.args.params.now wanted c.in-Some.rest.now c.in-Some.instr.now c.in-OperatorGiven.operator c.in-OperatorGiven.kind c.in-OperatorGiven.v (value_in c.run.hand) (widened c.run.hand) c.run.stack c.in-OperatorGiven.is
+    (is_the_value c.run.hand (sym c.is_value-in-OperatorGiven.ensures ∙ c.if-is_value-5.true)) h).0
 
 -- and where the right one is what a stream answers, or a literal
 pub joined-hand-requires-then-is_value-7 : goal.joined-hand-requires-then-is_value-7
@@ -77,11 +77,11 @@ joined-hand-requires-then-is_value-7 g c =
     let wanted : Outcome → Type 0 = λ r. Means remembers seen c.args.params.now c.args._expr.now r in
     let i = c.run.invariant in
     let h = subst (λ l. Leads remembers seen c.args.params.now wanted l 0 (widened c.run.hand) c.run.stack) c.in-Some.ensures.cases.0 i in
-    let asked = now_taken remembers seen c.args.params.now wanted c.in-Some.rest.now c.in-Some.instr.now c.in-SignNowOr.sign c.in-SignNowOr.kind c.in-SignNowOr.stream c.in-SignNowOr.v (value_in c.run.hand) (widened c.run.hand) c.run.stack c.in-SignNowOr.is
-    (is_the_value c.run.hand (sym c.is_value-in-SignNowOr.ensures ∙ c.if-is_value-6.true)) h in
-    let right = subst (λ (o : Outcome). Leads remembers seen c.args.params.now wanted (instr.Sign c.in-SignNowOr.sign c.in-SignNowOr.kind ∷ c.in-Some.rest.now) 0 o (value_in c.run.hand ∷ c.run.stack)) (sym c.or_given-right.ensures)
+    let asked = now_taken remembers seen c.args.params.now wanted c.in-Some.rest.now c.in-Some.instr.now c.in-OperatorNowOr.operator c.in-OperatorNowOr.kind c.in-OperatorNowOr.stream c.in-OperatorNowOr.v (value_in c.run.hand) (widened c.run.hand) c.run.stack c.in-OperatorNowOr.is
+    (is_the_value c.run.hand (sym c.is_value-in-OperatorNowOr.ensures ∙ c.if-is_value-6.true)) h in
+    let right = subst (λ (o : Outcome). Leads remembers seen c.args.params.now wanted (instr.Operator c.in-OperatorNowOr.operator c.in-OperatorNowOr.kind ∷ c.in-Some.rest.now) 0 o (value_in c.run.hand ∷ c.run.stack)) (sym c.or_given-right.ensures)
     (asked.3 (widened c.read_now-then-is_value-6.result) c.read_now-then-is_value-6.ensures) in
-    (sign_taken remembers seen c.args.params.now wanted c.in-Some.rest.now (instr.Sign c.in-SignNowOr.sign c.in-SignNowOr.kind) c.in-SignNowOr.sign c.in-SignNowOr.kind (value_in c.run.hand) (value_in c.or_given-right.result) (widened c.or_given-right.result)
+    (operator_taken remembers seen c.args.params.now wanted c.in-Some.rest.now (instr.Operator c.in-OperatorNowOr.operator c.in-OperatorNowOr.kind) c.in-OperatorNowOr.operator c.in-OperatorNowOr.kind (value_in c.run.hand) (value_in c.or_given-right.result) (widened c.or_given-right.result)
     (value_in c.run.hand ∷ c.run.stack) c.run.stack refl (is_the_value c.or_given-right.result (sym c.is_value-then-is_value-6.ensures ∙ c.if-is_value-7.true)) refl right).0
 
 pub run-preserved-else-is_value-7 : goal.run-preserved-else-is_value-7
@@ -91,11 +91,11 @@ run-preserved-else-is_value-7 g c =
     let wanted : Outcome → Type 0 = λ r. Means remembers seen c.args.params.now c.args._expr.now r in
     let i = c.run.invariant in
     let h = subst (λ l. Leads remembers seen c.args.params.now wanted l 0 (widened c.run.hand) c.run.stack) c.in-Some.ensures.cases.0 i in
-    let asked = now_taken remembers seen c.args.params.now wanted c.in-Some.rest.now c.in-Some.instr.now c.in-SignNowOr.sign c.in-SignNowOr.kind c.in-SignNowOr.stream c.in-SignNowOr.v (value_in c.run.hand) (widened c.run.hand) c.run.stack c.in-SignNowOr.is
-    (is_the_value c.run.hand (sym c.is_value-in-SignNowOr.ensures ∙ c.if-is_value-6.true)) h in
-    let right = subst (λ (o : Outcome). Leads remembers seen c.args.params.now wanted (instr.Sign c.in-SignNowOr.sign c.in-SignNowOr.kind ∷ c.in-Some.rest.now) 0 o (value_in c.run.hand ∷ c.run.stack)) (sym c.or_given-right.ensures)
+    let asked = now_taken remembers seen c.args.params.now wanted c.in-Some.rest.now c.in-Some.instr.now c.in-OperatorNowOr.operator c.in-OperatorNowOr.kind c.in-OperatorNowOr.stream c.in-OperatorNowOr.v (value_in c.run.hand) (widened c.run.hand) c.run.stack c.in-OperatorNowOr.is
+    (is_the_value c.run.hand (sym c.is_value-in-OperatorNowOr.ensures ∙ c.if-is_value-6.true)) h in
+    let right = subst (λ (o : Outcome). Leads remembers seen c.args.params.now wanted (instr.Operator c.in-OperatorNowOr.operator c.in-OperatorNowOr.kind ∷ c.in-Some.rest.now) 0 o (value_in c.run.hand ∷ c.run.stack)) (sym c.or_given-right.ensures)
     (asked.3 (widened c.read_now-then-is_value-6.result) c.read_now-then-is_value-6.ensures) in
-    no_operand remembers seen c.args.params.now wanted c.in-Some.rest.now c.in-SignNowOr.sign c.in-SignNowOr.kind (value_in c.run.hand) (widened c.or_given-right.result) c.run.stack
+    no_operand remembers seen c.args.params.now wanted c.in-Some.rest.now c.in-OperatorNowOr.operator c.in-OperatorNowOr.kind (value_in c.run.hand) (widened c.or_given-right.result) c.run.stack
     (is_no_value c.or_given-right.result (sym c.is_value-then-is_value-6.ensures ∙ c.if-is_value-7.false)) right
 
 pub joined-hand-requires-then-is_value-9 : goal.joined-hand-requires-then-is_value-9
@@ -105,11 +105,11 @@ joined-hand-requires-then-is_value-9 g c =
     let wanted : Outcome → Type 0 = λ r. Means remembers seen c.args.params.now c.args._expr.now r in
     let i = c.run.invariant in
     let h = subst (λ l. Leads remembers seen c.args.params.now wanted l 0 (widened c.run.hand) c.run.stack) c.in-Some.ensures.cases.0 i in
-    let asked = newest_taken remembers seen c.args.params.now wanted c.in-Some.rest.now c.in-Some.instr.now c.in-SignNewestOr.sign c.in-SignNewestOr.kind c.in-SignNewestOr.stream c.in-SignNewestOr.v (value_in c.run.hand) (widened c.run.hand) c.run.stack c.in-SignNewestOr.is
-    (is_the_value c.run.hand (sym c.is_value-in-SignNewestOr.ensures ∙ c.if-is_value-8.true)) h in
-    let right = subst (λ (o : Outcome). Leads remembers seen c.args.params.now wanted (instr.Sign c.in-SignNewestOr.sign c.in-SignNewestOr.kind ∷ c.in-Some.rest.now) 0 o (value_in c.run.hand ∷ c.run.stack)) (sym c.or_given-right-then-is_value-8.ensures)
+    let asked = newest_taken remembers seen c.args.params.now wanted c.in-Some.rest.now c.in-Some.instr.now c.in-OperatorNewestOr.operator c.in-OperatorNewestOr.kind c.in-OperatorNewestOr.stream c.in-OperatorNewestOr.v (value_in c.run.hand) (widened c.run.hand) c.run.stack c.in-OperatorNewestOr.is
+    (is_the_value c.run.hand (sym c.is_value-in-OperatorNewestOr.ensures ∙ c.if-is_value-8.true)) h in
+    let right = subst (λ (o : Outcome). Leads remembers seen c.args.params.now wanted (instr.Operator c.in-OperatorNewestOr.operator c.in-OperatorNewestOr.kind ∷ c.in-Some.rest.now) 0 o (value_in c.run.hand ∷ c.run.stack)) (sym c.or_given-right-then-is_value-8.ensures)
     (asked.3 (widened c.read_newest-then-is_value-8.result) c.read_newest-then-is_value-8.ensures) in
-    (sign_taken remembers seen c.args.params.now wanted c.in-Some.rest.now (instr.Sign c.in-SignNewestOr.sign c.in-SignNewestOr.kind) c.in-SignNewestOr.sign c.in-SignNewestOr.kind (value_in c.run.hand) (value_in c.or_given-right-then-is_value-8.result) (widened c.or_given-right-then-is_value-8.result)
+    (operator_taken remembers seen c.args.params.now wanted c.in-Some.rest.now (instr.Operator c.in-OperatorNewestOr.operator c.in-OperatorNewestOr.kind) c.in-OperatorNewestOr.operator c.in-OperatorNewestOr.kind (value_in c.run.hand) (value_in c.or_given-right-then-is_value-8.result) (widened c.or_given-right-then-is_value-8.result)
     (value_in c.run.hand ∷ c.run.stack) c.run.stack refl (is_the_value c.or_given-right-then-is_value-8.result (sym c.is_value-then-is_value-8.ensures ∙ c.if-is_value-9.true)) refl right).0
 
 pub run-preserved-else-is_value-9 : goal.run-preserved-else-is_value-9
@@ -119,11 +119,11 @@ run-preserved-else-is_value-9 g c =
     let wanted : Outcome → Type 0 = λ r. Means remembers seen c.args.params.now c.args._expr.now r in
     let i = c.run.invariant in
     let h = subst (λ l. Leads remembers seen c.args.params.now wanted l 0 (widened c.run.hand) c.run.stack) c.in-Some.ensures.cases.0 i in
-    let asked = newest_taken remembers seen c.args.params.now wanted c.in-Some.rest.now c.in-Some.instr.now c.in-SignNewestOr.sign c.in-SignNewestOr.kind c.in-SignNewestOr.stream c.in-SignNewestOr.v (value_in c.run.hand) (widened c.run.hand) c.run.stack c.in-SignNewestOr.is
-    (is_the_value c.run.hand (sym c.is_value-in-SignNewestOr.ensures ∙ c.if-is_value-8.true)) h in
-    let right = subst (λ (o : Outcome). Leads remembers seen c.args.params.now wanted (instr.Sign c.in-SignNewestOr.sign c.in-SignNewestOr.kind ∷ c.in-Some.rest.now) 0 o (value_in c.run.hand ∷ c.run.stack)) (sym c.or_given-right-then-is_value-8.ensures)
+    let asked = newest_taken remembers seen c.args.params.now wanted c.in-Some.rest.now c.in-Some.instr.now c.in-OperatorNewestOr.operator c.in-OperatorNewestOr.kind c.in-OperatorNewestOr.stream c.in-OperatorNewestOr.v (value_in c.run.hand) (widened c.run.hand) c.run.stack c.in-OperatorNewestOr.is
+    (is_the_value c.run.hand (sym c.is_value-in-OperatorNewestOr.ensures ∙ c.if-is_value-8.true)) h in
+    let right = subst (λ (o : Outcome). Leads remembers seen c.args.params.now wanted (instr.Operator c.in-OperatorNewestOr.operator c.in-OperatorNewestOr.kind ∷ c.in-Some.rest.now) 0 o (value_in c.run.hand ∷ c.run.stack)) (sym c.or_given-right-then-is_value-8.ensures)
     (asked.3 (widened c.read_newest-then-is_value-8.result) c.read_newest-then-is_value-8.ensures) in
-    no_operand remembers seen c.args.params.now wanted c.in-Some.rest.now c.in-SignNewestOr.sign c.in-SignNewestOr.kind (value_in c.run.hand) (widened c.or_given-right-then-is_value-8.result) c.run.stack
+    no_operand remembers seen c.args.params.now wanted c.in-Some.rest.now c.in-OperatorNewestOr.operator c.in-OperatorNewestOr.kind (value_in c.run.hand) (widened c.or_given-right-then-is_value-8.result) c.run.stack
     (is_no_value c.or_given-right-then-is_value-8.result (sym c.is_value-then-is_value-8.ensures ∙ c.if-is_value-9.false)) right
 
 pub joined-hand-requires-then-is_value-11 : goal.joined-hand-requires-then-is_value-11
@@ -133,11 +133,11 @@ joined-hand-requires-then-is_value-11 g c =
     let wanted : Outcome → Type 0 = λ r. Means remembers seen c.args.params.now c.args._expr.now r in
     let i = c.run.invariant in
     let h = subst (λ l. Leads remembers seen c.args.params.now wanted l 0 (widened c.run.hand) c.run.stack) c.in-Some.ensures.cases.0 i in
-    let asked = back_taken remembers seen c.args.params.now wanted c.in-Some.rest.now c.in-Some.instr.now c.in-SignBackOr.sign c.in-SignBackOr.kind c.in-SignBackOr.stream c.in-SignBackOr.k c.in-SignBackOr.v (value_in c.run.hand) (widened c.run.hand) c.run.stack c.in-SignBackOr.is
-    (is_the_value c.run.hand (sym c.is_value-in-SignBackOr.ensures ∙ c.if-is_value-10.true)) h in
-    let right = subst (λ (o : Outcome). Leads remembers seen c.args.params.now wanted (instr.Sign c.in-SignBackOr.sign c.in-SignBackOr.kind ∷ c.in-Some.rest.now) 0 o (value_in c.run.hand ∷ c.run.stack)) (sym c.or_given-right-then-is_value-10.ensures)
+    let asked = back_taken remembers seen c.args.params.now wanted c.in-Some.rest.now c.in-Some.instr.now c.in-OperatorBackOr.operator c.in-OperatorBackOr.kind c.in-OperatorBackOr.stream c.in-OperatorBackOr.k c.in-OperatorBackOr.v (value_in c.run.hand) (widened c.run.hand) c.run.stack c.in-OperatorBackOr.is
+    (is_the_value c.run.hand (sym c.is_value-in-OperatorBackOr.ensures ∙ c.if-is_value-10.true)) h in
+    let right = subst (λ (o : Outcome). Leads remembers seen c.args.params.now wanted (instr.Operator c.in-OperatorBackOr.operator c.in-OperatorBackOr.kind ∷ c.in-Some.rest.now) 0 o (value_in c.run.hand ∷ c.run.stack)) (sym c.or_given-right-then-is_value-10.ensures)
     (asked.3 (widened c.read_back-then-is_value-10.result) c.read_back-then-is_value-10.ensures) in
-    (sign_taken remembers seen c.args.params.now wanted c.in-Some.rest.now (instr.Sign c.in-SignBackOr.sign c.in-SignBackOr.kind) c.in-SignBackOr.sign c.in-SignBackOr.kind (value_in c.run.hand) (value_in c.or_given-right-then-is_value-10.result) (widened c.or_given-right-then-is_value-10.result)
+    (operator_taken remembers seen c.args.params.now wanted c.in-Some.rest.now (instr.Operator c.in-OperatorBackOr.operator c.in-OperatorBackOr.kind) c.in-OperatorBackOr.operator c.in-OperatorBackOr.kind (value_in c.run.hand) (value_in c.or_given-right-then-is_value-10.result) (widened c.or_given-right-then-is_value-10.result)
     (value_in c.run.hand ∷ c.run.stack) c.run.stack refl (is_the_value c.or_given-right-then-is_value-10.result (sym c.is_value-then-is_value-10.ensures ∙ c.if-is_value-11.true)) refl right).0
 
 pub run-preserved-else-is_value-11 : goal.run-preserved-else-is_value-11
@@ -147,11 +147,11 @@ run-preserved-else-is_value-11 g c =
     let wanted : Outcome → Type 0 = λ r. Means remembers seen c.args.params.now c.args._expr.now r in
     let i = c.run.invariant in
     let h = subst (λ l. Leads remembers seen c.args.params.now wanted l 0 (widened c.run.hand) c.run.stack) c.in-Some.ensures.cases.0 i in
-    let asked = back_taken remembers seen c.args.params.now wanted c.in-Some.rest.now c.in-Some.instr.now c.in-SignBackOr.sign c.in-SignBackOr.kind c.in-SignBackOr.stream c.in-SignBackOr.k c.in-SignBackOr.v (value_in c.run.hand) (widened c.run.hand) c.run.stack c.in-SignBackOr.is
-    (is_the_value c.run.hand (sym c.is_value-in-SignBackOr.ensures ∙ c.if-is_value-10.true)) h in
-    let right = subst (λ (o : Outcome). Leads remembers seen c.args.params.now wanted (instr.Sign c.in-SignBackOr.sign c.in-SignBackOr.kind ∷ c.in-Some.rest.now) 0 o (value_in c.run.hand ∷ c.run.stack)) (sym c.or_given-right-then-is_value-10.ensures)
+    let asked = back_taken remembers seen c.args.params.now wanted c.in-Some.rest.now c.in-Some.instr.now c.in-OperatorBackOr.operator c.in-OperatorBackOr.kind c.in-OperatorBackOr.stream c.in-OperatorBackOr.k c.in-OperatorBackOr.v (value_in c.run.hand) (widened c.run.hand) c.run.stack c.in-OperatorBackOr.is
+    (is_the_value c.run.hand (sym c.is_value-in-OperatorBackOr.ensures ∙ c.if-is_value-10.true)) h in
+    let right = subst (λ (o : Outcome). Leads remembers seen c.args.params.now wanted (instr.Operator c.in-OperatorBackOr.operator c.in-OperatorBackOr.kind ∷ c.in-Some.rest.now) 0 o (value_in c.run.hand ∷ c.run.stack)) (sym c.or_given-right-then-is_value-10.ensures)
     (asked.3 (widened c.read_back-then-is_value-10.result) c.read_back-then-is_value-10.ensures) in
-    no_operand remembers seen c.args.params.now wanted c.in-Some.rest.now c.in-SignBackOr.sign c.in-SignBackOr.kind (value_in c.run.hand) (widened c.or_given-right-then-is_value-10.result) c.run.stack
+    no_operand remembers seen c.args.params.now wanted c.in-Some.rest.now c.in-OperatorBackOr.operator c.in-OperatorBackOr.kind (value_in c.run.hand) (widened c.or_given-right-then-is_value-10.result) c.run.stack
     (is_no_value c.or_given-right-then-is_value-10.result (sym c.is_value-then-is_value-10.ensures ∙ c.if-is_value-11.false)) right
 
 pub joined-hand-requires-then-is_value-13 : goal.joined-hand-requires-then-is_value-13
@@ -161,10 +161,10 @@ joined-hand-requires-then-is_value-13 g c =
     let wanted : Outcome → Type 0 = λ r. Means remembers seen c.args.params.now c.args._expr.now r in
     let i = c.run.invariant in
     let h = subst (λ l. Leads remembers seen c.args.params.now wanted l 0 (widened c.run.hand) c.run.stack) c.in-Some.ensures.cases.0 i in
-    let asked = direct_taken remembers seen c.args.params.now wanted c.in-Some.rest.now c.in-Some.instr.now c.in-SignNow.sign c.in-SignNow.kind c.in-SignNow.stream (value_in c.run.hand) (widened c.run.hand) c.run.stack c.in-SignNow.is
-    (is_the_value c.run.hand (sym c.is_value-in-SignNow.ensures ∙ c.if-is_value-12.true)) h in
+    let asked = direct_taken remembers seen c.args.params.now wanted c.in-Some.rest.now c.in-Some.instr.now c.in-OperatorNow.operator c.in-OperatorNow.kind c.in-OperatorNow.stream (value_in c.run.hand) (widened c.run.hand) c.run.stack c.in-OperatorNow.is
+    (is_the_value c.run.hand (sym c.is_value-in-OperatorNow.ensures ∙ c.if-is_value-12.true)) h in
     let right = asked.3 (widened c.read_now-right.result) c.read_now-right.ensures in
-    (sign_taken remembers seen c.args.params.now wanted c.in-Some.rest.now (instr.Sign c.in-SignNow.sign c.in-SignNow.kind) c.in-SignNow.sign c.in-SignNow.kind (value_in c.run.hand) (value_in c.read_now-right.result) (widened c.read_now-right.result)
+    (operator_taken remembers seen c.args.params.now wanted c.in-Some.rest.now (instr.Operator c.in-OperatorNow.operator c.in-OperatorNow.kind) c.in-OperatorNow.operator c.in-OperatorNow.kind (value_in c.run.hand) (value_in c.read_now-right.result) (widened c.read_now-right.result)
     (value_in c.run.hand ∷ c.run.stack) c.run.stack refl (is_the_value c.read_now-right.result (sym c.is_value-then-is_value-12.ensures ∙ c.if-is_value-13.true)) refl right).0
 
 pub run-preserved-else-is_value-13 : goal.run-preserved-else-is_value-13
@@ -174,10 +174,10 @@ run-preserved-else-is_value-13 g c =
     let wanted : Outcome → Type 0 = λ r. Means remembers seen c.args.params.now c.args._expr.now r in
     let i = c.run.invariant in
     let h = subst (λ l. Leads remembers seen c.args.params.now wanted l 0 (widened c.run.hand) c.run.stack) c.in-Some.ensures.cases.0 i in
-    let asked = direct_taken remembers seen c.args.params.now wanted c.in-Some.rest.now c.in-Some.instr.now c.in-SignNow.sign c.in-SignNow.kind c.in-SignNow.stream (value_in c.run.hand) (widened c.run.hand) c.run.stack c.in-SignNow.is
-    (is_the_value c.run.hand (sym c.is_value-in-SignNow.ensures ∙ c.if-is_value-12.true)) h in
+    let asked = direct_taken remembers seen c.args.params.now wanted c.in-Some.rest.now c.in-Some.instr.now c.in-OperatorNow.operator c.in-OperatorNow.kind c.in-OperatorNow.stream (value_in c.run.hand) (widened c.run.hand) c.run.stack c.in-OperatorNow.is
+    (is_the_value c.run.hand (sym c.is_value-in-OperatorNow.ensures ∙ c.if-is_value-12.true)) h in
     let right = asked.3 (widened c.read_now-right.result) c.read_now-right.ensures in
-    no_operand remembers seen c.args.params.now wanted c.in-Some.rest.now c.in-SignNow.sign c.in-SignNow.kind (value_in c.run.hand) (widened c.read_now-right.result) c.run.stack
+    no_operand remembers seen c.args.params.now wanted c.in-Some.rest.now c.in-OperatorNow.operator c.in-OperatorNow.kind (value_in c.run.hand) (widened c.read_now-right.result) c.run.stack
     (is_no_value c.read_now-right.result (sym c.is_value-then-is_value-12.ensures ∙ c.if-is_value-13.false)) right
 
 pub run-preserved-in_default-hand : goal.run-preserved-in_default-hand

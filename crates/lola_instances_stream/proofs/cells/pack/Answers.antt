@@ -2,7 +2,7 @@ use Rattle.std.proofs.Common.{◌≡◌, ◌∙◌, List, Option, length, filter
 use Rattle.lola_instances_one.specs.Holdings.{Holdings}
 use Rattle.lola_instances_stream.specs.Cells.{AreKnown, living}
 use Rattle.lola_instances_stream.proofs.Known.{known_packed}
-use Rattle.lola_instances_stream.proofs.Taken.{living_packed, marked_long, packed_full}
+use Rattle.lola_instances_stream.proofs.Taken.{living_packed, flagged_long, packed_full}
 use Rattle.lola_instances_stream.proofs.cells.pack.Goals as goal
 
 pub returns-clause-known : goal.returns-clause-known
@@ -11,9 +11,9 @@ returns-clause-known c =
     let e = c.compact.ensures.cells in
     let m = ap length e in
     let n : c.len.result ≡ length (filter is_some cells) = omega (arith, c.len.ensures) in
-    let long = marked_long cells c.args.marks.now c.requires.known.marked in
+    let long = flagged_long cells c.args.flags.now c.requires.known.flagged in
     subst (λ (cs : List (Option Holdings)). AreKnown cs c.fill.new.self c.pack.new.self) (sym e)
-    (known_packed cells c.args.marks.now c.fill.new.self c.args.table.now c.pack.new.self c.requires.known c.pack.ensures.kept c.pack.ensures.entries
+    (known_packed cells c.args.flags.now c.fill.new.self c.args.table.now c.pack.new.self c.requires.known c.pack.ensures.kept c.pack.ensures.entries
     (omega (arith, c.fill.ensures.length))
     (λ i l. c.fill.ensures.bits i (omega (arith, c.fill.ensures.length)) ∙ ap (nat_lt i) n))
 

@@ -16,7 +16,7 @@ returns-clause-known c =
     let formed = subst (λ p. IsTrue (is_well_formed p)) c.params-params.ensures.value c.params-params.ensures.formed in
     subst (λ (cs : List (Option Holdings)). AreKnown cs c.set.new.self after) (sym c.push_reserved.ensures.items)
     (subst (λ (bits : List Bool). AreKnown (cells ++ Some slot ∷ []) bits after) (sym c.set.ensures)
-    (subst (λ (k : ℕ). AreKnown (cells ++ Some slot ∷ []) (slice_set c.args.marks.now k true) after) (sym n)
-    (known_more cells c.args.marks.now table after slot formed c.requires.known c.requires.bits c.requires.absent c.add.ensures.kept
+    (subst (λ (k : ℕ). AreKnown (cells ++ Some slot ∷ []) (slice_set c.args.flags.now k true) after) (sym n)
+    (known_more cells c.args.flags.now table after slot formed c.requires.known c.requires.bits c.requires.absent c.add.ensures.kept
     (λ kept. subst (λ (k : ℕ). HasCell slot.params (Some k) table.entries after.entries) n
     (subst (λ p. HasCell p (Some c.len-cell.result) table.entries after.entries) c.params-params.ensures.value (c.add.ensures.cell kept))))))

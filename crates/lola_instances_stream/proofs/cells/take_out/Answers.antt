@@ -4,7 +4,7 @@ use Rattle.lola_instances_one.specs.Holdings.{Holdings}
 use Rattle.lola_instances_stream.specs.Cells.{AreKnown}
 use Rattle.lola_instances_stream.specs.Listings.{HasCell}
 use Rattle.lola_instances_stream.proofs.Known.{known_less}
-use Rattle.lola_instances_stream.proofs.Taken.{marked_long, taken_there}
+use Rattle.lola_instances_stream.proofs.Taken.{flagged_long, taken_there}
 use Rattle.lola_instances_stream.proofs.cells.take_out.Goals as goal
 
 pub set-requires : goal.set-requires
@@ -12,7 +12,7 @@ set-requires c =
     let cells = c.args.cells.now.items in
     let t = taken_there cells c.args.cell c.requires.taken in
     let within = slice_get_within cells c.args.cell (Some t.0) t.1 in
-    let long = marked_long cells c.args.marks.now c.requires.known.marked in
+    let long = flagged_long cells c.args.flags.now c.requires.known.flagged in
     omega arith
 
 pub returns-clause-known : goal.returns-clause-known
@@ -29,5 +29,5 @@ returns-clause-known c =
     let params = subst (λ (o : Option Holdings). MatchOption o ⊥ (λ s. c.take_params-params.result ≡ s.params)) is c.take_params-params.ensures.params in
     subst (λ (o : Option Holdings). AreKnown (slice_set cells cell o) c.set.new.self after) (sym c.take_params-params.ensures.gone)
     (subst (λ (bits : List Bool). AreKnown (slice_set cells cell None) bits after) (sym c.set.ensures)
-    (known_less cells cell c.args.marks.now table after t.0 t.1 c.requires.known c.remove.ensures.kept
+    (known_less cells cell c.args.flags.now table after t.0 t.1 c.requires.known c.remove.ensures.kept
     (λ kept. subst (λ p. HasCell p None table.entries after.entries) params (c.remove.ensures.cell kept))))

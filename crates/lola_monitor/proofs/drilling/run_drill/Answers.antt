@@ -21,5 +21,5 @@ run_workers-requires-clause-workers g c κs within =
 
 pub returns : goal.returns
 returns g c = λ is_plan one_model.
-    let plan_is : (keeping c.in-Ok.room.0).desk.plan ≡ c.args.plan = ap (λ (s : Setting). s.plan) c.in-Ok.ensures.setting in
+    let plan_is : (keeping c.in-Ok.room.0).state.plan ≡ c.args.plan = ap (λ (s : Setting). s.plan) c.in-Ok.ensures.setting in
     c.run_workers.ensures (subst (IsPlanOf drill_text) (sym plan_is) is_plan) (subst HasItsModels (sym plan_is) one_model)

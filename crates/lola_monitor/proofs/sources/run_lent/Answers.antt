@@ -35,6 +35,6 @@ returns g c names rooms before is are =
     let places = c.run_workers-workers.ensures.places in
     ran_lent c.args.in_turns names rooms before (g.F.Shelf.state c.args.shelf.now) (g.F.Shelf.state c.give_all_back.new.shelf) out0 trace0 out1 trace1 kept0 kept1 lent last
     c.run_workers-workers.result.1 c.outcome_after.result is are places (c.give_all_back.ensures.returned names rooms before lent is places) c.run_workers-workers.ensures.plan
-    (subst (λ (e : SourcesEnd). OutcomeAfter c.run_workers-workers.result.1 e kept1.desk.plan kept1 c.outcome_after.result)
+    (subst (λ (e : SourcesEnd). OutcomeAfter c.run_workers-workers.result.1 e kept1.state.plan kept1 c.outcome_after.result)
     (c.end_of-end.ensures ∙ ap (λ (ws : List Working). end_of (ends_of ws)) c.as_slice.ensures.value) c.outcome_after.ensures)
     c.run_workers-workers.ensures.run

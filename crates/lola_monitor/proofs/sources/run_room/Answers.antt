@@ -36,7 +36,7 @@ run_lent-requires-clause-ready g c κs within =
     let words = map (string_bytes {Z = Global}) c.args.words.now in
     let numbers = c.args.command.now.sources in
     let rooms = c.args.room.readers.items in
-    let plan = c.args.room.run.engine.desk.plan in
+    let plan = c.args.room.run.engine.state.plan in
     let workers = c.fetch_all.new.workers.items in
     let before = g.F.Shelf.state c.args.shelf.now in
     let mid = g.F.Shelf.state c.fetch_all.new.shelf in
@@ -60,7 +60,7 @@ returns g c =
     let words = map (string_bytes {Z = Global}) c.args.words.now in
     let numbers = c.args.command.now.sources in
     let rooms = c.args.room.readers.items in
-    let plan = c.args.room.run.engine.desk.plan in
+    let plan = c.args.room.run.engine.state.plan in
     let workers = c.fetch_all.new.workers.items in
     let before = g.F.Shelf.state c.args.shelf.now in
     let mid = g.F.Shelf.state c.fetch_all.new.shelf in

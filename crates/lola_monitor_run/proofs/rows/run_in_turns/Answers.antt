@@ -17,4 +17,4 @@ run_whole-stopped-requires-clause-idle g c κs within =
 pub run_whole-stopped-requires-clause-fresh : goal.run_whole-stopped-requires-clause-fresh
 run_whole-stopped-requires-clause-fresh g c κs within =
     let feed : Feeding = record { workers = c.args.workers.items; merging = c.in-Ok.room.0; batch = c.in-Ok.room.1 } in
-    subst (λ (f : Feeding). IsFresh f) (sym c.create-feed.ensures) (ready_fresh (keeping c.args.run.now).desk.plan feed c.requires.ready)
+    subst (λ (f : Feeding). IsFresh f) (sym c.create-feed.ensures) (ready_fresh (keeping c.args.run.now).state.plan feed c.requires.ready)

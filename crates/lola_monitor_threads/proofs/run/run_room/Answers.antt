@@ -12,25 +12,25 @@ use Rattle.lola_monitor_threads.proofs.Settling.{no_turns}
 use Rattle.lola_monitor_threads.proofs.run.run_room.Goals as goal
 
 pub seat_all-requires-clause-pairs : goal.seat_all-requires-clause-pairs
-seat_all-requires-clause-pairs g c = in_pairs (keeping c.args.run.now).desk.plan (keeping c.args.run.now).desk.option c.args.room.intake c.args.workers.items c.args.room.seats.items c.requires.ready c.requires.seats
+seat_all-requires-clause-pairs g c = in_pairs (keeping c.args.run.now).state.plan (keeping c.args.run.now).state.given_start c.args.room.intake c.args.workers.items c.args.room.seats.items c.requires.ready c.requires.seats
 
 pub send_all-back-requires-clause-waiting : goal.send_all-back-requires-clause-waiting
-send_all-back-requires-clause-waiting g c κs within = at_intake (keeping c.args.run.now).desk.plan (keeping c.args.run.now).desk.option c.args.room.intake c.args.workers.items c.args.room.seats.items c.requires.ready c.requires.seats
+send_all-back-requires-clause-waiting g c κs within = at_intake (keeping c.args.run.now).state.plan (keeping c.args.run.now).state.given_start c.args.room.intake c.args.workers.items c.args.room.seats.items c.requires.ready c.requires.seats
     c.seat_all.new.waiting.items c.seat_all.ensures.seated
 
 pub send_all-back-requires-clause-flags : goal.send_all-back-requires-clause-flags
 send_all-back-requires-clause-flags g c κs within =
     subst (λ (n : ℕ). HaveFlags n c.seat_all.new.waiting.items) (sym (ap length c.deref.ensures.value ∙ c.requires.flags))
-    (have_flags (keeping c.args.run.now).desk.plan (keeping c.args.run.now).desk.option c.args.room.intake c.args.workers.items c.args.room.seats.items c.requires.ready c.requires.seats c.seat_all.new.waiting.items c.seat_all.ensures.seated)
+    (have_flags (keeping c.args.run.now).state.plan (keeping c.args.run.now).state.given_start c.args.room.intake c.args.workers.items c.args.room.seats.items c.requires.ready c.requires.seats c.seat_all.new.waiting.items c.seat_all.ensures.seated)
 
 pub send_all-back-requires-clause-room_here : goal.send_all-back-requires-clause-room_here
 send_all-back-requires-clause-room_here g c κs within =
-    let many = as_many (keeping c.args.run.now).desk.plan (keeping c.args.run.now).desk.option c.args.room.intake c.args.workers.items c.args.room.seats.items c.requires.ready c.requires.seats c.seat_all.new.waiting.items c.seat_all.ensures.seated in
+    let many = as_many (keeping c.args.run.now).state.plan (keeping c.args.run.now).state.given_start c.args.room.intake c.args.workers.items c.args.room.seats.items c.requires.ready c.requires.seats c.seat_all.new.waiting.items c.seat_all.ensures.seated in
     omega (arith, c.in-Ok.ensures.capacity, c.len.ensures, c.args.workers.ok.0, many)
 
 pub send_all-back-requires-clause-room_back : goal.send_all-back-requires-clause-room_back
 send_all-back-requires-clause-room_back g c κs within =
-    let many = as_many (keeping c.args.run.now).desk.plan (keeping c.args.run.now).desk.option c.args.room.intake c.args.workers.items c.args.room.seats.items c.requires.ready c.requires.seats c.seat_all.new.waiting.items c.seat_all.ensures.seated in
+    let many = as_many (keeping c.args.run.now).state.plan (keeping c.args.run.now).state.given_start c.args.room.intake c.args.workers.items c.args.room.seats.items c.requires.ready c.requires.seats c.seat_all.new.waiting.items c.seat_all.ensures.seated in
     omega (arith, c.requires.back.1, many)
 
 pub send_all-back-requires-clause-run : goal.send_all-back-requires-clause-run
@@ -39,7 +39,7 @@ send_all-back-requires-clause-run g c κs within =
 
 pub take_apart-requires-clause-room : goal.take_apart-requires-clause-room
 take_apart-requires-clause-room g c =
-    let many = as_many (keeping c.args.run.now).desk.plan (keeping c.args.run.now).desk.option c.args.room.intake c.args.workers.items c.args.room.seats.items c.requires.ready c.requires.seats c.seat_all.new.waiting.items c.seat_all.ensures.seated in
+    let many = as_many (keeping c.args.run.now).state.plan (keeping c.args.run.now).state.given_start c.args.room.intake c.args.workers.items c.args.room.seats.items c.requires.ready c.requires.seats c.seat_all.new.waiting.items c.seat_all.ensures.seated in
     let back = zip_long WentOn c.seat_all.new.waiting.items c.send_all-back.result.0.items c.send_all-back.ensures.back in (
       omega (arith, many, back, c.seat_all.ensures.workers.1, c.args.workers.ok.0, c.args.workers.ok.1),
       omega (arith, many, back, c.seat_all.ensures.seats.1, c.requires.seats.many, c.args.room.seats.ok.0, c.args.room.seats.ok.1),

@@ -73,4 +73,4 @@ pub returns-clause-seat : goal.returns-clause-seat
 returns-clause-seat g c = of_equal (λ (seat : Shown). IsSameSeat c.args.taker.now.seat seat) c.scoped-taker.result.0.now.seat _ (search rules) c.scoped-taker.ensures.1.1.1.1.1.1.1.1.0
 
 pub returns-clause-plan : goal.returns-clause-plan
-returns-clause-plan g c = ◌∙◌ {b = (keeping c.scoped-taker.result.1.now).desk.plan} (search rules) c.scoped-taker.ensures.1.1.1.1.1.1.1.1.1.0
+returns-clause-plan g c = ◌∙◌ {b = (keeping c.scoped-taker.result.1.now).state.plan} (search rules) c.scoped-taker.ensures.1.1.1.1.1.1.1.1.1.0

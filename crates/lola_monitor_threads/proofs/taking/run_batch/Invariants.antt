@@ -10,7 +10,7 @@ invariant-loop-entry g l =
     let out = g.K.Sink.state in
     let trace = g.T.Sink.state in
     record {
-      kinds : l.inputs.kinds ≡ input_kinds (keeping l.run).desk.plan.spec.streams;
+      kinds : l.inputs.kinds ≡ input_kinds (keeping l.run).state.plan.spec.streams;
       way : IsPartlyRun (place (keeping l.run) (out l.out) (trace l.trace)) l.batch;
       ran : RanSome l.inputs.count (place (keeping l.fn.run) (out l.fn.out) (trace l.fn.trace)) (place (keeping l.run) (out l.out) (trace l.trace)) l.fn.batch l.batch;
       setting : IsSetAs (keeping l.fn.run) (keeping l.run);

@@ -146,7 +146,7 @@ expression-returns-in_ok-a-in-Prefix-clause-resolved t c =
     let a = c.in_ok-a-in-Prefix in
     let r : Expr = m.Unary c.bare-in-Prefix.result c.prefix.result a.a in
     subst (λ (x : TreeExpr). ResolvesTo scope new x r) (sym b.is)
-    (resolves-Prefix scope new b.sign b.at b.x c.bare-in-Prefix.result c.prefix.result _ a.a.value c.bare-in-Prefix.ensures c.prefix.ensures
+    (resolves-Prefix scope new b.operator b.at b.x c.bare-in-Prefix.result c.prefix.result _ a.a.value c.bare-in-Prefix.ensures c.prefix.ensures
     (carried scope new b.x c.get-in-Prefix.result.now first.operand a.a.value c.get-in-Prefix.ensures a.ensures first.ensures.resolved))
 
 pub expression-returns-in_ok-b-in-Defaults-clause-resolved : goal.expression-returns-in_ok-b-in-Defaults-clause-resolved
@@ -185,7 +185,7 @@ expression-returns-in_ok-b-in-Binary-clause-resolved t c =
     let q = c.in_ok-b-in-Binary in
     let r : Expr = m.Both c.bare-in-Binary.result c.binary.result p.a q.b in
     subst (λ (x : TreeExpr). ResolvesTo scope new x r) (sym b.is)
-    (resolves-Binary scope new b.sign b.at b.x b.y c.bare-in-Binary.result c.binary.result _ p.a.value _ q.b.value c.bare-in-Binary.ensures c.binary.ensures
+    (resolves-Binary scope new b.operator b.at b.x b.y c.bare-in-Binary.result c.binary.result _ p.a.value _ q.b.value c.bare-in-Binary.ensures c.binary.ensures
     (later scope mid new (listed window_number second.second) (listed literal_text second.second) b.x p.a.value second.ensures.grown
     (carried scope mid b.x c.get-in-Binary.result.now first.first p.a.value c.get-in-Binary.ensures p.ensures first.ensures.resolved))
     (carried scope new b.y c.get-in-Binary-2.result.now second.second q.b.value c.get-in-Binary-2.ensures q.ensures second.ensures.resolved))

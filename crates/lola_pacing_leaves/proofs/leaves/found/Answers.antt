@@ -22,4 +22,4 @@ pub returns : goal.returns
 returns c =
     let streams = c.args.spec.now.streams in
     let first : c.as_slice.result.now ≡ followed_in c.args.clause.now = c.as_slice.ensures ∙ c.in_ok-first.ensures in
-    ends_are_leaves streams c.args.own c.args.clause.now c.visit.new.marks c.in_ok-leaves.leaves (rw (c.requires.lists, first) at c.in_ok-visit.ensures) (rw c.as_slice-2.ensures at c.in_ok-leaves.ensures)
+    ends_are_leaves streams c.args.own c.args.clause.now c.visit.new.flags c.in_ok-leaves.leaves (rw (c.requires.lists, first) at c.in_ok-visit.ensures) (rw c.as_slice-2.ensures at c.in_ok-leaves.ensures)

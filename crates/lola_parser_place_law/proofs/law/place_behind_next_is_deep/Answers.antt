@@ -1,4 +1,4 @@
-use Rattle.lola_parser_place_law.proofs.Marked.{behind_next}
+use Rattle.lola_parser_place_law.proofs.WithNestings.{behind_next}
 use Rattle.lola_parser_place_law.proofs.law.place_behind_next_is_deep.Goals as goal
 
 pub returns : goal.returns

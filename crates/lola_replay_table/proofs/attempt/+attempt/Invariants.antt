@@ -12,8 +12,8 @@ decreases-or_default l = 2 * (size_of l.a.now + size_of l.b.now) + 1
 abbrev pub decreases-with_prefix : goal.decreases-with_prefix
 decreases-with_prefix l = 2 * size_of l.a.now + 1
 
-abbrev pub decreases-with_sign : goal.decreases-with_sign
-decreases-with_sign l = 2 * (size_of l.a.now + size_of l.b.now) + 1
+abbrev pub decreases-with_operator : goal.decreases-with_operator
+decreases-with_operator l = 2 * (size_of l.a.now + size_of l.b.now) + 1
 
 abbrev pub decreases-choice : goal.decreases-choice
 decreases-choice l = 2 * (size_of l.test.now + (size_of l.a.now + size_of l.b.now)) + 1

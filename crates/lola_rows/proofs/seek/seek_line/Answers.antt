@@ -43,7 +43,7 @@ returns-in-TooLong g c =
       λ bytes told. lines-long held bytes (none-found is_line_end held fills.0) fills.1,
     )
 
-pub returns-in-Fault : goal.returns-in-Fault
-returns-in-Fault g c =
+pub returns-in-ReadFailed : goal.returns-in-ReadFailed
+returns-in-ReadFailed g c =
     let state = g.S.Source.state in
-    lost-after (items c.args.window.now) (items c.loop-size.window) (items c.fill_line.new.window) (state c.args.source.now) (state c.loop-size.source) (state c.fill_line.new.source) c.loop-size.invariant c.in-Fault.ensures
+    lost-after (items c.args.window.now) (items c.loop-size.window) (items c.fill_line.new.window) (state c.args.source.now) (state c.loop-size.source) (state c.fill_line.new.source) c.loop-size.invariant c.in-ReadFailed.ensures

@@ -11,13 +11,13 @@ outcomes_of-requires c =
 
 pub returns-in-Some : goal.returns-in-Some
 returns-in-Some c tasks =
-    subst (FindsFault c.args.plan.now c.args.marks.now c.args.spans.now tasks c.args.results.now)
-    (first_here c.args.results.now c.args.marks.now c.args.spans.now c.loop-n.n c.loop-n.invariant _ (record { from = 0; count = 0 }) c.in-Some.kind c.loop-n-test.true (omega arith)
+    subst (FindsFault c.args.plan.now c.args.spawn_results.now c.args.spans.now tasks c.args.results.now)
+    (first_here c.args.results.now c.args.spawn_results.now c.args.spans.now c.loop-n.n c.loop-n.invariant _ (record { from = 0; count = 0 }) c.in-Some.kind c.loop-n-test.true (omega arith)
     (c.in-Some.ensures ∙ ap (fault_of _) c.outcomes_of.ensures.value))
-    (finds_fault c.args.plan.now c.requires.accepted c.args.marks.now c.args.spans.now tasks c.args.results.now c.requires.marks c.requires.spans)
+    (finds_fault c.args.plan.now c.requires.accepted c.args.spawn_results.now c.args.spans.now tasks c.args.results.now c.requires.spawn_results c.requires.spans)
 
 pub returns : goal.returns
 returns c tasks =
-    subst (FindsFault c.args.plan.now c.args.marks.now c.args.spans.now tasks c.args.results.now)
-    (first_none c.args.results.now c.args.marks.now c.args.spans.now c.loop-n.n c.loop-n.invariant c.loop-n-test.false)
-    (finds_fault c.args.plan.now c.requires.accepted c.args.marks.now c.args.spans.now tasks c.args.results.now c.requires.marks c.requires.spans)
+    subst (FindsFault c.args.plan.now c.args.spawn_results.now c.args.spans.now tasks c.args.results.now)
+    (first_none c.args.results.now c.args.spawn_results.now c.args.spans.now c.loop-n.n c.loop-n.invariant c.loop-n-test.false)
+    (finds_fault c.args.plan.now c.requires.accepted c.args.spawn_results.now c.args.spans.now tasks c.args.results.now c.requires.spawn_results c.requires.spans)

@@ -39,46 +39,46 @@ answer_tasks-requires-clause-numbered g c κs within =
     let P : List Task → Type 0 = λ ts. length ts < 2 ^ 32 in
     subst P
     (sym (behind_is c.deref.result.now c.args.tasks.now.items
-    (layer_tasks c.args.plan.now c.args.moment.now c.args.marks.now c.seek_layer.new.sought (g.S.StreamStore.seen c.args.store.now) c.args.layer 0 c.args.plan.now.spec.streams) c.len-from.result
+    (layer_tasks c.args.plan.now c.args.moment.now c.args.spawn_results.now c.seek_layer.new.sought (g.S.StreamStore.seen c.args.store.now) c.args.layer 0 c.args.plan.now.spec.streams) c.len-from.result
     (c.deref.ensures.value ∙ c.gather.ensures.tasks) (c.len-from.ensures ∙ c.args.tasks.now.ok.0)))
-    (numbered c.args.plan.now c.args.moment.now c.args.marks.now c.seek_layer.new.sought (g.S.StreamStore.seen c.args.store.now) c.args.layer c.requires.accepted c.requires.at c.requires.moment)
+    (numbered c.args.plan.now c.args.moment.now c.args.spawn_results.now c.seek_layer.new.sought (g.S.StreamStore.seen c.args.store.now) c.args.layer c.requires.accepted c.requires.at c.requires.moment)
 
 pub answer_tasks-requires-clause-ready : goal.answer_tasks-requires-clause-ready
 answer_tasks-requires-clause-ready g c κs within =
     let P : List Task → Type 0 = λ ts. AreTasks c.args.plan.now c.args.moment.now (g.S.StreamStore.seen c.args.store.now) ts in
     subst P
     (sym (behind_is c.deref.result.now c.args.tasks.now.items
-    (layer_tasks c.args.plan.now c.args.moment.now c.args.marks.now c.seek_layer.new.sought (g.S.StreamStore.seen c.args.store.now) c.args.layer 0 c.args.plan.now.spec.streams) c.len-from.result
+    (layer_tasks c.args.plan.now c.args.moment.now c.args.spawn_results.now c.seek_layer.new.sought (g.S.StreamStore.seen c.args.store.now) c.args.layer 0 c.args.plan.now.spec.streams) c.len-from.result
     (c.deref.ensures.value ∙ c.gather.ensures.tasks) (c.len-from.ensures ∙ c.args.tasks.now.ok.0)))
-    (are_tasks c.args.plan.now c.args.moment.now c.args.marks.now c.seek_layer.new.sought (g.S.StreamStore.seen c.args.store.now) c.args.layer c.requires.accepted c.requires.at c.requires.moment)
+    (are_tasks c.args.plan.now c.args.moment.now c.args.spawn_results.now c.seek_layer.new.sought (g.S.StreamStore.seen c.args.store.now) c.args.layer c.requires.accepted c.requires.at c.requires.moment)
 
 pub answer_tasks-requires-clause-room : goal.answer_tasks-requires-clause-room
 answer_tasks-requires-clause-room g c κs within =
     let plan = c.args.plan.now in
     let seen = g.S.StreamStore.seen c.args.store.now in
-    let tasks = layer_tasks plan c.args.moment.now c.args.marks.now c.seek_layer.new.sought seen c.args.layer 0 plan.spec.streams in
+    let tasks = layer_tasks plan c.args.moment.now c.args.spawn_results.now c.seek_layer.new.sought seen c.args.layer 0 plan.spec.streams in
     let asked = behind_is c.deref.result.now c.args.tasks.now.items tasks c.len-from.result (c.deref.ensures.value ∙ c.gather.ensures.tasks) (c.len-from.ensures ∙ c.args.tasks.now.ok.0) in
-    let fits = layer_fits plan c.args.moment.now c.args.marks.now c.seek_layer.new.sought seen c.args.layer 0 plan.spec.streams (rooms seen) (omega arith)
-    (all_rooms plan c.args.moment.now c.args.marks.now c.seek_layer.new.sought seen c.args.layer c.requires.at.of.streams) in
+    let fits = layer_fits plan c.args.moment.now c.args.spawn_results.now c.seek_layer.new.sought seen c.args.layer 0 plan.spec.streams (rooms seen) (omega arith)
+    (all_rooms plan c.args.moment.now c.args.spawn_results.now c.seek_layer.new.sought seen c.args.layer c.requires.at.of.streams) in
     omega (arith, ap length asked, fits, c.requires.rooms.results_room)
 
 pub give_shared-requires-clause-known : goal.give_shared-requires-clause-known
 give_shared-requires-clause-known g c κs within =
     let plan = c.args.plan.now in
     let shown = g.S.StreamStore.seen c.args.store.now in
-    let tasks = layer_tasks plan c.args.moment.now c.args.marks.now c.seek_layer.new.sought shown c.args.layer 0 plan.spec.streams in
+    let tasks = layer_tasks plan c.args.moment.now c.args.spawn_results.now c.seek_layer.new.sought shown c.args.layer 0 plan.spec.streams in
     let from = c.len-from.ensures ∙ c.args.tasks.now.ok.0 in
     let laid_out : length shown.layout.streams ≡ length plan.spec.streams = ap (λ (l : Layout). length l.streams) c.requires.at.of.layout ∙ layouts_length plan.spec.streams plan.kept plan.pacings in
     let paced = pacings_length plan c.requires.accepted in
     let known : AreKnown shown tasks = λ i t e.
-    let task = (are_tasks plan c.args.moment.now c.args.marks.now c.seek_layer.new.sought shown c.args.layer c.requires.accepted c.requires.at c.requires.moment i t e).paced in
+    let task = (are_tasks plan c.args.moment.now c.args.spawn_results.now c.seek_layer.new.sought shown c.args.layer c.requires.accepted c.requires.at c.requires.moment i t e).paced in
     omega (arith, task, paced, laid_out) in
     subst (AreKnown shown) (sym (behind_is c.deref-2.result.now c.args.tasks.now.items tasks c.len-from.result (c.deref-2.ensures.value ∙ c.gather.ensures.tasks) from)) known
 
 pub give_shared-requires-clause-can : goal.give_shared-requires-clause-can
 give_shared-requires-clause-can g c κs within =
     let shown = g.S.StreamStore.seen c.args.store.now in
-    let tasks = layer_tasks c.args.plan.now c.args.moment.now c.args.marks.now c.seek_layer.new.sought shown c.args.layer 0 c.args.plan.now.spec.streams in
+    let tasks = layer_tasks c.args.plan.now c.args.moment.now c.args.spawn_results.now c.seek_layer.new.sought shown c.args.layer 0 c.args.plan.now.spec.streams in
     let answered = c.answer_tasks.ensures.answered in
     let from = c.len-from.ensures ∙ c.args.tasks.now.ok.0 in
     let A : List Task → Type 0 = λ ts. AreResults c.args.plan.now c.args.moment.now (g.S.StreamStore.remembers c.args.store.now) shown ts answered.fresh in
@@ -89,7 +89,7 @@ give_shared-requires-clause-can g c κs within =
     let Q : List Outcome → Type 0 = λ rs. CanGiveAll shown (take (length c.deref-2.result.now - c.len-from.result) (drop c.len-from.result c.deref-2.result.now)) rs in
     subst Q same
     (subst P (sym (behind_is c.deref-2.result.now c.args.tasks.now.items tasks c.len-from.result (c.deref-2.ensures.value ∙ c.gather.ensures.tasks) from))
-    (can_give_layer c.args.plan.now c.args.moment.now c.args.marks.now c.seek_layer.new.sought shown c.args.layer c.requires.accepted c.requires.at c.requires.moment (g.S.StreamStore.remembers c.args.store.now) answered.fresh are))
+    (can_give_layer c.args.plan.now c.args.moment.now c.args.spawn_results.now c.seek_layer.new.sought shown c.args.layer c.requires.accepted c.requires.at c.requires.moment (g.S.StreamStore.remembers c.args.store.now) answered.fresh are))
 
 module _ (g : Over) (c : After-give_shared g) where
   abbrev shown : Seen
@@ -99,7 +99,7 @@ module _ (g : Over) (c : After-give_shared g) where
   remembers = g.S.StreamStore.remembers c.args.store.now
 
   abbrev tasks : List Task
-  tasks = layer_tasks c.args.plan.now c.args.moment.now c.args.marks.now c.seek_layer.new.sought shown c.args.layer 0 c.args.plan.now.spec.streams
+  tasks = layer_tasks c.args.plan.now c.args.moment.now c.args.spawn_results.now c.seek_layer.new.sought shown c.args.layer 0 c.args.plan.now.spec.streams
 
   abbrev before : List Task
   before = c.args.tasks.now.items
@@ -140,25 +140,25 @@ module _ (g : Over) (c : After-give_shared g) where
   results_is : first ++ fresh ≡ c.answer_tasks.new.results.items
   results_is = sym c.answer_tasks.ensures.answered.is
 
-  spans_is : spans_after c.args.plan.now c.args.moment.now c.args.marks.now c.seek_layer.new.sought remembers shown c.args.layer before first fresh c.args.spans.now ≡ c.gather.new.spans
+  spans_is : spans_after c.args.plan.now c.args.moment.now c.args.spawn_results.now c.seek_layer.new.sought remembers shown c.args.layer before first fresh c.args.spans.now ≡ c.gather.new.spans
   spans_is = sym c.gather.ensures.spans
 
 pub returns-clause-at : goal.returns-clause-at
 returns-clause-at g c =
     let P : Seen → Type 0 = λ s. IsAt c.args.plan.now (layer_stage (length c.args.plan.now.spec.streams) (c.args.layer + 1)) s in
     subst P (seen_is g c)
-    (at_after c.args.plan.now c.args.moment.now c.args.marks.now c.seek_layer.new.sought (shown g c) c.args.layer c.requires.accepted c.requires.at c.requires.moment (fresh g c))
+    (at_after c.args.plan.now c.args.moment.now c.args.spawn_results.now c.seek_layer.new.sought (shown g c) c.args.layer c.requires.accepted c.requires.at c.requires.moment (fresh g c))
 
 pub returns-clause-goes_on : goal.returns-clause-goes_on
 returns-clause-goes_on g c =
     let P : Seen → Type 0 = λ s. GoesOn (shown g c) s in
     subst P (seen_is g c)
-    (goes_on c.args.plan.now c.args.moment.now c.args.marks.now c.seek_layer.new.sought (shown g c) c.args.layer c.requires.accepted c.requires.at c.requires.moment (fresh g c))
+    (goes_on c.args.plan.now c.args.moment.now c.args.spawn_results.now c.seek_layer.new.sought (shown g c) c.args.layer c.requires.accepted c.requires.at c.requires.moment (fresh g c))
 
 pub returns-clause-rooms : goal.returns-clause-rooms
 returns-clause-rooms g c =
     let asked : length c.gather.new.tasks.items ≡ length (before g c) + length (tasks g c) = ap length c.gather.ensures.tasks ∙ length-append (before g c) (tasks g c) in
-    rooms_after c.args.plan.now c.args.moment.now c.args.marks.now c.seek_layer.new.sought (shown g c) (g.S.StreamStore.seen c.give_shared.new.store) c.args.layer
+    rooms_after c.args.plan.now c.args.moment.now c.args.spawn_results.now c.seek_layer.new.sought (shown g c) (g.S.StreamStore.seen c.give_shared.new.store) c.args.layer
     c.args.places.now c.gather.new.places c.args.tasks.now c.gather.new.tasks c.args.results.now c.answer_tasks.new.results c.requires.at c.requires.rooms
     (returns-clause-goes_on g c).rooms c.gather.ensures.places c.gather.ensures.capacity c.answer_tasks.ensures.capacity
     (omega (arith, asked, c.gather.new.tasks.ok.0, c.args.tasks.now.ok.0))
@@ -168,7 +168,7 @@ pub returns-clause-spans : goal.returns-clause-spans
 returns-clause-spans g c =
     let plan = c.args.plan.now in
     let next = layer_stage (length plan.spec.streams) (c.args.layer + 1) in
-    let spans = spans_after plan c.args.moment.now c.args.marks.now c.seek_layer.new.sought (remembers g c) (shown g c) c.args.layer (before g c) (first g c) (fresh g c) c.args.spans.now in
+    let spans = spans_after plan c.args.moment.now c.args.spawn_results.now c.seek_layer.new.sought (remembers g c) (shown g c) c.args.layer (before g c) (first g c) (fresh g c) c.args.spans.now in
     let new = g.S.StreamStore.seen c.give_shared.new.store in
     let results = c.answer_tasks.new.results.items in
     let P : Seen → Type 0 = λ s. IsReadyFor plan next s (before g c ++ tasks g c) (first g c ++ fresh g c) spans in
@@ -176,13 +176,13 @@ returns-clause-spans g c =
     let Q : List Outcome → Type 0 = λ rs. IsReadyFor plan next new c.gather.new.tasks.items rs spans in
     let R : List Span → Type 0 = λ ps. IsReadyFor plan next new c.gather.new.tasks.items results ps in
     subst R (spans_is g c) (subst Q (results_is g c) (subst T (tasks_are g c) (subst P (seen_is g c)
-    (ready_after plan c.args.moment.now c.args.marks.now c.seek_layer.new.sought (remembers g c) (shown g c) c.args.layer (before g c) (first g c) (fresh g c) c.args.spans.now c.requires.rooms.each (are_results g c) c.requires.spans))))
+    (ready_after plan c.args.moment.now c.args.spawn_results.now c.seek_layer.new.sought (remembers g c) (shown g c) c.args.layer (before g c) (first g c) (fresh g c) c.args.spans.now c.requires.rooms.each (are_results g c) c.requires.spans))))
 
 pub returns-clause-takes : goal.returns-clause-takes
-returns-clause-takes g c names rows step run marked =
+returns-clause-takes g c names rows step run with_spawn_results =
     let now = content_so_far c.args.plan.now c.args.moment.now.start rows step (eval_stage (length c.args.plan.now.spec.streams) c.args.layer) in
-    let held = held_all c.args.plan.now c.args.moment.now c.args.marks.now c.seek_layer.new.sought (remembers g c) (shown g c) c.args.layer c.requires.accepted names rows step c.requires.at run marked c.seek_layer.ensures.sought (fresh g c) (are_results g c) in
-    let told = next_content c.args.plan.now c.args.moment.now c.args.marks.now c.seek_layer.new.sought (remembers g c) (shown g c) c.args.layer c.requires.accepted names rows step c.requires.at run marked c.seek_layer.ensures.sought (fresh g c) (are_results g c) in
+    let held = held_all c.args.plan.now c.args.moment.now c.args.spawn_results.now c.seek_layer.new.sought (remembers g c) (shown g c) c.args.layer c.requires.accepted names rows step c.requires.at run with_spawn_results c.seek_layer.ensures.sought (fresh g c) (are_results g c) in
+    let told = next_content c.args.plan.now c.args.moment.now c.args.spawn_results.now c.seek_layer.new.sought (remembers g c) (shown g c) c.args.layer c.requires.accepted names rows step c.requires.at run with_spawn_results c.seek_layer.ensures.sought (fresh g c) (are_results g c) in
     let H : List Outcome → Type 0 = λ rs. AreHeldIn names rs in
     let P : Content → Type 0 = λ d. Stands names (g.S.StreamStore.remembers c.give_shared.new.store) (g.S.StreamStore.seen c.give_shared.new.store) d in
     record {
@@ -193,7 +193,7 @@ returns-clause-takes g c names rows step run marked =
     }
 
 pub returns-clause-shows : goal.returns-clause-shows
-returns-clause-shows g c names rows step run marked earlier =
+returns-clause-shows g c names rows step run with_spawn_results earlier =
     let plan = c.args.plan.now in
     let full = (full_row plan c.args.moment.now.start rows step).streams in
     let next = layer_stage (length plan.spec.streams) (c.args.layer + 1) in
@@ -201,7 +201,7 @@ returns-clause-shows g c names rows step run marked earlier =
     let T : List Task → Type 0 = λ ts. ShowResults plan full next names c.gather.new.spans ts (first g c ++ fresh g c) in
     let Q : List Outcome → Type 0 = λ rs. ShowResults plan full next names c.gather.new.spans c.gather.new.tasks.items rs in
     subst Q (results_is g c) (subst T (tasks_are g c) (subst P (spans_is g c)
-    (shows_more plan c.args.moment.now c.args.marks.now c.seek_layer.new.sought (remembers g c) (shown g c) c.args.layer c.requires.accepted names rows step c.requires.at run marked c.seek_layer.ensures.sought
+    (shows_more plan c.args.moment.now c.args.spawn_results.now c.seek_layer.new.sought (remembers g c) (shown g c) c.args.layer c.requires.accepted names rows step c.requires.at run with_spawn_results c.seek_layer.ensures.sought
     (fresh g c) (are_results g c) (before g c) (first g c) c.requires.rooms.each c.args.spans.now c.requires.spans earlier)))
 
 pub returns-clause-faultless : goal.returns-clause-faultless
@@ -227,7 +227,7 @@ slice_bounds-give_shared-count-2 g c =
 
 pub give_shared-requires-clause-places : goal.give_shared-requires-clause-places
 give_shared-requires-clause-places g c κs within =
-    let tasks = layer_tasks c.args.plan.now c.args.moment.now c.args.marks.now c.seek_layer.new.sought (g.S.StreamStore.seen c.args.store.now) c.args.layer 0 c.args.plan.now.spec.streams in
+    let tasks = layer_tasks c.args.plan.now c.args.moment.now c.args.spawn_results.now c.seek_layer.new.sought (g.S.StreamStore.seen c.args.store.now) c.args.layer 0 c.args.plan.now.spec.streams in
     let answered = c.answer_tasks.ensures.answered in
     let from = c.len-from.ensures ∙ c.args.tasks.now.ok.0 in
     as_many _ _ tasks _ answered.fresh c.args.results.now.items c.answer_tasks.new.results.items _ _

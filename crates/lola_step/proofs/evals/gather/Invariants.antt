@@ -11,7 +11,7 @@ use Rattle.lola_step.proofs.evals.gather.Given as goal
 abbrev pub invariant-loop-number : goal.invariant-loop-number
 invariant-loop-number g l = record {
   walk : IsWalk (has_turn l.plan (turn.Eval l.layer)) l.plan.spec.streams
-      (AreGathered l.plan l.moment l.marks l.sought (g.S.StreamStore.seen l.store) l.layer l.initial.tasks.items l.initial.spans l.tasks.items l.spans)
+      (AreGathered l.plan l.moment l.spawn_results l.sought (g.S.StreamStore.seen l.store) l.layer l.initial.tasks.items l.initial.spans l.tasks.items l.spans)
       (drop l.number-index l.turns);
   known : IsKnownAt l.moment l.last;
   places_room : vec_capacity l.places ≡ vec_capacity l.initial.places;

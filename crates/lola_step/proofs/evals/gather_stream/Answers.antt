@@ -7,7 +7,7 @@ use Rattle.lola_model.specs.declared.plan.Plan.{Plan}
 use Rattle.lola_model.specs.declared.spec.Stream.{Stream}
 use Rattle.lola_model.specs.declared.store.Whereabouts.{Whereabouts}
 use Rattle.lola_step.specs.Notes.{places_asked, runs_in, sought_at, stream_tasks, tasks_at}
-use Rattle.lola_step.specs.declared.mark.Mark.{Mark}
+use Rattle.lola_step.specs.declared.spawn_result.SpawnResult.{SpawnResult}
 use Rattle.lola_step.specs.declared.moment.Moment.{Moment}
 use Rattle.lola_step.specs.declared.tasks.Task.{Task}
 use Rattle.lola_step.proofs.Gathering.{asked_tasks, count_asked}
@@ -16,7 +16,7 @@ use Rattle.lola_step.proofs.evals.gather_stream.Goals as goal
 pub add_asked-requires-clause-tasks_room : goal.add_asked-requires-clause-tasks_room
 add_asked-requires-clause-tasks_room g c =
     let counted =
-    count_asked c.args.plan.now c.args.moment.now c.args.marks.now c.args.sought.now (g.S.StreamStore.seen c.args.store.now) c.args.layer c.args.n c.args.stream.now c.sought_of-whereabouts.result c.eval_pacing_at-pacing.result.now
+    count_asked c.args.plan.now c.args.moment.now c.args.spawn_results.now c.args.sought.now (g.S.StreamStore.seen c.args.store.now) c.args.layer c.args.n c.args.stream.now c.sought_of-whereabouts.result c.eval_pacing_at-pacing.result.now
     (sym (c.runs_now.ensures.runs c.args.layer c.args.stream.now c.requires.turn) ∙ c.if-runs_now.true) c.sought_of-whereabouts.ensures (c.eval_pacing_at-pacing.ensures ∙ ap (λ ps. eval_pacing (slice_get ps c.args.n)) c.as_slice.ensures) in
     omega (arith, c.requires.tasks_room, counted)
 
@@ -29,17 +29,17 @@ add_asked-requires-clause-single g c none =
     )
 
 -- the tasks of a stream that runs are those of the places that are asked
-tasks_asked : (plan : Plan) (m : Moment) (marks : List Mark) (sought : List Whereabouts) (s : Seen) (layer n : ℕ) (x : Stream) (w : Whereabouts) (p : Option Pacing) → runs_in plan m marks layer n x ≡ true
-    → w ≡ sought_at sought n → p ≡ eval_pacing (slice_get plan.pacings n) → tasks_at n (places_asked w p m s n) ≡ stream_tasks plan m marks sought s layer n x
-tasks_asked plan m marks sought s layer n x w p r f e =
+tasks_asked : (plan : Plan) (m : Moment) (spawn_results : List SpawnResult) (sought : List Whereabouts) (s : Seen) (layer n : ℕ) (x : Stream) (w : Whereabouts) (p : Option Pacing) → runs_in plan m spawn_results layer n x ≡ true
+    → w ≡ sought_at sought n → p ≡ eval_pacing (slice_get plan.pacings n) → tasks_at n (places_asked w p m s n) ≡ stream_tasks plan m spawn_results sought s layer n x
+tasks_asked plan m spawn_results sought s layer n x w p r f e =
     ap (λ v. tasks_at n (places_asked v p m s n)) f
-    ∙ (ap (λ q. tasks_at n (places_asked (sought_at sought n) q m s n)) e ∙ sym (ap (λ b. if b then asked_tasks plan m marks sought s layer n else []) r))
+    ∙ (ap (λ q. tasks_at n (places_asked (sought_at sought n) q m s n)) e ∙ sym (ap (λ b. if b then asked_tasks plan m spawn_results sought s layer n else []) r))
 
 pub returns-then-runs_now-clause-tasks : goal.returns-then-runs_now-clause-tasks
 returns-then-runs_now-clause-tasks g c =
     c.add_asked.ensures.tasks
     ∙ ap (λ ts. c.args.tasks.now.items ++ ts)
-    (tasks_asked c.args.plan.now c.args.moment.now c.args.marks.now c.args.sought.now (g.S.StreamStore.seen c.args.store.now) c.args.layer c.args.n c.args.stream.now c.sought_of-whereabouts.result c.eval_pacing_at-pacing.result.now
+    (tasks_asked c.args.plan.now c.args.moment.now c.args.spawn_results.now c.args.sought.now (g.S.StreamStore.seen c.args.store.now) c.args.layer c.args.n c.args.stream.now c.sought_of-whereabouts.result c.eval_pacing_at-pacing.result.now
     (sym (c.runs_now.ensures.runs c.args.layer c.args.stream.now c.requires.turn) ∙ c.if-runs_now.true) c.sought_of-whereabouts.ensures (c.eval_pacing_at-pacing.ensures ∙ ap (λ ps. eval_pacing (slice_get ps c.args.n)) c.as_slice.ensures))
 
 -- a list with more is no shorter
@@ -56,6 +56,6 @@ bounds-spans-n g c = c.requires.spans
 pub returns-else-runs_now-clause-tasks : goal.returns-else-runs_now-clause-tasks
 returns-else-runs_now-clause-tasks g c =
     let old = c.args.tasks.now.items in
-    let asked = asked_tasks c.args.plan.now c.args.moment.now c.args.marks.now c.args.sought.now (g.S.StreamStore.seen c.args.store.now) c.args.layer c.args.n in
+    let asked = asked_tasks c.args.plan.now c.args.moment.now c.args.spawn_results.now c.args.sought.now (g.S.StreamStore.seen c.args.store.now) c.args.layer c.args.n in
     sym (append-nil old)
     ∙ ap (λ b. old ++ (if b then asked else [])) (sym (sym (c.runs_now.ensures.runs c.args.layer c.args.stream.now c.requires.turn) ∙ c.if-runs_now.false))

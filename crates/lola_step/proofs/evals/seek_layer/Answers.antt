@@ -10,10 +10,10 @@ use Rattle.lola_step.proofs.evals.seek_layer.Goals.{In-loop-number}
 -- the next of the streams, and what is noted of those before it
 next : (g : _) (c : In-loop-number g)
     → IsTurn (has_turn c.args.plan.now (turn.Seek c.args.layer)) c.args.plan.now.spec.streams
-    (AreNotedBelow c.args.plan.now c.args.moment.now c.args.marks.now (g.S.StreamStore.remembers c.args.store.now) (g.S.StreamStore.seen c.args.store.now) c.args.layer c.loop-number.sought)
+    (AreNotedBelow c.args.plan.now c.args.moment.now c.args.spawn_results.now (g.S.StreamStore.remembers c.args.store.now) (g.S.StreamStore.seen c.args.store.now) c.args.layer c.loop-number.sought)
     (get_or c.args.turns.now c.loop-number.number-index 0) (drop (c.loop-number.number-index + 1) c.args.turns.now)
 next g c =
-    sought_turn c.args.plan.now c.args.moment.now c.args.marks.now (g.S.StreamStore.remembers c.args.store.now) (g.S.StreamStore.seen c.args.store.now) c.args.layer c.loop-number.sought
+    sought_turn c.args.plan.now c.args.moment.now c.args.spawn_results.now (g.S.StreamStore.remembers c.args.store.now) (g.S.StreamStore.seen c.args.store.now) c.args.layer c.loop-number.sought
     c.args.turns.now c.loop-number.number-index c.loop-number.invariant c.loop-number-test.true
 
 pub loop-number-init : goal.loop-number-init
@@ -21,8 +21,8 @@ loop-number-init g c =
     let plan = c.args.plan.now in
     let remembers = g.S.StreamStore.remembers c.args.store.now in
     let s = g.S.StreamStore.seen c.args.store.now in
-    walk_first (has_turn plan (turn.Seek c.args.layer)) plan.spec.streams (AreNotedBelow plan c.args.moment.now c.args.marks.now remembers s c.args.layer c.args.sought.now)
-    c.args.turns.now c.requires.turns (sought_first plan c.args.moment.now c.args.marks.now remembers s c.args.layer c.args.sought.now c.requires.unsought)
+    walk_first (has_turn plan (turn.Seek c.args.layer)) plan.spec.streams (AreNotedBelow plan c.args.moment.now c.args.spawn_results.now remembers s c.args.layer c.args.sought.now)
+    c.args.turns.now c.requires.turns (sought_first plan c.args.moment.now c.args.spawn_results.now remembers s c.args.layer c.args.sought.now c.requires.unsought)
 
 pub stream_at-stream-requires : goal.stream_at-stream-requires
 stream_at-stream-requires g c = (next g (goal.at.stream_at-stream-requires g c).In-loop-number).below
@@ -44,7 +44,7 @@ pub loop-number-preserved : goal.loop-number-preserved
 loop-number-preserved g c =
     let plan = c.args.plan.now in
     let m = c.args.moment.now in
-    let marks = c.args.marks.now in
+    let spawn_results = c.args.spawn_results.now in
     let remembers = g.S.StreamStore.remembers c.args.store.now in
     let s = g.S.StreamStore.seen c.args.store.now in
     let n = get_or c.args.turns.now c.loop-number.number-index 0 in
@@ -52,7 +52,7 @@ loop-number-preserved g c =
     let t = next g (goal.at.loop-number-preserved g c).In-loop-number in
     let some = seek_has plan c.args.layer n x (has_turn_there plan (turn.Seek c.args.layer) n t.at x t.is c.stream_at-stream.ensures t.passes) in
     walk_on (has_turn plan (turn.Seek c.args.layer)) plan.spec.streams _ _ n (drop (c.loop-number.number-index + 1) c.args.turns.now) t (
-      sought_next plan m marks remembers s c.args.layer n x c.seek_stream.result c.loop-number.sought
+      sought_next plan m spawn_results remembers s c.args.layer n x c.seek_stream.result c.loop-number.sought
           (omega (arith, t.below, c.requires.sought, c.loop-number.auto.sought)) c.stream_at-stream.ensures c.seek_stream.ensures t.holds.0,
       unsought_set plan n x c.seek_stream.result c.loop-number.sought c.stream_at-stream.ensures some t.holds.1,
     )
@@ -61,14 +61,14 @@ pub returns-clause-sought : goal.returns-clause-sought
 returns-clause-sought g c =
     let plan = c.args.plan.now in
     let m = c.args.moment.now in
-    let marks = c.args.marks.now in
+    let spawn_results = c.args.spawn_results.now in
     let remembers = g.S.StreamStore.remembers c.args.store.now in
     let s = g.S.StreamStore.seen c.args.store.now in
-    sought_all plan m marks remembers s c.args.layer (length plan.spec.streams) c.loop-number.sought (omega arith)
-    (sought_end plan m marks remembers s c.args.layer c.loop-number.sought c.args.turns.now c.loop-number.number-index c.loop-number.invariant (omega arith)).0
+    sought_all plan m spawn_results remembers s c.args.layer (length plan.spec.streams) c.loop-number.sought (omega arith)
+    (sought_end plan m spawn_results remembers s c.args.layer c.loop-number.sought c.args.turns.now c.loop-number.number-index c.loop-number.invariant (omega arith)).0
 
 pub returns-clause-unsought : goal.returns-clause-unsought
 returns-clause-unsought g c =
     let plan = c.args.plan.now in
-    (sought_end plan c.args.moment.now c.args.marks.now (g.S.StreamStore.remembers c.args.store.now) (g.S.StreamStore.seen c.args.store.now) c.args.layer c.loop-number.sought
+    (sought_end plan c.args.moment.now c.args.spawn_results.now (g.S.StreamStore.remembers c.args.store.now) (g.S.StreamStore.seen c.args.store.now) c.args.layer c.loop-number.sought
     c.args.turns.now c.loop-number.number-index c.loop-number.invariant (omega arith)).1

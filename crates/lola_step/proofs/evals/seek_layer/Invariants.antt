@@ -8,5 +8,5 @@ use Rattle.lola_step.proofs.evals.seek_layer.Given as goal
 -- of the streams so far it is noted
 abbrev pub invariant-loop-number : goal.invariant-loop-number
 invariant-loop-number g l =
-    IsWalk (has_turn l.plan (turn.Seek l.layer)) l.plan.spec.streams (AreNotedBelow l.plan l.moment l.marks (g.S.StreamStore.remembers l.store) (g.S.StreamStore.seen l.store) l.layer l.sought)
+    IsWalk (has_turn l.plan (turn.Seek l.layer)) l.plan.spec.streams (AreNotedBelow l.plan l.moment l.spawn_results (g.S.StreamStore.remembers l.store) (g.S.StreamStore.seen l.store) l.layer l.sought)
     (drop l.number-index l.turns)

@@ -13,7 +13,7 @@ returns-then-layer_at-layer g c =
     let plan = c.args.plan.now in
     let n = c.args.n in
     let node = c.layer_at.ensures ∙ ap (λ ls. layer_of ls (spawn_node n)) c.as_slice.ensures in
-    other_layer_next plan c.requires.accepted c.args.moment.now c.args.layer n c.args.stream.now c.requires.stream c.args.mark
+    other_layer_next plan c.requires.accepted c.args.moment.now c.args.layer n c.args.stream.now c.requires.stream c.args.spawn_result
     (g.S.StreamStore.remembers c.args.store.now) (g.S.StreamStore.seen c.args.store.now) c.requires.at (λ e. c.if-layer_at-layer.true (node ∙ e))
 
 pub spawn_pacing_at-requires : goal.spawn_pacing_at-requires
@@ -29,7 +29,7 @@ spawning_of-asked-requires-clause-few g c =
     let of_layer = sym (c.layer_at.ensures ∙ ap (λ ls. layer_of ls (spawn_node c.args.n)) c.as_slice.ensures) ∙ c.if-layer_at-layer.false in
     let pacing = c.spawn_pacing_at.ensures ∙ ap (λ ps. spawn_pacing (slice_get ps c.args.n)) c.as_slice-in-Some.ensures in
     let active = sym (ap (active_in c.args.moment.now) pacing) ∙ (sym c.is_active.ensures ∙ c.if-is_active.true) in
-    few_names c.args.plan.now c.requires.accepted c.args.moment.now c.args.layer c.args.n c.args.stream.now c.requires.stream c.args.mark
+    few_names c.args.plan.now c.requires.accepted c.args.moment.now c.args.layer c.args.n c.args.stream.now c.requires.stream c.args.spawn_result
     (g.S.StreamStore.remembers c.args.store.now) (g.S.StreamStore.seen c.args.store.now) c.requires.at c.in-Some.clause c.in-Some.is of_layer active
 
 pub spawning_of-asked-requires-clause-named : goal.spawning_of-asked-requires-clause-named
@@ -37,7 +37,7 @@ spawning_of-asked-requires-clause-named g c =
     let of_layer = sym (c.layer_at.ensures ∙ ap (λ ls. layer_of ls (spawn_node c.args.n)) c.as_slice.ensures) ∙ c.if-layer_at-layer.false in
     let pacing = c.spawn_pacing_at.ensures ∙ ap (λ ps. spawn_pacing (slice_get ps c.args.n)) c.as_slice-in-Some.ensures in
     let active = sym (ap (active_in c.args.moment.now) pacing) ∙ (sym c.is_active.ensures ∙ c.if-is_active.true) in
-    names_each c.args.plan.now c.requires.accepted c.args.moment.now c.args.layer c.args.n c.args.stream.now c.requires.stream c.args.mark
+    names_each c.args.plan.now c.requires.accepted c.args.moment.now c.args.layer c.args.n c.args.stream.now c.requires.stream c.args.spawn_result
     (g.S.StreamStore.remembers c.args.store.now) (g.S.StreamStore.seen c.args.store.now) c.requires.at c.in-Some.clause c.in-Some.is of_layer active
 
 pub spawning_of-asked-requires-clause-asks : goal.spawning_of-asked-requires-clause-asks
@@ -45,7 +45,7 @@ spawning_of-asked-requires-clause-asks g c =
     let of_layer = sym (c.layer_at.ensures ∙ ap (λ ls. layer_of ls (spawn_node c.args.n)) c.as_slice.ensures) ∙ c.if-layer_at-layer.false in
     let pacing = c.spawn_pacing_at.ensures ∙ ap (λ ps. spawn_pacing (slice_get ps c.args.n)) c.as_slice-in-Some.ensures in
     let active = sym (ap (active_in c.args.moment.now) pacing) ∙ (sym c.is_active.ensures ∙ c.if-is_active.true) in
-    may_ask c.args.plan.now c.requires.accepted c.args.moment.now c.args.layer c.args.n c.args.stream.now c.requires.stream c.args.mark
+    may_ask c.args.plan.now c.requires.accepted c.args.moment.now c.args.layer c.args.n c.args.stream.now c.requires.stream c.args.spawn_result
     (g.S.StreamStore.remembers c.args.store.now) (g.S.StreamStore.seen c.args.store.now) c.requires.at c.in-Some.clause c.in-Some.is of_layer active c.requires.moment
 
 pub overflow_cast-n : goal.overflow_cast-n
@@ -59,7 +59,7 @@ take-requires-clause-may g c =
     let of_layer = sym (c.layer_at.ensures ∙ ap (λ ls. layer_of ls (spawn_node c.args.n)) c.as_slice.ensures) ∙ c.if-layer_at-layer.false in
     let pacing = c.spawn_pacing_at.ensures ∙ ap (λ ps. spawn_pacing (slice_get ps c.args.n)) c.as_slice-in-Some.ensures in
     let active = sym (ap (active_in c.args.moment.now) pacing) ∙ (sym c.is_active.ensures ∙ c.if-is_active.true) in
-    may_spawn c.args.plan.now c.requires.accepted c.args.moment.now c.args.layer c.args.n c.args.stream.now c.requires.stream c.args.mark
+    may_spawn c.args.plan.now c.requires.accepted c.args.moment.now c.args.layer c.args.n c.args.stream.now c.requires.stream c.args.spawn_result
     (g.S.StreamStore.remembers c.args.store.now) (g.S.StreamStore.seen c.args.store.now) c.requires.at c.in-Some.clause c.in-Some.is of_layer active
 
 pub take-requires-clause-fits : goal.take-requires-clause-fits
@@ -67,12 +67,12 @@ take-requires-clause-fits g c =
     let of_layer = sym (c.layer_at.ensures ∙ ap (λ ls. layer_of ls (spawn_node c.args.n)) c.as_slice.ensures) ∙ c.if-layer_at-layer.false in
     let pacing = c.spawn_pacing_at.ensures ∙ ap (λ ps. spawn_pacing (slice_get ps c.args.n)) c.as_slice-in-Some.ensures in
     let active = sym (ap (active_in c.args.moment.now) pacing) ∙ (sym c.is_active.ensures ∙ c.if-is_active.true) in
-    is_for c.args.plan.now c.requires.accepted c.args.moment.now c.args.layer c.args.n c.args.stream.now c.requires.stream c.args.mark
+    is_for c.args.plan.now c.requires.accepted c.args.moment.now c.args.layer c.args.n c.args.stream.now c.requires.stream c.args.spawn_result
     (g.S.StreamStore.remembers c.args.store.now) (g.S.StreamStore.seen c.args.store.now) c.requires.at c.in-Some.clause c.in-Some.is of_layer active c.spawning_of-asked.result c.spawning_of-asked.ensures.fits
 
 pub returns-in-None : goal.returns-in-None
 returns-in-None g c =
-    no_clause_next c.args.plan.now c.requires.accepted c.args.moment.now c.args.layer c.args.n c.args.stream.now c.requires.stream c.args.mark
+    no_clause_next c.args.plan.now c.requires.accepted c.args.moment.now c.args.layer c.args.n c.args.stream.now c.requires.stream c.args.spawn_result
     (g.S.StreamStore.remembers c.args.store.now) (g.S.StreamStore.seen c.args.store.now) c.requires.at c.in-None.is
 
 pub returns-then-is_active : goal.returns-then-is_active
@@ -80,7 +80,7 @@ returns-then-is_active g c =
     let of_layer = sym (c.layer_at.ensures ∙ ap (λ ls. layer_of ls (spawn_node c.args.n)) c.as_slice.ensures) ∙ c.if-layer_at-layer.false in
     let pacing = c.spawn_pacing_at.ensures ∙ ap (λ ps. spawn_pacing (slice_get ps c.args.n)) c.as_slice-in-Some.ensures in
     let active = sym (ap (active_in c.args.moment.now) pacing) ∙ (sym c.is_active.ensures ∙ c.if-is_active.true) in
-    asked_next c.args.plan.now c.requires.accepted c.args.moment.now c.args.layer c.args.n c.args.stream.now c.requires.stream c.args.mark
+    asked_next c.args.plan.now c.requires.accepted c.args.moment.now c.args.layer c.args.n c.args.stream.now c.requires.stream c.args.spawn_result
     (g.S.StreamStore.remembers c.args.store.now) (g.S.StreamStore.seen c.args.store.now) c.requires.at c.in-Some.clause c.in-Some.is of_layer active c.spawning_of-asked.result c.take.result
     (g.S.StreamStore.remembers c.take.new.store) (g.S.StreamStore.seen c.take.new.store) c.spawning_of-asked.ensures.asked c.take.ensures.seen c.take.ensures.taken
 
@@ -89,5 +89,5 @@ returns-else-is_active g c =
     let plan = c.args.plan.now in
     let passive = sym c.is_active.ensures ∙ c.if-is_active.false in
     let pacing = c.spawn_pacing_at.ensures ∙ ap (λ ps. spawn_pacing (slice_get ps c.args.n)) c.as_slice-in-Some.ensures in
-    passive_next plan c.requires.accepted c.args.moment.now c.args.layer c.args.n c.args.stream.now c.requires.stream c.args.mark
+    passive_next plan c.requires.accepted c.args.moment.now c.args.layer c.args.n c.args.stream.now c.requires.stream c.args.spawn_result
     (g.S.StreamStore.remembers c.args.store.now) (g.S.StreamStore.seen c.args.store.now) c.requires.at (sym (ap (active_in c.args.moment.now) pacing) ∙ passive)

@@ -20,8 +20,8 @@ pub returns-in-Some-clause-concludes : goal.returns-in-Some-clause-concludes
 returns-in-Some-clause-concludes g c names rows step run moment noted stands =
     let now = c.args.scratch.now in
     let finds : FindsFault c.args.plan.now c.deref.result.now c.deref-2.result.now now.tasks.items c.deref-3.result.now (Some (c.in-Some.stream, c.in-Some.kind)) = c.in-Some.ensures now.tasks.items in
-    fails_by_evaluation c.args.plan.now c.args.moment.now now.marks.items now.spans.items now.tasks.items now.results.items c.in-Some.stream c.in-Some.kind
-    (same_fault c.args.plan.now now.marks.items c.deref.result.now now.spans.items c.deref-2.result.now now.tasks.items now.results.items c.deref-3.result.now (Some (c.in-Some.stream, c.in-Some.kind))
+    fails_by_evaluation c.args.plan.now c.args.moment.now now.spawn_results.items now.spans.items now.tasks.items now.results.items c.in-Some.stream c.in-Some.kind
+    (same_fault c.args.plan.now now.spawn_results.items c.deref.result.now now.spans.items c.deref-2.result.now now.tasks.items now.results.items c.deref-3.result.now (Some (c.in-Some.stream, c.in-Some.kind))
     c.deref.ensures.value c.deref-2.ensures.value c.deref-3.ensures.value finds)
     names rows step run noted
 
@@ -33,9 +33,9 @@ returns-in-Some-find_closings-clause-concludes g c names rows step run moment no
     let kind = c.in-Some-find_closings.kind in
     let finds : FindsClosings c.args.plan.now c.args.moment.now (g.S.StreamStore.remembers c.args.store.now) (g.S.StreamStore.seen c.args.store.now) (Some (stream, kind)) c.find_closings.new.closing.items =
     c.in-Some-find_closings.ensures.finds in
-    fails_by_closing c.args.plan.now c.args.moment.now now.marks.items now.spans.items now.tasks.items now.results.items
+    fails_by_closing c.args.plan.now c.args.moment.now now.spawn_results.items now.spans.items now.tasks.items now.results.items
     (g.S.StreamStore.remembers c.args.store.now) (g.S.StreamStore.seen c.args.store.now)
-    (same_fault c.args.plan.now now.marks.items c.deref.result.now now.spans.items c.deref-2.result.now now.tasks.items now.results.items c.deref-3.result.now None
+    (same_fault c.args.plan.now now.spawn_results.items c.deref.result.now now.spans.items c.deref-2.result.now now.tasks.items now.results.items c.deref-3.result.now None
     c.deref.ensures.value c.deref-2.ensures.value c.deref-3.ensures.value none)
     stream kind c.find_closings.new.closing.items finds names rows step run moment noted stands
 
@@ -50,9 +50,9 @@ returns-clause-concludes g c names rows step run moment noted stands =
     let none : FindsFault c.args.plan.now c.deref.result.now c.deref-2.result.now now.tasks.items c.deref-3.result.now None = c.in_default.ensures now.tasks.items in
     let finds : FindsClosings c.args.plan.now c.args.moment.now (g.S.StreamStore.remembers c.args.store.now) (g.S.StreamStore.seen c.args.store.now) None c.find_closings.new.closing.items =
     c.in_default-find_closings.ensures.finds in
-    is_done c.args.plan.now c.args.moment.now now.marks.items now.spans.items now.tasks.items now.results.items
+    is_done c.args.plan.now c.args.moment.now now.spawn_results.items now.spans.items now.tasks.items now.results.items
     (g.S.StreamStore.remembers c.args.store.now) (g.S.StreamStore.seen c.args.store.now)
-    (same_fault c.args.plan.now now.marks.items c.deref.result.now now.spans.items c.deref-2.result.now now.tasks.items now.results.items c.deref-3.result.now None
+    (same_fault c.args.plan.now now.spawn_results.items c.deref.result.now now.spans.items c.deref-2.result.now now.tasks.items now.results.items c.deref-3.result.now None
     c.deref.ensures.value c.deref-2.ensures.value c.deref-3.ensures.value none)
     c.args.show (g.S.StreamStore.remembers c.close_all.new.store) (g.S.StreamStore.seen c.close_all.new.store)
     c.find_closings.new.closing.items c.deref-7.result.now c.collect.new.verdicts.items finds c.deref-7.ensures.value

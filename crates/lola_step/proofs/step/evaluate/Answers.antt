@@ -6,7 +6,7 @@ use Rattle.lola_step.specs.Evals.{EvalsTake, IsReadyFor, ShowsMore}
 use Rattle.lola_step.specs.Found.{NoneFailed, has_fault}
 use Rattle.lola_step.specs.Schedules.{IsScheduleOf}
 use Rattle.lola_step.specs.Sought.{AreUnsought}
-use Rattle.lola_step.specs.declared.mark.Mark.{Mark}
+use Rattle.lola_step.specs.declared.spawn_result.SpawnResult.{SpawnResult}
 use Rattle.lola_step.specs.declared.schedule.Schedule.{Schedule}
 use Rattle.lola_step.specs.declared.scratch.Span.{Span}
 use Rattle.lola_step.proofs.Evaluation.{IsSoFar, all_layers, first_layer, next_layer, spans_then}
@@ -17,12 +17,12 @@ pub loop-layer-init : goal.loop-layer-init
 loop-layer-init g c = record {
   so_far =
       first_layer c.args.plan.now c.args.moment.now (g.S.StreamStore.remembers c.args.store.now) (g.S.StreamStore.seen c.args.store.now)
-      c.args.scratch.now.marks.items c.args.scratch.now.spans.items c.args.scratch.now.places c.args.scratch.now.tasks c.args.scratch.now.results
-      c.requires.at c.requires.made.marks c.requires.fresh.marks c.requires.made.spans c.requires.fresh.spans
+      c.args.scratch.now.spawn_results.items c.args.scratch.now.spans.items c.args.scratch.now.places c.args.scratch.now.tasks c.args.scratch.now.results
+      c.requires.at c.requires.made.spawn_results c.requires.fresh.spawn_results c.requires.made.spans c.requires.fresh.spans
       c.requires.fresh.tasks c.requires.fresh.results c.requires.fresh.places_room c.requires.fresh.tasks_room c.requires.fresh.results_room;
-  faultless = λ none. (fine_first c.args.scratch.now.marks.items c.requires.fresh.marks, ap has_fault c.requires.fresh.results);
+  faultless = λ none. (fine_first c.args.scratch.now.spawn_results.items c.requires.fresh.spawn_results, ap has_fault c.requires.fresh.results);
   known = c.none-last.ensures c.args.moment.now;
-  marks = refl;
+  spawn_results = refl;
   sought = refl;
   unsought = c.requires.made.unsought;
   layers = refl;
@@ -85,30 +85,30 @@ loop-layer-preserved g c =
     let now = c.loop-layer.scratch in
     let seen = g.S.StreamStore.seen in
     let remembers = g.S.StreamStore.remembers in
-    let length_marks : length c.spawn_layer-failed.new.marks ≡ now.marks.len = c.spawn_layer-failed.auto.marks ∙ c.deref_mut.ensures.len in
+    let length_spawn_results : length c.spawn_layer-failed.new.spawn_results ≡ now.spawn_results.len = c.spawn_layer-failed.auto.spawn_results ∙ c.deref_mut.ensures.len in
     let length_spans : length c.eval_layer-given.new.spans ≡ now.spans.len = c.eval_layer-given.auto.spans ∙ c.deref_mut-in-loop-layer-2.ensures.len in
-    let marks_back : take now.marks.len (c.spawn_layer-failed.new.marks ++ drop (length c.spawn_layer-failed.new.marks) now.marks.items) ≡ c.spawn_layer-failed.new.marks =
-    take_at c.spawn_layer-failed.new.marks (drop (length c.spawn_layer-failed.new.marks) now.marks.items) now.marks.len length_marks in
+    let spawn_results_back : take now.spawn_results.len (c.spawn_layer-failed.new.spawn_results ++ drop (length c.spawn_layer-failed.new.spawn_results) now.spawn_results.items) ≡ c.spawn_layer-failed.new.spawn_results =
+    take_at c.spawn_layer-failed.new.spawn_results (drop (length c.spawn_layer-failed.new.spawn_results) now.spawn_results.items) now.spawn_results.len length_spawn_results in
     let spans_back : take now.spans.len (c.eval_layer-given.new.spans ++ drop (length c.eval_layer-given.new.spans) now.spans.items) ≡ c.eval_layer-given.new.spans =
     take_at c.eval_layer-given.new.spans (drop (length c.eval_layer-given.new.spans) now.spans.items) now.spans.len length_spans in
     let length_sought : length c.eval_layer-given.new.sought ≡ now.sought.len = c.eval_layer-given.auto.sought ∙ c.deref_mut-in-loop-layer-3.ensures.len in
     let sought_back : take now.sought.len (c.eval_layer-given.new.sought ++ drop (length c.eval_layer-given.new.sought) now.sought.items) ≡ c.eval_layer-given.new.sought =
     take_at c.eval_layer-given.new.sought (drop (length c.eval_layer-given.new.sought) now.sought.items) now.sought.len length_sought in
-    let lent : c.deref.result.now ≡ c.spawn_layer-failed.new.marks = c.deref.ensures.value ∙ marks_back in
-    let at : List Mark → List Span → Type 0 =
+    let lent : c.deref.result.now ≡ c.spawn_layer-failed.new.spawn_results = c.deref.ensures.value ∙ spawn_results_back in
+    let at : List SpawnResult → List Span → Type 0 =
     λ ms ps. IsSoFar plan m (c.loop-layer.layer + 1) (remembers c.args.store.now) (seen c.args.store.now) (remembers c.eval_layer-given.new.store) (seen c.eval_layer-given.new.store) ms ps c.eval_layer-given.new.places c.eval_layer-given.new.tasks c.eval_layer-given.new.results in
-    let before : List Mark → List Span → Type 0 =
+    let before : List SpawnResult → List Span → Type 0 =
     λ ms ps. IsSoFar plan m c.loop-layer.layer (remembers c.args.store.now) (seen c.args.store.now) (remembers c.loop-layer.store) (seen c.loop-layer.store) ms ps now.places now.tasks now.results in
     record {
       so_far =
-          subst (λ ms. at ms (take now.spans.len (c.eval_layer-given.new.spans ++ drop (length c.eval_layer-given.new.spans) now.spans.items))) (sym marks_back)
-          (subst (λ ps. at c.spawn_layer-failed.new.marks ps) (sym spans_back)
+          subst (λ ms. at ms (take now.spans.len (c.eval_layer-given.new.spans ++ drop (length c.eval_layer-given.new.spans) now.spans.items))) (sym spawn_results_back)
+          (subst (λ ps. at c.spawn_layer-failed.new.spawn_results ps) (sym spans_back)
           (next_layer plan m c.loop-layer.layer (remembers c.args.store.now) (seen c.args.store.now)
           (remembers c.loop-layer.store) (seen c.loop-layer.store) (remembers c.spawn_layer-failed.new.store) (seen c.spawn_layer-failed.new.store) (remembers c.eval_layer-given.new.store) (seen c.eval_layer-given.new.store)
-          c.deref_mut.result.now c.spawn_layer-failed.new.marks c.deref_mut-in-loop-layer-2.result.now c.eval_layer-given.new.spans now.places c.eval_layer-given.new.places now.tasks c.eval_layer-given.new.tasks now.results c.eval_layer-given.new.results
+          c.deref_mut.result.now c.spawn_layer-failed.new.spawn_results c.deref_mut-in-loop-layer-2.result.now c.eval_layer-given.new.spans now.places c.eval_layer-given.new.places now.tasks c.eval_layer-given.new.tasks now.results c.eval_layer-given.new.results
           (subst (λ ms. before ms c.deref_mut-in-loop-layer-2.result.now) (sym c.deref_mut.ensures.value)
-          (subst (λ ps. before now.marks.items ps) (sym c.deref_mut-in-loop-layer-2.ensures.value) c.loop-layer.invariant.so_far))
-          c.spawn_layer-failed.ensures.goes_on c.spawn_layer-failed.ensures.takes c.spawn_layer-failed.ensures.marked
+          (subst (λ ps. before now.spawn_results.items ps) (sym c.deref_mut-in-loop-layer-2.ensures.value) c.loop-layer.invariant.so_far))
+          c.spawn_layer-failed.ensures.goes_on c.spawn_layer-failed.ensures.takes c.spawn_layer-failed.ensures.with_spawn_results
           c.eval_layer-given.ensures.at c.eval_layer-given.ensures.goes_on c.eval_layer-given.ensures.rooms c.eval_layer-given.ensures.spans
           (subst (λ ms. EvalsTake plan m c.loop-layer.layer ms (remembers c.spawn_layer-failed.new.store) (seen c.spawn_layer-failed.new.store) (remembers c.eval_layer-given.new.store) (seen c.eval_layer-given.new.store)) lent c.eval_layer-given.ensures.takes)
           (subst
@@ -118,11 +118,11 @@ loop-layer-preserved g c =
           let p = or_parts c.loop-layer.faulty (c.spawn_layer-failed.result || c.eval_layer-given.result) (sym c.one_of-faulty.ensures ∙ none) in
           let q = or_parts c.spawn_layer-failed.result c.eval_layer-given.result p.1 in
           let before_it = c.loop-layer.invariant.faultless p.0 in (
-            subst NoneFailed (sym marks_back) (c.spawn_layer-failed.ensures.fine q.0 (subst NoneFailed (sym c.deref_mut.ensures.value) before_it.0)),
+            subst NoneFailed (sym spawn_results_back) (c.spawn_layer-failed.ensures.fine q.0 (subst NoneFailed (sym c.deref_mut.ensures.value) before_it.0)),
             c.eval_layer-given.ensures.faultless q.1 before_it.1,
           );
       known = c.eval_layer-given.ensures.known;
-      marks = ap length marks_back ∙ (length_marks ∙ (now.marks.ok.0 ∙ c.loop-layer.invariant.marks));
+      spawn_results = ap length spawn_results_back ∙ (length_spawn_results ∙ (now.spawn_results.ok.0 ∙ c.loop-layer.invariant.spawn_results));
       sought = ap length sought_back ∙ (length_sought ∙ (now.sought.ok.0 ∙ c.loop-layer.invariant.sought));
       unsought = subst (AreUnsought plan) (sym sought_back) c.eval_layer-given.ensures.unsought;
       layers = c.loop-layer.invariant.layers;
@@ -139,5 +139,5 @@ pub returns-clause-evaluates : goal.returns-clause-evaluates
 returns-clause-evaluates g c =
     all_layers c.args.plan.now c.args.moment.now c.loop-layer.layer
     (g.S.StreamStore.remembers c.args.store.now) (g.S.StreamStore.seen c.args.store.now) (g.S.StreamStore.remembers c.loop-layer.store) (g.S.StreamStore.seen c.loop-layer.store)
-    c.loop-layer.scratch.marks.items c.loop-layer.scratch.spans.items c.loop-layer.scratch.places c.loop-layer.scratch.tasks c.loop-layer.scratch.results
+    c.loop-layer.scratch.spawn_results.items c.loop-layer.scratch.spans.items c.loop-layer.scratch.places c.loop-layer.scratch.tasks c.loop-layer.scratch.results
     c.requires.accepted (λ node. omega (arith, c.requires.made.layers node, c.loop-layer-test.false)) c.loop-layer.invariant.so_far

@@ -9,10 +9,10 @@ use Rattle.lola_step.proofs.step.evaluate.Given as goal
 abbrev pub invariant-loop-layer : goal.invariant-loop-layer
 invariant-loop-layer g l = record {
   so_far : IsSoFar l.plan l.moment l.layer (g.S.StreamStore.remembers l.initial.store) (g.S.StreamStore.seen l.initial.store) (g.S.StreamStore.remembers l.store) (g.S.StreamStore.seen l.store)
-      l.scratch.marks.items l.scratch.spans.items l.scratch.places l.scratch.tasks l.scratch.results;
-  faultless : l.faulty ≡ false → IsFaultless l.scratch.marks.items l.scratch.results.items;
+      l.scratch.spawn_results.items l.scratch.spans.items l.scratch.places l.scratch.tasks l.scratch.results;
+  faultless : l.faulty ≡ false → IsFaultless l.scratch.spawn_results.items l.scratch.results.items;
   known : IsKnownAt l.moment l.last;
-  marks : length l.scratch.marks.items ≡ length l.initial.scratch.marks.items;
+  spawn_results : length l.scratch.spawn_results.items ≡ length l.initial.scratch.spawn_results.items;
   sought : length l.scratch.sought.items ≡ length l.initial.scratch.sought.items;
   unsought : AreUnsought l.plan l.scratch.sought.items;
   layers : l.scratch.layers ≡ l.layer-end;

@@ -1,7 +1,7 @@
 use Rattle.std.proofs.Common.{subst, sym, rules, Option, ℕ}
 use Rattle.std.specs.Ordering.{nat_cmp}
 use Rattle.std.proofs.lemmas.Fn.{always_returns_same}
-use Rattle.lola_text.specs.Marks.{IsPlaceOf}
+use Rattle.lola_text.specs.Flags.{IsPlaceOf}
 use Rattle.lola_text.proofs.Finding.{searched}
 use Rattle.lola_text.proofs.search.place_of.Goals as goal
 

@@ -19,7 +19,7 @@ invariant_of-self c =
       known = c.put.ensures.known;
       count = omega (arith, c.make_way-self-inside.ensures.count);
       room = omega (arith, c.self.invariant.room, c.make_way-self-inside.ensures.memory, c.put.ensures.memory);
-      long = omega (arith, c.self.invariant.long, c.make_way-self-inside.ensures.marks, c.put.ensures.marks);
+      long = omega (arith, c.self.invariant.long, c.make_way-self-inside.ensures.flags, c.put.ensures.flags);
     }
 
 pub returns-clause-rest : goal.returns-clause-rest

@@ -49,7 +49,7 @@ invariant_of-self g c =
     let full : length (living cells) ≡ length cells = (let was = c.self.invariant.count in omega arith) in
     line c.args.step c.args.offset cells c.as_mut_slice.result.now c.as_mut_slice.ensures.value full c.args.outcomes.now
     (subst (λ (l : Line). AreReadyFor c.args.offset l.items c.args.outcomes.now) (sym c.self.view_is) c.requires.ready)
-    c.give_cells.new.cells (omega arith) c.give_cells.ensures c.self.inside.marks c.self.inside.table c.self.inside.empty c.self.inside.capacity c.self.inside.cells.cap c.self.inside.cells.len
+    c.give_cells.new.cells (omega arith) c.give_cells.ensures c.self.inside.flags c.self.inside.table c.self.inside.empty c.self.inside.capacity c.self.inside.cells.cap c.self.inside.cells.len
     (omega (arith, c.self.inside.cells.ok.0)) (omega arith) c.self.invariant
 
 pub returns-clause-given : goal.returns-clause-given

@@ -9,9 +9,9 @@ invariant_of-self c =
     let was = c.self.invariant in
     let cells = c.self.inside.cells.items in
     let e = sym c.reserve.ensures.cells in
-    let more = long_longer c.self.inside.marks c.reserve.new.marks c.reserve.ensures.marks in
+    let more = long_longer c.self.inside.flags c.reserve.new.flags c.reserve.ensures.flags in
     record {
-      known = subst (λ (cs : List (Option Holdings)). AreKnown cs c.reserve.new.marks c.self.inside.table) e (known_longer cells c.self.inside.marks c.reserve.new.marks c.self.inside.table was.known c.reserve.ensures.marks);
+      known = subst (λ (cs : List (Option Holdings)). AreKnown cs c.reserve.new.flags c.self.inside.table) e (known_longer cells c.self.inside.flags c.reserve.new.flags c.self.inside.table was.known c.reserve.ensures.flags);
       count = subst (λ (cs : List (Option Holdings)). c.self.inside.empty + length (living cs) ≡ length cs) e was.count;
       room = omega (arith, was.room, c.reserve.ensures.memory);
       long = omega (arith, was.long);
@@ -24,7 +24,7 @@ invariant_of-self-in-Ok c =
     let e = sym c.reserve.ensures.cells in
     let n = subst (λ (cs : List (Option Holdings)). length cells ≡ length cs) e refl in
     record {
-      known = subst (λ (cs : List (Option Holdings)). AreKnown cs c.reserve.new.marks c.self.inside.table) e (known_longer cells c.self.inside.marks c.reserve.new.marks c.self.inside.table was.known c.reserve.ensures.marks);
+      known = subst (λ (cs : List (Option Holdings)). AreKnown cs c.reserve.new.flags c.self.inside.table) e (known_longer cells c.self.inside.flags c.reserve.new.flags c.self.inside.table was.known c.reserve.ensures.flags);
       count = subst (λ (cs : List (Option Holdings)). c.self.inside.empty + length (living cs) ≡ length cs) e was.count;
       room = omega (arith, c.in-Ok.ensures.ok, c.len-wanted.ensures);
       long = omega (arith, c.in-Ok.ensures.bits, c.len-wanted.ensures);

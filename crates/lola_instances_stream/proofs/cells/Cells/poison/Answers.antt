@@ -38,7 +38,7 @@ invariant_of-self c =
     let k = length-set cells cell new in
     let m = length-set (living cells) c.args.place h.y in
     record {
-      known = known_changed R cells (slice_set cells cell new) cell c.index_mut.result.now new c.poison_in.ensures at refl c.self.inside.marks c.self.inside.table c.self.invariant.known;
+      known = known_changed R cells (slice_set cells cell new) cell c.index_mut.result.now new c.poison_in.ensures at refl c.self.inside.flags c.self.inside.table c.self.invariant.known;
       count = let was = c.self.invariant.count in omega arith;
       room = c.self.invariant.room;
       long = c.self.invariant.long;

@@ -6,11 +6,11 @@ use Rattle.lola_monitor_run.proofs.run.Run.close.Goals as goal
 pub returns-in-Err-clause-closes : goal.returns-in-Err-clause-closes
 returns-in-Err-clause-closes g c =
     stopped_close c.in-Err.end c.stop_at.result (keeping c.args.self.now) _ (g.K.Sink.state c.args.out.now) (g.K.Sink.state c.stop_at.new.out) c.finish.new.lines
-    (finishes_as (Err c.in-Err.end) c.args.self.now.engine.desk c.finish.new.self.desk c.args.self.now.engine.store c.clear.new.self c.finish.new.lines c.clear.ensures c.in-Err.ensures.finishes)
+    (finishes_as (Err c.in-Err.end) c.args.self.now.engine.state c.finish.new.self.state c.args.self.now.engine.store c.clear.new.self c.finish.new.lines c.clear.ensures c.in-Err.ensures.finishes)
     (subst (λ (t : List ℕ). StopsAt c.in-Err.end c.stop_at.result t (g.K.Sink.state c.args.out.now) (g.K.Sink.state c.stop_at.new.out)) c.as_bytes.ensures c.stop_at.ensures)
 
 pub returns-clause-closes : goal.returns-clause-closes
 returns-clause-closes g c =
     closed_and_put c.put_text.result (keeping c.args.self.now) _ (g.K.Sink.state c.args.out.now) (g.K.Sink.state c.put_text.new.out) c.finish.new.lines
-    (finishes_as (Ok tt) c.args.self.now.engine.desk c.finish.new.self.desk c.args.self.now.engine.store c.clear.new.self c.finish.new.lines c.clear.ensures c.in_default.ensures.finishes) refl refl
+    (finishes_as (Ok tt) c.args.self.now.engine.state c.finish.new.self.state c.args.self.now.engine.store c.clear.new.self c.finish.new.lines c.clear.ensures c.in_default.ensures.finishes) refl refl
     (subst (λ (t : List ℕ). Puts c.put_text.result t (g.K.Sink.state c.args.out.now) (g.K.Sink.state c.put_text.new.out)) c.as_bytes-2.ensures c.put_text.ensures)

@@ -1,8 +1,8 @@
 use Rattle.std.proofs.Common.{◌≡◌, ◌-◌}
 use Rattle.lola_parser_grammars_law.specs.Syntax.{read}
-use Rattle.lola_parser_grammar.specs.Grammar.{onto, joined, product, sum_signs, expr_in, other_in}
-use Rattle.lola_parser_cursor.proofs.Joins.{signs_on}
+use Rattle.lola_parser_grammar.specs.Grammar.{onto, joined, product, sum_operators, expr_in, other_in}
+use Rattle.lola_parser_cursor.proofs.Joins.{operators_on}
 use Rattle.lola_parser_expressions.proofs.rules.Rules.further_sums.Given as goal
 
 abbrev pub invariant-loop-turn : goal.invariant-loop-turn
-invariant-loop-turn g l = read (onto l.fn.start (joined sum_signs (product (expr_in l.self.depth) (other_in l.self.depth)))) l.fn.parser.room l.fn.parser.rest ≡ signs_on sum_signs (product (expr_in l.self.depth) (other_in l.self.depth)) (l._turn-end - l._turn) l.left l.parser.room l.parser.rest
+invariant-loop-turn g l = read (onto l.fn.start (joined sum_operators (product (expr_in l.self.depth) (other_in l.self.depth)))) l.fn.parser.room l.fn.parser.rest ≡ operators_on sum_operators (product (expr_in l.self.depth) (other_in l.self.depth)) (l._turn-end - l._turn) l.left l.parser.room l.parser.rest

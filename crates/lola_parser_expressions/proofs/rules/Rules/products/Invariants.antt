@@ -1,8 +1,8 @@
 use Rattle.std.proofs.Common.{◌≡◌, ◌-◌}
 use Rattle.lola_parser_grammars_law.specs.Syntax.{read}
-use Rattle.lola_parser_grammar.specs.Grammar.{onto, joined, unary, product_signs, expr_in, other_in}
-use Rattle.lola_parser_cursor.proofs.Joins.{signs_on}
+use Rattle.lola_parser_grammar.specs.Grammar.{onto, joined, unary, product_operators, expr_in, other_in}
+use Rattle.lola_parser_cursor.proofs.Joins.{operators_on}
 use Rattle.lola_parser_expressions.proofs.rules.Rules.products.Given as goal
 
 abbrev pub invariant-loop-turn : goal.invariant-loop-turn
-invariant-loop-turn g l = read (onto l.fn.start (joined product_signs (unary (expr_in l.self.depth) (other_in l.self.depth)))) l.fn.parser.room l.fn.parser.rest ≡ signs_on product_signs (unary (expr_in l.self.depth) (other_in l.self.depth)) (l._turn-end - l._turn) l.left l.parser.room l.parser.rest
+invariant-loop-turn g l = read (onto l.fn.start (joined product_operators (unary (expr_in l.self.depth) (other_in l.self.depth)))) l.fn.parser.room l.fn.parser.rest ≡ operators_on product_operators (unary (expr_in l.self.depth) (other_in l.self.depth)) (l._turn-end - l._turn) l.left l.parser.room l.parser.rest

@@ -1,13 +1,13 @@
 use Rattle.std.proofs.Common.{refl, ◌≡◌, ◌-◌, ◌+◌, ◌∷◌, [], ◌∙◌, true, Ok}
 use Rattle.lola_lexer.specs.declared.shape.TokenShape.TheVariants as is
 use Rattle.lola_parser_grammars_law.specs.Syntax.{Of, starts, read, first, nullable}
-use Rattle.lola_parser_grammar.specs.Grammar.{mark, with_default, dotted_default, expr_in, other_in}
+use Rattle.lola_parser_grammar.specs.Grammar.{nesting, with_default, dotted_default, expr_in, other_in}
 use Rattle.lola_parser_cursor.proofs.Joins.{goes_on, goes_further}
 use Rattle.lola_parser_cursor.proofs.Turns.{one_more}
 use Rattle.lola_parser_expressions.proofs.rules.Rules.with_defaults.Goals as goal
 
 pub loop-turn-preserved : goal.loop-turn-preserved
-unfolding read first nullable dotted_default mark
+unfolding read first nullable dotted_default nesting
 loop-turn-preserved g c =
     let e = one_more (λ n. goes_on with_default (dotted_default (expr_in c.args.self.now.depth) (other_in c.args.self.now.depth)) n c.loop-turn.left c.loop-turn.parser.room c.loop-turn.parser.rest) _ c.loop-turn._turn c.loop-turn-test.true c.loop-turn.invariant in
     let h : starts (Of is.Dot ∷ []) c.loop-turn.parser.rest ≡ true = cc in

@@ -13,7 +13,7 @@ returns-in_default-fill g c =
     let old = c.args.self.now in
     let mid = c.fill.new.self in
     let new = reading i.form.index i.form.most i.inputs.items stage.Heading (layout_columns i.layout) i.given (items c.drop_mark.new.self) (g.S.Source.state i.source) i.ended in
-    let fill = filled-shows old mid c.fill.result c.in_default-fill.not-Fault c.fill.ensures.fills in
+    let fill = filled-shows old mid c.fill.result c.in_default-fill.not-ReadFailed c.fill.ensures.fills in
     let begun = c.fill.ensures.stage ∙ sym (ap (λ (x : Reading). x.stage) c.self.view_is) ∙ c.in-Start.is in
     let is = c.self-2.view_is in
     record {

@@ -1,6 +1,6 @@
 -- A text that is held is found as a key that is a copy of it.
 use Rattle.std.proofs.Common.{◌≡◌, ℕ, List, Option, Some, option_map, subst, sym, ap, ◌∙◌, refl, rules}
-use Rattle.lola_text.specs.Marks.{naming_of}
+use Rattle.lola_text.specs.Flags.{naming_of}
 use Rattle.lola_text.specs.Texts.{Gives, Texts, number_in}
 use Rattle.lola_text.proofs.Held.{number-looked_up}
 use Rattle.lola_text.proofs.table.TextTable.intern.Goals as goal

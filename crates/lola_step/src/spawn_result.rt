@@ -1,0 +1,14 @@
+//! What a spawn clause did in a step.
+
+use lola_value::value::FaultKind;
+
+/// What a spawn clause did, as far as faults go.
+#[derive(Clone, Copy, Debug, PartialEq, Eq)]
+pub enum SpawnResult {
+    /// Nothing, or it named an instance.
+    Fine,
+    /// It has a fault of its own.
+    Failed(FaultKind),
+    /// It is poisoned.
+    Poisoned,
+}
