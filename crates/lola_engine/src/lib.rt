@@ -1,4 +1,8 @@
 //! The engine: a plan, run step by step over a store.
+//!
+//! Promised: whatever journal an engine stands for, a row takes it to that journal with the row: it appends the lines that the
+//! model has more, and a fault is the model's, at the same stream and step.
+//! Not promised: how long a step takes, and which texts are held beyond those that are needed.
 #![tactic(auto)]
 
 pub mod end;

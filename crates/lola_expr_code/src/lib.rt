@@ -1,4 +1,6 @@
 //! Expressions as flat lists of instructions: each is compiled once, and its code comes to what the expression does.
+//!
+//! Promised: the code of an expression, run, comes to what its evaluation may come to.
 #![tactic(auto)]
 
 mod asking;

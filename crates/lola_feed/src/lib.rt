@@ -1,5 +1,9 @@
 //! The sources of a run: their rows, handed in one after another at a desk, which is a merge object or a seat at a running intake;
 //! the sources of a command, fetched from a shelf and given back; and two made-up sources for trying a machine.
+//!
+//! Promised: a turn is one call of the desk, of the next row, of the row that waits, or of the end, which is told once; a shelf
+//! has lent each source or has all back.
+//! Not promised: when a source is read, and how long one waits.
 #![tactic(auto)]
 
 pub mod desk;

@@ -1,4 +1,7 @@
 //! The bounded store: of each instance only the last values that accesses need, and the panes of each window onto it.
+//!
+//! Promised: every clause of the trait of stores, for each accepted plan, with no more values and panes than the plan has.
+//! Not promised: how long a call takes.
 #![tactic(auto)]
 
 mod begin;

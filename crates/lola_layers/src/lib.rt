@@ -1,4 +1,6 @@
 //! The layers of a graph without a closed walk of weight 0, in whose order a step is evaluated.
+//!
+//! Promised: a plan with this list has the layers that the definition asks of a plan.
 #![tactic(auto)]
 
 ghost use Rattle.std.specs.Prelude.{◌≡◌, ◌≤◌, ◌<◌, ◌+◌, ◌↔◌, ◌||◌, [], ◌∷◌, ℕ, List, Contains, IsTrue, IfOk, length, replicate, slice_index};

@@ -1,5 +1,8 @@
 //! A run: rows that are marked, traced and evaluated by an engine, whose verdicts are put; and the run of sources that are read in
 //! turns by one thread, round after round.
+//!
+//! Promised: whatever journal a run stands for, a row takes it to that journal with the row: its trace line, its verdicts, its
+//! fault; sources in turns give their rows in rounds.
 #![tactic(auto)]
 
 mod feed;

@@ -1,5 +1,8 @@
 //! The names of a specification resolved: streams, windows, parameters and texts by their numbers, constants by their literals; and the
 //! whole specification that comes of its tree, or the first refusal of its names.
+//!
+//! Promised: the specification is that which the declarations are resolved to, and nothing is refused of its names; or the first
+//! refusal.
 #![tactic(auto)]
 
 mod clauses;

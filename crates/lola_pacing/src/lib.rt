@@ -1,4 +1,6 @@
 //! The pacing of each clause of a specification, or the first refusal.
+//!
+//! Promised: each clause has the pacing that is written or found, and nothing is refused; or the first refusal.
 #![tactic(auto)]
 
 pub mod check;

@@ -1,4 +1,6 @@
 //! Reads pacings: rates, and formulas of inputs.
+//!
+//! Promised: what is read is what the reading of the grammar gives.
 #![tactic(auto)]
 
 mod formulas;

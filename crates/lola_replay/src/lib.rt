@@ -2,6 +2,9 @@
 //!
 //! The evaluator follows the definition of the model: what a clause comes to is asked for on demand, of what is known of the step so
 //! far, and nothing of the engine that runs monitors is used.
+//!
+//! Promised: what is found of a trace and verdicts is what the definition finds of them, line by line.
+//! Not promised: who wrote them.
 #![tactic(auto)]
 
 pub mod compare;

@@ -1,4 +1,6 @@
 //! The questions of a step, each answered on demand over what is known of it.
+//!
+//! Promised: what the questions come to is what the clauses come to over the whole step.
 #![tactic(auto)]
 
 pub mod clauses;

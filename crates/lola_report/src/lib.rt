@@ -1,4 +1,7 @@
 //! The lines of a run, written and read back: those of the trace, of verdicts and of the end, and the journal that a trace text tells.
+//!
+//! Promised: what is appended is the line of the definition; the journal of a trace text is the only one whose lines spell it, or
+//! the first line that none tells is named.
 #![tactic(auto)]
 
 mod candidate;

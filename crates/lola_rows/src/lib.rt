@@ -1,4 +1,7 @@
 //! The rows of a source: a file of CSV, read row by row.
+//!
+//! Promised: the rows are those that the whole bytes of the source spell, in their order, and then its one end, however the bytes
+//! come.
 #![tactic(auto)]
 
 mod answer;

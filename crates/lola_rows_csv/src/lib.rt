@@ -1,4 +1,6 @@
 //! Lines of CSV: the fields of one line, as the crate `csv` reads them, and the values that fields spell.
+//!
+//! Promised: the fields are those that the crate `csv` has of the line, and a value is the one that the field spells.
 #![tactic(auto)]
 
 pub mod blanks;

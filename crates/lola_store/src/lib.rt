@@ -1,4 +1,7 @@
 //! The plain store: all values of every instance, and windows that are folds over them.
+//!
+//! Promised: every clause of the trait of stores, as the bounded store does; tests compare the two.
+//! Not promised: to be small or fast.
 #![tactic(auto)]
 
 mod begin;

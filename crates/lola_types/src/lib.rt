@@ -1,4 +1,6 @@
 //! The kinds of a specification: those that are left out are found, and what the table of kinds forbids is refused.
+//!
+//! Promised: every kind that is left out is filled in, and nothing is refused of kinds and literals; or the first refusal.
 #![tactic(auto)]
 
 pub mod around;
