@@ -10,3 +10,4 @@ pub mod Gifts
 pub mod Needing
 pub mod Taken
 pub mod Known
+pub mod Parts

@@ -1,9 +1,10 @@
 -- What becomes of the instances of a stream that are given what they come to in a step.
-use Rattle.std.specs.Prelude.{ℕ, ◌≡◌, List, [], ◌∷◌, Option, Some, None}
+use Rattle.std.specs.Prelude.{ℕ, ◌≡◌, ◌<◌, List, [], ◌∷◌, Option, Some, None, length, slice_get, slice_index_or}
 use Rattle.lola_value.specs.declared.value.Outcome.{Outcome}
 use Rattle.lola_value.specs.declared.value.Outcome.TheVariants as outcome
 use Rattle.lola_instances_one.specs.Holdings.{Holdings}
 use Rattle.lola_instances_one.specs.Telling.{AllReady}
+use Rattle.lola_instances_stream.specs.Cells.{IsSlotChanged}
 use Rattle.lola_instances_stream.specs.Changes.{HasFailed, HasTold}
 
 -- an instance was given an outcome in the step of a number, at an offset from the start: a value was told, a fault or poison poisoned it,
@@ -43,3 +44,14 @@ IsReadyAt offset (Some r) (Some x) = IsReadyFor offset r x
 abbrev pub HasGivenAt : ℕ → ℕ → Option Outcome → Holdings → Holdings → Type 0
 HasGivenAt step offset None x y = ⊥
 HasGivenAt step offset (Some r) x y = HasGiven step offset r x y
+
+-- there is an outcome for each of these cells, and an instance in it that can be given it
+pub record AreCellsReady (offset : ℕ) (outcomes : List Outcome) (cells : List (Option Holdings)) : Type 0 where
+  pub count : length outcomes ≡ length cells
+  pub each : (i : ℕ) (d : Option Holdings) → i < length cells → IsReadyAt offset (slice_get outcomes i) (slice_index_or cells i d)
+
+-- the instance in each of these cells was given its outcome
+pub record AreCellsGiven (step offset : ℕ) (outcomes : List Outcome) (old new : List (Option Holdings)) : Type 0 where
+  pub count : length new ≡ length old
+  pub each : (i : ℕ) (d : Option Holdings) → i < length old
+      → IsSlotChanged (HasGivenAt step offset (slice_get outcomes i)) (slice_index_or old i d) (slice_index_or new i d)

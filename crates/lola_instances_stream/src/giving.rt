@@ -1,16 +1,17 @@
 //! The instances of a stream are given what they come to in a step.
 
-ghost use Rattle.std.specs.Prelude.{◌≡◌, ℕ, ◌≤◌, ◌<◌, ◌+◌, ◌-◌, ◌^◌, List, Option, Some, true, false, map, length, slice_get, slice_index_or, IsTrue};
+ghost use Rattle.std.specs.Prelude.{◌≡◌, ℕ, ◌≤◌, ◌<◌, ◌+◌, ◌-◌, ◌^◌, List, Option, Some, true, false, map, length, slice_get, IsTrue};
+ghost use Rattle.std.specs.Thread.{IsSync};
 ghost use Rattle.lola_value.specs.declared.text.Field.{Field};
 ghost use Rattle.lola_value.specs.Kinds.{is_outcome_of};
 ghost use Rattle.lola_value.specs.Naming.{Naming, IsHeldIn};
 ghost use Rattle.lola_value.specs.Shorts.{is_given};
 ghost use Rattle.lola_model.specs.Given.{AreHeldIn, AreOutcomesOf, given_at, given_each};
 ghost use Rattle.lola_model.specs.Store.{is_silent};
-ghost use Rattle.lola_instances_one.specs.Holdings.{Holdings, slot_seen};
+ghost use Rattle.lola_instances_one.specs.Holdings.{slot_seen};
 ghost use Rattle.lola_instances_stream.specs.Cells.{IsSlotChanged};
 ghost use Rattle.lola_instances_stream.specs.Crowds.{RemembersAt, shown_at};
-ghost use Rattle.lola_instances_stream.specs.Givings.{HasGiven, HasGivenAt, IsReadyAt};
+ghost use Rattle.lola_instances_stream.specs.Givings.{AreCellsGiven, AreCellsReady, HasGiven, HasGivenAt, IsReadyAt};
 ghost use Rattle.lola_instances_stream.specs.Rights.{AreRight};
 
 use crate::cells::{poison_in, tell_in};
@@ -18,8 +19,7 @@ use crate::instances::Instances;
 use lola_instances_one::instance::Instance;
 use lola_value::brief::Brief;
 use lola_value::short::Short;
-use std::thread;
-use std::thread::Threads;
+use std::thread::{Threads, join_mut};
 
 // Whether an instance comes to nothing.
 fn is_missing(outcome: Brief) -> bool
@@ -61,6 +61,50 @@ fn give_at(slot: &mut Option<Instance>, step: u64, offset: u64, outcomes: &[Brie
     give_in(slot, step, offset, outcomes[number]);
 }
 
+// Gives the instance in each of these cells the outcome of its number, one after another.
+fn give_part(cells: &mut [Option<Instance>], step: u64, offset: u64, outcomes: &[Brief])
+    requires { AreCellsReady offset outcomes.now cells.old }
+    ensures { AreCellsGiven step offset outcomes.now cells.old cells.new }
+{
+    for number in 0..cells.len() {
+        give_at(&mut cells[number], step, offset, outcomes, number);
+    }
+}
+
+// The same by at most so many threads, of which each has so many cells and the last has the rest. The last is the caller, and starts each
+// other one itself, so that none has to wait for another one's start.
+fn give_among<R: Threads + Sync>(
+    rt: &R,
+    step: u64,
+    offset: u64,
+    size: usize,
+    workers: u32,
+    outcomes: &[Brief],
+    cells: &mut [Option<Instance>],
+)
+    requires { AreCellsReady offset outcomes.now cells.old }
+    ensures { AreCellsGiven step offset outcomes.now cells.old cells.new }
+{
+    if workers < 2 || cells.len() <= size {
+        give_part(cells, step, offset, outcomes);
+        return;
+    }
+    let fewer = workers - 1;
+    let (own, later) = outcomes.split_at(size);
+    let (first, others) = cells.split_at_mut(size);
+    join_mut(
+        rt,
+        &mut ||
+            requires { AreCellsReady offset own.now first.now }
+            ensures { AreCellsGiven step offset own.entry.now first.entry.now first.exit.now }
+        { give_part(first, step, offset, own) },
+        &mut ||
+            requires { IsSync R.row × AreCellsReady offset later.now others.now }
+            ensures { AreCellsGiven step offset later.entry.now others.entry.now others.exit.now }
+        { give_among(rt, step, offset, size, fewer, later, others) },
+    );
+}
+
 /// Gives the instance in each cell the outcome of its number, by at most so many threads.
 pub fn give_cells<R: Threads + Sync>(
     rt: &R,
@@ -71,16 +115,11 @@ pub fn give_cells<R: Threads + Sync>(
     workers: u32,
 )
     requires workers { 1 ≤ workers }
-    requires ready { (i : ℕ) (d : Option Holdings) → i < length cells.old → IsReadyAt offset (slice_get outcomes.now i) (slice_index_or cells.old i d) }
-    ensures { (i : ℕ) (d : Option Holdings) → i < length cells.old
-        → IsSlotChanged (HasGivenAt step offset (slice_get outcomes.now i)) (slice_index_or cells.old i d) (slice_index_or cells.new i d) }
+    requires ready { AreCellsReady offset outcomes.now cells.old }
+    ensures { AreCellsGiven step offset outcomes.now cells.old cells.new }
 {
-    thread::for_each_mut(
-        rt,
-        cells,
-        workers as usize,
-        &|number, slot| give_at(slot, step, offset, outcomes, number),
-    );
+    let size = cells.len().div_ceil(workers as usize);
+    give_among(rt, step, offset, size, workers, outcomes, cells);
 }
 
 // Gives one instance what it comes to.

@@ -1,6 +1,7 @@
 //! The tasks of a layer.
 
 ghost use Rattle.std.specs.Prelude.{◌≡◌, ℕ, ◌+◌, ◌<◌, ◌≤◌, ◌^◌, length, slice_get, IsSomeAnd, Some};
+ghost use Rattle.std.specs.Thread.{IsSync};
 ghost use Rattle.lola_workers.specs.Shares.{AreFrom, AreShares, IsShare};
 
 use crate::share::{Share, find_outcomes, outcome_of};
@@ -8,8 +9,7 @@ use lola_model::job::Job;
 use lola_port::Gate;
 use lola_value::brief::Brief;
 use std::sync::atomic::{AtomicU64, Ordering};
-use std::thread;
-use std::thread::Threads;
+use std::thread::{Threads, join_mut};
 
 // Into how many pieces a layer is cut for each of its workers, so that one whose thread starts late leaves its part to the others.
 const PIECES_EACH: usize = 8;
@@ -62,6 +62,62 @@ fn take_pieces<J: Job, G: Gate>(
     }
 }
 
+// Does pieces for the one share that is left, if there is one.
+fn take_last<J: Job, G: Gate>(
+    gate: &G,
+    job: &J,
+    next: &AtomicU64,
+    tasks: usize,
+    size: usize,
+    shares: &mut [Share],
+)
+    requires one { length shares.old ≤ 1 }
+    requires tasks { tasks ≡ J.tasks job.now }
+    requires numbered { J.tasks job.now < 2 ^ 32 }
+    requires size { 1 ≤ size }
+    ensures count { length shares.new ≡ length shares.old }
+    ensures shares { AreShares (J.gives job.now) shares.new }
+{
+    if shares.len() == 1 {
+        take_pieces(gate, job, next, tasks, size, &mut shares[0]);
+    }
+}
+
+// Does pieces for each of these shares: for the last one the caller does, and before that it starts a thread for each other one. So no
+// thread is waited for by one that another waits for.
+fn share_among<R: Threads + Sync, J: Job + Sync, G: Gate + Sync>(
+    rt: &R,
+    gate: &G,
+    job: &J,
+    next: &AtomicU64,
+    tasks: usize,
+    size: usize,
+    shares: &mut [Share],
+)
+    requires tasks { tasks ≡ J.tasks job.now }
+    requires numbered { J.tasks job.now < 2 ^ 32 }
+    requires size { 1 ≤ size }
+    ensures count { length shares.new ≡ length shares.old }
+    ensures shares { AreShares (J.gives job.now) shares.new }
+{
+    if shares.len() < 2 {
+        take_last(gate, job, next, tasks, size, shares);
+        return;
+    }
+    let (first, others) = shares.split_at_mut(1);
+    join_mut(
+        rt,
+        &mut ||
+            requires { (length first.now ≤ 1) × (tasks ≡ J.tasks job.now) × (J.tasks job.now < 2 ^ 32) × (1 ≤ size) }
+            ensures { (length first.exit.now ≡ length first.entry.now) × AreShares (J.gives job.entry.now) first.exit.now }
+        { take_last(gate, job, next, tasks, size, first) },
+        &mut ||
+            requires { IsSync R.row × IsSync J.row × IsSync G.row × (tasks ≡ J.tasks job.now) × (J.tasks job.now < 2 ^ 32) × (1 ≤ size) }
+            ensures { (length others.exit.now ≡ length others.entry.now) × AreShares (J.gives job.entry.now) others.exit.now }
+        { share_among(rt, gate, job, next, tasks, size, others) },
+    );
+}
+
 // Shares the tasks out: each of these shares is one worker's.
 fn share_out<R: Threads + Sync, J: Job + Sync, G: Gate + Sync>(
     rt: &R,
@@ -78,13 +134,7 @@ fn share_out<R: Threads + Sync, J: Job + Sync, G: Gate + Sync>(
     ensures shares { AreShares (J.gives job.now) shares.new }
 {
     let next = AtomicU64::new(0);
-    let workers = shares.len().max(1);
-    thread::for_each_mut(
-        rt,
-        shares,
-        workers,
-        &|_, share| take_pieces(gate, job, &next, tasks, size, share),
-    );
+    share_among(rt, gate, job, &next, tasks, size, shares);
 }
 
 // Writes these outcomes from a place on, as far as there are places.

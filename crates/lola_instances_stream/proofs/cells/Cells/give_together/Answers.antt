@@ -40,8 +40,11 @@ pub give_cells-requires-clause-ready : goal.give_cells-requires-clause-ready
 give_cells-requires-clause-ready g c κs within =
     let cells = c.self.inside.cells.items in
     let full : length (living cells) ≡ length cells = (let was = c.self.invariant.count in omega arith) in
-    lent_ready c.args.step c.args.offset cells c.as_mut_slice.result.now c.as_mut_slice.ensures.value full c.args.outcomes.now
-    (subst (λ (l : Line). AreReadyFor c.args.offset l.items c.args.outcomes.now) (sym c.self.view_is) c.requires.ready)
+    let ready = subst (λ (l : Line). AreReadyFor c.args.offset l.items c.args.outcomes.now) (sym c.self.view_is) c.requires.ready in
+    record {
+      count = ready_count c.args.offset (living cells) c.args.outcomes.now ready ∙ (full ∙ sym (ap length c.as_mut_slice.ensures.value));
+      each = lent_ready c.args.step c.args.offset cells c.as_mut_slice.result.now c.as_mut_slice.ensures.value full c.args.outcomes.now ready;
+    }
 
 pub invariant_of-self : goal.invariant_of-self
 invariant_of-self g c =
@@ -49,7 +52,7 @@ invariant_of-self g c =
     let full : length (living cells) ≡ length cells = (let was = c.self.invariant.count in omega arith) in
     line c.args.step c.args.offset cells c.as_mut_slice.result.now c.as_mut_slice.ensures.value full c.args.outcomes.now
     (subst (λ (l : Line). AreReadyFor c.args.offset l.items c.args.outcomes.now) (sym c.self.view_is) c.requires.ready)
-    c.give_cells.new.cells (omega arith) c.give_cells.ensures c.self.inside.flags c.self.inside.table c.self.inside.empty c.self.inside.capacity c.self.inside.cells.cap c.self.inside.cells.len
+    c.give_cells.new.cells c.give_cells.ensures.count c.give_cells.ensures.each c.self.inside.flags c.self.inside.table c.self.inside.empty c.self.inside.capacity c.self.inside.cells.cap c.self.inside.cells.len
     (omega (arith, c.self.inside.cells.ok.0)) (omega arith) c.self.invariant
 
 pub returns-clause-given : goal.returns-clause-given
@@ -57,8 +60,8 @@ returns-clause-given g c = λ yes.
     let cells = c.self.inside.cells.items in
     let full : length (living cells) ≡ length cells = (let was = c.self.invariant.count in omega arith) in
     let ready = subst (λ (l : Line). AreReadyFor c.args.offset l.items c.args.outcomes.now) (sym c.self.view_is) c.requires.ready in
-    let count : length c.give_cells.new.cells ≡ length c.as_mut_slice.result.now = omega arith in
-    let all = (got c.args.step c.args.offset cells c.as_mut_slice.result.now c.as_mut_slice.ensures.value full c.args.outcomes.now ready c.give_cells.new.cells count c.give_cells.ensures).1 in
-    let same = back c.args.step c.args.offset cells c.as_mut_slice.result.now c.as_mut_slice.ensures.value full c.args.outcomes.now ready c.give_cells.new.cells count c.give_cells.ensures c.self.inside.cells.len (omega (arith, c.self.inside.cells.ok.0)) in
+    let given = c.give_cells.ensures in
+    let all = (got c.args.step c.args.offset cells c.as_mut_slice.result.now c.as_mut_slice.ensures.value full c.args.outcomes.now ready c.give_cells.new.cells given.count given.each).1 in
+    let same = back c.args.step c.args.offset cells c.as_mut_slice.result.now c.as_mut_slice.ensures.value full c.args.outcomes.now ready c.give_cells.new.cells given.count given.each c.self.inside.cells.len (omega (arith, c.self.inside.cells.ok.0)) in
     subst (λ zs. AreGiven c.args.step c.args.offset c.args.self.now.items c.args.outcomes.now (living zs)) (sym same)
     (subst (λ (l : Line). AreGiven c.args.step c.args.offset l.items c.args.outcomes.now (living c.give_cells.new.cells)) c.self.view_is all)
