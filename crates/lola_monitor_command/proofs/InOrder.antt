@@ -1,4 +1,4 @@
--- The order of what a run is told, and_parts ways.
+-- The order of what a run is told, both ways.
 use Rattle.std.proofs.Common.{◌≡◌, refl, ap, subst, ◌∙◌, ℕ, ◌≤◌, List, [], ◌∷◌, ◌++◌, Option, Some, None, Bool, true, false, ◌&&◌, if◌then◌else◌, nat_le, length, map, arith}
 use Rattle.std.specs.List.{list_all}
 use Rattle.std.proofs.lemmas.Bool.{and_parts}
@@ -11,7 +11,7 @@ use Rattle.lola_monitor_command.specs.declared.command.Command.TheVariants as co
 use Rattle.lola_monitor_command.specs.declared.command.RunCommand.{RunCommand}
 
 -- the options at the front
-abbrev front_options : List Said → List Said
+abbrev pub front_options : List Said → List Said
 front_options [] = []
 front_options (said.Name at ∷ ss) = []
 front_options (said.Show s ∷ ss) = said.Show s ∷ front_options ss
@@ -19,7 +19,7 @@ front_options (said.Workers n ∷ ss) = said.Workers n ∷ front_options ss
 front_options (said.Start t ∷ ss) = said.Start t ∷ front_options ss
 front_options (said.InTurns ∷ ss) = said.InTurns ∷ front_options ss
 
-split : (ss : List Said) → ss ≡ front_options ss ++ behind_options ss
+pub split : (ss : List Said) → ss ≡ front_options ss ++ behind_options ss
 split [] = refl
 split (said.Name at ∷ ss) = refl
 split (said.Show s ∷ ss) = ap (λ z. said.Show s ∷ z) (split ss)
@@ -27,7 +27,7 @@ split (said.Workers n ∷ ss) = ap (λ z. said.Workers n ∷ z) (split ss)
 split (said.Start t ∷ ss) = ap (λ z. said.Start t ∷ z) (split ss)
 split (said.InTurns ∷ ss) = ap (λ z. said.InTurns ∷ z) (split ss)
 
-all_options : (ss : List Said) → list_all is_setting (front_options ss) ≡ true
+pub all_options : (ss : List Said) → list_all is_setting (front_options ss) ≡ true
 all_options [] = refl
 all_options (said.Name at ∷ ss) = refl
 all_options (said.Show s ∷ ss) = all_options ss
@@ -36,7 +36,7 @@ all_options (said.Start t ∷ ss) = all_options ss
 all_options (said.InTurns ∷ ss) = all_options ss
 
 -- behind options stands what stands behind them
-past : (xs : List Said) (ys : List Said) → list_all is_setting xs ≡ true → behind_options ys ≡ ys → behind_options (xs ++ ys) ≡ ys
+pub past : (xs : List Said) (ys : List Said) → list_all is_setting xs ≡ true → behind_options ys ≡ ys → behind_options (xs ++ ys) ≡ ys
 past [] ys o e = e
 past (said.Name at ∷ xs) ys o e = absurd (grind (arith, o))
 past (said.Show s ∷ xs) ys o e = past xs ys o e
@@ -54,7 +54,7 @@ split_names (said.Start t ∷ ss) = refl
 split_names (said.InTurns ∷ ss) = refl
 
 -- only options
-none_behind : (ss : List Said) → is_empty (behind_options ss) ≡ true → list_all is_setting ss ≡ true
+pub none_behind : (ss : List Said) → is_empty (behind_options ss) ≡ true → list_all is_setting ss ≡ true
 none_behind [] e = refl
 none_behind (said.Name at ∷ ss) e = absurd (grind (arith, e))
 none_behind (said.Show s ∷ ss) e = none_behind ss e
@@ -62,7 +62,7 @@ none_behind (said.Workers n ∷ ss) e = none_behind ss e
 none_behind (said.Start t ∷ ss) e = none_behind ss e
 none_behind (said.InTurns ∷ ss) e = none_behind ss e
 
-only_options : (ss : List Said) → list_all is_setting ss ≡ true → is_empty (behind_options ss) ≡ true
+pub only_options : (ss : List Said) → list_all is_setting ss ≡ true → is_empty (behind_options ss) ≡ true
 only_options [] o = refl
 only_options (said.Name at ∷ ss) o = absurd (grind (arith, o))
 only_options (said.Show s ∷ ss) o = only_options ss o
@@ -117,7 +117,7 @@ sources_are true false empty e = absurd (grind (arith, e))
 sources_are false few empty e = absurd (grind (arith, e))
 
 -- where a choice gives something
-chosen : (b : Bool) (x : Option Command) (y : Command) → (if b then x else None) ≡ Some y → (b ≡ true) × (x ≡ Some y)
+pub chosen : (b : Bool) (x : Option Command) (y : Command) → (if b then x else None) ≡ Some y → (b ≡ true) × (x ≡ Some y)
 chosen true x y e = (refl, e)
 chosen false x y e = absurd (grind (arith, e))
 
@@ -154,7 +154,7 @@ by_front ss (said.InTurns ∷ rest) r at_front e = absurd (grind (arith, e))
 
 -- ---- from the order to the definition
 
-if_true : (b : Bool) (x y : Option Command) → b ≡ true → (if b then x else y) ≡ x
+pub if_true : (b : Bool) (x y : Option Command) → b ≡ true → (if b then x else y) ≡ x
 if_true true x y e = refl
 if_true false x y e = absurd (grind (arith, e))
 

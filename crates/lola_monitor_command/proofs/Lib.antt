@@ -1,3 +1,4 @@
 pub mod Goes
 pub mod Named
-mod InOrder
+pub mod InOrder
+mod ReplayInOrder

@@ -37,6 +37,15 @@ at_most_once f ss = nat_le (length (filter f ss)) 1
 abbrev pub come_once : List Said → Bool
 come_once ss = at_most_once is_show ss && (at_most_once is_workers ss && (at_most_once is_start ss && at_most_once is_in_turns ss))
 
+-- an option that a replay has too, or a name
+abbrev pub suits_replay : Said → Bool
+suits_replay (said.Workers n) = false
+suits_replay said.InTurns = false
+suits_replay _ = true
+
+abbrev pub suit_replay : List Said → Bool
+suit_replay ss = list_all suits_replay ss
+
 -- what the options say, or what holds where they are left out
 
 abbrev pub show_said : List Said → Show
@@ -129,6 +138,27 @@ abbrev pub drill_of : List Word → List Said → Option Command
 drill_of words (said.Name number ∷ said.Name rows ∷ said.Name workers ∷ []) = drill_with (word_of words number) (word_of words rows) (word_of words workers)
 drill_of words _ = None
 
+-- a replay of what these words name, with this behind them
+abbrev pub replay_with : List Said → ℕ → ℕ → ℕ → List Said → Option Command
+replay_with ss specification trace verdicts rest =
+    if come_once ss && (suit_replay ss && is_empty (behind_options rest))
+    then Some (command.Replay (record {
+      specification = specification;
+      trace = trace;
+      verdicts = verdicts;
+      show = show_said ss;
+      start = start_said ss;
+    }))
+    else None
+
+-- options, the specification, the trace, the verdicts, options
+abbrev pub replay_by : List Said → List Said → Option Command
+replay_by ss (said.Name specification ∷ said.Name trace ∷ said.Name verdicts ∷ rest) = replay_with ss specification trace verdicts rest
+replay_by ss _ = None
+
+abbrev pub replay_of : List Said → Option Command
+replay_of ss = replay_by ss (behind_options ss)
+
 -- where no word is wrong
 abbrev pub of_said : (List Said → Option Command) → Option (List Said) → Option Command
 of_said f None = None
@@ -139,5 +169,6 @@ abbrev pub command_of : List Word → Option Command
 command_of (program ∷ word ∷ words) =
     if bytes_eq word (codes "run") then of_said run_of (said_from false 2 words)
     else if bytes_eq word (codes "analyse") then of_said analyse_of (said_from false 2 words)
-    else if bytes_eq word (codes "drill") then of_said (drill_of (program ∷ word ∷ words)) (said_from false 2 words) else None
+    else if bytes_eq word (codes "drill") then of_said (drill_of (program ∷ word ∷ words)) (said_from false 2 words)
+    else if bytes_eq word (codes "replay") then of_said replay_of (said_from false 2 words) else None
 command_of _ = None

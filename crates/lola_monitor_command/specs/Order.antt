@@ -1,10 +1,11 @@
--- The order in which a run is told what it is told.
+-- The order in which a run and a replay are told what they are told.
 use Rattle.std.specs.Prelude.{◌≡◌, ◌≤◌, ◌↔◌, List, ◌∷◌, ◌++◌, Some, Bool, true, false, length, map}
 use Rattle.std.specs.List.{list_all}
-use Rattle.lola_monitor_command.specs.Command.{come_once, show_said, workers_said, start_said, in_turns_said, run_of}
+use Rattle.lola_monitor_command.specs.Command.{come_once, suit_replay, show_said, workers_said, start_said, in_turns_said, run_of, replay_of}
 use Rattle.lola_monitor_command.specs.declared.said.Said.{Said}
 use Rattle.lola_monitor_command.specs.declared.said.Said.TheVariants as said
 use Rattle.lola_monitor_command.specs.declared.command.Command.TheVariants as command
+use Rattle.lola_monitor_command.specs.declared.command.ReplayCommand.{ReplayCommand}
 use Rattle.lola_monitor_command.specs.declared.command.RunCommand.{RunCommand}
 
 -- an option, and no name
@@ -35,3 +36,20 @@ pub record IsRunOf (ss : List Said) (r : RunCommand) : Type 0 where
 -- what is said is a run exactly where it stands in that order
 abbrev pub RunsAreInOrder : Type 0
 RunsAreInOrder = (ss : List Said) (r : RunCommand) → (run_of ss ≡ Some (command.Run r)) ↔ IsRunOf ss r
+
+-- options, the specification, the trace and the verdicts with nothing between them, options; none of the options is one that a run
+-- alone has, and each comes at most once
+pub record IsReplayOf (ss : List Said) (r : ReplayCommand) : Type 0 where
+  pub before : List Said
+  pub behind : List Said
+  pub order : ss ≡ before ++ (said.Name r.specification ∷ (said.Name r.trace ∷ (said.Name r.verdicts ∷ behind)))
+  pub options_before : list_all is_setting before ≡ true
+  pub options_behind : list_all is_setting behind ≡ true
+  pub suited : suit_replay ss ≡ true
+  pub once : come_once ss ≡ true
+  pub show : r.show ≡ show_said ss
+  pub start : r.start ≡ start_said ss
+
+-- what is said is a replay exactly where it stands in that order
+abbrev pub ReplaysAreInOrder : Type 0
+ReplaysAreInOrder = (ss : List Said) (r : ReplayCommand) → (replay_of ss ≡ Some (command.Replay r)) ↔ IsReplayOf ss r

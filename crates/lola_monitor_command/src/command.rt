@@ -1,13 +1,17 @@
 //! Commands.
 
-ghost use Rattle.std.specs.Prelude.{◌≡◌, ◌≤◌, ◌++◌, [], ◌∷◌, true, false, if◌then◌else◌, IfOk, OnOk, OnErr, drop, filter, length, map, string_bytes};
+ghost use Rattle.std.specs.Prelude.{◌≡◌, ◌≤◌, ◌++◌, [], ◌∷◌, true, false, if◌then◌else◌, IfOk, OnOk, OnErr, drop, length, map, string_bytes};
 ghost use Rattle.std.specs.List.{list_all};
 ghost use Rattle.lola_value.specs.Times.{is_digit, number_of};
 ghost use Rattle.lola_monitor_command.specs.Said.{said_from};
-ghost use Rattle.lola_monitor_command.specs.Command.{is_show, is_workers, is_start, is_in_turns, come_once, show_said, workers_said, start_said, in_turns_said, front_names, behind_names, behind_options, is_empty, are_sources, run_over, run_by, run_of, analyse_of, is_number, drill_with, word_of, drill_of, of_said, command_of};
+ghost use Rattle.lola_monitor_command.specs.Command.{front_names, behind_names, are_sources, run_over, run_of, analyse_of, is_number, drill_with, word_of, drill_of, replay_by, replay_of, replay_with, of_said, command_of};
 
 use crate::options::all_digits;
 use crate::said::{Said, SaidList};
+use crate::settings::{
+    how_many_workers, is_once, past_options, suit_replay, what_is_shown, where_time_begins,
+    whether_in_turns,
+};
 use crate::words::all_said;
 use lola_model::journal::Show;
 use lola_value::text::Memory;
@@ -83,6 +87,21 @@ pub struct DrillCommand {
     pub workers: u32,
 }
 
+/// What a replay is told.
+#[derive(Clone, Copy, Debug, PartialEq, Eq)]
+pub struct ReplayCommand {
+    /// The word that names the specification.
+    pub specification: usize,
+    /// The word that names the trace.
+    pub trace: usize,
+    /// The word that names the verdicts.
+    pub verdicts: usize,
+    /// What the run showed; triggers where nothing is said.
+    pub show: Show,
+    /// Where its time began, in nanoseconds, if it is said.
+    pub start: Option<u64>,
+}
+
 /// A command.
 #[derive(Drop)]
 pub enum Command {
@@ -92,105 +111,8 @@ pub enum Command {
     Analyse(usize),
     /// `drill NUMBER ROWS WORKERS`
     Drill(DrillCommand),
-}
-
-// How often an option comes.
-fn count_shows(said: &[Said]) -> usize
-    ensures { result ≡ length (filter is_show said.now) }
-{
-    said.iter()
-        .filter(|one| matches!(one, Said::Show(_)))
-        .count()
-}
-
-fn count_workers(said: &[Said]) -> usize
-    ensures { result ≡ length (filter is_workers said.now) }
-{
-    said.iter()
-        .filter(|one| matches!(one, Said::Workers(_)))
-        .count()
-}
-
-fn count_starts(said: &[Said]) -> usize
-    ensures { result ≡ length (filter is_start said.now) }
-{
-    said.iter()
-        .filter(|one| matches!(one, Said::Start(_)))
-        .count()
-}
-
-fn count_in_turns(said: &[Said]) -> usize
-    ensures { result ≡ length (filter is_in_turns said.now) }
-{
-    said.iter()
-        .filter(|one| matches!(one, Said::InTurns))
-        .count()
-}
-
-// Whether each option comes at most once.
-fn is_once(said: &[Said]) -> bool
-    ensures { result ≡ come_once said.now }
-{
-    count_shows(said) <= 1
-        && count_workers(said) <= 1
-        && count_starts(said) <= 1
-        && count_in_turns(said) <= 1
-}
-
-fn what_is_shown(said: &[Said]) -> Show
-    ensures { result ≡ show_said said.now }
-{
-    for one in said {
-        if let Said::Show(show) = one {
-            return *show;
-        }
-    }
-    Show::Triggers
-}
-
-fn how_many_workers(said: &[Said]) -> u32
-    ensures { result ≡ workers_said said.now }
-{
-    for one in said {
-        if let Said::Workers(count) = one {
-            return *count;
-        }
-    }
-    1
-}
-
-fn where_time_begins(said: &[Said]) -> Option<u64>
-    ensures { result ≡ start_said said.now }
-{
-    for one in said {
-        if let Said::Start(start) = one {
-            return Some(*start);
-        }
-    }
-    None
-}
-
-fn whether_in_turns(said: &[Said]) -> bool
-    ensures { result ≡ in_turns_said said.now }
-{
-    for one in said {
-        if let Said::InTurns = one {
-            return true;
-        }
-    }
-    false
-}
-
-// What stands behind the options at the front.
-fn past_options(said: &[Said]) -> &[Said]
-    ensures { result.now ≡ behind_options said.now }
-{
-    for at in 0..said.len() {
-        if let Said::Name(_) = said[at] {
-            return &said[at..];
-        }
-    }
-    &said[said.len()..]
+    /// `replay [--show triggers|outputs] [--start T] SPEC TRACE VERDICTS`
+    Replay(ReplayCommand),
 }
 
 // Moves the names at the front behind others, and gives what stands behind them.
@@ -328,6 +250,50 @@ fn drill_said(words: &[String], said: &[Said]) -> Option<Command>
     }
 }
 
+// A replay of what these words name, with this behind them.
+fn replay_of_names(
+    said: &[Said],
+    specification: usize,
+    trace: usize,
+    verdicts: usize,
+    rest: &[Said],
+) -> Option<Command>
+    ensures { result ≡ replay_with said.now specification trace verdicts rest.now }
+{
+    if !is_once(said) || !suit_replay(said) || !past_options(rest).is_empty() {
+        return None;
+    }
+    Some(Command::Replay(ReplayCommand {
+        specification,
+        trace,
+        verdicts,
+        show: what_is_shown(said),
+        start: where_time_begins(said),
+    }))
+}
+
+// The replay that this says, with this behind the options at its front.
+fn replay_behind(said: &[Said], front: &[Said]) -> Option<Command>
+    ensures { result ≡ replay_by said.now front.now }
+{
+    match front {
+        [
+            Said::Name(specification),
+            Said::Name(trace),
+            Said::Name(verdicts),
+            rest @ ..,
+        ] => replay_of_names(said, *specification, *trace, *verdicts, rest),
+        _ => None,
+    }
+}
+
+// The replay that this says.
+fn replay_said(said: &[Said]) -> Option<Command>
+    ensures { result ≡ replay_of said.now }
+{
+    replay_behind(said, past_options(said))
+}
+
 // The run that the words behind `run` are.
 fn read_run(alloc: Global, words: &[String]) -> Result<Option<Command>, Memory>
     requires { 2 ≤ length words.now }
@@ -361,12 +327,23 @@ fn read_drill(alloc: Global, words: &[String]) -> Result<Option<Command>, Memory
     }
 }
 
+// The replay that the words behind `replay` are.
+fn read_replay(alloc: Global, words: &[String]) -> Result<Option<Command>, Memory>
+    requires { 2 ≤ length words.now }
+    ensures { IfOk result (λ command. command ≡ of_said replay_of (said_from false 2 (drop 2 (map string_bytes words.now)))) }
+{
+    match all_said(alloc, words, 2)? {
+        Some(said) => Ok(replay_said(said.as_slice())),
+        None => Ok(None),
+    }
+}
+
 /// The command that the words of a command line are, or none where they are no command. The first word is the
-/// program's name, the second `run`, `analyse` or `drill`.
+/// program's name, the second `run`, `analyse`, `drill` or `replay`.
 ///
-/// Options stand before the specification, between it and the first source, or behind the last source, and each comes at
-/// most once, as `--name value` or `--name=value`. A word `--` makes all words behind it names. A drill has no option and
-/// three numbers, each of digits alone.
+/// The options of a run stand before the specification, between it and the first source, or behind the last source, those of a
+/// replay before the specification or behind the verdicts, and each comes at most once, as `--name value` or `--name=value`.
+/// A word `--` makes all words behind it names. A drill has no option and three numbers, each of digits alone.
 pub fn read_command(alloc: Global, words: &[String]) -> Result<Option<Command>, Memory>
     ensures { IfOk result (λ command. command ≡ command_of (map string_bytes words.now)) }
 {
@@ -377,6 +354,7 @@ pub fn read_command(alloc: Global, words: &[String]) -> Result<Option<Command>, 
         "run" => read_run(alloc, words),
         "analyse" => read_analysis(alloc, words),
         "drill" => read_drill(alloc, words),
+        "replay" => read_replay(alloc, words),
         _ => Ok(None),
     }
 }

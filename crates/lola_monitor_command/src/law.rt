@@ -1,9 +1,15 @@
-//! The law of the definitions of this crate: a function that does nothing, and ensures it.
+//! The laws of the definitions of this crate: functions that do nothing, and ensure them.
 
-ghost use Rattle.lola_monitor_command.specs.Order.{RunsAreInOrder};
+ghost use Rattle.lola_monitor_command.specs.Order.{ReplaysAreInOrder, RunsAreInOrder};
 
 /// What words say is a run exactly where options, the specification, options, from 1 to 64 sources and options follow each
 /// other, and no option comes twice.
 pub fn runs_are_in_order()
     ensures { RunsAreInOrder }
+{}
+
+/// What words say is a replay exactly where options, the specification, the trace, the verdicts and options follow each other, no
+/// option comes twice, and none is one that a run alone has.
+pub fn replays_are_in_order()
+    ensures { ReplaysAreInOrder }
 {}

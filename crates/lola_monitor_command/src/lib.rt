@@ -7,4 +7,5 @@ pub mod command;
 pub mod law;
 mod options;
 pub mod said;
+mod settings;
 mod words;

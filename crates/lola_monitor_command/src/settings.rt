@@ -1,0 +1,125 @@
+//! What the options of a command say together.
+
+ghost use Rattle.std.specs.Prelude.{◌≡◌, filter, length};
+ghost use Rattle.std.specs.List.{list_all};
+ghost use Rattle.lola_monitor_command.specs.Command.{is_show, is_workers, is_start, is_in_turns, come_once, suit_replay, suits_replay, show_said, workers_said, start_said, in_turns_said, behind_options};
+
+use crate::said::Said;
+use lola_model::journal::Show;
+
+// How often an option comes.
+fn count_shows(said: &[Said]) -> usize
+    ensures { result ≡ length (filter is_show said.now) }
+{
+    said.iter()
+        .filter(|one| matches!(one, Said::Show(_)))
+        .count()
+}
+
+fn count_workers(said: &[Said]) -> usize
+    ensures { result ≡ length (filter is_workers said.now) }
+{
+    said.iter()
+        .filter(|one| matches!(one, Said::Workers(_)))
+        .count()
+}
+
+fn count_starts(said: &[Said]) -> usize
+    ensures { result ≡ length (filter is_start said.now) }
+{
+    said.iter()
+        .filter(|one| matches!(one, Said::Start(_)))
+        .count()
+}
+
+fn count_in_turns(said: &[Said]) -> usize
+    ensures { result ≡ length (filter is_in_turns said.now) }
+{
+    said.iter()
+        .filter(|one| matches!(one, Said::InTurns))
+        .count()
+}
+
+/// Whether each option comes at most once.
+pub(crate) fn is_once(said: &[Said]) -> bool
+    ensures { result ≡ come_once said.now }
+{
+    count_shows(said) <= 1
+        && count_workers(said) <= 1
+        && count_starts(said) <= 1
+        && count_in_turns(said) <= 1
+}
+
+/// What is shown.
+pub(crate) fn what_is_shown(said: &[Said]) -> Show
+    ensures { result ≡ show_said said.now }
+{
+    for one in said {
+        if let Said::Show(show) = one {
+            return *show;
+        }
+    }
+    Show::Triggers
+}
+
+/// How many workers there are.
+pub(crate) fn how_many_workers(said: &[Said]) -> u32
+    ensures { result ≡ workers_said said.now }
+{
+    for one in said {
+        if let Said::Workers(count) = one {
+            return *count;
+        }
+    }
+    1
+}
+
+/// Where time begins, in nanoseconds, if that is said.
+pub(crate) fn where_time_begins(said: &[Said]) -> Option<u64>
+    ensures { result ≡ start_said said.now }
+{
+    for one in said {
+        if let Said::Start(start) = one {
+            return Some(*start);
+        }
+    }
+    None
+}
+
+/// Whether sources are read in turns.
+pub(crate) fn whether_in_turns(said: &[Said]) -> bool
+    ensures { result ≡ in_turns_said said.now }
+{
+    for one in said {
+        if let Said::InTurns = one {
+            return true;
+        }
+    }
+    false
+}
+
+/// What stands behind the options at the front.
+pub(crate) fn past_options(said: &[Said]) -> &[Said]
+    ensures { result.now ≡ behind_options said.now }
+{
+    for at in 0..said.len() {
+        if let Said::Name(_) = said[at] {
+            return &said[at..];
+        }
+    }
+    &said[said.len()..]
+}
+
+// Whether this is no option that a run alone has.
+fn suits_replay(one: &Said) -> bool
+    ensures { result ≡ suits_replay one.now }
+{
+    !matches!(one, Said::Workers(_) | Said::InTurns)
+}
+
+/// Whether there is no option that a run alone has.
+pub(crate) fn suit_replay(said: &[Said]) -> bool
+    ensures { result ≡ suit_replay said.now }
+{
+    said.iter().all(suits_replay)
+}
