@@ -4,7 +4,7 @@
 # lines begin with one.
 _lolamon_options() {
     case $1 in
-        lolamon) echo --show --workers --start --in-turns ;;
+        lolamon) if [[ ${COMP_WORDS[1]} == replay ]]; then echo --show --start; else echo --show --workers --start --in-turns; fi ;;
         *) "$2" --help 2>/dev/null | sed -n '/^lolamon-/p; /^  --/p' | grep -o -e '--[a-z][a-z-]*' | sort -u ;;
     esac
 }
@@ -35,12 +35,12 @@ _lolamon_values() {
 _lolamon() {
     local word=${COMP_WORDS[COMP_CWORD]} before=${COMP_WORDS[COMP_CWORD - 1]} command=${COMP_WORDS[0]} values
     local name=${command##*/} has_options=yes
-    if [[ " ${COMP_WORDS[*]:0:COMP_CWORD} " == *" -- "* || $name == lolamon && ${COMP_WORDS[1]} != run ]]; then has_options=; fi
+    if [[ " ${COMP_WORDS[*]:0:COMP_CWORD} " == *" -- "* || $name == lolamon && ${COMP_WORDS[1]} != @(run|replay) ]]; then has_options=; fi
     # Bash cuts --show=outputs into three words.
     if [[ $word == = ]]; then word=; elif [[ $before == = ]]; then before=${COMP_WORDS[COMP_CWORD - 2]}; fi
     COMPREPLY=()
     if [[ $name == lolamon ]] && ((COMP_CWORD == 1)); then
-        mapfile -t COMPREPLY < <(compgen -W 'run analyse drill' -- "$word")
+        mapfile -t COMPREPLY < <(compgen -W 'run analyse drill replay' -- "$word")
     elif [[ $name == lolamon-spread ]] && ((COMP_CWORD == 1)) && [[ $word != -* ]]; then
         mapfile -t COMPREPLY < <(compgen -W "$(_lolamon_values --commands)" -- "$word")
     elif [[ $name == lolamon && ${COMP_WORDS[1]} == drill ]]; then

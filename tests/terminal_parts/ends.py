@@ -155,6 +155,69 @@ def test_unreadable(checks: Checks) -> None:
         checks.has(f"reason of {names}", piece, split(ended, f"= unreadable {what}\n"))
 
 
+HIGH = '1.000000000 trigger_1 "high"\n'
+ENTRY = "0,1,0.000000000,A,1\n"
+DONE = "= done accepted 2 late 0 steps 2 lines 1\n"
+
+
+def test_a_trace_that_differs(checks: Checks) -> None:
+    """The line as it is, and as the lines before it say; or why none should stand there."""
+    write("sum.lola", SUM)
+    write("v", HIGH + DONE)
+    cases = {  # the line; what is told
+        "0,2,1.000000000,L0.000000000,2\n": "as it is: 0,2,1.000000000,L0.000000000,2 and as it should be: 0,2,1.000000000,A,2 More",
+        "0,3,1.000000000,A,2\n": "as it is: 0,3,1.000000000,A,2 and as it should be: 0,2,1.000000000,A,2 More",
+        "0,2,1.000000000,A,2": "without a line feed at its end: 0,2,1.000000000,A,2 and as it should be: 0,2,1.000000000,A,2 More",
+        "64,1,1.000000000,A,2\n": "It is no line of a trace: such a line has a source from 0 to 63",
+        "\x1b[2J\n": "\\x1b[2J It is no line of a trace:",
+        "0,2,1.000000000,A,+2\n": "so its fields are not spelled as a trace of this specification has them. More",
+    }
+    for line, piece in cases.items():
+        write("t", ENTRY + line)
+        ended = on_terminal("replay", "sum.lola", "t", "v")
+        checks.same(f"status of {line!r}", 1, ended.status)
+        told = split(ended, "= differs trace 2\n")
+        checks.has(f"{line!r}", piece, told)
+        checks.has(f"place of {line!r}", "t, line 2, as it is", told)
+    write("t", "0,1,0.000000000,A,9223372036854775807\n0,2,1.000000000,A,2\n")
+    told = split(on_terminal("replay", "sum.lola", "t", "v"), "= differs trace 2\n")
+    checks.has("behind a fault", "No line should stand there, since the run ended before it: = fault b 1 Overflow at 0.000000000", told)
+
+
+def test_verdicts_that_differ(checks: Checks) -> None:
+    """The line as it is, and as another run over the accepted rows writes it."""
+    write("sum.lola", SUM)
+    write("t", ENTRY + "0,2,1.000000000,A,2\n0,3,0.500000000,L1.000000000,2\n")
+    done = DONE.replace("late 0", "late 1")
+    cases = {  # the verdicts; the line; what is told
+        HIGH.replace("high", "low") + done: (1, f"as it is: {HIGH.replace('high', 'low')} and as it should be: {HIGH} More"),
+        done: (1, f"as it is: {done} and as it should be: {HIGH} More"),
+        HIGH + DONE: (2, f"as it is: {DONE} and as it should be: {done} Lines with which a run ends one of whose sources"),
+        HIGH: (2, f"v ends before line 2, where this should stand: {done}"),
+        HIGH + done + "x": (3, "as it is, without a line feed at its end: x No line should stand there, behind the end line."),
+    }
+    for verdicts, (line, piece) in cases.items():
+        write("v", verdicts)
+        ended = on_terminal("replay", "sum.lola", "t", "v")
+        checks.same(f"status of {verdicts!r}", 1, ended.status)
+        checks.has(f"{verdicts!r}", piece, split(ended, f"= differs verdicts {line}\n"))
+    write("v", f"0.000000000 b = 2\n1.000000000 b = 4\n{HIGH}{done}")
+    told = split(on_terminal("replay", "--start", "0", "--show=outputs", "sum.lola", "t", "v"), "= differs verdicts 2\n")
+    checks.has("with options", "as it is: 1.000000000 b = 4 and as it should be: 1.000000000 b = 3", told)
+
+
+def test_a_replay_that_finds_nothing(checks: Checks) -> None:
+    write("sum.lola", SUM)
+    write("t", ENTRY + "0,2,1.000000000,A,2\n")
+    write("v", HIGH + DONE)
+    ended = on_terminal("replay", "sum.lola", "t", "v")
+    checks.same("the same", (0, "= same entries 2 lines 1\n"), (ended.status, ended.terminal))
+    for names, what in (("none v", "trace"), ("t none", "verdicts")):
+        ended = on_terminal("replay", "sum.lola", *names.split())
+        checks.same(f"status of {names}", 6, ended.status)
+        checks.has(f"reason of {names}", f"The {what}, none, cannot be read: No such file", split(ended, f"= unreadable {what}\n"))
+
+
 def test_no_memory(checks: Checks) -> None:
     ended = explained(stand_in("no_memory", "exit 8"), "run", "a.lola", "a.csv")
     checks.same("status", 8, ended.status)
@@ -203,7 +266,7 @@ def test_all_codes_have_a_heading(checks: Checks) -> None:
         lines = [line.rstrip("\n").split("\t") for line in file]
     checks.same("columns", ["code", "name", "sentence", "section"], lines[0])
     codes = [f"E{n}" for n in (*range(1, 20), 21)] + [f"kind {n}" for n in range(1, 9)] + [f"fault {n}" for n in range(1, 4)]
-    checks.same("codes", codes + ["status 0"] + [f"status {n}" for n in range(2, 9)], [line[0] for line in lines[1:]])
+    checks.same("codes", codes + [f"status {n}" for n in range(9)], [line[0] for line in lines[1:]])
     named = {line[3] for line in lines[1:]}
     for code, _, sentence, _ in lines[1:]:
         checks.note(sentence.endswith("."), f"sentence of {code}", "a full stop at its end", sentence)

@@ -24,7 +24,7 @@ TRACE_LINE = re.compile(rf"[0-9]+,[0-9]+,{TIME},")
 ONE_VALUE = re.compile(VALUE)
 ESCAPE = re.compile(r'\\(["\\nrt])')
 ESCAPES = {'"': '"', "\\": "\\", "n": "\n", "r": "\r", "t": "\t"}
-STATUSES = {"done": 0, "usage": 2, "refused": 3, "malformed": 4, "fault": 5, "unreadable": 6}
+STATUSES = {"done": 0, "same": 0, "differs": 1, "usage": 2, "refused": 3, "malformed": 4, "fault": 5, "unreadable": 6}
 SHOWN = 60  # so many characters of a line that does not fit are shown
 
 

@@ -10,7 +10,7 @@ import textwrap
 import time
 from typing import List, Optional
 
-from explaining import places
+from explaining import differing, places
 from explaining.folders import documents
 from explaining.messages import read_messages
 from explaining.places import shown_name
@@ -20,7 +20,8 @@ from explaining.words import Command, NotACommand, asks_for_help, read_command
 REFUSED = re.compile(r"= refused (E\d+) \w+ at (\d{1,18})")
 MALFORMED = re.compile(r"= malformed source (\d{1,18}) row (\d{1,18}) (kind \d+) \w+")
 FAULT = re.compile(r"= fault (\w+) (\d+) \w+ at ([\d.]+)")
-UNREADABLE = re.compile(r"= unreadable (?:specification|source (\d{1,18}))")
+UNREADABLE = re.compile(r"= unreadable (specification|trace|verdicts|source (\d{1,18}))")
+DIFFERS = re.compile(r"= differs (trace|verdicts) (\d{1,18})")
 LATE_ROWS = "docs/formats.md#trace-lines-on-standard-error"
 SEVERAL = "docs/formats.md#several-sources"
 MOST_LATE_SOURCES = 4  # so many sources with late rows are named
@@ -33,6 +34,7 @@ wherever one of its triggers is true.
   lolamon run [OPTION..] SPEC SOURCE..   reads 1 to 64 source files
   lolamon analyse SPEC                   tells what the specification has
   lolamon drill NUMBER ROWS WORKERS      tries the machine with made-up rows
+  lolamon replay SPEC TRACE VERDICTS     checks what a run of SPEC wrote
 
 run writes verdicts and the end line to standard output, and each row that
 it read to standard error, which is the trace. Its options, each once:
@@ -49,6 +51,10 @@ it read to standard error, which is the trace. Its options, each once:
 A drill of 10,000 rows for each of two sources on four threads:
 
       lolamon drill 1 10000 4
+
+A replay takes --show and --start as the run was given them:
+
+      lolamon replay --show outputs height.lola trace.txt verdicts.txt
 """
 
 
@@ -95,7 +101,7 @@ class Teller:
         self.command = command_of(words)
 
     def all(self) -> List[str]:
-        parts = {2: self.usage, 3: self.refused, 4: self.malformed, 5: self.fault,
+        parts = {1: self.differs, 2: self.usage, 3: self.refused, 4: self.malformed, 5: self.fault,
                  6: self.unreadable, 7: self.write, 8: self.memory}
         if self.outcome.signal is not None:
             return self.crash(self.outcome.signal)
@@ -168,17 +174,31 @@ class Teller:
             lines += self.at_place(path, at)
         return lines
 
+    def differs(self) -> List[str]:
+        match = DIFFERS.fullmatch(self.end_line)
+        if not match or not self.command:
+            return []
+        what, number = match.groups()
+        patience = Patience(f"line {number} of the {what}")
+        lines = differing.told(self.command, what, int(number), self.width, patience.tell)
+        return lines + self.manual.more(self.manual.messages["status 1"].section)
+
     def unreadable(self) -> List[str]:
         match = UNREADABLE.fullmatch(self.end_line)
         if not match or not self.command:
             return []
-        number = match.group(1)
-        path = self.command.specification if number is None else self.source(number)
+        what, number = match.groups()
+        path = self.unread(what, number)
         if path is None:
             return []
-        what = "The specification" if number is None else f"Source {number}"
-        return [f"{what}, {shown_name(path)}, cannot be read{why_unreadable(path)}.",
+        return [f"{what.capitalize() if number else f'The {what}'}, {shown_name(path)}, cannot be read{why_unreadable(path)}.",
                 *self.manual.more(self.manual.messages["status 6"].section)]
+
+    def unread(self, what: str, number: Optional[str]) -> Optional[str]:
+        """The file that the end line tells of."""
+        if what == "specification":
+            return self.command.specification if self.command else None
+        return self.source(number or {"trace": "0", "verdicts": "1"}[what])
 
     def write(self) -> List[str]:
         if any(failure.errno == errno.EPIPE for failure in self.outcome.failures.values()):

@@ -5,7 +5,7 @@ The program decides whether they are one. What stands here is for people: the na
 from __future__ import annotations
 
 import re
-from typing import Dict, List, NamedTuple
+from typing import Dict, List, NamedTuple, Sequence
 
 from commands.times import MOST_TIME, SECOND
 
@@ -21,7 +21,7 @@ MOST_ROWS = 1_000_000
 
 
 class Command(NamedTuple):
-    """A command with its names; the specification is empty for a drill."""
+    """A command with its names; the specification is empty for a drill, and the sources of a replay are a trace and verdicts."""
 
     name: str
     options: Dict[str, str]
@@ -55,14 +55,16 @@ def is_value(option: str, word: str) -> bool:
 
 
 class Reader:
-    """Takes the words behind `run`, `analyse` or `drill` one after another."""
+    """Takes the words behind a command one after another. No option stands between two names, but behind the first where that may stand
+    apart."""
 
-    def __init__(self, words: List[str], with_options: bool) -> None:
+    def __init__(self, words: List[str], options: Sequence[str] = (), apart: bool = False) -> None:
         self.rest = list(words)
-        self.with_options = with_options
+        self.known = options
+        self.apart = apart
         self.options: Dict[str, str] = {}
         self.names: List[str] = []
-        self.after_a_source = False  # an option came behind a source
+        self.is_closed = False  # an option came, behind which no name may stand
 
     def read(self) -> None:
         while self.rest:
@@ -77,13 +79,14 @@ class Reader:
                 self.take_name(word)
 
     def take_name(self, name: str) -> None:
-        if self.after_a_source:
-            raise NotACommand(f"an option stands between two sources, before '{name}'; it stands before or behind all")
+        if self.is_closed:
+            what = "sources" if self.apart else "names"
+            raise NotACommand(f"an option stands between two {what}, before '{name}'; it stands before or behind all")
         self.names.append(name)
 
     def take_option(self, word: str) -> None:
         name, equals, value = word.partition("=")
-        if not self.with_options or (name not in VALUES and word != FLAG):
+        if name not in self.known or (name == FLAG and equals):
             raise NotACommand(f"there is no option '{word}' here; names that begin with '-' stand behind the word '--'")
         if name in self.options:
             raise NotACommand(f"the option {name} comes twice")
@@ -92,7 +95,7 @@ class Reader:
             if not is_value(name, value):
                 raise NotACommand(f"the value of {name} is {VALUES[name]}, and not '{value}'")
         self.options[name] = value
-        self.after_a_source = len(self.names) > 1
+        self.is_closed = len(self.names) > (1 if self.apart else 0)
 
     def value_of(self, option: str) -> str:
         """The next word, as an option's value."""
@@ -102,7 +105,7 @@ class Reader:
 
 
 def read_run(words: List[str]) -> Command:
-    reader = Reader(words, with_options=True)
+    reader = Reader(words, (*VALUES, FLAG), apart=True)
     reader.read()
     if not reader.names:
         raise NotACommand("the names of a specification and of a source file are missing")
@@ -114,7 +117,7 @@ def read_run(words: List[str]) -> Command:
 
 
 def read_analyse(words: List[str]) -> Command:
-    reader = Reader(words, with_options=False)
+    reader = Reader(words)
     reader.read()
     if not reader.names:
         raise NotACommand("the name of a specification is missing")
@@ -124,7 +127,7 @@ def read_analyse(words: List[str]) -> Command:
 
 
 def read_drill(words: List[str]) -> Command:
-    reader = Reader(words, with_options=False)
+    reader = Reader(words)
     reader.read()
     if len(reader.names) != 3:
         raise NotACommand("behind 'drill' stand three numbers: NUMBER ROWS WORKERS")
@@ -138,13 +141,21 @@ def read_drill(words: List[str]) -> Command:
     return Command("drill", {}, "", [])
 
 
+def read_replay(words: List[str]) -> Command:
+    reader = Reader(words, ("--show", "--start"))
+    reader.read()
+    if len(reader.names) != 3:
+        raise NotACommand("behind 'replay' stand three names: a specification, and what a run of it wrote, its trace and its verdicts")
+    return Command("replay", reader.options, reader.names[0], reader.names[1:])
+
+
 def read_command(words: List[str]) -> Command:
     """The command that the words are."""
     if not words:
         raise NotACommand("no command was given")
-    readers = {"run": read_run, "analyse": read_analyse, "drill": read_drill}
+    readers = {"run": read_run, "analyse": read_analyse, "drill": read_drill, "replay": read_replay}
     if words[0] not in readers:
-        raise NotACommand(f"there is no command '{words[0]}'; there are run, analyse and drill")
+        raise NotACommand(f"there is no command '{words[0]}'; there are run, analyse, drill and replay")
     return readers[words[0]](words[1:])
 
 

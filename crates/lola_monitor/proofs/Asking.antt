@@ -1,10 +1,11 @@
 -- What the words of a command name.
 use Rattle.std.proofs.Common.{◌≡◌, ℕ, List, [], ◌∷◌, Some, map, ap}
 use Rattle.lola_monitor_command.specs.Command.{command_of}
-use Rattle.lola_monitor_command.specs.declared.command.Command.TheVariants.{Run, Analyse, Drill}
+use Rattle.lola_monitor_command.specs.declared.command.Command.TheVariants.{Run, Analyse, Drill, Replay}
 use Rattle.lola_monitor_command.specs.declared.command.DrillCommand.{DrillCommand}
+use Rattle.lola_monitor_command.specs.declared.command.ReplayCommand.{ReplayCommand}
 use Rattle.lola_monitor_command.specs.declared.command.RunCommand.{RunCommand}
-use Rattle.lola_monitor.specs.Command.{all_names, analysed_named, analysed_of, drill_named, drill_of, names_asked, names_with, run_by, run_of, specification_named, specification_of, word_at}
+use Rattle.lola_monitor.specs.Command.{all_names, analysed_named, analysed_of, drill_named, drill_of, names_asked, names_with, replay_named, replay_names, replay_of, replay_with, run_by, run_of, specification_named, specification_of, word_at}
 
 module _ (words : List (List ℕ)) (r : RunCommand) (is : command_of words ≡ Some (Run r)) where
   pub specification_is : specification_of words ≡ Some (word_at words r.specification)
@@ -32,3 +33,13 @@ module _ (words : List (List ℕ)) (d : DrillCommand) (is : command_of words ≡
 
   pub drill_names : names_asked words ≡ []
   drill_names = ap (all_names words) is
+
+module _ (words : List (List ℕ)) (r : ReplayCommand) (is : command_of words ≡ Some (Replay r)) where
+  pub replayed_specification : specification_of words ≡ Some (word_at words r.specification)
+  replayed_specification = ap (specification_named words) is
+
+  pub replay_is : replay_of words ≡ Some (replay_with words r)
+  replay_is = ap (replay_named words) is
+
+  pub replayed_names : names_asked words ≡ replay_names (replay_with words r)
+  replayed_names = ap (all_names words) is

@@ -7,11 +7,14 @@ use Rattle.lola_port.specs.States.{ShelfState}
 use Rattle.lola_port.specs.declared.traits.Ask.{Ask}
 use Rattle.lola_report_lines.specs.declared.end.EndLine.TheVariants.{Done, Usage, Refused, Malformed, Fault, UnreadableSpecification, UnreadableSource, Analysed}
 use Rattle.lola_monitor_run.specs.Verdicts.{Setting}
-use Rattle.lola_monitor.specs.Command.{names_asked}
+use Rattle.lola_model.specs.declared.plan.Plan.{Plan}
+use Rattle.lola_replay_report.specs.declared.end.ReplayEnd.TheVariants.{Found, UnreadableTrace, UnreadableVerdicts}
+use Rattle.lola_monitor.specs.Command.{ReplayNames, names_asked}
 use Rattle.lola_monitor.specs.Monitor.{Asked, Outside, asks_between}
 use Rattle.lola_monitor.specs.Outcomes.{AllHome, Grew, Marred, PlansName, RunsSources, Stopped, noted}
+use Rattle.lola_monitor.specs.ReplayOutcomes.{ReplaysTexts}
 use Rattle.lola_monitor.specs.declared.outcome.Outcome.{Outcome}
-use Rattle.lola_monitor.specs.declared.outcome.Outcome.TheVariants.{Line, Drilled, Report, CutFault, Put, Memory}
+use Rattle.lola_monitor.specs.declared.outcome.Outcome.TheVariants.{Line, Drilled, Report, Replayed, CutFault, Put, Memory}
 use Rattle.lola_monitor.specs.declared.outcome.Unplanned.{Unplanned}
 use Rattle.lola_monitor.specs.declared.outcome.Unplanned.TheVariants as unplanned
 
@@ -67,6 +70,7 @@ grew_sources in_turns (Line UnreadableSpecification) s names before after ran = 
 grew_sources in_turns (Line (Analysed n w)) s names before after ran = absurd ran
 grew_sources in_turns (Drilled line) s names before after ran = absurd ran
 grew_sources in_turns (Report text) s names before after ran = absurd ran
+grew_sources in_turns (Replayed end) s names before after ran = absurd ran
 grew_sources in_turns CutFault s names before after ran = grew_all names before.shelf after.shelf ran.asks ran.home.appended ran.home.named ran.home.out
 grew_sources in_turns Put s names before after ran = grew_all names before.shelf after.shelf ran.asks ran.home.appended ran.home.named ran.home.out
 grew_sources in_turns Memory s names before after ran = ran.shelf
@@ -78,6 +82,20 @@ grew_twice name names before mid after is grew = record {
   front = (grew.front.0, ap (λ (l : List (List ℕ)). name ∷ l) grew.front.1);
   home = grew.home ∙ ap (λ s. s.out) is;
 }
+
+-- a trace and verdicts
+pub grew_texts : (outcome : Outcome) (plan : Plan) (names : ReplayNames) (before after : ShelfState) → ReplaysTexts outcome plan names before after → Grew (names.trace ∷ names.verdicts ∷ []) before after
+grew_texts (Line line) plan names before after ran = absurd ran
+grew_texts (Drilled line) plan names before after ran = absurd ran
+grew_texts (Report text) plan names before after ran = absurd ran
+grew_texts (Replayed (Found finding)) plan names before after ran =
+    grew_twice names.trace (names.verdicts ∷ []) before (noted before names.trace) after refl (grew_noted names.verdicts [] (noted before names.trace) after ran.shelf)
+grew_texts (Replayed UnreadableTrace) plan names before after ran = grew_marred names.trace (names.verdicts ∷ []) before after ran
+grew_texts (Replayed UnreadableVerdicts) plan names before after ran =
+    grew_twice names.trace (names.verdicts ∷ []) before (noted before names.trace) after refl (grew_marred names.verdicts [] (noted before names.trace) after ran)
+grew_texts CutFault plan names before after ran = absurd ran
+grew_texts Put plan names before after ran = absurd ran
+grew_texts Memory plan names before after ran = ran
 
 -- a specification that has no plan
 pub grew_unplanned : (end : Unplanned) (name : List ℕ) (names : List (List ℕ)) (before after : ShelfState) → PlansName (Err end) name before after → Grew (name ∷ names) before after

@@ -7,10 +7,13 @@ use Rattle.lola_report_lines.specs.Ends.{end_text}
 use Rattle.lola_report_lines.specs.declared.end.EndLine.{EndLine}
 use Rattle.lola_report_lines.specs.declared.end.EndLine.TheVariants.{Done, Usage, Refused, Malformed, Fault, UnreadableSpecification, UnreadableSource, Analysed}
 use Rattle.lola_monitor.specs.Monitor.{Call, IsAnalysed, IsCutAnalysis, IsCutDone, IsCutMalformed, IsCutOff, IsCutShort, IsDone, IsEarly, IsFault, IsMalformed, IsRefused, IsUnread, IsUsage, Outside, Wrote, call}
-use Rattle.lola_monitor.specs.Outcomes.{AreUntouched, Concluded, NoCommand, NoPlan, NotRead, StoodAnalysed, StoodCut, StoodDone, StoodFault, StoodMalformed, Works}
+use Rattle.lola_monitor.specs.Conclusions.{Concluded}
+use Rattle.lola_monitor.specs.Outcomes.{AreUntouched, NoCommand, NoPlan, NotRead, StoodAnalysed, StoodCut, StoodDone, StoodFault, StoodMalformed, Works}
 use Rattle.lola_monitor.specs.declared.outcome.Outcome.{Outcome}
-use Rattle.lola_monitor.specs.declared.outcome.Outcome.TheVariants.{Line, Drilled, Report, CutFault, Put, Memory}
+use Rattle.lola_monitor.specs.declared.outcome.Outcome.TheVariants.{Line, Drilled, Report, Replayed, CutFault, Put, Memory}
+use Rattle.lola_replay_report.specs.declared.end.ReplayEnd.TheVariants.{Found, UnreadableTrace, UnreadableVerdicts}
 use Rattle.lola_monitor.proofs.DrillEnds.{drill_means}
+use Rattle.lola_monitor.proofs.ReplayMeans.{found_means, unread_means}
 use Rattle.lola_monitor.proofs.Laws.{PutsAddUp}
 use Rattle.lola_monitor.proofs.Means.{Means, means_at}
 
@@ -107,14 +110,17 @@ module _ (words : List (List ℕ)) (before after : Outside) (last : SinkState) w
   means_of parts status (Line UnreadableSpecification) works (inl e) = means_at 6 status here e.0 (inl (ends_unread works (inl e.1)))
   means_of parts status (Line UnreadableSpecification) works (inr (inl e)) = means_at 6 status here e.0 (inl (ends_unread works (inr e.1)))
   means_of parts status (Line UnreadableSpecification) works (inr (inr e)) = means_at 8 status here e.0 (inl (early_end works.early e.1))
-  means_of parts status (Line (UnreadableSource m)) works (inl e) = means_at 6 status here e.0 (inr (ends_cut_short (UnreadableSource m) works (inl e.1)))
-  means_of parts status (Line (UnreadableSource m)) works (inr (inl e)) = means_at 6 status here e.0 (inr (ends_cut_short (UnreadableSource m) works (inr e.1)))
+  means_of parts status (Line (UnreadableSource m)) works (inl e) = means_at 6 status here e.0 (inr (inl (ends_cut_short (UnreadableSource m) works (inl e.1))))
+  means_of parts status (Line (UnreadableSource m)) works (inr (inl e)) = means_at 6 status here e.0 (inr (inl (ends_cut_short (UnreadableSource m) works (inr e.1))))
   means_of parts status (Line (UnreadableSource m)) works (inr (inr e)) = means_at 8 status here e.0 (inr (record { run = works.short.run; trace = works.put.trace; out = inr (e.1 ∙ works.put.out) }))
   means_of parts status (Line (Analysed n w)) works ended = absurd works
   means_of parts status (Drilled line) works ended = drill_means words before after last status line works ended
   means_of parts status (Report text) works (inl e) = means_at 0 status here e.0 (inr (inl (ends_analysed text works e.1)))
   means_of parts status (Report text) works (inr (inl e)) = means_at 7 status here e.0 (inr (inl (ends_cut_analysis text works e.1)))
   means_of parts status (Report text) works (inr (inr e)) = means_at 8 status here e.0 (inl (early_end works.early e.1))
+  means_of parts status (Replayed (Found finding)) works ended = found_means words before after last status finding works ended
+  means_of parts status (Replayed UnreadableTrace) works ended = unread_means words before after last status UnreadableTrace works ended
+  means_of parts status (Replayed UnreadableVerdicts) works ended = unread_means words before after last status UnreadableVerdicts works ended
   means_of parts status CutFault works e = means_at 5 status here e.0 (inl (subst (λ s. IsFault (call words before (record after { out = s }))) (sym e.1) works))
   means_of parts status Put works e = means_at 7 status here e.0 (inl (inl (subst (λ s. IsCutOff (call words before (record after { out = s }))) (sym e.1) works)))
   means_of parts status Memory works e = means_at 8 status here e.0 (subst (λ s. Means 8 (call words before (record after { out = s }))) (sym e.1) works)

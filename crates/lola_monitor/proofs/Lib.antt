@@ -11,6 +11,10 @@ pub mod Lent
 pub mod Options
 pub mod Working
 pub mod Means
+pub mod Commands
+pub mod Replays
+pub mod ReplayMeans
+pub mod ReplayStatuses
 pub mod DrillEnds
 pub mod Ends
 pub mod Statuses

@@ -6,7 +6,7 @@ use Rattle.std.specs.Str.{bytes_eq}
 use Rattle.std.proofs.lemmas.Bool.{and_parts}
 use Rattle.lola_value.specs.Times.{is_digit, is_point, is_time, latest, nanoseconds, number_of, up_to_latest}
 use Rattle.lola_model.specs.declared.journal.Show.TheVariants as show
-use Rattle.lola_monitor_command.specs.Command.{are_sources, behind_names, behind_options, come_once, command_of, drill_with, front_names, in_turns_said, is_number, of_said, run_by, run_over, show_said, start_said, workers_said}
+use Rattle.lola_monitor_command.specs.Command.{are_sources, behind_names, behind_options, come_once, command_of, drill_with, front_names, in_turns_said, is_empty, is_number, of_said, replay_by, replay_with, run_by, run_over, show_said, start_said, suit_replay, workers_said}
 use Rattle.lola_monitor_command.specs.Command as said_command
 use Rattle.lola_monitor_command.specs.Said.{Word, after, begins_with_minus, is_worker_count, names_from, option_by, option_with, said_from, says, show_by, start_by, thing_of, valued, with_front, workers_by}
 use Rattle.lola_monitor_command.specs.declared.said.Said.{Said}
@@ -14,7 +14,7 @@ use Rattle.lola_monitor_command.specs.declared.said.Said.TheVariants as said
 use Rattle.lola_monitor_command.specs.declared.said.Thing.{Thing}
 use Rattle.lola_monitor_command.specs.declared.said.Thing.TheVariants as thing
 use Rattle.lola_monitor_command.specs.declared.command.Command.{Command}
-use Rattle.lola_monitor_command.specs.declared.command.Command.TheVariants.{Run, Analyse, Drill}
+use Rattle.lola_monitor_command.specs.declared.command.Command.TheVariants.{Run, Analyse, Drill, Replay}
 use Rattle.lola_monitor_command.specs.declared.command.DrillCommand.{DrillCommand}
 use Rattle.lola_monitor_command.specs.declared.command.RunCommand.{RunCommand}
 use Rattle.lola_engine.specs.Engines.{IsOptionInTime}
@@ -139,6 +139,7 @@ abbrev InBounds : Option Command → Type 0
 InBounds None = Unit {0}
 InBounds (Some (Run r)) = ((1 ≤ r.workers) × (r.workers ≤ 64)) × IsOptionInTime r.start × ((1 ≤ length r.sources) × (length r.sources ≤ 64))
 InBounds (Some (Analyse n)) = Unit {0}
+InBounds (Some (Replay r)) = Unit {0}
 InBounds (Some (Drill d)) = (d.number < 2147483647) × ((1 ≤ d.workers) × (d.workers ≤ 64))
 
 sources_bound : (ss rest : List Said) → (come_once ss && are_sources (front_names rest) (behind_names rest)) ≡ true → (1 ≤ length (front_names rest)) × (length (front_names rest) ≤ 64)
@@ -227,6 +228,21 @@ drilled_bound : (words : List Word) (o : Option (List Said)) → InBounds (of_sa
 drilled_bound words None = tt
 drilled_bound words (Some ss) = drill_said words ss
 
+replay_bound : (ss rest : List Said) (specification trace verdicts : ℕ) → InBounds (replay_with ss specification trace verdicts rest)
+replay_bound ss rest specification trace verdicts = go (come_once ss && (suit_replay ss && is_empty (behind_options rest)))
+  where
+    go : (b : Bool) → InBounds (if b then Some (Replay (record { specification = specification; trace = trace; verdicts = verdicts; show = show_said ss; start = start_said ss })) else None)
+    go true = tt
+    go false = tt
+
+replay_front : (ss front : List Said) → InBounds (replay_by ss front)
+replay_front ss (said.Name a ∷ said.Name b ∷ said.Name c ∷ rest) = replay_bound ss rest a b c
+replay_front ss _ = tt
+
+replayed_bound : (o : Option (List Said)) → InBounds (of_said said_command.replay_of o)
+replayed_bound None = tt
+replayed_bound (Some ss) = replay_front ss (behind_options ss)
+
 if_bound : (b : Bool) (x y : Option Command) → InBounds x → InBounds y → InBounds (if b then x else y)
 if_bound true x y h k = h
 if_bound false x y h k = k
@@ -237,7 +253,8 @@ bounds (program ∷ []) = tt
 bounds (program ∷ word ∷ words) =
     if_bound (bytes_eq word (codes "run")) _ _ (of_bound (said_from false 2 words) (λ ss is. said_right false 2 words ss is))
     (if_bound (bytes_eq word (codes "analyse")) _ _ (analysed_bound (said_from false 2 words))
-    (if_bound (bytes_eq word (codes "drill")) _ None (drilled_bound (program ∷ word ∷ words) (said_from false 2 words)) tt))
+    (if_bound (bytes_eq word (codes "drill")) _ _ (drilled_bound (program ∷ word ∷ words) (said_from false 2 words))
+    (if_bound (bytes_eq word (codes "replay")) _ None (replayed_bound (said_from false 2 words)) tt)))
 
 module _ (words : List Word) (r : RunCommand) (is : command_of words ≡ Some (Run r)) where
   in_bounds : ((1 ≤ r.workers) × (r.workers ≤ 64)) × IsOptionInTime r.start × ((1 ≤ length r.sources) × (length r.sources ≤ 64))

@@ -19,7 +19,7 @@ use Rattle.lola_monitor.specs.Drilling.{DrillsBy}
 use Rattle.lola_monitor.specs.Monitor.{AllBegin, AllGiven, AllRead, Begins, CutsOff, Ends, GoInTurns, HasItsModels, HasRows, IsAtDeadline, IsEarly, IsUnfinished, Outside, Plans, Ran, WereGiven, analysis_text, asks_between, call, fault_line, first_failed_ask, setting_of}
 use Rattle.lola_monitor.specs.Outcomes.{AllHome, AreUntouched, ArePut, CameHome, Marred, PlansName, ReadPlan, RunsSources, SourcesRun, UnfinishedRun, Works, noted, without_plan}
 use Rattle.lola_monitor.specs.declared.outcome.Outcome.{Outcome}
-use Rattle.lola_monitor.specs.declared.outcome.Outcome.TheVariants.{Line, Drilled, Report, CutFault, Put, Memory}
+use Rattle.lola_monitor.specs.declared.outcome.Outcome.TheVariants.{Line, Drilled, Report, Replayed, CutFault, Put, Memory}
 use Rattle.lola_monitor.specs.declared.outcome.Unplanned.{Unplanned}
 use Rattle.lola_monitor.specs.declared.outcome.Unplanned.TheVariants as unplanned
 use Rattle.lola_monitor.proofs.Calls.{between}
@@ -191,6 +191,7 @@ module _ (words : List (List ℕ)) (names : Names) (plan : Plan) (before after :
     works_after (Line (Analysed n w)) r = absurd r
     works_after (Drilled line) r = absurd r
     works_after (Report text) r = absurd r
+    works_after (Replayed end) r = absurd r
     works_after CutFault r = record {
       line = fault_line plan r.fault;
       up_to = record {
@@ -250,6 +251,7 @@ pub works_drilled : (words : List (List ℕ)) (here : Outside) (d : DrillCommand
 works_drilled words here d (Line line) is drills = absurd drills
 works_drilled words here d (Drilled line) is drills = record { of = record { drill = d; is_command = is; shelf = refl }; drills = drills; early = record { trace = refl; out = refl } }
 works_drilled words here d (Report text) is drills = absurd drills
+works_drilled words here d (Replayed end) is drills = absurd drills
 works_drilled words here d CutFault is drills = absurd drills
 works_drilled words here d Put is drills = absurd drills
 works_drilled words here d Memory is drills = inl (record { trace = refl; out = refl })

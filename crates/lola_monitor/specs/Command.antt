@@ -4,8 +4,9 @@ use Rattle.lola_model.specs.declared.journal.Show.{Show}
 use Rattle.lola_monitor_command.specs.Said.{Word}
 use Rattle.lola_monitor_command.specs.Command.{command_of}
 use Rattle.lola_monitor_command.specs.declared.command.Command.{Command}
-use Rattle.lola_monitor_command.specs.declared.command.Command.TheVariants.{Run, Analyse, Drill}
+use Rattle.lola_monitor_command.specs.declared.command.Command.TheVariants.{Run, Analyse, Drill, Replay}
 use Rattle.lola_monitor_command.specs.declared.command.DrillCommand.{DrillCommand}
+use Rattle.lola_monitor_command.specs.declared.command.ReplayCommand.{ReplayCommand}
 use Rattle.lola_monitor_command.specs.declared.command.RunCommand.{RunCommand}
 
 -- what a run is of: a specification and sources, where time begins if that is told, what is shown, how many workers there are, and
@@ -41,6 +42,7 @@ run_by words None = None
 run_by words (Some (Run r)) = Some (names_with words r)
 run_by words (Some (Analyse n)) = None
 run_by words (Some (Drill d)) = None
+run_by words (Some (Replay r)) = None
 
 -- the run that the words are
 abbrev pub run_of : List Word → Option Names
@@ -51,6 +53,7 @@ specification_named words None = None
 specification_named words (Some (Run r)) = Some (word_at words r.specification)
 specification_named words (Some (Analyse n)) = Some (word_at words n)
 specification_named words (Some (Drill d)) = None
+specification_named words (Some (Replay r)) = Some (word_at words r.specification)
 
 -- the specification of a command, which is asked for first
 abbrev pub specification_of : List Word → Option Word
@@ -61,6 +64,7 @@ analysed_named words None = None
 analysed_named words (Some (Run r)) = None
 analysed_named words (Some (Analyse n)) = Some (word_at words n)
 analysed_named words (Some (Drill d)) = None
+analysed_named words (Some (Replay r)) = None
 
 -- the specification that is to be analysed
 abbrev pub analysed_of : List Word → Option Word
@@ -71,18 +75,52 @@ drill_named None = None
 drill_named (Some (Run r)) = None
 drill_named (Some (Analyse n)) = None
 drill_named (Some (Drill d)) = Some d
+drill_named (Some (Replay r)) = None
 
 -- the drill that the words are
 abbrev pub drill_of : List Word → Option DrillCommand
 drill_of words = drill_named (command_of words)
+
+-- what a replay is of: a specification, a trace and verdicts, where the run's time began if that is told, and what it showed
+pub record ReplayNames : Type 0 where
+  pub specification : List ℕ
+  pub trace : List ℕ
+  pub verdicts : List ℕ
+  pub start : Option ℕ
+  pub show : Show
+
+-- in the order of fetching
+abbrev pub replay_names : ReplayNames → List (List ℕ)
+replay_names names = names.specification ∷ names.trace ∷ names.verdicts ∷ []
+
+abbrev pub replay_with : List Word → ReplayCommand → ReplayNames
+replay_with words r = record {
+  specification = word_at words r.specification;
+  trace = word_at words r.trace;
+  verdicts = word_at words r.verdicts;
+  start = r.start;
+  show = r.show;
+}
+
+abbrev pub replay_named : List Word → Option Command → Option ReplayNames
+replay_named words None = None
+replay_named words (Some (Run r)) = None
+replay_named words (Some (Analyse n)) = None
+replay_named words (Some (Drill d)) = None
+replay_named words (Some (Replay r)) = Some (replay_with words r)
+
+-- the replay that the words are
+abbrev pub replay_of : List Word → Option ReplayNames
+replay_of words = replay_named words (command_of words)
 
 abbrev pub all_names : List Word → Option Command → List Word
 all_names words None = []
 all_names words (Some (Run r)) = word_at words r.specification ∷ map (word_at words) r.sources
 all_names words (Some (Analyse n)) = word_at words n ∷ []
 all_names words (Some (Drill d)) = []
+all_names words (Some (Replay r)) = replay_names (replay_with words r)
 
 -- a command's names in the order of fetching: of a run the specification and then each source, of an analysis the specification, of
--- a drill none
+-- a drill none, of a replay the specification, the trace and the verdicts
 abbrev pub names_asked : List Word → List Word
 names_asked words = all_names words (command_of words)

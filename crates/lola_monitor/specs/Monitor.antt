@@ -392,7 +392,7 @@ pub record IsUnfinished (c : Call) : Type 0 where
 
 -- no other status comes
 abbrev pub IsStatus : ℕ → Type 0
-IsStatus n = (n ≡ 0) ⊎ ((n < 9) × (1 < n))
+IsStatus n = n < 9
 
 -- a run whose specification and sources are told and right, whose rows, those that the trace received, have no fault, and whose objects
 -- have not failed

@@ -1,7 +1,7 @@
 -- What the parts of the top call leave, before its last line.
 use Rattle.std.specs.Prelude.{◌≡◌, ◌⊎◌, ℕ, ◌+◌, ◌<◌, List, [], ◌∷◌, ◌++◌, length, map, slice_get, Bool, true, false, if◌then◌else◌, Option, None, Some, option_map, Result, Ok, Err}
 use Rattle.lola_port.specs.Asks.{given_ask}
-use Rattle.lola_port.specs.States.{Moved, PutBroke, Rose, ShelfState, SinkState, SourceState, grown}
+use Rattle.lola_port.specs.States.{Moved, PutBroke, Rose, ShelfState, SourceState, grown}
 use Rattle.lola_port.specs.declared.traits.Ask.{Ask}
 use Rattle.lola_value.specs.declared.front.Refusal.{Refusal}
 use Rattle.lola_model.specs.Journal.{IsLegal, rows_of}
@@ -13,7 +13,6 @@ use Rattle.lola_model.specs.Acceptance.{IsAccepted}
 use Rattle.lola_front.specs.Front.{IsPlanOf, IsRefusalOf}
 use Rattle.lola_monitor_command.specs.Command.{command_of}
 use Rattle.lola_rows.specs.Rows.{SourceEnd, Whole, MalformedAt}
-use Rattle.lola_report_lines.specs.Ends.{end_text}
 use Rattle.lola_report_lines.specs.declared.end.EndLine.{EndLine}
 use Rattle.lola_report_lines.specs.declared.end.EndLine.TheVariants.{Done, Usage, Refused, Malformed, Fault, UnreadableSpecification, UnreadableSource, Analysed}
 use Rattle.lola_feed.specs.Feeding.{Working}
@@ -27,11 +26,15 @@ use Rattle.lola_feed.specs.declared.sources.FetchStop.{FetchStop}
 use Rattle.lola_feed.specs.declared.sources.FetchStop.TheVariants as fetch
 use Rattle.lola_monitor.specs.Command.{specification_of}
 use Rattle.lola_monitor.specs.Drilling.{DrillsTo, OfDrill}
+use Rattle.lola_replay_report.specs.declared.end.ReplayEnd.{ReplayEnd}
+use Rattle.lola_replay_report.specs.declared.end.ReplayEnd.TheVariants as replayed
+use Rattle.lola_replay.specs.declared.finding.Finding.{Finding}
+use Rattle.lola_monitor.specs.Replaying.{Replay, Unread}
 use Rattle.lola_monitor.specs.Monitor.{AllBegin, AllEnd, AllRead, AllWell, Analysis, AreGiven, CutShort, CutsOff, Ends, GoInTurns, HasItsModels, IsAtDeadline, IsCutOff, IsEarly, IsFault, IsFrontOf, IsRefusedBy, IsUnfinished, MalformedSource, Outside, Plans, SomeMalformed, UpToFault, analysis_text, asks_between, call, done_line, fault_line, first_failed_ask, first_malformed, is_failed_ask, setting_of}
 use Rattle.lola_monitor.specs.declared.ending.SourcesEnd.{SourcesEnd}
 use Rattle.lola_monitor.specs.declared.ending.SourcesEnd.TheVariants as sources_end
 use Rattle.lola_monitor.specs.declared.outcome.Outcome.{Outcome}
-use Rattle.lola_monitor.specs.declared.outcome.Outcome.TheVariants.{Line, Drilled, Report, CutFault, Put, Memory}
+use Rattle.lola_monitor.specs.declared.outcome.Outcome.TheVariants.{Line, Drilled, Report, Replayed, CutFault, Put, Memory}
 use Rattle.lola_monitor.specs.declared.outcome.Unplanned.{Unplanned}
 use Rattle.lola_monitor.specs.declared.outcome.Unplanned.TheVariants as unplanned
 
@@ -198,6 +201,7 @@ RunsSources in_turns (Line UnreadableSpecification) s names before after = ⊥
 RunsSources in_turns (Line (Analysed n w)) s names before after = ⊥
 RunsSources in_turns (Drilled line) s names before after = ⊥
 RunsSources in_turns (Report text) s names before after = ⊥
+RunsSources in_turns (Replayed end) s names before after = ⊥
 RunsSources in_turns CutFault s names before after = CutFaultRun in_turns s names before after
 RunsSources in_turns Put s names before after = BrokenRun in_turns s names before after
 RunsSources in_turns Memory s names before after = StoppedRun in_turns s names before after
@@ -353,6 +357,16 @@ pub record StoodDrilled (line : EndLine) (words : List (List ℕ)) (before after
   pub drills : DrillsTo line of.drill
   pub early : AreUntouched before after
 
+-- all but the last line: a trace and verdicts were read, and this was found of them
+pub record StoodFound (finding : Finding) (words : List (List ℕ)) (before after : Outside) : Type 0 where
+  pub replay : Replay words before.shelf after.shelf finding
+  pub early : AreUntouched before after
+
+-- all but the last line: a trace or verdicts were not read
+pub record StoodUnread (end : ReplayEnd) (words : List (List ℕ)) (before after : Outside) : Type 0 where
+  pub unread : Unread end words before.shelf after.shelf
+  pub early : AreUntouched before after
+
 -- all but the last line
 abbrev pub Works : Outcome → List (List ℕ) → Outside → Outside → Type 0
 Works (Line (Done a l s v)) words before after = StoodDone (Done a l s v) words before after
@@ -365,38 +379,9 @@ Works (Line UnreadableSpecification) words before after = NotRead words before a
 Works (Line (Analysed s w)) words before after = ⊥
 Works (Drilled line) words before after = StoodDrilled line words before after
 Works (Report text) words before after = StoodAnalysed text words before after
+Works (Replayed (replayed.Found finding)) words before after = StoodFound finding words before after
+Works (Replayed replayed.UnreadableTrace) words before after = StoodUnread replayed.UnreadableTrace words before after
+Works (Replayed replayed.UnreadableVerdicts) words before after = StoodUnread replayed.UnreadableVerdicts words before after
 Works CutFault words before after = IsFault (call words before after)
 Works Put words before after = IsCutOff (call words before after)
 Works Memory words before after = IsEarly (call words before after) ⊎ IsUnfinished (call words before after)
-
-abbrev pub status_with : EndLine → ℕ
-status_with (Done a l s v) = 0
-status_with Usage = 2
-status_with (Refused r) = 3
-status_with (Malformed n row kind) = 4
-status_with (Fault stream kind time) = 5
-status_with UnreadableSpecification = 6
-status_with (UnreadableSource n) = 6
-status_with (Analysed s w) = 0
-
--- what a failed last line makes of a status
-abbrev pub status_without : EndLine → ℕ
-status_without (Done a l s v) = 7
-status_without Usage = 2
-status_without (Refused r) = 3
-status_without (Malformed n row kind) = 7
-status_without (Fault stream kind time) = 5
-status_without UnreadableSpecification = 6
-status_without (UnreadableSource n) = 6
-status_without (Analysed s w) = 7
-
--- the last line or the report was put, or a part of it, or there was no memory
-abbrev pub Concluded : ℕ → Outcome → SinkState → SinkState → Type 0
-Concluded status (Line line) old new =
-    ((status ≡ status_with line) × (new ≡ grown old (end_text line))) ⊎ (((status ≡ status_without line) × PutBroke old new (end_text line)) ⊎ ((status ≡ 8) × (new ≡ old)))
-Concluded status (Drilled line) old new =
-    ((status ≡ status_with line) × (new ≡ grown old (end_text line))) ⊎ (((status ≡ status_without line) × PutBroke old new (end_text line)) ⊎ ((status ≡ 8) × (new ≡ old)))
-Concluded status (Report text) old new = ((status ≡ 0) × (new ≡ grown old text)) ⊎ (((status ≡ 7) × PutBroke old new text) ⊎ ((status ≡ 8) × (new ≡ old)))
-Concluded status CutFault old new = (status ≡ 5) × (new ≡ old)
-Concluded status Put old new = (status ≡ 7) × (new ≡ old)
-Concluded status Memory old new = (status ≡ 8) × (new ≡ old)

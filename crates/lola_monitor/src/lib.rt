@@ -13,6 +13,7 @@ mod outcome;
 mod planning;
 mod putting;
 mod reading;
+mod replaying;
 mod sources;
 mod words;
 

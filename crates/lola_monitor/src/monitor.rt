@@ -12,11 +12,13 @@ use crate::drilling::drill;
 use crate::outcome::Outcome;
 use crate::planning::{read_plan, without_plan};
 use crate::putting::conclude;
+use crate::replaying::replay_texts;
 use crate::sources::run_sources;
 use crate::words::word_at;
-use lola_monitor_command::command::{Command, RunCommand, read_command};
+use lola_monitor_command::command::{Command, ReplayCommand, RunCommand, read_command};
 use lola_monitor_run::run_law::puts_add_up;
 use lola_port::{Gate, Shelf, Sink};
+use lola_replay::law::one_finding;
 use lola_report_lines::end::EndLine;
 use std::alloc::Global;
 use std::hash::RandomState;
@@ -72,6 +74,25 @@ fn analyse<F: Shelf>(
     }
 }
 
+// All but the last line of a replay, which puts nothing to the trace.
+fn replay<F: Shelf>(
+    alloc: Global,
+    words: &[String],
+    command: &ReplayCommand,
+    shelf: &mut F,
+) -> Outcome
+    requires out { (F.state shelf.old).out ≡ 0 }
+    requires is_replay { command_of (map string_bytes words.now) ≡ Some (Command.Replay command.now) }
+    ensures works { (out : SinkState) (trace : SinkState) → Works result (map string_bytes words.now) (outside (F.state shelf.old) out trace) (outside (F.state shelf.new) out trace) }
+    ensures asked { Asked (names_asked (map string_bytes words.now)) (F.state shelf.old) (F.state shelf.new) }
+{
+    let plan = match read_plan(alloc, shelf, word_at(words, command.specification)) {
+        Ok(plan) => plan,
+        Err(end) => return without_plan(end),
+    };
+    replay_texts(alloc, &plan, words, command, shelf)
+}
+
 // All but the last line.
 fn work<R: Threads + Wait + Sync, F: Shelf, K: Sink, T: Sink, G: Gate + Sync>(
     rt: &R,
@@ -94,6 +115,7 @@ fn work<R: Threads + Wait + Sync, F: Shelf, K: Sink, T: Sink, G: Gate + Sync>(
         }
         Ok(Some(Command::Analyse(specification))) => analyse(alloc, words, specification, shelf),
         Ok(Some(Command::Drill(command))) => drill(rt, alloc, hasher, &command, gate),
+        Ok(Some(Command::Replay(command))) => replay(alloc, words, &command, shelf),
         Ok(None) => Outcome::Line(EndLine::Usage),
         Err(_) => Outcome::Memory,
     }
@@ -111,7 +133,9 @@ fn work<R: Threads + Wait + Sync, F: Shelf, K: Sink, T: Sink, G: Gate + Sync>(
 /// analysis puts its report and end line to `out`, and nothing to `trace`. Where more than one worker is asked for, the instances
 /// of a layer are evaluated by at most as many threads, started through `rt`, which call the gate; how many there are changes nothing
 /// that is written. A drill runs two made-up sources in turns under a specification of its own; it asks the shelf for nothing, and
-/// puts its end line to `out` and nothing else.
+/// puts its end line to `out` and nothing else. A replay fetches the specification, a trace and verdicts, and puts its end line to
+/// `out` and nothing to the trace: a second evaluator says whether the two are those of one run, and if not, which line differs
+/// first.
 ///
 /// Texts and instances are looked up by hashes under the keys of `hasher`: where nobody who writes the sources knows the keys, nobody
 /// can choose rows whose texts or parameters collide. The keys change nothing that is written.
@@ -124,16 +148,17 @@ fn work<R: Threads + Wait + Sync, F: Shelf, K: Sink, T: Sink, G: Gate + Sync>(
 ///
 /// | Status | What has come, and what was left |
 /// |---|---|
-/// | 0 | all rows of all sources were taken, and each source ends well: the trace has their lines, `out` their verdicts and the end line; or the specification was analysed, or the drill was run |
+/// | 0 | all rows of all sources were taken, and each source ends well: the trace has their lines, `out` their verdicts and the end line; or the specification was analysed, or the drill was run, or the trace and the verdicts are those of a run |
+/// | 1 | the trace or the verdicts are not those of a run, and the first line that differs is told; whether or not its put fails |
 /// | 2 | the words are no command: nothing is asked or traced |
 /// | 3 | the specification was read, and is refused: nothing is traced |
 /// | 4 | all rows of all sources were taken up to their malformed lines; the least source that has one is named. Trace, verdicts and end line were put |
 /// | 5 | a row, a deadline before it, or the deadline at the last stamp has a fault; whether or not what is put to `out` from then on fails |
-/// | 6 | the specification was not given or read, and nothing is traced; or a source was not given, and no row was taken; or it could not be read, and all rows of the other sources were taken. The least of them is named |
-/// | 7 | a put failed, and no fault was met before: within a trace line, and `out` has the verdicts of all rows before it; or within the verdicts of the last row or of the deadlines at the last stamp, and the trace is whole; or within the end line of a run that is done or has a malformed source, or of an analysis or a drill |
+/// | 6 | the specification was not given or read, or the trace or the verdicts of a replay, and nothing is traced; or a source was not given, and no row was taken; or it could not be read, and all rows of the other sources were taken. The least of them is named |
+/// | 7 | a put failed, and no fault was met before: within a trace line, and `out` has the verdicts of all rows before it; or within the verdicts of the last row or of the deadlines at the last stamp, and the trace is whole; or within the end line of a run that is done or has a malformed source, or of an analysis, a drill or a replay |
 /// | 8 | there is no memory: nothing was put, or the trace has the lines of the rows that were taken, and `out` a front of their verdicts; no end line |
 ///
-/// With 2, 3, 5 and 6 the put of the end line may fail: its status stays, and `out` has a part of it.
+/// With 1, 2, 3, 5 and 6 the put of the end line may fail: its status stays, and `out` has a part of it.
 ///
 /// Of several the status tells the first of these: what stopped the run (5, 7 or 8), a source that could not be read (6), a
 /// malformed line (4).
@@ -158,6 +183,7 @@ pub fn run_monitor<R: Threads + Wait + Sync, F: Shelf, K: Sink, T: Sink, G: Gate
         (outside (F.state shelf.new) (K.state out.new) (T.state trace.new))) }
 {
     puts_add_up();
+    one_finding();
     let outcome = work(rt, alloc, hasher, words, shelf, out, trace, gate);
     conclude(alloc, outcome, out)
 }

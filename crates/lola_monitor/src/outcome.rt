@@ -1,5 +1,6 @@
 //! How a call ends before its last line is put.
 
+use lola_replay_report::end::ReplayEnd;
 use lola_report_lines::end::EndLine;
 use lola_value::front::Refusal;
 use lola_value::text::Text;
@@ -14,13 +15,14 @@ pub enum Unplanned {
     Memory,
 }
 
-/// A call ends with a line, that of a run or of a drill, or with a report and its last line, or with a fault the lines before which
-/// could not be put, or with a failed put, or for want of memory.
+/// A call ends with a line, that of a run, of a drill or of a replay, or with a report and its last line, or with a fault the lines
+/// before which could not be put, or with a failed put, or for want of memory.
 #[derive(Drop)]
 pub enum Outcome {
     Line(EndLine),
     Drilled(EndLine),
     Report(Text),
+    Replayed(ReplayEnd),
     CutFault,
     Put,
     Memory,

@@ -1,10 +1,13 @@
 //! The last line of a call, put to a sink.
 ghost use Rattle.std.specs.Prelude.{◌≡◌, ◌<◌, IfOk};
 ghost use Rattle.lola_report_lines.specs.Ends.{end_text};
-ghost use Rattle.lola_monitor.specs.Outcomes.{Concluded, status_with, status_without};
+ghost use Rattle.lola_replay_report.specs.ReplayEnds.{replay_end_text};
+ghost use Rattle.lola_monitor.specs.Conclusions.{Concluded, status_found, status_replayed, status_replayed_without, status_with, status_without};
 
 use crate::outcome::Outcome;
 use lola_port::{PutEnd, Sink};
+use lola_replay::finding::Finding;
+use lola_replay_report::end::{ReplayEnd, replay_end_line};
 use lola_report_lines::end::{EndLine, end_line};
 use lola_value::text::{Memory, Text};
 use std::alloc::Global;
@@ -57,6 +60,60 @@ fn put_report<K: Sink>(text: &Text, out: &mut K) -> u8
     }
 }
 
+// The text of the last line of a replay.
+fn replay_text(alloc: Global, end: ReplayEnd) -> Result<Text, Memory>
+    ensures { IfOk result (λ text. text ≡ replay_end_text end) }
+{
+    let mut text = Text::from_bytes(alloc, b"")?;
+    replay_end_line(end, &mut text)?;
+    Ok(text)
+}
+
+// The status that goes with what was found of a trace and verdicts.
+fn status_found(finding: Finding) -> u8
+    ensures { result ≡ status_found finding }
+{
+    match finding {
+        Finding::Same { .. } => 0,
+        Finding::TraceDiffers(_) | Finding::VerdictsDiffer(_) => 1,
+    }
+}
+
+// The status that goes with the last line of a replay.
+fn status_replayed(end: ReplayEnd) -> u8
+    ensures { result ≡ status_replayed end }
+{
+    match end {
+        ReplayEnd::Found(finding) => status_found(finding),
+        ReplayEnd::UnreadableTrace | ReplayEnd::UnreadableVerdicts => 6,
+    }
+}
+
+// The status where that line was not put whole.
+fn status_replayed_without(end: ReplayEnd) -> u8
+    ensures { result ≡ status_replayed_without end }
+{
+    match end {
+        ReplayEnd::Found(Finding::Same { .. }) => 7,
+        _ => status_replayed(end),
+    }
+}
+
+// Puts the last line of a replay, and answers the status.
+fn put_replay<K: Sink>(alloc: Global, end: ReplayEnd, out: &mut K) -> u8
+    ensures { Concluded result (Outcome.Replayed end) (K.state out.old) (K.state out.new) }
+{
+    let Ok(text) = replay_text(alloc, end) else {
+        return 8;
+    };
+    let bytes = text.as_bytes();
+    match out.put(bytes) {
+        Ok(()) => status_replayed(end),
+        Err(PutEnd::Failed) => status_replayed_without(end),
+        Err(PutEnd::Memory) => 8,
+    }
+}
+
 /// Puts the last line of a call, or its report, and answers its status.
 pub fn conclude<K: Sink>(alloc: Global, outcome: Outcome, out: &mut K) -> u8
     ensures { Concluded result outcome (K.state out.old) (K.state out.new) }
@@ -64,6 +121,7 @@ pub fn conclude<K: Sink>(alloc: Global, outcome: Outcome, out: &mut K) -> u8
     let line = match outcome {
         Outcome::Line(line) | Outcome::Drilled(line) => line,
         Outcome::Report(text) => return put_report(&text, out),
+        Outcome::Replayed(end) => return put_replay(alloc, end, out),
         Outcome::CutFault => return 5,
         Outcome::Put => return 7,
         Outcome::Memory => return 8,

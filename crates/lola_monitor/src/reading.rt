@@ -38,7 +38,7 @@ fn read_up_to<S: Source>(
     most: usize,
     bytes: &mut Vec<u8>,
 ) -> Result<(), FetchEnd>
-    requires most { most < 2 ^ 32 }
+    requires most { most < 2 ^ 63 }
     requires piece { 0 < length piece.old }
     requires none { bytes.old.items ≡ [] }
     ensures bytes { OnOk result ((all : List ℕ) → (S.state source.old).left ≡ Some all → IsReadFront most bytes.new.items all) }
@@ -57,7 +57,7 @@ fn read_up_to<S: Source>(
 
 // The same of a source, with the memory that it takes.
 fn read_all<S: Source>(alloc: Global, source: &mut S, most: usize) -> Result<Vec<u8>, FetchEnd>
-    requires { most < 2 ^ 32 }
+    requires { most < 2 ^ 63 }
     ensures bytes { IfOk result (λ bytes. (all : List ℕ) → (S.state source.old).left ≡ Some all → IsReadFront most bytes.items all) }
     ensures count { OnOk result ((S.state source.new).count ≡ (S.state source.old).count) }
     ensures failed { IsErrOf result FetchEnd.Failed → Rose (S.state source.old).count (S.state source.new).count }
@@ -79,7 +79,7 @@ pub fn read_name<F: Shelf>(
     most: usize,
 ) -> Result<Vec<u8>, FetchEnd>
     requires out { (F.state shelf.old).out < 65536 }
-    requires most { most < 2 ^ 32 }
+    requires most { most < 2 ^ 63 }
     ensures bytes { IfOk result (λ bytes. (all : List ℕ) → (F.state shelf.old).told name.now ≡ Some all → IsReadFront most bytes.items all) }
     ensures noted { OnOk result (F.state shelf.new ≡ noted (F.state shelf.old) name.now) }
     ensures failed { IsErrOf result FetchEnd.Failed → Marred name.now (F.state shelf.old) (F.state shelf.new) }

@@ -20,5 +20,5 @@ returns-clause-decided g c =
     let before = outside (g.F.Shelf.state c.args.shelf.now) (g.K.Sink.state c.args.out.now) (g.T.Sink.state c.args.trace.now) in
     let after = outside (g.F.Shelf.state c.work-outcome.new.shelf) (g.K.Sink.state c.work-outcome.new.out) (g.T.Sink.state c.work-outcome.new.trace) in
     let last = g.K.Sink.state c.conclude.new.out in
-    decided (call words before (record after { out = last })) c.conclude.result
+    decided (call words before (record after { out = last })) c.one_finding.ensures c.conclude.result
     (means_of words before after last c.puts_add_up.ensures.parts c.conclude.result c.work-outcome.result c.work-outcome.ensures.works c.conclude.ensures)
