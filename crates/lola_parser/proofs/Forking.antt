@@ -20,7 +20,7 @@ use Rattle.lola_parser.proofs.Lacks.{words, cut_more, cut_here, not_here, front_
 
 -- ---- no such bracket
 
-unfoldable forkless : {A : Type 0} → Syntax A → Bool
+unfoldable pub forkless : {A : Type 0} → Syntax A → Bool
 forkless (Past a) = true
 forkless (Token k) = true
 forkless (Nesting k) = true

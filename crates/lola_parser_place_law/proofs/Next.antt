@@ -1,5 +1,5 @@
 -- Parts of the grammar in which no bracket shows only behind its end that it is a nesting.
-use Rattle.std.proofs.Common.{◌≡◌, ℕ, suc, Bool, true, false, ◌&&◌, List, [], ◌∷◌, ◌++◌, Some, None, refl, ap, inl, inr}
+use Rattle.std.proofs.Common.{◌≡◌, ℕ, suc, true, List, [], ◌∷◌, ◌++◌, Some, None, refl, ap, inl, inr}
 use Rattle.lola_lexer.specs.declared.shape.TokenShape.TheVariants as is
 use Rattle.lola_parser_grammars_law.specs.Syntax.{Lexeme, Syntax, Past, Token, Nesting, Whole, Known, Then, Map, Either, Maybe, Many, Fork, Spells, max_nestings}
 use Rattle.lola_parser_grammars_law.specs.Exceeding.{ExceedsAmong}
@@ -7,20 +7,7 @@ use Rattle.lola_parser_limit_law.specs.Late.{IsNestingBehind, IsNextBehindBracke
 use Rattle.lola_parser_limit_law.proofs.Keeps.{nesting_spells}
 use Rattle.lola_parser_grammar.specs.Grammar as g
 use Rattle.lola_parser_grammar.specs.Grammar.{all_nestings}
-use Rattle.lola_parser.proofs.Forking.{never}
-
-unfoldable pub forkless : {A : Type 0} → Syntax A → Bool
-forkless (Past a) = true
-forkless (Token k) = true
-forkless (Nesting k) = true
-forkless (Whole a) = true
-forkless (Known fs ms a) = forkless a
-forkless (Then a b) = forkless a && forkless b
-forkless (Map f a) = forkless a
-forkless (Either a b) = forkless a && forkless b
-forkless (Maybe a) = forkless a
-forkless (Many a) = forkless a
-forkless (Fork ks a b c) = false
+use Rattle.lola_parser.proofs.Forking.{forkless, never}
 
 abbrev pub Never : {A : Type 0} → Syntax A → Type 0
 Never {A} s = (u : List Lexeme) (t : Lexeme) (v : List Lexeme) (x : A) → IsNextBehindBracket all_nestings s u t v x → ⊥
