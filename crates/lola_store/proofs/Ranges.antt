@@ -1,6 +1,7 @@
 -- The least, the greatest and the mean of numbers of a kind are of that kind.
-use Rattle.std.proofs.Common.{ℕ, zero, suc, ◌+◌, ◌*◌, ◌≤◌, ◌<◌, List, [], ◌∷◌, length, map, refl, arith, ℤ, pos, true, false, IsTrue, int_le, int_div, if◌then◌else◌, nat_lt, get_or}
+use Rattle.std.proofs.Common.{ℕ, zero, suc, ◌+◌, ◌*◌, ◌/◌, ◌≤◌, ◌<◌, List, [], ◌∷◌, length, map, refl, arith, ℤ, pos, negsuc, ◌+ℤ◌, ◌≤ℤ◌, true, false, IsTrue, int_le, int_div, if◌then◌else◌, nat_lt, get_or}
 use Rattle.std.proofs.lemmas.Int.{ints}
+use Rattle.std.proofs.Math.Nat.{div-le_of_le-mul}
 use Rattle.lola_model.specs.Windows.{total, lesser, greater, least_of, greatest_of}
 use Rattle.lola_value.specs.declared.value.Kind.{Kind}
 use Rattle.lola_value.specs.declared.value.Kind.TheVariants as kind
@@ -10,7 +11,6 @@ use Rattle.lola_value.specs.Arithmetic.{is_within}
 use Rattle.lola_value.specs.Kinds.{is_of_kind}
 use Rattle.lola_store.specs.declared.tally.Timed.{Timed}
 use Rattle.lola_store.specs.Tallies.{number_in, inside, AllOf, AllSmall, IsSmall}
-use Rattle.lola_panes.proofs.Ranges.{IsBetween, quotient_between}
 
 -- all these numbers are within a kind
 abbrev pub AllWithin : Kind → List ℤ → Type 0
@@ -51,6 +51,9 @@ above kind.UInt32 = 4294967295
 above kind.UInt64 = 18446744073709551615
 above _ = 0
 
+IsBetween : ℕ → ℕ → ℤ → Type 0
+IsBetween l h z = (pos 0 ≤ℤ (z +ℤ pos l)) × (z ≤ℤ pos h)
+
 to_between : (k : Kind) (z : ℤ) → IsTrue (is_within k z) → IsBetween (below k) (above k) z
 unfolding below above IsBetween
 to_between kind.Bool z h = grind (arith, ints)
@@ -84,6 +87,17 @@ total_between k (z ∷ zs) h =
     let on = total_between k zs h.1 in
     let a = to_between k z h.0 in
     (omega (arith, ints, on.0, a.0), omega (arith, ints, on.1, a.1))
+
+quotient_between : (l h n : ℕ) (z : ℤ) → 1 ≤ n → IsBetween (n * l) (n * h) z → IsBetween l h (int_div z (pos n))
+unfolding IsBetween
+quotient_between l h n (pos a) g b =
+    let u : a ≤ n * h = omega (arith, ints, b.1) in
+    let q : a / n ≤ h = div-le_of_le-mul n u in
+    (omega (arith, ints), omega (arith, ints, q))
+quotient_between l h n (negsuc a) g b =
+    let u : suc a ≤ n * l = omega (arith, ints, b.0) in
+    let q : suc a / n ≤ l = div-le_of_le-mul n u in
+    (omega (arith, ints, q), omega (arith, ints, q))
 
 pub mean_within : (k : Kind) (z : ℤ) (zs : List ℤ) → AllWithin k (z ∷ zs) → IsTrue (is_within k (int_div (total (z ∷ zs)) (pos (length (z ∷ zs)))))
 mean_within k z zs h =
