@@ -1,0 +1,9 @@
+pub mod Views
+pub mod Items
+pub mod QueueSteps
+pub mod WordSteps
+pub mod Telling
+pub mod Mirroring
+pub mod Taking
+pub mod Seating
+pub mod Finishing
