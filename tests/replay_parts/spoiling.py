@@ -75,8 +75,9 @@ def of_entry(line: bytes) -> Iterator[Spoilt]:
 def of_fields(line: bytes) -> Iterator[Spoilt]:
     """Lines with fields that no specification has: one too many, and one that is not spelled as a trace has it."""
     yield Spoilt("one field more", [line[:-1] + b",1\n"], [1])
-    if line.count(b",") > 3:
-        yield Spoilt("a blank behind the last field", [line[:-1] + b" \n"], [1])
+    last = line[:-1].rpartition(b",")[2]
+    if line.count(b",") > 3 and last.isalnum():
+        yield Spoilt("quotes about the last field", [line[:-1 - len(last)] + b'"' + last + b'"\n'], [1])
 
 
 def spoilt_traces(lines: Sequence[bytes], maker: random.Random) -> Iterator[Spoilt]:
