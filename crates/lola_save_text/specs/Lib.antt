@@ -1,0 +1,10 @@
+pub mod States
+pub mod Forms
+pub mod Lines
+pub mod Fitting
+pub mod Validity
+pub mod Damage
+pub mod Places
+pub mod Runs
+pub mod Heads
+pub mod Reads
