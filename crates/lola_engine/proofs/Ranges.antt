@@ -3,13 +3,12 @@ use Rattle.std.proofs.Common.{◌≡◌, refl, ap, sym, subst, ◌∙◌, ℕ, z
 use Rattle.std.proofs.lemmas.Slice.Zip.{AllZip-long}
 use Rattle.std.specs.List.{AllZip, filter}
 use Rattle.lola_value.specs.declared.text.Field.{Field}
-use Rattle.lola_value.specs.declared.value.Kind.TheVariants as kind
 use Rattle.lola_value.specs.declared.value.TextId.{TextId}
 use Rattle.lola_value.specs.Times.{latest}
 use Rattle.lola_clock.specs.Clock.{ClockState}
 use Rattle.lola_model.specs.Steps.{rates_of}
 use Rattle.lola_model.specs.Acceptance.{IsAccepted}
-use Rattle.lola_model.specs.Model.{is_input, most_instances}
+use Rattle.lola_model.specs.Model.{is_input, most_instances, filled_kind}
 use Rattle.lola_model.specs.Store.{Seen, SeenInstance, after_start, instances_of, layout_of, layouts_from, new_seen, newborn_seen, no_params, opened, time_seen}
 use Rattle.lola_model.specs.Trace.{IsFieldOf, input_kinds}
 use Rattle.lola_model.specs.declared.pacing.ClausePacings.{ClausePacings}
@@ -35,7 +34,7 @@ kinds_are_inputs [] = refl
 kinds_are_inputs (s ∷ ss) = go (is_input s) (kinds_are_inputs ss)
   where
     go : (b : Bool) → length (input_kinds ss) ≡ length (filter is_input ss)
-        → length (if b then unwrap_or s.kind kind.Int64 ∷ input_kinds ss else input_kinds ss) ≡ length (cond b (s ∷ filter is_input ss) (filter is_input ss))
+        → length (if b then filled_kind s ∷ input_kinds ss else input_kinds ss) ≡ length (cond b (s ∷ filter is_input ss) (filter is_input ss))
     go true e = ap suc e
     go false e = e
 

@@ -6,7 +6,6 @@ use Rattle.std.proofs.lemmas.Bool.{cases_Bool}
 use Rattle.std.proofs.lemmas.List.{take_more}
 use Rattle.lola_value.specs.declared.text.Field.{Field}
 use Rattle.lola_value.specs.declared.value.Kind.{Kind}
-use Rattle.lola_value.specs.declared.value.Kind.TheVariants as kind
 use Rattle.lola_value.specs.declared.value.Outcome.{Outcome}
 use Rattle.lola_value.specs.declared.text.Field.TheVariants as field
 use Rattle.lola_value.specs.declared.value.Outcome.TheVariants as outcome
@@ -14,7 +13,7 @@ use Rattle.lola_value.specs.declared.value.TextId.{TextId}
 use Rattle.lola_value.specs.declared.value.Value.TheVariants as value
 use Rattle.lola_value.specs.Answer.{Given}
 use Rattle.lola_value.specs.Naming.{Naming, text_at, the_text}
-use Rattle.lola_model.specs.Model.{is_input}
+use Rattle.lola_model.specs.Model.{is_input, filled_kind}
 use Rattle.lola_model.specs.Reading.{IsHeldBy}
 use Rattle.lola_model.specs.Trace.{IsFieldOf, input_kinds}
 use Rattle.lola_model.specs.declared.spec.Stream.{Stream}
@@ -63,11 +62,11 @@ read-as names (o ∷ os) (f ∷ fs) all = (all.0.reads, all.0.held, read-as name
 
 -- an input's outcome, and those behind it
 begins : (names : Naming) (s : Stream) (ks : List Kind) (others : List Outcome → Type 0) → ((os : List Outcome) (fs : List Field) → AllZip IsFieldOf ks fs → AreOutcomesOf names os fs → others os)
-    → (os : List Outcome) (fs : List Field) → AllZip IsFieldOf (unwrap_or s.kind kind.Int64 ∷ ks) fs → AreOutcomesOf names os fs → BeginsWith true s others os
+    → (os : List Outcome) (fs : List Field) → AllZip IsFieldOf (filled_kind s ∷ ks) fs → AreOutcomesOf names os fs → BeginsWith true s others os
 begins names s ks others next [] [] kinds all = absurd kinds
 begins names s ks others next [] (f ∷ fs) kinds all = absurd all
 begins names s ks others next (o ∷ os) [] kinds all = absurd all
-begins names s ks others next (o ∷ os) (f ∷ fs) kinds all = (all.0.kind (unwrap_or s.kind kind.Int64) kinds.0, next os fs kinds.1 all.1)
+begins names s ks others next (o ∷ os) (f ∷ fs) kinds all = (all.0.kind (filled_kind s) kinds.0, next os fs kinds.1 all.1)
 
 -- and are of the inputs' kinds
 pub of-inputs : (names : Naming) (ss : List Stream) (os : List Outcome) (fs : List Field) → AllZip IsFieldOf (input_kinds ss) fs → AreOutcomesOf names os fs → AreOfInputs ss os

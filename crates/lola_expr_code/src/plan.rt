@@ -15,11 +15,11 @@ use std::snapshot::Snapshot;
 
 /// The instructions of an expression. Contracts see these, from the first to the last.
 #[derive(Drop)]
-pub struct Code {
+pub struct ExprCode {
     instrs: Vec<Instr>,
 }
 
-impl Model for Code {
+impl Model for ExprCode {
     ghost use Rattle.std.specs.Prelude.{List};
     ghost use Rattle.lola_expr_code.specs.declared.instr.Instr.{Instr};
 
@@ -28,7 +28,7 @@ impl Model for Code {
     ghost view = { λ c. c.instrs.items };
 }
 
-impl Code {
+impl ExprCode {
     /// The instructions.
     pub fn as_slice(&self) -> &[Instr]
         ensures { result.now ≡ self.now }
@@ -40,20 +40,20 @@ impl Code {
 /// The code of what an eval clause asks: of its condition, and of its value. None stands where there is no expression.
 #[derive(Drop)]
 pub struct EvalCode {
-    pub when: Option<Code>,
-    pub with: Option<Code>,
+    pub when: Option<ExprCode>,
+    pub with: Option<ExprCode>,
 }
 
 // The code of an expression.
-fn code_for(alloc: Global, expr: &Expr) -> Result<Code, Memory>
+fn code_for(alloc: Global, expr: &Expr) -> Result<ExprCode, Memory>
     ensures { IfOk result (λ code. code ≡ code_of expr.now) }
 {
     let instrs = compile(alloc, expr)?;
-    Ok(Code { instrs })
+    Ok(ExprCode { instrs })
 }
 
 // The code of a condition, if there is one.
-fn when_code(alloc: Global, when: &Option<Expr>) -> Result<Option<Code>, Memory>
+fn when_code(alloc: Global, when: &Option<Expr>) -> Result<Option<ExprCode>, Memory>
     ensures { IfOk result (IsCodeOf when.now) }
 {
     match when {
@@ -63,7 +63,7 @@ fn when_code(alloc: Global, when: &Option<Expr>) -> Result<Option<Code>, Memory>
 }
 
 // The code of the first of these expressions, if there is one.
-fn first_code(alloc: Global, exprs: &[Expr]) -> Result<Option<Code>, Memory>
+fn first_code(alloc: Global, exprs: &[Expr]) -> Result<Option<ExprCode>, Memory>
     ensures { IfOk result (IsCodeOf (first_of exprs.now)) }
 {
     match exprs.split_first() {

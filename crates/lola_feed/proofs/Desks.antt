@@ -5,8 +5,8 @@ use Rattle.lola_merge.specs.declared.state.Offer.{Offer}
 use Rattle.lola_merge.specs.declared.state.Offer.TheVariants as reply
 use Rattle.lola_merge.specs.Merging.{Merging, offer_reply, replied, sources_of}
 use Rattle.lola_feed.specs.Feeding.{StateIs, Turns, Working, finishes_at, offers_at}
-use Rattle.lola_feed.specs.declared.worker.Turn.{Turn}
-use Rattle.lola_feed.specs.declared.worker.Turn.TheVariants as turn
+use Rattle.lola_feed.specs.declared.worker.TurnEnd.{TurnEnd}
+use Rattle.lola_feed.specs.declared.worker.TurnEnd.TheVariants as turn
 
 replied-sources : (m : Merging) (row : Row) (r : Offer) → sources_of (replied m row r) ≡ sources_of m
 replied-sources m row reply.Accepted = refl
@@ -20,7 +20,7 @@ offered-sources row r old new o = ap (λ (d : StateIs). sources_of d.merging) o.
 finished-sources : (old new : StateIs) → finishes_at old new → sources_of new.merging ≡ sources_of old.merging
 finished-sources old new f = ap (λ (d : StateIs). sources_of d.merging) f ∙ length-set old.merging.finished old.source true
 
-pub turn-sources : (t : Turn) (d0 d1 : StateIs) (old new : Working) → Turns offers_at finishes_at d0 d1 t old new → sources_of d1.merging ≡ sources_of d0.merging
+pub turn-sources : (t : TurnEnd) (d0 d1 : StateIs) (old new : Working) → Turns offers_at finishes_at d0 d1 t old new → sources_of d1.merging ≡ sources_of d0.merging
 turn-sources turn.Moved d0 d1 old new t = offered-sources t.1.0 t.1.1 d0 d1 t.1.2.offered
 turn-sources turn.Full d0 d1 old new t = offered-sources t.1.0 _ d0 d1 t.1.1.offered
 turn-sources (turn.Done end) d0 d1 old new (inl rests) = ap (λ (d : StateIs). sources_of d.merging) rests.desk

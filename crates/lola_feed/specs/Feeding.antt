@@ -14,8 +14,8 @@ use Rattle.lola_merge.specs.declared.state.Offer.{Offer}
 use Rattle.lola_merge.specs.declared.state.Offer.TheVariants as reply
 use Rattle.lola_feed.specs.declared.worker.SourceEnd.{SourceEnd}
 use Rattle.lola_feed.specs.declared.worker.SourceEnd.TheVariants.{End, Malformed, ReadFailed, Closed, Memory}
-use Rattle.lola_feed.specs.declared.worker.Turn.{Turn}
-use Rattle.lola_feed.specs.declared.worker.Turn.TheVariants as turn
+use Rattle.lola_feed.specs.declared.worker.TurnEnd.{TurnEnd}
+use Rattle.lola_feed.specs.declared.worker.TurnEnd.TheVariants as turn
 
 -- a row that comes back is the one that was offered
 abbrev pub IsBack : Row → Offer → Type 0
@@ -110,7 +110,7 @@ NextRow (Ok row) old new = IsNext row old new.reader × (new.kept ≡ None) × (
 NextRow (Err end) old new = (how : Ending) × (end ≡ end_of how) × (old.kept ≡ None) × Stops how old.reader new.reader × (new.kept ≡ None) × (new.end ≡ Some end)
 
 -- what became of a row that was offered, by the answer of the turn
-abbrev pub Offers : {D : Type 0} → (Row → Offer → D → D → Type 0) → Row → D → D → Turn → Working → Type 0
+abbrev pub Offers : {D : Type 0} → (Row → Offer → D → D → Type 0) → Row → D → D → TurnEnd → Working → Type 0
 Offers offers row d0 d1 turn.Moved new = (r : Offer) × IsLetIn r × offers row r d0 d1 × (new.kept ≡ None) × (new.end ≡ None)
 Offers offers row d0 d1 turn.Full new = offers row (reply.Full row) d0 d1 × (new.kept ≡ Some row) × (new.end ≡ None)
 Offers offers row d0 d1 (turn.Done end) new = (end ≡ Closed) × offers row (reply.Closed row) d0 d1 × (new.kept ≡ None) × (new.end ≡ Some end)
@@ -160,7 +160,7 @@ module _ {D : Type 0} (offers : Row → Offer → D → D → Type 0) (finishes 
     pub desk : d1 ≡ d0
 
   -- a turn, by its answer
-  abbrev pub Turns : Turn → Working → Working → Type 0
+  abbrev pub Turns : TurnEnd → Working → Working → Type 0
   Turns turn.Moved old new = (old.end ≡ None) × ((row : Row) × (r : Offer) × Moves row r old new)
   Turns turn.Full old new = (old.end ≡ None) × ((row : Row) × Waits row old new)
   Turns (turn.Done end) old new =

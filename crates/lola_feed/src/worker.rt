@@ -29,7 +29,7 @@ pub enum SourceEnd {
 
 /// What a turn did.
 #[derive(Clone, Copy, Debug, PartialEq, Eq)]
-pub enum Turn {
+pub enum TurnEnd {
     /// A row was let in.
     Moved,
     /// There was no room for a row, which is offered again by the next turn.
@@ -167,20 +167,20 @@ impl<S: Source> SourceWorker<S> {
 
     /// Reads a row, or takes the one that waits, and offers it; where there is none, tells the desk so. It calls the
     /// desk once at most, and not at all once it has ended.
-    pub fn turn<D: Desk>(&mut self, desk: &mut D) -> Turn
+    pub fn turn<D: Desk>(&mut self, desk: &mut D) -> TurnEnd
         requires { self.old.reader.shape.index ≡ D.source desk.old }
         ensures turns { Turns D.offers D.finishes desk.old desk.new result self.old self.new }
         ensures kept { Keeps self.old.reader self.new.reader }
         ensures source { D.source desk.new ≡ D.source desk.old }
     {
         if let Some(end) = self.end {
-            return Turn::Done(end);
+            return TurnEnd::Done(end);
         }
         match self.next_row() {
             Ok(row) => self.offer(row, desk),
             Err(end) => {
                 tell_end(desk);
-                Turn::Done(end)
+                TurnEnd::Done(end)
             }
         }
     }
@@ -206,7 +206,7 @@ impl<S: Source> SourceWorker<S> {
     }
 
     // Offers a row; where there is no room it waits.
-    fn offer<D: Desk>(&mut self, row: Row, desk: &mut D) -> Turn
+    fn offer<D: Desk>(&mut self, row: Row, desk: &mut D) -> TurnEnd
         requires source { row.source ≡ D.source desk.old }
         requires kept { self.old.kept ≡ None }
         requires end { self.old.end ≡ None }
@@ -217,14 +217,14 @@ impl<S: Source> SourceWorker<S> {
         ensures source { D.source desk.new ≡ D.source desk.old }
     {
         match desk.offer(row) {
-            Offer::Accepted | Offer::Late(_) => Turn::Moved,
+            Offer::Accepted | Offer::Late(_) => TurnEnd::Moved,
             Offer::Full(row) => {
                 self.keep(row);
-                Turn::Full
+                TurnEnd::Full
             }
             Offer::Closed(_) => {
                 self.end = Some(SourceEnd::Closed);
-                Turn::Done(SourceEnd::Closed)
+                TurnEnd::Done(SourceEnd::Closed)
             }
         }
     }

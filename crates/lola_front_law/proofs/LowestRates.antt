@@ -11,8 +11,8 @@ use Rattle.lola_parser_tree.specs.declared.declarations.Declaration.TheVariants 
 use Rattle.lola_model.specs.Model.{is_input}
 use Rattle.lola_model.specs.Named.{has_clause}
 use Rattle.lola_model.specs.PacingFound.{given_rate, given_local, IsGivenEvent, IsGiven, IsWritten, IsWrittenIn, IsOwn, AreOwn, finding_at, inputs_with}
-use Rattle.lola_model.specs.declared.finding.Finding.{Finding}
-use Rattle.lola_model.specs.declared.finding.Finding.TheVariants.{Paced, Refused, Unpaced}
+use Rattle.lola_model.specs.declared.finding.FoundPacing.{FoundPacing}
+use Rattle.lola_model.specs.declared.finding.FoundPacing.TheVariants.{Paced, Refused, Unpaced}
 use Rattle.lola_model.specs.declared.pacing.Pacing.TheVariants.{Event, Periodic, Local}
 use Rattle.lola_model.specs.declared.spec.Clause.{Clause}
 use Rattle.lola_model.specs.declared.spec.Formula.{Formula}
@@ -48,32 +48,32 @@ local_lowest spawned at rate.TooFast = tt
 local_lowest true at (rate.Of q) = tt
 local_lowest false at (rate.Of q) = tt
 
-event_lowest : (at : ℕ) (x : Formula) (k : Finding) → IsGivenEvent at x k → HasLowestRate k
+event_lowest : (at : ℕ) (x : Formula) (k : FoundPacing) → IsGivenEvent at x k → HasLowestRate k
 event_lowest at x (Paced (Event sets)) h = tt
 event_lowest at x (Paced (Periodic q)) h = absurd h
 event_lowest at x (Paced (Local q)) h = absurd h
 event_lowest at x (Refused q) h = tt
 event_lowest at x Unpaced h = absurd h
 
-pace_lowest : (spawned : Bool) (p : Pace) (k : Finding) → IsLowestPace (Some p) → IsGiven spawned p k → HasLowestRate k
+pace_lowest : (spawned : Bool) (p : Pace) (k : FoundPacing) → IsLowestPace (Some p) → IsGiven spawned p k → HasLowestRate k
 pace_lowest spawned (pace.Event at x) k low h = event_lowest at x k h
 pace_lowest spawned (pace.Rate at w) k low h = subst HasLowestRate (sym h) (given_lowest at w low)
 pace_lowest spawned (pace.Global at w) k low h = subst HasLowestRate (sym h) (given_lowest at w low)
 pace_lowest spawned (pace.Local at w) k low h = subst HasLowestRate (sym h) (local_lowest spawned at w)
 
-written_lowest : (spawned : Bool) (p : Option Pace) (k : Finding) → IsLowestPace p → IsWritten spawned p k → HasLowestRate k
+written_lowest : (spawned : Bool) (p : Option Pace) (k : FoundPacing) → IsLowestPace p → IsWritten spawned p k → HasLowestRate k
 written_lowest spawned None k low h = subst HasLowestRate (sym h) tt
 written_lowest spawned (Some p) k low h = pace_lowest spawned p k low h
 
-clause_lowest : (spawned : Bool) (c : Option Clause) (k : Finding) → IsLowestClause c → IsWrittenIn spawned c k → HasLowestRate k
+clause_lowest : (spawned : Bool) (c : Option Clause) (k : FoundPacing) → IsLowestClause c → IsWrittenIn spawned c k → HasLowestRate k
 clause_lowest spawned None k low h = subst HasLowestRate (sym h) tt
 clause_lowest spawned (Some c) k low h = written_lowest spawned c.pace k low h
 
-own_lowest : (i : ℕ) (s : Stream) (k : Finding) → IsLowestClause s.eval → IsOwn i s k → HasLowestRate k
+own_lowest : (i : ℕ) (s : Stream) (k : FoundPacing) → IsLowestClause s.eval → IsOwn i s k → HasLowestRate k
 own_lowest i s k low h =
     on_both (is_input s) _ _ _ _ h h (λ p q. subst HasLowestRate (sym p) tt) (λ p q. clause_lowest (has_clause s.spawn) s.eval k low p)
 
-pub owns_lowest : (i : ℕ) (ss : List Stream) (ks : List Finding) (n : ℕ) → AreLowest ss → AreOwn i ss ks → HasLowestRate (finding_at ks n)
+pub owns_lowest : (i : ℕ) (ss : List Stream) (ks : List FoundPacing) (n : ℕ) → AreLowest ss → AreOwn i ss ks → HasLowestRate (finding_at ks n)
 owns_lowest i [] [] n low h = tt
 owns_lowest i (s ∷ ss) (k ∷ ks) zero low h = own_lowest i s k low.0 h.0
 owns_lowest i (s ∷ ss) (k ∷ ks) (suc n) low h = owns_lowest (inputs_with i s) ss ks n low.1 h.1

@@ -10,8 +10,8 @@ use Rattle.lola_model.specs.PacingRefused.{refusal_where, not_implied, is_filter
 use Rattle.lola_model.specs.Pacings.{AreVerdicts, Found, IsCloseFound, IsEvalFound, IsSpawnFound, InStep, finding_of_part, pacing_of, pacings_from, refusals_from, refusals_of, stream_refusals}
 use Rattle.lola_model.specs.Parts.{listed_clause}
 use Rattle.lola_model.specs.WindowVerdicts.{IsRateVerdict, IsVerdict}
-use Rattle.lola_model.specs.declared.finding.Finding.{Finding}
-use Rattle.lola_model.specs.declared.finding.Finding.TheVariants.{Paced, Refused, Unpaced}
+use Rattle.lola_model.specs.declared.finding.FoundPacing.{FoundPacing}
+use Rattle.lola_model.specs.declared.finding.FoundPacing.TheVariants.{Paced, Refused, Unpaced}
 use Rattle.lola_model.specs.declared.pacing.ClausePacings.{ClausePacings}
 use Rattle.lola_model.specs.declared.pacing.Pacing.TheVariants.{Event, Periodic, Local}
 use Rattle.lola_model.specs.declared.spec.Clause.{Clause}
@@ -44,14 +44,14 @@ one_rate_verdict r over (Some code.WindowTooFine) (Some code.WindowTooFine) a b 
 one_rate_verdict r over (Some code.WindowTooFine) _ a b = absurd b
 one_rate_verdict r over _ u a b = absurd a
 
-one_verdict : (f : Finding) (over : ℕ) (v u : Option Code) → IsVerdict f over v → IsVerdict f over u → v ≡ u
+one_verdict : (f : FoundPacing) (over : ℕ) (v u : Option Code) → IsVerdict f over v → IsVerdict f over u → v ≡ u
 one_verdict (Paced (Event sets)) over v u a b = a ∙ sym b
 one_verdict (Paced (Periodic r)) over v u a b = one_rate_verdict r over v u a b
 one_verdict (Paced (Local r)) over v u a b = a ∙ sym b
 one_verdict (Refused r) over v u a b = a ∙ sym b
 one_verdict Unpaced over v u a b = a ∙ sym b
 
-module _ (spawns evals closes : List Finding) where
+module _ (spawns evals closes : List FoundPacing) where
   -- of a window, if there is one of that number
   abbrev IsVerdictOf : Option WindowSpec → Option Code → Type 0
   IsVerdictOf None v = v ≡ None
@@ -84,9 +84,9 @@ filtered_at ws us (a ∷ as') (b ∷ bs) (suc n) h = filtered_at ws us as' bs n 
 filtered_at ws us [] (b ∷ bs) n h = absurd h
 filtered_at ws us (a ∷ as') [] n h = absurd h
 
-module _ (ws us : List WindowSpec) (all others : List Stream) (same : PacedStreams ws us all others) (spawns evals closes : List Finding) (vs os : List (Option Code))
+module _ (ws us : List WindowSpec) (all others : List Stream) (same : PacedStreams ws us all others) (spawns evals closes : List FoundPacing) (vs os : List (Option Code))
     (verdicts : AreVerdicts spawns evals closes ws vs) (later : AreVerdicts spawns evals closes us os) where
-  use_refused : (own : Finding) (u w : Use) → SameUse ws us u w → use_refusals all evals vs own u ≡ use_refusals others evals os own w
+  use_refused : (own : FoundPacing) (u w : Use) → SameUse ws us u w → use_refusals all evals vs own u ≡ use_refusals others evals os own w
   use_refused own (OfStream at n) (OfStream by m) h =
       both _ _ _ _ (two (λ (p k : ℕ). not_implied own (finding_at evals k) p) at by n m h.0 h.1)
       (two (λ (b : Bool) (p : ℕ). refusal_where b code.DirectToFiltered p) (is_filtered (slice_get all n)) (is_filtered (slice_get others m)) at by
@@ -95,12 +95,12 @@ module _ (ws us : List WindowSpec) (all others : List Stream) (same : PacedStrea
       two (λ (o : Option Code) (p : ℕ). verdict_refusal o p) _ _ at by (same_verdict spawns evals closes ws us vs os i j h.1 verdicts later) h.0
   use_refused own _ _ h = absurd h
 
-  uses_refused : (own : Finding) (xs ys : List Use) → SameUses ws us xs ys → flat_map (use_refusals all evals vs own) xs ≡ flat_map (use_refusals others evals os own) ys
+  uses_refused : (own : FoundPacing) (xs ys : List Use) → SameUses ws us xs ys → flat_map (use_refusals all evals vs own) xs ≡ flat_map (use_refusals others evals os own) ys
   uses_refused own [] [] h = refl
   uses_refused own (x ∷ xs) (y ∷ ys) h = both _ _ _ _ (use_refused own x y h.0) (uses_refused own xs ys h.1)
   uses_refused own _ _ h = absurd h
 
-  clause_refused : (own : Finding) (c d : Option Clause) → PacedClauses ws us c d → clause_refusals all evals vs own c ≡ clause_refusals others evals os own d
+  clause_refused : (own : FoundPacing) (c d : Option Clause) → PacedClauses ws us c d → clause_refusals all evals vs own c ≡ clause_refusals others evals os own d
   clause_refused own c d h = ap (λ (rs : List Refusal). finding_refusal own ++ rs) (uses_refused own (listed_clause used c) (listed_clause used d) (uses_same ws us c d h))
 
   stream_refused : (n : ℕ) (a b : Stream) → PacedStream ws us a b → stream_refusals all spawns evals closes vs n a ≡ stream_refusals others spawns evals closes os n b
@@ -116,10 +116,10 @@ module _ (ws us : List WindowSpec) (all others : List Stream) (same : PacedStrea
 
 -- ---- the pacings
 
-abbrev three_of : (spawns evals closes : List Finding) (n : ℕ) → ClausePacings
+abbrev three_of : (spawns evals closes : List FoundPacing) (n : ℕ) → ClausePacings
 three_of spawns evals closes n = record { spawn = pacing_of (finding_at spawns n); eval = pacing_of (finding_at evals n); close = pacing_of (finding_at closes n) }
 
-pacings_same : (ws us : List WindowSpec) (spawns evals closes : List Finding) (n : ℕ) (as' bs : List Stream) → PacedStreams ws us as' bs
+pacings_same : (ws us : List WindowSpec) (spawns evals closes : List FoundPacing) (n : ℕ) (as' bs : List Stream) → PacedStreams ws us as' bs
     → pacings_from spawns evals closes n as' ≡ pacings_from spawns evals closes n bs
 pacings_same ws us spawns evals closes n [] [] h = refl
 pacings_same ws us spawns evals closes n (a ∷ as') (b ∷ bs) h = ap (λ (ps : List ClausePacings). three_of spawns evals closes n ∷ ps) (pacings_same ws us spawns evals closes (n + 1) as' bs h.1)
@@ -135,31 +135,31 @@ module _ (x y : Spec) (same : PacedStreams x.windows y.windows x.streams y.strea
   same_spawns : f.spawns ≡ g.spawns
   same_spawns =
       one_spawns x.windows y.windows x.streams y.streams same g.owns low f.spawns g.spawns
-      (subst (λ (os : List Finding). InStep (IsSpawnFound x.streams os) 0 x.streams f.spawns) same_owns f.are.are_spawns) g.are.are_spawns
+      (subst (λ (os : List FoundPacing). InStep (IsSpawnFound x.streams os) 0 x.streams f.spawns) same_owns f.are.are_spawns) g.are.are_spawns
 
   same_evals : f.evals ≡ g.evals
   same_evals =
       one_evals x.windows y.windows x.streams y.streams same g.owns low f.evals g.evals
-      (subst (λ (os : List Finding). InStep (IsEvalFound x.streams os) 0 x.streams f.evals) same_owns f.are.are_evals) g.are.are_evals
+      (subst (λ (os : List FoundPacing). InStep (IsEvalFound x.streams os) 0 x.streams f.evals) same_owns f.are.are_evals) g.are.are_evals
 
   same_closes : f.closes ≡ g.closes
   same_closes =
-      let moved = subst (λ (os : List Finding). InStep (IsCloseFound x.streams os f.evals) 0 x.streams f.closes) same_owns f.are.are_closes in
+      let moved = subst (λ (os : List FoundPacing). InStep (IsCloseFound x.streams os f.evals) 0 x.streams f.closes) same_owns f.are.are_closes in
       one_closes x.windows y.windows x.streams y.streams same g.owns low g.evals f.closes g.closes
-      (subst (λ (es : List Finding). InStep (IsCloseFound x.streams g.owns es) 0 x.streams f.closes) same_evals moved) g.are.are_closes
+      (subst (λ (es : List FoundPacing). InStep (IsCloseFound x.streams g.owns es) 0 x.streams f.closes) same_evals moved) g.are.are_closes
 
   moved_verdicts : AreVerdicts g.spawns g.evals g.closes x.windows f.verdicts
   moved_verdicts =
-      let spawns = subst (λ (fs : List Finding). AreVerdicts fs f.evals f.closes x.windows f.verdicts) same_spawns f.are.are_verdicts in
-      let evals = subst (λ (fs : List Finding). AreVerdicts g.spawns fs f.closes x.windows f.verdicts) same_evals spawns in
-      subst (λ (fs : List Finding). AreVerdicts g.spawns g.evals fs x.windows f.verdicts) same_closes evals
+      let spawns = subst (λ (fs : List FoundPacing). AreVerdicts fs f.evals f.closes x.windows f.verdicts) same_spawns f.are.are_verdicts in
+      let evals = subst (λ (fs : List FoundPacing). AreVerdicts g.spawns fs f.closes x.windows f.verdicts) same_evals spawns in
+      subst (λ (fs : List FoundPacing). AreVerdicts g.spawns g.evals fs x.windows f.verdicts) same_closes evals
 
   pub same_refusals : refusals_of x f ≡ refusals_of y g
   same_refusals =
-      three (λ (ss es cs : List Finding). refusals_from x.streams ss es cs f.verdicts 0 x.streams) _ _ _ _ _ _ same_spawns same_evals same_closes
+      three (λ (ss es cs : List FoundPacing). refusals_from x.streams ss es cs f.verdicts 0 x.streams) _ _ _ _ _ _ same_spawns same_evals same_closes
       ∙ streams_refused x.windows y.windows x.streams y.streams same g.spawns g.evals g.closes f.verdicts g.verdicts moved_verdicts g.are.are_verdicts 0 x.streams y.streams same
 
   pub same_pacings : pacings_from f.spawns f.evals f.closes 0 x.streams ≡ pacings_from g.spawns g.evals g.closes 0 y.streams
   same_pacings =
-      three (λ (ss es cs : List Finding). pacings_from ss es cs 0 x.streams) _ _ _ _ _ _ same_spawns same_evals same_closes
+      three (λ (ss es cs : List FoundPacing). pacings_from ss es cs 0 x.streams) _ _ _ _ _ _ same_spawns same_evals same_closes
       ∙ pacings_same x.windows y.windows g.spawns g.evals g.closes 0 x.streams y.streams same

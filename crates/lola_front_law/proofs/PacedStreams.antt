@@ -8,7 +8,7 @@ use Rattle.lola_model.specs.PacingFound.{no_pacing, input_finding, IsWritten, Is
 use Rattle.lola_model.specs.PacingRefused.{used}
 use Rattle.lola_model.specs.Pacings.{InStep, place_of, IsPaceFound, IsClauseFound, IsEvalFound, IsSpawnFound, IsCloseFound}
 use Rattle.lola_model.specs.Parts.{listed_clause}
-use Rattle.lola_model.specs.declared.finding.Finding.{Finding}
+use Rattle.lola_model.specs.declared.finding.FoundPacing.{FoundPacing}
 use Rattle.lola_model.specs.declared.spec.Clause.{Clause}
 use Rattle.lola_model.specs.declared.spec.Pace.{Pace}
 use Rattle.lola_model.specs.declared.spec.Pace.TheVariants as pace
@@ -173,12 +173,12 @@ module _ (ws vs : List WindowSpec) (as' bs : List Stream) (same : PacedStreams w
 
   -- ---- what is found of a clause
 
-  module _ (owns : List Finding) (low : (n : ℕ) → HasLowestRate (finding_at owns n)) where
+  module _ (owns : List FoundPacing) (low : (n : ℕ) → HasLowestRate (finding_at owns n)) where
     all_lowest : (ns : List ℕ) → All HasLowestRate (findings_at owns ns)
     all_lowest [] = All-nil HasLowestRate
     all_lowest (n ∷ ns) = All-cons HasLowestRate (finding_at owns n) (findings_at owns ns) (low n) (all_lowest ns)
 
-    one_pace : (n at : ℕ) (spawned : Bool) (alone : Finding) (c d : Clause) (p q : Option Pace) (f g : Finding) → PacedClause ws vs c d → SamePace p q
+    one_pace : (n at : ℕ) (spawned : Bool) (alone : FoundPacing) (c d : Clause) (p q : Option Pace) (f g : FoundPacing) → PacedClause ws vs c d → SamePace p q
         → IsPaceFound as' owns n at spawned alone (Some c) p f → IsPaceFound bs owns n at spawned alone (Some d) q g → f ≡ g
     one_pace n at spawned alone c d None None f g h k a b =
         let leaves = one_leaves n (Some c) (Some d) a.0 b.0 h a.1 b.1 in
@@ -187,27 +187,27 @@ module _ (ws vs : List WindowSpec) (as' bs : List Stream) (same : PacedStreams w
     one_pace n at spawned alone c d None (Some q) f g h k a b = absurd k
     one_pace n at spawned alone c d (Some p) None f g h k a b = absurd (pace_alone p k)
 
-    one_at : (n at : ℕ) (spawned : Bool) (alone : Finding) (c d : Option Clause) (f g : Finding) → PacedClauses ws vs c d
+    one_at : (n at : ℕ) (spawned : Bool) (alone : FoundPacing) (c d : Option Clause) (f g : FoundPacing) → PacedClauses ws vs c d
         → IsClauseFound as' owns n at spawned alone c f → IsClauseFound bs owns n at spawned alone d g → f ≡ g
     one_at n at spawned alone None None f g h a b = a ∙ sym b
     one_at n at spawned alone (Some c) (Some d) f g h a b = one_pace n at spawned alone c d c.pace d.pace f g h h.pacing a b
     one_at n at spawned alone None (Some d) f g h a b = absurd h
     one_at n at spawned alone (Some c) None f g h a b = absurd h
 
-    one_clause : (n at by : ℕ) (spawned born : Bool) (alone lonely : Finding) (c d : Option Clause) (f g : Finding) → at ≡ by → spawned ≡ born → alone ≡ lonely → PacedClauses ws vs c d
+    one_clause : (n at by : ℕ) (spawned born : Bool) (alone lonely : FoundPacing) (c d : Option Clause) (f g : FoundPacing) → at ≡ by → spawned ≡ born → alone ≡ lonely → PacedClauses ws vs c d
         → IsClauseFound as' owns n at spawned alone c f → IsClauseFound bs owns n by born lonely d g → f ≡ g
     one_clause n at by spawned born alone lonely c d f g places births alones h a b =
         let x = subst (λ (z : ℕ). IsClauseFound as' owns n z spawned alone c f) places a in
         let y = subst (λ (z : Bool). IsClauseFound as' owns n by z alone c f) births x in
-        let z = subst (λ (w : Finding). IsClauseFound as' owns n by born w c f) alones y in
+        let z = subst (λ (w : FoundPacing). IsClauseFound as' owns n by born w c f) alones y in
         one_at n by born lonely c d f g h z b
 
-    one_spawn : (n : ℕ) (a b : Stream) (f g : Finding) → PacedStream ws vs a b → IsSpawnFound as' owns n a f → IsSpawnFound bs owns n b g → f ≡ g
+    one_spawn : (n : ℕ) (a b : Stream) (f g : FoundPacing) → PacedStream ws vs a b → IsSpawnFound as' owns n a f → IsSpawnFound bs owns n b g → f ≡ g
     one_spawn n a b f g h x y =
         let place = place_same ws vs a.spawn b.spawn h.spawn in
         one_clause n _ _ false false _ _ a.spawn b.spawn f g place refl (ap no_pacing place) h.spawn x y
 
-    one_eval : (n : ℕ) (a b : Stream) (f g : Finding) → PacedStream ws vs a b → IsEvalFound as' owns n a f → IsEvalFound bs owns n b g → f ≡ g
+    one_eval : (n : ℕ) (a b : Stream) (f g : FoundPacing) → PacedStream ws vs a b → IsEvalFound as' owns n a f → IsEvalFound bs owns n b g → f ≡ g
     one_eval n a b f g h x y =
         let moved =
         subst (λ (z : Bool). MatchBool z (f ≡ finding_at owns n) (IsClauseFound as' owns n a.place (has_clause a.spawn) (no_pacing a.place) a.eval f)) (end_same ws vs a b h) x
@@ -215,31 +215,31 @@ module _ (ws vs : List WindowSpec) (as' bs : List Stream) (same : PacedStreams w
         on_both (is_end b) _ _ _ _ moved y (λ p q. p ∙ sym q)
         (λ p q. one_clause n _ _ _ _ _ _ a.eval b.eval f g h.place (clause_same ws vs a.spawn b.spawn h.spawn) (ap no_pacing h.place) h.eval p q)
 
-    one_close : (evals : List Finding) (n : ℕ) (a b : Stream) (f g : Finding) → PacedStream ws vs a b → IsCloseFound as' owns evals n a f → IsCloseFound bs owns evals n b g → f ≡ g
+    one_close : (evals : List FoundPacing) (n : ℕ) (a b : Stream) (f g : FoundPacing) → PacedStream ws vs a b → IsCloseFound as' owns evals n a f → IsCloseFound bs owns evals n b g → f ≡ g
     one_close evals n a b f g h x y = one_clause n _ _ _ _ _ _ a.close b.close f g h.place (clause_same ws vs a.spawn b.spawn h.spawn) refl h.close x y
 
 -- ---- what is a stream's own
 
 module _ (ws vs : List WindowSpec) where
-  one_written : (spawned : Bool) (p q : Option Pace) (f g : Finding) → SamePace p q → IsWritten spawned p f → IsWritten spawned q g → f ≡ g
+  one_written : (spawned : Bool) (p q : Option Pace) (f g : FoundPacing) → SamePace p q → IsWritten spawned p f → IsWritten spawned q g → f ≡ g
   one_written spawned None None f g h a b = a ∙ sym b
   one_written spawned (Some p) (Some q) f g h a b = one_given spawned p q f g h a b
   one_written spawned None (Some q) f g h a b = absurd h
   one_written spawned (Some p) None f g h a b = absurd (pace_alone p h)
 
-  one_written_in : (spawned born : Bool) (c d : Option Clause) (f g : Finding) → spawned ≡ born → PacedClauses ws vs c d → IsWrittenIn spawned c f → IsWrittenIn born d g → f ≡ g
+  one_written_in : (spawned born : Bool) (c d : Option Clause) (f g : FoundPacing) → spawned ≡ born → PacedClauses ws vs c d → IsWrittenIn spawned c f → IsWrittenIn born d g → f ≡ g
   one_written_in spawned born None None f g e h a b = a ∙ sym b
   one_written_in spawned born (Some c) (Some d) f g e h a b = one_written born c.pace d.pace f g h.pacing (subst (λ (z : Bool). IsWritten z c.pace f) e a) b
   one_written_in spawned born None (Some d) f g e h a b = absurd h
   one_written_in spawned born (Some c) None f g e h a b = absurd h
 
-  one_own : (i : ℕ) (a b : Stream) (f g : Finding) → PacedStream ws vs a b → IsOwn i a f → IsOwn i b g → f ≡ g
+  one_own : (i : ℕ) (a b : Stream) (f g : FoundPacing) → PacedStream ws vs a b → IsOwn i a f → IsOwn i b g → f ≡ g
   one_own i a b f g h x y =
       let moved = subst (λ (z : Bool). MatchBool z (f ≡ input_finding i) (IsWrittenIn (has_clause a.spawn) a.eval f)) h.input x in
       on_both (is_input b) _ _ _ _ moved y (λ p q. p ∙ sym q)
       (λ p q. one_written_in (has_clause a.spawn) (has_clause b.spawn) a.eval b.eval f g (clause_same ws vs a.spawn b.spawn h.spawn) h.eval p q)
 
-  pub one_owns : (i : ℕ) (as' bs : List Stream) (fs gs : List Finding) → PacedStreams ws vs as' bs → AreOwn i as' fs → AreOwn i bs gs → fs ≡ gs
+  pub one_owns : (i : ℕ) (as' bs : List Stream) (fs gs : List FoundPacing) → PacedStreams ws vs as' bs → AreOwn i as' fs → AreOwn i bs gs → fs ≡ gs
   one_owns i [] [] [] [] h x y = refl
   one_owns i [] [] (f ∷ fs) gs h x y = absurd x
   one_owns i [] [] [] (g ∷ gs) h x y = absurd y
@@ -247,31 +247,31 @@ module _ (ws vs : List WindowSpec) where
   one_owns i (a ∷ as') (b ∷ bs) (f ∷ fs) [] h x y = absurd y
   one_owns i (a ∷ as') (b ∷ bs) (f ∷ fs) (g ∷ gs) h x y =
       let count : inputs_with i a ≡ inputs_with i b = ap (λ (z : Bool). if z then i + 1 else i) h.0.input in
-      two (λ (k : Finding) (ks : List Finding). k ∷ ks) f g fs gs (one_own i a b f g h.0 x.0 y.0)
+      two (λ (k : FoundPacing) (ks : List FoundPacing). k ∷ ks) f g fs gs (one_own i a b f g h.0 x.0 y.0)
       (one_owns (inputs_with i b) as' bs fs gs h.1 (subst (λ (k : ℕ). AreOwn k as' fs) count x.1) y.1)
   one_owns i [] (b ∷ bs) fs gs h x y = absurd h
   one_owns i (a ∷ as') [] fs gs h x y = absurd h
 
   -- ---- of all streams
 
-  in_step : (R Q : ℕ → Stream → Finding → Type 0) → ((n : ℕ) (a b : Stream) (f g : Finding) → PacedStream ws vs a b → R n a f → Q n b g → f ≡ g)
-      → (n : ℕ) (as' bs : List Stream) (fs gs : List Finding) → PacedStreams ws vs as' bs → InStep R n as' fs → InStep Q n bs gs → fs ≡ gs
+  in_step : (R Q : ℕ → Stream → FoundPacing → Type 0) → ((n : ℕ) (a b : Stream) (f g : FoundPacing) → PacedStream ws vs a b → R n a f → Q n b g → f ≡ g)
+      → (n : ℕ) (as' bs : List Stream) (fs gs : List FoundPacing) → PacedStreams ws vs as' bs → InStep R n as' fs → InStep Q n bs gs → fs ≡ gs
   in_step R Q each n [] [] [] [] h x y = refl
   in_step R Q each n [] [] (f ∷ fs) gs h x y = absurd x
   in_step R Q each n [] [] [] (g ∷ gs) h x y = absurd y
   in_step R Q each n (a ∷ as') (b ∷ bs) [] gs h x y = absurd x
   in_step R Q each n (a ∷ as') (b ∷ bs) (f ∷ fs) [] h x y = absurd y
   in_step R Q each n (a ∷ as') (b ∷ bs) (f ∷ fs) (g ∷ gs) h x y =
-      two (λ (k : Finding) (ks : List Finding). k ∷ ks) f g fs gs (each n a b f g h.0 x.0 y.0) (in_step R Q each (n + 1) as' bs fs gs h.1 x.1 y.1)
+      two (λ (k : FoundPacing) (ks : List FoundPacing). k ∷ ks) f g fs gs (each n a b f g h.0 x.0 y.0) (in_step R Q each (n + 1) as' bs fs gs h.1 x.1 y.1)
   in_step R Q each n [] (b ∷ bs) fs gs h x y = absurd h
   in_step R Q each n (a ∷ as') [] fs gs h x y = absurd h
 
-module _ (ws vs : List WindowSpec) (as' bs : List Stream) (same : PacedStreams ws vs as' bs) (owns : List Finding) (low : (n : ℕ) → HasLowestRate (finding_at owns n)) where
-  pub one_spawns : (fs gs : List Finding) → InStep (IsSpawnFound as' owns) 0 as' fs → InStep (IsSpawnFound bs owns) 0 bs gs → fs ≡ gs
+module _ (ws vs : List WindowSpec) (as' bs : List Stream) (same : PacedStreams ws vs as' bs) (owns : List FoundPacing) (low : (n : ℕ) → HasLowestRate (finding_at owns n)) where
+  pub one_spawns : (fs gs : List FoundPacing) → InStep (IsSpawnFound as' owns) 0 as' fs → InStep (IsSpawnFound bs owns) 0 bs gs → fs ≡ gs
   one_spawns fs gs x y = in_step ws vs (IsSpawnFound as' owns) (IsSpawnFound bs owns) (one_spawn ws vs as' bs same owns low) 0 as' bs fs gs same x y
 
-  pub one_evals : (fs gs : List Finding) → InStep (IsEvalFound as' owns) 0 as' fs → InStep (IsEvalFound bs owns) 0 bs gs → fs ≡ gs
+  pub one_evals : (fs gs : List FoundPacing) → InStep (IsEvalFound as' owns) 0 as' fs → InStep (IsEvalFound bs owns) 0 bs gs → fs ≡ gs
   one_evals fs gs x y = in_step ws vs (IsEvalFound as' owns) (IsEvalFound bs owns) (one_eval ws vs as' bs same owns low) 0 as' bs fs gs same x y
 
-  pub one_closes : (evals fs gs : List Finding) → InStep (IsCloseFound as' owns evals) 0 as' fs → InStep (IsCloseFound bs owns evals) 0 bs gs → fs ≡ gs
+  pub one_closes : (evals fs gs : List FoundPacing) → InStep (IsCloseFound as' owns evals) 0 as' fs → InStep (IsCloseFound bs owns evals) 0 bs gs → fs ≡ gs
   one_closes evals fs gs x y = in_step ws vs (IsCloseFound as' owns evals) (IsCloseFound bs owns evals) (one_close ws vs as' bs same owns low evals) 0 as' bs fs gs same x y

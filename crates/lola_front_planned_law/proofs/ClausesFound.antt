@@ -20,8 +20,8 @@ use Rattle.lola_model.specs.PacingFound.{AreOwn, IsCombined, IsFound, IsGiven, I
 use Rattle.lola_model.specs.Pacings.{AreVerdicts, Found, InStep, IsClauseFound, IsCloseFound, IsEvalFound, IsFromLeaves, IsPaceFound, IsSpawnFound, finding_of_part, only_pacing, place_of}
 use Rattle.lola_model.specs.StepOrder.{AreRates, IsPositiveRate}
 use Rattle.lola_model.specs.WindowVerdicts.{IsRateVerdict, IsVerdict}
-use Rattle.lola_model.specs.declared.finding.Finding.{Finding}
-use Rattle.lola_model.specs.declared.finding.Finding.TheVariants.{Paced, Refused, Unpaced}
+use Rattle.lola_model.specs.declared.finding.FoundPacing.{FoundPacing}
+use Rattle.lola_model.specs.declared.finding.FoundPacing.TheVariants.{Paced, Refused, Unpaced}
 use Rattle.lola_model.specs.declared.pacing.InputSet.{InputSet}
 use Rattle.lola_model.specs.declared.pacing.Pacing.TheVariants.{Event, Periodic, Local}
 use Rattle.lola_model.specs.declared.spec.Clause.{Clause}
@@ -45,7 +45,7 @@ use Rattle.lola_front_planned_law.proofs.RatesFound.{least_rate, rate_among}
 -- ---- what is kept of each finding
 
 -- its rate, if it has one, is a rate
-abbrev pub IsRatedFinding : Finding → Type 0
+abbrev pub IsRatedFinding : FoundPacing → Type 0
 IsRatedFinding (Paced (Event sets)) = Unit {0}
 IsRatedFinding (Paced (Periodic r)) = IsPositiveRate r
 IsRatedFinding (Paced (Local r)) = IsPositiveRate r
@@ -53,14 +53,14 @@ IsRatedFinding (Refused r) = Unit {0}
 IsRatedFinding Unpaced = Unit {0}
 
 -- .. and its sets are of inputs that a specification may have
-abbrev pub IsFit : Finding → Type 0
+abbrev pub IsFit : FoundPacing → Type 0
 IsFit (Paced (Event sets)) = AreSmall sets
 IsFit (Paced (Periodic r)) = IsPositiveRate r
 IsFit (Paced (Local r)) = IsPositiveRate r
 IsFit (Refused r) = Unit {0}
 IsFit Unpaced = Unit {0}
 
-fit_rated : (k : Finding) → IsFit k → IsRatedFinding k
+fit_rated : (k : FoundPacing) → IsFit k → IsRatedFinding k
 fit_rated (Paced (Event sets)) h = tt
 fit_rated (Paced (Periodic r)) h = h
 fit_rated (Paced (Local r)) h = h
@@ -68,17 +68,17 @@ fit_rated (Refused r) h = tt
 fit_rated Unpaced h = tt
 
 -- something is found for which this holds
-pub record HasFit (P : Finding → Type 0) : Type 0 where
-  pub finding : Finding
+pub record HasFit (P : FoundPacing → Type 0) : Type 0 where
+  pub finding : FoundPacing
   pub is : P finding
   pub fit : IsFit finding
 
-pub record HasRated (P : Finding → Type 0) : Type 0 where
-  pub finding : Finding
+pub record HasRated (P : FoundPacing → Type 0) : Type 0 where
+  pub finding : FoundPacing
   pub is : P finding
   pub rated : IsRatedFinding finding
 
-rated_of : (P : Finding → Type 0) → HasFit P → HasRated P
+rated_of : (P : FoundPacing → Type 0) → HasFit P → HasRated P
 rated_of P h = record { finding = h.finding; is = h.is; rated = fit_rated h.finding h.fit }
 
 -- ---- pacings that are given
@@ -123,7 +123,7 @@ written_in spawned (Some c) low rated = written spawned c.pace low rated
 input_fit : (i : ℕ) → i < 64 → IsFit (input_finding i)
 input_fit i low = All-cons (λ (s : InputSet). s.0 < 2 ^ 64) (record { 0 = 2 ^ i }) [] (pow_below i 64 low) (All-nil (λ (s : InputSet). s.0 < 2 ^ 64))
 
-own_by : (b : Bool) (i : ℕ) (Q : Finding → Type 0) → (b ≡ true → i < 64) → HasFit Q → HasFit (λ k. MatchBool b (k ≡ input_finding i) (Q k))
+own_by : (b : Bool) (i : ℕ) (Q : FoundPacing → Type 0) → (b ≡ true → i < 64) → HasFit Q → HasFit (λ k. MatchBool b (k ≡ input_finding i) (Q k))
 own_by true i Q low h = record { finding = input_finding i; is = refl; fit = input_fit i (low refl) }
 own_by false i Q low h = record { finding = h.finding; is = h.is; fit = h.fit }
 
@@ -142,12 +142,12 @@ own_low s ss i h e = go (is_input s) e h
     go true f g = omega (arith, g)
     go false f g = cc f
 
-abbrev pub AreFit : List Finding → Type 0
+abbrev pub AreFit : List FoundPacing → Type 0
 AreFit [] = Unit {0}
 AreFit (k ∷ ks) = IsFit k × AreFit ks
 
 pub record HasOwns (i : ℕ) (ss : List Stream) : Type 0 where
-  pub owns : List Finding
+  pub owns : List FoundPacing
   pub are : AreOwn i ss owns
   pub fit : AreFit owns
 
@@ -158,18 +158,18 @@ owns_of i (s ∷ ss) few low rated =
     let rest = owns_of (inputs_with i s) ss (few_first s ss i few) low.3 rated.3 in
     record { owns = own.finding ∷ rest.owns; are = (own.is, rest.are); fit = (own.fit, rest.fit) }
 
-fit_at : (ks : List Finding) (n : ℕ) → AreFit ks → IsFit (finding_at ks n)
+fit_at : (ks : List FoundPacing) (n : ℕ) → AreFit ks → IsFit (finding_at ks n)
 fit_at [] n h = tt
 fit_at (k ∷ ks) zero h = h.0
 fit_at (k ∷ ks) (suc n) h = fit_at ks n h.1
 
-all_fit : (owns : List Finding) (leaves : List ℕ) → AreFit owns → AreFit (findings_at owns leaves)
+all_fit : (owns : List FoundPacing) (leaves : List ℕ) → AreFit owns → AreFit (findings_at owns leaves)
 all_fit owns [] h = tt
 all_fit owns (n ∷ ns) h = (fit_at owns n h, all_fit owns ns h)
 
 -- ---- from leaves
 
-forms_small : (ks : List Finding) → AreFit ks → AreFormsSmall (forms_of ks)
+forms_small : (ks : List FoundPacing) → AreFit ks → AreFormsSmall (forms_of ks)
 forms_small [] h = tt
 forms_small (Paced (Event sets) ∷ ks) h = (h.0, forms_small ks h.1)
 forms_small (Paced (Periodic r) ∷ ks) h = forms_small ks h.1
@@ -177,7 +177,7 @@ forms_small (Paced (Local r) ∷ ks) h = forms_small ks h.1
 forms_small (Refused r ∷ ks) h = forms_small ks h.1
 forms_small (Unpaced ∷ ks) h = forms_small ks h.1
 
-rates_kept : (ks : List Finding) → AreFit ks → AreRates (rates_of ks)
+rates_kept : (ks : List FoundPacing) → AreFit ks → AreRates (rates_of ks)
 rates_kept [] h = tt
 rates_kept (Paced (Event sets) ∷ ks) h = rates_kept ks h.1
 rates_kept (Paced (Periodic r) ∷ ks) h = (h.0, rates_kept ks h.1)
@@ -190,12 +190,12 @@ rate_paced true at r h = h
 rate_paced false at r h = tt
 
 -- a joined pacing is no rate
-joined_rated : (at : ℕ) (sets : List InputSet) (forms : List (List InputSet)) (k : Finding) → IsJoined at sets forms k → IsRatedFinding k
+joined_rated : (at : ℕ) (sets : List InputSet) (forms : List (List InputSet)) (k : FoundPacing) → IsJoined at sets forms k → IsRatedFinding k
 joined_rated at sets [] k h = subst IsRatedFinding (sym h) tt
 joined_rated at sets (form ∷ forms) k (inl h) = subst IsRatedFinding (sym h.1) tt
 joined_rated at sets (form ∷ forms) k (inr h) = joined_rated at h.0 forms k h.2
 
-rate_found : (at : ℕ) (k : Finding) (ks : List Finding) → AreFit (k ∷ ks) → list_all is_periodic (k ∷ ks) ≡ true → HasRated (IsRateFound at (rates_of (k ∷ ks)))
+rate_found : (at : ℕ) (k : FoundPacing) (ks : List FoundPacing) → AreFit (k ∷ ks) → list_all is_periodic (k ∷ ks) ≡ true → HasRated (IsRateFound at (rates_of (k ∷ ks)))
 rate_found at (Paced (Event sets)) ks h e = absurd (cc e)
 rate_found at (Paced (Periodic r)) ks h e =
     let rates = rates_kept (Paced (Periodic r) ∷ ks) h in
@@ -210,26 +210,26 @@ rate_found at (Refused r) ks h e = absurd (cc e)
 rate_found at Unpaced ks h e = absurd (cc e)
 
 -- one of two, as a truth value says
-one_of : (b : Bool) (P Q : Finding → Type 0) → (b ≡ true → HasRated P) → (b ≡ false → HasRated Q) → HasRated (λ k. MatchBool b (P k) (Q k))
+one_of : (b : Bool) (P Q : FoundPacing → Type 0) → (b ≡ true → HasRated P) → (b ≡ false → HasRated Q) → HasRated (λ k. MatchBool b (P k) (Q k))
 one_of true P Q h g = let f = h refl in record { finding = f.finding; is = f.is; rated = f.rated }
 one_of false P Q h g = let f = g refl in record { finding = f.finding; is = f.is; rated = f.rated }
 
 any_row_small : AreSmall any_row
 any_row_small = All-cons (λ (s : InputSet). s.0 < 2 ^ 64) (record { 0 = 0 }) [] (lit< tt) (All-nil (λ (s : InputSet). s.0 < 2 ^ 64))
 
-joined_found : (at : ℕ) (ks : List Finding) → AreFit ks → HasRated (IsJoined at any_row (forms_of ks))
+joined_found : (at : ℕ) (ks : List FoundPacing) → AreFit ks → HasRated (IsJoined at any_row (forms_of ks))
 joined_found at ks h =
     let j = joined_of at any_row (forms_of ks) any_row_small (forms_small ks h) in
     record { finding = j.finding; is = j.is; rated = joined_rated at any_row (forms_of ks) j.finding j.is }
 
-combined : (at : ℕ) (k : Finding) (ks : List Finding) → AreFit (k ∷ ks) → HasRated (IsCombined at (k ∷ ks))
+combined : (at : ℕ) (k : FoundPacing) (ks : List FoundPacing) → AreFit (k ∷ ks) → HasRated (IsCombined at (k ∷ ks))
 combined at k ks h =
     one_of (list_all is_event (k ∷ ks)) (IsJoined at any_row (forms_of (k ∷ ks)))
     (λ f. MatchBool (list_all is_periodic (k ∷ ks)) (IsRateFound at (rates_of (k ∷ ks)) f) (f ≡ no_pacing at))
     (λ e. joined_found at (k ∷ ks) h)
     (λ e. one_of (list_all is_periodic (k ∷ ks)) (IsRateFound at (rates_of (k ∷ ks))) (λ f. f ≡ no_pacing at) (rate_found at k ks h) (λ g. record { finding = no_pacing at; is = refl; rated = tt }))
 
-found : (at : ℕ) (alone : Finding) (ks : List Finding) → IsRatedFinding alone → AreFit ks → HasRated (IsFound at alone ks)
+found : (at : ℕ) (alone : FoundPacing) (ks : List FoundPacing) → IsRatedFinding alone → AreFit ks → HasRated (IsFound at alone ks)
 found at alone [] rated h = record { finding = alone; is = refl; rated = rated }
 found at alone (k ∷ ks) rated h =
     one_of (list_any is_unpaced (k ∷ ks)) (λ f. f ≡ Unpaced) (IsCombined at (k ∷ ks)) (λ e. record { finding = Unpaced; is = refl; rated = tt }) (λ e. combined at k ks h)
@@ -249,19 +249,19 @@ module _ (streams : List Stream) (windows : ℕ) where
     pub eval_rated : IsRatedClause s.eval
     pub close_rated : IsRatedClause s.close
 
-module _ (streams : List Stream) (windows : ℕ) (in_range : AreClausesInRange (length streams) windows streams) (owns : List Finding) (fit : AreFit owns) where
-  from_leaves : (n at : ℕ) (alone : Finding) (clause : Option Clause) → IsRatedFinding alone → IsClauseInRange (length streams) windows clause → HasRated (IsFromLeaves streams owns n at alone clause)
+module _ (streams : List Stream) (windows : ℕ) (in_range : AreClausesInRange (length streams) windows streams) (owns : List FoundPacing) (fit : AreFit owns) where
+  from_leaves : (n at : ℕ) (alone : FoundPacing) (clause : Option Clause) → IsRatedFinding alone → IsClauseInRange (length streams) windows clause → HasRated (IsFromLeaves streams owns n at alone clause)
   from_leaves n at alone clause rated range =
       let leaves = leaves_of streams windows n in_range clause range in
       let f = found at alone (findings_at owns leaves.0) rated (all_fit owns leaves.0 fit) in
       record { finding = f.finding; is = (leaves.0, leaves.1, f.is); rated = f.rated }
 
-  pace_found : (n at : ℕ) (spawned : Bool) (alone : Finding) (clause : Option Clause) (p : Option Pace) → IsRatedFinding alone → IsClauseInRange (length streams) windows clause → IsPaceOverInputs p → IsRatedPace p
+  pace_found : (n at : ℕ) (spawned : Bool) (alone : FoundPacing) (clause : Option Clause) (p : Option Pace) → IsRatedFinding alone → IsClauseInRange (length streams) windows clause → IsPaceOverInputs p → IsRatedPace p
       → HasRated (IsPaceFound streams owns n at spawned alone clause p)
   pace_found n at spawned alone clause None rated range low kept = from_leaves n at alone clause rated range
   pace_found n at spawned alone clause (Some p) rated range low kept = rated_of (IsGiven spawned p) (given spawned p low kept)
 
-  clause_found : (n at : ℕ) (spawned : Bool) (alone : Finding) (clause : Option Clause) → IsRatedFinding alone → IsClauseInRange (length streams) windows clause → IsClauseOverInputs clause → IsRatedClause clause
+  clause_found : (n at : ℕ) (spawned : Bool) (alone : FoundPacing) (clause : Option Clause) → IsRatedFinding alone → IsClauseInRange (length streams) windows clause → IsClauseOverInputs clause → IsRatedClause clause
       → HasRated (IsClauseFound streams owns n at spawned alone clause)
   clause_found n at spawned alone None rated range low kept = record { finding = Unpaced; is = refl; rated = tt }
   clause_found n at spawned alone (Some c) rated range low kept = pace_found n at spawned alone (Some c) c.pace rated range low kept
@@ -275,28 +275,28 @@ module _ (streams : List Stream) (windows : ℕ) (in_range : AreClausesInRange (
       (λ e. record { finding = finding_at owns n; is = refl; rated = fit_rated (finding_at owns n) (fit_at owns n fit) })
       (λ e. clause_found n s.place (has_clause s.spawn) (no_pacing s.place) s.eval tt h.eval_range h.eval_inputs h.eval_rated)
 
-  only_rated : (k : Finding) → IsRatedFinding k → IsRatedFinding (only_pacing k)
+  only_rated : (k : FoundPacing) → IsRatedFinding k → IsRatedFinding (only_pacing k)
   only_rated (Paced p) h = h
   only_rated (Refused r) h = tt
   only_rated Unpaced h = tt
 
-  close_found : (evals : List Finding) → ((n : ℕ) → IsRatedFinding (finding_at evals n)) → (n : ℕ) (s : Stream) → IsReady streams windows s → HasRated (IsCloseFound streams owns evals n s)
+  close_found : (evals : List FoundPacing) → ((n : ℕ) → IsRatedFinding (finding_at evals n)) → (n : ℕ) (s : Stream) → IsReady streams windows s → HasRated (IsCloseFound streams owns evals n s)
   close_found evals rated n s h =
       clause_found n s.place (has_clause s.spawn) (only_pacing (finding_at evals n)) s.close (only_rated (finding_at evals n) (rated n)) h.close_range h.close_inputs h.close_rated
 
 -- ---- all streams
 
-abbrev pub AreRatedFindings : List Finding → Type 0
+abbrev pub AreRatedFindings : List FoundPacing → Type 0
 AreRatedFindings [] = Unit {0}
 AreRatedFindings (k ∷ ks) = IsRatedFinding k × AreRatedFindings ks
 
-pub rated_at : (ks : List Finding) (n : ℕ) → AreRatedFindings ks → IsRatedFinding (finding_at ks n)
+pub rated_at : (ks : List FoundPacing) (n : ℕ) → AreRatedFindings ks → IsRatedFinding (finding_at ks n)
 rated_at [] n h = tt
 rated_at (k ∷ ks) zero h = h.0
 rated_at (k ∷ ks) (suc n) h = rated_at ks n h.1
 
-pub record HasSteps (R : ℕ → Stream → Finding → Type 0) (n : ℕ) (ss : List Stream) : Type 0 where
-  pub findings : List Finding
+pub record HasSteps (R : ℕ → Stream → FoundPacing → Type 0) (n : ℕ) (ss : List Stream) : Type 0 where
+  pub findings : List FoundPacing
   pub are : InStep R n ss findings
   pub rated : AreRatedFindings findings
 
@@ -322,7 +322,7 @@ module _ (streams : List Stream) (windows : ℕ) where
     ready ss range.3 low.3 kept.3,
   )
 
-  steps_of : (R : ℕ → Stream → Finding → Type 0) → ((n : ℕ) (s : Stream) → IsReady streams windows s → HasRated (R n s)) → (n : ℕ) (ss : List Stream) → AreReady ss → HasSteps R n ss
+  steps_of : (R : ℕ → Stream → FoundPacing → Type 0) → ((n : ℕ) (s : Stream) → IsReady streams windows s → HasRated (R n s)) → (n : ℕ) (ss : List Stream) → AreReady ss → HasSteps R n ss
   steps_of R one n [] h = record { findings = []; are = tt; rated = tt }
   steps_of R one n (s ∷ ss) h =
       let f = one n s h.0 in
@@ -357,14 +357,14 @@ rate_verdict r over = go (cases_eq (period_over r % r.num) 0) (gcd_of (period_ov
     go (inl whole) g = fine whole g (cases_lt (65536 * g.divisor) over)
     go (inr not_whole) g = (Some code.WindowNeedsWholePeriod, not_whole)
 
-verdict_of : (k : Finding) (over : ℕ) → (v : Option Code) × IsVerdict k over v
+verdict_of : (k : FoundPacing) (over : ℕ) → (v : Option Code) × IsVerdict k over v
 verdict_of (Paced (Event sets)) over = (Some code.WindowOutsidePeriodic, refl)
 verdict_of (Paced (Periodic r)) over = rate_verdict r over
 verdict_of (Paced (Local r)) over = (Some code.WindowOutsidePeriodic, refl)
 verdict_of (Refused r) over = (None, refl)
 verdict_of Unpaced over = (None, refl)
 
-verdicts_of : (spawns evals closes : List Finding) (ws : List WindowSpec) → (vs : List (Option Code)) × AreVerdicts spawns evals closes ws vs
+verdicts_of : (spawns evals closes : List FoundPacing) (ws : List WindowSpec) → (vs : List (Option Code)) × AreVerdicts spawns evals closes ws vs
 verdicts_of spawns evals closes [] = ([], tt)
 verdicts_of spawns evals closes (w ∷ ws) =
     let v = verdict_of (finding_of_part spawns evals closes w.stream w.part) w.over in

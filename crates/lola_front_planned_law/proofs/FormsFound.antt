@@ -6,8 +6,8 @@ use Rattle.lola_model.specs.Activity.{satisfies_some}
 use Rattle.lola_model.specs.Implication.{has_input}
 use Rattle.lola_model.specs.NormalForms.{HasInputsBelow}
 use Rattle.lola_model.specs.PacingFound.{IsJoined, satisfies_both, too_wide}
-use Rattle.lola_model.specs.declared.finding.Finding.{Finding}
-use Rattle.lola_model.specs.declared.finding.Finding.TheVariants.{Paced}
+use Rattle.lola_model.specs.declared.finding.FoundPacing.{FoundPacing}
+use Rattle.lola_model.specs.declared.finding.FoundPacing.TheVariants.{Paced}
 use Rattle.lola_model.specs.declared.pacing.InputSet.{InputSet}
 use Rattle.lola_model.specs.declared.pacing.Pacing.TheVariants.{Event}
 use Rattle.lola_model.specs.declared.spec.Formula.{Formula}
@@ -65,7 +65,7 @@ AreFormsSmall [] = Unit {0}
 AreFormsSmall (form ∷ forms) = AreSmall form × AreFormsSmall forms
 
 pub record HasJoined (at : ℕ) (sets : List InputSet) (forms : List (List InputSet)) : Type 0 where
-  pub finding : Finding
+  pub finding : FoundPacing
   pub is : IsJoined at sets forms finding
 
 pub joined_of : (at : ℕ) (sets : List InputSet) (forms : List (List InputSet)) → AreSmall sets → AreFormsSmall forms → HasJoined at sets forms

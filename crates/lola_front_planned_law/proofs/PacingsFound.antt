@@ -8,8 +8,8 @@ use Rattle.lola_model.specs.Pacings.{IsRefused, pacing_of, pacings_from, refusal
 use Rattle.lola_model.specs.Refusals.{IsFirstOf, first_of}
 use Rattle.lola_model.specs.StepOrder.{AreRates}
 use Rattle.lola_model.specs.Steps.{rate_of, rates_of}
-use Rattle.lola_model.specs.declared.finding.Finding.{Finding}
-use Rattle.lola_model.specs.declared.finding.Finding.TheVariants.{Paced, Refused, Unpaced}
+use Rattle.lola_model.specs.declared.finding.FoundPacing.{FoundPacing}
+use Rattle.lola_model.specs.declared.finding.FoundPacing.TheVariants.{Paced, Refused, Unpaced}
 use Rattle.lola_model.specs.declared.pacing.Pacing.TheVariants.{Event, Periodic, Local}
 use Rattle.lola_model.specs.declared.spec.Spec.{Spec}
 use Rattle.lola_model.specs.declared.spec.Stream.{Stream}
@@ -19,21 +19,21 @@ use Rattle.lola_front_planned_law.proofs.RatesFound.{rates_both}
 
 -- ---- the rates of pacings
 
-start_rates : (k : Finding) → IsRatedFinding k → AreRates (rate_of (pacing_of k))
+start_rates : (k : FoundPacing) → IsRatedFinding k → AreRates (rate_of (pacing_of k))
 start_rates (Paced (Event sets)) h = tt
 start_rates (Paced (Periodic r)) h = (h, tt)
 start_rates (Paced (Local r)) h = tt
 start_rates (Refused r) h = tt
 start_rates Unpaced h = tt
 
-birth_rates : (k : Finding) → IsRatedFinding k → AreRates (local_rate_of (pacing_of k))
+birth_rates : (k : FoundPacing) → IsRatedFinding k → AreRates (local_rate_of (pacing_of k))
 birth_rates (Paced (Event sets)) h = tt
 birth_rates (Paced (Periodic r)) h = tt
 birth_rates (Paced (Local r)) h = (h, tt)
 birth_rates (Refused r) h = tt
 birth_rates Unpaced h = tt
 
-module _ (spawns evals closes : List Finding) (h : AreRatedFindings spawns) (g : AreRatedFindings evals) (f : AreRatedFindings closes) where
+module _ (spawns evals closes : List FoundPacing) (h : AreRatedFindings spawns) (g : AreRatedFindings evals) (f : AreRatedFindings closes) where
   from_start : (n : ℕ) (ss : List Stream) → AreRates (rates_of (pacings_from spawns evals closes n ss))
   from_start n [] = tt
   from_start n (s ∷ ss) =

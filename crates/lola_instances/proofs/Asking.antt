@@ -23,8 +23,8 @@ use Rattle.lola_instances_stream.specs.Rights.{CrowdRight, SlotRight}
 use Rattle.lola_instances_stream.specs.Windowed.{windowed}
 use Rattle.lola_instances_stream.proofs.Finding.{places, seen_at}
 use Rattle.lola_instances_stream.proofs.Outcomes.{item_at}
-use Rattle.lola_instances.specs.declared.stage.Stage.{Stage}
-use Rattle.lola_instances.specs.declared.stage.Stage.TheVariants as stage
+use Rattle.lola_instances.specs.declared.stage.StorePhase.{StorePhase}
+use Rattle.lola_instances.specs.declared.stage.StorePhase.TheVariants as stage
 use Rattle.lola_instances.specs.declared.store.BoundedStore.{BoundedStore}
 use Rattle.lola_instances.specs.Placed.{IsPaneOf}
 use Rattle.lola_instances.specs.Stages.{phase_in, start_in, time_in}
@@ -33,12 +33,12 @@ use Rattle.lola_instances.specs.Streams.{crowd_layout, slots_in, slot_at}
 
 -- how far a store is
 
-pub phase_time : (st : Stage) → elim (phase_in st) [ New ↦ 0 | Started a ↦ a | Running a t ↦ t ] ≡ time_in st
+pub phase_time : (st : StorePhase) → elim (phase_in st) [ New ↦ 0 | Started a ↦ a | Running a t ↦ t ] ≡ time_in st
 phase_time stage.New = refl
 phase_time (stage.Started a) = refl
 phase_time (stage.Running a t) = refl
 
-pub phase_start : (st : Stage) → elim (phase_in st) [ New ↦ 0 | Started a ↦ a | Running a t ↦ a ] ≡ start_in st
+pub phase_start : (st : StorePhase) → elim (phase_in st) [ New ↦ 0 | Started a ↦ a | Running a t ↦ a ] ≡ start_in st
 phase_start stage.New = refl
 phase_start (stage.Started a) = refl
 phase_start (stage.Running a t) = refl

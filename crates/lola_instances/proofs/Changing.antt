@@ -13,15 +13,15 @@ use Rattle.lola_instances_stream.specs.Rights.{AreRight, CrowdRight, owed}
 use Rattle.lola_instances_stream.proofs.Beginnings.{crowd_quiet}
 use Rattle.lola_instances_stream.proofs.Finding.{seen_at}
 use Rattle.lola_instances_stream.proofs.Lists.{same_set, other_set}
-use Rattle.lola_instances.specs.declared.stage.Stage.{Stage}
-use Rattle.lola_instances.specs.declared.stage.Stage.TheVariants as stage
+use Rattle.lola_instances.specs.declared.stage.StorePhase.{StorePhase}
+use Rattle.lola_instances.specs.declared.stage.StorePhase.TheVariants as stage
 use Rattle.lola_instances.specs.Placed.{IsPaneOf, IsPlaced, ArePlaced}
 use Rattle.lola_instances.specs.Spawning.{AreNumbered, is_among}
 use Rattle.lola_instances.specs.Stages.{phase_in, is_on, start_in, time_in}
 use Rattle.lola_instances.specs.Streams.{crowd_layout, slots_in, slot_at}
 use Rattle.lola_instances.proofs.Asking.{stream_at}
 
-pub running_is_on : (st : Stage) → IsTrue (is_running (phase_in st)) → is_on st ≡ true
+pub running_is_on : (st : StorePhase) → IsTrue (is_running (phase_in st)) → is_on st ≡ true
 running_is_on stage.New h = cc
 running_is_on (stage.Started a) h = cc
 running_is_on (stage.Running a t) h = refl
@@ -146,12 +146,12 @@ all_quiet running prepared step offset (c ∷ cs) h =
 
 -- a run begins
 
-pub new_is_off : (st : Stage) → IsTrue (is_new (phase_in st)) → is_on st ≡ false
+pub new_is_off : (st : StorePhase) → IsTrue (is_new (phase_in st)) → is_on st ≡ false
 new_is_off stage.New h = refl
 new_is_off (stage.Started a) h = cc
 new_is_off (stage.Running a t) h = cc
 
-pub new_is_at_zero : (st : Stage) → IsTrue (is_new (phase_in st)) → time_in st - start_in st ≡ 0
+pub new_is_at_zero : (st : StorePhase) → IsTrue (is_new (phase_in st)) → time_in st - start_in st ≡ 0
 new_is_at_zero stage.New h = refl
 new_is_at_zero (stage.Started a) h = cc
 new_is_at_zero (stage.Running a t) h = cc

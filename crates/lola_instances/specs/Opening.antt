@@ -1,9 +1,9 @@
 -- A new store.
 use Rattle.std.specs.Prelude.{ℕ, ◌≡◌, ◌≤◌, ◌<◌, ◌*◌, ◌+◌, List, [], ◌∷◌, ◌++◌, take, Some, None, true, false, IsTrue, drop, length, nat_eq, slice_get, unwrap_or, if◌then◌else◌}
 use Rattle.lola_value.specs.declared.value.Kind.{Kind}
-use Rattle.lola_value.specs.declared.value.Kind.TheVariants as kind
 use Rattle.lola_value.specs.Naming.{Naming}
 use Rattle.lola_value.specs.Ratio.{Ratio}
+use Rattle.lola_model.specs.Model.{filled_kind}
 use Rattle.lola_model.specs.NextStep.{local_rates}
 use Rattle.lola_model.specs.Store.{StreamLayout, kind_in, layout_of, opened}
 use Rattle.lola_model.specs.Typing.{takes}
@@ -20,7 +20,7 @@ use Rattle.lola_instances_stream.specs.Rights.{CrowdRight}
 -- the layout of a stream that keeps so many values, with the rates of its clauses that count from births
 abbrev pub stream_layout : Stream → ℕ → List Ratio → StreamLayout
 stream_layout s kept locals =
-    record { kind = unwrap_or s.kind kind.Int64; parameters = s.parameters; spawns = elim s.spawn [ None ↦ false | Some k ↦ true ]; kept = kept; locals = locals }
+    record { kind = filled_kind s; parameters = s.parameters; spawns = elim s.spawn [ None ↦ false | Some k ↦ true ]; kept = kept; locals = locals }
 
 -- how many values the first of these streams keeps
 abbrev pub first_kept : List ℕ → ℕ

@@ -10,7 +10,7 @@ ghost use Rattle.lola_model.specs.Store.{Fits, IsRunning, instances_seen, now_se
 ghost use Rattle.lola_instances.specs.Stages.{time_in};
 ghost use Rattle.lola_instances.specs.Stores.{bounded_seen, bounded_remembers};
 
-use crate::stage::{Stage, time_of};
+use crate::stage::{StorePhase, time_of};
 use crate::store::{BoundedStore, offset_of};
 use lola_model::store::SpawnEnd;
 use lola_value::brief::BriefValue;
@@ -71,7 +71,7 @@ pub fn close(s: &mut BoundedStore, stream: u32, index: u32)
 }
 
 /// When the instances are born that are born in this step.
-fn birth_time(stage: Stage) -> u64
+fn birth_time(stage: StorePhase) -> u64
     ensures { result ≡ time_in stage }
 {
     time_of(stage)

@@ -1,8 +1,7 @@
 //! A new store.
 
-ghost use Rattle.std.specs.Prelude.{◌≡◌, ◌≤◌, ◌<◌, ◌++◌, ◌+◌, ◌^◌, nat_eq, if◌then◌else◌, [], ℕ, Some, true, IfOk, OnOk, drop, length, map, slice_get, unwrap_or};
+ghost use Rattle.std.specs.Prelude.{◌≡◌, ◌≤◌, ◌<◌, ◌++◌, ◌+◌, ◌^◌, nat_eq, if◌then◌else◌, [], ℕ, Some, true, IfOk, OnOk, drop, length, map, slice_get};
 ghost use Rattle.lola_value.specs.Naming.{Naming};
-ghost use Rattle.lola_value.specs.declared.value.Kind.TheVariants as kinds;
 ghost use Rattle.lola_model.specs.NextStep.{local_rate_of, local_rates};
 ghost use Rattle.lola_model.specs.Store.{StreamLayout, instances_seen, layout_of, layouts_from, new_seen};
 ghost use Rattle.lola_instances_one.specs.Unborn.{AllSound};
@@ -12,7 +11,7 @@ ghost use Rattle.lola_instances.specs.Spawning.{AreNumbered, is_among};
 ghost use Rattle.lola_instances.specs.Stores.{bounded_seen, bounded_remembers};
 ghost use Rattle.lola_instances.specs.Streams.{crowd_layout};
 
-use crate::stage::Stage;
+use crate::stage::StorePhase;
 use crate::store::BoundedStore;
 use lola_instances_one::window::WindowPanes;
 use lola_instances_stream::instances::Instances;
@@ -56,16 +55,6 @@ fn copy_kinds(alloc: Global, kinds: &Kinds) -> Result<Kinds, Memory>
         copy.push(*k)?;
     }
     Ok(copy)
-}
-
-/// The kind that is found, or a kind where none is.
-fn kind_of(kind: Option<Kind>) -> Kind
-    ensures { result ≡ unwrap_or kind kinds.Int64 }
-{
-    match kind {
-        None => Kind::Int64,
-        Some(kind) => kind,
-    }
 }
 
 /// Whether a stream has a spawn clause.
@@ -204,7 +193,7 @@ fn open(
     ensures layout { IfOk result (λ l. l.layout ≡ stream_layout stream.now kept locals.items) }
     ensures opened { IfOk result (λ l. IsOpened windows.now sizes.now number l) }
 {
-    let kind = kind_of(stream.kind);
+    let kind = stream.filled_kind();
     let parameters = copy_kinds(alloc, &stream.parameters)?;
     let onto = windows_onto(alloc, number, kind, windows, sizes)?;
     Instances::create(
@@ -300,7 +289,7 @@ impl BoundedStore {
         Ok(BoundedStore {
             windows,
             sizes,
-            stage: Stage::New,
+            stage: StorePhase::New,
             prepared: false,
             step: 1,
             offset: 0,

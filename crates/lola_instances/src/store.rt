@@ -9,7 +9,7 @@ ghost use Rattle.lola_instances.specs.Placed.{ArePlaced};
 ghost use Rattle.lola_instances.specs.Spawning.{AreNumbered};
 ghost use Rattle.lola_instances.specs.Stages.{is_on, start_in, time_in};
 
-use crate::stage::Stage;
+use crate::stage::StorePhase;
 use lola_instances_stream::instances::Instances;
 use lola_model::plan::PaneSizes;
 use lola_model::spec::Windows;
@@ -19,7 +19,7 @@ use lola_model::spec::Windows;
 pub struct BoundedStore {
     pub(crate) windows: Windows,
     pub(crate) sizes: PaneSizes,
-    pub(crate) stage: Stage,
+    pub(crate) stage: StorePhase,
     pub(crate) prepared: bool,
     /// One more than the number of steps that began, so that no step has number 0.
     pub(crate) step: u64,

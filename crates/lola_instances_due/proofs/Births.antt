@@ -12,7 +12,7 @@ use Rattle.lola_value.specs.Ratio.{Ratio}
 use Rattle.lola_value.specs.Times.{latest, up_to_latest}
 use Rattle.lola_model.specs.NextStep.{earlier, first_due}
 use Rattle.lola_model.proofs.Strictly.{Contains-here, Contains-there}
-use Rattle.lola_instances_due.specs.declared.queue.Entry.{Entry}
+use Rattle.lola_instances_due.specs.declared.queue.Birth.{Birth}
 use Rattle.lola_instances_due.specs.Dues.{due_of_births}
 use Rattle.lola_instances_due.specs.Moments.{cut, due_at, least_due, too_late}
 use Rattle.lola_instances_due.specs.Queues.{births_at, births_of, HasBirths, IsWithout}
@@ -113,9 +113,9 @@ moved births old new h p = record {
   same = λ b. h.same b ∙ sym (sum_by-IsPermutation (one_at b) old new p);
 }
 
-pub added : (births : List ℕ) (old new : List Entry) (e : Entry) → HasBirths births (births_of old) → IsPermutation (e ∷ old) new → HasBirths (births ++ e.born ∷ []) (births_of new)
+pub added : (births : List ℕ) (old new : List Birth) (e : Birth) → HasBirths births (births_of old) → IsPermutation (e ∷ old) new → HasBirths (births ++ e.born ∷ []) (births_of new)
 added births old new e h p =
-    let q : IsPermutation (e.born ∷ births_of old) (births_of new) = IsPermutation-map (λ (x : Entry). x.born) (e ∷ old) new p in
+    let q : IsPermutation (e.born ∷ births_of old) (births_of new) = IsPermutation-map (λ (x : Birth). x.born) (e ∷ old) new p in
     let longer : length (births_of new) ≡ suc (length (births_of old)) = length_permutation (e.born ∷ births_of old) (births_of new) q in
     record {
       many = (let one = h.many in let m = length-append births (e.born ∷ []) in omega arith);
@@ -133,11 +133,11 @@ fewer xs i b x within is =
     let p : IsPermutation xs (x ∷ remove xs i) = IsPermutation-remove xs i x within is in
     sym (sum_by-IsPermutation (one_at b) xs (x ∷ remove xs i) p) ∙ births_more b x (remove xs i)
 
-pub removed : (births : List ℕ) (index born : ℕ) (old new : List Entry) → HasBirths births (births_of old) → index < length births → born ≡ get_or births index born → IsWithout born old new → HasBirths (remove births index) (births_of new)
+pub removed : (births : List ℕ) (index born : ℕ) (old new : List Birth) → HasBirths births (births_of old) → index < length births → born ≡ get_or births index born → IsWithout born old new → HasBirths (remove births index) (births_of new)
 removed births index born old new h within is w =
-    let e : Entry = get_or old w.place (record { due = 0; born = 0 }) in
+    let e : Birth = get_or old w.place (record { due = 0; born = 0 }) in
     let p : IsPermutation old (e ∷ remove old w.place) = IsPermutation-remove old w.place e w.within (get_or_default old w.place (record { due = 0; born = 0 }) e w.within) in
-    let q : IsPermutation (births_of old) (e.born ∷ births_of (remove old w.place)) = IsPermutation-map (λ (x : Entry). x.born) old (e ∷ remove old w.place) p in
+    let q : IsPermutation (births_of old) (e.born ∷ births_of (remove old w.place)) = IsPermutation-map (λ (x : Birth). x.born) old (e ∷ remove old w.place) p in
     let mine : e.born ≡ born = w.is (record { due = 0; born = 0 }) in
     let rest : births_of new ≡ births_of (remove old w.place) = ap births_of w.rest in
     let gone : length (births_of old) ≡ suc (length (births_of (remove old w.place))) = sym (length_permutation (births_of old) (e.born ∷ births_of (remove old w.place)) q) in

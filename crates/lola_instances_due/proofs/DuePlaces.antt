@@ -11,7 +11,7 @@ use Rattle.std.proofs.lemmas.List.Sums.{sum_by-cons}
 use Rattle.lola_value.specs.Ratio.{Ratio}
 use Rattle.lola_value.specs.Times.{latest}
 use Rattle.lola_model.specs.Dues.{is_due}
-use Rattle.lola_instances_due.specs.declared.queue.Entry.{Entry}
+use Rattle.lola_instances_due.specs.declared.queue.Birth.{Birth}
 use Rattle.lola_instances_due.specs.Dues.{due_births, is_timed}
 use Rattle.lola_instances_due.specs.Queues.{births_at, births_of, HasBirths, IsEntry, IsQueue}
 use Rattle.lola_instances_due.proofs.Births.{births_more, fewer, found, own}
@@ -139,19 +139,19 @@ module _ (rates : List Ratio) (time : ℕ) where
       h.all (omega arith) ∙ (no_more bs n (length bs) h.within (omega arith) ∙ whole)
 
   -- how many are due in a queue, one entry after another
-  pub one_due : (queue : List Entry) (i : ℕ) (e : Entry) → i < length queue → e ≡ get_or queue i e
+  pub one_due : (queue : List Birth) (i : ℕ) (e : Birth) → i < length queue → e ≡ get_or queue i e
       → number_due (births_of (drop i queue)) ≡ cond (is_due rates e.born time) 1 0 + number_due (births_of (drop (i + 1) queue))
   one_due queue i e within is =
       let split : drop i queue ≡ e ∷ drop (i + 1) queue = rw (add-one) (drop-cons queue i e within ∙ ap (λ x. x ∷ drop (suc i) queue) (sym is)) in
       ap (λ es. number_due (births_of es)) split ∙ sum_by-cons (λ x. cond (is_due rates x time) 1 0) e.born (births_of (drop (i + 1) queue))
 
-  pub no_entry : (queue : List Entry) (i : ℕ) → length queue ≤ i → number_due (births_of (drop i queue)) ≡ 0
+  pub no_entry : (queue : List Birth) (i : ℕ) → length queue ≤ i → number_due (births_of (drop i queue)) ≡ 0
   no_entry queue i end = ap (λ es. number_due (births_of es)) (drop_all i queue end)
 
-  not_due : (es : List Entry) → All (λ (x : Entry). is_due rates x.born time ≡ false) es → number_due (births_of es) ≡ 0
+  not_due : (es : List Birth) → All (λ (x : Birth). is_due rates x.born time ≡ false) es → number_due (births_of es) ≡ 0
   not_due [] none = refl
   not_due (e ∷ es) none =
-      let P = λ (x : Entry). is_due rates x.born time ≡ false in
+      let P = λ (x : Birth). is_due rates x.born time ≡ false in
       let more = sum_by-cons (λ x. cond (is_due rates x time) 1 0) e.born (births_of es) in
       let first : is_due rates e.born time ≡ false = All-head P e es none in
       let here : cond {A = ℕ} (is_due rates e.born time) 1 0 ≡ 0 = ap (λ (t : Bool). cond {A = ℕ} t 1 0) first in
@@ -159,20 +159,20 @@ module _ (rates : List Ratio) (time : ℕ) where
       omega arith
 
   -- the entry's own deadline is the next, and tells whether one is due
-  pub own_due : (passed : ℕ) (e : Entry) → IsEntry rates passed e → time ≤ latest → passed ≤ time → time ≤ e.due → nat_eq e.due time ≡ is_due rates e.born time
+  pub own_due : (passed : ℕ) (e : Birth) → IsEntry rates passed e → time ≤ latest → passed ≤ time → time ≤ e.due → nat_eq e.due time ≡ is_due rates e.born time
   own_due passed e h in_time later until = ap (λ t. nat_eq t time) (sym (h.next time later until)) ∙ due_now rates e.born time h.are in_time
 
   -- from an entry on that is due later, none is due
-  pub none_behind : (passed : ℕ) (queue : List Entry) (i : ℕ) (e : Entry) → IsQueue rates passed queue → time ≤ latest → i < length queue → e ≡ get_or queue i e → passed ≤ time → time < e.due
+  pub none_behind : (passed : ℕ) (queue : List Birth) (i : ℕ) (e : Birth) → IsQueue rates passed queue → time ≤ latest → i < length queue → e ≡ get_or queue i e → passed ≤ time → time < e.due
       → number_due (births_of (drop i queue)) ≡ 0
   none_behind passed queue i e h in_time within is later until = not_due (drop i queue) (λ k d lt. one k d lt)
     where
-      one : (k : ℕ) (d : Entry) → k < length (drop i queue) → is_due rates (get_or (drop i queue) k d).born time ≡ false
+      one : (k : ℕ) (d : Birth) → k < length (drop i queue) → is_due rates (get_or (drop i queue) k d).born time ≡ false
       one k d lt =
           let x = get_or queue (i + k) d in
           let inside : i + k < length queue = omega (arith, length-drop i queue) in
           let at : get_or (drop i queue) k d ≡ x = get_or-drop i queue k d in
-          let mine = ap (λ (y : Entry). y.due) (get_or_read queue i e within is d) in
+          let mine = ap (λ (y : Birth). y.due) (get_or_read queue i e within is d) in
           let above : (get_or queue i d).due ≤ x.due = h.order i (i + k) d (omega arith) inside in
           let other : nat_eq x.due time ≡ false = (let later_still : time < x.due = omega arith in grind (arith, nat_tests)) in
-          ap (λ (y : Entry). is_due rates y.born time) at ∙ (sym (own_due passed x (h.entries (i + k) d inside) in_time later (omega arith)) ∙ other)
+          ap (λ (y : Birth). is_due rates y.born time) at ∙ (sym (own_due passed x (h.entries (i + k) d inside) in_time later (omega arith)) ∙ other)

@@ -4,21 +4,21 @@ use Rattle.std.specs.List.{remove}
 use Rattle.std.specs.List.Sorted.{IsNonDecreasingBy}
 use Rattle.lola_value.specs.Ratio.{Ratio}
 use Rattle.lola_model.specs.StepOrder.{AreRates}
-use Rattle.lola_instances_due.specs.declared.queue.Entry.{Entry}
+use Rattle.lola_instances_due.specs.declared.queue.Birth.{Birth}
 use Rattle.lola_instances_due.specs.Moments.{due_at}
 
-abbrev pub births_of : List Entry → List ℕ
-births_of queue = map (λ (e : Entry). e.born) queue
+abbrev pub births_of : List Birth → List ℕ
+births_of queue = map (λ (e : Birth). e.born) queue
 
-abbrev pub AreInOrder : List Entry → Type 0
-AreInOrder queue = IsNonDecreasingBy (λ (e : Entry). e.due) queue
+abbrev pub AreInOrder : List Birth → Type 0
+AreInOrder queue = IsNonDecreasingBy (λ (e : Birth). e.due) queue
 
 -- from a moment on until it is due, an entry's deadline is the next of its instance
-pub record IsEntry (rates : List Ratio) (passed : ℕ) (e : Entry) : Type 0 where
+pub record IsEntry (rates : List Ratio) (passed : ℕ) (e : Birth) : Type 0 where
   pub are : AreRates rates
   pub next : (from : ℕ) → passed ≤ from → from ≤ e.due → due_at rates e.born from ≡ e.due
 
-pub record IsQueue (rates : List Ratio) (passed : ℕ) (queue : List Entry) : Type 0 where
+pub record IsQueue (rates : List Ratio) (passed : ℕ) (queue : List Birth) : Type 0 where
   pub order : AreInOrder queue
   pub entries : All (IsEntry rates passed) queue
 
@@ -32,14 +32,14 @@ pub record HasBirths (births : List ℕ) (queue : List ℕ) : Type 0 where
   pub same : (b : ℕ) → births_at b births ≡ births_at b queue
 
 -- an entry of this birth was taken out
-pub record IsWithout (born : ℕ) (old new : List Entry) : Type 0 where
+pub record IsWithout (born : ℕ) (old new : List Birth) : Type 0 where
   pub place : ℕ
   pub within : place < length old
-  pub is : (d : Entry) → (slice_index_or old place d).born ≡ born
+  pub is : (d : Birth) → (slice_index_or old place d).born ≡ born
   pub rest : new ≡ remove old place
 
 -- the births and the queue of instances, with room for so many more
-pub record IsTimetable (rates : List Ratio) (passed : ℕ) (births : List ℕ) (queue : List Entry) (room births_capacity queue_capacity : ℕ) : Type 0 where
+pub record IsTimetable (rates : List Ratio) (passed : ℕ) (births : List ℕ) (queue : List Birth) (room births_capacity queue_capacity : ℕ) : Type 0 where
   pub right : IsQueue rates passed queue
   pub same : HasBirths births (births_of queue)
   pub in_births : length births + room ≤ births_capacity

@@ -12,13 +12,13 @@ use std::collections::VecDeque;
 
 /// The birth of an instance, and its next deadline.
 #[derive(Clone, Copy, Debug)]
-pub struct Entry {
+pub struct Birth {
     pub due: u64,
     pub born: u64,
 }
 
 // Whether an entry stands before another: it is due earlier, or at the same moment and was born no later.
-fn stands_before(entry: Entry, other: Entry) -> bool
+fn stands_before(entry: Birth, other: Birth) -> bool
     ensures before { result ≡ true → entry.due ≤ other.due }
     ensures behind { result ≡ false → other.due ≤ entry.due }
 {
@@ -27,11 +27,11 @@ fn stands_before(entry: Entry, other: Entry) -> bool
 
 // The place of an entry behind those that are due earlier, and among those that are due then in the order of births; it is found by
 // halves.
-fn place_of(queue: &VecDeque<Entry>, entry: Entry) -> usize
+fn place_of(queue: &VecDeque<Birth>, entry: Birth) -> usize
     requires { AreInOrder queue.now.items }
     ensures within { result ≤ deque_len queue.now }
-    ensures before { (k : ℕ) (d : Entry) → k < result → (slice_index_or queue.now.items k d).due ≤ entry.due }
-    ensures behind { (k : ℕ) (d : Entry) → result ≤ k → k < deque_len queue.now → entry.due ≤ (slice_index_or queue.now.items k d).due }
+    ensures before { (k : ℕ) (d : Birth) → k < result → (slice_index_or queue.now.items k d).due ≤ entry.due }
+    ensures behind { (k : ℕ) (d : Birth) → result ≤ k → k < deque_len queue.now → entry.due ≤ (slice_index_or queue.now.items k d).due }
 {
     let mut low = 0;
     let mut high = queue.len();
@@ -47,7 +47,7 @@ fn place_of(queue: &VecDeque<Entry>, entry: Entry) -> usize
 }
 
 /// One more entry, in room that was made.
-pub fn put(queue: &mut VecDeque<Entry>, entry: Entry)
+pub fn put(queue: &mut VecDeque<Birth>, entry: Birth)
     requires room { deque_len queue.old < deque_capacity queue.old }
     requires order { AreInOrder queue.old.items }
     ensures order { AreInOrder queue.new.items }
@@ -62,7 +62,7 @@ pub fn put(queue: &mut VecDeque<Entry>, entry: Entry)
 }
 
 // Sets the first entry to its next deadline, where it was due before a moment.
-fn renew_first(queue: &mut VecDeque<Entry>, rates: &[Rate], moment: u64) -> bool
+fn renew_first(queue: &mut VecDeque<Birth>, rates: &[Rate], moment: u64) -> bool
     requires { IsQueue rates.now moment queue.old.items }
     ensures queue { IsQueue rates.now moment queue.new.items }
     ensures births { IsPermutation (births_of queue.old.items) (births_of queue.new.items) }
@@ -78,12 +78,12 @@ fn renew_first(queue: &mut VecDeque<Entry>, rates: &[Rate], moment: u64) -> bool
     let _passed = queue.pop_front();
     let born = first.born;
     let due = next_due(rates, born, moment);
-    put(queue, Entry { due, born });
+    put(queue, Birth { due, born });
     true
 }
 
 /// Sets each entry that was due before a moment to its next deadline.
-pub fn renew(queue: &mut VecDeque<Entry>, rates: &[Rate], moment: u64)
+pub fn renew(queue: &mut VecDeque<Birth>, rates: &[Rate], moment: u64)
     requires { IsQueue rates.now moment queue.old.items }
     ensures queue { IsQueue rates.now moment queue.new.items }
     ensures births { IsPermutation (births_of queue.old.items) (births_of queue.new.items) }
@@ -97,10 +97,10 @@ pub fn renew(queue: &mut VecDeque<Entry>, rates: &[Rate], moment: u64)
 }
 
 // The place of an entry with a birth.
-fn place_born(queue: &VecDeque<Entry>, born: u64) -> usize
+fn place_born(queue: &VecDeque<Birth>, born: u64) -> usize
     requires { Contains (births_of queue.now.items) born }
     ensures within { result < deque_len queue.now }
-    ensures born { (d : Entry) → (slice_index_or queue.now.items result d).born ≡ born }
+    ensures born { (d : Birth) → (slice_index_or queue.now.items result d).born ≡ born }
 {
     for i in 0..queue.len() {
         if queue[i].born == born {
@@ -111,10 +111,10 @@ fn place_born(queue: &VecDeque<Entry>, born: u64) -> usize
 }
 
 // The place of an entry of this birth that is due then, if it is found at once.
-fn place_due(queue: &VecDeque<Entry>, entry: Entry) -> Option<usize>
+fn place_due(queue: &VecDeque<Birth>, entry: Birth) -> Option<usize>
     requires { AreInOrder queue.now.items }
     ensures within { IfSome result (λ i. i < deque_len queue.now) }
-    ensures born { IfSome result (λ i. (d : Entry) → (slice_index_or queue.now.items i d).born ≡ entry.born) }
+    ensures born { IfSome result (λ i. (d : Birth) → (slice_index_or queue.now.items i d).born ≡ entry.born) }
 {
     let behind = place_of(queue, entry);
     if behind == 0 {
@@ -129,20 +129,20 @@ fn place_due(queue: &VecDeque<Entry>, entry: Entry) -> Option<usize>
 }
 
 // The place of an entry with a birth, first looked for where it stands if it is due then.
-fn place_taken(queue: &VecDeque<Entry>, due: u64, born: u64) -> usize
+fn place_taken(queue: &VecDeque<Birth>, due: u64, born: u64) -> usize
     requires order { AreInOrder queue.now.items }
     requires born { Contains (births_of queue.now.items) born }
     ensures within { result < deque_len queue.now }
-    ensures born { (d : Entry) → (slice_index_or queue.now.items result d).born ≡ born }
+    ensures born { (d : Birth) → (slice_index_or queue.now.items result d).born ≡ born }
 {
-    match place_due(queue, Entry { due, born }) {
+    match place_due(queue, Birth { due, born }) {
         Some(place) => place,
         None => place_born(queue, born),
     }
 }
 
 /// Takes an entry with a birth out. It is found quickly where it is due then.
-pub fn take_out(queue: &mut VecDeque<Entry>, due: u64, born: u64)
+pub fn take_out(queue: &mut VecDeque<Birth>, due: u64, born: u64)
     requires order { AreInOrder queue.old.items }
     requires born { Contains (births_of queue.old.items) born }
     ensures without { IsWithout born queue.old.items queue.new.items }
@@ -154,7 +154,7 @@ pub fn take_out(queue: &mut VecDeque<Entry>, due: u64, born: u64)
 
 /// The first deadline that is not before `from`. What was due before a moment may stand in the queue for it still; from
 /// that moment on only the entries that are due before `from` are counted anew.
-pub fn least_from(queue: &VecDeque<Entry>, rates: &[Rate], passed: u64, from: u64) -> u64
+pub fn least_from(queue: &VecDeque<Birth>, rates: &[Rate], passed: u64, from: u64) -> u64
     requires { IsQueue rates.now passed queue.now.items }
     ensures { result ≡ least_due rates.now from (births_of queue.now.items) }
 {

@@ -8,7 +8,7 @@ ghost use Rattle.lola_instances_due.specs.Dues.{due_births, due_of_births, is_ti
 
 use crate::due::next_due;
 use crate::listing::{list_all, list_first};
-use crate::queue::{Entry, least_from, put, renew, take_out};
+use crate::queue::{Birth, least_from, put, renew, take_out};
 use lola_value::rate::Rate;
 use lola_value::text::Memory;
 use lola_value::times::LATEST;
@@ -24,7 +24,7 @@ pub struct DueTimes {
     births: Vec<u64>,
     // of each birth the next deadline as of this moment, or one that was due before it
     passed: u64,
-    queue: VecDeque<Entry>,
+    queue: VecDeque<Birth>,
     room: usize,
 }
 
@@ -94,7 +94,7 @@ impl DueTimes {
         }
         let due = next_due(self.rates.as_slice(), born, self.passed);
         self.births.push_reserved(born);
-        put(&mut self.queue, Entry { due, born });
+        put(&mut self.queue, Birth { due, born });
         self.room -= 1;
     }
 
@@ -154,7 +154,7 @@ impl DueTimes {
 }
 
 // Room for so many more births, and in the queue too.
-fn reserve(births: &mut Vec<u64>, queue: &mut VecDeque<Entry>, more: usize) -> Result<(), Memory>
+fn reserve(births: &mut Vec<u64>, queue: &mut VecDeque<Birth>, more: usize) -> Result<(), Memory>
     ensures births { births.new.items ≡ births.old.items }
     ensures queue { queue.new.items ≡ queue.old.items }
     ensures births_capacity { vec_capacity births.old ≤ vec_capacity births.new }

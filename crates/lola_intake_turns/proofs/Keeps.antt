@@ -10,17 +10,17 @@ use Rattle.atomic_table.proofs.Lists.{set_here, set_else, set_again, at_longer, 
 use Rattle.lola_intake_turns.specs.declared.view.Turn.{Turn}
 use Rattle.lola_intake_turns.specs.declared.view.Known.{Known}
 use Rattle.lola_intake_turns.specs.declared.view.View.{View}
-use Rattle.lola_intake_turns.specs.declared.view.Stage.{Stage}
-use Rattle.lola_intake_turns.specs.declared.view.Stage.TheVariants.{Idle, Waiting, Serving}
+use Rattle.lola_intake_turns.specs.declared.view.CallState.{CallState}
+use Rattle.lola_intake_turns.specs.declared.view.CallState.TheVariants.{Idle, Waiting, Serving}
 use Rattle.lola_intake_turns.specs.Turns.{total, StartsWith, turn_by, calls_by, Reached, Fits, Stood, Orderly, maker, waits, lives, ticket_of, drawing, serving, told, Taken, looked, drew, left, MayTell, Turned, IsLive, one_more, newcomer, known_of, taking, gone, Ended}
 use Rattle.lola_intake_turns.proofs.Lists.{is_false, wraps, all_set, inside, same_at, at_snoc, total_set, total_snoc, term_le, terms_le, total_le, starts_more, starts_all, starts_none, starts_whole, calls_own, calls_other, runs_on}
 
-waits_one : (st : Stage) → waits st ≤ 1
+waits_one : (st : CallState) → waits st ≤ 1
 waits_one Idle = omega arith
 waits_one (Waiting t) = omega arith
 waits_one Serving = omega arith
 
-waits_less : {K : Type 0} (st : Stage) (o : Option K) → (o ≡ None → st ≡ Idle) → waits st ≤ lives o
+waits_less : {K : Type 0} (st : CallState) (o : Option K) → (o ≡ None → st ≡ Idle) → waits st ≤ lives o
 waits_less st None idle = let e = ap waits (idle refl) in omega arith
 waits_less st (Some k) idle = waits_one st
 

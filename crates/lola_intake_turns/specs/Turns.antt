@@ -8,8 +8,8 @@ use Rattle.atomic_table.specs.declared.shared.Seat.{Seat}
 use Rattle.lola_intake_turns.specs.declared.view.Turn.{Turn}
 use Rattle.lola_intake_turns.specs.declared.view.Known.{Known}
 use Rattle.lola_intake_turns.specs.declared.view.View.{View}
-use Rattle.lola_intake_turns.specs.declared.view.Stage.{Stage}
-use Rattle.lola_intake_turns.specs.declared.view.Stage.TheVariants.{Idle, Waiting, Serving}
+use Rattle.lola_intake_turns.specs.declared.view.CallState.{CallState}
+use Rattle.lola_intake_turns.specs.declared.view.CallState.TheVariants.{Idle, Waiting, Serving}
 
 -- the sum of a number of each
 abbrev pub total : {A : Type 0} → (A → ℕ) → List A → ℕ
@@ -21,7 +21,7 @@ abbrev pub StartsWith : {A : Type 0} → List A → List A → Type 0
 StartsWith {A} all front = (back : List A) × (all ≡ front ++ back)
 
 -- one ticket of a seat that has drawn one which is not yet served to its end
-abbrev pub waits : Stage → ℕ
+abbrev pub waits : CallState → ℕ
 waits Idle = 0
 waits (Waiting t) = 1
 waits Serving = 1
@@ -32,7 +32,7 @@ lives None = 0
 lives (Some k) = 1
 
 -- the ticket that is waited for
-abbrev pub ticket_of : Stage → ℕ
+abbrev pub ticket_of : CallState → ℕ
 ticket_of Idle = 0
 ticket_of (Waiting t) = t
 ticket_of Serving = 0

@@ -16,4 +16,4 @@ pub mod view;
 
 pub use lock::{LockSeat, TicketLock};
 pub use object::{Act, InOrder, Object, Tells};
-pub use view::{Known, Stage, Turn, View};
+pub use view::{CallState, Known, Turn, View};

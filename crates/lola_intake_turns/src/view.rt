@@ -17,7 +17,7 @@ pub struct Known<E> {
 }
 
 /// Where a seat is in a call.
-pub enum Stage {
+pub enum CallState {
     /// In none.
     Idle,
     /// It has drawn this ticket.
@@ -36,7 +36,7 @@ pub struct View<K, E> {
     pub seen: LinkedList<Turn<E>>,
     /// The caller's own events in it.
     pub mine: LinkedList<E>,
-    pub stage: Stage,
+    pub stage: CallState,
     /// Of the first seat: how many callers it made.
     pub made: u64,
     /// Of the first seat: the callers that came back.

@@ -9,8 +9,8 @@ use Rattle.lola_model.specs.StepOrder.{AreRates}
 use Rattle.lola_model.specs.Named.{IsNamed}
 use Rattle.lola_model.specs.Pacings.{ArePacings}
 use Rattle.lola_model.specs.Typed.{IsTyped}
-use Rattle.lola_model.specs.declared.finding.Finding.{Finding}
-use Rattle.lola_model.specs.declared.finding.Finding.TheVariants.{Paced, Unpaced}
+use Rattle.lola_model.specs.declared.finding.FoundPacing.{FoundPacing}
+use Rattle.lola_model.specs.declared.finding.FoundPacing.TheVariants.{Paced, Unpaced}
 use Rattle.lola_model.specs.declared.graph.Edge.{Edge}
 use Rattle.lola_model.specs.declared.pacing.Pacing.TheVariants.{Event}
 use Rattle.lola_model.specs.declared.plan.Plan.{Plan}
@@ -41,7 +41,7 @@ is_named = record {
 is_typed : IsTyped one_input.spec
 is_typed = record { kinds = refl; typed = refl; constants = refl; ranges = refl; ranged = record { rates = refl; offsets = refl; window_spans = refl } }
 
-abbrev on_rows : Finding
+abbrev on_rows : FoundPacing
 on_rows = Paced (Event (record { 0 = 1 } ∷ []))
 
 are_pacings : ArePacings one_input.spec one_input.pacings

@@ -9,8 +9,8 @@ use Rattle.lola_model.specs.Model.{is_input, spawn_pacing, eval_pacing, close_pa
 use Rattle.lola_model.specs.Named.{has_clause}
 use Rattle.lola_model.specs.PacingFound.{IsGiven, given_rate, given_local, input_finding, IsWritten, IsWrittenIn, inputs_with, IsOwn, AreOwn, finding_at, findings_at, no_pacing, too_wide, IsJoined, any_row, forms_of, rates_of, rate_pacing, is_multiple, IsFound, IsRateFound}
 use Rattle.lola_model.specs.Pacings.{InStep, only_pacing, place_of, IsPaceFound, IsClauseFound, IsEvalFound, IsSpawnFound, IsCloseFound, pacing_of, pacings_from, ArePacings}
-use Rattle.lola_model.specs.declared.finding.Finding.{Finding}
-use Rattle.lola_model.specs.declared.finding.Finding.TheVariants.{Paced, Refused, Unpaced}
+use Rattle.lola_model.specs.declared.finding.FoundPacing.{FoundPacing}
+use Rattle.lola_model.specs.declared.finding.FoundPacing.TheVariants.{Paced, Refused, Unpaced}
 use Rattle.lola_model.specs.declared.pacing.InputSet.{InputSet}
 use Rattle.lola_model.specs.declared.pacing.Pacing.{Pacing}
 use Rattle.lola_model.specs.declared.pacing.Pacing.TheVariants.{Event, Periodic, Local}
@@ -24,13 +24,13 @@ use Rattle.lola_model.specs.declared.spec.WrittenRate.{WrittenRate}
 use Rattle.lola_model.specs.declared.spec.WrittenRate.TheVariants as rate
 
 -- no local pacing is found
-abbrev IsGlobal : Finding → Type 0
+abbrev IsGlobal : FoundPacing → Type 0
 IsGlobal f = is_local (pacing_of f) ≡ false
 
-by_equal : (f g : Finding) → f ≡ g → IsGlobal g → IsGlobal f
+by_equal : (f g : FoundPacing) → f ≡ g → IsGlobal g → IsGlobal f
 by_equal f g e h = ap (λ x. is_local (pacing_of x)) e ∙ h
 
-either : (b : Bool) (A B : Type 0) (f : Finding) → (A → IsGlobal f) → (B → IsGlobal f) → MatchBool b A B → IsGlobal f
+either : (b : Bool) (A B : Type 0) (f : FoundPacing) → (A → IsGlobal f) → (B → IsGlobal f) → MatchBool b A B → IsGlobal f
 either true A B f h g m = h m
 either false A B f h g m = g m
 
@@ -44,7 +44,7 @@ refused_global at rate.OutOfRange = refl
 refused_global at rate.TooFast = refl
 refused_global at (rate.Of r) = refl
 
-joined_global : (at : ℕ) (sets : List InputSet) (forms : List (List InputSet)) (f : Finding) → IsJoined at sets forms f → IsGlobal f
+joined_global : (at : ℕ) (sets : List InputSet) (forms : List (List InputSet)) (f : FoundPacing) → IsJoined at sets forms f → IsGlobal f
 joined_global at sets [] f h = by_equal f (Paced (Event sets)) h refl
 joined_global at sets (form ∷ forms) f (inl h) = by_equal f (too_wide at) h.1 refl
 joined_global at sets (form ∷ forms) f (inr h) = joined_global at h.0 forms f h.2
@@ -53,14 +53,14 @@ rate_found_global : (b : Bool) (at : ℕ) (r : Ratio) → IsGlobal (if b then Pa
 rate_found_global true at r = refl
 rate_found_global false at r = refl
 
-found_global : (at : ℕ) (alone : Finding) (fs : List Finding) (f : Finding) → IsGlobal alone → IsFound at alone fs f → IsGlobal f
+found_global : (at : ℕ) (alone : FoundPacing) (fs : List FoundPacing) (f : FoundPacing) → IsGlobal alone → IsFound at alone fs f → IsGlobal f
 found_global at alone [] f g h = by_equal f alone h g
 found_global at alone (x ∷ xs) f g h =
     either _ _ _ f (λ e. by_equal f Unpaced e refl)
     (either _ _ _ f (joined_global at any_row (forms_of (x ∷ xs)) f)
     (either _ _ _ f (λ (w : IsRateFound at (rates_of (x ∷ xs)) f). by_equal f (rate_pacing at (rates_of (x ∷ xs)) w.0) w.2 (rate_found_global (list_all (is_multiple w.0) (rates_of (x ∷ xs))) at w.0)) (λ e. by_equal f (no_pacing at) e refl))) h
 
-only_global : (f : Finding) → IsGlobal f → IsGlobal (only_pacing f)
+only_global : (f : FoundPacing) → IsGlobal f → IsGlobal (only_pacing f)
 only_global (Paced p) h = h
 only_global (Refused r) h = refl
 only_global Unpaced h = refl
@@ -70,7 +70,7 @@ module _ (spawned : Bool) (none : spawned ≡ false) where
   local_global : (at : ℕ) (r : WrittenRate) → IsGlobal (given_local spawned at r)
   local_global at r = ap (λ b. is_local (pacing_of (given_local b at r))) none ∙ refused_global at r
 
-  given_global : (p : Pace) (f : Finding) → IsGiven spawned p f → IsGlobal f
+  given_global : (p : Pace) (f : FoundPacing) → IsGiven spawned p f → IsGlobal f
   given_global (pace.Event at g) (Paced (Event sets)) h = refl
   given_global (pace.Event at g) (Paced (Periodic r)) h = refl
   given_global (pace.Event at g) (Paced (Local r)) h = absurd h
@@ -80,27 +80,27 @@ module _ (spawned : Bool) (none : spawned ≡ false) where
   given_global (pace.Global at r) f h = by_equal f (given_rate at r) h (rate_global at r)
   given_global (pace.Local at r) f h = by_equal f (given_local spawned at r) h (local_global at r)
 
-  written_global : (p : Option Pace) (f : Finding) → IsWritten spawned p f → IsGlobal f
+  written_global : (p : Option Pace) (f : FoundPacing) → IsWritten spawned p f → IsGlobal f
   written_global None f h = by_equal f Unpaced h refl
   written_global (Some p) f h = given_global p f h
 
-  written_in_global : (c : Option Clause) (f : Finding) → IsWrittenIn spawned c f → IsGlobal f
+  written_in_global : (c : Option Clause) (f : FoundPacing) → IsWrittenIn spawned c f → IsGlobal f
   written_in_global None f h = by_equal f Unpaced h refl
   written_in_global (Some c) f h = written_global c.pace f h
 
-  module _ (streams : List Stream) (owns : List Finding) where
-    pace_global : (n at : ℕ) (alone : Finding) (c : Option Clause) (p : Option Pace) (f : Finding) → IsGlobal alone → IsPaceFound streams owns n at spawned alone c p f → IsGlobal f
+  module _ (streams : List Stream) (owns : List FoundPacing) where
+    pace_global : (n at : ℕ) (alone : FoundPacing) (c : Option Clause) (p : Option Pace) (f : FoundPacing) → IsGlobal alone → IsPaceFound streams owns n at spawned alone c p f → IsGlobal f
     pace_global n at alone c None f g h = found_global at alone (findings_at owns h.0) f g h.2
     pace_global n at alone c (Some p) f g h = given_global p f h
 
-    clause_global : (n at : ℕ) (alone : Finding) (c : Option Clause) (f : Finding) → IsGlobal alone → IsClauseFound streams owns n at spawned alone c f → IsGlobal f
+    clause_global : (n at : ℕ) (alone : FoundPacing) (c : Option Clause) (f : FoundPacing) → IsGlobal alone → IsClauseFound streams owns n at spawned alone c f → IsGlobal f
     clause_global n at alone None f g h = by_equal f Unpaced h refl
     clause_global n at alone (Some c) f g h = pace_global n at alone (Some c) c.pace f g h
 
-own_global : (i : ℕ) (s : Stream) (f : Finding) → has_clause s.spawn ≡ false → IsOwn i s f → IsGlobal f
+own_global : (i : ℕ) (s : Stream) (f : FoundPacing) → has_clause s.spawn ≡ false → IsOwn i s f → IsGlobal f
 own_global i s f none h = either (is_input s) _ _ f (λ e. by_equal f (input_finding i) e refl) (written_in_global (has_clause s.spawn) none s.eval f) h
 
-owns_global : (i : ℕ) (ss : List Stream) (fs : List Finding) → AreOwn i ss fs → (n : ℕ) (s : Stream) → slice_get ss n ≡ Some s → has_clause s.spawn ≡ false → IsGlobal (finding_at fs n)
+owns_global : (i : ℕ) (ss : List Stream) (fs : List FoundPacing) → AreOwn i ss fs → (n : ℕ) (s : Stream) → slice_get ss n ≡ Some s → has_clause s.spawn ≡ false → IsGlobal (finding_at fs n)
 owns_global i [] [] h n s e none = refl
 owns_global i [] (f ∷ fs) h n s e none = absurd h
 owns_global i (x ∷ ss) [] h n s e none = absurd h
@@ -110,7 +110,7 @@ owns_global i (x ∷ ss) (f ∷ fs) h zero s e none =
 owns_global i (x ∷ ss) (f ∷ fs) h (suc n) s e none = owns_global (inputs_with i x) ss fs h.1 n s e none
 
 -- what is found of the stream at a place
-in_step_at : (R : ℕ → Stream → Finding → Type 0) (n : ℕ) (ss : List Stream) (fs : List Finding) → InStep R n ss fs
+in_step_at : (R : ℕ → Stream → FoundPacing → Type 0) (n : ℕ) (ss : List Stream) (fs : List FoundPacing) → InStep R n ss fs
     → (k m : ℕ) (s : Stream) → slice_get ss k ≡ Some s → m ≡ n + k → R m s (finding_at fs k)
 in_step_at R n [] fs h k m s e q = absurd (cc)
 in_step_at R n (x ∷ ss) [] h k m s e q = absurd h
@@ -121,7 +121,7 @@ in_step_at R n (x ∷ ss) (f ∷ fs) h zero m s e q =
 in_step_at R n (x ∷ ss) (f ∷ fs) h (suc k) m s e q = in_step_at R (n + 1) ss fs h.1 k m s e (omega arith)
 
 -- the pacings of the stream at a place
-pacings_at : (spawns evals closes : List Finding) (n : ℕ) (ss : List Stream) (k m : ℕ) (s : Stream) → slice_get ss k ≡ Some s → m ≡ n + k
+pacings_at : (spawns evals closes : List FoundPacing) (n : ℕ) (ss : List Stream) (k m : ℕ) (s : Stream) → slice_get ss k ≡ Some s → m ≡ n + k
     → slice_get (pacings_from spawns evals closes n ss) k
     ≡ Some (record { spawn = pacing_of (finding_at spawns m); eval = pacing_of (finding_at evals m); close = pacing_of (finding_at closes m) })
 pacings_at spawns evals closes n [] k m s e q = absurd (cc)

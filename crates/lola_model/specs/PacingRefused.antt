@@ -19,8 +19,8 @@ use Rattle.lola_model.specs.declared.spec.Stream.{Stream}
 use Rattle.lola_model.specs.PacingFound.{finding_at, is_multiple}
 use Rattle.lola_model.specs.declared.uses.Use.{Use}
 use Rattle.lola_model.specs.declared.uses.Use.TheVariants.{OfStream, OfWindow}
-use Rattle.lola_model.specs.declared.finding.Finding.{Finding}
-use Rattle.lola_model.specs.declared.finding.Finding.TheVariants.{Paced, Refused, Unpaced}
+use Rattle.lola_model.specs.declared.finding.FoundPacing.{FoundPacing}
+use Rattle.lola_model.specs.declared.finding.FoundPacing.TheVariants.{Paced, Refused, Unpaced}
 
 -- one pacing implies another, as it is told by least sets and by rates
 abbrev pub does_imply : Pacing → Pacing → Bool
@@ -36,7 +36,7 @@ abbrev pub refusal_where : Bool → Code → ℕ → List Refusal
 refusal_where b c at = if b then record { code = c; at = at } ∷ [] else []
 
 -- E11 at a direct access, where clause and stream both have pacings
-abbrev pub not_implied : Finding → Finding → ℕ → List Refusal
+abbrev pub not_implied : FoundPacing → FoundPacing → ℕ → List Refusal
 not_implied (Paced p) (Paced q) at = if does_imply p q then [] else record { code = code.NotImplied; at = at } ∷ []
 not_implied (Paced p) (Refused r) at = []
 not_implied (Paced p) Unpaced at = []
@@ -53,7 +53,7 @@ verdict_refusal None at = []
 verdict_refusal (Some c) at = record { code = c; at = at } ∷ []
 
 -- of a clause itself
-abbrev pub finding_refusal : Finding → List Refusal
+abbrev pub finding_refusal : FoundPacing → List Refusal
 finding_refusal (Paced p) = []
 finding_refusal (Refused r) = r ∷ []
 finding_refusal Unpaced = []
@@ -72,7 +72,7 @@ used _ = []
 
 -- of a specification's streams, with what is found of their eval clauses and what stands against windows, in a clause of which
 -- the last is found
-module _ (streams : List Stream) (evals : List Finding) (verdicts : List (Option Code)) (own : Finding) where
+module _ (streams : List Stream) (evals : List FoundPacing) (verdicts : List (Option Code)) (own : FoundPacing) where
   -- E11 and E14 at a direct access, and what stands against a window
   abbrev pub use_refusals : Use → List Refusal
   use_refusals (OfStream at n) = not_implied own (finding_at evals n) at ++ refusal_where (is_filtered (slice_get streams n)) code.DirectToFiltered at

@@ -10,6 +10,7 @@ use Rattle.lola_value.specs.declared.value.Params.{Params}
 use Rattle.lola_value.specs.Naming.{Naming, read_outcome, read_params, the_values, AreHeld, IsHeldIn}
 pub use Rattle.lola_value.specs.Kinds.{values_same, all_same, same_params, is_well_formed, is_of_kind, are_of_kinds, is_outcome_of}
 use Rattle.lola_value.specs.Ratio.{Ratio}
+use Rattle.lola_model.specs.Model.{filled_kind}
 use Rattle.lola_model.specs.Content.{Life, StreamContent, Content}
 use Rattle.lola_model.specs.NextStep.{local_rates}
 use Rattle.lola_model.specs.declared.pacing.ClausePacings.{ClausePacings}
@@ -39,7 +40,7 @@ abbrev pub layouts_from : List Stream → List ℕ → List ClausePacings → Li
 layouts_from [] kept pacings = []
 layouts_from (s ∷ ss) kept pacings =
     record {
-      kind = unwrap_or s.kind kind.Int64;
+      kind = filled_kind s;
       parameters = s.parameters;
       spawns = elim s.spawn [ None ↦ false | Some k ↦ true ];
       kept = unwrap_or (slice_get kept 0) 1;

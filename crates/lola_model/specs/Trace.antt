@@ -1,5 +1,5 @@
 -- The trace: a line for each entry of the journal.
-use Rattle.std.specs.Prelude.{◌≢◌, ◌≤◌, ◌<◌, ◌^◌, unwrap_or, IsTrue, IsUtf8, Contains, ℕ, List, [], ◌∷◌, ◌++◌, if◌then◌else◌, codes, decimal, map}
+use Rattle.std.specs.Prelude.{◌≢◌, ◌≤◌, ◌<◌, ◌^◌, IsTrue, IsUtf8, Contains, ℕ, List, [], ◌∷◌, ◌++◌, if◌then◌else◌, codes, decimal, map}
 use Rattle.std.specs.List.{AllZip}
 use Rattle.csv.specs.Writing.{default_writer, row_text}
 use Rattle.lola_value.specs.declared.text.Field.{Field}
@@ -7,8 +7,7 @@ use Rattle.lola_value.specs.declared.text.Field.TheVariants as field
 use Rattle.lola_value.specs.Times.{time_text, latest}
 use Rattle.lola_value.specs.Kinds.{is_bool, is_text, IsOperand}
 use Rattle.lola_value.specs.declared.value.Kind.{Kind}
-use Rattle.lola_value.specs.declared.value.Kind.TheVariants as kind
-use Rattle.lola_model.specs.Model.{is_input}
+use Rattle.lola_model.specs.Model.{is_input, filled_kind}
 use Rattle.lola_model.specs.declared.plan.Plan.{Plan}
 use Rattle.lola_model.specs.declared.spec.Stream.{Stream}
 use Rattle.lola_model.specs.Texts.{integer_text}
@@ -60,7 +59,7 @@ IsFieldOf k (field.Text t) = IsTrue (is_text k) × IsTraceableText t
 -- the kinds of the inputs, in order
 abbrev pub input_kinds : List Stream → List Kind
 input_kinds [] = []
-input_kinds (s ∷ ss) = if is_input s then unwrap_or s.kind kind.Int64 ∷ input_kinds ss else input_kinds ss
+input_kinds (s ∷ ss) = if is_input s then filled_kind s ∷ input_kinds ss else input_kinds ss
 
 -- a mark whose time is not past the greatest
 abbrev pub IsMarkInTime : Mark → Type 0

@@ -6,8 +6,8 @@ use Rattle.lola_value.specs.Ratio.{Ratio}
 use Rattle.lola_value.specs.declared.front.Code.{Code}
 use Rattle.lola_value.specs.declared.front.Code.TheVariants as code
 use Rattle.lola_model.specs.declared.pacing.Pacing.TheVariants.{Event, Periodic, Local}
-use Rattle.lola_model.specs.declared.finding.Finding.{Finding}
-use Rattle.lola_model.specs.declared.finding.Finding.TheVariants.{Paced, Refused, Unpaced}
+use Rattle.lola_model.specs.declared.finding.FoundPacing.{FoundPacing}
+use Rattle.lola_model.specs.declared.finding.FoundPacing.TheVariants.{Paced, Refused, Unpaced}
 
 -- the period is a whole number of nanoseconds
 abbrev pub IsWholePeriod : Ratio → Type 0
@@ -39,7 +39,7 @@ IsRateVerdict r over None = IsFineEnough r over
 IsRateVerdict r over _ = ⊥
 
 -- a window of this length in a clause of which that is found: E15 in one that goes by inputs, and nothing in one without a pacing
-abbrev pub IsVerdict : Finding → ℕ → Option Code → Type 0
+abbrev pub IsVerdict : FoundPacing → ℕ → Option Code → Type 0
 IsVerdict (Paced (Event sets)) over verdict = verdict ≡ Some code.WindowOutsidePeriodic
 IsVerdict (Paced (Periodic r)) over verdict = IsRateVerdict r over verdict
 IsVerdict (Paced (Local r)) over verdict = verdict ≡ Some code.WindowOutsidePeriodic

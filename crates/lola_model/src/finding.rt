@@ -5,7 +5,7 @@ use lola_value::front::Refusal;
 
 /// What is found of the pacing of a clause.
 #[derive(Drop)]
-pub enum Finding {
+pub enum FoundPacing {
     /// It has this one.
     Paced(Pacing),
     /// It has none, and this refusal says why.

@@ -4,9 +4,8 @@ use Rattle.lola_value.specs.Answer.{Answer, Given, Missing, Failed, Poisoned}
 use Rattle.lola_value.specs.declared.text.Field.{Field}
 use Rattle.lola_value.specs.declared.text.Field.TheVariants as field
 use Rattle.lola_value.specs.declared.value.Kind.{Kind}
-use Rattle.lola_value.specs.declared.value.Kind.TheVariants as kind
 use Rattle.lola_model.specs.Faults.{fault_of_last}
-use Rattle.lola_model.specs.Model.{has_fault, is_input, last_row}
+use Rattle.lola_model.specs.Model.{has_fault, is_input, last_row, filled_kind}
 use Rattle.lola_model.specs.Runs.{final_lines, first_fault, settled_fault, settled_lines, settled_model, whole_model}
 use Rattle.lola_model.specs.Table.{Living, StreamRow, TableRow}
 use Rattle.lola_model.specs.Texts.{answer_lines, living_lines, output_lines, stream_lines, table_lines, trigger_lines, value_lines}
@@ -29,7 +28,7 @@ same_heads (s ∷ ss) = ap (λ (hs : List Stream). without_clauses s ∷ hs) (sa
 
 pub same_kinds : (ss : List Stream) → input_kinds (map plain_stream ss) ≡ input_kinds ss
 same_kinds [] = refl
-same_kinds (s ∷ ss) = ap (λ (ks : List Kind). if is_input s then unwrap_or s.kind kind.Int64 ∷ ks else ks) (same_kinds ss)
+same_kinds (s ∷ ss) = ap (λ (ks : List Kind). if is_input s then filled_kind s ∷ ks else ks) (same_kinds ss)
 
 -- ---- lines
 

@@ -1,8 +1,7 @@
 -- What a store has to know of a plan, and what it stands for between steps, whatever the addresses of boxes.
 use Rattle.std.proofs.Common.{◌≡◌, refl, ap, ap₂, ℕ, ◌+◌, List, [], ◌∷◌, Option, None, Some, Bool, true, false, drop, map, option_map, slice_get, unwrap_or}
-use Rattle.lola_value.specs.declared.value.Kind.TheVariants as kind
 use Rattle.lola_model.specs.Content.{Content, StreamContent}
-use Rattle.lola_model.specs.Model.{last_row}
+use Rattle.lola_model.specs.Model.{last_row, filled_kind}
 use Rattle.lola_model.specs.NextStep.{local_rates}
 use Rattle.lola_model.specs.Runs.{content_after, life_after, streams_after, time_of_last}
 use Rattle.lola_model.specs.Store.{Layout, layout_of, layouts_from, StreamLayout}
@@ -25,7 +24,7 @@ same_layouts [] kept pacings = refl
 same_layouts (s ∷ ss) kept pacings =
     ap₂ (λ (spawns : Bool) (ls : List StreamLayout).
     let l : StreamLayout = record {
-      kind = unwrap_or s.kind kind.Int64;
+      kind = filled_kind s;
       parameters = s.parameters;
       spawns = spawns;
       kept = unwrap_or (slice_get kept 0) 1;

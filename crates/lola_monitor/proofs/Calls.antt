@@ -13,8 +13,8 @@ use Rattle.lola_monitor.specs.Command.{ReplayNames, names_asked}
 use Rattle.lola_monitor.specs.Monitor.{Asked, Outside, asks_between}
 use Rattle.lola_monitor.specs.Outcomes.{AllHome, Grew, Marred, PlansName, RunsSources, Stopped, noted}
 use Rattle.lola_monitor.specs.ReplayOutcomes.{ReplaysTexts}
-use Rattle.lola_monitor.specs.declared.outcome.Outcome.{Outcome}
-use Rattle.lola_monitor.specs.declared.outcome.Outcome.TheVariants.{Line, Drilled, Report, Replayed, CutFault, Put, Memory}
+use Rattle.lola_monitor.specs.declared.outcome.CallEnd.{CallEnd}
+use Rattle.lola_monitor.specs.declared.outcome.CallEnd.TheVariants.{Line, Drilled, Report, Replayed, CutFault, Put, Memory}
 use Rattle.lola_monitor.specs.declared.outcome.Unplanned.{Unplanned}
 use Rattle.lola_monitor.specs.declared.outcome.Unplanned.TheVariants as unplanned
 
@@ -59,7 +59,7 @@ grew_all names before after asks is named home = record { asks = asks; appended 
 grew_home : (names : List (List ℕ)) (before after : ShelfState) → AllHome names before after → Grew names before after
 grew_home names before after home = grew_all names before after (map given_ask names) home.asks (names_given names) home.out
 
-pub grew_sources : (in_turns : Bool) (outcome : Outcome) (s : Setting) (names : List (List ℕ)) (before after : Outside) → RunsSources in_turns outcome s names before after → Grew names before.shelf after.shelf
+pub grew_sources : (in_turns : Bool) (outcome : CallEnd) (s : Setting) (names : List (List ℕ)) (before after : Outside) → RunsSources in_turns outcome s names before after → Grew names before.shelf after.shelf
 grew_sources in_turns (Line (Done a l n v)) s names before after ran = grew_home names before.shelf after.shelf ran.ended.all
 grew_sources in_turns (Line (Malformed n row kind)) s names before after ran = grew_home names before.shelf after.shelf ran.ended.all
 grew_sources in_turns (Line (Fault stream kind time)) s names before after ran = grew_all names before.shelf after.shelf ran.asks ran.home.appended ran.home.named ran.home.out
@@ -84,7 +84,7 @@ grew_twice name names before mid after is grew = record {
 }
 
 -- a trace and verdicts
-pub grew_texts : (outcome : Outcome) (plan : Plan) (names : ReplayNames) (before after : ShelfState) → ReplaysTexts outcome plan names before after → Grew (names.trace ∷ names.verdicts ∷ []) before after
+pub grew_texts : (outcome : CallEnd) (plan : Plan) (names : ReplayNames) (before after : ShelfState) → ReplaysTexts outcome plan names before after → Grew (names.trace ∷ names.verdicts ∷ []) before after
 grew_texts (Line line) plan names before after ran = absurd ran
 grew_texts (Drilled line) plan names before after ran = absurd ran
 grew_texts (Report text) plan names before after ran = absurd ran

@@ -8,7 +8,7 @@ use Rattle.lola_monitor.specs.Drilling.{IsCutDrill, IsDrillDone, IsDrillMalforme
 use Rattle.lola_monitor.specs.Monitor.{Call, IsEarly, Outside, Wrote, call}
 use Rattle.lola_monitor.specs.Conclusions.{Concluded}
 use Rattle.lola_monitor.specs.Outcomes.{StoodDrilled}
-use Rattle.lola_monitor.specs.declared.outcome.Outcome.TheVariants.{Drilled}
+use Rattle.lola_monitor.specs.declared.outcome.CallEnd.TheVariants.{Drilled}
 use Rattle.lola_monitor.proofs.Means.{Means, means_at}
 
 module _ (words : List (List ℕ)) (before after : Outside) (last : SinkState) where

@@ -31,7 +31,7 @@ use Rattle.lola_monitor.specs.Drilling.{AreDrillWorkers, DrillRun, DrillsTo, IsA
 use Rattle.lola_monitor.specs.Monitor.{HasItsModels, MalformedSource, done_line, fault_line, first_malformed}
 use Rattle.lola_monitor.specs.Outcomes.{OutcomeAfter, end_by, end_of, ends_of, first_failed, is_failed_read, line_of, malformed_by, source_end}
 use Rattle.lola_monitor.specs.declared.ending.SourcesEnd.{SourcesEnd}
-use Rattle.lola_monitor.specs.declared.outcome.Outcome.TheVariants.{Line}
+use Rattle.lola_monitor.specs.declared.outcome.CallEnd.TheVariants.{Line}
 use Rattle.lola_monitor.proofs.FailedAsks.{none_malformed}
 
 -- ---- a source whose reads do not fail

@@ -9,8 +9,8 @@ use Rattle.lola_report_lines.specs.declared.end.EndLine.TheVariants.{Done, Usage
 use Rattle.lola_monitor.specs.Monitor.{Call, IsAnalysed, IsCutAnalysis, IsCutDone, IsCutMalformed, IsCutOff, IsCutShort, IsDone, IsEarly, IsFault, IsMalformed, IsRefused, IsUnread, IsUsage, Outside, Wrote, call}
 use Rattle.lola_monitor.specs.Conclusions.{Concluded}
 use Rattle.lola_monitor.specs.Outcomes.{AreUntouched, NoCommand, NoPlan, NotRead, StoodAnalysed, StoodCut, StoodDone, StoodFault, StoodMalformed, Works}
-use Rattle.lola_monitor.specs.declared.outcome.Outcome.{Outcome}
-use Rattle.lola_monitor.specs.declared.outcome.Outcome.TheVariants.{Line, Drilled, Report, Replayed, CutFault, Put, Memory}
+use Rattle.lola_monitor.specs.declared.outcome.CallEnd.{CallEnd}
+use Rattle.lola_monitor.specs.declared.outcome.CallEnd.TheVariants.{Line, Drilled, Report, Replayed, CutFault, Put, Memory}
 use Rattle.lola_replay_report.specs.declared.end.ReplayEnd.TheVariants.{Found, UnreadableTrace, UnreadableVerdicts}
 use Rattle.lola_monitor.proofs.DrillEnds.{drill_means}
 use Rattle.lola_monitor.proofs.ReplayMeans.{found_means, unread_means}
@@ -91,7 +91,7 @@ module _ (words : List (List ℕ)) (before after : Outside) (last : SinkState) w
   early_end : AreUntouched before after → last ≡ after.out → IsEarly here
   early_end early same = record { trace = early.trace; out = same ∙ early.out }
 
-  pub means_of : PutsAddUp → (status : ℕ) (outcome : Outcome) → Works outcome words before after → Concluded status outcome after.out last → Means status here
+  pub means_of : PutsAddUp → (status : ℕ) (outcome : CallEnd) → Works outcome words before after → Concluded status outcome after.out last → Means status here
   means_of parts status (Line (Done a l n v)) works (inl e) = means_at 0 status here e.0 (inl (ends_done parts (Done a l n v) works e.1))
   means_of parts status (Line (Done a l n v)) works (inr (inl e)) = means_at 7 status here e.0 (inl (inr (inl (cuts_done (Done a l n v) works e.1))))
   means_of parts status (Line (Done a l n v)) works (inr (inr e)) = means_at 8 status here e.0 (inr (record { run = works.all.run; trace = works.put.trace; out = inr (e.1 ∙ works.put.out) }))

@@ -31,8 +31,8 @@ use Rattle.lola_feed.specs.declared.sources.FetchStop.{FetchStop}
 use Rattle.lola_feed.specs.declared.sources.FetchStop.TheVariants as fetch
 use Rattle.lola_monitor.specs.Monitor.{AllBegin, AllEnd, AllRead, Begins, Ends, GoInTurns, IsAtDeadline, MalformedSource, Outside, asks_between, done_line, fault_line, first_failed_ask, first_malformed, is_failed_ask, outside, source_rows}
 use Rattle.lola_monitor.specs.Outcomes.{AllHome, ArePut, BrokenRun, CameHome, CutFaultRun, CutRun, EndedRun, FaultRun, Grew, OutcomeAfter, RunsSources, SourcesRun, StoppedRun, end_by, end_of, ends_of, first_failed, line_of, source_end, unfetched}
-use Rattle.lola_monitor.specs.declared.outcome.Outcome.{Outcome}
-use Rattle.lola_monitor.specs.declared.outcome.Outcome.TheVariants.{Line}
+use Rattle.lola_monitor.specs.declared.outcome.CallEnd.{CallEnd}
+use Rattle.lola_monitor.specs.declared.outcome.CallEnd.TheVariants.{Line}
 use Rattle.lola_monitor.proofs.Calls.{between, grew_all, grew_none, names_given}
 use Rattle.lola_monitor.proofs.FailedAsks.{Fits, all_counted, counted, first_is, first_not_given, front_asked, get_counted, given_counted, last_given, names_counted, none_counted, none_failed, none_failed_ask, none_malformed, plainly_given, some_counted}
 use Rattle.lola_monitor.proofs.Listed.{get_beside, get_image, image_get}
@@ -347,7 +347,7 @@ module _ (in_turns : Bool) (names : List (List ℕ)) (before after : Outside) (k
     no_line : Through in_turns first final → StoppedRun in_turns s names before after
     no_line through = record { shelf = grew; how = inl (record { run = run_through through; asks = asks; home = came_home; trace = through.trace; out = inr through.out }) }
 
-    pub ran_sources : (how : Result (Unit {0}) Stop) (outcome : Outcome) → OutcomeAfter how (end_of (ends_of last)) s.plan kept1 outcome → EndsRun in_turns how first final → RunsSources in_turns outcome s names before after
+    pub ran_sources : (how : Result (Unit {0}) Stop) (outcome : CallEnd) → OutcomeAfter how (end_of (ends_of last)) s.plan kept1 outcome → EndsRun in_turns how first final → RunsSources in_turns outcome s names before after
     ran_sources (Ok done) outcome is ran =
         subst (λ o. RunsSources in_turns o s names before after) (sym is) (by_ends (first_failed (ends_of last)) (first_malformed (map source_end (ends_of last))) refl refl ran)
     ran_sources (Err (stop.Fault stream kind time)) outcome (inl is) ran =
@@ -455,7 +455,7 @@ unfetched_run in_turns fetch.Memory s names rooms before after out trace workers
 pub as_many : (lent last : List Working) → places_of last ≡ places_of lent → length last ≡ length lent
 as_many lent last same = sym (length-map last (λ (w : Working). w.reader.source.place)) ∙ ap length same ∙ length-map lent (λ (w : Working). w.reader.source.place)
 
-pub ran_lent : (in_turns : Bool) (names : List (List ℕ)) (rooms : List Shape) (before mid after : ShelfState) (out0 trace0 out1 trace1 : SinkState) (kept0 kept1 : Keeping) (lent last : List Working) (how : Result (Unit {0}) Stop) (outcome : Outcome)
+pub ran_lent : (in_turns : Bool) (names : List (List ℕ)) (rooms : List Shape) (before mid after : ShelfState) (out0 trace0 out1 trace1 : SinkState) (kept0 kept1 : Keeping) (lent last : List Working) (how : Result (Unit {0}) Stop) (outcome : CallEnd)
     → IsLent names rooms before mid lent → AreRooms kept0.state.plan (length names) most_rows rooms → places_of last ≡ places_of lent → HasReturned names (counts_of last) before after
     → kept1.state.plan ≡ kept0.state.plan → OutcomeAfter how (end_of (ends_of last)) kept1.state.plan kept1 outcome
     → EndsRun in_turns how (world kept0 (map supply_of lent) out0 trace0) (world kept1 (map supply_of last) out1 trace1)

@@ -12,8 +12,8 @@ use Rattle.lola_monitor.specs.Monitor.{Outside, asks_between, first_failed_ask}
 use Rattle.lola_monitor.specs.Outcomes.{AreUntouched, Grew, Marred, ReadPlan, Stopped, Works, noted}
 use Rattle.lola_monitor.specs.Replaying.{IsText, OfReplay, told_by}
 use Rattle.lola_monitor.specs.ReplayOutcomes.{Judges, ReplaysTexts}
-use Rattle.lola_monitor.specs.declared.outcome.Outcome.{Outcome}
-use Rattle.lola_monitor.specs.declared.outcome.Outcome.TheVariants.{Line, Drilled, Report, Replayed, CutFault, Put, Memory}
+use Rattle.lola_monitor.specs.declared.outcome.CallEnd.{CallEnd}
+use Rattle.lola_monitor.specs.declared.outcome.CallEnd.TheVariants.{Line, Drilled, Report, Replayed, CutFault, Put, Memory}
 use Rattle.lola_monitor.proofs.Calls.{between, grew_noted, grew_stopped, grew_twice}
 
 module _ (plan : Plan) (names : ReplayNames) (before : ShelfState) where
@@ -29,7 +29,7 @@ module _ (plan : Plan) (names : ReplayNames) (before : ShelfState) where
 
   -- both were read
   module _ (after : ShelfState) (trace verdicts : List ℕ) (is_trace : IsText (before.told names.trace) trace) (are_verdicts : IsText (before.told names.verdicts) verdicts) (read : after ≡ noted mid names.verdicts) where
-    pub replays_texts : (outcome : Outcome) → Judges outcome (told_by names plan trace verdicts) → ReplaysTexts outcome plan names before after
+    pub replays_texts : (outcome : CallEnd) → Judges outcome (told_by names plan trace verdicts) → ReplaysTexts outcome plan names before after
     replays_texts (Line line) judged = absurd judged
     replays_texts (Drilled line) judged = absurd judged
     replays_texts (Report text) judged = absurd judged
@@ -64,7 +64,7 @@ module _ (words : List (List ℕ)) (names : ReplayNames) (plan : Plan) (before a
       between before.shelf after.shelf (given_ask names.specification ∷ given_ask names.trace ∷ ask ∷ [])
       (is ∙ ap (λ (s : ShelfState). (s.asks ++ given_ask names.trace ∷ []) ++ ask ∷ []) p.shelf ∙ three before.shelf.asks (given_ask names.specification) (given_ask names.trace) ask)
 
-  pub works_replayed : (outcome : Outcome) → ReplaysTexts outcome plan names mid after.shelf → Works outcome words before after
+  pub works_replayed : (outcome : CallEnd) → ReplaysTexts outcome plan names mid after.shelf → Works outcome words before after
   works_replayed (Line line) r = absurd r
   works_replayed (Drilled line) r = absurd r
   works_replayed (Report text) r = absurd r

@@ -18,8 +18,8 @@ use Rattle.lola_monitor.specs.Command.{Names, analysed_of, drill_of, run_of, spe
 use Rattle.lola_monitor.specs.Drilling.{DrillsBy}
 use Rattle.lola_monitor.specs.Monitor.{AllBegin, AllGiven, AllRead, Begins, CutsOff, Ends, GoInTurns, HasItsModels, HasRows, IsAtDeadline, IsEarly, IsUnfinished, Outside, Plans, Ran, WereGiven, analysis_text, asks_between, call, fault_line, first_failed_ask, setting_of}
 use Rattle.lola_monitor.specs.Outcomes.{AllHome, AreUntouched, ArePut, CameHome, Marred, PlansName, ReadPlan, RunsSources, SourcesRun, UnfinishedRun, Works, noted, without_plan}
-use Rattle.lola_monitor.specs.declared.outcome.Outcome.{Outcome}
-use Rattle.lola_monitor.specs.declared.outcome.Outcome.TheVariants.{Line, Drilled, Report, Replayed, CutFault, Put, Memory}
+use Rattle.lola_monitor.specs.declared.outcome.CallEnd.{CallEnd}
+use Rattle.lola_monitor.specs.declared.outcome.CallEnd.TheVariants.{Line, Drilled, Report, Replayed, CutFault, Put, Memory}
 use Rattle.lola_monitor.specs.declared.outcome.Unplanned.{Unplanned}
 use Rattle.lola_monitor.specs.declared.outcome.Unplanned.TheVariants as unplanned
 use Rattle.lola_monitor.proofs.Calls.{between}
@@ -137,7 +137,7 @@ module _ (words : List (List ℕ)) (names : Names) (plan : Plan) (before after :
     stands_at fault asks journal (inl at) = inl at
     stands_at fault asks journal (inr at) = inr (record { settled = at.settled; read = all_read asks journal at.read })
 
-    pub works_after : (outcome : Outcome) → RunsSources names.in_turns outcome s names.sources mid after → Works outcome words before after
+    pub works_after : (outcome : CallEnd) → RunsSources names.in_turns outcome s names.sources mid after → Works outcome words before after
     works_after (Line (Done a l n v)) r = record {
       all = record {
         run = ran_home r.ended.asks r.ended.run r.ended.home;
@@ -247,7 +247,7 @@ module _ (words : List (List ℕ)) (name : List ℕ) (before after : Outside) (e
     }
 
 -- a drill, which asks for nothing and traces nothing
-pub works_drilled : (words : List (List ℕ)) (here : Outside) (d : DrillCommand) (outcome : Outcome) → drill_of words ≡ Some d → DrillsBy outcome d → Works outcome words here here
+pub works_drilled : (words : List (List ℕ)) (here : Outside) (d : DrillCommand) (outcome : CallEnd) → drill_of words ≡ Some d → DrillsBy outcome d → Works outcome words here here
 works_drilled words here d (Line line) is drills = absurd drills
 works_drilled words here d (Drilled line) is drills = record { of = record { drill = d; is_command = is; shelf = refl }; drills = drills; early = record { trace = refl; out = refl } }
 works_drilled words here d (Report text) is drills = absurd drills

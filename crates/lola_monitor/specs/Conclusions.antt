@@ -9,8 +9,8 @@ use Rattle.lola_replay_report.specs.declared.end.ReplayEnd.{ReplayEnd}
 use Rattle.lola_replay_report.specs.declared.end.ReplayEnd.TheVariants.{Found, UnreadableTrace, UnreadableVerdicts}
 use Rattle.lola_replay.specs.declared.finding.Finding.{Finding}
 use Rattle.lola_replay.specs.declared.finding.Finding.TheVariants.{Same, TraceDiffers, VerdictsDiffer}
-use Rattle.lola_monitor.specs.declared.outcome.Outcome.{Outcome}
-use Rattle.lola_monitor.specs.declared.outcome.Outcome.TheVariants.{Line, Drilled, Report, Replayed, CutFault, Put, Memory}
+use Rattle.lola_monitor.specs.declared.outcome.CallEnd.{CallEnd}
+use Rattle.lola_monitor.specs.declared.outcome.CallEnd.TheVariants.{Line, Drilled, Report, Replayed, CutFault, Put, Memory}
 
 -- the status that goes with a last line
 abbrev pub status_with : EndLine → ℕ
@@ -57,7 +57,7 @@ status_replayed_without UnreadableTrace = 6
 status_replayed_without UnreadableVerdicts = 6
 
 -- the last line or the report was put, or a part of it, or there was no memory
-abbrev pub Concluded : ℕ → Outcome → SinkState → SinkState → Type 0
+abbrev pub Concluded : ℕ → CallEnd → SinkState → SinkState → Type 0
 Concluded status (Line line) old new =
     ((status ≡ status_with line) × (new ≡ grown old (end_text line))) ⊎ (((status ≡ status_without line) × PutBroke old new (end_text line)) ⊎ ((status ≡ 8) × (new ≡ old)))
 Concluded status (Drilled line) old new =

@@ -19,8 +19,8 @@ use Rattle.lola_report_lines.specs.declared.end.EndLine.TheVariants.{Done, Usage
 use Rattle.lola_feed.specs.Drills.{drill_bytes, drill_text}
 use Rattle.lola_monitor_run.specs.Verdicts.{AreOfSources, IsRowFault, Setting, fault_in, most_rows, settled_fault_in}
 use Rattle.lola_monitor_run.specs.Rounds.{AreFirst}
-use Rattle.lola_monitor.specs.declared.outcome.Outcome.{Outcome}
-use Rattle.lola_monitor.specs.declared.outcome.Outcome.TheVariants.{Line, Drilled, Report, Replayed, CutFault, Put, Memory}
+use Rattle.lola_monitor.specs.declared.outcome.CallEnd.{CallEnd}
+use Rattle.lola_monitor.specs.declared.outcome.CallEnd.TheVariants.{Line, Drilled, Report, Replayed, CutFault, Put, Memory}
 use Rattle.lola_monitor.specs.Command.{drill_of}
 use Rattle.lola_monitor.specs.Monitor.{Call, HasItsModels, IsUntraced, MalformedSource, Wrote, done_line, fault_line, first_malformed, source_rows}
 
@@ -138,7 +138,7 @@ pub record IsCutDrill (c : Call) : Type 0 where
   pub out : PutBroke c.before.out c.after.out (end_text line)
 
 -- how a drill ends before its line is put
-abbrev pub DrillsBy : Outcome → DrillCommand → Type 0
+abbrev pub DrillsBy : CallEnd → DrillCommand → Type 0
 DrillsBy (Line line) d = ⊥
 DrillsBy (Drilled line) d = DrillsTo line d
 DrillsBy (Report text) d = ⊥

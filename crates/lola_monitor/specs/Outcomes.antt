@@ -33,8 +33,8 @@ use Rattle.lola_monitor.specs.Replaying.{Replay, Unread}
 use Rattle.lola_monitor.specs.Monitor.{AllBegin, AllEnd, AllRead, AllWell, Analysis, AreGiven, CutShort, CutsOff, Ends, GoInTurns, HasItsModels, IsAtDeadline, IsCutOff, IsEarly, IsFault, IsFrontOf, IsRefusedBy, IsUnfinished, MalformedSource, Outside, Plans, SomeMalformed, UpToFault, analysis_text, asks_between, call, done_line, fault_line, first_failed_ask, first_malformed, is_failed_ask, setting_of}
 use Rattle.lola_monitor.specs.declared.ending.SourcesEnd.{SourcesEnd}
 use Rattle.lola_monitor.specs.declared.ending.SourcesEnd.TheVariants as sources_end
-use Rattle.lola_monitor.specs.declared.outcome.Outcome.{Outcome}
-use Rattle.lola_monitor.specs.declared.outcome.Outcome.TheVariants.{Line, Drilled, Report, Replayed, CutFault, Put, Memory}
+use Rattle.lola_monitor.specs.declared.outcome.CallEnd.{CallEnd}
+use Rattle.lola_monitor.specs.declared.outcome.CallEnd.TheVariants.{Line, Drilled, Report, Replayed, CutFault, Put, Memory}
 use Rattle.lola_monitor.specs.declared.outcome.Unplanned.{Unplanned}
 use Rattle.lola_monitor.specs.declared.outcome.Unplanned.TheVariants as unplanned
 
@@ -190,7 +190,7 @@ pub record StoppedRun (in_turns : Bool) (s : Setting) (names : List (List ℕ)) 
   pub how : UnfinishedRun in_turns s names before after ⊎ AreUntouched before after
 
 -- a run of sources, in turns or not
-abbrev pub RunsSources : Bool → Outcome → Setting → List (List ℕ) → Outside → Outside → Type 0
+abbrev pub RunsSources : Bool → CallEnd → Setting → List (List ℕ) → Outside → Outside → Type 0
 RunsSources in_turns (Line (Done a l n v)) s names before after = DoneRun in_turns (Done a l n v) s names before after
 RunsSources in_turns (Line (Malformed n row kind)) s names before after = MalformedRun in_turns (Malformed n row kind) s names before after
 RunsSources in_turns (Line (Fault stream kind time)) s names before after = FaultRun in_turns (Fault stream kind time) s names before after
@@ -233,13 +233,13 @@ PlansName (Err (unplanned.Refused r)) name before after = ReadRefusal r name bef
 PlansName (Err unplanned.Memory) name before after = Stopped name before after
 
 -- how a call ends without a plan
-abbrev pub without_plan : Unplanned → Outcome
+abbrev pub without_plan : Unplanned → CallEnd
 without_plan unplanned.Unreadable = Line UnreadableSpecification
 without_plan (unplanned.Refused r) = Line (Refused r)
 without_plan unplanned.Memory = Memory
 
 -- how a call ends where not all sources were fetched
-abbrev pub unfetched : FetchStop → Outcome
+abbrev pub unfetched : FetchStop → CallEnd
 unfetched (fetch.Failed at) = Line (UnreadableSource at)
 unfetched fetch.Memory = Memory
 
@@ -295,7 +295,7 @@ line_of (sources_end.Failed at) kept = UnreadableSource at
 line_of (sources_end.Malformed source row kind) kept = Malformed source row kind
 
 -- what a run's end makes of a call
-abbrev pub OutcomeAfter : Result (Unit {0}) Stop → SourcesEnd → Plan → Keeping → Outcome → Type 0
+abbrev pub OutcomeAfter : Result (Unit {0}) Stop → SourcesEnd → Plan → Keeping → CallEnd → Type 0
 OutcomeAfter (Ok done) end plan kept outcome = outcome ≡ Line (line_of end kept)
 OutcomeAfter (Err (stop.Fault stream kind time)) end plan kept outcome = (outcome ≡ Line (fault_line plan (record { stream = stream; kind = kind; time = time }))) ⊎ (outcome ≡ Memory)
 OutcomeAfter (Err (stop.CutFault stream kind time)) end plan kept outcome = outcome ≡ CutFault
@@ -368,7 +368,7 @@ pub record StoodUnread (end : ReplayEnd) (words : List (List ℕ)) (before after
   pub early : AreUntouched before after
 
 -- all but the last line
-abbrev pub Works : Outcome → List (List ℕ) → Outside → Outside → Type 0
+abbrev pub Works : CallEnd → List (List ℕ) → Outside → Outside → Type 0
 Works (Line (Done a l s v)) words before after = StoodDone (Done a l s v) words before after
 Works (Line (Malformed n row kind)) words before after = StoodMalformed (Malformed n row kind) words before after
 Works (Line (Fault stream kind time)) words before after = StoodFault (Fault stream kind time) words before after

@@ -8,8 +8,8 @@ use Rattle.lola_replay.specs.declared.finding.Finding.{Finding}
 use Rattle.lola_monitor.specs.Command.{ReplayNames}
 use Rattle.lola_monitor.specs.Outcomes.{Grew, Marred, noted}
 use Rattle.lola_monitor.specs.Replaying.{IsText, told_by}
-use Rattle.lola_monitor.specs.declared.outcome.Outcome.{Outcome}
-use Rattle.lola_monitor.specs.declared.outcome.Outcome.TheVariants.{Line, Drilled, Report, Replayed, CutFault, Put, Memory}
+use Rattle.lola_monitor.specs.declared.outcome.CallEnd.{CallEnd}
+use Rattle.lola_monitor.specs.declared.outcome.CallEnd.TheVariants.{Line, Drilled, Report, Replayed, CutFault, Put, Memory}
 
 -- both were read whole, one after the other, and this was found of them
 pub record FoundTexts (finding : Finding) (plan : Plan) (names : ReplayNames) (before after : ShelfState) : Type 0 where
@@ -21,7 +21,7 @@ pub record FoundTexts (finding : Finding) (plan : Plan) (names : ReplayNames) (b
   pub finds : Finds (told_by names plan trace verdicts) finding
 
 -- how a replay of texts that were read ends: with what they are found to be, or for want of memory
-abbrev pub Judges : Outcome → Told → Type 0
+abbrev pub Judges : CallEnd → Told → Type 0
 Judges (Line line) told = ⊥
 Judges (Drilled line) told = ⊥
 Judges (Report text) told = ⊥
@@ -33,7 +33,7 @@ Judges Put told = ⊥
 Judges Memory told = Unit {0}
 
 -- a replay of a plan, by how it ends
-abbrev pub ReplaysTexts : Outcome → Plan → ReplayNames → ShelfState → ShelfState → Type 0
+abbrev pub ReplaysTexts : CallEnd → Plan → ReplayNames → ShelfState → ShelfState → Type 0
 ReplaysTexts (Line line) plan names before after = ⊥
 ReplaysTexts (Drilled line) plan names before after = ⊥
 ReplaysTexts (Report text) plan names before after = ⊥

@@ -8,7 +8,7 @@ ghost use Rattle.lola_monitor.specs.Drilling.{AreDrillWorkers, DrillsBy, IsDrill
 ghost use Rattle.lola_monitor.specs.Monitor.{HasItsModels};
 
 use crate::ending::{end_of, outcome_after};
-use crate::outcome::{Outcome, Unplanned};
+use crate::outcome::{CallEnd, Unplanned};
 use crate::planning::plan_of;
 use lola_feed::worker::SourceWorker;
 use lola_feed::{Drill, specification};
@@ -107,7 +107,7 @@ fn run_workers<R: Threads + Sync, G: Gate + Sync>(
     workers: Vec<SourceWorker<Drill>>,
     _command: &DrillCommand,
     gate: &G,
-) -> Outcome
+) -> CallEnd
     requires accepted { IsAccepted (keeping run.old).state.plan }
     requires stands { Stands [] (keeping run.old) }
     requires setting { setting_in (keeping run.old) ≡ drill_setting (keeping run.old).state.plan }
@@ -122,8 +122,8 @@ fn run_workers<R: Threads + Sync, G: Gate + Sync>(
     let end = end_of(workers.as_slice());
     let_go(workers);
     match outcome_after(alloc, run, stopped, end) {
-        Outcome::Line(line) => Outcome::Drilled(line),
-        _ => Outcome::Memory,
+        CallEnd::Line(line) => CallEnd::Drilled(line),
+        _ => CallEnd::Memory,
     }
 }
 
@@ -135,14 +135,14 @@ fn run_drill<R: Threads + Sync, G: Gate + Sync>(
     plan: Plan,
     command: &DrillCommand,
     gate: &G,
-) -> Outcome
+) -> CallEnd
     requires accepted { IsAccepted plan }
     requires number { command.now.number < 2147483647 }
     requires workers { (1 ≤ command.now.workers) × (command.now.workers ≤ 64) }
     ensures { IsPlanOf drill_text plan → HasItsModels plan → DrillsBy result command.now }
 {
     let Ok(room) = drill_room(alloc, hasher, plan, command) else {
-        return Outcome::Memory;
+        return CallEnd::Memory;
     };
     let (mut run, workers) = room;
     run_workers(rt, alloc, &mut run, workers, command, gate)
@@ -156,14 +156,14 @@ pub fn drill<R: Threads + Sync, G: Gate + Sync>(
     hasher: RandomState,
     command: &DrillCommand,
     gate: &G,
-) -> Outcome
+) -> CallEnd
     requires number { command.now.number < 2147483647 }
     requires workers { (1 ≤ command.now.workers) × (command.now.workers ≤ 64) }
     ensures { DrillsBy result command.now }
 {
     match plan_of(alloc, specification().as_bytes()) {
         Ok(plan) => run_drill(rt, alloc, hasher, plan, command, gate),
-        Err(Unplanned::Refused(refusal)) => Outcome::Drilled(EndLine::Refused(refusal)),
-        Err(_) => Outcome::Memory,
+        Err(Unplanned::Refused(refusal)) => CallEnd::Drilled(EndLine::Refused(refusal)),
+        Err(_) => CallEnd::Memory,
     }
 }

@@ -4,7 +4,7 @@ ghost use Rattle.lola_monitor_run.specs.Running.{keeping};
 ghost use Rattle.lola_monitor.specs.Monitor.{fault_line as fault_line_of, first_malformed};
 ghost use Rattle.lola_monitor.specs.Outcomes.{OutcomeAfter, end_of as end_of_all, ends_of, first_failed, is_failed_read as is_failed_read_of, line_of, malformed_at as malformed_at_of, malformed_by, source_end};
 
-use crate::outcome::Outcome;
+use crate::outcome::CallEnd;
 use lola_feed::worker::{SourceEnd, SourceWorker};
 use lola_model::plan::Plan;
 use lola_model::source::MalformedKind;
@@ -130,19 +130,19 @@ pub fn outcome_after(
     run: &Run,
     stopped: Result<(), Stop>,
     end: SourcesEnd,
-) -> Outcome
+) -> CallEnd
     ensures { OutcomeAfter stopped end (keeping run.now).state.plan (keeping run.now) result }
 {
     match stopped {
-        Ok(()) => Outcome::Line(last_line(run, end)),
+        Ok(()) => CallEnd::Line(last_line(run, end)),
         Err(Stop::Fault { stream, kind, time }) => {
             match fault_line(alloc, run.plan(), stream, kind, time) {
-                Ok(line) => Outcome::Line(line),
-                Err(_) => Outcome::Memory,
+                Ok(line) => CallEnd::Line(line),
+                Err(_) => CallEnd::Memory,
             }
         }
-        Err(Stop::CutFault { .. }) => Outcome::CutFault,
-        Err(Stop::Put) => Outcome::Put,
-        Err(Stop::Memory) => Outcome::Memory,
+        Err(Stop::CutFault { .. }) => CallEnd::CutFault,
+        Err(Stop::Put) => CallEnd::Put,
+        Err(Stop::Memory) => CallEnd::Memory,
     }
 }

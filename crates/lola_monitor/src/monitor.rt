@@ -9,7 +9,7 @@ ghost use Rattle.lola_monitor.specs.Outcomes.{Works};
 
 use crate::analysing::analysis;
 use crate::drilling::drill;
-use crate::outcome::Outcome;
+use crate::outcome::CallEnd;
 use crate::planning::{read_plan, without_plan};
 use crate::putting::conclude;
 use crate::replaying::replay_texts;
@@ -36,7 +36,7 @@ fn run<R: Threads + Wait + Sync, F: Shelf, K: Sink, T: Sink, G: Gate + Sync>(
     out: &mut K,
     trace: &mut T,
     gate: &G,
-) -> Outcome
+) -> CallEnd
     requires out { (F.state shelf.old).out ≡ 0 }
     requires is_run { command_of (map string_bytes words.now) ≡ Some (Command.Run command.now) }
     ensures works { Works result (map string_bytes words.now) (outside (F.state shelf.old) (K.state out.old) (T.state trace.old))
@@ -58,7 +58,7 @@ fn analyse<F: Shelf>(
     words: &[String],
     specification: usize,
     shelf: &mut F,
-) -> Outcome
+) -> CallEnd
     requires out { (F.state shelf.old).out ≡ 0 }
     requires is_analysis { command_of (map string_bytes words.now) ≡ Some (Command.Analyse specification) }
     ensures works { (out : SinkState) (trace : SinkState) → Works result (map string_bytes words.now) (outside (F.state shelf.old) out trace) (outside (F.state shelf.new) out trace) }
@@ -69,8 +69,8 @@ fn analyse<F: Shelf>(
         Err(end) => return without_plan(end),
     };
     match analysis(alloc, &plan) {
-        Ok(text) => Outcome::Report(text),
-        Err(_) => Outcome::Memory,
+        Ok(text) => CallEnd::Report(text),
+        Err(_) => CallEnd::Memory,
     }
 }
 
@@ -80,7 +80,7 @@ fn replay<F: Shelf>(
     words: &[String],
     command: &ReplayCommand,
     shelf: &mut F,
-) -> Outcome
+) -> CallEnd
     requires out { (F.state shelf.old).out ≡ 0 }
     requires is_replay { command_of (map string_bytes words.now) ≡ Some (Command.Replay command.now) }
     ensures works { (out : SinkState) (trace : SinkState) → Works result (map string_bytes words.now) (outside (F.state shelf.old) out trace) (outside (F.state shelf.new) out trace) }
@@ -103,7 +103,7 @@ fn work<R: Threads + Wait + Sync, F: Shelf, K: Sink, T: Sink, G: Gate + Sync>(
     out: &mut K,
     trace: &mut T,
     gate: &G,
-) -> Outcome
+) -> CallEnd
     requires { (F.state shelf.old).out ≡ 0 }
     ensures works { Works result (map string_bytes words.now) (outside (F.state shelf.old) (K.state out.old) (T.state trace.old))
         (outside (F.state shelf.new) (K.state out.new) (T.state trace.new)) }
@@ -116,8 +116,8 @@ fn work<R: Threads + Wait + Sync, F: Shelf, K: Sink, T: Sink, G: Gate + Sync>(
         Ok(Some(Command::Analyse(specification))) => analyse(alloc, words, specification, shelf),
         Ok(Some(Command::Drill(command))) => drill(rt, alloc, hasher, &command, gate),
         Ok(Some(Command::Replay(command))) => replay(alloc, words, &command, shelf),
-        Ok(None) => Outcome::Line(EndLine::Usage),
-        Err(_) => Outcome::Memory,
+        Ok(None) => CallEnd::Line(EndLine::Usage),
+        Err(_) => CallEnd::Memory,
     }
 }
 

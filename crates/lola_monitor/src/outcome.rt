@@ -18,7 +18,7 @@ pub enum Unplanned {
 /// A call ends with a line, that of a run, of a drill or of a replay, or with a report and its last line, or with a fault the lines
 /// before which could not be put, or with a failed put, or for want of memory.
 #[derive(Drop)]
-pub enum Outcome {
+pub enum CallEnd {
     Line(EndLine),
     Drilled(EndLine),
     Report(Text),

@@ -2,7 +2,7 @@
 ghost use Rattle.std.specs.Prelude.{◌≡◌, ◌<◌};
 ghost use Rattle.lola_monitor.specs.Outcomes.{PlansName, PlansText, without_plan as without_plan_of};
 
-use crate::outcome::{Outcome, Unplanned};
+use crate::outcome::{CallEnd, Unplanned};
 use crate::reading::read_name;
 use lola_front::compile;
 use lola_model::plan::Plan;
@@ -39,12 +39,12 @@ pub fn read_plan<F: Shelf>(alloc: Global, shelf: &mut F, name: &str) -> Result<P
 }
 
 /// How a call ends without a plan.
-pub fn without_plan(end: Unplanned) -> Outcome
+pub fn without_plan(end: Unplanned) -> CallEnd
     ensures { result ≡ without_plan_of end }
 {
     match end {
-        Unplanned::Unreadable => Outcome::Line(EndLine::UnreadableSpecification),
-        Unplanned::Refused(refusal) => Outcome::Line(EndLine::Refused(refusal)),
-        Unplanned::Memory => Outcome::Memory,
+        Unplanned::Unreadable => CallEnd::Line(EndLine::UnreadableSpecification),
+        Unplanned::Refused(refusal) => CallEnd::Line(EndLine::Refused(refusal)),
+        Unplanned::Memory => CallEnd::Memory,
     }
 }

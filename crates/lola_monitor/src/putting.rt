@@ -4,7 +4,7 @@ ghost use Rattle.lola_report_lines.specs.Ends.{end_text};
 ghost use Rattle.lola_replay_report.specs.ReplayEnds.{replay_end_text};
 ghost use Rattle.lola_monitor.specs.Conclusions.{Concluded, status_found, status_replayed, status_replayed_without, status_with, status_without};
 
-use crate::outcome::Outcome;
+use crate::outcome::CallEnd;
 use lola_port::{PutEnd, Sink};
 use lola_replay::finding::Finding;
 use lola_replay_report::end::{ReplayEnd, replay_end_line};
@@ -47,7 +47,7 @@ fn status_without_line(line: &EndLine) -> u8
 
 // Puts a report with its last line, and answers the status.
 fn put_report<K: Sink>(text: &Text, out: &mut K) -> u8
-    ensures { Concluded result (Outcome.Report text.now) (K.state out.old) (K.state out.new) }
+    ensures { Concluded result (CallEnd.Report text.now) (K.state out.old) (K.state out.new) }
 {
     let bytes = text.as_bytes();
     if bytes.is_empty() {
@@ -101,7 +101,7 @@ fn status_replayed_without(end: ReplayEnd) -> u8
 
 // Puts the last line of a replay, and answers the status.
 fn put_replay<K: Sink>(alloc: Global, end: ReplayEnd, out: &mut K) -> u8
-    ensures { Concluded result (Outcome.Replayed end) (K.state out.old) (K.state out.new) }
+    ensures { Concluded result (CallEnd.Replayed end) (K.state out.old) (K.state out.new) }
 {
     let Ok(text) = replay_text(alloc, end) else {
         return 8;
@@ -115,16 +115,16 @@ fn put_replay<K: Sink>(alloc: Global, end: ReplayEnd, out: &mut K) -> u8
 }
 
 /// Puts the last line of a call, or its report, and answers its status.
-pub fn conclude<K: Sink>(alloc: Global, outcome: Outcome, out: &mut K) -> u8
+pub fn conclude<K: Sink>(alloc: Global, outcome: CallEnd, out: &mut K) -> u8
     ensures { Concluded result outcome (K.state out.old) (K.state out.new) }
 {
     let line = match outcome {
-        Outcome::Line(line) | Outcome::Drilled(line) => line,
-        Outcome::Report(text) => return put_report(&text, out),
-        Outcome::Replayed(end) => return put_replay(alloc, end, out),
-        Outcome::CutFault => return 5,
-        Outcome::Put => return 7,
-        Outcome::Memory => return 8,
+        CallEnd::Line(line) | CallEnd::Drilled(line) => line,
+        CallEnd::Report(text) => return put_report(&text, out),
+        CallEnd::Replayed(end) => return put_replay(alloc, end, out),
+        CallEnd::CutFault => return 5,
+        CallEnd::Put => return 7,
+        CallEnd::Memory => return 8,
     };
     let Ok(text) = line_text(alloc, &line) else {
         return 8;

@@ -6,7 +6,7 @@ ghost use Rattle.lola_monitor.specs.Outcomes.{Marred, Stopped, noted};
 ghost use Rattle.lola_monitor.specs.Replaying.{IsText};
 ghost use Rattle.lola_monitor.specs.ReplayOutcomes.{Judges, ReplaysTexts};
 
-use crate::outcome::Outcome;
+use crate::outcome::CallEnd;
 use crate::reading::read_name;
 use crate::words::word_at;
 use lola_model::plan::Plan;
@@ -42,15 +42,15 @@ fn end_of(
     command: &ReplayCommand,
     trace: &[u8],
     verdicts: &[u8],
-) -> Outcome
+) -> CallEnd
     requires accepted { IsAccepted plan.now }
     requires few_entries { length trace.now < 2 ^ 63 }
     requires few_lines { length verdicts.now < 2 ^ 63 }
     ensures { Judges result (record { plan = plan.now; start = command.now.start; show = command.now.show; trace = trace.now; verdicts = verdicts.now }) }
 {
     match replay(alloc, plan, command.start, command.show, trace, verdicts) {
-        Ok(finding) => Outcome::Replayed(ReplayEnd::Found(finding)),
-        Err(_) => Outcome::Memory,
+        Ok(finding) => CallEnd::Replayed(ReplayEnd::Found(finding)),
+        Err(_) => CallEnd::Memory,
     }
 }
 
@@ -61,20 +61,20 @@ pub fn replay_texts<F: Shelf>(
     words: &[String],
     command: &ReplayCommand,
     shelf: &mut F,
-) -> Outcome
+) -> CallEnd
     requires out { (F.state shelf.old).out ≡ 0 }
     requires accepted { IsAccepted plan.now }
     ensures { ReplaysTexts result plan.now (replay_with (map string_bytes words.now) command.now) (F.state shelf.old) (F.state shelf.new) }
 {
     let trace = match read_text(alloc, shelf, word_at(words, command.trace)) {
         Ok(trace) => trace,
-        Err(FetchEnd::Failed) => return Outcome::Replayed(ReplayEnd::UnreadableTrace),
-        Err(FetchEnd::Memory) => return Outcome::Memory,
+        Err(FetchEnd::Failed) => return CallEnd::Replayed(ReplayEnd::UnreadableTrace),
+        Err(FetchEnd::Memory) => return CallEnd::Memory,
     };
     let verdicts = match read_text(alloc, shelf, word_at(words, command.verdicts)) {
         Ok(verdicts) => verdicts,
-        Err(FetchEnd::Failed) => return Outcome::Replayed(ReplayEnd::UnreadableVerdicts),
-        Err(FetchEnd::Memory) => return Outcome::Memory,
+        Err(FetchEnd::Failed) => return CallEnd::Replayed(ReplayEnd::UnreadableVerdicts),
+        Err(FetchEnd::Memory) => return CallEnd::Memory,
     };
     end_of(alloc, plan, command, &trace, &verdicts)
 }

@@ -13,7 +13,7 @@ ghost use Rattle.lola_monitor.specs.Monitor.{outside};
 ghost use Rattle.lola_monitor.specs.Outcomes.{RunsSources, unfetched};
 
 use crate::ending::{end_of, outcome_after};
-use crate::outcome::Outcome;
+use crate::outcome::CallEnd;
 use lola_feed::rooms::reserve_all;
 use lola_feed::sources::{FetchStop, fetch_all, give_all_back};
 use lola_feed::worker::SourceWorker;
@@ -71,12 +71,12 @@ fn reserve<S: Source>(
 }
 
 // What a call ends with where not all sources were fetched.
-fn not_fetched(stop: FetchStop) -> Outcome
+fn not_fetched(stop: FetchStop) -> CallEnd
     ensures { result ≡ unfetched stop }
 {
     match stop {
-        FetchStop::Failed(at) => Outcome::Line(EndLine::UnreadableSource(at)),
-        FetchStop::Memory => Outcome::Memory,
+        FetchStop::Failed(at) => CallEnd::Line(EndLine::UnreadableSource(at)),
+        FetchStop::Memory => CallEnd::Memory,
     }
 }
 
@@ -119,7 +119,7 @@ fn run_lent<R: Threads + Wait + Sync, F: Shelf, K: Sink, T: Sink, G: Gate + Sync
     out: &mut K,
     trace: &mut T,
     gate: &G,
-) -> Outcome
+) -> CallEnd
     requires stands { Stands [] (keeping run.old) }
     requires ready { AreReady (keeping run.old).state.plan workers.items }
     requires start { start ≡ (keeping run.old).state.given_start }
@@ -149,7 +149,7 @@ fn run_room<R: Threads + Wait + Sync, F: Shelf, K: Sink, T: Sink, G: Gate + Sync
     out: &mut K,
     trace: &mut T,
     gate: &G,
-) -> Outcome
+) -> CallEnd
     requires out { (F.state shelf.old).out ≡ 0 }
     requires sources { (1 ≤ length command.now.sources) × (length command.now.sources ≤ 64) }
     requires run { Stands [] (keeping room.run) }
@@ -201,7 +201,7 @@ pub fn run_sources<R: Threads + Wait + Sync, F: Shelf, K: Sink, T: Sink, G: Gate
     out: &mut K,
     trace: &mut T,
     gate: &G,
-) -> Outcome
+) -> CallEnd
     requires out { (F.state shelf.old).out ≡ 0 }
     requires accepted { IsAccepted plan }
     requires workers { (1 ≤ command.now.workers) × (command.now.workers ≤ 64) }
@@ -212,7 +212,7 @@ pub fn run_sources<R: Threads + Wait + Sync, F: Shelf, K: Sink, T: Sink, G: Gate
         (outside (F.state shelf.new) (K.state out.new) (T.state trace.new)) }
 {
     let Ok(room) = reserve(alloc, hasher, plan, command) else {
-        return Outcome::Memory;
+        return CallEnd::Memory;
     };
     run_room(rt, alloc, room, words, command, shelf, out, trace, gate)
 }

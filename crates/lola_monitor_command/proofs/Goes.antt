@@ -5,8 +5,8 @@ use Rattle.std.specs.List.{slice_get}
 use Rattle.lola_monitor_command.specs.Said.{Word, thing_of, names_from, with_front, after, said_from}
 use Rattle.lola_monitor_command.specs.declared.said.Said.{Said}
 use Rattle.lola_monitor_command.specs.declared.said.Said.TheVariants as said
-use Rattle.lola_monitor_command.specs.declared.said.Thing.{Thing}
-use Rattle.lola_monitor_command.specs.declared.said.Thing.TheVariants as thing
+use Rattle.lola_monitor_command.specs.declared.said.WordSense.{WordSense}
+use Rattle.lola_monitor_command.specs.declared.said.WordSense.TheVariants as thing
 
 -- the word of a number, and those behind it
 pub word_in_front : {X : Type 0} (f : X → Word) (xs : List X) (at : ℕ) (x : X) → at < length xs → get_or xs at x ≡ x → drop at (map f xs) ≡ f x ∷ drop (at + 1) (map f xs)
@@ -35,7 +35,7 @@ module _ (ws : List Word) (w : Word) (at : ℕ) (e : drop at ws ≡ w ∷ drop (
   opened : said_from false at (drop at ws) ≡ after at (drop (at + 1) ws) (thing_of at w (slice_get ws (at + 1))) (λ skip. said_from skip (at + 1) (drop (at + 1) ws))
   opened = ap (said_from false at) e ∙ ap (λ o. after at (drop (at + 1) ws) (thing_of at w o) (λ skip. said_from skip (at + 1) (drop (at + 1) ws))) (first_of_rest ws (at + 1))
 
-  by_thing : (t : Thing) → thing_of at w (slice_get ws (at + 1)) ≡ t → said_from false at (drop at ws) ≡ after at (drop (at + 1) ws) t (λ skip. said_from skip (at + 1) (drop (at + 1) ws))
+  by_thing : (t : WordSense) → thing_of at w (slice_get ws (at + 1)) ≡ t → said_from false at (drop at ws) ≡ after at (drop (at + 1) ws) t (λ skip. said_from skip (at + 1) (drop (at + 1) ws))
   by_thing t is = opened ∙ ap (λ z. after at (drop (at + 1) ws) z (λ skip. said_from skip (at + 1) (drop (at + 1) ws))) is
 
   pub wrong_goes : thing_of at w (slice_get ws (at + 1)) ≡ thing.Wrong → said_from false at (drop at ws) ≡ None

@@ -6,8 +6,8 @@ use Rattle.lola_value.specs.Times.{is_digit, number_of, read_time}
 use Rattle.lola_model.specs.declared.journal.Show.TheVariants as show
 use Rattle.lola_monitor_command.specs.declared.said.Said.{Said}
 use Rattle.lola_monitor_command.specs.declared.said.Said.TheVariants as said
-use Rattle.lola_monitor_command.specs.declared.said.Thing.{Thing}
-use Rattle.lola_monitor_command.specs.declared.said.Thing.TheVariants as thing
+use Rattle.lola_monitor_command.specs.declared.said.WordSense.{WordSense}
+use Rattle.lola_monitor_command.specs.declared.said.WordSense.TheVariants as thing
 
 abbrev pub Word : Type 0
 Word = List ℕ
@@ -53,17 +53,17 @@ abbrev pub is_equals : ℕ → Bool
 is_equals b = nat_eq b 61
 
 -- what is said, if anything is, and whether the next word belongs to it
-abbrev pub says : Bool → Option Said → Thing
+abbrev pub says : Bool → Option Said → WordSense
 says takes_next None = thing.Wrong
 says takes_next (Some s) = thing.Says s takes_next
 
 -- an option whose first `=` is there, between its name and its value; without one its value is the next word
-abbrev pub valued : Word → Option Word → Option ℕ → Thing
+abbrev pub valued : Word → Option Word → Option ℕ → WordSense
 valued w next None = says true (option_with w next)
 valued w next (Some at) = says false (option_by (take at w) (drop (at + 1) w))
 
 -- what a word says, by its number, with the word behind it
-abbrev pub thing_of : ℕ → Word → Option Word → Thing
+abbrev pub thing_of : ℕ → Word → Option Word → WordSense
 thing_of at w next =
     if bytes_eq w (codes "--") then thing.Dashes
     else if not (is_option w) then thing.Says (said.Name at) false
@@ -81,7 +81,7 @@ with_front front None = None
 with_front front (Some ss) = Some (front ++ ss)
 
 -- what a thing says, and then the words behind it; the function is told whether the next word belongs to it
-abbrev pub after : ℕ → List Word → Thing → (Bool → Option (List Said)) → Option (List Said)
+abbrev pub after : ℕ → List Word → WordSense → (Bool → Option (List Said)) → Option (List Said)
 after at ws thing.Dashes rest = Some (names_from (at + 1) ws)
 after at ws (thing.Says s takes_next) rest = with_front (s ∷ []) (rest takes_next)
 after at ws thing.Wrong rest = None

@@ -20,11 +20,11 @@ use std::marker::Model;
 
 /// Numbers of words of the command line, from 0 for the program's name.
 #[derive(Drop)]
-pub struct Names {
+pub struct WordNumbers {
     items: Vec<usize>,
 }
 
-impl Model for Names {
+impl Model for WordNumbers {
     ghost use Rattle.std.specs.Prelude.{ℕ, List};
 
     ghost Value = { List ℕ };
@@ -32,12 +32,12 @@ impl Model for Names {
     ghost view = { λ a. a.items.items };
 }
 
-impl Names {
+impl WordNumbers {
     /// An empty list.
-    pub fn create(alloc: Global) -> Names
+    pub fn create(alloc: Global) -> WordNumbers
         ensures { result ≡ [] }
     {
-        Names {
+        WordNumbers {
             items: Vec::new(alloc),
         }
     }
@@ -65,7 +65,7 @@ pub struct RunCommand {
     /// The word that names the specification.
     pub specification: usize,
     /// The words that name the sources, from 1 to 64, in their order.
-    pub sources: Names,
+    pub sources: WordNumbers,
     /// What is shown; triggers where nothing is said.
     pub show: Show,
     /// How many workers there are, from 1 to 64; 1 where nothing is said.
@@ -116,7 +116,7 @@ pub enum Command {
 }
 
 // Moves the names at the front behind others, and gives what stands behind them.
-fn take_names<'a>(names: &mut Names, said: &'a [Said]) -> Result<&'a [Said], Memory>
+fn take_names<'a>(names: &mut WordNumbers, said: &'a [Said]) -> Result<&'a [Said], Memory>
     ensures names { OnOk result (names.new ≡ names.old ++ front_names said.now) }
     ensures rest { IfOk result (λ rest. rest.now ≡ behind_names said.now) }
 {
@@ -145,7 +145,7 @@ fn run_over_specification(
 ) -> Result<Option<Command>, Memory>
     ensures { IfOk result (λ command. command ≡ run_over said.now specification behind.now) }
 {
-    let mut sources = Names::create(alloc);
+    let mut sources = WordNumbers::create(alloc);
     let rest = take_names(&mut sources, behind)?;
     if !is_once(said) || !can_be_sources(sources.as_slice(), rest) {
         return Ok(None);

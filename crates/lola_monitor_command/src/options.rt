@@ -5,7 +5,7 @@ ghost use Rattle.std.specs.List.{list_all};
 ghost use Rattle.lola_value.specs.Times.{is_digit, number_of};
 ghost use Rattle.lola_monitor_command.specs.Said.{begins_with_minus, is_option, show_by, is_worker_count, workers_by, start_by, option_by, option_with, is_equals, says, valued as valued_by, thing_of};
 
-use crate::said::{Said, Thing};
+use crate::said::{Said, WordSense};
 use lola_model::journal::Show;
 use lola_value::times::time_read;
 
@@ -127,17 +127,17 @@ fn equals_place(word: &[u8]) -> Option<usize>
     word.iter().position(|byte| *byte == b'=')
 }
 
-fn says_option(takes_next: bool, option: Option<Said>) -> Thing
+fn says_option(takes_next: bool, option: Option<Said>) -> WordSense
     ensures { result ≡ says takes_next option }
 {
     match option {
-        None => Thing::Wrong,
-        Some(said) => Thing::Says(said, takes_next),
+        None => WordSense::Wrong,
+        Some(said) => WordSense::Says(said, takes_next),
     }
 }
 
 // What an option says that has more than a name of its own: its value in the same word or in the next one.
-fn valued(word: &[u8], next: Option<&[u8]>) -> Thing
+fn valued(word: &[u8], next: Option<&[u8]>) -> WordSense
     ensures { result ≡ valued_by word.now (option_map (λ w. w.now) next.entry) (position is_equals word.now) }
 {
     match equals_place(word) {
@@ -147,15 +147,15 @@ fn valued(word: &[u8], next: Option<&[u8]>) -> Thing
 }
 
 /// What a word says, with the word behind it.
-pub fn thing(at: usize, word: &[u8], next: Option<&[u8]>) -> Thing
+pub fn thing(at: usize, word: &[u8], next: Option<&[u8]>) -> WordSense
     ensures { result ≡ thing_of at word.now (option_map (λ w. w.now) next.entry) }
 {
     if word == b"--".as_slice() {
-        Thing::Dashes
+        WordSense::Dashes
     } else if !is_option_word(word) {
-        Thing::Says(Said::Name(at), false)
+        WordSense::Says(Said::Name(at), false)
     } else if word == b"--in-turns".as_slice() {
-        Thing::Says(Said::InTurns, false)
+        WordSense::Says(Said::InTurns, false)
     } else {
         valued(word, next)
     }

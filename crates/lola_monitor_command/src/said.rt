@@ -24,7 +24,7 @@ pub enum Said {
 
 /// What one word says where it stands.
 #[derive(Clone, Copy, Debug, PartialEq, Eq)]
-pub enum Thing {
+pub enum WordSense {
     /// `--`: all words behind it are names.
     Dashes,
     /// A name, or an option; and whether the next word is its value.

@@ -4,7 +4,7 @@ ghost use Rattle.std.specs.Prelude.{◌≡◌, ◌≤◌, ◌++◌, IfOk, OnOk, 
 ghost use Rattle.lola_monitor_command.specs.Said.{said_from, names_from};
 
 use crate::options::thing;
-use crate::said::{Said, SaidList, Thing};
+use crate::said::{Said, SaidList, WordSense};
 use lola_value::text::Memory;
 use std::alloc::Global;
 
@@ -38,12 +38,12 @@ pub fn all_said(alloc: Global, words: &[String], from: usize) -> Result<Option<S
     let mut at = from;
     while at < words.len() {
         match thing(at, words[at].as_bytes(), word_at(words, at + 1)) {
-            Thing::Wrong => return Ok(None),
-            Thing::Dashes => {
+            WordSense::Wrong => return Ok(None),
+            WordSense::Dashes => {
                 push_names(&mut said, words, at + 1)?;
                 return Ok(Some(said));
             }
-            Thing::Says(one, takes_next) => {
+            WordSense::Says(one, takes_next) => {
                 said.push(one)?;
                 at += if takes_next { 2 } else { 1 };
             }

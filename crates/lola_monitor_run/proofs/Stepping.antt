@@ -9,8 +9,8 @@ use Rattle.lola_model.specs.declared.journal.Entry.{Entry}
 use Rattle.lola_model.proofs.Journals.{merged_from-append}
 use Rattle.lola_merge.specs.Merging.{sources_of}
 use Rattle.lola_feed.specs.declared.worker.SourceEnd.TheVariants as end
-use Rattle.lola_feed.specs.declared.worker.Turn.{Turn}
-use Rattle.lola_feed.specs.declared.worker.Turn.TheVariants as turn
+use Rattle.lola_feed.specs.declared.worker.TurnEnd.{TurnEnd}
+use Rattle.lola_feed.specs.declared.worker.TurnEnd.TheVariants as turn
 use Rattle.lola_monitor_run.specs.Verdicts.{Setting}
 use Rattle.lola_monitor_run.specs.Running.{IsNext, IsSetAs, Keeping, Puts, Stands, StandsNext, Takes}
 use Rattle.lola_monitor_run.specs.declared.stop.Stop.{Stop}
@@ -57,7 +57,7 @@ pub merged_next : (result : Result (Unit {0}) Stop) (entry : Entry) (old new : K
 merged_next (Ok done) entry old new o0 o1 standing takes = time_next standing.0 entry old new o0 o1 standing.1 (takes.0 standing.0 standing.1) takes.1
 merged_next (Err how) entry old new o0 o1 standing takes = tt
 
-module _ (s : ℕ) (old mid new : Feeding) (kept : Keeping) (idle : IsIdle old kept) (answer : Turn) (t : TookTurn s answer old mid) where
+module _ (s : ℕ) (old mid new : Feeding) (kept : Keeping) (idle : IsIdle old kept) (answer : TurnEnd) (t : TookTurn s answer old mid) where
   -- there was no memory for a row
   pub out_of_memory : (o t0 : SinkState) → IsOutOfMemory answer → NotTraced s (world kept (supplies_of old) o t0) (world kept (supplies_of mid) o t0)
   out_of_memory o t0 is = by_answer (after_turn s old mid kept idle answer t)

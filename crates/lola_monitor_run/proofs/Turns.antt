@@ -26,8 +26,8 @@ use Rattle.lola_merge.specs.declared.state.Offer.TheVariants as reply
 use Rattle.lola_merge.proofs.Answering.{offer_is_due}
 use Rattle.lola_feed.specs.Feeding.{Finishes, IsNext, StateIs, Turns, Working, end_of, finishes_at, handed_in, led_by, offers_at, to_come, without}
 use Rattle.lola_feed.specs.declared.worker.SourceEnd as worker
-use Rattle.lola_feed.specs.declared.worker.Turn.{Turn}
-use Rattle.lola_feed.specs.declared.worker.Turn.TheVariants as turn
+use Rattle.lola_feed.specs.declared.worker.TurnEnd.{TurnEnd}
+use Rattle.lola_feed.specs.declared.worker.TurnEnd.TheVariants as turn
 use Rattle.lola_monitor_run.specs.Verdicts.{most_rows}
 use Rattle.lola_monitor_run.specs.Running.{IsNext as IsNextFor, IsRowFor, Keeping}
 use Rattle.lola_monitor_run.specs.Feeds.{AreInPlace, AreOfPlan, Feeding, IsAt, IsIdle, Passes, supplies_of, supply_of}
@@ -140,7 +140,7 @@ pub record GaveEntry (s : ℕ) (old mid : Feeding) (kept : Keeping) : Type 0 whe
   pub sources : sources_of mid.merging ≡ sources_of old.merging
 
 -- a source handed in nothing
-pub record GaveNone (answer : Turn) (s : ℕ) (old mid : Feeding) (kept : Keeping) : Type 0 where
+pub record GaveNone (answer : TurnEnd) (s : ℕ) (old mid : Feeding) (kept : Keeping) : Type 0 where
   pub sat : Rested s (supplies_of old) (supplies_of mid) ⊎ ((how : worker.SourceEnd) × (answer ≡ turn.Done how) × Finished s how (supplies_of old) (supplies_of mid))
   pub pending : mid.merging.pending ≡ []
   pub merged : mid.merging.merged ≡ kept.state.merged
@@ -170,7 +170,7 @@ module _ (s : ℕ) (old mid : Feeding) (kept : Keeping) (idle : IsIdle old kept)
         sources = ap (λ (m : Merging). length m.finished) is ∙ ap length l.finished;
       }
 
-  rested : (how : worker.SourceEnd) (answer : Turn) (before after : Working) → slice_get old.workers s ≡ Some before → mid.workers ≡ set old.workers s after → before.end ≡ Some how → after ≡ before
+  rested : (how : worker.SourceEnd) (answer : TurnEnd) (before after : Working) → slice_get old.workers s ≡ Some before → mid.workers ≡ set old.workers s after → before.end ≡ Some how → after ≡ before
       → mid.merging ≡ old.merging → GaveNone answer s old mid kept
   rested how answer before after was now over same merging = record {
     sat = inl (record {
@@ -204,7 +204,7 @@ module _ (s : ℕ) (old mid : Feeding) (kept : Keeping) (idle : IsIdle old kept)
     sources = ap sources_of merging ∙ length-set old.merging.finished s true;
   }
 
-  pub after_turn : (answer : Turn) → TookTurn s answer old mid → GaveEntry s old mid kept ⊎ GaveNone answer s old mid kept
+  pub after_turn : (answer : TurnEnd) → TookTurn s answer old mid → GaveEntry s old mid kept ⊎ GaveNone answer s old mid kept
   unfolding desk
   after_turn turn.Moved t =
       let m = t.turns.1.2 in
@@ -224,7 +224,7 @@ module _ (s : ℕ) (old mid : Feeding) (kept : Keeping) (idle : IsIdle old kept)
           inr (subst (λ (e : worker.SourceEnd). GaveNone (turn.Done e) s old mid kept) (sym f.1) (finished f.0 t.before t.after t.was t.now went_on f.2 (ap (λ (d : StateIs). d.merging) f.2.finished)))
 
 -- after a turn, and once what it handed in was taken out, a feed waits for the next
-module _ (s : ℕ) (old mid new : Feeding) (kept after : Keeping) (idle : IsIdle old kept) (answer : Turn) (t : TookTurn s answer old mid) (entry : Option Entry) (took : TookEntry entry mid new) where
+module _ (s : ℕ) (old mid new : Feeding) (kept after : Keeping) (idle : IsIdle old kept) (answer : TurnEnd) (t : TookTurn s answer old mid) (entry : Option Entry) (took : TookEntry entry mid new) where
   shapes : after.state.plan ≡ kept.state.plan → AreOfPlan after.state.plan new.workers
   shapes plan k w is = dite (ℕ_discrete k s)
       (λ same.
@@ -247,8 +247,8 @@ module _ (s : ℕ) (old mid new : Feeding) (kept after : Keeping) (idle : IsIdle
   }
 
 -- a worker keeps its place
-pub in_place : (s : ℕ) (answer : Turn) (old mid : Feeding) → TookTurn s answer old mid → AreInPlace old.workers mid.workers
+pub in_place : (s : ℕ) (answer : TurnEnd) (old mid : Feeding) → TookTurn s answer old mid → AreInPlace old.workers mid.workers
 in_place s answer old mid t = mapped_same (λ (w : Working). w.reader.source.place) old.workers mid.workers s t.before t.after t.was t.now t.kept.place
 
-pub in_place_then : (s : ℕ) (answer : Turn) (old mid new : Feeding) (entry : Option Entry) → TookTurn s answer old mid → TookEntry entry mid new → AreInPlace old.workers new.workers
+pub in_place_then : (s : ℕ) (answer : TurnEnd) (old mid new : Feeding) (entry : Option Entry) → TookTurn s answer old mid → TookEntry entry mid new → AreInPlace old.workers new.workers
 in_place_then s answer old mid new entry t took = ap (λ (ws : List Working). map (λ (w : Working). w.reader.source.place) ws) took.workers ∙ in_place s answer old mid t

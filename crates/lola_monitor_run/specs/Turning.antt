@@ -14,8 +14,8 @@ use Rattle.lola_merge.specs.Merging.{take_after}
 use Rattle.lola_feed.specs.Feeding.{Turns, Working, finishes_at, offers_at}
 use Rattle.lola_feed.specs.declared.worker.SourceEnd as worker
 use Rattle.lola_feed.specs.declared.worker.SourceEnd.TheVariants as end
-use Rattle.lola_feed.specs.declared.worker.Turn.{Turn}
-use Rattle.lola_feed.specs.declared.worker.Turn.TheVariants as turn
+use Rattle.lola_feed.specs.declared.worker.TurnEnd.{TurnEnd}
+use Rattle.lola_feed.specs.declared.worker.TurnEnd.TheVariants as turn
 use Rattle.lola_monitor_run.specs.Verdicts.{AreOfSources, AreTraceable, most_rows, settled_text}
 use Rattle.lola_monitor_run.specs.Running.{CutFaultNext, CutNext, FaultNext, IsAccepted, IsNext, IsRowFor, IsSetAs, Keeping, KeptNext, Stands, StandsNext, setting_in}
 use Rattle.lola_monitor_run.specs.declared.stop.Stop.{Stop}
@@ -24,7 +24,7 @@ use Rattle.lola_monitor_run.specs.Rounds.{InTurn}
 use Rattle.lola_monitor_run.specs.Feeds.{AreFed, Feeding, HaveEnded, IsAt, IsSound, Passes, Runs, Supply, World}
 
 -- a turn ended for want of memory
-abbrev pub IsOutOfMemory : Turn → Type 0
+abbrev pub IsOutOfMemory : TurnEnd → Type 0
 IsOutOfMemory answer = answer ≡ turn.Done end.Memory
 
 -- the worker at this place reads this source
@@ -32,7 +32,7 @@ abbrev pub IsAtIndex : ℕ → List Working → Type 0
 IsAtIndex s workers = (w : Working) → slice_get workers s ≡ Some w → w.reader.shape.index ≡ s
 
 -- a source took its turn at the merge object, in its place among the workers
-pub record TookTurn (s : ℕ) (answer : Turn) (old new : Feeding) : Type 0 where
+pub record TookTurn (s : ℕ) (answer : TurnEnd) (old new : Feeding) : Type 0 where
   pub before : Working
   pub after : Working
   pub was : slice_get old.workers s ≡ Some before

@@ -5,7 +5,7 @@ ghost use Rattle.lola_merge.specs.Merging.{sources_of};
 ghost use Rattle.lola_monitor_run.specs.Turning.{IsAtIndex, TookEntry, TookTurn};
 
 use lola_feed::desk::StateDesk;
-use lola_feed::worker::{SourceWorker, Turn};
+use lola_feed::worker::{SourceWorker, TurnEnd};
 use lola_merge::batch::Batch;
 use lola_merge::state::MergeState;
 use lola_model::journal::Entry;
@@ -52,7 +52,7 @@ impl<S: Source> Feed<S> {
     }
 
     // A turn of this source.
-    pub(crate) fn turn(&mut self, source: u32) -> Turn
+    pub(crate) fn turn(&mut self, source: u32) -> TurnEnd
         requires there { source < length self.old.workers }
         requires many { sources_of self.old.merging ≡ length self.old.workers }
         requires index { IsAtIndex source self.old.workers }

@@ -10,7 +10,7 @@ ghost use Rattle.lola_monitor_run.specs.Turning.{GoesRound, IsOutOfMemory, IsSta
 use crate::feed::Feed;
 use crate::run::Run;
 use crate::stop::Stop;
-use lola_feed::worker::{SourceEnd, SourceWorker, Turn};
+use lola_feed::worker::{SourceEnd, SourceWorker, TurnEnd};
 use lola_merge::batch::Batch;
 use lola_merge::state::MergeState;
 use lola_model::journal::Entry;
@@ -47,10 +47,10 @@ fn run_entry<R: Threads + Sync, K: Sink, T: Sink, G: Gate + Sync>(
 }
 
 // Whether a worker has ended for want of memory.
-fn is_out_of_memory(turn: Turn) -> bool
+fn is_out_of_memory(turn: TurnEnd) -> bool
     ensures { IsTrue result ↔ IsOutOfMemory turn }
 {
-    matches!(turn, Turn::Done(SourceEnd::Memory))
+    matches!(turn, TurnEnd::Done(SourceEnd::Memory))
 }
 
 // A turn of a source: what it handed in is taken out, traced and run. It tells whether that was a row.

@@ -22,8 +22,8 @@ use Rattle.lola_feed.proofs.Seats.{turn-same}
 use Rattle.lola_feed.specs.Feeding.{Begun, IsLetIn, IsNext, Looks, Turns, Working, end_of, handed_in, led_by, to_come, without}
 use Rattle.lola_feed.specs.declared.worker.SourceEnd as worker
 use Rattle.lola_feed.specs.declared.worker.SourceEnd.TheVariants as end
-use Rattle.lola_feed.specs.declared.worker.Turn.{Turn}
-use Rattle.lola_feed.specs.declared.worker.Turn.TheVariants as turn
+use Rattle.lola_feed.specs.declared.worker.TurnEnd.{TurnEnd}
+use Rattle.lola_feed.specs.declared.worker.TurnEnd.TheVariants as turn
 use Rattle.lola_monitor_run.specs.Feeds.{BeganWith, EndedWith, HasEnded, IsAt, Passes, led_by as before, supply_of}
 use Rattle.lola_monitor_threads.specs.Seated.{HasOffered, HasStopped, HasTold, IsRowIn, WentOn, seated, rows_in}
 use Rattle.lola_monitor_run.proofs.Turns.{both_parts, passes_are, at_is, to_come_is}
@@ -202,7 +202,7 @@ module _ (from old new : Working) (d0 d1 : Shown) (h : HasOffered from (seated o
       (subst (λ (e : Option worker.SourceEnd). HasTold e d1.mine) (sym ended) (has_told how (subst FinishesLast (sym told) (finishes_last d0.mine d0.source untold))))
 
 module _ (from old new : Working) (d0 d1 : Shown) (h : HasOffered from (seated old d0)) (shape : new.reader.shape ≡ old.reader.shape) where
-  offers_next : (t : Turn) → Turns offers_by finishes_by d0 d1 t old new → HasOffered from (seated new d1)
+  offers_next : (t : TurnEnd) → Turns offers_by finishes_by d0 d1 t old new → HasOffered from (seated new d1)
   offers_next turn.Moved t = let m = t.1.2 in lets_in from old new d0 d1 h t.0 shape t.1.0 t.1.1 m.next m.let_in m.offered.0.mine m.kept m.end
   offers_next turn.Full t = let w = t.1.1 in meets_full from old new d0 d1 h t.0 shape t.1.0 w.next w.offered.0.mine w.kept w.end
   offers_next (turn.Done how) (inl rests) = subst (λ (w : Working). HasOffered from (seated w d1)) (sym rests.same) (subst (λ (d : Shown). HasOffered from (seated old d)) (sym rests.desk) h)
@@ -210,7 +210,7 @@ module _ (from old new : Working) (d0 d1 : Shown) (h : HasOffered from (seated o
   offers_next (turn.Done how) (inr (goes_on, inr f)) = finishes from old new d0 d1 h goes_on shape f.0 f.2.none f.2.stops f.2.finished.mine f.2.end
 
 -- a seated worker goes on by a turn
-pub turn_goes_on : (t : Turn) (d0 d1 : Shown) (old new : Working) → Turns offers_by finishes_by d0 d1 t old new → reader.Keeps old.reader new.reader → WentOn (seated old d0) (seated new d1)
+pub turn_goes_on : (t : TurnEnd) (d0 d1 : Shown) (old new : Working) → Turns offers_by finishes_by d0 d1 t old new → reader.Keeps old.reader new.reader → WentOn (seated old d0) (seated new d1)
 turn_goes_on t d0 d1 old new turns kept = record {
   seat = turn-same t d0 d1 old new turns;
   kept = kept;

@@ -4,7 +4,7 @@ ghost use Rattle.lola_monitor_threads.specs.Seated.{WentOn};
 
 use crate::seated::{SeatedWorker, begin_or_look_at, turn_at};
 use lola_feed::SeatDesk;
-use lola_feed::worker::{SourceWorker, Turn};
+use lola_feed::worker::{SourceWorker, TurnEnd};
 use lola_intake::intake::Intake;
 use lola_monitor_board::Board;
 use lola_port::{Gate, Source};
@@ -147,7 +147,7 @@ impl<'a, S: Source, R: Wait + Sync> DeskWorker<'a, S, R> {
     fn hand_in(&mut self) -> bool
         ensures { WentOn self.old self.new }
     {
-        matches!(turn_at(&mut self.worker, &mut self.desk), Turn::Moved)
+        matches!(turn_at(&mut self.worker, &mut self.desk), TurnEnd::Moved)
     }
 
     /// One turn of the source, and a look at its next row where that is at hand. The gate is told before the turn. It tells whether a

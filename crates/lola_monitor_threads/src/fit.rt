@@ -23,12 +23,12 @@ const MOST_TAKEN: u64 = 70368744177664;
 
 /// How many sources a run has, and the kinds of its inputs. Contracts see these two.
 #[derive(Drop)]
-pub struct Inputs {
+pub struct RunInputs {
     count: u32,
     kinds: Vec<Kind>,
 }
 
-impl Model for Inputs {
+impl Model for RunInputs {
     ghost use Rattle.lola_monitor_threads.specs.Takings.{InputsOf};
 
     ghost Value = { InputsOf };
@@ -36,9 +36,9 @@ impl Model for Inputs {
     ghost view = { λ i. record { count = i.count; kinds = i.kinds.items } };
 }
 
-impl Inputs {
+impl RunInputs {
     /// The inputs of a plan, and so many sources.
-    pub fn create(alloc: Global, plan: &Plan, count: u32) -> Result<Inputs, Memory>
+    pub fn create(alloc: Global, plan: &Plan, count: u32) -> Result<RunInputs, Memory>
         ensures count { IfOk result (λ inputs. inputs.count ≡ count) }
         ensures kinds { IfOk result (λ inputs. inputs.kinds ≡ input_kinds plan.now.spec.streams) }
     {
@@ -46,7 +46,7 @@ impl Inputs {
         for stream in plan.spec.streams.as_slice() {
             add_kind(&mut kinds, stream)?;
         }
-        Ok(Inputs { count, kinds })
+        Ok(RunInputs { count, kinds })
     }
 
     /// How many sources there are.
@@ -73,7 +73,7 @@ fn add_kind(kinds: &mut Vec<Kind>, stream: &Stream) -> Result<(), Memory>
     ensures { OnOk result (kinds.new.items ≡ kinds.old.items ++ input_kinds (stream.now ∷ [])) }
 {
     if stream.is_input() {
-        kinds.push(stream.kind.unwrap_or(Kind::Int64))?;
+        kinds.push(stream.filled_kind())?;
     }
     Ok(())
 }

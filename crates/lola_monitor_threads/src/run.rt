@@ -11,7 +11,7 @@ ghost use Rattle.lola_monitor_threads.specs.Joining.{Joins};
 ghost use Rattle.lola_monitor_threads.specs.Seated.{AreNewSeats, SomeOutOfMemory, all_seated};
 ghost use Rattle.lola_monitor_threads.specs.declared.halt.Halt.TheVariants as halt;
 
-use crate::fit::Inputs;
+use crate::fit::RunInputs;
 use crate::halt::Halt;
 use crate::here::are_all_here;
 use crate::seated::SeatedWorker;
@@ -68,7 +68,7 @@ impl<S: Source> Room<S> {
         let board = Board::create(alloc, count)?;
         let left = Batch::create(alloc)?;
         let batch = Batch::create(alloc)?;
-        let inputs = Inputs::create(alloc, plan, count)?;
+        let inputs = RunInputs::create(alloc, plan, count)?;
         let (intake, seats, seat) = Intake::create(alloc, count, start)?;
         Ok(Room {
             intake,

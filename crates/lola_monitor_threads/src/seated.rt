@@ -3,7 +3,7 @@ ghost use Rattle.std.specs.Prelude.{◌≡◌};
 ghost use Rattle.lola_monitor_threads.specs.Seated.{WentOn, seated};
 
 use lola_feed::SeatDesk;
-use lola_feed::worker::{SourceWorker, Turn};
+use lola_feed::worker::{SourceWorker, TurnEnd};
 use lola_intake::intake::Intake;
 use lola_intake::seats::SourceSeat;
 use lola_monitor_board::{Board, Watch};
@@ -95,7 +95,7 @@ pub fn begin_or_look_at<S: Source, R: Wait + Sync>(
 pub fn turn_at<S: Source, R: Wait + Sync>(
     worker: &mut SourceWorker<S>,
     desk: &mut SeatDesk<'_, R>,
-) -> Turn
+) -> TurnEnd
     requires { worker.old.reader.shape.index ≡ desk.old.source }
     ensures { WentOn (seated worker.old desk.old) (seated worker.new desk.new) }
 {
@@ -124,16 +124,16 @@ fn hand_in<S: Source, R: Wait + Sync, G: Gate>(
     let mut times: u32 = 0;
     for _ in rt.forever() {
         match turn_at(worker, desk) {
-            Turn::Moved => {
+            TurnEnd::Moved => {
                 board.row_is_in(source, times);
                 return true;
             }
-            Turn::Full => {
+            TurnEnd::Full => {
                 board.wait_for_room(rt, source, times);
                 times = times.saturating_add(1);
                 gate.source_turn(source);
             }
-            Turn::Done(_) => {
+            TurnEnd::Done(_) => {
                 leave(board, source, times);
                 return false;
             }

@@ -13,7 +13,7 @@ ghost use Rattle.lola_monitor_threads.specs.Seated.{WentOn};
 ghost use Rattle.lola_monitor_threads.specs.Takings.{GoesOn, Halts, HasRun, IsReady, IsPartlyRun, Place, RunsOne, place, was_taken};
 
 use crate::desk::DeskWorker;
-use crate::fit::Inputs;
+use crate::fit::RunInputs;
 use crate::halt::Halt;
 use crate::here::{rest, turn_here, waits_for_others};
 use lola_intake::intake::Intake;
@@ -56,7 +56,7 @@ fn run_entry<R: Threads + Sync, K: Sink, T: Sink, G: Gate + Sync>(
 fn test_entry<R: Threads + Sync, K: Sink, T: Sink, G: Gate + Sync>(
     rt: &R,
     run: &mut Run,
-    inputs: &Inputs,
+    inputs: &RunInputs,
     entry: &Entry,
     out: &mut K,
     trace: &mut T,
@@ -83,7 +83,7 @@ fn test_entry<R: Threads + Sync, K: Sink, T: Sink, G: Gate + Sync>(
 fn run_batch<R: Threads + Sync, K: Sink, T: Sink, G: Gate + Sync>(
     rt: &R,
     run: &mut Run,
-    inputs: &Inputs,
+    inputs: &RunInputs,
     batch: &mut Batch,
     out: &mut K,
     trace: &mut T,
@@ -140,7 +140,7 @@ fn rest_after<S: Source, R: Wait + Sync>(
 #[derive(Drop)]
 pub struct Taker {
     seat: EngineSeat,
-    inputs: Inputs,
+    inputs: RunInputs,
     batch: Batch,
 }
 
@@ -154,7 +154,7 @@ impl Model for Taker {
 
 impl Taker {
     /// A seat, the inputs of a run, and an empty batch.
-    pub fn create(seat: EngineSeat, inputs: Inputs, batch: Batch) -> Taker
+    pub fn create(seat: EngineSeat, inputs: RunInputs, batch: Batch) -> Taker
         ensures { result ≡ record { seat = seat; inputs = inputs; batch = batch } }
     {
         Taker {

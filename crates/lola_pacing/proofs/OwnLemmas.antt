@@ -5,7 +5,7 @@ use Rattle.lola_value.specs.declared.front.Code.{Code}
 use Rattle.lola_model.specs.declared.spec.Stream.{Stream}
 use Rattle.lola_model.specs.declared.spec.WindowSpec.{WindowSpec}
 use Rattle.lola_model.specs.PacingFound.{AreOwn}
-use Rattle.lola_model.specs.declared.finding.Finding.{Finding}
+use Rattle.lola_model.specs.declared.finding.FoundPacing.{FoundPacing}
 use Rattle.lola_model.specs.Pacings.{InStep, AreVerdicts}
 use Rattle.lola_pacing.specs.Steps.{Grows, GrowsOwn}
 
@@ -14,15 +14,15 @@ append_none [] = refl
 append_none (x ∷ xs) = ap (λ ys. x ∷ ys) (append_none xs)
 
 -- where all streams are done
-pub grown : (R : ℕ → Stream → Finding → Type 0) (all ss : List Stream) (i n : ℕ) (made : List Finding) → i ≡ length ss → Grows R all n (drop i ss) made → InStep R 0 all made
+pub grown : (R : ℕ → Stream → FoundPacing → Type 0) (all ss : List Stream) (i n : ℕ) (made : List FoundPacing) → i ≡ length ss → Grows R all n (drop i ss) made → InStep R 0 all made
 grown R all ss i n made e g =
-    subst (λ (fs : List Finding). InStep R 0 all fs) (append_none made) (g [] (subst (λ (ts : List Stream). InStep R n ts []) (sym (drop_all i ss (omega arith))) tt))
+    subst (λ (fs : List FoundPacing). InStep R 0 all fs) (append_none made) (g [] (subst (λ (ts : List Stream). InStep R n ts []) (sym (drop_all i ss (omega arith))) tt))
 
-pub grown_own : (all ss : List Stream) (i n : ℕ) (made : List Finding) → i ≡ length ss → GrowsOwn all n (drop i ss) made → AreOwn 0 all made
+pub grown_own : (all ss : List Stream) (i n : ℕ) (made : List FoundPacing) → i ≡ length ss → GrowsOwn all n (drop i ss) made → AreOwn 0 all made
 grown_own all ss i n made e g =
-    subst (λ (fs : List Finding). AreOwn 0 all fs) (append_none made) (g [] (subst (λ (ts : List Stream). AreOwn n ts []) (sym (drop_all i ss (omega arith))) tt))
+    subst (λ (fs : List FoundPacing). AreOwn 0 all fs) (append_none made) (g [] (subst (λ (ts : List Stream). AreOwn n ts []) (sym (drop_all i ss (omega arith))) tt))
 
-pub verdicts_all : (spawns evals closes : List Finding) (all ws : List WindowSpec) (i : ℕ) (made : List (Option Code)) → i ≡ length ws
+pub verdicts_all : (spawns evals closes : List FoundPacing) (all ws : List WindowSpec) (i : ℕ) (made : List (Option Code)) → i ≡ length ws
     → ((rest : List (Option Code)) → AreVerdicts spawns evals closes (drop i ws) rest → AreVerdicts spawns evals closes all (made ++ rest))
     → AreVerdicts spawns evals closes all made
 verdicts_all spawns evals closes all ws i made e g =

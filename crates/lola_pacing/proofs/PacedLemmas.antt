@@ -21,12 +21,12 @@ use Rattle.lola_model.specs.Leaves.{is_end, is_end_of, has_pace, is_written}
 use Rattle.lola_model.specs.PacingFound.{AreOwn, IsOwn, IsGiven, IsWritten, IsWrittenIn, input_finding, inputs_with, IsFound, IsCombined, IsJoined, IsRateFound, is_multiple, given_local, given_rate, no_pacing, any_row, forms_of, rates_of, finding_at, findings_at, is_unpaced, is_event, is_periodic}
 use Rattle.lola_model.specs.PacingRefused.{clause_refusals}
 use Rattle.lola_pacing_findings.proofs.FineLemmas.{accepts_fine}
-use Rattle.lola_model.specs.declared.finding.Finding.{Finding}
-use Rattle.lola_model.specs.declared.finding.Finding.TheVariants.{Paced, Refused, Unpaced}
+use Rattle.lola_model.specs.declared.finding.FoundPacing.{FoundPacing}
+use Rattle.lola_model.specs.declared.finding.FoundPacing.TheVariants.{Paced, Refused, Unpaced}
 use Rattle.lola_model.specs.Pacings.{InStep, IsPaceFound, IsClauseFound, IsEvalFound, IsSpawnFound, IsCloseFound, only_pacing, place_of, Found, refusals_of, refusals_from, stream_refusals}
 use Rattle.lola_pacing.specs.Accepted.{IsPacedWhere, PacesAll}
 
-abbrev IsNotRefused : Finding → Type 0
+abbrev IsNotRefused : FoundPacing → Type 0
 IsNotRefused f = (r : Refusal) → f ≢ Refused r
 
 pub empty_left : (xs ys : List Refusal) → xs ++ ys ≡ [] → xs ≡ []
@@ -47,18 +47,18 @@ second_true false b h = absurd (cc)
 
 -- given pacings
 
-rate_paced : (at : ℕ) (w : WrittenRate) (f : Finding) → is_rate_in_range w ≡ true → f ≡ given_rate at w → IsNotRefused f → is_unpaced f ≡ false
+rate_paced : (at : ℕ) (w : WrittenRate) (f : FoundPacing) → is_rate_in_range w ≡ true → f ≡ given_rate at w → IsNotRefused f → is_unpaced f ≡ false
 rate_paced at rate.OutOfRange f h k nr = absurd (cc)
 rate_paced at rate.TooFast f h k nr = absurd (nr _ k)
 rate_paced at (rate.Of r) f h k nr = ap is_unpaced k
 
-local_paced : (spawned : Bool) (at : ℕ) (w : WrittenRate) (f : Finding) → is_rate_in_range w ≡ true → f ≡ given_local spawned at w → IsNotRefused f → is_unpaced f ≡ false
+local_paced : (spawned : Bool) (at : ℕ) (w : WrittenRate) (f : FoundPacing) → is_rate_in_range w ≡ true → f ≡ given_local spawned at w → IsNotRefused f → is_unpaced f ≡ false
 local_paced spawned at rate.OutOfRange f h k nr = absurd (cc)
 local_paced spawned at rate.TooFast f h k nr = absurd (nr _ k)
 local_paced true at (rate.Of r) f h k nr = ap is_unpaced k
 local_paced false at (rate.Of r) f h k nr = absurd (nr _ k)
 
-given_paced : (spawned : Bool) (p : Pace) (f : Finding) → is_pace_in_range (Some p) ≡ true → IsGiven spawned p f → IsNotRefused f → is_unpaced f ≡ false
+given_paced : (spawned : Bool) (p : Pace) (f : FoundPacing) → is_pace_in_range (Some p) ≡ true → IsGiven spawned p f → IsNotRefused f → is_unpaced f ≡ false
 given_paced spawned (pace.Event at g) (Paced q) h k nr = refl
 given_paced spawned (pace.Event at g) (Refused r) h k nr = absurd (nr r refl)
 given_paced spawned (pace.Event at g) Unpaced h k nr = absurd k
@@ -66,11 +66,11 @@ given_paced spawned (pace.Rate at w) f h k nr = rate_paced at w f h k nr
 given_paced spawned (pace.Global at w) f h k nr = rate_paced at w f h k nr
 given_paced spawned (pace.Local at w) f h k nr = local_paced spawned at w f h k nr
 
-written_paced : (spawned : Bool) (p : Option Pace) (f : Finding) → is_written p ≡ true → is_pace_in_range p ≡ true → IsWritten spawned p f → IsNotRefused f → is_unpaced f ≡ false
+written_paced : (spawned : Bool) (p : Option Pace) (f : FoundPacing) → is_written p ≡ true → is_pace_in_range p ≡ true → IsWritten spawned p f → IsNotRefused f → is_unpaced f ≡ false
 written_paced spawned None f w h k nr = absurd (cc)
 written_paced spawned (Some p) f w h k nr = given_paced spawned p f h k nr
 
-own_cases : (b : Bool) (j : ℕ) (spawned : Bool) (e : Option Clause) (f : Finding) → (b || has_pace e) ≡ true → is_clause_paced_in_range e ≡ true
+own_cases : (b : Bool) (j : ℕ) (spawned : Bool) (e : Option Clause) (f : FoundPacing) → (b || has_pace e) ≡ true → is_clause_paced_in_range e ≡ true
     → MatchBool b (f ≡ input_finding j) (IsWrittenIn spawned e f) → IsNotRefused f → is_unpaced f ≡ false
 own_cases true j spawned e f w h k nr = ap is_unpaced k
 own_cases false j spawned None f w h k nr = absurd (cc)
@@ -78,34 +78,34 @@ own_cases false j spawned (Some c) f w h k nr = written_paced spawned c.pace f w
 
 -- found pacings
 
-joined_paced : (at : ℕ) (sets : List InputSet) (forms : List (List InputSet)) (f : Finding) → IsJoined at sets forms f → IsNotRefused f → is_unpaced f ≡ false
+joined_paced : (at : ℕ) (sets : List InputSet) (forms : List (List InputSet)) (f : FoundPacing) → IsJoined at sets forms f → IsNotRefused f → is_unpaced f ≡ false
 joined_paced at sets [] f j nr = ap is_unpaced j
 joined_paced at sets (form ∷ forms) f (inl j) nr = absurd (nr _ j.1)
 joined_paced at sets (form ∷ forms) f (inr j) nr = joined_paced at j.0 forms f j.2 nr
 
-rate_cases : (b : Bool) (at : ℕ) (r : Ratio) (f : Finding) → f ≡ (if b then Paced (Periodic r) else no_pacing at) → IsNotRefused f → is_unpaced f ≡ false
+rate_cases : (b : Bool) (at : ℕ) (r : Ratio) (f : FoundPacing) → f ≡ (if b then Paced (Periodic r) else no_pacing at) → IsNotRefused f → is_unpaced f ≡ false
 rate_cases true at r f e nr = ap is_unpaced e
 rate_cases false at r f e nr = absurd (nr _ e)
 
-last_cases : (b : Bool) (at : ℕ) (rates : List Ratio) (f : Finding) → MatchBool b (IsRateFound at rates f) (f ≡ no_pacing at) → IsNotRefused f → is_unpaced f ≡ false
+last_cases : (b : Bool) (at : ℕ) (rates : List Ratio) (f : FoundPacing) → MatchBool b (IsRateFound at rates f) (f ≡ no_pacing at) → IsNotRefused f → is_unpaced f ≡ false
 last_cases true at rates f k nr = rate_cases (list_all (is_multiple k.0) rates) at k.0 f k.2 nr
 last_cases false at rates f k nr = absurd (nr _ k)
 
-combined_cases : (b c : Bool) (at : ℕ) (forms : List (List InputSet)) (rates : List Ratio) (f : Finding)
+combined_cases : (b c : Bool) (at : ℕ) (forms : List (List InputSet)) (rates : List Ratio) (f : FoundPacing)
     → MatchBool b (IsJoined at any_row forms f) (MatchBool c (IsRateFound at rates f) (f ≡ no_pacing at)) → IsNotRefused f → is_unpaced f ≡ false
 combined_cases true c at forms rates f k nr = joined_paced at any_row forms f k nr
 combined_cases false c at forms rates f k nr = last_cases c at rates f k nr
 
-found_cases : (b : Bool) (at : ℕ) (fs : List Finding) (f : Finding) → b ≡ false → MatchBool b (f ≡ Unpaced) (IsCombined at fs f) → IsNotRefused f → is_unpaced f ≡ false
+found_cases : (b : Bool) (at : ℕ) (fs : List FoundPacing) (f : FoundPacing) → b ≡ false → MatchBool b (f ≡ Unpaced) (IsCombined at fs f) → IsNotRefused f → is_unpaced f ≡ false
 found_cases true at fs f e k nr = absurd (cc)
 found_cases false at fs f e k nr = combined_cases (list_all is_event fs) (list_all is_periodic fs) at (forms_of fs) (rates_of fs) f k nr
 
-found_paced : (at : ℕ) (alone : Finding) (fs : List Finding) (f : Finding) → (f ≡ alone → is_unpaced f ≡ false) → list_any is_unpaced fs ≡ false
+found_paced : (at : ℕ) (alone : FoundPacing) (fs : List FoundPacing) (f : FoundPacing) → (f ≡ alone → is_unpaced f ≡ false) → list_any is_unpaced fs ≡ false
     → IsFound at alone fs f → IsNotRefused f → is_unpaced f ≡ false
 found_paced at alone [] f single none k nr = single k
 found_paced at alone (x ∷ xs) f single none k nr = found_cases (list_any is_unpaced (x ∷ xs)) at (x ∷ xs) f none k nr
 
-none_unpaced : (owns : List Finding) (ls : List ℕ) → ((m : ℕ) → Contains ls m → is_unpaced (finding_at owns m) ≡ false) → list_any is_unpaced (findings_at owns ls) ≡ false
+none_unpaced : (owns : List FoundPacing) (ls : List ℕ) → ((m : ℕ) → Contains ls m → is_unpaced (finding_at owns m) ≡ false) → list_any is_unpaced (findings_at owns ls) ≡ false
 none_unpaced owns [] h = refl
 none_unpaced owns (m ∷ ms) h =
     let first : is_unpaced (finding_at owns m) ≡ false = h m (Contains-here m ms) in
@@ -114,7 +114,7 @@ none_unpaced owns (m ∷ ms) h =
 
 -- what stands at an index
 
-in_step_at : (R : ℕ → Stream → Finding → Type 0) (n : ℕ) (ss : List Stream) (fs : List Finding) (k : ℕ) (s : Stream) (m : ℕ) → m ≡ n + k
+in_step_at : (R : ℕ → Stream → FoundPacing → Type 0) (n : ℕ) (ss : List Stream) (fs : List FoundPacing) (k : ℕ) (s : Stream) (m : ℕ) → m ≡ n + k
     → InStep R n ss fs → slice_get ss k ≡ Some s → R m s (finding_at fs k)
 in_step_at R n [] fs k s m q i e = absurd (cc)
 in_step_at R n (t ∷ ts) [] k s m q i e = absurd i
@@ -125,7 +125,7 @@ in_step_at R n (t ∷ ts) (f ∷ fs) zero s m q i e =
     subst (λ (x : ℕ). R x s f) at (subst (λ (x : Stream). R n x f) same i.0)
 in_step_at R n (t ∷ ts) (f ∷ fs) (suc k) s m q i e = in_step_at R (n + 1) ts fs k s m (omega arith) i.1 e
 
-own_at : (i : ℕ) (ss : List Stream) (fs : List Finding) (k : ℕ) (s : Stream) → AreOwn i ss fs → slice_get ss k ≡ Some s → (j : ℕ) × IsOwn j s (finding_at fs k)
+own_at : (i : ℕ) (ss : List Stream) (fs : List FoundPacing) (k : ℕ) (s : Stream) → AreOwn i ss fs → slice_get ss k ≡ Some s → (j : ℕ) × IsOwn j s (finding_at fs k)
 own_at i [] fs k s a e = absurd (cc)
 own_at i (t ∷ ts) [] k s a e = absurd a
 own_at i (t ∷ ts) (f ∷ fs) zero s a e =
@@ -142,7 +142,7 @@ range_at p (t ∷ ts) zero s h e =
     subst (λ (x : Stream). p x ≡ true) same (first_true (p t) (all_streams p ts) h)
 range_at p (t ∷ ts) (suc k) s h e = range_at p ts k s (second_true (p t) (all_streams p ts) h) e
 
-module _ (streams : List Stream) (spawns evals closes : List Finding) (verdicts : List (Option Code)) where
+module _ (streams : List Stream) (spawns evals closes : List FoundPacing) (verdicts : List (Option Code)) where
   refusals_at : (n : ℕ) (ss : List Stream) (k : ℕ) (s : Stream) (m : ℕ) → m ≡ n + k → refusals_from streams spawns evals closes verdicts n ss ≡ []
       → slice_get ss k ≡ Some s → stream_refusals streams spawns evals closes verdicts m s ≡ []
   refusals_at n [] k s m q h e = absurd (cc)
@@ -159,7 +159,7 @@ module _ (spec : Spec) (f : Found spec) (range : all_streams is_stream_paced_in_
   abbrev streams : List Stream
   streams = spec.streams
 
-  abbrev of_clause : Finding → Option Clause → List Refusal
+  abbrev of_clause : FoundPacing → Option Clause → List Refusal
   of_clause own c = clause_refusals spec.streams f.evals f.verdicts own c
 
   pub here : (n : ℕ) (s : Stream) → slice_get spec.streams n ≡ Some s → stream_refusals spec.streams f.spawns f.evals f.closes f.verdicts n s ≡ []
@@ -219,18 +219,18 @@ module _ (spec : Spec) (f : Found spec) (range : all_streams is_stream_paced_in_
   leaf_cases n (Some s) e t = own_paced n s e t
 
   -- a clause with this pacing written, or none
-  pace_paced : (n at : ℕ) (spawned : Bool) (alone : Finding) (c : Clause) (p : Option Pace) (g : Finding) → (g ≡ alone → is_unpaced g ≡ false) → is_pace_in_range p ≡ true
+  pace_paced : (n at : ℕ) (spawned : Bool) (alone : FoundPacing) (c : Clause) (p : Option Pace) (g : FoundPacing) → (g ≡ alone → is_unpaced g ≡ false) → is_pace_in_range p ≡ true
       → IsPaceFound spec.streams f.owns n at spawned alone (Some c) p g → IsNotRefused g → is_unpaced g ≡ false
   pace_paced n at spawned alone c (Some p) g single r k nr = given_paced spawned p g r k nr
   pace_paced n at spawned alone c None g single r k nr =
       found_paced at alone (findings_at f.owns k.0) g single (none_unpaced f.owns k.0 (λ m l. leaf_cases m (slice_get spec.streams m) refl ((k.1.members m).0 l).ends)) k.2 nr
 
-  clause_paced : (n at : ℕ) (spawned : Bool) (alone : Finding) (c : Option Clause) (g : Finding) → (g ≡ alone → is_unpaced g ≡ false) → is_clause_paced_in_range c ≡ true
+  clause_paced : (n at : ℕ) (spawned : Bool) (alone : FoundPacing) (c : Option Clause) (g : FoundPacing) → (g ≡ alone → is_unpaced g ≡ false) → is_clause_paced_in_range c ≡ true
       → IsClauseFound spec.streams f.owns n at spawned alone c g → IsNotRefused g → IsPacedWhere c g
   clause_paced n at spawned alone None g single r k nr = tt
   clause_paced n at spawned alone (Some c) g single r k nr = pace_paced n at spawned alone c c.pace g single r k nr
 
-  refused_alone : (at : ℕ) (g : Finding) → IsNotRefused g → g ≡ no_pacing at → is_unpaced g ≡ false
+  refused_alone : (at : ℕ) (g : FoundPacing) → IsNotRefused g → g ≡ no_pacing at → is_unpaced g ≡ false
   refused_alone at g nr e = absurd (nr _ e)
 
   spawn_paced : (n : ℕ) (s : Stream) → slice_get spec.streams n ≡ Some s → IsPacedWhere s.spawn (finding_at f.spawns n)
@@ -239,7 +239,7 @@ module _ (spec : Spec) (f : Found spec) (range : all_streams is_stream_paced_in_
       (refused_alone (place_of s.spawn) (finding_at f.spawns n) (spawn_kept n s e)) (spawn_range n s e)
       (in_step_at (IsSpawnFound spec.streams f.owns) 0 spec.streams f.spawns n s n (omega arith) f.are.are_spawns e) (spawn_kept n s e)
 
-  where_paced : (c : Option Clause) (g : Finding) → is_unpaced g ≡ false → IsPacedWhere c g
+  where_paced : (c : Option Clause) (g : FoundPacing) → is_unpaced g ≡ false → IsPacedWhere c g
   where_paced None g h = tt
   where_paced (Some c) g h = h
 
@@ -253,11 +253,11 @@ module _ (spec : Spec) (f : Found spec) (range : all_streams is_stream_paced_in_
   eval_paced : (n : ℕ) (s : Stream) → slice_get spec.streams n ≡ Some s → IsPacedWhere s.eval (finding_at f.evals n)
   eval_paced n s e = eval_cases (is_end s) n s refl e (eval_found n s e)
 
-  is_there : (c : Option Clause) (g : Finding) → has_clause c ≡ true → IsPacedWhere c g → is_unpaced g ≡ false
+  is_there : (c : Option Clause) (g : FoundPacing) → has_clause c ≡ true → IsPacedWhere c g → is_unpaced g ≡ false
   is_there None g t h = absurd (cc)
   is_there (Some c) g t h = h
 
-  only_paced : (g : Finding) → is_unpaced g ≡ false → is_unpaced (only_pacing g) ≡ false
+  only_paced : (g : FoundPacing) → is_unpaced g ≡ false → is_unpaced (only_pacing g) ≡ false
   only_paced (Paced q) h = refl
   only_paced (Refused r) h = absurd (cc)
   only_paced Unpaced h = absurd (cc)

@@ -17,8 +17,8 @@ use Rattle.lola_model.specs.WindowVerdicts.{IsFineEnough, IsVerdict}
 use Rattle.lola_model.specs.Wholes.{Whole, condition_wholes, with_wholes, clause_wholes, stream_wholes, wholes_from, noted_kinds, all_wholes}
 use Rattle.lola_model.specs.declared.expr.Expr.{Expr}
 use Rattle.lola_model.specs.declared.expr.Expr.TheVariants.{Literal, Parameter, Read, Window, Defaults', Unary', Both', Choice'}
-use Rattle.lola_model.specs.declared.finding.Finding.{Finding}
-use Rattle.lola_model.specs.declared.finding.Finding.TheVariants.{Paced, Refused, Unpaced}
+use Rattle.lola_model.specs.declared.finding.FoundPacing.{FoundPacing}
+use Rattle.lola_model.specs.declared.finding.FoundPacing.TheVariants.{Paced, Refused, Unpaced}
 use Rattle.lola_model.specs.declared.pacing.Pacing.TheVariants.{Event, Periodic, Local}
 use Rattle.lola_model.specs.declared.pacing.ClausePacings.{ClausePacings}
 use Rattle.lola_model.specs.declared.spec.Clause.{Clause}
@@ -205,7 +205,7 @@ eval_beside s sort.Trigger h k =
 
 -- what stands against a window
 
-module _ (spawns evals closes : List Finding) where
+module _ (spawns evals closes : List FoundPacing) where
   verdict_at : (ws : List WindowSpec) (vs : List (Option Code)) (i : ℕ) (w : WindowSpec) → AreVerdicts spawns evals closes ws vs → slice_get ws i ≡ Some w
       → (v : Option Code) × (slice_get vs i ≡ Some v) × IsVerdict (finding_of_part spawns evals closes w.stream w.part) w.over v
   verdict_at [] vs i w h e = absurd (cc)
@@ -234,14 +234,14 @@ none_against : (v : Option Code) (o : Option (Option Code)) → o ≡ Some v →
 none_against v None e h = absurd (cc)
 none_against v (Some x) e h = cc
 
-by_verdict : (g : Finding) (over : ℕ) → is_unpaced g ≡ false → IsVerdict g over None → (r : Ratio) × (g ≡ Paced (Periodic r)) × IsFineEnough r over
+by_verdict : (g : FoundPacing) (over : ℕ) → is_unpaced g ≡ false → IsVerdict g over None → (r : Ratio) × (g ≡ Paced (Periodic r)) × IsFineEnough r over
 by_verdict (Paced (Event sets)) over u v = absurd (cc)
 by_verdict (Paced (Periodic r)) over u v = (r, refl, v)
 by_verdict (Paced (Local r)) over u v = absurd (cc)
 by_verdict (Refused r) over u v = absurd (cc)
 by_verdict Unpaced over u v = absurd (cc)
 
-clause_there : (o : Option Clause) (g : Finding) (i : ℕ) → Contains (listed_clause window_number o) i → IsPacedWhere o g → is_unpaced g ≡ false
+clause_there : (o : Option Clause) (g : FoundPacing) (i : ℕ) → Contains (listed_clause window_number o) i → IsPacedWhere o g → is_unpaced g ≡ false
 clause_there None g i c h = absurd (Contains-none i c)
 clause_there (Some k) g i c h = h
 

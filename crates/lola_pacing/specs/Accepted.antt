@@ -12,16 +12,16 @@ use Rattle.lola_model.specs.declared.spec.Clause.{Clause}
 use Rattle.lola_model.specs.declared.spec.Spec.{Spec}
 use Rattle.lola_model.specs.declared.spec.Stream.{Stream}
 use Rattle.lola_model.specs.PacingFound.{finding_at, is_unpaced}
-use Rattle.lola_model.specs.declared.finding.Finding.{Finding}
+use Rattle.lola_model.specs.declared.finding.FoundPacing.{FoundPacing}
 use Rattle.lola_model.specs.Pacings.{ArePacings, Found, refusals_of}
 
 -- a clause, if there is one, has a pacing
-abbrev pub IsPacedWhere : Option Clause → Finding → Type 0
+abbrev pub IsPacedWhere : Option Clause → FoundPacing → Type 0
 IsPacedWhere None finding = Unit {0}
 IsPacedWhere (Some c) finding = is_unpaced finding ≡ false
 
 -- so it is with the three clauses of stream n; a close clause stands beside an eval clause
-pub record IsStreamPaced (spawns evals closes : List Finding) (n : ℕ) (s : Stream) : Type 0 where
+pub record IsStreamPaced (spawns evals closes : List FoundPacing) (n : ℕ) (s : Stream) : Type 0 where
   pub spawn : IsPacedWhere s.spawn (finding_at spawns n)
   pub eval : IsPacedWhere s.eval (finding_at evals n)
   pub close : has_clause s.eval ≡ true → IsPacedWhere s.close (finding_at closes n)

@@ -14,7 +14,7 @@ use crate::given::owns;
 use crate::pacings::pacings;
 use crate::refusals::{first, refusals};
 use crate::verdicts::of_windows;
-use lola_model::finding::Finding;
+use lola_model::finding::FoundPacing;
 use lola_model::pacing::Pacings;
 use lola_model::spec::{Part, Spec};
 use lola_pacing_leaves::leaves::lists_of;
@@ -26,10 +26,10 @@ use std::alloc::Global;
 /// windows.
 #[derive(Drop)]
 struct AllFindings {
-    owns: Vec<Finding>,
-    spawns: Vec<Finding>,
-    evals: Vec<Finding>,
-    closes: Vec<Finding>,
+    owns: Vec<FoundPacing>,
+    spawns: Vec<FoundPacing>,
+    evals: Vec<FoundPacing>,
+    closes: Vec<FoundPacing>,
     verdicts: Vec<Option<Code>>,
 }
 

@@ -10,11 +10,11 @@ ghost use Rattle.lola_pacing.specs.Steps.{IsPartFound};
 
 use crate::found::of_leaves;
 use crate::given::{has_spawn, of_pace};
-use lola_model::finding::Finding;
+use lola_model::finding::FoundPacing;
 use lola_model::spec::{Clause, Part, Spec, Stream};
 use lola_pacing_findings::given::{copied, none_found};
 use lola_pacing_leaves::leaves::{is_end, leaves};
-use lola_pacing_leaves::numbers::Numbers;
+use lola_pacing_leaves::numbers::StreamNumbers;
 use lola_value::text::Memory;
 use std::alloc::Global;
 
@@ -22,13 +22,13 @@ use std::alloc::Global;
 fn from_leaves(
     alloc: Global,
     spec: &Spec,
-    lists: &[Numbers],
-    owns: &[Finding],
+    lists: &[StreamNumbers],
+    owns: &[FoundPacing],
     number: u32,
     at: u32,
-    alone: Finding,
+    alone: FoundPacing,
     clause: &Option<Clause>,
-) -> Result<Finding, Memory>
+) -> Result<FoundPacing, Memory>
     requires numbers { IsSpecInRange spec.now }
     requires streams { length spec.now.streams ≤ 1024 }
     requires clause { IsClauseInRange (length spec.now.streams) (length spec.now.windows) clause.now }
@@ -44,14 +44,14 @@ fn from_leaves(
 fn of_clause(
     alloc: Global,
     spec: &Spec,
-    lists: &[Numbers],
-    owns: &[Finding],
+    lists: &[StreamNumbers],
+    owns: &[FoundPacing],
     number: u32,
     at: u32,
     spawned: bool,
-    alone: Finding,
+    alone: FoundPacing,
     clause: &Option<Clause>,
-) -> Result<Finding, Memory>
+) -> Result<FoundPacing, Memory>
     requires numbers { IsSpecInRange spec.now }
     requires streams { length spec.now.streams ≤ 1024 }
     requires clause { IsClauseInRange (length spec.now.streams) (length spec.now.windows) clause.now }
@@ -60,7 +60,7 @@ fn of_clause(
     ensures { IfOk result (λ finding. IsClauseFound spec.now.streams owns.now number at spawned alone clause.now finding) }
 {
     match clause {
-        None => Ok(Finding::Unpaced),
+        None => Ok(FoundPacing::Unpaced),
         Some(inner) => match &inner.pace {
             Some(pace) => of_pace(alloc, spawned, pace),
             None => from_leaves(alloc, spec, lists, owns, number, at, alone, clause),
@@ -69,33 +69,37 @@ fn of_clause(
 }
 
 /// A copy of what is found of a stream.
-fn copied_at(alloc: Global, findings: &[Finding], stream: u32) -> Result<Finding, Memory>
+fn copied_at(alloc: Global, findings: &[FoundPacing], stream: u32) -> Result<FoundPacing, Memory>
     ensures { IfOk result (λ copy. copy ≡ finding_at findings.now stream) }
 {
     match findings.get(stream as usize) {
         Some(finding) => copied(alloc, finding),
-        None => Ok(Finding::Unpaced),
+        None => Ok(FoundPacing::Unpaced),
     }
 }
 
 /// A copy of a pacing, and nothing of what is refused.
-fn only_paced(alloc: Global, finding: &Finding) -> Result<Finding, Memory>
+fn only_paced(alloc: Global, finding: &FoundPacing) -> Result<FoundPacing, Memory>
     ensures { IfOk result (λ copy. copy ≡ only_pacing finding.now) }
 {
     match finding {
-        Finding::Paced(_) => copied(alloc, finding),
-        Finding::Refused(_) => Ok(Finding::Unpaced),
-        Finding::Unpaced => Ok(Finding::Unpaced),
+        FoundPacing::Paced(_) => copied(alloc, finding),
+        FoundPacing::Refused(_) => Ok(FoundPacing::Unpaced),
+        FoundPacing::Unpaced => Ok(FoundPacing::Unpaced),
     }
 }
 
 /// The same of a stream.
-fn only_paced_at(alloc: Global, findings: &[Finding], stream: u32) -> Result<Finding, Memory>
+fn only_paced_at(
+    alloc: Global,
+    findings: &[FoundPacing],
+    stream: u32,
+) -> Result<FoundPacing, Memory>
     ensures { IfOk result (λ copy. copy ≡ only_pacing (finding_at findings.now stream)) }
 {
     match findings.get(stream as usize) {
         Some(finding) => only_paced(alloc, finding),
-        None => Ok(Finding::Unpaced),
+        None => Ok(FoundPacing::Unpaced),
     }
 }
 
@@ -103,11 +107,11 @@ fn only_paced_at(alloc: Global, findings: &[Finding], stream: u32) -> Result<Fin
 fn of_eval(
     alloc: Global,
     spec: &Spec,
-    lists: &[Numbers],
-    owns: &[Finding],
+    lists: &[StreamNumbers],
+    owns: &[FoundPacing],
     number: u32,
     stream: &Stream,
-) -> Result<Finding, Memory>
+) -> Result<FoundPacing, Memory>
     requires numbers { IsSpecInRange spec.now }
     requires streams { length spec.now.streams ≤ 1024 }
     requires clause { IsClauseInRange (length spec.now.streams) (length spec.now.windows) stream.now.eval }
@@ -146,11 +150,11 @@ fn place_of(clause: &Option<Clause>) -> u32
 fn of_spawn(
     alloc: Global,
     spec: &Spec,
-    lists: &[Numbers],
-    owns: &[Finding],
+    lists: &[StreamNumbers],
+    owns: &[FoundPacing],
     number: u32,
     stream: &Stream,
-) -> Result<Finding, Memory>
+) -> Result<FoundPacing, Memory>
     requires numbers { IsSpecInRange spec.now }
     requires streams { length spec.now.streams ≤ 1024 }
     requires clause { IsClauseInRange (length spec.now.streams) (length spec.now.windows) stream.now.spawn }
@@ -176,12 +180,12 @@ fn of_spawn(
 fn of_close(
     alloc: Global,
     spec: &Spec,
-    lists: &[Numbers],
-    owns: &[Finding],
-    evals: &[Finding],
+    lists: &[StreamNumbers],
+    owns: &[FoundPacing],
+    evals: &[FoundPacing],
     number: u32,
     stream: &Stream,
-) -> Result<Finding, Memory>
+) -> Result<FoundPacing, Memory>
     requires numbers { IsSpecInRange spec.now }
     requires streams { length spec.now.streams ≤ 1024 }
     requires clause { IsClauseInRange (length spec.now.streams) (length spec.now.windows) stream.now.close }
@@ -207,13 +211,13 @@ fn of_close(
 fn of_part(
     alloc: Global,
     spec: &Spec,
-    lists: &[Numbers],
-    owns: &[Finding],
-    evals: &[Finding],
+    lists: &[StreamNumbers],
+    owns: &[FoundPacing],
+    evals: &[FoundPacing],
     part: Part,
     number: u32,
     stream: &Stream,
-) -> Result<Finding, Memory>
+) -> Result<FoundPacing, Memory>
     requires numbers { IsSpecInRange spec.now }
     requires streams { length spec.now.streams ≤ 1024 }
     requires spawn { IsClauseInRange (length spec.now.streams) (length spec.now.windows) stream.now.spawn }
@@ -236,11 +240,11 @@ fn of_part(
 pub fn of_parts(
     alloc: Global,
     spec: &Spec,
-    lists: &[Numbers],
-    owns: &[Finding],
-    evals: &[Finding],
+    lists: &[StreamNumbers],
+    owns: &[FoundPacing],
+    evals: &[FoundPacing],
     part: Part,
-) -> Result<Vec<Finding>, Memory>
+) -> Result<Vec<FoundPacing>, Memory>
     requires numbers { IsSpecInRange spec.now }
     requires streams { length spec.now.streams ≤ 1024 }
     requires formulas { AreOverInputs spec.now.streams }

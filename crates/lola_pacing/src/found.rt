@@ -4,7 +4,7 @@ ghost use Rattle.std.specs.Prelude.{◌≡◌, ◌<◌, IfOk, length};
 ghost use Rattle.lola_model.specs.PacingFound.{any_row, finding_at, findings_at, form_of, forms_of, IsCombined, IsFound, IsJoined};
 ghost use Rattle.lola_pacing.specs.Joins.{AnswersNext};
 
-use lola_model::finding::Finding;
+use lola_model::finding::FoundPacing;
 use lola_model::pacing::{InputSet, NormalForm, Pacing};
 use lola_pacing_findings::given::{none_found, one_too_wide};
 use lola_pacing_findings::rates::of_rates;
@@ -18,7 +18,7 @@ use std::alloc::Global;
 fn next(
     alloc: Global,
     sets: NormalForm,
-    findings: &[Finding],
+    findings: &[FoundPacing],
     stream: u32,
 ) -> Result<NormalForm, NormalEnd>
     ensures { AnswersNext sets (form_of (finding_at findings.now stream)) result }
@@ -39,7 +39,12 @@ fn of_any_row(alloc: Global) -> Result<NormalForm, Memory>
 }
 
 /// The event-based pacings of leaves, joined in order, or E13.
-fn joined(alloc: Global, at: u32, findings: &[Finding], leaves: &[u32]) -> Result<Finding, Memory>
+fn joined(
+    alloc: Global,
+    at: u32,
+    findings: &[FoundPacing],
+    leaves: &[u32],
+) -> Result<FoundPacing, Memory>
     ensures { IfOk result (λ finding. IsJoined at any_row (forms_of (findings_at findings.now leaves.now)) finding) }
 {
     let mut sets = of_any_row(alloc)?;
@@ -50,11 +55,16 @@ fn joined(alloc: Global, at: u32, findings: &[Finding], leaves: &[u32]) -> Resul
             Err(NormalEnd::Memory) => return Err(Memory),
         }
     }
-    Ok(Finding::Paced(Pacing::Event(sets)))
+    Ok(FoundPacing::Paced(Pacing::Event(sets)))
 }
 
 /// What is found from leaves that all have pacings.
-fn combined(alloc: Global, at: u32, findings: &[Finding], leaves: &[u32]) -> Result<Finding, Memory>
+fn combined(
+    alloc: Global,
+    at: u32,
+    findings: &[FoundPacing],
+    leaves: &[u32],
+) -> Result<FoundPacing, Memory>
     requires { 0 < length leaves.now }
     ensures { IfOk result (λ finding. IsCombined at (findings_at findings.now leaves.now) finding) }
 {
@@ -72,17 +82,17 @@ fn combined(alloc: Global, at: u32, findings: &[Finding], leaves: &[u32]) -> Res
 pub fn of_leaves(
     alloc: Global,
     at: u32,
-    alone: Finding,
-    findings: &[Finding],
+    alone: FoundPacing,
+    findings: &[FoundPacing],
     leaves: &[u32],
-) -> Result<Finding, Memory>
+) -> Result<FoundPacing, Memory>
     ensures { IfOk result (λ finding. IsFound at alone (findings_at findings.now leaves.now) finding) }
 {
     if leaves.is_empty() {
         return Ok(alone);
     }
     if is_some_unpaced(findings, leaves) {
-        return Ok(Finding::Unpaced);
+        return Ok(FoundPacing::Unpaced);
     }
     combined(alloc, at, findings, leaves)
 }

@@ -7,7 +7,7 @@ ghost use Rattle.lola_model.specs.NormalForms.{HasInputsBelow};
 ghost use Rattle.lola_model.specs.PacingFound.{AreOwn, IsGiven, IsGivenEvent, IsOwn, IsWrittenIn, inputs_with};
 ghost use Rattle.lola_model.specs.Formulas.{AreOverInputs, IsClauseOverInputs, IsOverInputs};
 
-use lola_model::finding::Finding;
+use lola_model::finding::FoundPacing;
 use lola_model::pacing::Pacing;
 use lola_model::spec::{Clause, Formula, Pace, Stream};
 use lola_pacing_findings::given::{of_input, of_local_rate, of_rate, one_too_wide};
@@ -17,19 +17,19 @@ use lola_value::text::Memory;
 use std::alloc::Global;
 
 /// What is found of a clause whose `@` stands at a place, with this formula.
-fn of_formula(alloc: Global, at: u32, formula: &Formula) -> Result<Finding, Memory>
+fn of_formula(alloc: Global, at: u32, formula: &Formula) -> Result<FoundPacing, Memory>
     requires { HasInputsBelow 64 formula.now }
     ensures { IfOk result (λ finding. IsGivenEvent at formula.now finding) }
 {
     match normal(alloc, formula) {
-        Ok(sets) => Ok(Finding::Paced(Pacing::Event(sets))),
+        Ok(sets) => Ok(FoundPacing::Paced(Pacing::Event(sets))),
         Err(NormalEnd::TooWide) => Ok(one_too_wide(at)),
         Err(NormalEnd::Memory) => Err(Memory),
     }
 }
 
 /// What is found of a clause with this pacing behind `@`, where a spawn clause makes its instances or not.
-pub fn of_pace(alloc: Global, spawned: bool, pace: &Pace) -> Result<Finding, Memory>
+pub fn of_pace(alloc: Global, spawned: bool, pace: &Pace) -> Result<FoundPacing, Memory>
     requires { IsOverInputs pace.now }
     ensures { IfOk result (λ finding. IsGiven spawned pace.now finding) }
 {
@@ -42,14 +42,14 @@ pub fn of_pace(alloc: Global, spawned: bool, pace: &Pace) -> Result<Finding, Mem
 }
 
 /// The same of a clause as far as its pacing is written.
-fn of_written(alloc: Global, spawned: bool, clause: &Option<Clause>) -> Result<Finding, Memory>
+fn of_written(alloc: Global, spawned: bool, clause: &Option<Clause>) -> Result<FoundPacing, Memory>
     requires { IsClauseOverInputs clause.now }
     ensures { IfOk result (λ finding. IsWrittenIn spawned clause.now finding) }
 {
     match clause {
-        None => Ok(Finding::Unpaced),
+        None => Ok(FoundPacing::Unpaced),
         Some(clause) => match &clause.pace {
-            None => Ok(Finding::Unpaced),
+            None => Ok(FoundPacing::Unpaced),
             Some(pace) => of_pace(alloc, spawned, pace),
         },
     }
@@ -64,7 +64,7 @@ pub fn has_spawn(stream: &Stream) -> bool
 
 /// What is found of a stream before which so many inputs stand, as far as it is an input or the pacing of its eval
 /// clause is written.
-fn own(alloc: Global, inputs: u32, stream: &Stream) -> Result<Finding, Memory>
+fn own(alloc: Global, inputs: u32, stream: &Stream) -> Result<FoundPacing, Memory>
     requires inputs { inputs_with inputs stream.now ≤ 64 }
     requires formula { IsClauseOverInputs stream.now.eval }
     ensures { IfOk result (λ finding. IsOwn inputs stream.now finding) }
@@ -89,7 +89,7 @@ fn counted(inputs: u32, stream: &Stream) -> u32
 }
 
 /// What is found of each stream, as far as it is an input or the pacing of its eval clause is written.
-pub fn owns(alloc: Global, streams: &[Stream]) -> Result<Vec<Finding>, Memory>
+pub fn owns(alloc: Global, streams: &[Stream]) -> Result<Vec<FoundPacing>, Memory>
     requires few { length (filter is_input_stream streams.now) ≤ 64 }
     requires formulas { AreOverInputs streams.now }
     ensures { IfOk result (λ owns. AreOwn 0 streams.now owns.items) }

@@ -4,7 +4,7 @@ ghost use Rattle.std.specs.Prelude.{◌≡◌, ◌≤◌, IfOk, length};
 ghost use Rattle.lola_model.specs.PacingFound.{finding_at};
 ghost use Rattle.lola_model.specs.Pacings.{pacing_of, pacings_from};
 
-use lola_model::finding::Finding;
+use lola_model::finding::FoundPacing;
 use lola_model::pacing::{ClausePacings, Pacing, Pacings};
 use lola_model::spec::Stream;
 use lola_pacing_findings::given::copied;
@@ -12,18 +12,18 @@ use lola_value::text::Memory;
 use std::alloc::Global;
 
 /// The pacing that is found, if it is one.
-fn pacing_in(finding: Finding) -> Option<Pacing>
+fn pacing_in(finding: FoundPacing) -> Option<Pacing>
     ensures { result ≡ pacing_of finding }
 {
     match finding {
-        Finding::Paced(pacing) => Some(pacing),
-        Finding::Refused(_) => None,
-        Finding::Unpaced => None,
+        FoundPacing::Paced(pacing) => Some(pacing),
+        FoundPacing::Refused(_) => None,
+        FoundPacing::Unpaced => None,
     }
 }
 
 /// A copy of the pacing of a stream, if it has one.
-fn pacing_at(alloc: Global, findings: &[Finding], stream: u32) -> Result<Option<Pacing>, Memory>
+fn pacing_at(alloc: Global, findings: &[FoundPacing], stream: u32) -> Result<Option<Pacing>, Memory>
     ensures { IfOk result (λ pacing. pacing ≡ pacing_of (finding_at findings.now stream)) }
 {
     match findings.get(stream as usize) {
@@ -39,9 +39,9 @@ fn pacing_at(alloc: Global, findings: &[Finding], stream: u32) -> Result<Option<
 pub fn pacings(
     alloc: Global,
     streams: &[Stream],
-    spawns: &[Finding],
-    evals: &[Finding],
-    closes: &[Finding],
+    spawns: &[FoundPacing],
+    evals: &[FoundPacing],
+    closes: &[FoundPacing],
 ) -> Result<Pacings, Memory>
     requires { length streams.now ≤ 1024 }
     ensures { IfOk result (λ pacings. pacings ≡ pacings_from spawns.now evals.now closes.now 0 streams.now) }

@@ -6,7 +6,7 @@ ghost use Rattle.lola_model.specs.PacingFound.{finding_at};
 ghost use Rattle.lola_model.specs.PacingRefused.{clause_refusals};
 ghost use Rattle.lola_model.specs.Pacings.{refusals_from, stream_refusals};
 
-use lola_model::finding::Finding;
+use lola_model::finding::FoundPacing;
 use lola_model::refusals::Refusals;
 use lola_model::spec::{Clause, Stream};
 use lola_pacing_findings::refused::put_clause;
@@ -19,9 +19,9 @@ fn put_clause_of(
     alloc: Global,
     list: &mut Vec<Refusal>,
     streams: &[Stream],
-    evals: &[Finding],
+    evals: &[FoundPacing],
     verdicts: &[Option<Code>],
-    findings: &[Finding],
+    findings: &[FoundPacing],
     number: u32,
     clause: &Option<Clause>,
 ) -> Result<(), Memory>
@@ -35,7 +35,7 @@ fn put_clause_of(
             streams,
             evals,
             verdicts,
-            &Finding::Unpaced,
+            &FoundPacing::Unpaced,
             clause,
         ),
     }
@@ -46,9 +46,9 @@ fn put_stream(
     alloc: Global,
     list: &mut Vec<Refusal>,
     streams: &[Stream],
-    spawns: &[Finding],
-    evals: &[Finding],
-    closes: &[Finding],
+    spawns: &[FoundPacing],
+    evals: &[FoundPacing],
+    closes: &[FoundPacing],
     verdicts: &[Option<Code>],
     number: u32,
     stream: &Stream,
@@ -92,9 +92,9 @@ fn put_stream(
 pub fn refusals(
     alloc: Global,
     streams: &[Stream],
-    spawns: &[Finding],
-    evals: &[Finding],
-    closes: &[Finding],
+    spawns: &[FoundPacing],
+    evals: &[FoundPacing],
+    closes: &[FoundPacing],
     verdicts: &[Option<Code>],
 ) -> Result<Vec<Refusal>, Memory>
     requires { length streams.now ≤ 1024 }

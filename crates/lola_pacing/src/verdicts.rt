@@ -6,7 +6,7 @@ ghost use Rattle.lola_model.specs.PacingFound.{finding_at};
 ghost use Rattle.lola_model.specs.WindowVerdicts.{IsVerdict};
 ghost use Rattle.lola_model.specs.Pacings.{AreVerdicts, finding_of_part};
 
-use lola_model::finding::Finding;
+use lola_model::finding::FoundPacing;
 use lola_model::spec::{Part, WindowSpec};
 use lola_pacing_findings::verdict::verdict;
 use lola_value::front::Code;
@@ -14,7 +14,7 @@ use lola_value::text::Memory;
 use std::alloc::Global;
 
 /// What stands against a window of so many nanoseconds in a clause of a stream.
-fn verdict_at(findings: &[Finding], stream: u32, over: u64) -> Option<Code>
+fn verdict_at(findings: &[FoundPacing], stream: u32, over: u64) -> Option<Code>
     requires { 1 ≤ over }
     ensures { IsVerdict (finding_at findings.now stream) over result }
 {
@@ -26,9 +26,9 @@ fn verdict_at(findings: &[Finding], stream: u32, over: u64) -> Option<Code>
 
 /// What stands against a window.
 fn of_window(
-    spawns: &[Finding],
-    evals: &[Finding],
-    closes: &[Finding],
+    spawns: &[FoundPacing],
+    evals: &[FoundPacing],
+    closes: &[FoundPacing],
     window: &WindowSpec,
 ) -> Option<Code>
     requires { 1 ≤ window.now.over }
@@ -44,9 +44,9 @@ fn of_window(
 /// What stands against each window.
 pub fn of_windows(
     alloc: Global,
-    spawns: &[Finding],
-    evals: &[Finding],
-    closes: &[Finding],
+    spawns: &[FoundPacing],
+    evals: &[FoundPacing],
+    closes: &[FoundPacing],
     windows: &[WindowSpec],
 ) -> Result<Vec<Option<Code>>, Memory>
     requires { IsTrue (all_windows is_span windows.now) }

@@ -12,8 +12,8 @@ use Rattle.lola_model.specs.declared.spec.Stream.{Stream}
 use Rattle.lola_model.specs.PacingFound.{finding_at}
 use Rattle.lola_pacing_findings.specs.Laws.{IsFine, AcceptsFine}
 use Rattle.lola_model.specs.PacingRefused.{does_imply, not_implied, refusal_where, verdict_refusal, is_filtered, used, use_refusals, finding_refusal, clause_refusals}
-use Rattle.lola_model.specs.declared.finding.Finding.{Finding}
-use Rattle.lola_model.specs.declared.finding.Finding.TheVariants.{Paced, Refused, Unpaced}
+use Rattle.lola_model.specs.declared.finding.FoundPacing.{FoundPacing}
+use Rattle.lola_model.specs.declared.finding.FoundPacing.TheVariants.{Paced, Refused, Unpaced}
 use Rattle.lola_model.specs.declared.uses.Use.{Use}
 use Rattle.lola_model.specs.declared.uses.Use.TheVariants.{OfStream, OfWindow}
 use Rattle.lola_pacing_findings.proofs.LawLemmas.{told}
@@ -39,22 +39,22 @@ is_no : (b : Bool) (c : Code) (at : ℕ) → refusal_where b c at ≡ [] → b �
 is_no true c at h = absurd (cc)
 is_no false c at h = refl
 
-implied : (own read : Finding) (at : ℕ) → not_implied own read at ≡ [] → (p q : Pacing) → own ≡ Paced p → read ≡ Paced q → Implies p q
+implied : (own read : FoundPacing) (at : ℕ) → not_implied own read at ≡ [] → (p q : Pacing) → own ≡ Paced p → read ≡ Paced q → Implies p q
 implied own read at h p q e f =
-    let first : not_implied (Paced p) read at ≡ [] = subst (λ (x : Finding). not_implied x read at ≡ []) e h in
-    let both : not_implied (Paced p) (Paced q) at ≡ [] = subst (λ (x : Finding). not_implied (Paced p) x at ≡ []) f first in
+    let first : not_implied (Paced p) read at ≡ [] = subst (λ (x : FoundPacing). not_implied x read at ≡ []) e h in
+    let both : not_implied (Paced p) (Paced q) at ≡ [] = subst (λ (x : FoundPacing). not_implied (Paced p) x at ≡ []) f first in
     (told p q).0 (is_implied (does_imply p q) (record { code = code.NotImplied; at = at }) both)
 
 no_verdict : (v : Option Code) (at : ℕ) → verdict_refusal v at ≡ [] → v ≡ None
 no_verdict None at h = refl
 no_verdict (Some c) at h = absurd (cc)
 
-not_refused : (own : Finding) → finding_refusal own ≡ [] → (r : Refusal) → own ≢ Refused r
+not_refused : (own : FoundPacing) → finding_refusal own ≡ [] → (r : Refusal) → own ≢ Refused r
 not_refused (Paced p) h r e = absurd (cc)
 not_refused (Refused q) h r e = absurd (cc)
 not_refused Unpaced h r e = absurd (cc)
 
-module _ (streams : List Stream) (evals : List Finding) (verdicts : List (Option Code)) (own : Finding) where
+module _ (streams : List Stream) (evals : List FoundPacing) (verdicts : List (Option Code)) (own : FoundPacing) where
   fine_use : (u : Use) → use_refusals streams evals verdicts own u ≡ [] → IsFine streams evals verdicts own u
   fine_use (OfStream at n) h =
       let a = not_implied own (finding_at evals n) at in

@@ -15,7 +15,7 @@ use Rattle.lola_model.proofs.Implied.{implies_by_sets, satisfies_some-member, sa
 use Rattle.lola_model.specs.PacingFound.{IsJoined, any_row, is_multiple, satisfies_both}
 use Rattle.lola_pacing_findings.specs.Laws.{MeansConjunction}
 use Rattle.lola_model.specs.PacingRefused.{does_imply}
-use Rattle.lola_model.specs.declared.finding.Finding.TheVariants.{Paced}
+use Rattle.lola_model.specs.declared.finding.FoundPacing.TheVariants.{Paced}
 
 multiple_told : (r q : Ratio) → (is_multiple r q ≡ true) ↔ IsWholeMultipleOf q r
 multiple_told r q =

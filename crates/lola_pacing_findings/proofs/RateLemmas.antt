@@ -6,7 +6,7 @@ use Rattle.std.proofs.lemmas.List.{map-append, take_more, append_assoc}
 use Rattle.std.proofs.lemmas.List.Elements.{All-push, Contains-push, Contains-append_left}
 use Rattle.lola_value.specs.Ratio.{Ratio}
 use Rattle.lola_model.specs.PacingFound.{finding_at, findings_at, rate_of, rates_of, IsAtMost, IsLeastRate}
-use Rattle.lola_model.specs.declared.finding.Finding.{Finding}
+use Rattle.lola_model.specs.declared.finding.FoundPacing.{FoundPacing}
 
 pub at_most_through : (r q s : Ratio) → 0 < q.den → IsAtMost r q → IsAtMost q s → IsAtMost r s
 at_most_through r q s positive h k =
@@ -33,7 +33,7 @@ module _ (rates : List Ratio) (other next : Ratio) (h : IsLeastRate rates other)
     least = All-push (IsAtMost other) rates next h.least (omega (arith, above));
   }
 
-rates_of-append : (fs gs : List Finding) → rates_of (fs ++ gs) ≡ rates_of fs ++ rates_of gs
+rates_of-append : (fs gs : List FoundPacing) → rates_of (fs ++ gs) ≡ rates_of fs ++ rates_of gs
 rates_of-append [] gs = refl
 rates_of-append (f ∷ fs) gs = ap (λ rs. rate_of f ++ rs) (rates_of-append fs gs) ∙ sym (append_assoc (rate_of f) (rates_of fs) (rates_of gs))
 
@@ -42,7 +42,7 @@ append_none [] = refl
 append_none (r ∷ rs) = ap (λ xs. r ∷ xs) (append_none rs)
 
 -- the rates of one more stream
-pub rates_more : (fs : List Finding) (ss : List ℕ) (i : ℕ) → i < length ss
+pub rates_more : (fs : List FoundPacing) (ss : List ℕ) (i : ℕ) → i < length ss
     → rates_of (findings_at fs (take (i + 1) ss)) ≡ rates_of (findings_at fs (take i ss)) ++ rate_of (finding_at fs (slice_index_or ss i 0))
 rates_more fs ss i lt =
     let x = slice_index_or ss i 0 in

@@ -13,8 +13,8 @@ use Rattle.lola_model.specs.declared.pacing.Pacing.{Pacing}
 use Rattle.lola_model.specs.declared.pacing.Pacing.TheVariants.{Event}
 use Rattle.lola_model.specs.PacingFound.{IsJoined, any_row, finding_at}
 use Rattle.lola_model.specs.PacingRefused.{does_imply, is_filtered, used, clause_refusals}
-use Rattle.lola_model.specs.declared.finding.Finding.TheVariants.{Paced, Refused}
-use Rattle.lola_model.specs.declared.finding.Finding.{Finding}
+use Rattle.lola_model.specs.declared.finding.FoundPacing.TheVariants.{Paced, Refused}
+use Rattle.lola_model.specs.declared.finding.FoundPacing.{FoundPacing}
 use Rattle.lola_model.specs.declared.uses.Use.{Use}
 use Rattle.lola_model.specs.declared.uses.Use.TheVariants.{OfStream, OfWindow}
 
@@ -29,14 +29,14 @@ pub record MeansConjunction : Type 0 where
       → (inputs : ℕ) → satisfies_some inputs result ≡ list_all (satisfies_some inputs) (sets ∷ forms)
 
 -- nothing stands against a direct access or a window
-abbrev pub IsFine : List Stream → List Finding → List (Option Code) → Finding → Use → Type 0
+abbrev pub IsFine : List Stream → List FoundPacing → List (Option Code) → FoundPacing → Use → Type 0
 IsFine streams evals verdicts own (OfStream at n) =
     ((p q : Pacing) → own ≡ Paced p → finding_at evals n ≡ Paced q → Implies p q) × (is_filtered (slice_get streams n) ≡ false)
 IsFine streams evals verdicts own (OfWindow at w) = unwrap_or (slice_get verdicts w) None ≡ None
 
 -- where nothing is refused of a clause, its direct accesses and windows are fine, and nothing is refused of its pacing
 pub record AcceptsFine : Type 0 where
-  pub fine : (streams : List Stream) (evals : List Finding) (verdicts : List (Option Code)) (own : Finding) (clause : Option Clause)
+  pub fine : (streams : List Stream) (evals : List FoundPacing) (verdicts : List (Option Code)) (own : FoundPacing) (clause : Option Clause)
       → clause_refusals streams evals verdicts own clause ≡ [] → (u : Use) → Contains (listed_clause used clause) u → IsFine streams evals verdicts own u
-  pub found : (streams : List Stream) (evals : List Finding) (verdicts : List (Option Code)) (own : Finding) (clause : Option Clause)
+  pub found : (streams : List Stream) (evals : List FoundPacing) (verdicts : List (Option Code)) (own : FoundPacing) (clause : Option Clause)
       → clause_refusals streams evals verdicts own clause ≡ [] → (r : Refusal) → own ≢ Refused r

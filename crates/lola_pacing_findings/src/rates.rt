@@ -8,7 +8,7 @@ ghost use Rattle.lola_model.specs.PacingFound.{finding_at, findings_at, is_multi
 ghost use Rattle.lola_pacing_findings.specs.Rates.{list_of, IsLeastOf};
 
 use crate::given::none_found;
-use lola_model::finding::Finding;
+use lola_model::finding::FoundPacing;
 use lola_model::pacing::Pacing;
 use lola_value::rate::Rate;
 
@@ -30,11 +30,11 @@ fn is_at_most(rate: &Rate, other: &Rate) -> bool
 }
 
 /// The rate of a stream's pacing, if it is periodic.
-fn rate_at(findings: &[Finding], stream: u32) -> Option<Rate>
+fn rate_at(findings: &[FoundPacing], stream: u32) -> Option<Rate>
     ensures { list_of result ≡ rate_of (finding_at findings.now stream) }
 {
     match findings.get(stream as usize) {
-        Some(Finding::Paced(Pacing::Periodic(rate))) => Some(*rate),
+        Some(FoundPacing::Paced(Pacing::Periodic(rate))) => Some(*rate),
         _ => None,
     }
 }
@@ -59,7 +59,7 @@ fn lesser(least: Option<Rate>, next: Option<Rate>) -> Option<Rate>
 }
 
 /// The least rate of the pacings of streams, if some are periodic.
-fn least(findings: &[Finding], streams: &[u32]) -> Option<Rate>
+fn least(findings: &[FoundPacing], streams: &[u32]) -> Option<Rate>
     ensures { IsLeastOf (rates_of (findings_at findings.now streams.now)) result }
 {
     let mut least = None;
@@ -70,17 +70,17 @@ fn least(findings: &[Finding], streams: &[u32]) -> Option<Rate>
 }
 
 /// Whether the rate of a stream's pacing, if it is periodic, is a multiple of a rate.
-fn is_multiple_at(rate: &Rate, findings: &[Finding], stream: u32) -> bool
+fn is_multiple_at(rate: &Rate, findings: &[FoundPacing], stream: u32) -> bool
     ensures { result ≡ list_all (is_multiple_of rate.now) (rate_of (finding_at findings.now stream)) }
 {
     match findings.get(stream as usize) {
-        Some(Finding::Paced(Pacing::Periodic(other))) => is_multiple(rate, other),
+        Some(FoundPacing::Paced(Pacing::Periodic(other))) => is_multiple(rate, other),
         _ => true,
     }
 }
 
 /// Whether all rates of the pacings of streams are multiples of a rate.
-fn are_multiples(rate: &Rate, findings: &[Finding], streams: &[u32]) -> bool
+fn are_multiples(rate: &Rate, findings: &[FoundPacing], streams: &[u32]) -> bool
     ensures { result ≡ list_all (is_multiple_of rate.now) (rates_of (findings_at findings.now streams.now)) }
 {
     for stream in streams {
@@ -92,14 +92,14 @@ fn are_multiples(rate: &Rate, findings: &[Finding], streams: &[u32]) -> bool
 }
 
 /// What is found from the rates of leaves, some of which are periodic: the least rate, if it implies all others, else E12.
-pub fn of_rates(at: u32, findings: &[Finding], leaves: &[u32]) -> Finding
+pub fn of_rates(at: u32, findings: &[FoundPacing], leaves: &[u32]) -> FoundPacing
     ensures { rates_of (findings_at findings.now leaves.now) ≢ [] → IsRateFound at (rates_of (findings_at findings.now leaves.now)) result }
 {
     match least(findings, leaves) {
         None => none_found(at),
         Some(rate) => {
             if are_multiples(&rate, findings, leaves) {
-                Finding::Paced(Pacing::Periodic(rate))
+                FoundPacing::Paced(Pacing::Periodic(rate))
             } else {
                 none_found(at)
             }

@@ -7,7 +7,7 @@ ghost use Rattle.lola_model.specs.PacingFound.{finding_at};
 ghost use Rattle.lola_model.specs.PacingRefused.{clause_refusals, does_imply, finding_refusal, is_filtered as is_filtered_stream, not_implied, refusal_where, use_refusals, verdict_refusal};
 
 use crate::uses::uses_of;
-use lola_model::finding::Finding;
+use lola_model::finding::FoundPacing;
 use lola_model::pacing::Pacing;
 use lola_model::spec::{Clause, Stream};
 use lola_model::uses::Use;
@@ -34,34 +34,34 @@ fn put(list: &mut Vec<Refusal>, code: Code, at: u32) -> Result<(), Memory>
 /// Puts E11, where two pacings are found and the one does not imply the other.
 fn put_not_implied(
     list: &mut Vec<Refusal>,
-    own: &Finding,
-    read: &Finding,
+    own: &FoundPacing,
+    read: &FoundPacing,
     at: u32,
 ) -> Result<(), Memory>
     ensures { OnOk result (list.new.items ≡ list.old.items ++ not_implied own.now read.now at) }
 {
     match own {
-        Finding::Paced(pacing) => match read {
-            Finding::Paced(other) => {
+        FoundPacing::Paced(pacing) => match read {
+            FoundPacing::Paced(other) => {
                 if is_implied(pacing, other) {
                     Ok(())
                 } else {
                     put(list, Code::NotImplied, at)
                 }
             }
-            Finding::Refused(_) => Ok(()),
-            Finding::Unpaced => Ok(()),
+            FoundPacing::Refused(_) => Ok(()),
+            FoundPacing::Unpaced => Ok(()),
         },
-        Finding::Refused(_) => Ok(()),
-        Finding::Unpaced => Ok(()),
+        FoundPacing::Refused(_) => Ok(()),
+        FoundPacing::Unpaced => Ok(()),
     }
 }
 
 /// Puts E11 for an access of a stream.
 fn put_unimplied_at(
     list: &mut Vec<Refusal>,
-    evals: &[Finding],
-    own: &Finding,
+    evals: &[FoundPacing],
+    own: &FoundPacing,
     stream: u32,
     at: u32,
 ) -> Result<(), Memory>
@@ -69,7 +69,7 @@ fn put_unimplied_at(
 {
     match evals.get(stream as usize) {
         Some(read) => put_not_implied(list, own, read, at),
-        None => put_not_implied(list, own, &Finding::Unpaced, at),
+        None => put_not_implied(list, own, &FoundPacing::Unpaced, at),
     }
 }
 
@@ -133,9 +133,9 @@ fn put_verdict(list: &mut Vec<Refusal>, verdict: Option<Code>, at: u32) -> Resul
 fn put_use(
     list: &mut Vec<Refusal>,
     streams: &[Stream],
-    evals: &[Finding],
+    evals: &[FoundPacing],
     verdicts: &[Option<Code>],
-    own: &Finding,
+    own: &FoundPacing,
     part: &Use,
 ) -> Result<(), Memory>
     ensures { OnOk result (list.new.items ≡ list.old.items ++ use_refusals streams.now evals.now verdicts.now own.now part.now) }
@@ -153,9 +153,9 @@ fn put_use(
 fn put_uses(
     list: &mut Vec<Refusal>,
     streams: &[Stream],
-    evals: &[Finding],
+    evals: &[FoundPacing],
     verdicts: &[Option<Code>],
-    own: &Finding,
+    own: &FoundPacing,
     parts: &[Use],
 ) -> Result<(), Memory>
     ensures { OnOk result (list.new.items ≡ list.old.items ++ flat_map (use_refusals streams.now evals.now verdicts.now own.now) parts.now) }
@@ -167,13 +167,13 @@ fn put_uses(
 }
 
 /// Puts the refusal that says why there is no pacing, if one says so.
-fn put_finding(list: &mut Vec<Refusal>, finding: &Finding) -> Result<(), Memory>
+fn put_finding(list: &mut Vec<Refusal>, finding: &FoundPacing) -> Result<(), Memory>
     ensures { OnOk result (list.new.items ≡ list.old.items ++ finding_refusal finding.now) }
 {
     match finding {
-        Finding::Paced(_) => Ok(()),
-        Finding::Refused(refusal) => put(list, refusal.code, refusal.at),
-        Finding::Unpaced => Ok(()),
+        FoundPacing::Paced(_) => Ok(()),
+        FoundPacing::Refused(refusal) => put(list, refusal.code, refusal.at),
+        FoundPacing::Unpaced => Ok(()),
     }
 }
 
@@ -183,9 +183,9 @@ pub fn put_clause(
     alloc: Global,
     list: &mut Vec<Refusal>,
     streams: &[Stream],
-    evals: &[Finding],
+    evals: &[FoundPacing],
     verdicts: &[Option<Code>],
-    own: &Finding,
+    own: &FoundPacing,
     clause: &Option<Clause>,
 ) -> Result<(), Memory>
     ensures { OnOk result (list.new.items ≡ list.old.items ++ clause_refusals streams.now evals.now verdicts.now own.now clause.now) }

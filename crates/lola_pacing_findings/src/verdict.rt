@@ -3,7 +3,7 @@
 ghost use Rattle.std.specs.Prelude.{◌≤◌};
 ghost use Rattle.lola_model.specs.WindowVerdicts.{IsRateVerdict, IsVerdict};
 
-use lola_model::finding::Finding;
+use lola_model::finding::FoundPacing;
 use lola_model::pacing::Pacing;
 use lola_value::front::Code;
 use lola_value::rate::{Rate, gcd};
@@ -29,15 +29,15 @@ fn rate_verdict(rate: &Rate, over: u64) -> Option<Code>
 /// What stands against a window of so many nanoseconds in a clause of which this is found: E15 where it goes by
 /// inputs, or by a rate that counts from the birth of each instance; E18 or E16 where its period cannot be cut into panes,
 /// or into too many.
-pub fn verdict(finding: &Finding, over: u64) -> Option<Code>
+pub fn verdict(finding: &FoundPacing, over: u64) -> Option<Code>
     requires { 1 ≤ over }
     ensures { IsVerdict finding.now over result }
 {
     match finding {
-        Finding::Paced(Pacing::Event(_)) => Some(Code::WindowOutsidePeriodic),
-        Finding::Paced(Pacing::Periodic(rate)) => rate_verdict(rate, over),
-        Finding::Paced(Pacing::Local(_)) => Some(Code::WindowOutsidePeriodic),
-        Finding::Refused(_) => None,
-        Finding::Unpaced => None,
+        FoundPacing::Paced(Pacing::Event(_)) => Some(Code::WindowOutsidePeriodic),
+        FoundPacing::Paced(Pacing::Periodic(rate)) => rate_verdict(rate, over),
+        FoundPacing::Paced(Pacing::Local(_)) => Some(Code::WindowOutsidePeriodic),
+        FoundPacing::Refused(_) => None,
+        FoundPacing::Unpaced => None,
     }
 }

@@ -4,14 +4,14 @@ ghost use Rattle.std.specs.Prelude.{◌≡◌, ◌++◌, IfOk, OnOk, map};
 ghost use Rattle.lola_model.specs.Parts.{listed, listed_all, listed_when, listed_with};
 ghost use Rattle.lola_model.specs.Leaves.{followed_by, followed, followed_in, is_end as is_end_stream, onward};
 
-use crate::numbers::Numbers;
+use crate::numbers::StreamNumbers;
 use lola_model::expr::{Access, Arguments, Expr};
 use lola_model::spec::{Clause, Sort, Spec, Stream};
 use lola_value::text::Memory;
 use std::alloc::Global;
 
 /// Puts a stream that is accessed, if the access is followed.
-fn put_stream(list: &mut Numbers, stream: u32, access: Access) -> Result<(), Memory>
+fn put_stream(list: &mut StreamNumbers, stream: u32, access: Access) -> Result<(), Memory>
     ensures { OnOk result (list.new ≡ list.old ++ followed_by access stream) }
 {
     match access {
@@ -24,7 +24,7 @@ fn put_stream(list: &mut Numbers, stream: u32, access: Access) -> Result<(), Mem
 
 /// Puts the streams that are followed from an expression, arguments included.
 #[cycle(expression)]
-fn put_followed(list: &mut Numbers, expr: &Expr) -> Result<(), Memory>
+fn put_followed(list: &mut StreamNumbers, expr: &Expr) -> Result<(), Memory>
     ensures { OnOk result (list.new ≡ list.old ++ listed followed expr.now) }
 {
     match expr {
@@ -54,7 +54,7 @@ fn put_followed(list: &mut Numbers, expr: &Expr) -> Result<(), Memory>
 
 /// Puts the streams that are followed from arguments.
 #[cycle(expression)]
-fn put_arguments(list: &mut Numbers, arguments: &Arguments) -> Result<(), Memory>
+fn put_arguments(list: &mut StreamNumbers, arguments: &Arguments) -> Result<(), Memory>
     ensures { OnOk result (list.new ≡ list.old ++ listed_all followed arguments.now) }
 {
     match arguments {
@@ -67,7 +67,7 @@ fn put_arguments(list: &mut Numbers, arguments: &Arguments) -> Result<(), Memory
 }
 
 /// Puts the streams that are followed from the expressions of a clause behind `with`.
-fn put_with(list: &mut Numbers, exprs: &[Expr]) -> Result<(), Memory>
+fn put_with(list: &mut StreamNumbers, exprs: &[Expr]) -> Result<(), Memory>
     ensures { OnOk result (list.new ≡ list.old ++ listed_with followed exprs.now) }
 {
     for expr in exprs {
@@ -77,7 +77,7 @@ fn put_with(list: &mut Numbers, exprs: &[Expr]) -> Result<(), Memory>
 }
 
 /// Puts the streams that are followed from a condition, if there is one.
-fn put_when(list: &mut Numbers, when: &Option<Expr>) -> Result<(), Memory>
+fn put_when(list: &mut StreamNumbers, when: &Option<Expr>) -> Result<(), Memory>
     ensures { OnOk result (list.new ≡ list.old ++ listed_when followed when.now) }
 {
     match when {
@@ -87,7 +87,7 @@ fn put_when(list: &mut Numbers, when: &Option<Expr>) -> Result<(), Memory>
 }
 
 /// Puts the streams that are followed from a clause, if there is one.
-fn put_clause(list: &mut Numbers, clause: &Option<Clause>) -> Result<(), Memory>
+fn put_clause(list: &mut StreamNumbers, clause: &Option<Clause>) -> Result<(), Memory>
     ensures { OnOk result (list.new ≡ list.old ++ followed_in clause.now) }
 {
     match clause {
@@ -100,10 +100,10 @@ fn put_clause(list: &mut Numbers, clause: &Option<Clause>) -> Result<(), Memory>
 }
 
 /// The streams that are followed from a clause.
-pub fn followed_from(alloc: Global, clause: &Option<Clause>) -> Result<Numbers, Memory>
+pub fn followed_from(alloc: Global, clause: &Option<Clause>) -> Result<StreamNumbers, Memory>
     ensures { IfOk result (λ list. list ≡ followed_in clause.now) }
 {
-    let mut list = Numbers::create(alloc);
+    let mut list = StreamNumbers::create(alloc);
     put_clause(&mut list, clause)?;
     Ok(list)
 }
@@ -122,18 +122,18 @@ pub fn is_end(stream: &Stream) -> bool
 }
 
 /// The streams that are followed behind a stream.
-fn onward_of(alloc: Global, stream: &Stream) -> Result<Numbers, Memory>
+fn onward_of(alloc: Global, stream: &Stream) -> Result<StreamNumbers, Memory>
     ensures { IfOk result (λ list. list ≡ onward stream.now) }
 {
     if is_end(stream) {
-        return Ok(Numbers::create(alloc));
+        return Ok(StreamNumbers::create(alloc));
     }
     let list = followed_from(alloc, &stream.eval)?;
     Ok(list)
 }
 
 /// The streams that are followed behind each stream of a specification.
-pub fn lists_of(alloc: Global, spec: &Spec) -> Result<Vec<Numbers>, Memory>
+pub fn lists_of(alloc: Global, spec: &Spec) -> Result<Vec<StreamNumbers>, Memory>
     ensures { IfOk result (λ lists. lists.items ≡ map onward spec.now.streams) }
 {
     let mut lists = Vec::new(alloc);

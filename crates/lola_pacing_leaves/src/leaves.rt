@@ -7,7 +7,7 @@ ghost use Rattle.lola_pacing_leaves.specs.Flags.{AreEndsBelow, IsBlank};
 
 use crate::follow::followed_from;
 pub use crate::follow::{is_end, lists_of};
-use crate::numbers::Numbers;
+use crate::numbers::StreamNumbers;
 use crate::search::visit;
 use lola_model::spec::{Clause, Spec, Stream};
 use lola_value::text::Memory;
@@ -18,7 +18,7 @@ fn put_end(
     streams: &[Stream],
     flags: &[bool],
     stream: u32,
-    leaves: &mut Numbers,
+    leaves: &mut StreamNumbers,
 ) -> Result<(), Memory>
     requires stream { stream < length streams.now }
     requires flags { length flags.now ≡ length streams.now }
@@ -36,12 +36,12 @@ fn put_end(
 }
 
 /// The streams that are flagged and at which the search ends.
-fn flagged_ends(alloc: Global, streams: &[Stream], flags: &[bool]) -> Result<Numbers, Memory>
+fn flagged_ends(alloc: Global, streams: &[Stream], flags: &[bool]) -> Result<StreamNumbers, Memory>
     requires count { length streams.now < 2 ^ 32 }
     requires flags { length flags.now ≡ length streams.now }
     ensures { IfOk result (λ leaves. AreEndsBelow streams.now flags.now (length streams.now) leaves) }
 {
-    let mut leaves = Numbers::create(alloc);
+    let mut leaves = StreamNumbers::create(alloc);
     for stream in 0..streams.len() as u32 {
         put_end(streams, flags, stream, &mut leaves)?;
     }
@@ -52,12 +52,12 @@ fn flagged_ends(alloc: Global, streams: &[Stream], flags: &[bool]) -> Result<Num
 fn found(
     alloc: Global,
     spec: &Spec,
-    lists: &[Numbers],
+    lists: &[StreamNumbers],
     own: u32,
     clause: &Option<Clause>,
     flags: &mut [bool],
     noted: &mut Vec<u32>,
-) -> Result<Numbers, Memory>
+) -> Result<StreamNumbers, Memory>
     requires numbers { IsSpecInRange spec.now }
     requires streams { length spec.now.streams ≤ 1024 }
     requires clause { IsClauseInRange (length spec.now.streams) (length spec.now.windows) clause.now }
@@ -79,10 +79,10 @@ fn found(
 pub fn leaves(
     alloc: Global,
     spec: &Spec,
-    lists: &[Numbers],
+    lists: &[StreamNumbers],
     own: u32,
     clause: &Option<Clause>,
-) -> Result<Numbers, Memory>
+) -> Result<StreamNumbers, Memory>
     requires numbers { IsSpecInRange spec.now }
     requires streams { length spec.now.streams ≤ 1024 }
     requires clause { IsClauseInRange (length spec.now.streams) (length spec.now.windows) clause.now }

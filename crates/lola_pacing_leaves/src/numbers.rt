@@ -8,11 +8,11 @@ use std::marker::Model;
 
 /// Numbers of streams.
 #[derive(Drop)]
-pub struct Numbers {
+pub struct StreamNumbers {
     items: Vec<u32>,
 }
 
-impl Model for Numbers {
+impl Model for StreamNumbers {
     ghost use Rattle.std.specs.Prelude.{ℕ, List};
 
     ghost Value = { List ℕ };
@@ -20,12 +20,12 @@ impl Model for Numbers {
     ghost view = { λ a. a.items.items };
 }
 
-impl Numbers {
+impl StreamNumbers {
     /// An empty list.
-    pub fn create(alloc: Global) -> Numbers
+    pub fn create(alloc: Global) -> StreamNumbers
         ensures { result ≡ [] }
     {
-        Numbers {
+        StreamNumbers {
             items: Vec::new(alloc),
         }
     }

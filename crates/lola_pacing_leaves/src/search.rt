@@ -4,7 +4,7 @@ ghost use Rattle.std.specs.Prelude.{◌≡◌, ◌<◌, [], ◌∷◌, OnOk, len
 ghost use Rattle.lola_model.specs.Leaves.{list_at};
 ghost use Rattle.lola_pacing_leaves.specs.Flags.{IsBlank, Flags, FlagsVisited};
 
-use crate::numbers::Numbers;
+use crate::numbers::StreamNumbers;
 use lola_value::text::Memory;
 
 /// Flags a stream that is not the own one, and notes it if it had no flag.
@@ -36,7 +36,7 @@ fn flag(own: u32, streams: &[u32], flags: &mut [bool], noted: &mut Vec<u32>) -> 
 
 /// Flags the streams that are followed behind a stream, and notes those that had no flag.
 fn flag_behind(
-    lists: &[Numbers],
+    lists: &[StreamNumbers],
     own: u32,
     stream: u32,
     flags: &mut [bool],
@@ -51,7 +51,7 @@ fn flag_behind(
 
 /// Flags all streams that are visited from the first ones.
 pub fn visit(
-    lists: &[Numbers],
+    lists: &[StreamNumbers],
     own: u32,
     first: &[u32],
     flags: &mut [bool],

@@ -1,6 +1,6 @@
 //! A ring of panes, the oldest first.
 
-ghost use Rattle.std.specs.Prelude.{◌≡◌, ◌<◌, length, nat_eq, nat_lt, slice_get};
+ghost use Rattle.std.specs.Prelude.{◌≡◌, ◌≤◌, ◌<◌, length, nat_eq, nat_lt, slice_get};
 ghost use Rattle.circular_buffer.specs.Buffer.{buffer, keep_last, last_item};
 ghost use Rattle.lola_panes.specs.Rings.{new_pane, with_value, noted, is_last_beaten, unbeaten, left_by, left_count, extreme_of, Rising};
 
@@ -108,7 +108,17 @@ fn has_left(ring: &HeapCircularBuffer<Pane>, place: usize, count: u32, k: u64) -
     }
 }
 
-/// How many panes have left the window that ends with pane `k`, by halves: numbers rise, so they stand in front.
+// A place from the first one on and before the last: as far behind the first as that lies behind the front, at most half way. So
+// what stands near the front is found in few steps.
+fn place_between(low: usize, high: usize) -> usize
+    requires { low < high }
+    ensures from { low ≤ result }
+    ensures before { result < high }
+{
+    low + low.min((high - low) / 2)
+}
+
+/// How many panes have left the window that ends with pane `k`: numbers rise, so they stand in front, and few leave at a time.
 pub fn left(ring: &HeapCircularBuffer<Pane>, count: u32, k: u64) -> usize
     requires { Rising 0 ring.now.items }
     ensures { result ≡ left_count count k ring.now.items }
@@ -116,7 +126,7 @@ pub fn left(ring: &HeapCircularBuffer<Pane>, count: u32, k: u64) -> usize
     let mut low = 0;
     let mut high = ring.len();
     while low < high {
-        let middle = low + (high - low) / 2;
+        let middle = place_between(low, high);
         if has_left(ring, middle, count, k) {
             low = middle + 1;
         } else {

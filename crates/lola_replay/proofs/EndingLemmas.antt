@@ -25,12 +25,12 @@ use Rattle.lola_replay.specs.Running.{IsOn, IsStart}
 use Rattle.lola_replay.specs.Tracked.{IsBegin, Tracks, start_at}
 use Rattle.lola_replay.specs.Verdicts.{IsOtherAt, IsThere}
 use Rattle.lola_replay.specs.declared.compare.Compared.{Compared}
-use Rattle.lola_replay.specs.declared.entries.Run.{Run}
+use Rattle.lola_replay.specs.declared.entries.ReplayedRun.{ReplayedRun}
 use Rattle.lola_replay.specs.declared.finding.Finding.{Finding}
 use Rattle.lola_replay.specs.declared.finding.Finding.TheVariants as finding
 use Rattle.lola_replay.specs.declared.progress.Fault.{Fault}
 use Rattle.lola_replay.specs.declared.progress.Progress.{Progress}
-use Rattle.lola_replay.specs.declared.written.Counts.{Counts}
+use Rattle.lola_replay.specs.declared.written.RunCounts.{RunCounts}
 use Rattle.lola_replay.proofs.ComparingLemmas.{lines-first}
 use Rattle.lola_replay.proofs.RunningLemmas.{starts-at, starts-run}
 use Rattle.lola_replay.proofs.TakingLemmas.{along-end, below-none}
@@ -45,7 +45,7 @@ module _ (plan : Plan) (has : HasModelsOfRuns plan) (start : Option ℕ) (show :
   unfolding final_lines
   lines-by table is = ap (table_lines show plan.spec.streams) is
 
-  module _ (run : Run) (tracks : Tracks start journal run.tracking) where
+  module _ (run : ReplayedRun) (tracks : Tracks start journal run.tracking) where
     -- a fault of the settled steps is that of all
     pub ended-settled : (f : Fault) → IsStopped plan show text begin (next_below plan begin (accepted journal) 0) f run.progress → IsEnded plan start show text journal (Some f) run
     ended-settled f is =
@@ -85,7 +85,7 @@ start-is : (start : Option ℕ) (rows : List Row) (b : Option ℕ) → IsBegin s
 start-is start rows None is = sym (ap (λ o. start_of o rows) is.0 ∙ ap (λ (rs : List Row). start_of None rs) is.1)
 start-is start rows (Some t) is = sym (ap (start_of start) (sym (append-nil rows)) ∙ is [])
 
-module _ (plan : Plan) (has : HasModelsOfRuns plan) (start : Option ℕ) (show : Show) (text : List ℕ) (journal : List Entry) (run : Run) (on : IsOn plan start show text journal run) where
+module _ (plan : Plan) (has : HasModelsOfRuns plan) (start : Option ℕ) (show : Show) (text : List ℕ) (journal : List Entry) (run : ReplayedRun) (on : IsOn plan start show text journal run) where
   abbrev here : ℕ
   here = run_start plan start journal
 
@@ -120,7 +120,7 @@ module _ (plan : Plan) (has : HasModelsOfRuns plan) (start : Option ℕ) (show :
 
 -- the line that stands behind the verdict lines
 
-module _ (plan : Plan) (counts : Counts) (fault : Option Fault) where
+module _ (plan : Plan) (counts : RunCounts) (fault : Option Fault) where
   abbrev first : List ℕ → List ℕ
   first rest = take (line_long rest) rest
 
@@ -156,12 +156,12 @@ module _ (plan : Plan) (counts : Counts) (fault : Option Fault) where
 
 -- end lines
 
-module _ (plan : Plan) (start : Option ℕ) (show : Show) (text : List ℕ) (journal : List Entry) (fault : Option Fault) (run : Run) (ended : IsEnded plan start show text journal fault run)
+module _ (plan : Plan) (start : Option ℕ) (show : Show) (text : List ℕ) (journal : List Entry) (fault : Option Fault) (run : ReplayedRun) (ended : IsEnded plan start show text journal fault run)
     (none : run.progress.compared.other ≡ None) where
   abbrev compared : Compared
   compared = run.progress.compared
 
-  abbrev counts : Counts
+  abbrev counts : RunCounts
   counts = record { accepted = run.tracking.rows; late = run.tracking.late; steps = run.progress.steps; lines = compared.lines }
 
   abbrev rest : List (List ℕ)
@@ -218,7 +218,7 @@ module _ (plan : Plan) (start : Option ℕ) (show : Show) (text : List ℕ) (jou
   finds-ended (Err e) is = tt
 
 -- where a verdict line was another one
-pub finds-other : (plan : Plan) (start : Option ℕ) (show : Show) (text : List ℕ) (journal : List Entry) (fault : Option Fault) (run : Run) (n : ℕ) → IsEnded plan start show text journal fault run
+pub finds-other : (plan : Plan) (start : Option ℕ) (show : Show) (text : List ℕ) (journal : List Entry) (fault : Option Fault) (run : ReplayedRun) (n : ℕ) → IsEnded plan start show text journal fault run
     → run.progress.compared.other ≡ Some n → IsFirstLine (IsOtherAt plan start show journal (lines_of text)) n
 finds-other plan start show text journal fault run n ended some =
     differs plan start show journal (lines_of text) n

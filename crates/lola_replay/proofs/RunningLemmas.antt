@@ -4,8 +4,7 @@ use Rattle.std.proofs.lemmas.Slice.Zip.{AllZip-long}
 use Rattle.std.specs.Prelude.{unwrap_or}
 use Rattle.std.proofs.lemmas.Bool.{and_parts, leb-true, ltb-true}
 use Rattle.lola_value.specs.Times.{latest}
-use Rattle.lola_value.specs.declared.value.Kind.TheVariants as kind
-use Rattle.lola_model.specs.Model.{is_input}
+use Rattle.lola_model.specs.Model.{is_input, filled_kind}
 use Rattle.lola_model.specs.declared.spec.Stream.{Stream}
 use Rattle.std.proofs.Math.Seq.{take-append_seam}
 use Rattle.std.proofs.lemmas.List.{length-map, map-append}
@@ -29,7 +28,7 @@ use Rattle.lola_replay.specs.Progressing.{IsAlong, IsAt, IsFit, IsSettled, IsSto
 use Rattle.lola_replay.specs.Running.{IsFitRun, IsGoingOn, IsOn, IsStart, IsTaking, IsWhole}
 use Rattle.lola_replay.specs.Traces.{AreRightFrom, IsMismarked, IsMisnumbered, IsRightEntry, IsWrongAt, IsWrongLine}
 use Rattle.lola_replay.specs.Tracked.{IsBegin, IsTallied, Tracks, is_marked, is_next, is_right, marked_in, noted, numbered_in, start_at}
-use Rattle.lola_replay.specs.declared.entries.Run.{Run}
+use Rattle.lola_replay.specs.declared.entries.ReplayedRun.{ReplayedRun}
 use Rattle.lola_replay.specs.declared.progress.Fault.{Fault}
 use Rattle.lola_replay.specs.declared.progress.Progress.{Progress}
 use Rattle.lola_replay.specs.declared.tracking.Tracking.{Tracking}
@@ -58,7 +57,7 @@ pub starts-run : (start : Option ℕ) (rows : List Row) (b : Option ℕ) → IsB
 starts-run start rows None is = tt
 starts-run start rows (Some t) is = sym (is []) ∙ ap (start_of start) (append-nil rows)
 
-module _ (plan : Plan) (has : HasModelsOfRuns plan) (start : Option ℕ) (show : Show) (text : List ℕ) (journal : List Entry) (run : Run) (on : IsOn plan start show text journal run) where
+module _ (plan : Plan) (has : HasModelsOfRuns plan) (start : Option ℕ) (show : Show) (text : List ℕ) (journal : List Entry) (run : ReplayedRun) (on : IsOn plan start show text journal run) where
   abbrev here : ℕ
   here = run_start plan start journal
 
@@ -114,7 +113,7 @@ steps-accepted plan start show text journal e t fault p is settled u begins =
     subst (λ (rs : List Row). IsSettled plan show text u rs fault p) (sym (accepted-append_accepted journal e is))
     (subst (λ v. IsSettled plan show text v (accepted journal ++ e.row ∷ []) fault p) same settled)
 
-pub steps-late : (plan : Plan) (start : Option ℕ) (show : Show) (text : List ℕ) (journal : List Entry) (e : Entry) (m : ℕ) (run : Run)
+pub steps-late : (plan : Plan) (start : Option ℕ) (show : Show) (text : List ℕ) (journal : List Entry) (e : Entry) (m : ℕ) (run : ReplayedRun)
     → e.mark ≡ mark.Late m → IsOn plan start show text journal run
     → (u : ℕ) → IsStart (marked_in e.mark e.row.stamp run.tracking).begin u → IsSettled plan show text u (accepted (journal ++ e ∷ [])) run.fault run.progress
 steps-late plan start show text journal e m run is on u begins =
@@ -129,7 +128,7 @@ right-more plan start before [] e are is = (subst (λ (js : List Entry). IsRight
 right-more plan start before (d ∷ es) e are is =
     (are.0, right-more plan start (before ++ d ∷ []) es e are.1 (subst (λ (js : List Entry). IsRightEntry plan start js e) (sym (append_assoc before (d ∷ []) es)) is))
 
-module _ (plan : Plan) (start : Option ℕ) (show : Show) (text trace rest : List ℕ) (before : Run) (taking : IsTaking plan start show text trace rest before) where
+module _ (plan : Plan) (start : Option ℕ) (show : Show) (text trace rest : List ℕ) (before : ReplayedRun) (taking : IsTaking plan start show text trace rest before) where
   abbrev first : List ℕ
   first = take (line_long rest) rest
 
@@ -144,7 +143,7 @@ module _ (plan : Plan) (start : Option ℕ) (show : Show) (text trace rest : Lis
       go (b ∷ bs) e = lines-first b bs
 
   -- one more is taken
-  pub taken-line : (after : Run) → rest ≢ [] → IsGoingOn plan start show text taking.journal first after → IsTaking plan start show text trace behind after
+  pub taken-line : (after : ReplayedRun) → rest ≢ [] → IsGoingOn plan start show text taking.journal first after → IsTaking plan start show text trace behind after
   taken-line after some going =
       let e = going.entry in
       record {
@@ -210,7 +209,7 @@ begun-fit plan t p tallied none (fit, from, rows) =
 
 -- an entry is taken
 
-pub entry-on : (plan : Plan) (start : Option ℕ) (show : Show) (text : List ℕ) (journal : List Entry) (e : Entry) (before : Run) (p : Progress) (f : Option Fault)
+pub entry-on : (plan : Plan) (start : Option ℕ) (show : Show) (text : List ℕ) (journal : List Entry) (e : Entry) (before : ReplayedRun) (p : Progress) (f : Option Fault)
     → IsOn plan start show text journal before → IsTallied before.tracking → is_right before.tracking e ≡ true
     → ((u : ℕ) → IsStart (marked_in e.mark e.row.stamp before.tracking).begin u → IsSettled plan show text u (accepted (journal ++ e ∷ [])) f p)
     → IsOn plan start show text (journal ++ e ∷ []) (record { tracking = noted e before.tracking; progress = p; fault = f })
@@ -237,7 +236,7 @@ pub low-source : (t : Tracking) (e : Entry) → is_right t e ≡ true → e.row.
 low-source t e right =
     ltb-true e.row.source 64 (and_parts (nat_lt e.row.source 64) (is_next e.row.number (get_or t.numbers e.row.source 0) && is_marked t.merged e.row.stamp e.mark) right).0
 
-pub accepted-fit : (plan : Plan) (e : Entry) (before : Run) (p : Progress) (f : Option Fault) → e.mark ≡ mark.Accepted → e.row.stamp ≤ latest → IsFitRun plan before → before.fault ≡ None
+pub accepted-fit : (plan : Plan) (e : Entry) (before : ReplayedRun) (p : Progress) (f : Option Fault) → e.mark ≡ mark.Accepted → e.row.stamp ≤ latest → IsFitRun plan before → before.fault ≡ None
     → p.compared.lines + length p.compared.rest.now < 2 ^ 63 → (f ≡ None → IsFit plan p × (p.from ≡ e.row.stamp) × (p.rows ≡ before.progress.rows + 1))
     → IsFitRun plan (record { tracking = noted e before.tracking; progress = p; fault = f })
 accepted-fit plan e before p f is stamp fit fine room kept =
@@ -257,7 +256,7 @@ accepted-fit plan e before p f is stamp fit fine room kept =
       limit_late = λ none. (let from = (kept none).1 in omega (arith, from));
     }
 
-pub late-fit : (plan : Plan) (e : Entry) (before : Run) (u : ℕ) → e.mark ≡ mark.Late u → e.row.stamp ≤ latest → IsFitRun plan before
+pub late-fit : (plan : Plan) (e : Entry) (before : ReplayedRun) (u : ℕ) → e.mark ≡ mark.Late u → e.row.stamp ≤ latest → IsFitRun plan before
     → IsFitRun plan (record { tracking = noted e before.tracking; progress = before.progress; fault = before.fault })
 late-fit plan e before u is stamp fit = go e.mark is (tallied-more e before.tracking stamp fit.tallied)
   where
@@ -274,7 +273,7 @@ kinds-long [] = refl
 kinds-long (s ∷ ss) = go (kinds-long ss) (is_input s)
   where
     go : length (input_kinds ss) ≡ length (filter is_input ss) → (b : Bool)
-        → length (if b then unwrap_or s.kind kind.Int64 ∷ input_kinds ss else input_kinds ss) ≡ length (if b then s ∷ filter is_input ss else filter is_input ss)
+        → length (if b then filled_kind s ∷ input_kinds ss else input_kinds ss) ≡ length (if b then s ∷ filter is_input ss else filter is_input ss)
     go rest true = omega (arith, rest)
     go rest false = rest
 

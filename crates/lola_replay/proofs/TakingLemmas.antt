@@ -16,8 +16,8 @@ use Rattle.lola_replay.specs.Progressing.{GoesBelow, IsAlong, IsAt, IsDeadlineTa
 use Rattle.lola_replay.specs.SoFar.{IsSoFar}
 use Rattle.lola_replay.specs.declared.progress.Fault.{Fault}
 use Rattle.lola_replay.specs.declared.progress.Progress.{Progress}
-use Rattle.lola_replay.specs.declared.progress.Turn.{Turn}
-use Rattle.lola_replay.specs.declared.progress.Turn.TheVariants as turn
+use Rattle.lola_replay.specs.declared.progress.NextDeadline.{NextDeadline}
+use Rattle.lola_replay.specs.declared.progress.NextDeadline.TheVariants as turn
 use Rattle.lola_replay_step.specs.declared.fault.StepFault.{StepFault}
 use Rattle.std.specs.Option.{option_map}
 use Rattle.lola_value.specs.declared.text.Memory.{Memory}
@@ -180,7 +180,7 @@ module _ (plan : Plan) (show : Show) (text : List ℕ) (start : ℕ) (next : Nex
 
 module _ (plan : Plan) (show : Show) (text : List ℕ) (start : ℕ) where
   -- the next deadline is taken
-  pub turned : (next : Next) (n limit time : ℕ) (before after : Progress) (t : Turn) → GoesBelow plan start next n limit → (along : IsAlong plan show text start next n before)
+  pub turned : (next : Next) (n limit time : ℕ) (before after : Progress) (t : NextDeadline) → GoesBelow plan start next n limit → (along : IsAlong plan show text start next n before)
       → below limit (due plan along.table start) ≡ Some time → IsDeadlineTaken plan show text start along.table time t after → IsTurned plan show text start next n limit t after
   turned next n limit time before after turn.Past goes along is taken = absurd taken
   turned next n limit time before after turn.Taken goes along is taken =
@@ -241,7 +241,7 @@ taken-as plan show text s t table a b f g p one two three is =
     subst (λ u. IsTaken plan show text u table b g p) one
     (subst (λ (x : Step). IsTaken plan show text s table x g p) two (subst (λ (o : Option RowFault). IsTaken plan show text s table a o p) three is))
 
-pub turned-ok : (plan : Plan) (show : Show) (text : List ℕ) (start : ℕ) (next : Next) (n limit time : ℕ) (before after : Progress) (r : Result Turn Memory) → GoesBelow plan start next n limit
+pub turned-ok : (plan : Plan) (show : Show) (text : List ℕ) (start : ℕ) (next : Next) (n limit time : ℕ) (before after : Progress) (r : Result NextDeadline Memory) → GoesBelow plan start next n limit
     → (along : IsAlong plan show text start next n before) → below limit (due plan along.table start) ≡ Some time
     → IfOk r (λ t. IsDeadlineTaken plan show text start along.table time t after) → IfOk r (λ t. IsTurned plan show text start next n limit t after)
 turned-ok plan show text start next n limit time before after (Ok t) goes along is taken = turned plan show text start next n limit time before after t goes along is taken

@@ -13,15 +13,15 @@ use Rattle.lola_replay.specs.Progressing.{the_run_fault}
 use Rattle.lola_replay.specs.Tracked.{Tracks}
 use Rattle.lola_replay.specs.Verdicts.{AreVerdicts, IsOtherAt}
 use Rattle.lola_replay.specs.declared.compare.Compared.{Compared}
-use Rattle.lola_replay.specs.declared.written.Counts.{Counts}
-use Rattle.lola_replay.specs.declared.entries.Run.{Run}
+use Rattle.lola_replay.specs.declared.written.RunCounts.{RunCounts}
+use Rattle.lola_replay.specs.declared.entries.ReplayedRun.{ReplayedRun}
 use Rattle.lola_replay.specs.declared.finding.Finding.{Finding}
 use Rattle.lola_replay.specs.declared.finding.Finding.TheVariants as finding
 use Rattle.lola_replay.specs.declared.progress.Fault.{Fault}
 
 module _ (plan : Plan) (start : Option ℕ) (show : Show) (text : List ℕ) (journal : List Entry) where
   -- all steps of a journal are taken, the last of which has this fault, if any
-  pub record IsEnded (fault : Option Fault) (run : Run) : Type 0 where
+  pub record IsEnded (fault : Option Fault) (run : ReplayedRun) : Type 0 where
     pub tracks : Tracks start journal run.tracking
     pub fault_is : first_fault plan start journal ≡ option_map the_run_fault fault
     pub steps_are : run.progress.steps ≡ length (whole_model plan start journal)
@@ -35,10 +35,10 @@ module _ (plan : Plan) (start : Option ℕ) (show : Show) (text : List ℕ) (jou
       AreVerdicts plan start show journal (lines_of text) × (entries ≡ length journal) × (lines ≡ length (final_lines plan start journal show))
 
 -- the end lines of a run without a fault
-abbrev pub IsGoodEnd : Counts → List ℕ → Type 0
+abbrev pub IsGoodEnd : RunCounts → List ℕ → Type 0
 IsGoodEnd c line = (line ≡ done_text c.accepted c.late c.steps c.lines) ⊎ (IsMalformedLine line ⊎ IsUnreadableLine line)
 
-module _ (plan : Plan) (counts : Counts) where
+module _ (plan : Plan) (counts : RunCounts) where
   -- and of any
   abbrev pub IsEndBy : Option Fault → List ℕ → Type 0
   IsEndBy (Some f) line = line ≡ fault_line plan (the_run_fault f)

@@ -15,8 +15,8 @@ use Rattle.lola_replay.specs.Comparing.{IsComparedBy}
 use Rattle.lola_replay.specs.SoFar.{IsSoFar}
 use Rattle.lola_replay.specs.declared.progress.Fault.{Fault}
 use Rattle.lola_replay.specs.declared.progress.Progress.{Progress}
-use Rattle.lola_replay.specs.declared.progress.Turn.{Turn}
-use Rattle.lola_replay.specs.declared.progress.Turn.TheVariants as turn
+use Rattle.lola_replay.specs.declared.progress.NextDeadline.{NextDeadline}
+use Rattle.lola_replay.specs.declared.progress.NextDeadline.TheVariants as turn
 
 -- a moment below a limit
 abbrev pub below : ℕ → Option ℕ → Option ℕ
@@ -65,7 +65,7 @@ module _ (plan : Plan) (show : Show) (text : List ℕ) where
     pub at : fault ≡ None → IsAt (table ++ answered plan start table step ∷ []) p
 
   -- the step of the deadlines of a moment is
-  abbrev pub IsDeadlineTaken : ℕ → List TableRow → ℕ → Turn → Progress → Type 0
+  abbrev pub IsDeadlineTaken : ℕ → List TableRow → ℕ → NextDeadline → Progress → Type 0
   IsDeadlineTaken start table time turn.Past p = ⊥
   IsDeadlineTaken start table time turn.Taken p = IsTaken start table (deadline_step time) None p
   IsDeadlineTaken start table time (turn.Faulty f) p = IsTaken start table (deadline_step time) (Some (the_row_fault f)) p × (f.time ≡ time)
@@ -99,7 +99,7 @@ module _ (plan : Plan) (show : Show) (text : List ℕ) where
       pub compared_by : IsComparedBy text (table_lines show plan.spec.streams (table ++ made ∷ [])) p.compared
 
     -- what became of the next deadline below a limit
-    abbrev pub IsTurned : ℕ → ℕ → Turn → Progress → Type 0
+    abbrev pub IsTurned : ℕ → ℕ → NextDeadline → Progress → Type 0
     IsTurned n limit turn.Past p = IsPast n limit p
     IsTurned n limit turn.Taken p = IsAlong n p
     IsTurned n limit (turn.Faulty f) p = IsStopped f p
@@ -115,7 +115,7 @@ module _ (plan : Plan) (show : Show) (text : List ℕ) where
   IsSettled start rows (Some f) p = IsStopped start (next_below plan start rows 0) f p
 
 -- where a deadline was taken or not, what is counted and has room stays so, and no deadline comes twice
-abbrev pub Keeps : Plan → ℕ → Progress → Progress → Turn → Type 0
+abbrev pub Keeps : Plan → ℕ → Progress → Progress → NextDeadline → Type 0
 Keeps plan limit before after turn.Past = IsFit plan after × (after.from ≡ before.from) × (after.rows ≡ before.rows)
 Keeps plan limit before after turn.Taken = IsFit plan after × (before.from < after.from) × (after.from ≤ limit) × (after.rows ≡ before.rows)
 Keeps plan limit before after (turn.Faulty f) = Unit {0}

@@ -8,16 +8,16 @@ ghost use Rattle.lola_replay.specs.Ending.{FindsEnd, FindsVerdicts, IsEndBy, IsE
 ghost use Rattle.lola_replay.specs.Running.{IsFitRun, IsOn};
 
 use crate::compare::{Compared, line_length};
-use crate::entries::Run;
+use crate::entries::ReplayedRun;
 use crate::finding::Finding;
 use crate::progress::{Course, Fault, take_deadlines};
 use crate::tracking::start_at;
-use crate::written::{Counts, is_done, is_fault, is_malformed, is_unreadable};
+use crate::written::{RunCounts, is_done, is_fault, is_malformed, is_unreadable};
 use lola_model::law::one_model_of_accepted;
 use lola_value::text::{Memory, Text};
 
 // The deadlines behind the last row, up to a fault.
-fn take_last(course: &Course, run: &mut Run) -> Result<Option<Fault>, Memory>
+fn take_last(course: &Course, run: &mut ReplayedRun) -> Result<Option<Fault>, Memory>
     requires accepted { IsAccepted course.now.plan.now }
     requires fit { IsFitRun course.now.plan.now run.old }
     requires fine { run.old.fault ≡ None }
@@ -33,7 +33,7 @@ fn take_last(course: &Course, run: &mut Run) -> Result<Option<Fault>, Memory>
 }
 
 /// All steps of a run are taken, up to a fault.
-pub fn take_rest(course: &Course, run: &mut Run) -> Result<Option<Fault>, Memory>
+pub fn take_rest(course: &Course, run: &mut ReplayedRun) -> Result<Option<Fault>, Memory>
     requires accepted { IsAccepted course.now.plan.now }
     requires fit { IsFitRun course.now.plan.now run.old }
     requires few { run.old.tracking.entries < 2 ^ 63 }
@@ -50,7 +50,7 @@ pub fn take_rest(course: &Course, run: &mut Run) -> Result<Option<Fault>, Memory
 }
 
 // Whether a line is an end line of a run without a fault.
-fn is_good_end(counts: &Counts, line: &[u8], written: &mut Text) -> Result<bool, Memory>
+fn is_good_end(counts: &RunCounts, line: &[u8], written: &mut Text) -> Result<bool, Memory>
     ensures { IfOk result (λ is. MatchBool is (IsGoodEnd counts.now line.now) (¬ (IsGoodEnd counts.now line.now))) }
 {
     if is_done(counts, line, written)? {
@@ -65,7 +65,7 @@ fn is_good_end(counts: &Counts, line: &[u8], written: &mut Text) -> Result<bool,
 // Whether a line is the end line of a run with these counts and this fault, if it has one.
 fn is_end_line(
     course: &Course,
-    counts: &Counts,
+    counts: &RunCounts,
     fault: Option<Fault>,
     line: &[u8],
     written: &mut Text,
@@ -81,7 +81,7 @@ fn is_end_line(
 // What the end line tells, where all verdict lines were the same.
 fn end_finding(
     course: &Course,
-    counts: &Counts,
+    counts: &RunCounts,
     fault: Option<Fault>,
     entries: u64,
     compared: Compared,
@@ -110,7 +110,7 @@ fn end_finding(
 pub fn verdicts_finding(
     course: &Course,
     fault: Option<Fault>,
-    run: &mut Run,
+    run: &mut ReplayedRun,
 ) -> Result<Finding, Memory>
     requires room { run.old.progress.compared.lines + length run.old.progress.compared.rest.now < 2 ^ 63 }
     ensures { (start : Option ℕ) (text : List ℕ) (journal : List Entry) → IsEnded course.now.plan.now start course.now.show text journal fault run.old
@@ -120,7 +120,7 @@ pub fn verdicts_finding(
     if let Some(line) = compared.other {
         return Ok(Finding::VerdictsDiffer(line));
     }
-    let counts = Counts {
+    let counts = RunCounts {
         accepted: run.tracking.rows,
         late: run.tracking.late,
         steps: run.progress.steps,

@@ -17,12 +17,12 @@ use lola_model::journal::{Entry, Mark, Row};
 use lola_model::law::one_model_of_accepted;
 use lola_model::spec::Kinds;
 use lola_report::kinds_of;
-use lola_report::line::{Room, entry_of};
+use lola_report::line::{LineScratch, entry_of};
 use lola_value::text::Memory;
 
 /// How far a run is replayed.
 #[derive(Drop)]
-pub struct Run<'a> {
+pub struct ReplayedRun<'a> {
     /// What the lines of the trace told.
     pub tracking: Tracking,
     /// How far the steps are taken.
@@ -36,7 +36,7 @@ pub struct Run<'a> {
 pub struct Reader {
     /// The kinds of the inputs.
     pub kinds: Kinds,
-    room: Room,
+    room: LineScratch,
 }
 
 impl Reader {
@@ -46,7 +46,7 @@ impl Reader {
     {
         Ok(Reader {
             kinds: kinds_of(course.alloc, course.plan.spec.streams.as_slice())?,
-            room: Room::create(course.alloc)?,
+            room: LineScratch::create(course.alloc)?,
         })
     }
 }
@@ -56,13 +56,13 @@ pub fn begin_run<'a>(
     course: &Course,
     start: Option<u64>,
     verdicts: &'a [u8],
-) -> Result<Run<'a>, Memory>
+) -> Result<ReplayedRun<'a>, Memory>
     requires accepted { IsAccepted course.now.plan.now }
     requires few { length verdicts.now < 2 ^ 63 }
     ensures fit { IfOk result (λ run. IsFitRun course.now.plan.now run × (run.tracking.entries ≡ 0)) }
     ensures on { IfOk result (λ run. IsOn course.now.plan.now start course.now.show verdicts.now [] run) }
 {
-    Ok(Run {
+    Ok(ReplayedRun {
         tracking: untracked(start),
         progress: begin(course, verdicts)?,
         fault: None,
@@ -70,7 +70,7 @@ pub fn begin_run<'a>(
 }
 
 // Whether the last step that was taken has a fault.
-fn has_fault(run: &Run) -> bool
+fn has_fault(run: &ReplayedRun) -> bool
     ensures { result ≡ is_some run.now.fault }
 {
     run.fault.is_some()
@@ -81,7 +81,7 @@ fn right_entry(
     course: &Course,
     reader: &mut Reader,
     line: &[u8],
-    run: &Run,
+    run: &ReplayedRun,
 ) -> Result<Option<Entry>, Memory>
     requires accepted { IsAccepted course.now.plan.now }
     requires kinds { reader.old.kinds ≡ input_kinds course.now.plan.now.spec.streams }
@@ -112,7 +112,7 @@ fn right_entry(
 }
 
 // The steps of an entry that is right.
-fn take_steps(course: &Course, entry: &Entry, run: &mut Run) -> Result<(), Memory>
+fn take_steps(course: &Course, entry: &Entry, run: &mut ReplayedRun) -> Result<(), Memory>
     requires accepted { IsAccepted course.now.plan.now }
     requires fit { IsFitRun course.now.plan.now run.old }
     requires fine { run.old.fault ≡ None }
@@ -136,7 +136,7 @@ fn take_steps(course: &Course, entry: &Entry, run: &mut Run) -> Result<(), Memor
 }
 
 // An entry that is right is taken.
-fn take_entry(course: &Course, entry: &Entry, run: &mut Run) -> Result<(), Memory>
+fn take_entry(course: &Course, entry: &Entry, run: &mut ReplayedRun) -> Result<(), Memory>
     requires accepted { IsAccepted course.now.plan.now }
     requires fit { IsFitRun course.now.plan.now run.old }
     requires fine { run.old.fault ≡ None }
@@ -158,7 +158,7 @@ fn take_line(
     course: &Course,
     reader: &mut Reader,
     line: &[u8],
-    run: &mut Run,
+    run: &mut ReplayedRun,
 ) -> Result<bool, Memory>
     requires accepted { IsAccepted course.now.plan.now }
     requires kinds { reader.old.kinds ≡ input_kinds course.now.plan.now.spec.streams }
@@ -192,7 +192,7 @@ pub fn take_lines(
     course: &Course,
     reader: &mut Reader,
     trace: &[u8],
-    run: &mut Run,
+    run: &mut ReplayedRun,
 ) -> Result<Option<u64>, Memory>
     requires accepted { IsAccepted course.now.plan.now }
     requires kinds { reader.old.kinds ≡ input_kinds course.now.plan.now.spec.streams }

@@ -22,9 +22,9 @@ use lola_model::plan::Plan;
 use lola_replay_step::due::due;
 use lola_replay_step::fault::StepFault;
 use lola_replay_step::law::due_is_known;
-use lola_replay_step::whole::{Room, answer_step, fresh, rest};
-use lola_replay_table::scene::{Moment, present};
-use lola_replay_table::table::{Known, KnownStream};
+use lola_replay_step::whole::{StepScratch, answer_step, fresh, rest};
+use lola_replay_table::scene::{ReplayedStep, present};
+use lola_replay_table::table::{KnownRun, KnownStream};
 use lola_value::text::{Memory, Text};
 use lola_value::value::FaultKind;
 use std::alloc::Global;
@@ -51,7 +51,7 @@ pub struct Fault {
 #[derive(Drop)]
 pub struct Progress<'a> {
     /// What is known between steps.
-    pub known: Known,
+    pub known: KnownRun,
     /// Whether there was no step yet.
     pub first: bool,
     /// The first moment, in nanoseconds, whose deadlines may still come.
@@ -63,7 +63,7 @@ pub struct Progress<'a> {
     /// How far the verdicts are compared.
     pub compared: Compared<'a>,
     /// Room that is kept from step to step.
-    pub room: Room,
+    pub room: StepScratch,
     /// The line that is compared.
     pub line: Text,
 }
@@ -95,7 +95,7 @@ fn compare_step<'a>(
 }
 
 // The first moment whose deadlines may come behind a step.
-fn open_after(moment: &Moment) -> u64
+fn open_after(moment: &ReplayedStep) -> u64
     requires { moment.now.time ≤ latest }
     ensures { result ≡ open_after (the_step moment.now) }
 {
@@ -106,7 +106,11 @@ fn open_after(moment: &Moment) -> u64
 }
 
 // The step of this moment, which is answered and has no fault, is compared and put behind.
-fn finish_step(course: &Course, moment: &Moment, progress: &mut Progress) -> Result<(), Memory>
+fn finish_step(
+    course: &Course,
+    moment: &ReplayedStep,
+    progress: &mut Progress,
+) -> Result<(), Memory>
     requires in_time { moment.now.time ≤ latest }
     requires few { length course.now.plan.now.spec.streams ≤ 1024 }
     requires long { length progress.old.known ≡ length course.now.plan.now.spec.streams }
@@ -138,7 +142,7 @@ fn finish_step(course: &Course, moment: &Moment, progress: &mut Progress) -> Res
 /// The step of this moment is taken, and its fault told, if it has one.
 pub fn take_step(
     course: &Course,
-    moment: &Moment,
+    moment: &ReplayedStep,
     progress: &mut Progress,
 ) -> Result<Option<StepFault>, Memory>
     requires in_time { moment.now.time ≤ latest }
@@ -175,7 +179,7 @@ pub fn take_step(
 
 /// What became of the next deadline below a limit.
 #[derive(Clone, Copy)]
-pub enum Turn {
+pub enum NextDeadline {
     /// There was none.
     Past,
     /// Its step is taken.
@@ -185,11 +189,11 @@ pub enum Turn {
 }
 
 // The moment of deadlines.
-fn deadline_moment(start: u64, time: u64) -> Moment<'static>
+fn deadline_moment(start: u64, time: u64) -> ReplayedStep<'static>
     ensures start { result.start ≡ start }
     ensures step { the_step result ≡ deadline_step time }
 {
-    Moment {
+    ReplayedStep {
         start,
         time,
         fields: None,
@@ -203,7 +207,7 @@ fn take_deadline(
     start: u64,
     time: u64,
     progress: &mut Progress,
-) -> Result<Turn, Memory>
+) -> Result<NextDeadline, Memory>
     requires in_time { time ≤ latest }
     requires from { progress.old.from ≤ time }
     requires accepted { IsAccepted course.now.plan.now }
@@ -216,12 +220,12 @@ fn take_deadline(
 {
     let moment = deadline_moment(start, time);
     match take_step(course, &moment, progress)? {
-        Some(fault) => Ok(Turn::Faulty(Fault {
+        Some(fault) => Ok(NextDeadline::Faulty(Fault {
             stream: fault.stream,
             kind: fault.kind,
             time,
         })),
-        None => Ok(Turn::Taken),
+        None => Ok(NextDeadline::Taken),
     }
 }
 
@@ -255,7 +259,7 @@ fn take_due(
     start: u64,
     limit: u64,
     progress: &mut Progress,
-) -> Result<Turn, Memory>
+) -> Result<NextDeadline, Memory>
     requires accepted { IsAccepted course.now.plan.now }
     requires fit { IsFit course.now.plan.now progress.old }
     requires few { progress.old.rows < 2 ^ 63 }
@@ -268,7 +272,7 @@ fn take_due(
 {
     match next_due(course, start, limit, progress) {
         Some(time) => take_deadline(course, start, time, progress),
-        None => Ok(Turn::Past),
+        None => Ok(NextDeadline::Past),
     }
 }
 
@@ -292,22 +296,22 @@ pub fn take_deadlines(
 {
     loop {
         match take_due(course, start, limit, progress)? {
-            Turn::Past => return Ok(None),
-            Turn::Taken => {}
-            Turn::Faulty(fault) => return Ok(Some(fault)),
+            NextDeadline::Past => return Ok(None),
+            NextDeadline::Taken => {}
+            NextDeadline::Faulty(fault) => return Ok(Some(fault)),
         }
     }
 }
 
 // The moment of a row.
-fn row_moment(start: u64, row: &Row) -> Moment<'_>
+fn row_moment(start: u64, row: &Row) -> ReplayedStep<'_>
     requires { length row.now.fields ≤ 64 }
     ensures start { result.start ≡ start }
     ensures set { HasSet result }
     ensures step { the_step result ≡ row_step row.now }
 {
     let fields = row.fields.as_slice();
-    Moment {
+    ReplayedStep {
         start,
         time: row.stamp,
         fields: Some(fields),
@@ -392,7 +396,7 @@ pub fn begin<'a>(course: &Course, verdicts: &'a [u8]) -> Result<Progress<'a>, Me
         steps: 0,
         rows: 0,
         compared: uncompared(verdicts),
-        room: Room::create(course.alloc),
+        room: StepScratch::create(course.alloc),
         line: Text::from_bytes(course.alloc, b"")?,
     })
 }

@@ -8,7 +8,7 @@ ghost use Rattle.lola_replay.specs.Findings.{Finds};
 ghost use Rattle.lola_replay.specs.Running.{IsFitRun, IsOn};
 
 use crate::ending::{take_rest, verdicts_finding};
-use crate::entries::{Reader, Run, begin_run, take_lines};
+use crate::entries::{Reader, ReplayedRun, begin_run, take_lines};
 use crate::finding::Finding;
 use crate::progress::Course;
 use lola_model::journal::Show;
@@ -17,7 +17,7 @@ use lola_value::text::Memory;
 use std::alloc::Global;
 
 // The steps behind the last line are taken, and the verdicts judged.
-fn finding_of_verdicts(course: &Course, run: &mut Run) -> Result<Finding, Memory>
+fn finding_of_verdicts(course: &Course, run: &mut ReplayedRun) -> Result<Finding, Memory>
     requires accepted { IsAccepted course.now.plan.now }
     requires fit { IsFitRun course.now.plan.now run.old }
     requires few { run.old.tracking.entries < 2 ^ 63 }

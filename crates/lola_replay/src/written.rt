@@ -23,7 +23,7 @@ pub const MOST_ROWS: u64 = 1_099_511_627_776;
 
 /// What the end line of a run tells that has no fault.
 #[derive(Clone, Copy)]
-pub struct Counts {
+pub struct RunCounts {
     /// How many rows were accepted, and how many were late.
     pub accepted: u64,
     pub late: u64,
@@ -173,7 +173,7 @@ pub fn is_malformed(line: &[u8], written: &mut Text) -> Result<bool, Memory>
 }
 
 /// Whether a line says that a run is done, with these counts.
-pub fn is_done(counts: &Counts, line: &[u8], written: &mut Text) -> Result<bool, Memory>
+pub fn is_done(counts: &RunCounts, line: &[u8], written: &mut Text) -> Result<bool, Memory>
     ensures { IfOk result (λ is. MatchBool is (line.now ≡ done_text counts.now.accepted counts.now.late counts.now.steps counts.now.lines) (line.now ≢ done_text counts.now.accepted counts.now.late counts.now.steps counts.now.lines)) }
 {
     let end = EndLine::Done {

@@ -12,8 +12,8 @@ use Rattle.lola_replay_table.specs.Open.{IsOpen, changed_at, rank_of, with_life_
 use Rattle.lola_replay_table.specs.declared.answer.KeptAnswer.{KeptAnswer}
 use Rattle.lola_replay_table.specs.declared.question.Question.{Question}
 use Rattle.lola_replay_table.specs.declared.question.Question.TheVariants.{SpawnOf, OutcomeOf}
-use Rattle.lola_replay_table.specs.declared.question.Stop.{Stop}
-use Rattle.lola_replay_table.specs.declared.question.Stop.TheVariants as stop
+use Rattle.lola_replay_table.specs.declared.question.Unanswered.{Unanswered}
+use Rattle.lola_replay_table.specs.declared.question.Unanswered.TheVariants as stop
 use Rattle.lola_replay_table.specs.declared.table.KeptSpawn.{KeptSpawn}
 use Rattle.lola_replay_table.specs.declared.table.KnownLife.{KnownLife}
 use Rattle.lola_replay_table.specs.declared.table.KnownStream.{KnownStream}
@@ -37,12 +37,12 @@ module _ (plan : Plan) (start : ℕ) (step : Step) where
         (s : Stream) (k : KnownStream) → slice_get plan.spec.streams n ≡ Some s → slice_get known n ≡ Some k → spawn_tried plan start step known n s k ≡ Err q
 
     -- what the code of a try gives
-    abbrev pub GivesOutcome : ℕ → ℕ → Result KeptAnswer Stop → Type 0
+    abbrev pub GivesOutcome : ℕ → ℕ → Result KeptAnswer Unanswered → Type 0
     GivesOutcome n place (Ok a) = IsTriedOutcome n place (Ok a)
     GivesOutcome n place (Err (stop.Asks q)) = IsTriedOutcome n place (Err q)
     GivesOutcome n place (Err stop.Memory) = Unit {0}
 
-    abbrev pub GivesSpawnOf : ℕ → Result KeptSpawn Stop → Type 0
+    abbrev pub GivesSpawnOf : ℕ → Result KeptSpawn Unanswered → Type 0
     GivesSpawnOf n (Ok sp) = IsTriedSpawn n (Ok sp)
     GivesSpawnOf n (Err (stop.Asks q)) = IsTriedSpawn n (Err q)
     GivesSpawnOf n (Err stop.Memory) = Unit {0}

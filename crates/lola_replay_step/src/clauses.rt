@@ -14,7 +14,7 @@ use lola_model::expr::Expr;
 use lola_model::spec::{Clause, Stream};
 use lola_replay_table::answer::{LentAnswer, LentField, keep_field, lend};
 use lola_replay_table::attempt::{attempt, led_by};
-use lola_replay_table::question::{Question, Stop};
+use lola_replay_table::question::{Question, Unanswered};
 use lola_replay_table::scene::{Scene, is_active, is_active_for};
 use lola_replay_table::table::{KeptSpawn, KnownLife, KnownStream, MOST_INSTANCES, is_among};
 use lola_value::text::{Field, Fields, Memory};
@@ -26,7 +26,7 @@ pub fn when_outcome<'a>(
     scene: &Scene<'a>,
     params: &'a [Field],
     when: &'a Option<Expr>,
-) -> Result<LentAnswer<'a>, Stop>
+) -> Result<LentAnswer<'a>, Unanswered>
     ensures { Gives (when_at scene.now params.now when.now) result }
 {
     match when {
@@ -40,7 +40,7 @@ fn first_outcome<'a>(
     scene: &Scene<'a>,
     params: &'a [Field],
     exprs: &'a [Expr],
-) -> Result<LentAnswer<'a>, Stop>
+) -> Result<LentAnswer<'a>, Unanswered>
     ensures { Gives (first_at scene.now params.now exprs.now) result }
 {
     match exprs {
@@ -54,7 +54,7 @@ fn clause_outcome<'a>(
     scene: &Scene<'a>,
     params: &'a [Field],
     clause: &'a Clause,
-) -> Result<LentAnswer<'a>, Stop>
+) -> Result<LentAnswer<'a>, Unanswered>
     ensures { Gives (clause_at scene.now params.now clause.now) result }
 {
     let met = when_outcome(scene, params, &clause.when)?;
@@ -74,7 +74,7 @@ fn eval_outcome<'a>(
     active: bool,
     clause: &'a Option<Clause>,
     params: &'a [Field],
-) -> Result<LentAnswer<'a>, Stop>
+) -> Result<LentAnswer<'a>, Unanswered>
     ensures { Gives (eval_at scene.now bad active clause.now params.now) result }
 {
     match clause {
@@ -128,7 +128,7 @@ fn instance_outcome<'a>(
     stream: &'a Stream,
     spawned: &'a Option<KeptSpawn>,
     life: &'a KnownLife,
-) -> Result<LentAnswer<'a>, Stop>
+) -> Result<LentAnswer<'a>, Unanswered>
     requires in_time { scene.now.moment.time ≤ latest }
     requires set { HasSet scene.now.moment }
     ensures { Gives (instance_at scene.now number stream.now spawned.now life.now) result }
@@ -144,7 +144,7 @@ fn instance_outcome<'a>(
                 life.params.as_slice(),
             )
         }
-        None => Err(Stop::Asks(Question::SpawnOf(number))),
+        None => Err(Unanswered::Asks(Question::SpawnOf(number))),
     }
 }
 
@@ -155,7 +155,7 @@ pub fn outcome<'a>(
     stream: &'a Stream,
     known: &'a KnownStream,
     life: &'a KnownLife,
-) -> Result<LentAnswer<'a>, Stop>
+) -> Result<LentAnswer<'a>, Unanswered>
     requires in_time { scene.now.moment.time ≤ latest }
     requires set { HasSet scene.now.moment }
     ensures { Gives (outcome_at scene.now number stream.now known.now life.now) result }
@@ -197,7 +197,7 @@ fn unnamed(answer: LentAnswer) -> KeptSpawn
 fn named_params<'a>(
     scene: &Scene<'a>,
     exprs: &'a [Expr],
-) -> Result<Result<Vec<LentField<'a>>, LentAnswer<'a>>, Stop>
+) -> Result<Result<Vec<LentField<'a>>, LentAnswer<'a>>, Unanswered>
     ensures { GivesAll (params_at scene.now exprs.now) result }
 {
     match exprs {
@@ -232,7 +232,7 @@ fn named_by<'a>(
     scene: &Scene<'a>,
     exprs: &'a [Expr],
     lives: &[KnownLife],
-) -> Result<KeptSpawn, Stop>
+) -> Result<KeptSpawn, Unanswered>
     ensures { GivesSpawn (then_named (params_at scene.now exprs.now) lives.now) result }
 {
     match named_params(scene, exprs)? {
@@ -249,7 +249,7 @@ fn spawn_when<'a>(
     scene: &Scene<'a>,
     clause: &'a Clause,
     lives: &[KnownLife],
-) -> Result<KeptSpawn, Stop>
+) -> Result<KeptSpawn, Unanswered>
     ensures { GivesSpawn (then_spawn (when_at scene.now [] clause.now.when) (then_named (params_at scene.now clause.now.with) lives.now)) result }
 {
     let met = when_outcome(scene, &[], &clause.when)?;
@@ -280,7 +280,7 @@ pub fn spawn<'a>(
     number: usize,
     stream: &'a Stream,
     lives: &[KnownLife],
-) -> Result<KeptSpawn, Stop>
+) -> Result<KeptSpawn, Unanswered>
     requires in_time { scene.now.moment.time ≤ latest }
     requires set { HasSet scene.now.moment }
     ensures { GivesSpawn (spawn_at scene.now number stream.now lives.now) result }

@@ -18,7 +18,7 @@ use crate::clauses::when_outcome;
 use crate::fault::{StepFault, kind_of, lesser};
 use lola_model::spec::Stream;
 use lola_replay_table::answer::{LentAnswer, LentField};
-use lola_replay_table::question::Stop;
+use lola_replay_table::question::Unanswered;
 use lola_replay_table::scene::{Scene, is_active_for};
 use lola_replay_table::table::{KnownLife, KnownStream};
 use lola_value::text::Memory;
@@ -41,7 +41,7 @@ fn tried<'a>(
     scene: &Scene<'a>,
     stream: &'a Stream,
     life: &'a KnownLife,
-) -> Result<LentAnswer<'a>, Stop>
+) -> Result<LentAnswer<'a>, Unanswered>
     ensures { Gives (close_at scene.now stream.now life.now) result }
 {
     match &stream.close {
@@ -61,8 +61,8 @@ fn condition<'a>(
 {
     match tried(scene, stream, life) {
         Ok(answer) => Ok(answer),
-        Err(Stop::Asks(_)) => unreachable!(),
-        Err(Stop::Memory) => Err(Memory),
+        Err(Unanswered::Asks(_)) => unreachable!(),
+        Err(Unanswered::Memory) => Err(Memory),
     }
 }
 

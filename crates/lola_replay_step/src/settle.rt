@@ -12,9 +12,9 @@ ghost use Rattle.lola_replay_table.specs.declared.question.Question.TheVariants.
 use crate::clauses::{outcome, spawn};
 use lola_model::plan::Plan;
 use lola_replay_table::answer::{KeptAnswer, keep};
-use lola_replay_table::question::{Question, Stop};
-use lola_replay_table::scene::{Moment, Scene};
-use lola_replay_table::table::{KeptSpawn, Known, KnownStream};
+use lola_replay_table::question::{Question, Unanswered};
+use lola_replay_table::scene::{ReplayedStep, Scene};
+use lola_replay_table::table::{KeptSpawn, KnownRun, KnownStream};
 use lola_value::text::Memory;
 use std::alloc::Global;
 
@@ -22,11 +22,11 @@ use std::alloc::Global;
 fn tried_outcome(
     alloc: Global,
     plan: &Plan,
-    moment: &Moment,
+    moment: &ReplayedStep,
     known: &[KnownStream],
     number: usize,
     place: usize,
-) -> Result<KeptAnswer, Stop>
+) -> Result<KeptAnswer, Unanswered>
     requires in_time { moment.now.time ≤ latest }
     requires set { HasSet moment.now }
     requires long { length known.now ≡ length plan.now.spec.streams }
@@ -51,10 +51,10 @@ fn tried_outcome(
 fn tried_spawn(
     alloc: Global,
     plan: &Plan,
-    moment: &Moment,
+    moment: &ReplayedStep,
     known: &[KnownStream],
     number: usize,
-) -> Result<KeptSpawn, Stop>
+) -> Result<KeptSpawn, Unanswered>
     requires in_time { moment.now.time ≤ latest }
     requires set { HasSet moment.now }
     requires long { length known.now ≡ length plan.now.spec.streams }
@@ -76,8 +76,8 @@ fn tried_spawn(
 fn answer_outcome(
     alloc: Global,
     plan: &Plan,
-    moment: &Moment,
-    known: &mut Known,
+    moment: &ReplayedStep,
+    known: &mut KnownRun,
     number: usize,
     place: usize,
 ) -> Result<Option<Question>, Memory>
@@ -92,8 +92,8 @@ fn answer_outcome(
             known.note_outcome(number, place, kept);
             Ok(None)
         }
-        Err(Stop::Asks(next)) => Ok(Some(next)),
-        Err(Stop::Memory) => Err(Memory),
+        Err(Unanswered::Asks(next)) => Ok(Some(next)),
+        Err(Unanswered::Memory) => Err(Memory),
     }
 }
 
@@ -101,8 +101,8 @@ fn answer_outcome(
 fn answer_spawn(
     alloc: Global,
     plan: &Plan,
-    moment: &Moment,
-    known: &mut Known,
+    moment: &ReplayedStep,
+    known: &mut KnownRun,
     number: usize,
 ) -> Result<Option<Question>, Memory>
     requires in_time { moment.now.time ≤ latest }
@@ -116,8 +116,8 @@ fn answer_spawn(
             known.note_spawn(alloc, moment.time, number, kept)?;
             Ok(None)
         }
-        Err(Stop::Asks(next)) => Ok(Some(next)),
-        Err(Stop::Memory) => Err(Memory),
+        Err(Unanswered::Asks(next)) => Ok(Some(next)),
+        Err(Unanswered::Memory) => Err(Memory),
     }
 }
 
@@ -125,8 +125,8 @@ fn answer_spawn(
 fn answer(
     alloc: Global,
     plan: &Plan,
-    moment: &Moment,
-    known: &mut Known,
+    moment: &ReplayedStep,
+    known: &mut KnownRun,
     question: Question,
 ) -> Result<Option<Question>, Memory>
     requires in_time { moment.now.time ≤ latest }
@@ -147,8 +147,8 @@ fn answer(
 pub fn settle(
     alloc: Global,
     plan: &Plan,
-    moment: &Moment,
-    known: &mut Known,
+    moment: &ReplayedStep,
+    known: &mut KnownRun,
     waiting: &mut Vec<Question>,
     first: Question,
 ) -> Result<(), Memory>

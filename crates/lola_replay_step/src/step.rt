@@ -10,8 +10,8 @@ ghost use Rattle.lola_replay_table.specs.Open.{IsOpenSpawn};
 use crate::settle::settle;
 use lola_model::plan::Plan;
 use lola_replay_table::question::Question;
-use lola_replay_table::scene::Moment;
-use lola_replay_table::table::{Known, KnownStream};
+use lola_replay_table::scene::ReplayedStep;
+use lola_replay_table::table::{KnownRun, KnownStream};
 use lola_value::text::Memory;
 use std::alloc::Global;
 
@@ -19,8 +19,8 @@ use std::alloc::Global;
 fn pass_spawn(
     alloc: Global,
     plan: &Plan,
-    moment: &Moment,
-    known: &mut Known,
+    moment: &ReplayedStep,
+    known: &mut KnownRun,
     waiting: &mut Vec<Question>,
     number: usize,
 ) -> Result<(), Memory>
@@ -49,8 +49,8 @@ fn pass_spawn(
 pub fn answer_spawns(
     alloc: Global,
     plan: &Plan,
-    moment: &Moment,
-    known: &mut Known,
+    moment: &ReplayedStep,
+    known: &mut KnownRun,
     waiting: &mut Vec<Question>,
 ) -> Result<(), Memory>
     requires in_time { moment.now.time ≤ latest }
@@ -94,8 +94,8 @@ fn count(known: &[KnownStream], number: usize) -> usize
 fn pass_outcome(
     alloc: Global,
     plan: &Plan,
-    moment: &Moment,
-    known: &mut Known,
+    moment: &ReplayedStep,
+    known: &mut KnownRun,
     waiting: &mut Vec<Question>,
     number: usize,
     place: usize,
@@ -125,8 +125,8 @@ fn pass_outcome(
 fn answer_lives(
     alloc: Global,
     plan: &Plan,
-    moment: &Moment,
-    known: &mut Known,
+    moment: &ReplayedStep,
+    known: &mut KnownRun,
     waiting: &mut Vec<Question>,
     number: usize,
 ) -> Result<(), Memory>
@@ -150,8 +150,8 @@ fn answer_lives(
 fn answer_outcomes(
     alloc: Global,
     plan: &Plan,
-    moment: &Moment,
-    known: &mut Known,
+    moment: &ReplayedStep,
+    known: &mut KnownRun,
     waiting: &mut Vec<Question>,
 ) -> Result<(), Memory>
     requires in_time { moment.now.time ≤ latest }
@@ -173,8 +173,8 @@ fn answer_outcomes(
 pub fn answer_all(
     alloc: Global,
     plan: &Plan,
-    moment: &Moment,
-    known: &mut Known,
+    moment: &ReplayedStep,
+    known: &mut KnownRun,
     waiting: &mut Vec<Question>,
 ) -> Result<(), Memory>
     requires in_time { moment.now.time ≤ latest }

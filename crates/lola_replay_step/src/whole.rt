@@ -18,8 +18,8 @@ use crate::step::answer_all;
 use lola_model::plan::Plan;
 use lola_model::spec::{Clause, Stream};
 use lola_replay_table::question::Question;
-use lola_replay_table::scene::{Moment, Scene};
-use lola_replay_table::table::{Known, KnownLife, KnownStream, Lives, Values};
+use lola_replay_table::scene::{ReplayedStep, Scene};
+use lola_replay_table::table::{KnownLife, KnownRun, KnownStream, Lives, Values};
 use lola_value::text::{Fields, Memory};
 use std::alloc::Global;
 
@@ -53,7 +53,7 @@ fn add_fresh(
     time: u64,
     input: usize,
     streams: &[Stream],
-    known: &mut Known,
+    known: &mut KnownRun,
 ) -> Result<(), Memory>
     requires { input + length streams.now ≤ 1024 }
     ensures { OnOk result (known.new ≡ known.old ++ fresh_from time input streams.now) }
@@ -73,11 +73,11 @@ fn add_fresh(
 }
 
 /// What is known before the first step, where the instances that live then are said to be born at a time, in nanoseconds.
-pub fn fresh(alloc: Global, plan: &Plan, time: u64) -> Result<Known, Memory>
+pub fn fresh(alloc: Global, plan: &Plan, time: u64) -> Result<KnownRun, Memory>
     requires { IsAccepted plan.now }
     ensures { IfOk result (λ known. known ≡ fresh_from time 0 plan.now.spec.streams) }
 {
-    let mut known = Known::create(alloc);
+    let mut known = KnownRun::create(alloc);
     add_fresh(alloc, time, 0, plan.spec.streams.as_slice(), &mut known)?;
     Ok(known)
 }
@@ -88,7 +88,7 @@ fn begin(
     plan: &Plan,
     first: bool,
     time: u64,
-    known: &mut Known,
+    known: &mut KnownRun,
 ) -> Result<(), Memory>
     requires { IsAccepted plan.now }
     ensures { OnOk result (known.new ≡ begun plan.now first time known.old) }
@@ -112,7 +112,7 @@ fn behind(closed: &[bool], count: usize) -> &[bool]
 
 /// The step of this time is behind all streams: their values are earlier ones, and the instances that are said to be closed, in the
 /// order of the streams, are gone.
-pub fn rest(known: &mut Known, time: u64, closed: &[bool]) -> Result<(), Memory>
+pub fn rest(known: &mut KnownRun, time: u64, closed: &[bool]) -> Result<(), Memory>
     ensures { OnOk result (known.new ≡ rested_all time closed.now known.old) }
 {
     let mut left = closed;
@@ -130,7 +130,7 @@ pub fn rest(known: &mut Known, time: u64, closed: &[bool]) -> Result<(), Memory>
 fn judge(
     alloc: Global,
     plan: &Plan,
-    moment: &Moment,
+    moment: &ReplayedStep,
     known: &[KnownStream],
     closed: &mut Vec<bool>,
 ) -> Result<Option<StepFault>, Memory>
@@ -163,17 +163,17 @@ fn judge(
 
 /// Room that is kept from step to step.
 #[derive(Drop)]
-pub struct Room {
+pub struct StepScratch {
     /// Questions that wait.
     pub waiting: Vec<Question>,
     /// Which instances a step closes, in the order of the streams and of their births.
     pub closed: Vec<bool>,
 }
 
-impl Room {
+impl StepScratch {
     /// Room that grows with the steps.
-    pub fn create(alloc: Global) -> Room {
-        Room {
+    pub fn create(alloc: Global) -> StepScratch {
+        StepScratch {
             waiting: Vec::new(alloc),
             closed: Vec::new(alloc),
         }
@@ -185,10 +185,10 @@ impl Room {
 pub fn answer_step(
     alloc: Global,
     plan: &Plan,
-    moment: &Moment,
+    moment: &ReplayedStep,
     first: bool,
-    known: &mut Known,
-    room: &mut Room,
+    known: &mut KnownRun,
+    room: &mut StepScratch,
 ) -> Result<Option<StepFault>, Memory>
     requires in_time { moment.now.time ≤ latest }
     requires set { HasSet moment.now }

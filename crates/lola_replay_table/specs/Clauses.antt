@@ -17,8 +17,8 @@ use Rattle.lola_replay_table.specs.Answers.{kept_spawn, the_answer}
 use Rattle.lola_replay_table.specs.Tries.{Try, then_argument, tried_in}
 use Rattle.lola_replay_table.specs.declared.question.Question.{Question}
 use Rattle.lola_replay_table.specs.declared.question.Question.TheVariants.{SpawnOf}
-use Rattle.lola_replay_table.specs.declared.question.Stop.{Stop}
-use Rattle.lola_replay_table.specs.declared.question.Stop.TheVariants as stop
+use Rattle.lola_replay_table.specs.declared.question.Unanswered.{Unanswered}
+use Rattle.lola_replay_table.specs.declared.question.Unanswered.TheVariants as stop
 use Rattle.lola_replay_table.specs.declared.answer.LentAnswer.{LentAnswer}
 use Rattle.lola_replay_table.specs.declared.table.KeptSpawn.{KeptSpawn}
 use Rattle.lola_replay_table.specs.declared.table.KnownLife.{KnownLife}
@@ -120,13 +120,13 @@ module _ (plan : Plan) (start : ℕ) (step : Step) (known : List KnownStream) wh
   close_tried (Some k) p = when_tried p k.when
 
 -- what the code of such a try gives
-abbrev pub GivesSpawn : SpawnTry → Result KeptSpawn Stop → Type 0
+abbrev pub GivesSpawn : SpawnTry → Result KeptSpawn Unanswered → Type 0
 GivesSpawn t (Ok kept) = t ≡ Ok (kept_spawn kept)
 GivesSpawn t (Err (stop.Asks q)) = t ≡ Err q
 GivesSpawn t (Err stop.Memory) = Unit {0}
 
 -- and of parameters
-abbrev pub GivesParams : Result (Result (List Field) Answer) Question → Result (Result (List Field) LentAnswer) Stop → Type 0
+abbrev pub GivesParams : Result (Result (List Field) Answer) Question → Result (Result (List Field) LentAnswer) Unanswered → Type 0
 GivesParams t (Ok (Ok params)) = t ≡ Ok (Ok params)
 GivesParams t (Ok (Err a)) = t ≡ Ok (Err (the_answer a))
 GivesParams t (Err (stop.Asks q)) = t ≡ Err q

@@ -4,14 +4,14 @@ use Rattle.std.specs.Option.{option_copied}
 use Rattle.lola_value.specs.declared.text.Field.{Field}
 use Rattle.lola_model.specs.Activity.{present}
 use Rattle.lola_model.specs.Table.{Step}
-use Rattle.lola_replay_table.specs.declared.scene.Moment.{Moment}
+use Rattle.lola_replay_table.specs.declared.scene.ReplayedStep.{ReplayedStep}
 
 -- the fields of its row
-abbrev pub the_fields : Moment → Option (List Field)
+abbrev pub the_fields : ReplayedStep → Option (List Field)
 the_fields m = option_copied m.fields
 
 -- the step
-abbrev pub the_step : Moment → Step
+abbrev pub the_step : ReplayedStep → Step
 the_step m = record { time = m.time; fields = the_fields m }
 
 -- this is the set of the inputs that a row has, if there is one
@@ -20,5 +20,5 @@ IsSetOf set None = Unit {0}
 IsSetOf set (Some fields) = set ≡ present fields
 
 -- the moment has the set of its inputs
-abbrev pub HasSet : Moment → Type 0
+abbrev pub HasSet : ReplayedStep → Type 0
 HasSet m = IsSetOf m.present (the_fields m)

@@ -12,8 +12,8 @@ use Rattle.lola_replay_table.specs.declared.answer.LentAnswer.{LentAnswer}
 use Rattle.lola_replay_table.specs.declared.answer.KeptAnswer.{KeptAnswer}
 use Rattle.lola_replay_table.specs.declared.question.Question.{Question}
 use Rattle.lola_replay_table.specs.declared.question.Question.TheVariants.{SpawnOf, OutcomeOf}
-use Rattle.lola_replay_table.specs.declared.question.Stop.{Stop}
-use Rattle.lola_replay_table.specs.declared.question.Stop.TheVariants as stop
+use Rattle.lola_replay_table.specs.declared.question.Unanswered.{Unanswered}
+use Rattle.lola_replay_table.specs.declared.question.Unanswered.TheVariants as stop
 use Rattle.lola_replay_table.specs.declared.table.KeptSpawn.{KeptSpawn}
 use Rattle.lola_replay_table.specs.declared.table.KnownLife.{KnownLife}
 use Rattle.lola_replay_table.specs.declared.table.KnownStream.{KnownStream}
@@ -47,7 +47,7 @@ IsFoundAt p lives None = found p 0 lives ≡ None
 IsFoundAt p lives (Some place) = (life : KnownLife) × (slice_get lives place ≡ Some life) × (found p 0 lives ≡ Some (place, life))
 
 -- what the code of a try gives: the outcome, the question, or want of memory
-abbrev pub Gives : Try → Result LentAnswer Stop → Type 0
+abbrev pub Gives : Try → Result LentAnswer Unanswered → Type 0
 Gives t (Ok a) = t ≡ Ok (the_answer a)
 Gives t (Err (stop.Asks q)) = t ≡ Err q
 Gives t (Err stop.Memory) = Unit {0}
@@ -227,14 +227,14 @@ module _ (spec : Spec) (start time : ℕ) (known : List KnownStream) where
   tried_all_in p args = tried_all spec read_in window_in p args
 
 -- what the code gives of arguments
-abbrev pub GivesAll : Result (Result (List Field) Answer) Question → Result (Result (Vec LentField Global) LentAnswer) Stop → Type 0
+abbrev pub GivesAll : Result (Result (List Field) Answer) Question → Result (Result (Vec LentField Global) LentAnswer) Unanswered → Type 0
 GivesAll t (Ok (Ok given)) = t ≡ Ok (Ok (map the_field given.items))
 GivesAll t (Ok (Err a)) = t ≡ Ok (Err (the_answer a))
 GivesAll t (Err (stop.Asks q)) = t ≡ Err q
 GivesAll t (Err stop.Memory) = Unit {0}
 
 -- a value in front of those of the arguments behind it, or the outcome of the first of them that has none
-abbrev pub LedBy : Field → Result (Vec LentField Global) LentAnswer → Result (Result (Vec LentField Global) LentAnswer) Stop → Type 0
+abbrev pub LedBy : Field → Result (Vec LentField Global) LentAnswer → Result (Result (Vec LentField Global) LentAnswer) Unanswered → Type 0
 LedBy v (Ok given) (Ok (Ok all)) = map the_field all.items ≡ v ∷ map the_field given.items
 LedBy v (Ok given) (Ok (Err a)) = ⊥
 LedBy v (Err b) (Ok (Ok all)) = ⊥

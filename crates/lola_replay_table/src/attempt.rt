@@ -9,7 +9,7 @@ ghost use Rattle.lola_replay_table.specs.Tries.{Gives, GivesAll, LedBy, on_argum
 
 use crate::answer::{LentAnswer, LentField, lend};
 use crate::operators::{is_decided, negate, operate};
-use crate::question::Stop;
+use crate::question::Unanswered;
 use crate::read::read;
 use crate::scene::Scene;
 use crate::window::window;
@@ -55,7 +55,7 @@ pub fn attempt<'a>(
     scene: &Scene<'a>,
     params: &'a [Field],
     expr: &'a Expr,
-) -> Result<LentAnswer<'a>, Stop>
+) -> Result<LentAnswer<'a>, Unanswered>
     ensures { Gives (tried_at scene.now params.now expr.now) result }
 {
     match expr {
@@ -77,7 +77,7 @@ fn or_default<'a>(
     params: &'a [Field],
     a: &'a Expr,
     b: &'a Expr,
-) -> Result<LentAnswer<'a>, Stop>
+) -> Result<LentAnswer<'a>, Unanswered>
     ensures { Gives (then_default (tried_at scene.now params.now a.now)
         (tried_at scene.now params.now b.now)) result }
 {
@@ -96,7 +96,7 @@ fn with_prefix<'a>(
     place: &Place,
     operator: Prefix,
     a: &'a Expr,
-) -> Result<LentAnswer<'a>, Stop>
+) -> Result<LentAnswer<'a>, Unanswered>
     ensures { Gives (then_value (tried_at scene.now params.now a.now)
         (λ v. Ok (negated operator (kind_of place.now) v))) result }
 {
@@ -116,7 +116,7 @@ fn with_operator<'a>(
     operator: Binary,
     a: &'a Expr,
     b: &'a Expr,
-) -> Result<LentAnswer<'a>, Stop>
+) -> Result<LentAnswer<'a>, Unanswered>
     ensures { Gives (then_value (tried_at scene.now params.now a.now)
         (λ x. then_right operator (kind_of place.now) x (tried_at scene.now params.now b.now))) result }
 {
@@ -144,7 +144,7 @@ fn choice<'a>(
     test: &'a Expr,
     a: &'a Expr,
     b: &'a Expr,
-) -> Result<LentAnswer<'a>, Stop>
+) -> Result<LentAnswer<'a>, Unanswered>
     ensures { Gives (then_value (tried_at scene.now params.now test.now)
         (λ t. then_branch t (tried_at scene.now params.now a.now)
         (tried_at scene.now params.now b.now))) result }
@@ -165,7 +165,7 @@ fn access<'a>(
     how: Access,
     stream: u32,
     args: &'a Arguments,
-) -> Result<LentAnswer<'a>, Stop>
+) -> Result<LentAnswer<'a>, Unanswered>
     ensures { Gives (on_arguments (tried_all_at scene.now params.now args.now)
         (λ q. read_by scene.now how stream q)) result }
 {
@@ -182,7 +182,7 @@ fn window_access<'a>(
     params: &'a [Field],
     number: u32,
     args: &'a Arguments,
-) -> Result<LentAnswer<'a>, Stop>
+) -> Result<LentAnswer<'a>, Unanswered>
     ensures { Gives (on_arguments (tried_all_at scene.now params.now args.now)
         (λ q. window_by scene.now number q)) result }
 {
@@ -204,7 +204,7 @@ fn gather<'a>(
     scene: &Scene<'a>,
     params: &'a [Field],
     args: &'a Arguments,
-) -> Result<Result<Vec<LentField<'a>>, LentAnswer<'a>>, Stop>
+) -> Result<Result<Vec<LentField<'a>>, LentAnswer<'a>>, Unanswered>
     ensures { GivesAll (tried_all_at scene.now params.now args.now) result }
 {
     match args {
@@ -226,14 +226,14 @@ fn gather<'a>(
 pub fn led_by<'a>(
     first: LentField<'a>,
     others: Result<Vec<LentField<'a>>, LentAnswer<'a>>,
-) -> Result<Result<Vec<LentField<'a>>, LentAnswer<'a>>, Stop>
+) -> Result<Result<Vec<LentField<'a>>, LentAnswer<'a>>, Unanswered>
     ensures { LedBy (the_field first.entry) others.entry result }
 {
     match others {
         Ok(mut given) => {
             match given.insert(0, first) {
                 Ok(()) => Ok(Ok(given)),
-                Err(_) => Err(Stop::Memory),
+                Err(_) => Err(Unanswered::Memory),
             }
         }
         Err(outcome) => Ok(Err(outcome)),

@@ -13,20 +13,20 @@ pub enum Question {
 
 /// Why a try gave no outcome.
 #[derive(Clone, Copy, Debug, PartialEq, Eq)]
-pub enum Stop {
+pub enum Unanswered {
     /// This question has to be answered first.
     Asks(Question),
     /// There is no memory for it.
     Memory,
 }
 
-impl From<Memory> for Stop {
+impl From<Memory> for Unanswered {
     ghost use Rattle.std.specs.Prelude.{◌≡◌};
-    ghost use Rattle.lola_replay_table.specs.declared.question.Stop.TheVariants as stop;
+    ghost use Rattle.lola_replay_table.specs.declared.question.Unanswered.TheVariants as stop;
 
     ghost from_gives = { λ _ e. e ≡ stop.Memory };
 
     fn from(_: Memory) -> Self {
-        Stop::Memory
+        Unanswered::Memory
     }
 }

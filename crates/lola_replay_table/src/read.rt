@@ -9,7 +9,7 @@ ghost use Rattle.lola_replay_table.specs.Tries.{Gives, IsFoundAt, earlier_at, fo
 
 use crate::answer::{LentAnswer, LentField, lend};
 use crate::operators::equal;
-use crate::question::{Question, Stop};
+use crate::question::{Question, Unanswered};
 use crate::table::{KnownLife, KnownStream};
 use lola_model::expr::Access;
 use lola_value::text::Field;
@@ -59,12 +59,16 @@ fn read_of<'a>(how: Access, earlier: &'a [(u64, Field)], answer: LentAnswer<'a>)
 }
 
 // What an access reads of an instance, or the question about its outcome.
-fn read_known(how: Access, question: Question, life: &KnownLife) -> Result<LentAnswer<'_>, Stop>
+fn read_known(
+    how: Access,
+    question: Question,
+    life: &KnownLife,
+) -> Result<LentAnswer<'_>, Unanswered>
     ensures { Gives (read_known how question life.now.earlier life.now.outcome) result }
 {
     match &life.outcome {
         Some(answer) => Ok(read_of(how, life.earlier.as_slice(), answer.seen())),
-        None => Err(Stop::Asks(question)),
+        None => Err(Unanswered::Asks(question)),
     }
 }
 
@@ -102,7 +106,7 @@ fn read_found<'a>(
     stream: u32,
     params: &[LentField],
     lives: &'a [KnownLife],
-) -> Result<LentAnswer<'a>, Stop>
+) -> Result<LentAnswer<'a>, Unanswered>
     ensures { Gives (read_found how stream (found (map the_field params.now) 0 lives.now)) result }
 {
     match found(params, lives) {
@@ -121,7 +125,7 @@ fn read_spawned<'a>(
     stream: u32,
     params: &[LentField],
     known: &'a KnownStream,
-) -> Result<LentAnswer<'a>, Stop>
+) -> Result<LentAnswer<'a>, Unanswered>
     ensures { Gives (read_spawned how stream known.now.spawned (found (map the_field params.now) 0 known.now.lives)) result }
 {
     match &known.spawned {
@@ -132,7 +136,7 @@ fn read_spawned<'a>(
                 read_found(how, stream, params, known.lives.as_slice())
             }
         }
-        None => Err(Stop::Asks(Question::SpawnOf(stream as usize))),
+        None => Err(Unanswered::Asks(Question::SpawnOf(stream as usize))),
     }
 }
 
@@ -152,7 +156,7 @@ fn read_stream<'a>(
     stream: u32,
     params: &[LentField],
     known: &'a KnownStream,
-) -> Result<LentAnswer<'a>, Stop>
+) -> Result<LentAnswer<'a>, Unanswered>
     ensures { Gives (read_stream how stream (map the_field params.now) known.now) result }
 {
     match how {
@@ -168,7 +172,7 @@ pub fn read<'a>(
     stream: u32,
     params: &[LentField],
     known: &'a [KnownStream],
-) -> Result<LentAnswer<'a>, Stop>
+) -> Result<LentAnswer<'a>, Unanswered>
     ensures { Gives (read_at how stream (map the_field params.now) (slice_get known.now stream)) result }
 {
     match known.get(stream as usize) {

@@ -15,7 +15,7 @@ use std::alloc::Global;
 
 /// The moment of a step. Times are in nanoseconds.
 #[derive(Clone, Copy)]
-pub struct Moment<'a> {
+pub struct ReplayedStep<'a> {
     /// The start of the run.
     pub start: u64,
     /// The time of the step.
@@ -31,7 +31,7 @@ pub struct Moment<'a> {
 pub struct Scene<'a> {
     pub alloc: Global,
     pub plan: &'a Plan,
-    pub moment: Moment<'a>,
+    pub moment: ReplayedStep<'a>,
     pub known: &'a [KnownStream],
 }
 
@@ -80,7 +80,7 @@ fn is_deadline(rate: &Rate, after: u64) -> bool
 }
 
 // Whether a rate that counts from a moment is active: at its deadlines, and in no step of a row.
-fn is_at_deadline(moment: &Moment, counted: u64, rate: &Rate) -> bool
+fn is_at_deadline(moment: &ReplayedStep, counted: u64, rate: &Rate) -> bool
     requires { moment.now.time ≤ latest }
     ensures { result ≡ is_active_at counted moment.now.time (the_fields moment.now) (Periodic rate.now) }
 {
@@ -91,7 +91,7 @@ fn is_at_deadline(moment: &Moment, counted: u64, rate: &Rate) -> bool
 }
 
 /// Whether a pacing is active for an instance that was born at a time; a local rate counts from there.
-pub fn is_active_for(moment: &Moment, born: u64, pacing: &Option<Pacing>) -> bool
+pub fn is_active_for(moment: &ReplayedStep, born: u64, pacing: &Option<Pacing>) -> bool
     requires in_time { moment.now.time ≤ latest }
     requires set { HasSet moment.now }
     ensures { result ≡ is_active_for moment.now.start born (the_step moment.now) pacing.now }
@@ -108,7 +108,7 @@ pub fn is_active_for(moment: &Moment, born: u64, pacing: &Option<Pacing>) -> boo
 }
 
 /// Whether a pacing is active for all instances alike; a local rate never is.
-pub fn is_active(moment: &Moment, pacing: &Option<Pacing>) -> bool
+pub fn is_active(moment: &ReplayedStep, pacing: &Option<Pacing>) -> bool
     requires in_time { moment.now.time ≤ latest }
     requires set { HasSet moment.now }
     ensures { result ≡ is_active moment.now.start (the_step moment.now) pacing.now }

@@ -184,11 +184,11 @@ impl Lives {
 
 /// What is known of all streams, in their order.
 #[derive(Drop)]
-pub struct Known {
+pub struct KnownRun {
     items: Vec<KnownStream>,
 }
 
-impl Model for Known {
+impl Model for KnownRun {
     ghost use Rattle.std.specs.Prelude.{List};
     ghost use Rattle.lola_replay_table.specs.declared.table.KnownStream.{KnownStream};
 
@@ -197,15 +197,15 @@ impl Model for Known {
     ghost view = { λ a. a.items.items };
 }
 
-impl Known {
+impl KnownRun {
     ghost use Rattle.std.specs.Prelude.{◌<◌, length};
     ghost use Rattle.lola_replay_table.specs.Open.{IsOpenOutcome, changed_at, with_life_outcome, with_spawn};
 
     /// Of no stream.
-    pub fn create(alloc: Global) -> Known
+    pub fn create(alloc: Global) -> KnownRun
         ensures { result ≡ [] }
     {
-        Known {
+        KnownRun {
             items: Vec::new(alloc),
         }
     }
@@ -249,7 +249,7 @@ impl Known {
     }
 }
 
-impl Known {
+impl KnownRun {
     ghost use Rattle.std.specs.Prelude.{◌<◌, length};
     ghost use Rattle.lola_replay_table.specs.Open.{changed_at};
     ghost use Rattle.lola_replay_table.specs.Resting.{rested_stream};

@@ -11,9 +11,9 @@ ghost use Rattle.lola_replay_table.specs.Times.{AreInOrder};
 ghost use Rattle.lola_replay_table.specs.Tries.{Gives, folded, found, window_at, window_found, window_in, window_known, window_over, window_stream, windowed};
 
 use crate::answer::{LentAnswer, LentField, lend};
-use crate::question::{Question, Stop};
+use crate::question::{Question, Unanswered};
 use crate::read::found;
-use crate::scene::Moment;
+use crate::scene::ReplayedStep;
 use crate::table::{KnownLife, KnownStream, Values};
 use crate::tally::{Tally, answer, with_value};
 use lola_model::spec::{Spec, Stream, WindowSpec};
@@ -88,7 +88,7 @@ fn newest(outcome: LentAnswer, over: u64, time: u64) -> Result<Tally, Memory>
 }
 
 // Whether a window that is to be whole is not yet.
-fn is_early(window: &WindowSpec, moment: &Moment) -> bool
+fn is_early(window: &WindowSpec, moment: &ReplayedStep) -> bool
     ensures { result ≡ (window.now.exact && nat_lt moment.now.time (moment.now.start + window.now.over)) }
 {
     window.exact && is_within(moment.start, window.over, moment.time)
@@ -98,7 +98,7 @@ fn is_early(window: &WindowSpec, moment: &Moment) -> bool
 fn over_values(
     window: &WindowSpec,
     kind: Kind,
-    moment: &Moment,
+    moment: &ReplayedStep,
     earlier: &Values,
     outcome: LentAnswer,
 ) -> Result<LentAnswer<'static>, Memory>
@@ -123,7 +123,7 @@ fn over_values(
 fn over_outcome(
     window: &WindowSpec,
     kind: Kind,
-    moment: &Moment,
+    moment: &ReplayedStep,
     earlier: &Values,
     outcome: LentAnswer,
 ) -> Result<LentAnswer<'static>, Memory>
@@ -140,10 +140,10 @@ fn over_outcome(
 fn over_life(
     window: &WindowSpec,
     kind: Kind,
-    moment: &Moment,
+    moment: &ReplayedStep,
     question: Question,
     life: &KnownLife,
-) -> Result<LentAnswer<'static>, Stop>
+) -> Result<LentAnswer<'static>, Unanswered>
     ensures { Gives (window_known moment.now.start moment.now.time window.now kind question life.now.earlier life.now.outcome) result }
 {
     match &life.outcome {
@@ -151,12 +151,12 @@ fn over_life(
             let outcome = over_outcome(window, kind, moment, &life.earlier, kept.seen())?;
             Ok(outcome)
         }
-        None => Err(Stop::Asks(question)),
+        None => Err(Unanswered::Asks(question)),
     }
 }
 
 // What a window comes to over no instance.
-fn over_nothing(window: &WindowSpec, kind: Kind, moment: &Moment) -> LentAnswer<'static>
+fn over_nothing(window: &WindowSpec, kind: Kind, moment: &ReplayedStep) -> LentAnswer<'static>
     ensures { the_answer result ≡ windowed moment.now.start moment.now.time window.now kind false None }
 {
     if is_early(window, moment) {
@@ -170,10 +170,10 @@ fn over_nothing(window: &WindowSpec, kind: Kind, moment: &Moment) -> LentAnswer<
 fn over_found(
     window: &WindowSpec,
     kind: Kind,
-    moment: &Moment,
+    moment: &ReplayedStep,
     params: &[LentField],
     lives: &[KnownLife],
-) -> Result<LentAnswer<'static>, Stop>
+) -> Result<LentAnswer<'static>, Unanswered>
     ensures { Gives (window_found moment.now.start moment.now.time window.now kind (found (map the_field params.now) 0 lives.now)) result }
 {
     match found(params, lives) {
@@ -189,10 +189,10 @@ fn over_found(
 fn over_stream(
     window: &WindowSpec,
     kind: Kind,
-    moment: &Moment,
+    moment: &ReplayedStep,
     params: &[LentField],
     known: &KnownStream,
-) -> Result<LentAnswer<'static>, Stop>
+) -> Result<LentAnswer<'static>, Unanswered>
     ensures { Gives (window_stream moment.now.start moment.now.time window.now kind (map the_field params.now) known.now) result }
 {
     match &known.spawned {
@@ -203,7 +203,7 @@ fn over_stream(
                 over_found(window, kind, moment, params, known.lives.as_slice())
             }
         }
-        None => Err(Stop::Asks(Question::SpawnOf(window.target as usize))),
+        None => Err(Unanswered::Asks(Question::SpawnOf(window.target as usize))),
     }
 }
 
@@ -212,7 +212,7 @@ fn target_kind(streams: &[Stream], window: &WindowSpec) -> Kind
     ensures { result ≡ target_kind streams.now window.now }
 {
     match streams.get(window.target as usize) {
-        Some(stream) => stream.kind.unwrap_or(Kind::Int64),
+        Some(stream) => stream.filled_kind(),
         None => Kind::Int64,
     }
 }
@@ -221,10 +221,10 @@ fn target_kind(streams: &[Stream], window: &WindowSpec) -> Kind
 fn over_target(
     window: &WindowSpec,
     kind: Kind,
-    moment: &Moment,
+    moment: &ReplayedStep,
     params: &[LentField],
     known: &[KnownStream],
-) -> Result<LentAnswer<'static>, Stop>
+) -> Result<LentAnswer<'static>, Unanswered>
     ensures { Gives (window_at moment.now.start moment.now.time window.now kind (map the_field params.now) (slice_get known.now window.now.target)) result }
 {
     match known.get(window.target as usize) {
@@ -237,10 +237,10 @@ fn over_target(
 pub fn window(
     spec: &Spec,
     number: u32,
-    moment: &Moment,
+    moment: &ReplayedStep,
     params: &[LentField],
     known: &[KnownStream],
-) -> Result<LentAnswer<'static>, Stop>
+) -> Result<LentAnswer<'static>, Unanswered>
     ensures { Gives (window_in spec.now moment.now.start moment.now.time known.now number (map the_field params.now)) result }
 {
     match spec.windows.as_slice().get(number as usize) {

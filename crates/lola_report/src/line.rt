@@ -17,16 +17,16 @@ use std::alloc::Global;
 
 /// Room that is kept from line to line: for the fields of a line, and for the line of the entry that it is taken for.
 #[derive(Drop)]
-pub struct Room {
+pub struct LineScratch {
     fields: ByteRecord,
     spare: Vec<u8>,
     written: Text,
 }
 
-impl Room {
+impl LineScratch {
     /// Room that grows with the lines.
-    pub fn create(alloc: Global) -> Result<Room, Memory> {
-        Ok(Room {
+    pub fn create(alloc: Global) -> Result<LineScratch, Memory> {
+        Ok(LineScratch {
             fields: ByteRecord::new(alloc),
             spare: Vec::new(alloc),
             written: Text::from_bytes(alloc, b"")?,
@@ -39,7 +39,7 @@ fn candidate(
     alloc: Global,
     kinds: &[Kind],
     line: &[u8],
-    room: &mut Room,
+    room: &mut LineScratch,
 ) -> Result<Option<Entry>, Memory>
     ensures { IfOk result (λ entry. entry ≡ candidate_of kinds.now line.now) }
 {
@@ -66,7 +66,7 @@ pub fn entry_of_line(
     kinds: &[Kind],
     line: &[u8],
     body: &[u8],
-    room: &mut Room,
+    room: &mut LineScratch,
 ) -> Result<Option<Entry>, Memory>
     requires { line.now ≡ body.now ++ 10 ∷ [] }
     ensures { (plan : Plan) → input_kinds plan.spec.streams ≡ kinds.now → IfOk result (ReadsLine plan line.now) }
@@ -102,7 +102,7 @@ pub fn entry_of(
     alloc: Global,
     kinds: &[Kind],
     line: &[u8],
-    room: &mut Room,
+    room: &mut LineScratch,
 ) -> Result<Option<Entry>, Memory>
     ensures { (plan : Plan) → input_kinds plan.spec.streams ≡ kinds.now → IfOk result (ReadsLine plan line.now) }
 {

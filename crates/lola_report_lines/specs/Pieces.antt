@@ -3,15 +3,15 @@ use Rattle.std.specs.Prelude.{ℕ, List, Bool, codes, decimal, if◌then◌else�
 use Rattle.lola_value.specs.Times.{time_text}
 use Rattle.lola_model.specs.Texts.{quoted, value_text, params_text}
 use Rattle.lola_model.specs.Trace.{field_bytes, mark_text}
-use Rattle.lola_report_lines.specs.declared.piece.Piece.{Piece}
-use Rattle.lola_report_lines.specs.declared.piece.Piece.TheVariants as piece
+use Rattle.lola_report_lines.specs.declared.piece.LinePiece.{LinePiece}
+use Rattle.lola_report_lines.specs.declared.piece.LinePiece.TheVariants as piece
 
 -- a truth value
 abbrev pub bool_name : Bool → List ℕ
 bool_name b = if b then codes "true" else codes "false"
 
 -- the text of a piece
-abbrev pub piece_text : Piece → List ℕ
+abbrev pub piece_text : LinePiece → List ℕ
 piece_text (piece.Words bytes) = bytes.now
 piece_text (piece.Number n) = decimal n
 piece_text (piece.Wide n) = decimal n

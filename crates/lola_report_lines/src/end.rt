@@ -7,7 +7,7 @@ ghost use Rattle.lola_report_lines.specs.Ends.{end_text, done_text, refused_text
 use crate::names::{
     code_name, code_number, fault_name, fault_number, malformed_name, malformed_number,
 };
-use crate::piece::{Piece, append_all};
+use crate::piece::{LinePiece, append_all};
 use lola_model::source::MalformedKind;
 use lola_value::front::Refusal;
 use lola_value::text::{Memory, Text};
@@ -57,15 +57,15 @@ fn done_line(accepted: u64, late: u64, steps: u64, lines: u128, to: &mut Text) -
 {
     append_all(
         &[
-            Piece::Words(b"= done accepted "),
-            Piece::Number(accepted),
-            Piece::Words(b" late "),
-            Piece::Number(late),
-            Piece::Words(b" steps "),
-            Piece::Number(steps),
-            Piece::Words(b" lines "),
-            Piece::Wide(lines),
-            Piece::Words(b"\n"),
+            LinePiece::Words(b"= done accepted "),
+            LinePiece::Number(accepted),
+            LinePiece::Words(b" late "),
+            LinePiece::Number(late),
+            LinePiece::Words(b" steps "),
+            LinePiece::Number(steps),
+            LinePiece::Words(b" lines "),
+            LinePiece::Wide(lines),
+            LinePiece::Words(b"\n"),
         ],
         to,
     )
@@ -77,13 +77,13 @@ fn refused_line(refusal: Refusal, to: &mut Text) -> Result<(), Memory>
 {
     append_all(
         &[
-            Piece::Words(b"= refused E"),
-            Piece::Number(code_number(refusal.code)),
-            Piece::Words(b" "),
-            Piece::Words(code_name(refusal.code).as_bytes()),
-            Piece::Words(b" at "),
-            Piece::Number(u64::from(refusal.at)),
-            Piece::Words(b"\n"),
+            LinePiece::Words(b"= refused E"),
+            LinePiece::Number(code_number(refusal.code)),
+            LinePiece::Words(b" "),
+            LinePiece::Words(code_name(refusal.code).as_bytes()),
+            LinePiece::Words(b" at "),
+            LinePiece::Number(u64::from(refusal.at)),
+            LinePiece::Words(b"\n"),
         ],
         to,
     )
@@ -95,15 +95,15 @@ fn malformed_line(source: u32, row: u64, kind: MalformedKind, to: &mut Text) -> 
 {
     append_all(
         &[
-            Piece::Words(b"= malformed source "),
-            Piece::Number(u64::from(source)),
-            Piece::Words(b" row "),
-            Piece::Number(row),
-            Piece::Words(b" kind "),
-            Piece::Number(malformed_number(kind)),
-            Piece::Words(b" "),
-            Piece::Words(malformed_name(kind).as_bytes()),
-            Piece::Words(b"\n"),
+            LinePiece::Words(b"= malformed source "),
+            LinePiece::Number(u64::from(source)),
+            LinePiece::Words(b" row "),
+            LinePiece::Number(row),
+            LinePiece::Words(b" kind "),
+            LinePiece::Number(malformed_number(kind)),
+            LinePiece::Words(b" "),
+            LinePiece::Words(malformed_name(kind).as_bytes()),
+            LinePiece::Words(b"\n"),
         ],
         to,
     )
@@ -115,15 +115,15 @@ fn fault_line(name: &Text, kind: FaultKind, time: u64, to: &mut Text) -> Result<
 {
     append_all(
         &[
-            Piece::Words(b"= fault "),
-            Piece::Words(name.as_bytes()),
-            Piece::Words(b" "),
-            Piece::Number(fault_number(kind)),
-            Piece::Words(b" "),
-            Piece::Words(fault_name(kind).as_bytes()),
-            Piece::Words(b" at "),
-            Piece::Time(time),
-            Piece::Words(b"\n"),
+            LinePiece::Words(b"= fault "),
+            LinePiece::Words(name.as_bytes()),
+            LinePiece::Words(b" "),
+            LinePiece::Number(fault_number(kind)),
+            LinePiece::Words(b" "),
+            LinePiece::Words(fault_name(kind).as_bytes()),
+            LinePiece::Words(b" at "),
+            LinePiece::Time(time),
+            LinePiece::Words(b"\n"),
         ],
         to,
     )
@@ -135,9 +135,9 @@ fn unreadable_line(source: u32, to: &mut Text) -> Result<(), Memory>
 {
     append_all(
         &[
-            Piece::Words(b"= unreadable source "),
-            Piece::Number(u64::from(source)),
-            Piece::Words(b"\n"),
+            LinePiece::Words(b"= unreadable source "),
+            LinePiece::Number(u64::from(source)),
+            LinePiece::Words(b"\n"),
         ],
         to,
     )
@@ -149,11 +149,11 @@ fn analysed_line(streams: u32, windows: u32, to: &mut Text) -> Result<(), Memory
 {
     append_all(
         &[
-            Piece::Words(b"= done streams "),
-            Piece::Number(u64::from(streams)),
-            Piece::Words(b" windows "),
-            Piece::Number(u64::from(windows)),
-            Piece::Words(b"\n"),
+            LinePiece::Words(b"= done streams "),
+            LinePiece::Number(u64::from(streams)),
+            LinePiece::Words(b" windows "),
+            LinePiece::Number(u64::from(windows)),
+            LinePiece::Words(b"\n"),
         ],
         to,
     )

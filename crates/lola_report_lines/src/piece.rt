@@ -16,7 +16,7 @@ use lola_value::times::time_text;
 
 /// A piece of a line.
 #[derive(Clone, Copy)]
-pub enum Piece<'a> {
+pub enum LinePiece<'a> {
     /// Bytes as they are.
     Words(&'a [u8]),
     /// A number in decimal.
@@ -167,25 +167,25 @@ pub(crate) fn mark_text(mark: Mark, to: &mut Text) -> Result<(), Memory>
 }
 
 /// Appends a piece.
-pub fn append_piece(piece: &Piece, to: &mut Text) -> Result<(), Memory>
+pub fn append_piece(piece: &LinePiece, to: &mut Text) -> Result<(), Memory>
     ensures ok { OnOk result (to.new ≡ to.old ++ piece_text piece.now) }
     ensures memory { OnErr result (AppendsPart to.old to.new (piece_text piece.now)) }
 {
     match *piece {
-        Piece::Words(bytes) => to.append(bytes),
-        Piece::Number(n) => number_text(n, to),
-        Piece::Wide(n) => wide_number_text(n, to),
-        Piece::Time(t) => time_text(t, to),
-        Piece::Quoted(bytes) => quote(bytes, to),
-        Piece::Value(value) => value_text(value, to),
-        Piece::Params(params) => params_text(params, to),
-        Piece::Mark(mark) => mark_text(mark, to),
-        Piece::Field(field) => field_bytes(field, to),
+        LinePiece::Words(bytes) => to.append(bytes),
+        LinePiece::Number(n) => number_text(n, to),
+        LinePiece::Wide(n) => wide_number_text(n, to),
+        LinePiece::Time(t) => time_text(t, to),
+        LinePiece::Quoted(bytes) => quote(bytes, to),
+        LinePiece::Value(value) => value_text(value, to),
+        LinePiece::Params(params) => params_text(params, to),
+        LinePiece::Mark(mark) => mark_text(mark, to),
+        LinePiece::Field(field) => field_bytes(field, to),
     }
 }
 
 /// Appends pieces, one after another.
-pub fn append_all(pieces: &[Piece], to: &mut Text) -> Result<(), Memory>
+pub fn append_all(pieces: &[LinePiece], to: &mut Text) -> Result<(), Memory>
     ensures ok { OnOk result (to.new ≡ to.old ++ flat_map piece_text pieces.now) }
     ensures memory { OnErr result (AppendsPart to.old to.new (flat_map piece_text pieces.now)) }
 {

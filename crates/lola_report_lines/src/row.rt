@@ -7,7 +7,7 @@ ghost use Rattle.lola_model.specs.Trace.{field_bytes, trace_line};
 ghost use Rattle.lola_report_lines.specs.Pieces.{piece_text};
 ghost use Rattle.lola_report_lines.specs.Rows.{HasFields, head_fields, written};
 
-use crate::piece::{Piece, append_piece};
+use crate::piece::{LinePiece, append_piece};
 use csv::Writer;
 use lola_model::journal::Entry;
 use lola_value::text::{Field, Memory, Text};
@@ -24,7 +24,11 @@ fn write_bytes(bytes: &[u8], row: &mut Writer<Vec<u8>>) -> Result<(), Memory>
 }
 
 // Writes a piece as one more field of a row. What is in the scratch text does not count.
-fn write_piece(piece: Piece, scratch: &mut Text, row: &mut Writer<Vec<u8>>) -> Result<(), Memory>
+fn write_piece(
+    piece: LinePiece,
+    scratch: &mut Text,
+    row: &mut Writer<Vec<u8>>,
+) -> Result<(), Memory>
     ensures { OnOk result ((fields : List (List ℕ)) → HasFields row.old fields → HasFields row.new (fields ++ piece_text piece.entry ∷ [])) }
 {
     scratch.clear();
@@ -36,10 +40,10 @@ fn write_piece(piece: Piece, scratch: &mut Text, row: &mut Writer<Vec<u8>>) -> R
 fn write_head(entry: &Entry, scratch: &mut Text, row: &mut Writer<Vec<u8>>) -> Result<(), Memory>
     ensures { OnOk result (HasFields row.old [] → HasFields row.new (head_fields entry.now)) }
 {
-    write_piece(Piece::Number(u64::from(entry.row.source)), scratch, row)?;
-    write_piece(Piece::Number(entry.row.number), scratch, row)?;
-    write_piece(Piece::Time(entry.row.stamp), scratch, row)?;
-    write_piece(Piece::Mark(entry.mark), scratch, row)
+    write_piece(LinePiece::Number(u64::from(entry.row.source)), scratch, row)?;
+    write_piece(LinePiece::Number(entry.row.number), scratch, row)?;
+    write_piece(LinePiece::Time(entry.row.stamp), scratch, row)?;
+    write_piece(LinePiece::Mark(entry.mark), scratch, row)
 }
 
 // Writes fields of the inputs.
@@ -51,7 +55,7 @@ fn write_fields(
     ensures { OnOk result ((front : List (List ℕ)) → HasFields row.old front → HasFields row.new (front ++ map field_bytes fields.now)) }
 {
     for field in fields {
-        write_piece(Piece::Field(field), scratch, row)?;
+        write_piece(LinePiece::Field(field), scratch, row)?;
     }
     Ok(())
 }

@@ -5,7 +5,7 @@ ghost use Rattle.lola_value.specs.Appending.{AppendsPart};
 ghost use Rattle.lola_model.specs.Texts.{trigger_line, output_line};
 ghost use Rattle.lola_report_lines.specs.Verdicts.{HasVerdict, verdict_text};
 
-use crate::piece::{Piece, append_all};
+use crate::piece::{LinePiece, append_all};
 use lola_model::plan::Plan;
 use lola_model::spec::{Sort, Stream};
 use lola_value::text::{Field, Fields, Memory, Text};
@@ -17,12 +17,12 @@ fn trigger_line(time: u64, stream: &Stream, to: &mut Text) -> Result<(), Memory>
 {
     append_all(
         &[
-            Piece::Time(time),
-            Piece::Words(b" "),
-            Piece::Words(stream.name.as_bytes()),
-            Piece::Words(b" "),
-            Piece::Quoted(stream.message.as_bytes()),
-            Piece::Words(b"\n"),
+            LinePiece::Time(time),
+            LinePiece::Words(b" "),
+            LinePiece::Words(stream.name.as_bytes()),
+            LinePiece::Words(b" "),
+            LinePiece::Quoted(stream.message.as_bytes()),
+            LinePiece::Words(b"\n"),
         ],
         to,
     )
@@ -41,13 +41,13 @@ fn output_line<'a>(
 {
     append_all(
         &[
-            Piece::Time(time),
-            Piece::Words(b" "),
-            Piece::Words(stream.name.as_bytes()),
-            Piece::Params(params),
-            Piece::Words(b" = "),
-            Piece::Value(value),
-            Piece::Words(b"\n"),
+            LinePiece::Time(time),
+            LinePiece::Words(b" "),
+            LinePiece::Words(stream.name.as_bytes()),
+            LinePiece::Params(params),
+            LinePiece::Words(b" = "),
+            LinePiece::Value(value),
+            LinePiece::Words(b"\n"),
         ],
         to,
     )

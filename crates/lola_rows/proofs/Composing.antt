@@ -2,11 +2,10 @@
 use Rattle.std.proofs.Common.{◌≡◌, ℕ, ◌++◌, List, [], ◌∷◌, Option, Some, map, refl, sym, ap, ◌∙◌, inl, inr, append_assoc, unwrap_or}
 use Rattle.std.proofs.lemmas.Bool.{cases_Bool}
 use Rattle.std.proofs.lemmas.List.{append-nil}
-use Rattle.lola_model.specs.Model.{is_input}
+use Rattle.lola_model.specs.Model.{is_input, filled_kind}
 use Rattle.lola_model.specs.Trace.{input_kinds}
 use Rattle.lola_model.specs.declared.journal.Row.{Row}
 use Rattle.lola_model.specs.declared.spec.Stream.{Stream}
-use Rattle.lola_value.specs.declared.value.Kind.TheVariants as kind
 use Rattle.lola_port.specs.States.{SourceState}
 use Rattle.lola_rows.specs.Columns.{inputs_of}
 use Rattle.lola_rows.specs.Rows.{SourceEnd, SourceRows, rows_of_source}
@@ -45,6 +44,6 @@ passes-all old new rows end first ends before is =
 pub kinds-are : (streams : List Stream) → map (λ i. i.kind) (inputs_of streams) ≡ input_kinds streams
 kinds-are [] = refl
 kinds-are (s ∷ ss) = elim (cases_Bool (is_input s)) [
-  | inl input ↦ rw input (ap (λ ks. unwrap_or s.kind kind.Int64 ∷ ks) (kinds-are ss))
+  | inl input ↦ rw input (ap (λ ks. filled_kind s ∷ ks) (kinds-are ss))
   | inr other ↦ rw other (kinds-are ss)
 ]

@@ -28,13 +28,13 @@ use Rattle.lola_rows.specs.declared.flaw.Flaw.TheVariants as flaw
 use Rattle.lola_rows.specs.declared.seek.Extent.{Extent}
 use Rattle.lola_rows.specs.declared.seek.Found.{Found}
 use Rattle.lola_rows.specs.declared.seek.Found.TheVariants as found
-use Rattle.lola_rows.specs.declared.stage.Stage.{Stage}
-use Rattle.lola_rows.specs.declared.stage.Stage.TheVariants as stage
+use Rattle.lola_rows.specs.declared.stage.Section.{Section}
+use Rattle.lola_rows.specs.declared.stage.Section.TheVariants as stage
 use Rattle.lola_rows.proofs.FitFacts.{row-facts}
 use Rattle.lola_rows.proofs.Seeking.{at-end}
 
 -- what bytes give a reader of these parts
-abbrev pub gives : Shape → Stage → Columns → ℕ → List ℕ → SourceRows
+abbrev pub gives : Shape → Section → Columns → ℕ → List ℕ → SourceRows
 gives s st c g bytes = rest_at s st c g (lines_at st bytes)
 
 -- a function of known bytes behind a front is another's behind another front
@@ -67,11 +67,11 @@ known-passes F G held0 held1 (Some bytes) row step before is =
     }
 
 -- what a reader still gives, by its parts
-rest-is : (r : Reading) (s : Shape) (st : Stage) (c : Columns) (g : ℕ) (h : List ℕ) (left : Option (List ℕ)) → r.shape ≡ s → r.stage ≡ st → r.columns ≡ c → r.given ≡ g → r.held ≡ h → r.source.left ≡ left
+rest-is : (r : Reading) (s : Shape) (st : Section) (c : Columns) (g : ℕ) (h : List ℕ) (left : Option (List ℕ)) → r.shape ≡ s → r.stage ≡ st → r.columns ≡ c → r.given ≡ g → r.held ≡ h → r.source.left ≡ left
     → rest_of r ≡ option_map (gives s st c g) (prepend_known h left)
 rest-is r s st c g h left is_s is_st is_c is_g is_h is_left =
     ap (λ (x : Shape). option_map (gives x r.stage r.columns r.given) (prepend_known r.held r.source.left)) is_s
-    ∙ ap (λ (x : Stage). option_map (gives s x r.columns r.given) (prepend_known r.held r.source.left)) is_st
+    ∙ ap (λ (x : Section). option_map (gives s x r.columns r.given) (prepend_known r.held r.source.left)) is_st
     ∙ ap (λ (x : Columns). option_map (gives s st x r.given) (prepend_known r.held r.source.left)) is_c
     ∙ ap (λ (x : ℕ). option_map (gives s st c x) (prepend_known r.held r.source.left)) is_g
     ∙ ap (λ (x : List ℕ). option_map (gives s st c g) (prepend_known x r.source.left)) is_h
@@ -82,7 +82,7 @@ map-map : (F : List Line → SourceRows) (o : Option (List ℕ)) → option_map 
 map-map F None = refl
 map-map F (Some bytes) = refl
 
-by-lines : (s : Shape) (st : Stage) (c : Columns) (g : ℕ) (o : Option (List ℕ)) → (st ≡ stage.Start → ⊥) → option_map (gives s st c g) o ≡ option_map (rest_at s st c g) (option_map lines_of o)
+by-lines : (s : Shape) (st : Section) (c : Columns) (g : ℕ) (o : Option (List ℕ)) → (st ≡ stage.Start → ⊥) → option_map (gives s st c g) o ≡ option_map (rest_at s st c g) (option_map lines_of o)
 by-lines s stage.Start c g o past = absurd (past refl)
 by-lines s stage.Heading c g o past = map-map (rest_at s stage.Heading c g) o
 by-lines s stage.Rows c g o past = map-map (rest_at s stage.Rows c g) o
@@ -153,9 +153,9 @@ stops-at : (r : Reading) (kind : MalformedKind) (row : ℕ) → row ≤ r.given 
 stops-at r kind row few all = (known-ends (gives r.shape r.stage r.columns r.given) r.held r.source.left (MalformedAt kind row) all, few, refl)
 
 -- the same at a stage
-stops-by : (r : Reading) (st : Stage) (kind : MalformedKind) (row : ℕ) → r.stage ≡ st → row ≤ r.given + 1
+stops-by : (r : Reading) (st : Section) (kind : MalformedKind) (row : ℕ) → r.stage ≡ st → row ≤ r.given + 1
     → ((bytes : List ℕ) → r.source.left ≡ Some bytes → gives r.shape st r.columns r.given (r.held ++ bytes) ≡ ended (MalformedAt kind row)) → Stops (ending.Malformed kind row) r r
-stops-by r st kind row is few all = stops-at r kind row few (λ bytes told. ap (λ (x : Stage). gives r.shape x r.columns r.given (r.held ++ bytes)) is ∙ all bytes told)
+stops-by r st kind row is few all = stops-at r kind row few (λ bytes told. ap (λ (x : Section). gives r.shape x r.columns r.given (r.held ++ bytes)) is ∙ all bytes told)
 
 -- a line that is too long
 long-heading : (s : Shape) (lines : List Line) → BeginsTooLong lines → rest_at s stage.Heading (record { width = 0; time = 0; inputs = [] }) 0 lines ≡ ended (MalformedAt malformed.RowTooLong 0)
@@ -180,7 +180,7 @@ rows-long r is long = stops-by r stage.Rows malformed.RowTooLong (r.given + 1) i
 pub rows-end : (r : Reading) → r.stage ≡ stage.Rows → ((bytes : List ℕ) → r.source.left ≡ Some bytes → lines_of (r.held ++ bytes) ≡ []) → Stops ending.End r r
 rows-end r is none = (
   known-ends (gives r.shape r.stage r.columns r.given) r.held r.source.left Whole (λ bytes told.
-      ap (λ (x : Stage). gives r.shape x r.columns r.given (r.held ++ bytes)) is ∙ ap (rest_at r.shape stage.Rows r.columns r.given) (none bytes told)),
+      ap (λ (x : Section). gives r.shape x r.columns r.given (r.held ++ bytes)) is ∙ ap (rest_at r.shape stage.Rows r.columns r.given) (none bytes told)),
   refl,
 )
 
@@ -250,7 +250,7 @@ line-gave old new e row is kinds front made shape still columns given held sourc
 -- all lines were taken
 pub over-ends : (r : Reading) → r.stage ≡ stage.Over → Stops ending.End r r
 over-ends r is =
-    (known-ends (gives r.shape r.stage r.columns r.given) r.held r.source.left Whole (λ bytes told. ap (λ (x : Stage). gives r.shape x r.columns r.given (r.held ++ bytes)) is), refl)
+    (known-ends (gives r.shape r.stage r.columns r.given) r.held r.source.left Whole (λ bytes told. ap (λ (x : Section). gives r.shape x r.columns r.given (r.held ++ bytes)) is), refl)
 
 -- bytes that come in change no end
 pub goes-stops : (old new : Reading) (how : Ending) → Goes old new → Stops how new new → Stops how old new
@@ -351,7 +351,7 @@ unmarked old new is shows shape next columns given held source =
     }
 
 -- a reader by its parts
-abbrev pub reading : ℕ → ℕ → List Input → Stage → Columns → ℕ → List ℕ → SourceState → Option Ending → Reading
+abbrev pub reading : ℕ → ℕ → List Input → Section → Columns → ℕ → List ℕ → SourceState → Option Ending → Reading
 reading index most inputs st columns given bytes source how = record {
   shape = record { index = index; most = most; inputs = inputs };
   stage = st;
@@ -366,7 +366,7 @@ reading index most inputs st columns given bytes source how = record {
 abbrev pub InStep : Reading → Type 0
 InStep r = IsInStep r.stage r.given r.columns r.shape.inputs
 
-kinds-at : (st : Stage) (given : ℕ) (columns : Columns) (inputs : List Input) → IsInStep st given columns inputs → st ≡ stage.Rows → map (λ c. c.kind) columns.inputs ≡ map (λ i. i.kind) inputs
+kinds-at : (st : Section) (given : ℕ) (columns : Columns) (inputs : List Input) → IsInStep st given columns inputs → st ≡ stage.Rows → map (λ c. c.kind) columns.inputs ≡ map (λ i. i.kind) inputs
 kinds-at stage.Start given columns inputs in_step is = absurd (cc is)
 kinds-at stage.Heading given columns inputs in_step is = absurd (cc is)
 kinds-at stage.Rows given columns inputs in_step is = in_step
@@ -375,7 +375,7 @@ kinds-at stage.Over given columns inputs in_step is = absurd (cc is)
 pub kinds-in-step : (r : Reading) → InStep r → r.stage ≡ stage.Rows → map (λ c. c.kind) r.columns.inputs ≡ map (λ i. i.kind) r.shape.inputs
 kinds-in-step r in_step is = kinds-at r.stage r.given r.columns r.shape.inputs in_step is
 
-pub none-given : (st : Stage) (given : ℕ) (columns : Columns) (inputs : List Input) → st ≡ stage.Heading → IsInStep st given columns inputs → given ≡ 0
+pub none-given : (st : Section) (given : ℕ) (columns : Columns) (inputs : List Input) → st ≡ stage.Heading → IsInStep st given columns inputs → given ≡ 0
 none-given stage.Start given columns inputs is in_step = in_step
 none-given stage.Heading given columns inputs is in_step = in_step
 none-given stage.Rows given columns inputs is in_step = absurd (cc is)

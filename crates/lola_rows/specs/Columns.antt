@@ -1,9 +1,8 @@
 -- The heading of a source: which field is the time, and which gives an input.
-use Rattle.std.specs.Prelude.{ℕ, List, [], ◌∷◌, Option, Some, None, Bool, not, ◌||◌, if◌then◌else◌, nat_eq, nat_lt, length, map, filter, codes, position, unwrap_or}
+use Rattle.std.specs.Prelude.{ℕ, List, [], ◌∷◌, Option, Some, None, Bool, not, ◌||◌, if◌then◌else◌, nat_eq, nat_lt, length, map, filter, codes, position}
 use Rattle.std.specs.List.{list_any, position_or_len}
-use Rattle.lola_value.specs.declared.value.Kind.TheVariants as kind
 use Rattle.lola_value.specs.Arithmetic.{bytes_equal}
-use Rattle.lola_model.specs.Model.{is_input}
+use Rattle.lola_model.specs.Model.{is_input, filled_kind}
 use Rattle.lola_model.specs.declared.spec.Stream.{Stream}
 use Rattle.lola_rows.specs.declared.columns.Column.{Column}
 use Rattle.lola_rows.specs.declared.columns.Input.{Input}
@@ -13,7 +12,7 @@ use Rattle.lola_rows_csv.specs.Line.{begins_with_mark, fields_of_line}
 -- the inputs among streams, in order
 abbrev pub inputs_of : List Stream → List Input
 inputs_of [] = []
-inputs_of (s ∷ ss) = if is_input s then record { name = s.name; kind = unwrap_or s.kind kind.Int64 } ∷ inputs_of ss else inputs_of ss
+inputs_of (s ∷ ss) = if is_input s then record { name = s.name; kind = filled_kind s } ∷ inputs_of ss else inputs_of ss
 
 -- where the fields of rows come from: how many fields a row has, which is its time, and for each input its kind and, where it has one, its field
 pub record Columns : Type 0 where

@@ -7,8 +7,8 @@ use Rattle.lola_rows.specs.Lines.{Line, is_line_end, lines_of, longest_line}
 use Rattle.lola_rows.specs.declared.fill.Filled.{Filled}
 use Rattle.lola_rows.specs.declared.fill.Filled.TheVariants as filled
 use Rattle.lola_rows.specs.declared.seek.Extent.{Extent}
-use Rattle.lola_rows.specs.declared.stage.Stage.{Stage}
-use Rattle.lola_rows.specs.declared.stage.Stage.TheVariants as stage
+use Rattle.lola_rows.specs.declared.stage.Section.{Section}
+use Rattle.lola_rows.specs.declared.stage.Section.TheVariants as stage
 use Rattle.lola_rows.specs.declared.seek.Found.{Found}
 use Rattle.lola_rows.specs.declared.seek.Found.TheVariants as found
 
@@ -66,7 +66,7 @@ abbrev pub is_last : Extent → Bool
 is_last e = nat_eq e.whole e.size
 
 -- what a reader looks at behind the line of a row
-abbrev pub stage_behind : Extent → Stage
+abbrev pub stage_behind : Extent → Section
 stage_behind e = if is_last e then stage.Over else stage.Rows
 
 -- a line stands at the front of the bytes held

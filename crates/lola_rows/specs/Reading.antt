@@ -15,8 +15,8 @@ use Rattle.lola_rows.specs.declared.answer.Ending.{Ending}
 use Rattle.lola_rows.specs.declared.answer.Ending.TheVariants as ending
 use Rattle.lola_rows.specs.declared.answer.RowAnswer.{RowAnswer}
 use Rattle.lola_rows.specs.declared.answer.RowAnswer.TheVariants as answer
-use Rattle.lola_rows.specs.declared.stage.Stage.{Stage}
-use Rattle.lola_rows.specs.declared.stage.Stage.TheVariants as stage
+use Rattle.lola_rows.specs.declared.stage.Section.{Section}
+use Rattle.lola_rows.specs.declared.stage.Section.TheVariants as stage
 
 -- what a reader is made for: the number of the source, the most rows, and the inputs
 pub record Shape : Type 0 where
@@ -31,7 +31,7 @@ shape_of streams index most = record { index = index; most = most; inputs = inpu
 -- a reader: how far it is, the columns that the heading gave, how many rows were given, the bytes that were read and not yet taken, the source, and how it ended
 pub record Reading : Type 0 where
   pub shape : Shape
-  pub stage : Stage
+  pub stage : Section
   pub columns : Columns
   pub given : ℕ
   pub held : List ℕ
@@ -47,14 +47,14 @@ abbrev pub fresh : Shape → SourceState → Reading
 fresh shape source = record { shape = shape; stage = stage.Start; columns = no_columns; given = 0; held = []; source = source; ended = None }
 
 -- the lines of bytes: at the very start one byte order mark is dropped
-abbrev pub lines_at : Stage → List ℕ → List Line
+abbrev pub lines_at : Section → List ℕ → List Line
 lines_at stage.Start bytes = lines_of (without_mark bytes)
 lines_at stage.Heading bytes = lines_of bytes
 lines_at stage.Rows bytes = lines_of bytes
 lines_at stage.Over bytes = lines_of bytes
 
 -- what lines give, with the heading in front of them, or after this many rows
-abbrev pub rest_at : Shape → Stage → Columns → ℕ → List Line → SourceRows
+abbrev pub rest_at : Shape → Section → Columns → ℕ → List Line → SourceRows
 rest_at s stage.Start columns given lines = rows_of_lines s.index s.most s.inputs lines
 rest_at s stage.Heading columns given lines = rows_of_lines s.index s.most s.inputs lines
 rest_at s stage.Rows columns given lines = rows_from s.index s.most columns (given + 1) lines
@@ -144,7 +144,7 @@ pub record Keeps (old new : Reading) : Type 0 where
   pub place : new.source.place ≡ old.source.place
 
 -- before the heading no row was given, and behind it the columns are those of the inputs
-abbrev pub IsInStep : Stage → ℕ → Columns → List Input → Type 0
+abbrev pub IsInStep : Section → ℕ → Columns → List Input → Type 0
 IsInStep stage.Start given columns inputs = given ≡ 0
 IsInStep stage.Heading given columns inputs = given ≡ 0
 IsInStep stage.Rows given columns inputs = map (λ c. c.kind) columns.inputs ≡ map (λ i. i.kind) inputs

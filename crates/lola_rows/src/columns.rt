@@ -89,7 +89,7 @@ fn add_input(alloc: Global, inputs: &mut Vec<Input>, stream: &Stream) -> Result<
     if matches!(stream.sort, Sort::Input) {
         inputs.push(Input {
             name: Text::from_bytes(alloc, stream.name.as_bytes())?,
-            kind: stream.kind.unwrap_or(Kind::Int64),
+            kind: stream.filled_kind(),
         })?;
     }
     Ok(())

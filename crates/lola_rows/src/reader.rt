@@ -9,7 +9,7 @@ use crate::fill::{Filled, fill_line};
 use crate::flaw::Flaw;
 use crate::rows::{Form, Room, read_heading, read_row};
 use crate::seek::{Extent, Found, seek_line};
-use crate::stage::Stage;
+use crate::stage::Section;
 use crate::window::Window;
 use lola_model::journal::Row;
 use lola_model::plan::Plan;
@@ -67,7 +67,7 @@ impl EmptyReader {
             room,
             window,
             source,
-            stage: Stage::Start,
+            stage: Section::Start,
             given: 0,
             ended: None,
         }
@@ -94,7 +94,7 @@ pub struct RowReader<S: Source> {
     room: Room,
     window: Window,
     source: S,
-    stage: Stage,
+    stage: Section,
     given: u64,
     ended: Option<Ending>,
 }
@@ -161,7 +161,7 @@ impl<S: Source> RowReader<S> {
 
     /// Whether the heading was read, or the reader has ended.
     pub fn has_begun(&self) -> bool {
-        self.ended.is_some() || matches!(self.stage, Stage::Rows | Stage::Over)
+        self.ended.is_some() || matches!(self.stage, Section::Rows | Section::Over)
     }
 
     /// Reads the heading, unless it was read, and no row. Where it answers an ending the reader has ended so.
@@ -185,7 +185,7 @@ impl<S: Source> RowReader<S> {
         ensures going { self.old.ended ≡ None → Answers result self.old self.new }
         ensures over { (how : Ending) → self.old.ended ≡ Some how → Repeats how result self.old self.new }
         // Behind a last line without a line feed nothing is read any more.
-        ensures last { self.old.ended ≡ None → self.old.stage ≡ Stage.Over
+        ensures last { self.old.ended ≡ None → self.old.stage ≡ Section.Over
             → (result ≡ RowAnswer.End) × (self.new.source ≡ self.old.source) }
         ensures kept { Keeps self.old self.new }
     {
@@ -204,11 +204,11 @@ impl<S: Source> RowReader<S> {
     // The next row, with the mark and the heading before the first.
     fn advance(&mut self) -> Result<Row, Ending>
         ensures takes { Takes result self.old self.new }
-        ensures last { self.old.stage ≡ Stage.Over → (result ≡ Err Ending.End) × (self.new ≡ self.old) }
+        ensures last { self.old.stage ≡ Section.Over → (result ≡ Err Ending.End) × (self.new ≡ self.old) }
         ensures kept { Keeps self.old self.new }
         ensures ended { self.new.ended ≡ self.old.ended }
     {
-        if let Stage::Over = self.stage {
+        if let Section::Over = self.stage {
             return Err(Ending::End);
         }
         self.drop_mark()?;
@@ -222,7 +222,7 @@ impl<S: Source> RowReader<S> {
         ensures kept { Keeps self.old self.new }
         ensures ended { self.new.ended ≡ self.old.ended }
     {
-        if let Stage::Over = self.stage {
+        if let Section::Over = self.stage {
             return Ok(());
         }
         self.drop_mark()?;
@@ -231,21 +231,21 @@ impl<S: Source> RowReader<S> {
 
     // Drops a byte order mark at the very start.
     fn drop_mark(&mut self) -> Result<(), Ending>
-        requires { self.old.stage ≡ Stage.Over → ⊥ }
+        requires { self.old.stage ≡ Section.Over → ⊥ }
         ensures begins { Begins result self.old self.new }
-        ensures past { OnOk result (self.new.stage ≡ Stage.Start → ⊥) }
-        ensures not_over { OnOk result (self.new.stage ≡ Stage.Over → ⊥) }
+        ensures past { OnOk result (self.new.stage ≡ Section.Start → ⊥) }
+        ensures not_over { OnOk result (self.new.stage ≡ Section.Over → ⊥) }
         ensures kept { Keeps self.old self.new }
         ensures ended { self.new.ended ≡ self.old.ended }
     {
-        let Stage::Start = self.stage else {
+        let Section::Start = self.stage else {
             return Ok(());
         };
         match self.fill() {
             Filled::ReadFailed => Err(Ending::ReadFailed),
             _ => {
                 self.window.drop_mark();
-                self.stage = Stage::Heading;
+                self.stage = Section::Heading;
                 Ok(())
             }
         }
@@ -253,7 +253,7 @@ impl<S: Source> RowReader<S> {
 
     // Reads so much that a mark is held whole, if there is one.
     fn fill(&mut self) -> Filled
-        requires { self.old.stage ≡ Stage.Start }
+        requires { self.old.stage ≡ Section.Start }
         ensures fills { Fills result self.old self.new }
         ensures stage { self.new.stage ≡ self.old.stage }
         ensures kept { Keeps self.old self.new }
@@ -264,7 +264,7 @@ impl<S: Source> RowReader<S> {
 
     // Finds the next line that is not empty.
     fn seek(&mut self) -> Found
-        requires { self.old.stage ≡ Stage.Start → ⊥ }
+        requires { self.old.stage ≡ Section.Start → ⊥ }
         ensures seeks { Seeks result self.old self.new }
         ensures stage { self.new.stage ≡ self.old.stage }
         ensures kept { Keeps self.old self.new }
@@ -275,14 +275,14 @@ impl<S: Source> RowReader<S> {
 
     // Takes the heading, unless it was taken.
     fn take_heading(&mut self) -> Result<(), Ending>
-        requires past { self.old.stage ≡ Stage.Start → ⊥ }
-        requires not_over { self.old.stage ≡ Stage.Over → ⊥ }
+        requires past { self.old.stage ≡ Section.Start → ⊥ }
+        requires not_over { self.old.stage ≡ Section.Over → ⊥ }
         ensures begins { Begins result self.old self.new }
-        ensures taken { OnOk result (self.new.stage ≡ Stage.Rows) }
+        ensures taken { OnOk result (self.new.stage ≡ Section.Rows) }
         ensures kept { Keeps self.old self.new }
         ensures ended { self.new.ended ≡ self.old.ended }
     {
-        if let Stage::Rows = self.stage {
+        if let Section::Rows = self.stage {
             return Ok(());
         }
         match self.seek() {
@@ -295,10 +295,10 @@ impl<S: Source> RowReader<S> {
 
     // Takes the heading, which stands at the front.
     fn use_heading(&mut self, extent: Extent) -> Result<(), Ending>
-        requires stage { self.old.stage ≡ Stage.Heading }
+        requires stage { self.old.stage ≡ Section.Heading }
         requires front { IsFront extent self.old.held self.old.source.left }
         ensures begins { Begins result self.old self.new }
-        ensures taken { OnOk result (self.new.stage ≡ Stage.Rows) }
+        ensures taken { OnOk result (self.new.stage ≡ Section.Rows) }
         ensures kept { Keeps self.old self.new }
         ensures ended { self.new.ended ≡ self.old.ended }
     {
@@ -308,13 +308,13 @@ impl<S: Source> RowReader<S> {
             Err(flaw) => return Err(flaw.ending(0)),
         }
         self.window.consume(extent.whole);
-        self.stage = Stage::Rows;
+        self.stage = Section::Rows;
         Ok(())
     }
 
     // The row of the next line.
     fn take_row(&mut self) -> Result<Row, Ending>
-        requires { self.old.stage ≡ Stage.Rows }
+        requires { self.old.stage ≡ Section.Rows }
         ensures takes { Takes result self.old self.new }
         ensures kept { Keeps self.old self.new }
         ensures ended { self.new.ended ≡ self.old.ended }
@@ -329,7 +329,7 @@ impl<S: Source> RowReader<S> {
 
     // The row of the line that stands at the front.
     fn use_line(&mut self, extent: Extent) -> Result<Row, Ending>
-        requires stage { self.old.stage ≡ Stage.Rows }
+        requires stage { self.old.stage ≡ Section.Rows }
         requires front { IsFront extent self.old.held self.old.source.left }
         ensures takes { Takes result self.old self.new }
         ensures kept { Keeps self.old self.new }
@@ -385,9 +385,9 @@ impl<S: Source> RowReader<S> {
     pub fn has_line(&self) -> bool {
         self.ended.is_some()
             || match self.stage {
-                Stage::Start | Stage::Heading => false,
-                Stage::Rows => self.window.has_line(),
-                Stage::Over => true,
+                Section::Start | Section::Heading => false,
+                Section::Rows => self.window.has_line(),
+                Section::Over => true,
             }
     }
 

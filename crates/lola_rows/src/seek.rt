@@ -5,7 +5,7 @@ ghost use Rattle.lola_rows.specs.Lines.{without_return};
 ghost use Rattle.lola_rows.specs.Window.{items};
 
 use crate::fill::{Filled, fill_line};
-use crate::stage::Stage;
+use crate::stage::Section;
 use crate::window::Window;
 use lola_port::Source;
 
@@ -22,13 +22,13 @@ impl Extent {
     ghost use Rattle.lola_rows.specs.Filling.{stage_behind};
 
     /// What a reader looks at behind this line of a row.
-    pub(crate) fn stage_behind(&self) -> Stage
+    pub(crate) fn stage_behind(&self) -> Section
         ensures { result ≡ stage_behind self.now }
     {
         if self.whole == self.size {
-            Stage::Over
+            Section::Over
         } else {
-            Stage::Rows
+            Section::Rows
         }
     }
 }

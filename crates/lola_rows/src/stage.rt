@@ -2,7 +2,7 @@
 
 /// What a reader looks at next.
 #[derive(Clone, Copy, Debug, PartialEq, Eq)]
-pub enum Stage {
+pub enum Section {
     /// The first bytes of the source, which may be a byte order mark.
     Start,
     /// The heading.

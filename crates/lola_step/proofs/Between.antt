@@ -1,4 +1,4 @@
--- What holds of the streams below a number in each loop over those that have a turn, and that it goes on past a stream that has none.
+-- What holds of the streams below a number in each loop over those that have a duty, and that it goes on past a stream that has none.
 use Rattle.std.proofs.Common.{◌≡◌, refl, ap, ◌∙◌, sym, subst, ℕ, ◌+◌, ◌<◌, ◌≤◌, List, [], ◌∷◌, ◌++◌, Option, Some, None, Bool, true, false, not, ◌&&◌, if◌then◌else◌, nat_eq, get_or, set, length, slice_get, take, drop, vec_len, arith, append-nil}
 use Rattle.std.proofs.lemmas.Bool.{eq-eqb, not-false, not-true}
 use Rattle.std.proofs.lemmas.List.{set-get_or, take-append-drop}
@@ -22,15 +22,15 @@ use Rattle.lola_step.specs.declared.verdict.Verdict.{Verdict}
 use Rattle.lola_step.specs.Moments.{may_be_active_in}
 use Rattle.lola_step.specs.Notes.{asked_in, in_span, is_fine, layer_spans, layer_tasks, places_of, runs_in, sought_at, stream_tasks}
 use Rattle.lola_step.specs.Rooms.{rooms, total}
-use Rattle.lola_step.specs.Schedules.{has_parameters, has_turn}
+use Rattle.lola_step.specs.Schedules.{has_parameters, has_duty}
 use Rattle.lola_step.specs.Sought.{AreUnsought}
 use Rattle.lola_step.specs.Spawns.{IsNextSpawn}
 use Rattle.lola_step.specs.Steps.{AreInputs}
 use Rattle.lola_step.specs.declared.spawn_result.SpawnResult.{SpawnResult}
 use Rattle.lola_step.specs.declared.spawn_result.SpawnResult.TheVariants as spawn_result
 use Rattle.lola_step.specs.declared.moment.Moment.{Moment}
-use Rattle.lola_step.specs.declared.schedule.Turn.{Turn}
-use Rattle.lola_step.specs.declared.schedule.Turn.TheVariants as turn
+use Rattle.lola_step.specs.declared.schedule.Duty.{Duty}
+use Rattle.lola_step.specs.declared.schedule.Duty.TheVariants as duty
 use Rattle.lola_step.specs.declared.scratch.Span.{Span}
 use Rattle.lola_step.specs.declared.tasks.Task.{Task}
 use Rattle.lola_step.proofs.Closable.{up_to_first, up_to_stream}
@@ -38,17 +38,17 @@ use Rattle.lola_step.proofs.Conditions.{FoundBefore, found_stream, none_without}
 use Rattle.lola_step.proofs.Elements.{cut, drop_past}
 use Rattle.lola_step.proofs.Gathering.{asked_tasks, gathers_spans, gathers_tasks}
 use Rattle.lola_step.proofs.Seeking.{SoughtUpTo, sought_kept, sought_none, unknown_silent}
-use Rattle.lola_step.proofs.SpawnTurns.{AreSpawned, no_clause_next, one_more_spawned, other_layer_next}
+use Rattle.lola_step.proofs.SpawnDuties.{AreSpawned, no_clause_next, one_more_spawned, other_layer_next}
 use Rattle.lola_step.proofs.Standing.{room_there}
 use Rattle.lola_step.proofs.Telling.{AreTold, none_told}
-use Rattle.lola_step.proofs.Turns.{IsTurn, IsWalk, walk_done, walk_item}
+use Rattle.lola_step.proofs.Duties.{IsDuty, IsWalk, walk_done, walk_item}
 use Rattle.lola_step.proofs.Valued.{streams_step}
 
--- a stream has its turn, whichever way it is known
-pub has_turn_there : (plan : Plan) (t : Turn) (n : ℕ) (x y : Stream) → slice_get plan.spec.streams n ≡ Some x → slice_get plan.spec.streams n ≡ Some y → has_turn plan t n x ≡ true → has_turn plan t n y ≡ true
-has_turn_there plan t n x y e f h = let q : Some x ≡ Some y = sym e ∙ f in let p : x ≡ y = cc in subst (λ (z : Stream). has_turn plan t n z ≡ true) p h
+-- a stream has its duty, whichever way it is known
+pub has_duty_there : (plan : Plan) (t : Duty) (n : ℕ) (x y : Stream) → slice_get plan.spec.streams n ≡ Some x → slice_get plan.spec.streams n ≡ Some y → has_duty plan t n x ≡ true → has_duty plan t n y ≡ true
+has_duty_there plan t n x y e f h = let q : Some x ≡ Some y = sym e ∙ f in let p : x ≡ y = cc in subst (λ (z : Stream). has_duty plan t n z ≡ true) p h
 
--- what a stream without a turn is
+-- what a stream without a duty is
 
 pub no_clause : (o : Option Clause) → has_clause o ≡ false → o ≡ None
 no_clause None e = refl
@@ -71,8 +71,8 @@ module _ (plan : Plan) (m : Moment) (spawn_results : List SpawnResult) (layer n 
   abbrev paced : Bool
   paced = may_be_active_in m (eval_pacing (slice_get plan.pacings n)) && is_fine (slice_get spawn_results n)
 
-  -- a stream without a turn in a layer does not run in it
-  pub never_runs : has_turn plan (turn.Eval layer) n x ≡ false → runs_in plan m spawn_results layer n x ≡ false
+  -- a stream without a duty in a layer does not run in it
+  pub never_runs : has_duty plan (duty.Eval layer) n x ≡ false → runs_in plan m spawn_results layer n x ≡ false
   never_runs e = not_first (not (is_input x)) (nat_eq (layer_of plan.layers (eval_node n)) layer) paced e
 
 -- close clauses
@@ -92,22 +92,22 @@ found_first plan m remembers s closing none = record {
 }
 
 pub found_past : (plan : Plan) (m : Moment) (remembers : Memories) (s : Seen) (closing : Vec Task) (n : ℕ) (x : Stream) → slice_get plan.spec.streams n ≡ Some x
-    → has_turn plan turn.Close n x ≡ false → AreFoundBelow plan m remembers s closing n → AreFoundBelow plan m remembers s closing (n + 1)
+    → has_duty plan duty.Close n x ≡ false → AreFoundBelow plan m remembers s closing n → AreFoundBelow plan m remembers s closing (n + 1)
 found_past plan m remembers s closing n x at none h = record {
   closable = up_to_stream s n 0 closing.items h.closable;
   found = found_stream plan m remembers s n x at closing.items closing.items h.found (none_without plan m remembers s n x closing.items (no_clause x.close none));
   count = omega (arith, room_there s n, h.count);
 }
 
-module _ (plan : Plan) (m : Moment) (remembers : Memories) (s : Seen) (closing : Vec Task) (turns : List ℕ) (k : ℕ)
-    (walk : IsWalk (has_turn plan turn.Close) plan.spec.streams (AreFoundBelow plan m remembers s closing) (drop k turns)) where
+module _ (plan : Plan) (m : Moment) (remembers : Memories) (s : Seen) (closing : Vec Task) (duties : List ℕ) (k : ℕ)
+    (walk : IsWalk (has_duty plan duty.Close) plan.spec.streams (AreFoundBelow plan m remembers s closing) (drop k duties)) where
   -- the next of them
-  pub found_turn : k < length turns → IsTurn (has_turn plan turn.Close) plan.spec.streams (AreFoundBelow plan m remembers s closing) (get_or turns k 0) (drop (k + 1) turns)
-  found_turn lt = walk_item (has_turn plan turn.Close) plan.spec.streams (AreFoundBelow plan m remembers s closing) (found_past plan m remembers s closing) turns k lt walk
+  pub found_duty : k < length duties → IsDuty (has_duty plan duty.Close) plan.spec.streams (AreFoundBelow plan m remembers s closing) (get_or duties k 0) (drop (k + 1) duties)
+  found_duty lt = walk_item (has_duty plan duty.Close) plan.spec.streams (AreFoundBelow plan m remembers s closing) (found_past plan m remembers s closing) duties k lt walk
 
   -- all of them
-  pub found_end : length turns ≤ k → AreFoundBelow plan m remembers s closing (length plan.spec.streams)
-  found_end past = walk_done (has_turn plan turn.Close) plan.spec.streams (AreFoundBelow plan m remembers s closing) (found_past plan m remembers s closing) turns k past walk
+  pub found_end : length duties ≤ k → AreFoundBelow plan m remembers s closing (length plan.spec.streams)
+  found_end past = walk_done (has_duty plan duty.Close) plan.spec.streams (AreFoundBelow plan m remembers s closing) (found_past plan m remembers s closing) duties k past walk
 
 -- instances of a layer
 
@@ -123,7 +123,7 @@ module _ (plan : Plan) (m : Moment) (spawn_results : List SpawnResult) (sought :
   gathered_first old spans = record { tasks = refl; noted = refl }
 
   pub gathered_past : (old : List Task) (spans : List Span) (new : List Task) (spans' : List Span) → length spans' ≡ length plan.spec.streams
-      → (n : ℕ) (x : Stream) → slice_get plan.spec.streams n ≡ Some x → has_turn plan (turn.Eval layer) n x ≡ false
+      → (n : ℕ) (x : Stream) → slice_get plan.spec.streams n ≡ Some x → has_duty plan (duty.Eval layer) n x ≡ false
       → AreGathered old spans new spans' n → AreGathered old spans new spans' (n + 1)
   gathered_past old spans new spans' long n x at none h =
       let idle : runs_in plan m spawn_results layer n x ≡ false = never_runs plan m spawn_results layer n x none in
@@ -153,17 +153,17 @@ module _ (plan : Plan) (m : Moment) (spawn_results : List SpawnResult) (sought :
       }
 
   module _ (old : List Task) (spans : List Span) (new : List Task) (spans' : List Span) (long : length spans' ≡ length plan.spec.streams)
-      (turns : List ℕ) (k : ℕ) (walk : IsWalk (has_turn plan (turn.Eval layer)) plan.spec.streams (AreGathered old spans new spans') (drop k turns)) where
+      (duties : List ℕ) (k : ℕ) (walk : IsWalk (has_duty plan (duty.Eval layer)) plan.spec.streams (AreGathered old spans new spans') (drop k duties)) where
     -- the next of them
-    pub gathered_turn : k < length turns → IsTurn (has_turn plan (turn.Eval layer)) plan.spec.streams (AreGathered old spans new spans') (get_or turns k 0) (drop (k + 1) turns)
-    gathered_turn lt =
-        walk_item (has_turn plan (turn.Eval layer)) plan.spec.streams (AreGathered old spans new spans') (gathered_past old spans new spans' long) turns k lt walk
+    pub gathered_duty : k < length duties → IsDuty (has_duty plan (duty.Eval layer)) plan.spec.streams (AreGathered old spans new spans') (get_or duties k 0) (drop (k + 1) duties)
+    gathered_duty lt =
+        walk_item (has_duty plan (duty.Eval layer)) plan.spec.streams (AreGathered old spans new spans') (gathered_past old spans new spans' long) duties k lt walk
 
     -- all of them
-    pub gathered_end : length turns ≤ k → IsGathered old spans new spans'
+    pub gathered_end : length duties ≤ k → IsGathered old spans new spans'
     gathered_end past =
         gathered_all old spans new spans'
-        (walk_done (has_turn plan (turn.Eval layer)) plan.spec.streams (AreGathered old spans new spans') (gathered_past old spans new spans' long) turns k past walk)
+        (walk_done (has_duty plan (duty.Eval layer)) plan.spec.streams (AreGathered old spans new spans') (gathered_past old spans new spans' long) duties k past walk)
 
 -- where instances of streams with parameters stand
 
@@ -180,10 +180,10 @@ is_second true b e = e
 is_second false b e = absurd (cc)
 
 -- one that is sought belongs to the layer, and has parameters
-pub seek_evals : (plan : Plan) (layer n : ℕ) (x : Stream) → has_turn plan (turn.Seek layer) n x ≡ true → has_turn plan (turn.Eval layer) n x ≡ true
+pub seek_evals : (plan : Plan) (layer n : ℕ) (x : Stream) → has_duty plan (duty.Seek layer) n x ≡ true → has_duty plan (duty.Eval layer) n x ≡ true
 seek_evals plan layer n x e = is_second (has_parameters x) (not (is_input x) && nat_eq (layer_of plan.layers (eval_node n)) layer) e
 
-pub seek_has : (plan : Plan) (layer n : ℕ) (x : Stream) → has_turn plan (turn.Seek layer) n x ≡ true → has_parameters x ≡ true
+pub seek_has : (plan : Plan) (layer n : ℕ) (x : Stream) → has_duty plan (duty.Seek layer) n x ≡ true → has_parameters x ≡ true
 seek_has plan layer n x e = is_first (has_parameters x) (not (is_input x) && nat_eq (layer_of plan.layers (eval_node n)) layer) e
 
 module _ (plan : Plan) (m : Moment) (spawn_results : List SpawnResult) (remembers : Memories) (s : Seen) (layer : ℕ) where
@@ -195,7 +195,7 @@ module _ (plan : Plan) (m : Moment) (spawn_results : List SpawnResult) (remember
   pub sought_first : (sought : List Whereabouts) → AreUnsought plan sought → AreNotedBelow sought 0
   sought_first sought h = (λ n x below. absurd (omega (arith, below)), h)
 
-  pub sought_past : (sought : List Whereabouts) (n : ℕ) (x : Stream) → slice_get plan.spec.streams n ≡ Some x → has_turn plan (turn.Seek layer) n x ≡ false
+  pub sought_past : (sought : List Whereabouts) (n : ℕ) (x : Stream) → slice_get plan.spec.streams n ≡ Some x → has_duty plan (duty.Seek layer) n x ≡ false
       → AreNotedBelow sought n → AreNotedBelow sought (n + 1)
   sought_past sought n x at none h = (by (has_parameters x) refl, h.1)
     where
@@ -205,20 +205,20 @@ module _ (plan : Plan) (m : Moment) (spawn_results : List SpawnResult) (remember
           sought_none plan m spawn_results remembers s layer n x sought at
           (never_runs plan m spawn_results layer n x (later_false (has_parameters x) (not (is_input x) && nat_eq (layer_of plan.layers (eval_node n)) layer) e none)) h.0
 
-  module _ (sought : List Whereabouts) (turns : List ℕ) (k : ℕ) (walk : IsWalk (has_turn plan (turn.Seek layer)) plan.spec.streams (AreNotedBelow sought) (drop k turns)) where
+  module _ (sought : List Whereabouts) (duties : List ℕ) (k : ℕ) (walk : IsWalk (has_duty plan (duty.Seek layer)) plan.spec.streams (AreNotedBelow sought) (drop k duties)) where
     -- the next of them
-    pub sought_turn : k < length turns → IsTurn (has_turn plan (turn.Seek layer)) plan.spec.streams (AreNotedBelow sought) (get_or turns k 0) (drop (k + 1) turns)
-    sought_turn lt = walk_item (has_turn plan (turn.Seek layer)) plan.spec.streams (AreNotedBelow sought) (sought_past sought) turns k lt walk
+    pub sought_duty : k < length duties → IsDuty (has_duty plan (duty.Seek layer)) plan.spec.streams (AreNotedBelow sought) (get_or duties k 0) (drop (k + 1) duties)
+    sought_duty lt = walk_item (has_duty plan (duty.Seek layer)) plan.spec.streams (AreNotedBelow sought) (sought_past sought) duties k lt walk
 
     -- all of them
-    pub sought_end : length turns ≤ k → AreNotedBelow sought (length plan.spec.streams)
-    sought_end past = walk_done (has_turn plan (turn.Seek layer)) plan.spec.streams (AreNotedBelow sought) (sought_past sought) turns k past walk
+    pub sought_end : length duties ≤ k → AreNotedBelow sought (length plan.spec.streams)
+    sought_end past = walk_done (has_duty plan (duty.Seek layer)) plan.spec.streams (AreNotedBelow sought) (sought_past sought) duties k past walk
 
 -- spawn clauses
 
 module _ (plan : Plan) (accepted : IsAccepted plan) (m : Moment) (layer : ℕ) (spawn_results spawn_results' : List SpawnResult) (remembers : Memories) (s : Seen) (remembers' : Memories) (s' : Seen)
     (long : length spawn_results' ≡ length plan.spec.streams) where
-  pub spawned_past : (n : ℕ) (x : Stream) → slice_get plan.spec.streams n ≡ Some x → has_turn plan (turn.Spawn layer) n x ≡ false
+  pub spawned_past : (n : ℕ) (x : Stream) → slice_get plan.spec.streams n ≡ Some x → has_duty plan (duty.Spawn layer) n x ≡ false
       → AreSpawned plan m layer n spawn_results spawn_results' remembers s remembers' s' → AreSpawned plan m layer (n + 1) spawn_results spawn_results' remembers s remembers' s'
   spawned_past n x at none h =
       let k : SpawnResult = get_or spawn_results' n spawn_result.Fine in
@@ -234,33 +234,33 @@ module _ (plan : Plan) (accepted : IsAccepted plan) (m : Moment) (layer : ℕ) (
       by k true false e f g = other_layer_next plan accepted m layer n x at k remembers' s' h.at (not_equal (layer_of plan.layers (spawn_node n)) layer f)
       by k true true e f g = absurd (not_both (has_clause x.spawn) (nat_eq (layer_of plan.layers (spawn_node n)) layer) e f g)
 
-  module _ (turns : List ℕ) (k : ℕ) (walk : IsWalk (has_turn plan (turn.Spawn layer)) plan.spec.streams (λ n. AreSpawned plan m layer n spawn_results spawn_results' remembers s remembers' s') (drop k turns)) where
+  module _ (duties : List ℕ) (k : ℕ) (walk : IsWalk (has_duty plan (duty.Spawn layer)) plan.spec.streams (λ n. AreSpawned plan m layer n spawn_results spawn_results' remembers s remembers' s') (drop k duties)) where
     -- the next of them
-    pub spawned_turn : k < length turns
-        → IsTurn (has_turn plan (turn.Spawn layer)) plan.spec.streams (λ n. AreSpawned plan m layer n spawn_results spawn_results' remembers s remembers' s') (get_or turns k 0) (drop (k + 1) turns)
-    spawned_turn lt = walk_item (has_turn plan (turn.Spawn layer)) plan.spec.streams (λ n. AreSpawned plan m layer n spawn_results spawn_results' remembers s remembers' s') spawned_past turns k lt walk
+    pub spawned_duty : k < length duties
+        → IsDuty (has_duty plan (duty.Spawn layer)) plan.spec.streams (λ n. AreSpawned plan m layer n spawn_results spawn_results' remembers s remembers' s') (get_or duties k 0) (drop (k + 1) duties)
+    spawned_duty lt = walk_item (has_duty plan (duty.Spawn layer)) plan.spec.streams (λ n. AreSpawned plan m layer n spawn_results spawn_results' remembers s remembers' s') spawned_past duties k lt walk
 
     -- all of them
-    pub spawned_end : length turns ≤ k → AreSpawned plan m layer (length plan.spec.streams) spawn_results spawn_results' remembers s remembers' s'
-    spawned_end past = walk_done (has_turn plan (turn.Spawn layer)) plan.spec.streams (λ n. AreSpawned plan m layer n spawn_results spawn_results' remembers s remembers' s') spawned_past turns k past walk
+    pub spawned_end : length duties ≤ k → AreSpawned plan m layer (length plan.spec.streams) spawn_results spawn_results' remembers s remembers' s'
+    spawned_end past = walk_done (has_duty plan (duty.Spawn layer)) plan.spec.streams (λ n. AreSpawned plan m layer n spawn_results spawn_results' remembers s remembers' s') spawned_past duties k past walk
 
 -- inputs
 
 module _ (plan : Plan) (accepted : IsAccepted plan) (is_row : Bool) (inputs : List Outcome) (given : AreInputs is_row plan.spec.streams inputs) (k : ℕ)
     (remembers : Memories) (s : Seen) (remembers' : Memories) (s' : Seen) where
-  pub told_past : (n : ℕ) (x : Stream) → slice_get plan.spec.streams n ≡ Some x → has_turn plan turn.Input n x ≡ false
+  pub told_past : (n : ℕ) (x : Stream) → slice_get plan.spec.streams n ≡ Some x → has_duty plan duty.Input n x ≡ false
       → AreTold plan is_row inputs n k remembers s remembers' s' → AreTold plan is_row inputs (n + 1) k remembers s remembers' s'
   told_past n x at none h = none_told plan accepted is_row inputs given n k x at remembers s remembers' s' h none
 
-  module _ (turns : List ℕ) (i : ℕ) (walk : IsWalk (has_turn plan turn.Input) plan.spec.streams (λ n. AreTold plan is_row inputs n k remembers s remembers' s') (drop i turns)) where
+  module _ (duties : List ℕ) (i : ℕ) (walk : IsWalk (has_duty plan duty.Input) plan.spec.streams (λ n. AreTold plan is_row inputs n k remembers s remembers' s') (drop i duties)) where
     -- the next of them
-    pub told_turn : i < length turns
-        → IsTurn (has_turn plan turn.Input) plan.spec.streams (λ n. AreTold plan is_row inputs n k remembers s remembers' s') (get_or turns i 0) (drop (i + 1) turns)
-    told_turn lt = walk_item (has_turn plan turn.Input) plan.spec.streams (λ n. AreTold plan is_row inputs n k remembers s remembers' s') told_past turns i lt walk
+    pub told_duty : i < length duties
+        → IsDuty (has_duty plan duty.Input) plan.spec.streams (λ n. AreTold plan is_row inputs n k remembers s remembers' s') (get_or duties i 0) (drop (i + 1) duties)
+    told_duty lt = walk_item (has_duty plan duty.Input) plan.spec.streams (λ n. AreTold plan is_row inputs n k remembers s remembers' s') told_past duties i lt walk
 
     -- all of them
-    pub told_end : length turns ≤ i → AreTold plan is_row inputs (length plan.spec.streams) k remembers s remembers' s'
-    told_end past = walk_done (has_turn plan turn.Input) plan.spec.streams (λ n. AreTold plan is_row inputs n k remembers s remembers' s') told_past turns i past walk
+    pub told_end : length duties ≤ i → AreTold plan is_row inputs (length plan.spec.streams) k remembers s remembers' s'
+    told_end past = walk_done (has_duty plan duty.Input) plan.spec.streams (λ n. AreTold plan is_row inputs n k remembers s remembers' s') told_past duties i past walk
 
 -- values that may have lines
 
@@ -278,7 +278,7 @@ module _ (plan : Plan) (show : Show) (s : Seen) (tasks : List Task) (results : L
   }
 
   module _ (long : length spans ≡ length plan.spec.streams) where
-    pub collected_past : (verdicts : Vec Verdict) (n : ℕ) (x : Stream) → slice_get plan.spec.streams n ≡ Some x → has_turn plan (turn.Shown show) n x ≡ false
+    pub collected_past : (verdicts : Vec Verdict) (n : ℕ) (x : Stream) → slice_get plan.spec.streams n ≡ Some x → has_duty plan (duty.Shown show) n x ≡ false
         → AreCollected verdicts n → AreCollected verdicts (n + 1)
     collected_past verdicts n x at none h =
         let p : Span = get_or spans n no_span in
@@ -291,12 +291,12 @@ module _ (plan : Plan) (show : Show) (s : Seen) (tasks : List Task) (results : L
         }
 
     -- the values of one more stream that may have some
-    pub collected_next : (verdicts verdicts' : Vec Verdict) (n : ℕ) (x : Stream) (p : Span) → slice_get plan.spec.streams n ≡ Some x → has_turn plan (turn.Shown show) n x ≡ true → p ≡ get_or spans n no_span
+    pub collected_next : (verdicts verdicts' : Vec Verdict) (n : ℕ) (x : Stream) (p : Span) → slice_get plan.spec.streams n ≡ Some x → has_duty plan (duty.Shown show) n x ≡ true → p ≡ get_or spans n no_span
         → verdicts'.items ≡ verdicts.items ++ verdicts_among s n (asked_in tasks (Some p)) (in_span results (Some p))
         → vec_len verdicts' + total (drop (n + 1) (rooms s)) ≤ total (rooms s)
         → AreCollected verdicts n → AreCollected verdicts' (n + 1)
-    collected_next verdicts verdicts' n x p at turns same e count h =
-        let shown : is_hidden show x ≡ false = not-true (is_hidden show x) turns in
+    collected_next verdicts verdicts' n x p at duties same e count h =
+        let shown : is_hidden show x ≡ false = not-true (is_hidden show x) duties in
         let vs : List Verdict = verdicts_among s n (asked_in tasks (Some p)) (in_span results (Some p)) in
         record {
           items = streams_step show s tasks results plan.spec.streams spans n verdicts.items h.items x no_span _ _ verdicts'.items at (omega (arith, long, slice_get_within plan.spec.streams n x at))
@@ -305,11 +305,11 @@ module _ (plan : Plan) (show : Show) (s : Seen) (tasks : List Task) (results : L
           count = count;
         }
 
-    module _ (verdicts : Vec Verdict) (turns : List ℕ) (k : ℕ) (walk : IsWalk (has_turn plan (turn.Shown show)) plan.spec.streams (AreCollected verdicts) (drop k turns)) where
+    module _ (verdicts : Vec Verdict) (duties : List ℕ) (k : ℕ) (walk : IsWalk (has_duty plan (duty.Shown show)) plan.spec.streams (AreCollected verdicts) (drop k duties)) where
       -- the next of them
-      pub collected_turn : k < length turns → IsTurn (has_turn plan (turn.Shown show)) plan.spec.streams (AreCollected verdicts) (get_or turns k 0) (drop (k + 1) turns)
-      collected_turn lt = walk_item (has_turn plan (turn.Shown show)) plan.spec.streams (AreCollected verdicts) (collected_past verdicts) turns k lt walk
+      pub collected_duty : k < length duties → IsDuty (has_duty plan (duty.Shown show)) plan.spec.streams (AreCollected verdicts) (get_or duties k 0) (drop (k + 1) duties)
+      collected_duty lt = walk_item (has_duty plan (duty.Shown show)) plan.spec.streams (AreCollected verdicts) (collected_past verdicts) duties k lt walk
 
       -- all of them
-      pub collected_end : length turns ≤ k → AreCollected verdicts (length plan.spec.streams)
-      collected_end past = walk_done (has_turn plan (turn.Shown show)) plan.spec.streams (AreCollected verdicts) (collected_past verdicts) turns k past walk
+      pub collected_end : length duties ≤ k → AreCollected verdicts (length plan.spec.streams)
+      collected_end past = walk_done (has_duty plan (duty.Shown show)) plan.spec.streams (AreCollected verdicts) (collected_past verdicts) duties k past walk

@@ -10,7 +10,7 @@ use Rattle.lola_value.specs.Answer.{Answer, Missing}
 use Rattle.lola_value.specs.Kinds.{are_of_kinds, is_outcome_of}
 use Rattle.lola_value.specs.Naming.{read_params, the_values}
 use Rattle.lola_model.specs.Content.{Content}
-use Rattle.lola_model.specs.Model.{clause_answer, eval_outcome, eval_pacing}
+use Rattle.lola_model.specs.Model.{clause_answer, eval_outcome, eval_pacing, filled_kind}
 use Rattle.lola_model.specs.Store.{Layout, Memories, Seen, SeenInstance, instances_seen, kind_in, layout_of, parameters_of, spawns_in}
 use Rattle.lola_model.specs.declared.pacing.ClausePacings.{ClausePacings}
 use Rattle.lola_model.specs.declared.pacing.Pacing.{Pacing}
@@ -34,10 +34,10 @@ params_are (Some x) p m = m
 pub may_ask : (plan : Plan) (s : Seen) (t : Task) (x : IsActiveTask plan s t) (stream : Stream) (clause : Clause) (p : Params) → s.layout ≡ layout_of plan
     → slice_get plan.spec.streams t.stream ≡ Some stream → stream.eval ≡ Some clause → p ≡ params_given s t.stream t.index
     → (IsTrue (spawns_in (slice_get s.layout.streams t.stream)) → IsTrue (are_of_kinds (parameters_of (slice_get s.layout.streams t.stream)) (the_values p)))
-    → IsClauseAskable s p plan.spec.texts (unwrap_or stream.kind kind.Int64 ∷ []) clause
+    → IsClauseAskable s p plan.spec.texts (filled_kind stream ∷ []) clause
 may_ask plan s t x stream clause p layout stream_is clause_is params_is of_kinds =
-    subst (λ (k : Clause). IsClauseAskable s p plan.spec.texts (unwrap_or stream.kind kind.Int64 ∷ []) k) same_clause
-    (subst (λ (y : Stream). IsClauseAskable s p plan.spec.texts (unwrap_or y.kind kind.Int64 ∷ []) x.clause) same_stream
+    subst (λ (k : Clause). IsClauseAskable s p plan.spec.texts (filled_kind stream ∷ []) k) same_clause
+    (subst (λ (y : Stream). IsClauseAskable s p plan.spec.texts (filled_kind y ∷ []) x.clause) same_stream
     (subst (λ (q : Params). IsClauseAskable s q plan.spec.texts (unwrap_or x.stream.kind kind.Int64 ∷ []) x.clause) (sym params_is)
     (x.asks (λ spawns. subst (λ (q : Params). IsTrue (are_of_kinds x.stream.parameters (the_values q))) params_is
     (subst (λ (ks : List Kind). IsTrue (are_of_kinds ks (the_values p))) laid_out (of_kinds spawns))))))
@@ -54,7 +54,7 @@ may_ask plan s t x stream clause p layout stream_is clause_is params_is of_kinds
 -- what the eval clause of the stream comes to is the outcome of a task for which it is active
 pub is_result : (plan : Plan) (remembers : Memories) (s : Seen) (t : Task) (stream : Stream) (clause : Clause) (p : Params) (r : Outcome) → s.layout ≡ layout_of plan
     → slice_get plan.spec.streams t.stream ≡ Some stream → stream.eval ≡ Some clause → p ≡ params_given s t.stream t.index
-    → is_outcome_of (unwrap_or stream.kind kind.Int64) r ≡ true
+    → is_outcome_of (filled_kind stream) r ≡ true
     → IsAnswer plan remembers s p (λ c q. clause_answer plan.spec c q clause) r → IsOutcome plan true remembers s t r
 is_result plan remembers s t stream clause p r layout stream_is clause_is params_is of_kind answer =
     record {
@@ -111,7 +111,7 @@ module _ (plan : Plan) (m : Moment) (s : Seen) where
 
   module _ (t : Task) (lives : t.index < length (instances_seen s t.stream)) where
     by_clause : (stream : Stream) (o : Option Clause) → slice_get plan.spec.streams t.stream ≡ Some stream → stream.eval ≡ o
-        → IsEvalReady s (spawns_in (slice_get s.layout.streams t.stream)) (params_given s t.stream t.index) plan.spec.texts stream.parameters (unwrap_or stream.kind kind.Int64) o → IsActiveTask plan s t
+        → IsEvalReady s (spawns_in (slice_get s.layout.streams t.stream)) (params_given s t.stream t.index) plan.spec.texts stream.parameters (filled_kind stream) o → IsActiveTask plan s t
     by_clause stream None e f r = absurd r
     by_clause stream (Some clause) e f r = record { stream = stream; stream_is = e; clause = clause; clause_is = f; lives = lives; asks = r }
 

@@ -2,7 +2,7 @@
 use Rattle.std.proofs.Common.{◌≡◌, refl, ap, ◌∙◌, ℕ, zero, suc, List, [], ◌∷◌, Option, Some, None, true, false, not, drop, length, slice_get, subst, unwrap_or, sym, get_or, ◌+◌, ◌<◌}
 use Rattle.std.proofs.lemmas.Bool.{and_parts}
 use Rattle.std.proofs.lemmas.Option.{slice_get_read}
-use Rattle.lola_value.specs.declared.value.Kind.TheVariants as kind
+use Rattle.lola_model.specs.Model.{filled_kind}
 use Rattle.lola_model.specs.Acceptance.{IsAccepted}
 use Rattle.lola_model.specs.Pacings.{pacings_from}
 use Rattle.lola_model.specs.Store.{kind_in, layouts_from, never_spawns, parameters_of, spawns_in}
@@ -18,9 +18,9 @@ layouts_length [] kept ps = refl
 layouts_length (s ∷ ss) kept ps = ap suc (layouts_length ss (drop 1 kept) (drop 1 ps))
 
 -- the kind of its values
-pub kind_there : (ss : List Stream) (kept : List ℕ) (ps : List ClausePacings) (n : ℕ) (s : Stream) → slice_get ss n ≡ Some s → kind_in (slice_get (layouts_from ss kept ps) n) ≡ unwrap_or s.kind kind.Int64
+pub kind_there : (ss : List Stream) (kept : List ℕ) (ps : List ClausePacings) (n : ℕ) (s : Stream) → slice_get ss n ≡ Some s → kind_in (slice_get (layouts_from ss kept ps) n) ≡ filled_kind s
 kind_there [] kept ps n s e = absurd (cc)
-kind_there (r ∷ ss) kept ps zero s e = let p : r ≡ s = cc in ap (λ (x : Stream). unwrap_or x.kind kind.Int64) p
+kind_there (r ∷ ss) kept ps zero s e = let p : r ≡ s = cc in ap (λ (x : Stream). filled_kind x) p
 kind_there (r ∷ ss) kept ps (suc n) s e = kind_there ss (drop 1 kept) (drop 1 ps) n s e
 
 -- the kinds of its parameters
@@ -49,9 +49,9 @@ never_there (r ∷ ss) kept ps zero s h e =
     subst (λ (x : Stream). x.spawn ≡ None) p (no_clause r.spawn (and_parts _ _ h).0)
 never_there (r ∷ ss) kept ps (suc n) s h e = never_there ss (drop 1 kept) (drop 1 ps) n s (and_parts _ _ h).1 e
 
--- the stream of a turn of a loop
-pub stream_of_turn : (xs ss : List Stream) (n : ℕ) (s : Stream) → xs ≡ ss → n < length xs → s ≡ get_or xs n s → slice_get ss n ≡ Some s
-stream_of_turn xs ss n s e lt is = ap (λ ys. slice_get ys n) (sym e) ∙ slice_get_read xs (length xs) n s refl lt is
+-- the stream of a duty of a loop
+pub stream_of_duty : (xs ss : List Stream) (n : ℕ) (s : Stream) → xs ≡ ss → n < length xs → s ≡ get_or xs n s → slice_get ss n ≡ Some s
+stream_of_duty xs ss n s e lt is = ap (λ ys. slice_get ys n) (sym e) ∙ slice_get_read xs (length xs) n s refl lt is
 
 -- as many pacings as streams
 paced_length : (spawns evals closes : List Finding) (n : ℕ) (ss : List Stream) → length (pacings_from spawns evals closes n ss) ≡ length ss

@@ -5,7 +5,7 @@ pub mod Activities
 pub mod Births
 pub mod Layouts
 pub mod Shown
-pub mod SpawnTurns
+pub mod SpawnDuties
 pub mod Telling
 pub mod Undue
 pub mod Places
@@ -35,6 +35,6 @@ pub mod Single
 pub mod Standing
 pub mod Silenced
 pub mod Valued
-pub mod Turns
+pub mod Duties
 pub mod Between
 pub mod Faultless

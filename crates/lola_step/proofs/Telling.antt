@@ -3,7 +3,6 @@ use Rattle.std.proofs.Common.{◌≡◌, refl, ap, ◌∙◌, sym, subst, add-on
 use Rattle.std.proofs.lemmas.Bool.{le-ltb, lt-ltb, cases_eq}
 use Rattle.lola_value.specs.declared.text.Field.{Field}
 use Rattle.lola_value.specs.declared.value.Kind.{Kind}
-use Rattle.lola_value.specs.declared.value.Kind.TheVariants as kind
 use Rattle.lola_value.specs.declared.value.Outcome.{Outcome}
 use Rattle.lola_value.specs.declared.value.Outcome.TheVariants as outcome
 use Rattle.lola_value.specs.Answer.{Answer}
@@ -11,7 +10,7 @@ use Rattle.lola_value.specs.Naming.{Naming, IsHeldIn, read_outcome}
 use Rattle.lola_model.specs.Acceptance.{IsAccepted}
 use Rattle.lola_model.specs.Content.{Content}
 use Rattle.lola_model.specs.Graph.{eval_node, layer_of}
-use Rattle.lola_model.specs.Model.{field_outcome, input_outcome, is_input}
+use Rattle.lola_model.specs.Model.{field_outcome, input_outcome, is_input, filled_kind}
 use Rattle.lola_model.specs.Store.{Memories, Seen, SeenInstance, SeenStream, Stands, after_outcome, changed_at, instances_of, instances_seen, is_silent, kind_in, now_at, now_seen, start_seen, told_at}
 use Rattle.lola_model.specs.declared.plan.Plan.{Plan}
 use Rattle.lola_model.specs.declared.spec.Stream.{Stream}
@@ -102,7 +101,7 @@ before_few (r ∷ ss) (suc n) = let h = before_few ss n in let k : (if is_input 
 -- the outcome of an input is of its kind
 
 abbrev Fits : Stream → List Outcome → ℕ → Type 0
-Fits s os i = is_input_outcome (unwrap_or s.kind kind.Int64) (input_outcome_at os i) ≡ true
+Fits s os i = is_input_outcome (filled_kind s) (input_outcome_at os i) ≡ true
 
 first_fits : (r : Stream) (ss : List Stream) (b : Bool) (os : List Outcome) → b ≡ true → BeginsWith b r (AreOfInputs ss) os → Fits r os 0
 first_fits r ss true [] q h = absurd h
@@ -116,15 +115,15 @@ others_fit r ss n s true (o ∷ os) f h = let a : 1 + inputs_before ss n ≡ suc
 others_fit r ss n s false os f h = let a : 0 + inputs_before ss n ≡ inputs_before ss n = omega arith in subst (Fits s os) (sym a) (f os h)
 
 pub kinds_fit : (ss : List Stream) (os : List Outcome) (n : ℕ) (s : Stream) → AreOfInputs ss os → slice_get ss n ≡ Some s → is_input s ≡ true
-    → is_input_outcome (unwrap_or s.kind kind.Int64) (input_outcome_at os (inputs_before ss n)) ≡ true
+    → is_input_outcome (filled_kind s) (input_outcome_at os (inputs_before ss n)) ≡ true
 kinds_fit [] os n s h e i = absurd (cc)
-kinds_fit (r ∷ ss) os zero s h e i = let p : r ≡ s = cc in subst (λ (x : Stream). is_input_outcome (unwrap_or x.kind kind.Int64) (input_outcome_at os 0) ≡ true) p (first_fits r ss (is_input r) os (ap is_input p ∙ i) h)
+kinds_fit (r ∷ ss) os zero s h e i = let p : r ≡ s = cc in subst (λ (x : Stream). is_input_outcome (filled_kind x) (input_outcome_at os 0) ≡ true) p (first_fits r ss (is_input r) os (ap is_input p ∙ i) h)
 kinds_fit (r ∷ ss) os (suc n) s h e i = others_fit r ss n s (is_input r) os (λ qs g. kinds_fit ss qs n s g e i) h
 
 pub kind_fits : (is_row : Bool) (ss : List Stream) (os : List Outcome) (n : ℕ) (s : Stream) → AreInputs is_row ss os → slice_get ss n ≡ Some s → is_input s ≡ true
-    → is_input_outcome (unwrap_or s.kind kind.Int64) (input_outcome_at os (inputs_before ss n)) ≡ true
+    → is_input_outcome (filled_kind s) (input_outcome_at os (inputs_before ss n)) ≡ true
 kind_fits true ss os n s h e i = kinds_fit ss os n s h e i
-kind_fits false ss os n s h e i = ap (λ xs. is_input_outcome (unwrap_or s.kind kind.Int64) (input_outcome_at xs (inputs_before ss n))) h
+kind_fits false ss os n s h e i = ap (λ xs. is_input_outcome (filled_kind s) (input_outcome_at xs (inputs_before ss n))) h
 
 -- and reads as its field
 

@@ -106,7 +106,7 @@ tasks_are n (t ∷ ts) (r ∷ rs) k e h =
     h (suc i) (omega arith) ∙ ap (λ j. Some (record { stream = n; index = j })) (let s : k + suc i ≡ k + 1 + i = omega arith in s)) in
     λ i. head i ∷ rest i
 
--- one of them has its turn
+-- one of them has its duty
 giving_is : (s : Seen) (n i : ℕ) (r : Outcome) → after_giving s (record { stream = n; index = i }) r ≡ after_given s n i r
 giving_is s n i (outcome.Value v) = refl
 giving_is s n i outcome.Missing = given_missing s n i

@@ -44,7 +44,7 @@ pub record CanGive (s : Seen) (t : Task) (r : Outcome) : Type 0 where
   pub silent : IsTrue (is_silent (now_seen s t.stream t.index))
   pub kind : IsTrue (is_outcome_of (kind_in (slice_get s.layout.streams t.stream)) r)
 
--- each is such when its turn comes
+-- each is such when its duty comes
 abbrev pub CanGiveAll : Seen → List Task → List Outcome → Type 0
 CanGiveAll s [] [] = Unit {0}
 CanGiveAll s (t ∷ ts) (r ∷ rs) = CanGive s t r × CanGiveAll (after_giving s t r) ts rs

@@ -1,5 +1,5 @@
 -- That a clause may be asked is said in at most one way.
-use Rattle.std.specs.Prelude.{ℕ, ◌≡◌, List, [], ◌∷◌, Option, Some, None, Bool, IsTrue, unwrap_or, drop}
+use Rattle.std.specs.Prelude.{ℕ, ◌≡◌, List, [], ◌∷◌, Option, Some, None, Bool, IsTrue, drop}
 use Rattle.std.specs.Coded.{Coded, Coded-set, coded_ℕ}
 use Rattle.std.proofs.Props.{props}
 use Rattle.std.proofs.lemmas.Bool.{eq-eqb}
@@ -8,6 +8,7 @@ use Rattle.lola_value.specs.declared.value.Kind.TheVariants as kind
 use Rattle.lola_value.specs.declared.value.Params.{Params}
 use Rattle.lola_value.specs.Kinds.{kind_number}
 use Rattle.lola_value.specs.Naming.{Naming}
+use Rattle.lola_model.specs.Model.{filled_kind}
 use Rattle.lola_model.specs.Store.{Seen}
 use Rattle.lola_model.specs.Typing.{can_ask, noted}
 use Rattle.lola_model.specs.declared.expr.Expr.{Expr}
@@ -59,7 +60,7 @@ module _ (s : Seen) (p : Params) (texts : List (List ℕ)) where
   -- a stream
   stream-prop : (spawns : Bool) (o : Option Stream) → IsProp (IsReady s spawns p texts o)
   stream-prop spawns None = hlevel props
-  stream-prop spawns (Some stream) = eval-prop spawns stream.parameters (unwrap_or stream.kind kind.Int64) stream.eval
+  stream-prop spawns (Some stream) = eval-prop spawns stream.parameters (filled_kind stream) stream.eval
 
 -- of each task
 pub AreReady-prop : (plan : Plan) (m : Moment) (s : Seen) (tasks : List Task) → IsProp (AreReady plan m s tasks)

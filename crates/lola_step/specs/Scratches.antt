@@ -30,7 +30,7 @@ pub record HasRoom (n : Scratch) (room : ℕ) : Type 0 where
 abbrev pub least_room : Plan → ℕ
 least_room plan = 2 * length plan.spec.streams
 
--- notes of a plan: a spawn result, a span and whereabouts for each stream, where those of streams without parameters are never known, more layers than that of any node, the turns of its streams in each of
+-- notes of a plan: a spawn result, a span and whereabouts for each stream, where those of streams without parameters are never known, more layers than that of any node, the duties of its streams in each of
 -- them, the code of its specification, and at least the least room
 pub record IsScratchOf (plan : Plan) (n : Scratch) : Type 0 where
   pub spawn_results : length n.spawn_results.items ≡ length plan.spec.streams

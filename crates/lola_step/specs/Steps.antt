@@ -1,13 +1,12 @@
 -- What a step of a run gives.
-use Rattle.std.specs.Prelude.{ℕ, ◌≡◌, ◌+◌, List, [], ◌∷◌, Option, Some, None, Bool, true, false, map, unwrap_or, IsTrue}
+use Rattle.std.specs.Prelude.{ℕ, ◌≡◌, ◌+◌, List, [], ◌∷◌, Option, Some, None, Bool, true, false, map, IsTrue}
 use Rattle.lola_value.specs.declared.text.Field.{Field}
 use Rattle.lola_value.specs.declared.value.Kind.{Kind}
-use Rattle.lola_value.specs.declared.value.Kind.TheVariants as kind
 use Rattle.lola_value.specs.declared.value.Outcome.{Outcome}
 use Rattle.lola_value.specs.declared.value.Outcome.TheVariants as outcome
 use Rattle.lola_value.specs.Kinds.{is_of_kind}
 use Rattle.lola_value.specs.Naming.{Naming}
-use Rattle.lola_model.specs.Model.{answered, has_fault, is_input}
+use Rattle.lola_model.specs.Model.{answered, has_fault, is_input, filled_kind}
 use Rattle.lola_model.specs.Runs.{content_after}
 use Rattle.lola_model.specs.Standing.{StandsBetween, content_left, IsFaulty}
 use Rattle.lola_model.specs.Store.{Memories, Running, Seen, Stands, start_seen}
@@ -34,7 +33,7 @@ is_input_outcome k _ = false
 abbrev pub BeginsWith : Bool → Stream → (List Outcome → Type 0) → List Outcome → Type 0
 BeginsWith false s others os = others os
 BeginsWith true s others [] = ⊥
-BeginsWith true s others (o ∷ os) = IsTrue (is_input_outcome (unwrap_or s.kind kind.Int64) o) × others os
+BeginsWith true s others (o ∷ os) = IsTrue (is_input_outcome (filled_kind s) o) × others os
 
 -- one for each input of these streams, in their order
 abbrev pub AreOfInputs : List Stream → List Outcome → Type 0

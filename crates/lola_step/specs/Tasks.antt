@@ -1,12 +1,11 @@
 -- The tasks of a layer.
-use Rattle.std.specs.Prelude.{ℕ, ◌≡◌, ◌<◌, List, [], ◌∷◌, Option, Some, None, Bool, true, if◌then◌else◌, length, slice_get, unwrap_or, IsTrue}
+use Rattle.std.specs.Prelude.{ℕ, ◌≡◌, ◌<◌, List, [], ◌∷◌, Option, Some, None, Bool, true, if◌then◌else◌, length, slice_get, IsTrue}
 use Rattle.lola_value.specs.declared.value.Kind.{Kind}
-use Rattle.lola_value.specs.declared.value.Kind.TheVariants as kind
 use Rattle.lola_value.specs.declared.value.Params.{Params}
 use Rattle.lola_value.specs.declared.value.Outcome.{Outcome}
 use Rattle.lola_value.specs.Kinds.{are_of_kinds, is_outcome_of}
 use Rattle.lola_value.specs.Naming.{the_values}
-use Rattle.lola_model.specs.Model.{eval_pacing}
+use Rattle.lola_model.specs.Model.{eval_pacing, filled_kind}
 use Rattle.lola_model.specs.NextStep.{is_local}
 use Rattle.lola_model.specs.Store.{Memories, Seen, SeenInstance, instances_seen, kind_in, no_params, spawns_in}
 use Rattle.lola_model.specs.declared.pacing.Pacing.{Pacing}
@@ -40,7 +39,7 @@ pub record IsActiveTask (plan : Plan) (s : Seen) (t : Task) : Type 0 where
   pub clause_is : stream.eval ≡ Some clause
   pub lives : t.index < length (instances_seen s t.stream)
   pub asks : (IsTrue (spawns_in (slice_get s.layout.streams t.stream)) → IsTrue (are_of_kinds stream.parameters (the_values (params_given s t.stream t.index))))
-      → IsClauseAskable s (params_given s t.stream t.index) plan.spec.texts (unwrap_or stream.kind kind.Int64 ∷ []) clause
+      → IsClauseAskable s (params_given s t.stream t.index) plan.spec.texts (filled_kind stream ∷ []) clause
 
 -- the pacing of the eval clause of a task's stream
 abbrev pub pacing_of_task : Plan → Task → Option Pacing
@@ -70,7 +69,7 @@ IsEvalReady s spawns p texts kinds want (Some clause) = (IsTrue spawns → IsTru
 -- of a stream
 abbrev pub IsReady : Seen → Bool → Params → List (List ℕ) → Option Stream → Type 0
 IsReady s spawns p texts None = ⊥
-IsReady s spawns p texts (Some stream) = IsEvalReady s spawns p texts stream.parameters (unwrap_or stream.kind kind.Int64) stream.eval
+IsReady s spawns p texts (Some stream) = IsEvalReady s spawns p texts stream.parameters (filled_kind stream) stream.eval
 
 -- of each task
 abbrev pub AreReady : Plan → Moment → Seen → List Task → Type 0

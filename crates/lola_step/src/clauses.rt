@@ -1,12 +1,11 @@
 //! What clauses come to.
 
-ghost use Rattle.std.specs.Prelude.{◌≡◌, ◌≤◌, List, ℕ, [], ◌∷◌, Ok, Err, Some, IfOk, IfErr, IsTrue, unwrap_or, length, map};
+ghost use Rattle.std.specs.Prelude.{◌≡◌, ◌≤◌, List, ℕ, [], ◌∷◌, Ok, Err, Some, IfOk, IfErr, IsTrue, length, map};
 ghost use Rattle.lola_value.specs.Kinds.{are_of_kinds, is_outcome_of, is_well_formed};
 ghost use Rattle.lola_value.specs.Naming.{Naming, AreHeld, IsHeldIn, read_outcome, read_params, the_values};
 ghost use Rattle.lola_value.specs.declared.value.Kind.{Kind};
-ghost use Rattle.lola_value.specs.declared.value.Kind.TheVariants as kind;
 ghost use Rattle.lola_model.specs.Content.{Content};
-ghost use Rattle.lola_model.specs.Model.{clause_answer, first_answer, named_params, when_answer};
+ghost use Rattle.lola_model.specs.Model.{clause_answer, first_answer, named_params, when_answer, filled_kind};
 ghost use Rattle.lola_model.specs.Store.{IsRunning, no_params};
 ghost use Rattle.lola_model.specs.Typing.{can_ask, noted};
 ghost use Rattle.lola_expr_code.specs.Plans.{IsCodeOf, IsEvalCode, first_of};
@@ -16,7 +15,7 @@ ghost use Rattle.lola_step.specs.Clauses.{IsAnswer, IsSpawning, IsWellNamed, Are
 
 use lola_expr::evaluation::eval;
 use lola_expr_code::machine::run;
-use lola_expr_code::plan::{Code, EvalCode};
+use lola_expr_code::plan::{EvalCode, ExprCode};
 use lola_model::expr::Expr;
 use lola_model::plan::Plan;
 use lola_model::spec::{Clause, Stream};
@@ -72,7 +71,7 @@ fn condition<S: StreamStore>(
 /// The same of an expression with this code, which is run where there is any.
 fn coded_outcome<S: StreamStore>(
     expr: &Expr,
-    code: &Option<Code>,
+    code: &Option<ExprCode>,
     params: &Params,
     store: &S,
 ) -> Brief
@@ -93,7 +92,7 @@ fn coded_outcome<S: StreamStore>(
 fn coded_condition<S: StreamStore>(
     plan: &Plan,
     when: &Option<Expr>,
-    code: &Option<Code>,
+    code: &Option<ExprCode>,
     params: &Params,
     store: &S,
 ) -> Brief
@@ -114,15 +113,15 @@ fn first_outcome<S: StreamStore>(
     plan: &Plan,
     stream: &Stream,
     exprs: &[Expr],
-    code: &Option<Code>,
+    code: &Option<ExprCode>,
     params: &Params,
     store: &S,
 ) -> Brief
     requires code { IsCodeOf (first_of exprs.now) code.now }
     requires running { IsRunning (S.seen store.now) }
     requires count { params.now.count ≤ 4 }
-    requires asks { AreAskable (S.seen store.now) params.now plan.now.spec.texts (unwrap_or stream.now.kind kind.Int64 ∷ []) exprs.now }
-    ensures kind { IsTrue (is_outcome_of (unwrap_or stream.now.kind kind.Int64) result) }
+    requires asks { AreAskable (S.seen store.now) params.now plan.now.spec.texts (filled_kind stream.now ∷ []) exprs.now }
+    ensures kind { IsTrue (is_outcome_of (filled_kind stream.now) result) }
     ensures answer { IsAnswer plan.now (S.remembers store.now) (S.seen store.now) params.now (λ c p. first_answer plan.now.spec c p exprs.now) result }
 {
     match exprs.first() {
@@ -144,8 +143,8 @@ pub(crate) fn instance_outcome<S: StreamStore>(
     requires code { IsEvalCode (Some clause.now) code.now }
     requires running { IsRunning (S.seen store.now) }
     requires count { params.now.count ≤ 4 }
-    requires asks { IsClauseAskable (S.seen store.now) params.now plan.now.spec.texts (unwrap_or stream.now.kind kind.Int64 ∷ []) clause.now }
-    ensures kind { IsTrue (is_outcome_of (unwrap_or stream.now.kind kind.Int64) result) }
+    requires asks { IsClauseAskable (S.seen store.now) params.now plan.now.spec.texts (filled_kind stream.now ∷ []) clause.now }
+    ensures kind { IsTrue (is_outcome_of (filled_kind stream.now) result) }
     ensures answer { IsAnswer plan.now (S.remembers store.now) (S.seen store.now) params.now (λ c p. clause_answer plan.now.spec c p clause.now) result }
 {
     let tested = coded_condition(plan, &clause.when, &code.when, params, store);

@@ -19,11 +19,11 @@ ghost use Rattle.lola_step.specs.Moments.{IsListedIn, active_for_in, born_seen, 
 ghost use Rattle.lola_step.specs.Notes.{AreClosable, places_of};
 ghost use Rattle.lola_step.specs.Progress.{IsMomentOf, IsOf};
 ghost use Rattle.lola_model.specs.declared.store.Whereabouts.TheVariants as whereabouts;
-ghost use Rattle.lola_step.specs.Schedules.{turns_of};
+ghost use Rattle.lola_step.specs.Schedules.{duties_of};
 ghost use Rattle.lola_step.specs.Sought.{IsFalseElsewhere};
 ghost use Rattle.lola_step.specs.Rooms.{rooms, total};
 ghost use Rattle.lola_step.specs.Tasks.{params_seen};
-ghost use Rattle.lola_step.specs.declared.schedule.Turn.TheVariants as turn;
+ghost use Rattle.lola_step.specs.declared.schedule.Duty.TheVariants as duty;
 
 use crate::clauses::close_outcome;
 use crate::ends::with_fault;
@@ -277,13 +277,13 @@ fn find_in_stream<S: StreamStore>(
 /// which a condition has a fault, with the least kind. Those that have a close clause are told.
 pub(crate) fn find_closings<S: StreamStore>(
     plan: &Plan,
-    turns: &[u32],
+    duties: &[u32],
     moment: &Moment,
     store: &S,
     places: &mut Vec<u32>,
     closing: &mut Vec<Task>,
 ) -> Option<(u32, FaultKind)>
-    requires turns { turns.now ≡ turns_of plan.now turn.Close }
+    requires duties { duties.now ≡ duties_of plan.now duty.Close }
     requires accepted { IsAccepted plan.now }
     requires of { IsOf plan.now (S.seen store.now) }
     requires running { IsRunning (S.seen store.now) }
@@ -296,7 +296,7 @@ pub(crate) fn find_closings<S: StreamStore>(
     ensures places { vec_capacity places.new ≡ vec_capacity places.old }
     ensures capacity { vec_capacity closing.new ≡ vec_capacity closing.old }
 {
-    for number in turns {
+    for number in duties {
         let n = *number;
         let stream = stream_at(plan, n);
         if let Some(kind) = find_in_stream(plan, moment, stream, n, store, places, closing) {

@@ -11,9 +11,9 @@ ghost use Rattle.lola_step.specs.Found.{FitLayout, IsFaultless, add_fault, add_v
 ghost use Rattle.lola_step.specs.Notes.{AreOfStream, AreSpans, AreVerdicts, AreWithin, asked_in, in_span};
 ghost use Rattle.lola_step.specs.Progress.{IsOf};
 ghost use Rattle.lola_step.specs.Rooms.{rooms, total};
-ghost use Rattle.lola_step.specs.Schedules.{turns_of};
+ghost use Rattle.lola_step.specs.Schedules.{duties_of};
 ghost use Rattle.lola_step.specs.Tasks.{params_given};
-ghost use Rattle.lola_step.specs.declared.schedule.Turn.TheVariants as turn;
+ghost use Rattle.lola_step.specs.declared.schedule.Duty.TheVariants as duty;
 ghost use Rattle.lola_step.specs.declared.tasks.Task.{Task};
 
 use crate::schedule::{has_clause, stream_at};
@@ -306,7 +306,7 @@ fn add_asked<S: StreamStore>(
 /// The values of all streams that may have lines, by the streams' numbers and in the order of birth. Which streams these are is told.
 pub(crate) fn collect<S: StreamStore>(
     plan: &Plan,
-    turns: &[u32],
+    duties: &[u32],
     store: &S,
     _show: Show,
     spans: &[Span],
@@ -314,7 +314,7 @@ pub(crate) fn collect<S: StreamStore>(
     results: &[Brief],
     verdicts: &mut Vec<Verdict>,
 )
-    requires turns { turns.now ≡ turns_of plan.now (turn.Shown _show) }
+    requires duties { duties.now ≡ duties_of plan.now (duty.Shown _show) }
     requires accepted { IsAccepted plan.now }
     requires of { IsOf plan.now (S.seen store.now) }
     requires running { IsRunning (S.seen store.now) }
@@ -328,7 +328,7 @@ pub(crate) fn collect<S: StreamStore>(
     ensures capacity { vec_capacity verdicts.new ≡ vec_capacity verdicts.old }
 {
     let mut bare = bare_verdict();
-    for number in turns {
+    for number in duties {
         let stream = stream_at(plan, *number);
         let span = spans[*number as usize];
         add_asked(

@@ -22,10 +22,10 @@ ghost use Rattle.lola_step.specs.Notes.{is_fine as is_fine_spawn_result, layer_s
 ghost use Rattle.lola_step.specs.Progress.{GoesOn, IsAt, IsMomentOf, IsOf};
 ghost use Rattle.lola_step.specs.Rooms.{rooms, to_come, total};
 ghost use Rattle.lola_step.specs.Rates.{IsKnownAt};
-ghost use Rattle.lola_step.specs.Schedules.{has_turn, turns_of};
+ghost use Rattle.lola_step.specs.Schedules.{has_duty, duties_of};
 ghost use Rattle.lola_step.specs.Sought.{AreSought, AreUnsought, IsSilentElsewhere};
 ghost use Rattle.lola_step.specs.Tasks.{AreTasks};
-ghost use Rattle.lola_step.specs.declared.schedule.Turn.TheVariants as turn;
+ghost use Rattle.lola_step.specs.declared.schedule.Duty.TheVariants as duty;
 
 use crate::giving::give_shared;
 use crate::moment::{LastRate, Moment, may_be_active, may_be_active_now};
@@ -55,14 +55,14 @@ fn is_fine(spawn_result: SpawnResult) -> bool
     }
 }
 
-/// Whether a stream that has a turn in a layer runs in it: its clause may be active for some of its instances and its spawn clause did
+/// Whether a stream that has a duty in a layer runs in it: its clause may be active for some of its instances and its spawn clause did
 /// not fail.
 fn runs(plan: &Plan, moment: &Moment, spawn_results: &[SpawnResult], n: usize) -> bool
     requires pacings { n < length plan.now.pacings }
     requires spawn_results { n < length spawn_results.now }
     requires in_time { moment.now.time ≤ latest }
     requires order { moment.now.start ≤ moment.now.time }
-    ensures { (layer : ℕ) (stream : Stream) → has_turn plan.now (turn.Eval layer) n stream ≡ true → result ≡ runs_in plan.now moment.now spawn_results.now layer n stream }
+    ensures { (layer : ℕ) (stream : Stream) → has_duty plan.now (duty.Eval layer) n stream ≡ true → result ≡ runs_in plan.now moment.now spawn_results.now layer n stream }
 {
     may_be_active(moment, eval_pacing_at(plan.pacings.as_slice(), n)) && is_fine(spawn_results[n])
 }
@@ -81,7 +81,7 @@ fn runs_now(
     requires order { moment.now.start ≤ moment.now.time }
     requires known { IsKnownAt moment.now last.old }
     ensures known { IsKnownAt moment.now last.new }
-    ensures runs { (layer : ℕ) (stream : Stream) → has_turn plan.now (turn.Eval layer) n stream ≡ true → result ≡ runs_in plan.now moment.now spawn_results.now layer n stream }
+    ensures runs { (layer : ℕ) (stream : Stream) → has_duty plan.now (duty.Eval layer) n stream ≡ true → result ≡ runs_in plan.now moment.now spawn_results.now layer n stream }
 {
     may_be_active_now(moment, eval_pacing_at(plan.pacings.as_slice(), n), last)
         && is_fine(spawn_results[n])
@@ -99,7 +99,7 @@ fn seek_stream<S: StreamStore>(
     stream: &Stream,
 ) -> Whereabouts
     requires few { n ≤ 1024 }
-    requires turn { has_turn plan.now (turn.Eval layer) n stream.now ≡ true }
+    requires duty { has_duty plan.now (duty.Eval layer) n stream.now ≡ true }
     requires accepted { IsAccepted plan.now }
     requires at { IsAt plan.now (eval_stage (length plan.now.spec.streams) layer) (S.seen store.now) }
     requires moment { IsMomentOf moment.now (S.seen store.now) }
@@ -124,14 +124,14 @@ fn seek_stream<S: StreamStore>(
 /// streams that have parameters are told; of the others nothing is known.
 fn seek_layer<S: StreamStore>(
     plan: &Plan,
-    turns: &[u32],
+    duties: &[u32],
     moment: &Moment,
     store: &S,
     layer: u32,
     spawn_results: &[SpawnResult],
     sought: &mut [Whereabouts],
 )
-    requires turns { turns.now ≡ turns_of plan.now (turn.Seek layer) }
+    requires duties { duties.now ≡ duties_of plan.now (duty.Seek layer) }
     requires accepted { IsAccepted plan.now }
     requires at { IsAt plan.now (eval_stage (length plan.now.spec.streams) layer) (S.seen store.now) }
     requires moment { IsMomentOf moment.now (S.seen store.now) }
@@ -141,7 +141,7 @@ fn seek_layer<S: StreamStore>(
     ensures unsought { AreUnsought plan.now sought.new }
     ensures sought { AreSought plan.now moment.now spawn_results.now sought.new (S.remembers store.now) (S.seen store.now) layer }
 {
-    for number in turns {
+    for number in duties {
         let n = *number as usize;
         let stream = stream_at(plan, *number);
         sought[n] = seek_stream(plan, moment, store, layer, spawn_results, n, stream);
@@ -285,7 +285,7 @@ fn gather_stream<S: StreamStore>(
     last: &mut LastRate,
 )
     requires few { n ≤ 1024 }
-    requires turn { has_turn plan.now (turn.Eval layer) n stream.now ≡ true }
+    requires duty { has_duty plan.now (duty.Eval layer) n stream.now ≡ true }
     requires pacings { n < length plan.now.pacings }
     requires spawn_results { n < length spawn_results.now }
     requires in_time { moment.now.time ≤ latest }
@@ -325,10 +325,10 @@ fn gather_stream<S: StreamStore>(
 }
 
 /// Lists the tasks of a layer behind those of the layers before: for each stream that runs in it, by the streams' numbers, one for each
-/// instance that is asked in order of birth. Those that have a turn in it are told, and the rate that was asked about last in the step.
+/// instance that is asked in order of birth. Those that have a duty in it are told, and the rate that was asked about last in the step.
 fn gather<S: StreamStore>(
     plan: &Plan,
-    turns: &[u32],
+    duties: &[u32],
     moment: &Moment,
     store: &S,
     layer: u32,
@@ -339,7 +339,7 @@ fn gather<S: StreamStore>(
     spans: &mut [Span],
     last: &mut LastRate,
 )
-    requires turns { turns.now ≡ turns_of plan.now (turn.Eval layer) }
+    requires duties { duties.now ≡ duties_of plan.now (duty.Eval layer) }
     requires accepted { IsAccepted plan.now }
     requires of { IsOf plan.now (S.seen store.now) }
     requires moment { IsMomentOf moment.now (S.seen store.now) }
@@ -354,7 +354,7 @@ fn gather<S: StreamStore>(
     ensures places { vec_capacity places.new ≡ vec_capacity places.old }
     ensures capacity { vec_capacity tasks.new ≡ vec_capacity tasks.old }
 {
-    for number in turns {
+    for number in duties {
         let n = *number as usize;
         gather_stream(
             plan,
@@ -549,12 +549,12 @@ fn answer_tasks<R: Threads + Sync, S: StreamStore + Sync, G: Gate + Sync>(
 
 /// Finds which instances of a layer are to be asked, evaluates these, shared out among at most so many threads, and then gives each its
 /// outcome. The tasks and their outcomes are kept behind those of the layers before, those of a stream where its span says. The streams that
-/// have a turn in the layer are told, and those of them with parameters. Answers whether an outcome is a fault.
+/// have a duty in the layer are told, and those of them with parameters. Answers whether an outcome is a fault.
 pub(crate) fn eval_layer<R: Threads + Sync, S: StreamStore + Sync, G: Gate + Sync>(
     rt: &R,
     gate: &G,
     plan: &Plan,
-    turns: &[u32],
+    duties: &[u32],
     seeks: &[u32],
     code: &PlanCode,
     moment: &Moment,
@@ -572,8 +572,8 @@ pub(crate) fn eval_layer<R: Threads + Sync, S: StreamStore + Sync, G: Gate + Syn
     workers: u32,
     is_first: bool,
 ) -> bool
-    requires turns { turns.now ≡ turns_of plan.now (turn.Eval layer) }
-    requires seeks { seeks.now ≡ turns_of plan.now (turn.Seek layer) }
+    requires duties { duties.now ≡ duties_of plan.now (duty.Eval layer) }
+    requires seeks { seeks.now ≡ duties_of plan.now (duty.Seek layer) }
     requires code { code.now ≡ plan.now.spec }
     requires none { none.now ≡ no_params }
     requires workers { (1 ≤ workers) × (workers ≤ 64) }
@@ -603,7 +603,7 @@ pub(crate) fn eval_layer<R: Threads + Sync, S: StreamStore + Sync, G: Gate + Syn
     seek_layer(plan, seeks, moment, store, layer, spawn_results, sought);
     gather(
         plan,
-        turns,
+        duties,
         moment,
         store,
         layer,

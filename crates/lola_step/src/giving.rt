@@ -176,7 +176,7 @@ fn any_fault(results: &[Brief]) -> bool
 }
 
 /// Gives each task's instance its outcome, and answers whether one of them is a fault. The instances of a stream all of which have their
-/// turn, and which are many, are shared out among at most so many threads.
+/// duty, and which are many, are shared out among at most so many threads.
 pub(crate) fn give_shared<R: Threads + Sync, S: StreamStore>(
     rt: &R,
     store: &mut S,

@@ -9,9 +9,9 @@ ghost use Rattle.lola_step_contents.specs.Changed.{told};
 ghost use Rattle.lola_step_law.specs.Stages.{first_stage, layer_stage};
 ghost use Rattle.lola_step.specs.Inputs.{TakesInputs, input_outcome_at};
 ghost use Rattle.lola_step.specs.Progress.{GoesOn, IsAt};
-ghost use Rattle.lola_step.specs.Schedules.{turns_of};
+ghost use Rattle.lola_step.specs.Schedules.{duties_of};
 ghost use Rattle.lola_step.specs.Steps.{AreInputs, is_input_outcome};
-ghost use Rattle.lola_step.specs.declared.schedule.Turn.TheVariants as turn;
+ghost use Rattle.lola_step.specs.declared.schedule.Duty.TheVariants as duty;
 
 use lola_model::plan::Plan;
 use lola_model::store::StreamStore;
@@ -48,12 +48,12 @@ fn tell<S: StreamStore>(store: &mut S, stream: u32, outcome: Outcome)
 /// Tells each input that has a value. At a deadline's step there are no inputs, and none is told. Which streams are inputs is told too.
 pub(crate) fn tell_inputs<S: StreamStore>(
     plan: &Plan,
-    turns: &[u32],
+    duties: &[u32],
     store: &mut S,
     is_row: bool,
     inputs: &[Outcome],
 )
-    requires turns { turns.now ≡ turns_of plan.now turn.Input }
+    requires duties { duties.now ≡ duties_of plan.now duty.Input }
     requires accepted { IsAccepted plan.now }
     requires at { IsAt plan.now first_stage (S.seen store.old) }
     requires inputs { AreInputs is_row plan.now.spec.streams inputs.now }
@@ -62,7 +62,7 @@ pub(crate) fn tell_inputs<S: StreamStore>(
     ensures takes { TakesInputs plan.now is_row inputs.now (S.remembers store.old) (S.seen store.old) (S.remembers store.new) (S.seen store.new) }
 {
     let mut input = 0;
-    for number in turns {
+    for number in duties {
         tell(store, *number, outcome_at(inputs, input));
         input += 1;
     }

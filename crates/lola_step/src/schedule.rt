@@ -1,12 +1,12 @@
-//! Which streams have a turn in a step, and when: found once for a plan, so that a step walks only those that it concerns.
+//! Which streams have a duty in a step, and when: found once for a plan, so that a step walks only those that it concerns.
 
 ghost use Rattle.std.specs.Prelude.{ℕ, ◌≡◌, ◌<◌, ◌≤◌, ◌^◌, IfOk, Some, length, slice_get};
 ghost use Rattle.lola_model.specs.Acceptance.{IsAccepted};
 ghost use Rattle.lola_model.specs.Named.{has_clause as has_clause_of};
 ghost use Rattle.lola_model.specs.declared.plan.Plan.{Plan};
 ghost use Rattle.lola_step.specs.declared.schedule.Layer.{Layer};
-ghost use Rattle.lola_step.specs.Schedules.{IsLayerOf, IsScheduleOf, has_parameters as has_parameters_of, has_turn as has_turn_of, turns_of};
-ghost use Rattle.lola_step.specs.declared.schedule.Turn.TheVariants as turn;
+ghost use Rattle.lola_step.specs.Schedules.{IsLayerOf, IsScheduleOf, has_parameters as has_parameters_of, has_duty as has_duty_of, duties_of};
+ghost use Rattle.lola_step.specs.declared.schedule.Duty.TheVariants as duty;
 
 use crate::ends::is_hidden;
 use crate::spawns::layer_at;
@@ -16,9 +16,9 @@ use lola_model::spec::{Clause, Stream};
 use lola_value::text::Memory;
 use std::alloc::Global;
 
-/// What a stream may have a turn for.
+/// What a stream may have to do in a step: its duties.
 #[derive(Clone, Copy, Debug, PartialEq, Eq)]
-pub enum Turn {
+pub enum Duty {
     /// It is an input.
     Input,
     /// It has a spawn clause.
@@ -35,7 +35,7 @@ pub enum Turn {
     Shown(Show),
 }
 
-/// The streams that have a turn in a layer, by their numbers.
+/// The streams that have a duty in a layer, by their numbers.
 #[derive(Drop)]
 pub struct Layer {
     pub(crate) spawns: Vec<u32>,
@@ -44,7 +44,7 @@ pub struct Layer {
     pub(crate) seeks: Vec<u32>,
 }
 
-/// The streams of a plan that have a turn, by their numbers.
+/// The streams of a plan that have a duty, by their numbers.
 #[derive(Drop)]
 pub struct Schedule {
     pub(crate) inputs: Vec<u32>,
@@ -69,52 +69,52 @@ fn has_parameters(stream: &Stream) -> bool
     !stream.parameters.as_slice().is_empty()
 }
 
-/// Whether stream `n` has a turn.
-fn has_turn(plan: &Plan, turn: Turn, n: usize, stream: &Stream) -> bool
+/// Whether stream `n` has a duty.
+fn has_duty(plan: &Plan, duty: Duty, n: usize, stream: &Stream) -> bool
     requires few { n ≤ 1024 }
-    ensures { result ≡ has_turn_of plan.now turn n stream.now }
+    ensures { result ≡ has_duty_of plan.now duty n stream.now }
 {
-    match turn {
-        Turn::Input => stream.is_input(),
-        Turn::Birth => has_clause(&stream.spawn),
-        Turn::Spawn(layer) => {
+    match duty {
+        Duty::Input => stream.is_input(),
+        Duty::Birth => has_clause(&stream.spawn),
+        Duty::Spawn(layer) => {
             has_clause(&stream.spawn) && layer_at(plan.layers.as_slice(), 2 * n + 1) == layer
         }
-        Turn::Eval(layer) => {
+        Duty::Eval(layer) => {
             !stream.is_input() && layer_at(plan.layers.as_slice(), 2 * n) == layer
         }
-        Turn::Seek(layer) => {
+        Duty::Seek(layer) => {
             has_parameters(stream)
                 && !stream.is_input()
                 && layer_at(plan.layers.as_slice(), 2 * n) == layer
         }
-        Turn::Close => has_clause(&stream.close),
-        Turn::Shown(show) => !is_hidden(show, stream),
+        Duty::Close => has_clause(&stream.close),
+        Duty::Shown(show) => !is_hidden(show, stream),
     }
 }
 
-/// The streams that have a turn, by their numbers.
-fn turns(alloc: Global, plan: &Plan, turn: Turn) -> Result<Vec<u32>, Memory>
+/// The streams that have a duty, by their numbers.
+fn duties(alloc: Global, plan: &Plan, duty: Duty) -> Result<Vec<u32>, Memory>
     requires accepted { IsAccepted plan.now }
-    ensures { IfOk result (λ numbers. numbers.items ≡ turns_of plan.now turn) }
+    ensures { IfOk result (λ numbers. numbers.items ≡ duties_of plan.now duty) }
 {
     let mut numbers = Vec::new(alloc);
     for (n, stream) in plan.spec.streams.as_slice().iter().enumerate() {
-        if has_turn(plan, turn, n, stream) {
+        if has_duty(plan, duty, n, stream) {
             numbers.push(n as u32)?;
         }
     }
     Ok(numbers)
 }
 
-/// The streams that have a turn in a layer.
-fn layer_turns(alloc: Global, plan: &Plan, layer: u32) -> Result<Layer, Memory>
+/// The streams that have a duty in a layer.
+fn layer_duties(alloc: Global, plan: &Plan, layer: u32) -> Result<Layer, Memory>
     requires accepted { IsAccepted plan.now }
     ensures { IfOk result (IsLayerOf plan.now layer) }
 {
-    let spawns = turns(alloc, plan, Turn::Spawn(layer))?;
-    let evals = turns(alloc, plan, Turn::Eval(layer))?;
-    let seeks = turns(alloc, plan, Turn::Seek(layer))?;
+    let spawns = duties(alloc, plan, Duty::Spawn(layer))?;
+    let evals = duties(alloc, plan, Duty::Eval(layer))?;
+    let seeks = duties(alloc, plan, Duty::Seek(layer))?;
     Ok(Layer {
         spawns,
         evals,
@@ -122,8 +122,8 @@ fn layer_turns(alloc: Global, plan: &Plan, layer: u32) -> Result<Layer, Memory>
     })
 }
 
-/// The streams that have a turn in each of so many layers.
-fn layers_turns(alloc: Global, plan: &Plan, count: u64) -> Result<Vec<Layer>, Memory>
+/// The streams that have a duty in each of so many layers.
+fn layers_duties(alloc: Global, plan: &Plan, count: u64) -> Result<Vec<Layer>, Memory>
     requires accepted { IsAccepted plan.now }
     requires few { count ≤ 2 ^ 32 }
     ensures count { IfOk result (λ layers. length layers.items ≡ count) }
@@ -131,7 +131,7 @@ fn layers_turns(alloc: Global, plan: &Plan, count: u64) -> Result<Vec<Layer>, Me
 {
     let mut layers = Vec::new(alloc);
     for layer in 0..count {
-        layers.push(layer_turns(alloc, plan, layer as u32)?)?;
+        layers.push(layer_duties(alloc, plan, layer as u32)?)?;
     }
     Ok(layers)
 }
@@ -144,12 +144,12 @@ impl Schedule {
         ensures count { IfOk result (λ s. length s.layers.items ≡ count) }
         ensures of { IfOk result (IsScheduleOf plan.now) }
     {
-        let inputs = turns(alloc, plan, Turn::Input)?;
-        let births = turns(alloc, plan, Turn::Birth)?;
-        let layers = layers_turns(alloc, plan, count)?;
-        let closes = turns(alloc, plan, Turn::Close)?;
-        let triggers = turns(alloc, plan, Turn::Shown(Show::Triggers))?;
-        let outputs = turns(alloc, plan, Turn::Shown(Show::Outputs))?;
+        let inputs = duties(alloc, plan, Duty::Input)?;
+        let births = duties(alloc, plan, Duty::Birth)?;
+        let layers = layers_duties(alloc, plan, count)?;
+        let closes = duties(alloc, plan, Duty::Close)?;
+        let triggers = duties(alloc, plan, Duty::Shown(Show::Triggers))?;
+        let outputs = duties(alloc, plan, Duty::Shown(Show::Outputs))?;
         Ok(Schedule {
             inputs,
             births,
@@ -162,7 +162,7 @@ impl Schedule {
 
     /// The streams whose values may have lines, where so much is shown.
     pub(crate) fn shown(&self, show: Show) -> &[u32]
-        ensures { (plan : Plan) → IsScheduleOf plan self.now → result.now ≡ turns_of plan (turn.Shown show) }
+        ensures { (plan : Plan) → IsScheduleOf plan self.now → result.now ≡ duties_of plan (duty.Shown show) }
     {
         match show {
             Show::Triggers => self.triggers.as_slice(),
@@ -173,7 +173,7 @@ impl Schedule {
     /// The streams whose spawn clause belongs to a layer.
     pub(crate) fn spawns_in(&self, layer: u64) -> &[u32]
         requires { layer < length self.now.layers.items }
-        ensures { (plan : Plan) → IsScheduleOf plan self.now → result.now ≡ turns_of plan (turn.Spawn layer) }
+        ensures { (plan : Plan) → IsScheduleOf plan self.now → result.now ≡ duties_of plan (duty.Spawn layer) }
     {
         self.layers[layer as usize].spawns.as_slice()
     }
@@ -181,7 +181,7 @@ impl Schedule {
     /// The streams whose instances belong to a layer.
     pub(crate) fn evals_in(&self, layer: u64) -> &[u32]
         requires { layer < length self.now.layers.items }
-        ensures { (plan : Plan) → IsScheduleOf plan self.now → result.now ≡ turns_of plan (turn.Eval layer) }
+        ensures { (plan : Plan) → IsScheduleOf plan self.now → result.now ≡ duties_of plan (duty.Eval layer) }
     {
         self.layers[layer as usize].evals.as_slice()
     }
@@ -189,7 +189,7 @@ impl Schedule {
     /// The streams with parameters whose instances belong to a layer.
     pub(crate) fn seeks_in(&self, layer: u64) -> &[u32]
         requires { layer < length self.now.layers.items }
-        ensures { (plan : Plan) → IsScheduleOf plan self.now → result.now ≡ turns_of plan (turn.Seek layer) }
+        ensures { (plan : Plan) → IsScheduleOf plan self.now → result.now ≡ duties_of plan (duty.Seek layer) }
     {
         self.layers[layer as usize].seeks.as_slice()
     }

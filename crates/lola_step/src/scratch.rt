@@ -6,9 +6,9 @@ ghost use Rattle.lola_model.specs.Acceptance.{IsAccepted};
 ghost use Rattle.lola_model.specs.Graph.{layer_of};
 ghost use Rattle.lola_step.specs.Progress.{IsOf};
 ghost use Rattle.lola_step.specs.Scratches.{HasRoom, IsFresh, IsScratchOf, instances_to_come, no_span};
-ghost use Rattle.lola_step.specs.Schedules.{turns_of};
+ghost use Rattle.lola_step.specs.Schedules.{duties_of};
 ghost use Rattle.lola_step.specs.declared.spawn_result.SpawnResult.TheVariants as spawn_result;
-ghost use Rattle.lola_step.specs.declared.schedule.Turn.TheVariants as turn;
+ghost use Rattle.lola_step.specs.declared.schedule.Duty.TheVariants as duty;
 
 use crate::schedule::Schedule;
 use crate::spawn_result::SpawnResult;
@@ -48,7 +48,7 @@ pub struct Scratch {
     pub(crate) closing: Vec<Task>,
     pub(crate) verdicts: Vec<Verdict>,
     pub(crate) layers: u64,
-    // which streams have a turn in a step, which is never changed
+    // which streams have a duty in a step, which is never changed
     pub(crate) schedule: Schedule,
     // the code of the plan's eval clauses, which is never changed
     pub(crate) code: PlanCode,
@@ -88,7 +88,7 @@ fn count_instances<S: StreamStore>(plan: &Plan, store: &S) -> usize
 /// The same, where the streams that have a spawn clause are told: where there are none, each stream has its one instance.
 #[tactic(auto, using(crate::proofs::Counts::two_exactly))]
 fn instances_in_step<S: StreamStore>(plan: &Plan, births: &[u32], store: &S) -> usize
-    requires births { births.now ≡ turns_of plan.now turn.Birth }
+    requires births { births.now ≡ duties_of plan.now duty.Birth }
     requires accepted { IsAccepted plan.now }
     requires of { IsOf plan.now (S.seen store.now) }
     ensures { result ≡ instances_to_come (S.seen store.now) }

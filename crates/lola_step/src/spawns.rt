@@ -10,10 +10,10 @@ ghost use Rattle.lola_step_law.specs.Stages.{eval_stage, full_row, layer_stage, 
 ghost use Rattle.lola_step.specs.Found.{NoneFailed, is_failed};
 ghost use Rattle.lola_step.specs.Notes.{AreSpawnResults};
 ghost use Rattle.lola_step.specs.Progress.{GoesOn, IsAt, IsMomentOf, IsRunAt, TakesTo};
-ghost use Rattle.lola_step.specs.Schedules.{turns_of};
+ghost use Rattle.lola_step.specs.Schedules.{duties_of};
 ghost use Rattle.lola_step.specs.Spawns.{IsAfterClause, IsFor, IsNextSpawn, IsTaken, MaySpawn};
 ghost use Rattle.lola_step.specs.declared.clauses.Spawning.TheVariants as spawning;
-ghost use Rattle.lola_step.specs.declared.schedule.Turn.TheVariants as turn;
+ghost use Rattle.lola_step.specs.declared.schedule.Duty.TheVariants as duty;
 
 use crate::clauses::{Spawning, spawning_of};
 use crate::moment::{Moment, is_active};
@@ -128,13 +128,13 @@ fn or_failed(failed: bool, spawn_result: SpawnResult) -> bool
 /// belongs to the layer are told. Answers whether one of them failed.
 pub(crate) fn spawn_layer<S: StreamStore>(
     plan: &Plan,
-    turns: &[u32],
+    duties: &[u32],
     moment: &Moment,
     store: &mut S,
     layer: u32,
     spawn_results: &mut [SpawnResult],
 ) -> bool
-    requires turns { turns.now ≡ turns_of plan.now (turn.Spawn layer) }
+    requires duties { duties.now ≡ duties_of plan.now (duty.Spawn layer) }
     requires accepted { IsAccepted plan.now }
     requires at { IsAt plan.now (layer_stage (length plan.now.spec.streams) layer) (S.seen store.old) }
     requires moment { IsMomentOf moment.now (S.seen store.old) }
@@ -150,7 +150,7 @@ pub(crate) fn spawn_layer<S: StreamStore>(
     ensures fine { result ≡ false → NoneFailed spawn_results.old → NoneFailed spawn_results.new }
 {
     let mut failed = false;
-    for number in turns {
+    for number in duties {
         let n = *number as usize;
         let stream = stream_at(plan, *number);
         let spawn_result = spawn_stream(plan, moment, store, layer, n, stream, spawn_results[n]);

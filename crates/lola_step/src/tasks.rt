@@ -1,11 +1,10 @@
 //! The tasks of a layer.
 
-ghost use Rattle.std.specs.Prelude.{◌≡◌, ◌≤◌, ◌<◌, ◌^◌, ℕ, [], ◌∷◌, IsSomeAnd, IsTrue, MatchOption, Some, length, slice_get, true, unwrap_or};
+ghost use Rattle.std.specs.Prelude.{◌≡◌, ◌≤◌, ◌<◌, ◌^◌, ℕ, [], ◌∷◌, IsSomeAnd, IsTrue, MatchOption, Some, length, slice_get, true};
 ghost use Rattle.lola_value.specs.Kinds.{are_of_kinds, is_outcome_of, is_well_formed};
-ghost use Rattle.lola_value.specs.declared.value.Kind.TheVariants as kind;
 ghost use Rattle.lola_value.specs.Naming.{the_values};
 ghost use Rattle.lola_value.specs.Times.{latest};
-ghost use Rattle.lola_model.specs.Model.{clause_answer, eval_pacing};
+ghost use Rattle.lola_model.specs.Model.{clause_answer, eval_pacing, filled_kind};
 ghost use Rattle.lola_model.specs.Store.{IsRunning, instances_seen, layout_of, no_params, parameters_of};
 ghost use Rattle.lola_expr_code.specs.Plans.{IsEvalCode};
 ghost use Rattle.lola_step_law.specs.Ready.{IsClauseAskable};
@@ -123,8 +122,8 @@ fn own_outcome<S: StreamStore>(
     requires running { IsRunning (S.seen store.now) }
     requires lives { task.index < length (instances_seen (S.seen store.now) task.stream) }
     requires asks { IsTrue (are_of_kinds (parameters_of (slice_get (S.seen store.now).layout.streams task.stream)) (the_values (params_seen (S.seen store.now) task.stream task.index)))
-        → IsClauseAskable (S.seen store.now) (params_seen (S.seen store.now) task.stream task.index) plan.now.spec.texts (unwrap_or stream.now.kind kind.Int64 ∷ []) clause.now }
-    ensures kind { IsTrue (is_outcome_of (unwrap_or stream.now.kind kind.Int64) result) }
+        → IsClauseAskable (S.seen store.now) (params_seen (S.seen store.now) task.stream task.index) plan.now.spec.texts (filled_kind stream.now ∷ []) clause.now }
+    ensures kind { IsTrue (is_outcome_of (filled_kind stream.now) result) }
     ensures answer { IsAnswer plan.now (S.remembers store.now) (S.seen store.now) (params_seen (S.seen store.now) task.stream task.index) (λ c p. clause_answer plan.now.spec c p clause.now) result }
 {
     let params = store.params_of(task.stream, task.index);

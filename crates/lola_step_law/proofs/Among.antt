@@ -3,7 +3,7 @@ use Rattle.std.proofs.Common.{◌≡◌, refl, subst, ℕ, zero, suc, ◌+◌, L
 use Rattle.std.specs.List.{Contains}
 use Rattle.std.proofs.lemmas.List.Elements.{Contains-append_left, Contains-append_right}
 use Rattle.lola_value.specs.declared.value.Kind.{Kind}
-use Rattle.lola_value.specs.declared.value.Kind.TheVariants as kind
+use Rattle.lola_model.specs.Model.{filled_kind}
 use Rattle.lola_model.specs.Parts.{listed, listed_clause, listed_stream, listed_streams}
 use Rattle.lola_model.specs.Wholes.{Whole, clause_wholes, stream_wholes, wholes_from, noted_kinds, all_wholes}
 use Rattle.lola_model.specs.declared.expr.Expr.{Expr}
@@ -87,15 +87,15 @@ module _ (n : ℕ) (s : Stream) (k : Kind) (w : Whole) where
 
 -- of the streams from number n on, by the number of one of them
 pub of_streams : (w : Whole) (n : ℕ) (ss : List Stream) (i : ℕ) (s : Stream) (m : ℕ) → m ≡ n + i → slice_get ss i ≡ Some s
-    → IsAmong (stream_wholes m s (unwrap_or s.kind kind.Int64)) (λ g. listed_stream g s) w
+    → IsAmong (stream_wholes m s (filled_kind s)) (λ g. listed_stream g s) w
     → IsAmong (wholes_from n ss (noted_kinds ss)) (λ g. listed_streams g ss) w
 of_streams w n [] i s m q e a = absurd (cc)
 of_streams w n (t ∷ ts) zero s m q e a =
     let same : s ≡ t = cc in
     let at : m ≡ n = omega (arith, q) in
-    let there = subst (λ (j : ℕ). IsAmong (stream_wholes j s (unwrap_or s.kind kind.Int64)) (λ g. listed_stream g s) w) at a in
-    among_first w (stream_wholes n t (unwrap_or t.kind kind.Int64)) (wholes_from (n + 1) ts (noted_kinds ts)) (λ g. listed_stream g t) (λ g. listed_streams g ts)
-    (subst (λ (x : Stream). IsAmong (stream_wholes n x (unwrap_or x.kind kind.Int64)) (λ g. listed_stream g x) w) same there)
+    let there = subst (λ (j : ℕ). IsAmong (stream_wholes j s (filled_kind s)) (λ g. listed_stream g s) w) at a in
+    among_first w (stream_wholes n t (filled_kind t)) (wholes_from (n + 1) ts (noted_kinds ts)) (λ g. listed_stream g t) (λ g. listed_streams g ts)
+    (subst (λ (x : Stream). IsAmong (stream_wholes n x (filled_kind x)) (λ g. listed_stream g x) w) same there)
 of_streams w n (t ∷ ts) (suc i) s m q e a =
-    among_others w (stream_wholes n t (unwrap_or t.kind kind.Int64)) (wholes_from (n + 1) ts (noted_kinds ts)) (λ g. listed_stream g t) (λ g. listed_streams g ts)
+    among_others w (stream_wholes n t (filled_kind t)) (wholes_from (n + 1) ts (noted_kinds ts)) (λ g. listed_stream g t) (λ g. listed_streams g ts)
     (of_streams w (n + 1) ts i s m (omega (arith, q)) e a)

@@ -3,7 +3,7 @@ use Rattle.std.proofs.Common.{◌≡◌, refl, sym, subst, ℕ, List, [], ◌∷
 use Rattle.lola_value.specs.declared.value.Kind.{Kind}
 use Rattle.lola_value.specs.declared.value.Kind.TheVariants as kind
 use Rattle.lola_value.specs.declared.value.Params.{Params}
-use Rattle.lola_model.specs.Model.{spawn_pacing}
+use Rattle.lola_model.specs.Model.{spawn_pacing, filled_kind}
 use Rattle.lola_model.specs.Parts.{listed, listed_clause, listed_spec, listed_stream, listed_when, listed_with}
 use Rattle.lola_model.specs.Store.{Seen, no_params}
 use Rattle.lola_model.specs.Table.{Step}
@@ -58,7 +58,7 @@ module _ (s : Seen) (q : Params) (texts : List (List ℕ)) (n : ℕ) (p : Part) 
 module _ (plan : Plan) (start : ℕ) (step : Step) (s : Seen) (n : ℕ) (stream : Stream) (k : Clause) where
   -- the whole expressions of the stream are among those of the specification
   in_spec : (w : Whole) → slice_get plan.spec.streams n ≡ Some stream
-      → IsAmong (stream_wholes n stream (unwrap_or stream.kind kind.Int64)) (λ g. listed_stream g stream) w → IsAmong (wholes_of plan.spec) (λ g. listed_spec g plan.spec) w
+      → IsAmong (stream_wholes n stream (filled_kind stream)) (λ g. listed_stream g stream) w → IsAmong (wholes_of plan.spec) (λ g. listed_spec g plan.spec) w
   in_spec w e a = of_streams w 0 plan.spec.streams n stream n (omega arith) e a
 
   -- the spawn clause, which has no parameters in scope
@@ -66,13 +66,13 @@ module _ (plan : Plan) (start : ℕ) (step : Step) (s : Seen) (n : ℕ) (stream 
   spawn_may_ask accepted at e is active =
       clause_askable s no_params plan.spec.texts n part.Spawn [] stream.parameters k
       (λ want before x a. askable plan start step s accepted at n part.Spawn 0 (active_for start 0 step (spawn_pacing (slice_get plan.pacings n)) active) no_params [] refl want before x
-      (in_spec (whole n part.Spawn [] want before x) e (of_spawn n stream (unwrap_or stream.kind kind.Int64) (whole n part.Spawn [] want before x)
+      (in_spec (whole n part.Spawn [] want before x) e (of_spawn n stream (filled_kind stream) (whole n part.Spawn [] want before x)
       (subst (λ (o : Option Clause). IsAmong (clause_wholes n part.Spawn [] stream.parameters o) (λ g. listed_clause g o) (whole n part.Spawn [] want before x)) (sym is) a))))
 
   -- the eval clause, for an instance
   pub eval_may_ask : (p : Params) → EvalMayAsk plan start step s n stream k p
   eval_may_ask p accepted at e is born active given =
-      let l = unwrap_or stream.kind kind.Int64 in
+      let l = filled_kind stream in
       clause_askable s p plan.spec.texts n part.Eval stream.parameters (l ∷ []) k
       (λ want before x a. askable plan start step s accepted at n part.Eval born active p stream.parameters given want before x
       (in_spec (whole n part.Eval stream.parameters want before x) e (of_eval n stream l (whole n part.Eval stream.parameters want before x)
@@ -83,7 +83,7 @@ module _ (plan : Plan) (start : ℕ) (step : Step) (s : Seen) (n : ℕ) (stream 
   close_may_ask p accepted at e is born active given =
       clause_askable s p plan.spec.texts n part.Close stream.parameters [] k
       (λ want before x a. askable plan start step s accepted at n part.Close born active p stream.parameters given want before x
-      (in_spec (whole n part.Close stream.parameters want before x) e (of_close n stream (unwrap_or stream.kind kind.Int64) (whole n part.Close stream.parameters want before x)
+      (in_spec (whole n part.Close stream.parameters want before x) e (of_close n stream (filled_kind stream) (whole n part.Close stream.parameters want before x)
       (subst (λ (o : Option Clause). IsAmong (clause_wholes n part.Close stream.parameters [] o) (λ g. listed_clause g o) (whole n part.Close stream.parameters want before x)) (sym is) a))))
 
 -- the law

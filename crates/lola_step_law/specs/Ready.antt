@@ -7,7 +7,7 @@ use Rattle.lola_value.specs.Kinds.{are_of_kinds}
 use Rattle.lola_value.specs.Naming.{Naming, text_at, the_values}
 use Rattle.lola_model.specs.Acceptance.{IsAccepted}
 use Rattle.lola_model.specs.Activity.{is_active, is_active_for}
-use Rattle.lola_model.specs.Model.{spawn_pacing, eval_pacing, close_pacing}
+use Rattle.lola_model.specs.Model.{spawn_pacing, eval_pacing, close_pacing, filled_kind}
 use Rattle.lola_model.specs.Store.{Seen, IsRunning, layout_of, no_params, start_seen, time_seen}
 use Rattle.lola_model.specs.Table.{Step}
 use Rattle.lola_model.specs.Typing.{can_ask, noted}
@@ -65,7 +65,7 @@ module _ (plan : Plan) (start : ℕ) (step : Step) (s : Seen) (n : ℕ) (stream 
   EvalMayAsk p =
       IsAccepted plan → IsAtStep plan start step s → slice_get plan.spec.streams n ≡ Some stream → stream.eval ≡ Some k
       → (born : ℕ) → is_active_for start born step (eval_pacing (slice_get plan.pacings n)) ≡ true → IsTrue (are_of_kinds stream.parameters (the_values p))
-      → IsClauseAskable s p plan.spec.texts (unwrap_or stream.kind kind.Int64 ∷ []) k
+      → IsClauseAskable s p plan.spec.texts (filled_kind stream ∷ []) k
 
   -- and where the close clause is active for an instance
   abbrev pub CloseMayAsk : Params → Type 0

@@ -10,25 +10,25 @@ use Rattle.lola_model.specs.Accesses.{one_more}
 use Rattle.lola_model.specs.Store.{New, Started, Running, quiet, silent, is_new}
 use Rattle.lola_store.specs.declared.instance.Instance.{Instance}
 use Rattle.lola_store.specs.declared.population.Population.{Population}
-use Rattle.lola_store.specs.declared.stage.Stage.{Stage}
-use Rattle.lola_store.specs.declared.stage.Stage.TheVariants as stage
+use Rattle.lola_store.specs.declared.stage.StorePhase.{StorePhase}
+use Rattle.lola_store.specs.declared.stage.StorePhase.TheVariants as stage
 use Rattle.lola_store.specs.Each.{Each}
 use Rattle.lola_store.specs.Instances.{shown, instance_seen, RecallsAt, InstanceRight, owed}
 use Rattle.lola_store.specs.Populations.{population_seen, PopulationRight}
 use Rattle.lola_store.specs.Stages.{phase_in, start_in, time_in, is_on}
 use Rattle.lola_store.proofs.Places.{outcome_at}
 
-pub phase_time : (st : Stage) → elim (phase_in st) [ New ↦ 0 | Started a ↦ a | Running a t ↦ t ] ≡ time_in st
+pub phase_time : (st : StorePhase) → elim (phase_in st) [ New ↦ 0 | Started a ↦ a | Running a t ↦ t ] ≡ time_in st
 phase_time stage.New = refl
 phase_time (stage.Started a) = refl
 phase_time (stage.Running a t) = refl
 
-pub phase_start : (st : Stage) → elim (phase_in st) [ New ↦ 0 | Started a ↦ a | Running a t ↦ a ] ≡ start_in st
+pub phase_start : (st : StorePhase) → elim (phase_in st) [ New ↦ 0 | Started a ↦ a | Running a t ↦ a ] ≡ start_in st
 phase_start stage.New = refl
 phase_start (stage.Started a) = refl
 phase_start (stage.Running a t) = refl
 
-pub new_is_off : (st : Stage) → IsTrue (is_new (phase_in st)) → is_on st ≡ false
+pub new_is_off : (st : StorePhase) → IsTrue (is_new (phase_in st)) → is_on st ≡ false
 new_is_off stage.New h = refl
 new_is_off (stage.Started a) h = refl
 new_is_off (stage.Running a t) h = cc

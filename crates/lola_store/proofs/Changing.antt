@@ -19,8 +19,8 @@ use Rattle.lola_model.specs.Reading.{moved_up}
 use Rattle.lola_model.specs.Store.{SeenInstance, SeenStream, changed_at, told_at, is_silent, instances_of, is_running, now_at, StreamLayout, spawns_in, has_spawned}
 use Rattle.lola_store.specs.declared.instance.Instance.{Instance}
 use Rattle.lola_store.specs.declared.population.Population.{Population}
-use Rattle.lola_store.specs.declared.stage.Stage.{Stage}
-use Rattle.lola_store.specs.declared.stage.Stage.TheVariants as stage
+use Rattle.lola_store.specs.declared.stage.StorePhase.{StorePhase}
+use Rattle.lola_store.specs.declared.stage.StorePhase.TheVariants as stage
 use Rattle.lola_store.specs.Instances.{shown, instance_seen, Recalls, InstanceRight, AllHeld, owed}
 use Rattle.lola_store.proofs.Beginning.{owed_two}
 use Rattle.lola_store.specs.Populations.{population_layout, population_seen, lives_in, instance_at, IsNewborn}
@@ -30,7 +30,7 @@ use Rattle.lola_instances_stream.proofs.Lists.{got_before, same_set, other_set}
 use Rattle.lola_store.proofs.Places.{layout_at, lives_count, stream_of, outcome_shows, outcome_at}
 use Rattle.lola_store.proofs.Recalling.{held-more}
 
-pub running_is_on : (st : Stage) → IsTrue (is_running (phase_in st)) → is_on st ≡ true
+pub running_is_on : (st : StorePhase) → IsTrue (is_running (phase_in st)) → is_on st ≡ true
 running_is_on stage.New h = cc
 running_is_on (stage.Started a) h = cc
 running_is_on (stage.Running a t) h = refl

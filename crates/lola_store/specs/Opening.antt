@@ -2,7 +2,7 @@
 use Rattle.std.specs.Prelude.{ℕ, ◌≡◌, List, [], ◌∷◌, Some, None, Bool, true, false, IsTrue, slice_get, unwrap_or}
 use Rattle.lola_value.specs.Naming.{Naming}
 use Rattle.lola_value.specs.Ratio.{Ratio}
-use Rattle.lola_value.specs.declared.value.Kind.TheVariants as kind
+use Rattle.lola_model.specs.Model.{filled_kind}
 use Rattle.lola_model.specs.NextStep.{local_rates}
 use Rattle.lola_model.specs.Store.{StreamLayout, opened, no_params, kind_in, layout_of}
 use Rattle.lola_model.specs.Typing.{takes}
@@ -25,7 +25,7 @@ pub record IsStorable (plan : Plan) : Type 0 where
 -- the layout of a stream that keeps so many values, and at whose rates deadlines count from births
 abbrev pub stream_layout : Stream → ℕ → List Ratio → StreamLayout
 stream_layout s kept locals =
-    record { kind = unwrap_or s.kind kind.Int64; parameters = s.parameters; spawns = elim s.spawn [ None ↦ false | Some k ↦ true ]; kept = kept; locals = locals }
+    record { kind = filled_kind s; parameters = s.parameters; spawns = elim s.spawn [ None ↦ false | Some k ↦ true ]; kept = kept; locals = locals }
 
 -- how many values the first of these streams keeps
 abbrev pub first_kept : List ℕ → ℕ

@@ -1,8 +1,7 @@
 //! A new store.
 
-ghost use Rattle.std.specs.Prelude.{◌≡◌, ◌<◌, ◌++◌, ℕ, [], Bool, IfOk, OnOk, map, drop, length, unwrap_or};
+ghost use Rattle.std.specs.Prelude.{◌≡◌, ◌<◌, ◌++◌, ℕ, [], Bool, IfOk, OnOk, map, drop, length};
 ghost use Rattle.lola_value.specs.Naming.{Naming};
-ghost use Rattle.lola_value.specs.declared.value.Kind.TheVariants as kinds;
 ghost use Rattle.lola_model.specs.NextStep.{local_rate_of, local_rates};
 ghost use Rattle.lola_model.specs.Store.{layout_of, layouts_from, new_seen, instances_seen};
 ghost use Rattle.lola_store.specs.Each.{Each};
@@ -12,14 +11,14 @@ ghost use Rattle.lola_store.specs.Stores.{whole_seen, whole_remembers};
 
 use crate::instance::Instance;
 use crate::population::Population;
-use crate::stage::Stage;
+use crate::stage::StorePhase;
 use crate::store::WholeStore;
 use lola_model::pacing::{ClausePacings, Pacing};
 use lola_model::plan::{PaneSizes, Plan};
 use lola_model::spec::{Kinds, Stream, Windows};
 use lola_value::rate::Rate;
 use lola_value::text::Memory;
-use lola_value::value::{Kind, Outcome, Params, Value};
+use lola_value::value::{Outcome, Params, Value};
 use std::alloc::Global;
 
 /// The same windows.
@@ -84,16 +83,6 @@ fn first_lives(alloc: Global, spawns: bool) -> Result<Vec<Instance>, Memory>
     }
 }
 
-/// The kind that is found, or a kind where none is.
-fn kind_of(kind: Option<Kind>) -> Kind
-    ensures { result ≡ unwrap_or kind kinds.Int64 }
-{
-    match kind {
-        None => Kind::Int64,
-        Some(kind) => kind,
-    }
-}
-
 /// Whether a stream has a spawn clause.
 fn has_spawn(stream: &Stream) -> bool
     ensures { result ≡ (stream_layout stream.now 0 []).spawns }
@@ -113,7 +102,7 @@ fn open(alloc: Global, stream: &Stream, kept: u32, locals: Vec<Rate>) -> Result<
     let parameters = copy_kinds(alloc, &stream.parameters)?;
     let lives = first_lives(alloc, spawns)?;
     Ok(Population {
-        kind: kind_of(stream.kind),
+        kind: stream.filled_kind(),
         parameters,
         spawns,
         kept,
@@ -206,7 +195,7 @@ impl WholeStore {
             alloc,
             windows,
             sizes,
-            stage: Stage::New,
+            stage: StorePhase::New,
             prepared: false,
             step: 1,
             streams,

@@ -10,7 +10,7 @@ ghost use Rattle.lola_store.specs.Tallies.{AllOf-prop};
 ghost use Rattle.std.proofs.Props.{props};
 
 use crate::population::Population;
-use crate::stage::Stage;
+use crate::stage::StorePhase;
 use lola_model::plan::PaneSizes;
 use lola_model::spec::Windows;
 use std::alloc::Global;
@@ -21,7 +21,7 @@ pub struct WholeStore {
     pub(crate) alloc: Global,
     pub(crate) windows: Windows,
     pub(crate) sizes: PaneSizes,
-    pub(crate) stage: Stage,
+    pub(crate) stage: StorePhase,
     pub(crate) prepared: bool,
     /// One more than the number of steps that began, so that no step has number 0.
     pub(crate) step: u64,

@@ -1,7 +1,7 @@
 use Rattle.std.proofs.Common.{◌≡◌, sym, ap, ◌∙◌, ◌+◌, drop, map, false, Bool, ℕ, string_bytes, if◌then◌else◌}
 use Rattle.std.specs.List.{slice_get}
 use Rattle.lola_monitor_command.specs.Said.{with_front, thing_of, said_from}
-use Rattle.lola_monitor_command.specs.declared.said.Thing.TheVariants as thing
+use Rattle.lola_monitor_command.specs.declared.said.WordSense.TheVariants as thing
 use Rattle.lola_monitor_command.proofs.Goes.{word_in_front, wrong_goes, dashes_go, says_goes, regroup}
 use Rattle.lola_monitor_command.proofs.words.all_said.Goals.{then-takes_next, else-takes_next}
 use Rattle.lola_monitor_command.proofs.words.all_said.Goals as goal

@@ -1,10 +1,10 @@
 use Rattle.std.proofs.Common.{◌∙◌, ◌+◌, Some, None, arith, drop, get_or, length, refl}
-use Rattle.lola_step.specs.Schedules.{has_turn}
-use Rattle.lola_step.specs.declared.schedule.Turn.TheVariants as turn
-use Rattle.lola_step.proofs.Between.{AreFoundBelow, found_end, found_first, found_turn}
+use Rattle.lola_step.specs.Schedules.{has_duty}
+use Rattle.lola_step.specs.declared.schedule.Duty.TheVariants as duty
+use Rattle.lola_step.proofs.Between.{AreFoundBelow, found_end, found_first, found_duty}
 use Rattle.lola_step.proofs.Conditions.{finds_closings, found_all, found_fault, found_stream}
 use Rattle.lola_step.proofs.Standing.{room_there}
-use Rattle.lola_step.proofs.Turns.{walk_first, walk_on}
+use Rattle.lola_step.proofs.Duties.{walk_first, walk_on}
 use Rattle.lola_step.proofs.closes.find_closings.Goals as goal
 
 pub loop-number-init : goal.loop-number-init
@@ -14,21 +14,21 @@ loop-number-init g c =
     let remembers = g.S.StreamStore.remembers c.args.store.now in
     let s = g.S.StreamStore.seen c.args.store.now in
     record {
-      walk = walk_first (has_turn plan turn.Close) plan.spec.streams (AreFoundBelow plan m remembers s c.args.closing.now) c.args.turns.now c.requires.turns
+      walk = walk_first (has_duty plan duty.Close) plan.spec.streams (AreFoundBelow plan m remembers s c.args.closing.now) c.args.duties.now c.requires.duties
           (found_first plan m remembers s c.args.closing.now c.requires.none);
       capacity = refl;
     }
 
 pub stream_at-stream-requires : goal.stream_at-stream-requires
-stream_at-stream-requires g c = (found_turn c.args.plan.now c.args.moment.now (g.S.StreamStore.remembers c.args.store.now) (g.S.StreamStore.seen c.args.store.now) c.loop-number.closing c.args.turns.now c.loop-number.number-index c.loop-number.invariant.walk c.loop-number-test.true).below
+stream_at-stream-requires g c = (found_duty c.args.plan.now c.args.moment.now (g.S.StreamStore.remembers c.args.store.now) (g.S.StreamStore.seen c.args.store.now) c.loop-number.closing c.args.duties.now c.loop-number.number-index c.loop-number.invariant.walk c.loop-number-test.true).below
 
 pub find_in_stream-requires-clause-closable : goal.find_in_stream-requires-clause-closable
-find_in_stream-requires-clause-closable g c = (found_turn c.args.plan.now c.args.moment.now (g.S.StreamStore.remembers c.args.store.now) (g.S.StreamStore.seen c.args.store.now) c.loop-number.closing c.args.turns.now c.loop-number.number-index c.loop-number.invariant.walk c.loop-number-test.true).holds.closable
+find_in_stream-requires-clause-closable g c = (found_duty c.args.plan.now c.args.moment.now (g.S.StreamStore.remembers c.args.store.now) (g.S.StreamStore.seen c.args.store.now) c.loop-number.closing c.args.duties.now c.loop-number.number-index c.loop-number.invariant.walk c.loop-number-test.true).holds.closable
 
 pub find_in_stream-requires-clause-room : goal.find_in_stream-requires-clause-room
 find_in_stream-requires-clause-room g c =
-    let t = found_turn c.args.plan.now c.args.moment.now (g.S.StreamStore.remembers c.args.store.now) (g.S.StreamStore.seen c.args.store.now) c.loop-number.closing c.args.turns.now c.loop-number.number-index c.loop-number.invariant.walk c.loop-number-test.true in
-    omega (arith, room_there (g.S.StreamStore.seen c.args.store.now) (get_or c.args.turns.now c.loop-number.number-index 0), t.holds.count, c.loop-number.invariant.capacity)
+    let t = found_duty c.args.plan.now c.args.moment.now (g.S.StreamStore.remembers c.args.store.now) (g.S.StreamStore.seen c.args.store.now) c.loop-number.closing c.args.duties.now c.loop-number.number-index c.loop-number.invariant.walk c.loop-number-test.true in
+    omega (arith, room_there (g.S.StreamStore.seen c.args.store.now) (get_or c.args.duties.now c.loop-number.number-index 0), t.holds.count, c.loop-number.invariant.capacity)
 
 pub returns-in-Some-clause-closable : goal.returns-in-Some-clause-closable
 returns-in-Some-clause-closable g c = c.in-Some.ensures.closable.closable
@@ -39,9 +39,9 @@ returns-in-Some-clause-finds g c =
     let m = c.args.moment.now in
     let remembers = g.S.StreamStore.remembers c.args.store.now in
     let s = g.S.StreamStore.seen c.args.store.now in
-    let n = get_or c.args.turns.now c.loop-number.number-index 0 in
+    let n = get_or c.args.duties.now c.loop-number.number-index 0 in
     let new = c.find_in_stream.new.closing.items in
-    let t = found_turn c.args.plan.now c.args.moment.now (g.S.StreamStore.remembers c.args.store.now) (g.S.StreamStore.seen c.args.store.now) c.loop-number.closing c.args.turns.now c.loop-number.number-index c.loop-number.invariant.walk c.loop-number-test.true in
+    let t = found_duty c.args.plan.now c.args.moment.now (g.S.StreamStore.remembers c.args.store.now) (g.S.StreamStore.seen c.args.store.now) c.loop-number.closing c.args.duties.now c.loop-number.number-index c.loop-number.invariant.walk c.loop-number-test.true in
     finds_closings plan c.requires.accepted m remembers s c.requires.of (Some (n, c.in-Some.kind)) new
     (found_fault plan m remembers s n c.stream_at-stream.result.now c.stream_at-stream.ensures c.loop-number.closing.items new t.holds.found c.in-Some.kind c.in-Some.ensures.finds)
 
@@ -51,12 +51,12 @@ loop-number-preserved g c =
     let m = c.args.moment.now in
     let remembers = g.S.StreamStore.remembers c.args.store.now in
     let s = g.S.StreamStore.seen c.args.store.now in
-    let n = get_or c.args.turns.now c.loop-number.number-index 0 in
+    let n = get_or c.args.duties.now c.loop-number.number-index 0 in
     let new = c.find_in_stream.new.closing in
-    let t = found_turn c.args.plan.now c.args.moment.now (g.S.StreamStore.remembers c.args.store.now) (g.S.StreamStore.seen c.args.store.now) c.loop-number.closing c.args.turns.now c.loop-number.number-index c.loop-number.invariant.walk c.loop-number-test.true in
+    let t = found_duty c.args.plan.now c.args.moment.now (g.S.StreamStore.remembers c.args.store.now) (g.S.StreamStore.seen c.args.store.now) c.loop-number.closing c.args.duties.now c.loop-number.number-index c.loop-number.invariant.walk c.loop-number-test.true in
     record {
-      walk = walk_on (has_turn plan turn.Close) plan.spec.streams (AreFoundBelow plan m remembers s c.loop-number.closing) (AreFoundBelow plan m remembers s new)
-          n (drop (c.loop-number.number-index + 1) c.args.turns.now) t (record {
+      walk = walk_on (has_duty plan duty.Close) plan.spec.streams (AreFoundBelow plan m remembers s c.loop-number.closing) (AreFoundBelow plan m remembers s new)
+          n (drop (c.loop-number.number-index + 1) c.args.duties.now) t (record {
             closable = c.find_in_stream.ensures.closable;
             found = found_stream plan m remembers s n c.stream_at-stream.result.now c.stream_at-stream.ensures c.loop-number.closing.items new.items t.holds.found c.in_default.ensures.finds;
             count = omega (arith, c.find_in_stream.ensures.count, room_there s n, t.holds.count);
@@ -65,7 +65,7 @@ loop-number-preserved g c =
     }
 
 pub returns-clause-closable : goal.returns-clause-closable
-returns-clause-closable g c = (found_end c.args.plan.now c.args.moment.now (g.S.StreamStore.remembers c.args.store.now) (g.S.StreamStore.seen c.args.store.now) c.loop-number.closing c.args.turns.now c.loop-number.number-index c.loop-number.invariant.walk (omega arith)).closable.closable
+returns-clause-closable g c = (found_end c.args.plan.now c.args.moment.now (g.S.StreamStore.remembers c.args.store.now) (g.S.StreamStore.seen c.args.store.now) c.loop-number.closing c.args.duties.now c.loop-number.number-index c.loop-number.invariant.walk (omega arith)).closable.closable
 
 pub returns-clause-finds : goal.returns-clause-finds
 returns-clause-finds g c =
@@ -73,6 +73,6 @@ returns-clause-finds g c =
     let m = c.args.moment.now in
     let remembers = g.S.StreamStore.remembers c.args.store.now in
     let s = g.S.StreamStore.seen c.args.store.now in
-    let e = found_end c.args.plan.now c.args.moment.now (g.S.StreamStore.remembers c.args.store.now) (g.S.StreamStore.seen c.args.store.now) c.loop-number.closing c.args.turns.now c.loop-number.number-index c.loop-number.invariant.walk (omega arith) in
+    let e = found_end c.args.plan.now c.args.moment.now (g.S.StreamStore.remembers c.args.store.now) (g.S.StreamStore.seen c.args.store.now) c.loop-number.closing c.args.duties.now c.loop-number.number-index c.loop-number.invariant.walk (omega arith) in
     finds_closings plan c.requires.accepted m remembers s c.requires.of None c.loop-number.closing.items
     (found_all plan m remembers s (length plan.spec.streams) c.loop-number.closing.items (omega arith) e.found)

@@ -17,7 +17,7 @@ pub add_asked-requires-clause-tasks_room : goal.add_asked-requires-clause-tasks_
 add_asked-requires-clause-tasks_room g c =
     let counted =
     count_asked c.args.plan.now c.args.moment.now c.args.spawn_results.now c.args.sought.now (g.S.StreamStore.seen c.args.store.now) c.args.layer c.args.n c.args.stream.now c.sought_of-whereabouts.result c.eval_pacing_at-pacing.result.now
-    (sym (c.runs_now.ensures.runs c.args.layer c.args.stream.now c.requires.turn) ∙ c.if-runs_now.true) c.sought_of-whereabouts.ensures (c.eval_pacing_at-pacing.ensures ∙ ap (λ ps. eval_pacing (slice_get ps c.args.n)) c.as_slice.ensures) in
+    (sym (c.runs_now.ensures.runs c.args.layer c.args.stream.now c.requires.duty) ∙ c.if-runs_now.true) c.sought_of-whereabouts.ensures (c.eval_pacing_at-pacing.ensures ∙ ap (λ ps. eval_pacing (slice_get ps c.args.n)) c.as_slice.ensures) in
     omega (arith, c.requires.tasks_room, counted)
 
 pub add_asked-requires-clause-single : goal.add_asked-requires-clause-single
@@ -40,7 +40,7 @@ returns-then-runs_now-clause-tasks g c =
     c.add_asked.ensures.tasks
     ∙ ap (λ ts. c.args.tasks.now.items ++ ts)
     (tasks_asked c.args.plan.now c.args.moment.now c.args.spawn_results.now c.args.sought.now (g.S.StreamStore.seen c.args.store.now) c.args.layer c.args.n c.args.stream.now c.sought_of-whereabouts.result c.eval_pacing_at-pacing.result.now
-    (sym (c.runs_now.ensures.runs c.args.layer c.args.stream.now c.requires.turn) ∙ c.if-runs_now.true) c.sought_of-whereabouts.ensures (c.eval_pacing_at-pacing.ensures ∙ ap (λ ps. eval_pacing (slice_get ps c.args.n)) c.as_slice.ensures))
+    (sym (c.runs_now.ensures.runs c.args.layer c.args.stream.now c.requires.duty) ∙ c.if-runs_now.true) c.sought_of-whereabouts.ensures (c.eval_pacing_at-pacing.ensures ∙ ap (λ ps. eval_pacing (slice_get ps c.args.n)) c.as_slice.ensures))
 
 -- a list with more is no shorter
 no_less : (a b n m : ℕ) (old new more : List Task) → a ≡ n → n ≡ length old → b ≡ m → m ≡ length new → new ≡ old ++ more → a ≤ b
@@ -58,4 +58,4 @@ returns-else-runs_now-clause-tasks g c =
     let old = c.args.tasks.now.items in
     let asked = asked_tasks c.args.plan.now c.args.moment.now c.args.spawn_results.now c.args.sought.now (g.S.StreamStore.seen c.args.store.now) c.args.layer c.args.n in
     sym (append-nil old)
-    ∙ ap (λ b. old ++ (if b then asked else [])) (sym (sym (c.runs_now.ensures.runs c.args.layer c.args.stream.now c.requires.turn) ∙ c.if-runs_now.false))
+    ∙ ap (λ b. old ++ (if b then asked else [])) (sym (sym (c.runs_now.ensures.runs c.args.layer c.args.stream.now c.requires.duty) ∙ c.if-runs_now.false))

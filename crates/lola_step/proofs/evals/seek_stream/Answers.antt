@@ -29,7 +29,7 @@ seek-requires-clause-asks g c =
     let alike : is_local c.eval_pacing_at.result.now ≡ false = search rules in
     let pacing = c.eval_pacing_at.ensures ∙ ap (λ ps. eval_pacing (slice_get ps c.args.n)) c.as_slice.ensures in
     eval_may_ask_when c.args.plan.now c.args.moment.now (g.S.StreamStore.remembers c.args.store.now) (g.S.StreamStore.seen c.args.store.now) c.args.n c.args.stream.now c.in-Some.clause
-    c.requires.there c.in-Some.is c.requires.accepted c.args.spawn_results.now [] c.args.layer c.requires.at c.requires.moment (sym (c.runs.ensures c.args.layer c.args.stream.now c.requires.turn) ∙ c.if-not-runs.false)
+    c.requires.there c.in-Some.is c.requires.accepted c.args.spawn_results.now [] c.args.layer c.requires.at c.requires.moment (sym (c.runs.ensures c.args.layer c.args.stream.now c.requires.duty) ∙ c.if-not-runs.false)
     (subst (λ (o : Option Pacing). is_local o ≡ false) pacing alike)
 
 pub returns-in_default-eval_pacing_at : goal.returns-in_default-eval_pacing_at

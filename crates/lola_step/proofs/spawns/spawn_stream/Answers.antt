@@ -5,7 +5,7 @@ use Rattle.lola_model.specs.Graph.{layer_of, spawn_node}
 use Rattle.lola_model.specs.Model.{spawn_pacing}
 use Rattle.lola_step.specs.Moments.{active_in}
 use Rattle.lola_step.proofs.Layouts.{pacings_length}
-use Rattle.lola_step.proofs.SpawnTurns.{asked_next, few_names, is_for, may_ask, may_spawn, names_each, no_clause_next, other_layer_next, passive_next}
+use Rattle.lola_step.proofs.SpawnDuties.{asked_next, few_names, is_for, may_ask, may_spawn, names_each, no_clause_next, other_layer_next, passive_next}
 use Rattle.lola_step.proofs.spawns.spawn_stream.Goals as goal
 
 pub returns-then-layer_at-layer : goal.returns-then-layer_at-layer

@@ -61,5 +61,5 @@ returns-clause-concludes g c names rows step run moment noted stands =
     c.deref-4.ensures.value c.deref-5.ensures.value c.deref-6.ensures.value c.collect.ensures.values)
     c.close_all.ensures.stands names rows step run moment noted stands
 
-pub collect-requires-clause-turns : goal.collect-requires-clause-turns
-collect-requires-clause-turns g c = c.shown.ensures c.args.plan.now c.requires.made.schedule
+pub collect-requires-clause-duties : goal.collect-requires-clause-duties
+collect-requires-clause-duties g c = c.shown.ensures c.args.plan.now c.requires.made.schedule

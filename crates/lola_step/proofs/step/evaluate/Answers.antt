@@ -55,16 +55,16 @@ pub spawns_in-requires : goal.spawns_in-requires
 spawns_in-requires g c =
     omega (arith, c.loop-layer-test.true, c.loop-layer.invariant.layers, c.requires.made.scheduled, ap (λ (s : Schedule). length s.layers.items) c.loop-layer.invariant.schedule)
 
-pub spawn_layer-failed-requires-clause-turns : goal.spawn_layer-failed-requires-clause-turns
-spawn_layer-failed-requires-clause-turns g c =
+pub spawn_layer-failed-requires-clause-duties : goal.spawn_layer-failed-requires-clause-duties
+spawn_layer-failed-requires-clause-duties g c =
     c.spawns_in.ensures c.args.plan.now (subst (IsScheduleOf c.args.plan.now) (sym c.loop-layer.invariant.schedule) c.requires.made.schedule)
 
 pub evals_in-requires : goal.evals_in-requires
 evals_in-requires g c =
     omega (arith, c.loop-layer-test.true, c.loop-layer.invariant.layers, c.requires.made.scheduled, ap (λ (s : Schedule). length s.layers.items) c.loop-layer.invariant.schedule)
 
-pub eval_layer-given-requires-clause-turns : goal.eval_layer-given-requires-clause-turns
-eval_layer-given-requires-clause-turns g c κs within =
+pub eval_layer-given-requires-clause-duties : goal.eval_layer-given-requires-clause-duties
+eval_layer-given-requires-clause-duties g c κs within =
     c.evals_in.ensures c.args.plan.now (subst (IsScheduleOf c.args.plan.now) (sym c.loop-layer.invariant.schedule) c.requires.made.schedule)
 
 pub seeks_in-requires : goal.seeks_in-requires

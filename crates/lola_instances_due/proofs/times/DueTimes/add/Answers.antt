@@ -2,7 +2,7 @@ use Rattle.std.proofs.Common.{◌≡◌, ℕ, suc, ◌≤◌, ◌+◌, ◌∷◌
 use Rattle.std.proofs.lemmas.List.{length-append}
 use Rattle.std.proofs.lemmas.List.Sorted.{length_permutation}
 use Rattle.lola_model.specs.StepOrder.{AreRates}
-use Rattle.lola_instances_due.specs.declared.queue.Entry.{Entry}
+use Rattle.lola_instances_due.specs.declared.queue.Birth.{Birth}
 use Rattle.lola_instances_due.specs.Moments.{due_at}
 use Rattle.lola_instances_due.specs.Queues.{births_of, HasBirths}
 use Rattle.lola_instances_due.proofs.Births.{added}
@@ -17,7 +17,7 @@ invariant_of-self c =
     let old = c.self.inside.queue.items in
     let new = c.put.new.queue.items in
     let h = c.self.invariant in
-    let e : Entry = record { due = c.next_due-due.result; born = c.args.born } in
+    let e : Birth = record { due = c.next_due-due.result; born = c.args.born } in
     let are : AreRates rates = subst AreRates c.as_slice.ensures.value c.next_due-due.ensures.rates in
     let due : e.due ≡ due_at rates c.args.born passed = c.next_due-due.ensures.due ∙ ap (λ rs. due_at rs c.args.born passed) c.as_slice.ensures.value in
     let some : 1 ≤ c.self.inside.room = search rules in

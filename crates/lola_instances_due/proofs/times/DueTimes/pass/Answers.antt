@@ -1,7 +1,7 @@
 use Rattle.std.proofs.Common.{◌≡◌, length, subst, sym, arith}
 use Rattle.std.proofs.lemmas.List.{length-map}
 use Rattle.std.proofs.lemmas.List.Sorted.{length_permutation}
-use Rattle.lola_instances_due.specs.declared.queue.Entry.{Entry}
+use Rattle.lola_instances_due.specs.declared.queue.Birth.{Birth}
 use Rattle.lola_instances_due.specs.Queues.{births_of, IsQueue}
 use Rattle.lola_instances_due.proofs.Births.{moved}
 use Rattle.lola_instances_due.proofs.Queues.{still_right}
@@ -19,8 +19,8 @@ invariant_of-self c =
     let new = c.renew.new.queue.items in
     let h = c.self.invariant in
     let same : length (births_of new) ≡ length (births_of old) = length_permutation (births_of old) (births_of new) c.renew.ensures.births in
-    let long : length (births_of new) ≡ length new = length-map new (λ (e : Entry). e.born) in
-    let was : length (births_of old) ≡ length old = length-map old (λ (e : Entry). e.born) in
+    let long : length (births_of new) ≡ length new = length-map new (λ (e : Birth). e.born) in
+    let was : length (births_of old) ≡ length old = length-map old (λ (e : Birth). e.born) in
     record {
       right = subst (λ rs. IsQueue rs c.args.moment new) c.as_slice.ensures.value c.renew.ensures.queue;
       same = moved c.self.inside.births.items (births_of old) (births_of new) h.same c.renew.ensures.births;

@@ -1,7 +1,7 @@
 use Rattle.std.proofs.Common.{◌≡◌, ◌<◌, ◌+◌, ℕ, List, length, ap, subst, sym, ◌∙◌, arith}
 use Rattle.std.proofs.lemmas.Grind.{common_steps}
 use Rattle.std.proofs.lemmas.List.Edits.{length-remove}
-use Rattle.lola_instances_due.specs.declared.queue.Entry.{Entry}
+use Rattle.lola_instances_due.specs.declared.queue.Birth.{Birth}
 use Rattle.lola_instances_due.specs.Queues.{births_of, HasBirths}
 use Rattle.lola_instances_due.proofs.Births.{is_queued, removed}
 use Rattle.lola_instances_due.proofs.Queues.{others_right}
@@ -21,7 +21,7 @@ invariant_of-self c =
     let w = c.take_out.ensures.without in
     let within : c.args.index < length births = grind (arith, common_steps) in
     let fewer : length c.remove-born.new.self.items + 1 ≡ length births = ap (λ (bs : List ℕ). length bs + 1) c.remove-born.ensures.items ∙ length-remove births c.args.index within in
-    let less : length new + 1 ≡ length old = ap (λ (es : List Entry). length es + 1) w.rest ∙ length-remove old w.place w.within in
+    let less : length new + 1 ≡ length old = ap (λ (es : List Birth). length es + 1) w.rest ∙ length-remove old w.place w.within in
     record {
       right = others_right c.self.inside.rates.items c.self.inside.passed c.remove-born.result old new h.right w;
       same = subst (λ bs. HasBirths bs (births_of new)) (sym c.remove-born.ensures.items) (removed births c.args.index c.remove-born.result old new h.same within c.remove-born.ensures.value w);

@@ -3,7 +3,7 @@ use Rattle.lola_rows.specs.Lines.{without_mark}
 use Rattle.lola_rows.specs.Places.{layout_columns}
 use Rattle.lola_rows.specs.Reading.{Reading}
 use Rattle.lola_rows.specs.Window.{items}
-use Rattle.lola_rows.specs.declared.stage.Stage.TheVariants as stage
+use Rattle.lola_rows.specs.declared.stage.Section.TheVariants as stage
 use Rattle.lola_rows.proofs.Readers.{filled-shows, goes-then-goes, reading, unmarked}
 use Rattle.lola_rows.proofs.reader.RowReader.drop_mark.Goals as goal
 

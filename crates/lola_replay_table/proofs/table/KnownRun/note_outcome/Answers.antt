@@ -4,7 +4,7 @@ use Rattle.lola_replay_table.specs.Open.{changed_at, with_life_outcome}
 use Rattle.lola_replay_table.specs.declared.table.KnownLife.{KnownLife}
 use Rattle.lola_replay_table.specs.declared.table.KnownStream.{KnownStream}
 use Rattle.lola_replay_table.proofs.ChangedLists.{set-changed}
-use Rattle.lola_replay_table.proofs.table.Known.note_outcome.Goals as goal
+use Rattle.lola_replay_table.proofs.table.KnownRun.note_outcome.Goals as goal
 
 pub returns : goal.returns
 returns c =

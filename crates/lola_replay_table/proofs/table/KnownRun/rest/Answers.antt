@@ -3,7 +3,7 @@ use Rattle.lola_replay_table.specs.Open.{changed_at}
 use Rattle.lola_replay_table.specs.Resting.{rested_stream}
 use Rattle.lola_replay_table.specs.declared.table.KnownStream.{KnownStream}
 use Rattle.lola_replay_table.proofs.ChangedLists.{on-ok, set-changed}
-use Rattle.lola_replay_table.proofs.table.Known.rest.Goals as goal
+use Rattle.lola_replay_table.proofs.table.KnownRun.rest.Goals as goal
 
 pub returns : goal.returns
 returns c =

@@ -2,7 +2,7 @@ use Rattle.std.proofs.Common.{◌≡◌, ◌<◌, ◌∙◌, List, ap, length, s
 use Rattle.lola_replay_table.specs.Open.{changed_at, with_spawn}
 use Rattle.lola_replay_table.specs.declared.table.KnownStream.{KnownStream}
 use Rattle.lola_replay_table.proofs.ChangedLists.{on-ok, set-changed}
-use Rattle.lola_replay_table.proofs.table.Known.note_spawn.Goals as goal
+use Rattle.lola_replay_table.proofs.table.KnownRun.note_spawn.Goals as goal
 
 pub returns : goal.returns
 returns c =

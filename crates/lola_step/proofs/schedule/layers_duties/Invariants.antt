@@ -1,9 +1,9 @@
 use Rattle.std.proofs.Common.{◌≡◌, ℕ, Some, length, slice_get}
 use Rattle.lola_step.specs.Schedules.{IsLayerOf}
 use Rattle.lola_step.specs.declared.schedule.Layer.{Layer}
-use Rattle.lola_step.proofs.schedule.layers_turns.Given as goal
+use Rattle.lola_step.proofs.schedule.layers_duties.Given as goal
 
--- so many layers have their turns
+-- so many layers have their duties
 abbrev pub invariant-loop-layer : goal.invariant-loop-layer
 invariant-loop-layer l = record {
   count : length l.layers.items ≡ l.layer;
