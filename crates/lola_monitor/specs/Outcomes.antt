@@ -282,7 +282,7 @@ malformed_by (Some m) = sources_end.Malformed m.source m.row m.kind
 
 -- how sources ended together: a failed read comes before a malformed line
 abbrev pub end_by : Option ℕ → Option MalformedSource → SourcesEnd
-end_by (Some at) m = sources_end.Failed at
+end_by (Some at) m = sources_end.ReadFailed at
 end_by None m = malformed_by m
 
 abbrev pub end_of : List (Option worker.SourceEnd) → SourcesEnd
@@ -291,7 +291,7 @@ end_of ends = end_by (first_failed ends) (first_malformed (map source_end ends))
 -- the last line of a run that no fault ended
 abbrev pub line_of : SourcesEnd → Keeping → EndLine
 line_of sources_end.Whole kept = Done kept.accepted kept.late kept.state.steps kept.state.lines
-line_of (sources_end.Failed at) kept = UnreadableSource at
+line_of (sources_end.ReadFailed at) kept = UnreadableSource at
 line_of (sources_end.Malformed source row kind) kept = Malformed source row kind
 
 -- what a run's end makes of a call

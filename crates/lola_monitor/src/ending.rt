@@ -22,7 +22,7 @@ pub enum SourcesEnd {
     /// Each source ended well.
     Whole,
     /// A read of the source of this number failed.
-    Failed(u32),
+    ReadFailed(u32),
     /// The source of this number has a malformed line, the row of this number (the heading is row 0).
     Malformed {
         source: u32,
@@ -82,7 +82,7 @@ pub fn end_of<S: Source>(workers: &[SourceWorker<S>]) -> SourcesEnd
     ensures { result ≡ end_of_all (ends_of workers.now) }
 {
     match failed_in(workers) {
-        Some(at) => SourcesEnd::Failed(at),
+        Some(at) => SourcesEnd::ReadFailed(at),
         None => malformed_in(workers),
     }
 }
@@ -110,7 +110,7 @@ fn last_line(run: &Run, end: SourcesEnd) -> EndLine
     ensures { result ≡ line_of end (keeping run.now) }
 {
     match end {
-        SourcesEnd::Failed(at) => EndLine::UnreadableSource(at),
+        SourcesEnd::ReadFailed(at) => EndLine::UnreadableSource(at),
         SourcesEnd::Malformed { source, row, kind } => EndLine::Malformed { source, row, kind },
         SourcesEnd::Whole => {
             let counts = run.counts();
