@@ -6,7 +6,7 @@ use Rattle.lola_model.specs.Model.{filled_kind}
 use Rattle.lola_model.specs.Acceptance.{IsAccepted}
 use Rattle.lola_model.specs.Pacings.{pacings_from}
 use Rattle.lola_model.specs.Store.{kind_in, layouts_from, never_spawns, parameters_of, spawns_in}
-use Rattle.lola_model.specs.declared.finding.Finding.{Finding}
+use Rattle.lola_model.specs.declared.finding.FoundPacing.{FoundPacing}
 use Rattle.lola_model.specs.declared.pacing.ClausePacings.{ClausePacings}
 use Rattle.lola_model.specs.declared.plan.Plan.{Plan}
 use Rattle.lola_model.specs.declared.spec.Clause.{Clause}
@@ -54,7 +54,7 @@ pub stream_of_duty : (xs ss : List Stream) (n : ℕ) (s : Stream) → xs ≡ ss 
 stream_of_duty xs ss n s e lt is = ap (λ ys. slice_get ys n) (sym e) ∙ slice_get_read xs (length xs) n s refl lt is
 
 -- as many pacings as streams
-paced_length : (spawns evals closes : List Finding) (n : ℕ) (ss : List Stream) → length (pacings_from spawns evals closes n ss) ≡ length ss
+paced_length : (spawns evals closes : List FoundPacing) (n : ℕ) (ss : List Stream) → length (pacings_from spawns evals closes n ss) ≡ length ss
 paced_length spawns evals closes n [] = refl
 paced_length spawns evals closes n (s ∷ ss) = ap suc (paced_length spawns evals closes (n + 1) ss)
 
