@@ -1,14 +1,12 @@
 -- One more value.
-use Rattle.std.proofs.Common.{◌≡◌, ◌≢◌, ℕ, ◌+◌, ◌-◌, ◌≤◌, ◌<◌, ◌^◌, List, [], ◌∷◌, ◌++◌, length, drop, refl, ap, sym, ◌∙◌, subst, arith, Option, Some, None, ℤ, pos, negsuc, ◌+ℤ◌, ◌≤ℤ◌, length-append, append_assoc, Bool, true, false, inl, inr, FitsSigned, IsTrue, if◌then◌else◌}
+use Rattle.std.proofs.Common.{◌≡◌, ◌≢◌, ℕ, ◌+◌, ◌-◌, ◌≤◌, ◌<◌, ◌^◌, List, [], ◌∷◌, ◌++◌, length, drop, refl, ap, sym, ◌∙◌, subst, arith, Option, Some, None, ℤ, pos, ◌+ℤ◌, append_assoc, Bool, true, false, inl, inr, FitsSigned, IsTrue, if◌then◌else◌}
 use Rattle.std.specs.Int.{w128}
-use Rattle.std.proofs.lemmas.List.{map-append, length-map}
 use Rattle.std.proofs.lemmas.Int.{ints}
-use Rattle.std.proofs.Math.IntN.{+ℤ_idr}
 use Rattle.circular_buffer.specs.Buffer.{keep_last, buffer, Buffer}
 use Rattle.circular_buffer.proofs.Places.{below_or_not, cut_end}
 use Rattle.lola_model.specs.declared.spec.Agg.{Agg}
 use Rattle.lola_model.specs.declared.spec.Agg.TheVariants as agg
-use Rattle.lola_model.specs.Windows.{total, number_of, truth_of}
+use Rattle.lola_model.specs.Windows.{number_of, truth_of}
 use Rattle.lola_value.specs.Kinds.{is_of_kind}
 use Rattle.lola_value.specs.declared.value.Kind.{Kind}
 use Rattle.lola_value.specs.declared.value.Kind.TheVariants as kind
@@ -18,15 +16,15 @@ use Rattle.lola_value.specs.declared.text.Field.{Field}
 use Rattle.lola_value.specs.Naming.{Naming, read, the_text, text_at}
 use Rattle.lola_panes.specs.declared.pane.Pane.{Pane}
 use Rattle.lola_panes.specs.Weights.{number_at, weight_of, weight_of_value, number_of_value, truth_of_value, as_number}
-use Rattle.lola_panes.specs.Rings.{new_pane, with_value, noted, unbeaten, left_by, Rising, AllUpTo}
+use Rattle.lola_panes.specs.Rings.{new_pane, with_value, noted, unbeaten, bettered, Rising, AllUpTo}
 use Rattle.lola_panes.specs.Answers.{is_extreme}
-use Rattle.lola_panes.specs.Holding.{weights, AllLeft, AllSmall, Grouped, HoldsTotals, HoldsBy, Holds}
-use Rattle.lola_panes.proofs.Folds.{total-append}
-use Rattle.lola_panes.proofs.Offsets.{number_monotone}
-use Rattle.lola_panes.proofs.Reading.{total-fits}
+use Rattle.lola_panes.specs.Holding.{AllLeft, Grouped, HoldsPanes, HoldsBest}
+use Rattle.lola_panes.specs.Standing.{StandFor, no_values, newest_of}
+use Rattle.lola_panes.specs.Tallies.{AtMost, heaviest}
+use Rattle.lola_panes.proofs.Reaching.{reach-none, reach-grow, reach-fits}
 use Rattle.lola_panes.proofs.Rising.{AllUpTo-later, AllUpTo-append, AllUpTo-front, AllUpTo-last, AllUpTo-drop, noted-rising}
 use Rattle.lola_panes.proofs.Noting.{noted-same, noted-other}
-use Rattle.lola_panes.proofs.Extremes.{best-add, Rising-unbeaten, AllUpTo-unbeaten}
+use Rattle.lola_panes.proofs.Extremes.{best-add, best-later, Rising-unbeaten, AllUpTo-unbeaten}
 use Rattle.lola_panes.proofs.Grouping.{grouped-new, grouped-same, grouped-below, drops, AllLeft-append, AllLeft-later}
 
 -- values, and what they are read as, weigh the same
@@ -58,50 +56,50 @@ weight_read agg.Avg names v = number_read names v
 weight_read agg.Forall names v = ap as_number (truth_read names v)
 weight_read agg.Exists names v = ap as_number (truth_read names v)
 
--- a number below 2 ^ 64 in size, as each value of a kind is
-abbrev pub IsSmall : ℤ → Type 0
-IsSmall z = (negsuc 18446744073709551614 ≤ℤ z) × (z ≤ℤ pos 18446744073709551615)
+-- no value counts for more than the heaviest
 
-number_small : (k : Kind) (v : Value) → IsTrue (is_of_kind k v) → IsSmall (number_of_value v)
-number_small k (value.Bool b) h = (omega (arith, ints), omega (arith, ints))
-number_small k (value.Text id) h = (omega (arith, ints), omega (arith, ints))
-number_small kind.Bool (value.Int z) h = cc
-number_small kind.Text (value.Int z) h = cc
-number_small kind.Int8 (value.Int z) h = grind (arith, ints)
-number_small kind.Int16 (value.Int z) h = grind (arith, ints)
-number_small kind.Int32 (value.Int z) h = grind (arith, ints)
-number_small kind.Int64 (value.Int z) h = grind (arith, ints)
-number_small kind.UInt8 (value.Int z) h = grind (arith, ints)
-number_small kind.UInt16 (value.Int z) h = grind (arith, ints)
-number_small kind.UInt32 (value.Int z) h = grind (arith, ints)
-number_small kind.UInt64 (value.Int z) h = grind (arith, ints)
+number_light : (k : Kind) (v : Value) → IsTrue (is_of_kind k v) → AtMost 18446744073709551615 (number_of_value v)
+number_light k (value.Bool b) h = (omega (arith, ints), omega (arith, ints))
+number_light k (value.Text id) h = (omega (arith, ints), omega (arith, ints))
+number_light kind.Bool (value.Int z) h = cc
+number_light kind.Text (value.Int z) h = cc
+number_light kind.Int8 (value.Int z) h = grind (arith, ints)
+number_light kind.Int16 (value.Int z) h = grind (arith, ints)
+number_light kind.Int32 (value.Int z) h = grind (arith, ints)
+number_light kind.Int64 (value.Int z) h = grind (arith, ints)
+number_light kind.UInt8 (value.Int z) h = grind (arith, ints)
+number_light kind.UInt16 (value.Int z) h = grind (arith, ints)
+number_light kind.UInt32 (value.Int z) h = grind (arith, ints)
+number_light kind.UInt64 (value.Int z) h = grind (arith, ints)
 
-as_number_small : (b : Bool) → IsSmall (as_number b)
-as_number_small true = (omega (arith, ints), omega (arith, ints))
-as_number_small false = (omega (arith, ints), omega (arith, ints))
+truth_light : (b : Bool) → AtMost 1 (as_number b)
+truth_light true = (omega (arith, ints), omega (arith, ints))
+truth_light false = (omega (arith, ints), omega (arith, ints))
 
-pub weight_small : (how : Agg) (k : Kind) (v : Value) → IsTrue (is_of_kind k v) → IsSmall (weight_of_value how v)
-weight_small agg.Count k v h = number_small k v h
-weight_small agg.Sum k v h = number_small k v h
-weight_small agg.Min k v h = number_small k v h
-weight_small agg.Max k v h = number_small k v h
-weight_small agg.Avg k v h = number_small k v h
-weight_small agg.Forall k v h = as_number_small (truth_of_value v)
-weight_small agg.Exists k v h = as_number_small (truth_of_value v)
+pub weight_light : (how : Agg) (k : Kind) (v : Value) → IsTrue (is_of_kind k v) → AtMost (heaviest how) (weight_of_value how v)
+weight_light agg.Count k v h = number_light k v h
+weight_light agg.Sum k v h = number_light k v h
+weight_light agg.Min k v h = number_light k v h
+weight_light agg.Max k v h = number_light k v h
+weight_light agg.Avg k v h = number_light k v h
+weight_light agg.Forall k v h = truth_light (truth_of_value v)
+weight_light agg.Exists k v h = truth_light (truth_of_value v)
 
-AllSmall-append : (xs ys : List ℤ) → AllSmall xs → AllSmall ys → AllSmall (xs ++ ys)
-AllSmall-append [] ys h g = g
-AllSmall-append (x ∷ xs) ys h g = (h.0, AllSmall-append xs ys h.1 g)
+-- the newest of some values and one more is that one
+pub newest_more : (pane : ℕ) (all : List (ℕ × Field)) (v : ℕ × Field) → newest_of pane (all ++ v ∷ []) ≡ Some (number_at pane v.0)
+newest_more pane [] v = refl
+newest_more pane (x ∷ []) v = refl
+newest_more pane (x ∷ y ∷ vs) v = newest_more pane (y ∷ vs) v
 
 module _ (how : Agg) (pane : ℕ) where
   -- the panes with one more value
-  grouped-noted : (sum : ℤ) (added last : ℕ) (ring : List Pane) (here : List (ℕ × Field)) (v : ℕ × Field)
+  grouped-noted : (sum : ℤ) (added last : ℕ) (ring : List Pane) (here : List (ℕ × Field)) (v : ℕ × Field) → added < 2 ^ 63 → AtMost (heaviest how) (weight_of how v.1)
       → Grouped how pane sum added 0 ring here → AllUpTo last ring → last ≤ number_at pane v.0
       → let rs = noted how (number_at pane v.0) added sum (weight_of how v.1) ring in
       Grouped how pane (sum +ℤ weight_of how v.1) (added + 1) 0 rs (here ++ v ∷ []) × AllUpTo (number_at pane v.0) rs
-  grouped-noted sum added last [] here v h u l =
-      (grouped-new how pane sum added 0 (number_at pane v.0) [] here v h tt (omega arith) refl, (omega arith, tt))
-  grouped-noted sum added last (x ∷ xs) here v h u l =
+  grouped-noted sum added last [] here v b g h u l =
+      (grouped-new how pane sum added 0 (number_at pane v.0) [] here v b g h tt (omega arith) refl, (omega arith, tt))
+  grouped-noted sum added last (x ∷ xs) here v b g h u l =
       let w = weight_of how v.1 in
       let n = number_at pane v.0 in
       let on = cut_end (x ∷ xs) (omega arith) in
@@ -113,13 +111,13 @@ module _ (how : Agg) (pane : ℕ) where
         | inl less ↦
             let ne : on.1.number ≢ n = λ q. omega arith in
             rw (noted-other how n added sum w on.0 on.1 ne) (
-              grouped-new how pane sum added 0 n (on.0 ++ on.1 ∷ []) here v h' (grouped-below how pane sum added 0 n on.0 on.1 here h' less) (omega arith) refl,
+              grouped-new how pane sum added 0 n (on.0 ++ on.1 ∷ []) here v b g h' (grouped-below how pane sum added 0 n on.0 on.1 here h' less) (omega arith) refl,
               AllUpTo-append n (on.0 ++ on.1 ∷ []) (new_pane n added sum w ∷ []) (AllUpTo-later last n (on.0 ++ on.1 ∷ []) u' l) (omega arith, tt),
             )
         | inr more ↦
             let e : on.1.number ≡ n = omega arith in
             rw (noted-same how n added sum w on.0 on.1 e) (
-              grouped-same how pane sum added 0 on.0 on.1 here v h' (sym e),
+              grouped-same how pane sum added 0 on.0 on.1 here v b g h' (sym e),
               AllUpTo-append n on.0 (with_value how w on.1 ∷ []) (AllUpTo-later last n on.0 (AllUpTo-front last on.0 (on.1 ∷ []) u') l) (omega arith, tt),
             )
       ])
@@ -136,72 +134,70 @@ module _ (how : Agg) (pane : ℕ) where
       ]
 
   -- panes that hold some values hold one more after it was noted
-  pub holds-add : (most newest : ℕ) (sum : ℤ) (added : ℕ) (ring : List Pane) (all : List (ℕ × Field)) (v : ℕ × Field)
-      → 1 ≤ pane → 1 ≤ most → newest ≤ v.0 → IsSmall (weight_of how v.1) → HoldsTotals how pane most newest sum added ring all
-      → HoldsTotals how pane most v.0 (sum +ℤ weight_of how v.1) (added + 1) (keep_last most (noted how (number_at pane v.0) added sum (weight_of how v.1) ring)) (all ++ v ∷ [])
-  holds-add most newest sum added ring all v g m l s h =
+  pub holds-add : (most last : ℕ) (sum : ℤ) (added : ℕ) (ring : List Pane) (all : List (ℕ × Field)) (v : ℕ × Field)
+      → 1 ≤ most → last ≤ number_at pane v.0 → added < 2 ^ 63 → AtMost (heaviest how) (weight_of how v.1) → HoldsPanes how pane most last sum added ring all
+      → HoldsPanes how pane most (number_at pane v.0) (sum +ℤ weight_of how v.1) (added + 1) (keep_last most (noted how (number_at pane v.0) added sum (weight_of how v.1) ring)) (all ++ v ∷ [])
+  holds-add most last sum added ring all v m later b g h =
       let p = h.2 in
       let n = number_at pane v.0 in
       let w = weight_of how v.1 in
-      let later : number_at pane newest ≤ n = number_monotone pane newest v.0 g l in
       let rs = noted how n added sum w ring in
-      let one = grouped-noted sum added (number_at pane newest) ring h.1 v p.grouped p.up_to later in
+      let one = grouped-noted sum added last ring h.1 v b g p.grouped p.up_to later in
       let on = kept (sum +ℤ w) (added + 1) most n rs (h.1 ++ v ∷ []) m one.0 one.1 in (
         h.0 ++ on.0,
         on.1,
         record {
           split = ap (λ vs. vs ++ v ∷ []) p.split ∙ (append_assoc h.0 h.1 (v ∷ []) ∙ (ap (λ vs. h.0 ++ vs) on.2 ∙ sym (append_assoc h.0 on.0 on.1)));
-          left = AllLeft-append how pane most n h.0 on.0 (AllLeft-later how pane most (number_at pane newest) n h.0 p.left later) on.3;
+          left = AllLeft-append how pane most n h.0 on.0 (AllLeft-later how pane most last n h.0 p.left later) on.3;
           grouped = on.4;
           up_to = AllUpTo-drop n (length rs - most) rs one.1;
-          small = subst AllSmall (sym (map-append (λ (x : ℕ × Field). weight_of how x.1) all (v ∷ []))) (AllSmall-append (weights how all) (w ∷ []) p.small (s, tt));
-          total = ap total (map-append (λ (x : ℕ × Field). weight_of how x.1) all (v ∷ [])) ∙ (total-append (weights how all) (w ∷ []) ∙ (λ i. p.total i +ℤ +ℤ_idr w i));
-          count = (let k = p.count in omega (arith, length-append all (v ∷ [])));
+          reach = reach-grow how added sum w b g p.reach;
         },
       )
 
--- the same of what the code has, whether the panes hold the best or the totals: a total is exact, since 128 bits hold it
-pub add-stands : (how : Agg) (k : Kind) (pane most newest : ℕ) (sum : ℤ) (added : ℕ) (ring : List Pane) (all : List (ℕ × Field)) (offset number : ℕ) (names : Naming) (v : Value) (w z : ℤ) (capacity : ℕ) (ring' : Buffer Pane)
-    → 1 ≤ pane → 1 ≤ most → capacity ≡ most → newest ≤ offset → added < 2 ^ 63 → IsTrue (is_of_kind k v) → Rising 0 ring → AllUpTo (number_at pane newest) ring
-    → number ≡ number_at pane offset → w ≡ weight_of_value how v
-    → ring' ≡ buffer (keep_last capacity (noted how number added sum w (left_by how w ring))) capacity → (FitsSigned w128 (sum +ℤ w) → z ≡ sum +ℤ w)
-    → Holds how pane most newest sum added ring all → Holds how pane most offset z (added + 1) ring'.items (all ++ (offset, read names v) ∷ [])
-add-stands how k pane most newest sum added ring all offset number names v w z capacity ring' g m cap l a kd rising up_to nu we r t h =
-    by (is_extreme how) h (ap (λ (b : Buffer Pane). b.items) r ∙ (λ i. keep_last (cap i) (noted how (nu i) added sum (wf i) (left_by how (wf i) ring))))
-  where
-    wf : w ≡ weight_of how (read names v)
-    wf = we ∙ sym (weight_read how names v)
+-- the same of what the code has: a total is exact, since 128 bits hold it
+pub add-panes : (how : Agg) (k : Kind) (pane most last : ℕ) (sum : ℤ) (added : ℕ) (ring : List Pane) (all : List (ℕ × Field)) (offset number : ℕ) (names : Naming) (v : Value) (w z : ℤ) (capacity : ℕ) (ring' : Buffer Pane)
+    → 1 ≤ most → capacity ≡ most → last ≤ number_at pane offset → added < 2 ^ 63 → IsTrue (is_of_kind k v) → number ≡ number_at pane offset → w ≡ weight_of_value how v
+    → ring' ≡ buffer (keep_last capacity (noted how number added sum w ring)) capacity → (FitsSigned w128 (sum +ℤ w) → z ≡ sum +ℤ w)
+    → HoldsPanes how pane most last sum added ring all → HoldsPanes how pane most (number_at pane offset) z (added + 1) ring'.items (all ++ (offset, read names v) ∷ [])
+add-panes how k pane most last sum added ring all offset number names v w z capacity ring' m cap l a kd nu we r t h =
+    let x = read names v in
+    let c = weight_of how x in
+    let n = number_at pane offset in
+    let wf : w ≡ c = we ∙ sym (weight_read how names v) in
+    let g : AtMost (heaviest how) c = subst (AtMost (heaviest how)) (sym (weight_read how names v)) (weight_light how k v kd) in
+    let on = holds-add how pane most last sum added ring all (offset, x) m l a g h in
+    let ze : z ≡ sum +ℤ c = t (subst (λ y. FitsSigned w128 (sum +ℤ y)) (sym wf) (reach-fits how (added + 1) (sum +ℤ c) on.2.reach)) ∙ ap (λ y. sum +ℤ y) wf in
+    let re : ring'.items ≡ keep_last most (noted how n added sum c ring) = ap (λ (b : Buffer Pane). b.items) r ∙ (λ i. keep_last (cap i) (noted how (nu i) added sum (wf i) ring)) in
+    subst (λ y. HoldsPanes how pane most n y (added + 1) ring'.items (all ++ (offset, x) ∷ [])) (sym ze)
+    (subst (λ (rs : List Pane). HoldsPanes how pane most n (sum +ℤ c) (added + 1) rs (all ++ (offset, x) ∷ [])) (sym re) on)
 
-    fits : HoldsTotals how pane most offset (sum +ℤ weight_of how (read names v)) (added + 1) (keep_last most (noted how (number_at pane offset) added sum (weight_of how (read names v)) ring)) (all ++ (offset, read names v) ∷ []) → z ≡ sum +ℤ weight_of how (read names v)
-    fits on =
-        let x = read names v in
-        let fit : FitsSigned w128 (sum +ℤ weight_of how x) =
-        subst (FitsSigned w128) on.2.total (total-fits (weights how (all ++ (offset, x) ∷ [])) on.2.small
-        (let n = on.2.count in omega (arith, length-map (all ++ (offset, x) ∷ []) (λ (y : ℕ × Field). weight_of how y.1)))) in
-        t (subst (λ y. FitsSigned w128 (sum +ℤ y)) (sym wf) fit) ∙ ap (λ y. sum +ℤ y) wf
+-- and of the best of the panes
+pub add-best : (how : Agg) (pane most last : ℕ) (ring : List Pane) (all : List (ℕ × Field)) (offset number : ℕ) (names : Naming) (v : Value) (w : ℤ) (capacity : ℕ) (ring' : Buffer Pane)
+    → 1 ≤ pane → 1 ≤ most → capacity ≡ most → last ≤ number_at pane offset → is_extreme how ≡ true → Rising 0 ring → AllUpTo last ring → number ≡ number_at pane offset → w ≡ weight_of_value how v
+    → ring' ≡ buffer (bettered capacity how number w ring) capacity
+    → HoldsBest how pane most last ring all → HoldsBest how pane most (number_at pane offset) ring'.items (all ++ (offset, read names v) ∷ [])
+add-best how pane most last ring all offset number names v w capacity ring' g m cap l ex rising up_to nu we r h =
+    let x = read names v in
+    let c = weight_of how x in
+    let n = number_at pane offset in
+    let wf : w ≡ c = we ∙ sym (weight_read how names v) in
+    let ts = unbeaten how c ring in
+    let before : AllUpTo n ring = AllUpTo-later last n ring up_to l in
+    let on = noted-rising how n 0 (pos 0) c 0 ts (omega arith) (Rising-unbeaten how c 0 ring rising) (AllUpTo-unbeaten how c n ring before) in
+    let re : ring'.items ≡ keep_last most (noted how n 0 (pos 0) c ts) =
+    ap (λ (b : Buffer Pane). b.items) r
+    ∙ (ap (λ b. if b then keep_last capacity (noted how number 0 (pos 0) w (unbeaten how w ring)) else ring) ex
+    ∙ (λ i. keep_last (cap i) (noted how (nu i) 0 (pos 0) (wf i) (unbeaten how (wf i) ring)))) in
+    subst (λ (rs : List Pane). HoldsBest how pane most n rs (all ++ (offset, x) ∷ [])) (sym re)
+    (best-add how pane most n n ring all ((offset, x) ∷ []) c g m (omega arith) (refl, tt) refl on.0 on.1 before (best-later how pane most last n ring all l h))
 
-    by : (b : Bool) → HoldsBy b how pane most newest sum added ring all
-        → ring'.items ≡ keep_last most (noted how (number_at pane offset) added sum (weight_of how (read names v)) (if b then unbeaten how (weight_of how (read names v)) ring else ring))
-        → HoldsBy b how pane most offset z (added + 1) ring'.items (all ++ (offset, read names v) ∷ [])
-    by true hb re =
-        let x = read names v in
-        let n = number_at pane offset in
-        let c = weight_of how x in
-        let later : number_at pane newest ≤ n = number_monotone pane newest offset g l in
-        let on = noted-rising how n added sum c 0 (unbeaten how c ring) (omega arith) (Rising-unbeaten how c 0 ring rising) (AllUpTo-later (number_at pane newest) n (unbeaten how c ring) (AllUpTo-unbeaten how c (number_at pane newest) ring up_to) later) in
-        subst (λ (rs : List Pane). HoldsBy true how pane most offset z (added + 1) rs (all ++ (offset, x) ∷ [])) (sym re)
-        (best-add how pane most newest added sum ring all (offset, x) g m l on.0 on.1 up_to hb)
-    by false hb re =
-        let x = read names v in
-        let s : IsSmall (weight_of how x) = subst IsSmall (sym (weight_read how names v)) (weight_small how k v kd) in
-        let on = holds-add how pane most newest sum added ring all (offset, x) g m l s hb in
-        subst (λ y. HoldsBy false how pane most offset y (added + 1) ring'.items (all ++ (offset, x) ∷ [])) (sym (fits on))
-        (subst (λ (rs : List Pane). HoldsTotals how pane most offset (sum +ℤ weight_of how x) (added + 1) rs (all ++ (offset, x) ∷ [])) (sym re) on)
-
--- panes that were given no value hold none
-pub holds-none : (how : Agg) (pane most : ℕ) → Holds how pane most 0 (pos 0) 0 [] []
-holds-none how pane most = by (is_extreme how)
-  where
-    by : (b : Bool) → HoldsBy b how pane most 0 (pos 0) 0 [] []
-    by true = record { best = λ k l. refl; worsening = tt }
-    by false = ([], [], record { split = refl; left = tt; grouped = refl; up_to = tt; small = tt; total = refl; count = refl })
+-- panes that were given no value stand for none
+pub stands-none : (how : Agg) (kind : Kind) (pane most : ℕ) (exact : Bool) → StandFor (no_values how kind pane most exact) []
+stands-none how kind pane most exact =
+    record {
+      holds = ([], [], record { split = refl; left = tt; grouped = refl; up_to = tt; reach = reach-none how 0 });
+      bests = λ e. record { best = λ k l. refl; worsening = tt };
+      within = tt;
+      newest = refl;
+    }

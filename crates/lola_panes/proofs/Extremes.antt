@@ -1,5 +1,5 @@
 -- Panes of which only those are kept that no later one is as good as.
-use Rattle.std.proofs.Common.{◌≡◌, ℕ, zero, suc, ◌+◌, ◌-◌, ◌*◌, ◌≤◌, ◌<◌, List, [], ◌∷◌, ◌++◌, length, take, drop, refl, ap, sym, ◌∙◌, subst, arith, Option, Some, None, ℤ, Bool, true, false, not, if◌then◌else◌, slice_get, nat_le, nat_eq, add-one, append-nil, inl, inr}
+use Rattle.std.proofs.Common.{◌≡◌, ℕ, zero, suc, ◌+◌, ◌-◌, ◌*◌, ◌≤◌, ◌<◌, List, [], ◌∷◌, ◌++◌, length, take, drop, refl, ap, sym, ◌∙◌, subst, arith, Option, Some, None, ℤ, pos, Bool, true, false, if◌then◌else◌, slice_get, nat_le, nat_eq, add-one, append-nil, inl, inr}
 use Rattle.std.specs.Prelude.{filter}
 use Rattle.std.proofs.lemmas.Bool.Decides.{nat_tests}
 use Rattle.std.proofs.lemmas.List.{map-append}
@@ -11,14 +11,14 @@ use Rattle.lola_model.specs.declared.spec.Agg.{Agg}
 use Rattle.lola_model.specs.Windows.{is_within_window}
 use Rattle.lola_value.specs.declared.text.Field.{Field}
 use Rattle.lola_panes.specs.declared.pane.Pane.{Pane}
-use Rattle.lola_panes.specs.Answers.{is_extreme}
-use Rattle.lola_panes.specs.Weights.{number_at, weight_of, is_better, best_of, best_after}
-use Rattle.lola_panes.specs.Rings.{new_pane, with_value, noted, front_of, unbeaten, left_by, is_last_beaten, AllWorse, Worsening, Rising, AllUpTo, left_count, staying, extreme_of, best_pane}
-use Rattle.lola_panes.specs.Holding.{weights, HoldsBest}
-use Rattle.lola_panes.proofs.Folds.{best_with, best_with_after, best-more, best_after_assoc, worse_is_better, better_is_better, is_better_trans, is_better_both}
-use Rattle.lola_panes.proofs.Noting.{le_yes, le_no, lt_yes, lt_no, last_cut, no_last}
-use Rattle.lola_panes.proofs.Offsets.{left_window, in_window, number_monotone}
-use Rattle.lola_panes.proofs.Rising.{AllUpTo-front, AllUpTo-later, rising-span}
+use Rattle.lola_panes.specs.Weights.{weight_of, is_better, best_of, best_after}
+use Rattle.lola_panes.specs.Rings.{new_pane, with_value, noted, front_of, unbeaten, is_last_beaten, AllWorse, Worsening, Rising, AllUpTo, left_count, staying, extreme_of, best_pane}
+use Rattle.lola_panes.specs.Holding.{AllOf, HoldsBest}
+use Rattle.lola_panes.specs.Tallies.{weights}
+use Rattle.lola_panes.proofs.Folds.{best_with, best_with_after, best-append, best_after_assoc, worse_is_better, better_is_better, is_better_trans, is_better_both}
+use Rattle.lola_panes.proofs.Noting.{le_yes, le_no, last_cut, no_last}
+use Rattle.lola_panes.proofs.Grouping.{all_gone, all_here_own, AllLeft-of}
+use Rattle.lola_panes.proofs.Rising.{AllUpTo-front, rising-span}
 
 -- what is left of some panes is a front of them
 
@@ -52,13 +52,6 @@ Rising-unbeaten how z low rs h = let on = unbeaten-front how z rs in Rising-fron
 
 pub AllUpTo-unbeaten : (how : Agg) (z : ℤ) (last : ℕ) (rs : List Pane) → AllUpTo last rs → AllUpTo last (unbeaten how z rs)
 AllUpTo-unbeaten how z last rs h = let on = unbeaten-front how z rs in AllUpTo-front last (unbeaten how z rs) on.0 (subst (AllUpTo last) on.1 h)
-
--- the same of what a value leaves
-pub Rising-left_by : (how : Agg) (z : ℤ) (low : ℕ) (rs : List Pane) → Rising low rs → Rising low (left_by how z rs)
-Rising-left_by how z low rs h = elim (is_extreme how) as (λ b. Rising low (if b then unbeaten how z rs else rs)) [ true ↦ Rising-unbeaten how z low rs h | false ↦ h ]
-
-pub AllUpTo-left_by : (how : Agg) (z : ℤ) (last : ℕ) (rs : List Pane) → AllUpTo last rs → AllUpTo last (left_by how z rs)
-AllUpTo-left_by how z last rs h = elim (is_extreme how) as (λ b. AllUpTo last (if b then unbeaten how z rs else rs)) [ true ↦ AllUpTo-unbeaten how z last rs h | false ↦ h ]
 
 -- the last pane goes where it is beaten, and nothing goes where it is not
 
@@ -207,52 +200,39 @@ module _ (how : Agg) (most k : ℕ) (z : ℤ) where
         | false ↦ ap (λ o. Some (best_after how r.extreme o)) h ∙ sym (best_with_after how r.extreme (best_pane how (staying most k (q ∷ rs))) z)
       ]
 
--- one more value
+-- the values of one more pane
 module _ (how : Agg) (pane most : ℕ) where
-  filter-in : (k : ℕ) (all : List (ℕ × Field)) (v : ℕ × Field) → 1 ≤ pane → k < number_at pane v.0 + most
-      → filter (is_within_window (most * pane) (k * pane)) (all ++ v ∷ []) ≡ filter (is_within_window (most * pane) (k * pane)) all ++ v ∷ []
-  filter-in k all v g l =
-      let f = is_within_window (most * pane) (k * pane) in
-      filter-append f all (v ∷ []) ∙ ap (λ vs. filter f all ++ vs) (rw (lt_yes (k * pane) (v.0 + most * pane) (in_window pane most k v.0 g l)) refl)
-
-  filter-out : (k : ℕ) (all : List (ℕ × Field)) (v : ℕ × Field) → 1 ≤ pane → number_at pane v.0 + most ≤ k
-      → filter (is_within_window (most * pane) (k * pane)) (all ++ v ∷ []) ≡ filter (is_within_window (most * pane) (k * pane)) all
-  filter-out k all v g l =
-      let f = is_within_window (most * pane) (k * pane) in
-      filter-append f all (v ∷ []) ∙ (ap (λ vs. filter f all ++ vs) (rw (lt_no (k * pane) (v.0 + most * pane) (left_window pane most k v.0 g l)) refl) ∙ append-nil (filter f all))
-
-  pub best-add : (newest added : ℕ) (sum : ℤ) (ring : List Pane) (all : List (ℕ × Field)) (v : ℕ × Field) → 1 ≤ pane → 1 ≤ most → newest ≤ v.0
-      → Rising 0 (noted how (number_at pane v.0) added sum (weight_of how v.1) (unbeaten how (weight_of how v.1) ring))
-      → AllUpTo (number_at pane v.0) (noted how (number_at pane v.0) added sum (weight_of how v.1) (unbeaten how (weight_of how v.1) ring))
-      → AllUpTo (number_at pane newest) ring → HoldsBest how pane most newest ring all
-      → HoldsBest how pane most v.0 (keep_last most (noted how (number_at pane v.0) added sum (weight_of how v.1) (unbeaten how (weight_of how v.1) ring))) (all ++ v ∷ [])
-  best-add newest added sum ring all v g m l rising up_to before h =
-      let w = weight_of how v.1 in
-      let n = number_at pane v.0 in
-      let ts = unbeaten how w ring in
-      let rs = noted how n added sum w ts in
-      let later : number_at pane newest ≤ n = number_monotone pane newest v.0 g l in
+  pub best-add : (last n : ℕ) (ring : List Pane) (all ys : List (ℕ × Field)) (z : ℤ) → 1 ≤ pane → 1 ≤ most → n ≤ last → AllOf pane n ys → best_of how (weights how ys) ≡ Some z
+      → Rising 0 (noted how n 0 (pos 0) z (unbeaten how z ring)) → AllUpTo n (noted how n 0 (pos 0) z (unbeaten how z ring)) → AllUpTo n ring → HoldsBest how pane most last ring all
+      → HoldsBest how pane most last (keep_last most (noted how n 0 (pos 0) z (unbeaten how z ring))) (all ++ ys)
+  best-add last n ring all ys z g m l own top rising up_to before h =
+      let ts = unbeaten how z ring in
+      let rs = noted how n 0 (pos 0) z ts in
       record {
         best = λ k j.
             let f = is_within_window (most * pane) (k * pane) in
-            let was : best_of how (weights how (filter f all)) ≡ best_pane how (staying most k ring) = h.best k (omega arith) in
-            let stay : staying most k (keep_last most rs) ≡ staying most k rs = staying-keep_last most k n rs m rising up_to j in
+            let was : best_of how (weights how (filter f all)) ≡ best_pane how (staying most k ring) = h.best k j in
+            let stay : staying most k (keep_last most rs) ≡ staying most k rs = staying-keep_last most k n rs m rising up_to (omega arith) in
             elim (below_or_not k (n + most)) [
               | inl i ↦
-                  ap (λ vs. best_of how (weights how vs)) (filter-in k all v g i)
-                  ∙ (ap (best_of how) (map-append (λ (x : ℕ × Field). weight_of how x.1) (filter f all) (v ∷ []))
-                  ∙ (best-more how (weights how (filter f all)) w
-                  ∙ (ap (λ o. best_with how o w) was
-                  ∙ (sym (best-unbeaten how most k w ring) ∙ (sym (best-noted how most k w n added sum ts i) ∙ ap (best_pane how) (sym stay))))))
+                  ap (λ vs. best_of how (weights how vs)) (filter-append f all ys ∙ ap (λ vs. filter f all ++ vs) (all_here_own how pane most k n g ys own i))
+                  ∙ (ap (best_of how) (map-append (λ (x : ℕ × Field). weight_of how x.1) (filter f all) ys)
+                  ∙ (best-append how (weights how (filter f all)) (weights how ys) z top
+                  ∙ (ap (λ o. best_with how o z) was
+                  ∙ (sym (best-unbeaten how most k z ring) ∙ (sym (best-noted how most k z n 0 (pos 0) ts i) ∙ ap (best_pane how) (sym stay))))))
               | inr o ↦
-                  ap (λ vs. best_of how (weights how vs)) (filter-out k all v g o)
-                  ∙ (was ∙ (ap (best_pane how) (staying-none most k n ring (AllUpTo-later (number_at pane newest) n ring before later) o)
-                  ∙ ap (best_pane how) (sym (stay ∙ staying-none most k n rs up_to o))))
+                  ap (λ vs. best_of how (weights how vs))
+                  (filter-append f all ys ∙ (ap (λ vs. filter f all ++ vs) (all_gone how pane most k g ys (AllLeft-of how pane most k n ys own o)) ∙ append-nil (filter f all)))
+                  ∙ (was ∙ (ap (best_pane how) (staying-none most k n ring before o) ∙ ap (best_pane how) (sym (stay ∙ staying-none most k n rs up_to o))))
             ];
         worsening =
             Worsening-drop how (length rs - most) rs
-            (Worsening-noted how n added sum w ts (let on = unbeaten-front how w ring in Worsening-front how ts on.0 (subst (Worsening how) on.1 h.worsening)) (AllBetter-unbeaten how w ring h.worsening));
+            (Worsening-noted how n 0 (pos 0) z ts (let on = unbeaten-front how z ring in Worsening-front how ts on.0 (subst (Worsening how) on.1 h.worsening)) (AllBetter-unbeaten how z ring h.worsening));
       }
+
+-- what they hold, they hold of fewer windows
+pub best-later : (how : Agg) (pane most last later : ℕ) (ring : List Pane) (all : List (ℕ × Field)) → last ≤ later → HoldsBest how pane most last ring all → HoldsBest how pane most later ring all
+best-later how pane most last later ring all l h = record { best = λ k j. h.best k (omega arith); worsening = h.worsening }
 
 -- the first that stays is the best of those that stay
 

@@ -43,6 +43,11 @@ pub best-more : (how : Agg) (xs : List ℤ) (z : ℤ) → best_of how (xs ++ z �
 best-more how [] z = refl
 best-more how (x ∷ xs) z = ap (λ o. Some (best_after how x o)) (best-more how xs z) ∙ sym (best_with_after how x (best_of how xs) z)
 
+-- of some numbers behind others
+pub best-append : (how : Agg) (xs ys : List ℤ) (z : ℤ) → best_of how ys ≡ Some z → best_of how (xs ++ ys) ≡ best_with how (best_of how xs) z
+best-append how [] ys z e = e
+best-append how (x ∷ xs) ys z e = ap (λ o. Some (best_after how x o)) (best-append how xs ys z e) ∙ sym (best_with_after how x (best_of how xs) z)
+
 -- one of two numbers is better than the other
 
 worse_is_better-below : (a z : ℤ) → int_lt a z ≡ false → lesser a z ≡ z

@@ -2,9 +2,16 @@ pub mod Offsets
 pub mod Folds
 pub mod Noting
 pub mod Rising
+pub mod Reaching
+pub mod Ranges
+pub mod Means
+pub mod Telling
 pub mod Grouping
 pub mod Extremes
 pub mod Adding
 pub mod Reading
-pub mod Ranges
 pub mod Order
+pub mod Owning
+pub mod Cutting
+pub mod Refilling
+pub mod Resuming

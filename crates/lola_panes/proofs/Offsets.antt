@@ -1,11 +1,12 @@
 -- Which offsets a pane has, and when it has left a window.
-use Rattle.std.proofs.Common.{◌≡◌, ℕ, zero, suc, ◌+◌, ◌*◌, ◌/◌, ◌%◌, ◌<◌, ◌≤◌, arith, sub-one, inl, inr, ap, sym, ◌∙◌, nat_lt}
+use Rattle.std.proofs.Common.{◌≡◌, ℕ, zero, suc, refl, ◌+◌, ◌*◌, ◌/◌, ◌%◌, ◌<◌, ◌≤◌, arith, sub-one, inl, inr, ap, sym, ◌∙◌, nat_lt}
 use Rattle.lola_panes.proofs.Noting.{lt_yes, lt_no}
 use Rattle.std.proofs.Math.Dec.{eqb-suc-zero}
 use Rattle.std.proofs.Math.Nat.{mul-le-mul_right, mod-lt, mul-div_right}
 use Rattle.std.proofs.lemmas.Nat.{div-add-mod'}
 use Rattle.circular_buffer.proofs.Places.{below_or_not}
 use Rattle.lola_panes.specs.Weights.{number_at}
+use Rattle.lola_panes.specs.Restored.{first_offset}
 
 number_suc : (g o : ℕ) → number_at g (suc o) ≡ o / g + 1
 number_suc g o = rw (eqb-suc-zero o) (simp sub-one)
@@ -73,3 +74,10 @@ early_same pane most offset k g e =
           let m : most * pane ≤ k * pane = mul-le-mul_right pane l in
           lt_no (offset / pane) most (omega arith) ∙ sym (lt_no offset (most * pane) (omega arith))
     ]
+
+-- the least offset that lies in a pane does
+pub first_number : (pane n : ℕ) → 1 ≤ pane → number_at pane (first_offset pane n) ≡ n
+first_number pane zero g = refl
+first_number pane (suc n) g =
+    let e : first_offset pane (suc n) ≡ suc (n * pane) = rw (eqb-suc-zero n) (rw sub-one (omega arith)) in
+    ap (number_at pane) e ∙ (number_suc pane (n * pane) ∙ (ap (λ k. k + 1) (whole_div pane (n * pane) n g refl) ∙ omega arith))

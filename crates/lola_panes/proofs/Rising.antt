@@ -30,7 +30,7 @@ AllUpTo-drop a (suc d) (r ∷ rs) h = AllUpTo-drop a d rs h.1
 
 -- numbers rise
 
-Rising-lower : (low low' : ℕ) (rs : List Pane) → low' ≤ low → Rising low rs → Rising low' rs
+pub Rising-lower : (low low' : ℕ) (rs : List Pane) → low' ≤ low → Rising low rs → Rising low' rs
 Rising-lower low low' [] l h = tt
 Rising-lower low low' (r ∷ rs) l h = let k = h.0 in (omega arith, h.1)
 

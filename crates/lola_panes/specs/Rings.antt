@@ -2,6 +2,7 @@
 use Rattle.std.specs.Prelude.{ℕ, ◌+◌, ℤ, Bool, true, false, not, if◌then◌else◌, nat_eq, nat_le, List, [], ◌∷◌, Option, Some, None, pos, ◌-◌, ◌-ℤ◌, ◌≡◌, ◌≤◌, FitsSigned}
 use Rattle.std.specs.Int.{w128}
 use Rattle.lola_model.specs.declared.spec.Agg.{Agg}
+use Rattle.circular_buffer.specs.Buffer.{keep_last}
 use Rattle.lola_panes.specs.declared.pane.Pane.{Pane}
 use Rattle.lola_panes.specs.Weights.{better, is_better, best_after}
 use Rattle.lola_panes.specs.Answers.{is_extreme}
@@ -40,9 +41,10 @@ abbrev pub unbeaten : Agg → ℤ → List Pane → List Pane
 unbeaten how z [] = []
 unbeaten how z (r ∷ rs) = front_of how z r (unbeaten how z rs)
 
--- what a new value leaves of the panes: where the answer is one of the values, those that are better than it
-abbrev pub left_by : Agg → ℤ → List Pane → List Pane
-left_by how z rs = if is_extreme how then unbeaten how z rs else rs
+-- the best of the panes with one more value, of which the last so many are kept: those go that no window needs once it has the
+-- value. Where the answer is none of the values, no best ones are kept
+abbrev pub bettered : ℕ → Agg → ℕ → ℤ → List Pane → List Pane
+bettered most how number z rs = if is_extreme how then keep_last most (noted how number 0 (pos 0) z (unbeaten how z rs)) else rs
 
 -- a number is better than the extreme of each pane
 abbrev pub AllWorse : Agg → ℤ → List Pane → Type 0
@@ -83,6 +85,31 @@ extreme_of (Some r) = Some r.extreme
 abbrev pub best_pane : Agg → List Pane → Option ℤ
 best_pane how [] = None
 best_pane how (r ∷ rs) = Some (best_after how r.extreme (best_pane how rs))
+
+-- a pane, where it has this number
+abbrev pub numbered : ℕ → Option Pane → Option Pane
+numbered n None = None
+numbered n (Some r) = if nat_eq r.number n then Some r else None
+
+-- how many values there are before a pane, or in all where there is none
+abbrev pub count_before : ℕ → Option Pane → ℕ
+count_before added None = added
+count_before added (Some r) = r.count_before
+
+-- the total of the values before it
+abbrev pub total_before : ℤ → Option Pane → ℤ
+total_before sum None = sum
+total_before sum (Some r) = r.total_before
+
+-- how many values there are in a pane, and their total where 128 bits hold it, of which there are so many with this total to
+-- the next one; none, where there is no pane
+abbrev pub own_count : ℕ → Option Pane → ℕ
+own_count next None = 0
+own_count next (Some r) = next - r.count_before
+
+abbrev pub IsOwnTotal : ℤ → Option Pane → ℤ → Type 0
+IsOwnTotal next None z = z ≡ pos 0
+IsOwnTotal next (Some r) z = FitsSigned w128 (next -ℤ r.total_before) → z ≡ next -ℤ r.total_before
 
 -- how many values there are from a pane on, of so many in all
 abbrev pub since_count : ℕ → Option Pane → ℕ

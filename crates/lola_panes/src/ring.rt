@@ -2,7 +2,7 @@
 
 ghost use Rattle.std.specs.Prelude.{◌≡◌, ◌≤◌, ◌<◌, length, nat_eq, nat_lt, slice_get};
 ghost use Rattle.circular_buffer.specs.Buffer.{buffer, keep_last, last_item};
-ghost use Rattle.lola_panes.specs.Rings.{new_pane, with_value, noted, is_last_beaten, unbeaten, left_by, left_count, extreme_of, Rising};
+ghost use Rattle.lola_panes.specs.Rings.{new_pane, with_value, noted, is_last_beaten, unbeaten, bettered, left_count, extreme_of, numbered, count_before, total_before, Rising};
 
 use crate::answer::is_extreme;
 use crate::pane::{Pane, beats, better_of, is_past};
@@ -10,7 +10,7 @@ use circular_buffer::HeapCircularBuffer;
 use lola_model::spec::Agg;
 
 /// A pane with one value, behind `added` values of this total.
-fn pane_with(number: u64, added: u64, total: i128, weight: i128) -> Pane
+pub fn pane_with(number: u64, added: u64, total: i128, weight: i128) -> Pane
     ensures { result ≡ new_pane number added total weight }
 {
     Pane {
@@ -77,8 +77,8 @@ fn is_end_beaten(ring: &HeapCircularBuffer<Pane>, aggregation: Agg, weight: i128
     }
 }
 
-// Takes away the panes at the end that are not better than a number, which outlives them in each window.
-fn drop_beaten(ring: &mut HeapCircularBuffer<Pane>, aggregation: Agg, weight: i128)
+/// Takes away the panes at the end that are not better than a number, which outlives them in each window.
+pub fn drop_beaten(ring: &mut HeapCircularBuffer<Pane>, aggregation: Agg, weight: i128)
     ensures { ring.new ≡ buffer (unbeaten aggregation weight ring.old.items) ring.old.capacity }
 {
     while is_end_beaten(ring, aggregation, weight) {
@@ -86,13 +86,14 @@ fn drop_beaten(ring: &mut HeapCircularBuffer<Pane>, aggregation: Agg, weight: i1
     }
 }
 
-/// Takes away the panes that no window needs once it has one more value. Each pane goes once, so that on average this
-/// takes as long however many there are.
-pub fn make_way(ring: &mut HeapCircularBuffer<Pane>, aggregation: Agg, weight: i128)
-    ensures { ring.new ≡ buffer (left_by aggregation weight ring.old.items) ring.old.capacity }
+/// Puts one more value among the best of the panes, where the answer is one of the values: those go that no window needs once
+/// it has the value. Each pane goes once, so that on average this takes as long however many there are.
+pub fn keep_best(best: &mut HeapCircularBuffer<Pane>, aggregation: Agg, number: u64, weight: i128)
+    ensures { best.new ≡ buffer (bettered best.old.capacity aggregation number weight best.old.items) best.old.capacity }
 {
     if is_extreme(aggregation) {
-        drop_beaten(ring, aggregation, weight);
+        drop_beaten(best, aggregation, weight);
+        note(best, aggregation, number, 0, 0, weight);
     }
 }
 
@@ -143,5 +144,35 @@ pub fn extreme_at(ring: &HeapCircularBuffer<Pane>, place: usize) -> Option<i128>
     match ring.get(place) {
         None => None,
         Some(p) => Some(p.extreme),
+    }
+}
+
+/// The pane at a place, where it has this number.
+pub fn pane_at(ring: &HeapCircularBuffer<Pane>, place: usize, number: u64) -> Option<Pane>
+    ensures { result ≡ numbered number (slice_get ring.now.items place) }
+{
+    match ring.get(place).copied() {
+        None => None,
+        Some(p) => if is_of(p, number) { Some(p) } else { None },
+    }
+}
+
+/// How many values come before the pane at a place, of so many in all.
+pub fn count_before(ring: &HeapCircularBuffer<Pane>, place: usize, added: u64) -> u64
+    ensures { result ≡ count_before added (slice_get ring.now.items place) }
+{
+    match ring.get(place) {
+        None => added,
+        Some(p) => p.count_before,
+    }
+}
+
+/// The total of the values before the pane at a place, of this total in all.
+pub fn total_before(ring: &HeapCircularBuffer<Pane>, place: usize, total: i128) -> i128
+    ensures { result ≡ total_before total (slice_get ring.now.items place) }
+{
+    match ring.get(place) {
+        None => total,
+        Some(p) => p.total_before,
     }
 }

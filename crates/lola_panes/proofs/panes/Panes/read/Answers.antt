@@ -9,7 +9,7 @@ pub read_at-requires : goal.read_at-requires
 read_at-requires c =
     let p = c.args.self.now in
     let v = c.self.view_is in
-    let i : AreInOrder p c.self.inside.ring.capacity = subst (λ (w : Partials). AreInOrder w c.self.inside.ring.capacity) v c.self.invariant in
+    let i : AreInOrder p c.self.inside.ring.capacity c.self.inside.best.capacity = subst (λ (w : Partials). AreInOrder w c.self.inside.ring.capacity c.self.inside.best.capacity) v c.self.invariant in
     let e = ap (λ (w : Partials). c.args.offset / w.pane * p.pane) v ∙ whole_again p.pane c.args.offset c.requires.whole.0 i.pane c.requires.whole.1 in
     subst (λ o. p.newest ≤ o) (sym e) c.requires.newest
 
@@ -17,7 +17,7 @@ pub returns-else-is_early-clause-value : goal.returns-else-is_early-clause-value
 returns-else-is_early-clause-value c = λ names all h.
     let p = c.args.self.now in
     let v = c.self.view_is in
-    let i : AreInOrder p c.self.inside.ring.capacity = subst (λ (w : Partials). AreInOrder w c.self.inside.ring.capacity) v c.self.invariant in
+    let i : AreInOrder p c.self.inside.ring.capacity c.self.inside.best.capacity = subst (λ (w : Partials). AreInOrder w c.self.inside.ring.capacity c.self.inside.best.capacity) v c.self.invariant in
     let e = ap (λ (w : Partials). c.args.offset / w.pane * p.pane) v ∙ whole_again p.pane c.args.offset c.requires.whole.0 i.pane c.requires.whole.1 in
     let t : (p.exact && nat_lt c.args.offset (p.count * p.pane)) ≡ false =
     ap (λ b. p.exact && b) (sym (early_same p.pane p.count c.args.offset c.requires.whole.0 i.pane c.requires.whole.1))
@@ -29,7 +29,7 @@ pub returns-then-is_early-clause-value : goal.returns-then-is_early-clause-value
 returns-then-is_early-clause-value c = λ names all h.
     let p = c.args.self.now in
     let v = c.self.view_is in
-    let i : AreInOrder p c.self.inside.ring.capacity = subst (λ (w : Partials). AreInOrder w c.self.inside.ring.capacity) v c.self.invariant in
+    let i : AreInOrder p c.self.inside.ring.capacity c.self.inside.best.capacity = subst (λ (w : Partials). AreInOrder w c.self.inside.ring.capacity c.self.inside.best.capacity) v c.self.invariant in
     let t : (p.exact && nat_lt c.args.offset (p.count * p.pane)) ≡ true =
     ap (λ b. p.exact && b) (sym (early_same p.pane p.count c.args.offset c.requires.whole.0 i.pane c.requires.whole.1))
     ∙ (ap (λ (w : Partials). w.exact && nat_lt (c.args.offset / w.pane) w.count) (sym v) ∙ (sym c.is_early.ensures ∙ c.if-is_early.true)) in
