@@ -13,5 +13,6 @@ pub mod Reading
 pub mod Order
 pub mod Owning
 pub mod Cutting
+pub mod Sizes
 pub mod Refilling
 pub mod Resuming

@@ -21,7 +21,8 @@ use Rattle.lola_panes.specs.Standing.{partials, AreInOrder, StandFor}
 use Rattle.lola_panes.proofs.Cutting.{cut_restored}
 use Rattle.lola_panes.proofs.Grouping.{all_gone, AllLeft-later, weaker}
 use Rattle.lola_panes.proofs.Offsets.{first_number}
-use Rattle.lola_panes.proofs.Refilling.{grouped_restored, best_restored, best_rising, restored_rising, room_of, room_reach, size_all, sized}
+use Rattle.lola_panes.proofs.Refilling.{grouped_restored, best_restored, best_rising, restored_rising}
+use Rattle.lola_panes.proofs.Sizes.{room_of, room_reach, size_all, sized}
 use Rattle.lola_panes.proofs.Rising.{Rising-lower}
 
 -- as many partial results as the window has panes up to the last one: those before the first of them have left
