@@ -11,7 +11,8 @@ use Rattle.lola_model.specs.declared.plan.PaneSize.{PaneSize}
 use Rattle.lola_model.specs.declared.plan.Plan.{Plan}
 use Rattle.lola_model.specs.declared.spec.Stream.{Stream}
 use Rattle.lola_model.specs.declared.spec.WindowSpec.{WindowSpec}
-use Rattle.lola_instances.specs.Opening.{IsCut, first_kept}
+use Rattle.lola_instances.specs.Layouts.{first_kept}
+use Rattle.lola_instances.specs.Opening.{IsCut}
 
 first : (a b : Bool) → (a && b) ≡ true → a ≡ true
 first true b h = refl

@@ -11,7 +11,7 @@ use Rattle.lola_value.specs.Answer.{Missing, Poisoned}
 use Rattle.lola_value.specs.Naming.{Naming, read_outcome, IsHeldIn}
 use Rattle.lola_model.specs.Accesses.{from_end, one_more}
 use Rattle.lola_model.specs.Reading.{held_answer, spoiled, window_over, window_reading}
-use Rattle.lola_model.specs.Store.{New, Started, Running, instances_of, is_bad_seen, now_at, now_at_place, now_of, place_among, place_of, kind_in, pane_of, target_of, start_seen, time_seen}
+use Rattle.lola_model.specs.Store.{instances_of, is_bad_seen, now_at, now_at_place, now_of, place_among, place_of, kind_in, pane_of, target_of, start_seen, time_seen}
 use Rattle.lola_model.specs.Windows.{aggregated, values_within}
 use Rattle.lola_model.specs.declared.plan.PaneSize.{PaneSize}
 use Rattle.lola_model.specs.declared.spec.WindowSpec.{WindowSpec}
@@ -23,25 +23,12 @@ use Rattle.lola_instances_stream.specs.Rights.{CrowdRight, SlotRight}
 use Rattle.lola_instances_stream.specs.Windowed.{windowed}
 use Rattle.lola_instances_stream.proofs.Finding.{places, seen_at}
 use Rattle.lola_instances_stream.proofs.Outcomes.{item_at}
-use Rattle.lola_instances.specs.declared.stage.StorePhase.{StorePhase}
-use Rattle.lola_instances.specs.declared.stage.StorePhase.TheVariants as stage
 use Rattle.lola_instances.specs.declared.store.BoundedStore.{BoundedStore}
 use Rattle.lola_instances.specs.Placed.{IsPaneOf}
-use Rattle.lola_instances.specs.Stages.{phase_in, start_in, time_in}
+use Rattle.lola_instances.specs.Stages.{start_in, time_in}
 use Rattle.lola_instances.specs.Stores.{bounded_seen, bounded_remembers}
 use Rattle.lola_instances.specs.Streams.{crowd_layout, slots_in, slot_at}
-
--- how far a store is
-
-pub phase_time : (st : StorePhase) → elim (phase_in st) [ New ↦ 0 | Started a ↦ a | Running a t ↦ t ] ≡ time_in st
-phase_time stage.New = refl
-phase_time (stage.Started a) = refl
-phase_time (stage.Running a t) = refl
-
-pub phase_start : (st : StorePhase) → elim (phase_in st) [ New ↦ 0 | Started a ↦ a | Running a t ↦ a ] ≡ start_in st
-phase_start stage.New = refl
-phase_start (stage.Started a) = refl
-phase_start (stage.Running a t) = refl
+use Rattle.lola_instances.proofs.Phases.{phase_start, phase_time}
 
 -- a stream by its number
 

@@ -1,6 +1,6 @@
 -- An instance that is born.
-use Rattle.std.proofs.Common.{◌≡◌, ℕ, zero, suc, ◌+◌, ◌≤◌, ◌<◌, List, [], ◌∷◌, ◌++◌, length, map, refl, ap, sym, ◌∙◌, subst, arith, Option, Some, None, slice_get, slice_set, nat_eq, if◌then◌else◌, Bool, true, false, not, ◌&&◌, IsTrue, eq-eqb, length-append}
-use Rattle.std.proofs.lemmas.Bool.{ne_eqb, ltb-true}
+use Rattle.std.proofs.Common.{◌≡◌, ℕ, zero, suc, ◌+◌, ◌≤◌, ◌<◌, List, [], ◌∷◌, ◌++◌, length, map, refl, ap, sym, ◌∙◌, subst, arith, Option, Some, None, slice_get, slice_set, nat_eq, if◌then◌else◌, Bool, true, false, not, IsTrue, eq-eqb, length-append}
+use Rattle.std.proofs.lemmas.Bool.{ltb-true}
 use Rattle.std.proofs.lemmas.List.{map-append}
 use Rattle.lola_value.specs.declared.value.Params.{Params}
 use Rattle.lola_model.specs.Spawning.{has_room}
@@ -8,11 +8,12 @@ use Rattle.lola_model.specs.Store.{SeenStream, StreamLayout, changed_at, has_spa
 use Rattle.lola_instances_one.specs.Holdings.{slot_seen}
 use Rattle.lola_instances_stream.specs.Births.{newborn}
 use Rattle.lola_instances_stream.specs.Crowds.{Crowd, crowd_seen}
-use Rattle.lola_instances_stream.specs.Rights.{AreRight, CrowdRight, owed}
+use Rattle.lola_instances_stream.specs.Rights.{AreRight, CrowdRight}
 use Rattle.lola_instances_stream.proofs.Newborns.{newborn_shows}
 use Rattle.lola_instances.specs.Streams.{crowd_layout}
 use Rattle.lola_instances.proofs.Asking.{layout_at, stream_at}
 use Rattle.lola_instances.proofs.Changing.{changed_set}
+use Rattle.lola_instances.proofs.Owed.{owed_fall}
 
 no_both : (b : Bool) → b ≡ true → not b ≡ true → ⊥
 no_both true e f = cc
@@ -23,25 +24,6 @@ spawns_at cs n c e h = subst (λ (o : Option StreamLayout). IsTrue (spawns_in o)
 
 pub unspawned : (step : ℕ) (cs : List Crowd) (n : ℕ) (c : Crowd) → slice_get cs n ≡ Some c → IsTrue (not (has_spawned (slice_get (map (crowd_seen step) cs) n))) → c.spawned_at ≡ step → ⊥
 unspawned step cs n c e h q = no_both (nat_eq c.spawned_at step) (eq-eqb c.spawned_at step q) (subst (λ (o : Option SeenStream). IsTrue (not (has_spawned o))) (stream_at step cs n c e) h)
-
--- how much room is owed
-
-owed_told : (prepared running : Bool) (step at : ℕ) → at ≡ step → owed prepared running step at ≡ (if prepared then 1 else 0) + 0
-owed_told prepared running step at e =
-    ap (λ b. (if prepared then 1 else 0) + (if running && not b then 1 else 0)) (eq-eqb at step e) ∙ ap (λ b. (if prepared then 1 else 0) + (if b then 1 else 0)) (and_false running)
-  where
-    and_false : (b : Bool) → (b && false) ≡ false
-    and_false true = refl
-    and_false false = refl
-
-owed_untold : (prepared running : Bool) (step at : ℕ) → running ≡ true → (at ≡ step → ⊥) → owed prepared running step at ≡ (if prepared then 1 else 0) + 1
-owed_untold prepared running step at r h = λ i. (if prepared then 1 else 0) + (if r i && not (ne_eqb at step h i) then 1 else 0)
-
-pub owed_fall : (prepared running : Bool) (step at later : ℕ) → running ≡ true → (at ≡ step → ⊥) → later ≡ step → owed prepared running step later + 1 ≤ owed prepared running step at
-owed_fall prepared running step at later r h e = omega (arith, owed_told prepared running step later e, owed_untold prepared running step at r h)
-
-pub owed_some : (prepared running : Bool) (step at : ℕ) → running ≡ true → (at ≡ step → ⊥) → 1 ≤ owed prepared running step at
-owed_some prepared running step at r h = omega (arith, owed_untold prepared running step at r h)
 
 room_few : (o : Option ℕ) (n : ℕ) → has_room o n ≡ true → n < 65536
 room_few None n e = ltb-true n 65536 e

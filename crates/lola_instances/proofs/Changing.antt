@@ -2,7 +2,7 @@
 use Rattle.std.proofs.Common.{◌≡◌, ℕ, zero, suc, ◌+◌, ◌-◌, ◌≤◌, ◌<◌, List, [], ◌∷◌, length, map, refl, ap, sym, ◌∙◌, subst, arith, Option, Some, slice_get, slice_set, nat_eq, nat_le, if◌then◌else◌, Bool, true, false, ◌&&◌, IsTrue}
 use Rattle.std.proofs.lemmas.Bool.{eqb-true, eqb-false, leb-true, leb-false}
 use Rattle.lola_model.specs.Reading.{moved_up}
-use Rattle.lola_model.specs.Store.{SeenStream, SeenInstance, changed_at, instances_of, is_new, is_running, is_silent, now_at, quiet, StreamLayout}
+use Rattle.lola_model.specs.Store.{SeenStream, SeenInstance, changed_at, instances_of, is_silent, now_at, quiet, StreamLayout}
 use Rattle.lola_model.specs.declared.plan.PaneSize.{PaneSize}
 use Rattle.lola_model.specs.declared.spec.WindowSpec.{WindowSpec}
 use Rattle.lola_instances_one.specs.declared.window.WindowPanes.{WindowPanes}
@@ -13,18 +13,10 @@ use Rattle.lola_instances_stream.specs.Rights.{AreRight, CrowdRight, owed}
 use Rattle.lola_instances_stream.proofs.Beginnings.{crowd_quiet}
 use Rattle.lola_instances_stream.proofs.Finding.{seen_at}
 use Rattle.lola_instances_stream.proofs.Lists.{same_set, other_set}
-use Rattle.lola_instances.specs.declared.stage.StorePhase.{StorePhase}
-use Rattle.lola_instances.specs.declared.stage.StorePhase.TheVariants as stage
 use Rattle.lola_instances.specs.Placed.{IsPaneOf, IsPlaced, ArePlaced}
 use Rattle.lola_instances.specs.Spawning.{AreNumbered, is_among}
-use Rattle.lola_instances.specs.Stages.{phase_in, is_on, start_in, time_in}
 use Rattle.lola_instances.specs.Streams.{crowd_layout, slots_in, slot_at}
 use Rattle.lola_instances.proofs.Asking.{stream_at}
-
-pub running_is_on : (st : StorePhase) → IsTrue (is_running (phase_in st)) → is_on st ≡ true
-running_is_on stage.New h = cc
-running_is_on (stage.Started a) h = cc
-running_is_on (stage.Running a t) h = refl
 
 pub silent_in : (step : ℕ) (cs : List Crowd) (n i : ℕ) (c : Crowd) → slice_get cs n ≡ Some c → IsTrue (is_silent (now_at (slice_get (instances_of (slice_get (map (crowd_seen step) cs) n)) i)))
     → IsTrue (is_silent (shown_at step (slice_get c.slots i)))
@@ -143,15 +135,3 @@ all_quiet running prepared step offset (c ∷ cs) h =
     let q = crowd_quiet running prepared step offset c (h 0 c refl) in
     let r = all_quiet running prepared step offset cs (λ i y e. h (suc i) y e) in
     λ i. q i ∷ r i
-
--- a run begins
-
-pub new_is_off : (st : StorePhase) → IsTrue (is_new (phase_in st)) → is_on st ≡ false
-new_is_off stage.New h = refl
-new_is_off (stage.Started a) h = cc
-new_is_off (stage.Running a t) h = cc
-
-pub new_is_at_zero : (st : StorePhase) → IsTrue (is_new (phase_in st)) → time_in st - start_in st ≡ 0
-new_is_at_zero stage.New h = refl
-new_is_at_zero (stage.Started a) h = cc
-new_is_at_zero (stage.Running a t) h = cc

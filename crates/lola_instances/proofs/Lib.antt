@@ -4,7 +4,10 @@ mod Taken
 mod Asking
 mod Changing
 mod Births
+pub mod Layouts
 mod Opened
+pub mod Owed
+pub mod Phases
 mod Preparing
 mod Keeping
 mod Dues

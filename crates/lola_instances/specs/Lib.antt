@@ -1,3 +1,4 @@
+pub mod Layouts
 pub mod Opening
 pub mod Placed
 pub mod Renaming

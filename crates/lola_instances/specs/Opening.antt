@@ -1,34 +1,16 @@
 -- A new store.
-use Rattle.std.specs.Prelude.{ℕ, ◌≡◌, ◌≤◌, ◌<◌, ◌*◌, ◌+◌, List, [], ◌∷◌, ◌++◌, take, Some, None, true, false, IsTrue, drop, length, nat_eq, slice_get, unwrap_or, if◌then◌else◌}
+use Rattle.std.specs.Prelude.{ℕ, ◌≡◌, ◌≤◌, ◌<◌, ◌*◌, ◌+◌, List, [], ◌∷◌, ◌++◌, take, Some, false, IsTrue, drop, length, nat_eq, slice_get, unwrap_or, if◌then◌else◌}
 use Rattle.lola_value.specs.declared.value.Kind.{Kind}
 use Rattle.lola_value.specs.Naming.{Naming}
-use Rattle.lola_value.specs.Ratio.{Ratio}
-use Rattle.lola_model.specs.Model.{filled_kind}
-use Rattle.lola_model.specs.NextStep.{local_rates}
 use Rattle.lola_model.specs.Store.{StreamLayout, kind_in, layout_of, opened}
 use Rattle.lola_model.specs.Typing.{takes}
-use Rattle.lola_model.specs.declared.pacing.ClausePacings.{ClausePacings}
 use Rattle.lola_model.specs.declared.plan.PaneSize.{PaneSize}
 use Rattle.lola_model.specs.declared.plan.Plan.{Plan}
-use Rattle.lola_model.specs.declared.spec.Stream.{Stream}
 use Rattle.lola_model.specs.declared.spec.WindowSpec.{WindowSpec}
 use Rattle.lola_instances_one.specs.declared.window.WindowPanes.{WindowPanes}
 use Rattle.lola_instances_stream.specs.Crowds.{Crowd, crowd_seen, RemembersAt}
 use Rattle.lola_instances_stream.specs.Each.{Each}
 use Rattle.lola_instances_stream.specs.Rights.{CrowdRight}
-
--- the layout of a stream that keeps so many values, with the rates of its clauses that count from births
-abbrev pub stream_layout : Stream → ℕ → List Ratio → StreamLayout
-stream_layout s kept locals =
-    record { kind = filled_kind s; parameters = s.parameters; spawns = elim s.spawn [ None ↦ false | Some k ↦ true ]; kept = kept; locals = locals }
-
--- how many values the first of these streams keeps
-abbrev pub first_kept : List ℕ → ℕ
-first_kept kept = unwrap_or (slice_get kept 0) 1
-
--- the rates that count from births of the first of these streams
-abbrev pub first_locals : List ClausePacings → List Ratio
-first_locals pacings = local_rates (slice_get pacings 0)
 
 -- a window has so many panes of some length, which make up its own
 pub record IsCut (w : WindowSpec) (p : PaneSize) : Type 0 where

@@ -1,109 +1,29 @@
 //! A new store.
 
-ghost use Rattle.std.specs.Prelude.{◌≡◌, ◌≤◌, ◌<◌, ◌++◌, ◌+◌, ◌^◌, nat_eq, if◌then◌else◌, [], ℕ, Some, true, IfOk, OnOk, drop, length, map, slice_get};
+ghost use Rattle.std.specs.Prelude.{◌≡◌, ◌≤◌, ◌<◌, ◌++◌, ◌+◌, ◌^◌, nat_eq, if◌then◌else◌, [], ℕ, Some, true, IfOk, OnOk, length, map, slice_get};
 ghost use Rattle.lola_value.specs.Naming.{Naming};
-ghost use Rattle.lola_model.specs.NextStep.{local_rate_of, local_rates};
 ghost use Rattle.lola_model.specs.Store.{StreamLayout, instances_seen, layout_of, layouts_from, new_seen};
 ghost use Rattle.lola_instances_one.specs.Unborn.{AllSound};
 ghost use Rattle.lola_instances_stream.specs.Crowds.{Crowd};
-ghost use Rattle.lola_instances.specs.Opening.{ArePlaces, IsOpened, IsStorable, count_onto, first_kept, first_locals, one_onto, onto, stream_layout};
+ghost use Rattle.lola_instances.specs.Layouts.{stream_layout};
+ghost use Rattle.lola_instances.specs.Opening.{ArePlaces, IsOpened, IsStorable, count_onto, one_onto, onto};
 ghost use Rattle.lola_instances.specs.Spawning.{AreNumbered, is_among};
 ghost use Rattle.lola_instances.specs.Stores.{bounded_seen, bounded_remembers};
 ghost use Rattle.lola_instances.specs.Streams.{crowd_layout};
 
+use crate::layout::{copy_kinds, copy_sizes, copy_windows, has_spawn, kept_at, locals_at};
 use crate::stage::StorePhase;
 use crate::store::BoundedStore;
 use lola_instances_one::window::WindowPanes;
 use lola_instances_stream::instances::Instances;
-use lola_model::pacing::{ClausePacings, Pacing};
-use lola_model::plan::{PaneSize, PaneSizes, Plan};
-use lola_model::spec::{Kinds, Stream, WindowSpec, Windows};
+use lola_model::pacing::ClausePacings;
+use lola_model::plan::{PaneSize, Plan};
+use lola_model::spec::{Stream, WindowSpec};
 use lola_value::rate::Rate;
 use lola_value::text::Memory;
 use lola_value::value::Kind;
 use std::alloc::Global;
 use std::hash::RandomState;
-
-/// The same windows.
-fn copy_windows(alloc: Global, windows: &Windows) -> Result<Windows, Memory>
-    ensures { IfOk result (λ copy. copy ≡ windows.now) }
-{
-    let mut copy = Windows::create(alloc);
-    for w in windows.as_slice() {
-        copy.push(*w)?;
-    }
-    Ok(copy)
-}
-
-/// The same sizes.
-fn copy_sizes(alloc: Global, sizes: &PaneSizes) -> Result<PaneSizes, Memory>
-    ensures { IfOk result (λ copy. copy ≡ sizes.now) }
-{
-    let mut copy = PaneSizes::create(alloc);
-    for p in sizes.as_slice() {
-        copy.push(*p)?;
-    }
-    Ok(copy)
-}
-
-/// The same kinds.
-fn copy_kinds(alloc: Global, kinds: &Kinds) -> Result<Kinds, Memory>
-    ensures { IfOk result (λ copy. copy ≡ kinds.now) }
-{
-    let mut copy = Kinds::create(alloc);
-    for k in kinds.as_slice() {
-        copy.push(*k)?;
-    }
-    Ok(copy)
-}
-
-/// Whether a stream has a spawn clause.
-fn has_spawn(stream: &Stream) -> bool
-    ensures { result ≡ (stream_layout stream.now 0 []).spawns }
-{
-    match &stream.spawn {
-        None => false,
-        Some(_) => true,
-    }
-}
-
-/// How many values a stream keeps.
-fn kept_at(kept: &[u32], i: usize) -> u32
-    ensures { result ≡ first_kept (drop i kept.now) }
-{
-    if i < kept.len() { kept[i] } else { 1 }
-}
-
-/// The rate of a pacing, behind the others, if it counts from births.
-fn add_local(pacing: &Option<Pacing>, rates: &mut Vec<Rate>) -> Result<(), Memory>
-    ensures { OnOk result (rates.new.items ≡ rates.old.items ++ local_rate_of pacing.now) }
-{
-    if let Some(Pacing::Local(rate)) = pacing {
-        rates.push(*rate)?;
-    }
-    Ok(())
-}
-
-/// The rates of a stream's clauses that count from births.
-fn locals_of(alloc: Global, clauses: &ClausePacings) -> Result<Vec<Rate>, Memory>
-    ensures { IfOk result (λ rates. rates.items ≡ local_rates (Some clauses.now)) }
-{
-    let mut rates = Vec::new(alloc);
-    add_local(&clauses.eval, &mut rates)?;
-    add_local(&clauses.close, &mut rates)?;
-    Ok(rates)
-}
-
-/// The same of the stream of a number.
-fn locals_at(alloc: Global, pacings: &[ClausePacings], i: usize) -> Result<Vec<Rate>, Memory>
-    ensures { IfOk result (λ rates. rates.items ≡ first_locals (drop i pacings.now)) }
-{
-    if i < pacings.len() {
-        locals_of(alloc, &pacings[i])
-    } else {
-        Ok(Vec::new(alloc))
-    }
-}
 
 /// The panes of a window, behind the others, if it is onto the stream.
 fn add_onto(

@@ -10,8 +10,9 @@ use Rattle.lola_instances_stream.proofs.Beginnings.{crowd_later, begun_at}
 use Rattle.lola_instances.specs.Stages.{start_in, time_in, is_on}
 use Rattle.lola_instances.specs.Stores.{bounded_seen}
 use Rattle.lola_instances.specs.Streams.{crowd_layout, slot_at}
-use Rattle.lola_instances.proofs.Asking.{phase_time, phase_start, shows_at, right_at}
+use Rattle.lola_instances.proofs.Asking.{shows_at, right_at}
 use Rattle.lola_instances.proofs.Changing.{all_quiet}
+use Rattle.lola_instances.proofs.Phases.{phase_time, phase_start}
 use Rattle.lola_instances.proofs.begin.begin.Goals as goal
 
 pub invariant_of-s : goal.invariant_of-s

@@ -4,7 +4,7 @@ use Rattle.lola_instances_stream.proofs.Beginnings.{started_at}
 use Rattle.lola_instances.specs.Stages.{start_in, time_in, is_on}
 use Rattle.lola_instances.specs.Streams.{slot_at}
 use Rattle.lola_instances.proofs.Asking.{right_at}
-use Rattle.lola_instances.proofs.Changing.{new_is_off, new_is_at_zero}
+use Rattle.lola_instances.proofs.Phases.{new_is_off, new_is_at_zero}
 use Rattle.lola_instances.proofs.begin.start_at.Goals as goal
 
 pub invariant_of-s : goal.invariant_of-s

@@ -6,7 +6,8 @@ use Rattle.lola_instances_stream.specs.Rights.{AreRight, CrowdRight}
 use Rattle.lola_instances_stream.proofs.Lists.{each-set}
 use Rattle.lola_instances.specs.Stages.{phase_in, start_in, time_in, is_on}
 use Rattle.lola_instances.proofs.Asking.{found_stream, index_is}
-use Rattle.lola_instances.proofs.Changing.{running_is_on, silent_in, layout_set, changed_set, placed_set, numbered_set, past_set, slots_right, slots_seen}
+use Rattle.lola_instances.proofs.Changing.{silent_in, layout_set, changed_set, placed_set, numbered_set, past_set, slots_right, slots_seen}
+use Rattle.lola_instances.proofs.Phases.{running_is_on}
 use Rattle.lola_instances.proofs.changes.poison.Goals as goal
 
 pub poison-requires-clause-index : goal.poison-requires-clause-index

@@ -12,9 +12,11 @@ use Rattle.lola_instances_stream.proofs.Lists.{each-set, same_set}
 use Rattle.lola_instances.specs.Stages.{phase_in, start_in, time_in, is_on}
 use Rattle.lola_instances.specs.Stores.{bounded_seen}
 use Rattle.lola_instances.specs.Streams.{slots_in, slot_at}
-use Rattle.lola_instances.proofs.Asking.{phase_time, stream_read, layout_at, place_is, count_is}
-use Rattle.lola_instances.proofs.Births.{spawns_at, unspawned, owed_some, spawn_right, spawn_layout, spawn_windows, spawn_seen}
-use Rattle.lola_instances.proofs.Changing.{running_is_on, layout_set, placed_set, numbered_set, past_set}
+use Rattle.lola_instances.proofs.Asking.{stream_read, layout_at, place_is, count_is}
+use Rattle.lola_instances.proofs.Births.{spawns_at, unspawned, spawn_right, spawn_layout, spawn_windows, spawn_seen}
+use Rattle.lola_instances.proofs.Changing.{layout_set, placed_set, numbered_set, past_set}
+use Rattle.lola_instances.proofs.Owed.{owed_some}
+use Rattle.lola_instances.proofs.Phases.{phase_time, running_is_on}
 use Rattle.lola_instances.proofs.changes.spawn.Goals as goal
 
 pub spawn-requires-clause-kinds : goal.spawn-requires-clause-kinds

@@ -7,7 +7,8 @@ use Rattle.lola_instances_stream.proofs.Lists.{each-set}
 use Rattle.lola_instances.specs.Stages.{phase_in, start_in, time_in, is_on}
 use Rattle.lola_instances.specs.Streams.{slots_in}
 use Rattle.lola_instances.proofs.Asking.{layout_at, slots_count, stream_read}
-use Rattle.lola_instances.proofs.Changing.{running_is_on, silent_in, layout_set, changed_set, placed_set, numbered_set, past_set, slots_right, slots_seen}
+use Rattle.lola_instances.proofs.Changing.{silent_in, layout_set, changed_set, placed_set, numbered_set, past_set, slots_right, slots_seen}
+use Rattle.lola_instances.proofs.Phases.{running_is_on}
 use Rattle.lola_instances.proofs.giving.give_each.Goals as goal
 
 pub give_each-requires-clause-step_ge : goal.give_each-requires-clause-step_ge

@@ -2,9 +2,11 @@ use Rattle.std.proofs.Common.{◌≡◌, ◌∙◌, ◌++◌, ◌∷◌, [], ℕ
 use Rattle.std.proofs.lemmas.List.{map-append}
 use Rattle.std.proofs.lemmas.Option.{slice_get_read}
 use Rattle.lola_model.specs.Store.{layouts_from}
-use Rattle.lola_instances.specs.Opening.{IsOpened, stream_layout, first_kept, first_locals}
+use Rattle.lola_instances.specs.Layouts.{first_kept, first_locals, stream_layout}
+use Rattle.lola_instances.specs.Opening.{IsOpened}
 use Rattle.lola_instances.specs.Streams.{crowd_layout}
-use Rattle.lola_instances.proofs.Opened.{layouts_at, layouts_more, opened_more}
+use Rattle.lola_instances.proofs.Layouts.{layouts_at, layouts_more}
+use Rattle.lola_instances.proofs.Opened.{opened_more}
 use Rattle.lola_instances.proofs.opening.open_all.Goals as goal
 
 pub open-requires-clause-kept : goal.open-requires-clause-kept
