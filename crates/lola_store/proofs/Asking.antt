@@ -10,7 +10,7 @@ use Rattle.lola_store.specs.declared.population.Population.{Population}
 use Rattle.lola_store.specs.declared.store.WholeStore.{WholeStore}
 use Rattle.lola_store.specs.Instances.{shown, InstanceRight}
 use Rattle.lola_store.specs.Populations.{population_layout, instance_at}
-use Rattle.lola_store.specs.Stages.{is_on}
+use Rattle.lola_instances.specs.Stages.{is_on}
 use Rattle.lola_store.specs.Stores.{whole_seen}
 use Rattle.lola_store.proofs.Places.{outcome_at, outcome_shows, layout_at, right_at}
 

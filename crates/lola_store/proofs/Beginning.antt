@@ -1,5 +1,5 @@
 -- A step that begins, and a run.
-use Rattle.std.proofs.Common.{◌≡◌, ℕ, suc, ◌+◌, ◌≤◌, ◌<◌, List, [], ◌∷◌, ◌++◌, map, refl, ap, sym, ◌∙◌, subst, arith, Option, Some, None, nat_eq, if◌then◌else◌, Bool, true, false, not, ◌&&◌, IsTrue}
+use Rattle.std.proofs.Common.{◌≡◌, ℕ, suc, ◌+◌, ◌≤◌, ◌<◌, List, [], ◌∷◌, ◌++◌, map, refl, ap, sym, ◌∙◌, subst, arith, Option, Some, None, nat_eq, if◌then◌else◌, Bool, true, false}
 use Rattle.std.proofs.lemmas.Bool.{ne_eqb}
 use Rattle.std.proofs.lemmas.List.{append-nil}
 use Rattle.lola_value.specs.declared.text.Field.{Field}
@@ -7,43 +7,14 @@ use Rattle.lola_value.specs.declared.value.Kind.{Kind}
 use Rattle.lola_value.specs.declared.value.Outcome.TheVariants as outcome
 use Rattle.lola_value.specs.Naming.{Naming, read_outcome, IsHeldIn}
 use Rattle.lola_model.specs.Accesses.{one_more}
-use Rattle.lola_model.specs.Store.{New, Started, Running, quiet, silent, is_new}
+use Rattle.lola_model.specs.Store.{quiet, silent}
 use Rattle.lola_store.specs.declared.instance.Instance.{Instance}
 use Rattle.lola_store.specs.declared.population.Population.{Population}
-use Rattle.lola_store.specs.declared.stage.StorePhase.{StorePhase}
-use Rattle.lola_store.specs.declared.stage.StorePhase.TheVariants as stage
-use Rattle.lola_store.specs.Each.{Each}
-use Rattle.lola_store.specs.Instances.{shown, instance_seen, RecallsAt, InstanceRight, owed}
+use Rattle.lola_instances_stream.specs.Each.{Each}
+use Rattle.lola_instances_stream.proofs.Beginnings.{owed_one, owed_next}
+use Rattle.lola_store.specs.Instances.{shown, instance_seen, RecallsAt, InstanceRight}
 use Rattle.lola_store.specs.Populations.{population_seen, PopulationRight}
-use Rattle.lola_store.specs.Stages.{phase_in, start_in, time_in, is_on}
 use Rattle.lola_store.proofs.Places.{outcome_at}
-
-pub phase_time : (st : StorePhase) → elim (phase_in st) [ New ↦ 0 | Started a ↦ a | Running a t ↦ t ] ≡ time_in st
-phase_time stage.New = refl
-phase_time (stage.Started a) = refl
-phase_time (stage.Running a t) = refl
-
-pub phase_start : (st : StorePhase) → elim (phase_in st) [ New ↦ 0 | Started a ↦ a | Running a t ↦ a ] ≡ start_in st
-phase_start stage.New = refl
-phase_start (stage.Started a) = refl
-phase_start (stage.Running a t) = refl
-
-pub new_is_off : (st : StorePhase) → IsTrue (is_new (phase_in st)) → is_on st ≡ false
-new_is_off stage.New h = refl
-new_is_off (stage.Started a) h = refl
-new_is_off (stage.Running a t) h = cc
-
--- how much room is owed
-
-pub owed_one : (on : Bool) (step told : ℕ) → owed false on step told ≤ 1
-owed_one on step told = elim (on && not (nat_eq told step)) as (λ b. 0 + (if b then 1 else 0) ≤ 1) [ true ↦ omega arith | false ↦ omega arith ]
-
-pub owed_next : (on : Bool) (step told : ℕ) → 1 ≤ owed true on step told
-owed_next on step told = elim (on && not (nat_eq told step)) as (λ b. 1 ≤ 1 + (if b then 1 else 0)) [ true ↦ omega arith | false ↦ omega arith ]
-
-pub owed_two : (prepared on : Bool) (step told : ℕ) → owed prepared on step told ≤ 2
-owed_two true on step told = elim (on && not (nat_eq told step)) as (λ b. 1 + (if b then 1 else 0) ≤ 2) [ true ↦ omega arith | false ↦ omega arith ]
-owed_two false on step told = let k = owed_one on step told in omega arith
 
 -- what is right stays so
 

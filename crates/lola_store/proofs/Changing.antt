@@ -16,24 +16,17 @@ use Rattle.lola_value.specs.Naming.{Naming, the_values, read, read_outcome, IsHe
 use Rattle.lola_value.specs.Kinds.{is_outcome_of, are_of_kinds, is_well_formed}
 use Rattle.lola_model.specs.Accesses.{one_more}
 use Rattle.lola_model.specs.Reading.{moved_up}
-use Rattle.lola_model.specs.Store.{SeenInstance, SeenStream, changed_at, told_at, is_silent, instances_of, is_running, now_at, StreamLayout, spawns_in, has_spawned}
+use Rattle.lola_model.specs.Store.{SeenInstance, SeenStream, changed_at, told_at, is_silent, instances_of, now_at, StreamLayout, spawns_in, has_spawned}
 use Rattle.lola_store.specs.declared.instance.Instance.{Instance}
 use Rattle.lola_store.specs.declared.population.Population.{Population}
-use Rattle.lola_store.specs.declared.stage.StorePhase.{StorePhase}
-use Rattle.lola_store.specs.declared.stage.StorePhase.TheVariants as stage
-use Rattle.lola_store.specs.Instances.{shown, instance_seen, Recalls, InstanceRight, AllHeld, owed}
-use Rattle.lola_store.proofs.Beginning.{owed_two}
+use Rattle.lola_instances_stream.specs.Rights.{owed}
+use Rattle.lola_store.specs.Instances.{shown, instance_seen, Recalls, InstanceRight, AllHeld}
+use Rattle.lola_instances_stream.proofs.Beginnings.{owed_two}
 use Rattle.lola_store.specs.Populations.{population_layout, population_seen, lives_in, instance_at, IsNewborn}
-use Rattle.lola_store.specs.Stages.{phase_in, is_on}
 use Rattle.lola_store.specs.Tallies.{read_timed, AllOf}
 use Rattle.lola_instances_stream.proofs.Lists.{got_before, same_set, other_set}
 use Rattle.lola_store.proofs.Places.{layout_at, lives_count, stream_of, outcome_shows, outcome_at}
 use Rattle.lola_store.proofs.Recalling.{held-more}
-
-pub running_is_on : (st : StorePhase) → IsTrue (is_running (phase_in st)) → is_on st ≡ true
-running_is_on stage.New h = cc
-running_is_on (stage.Started a) h = cc
-running_is_on (stage.Running a t) h = refl
 
 -- the stream and the instance at a place
 
@@ -113,35 +106,11 @@ no_both : (b : Bool) → b ≡ true → not b ≡ true → ⊥
 no_both true e f = cc
 no_both false e f = cc
 
-pub is_missing : (o : Outcome) → IsTrue (is_silent o) → o ≡ outcome.Missing
-is_missing (outcome.Value v) h = cc
-is_missing outcome.Missing h = refl
-is_missing (outcome.Fault k) h = cc
-is_missing outcome.Poison h = cc
-
 pub shown_told : (step : ℕ) (y : Instance) (o : Outcome) → y.told_at ≡ step → y.outcome ≡ o → shown step y ≡ o
 shown_told step y o e q = ap (λ b. if b then y.outcome else outcome.Missing) (eq-eqb y.told_at step e) ∙ q
 
 pub untold : (k : Kind) (ps : List Kind) (on prepared : Bool) (step : ℕ) (x : Instance) → InstanceRight k ps on prepared step x → IsTrue (is_silent (shown step x)) → x.told_at ≡ step → ⊥
 untold k ps on prepared step x h s q = no_both (is_silent x.outcome) (subst (λ o. IsTrue (is_silent o)) (shown_told step x x.outcome q refl) s) (h.told q)
-
--- how much room is owed
-
-owed_told : (prepared on : Bool) (step told : ℕ) → told ≡ step → owed prepared on step told ≡ (if prepared then 1 else 0) + 0
-owed_told prepared on step told e = ap (λ b. (if prepared then 1 else 0) + (if on && not b then 1 else 0)) (eq-eqb told step e) ∙ ap (λ b. (if prepared then 1 else 0) + (if b then 1 else 0)) (and_false on)
-  where
-    and_false : (b : Bool) → (b && false) ≡ false
-    and_false true = refl
-    and_false false = refl
-
-owed_untold : (prepared on : Bool) (step told : ℕ) → on ≡ true → (told ≡ step → ⊥) → owed prepared on step told ≡ (if prepared then 1 else 0) + 1
-owed_untold prepared on step told r h = λ i. (if prepared then 1 else 0) + (if r i && not (ne_eqb told step h i) then 1 else 0)
-
-pub owed_fall : (prepared on : Bool) (step told later : ℕ) → on ≡ true → (told ≡ step → ⊥) → later ≡ step → owed prepared on step later + 1 ≤ owed prepared on step told
-owed_fall prepared on step told later r h e = omega (arith, owed_told prepared on step later e, owed_untold prepared on step told r h)
-
-pub owed_some : (prepared on : Bool) (step told : ℕ) → on ≡ true → (told ≡ step → ⊥) → 1 ≤ owed prepared on step told
-owed_some prepared on step told r h = omega (arith, owed_untold prepared on step told r h)
 
 pub instance_told : (k : Kind) (ps : List Kind) (on prepared : Bool) (step : ℕ) (x y : Instance) (o : Outcome) → InstanceRight k ps on prepared step x → on ≡ true
     → y.params ≡ x.params → y.told_at ≡ step → y.outcome ≡ o → IsTrue (not (is_silent o)) → IsTrue (is_outcome_of k o) → AllOf k y.values.items

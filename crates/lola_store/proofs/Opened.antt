@@ -1,21 +1,19 @@
 -- What is true of a new store.
-use Rattle.std.proofs.Common.{◌≡◌, ℕ, zero, suc, ◌+◌, ◌≤◌, ◌<◌, List, [], ◌∷◌, length, map, drop, refl, ap, sym, ◌∙◌, subst, arith, Some, slice_get, Bool, true, false, if◌then◌else◌, IsTrue, get_or, drop-cons, drop-drop, add-one, nat_eq}
+use Rattle.std.proofs.Common.{◌≡◌, ℕ, zero, suc, ◌≤◌, ◌<◌, List, [], ◌∷◌, length, map, refl, ap, sym, ◌∙◌, subst, arith, Some, slice_get, Bool, true, false, if◌then◌else◌, IsTrue, nat_eq}
 use Rattle.std.specs.Prelude.{vec_len}
 use Rattle.std.specs.Vec.{vec_capacity}
 use Rattle.lola_value.specs.Naming.{Naming, the_values}
 use Rattle.lola_value.specs.declared.value.Kind.{Kind}
 use Rattle.lola_value.specs.Kinds.{are_of_kinds, is_outcome_of, is_well_formed}
-use Rattle.lola_model.specs.Store.{opened, no_params, newborn_seen, layouts_from}
-use Rattle.lola_model.specs.declared.pacing.ClausePacings.{ClausePacings}
-use Rattle.lola_model.specs.declared.spec.Stream.{Stream}
+use Rattle.lola_model.specs.Store.{opened, no_params, newborn_seen}
 use Rattle.lola_store.specs.declared.instance.Instance.{Instance}
 use Rattle.lola_store.specs.declared.population.Population.{Population}
-use Rattle.lola_store.specs.Each.{Each}
+use Rattle.lola_instances_stream.specs.Each.{Each}
 use Rattle.lola_store.specs.Instances.{instance_seen, InstanceRight, Recalls, RecallsAt}
-use Rattle.lola_store.specs.Opening.{AreFirst, IsOpened, stream_layout, first_kept, first_locals}
+use Rattle.lola_store.specs.Opening.{AreFirst, IsOpened}
 use Rattle.lola_store.specs.Populations.{IsNewborn, population_layout, population_seen, lives_in, instance_at}
 use Rattle.lola_store.specs.Tallies.{AllOf}
-use Rattle.lola_store.proofs.Beginning.{owed_two}
+use Rattle.lola_instances_stream.proofs.Beginnings.{owed_two}
 use Rattle.lola_store.proofs.Changing.{newborn_silent, newborn_recalls}
 
 first_seen : (spawns : Bool) (xs : List Instance) → AreFirst spawns xs → map (instance_seen 1) xs ≡ (if spawns then [] else newborn_seen 0 no_params ∷ [])
@@ -80,15 +78,6 @@ opened_is l b s e f =
       };
       blank = first_blank l.spawns l.lives.items f;
     }
-
--- one more stream
-pub layouts_more : (ss : List Stream) (kept : List ℕ) (ps : List ClausePacings) (i : ℕ) (s : Stream) → i < length ss → s ≡ get_or ss i s
-    → layouts_from (drop i ss) (drop i kept) (drop i ps) ≡ stream_layout s (first_kept (drop i kept)) (first_locals (drop i ps)) ∷ layouts_from (drop (i + 1) ss) (drop (i + 1) kept) (drop (i + 1) ps)
-layouts_more ss kept ps i s l e =
-    let cut : drop i ss ≡ s ∷ drop (i + 1) ss = drop-cons ss i s l ∙ (λ j. sym e j ∷ drop (sym (add-one i) j) ss) in
-    let first = stream_layout s (first_kept (drop i kept)) (first_locals (drop i ps)) in
-    ap (λ xs. layouts_from xs (drop i kept) (drop i ps)) cut
-    ∙ (λ j. first ∷ layouts_from (drop (i + 1) ss) (drop-drop 1 i kept j) (drop-drop 1 i ps j))
 
 -- all streams of a new store
 pub all_opened : (ls : List Population) → Each IsOpened ls → map (population_seen 1) ls ≡ map opened (map population_layout ls)

@@ -10,7 +10,7 @@ use Rattle.lola_value.specs.declared.value.Outcome.TheVariants as outcome
 use Rattle.lola_model.specs.Store.{SeenInstance, instances_of, now_at, place_among, same_params, is_bad_seen, is_well_formed}
 use Rattle.lola_store.specs.declared.instance.Instance.{Instance}
 use Rattle.lola_store.specs.declared.population.Population.{Population}
-use Rattle.lola_store.specs.Each.{Each}
+use Rattle.lola_instances_stream.specs.Each.{Each}
 use Rattle.lola_store.specs.Instances.{shown, instance_seen, place_in, InstanceRight}
 use Rattle.lola_store.specs.Populations.{population_layout, population_seen, lives_in, instance_at, PopulationRight}
 

@@ -12,12 +12,13 @@ use Rattle.lola_model.specs.Accesses.{one_more}
 use Rattle.lola_model.specs.Store.{is_silent}
 use Rattle.lola_store.specs.declared.instance.Instance.{Instance}
 use Rattle.lola_store.specs.declared.population.Population.{Population}
-use Rattle.lola_store.specs.Each.{Paired}
-use Rattle.lola_store.specs.Instances.{shown, instance_seen, Recalls, RecallsAt, AllHeld, InstanceRight, owed}
+use Rattle.lola_store.specs.Paired.{Paired}
+use Rattle.lola_instances_stream.specs.Rights.{owed}
+use Rattle.lola_store.specs.Instances.{shown, instance_seen, Recalls, RecallsAt, AllHeld, InstanceRight}
 use Rattle.lola_store.specs.Populations.{population_layout, population_seen, instance_at, PopulationRight}
 use Rattle.lola_store.specs.Rooms.{IsAlike, IsKept, IsReady}
 use Rattle.lola_store.specs.Tallies.{AllOf, read_timed}
-use Rattle.lola_store.proofs.Beginning.{owed_two}
+use Rattle.lola_instances_stream.proofs.Beginnings.{owed_two}
 use Rattle.lola_instances_stream.proofs.Lists.{same_set, other_set}
 
 module _ {X : Type 0} (R : X → X → Type 0) where

@@ -26,7 +26,8 @@ use Rattle.lola_value.specs.Naming.{Naming, read, read_outcome, text_at, the_tex
 use Rattle.lola_store.specs.declared.tally.Timed.{Timed}
 use Rattle.lola_store.specs.declared.tally.Tally.{Tally}
 use Rattle.lola_store.specs.Tallies.{read_timed, number_in, truth_in, lower, higher, noted, tallied, empty, inside, answer, mean, number_or_missing, within_kind}
-use Rattle.lola_store.proofs.Ranges.{AllWithin, least_within, greatest_within, mean_within}
+use Rattle.lola_panes.proofs.Ranges.{AllIn, mean_in}
+use Rattle.lola_store.proofs.Ranges.{least_within, greatest_within}
 
 -- numbers and truths are the same whatever the naming
 
@@ -185,7 +186,7 @@ window_reads names over time (x ∷ xs) =
 integer_of : (k : Kind) (z : ℤ) → IsTrue (is_integer k) → IsTrue (is_within k z) → IsTrue (is_outcome_of k (outcome.Value (value.Int z)))
 integer_of k z h g = rw h g
 
-pub answer_kind : (how : Agg) (k : Kind) (vs : List Value) → length vs < 2 ^ 63 → IsTrue (takes how k) → AllWithin k (map number_in vs) → IsTrue (is_outcome_of (gives_kind how k) (answer how k (tallied empty vs)))
+pub answer_kind : (how : Agg) (k : Kind) (vs : List Value) → length vs < 2 ^ 63 → IsTrue (takes how k) → AllIn k (map number_in vs) → IsTrue (is_outcome_of (gives_kind how k) (answer how k (tallied empty vs)))
 answer_kind agg.Count k vs l f h = let e = many_is empty vs in let m : (tallied empty vs).many < 2 ^ 63 = omega (arith, e) in grind (arith, ints)
 answer_kind agg.Sum k vs l f h =
     (elim (is_within k (tallied empty vs).whole) as (λ b. is_within k (tallied empty vs).whole ≡ b → IsTrue (is_outcome_of k (if b then outcome.Value (value.Int (tallied empty vs).whole) else outcome.Fault fault.Overflow))) [
@@ -200,7 +201,7 @@ answer_kind agg.Max k (v ∷ vs) l f h =
     subst (λ (o : Option ℤ). IsTrue (is_outcome_of k (number_or_missing o))) (sym (highest_is (noted empty v) (number_in v) vs refl)) (integer_of k (greatest_of (number_in v) (map number_in vs)) f (greatest_within k (number_in v) (map number_in vs) h))
 answer_kind agg.Avg k [] l f h = refl
 answer_kind agg.Avg k (v ∷ vs) l f h =
-    subst (λ (o : Outcome). IsTrue (is_outcome_of k o)) (sym (mean_is v vs)) (integer_of k (mean_number (v ∷ vs)) f (mean_within k (number_in v) (map number_in vs) h))
+    subst (λ (o : Outcome). IsTrue (is_outcome_of k o)) (sym (mean_is v vs)) (integer_of k (mean_number (v ∷ vs)) f (mean_in k (number_in v) (map number_in vs) h))
 answer_kind agg.Forall k vs l f h = refl
 answer_kind agg.Exists k vs l f h = refl
 

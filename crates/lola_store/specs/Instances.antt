@@ -1,5 +1,5 @@
 -- What an instance shows of itself, and which earlier values it recalls.
-use Rattle.std.specs.Prelude.{ℕ, ◌≡◌, ◌+◌, ◌-◌, ◌≤◌, ◌<◌, Bool, false, not, ◌&&◌, vec_len, List, [], ◌∷◌, ◌++◌, Option, Some, None, map, length, slice_get, nat_eq, nat_le, if◌then◌else◌, IsTrue}
+use Rattle.std.specs.Prelude.{ℕ, ◌≡◌, ◌+◌, ◌-◌, ◌≤◌, ◌<◌, Bool, false, not, vec_len, List, [], ◌∷◌, ◌++◌, Option, Some, None, map, length, slice_get, nat_eq, nat_le, if◌then◌else◌, IsTrue}
 use Rattle.lola_value.specs.declared.text.Field.{Field}
 use Rattle.lola_value.specs.declared.value.Kind.{Kind}
 use Rattle.lola_value.specs.declared.value.Outcome.{Outcome}
@@ -9,6 +9,7 @@ use Rattle.lola_value.specs.declared.value.Params.{Params}
 use Rattle.lola_value.specs.Naming.{the_values, Naming, read_outcome, IsHeld, IsHeldIn}
 use Rattle.lola_model.specs.Store.{SeenInstance, is_outcome_of, is_silent, same_params, is_well_formed, are_of_kinds}
 use Rattle.lola_model.specs.Accesses.{one_more}
+use Rattle.lola_instances_stream.specs.Rights.{owed}
 use Rattle.lola_store.specs.declared.tally.Timed.{Timed}
 use Rattle.lola_store.specs.declared.instance.Instance.{Instance}
 use Rattle.lola_store.specs.Tallies.{read_timed, AllOf}
@@ -50,11 +51,6 @@ place_in p (x ∷ xs) i = if same_params p x.params then Some i else place_in p 
 abbrev pub RecallsAt : ℕ → ℕ → Naming → Option Instance → List (ℕ × Field) → Type 0
 RecallsAt time step names None values = ⊥
 RecallsAt time step names (Some x) values = Recalls time step names x values
-
--- how many values an instance may still be given without new memory: one in this step, if it was not told, and one in
--- the next, if that is prepared
-abbrev pub owed : Bool → Bool → ℕ → ℕ → ℕ
-owed prepared on step told = (if prepared then 1 else 0) + (if on && not (nat_eq told step) then 1 else 0)
 
 -- what is true of every instance of a stream with that kind and these parameters
 pub record InstanceRight (kind : Kind) (parameters : List Kind) (on prepared : Bool) (step : ℕ) (x : Instance) : Type 0 where

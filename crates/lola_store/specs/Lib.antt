@@ -1,11 +1,10 @@
 pub mod Dues
-pub mod Each
 pub mod Instances
 pub mod Opening
+pub mod Paired
 pub mod Populations
 pub mod Renaming
 pub mod Rooms
-pub mod Stages
 pub mod Stores
 pub mod Tallies
 pub mod Texts

@@ -13,7 +13,7 @@ use Rattle.lola_store.specs.declared.population.Population.{Population}
 use Rattle.lola_store.specs.declared.store.WholeStore.{WholeStore}
 use Rattle.lola_store.specs.Instances.{shown, instance_seen, AllHeld, RecallsAt}
 use Rattle.lola_store.specs.Populations.{population_seen, instance_at}
-use Rattle.lola_store.specs.Stages.{time_in}
+use Rattle.lola_instances.specs.Stages.{time_in}
 use Rattle.lola_store.specs.Stores.{whole_seen, whole_remembers}
 use Rattle.lola_store.specs.Tallies.{read_timed}
 use Rattle.lola_store.specs.Texts.{items_of, instance_texts, population_texts, whole_texts}

@@ -6,8 +6,9 @@ use Rattle.lola_value.specs.declared.value.Outcome.TheVariants as outcome
 use Rattle.lola_model.specs.Store.{SeenStream, StreamLayout}
 use Rattle.lola_store.specs.declared.instance.Instance.{Instance}
 use Rattle.lola_store.specs.declared.population.Population.{Population}
-use Rattle.lola_store.specs.Each.{Each}
-use Rattle.lola_store.specs.Instances.{instance_seen, InstanceRight, owed}
+use Rattle.lola_instances_stream.specs.Each.{Each}
+use Rattle.lola_instances_stream.specs.Rights.{owed}
+use Rattle.lola_store.specs.Instances.{instance_seen, InstanceRight}
 
 -- what a store has to know of a stream
 abbrev pub population_layout : Population → StreamLayout

@@ -14,7 +14,7 @@ use Rattle.lola_store.specs.declared.instance.Instance.{Instance}
 use Rattle.lola_store.specs.declared.store.WholeStore.{WholeStore}
 use Rattle.lola_store.specs.Instances.{shown, AllHeld, RecallsAt}
 use Rattle.lola_store.specs.Populations.{instance_at}
-use Rattle.lola_store.specs.Stages.{time_in}
+use Rattle.lola_instances.specs.Stages.{time_in}
 use Rattle.lola_store.specs.Stores.{whole_remembers}
 use Rattle.lola_store.specs.Tallies.{read_timed}
 

@@ -3,7 +3,8 @@ use Rattle.std.specs.Prelude.{◌≡◌, ◌+◌, ◌≤◌, length, vec_len, tr
 use Rattle.std.specs.Vec.{vec_capacity}
 use Rattle.lola_store.specs.declared.instance.Instance.{Instance}
 use Rattle.lola_store.specs.declared.population.Population.{Population}
-use Rattle.lola_store.specs.Each.{Each, Paired}
+use Rattle.lola_instances_stream.specs.Each.{Each}
+use Rattle.lola_store.specs.Paired.{Paired}
 
 -- the same instance, with no less room
 pub record IsAlike (x y : Instance) : Type 0 where

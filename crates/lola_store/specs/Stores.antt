@@ -6,7 +6,7 @@ use Rattle.lola_model.specs.Store.{Seen}
 use Rattle.lola_store.specs.declared.store.WholeStore.{WholeStore}
 use Rattle.lola_store.specs.Instances.{RecallsAt}
 use Rattle.lola_store.specs.Populations.{population_layout, population_seen, instance_at}
-use Rattle.lola_store.specs.Stages.{phase_in, time_in}
+use Rattle.lola_instances.specs.Stages.{phase_in, time_in}
 
 -- what it shows
 abbrev pub whole_seen : WholeStore → Seen

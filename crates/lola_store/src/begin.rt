@@ -8,8 +8,8 @@ ghost use Rattle.lola_model.specs.Reading.{KeepsAll};
 ghost use Rattle.lola_model.specs.Store.{IsNew, CanBegin, after_start, after_begin, time_seen, now_seen};
 ghost use Rattle.lola_store.specs.Stores.{whole_seen, whole_remembers};
 
-use crate::stage::{StorePhase, start_of};
 use crate::store::WholeStore;
+use lola_instances::stage::{StorePhase, start_of};
 
 /// Sets where time counts from.
 pub fn start_at(s: &mut WholeStore, start: u64)

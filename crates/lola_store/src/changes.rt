@@ -14,8 +14,8 @@ ghost use Rattle.lola_store.specs.Populations.{Bore};
 use crate::instance::Instance;
 use crate::population::Population;
 use crate::reading::{found, instances};
-use crate::stage::time_of;
 use crate::store::WholeStore;
+use lola_instances::stage::time_of;
 use lola_model::store::SpawnEnd;
 use lola_value::value::{Outcome, Params, Value};
 

@@ -14,7 +14,6 @@ mod opening;
 mod population;
 mod prepare;
 mod reading;
-mod stage;
 pub mod store;
 mod tally;
 mod texts;

@@ -1,58 +1,26 @@
 //! A new store.
 
-ghost use Rattle.std.specs.Prelude.{◌≡◌, ◌<◌, ◌++◌, ℕ, [], Bool, IfOk, OnOk, map, drop, length};
+ghost use Rattle.std.specs.Prelude.{◌≡◌, ◌<◌, ℕ, [], Bool, IfOk, map, length};
 ghost use Rattle.lola_value.specs.Naming.{Naming};
-ghost use Rattle.lola_model.specs.NextStep.{local_rate_of, local_rates};
 ghost use Rattle.lola_model.specs.Store.{layout_of, layouts_from, new_seen, instances_seen};
-ghost use Rattle.lola_store.specs.Each.{Each};
-ghost use Rattle.lola_store.specs.Opening.{IsStorable, IsOpened, AreFirst, stream_layout, first_kept, first_locals};
+ghost use Rattle.lola_instances.specs.Layouts.{stream_layout};
+ghost use Rattle.lola_instances_stream.specs.Each.{Each};
+ghost use Rattle.lola_store.specs.Opening.{IsStorable, IsOpened, AreFirst};
 ghost use Rattle.lola_store.specs.Populations.{population_layout};
 ghost use Rattle.lola_store.specs.Stores.{whole_seen, whole_remembers};
 
 use crate::instance::Instance;
 use crate::population::Population;
-use crate::stage::StorePhase;
 use crate::store::WholeStore;
-use lola_model::pacing::{ClausePacings, Pacing};
-use lola_model::plan::{PaneSizes, Plan};
-use lola_model::spec::{Kinds, Stream, Windows};
+use lola_instances::layout::{copy_kinds, copy_sizes, copy_windows, has_spawn, kept_at, locals_at};
+use lola_instances::stage::StorePhase;
+use lola_model::pacing::ClausePacings;
+use lola_model::plan::Plan;
+use lola_model::spec::Stream;
 use lola_value::rate::Rate;
 use lola_value::text::Memory;
 use lola_value::value::{Outcome, Params, Value};
 use std::alloc::Global;
-
-/// The same windows.
-fn copy_windows(alloc: Global, windows: &Windows) -> Result<Windows, Memory>
-    ensures { IfOk result (λ copy. copy ≡ windows.now) }
-{
-    let mut copy = Windows::create(alloc);
-    for w in windows.as_slice() {
-        copy.push(*w)?;
-    }
-    Ok(copy)
-}
-
-/// The same sizes.
-fn copy_sizes(alloc: Global, sizes: &PaneSizes) -> Result<PaneSizes, Memory>
-    ensures { IfOk result (λ copy. copy ≡ sizes.now) }
-{
-    let mut copy = PaneSizes::create(alloc);
-    for p in sizes.as_slice() {
-        copy.push(*p)?;
-    }
-    Ok(copy)
-}
-
-/// The same kinds.
-fn copy_kinds(alloc: Global, kinds: &Kinds) -> Result<Kinds, Memory>
-    ensures { IfOk result (λ copy. copy ≡ kinds.now) }
-{
-    let mut copy = Kinds::create(alloc);
-    for k in kinds.as_slice() {
-        copy.push(*k)?;
-    }
-    Ok(copy)
-}
 
 /// The first instances of a stream.
 fn first_lives(alloc: Global, spawns: bool) -> Result<Vec<Instance>, Memory>
@@ -83,16 +51,6 @@ fn first_lives(alloc: Global, spawns: bool) -> Result<Vec<Instance>, Memory>
     }
 }
 
-/// Whether a stream has a spawn clause.
-fn has_spawn(stream: &Stream) -> bool
-    ensures { result ≡ (stream_layout stream.now 0 []).spawns }
-{
-    match &stream.spawn {
-        None => false,
-        Some(_) => true,
-    }
-}
-
 /// A stream of a new store.
 fn open(alloc: Global, stream: &Stream, kept: u32, locals: Vec<Rate>) -> Result<Population, Memory>
     ensures layout { IfOk result (λ l. population_layout l ≡ stream_layout stream.now kept locals.items) }
@@ -112,49 +70,6 @@ fn open(alloc: Global, stream: &Stream, kept: u32, locals: Vec<Rate>) -> Result<
         lives,
         spares: Vec::new(alloc),
     })
-}
-
-/// How many values a stream keeps.
-fn kept_at(kept: &[u32], i: usize) -> u32
-    ensures { result ≡ first_kept (drop i kept.now) }
-{
-    if i < kept.len() { kept[i] } else { 1 }
-}
-
-/// Puts the rate of a pacing behind these rates, where it counts from births.
-fn add_local(pacing: &Option<Pacing>, rates: &mut Vec<Rate>) -> Result<(), Memory>
-    ensures { OnOk result (rates.new.items ≡ rates.old.items ++ local_rate_of pacing.now) }
-{
-    match pacing {
-        Some(Pacing::Local(rate)) => {
-            rates.push(*rate)?;
-            Ok(())
-        }
-        Some(Pacing::Event(_)) => Ok(()),
-        Some(Pacing::Periodic(_)) => Ok(()),
-        None => Ok(()),
-    }
-}
-
-/// The rates of a stream's clauses that count from births: of the eval clause, then of the close clause.
-fn locals_of(alloc: Global, pacings: &ClausePacings) -> Result<Vec<Rate>, Memory>
-    ensures { IfOk result (λ rates. rates.items ≡ local_rates (Some pacings.now)) }
-{
-    let mut rates = Vec::new(alloc);
-    add_local(&pacings.eval, &mut rates)?;
-    add_local(&pacings.close, &mut rates)?;
-    Ok(rates)
-}
-
-/// Those of a stream by its number.
-fn locals_at(alloc: Global, pacings: &[ClausePacings], i: usize) -> Result<Vec<Rate>, Memory>
-    ensures { IfOk result (λ rates. rates.items ≡ first_locals (drop i pacings.now)) }
-{
-    if i < pacings.len() {
-        locals_of(alloc, &pacings[i])
-    } else {
-        Ok(Vec::new(alloc))
-    }
 }
 
 /// The streams of a new store.

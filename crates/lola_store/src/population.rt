@@ -1,7 +1,7 @@
 //! The instances of a stream, in order of birth.
 
 ghost use Rattle.std.specs.Prelude.{◌≡◌, ◌≤◌};
-ghost use Rattle.lola_store.specs.Each.{Each};
+ghost use Rattle.lola_instances_stream.specs.Each.{Each};
 ghost use Rattle.lola_store.specs.Instances.{place_in};
 
 use crate::instance::Instance;

@@ -4,7 +4,8 @@ ghost use Rattle.std.specs.Prelude.{◌≡◌, ◌+◌, ◌≤◌, length, vec_l
 ghost use Rattle.std.specs.Vec.{vec_capacity};
 ghost use Rattle.lola_model.specs.Reading.{KeepsAll};
 ghost use Rattle.lola_model.specs.Store.{after_prepare};
-ghost use Rattle.lola_store.specs.Each.{Each, Paired};
+ghost use Rattle.lola_instances_stream.specs.Each.{Each};
+ghost use Rattle.lola_store.specs.Paired.{Paired};
 ghost use Rattle.lola_store.specs.Rooms.{IsAlike, IsRoomy, IsKept, IsReady};
 ghost use Rattle.lola_store.specs.Stores.{whole_seen, whole_remembers};
 

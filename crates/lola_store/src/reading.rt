@@ -14,9 +14,9 @@ ghost use Rattle.lola_store.specs.Stores.{whole_seen, whole_remembers};
 
 use crate::instance::Instance;
 use crate::population::place;
-use crate::stage::{start_of, time_of};
 use crate::store::WholeStore;
 use crate::tally::aggregate;
+use lola_instances::stage::{start_of, time_of};
 use lola_model::spec::WindowSpec;
 use lola_value::value::{Outcome, Params};
 

@@ -3,14 +3,14 @@
 ghost use Rattle.std.specs.Prelude.{◌≤◌, IsTrue, map, slice_get};
 ghost use Rattle.lola_model.specs.Store.{kind_in};
 ghost use Rattle.lola_model.specs.Typing.{takes};
-ghost use Rattle.lola_store.specs.Each.{Each};
+ghost use Rattle.lola_instances_stream.specs.Each.{Each};
 ghost use Rattle.lola_store.specs.Populations.{PopulationRight, population_layout};
-ghost use Rattle.lola_store.specs.Stages.{is_on};
+ghost use Rattle.lola_instances.specs.Stages.{is_on};
 ghost use Rattle.lola_store.specs.Tallies.{AllOf-prop};
 ghost use Rattle.std.proofs.Props.{props};
 
 use crate::population::Population;
-use crate::stage::StorePhase;
+use lola_instances::stage::StorePhase;
 use lola_model::plan::PaneSizes;
 use lola_model::spec::Windows;
 use std::alloc::Global;

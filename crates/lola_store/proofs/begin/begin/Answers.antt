@@ -3,13 +3,14 @@ use Rattle.lola_value.specs.declared.text.Field.{Field}
 use Rattle.lola_value.specs.Naming.{read_outcome}
 use Rattle.lola_model.specs.Accesses.{one_more}
 use Rattle.lola_model.specs.Store.{time_seen, start_seen, now_seen, Running}
-use Rattle.lola_store.specs.Each.{Each}
+use Rattle.lola_instances_stream.specs.Each.{Each}
 use Rattle.lola_store.specs.Instances.{RecallsAt}
 use Rattle.lola_store.specs.Populations.{population_layout, instance_at, PopulationRight}
-use Rattle.lola_store.specs.Stages.{time_in, is_on}
+use Rattle.lola_instances.specs.Stages.{time_in, is_on}
 use Rattle.lola_store.specs.Stores.{whole_seen}
 use Rattle.lola_store.proofs.Asking.{owned}
-use Rattle.lola_store.proofs.Beginning.{phase_time, phase_start, population_later, populations_quiet, begun_at}
+use Rattle.lola_instances.proofs.Phases.{phase_time, phase_start}
+use Rattle.lola_store.proofs.Beginning.{population_later, populations_quiet, begun_at}
 use Rattle.lola_store.proofs.Places.{outcome_at, outcome_shows}
 use Rattle.lola_store.proofs.begin.begin.Goals as goal
 

@@ -1,7 +1,8 @@
 use Rattle.lola_store.specs.Populations.{instance_at}
-use Rattle.lola_store.specs.Stages.{time_in}
+use Rattle.lola_instances.specs.Stages.{time_in}
 use Rattle.lola_store.proofs.Asking.{owned}
-use Rattle.lola_store.proofs.Beginning.{started_at, new_is_off}
+use Rattle.lola_instances.proofs.Phases.{new_is_off}
+use Rattle.lola_store.proofs.Beginning.{started_at}
 use Rattle.lola_store.proofs.begin.start_at.Goals as goal
 
 pub returns-clause-past : goal.returns-clause-past

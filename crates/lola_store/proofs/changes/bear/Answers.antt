@@ -4,7 +4,7 @@ use Rattle.std.specs.Prelude.{vec_len}
 use Rattle.std.specs.Vec.{vec_capacity}
 use Rattle.lola_value.specs.declared.value.Outcome.TheVariants as outcome
 use Rattle.lola_store.specs.declared.tally.Timed.{Timed}
-use Rattle.lola_store.specs.Each.{Each}
+use Rattle.lola_instances_stream.specs.Each.{Each}
 use Rattle.lola_instances_stream.proofs.Lists.{each-front, got_last}
 use Rattle.lola_store.proofs.changes.bear.Goals as goal
 

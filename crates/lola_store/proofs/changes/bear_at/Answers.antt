@@ -5,14 +5,16 @@ use Rattle.lola_model.specs.Typing.{takes}
 use Rattle.lola_model.specs.declared.spec.WindowSpec.{WindowSpec}
 use Rattle.lola_store.specs.declared.instance.Instance.{Instance}
 use Rattle.lola_store.specs.declared.population.Population.{Population}
-use Rattle.lola_store.specs.Each.{Each}
+use Rattle.lola_instances_stream.specs.Each.{Each}
 use Rattle.lola_store.specs.Instances.{instance_seen, RecallsAt, InstanceRight}
 use Rattle.lola_store.specs.Populations.{population_layout, population_seen, instance_at, PopulationRight}
-use Rattle.lola_store.specs.Stages.{phase_in, time_in, is_on}
+use Rattle.lola_instances.specs.Stages.{phase_in, time_in, is_on}
 use Rattle.lola_store.specs.Stores.{whole_seen}
 use Rattle.lola_instances_stream.proofs.Lists.{same_set, each-set, each-append, got_last}
 use Rattle.lola_store.proofs.Places.{layout_at}
-use Rattle.lola_store.proofs.Changing.{running_is_on, stream_read, layout_set, changed_set, past_set, owed_fall, owed_some}
+use Rattle.lola_instances.proofs.Phases.{running_is_on}
+use Rattle.lola_instances.proofs.Owed.{owed_fall, owed_some}
+use Rattle.lola_store.proofs.Changing.{stream_read, layout_set, changed_set, past_set}
 use Rattle.lola_value.specs.Naming.{the_values}
 use Rattle.lola_model.specs.Store.{newborn_seen, time_seen, are_of_kinds, parameters_of, instances_of}
 use Rattle.lola_store.specs.Populations.{lives_in}

@@ -5,10 +5,10 @@ use Rattle.lola_model.specs.Store.{SeenStream, StreamLayout, kind_in}
 use Rattle.lola_model.specs.Typing.{takes}
 use Rattle.lola_model.specs.declared.spec.WindowSpec.{WindowSpec}
 use Rattle.lola_store.specs.declared.population.Population.{Population}
-use Rattle.lola_store.specs.Each.{Each}
+use Rattle.lola_instances_stream.specs.Each.{Each}
 use Rattle.lola_store.specs.Instances.{instance_seen, RecallsAt, InstanceRight}
 use Rattle.lola_store.specs.Populations.{PopulationRight}
-use Rattle.lola_store.specs.Stages.{phase_in, time_in, is_on}
+use Rattle.lola_instances.specs.Stages.{phase_in, time_in, is_on}
 use Rattle.lola_instances_stream.proofs.Lists.{each-set, each-remove, remove_before, remove_after, remove_length, remove_map}
 use Rattle.lola_store.proofs.Changing.{found_stream, layout_set, changed_set, past_remove}
 use Rattle.lola_store.proofs.changes.close.Goals as goal

@@ -3,10 +3,10 @@ use Rattle.lola_model.specs.Store.{SeenStream, StreamLayout, kind_in}
 use Rattle.lola_model.specs.Typing.{takes}
 use Rattle.lola_model.specs.declared.spec.WindowSpec.{WindowSpec}
 use Rattle.lola_store.specs.declared.population.Population.{Population}
-use Rattle.lola_store.specs.Each.{Each}
+use Rattle.lola_instances_stream.specs.Each.{Each}
 use Rattle.lola_store.specs.Instances.{instance_seen, RecallsAt}
 use Rattle.lola_store.specs.Populations.{PopulationRight}
-use Rattle.lola_store.specs.Stages.{phase_in, time_in, is_on}
+use Rattle.lola_instances.specs.Stages.{phase_in, time_in, is_on}
 use Rattle.lola_instances_stream.proofs.Lists.{each-set}
 use Rattle.lola_store.proofs.Changing.{stream_read, layout_set, changed_set, past_set}
 use Rattle.lola_store.proofs.changes.poison_stream.Goals as goal

@@ -6,15 +6,18 @@ use Rattle.lola_model.specs.Store.{SeenStream, StreamLayout, told_at, kind_in}
 use Rattle.lola_model.specs.Typing.{takes}
 use Rattle.lola_model.specs.declared.spec.WindowSpec.{WindowSpec}
 use Rattle.lola_store.specs.declared.population.Population.{Population}
-use Rattle.lola_store.specs.Each.{Each}
+use Rattle.lola_instances_stream.specs.Each.{Each}
 use Rattle.lola_store.specs.Instances.{shown, instance_seen, RecallsAt, InstanceRight}
 use Rattle.lola_store.specs.Populations.{PopulationRight}
-use Rattle.lola_store.specs.Stages.{phase_in, time_in, is_on}
+use Rattle.lola_instances.specs.Stages.{phase_in, time_in, is_on}
 use Rattle.lola_store.specs.Tallies.{AllOf}
 use Rattle.lola_instances_stream.proofs.Lists.{each-set}
 use Rattle.lola_store.proofs.Places.{layout_at}
 use Rattle.lola_store.proofs.Recalling.{kind-more}
-use Rattle.lola_store.proofs.Changing.{running_is_on, found_stream, found_instance, silent_at, layout_set, changed_set, told_set, past_set, recalls_set, is_missing, shown_told, untold, owed_fall, owed_some, instance_told, recalls_value}
+use Rattle.lola_instances.proofs.Phases.{running_is_on}
+use Rattle.lola_instances.proofs.Owed.{owed_fall, owed_some}
+use Rattle.lola_instances_stream.proofs.Outcomes.{is_missing}
+use Rattle.lola_store.proofs.Changing.{found_stream, found_instance, silent_at, layout_set, changed_set, told_set, past_set, recalls_set, shown_told, untold, instance_told, recalls_value}
 use Rattle.lola_store.proofs.changes.push.Goals as goal
 
 pub push-requires : goal.push-requires

@@ -2,11 +2,12 @@ use Rattle.std.proofs.Common.{◌≡◌, ◌∙◌, ◌++◌, ◌∷◌, [], ◌
 use Rattle.std.proofs.lemmas.List.{map-append}
 use Rattle.std.proofs.Common.{append_assoc}
 use Rattle.lola_model.specs.Store.{layouts_from}
-use Rattle.lola_store.specs.Each.{Each}
-use Rattle.lola_store.specs.Opening.{IsOpened, stream_layout, first_kept, first_locals}
+use Rattle.lola_instances_stream.specs.Each.{Each}
+use Rattle.lola_instances.specs.Layouts.{first_kept, first_locals, stream_layout}
+use Rattle.lola_store.specs.Opening.{IsOpened}
 use Rattle.lola_store.specs.Populations.{population_layout}
 use Rattle.lola_instances_stream.proofs.Lists.{each-append}
-use Rattle.lola_store.proofs.Opened.{layouts_more}
+use Rattle.lola_instances.proofs.Layouts.{layouts_more}
 use Rattle.lola_store.proofs.opening.open_all.Goals as goal
 
 pub loop-i-preserved : goal.loop-i-preserved

@@ -1,6 +1,6 @@
 use Rattle.std.proofs.Common.{◌≡◌, ◌++◌, drop, map}
 use Rattle.lola_model.specs.Store.{layouts_from}
-use Rattle.lola_store.specs.Each.{Each}
+use Rattle.lola_instances_stream.specs.Each.{Each}
 use Rattle.lola_store.specs.Opening.{IsOpened}
 use Rattle.lola_store.specs.Populations.{population_layout}
 use Rattle.lola_store.proofs.opening.open_all.Given as goal

@@ -2,7 +2,7 @@ use Rattle.std.proofs.Common.{◌≡◌, ℕ, ◌<◌, Some, slice_get}
 use Rattle.std.specs.Prelude.{vec_len}
 use Rattle.std.specs.Vec.{vec_capacity}
 use Rattle.lola_store.specs.declared.population.Population.{Population}
-use Rattle.lola_store.specs.Each.{Paired}
+use Rattle.lola_store.specs.Paired.{Paired}
 use Rattle.lola_store.specs.Rooms.{IsKept, IsReady}
 use Rattle.lola_store.proofs.prepare.make_all_ready.Given as goal
 

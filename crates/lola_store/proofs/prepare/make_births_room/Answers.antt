@@ -1,6 +1,6 @@
 use Rattle.std.proofs.Common.{refl, sym, subst, arith, List}
 use Rattle.lola_store.specs.declared.instance.Instance.{Instance}
-use Rattle.lola_store.specs.Each.{Paired}
+use Rattle.lola_store.specs.Paired.{Paired}
 use Rattle.lola_store.specs.Rooms.{IsAlike}
 use Rattle.lola_store.proofs.Preparing.{paired-refl, alike-refl}
 use Rattle.lola_store.proofs.prepare.make_births_room.Goals as goal

@@ -2,9 +2,9 @@ use Rattle.std.proofs.Common.{◌-◌, List, IsTrue, true, slice_get, sym, subst
 use Rattle.lola_model.specs.Store.{StreamLayout, kind_in}
 use Rattle.lola_model.specs.Typing.{takes}
 use Rattle.lola_model.specs.declared.spec.WindowSpec.{WindowSpec}
-use Rattle.lola_store.specs.Each.{Each}
+use Rattle.lola_instances_stream.specs.Each.{Each}
 use Rattle.lola_store.specs.Rooms.{IsKept}
-use Rattle.lola_store.specs.Stages.{phase_in, time_in, is_on}
+use Rattle.lola_instances.specs.Stages.{phase_in, time_in, is_on}
 use Rattle.lola_store.proofs.Preparing.{paired-at, kept_right, ready_right, seen_still, layout_still, still_recall}
 use Rattle.lola_store.proofs.prepare.prepare.Goals as goal
 

@@ -11,11 +11,11 @@ use Rattle.lola_store.specs.declared.population.Population.{Population}
 use Rattle.lola_store.specs.declared.store.WholeStore.{WholeStore}
 use Rattle.lola_store.specs.Instances.{RecallsAt}
 use Rattle.lola_store.specs.Populations.{population_layout}
-use Rattle.lola_store.specs.Stages.{time_in, is_on}
+use Rattle.lola_instances.specs.Stages.{time_in, is_on}
 use Rattle.lola_store.specs.Stores.{whole_seen, whole_remembers}
 use Rattle.lola_store.specs.Tallies.{AllOf, read_timed}
 use Rattle.lola_store.proofs.Asking.{now_found}
-use Rattle.lola_store.proofs.Beginning.{phase_time}
+use Rattle.lola_instances.proofs.Phases.{phase_time}
 use Rattle.lola_store.proofs.Changing.{stream_read}
 use Rattle.lola_store.proofs.Places.{found_below, layout_at, right_at}
 use Rattle.lola_store.proofs.reading.folded.Goals as goal

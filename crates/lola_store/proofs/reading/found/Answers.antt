@@ -1,7 +1,7 @@
 use Rattle.std.proofs.Common.{◌≡◌, ◌∙◌, ◌<◌, ◌≤◌, ℕ, get_or, List, length, map, Some, slice_get, refl, ap, sym, subst, arith}
 use Rattle.std.proofs.lemmas.List.{length-map}
 use Rattle.std.proofs.lemmas.Option.{slice_get_read}
-use Rattle.lola_store.specs.Each.{Each}
+use Rattle.lola_instances_stream.specs.Each.{Each}
 use Rattle.lola_store.specs.declared.instance.Instance.{Instance}
 use Rattle.lola_store.specs.declared.population.Population.{Population}
 use Rattle.lola_store.specs.Instances.{place_in}

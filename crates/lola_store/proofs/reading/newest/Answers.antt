@@ -5,7 +5,7 @@ use Rattle.lola_model.specs.Reading.{held_answer}
 use Rattle.lola_model.specs.Store.{instances_seen, now_of}
 use Rattle.lola_store.specs.declared.instance.Instance.{Instance}
 use Rattle.lola_store.specs.Instances.{RecallsAt}
-use Rattle.lola_store.specs.Stages.{time_in}
+use Rattle.lola_instances.specs.Stages.{time_in}
 use Rattle.lola_store.specs.Stores.{whole_seen, whole_remembers}
 use Rattle.lola_store.proofs.Asking.{now_found, of_kind}
 use Rattle.lola_store.proofs.Places.{found_below}

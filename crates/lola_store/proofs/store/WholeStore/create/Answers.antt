@@ -2,7 +2,7 @@ use Rattle.std.proofs.Common.{◌≡◌, ◌∙◌, List, map, Some, false, slic
 use Rattle.lola_model.specs.Store.{StreamLayout, New, layouts_from, kind_in, opened}
 use Rattle.lola_model.specs.Typing.{takes}
 use Rattle.lola_model.specs.declared.spec.WindowSpec.{WindowSpec}
-use Rattle.lola_store.specs.Each.{Each}
+use Rattle.lola_instances_stream.specs.Each.{Each}
 use Rattle.lola_store.specs.Populations.{population_layout, population_seen}
 use Rattle.lola_store.proofs.Opened.{all_opened, blank_at}
 use Rattle.lola_store.proofs.Places.{layout_at, lives_count}

@@ -1,5 +1,0 @@
-use Rattle.std.proofs.Common.{◌≡◌, ◌++◌, drop}
-use Rattle.lola_store.proofs.opening.copy_sizes.Given as goal
-
-abbrev pub invariant-loop-p : goal.invariant-loop-p
-invariant-loop-p l = l.copy ++ drop l.p-index l.p-items ≡ l.p-items
