@@ -6,7 +6,7 @@ use Rattle.lola_value.specs.declared.value.Params.{Params}
 use Rattle.lola_value.specs.declared.value.Outcome.TheVariants as outcome
 use Rattle.lola_value.specs.Naming.{Naming, read_outcome, IsHeldIn}
 use Rattle.lola_model.specs.Accesses.{one_more}
-use Rattle.lola_panes.proofs.Adding.{holds-none}
+use Rattle.lola_panes.proofs.Adding.{stands-none}
 use Rattle.lola_instances_one.specs.declared.window.WindowPanes.{WindowPanes}
 use Rattle.lola_instances_one.specs.Holdings.{Holdings, shown}
 use Rattle.lola_instances_one.specs.Memories.{shifted, AllSince, AllStandFor, life_values, Remembers, RemembersNothing}
@@ -37,7 +37,7 @@ no_front (x ∷ xs) ys e = cc
 
 empty_stand : (ws : List WindowPanes) → AllStandFor (map empty_panes ws) []
 empty_stand [] = tt
-empty_stand (w ∷ ws) = ((holds-none w.aggregation w.pane w.count, tt), empty_stand ws)
+empty_stand (w ∷ ws) = (stands-none w.aggregation w.kind w.pane w.count w.exact, empty_stand ws)
 
 -- an instance that was just made
 

@@ -4,3 +4,4 @@ pub mod Passing
 pub mod Births
 pub mod Giving
 pub mod Needing
+pub mod Silent

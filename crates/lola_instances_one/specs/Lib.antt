@@ -4,3 +4,4 @@ pub mod Telling
 pub mod Texts
 pub mod WindowAnswers
 pub mod Unborn
+pub mod Saved

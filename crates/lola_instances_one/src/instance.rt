@@ -10,18 +10,21 @@ ghost use Rattle.lola_value.specs.Naming.{Naming, read_outcome, IsHeld, IsHeldIn
 ghost use Rattle.lola_model.specs.Accesses.{from_end};
 ghost use Rattle.lola_model.specs.Reading.{held_answer};
 ghost use Rattle.lola_model.specs.Store.{gives_kind, no_params};
-ghost use Rattle.lola_buffer.specs.Kept.{kept};
+ghost use Rattle.lola_buffer.specs.Kept.{before_newest, kept};
 ghost use Rattle.lola_instances_one.specs.Holdings.{shown, value_or_missing, AllOf};
 ghost use Rattle.lola_instances_one.specs.Memories.{Remembers, RemembersNothing};
+ghost use Rattle.lola_instances_one.specs.Saved.{ArePanesChanged, CanBeRestored, HasPane, IsNewestPane, IsPartial, WereRestored};
 ghost use Rattle.lola_instances_one.specs.Telling.{IsReady, AllReady, Told, ToldAll};
 ghost use Rattle.lola_instances_one.specs.Texts.{slot_texts};
 ghost use Rattle.lola_instances_one.specs.Unborn.{AllSound, empty_panes, unborn};
 ghost use Rattle.lola_instances_one.specs.WindowAnswers.{IsFold, IsWindowAnswer};
 
+use crate::saved::{newest_at, partial_at, restore_at};
 use crate::texts::add_ring;
 use crate::window::WindowPanes;
 use lola_buffer::buffer::Buffer;
 use lola_panes::panes::Panes;
+use lola_panes::partial::Partial;
 use lola_text_sweep::adding::add_params;
 use lola_text_sweep::ids::Ids;
 use lola_value::brief::{Brief, BriefValue};
@@ -301,5 +304,51 @@ impl Instance {
     {
         add_params(&self.params, into)?;
         add_ring(&self.values, into)
+    }
+
+    /// The value that stands `k` places before the newest of its last values, which is at 0; `None` exactly where it keeps
+    /// no more than `k`.
+    pub fn value_back(&self, k: u32) -> Option<Value>
+        ensures { result ≡ before_newest k self.now.ring.values }
+    {
+        match self.values.back(k) {
+            None => None,
+            Some(value) => Some(value.widen()),
+        }
+    }
+
+    /// The pane of the newest value that the window at a place was given; `None` exactly where it was given none.
+    pub fn newest_pane(&self, place: usize) -> Option<u64>
+        requires { place < length self.now.panes }
+        ensures { MatchOption (slice_get self.now.panes place) ⊥ (IsNewestPane result) }
+    {
+        newest_at(&self.panes, place)
+    }
+
+    /// The partial result of the pane `k` before that one, where it is one of the panes of the window that ends with that.
+    pub fn partial(&self, place: usize, k: u32) -> Partial
+        requires place { place < length self.now.panes }
+        requires pane { MatchOption (slice_get self.now.panes place) ⊥ (HasPane k) }
+        ensures { MatchOption (slice_get self.now.panes place) ⊥ (IsPartial k result) }
+    {
+        partial_at(&self.panes, place, k)
+    }
+
+    /// One more of the values that a saved instance had, from the oldest of its last values on. It is none of this step.
+    pub fn restore_value(&mut self, value: BriefValue)
+        ensures { self.new ≡ record self.old { ring = kept (keep_last self.old.ring.capacity (self.old.ring.values ++ value ∷ [])) self.old.ring.capacity } }
+    {
+        self.values.push(value);
+    }
+
+    /// The panes that a saved instance had for the window at a place: the partial results of the last ones up to pane `last`,
+    /// in order, behind `added` values in all.
+    pub fn restore_panes(&mut self, place: usize, last: u64, partials: &[Partial], added: u64)
+        requires place { place < length self.old.panes }
+        requires panes { MatchOption (slice_get self.old.panes place) ⊥ (CanBeRestored last partials.now added) }
+        ensures rest { self.new ≡ record self.old { panes = self.new.panes } }
+        ensures panes { ArePanesChanged (WereRestored last partials.now added) place self.old.panes self.new.panes }
+    {
+        restore_at(&mut self.panes, place, last, partials, added);
     }
 }
