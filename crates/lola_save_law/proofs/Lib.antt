@@ -1,0 +1,14 @@
+pub mod Ranged
+pub mod PaneSums
+pub mod Panes
+pub mod Seen
+pub mod Typed
+pub mod ClauseKinds
+pub mod KindedRows
+pub mod AnsweredKinds
+pub mod Crowds
+pub mod StepTimes
+pub mod Sound
+pub mod Assembly
+pub mod Saved
+pub mod WorkedStates

@@ -1,0 +1,2 @@
+pub mod PaneFolds
+pub mod JournalStates
