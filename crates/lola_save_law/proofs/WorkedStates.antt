@@ -2,6 +2,7 @@
 use Rattle.std.proofs.Common.{◌≡◌, refl, ℕ, ◌*◌, List, [], ◌∷◌, Option, Some, None, pos, negsuc, true, false}
 use Rattle.lola_value.specs.declared.text.Field.{Field}
 use Rattle.lola_value.specs.declared.text.Field.TheVariants as field
+use Rattle.lola_model.specs.declared.journal.Row.{Row}
 use Rattle.lola_model.specs.declared.plan.Plan.{Plan}
 use Rattle.lola_model.specs.declared.spec.Agg.{Agg}
 use Rattle.lola_model.specs.declared.spec.Agg.TheVariants as agg
@@ -35,10 +36,13 @@ unfolding settled_model
 no-row-started u = refl
 
 -- a window of ten seconds that counts, in panes of one second: the deadline at the last row is still to come
-abbrev counts_each_second : Plan
+abbrev pub counts_each_second : Plan
 counts_each_second = record count_of_ten_seconds { panes = record { pane = 1000000000; count = 10 } ∷ [] }
 
-pub two-panes : state_of counts_each_second None (accepted_all (row_at 0 (int 5) ∷ row_at second (int 6) ∷ []))
+abbrev pub two_rows : List Row
+two_rows = row_at 0 (int 5) ∷ row_at second (int 6) ∷ []
+
+pub two-panes : state_of counts_each_second None (accepted_all two_rows)
     ≡ record {
       start = Some 0;
       last = Some second;
