@@ -12,3 +12,5 @@ pub mod Sound
 pub mod Assembly
 pub mod Saved
 pub mod WorkedStates
+pub mod StartOptions
+pub mod WorkedTexts

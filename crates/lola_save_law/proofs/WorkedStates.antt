@@ -1,5 +1,5 @@
 -- Worked runs: the state of each is what it should be.
-use Rattle.std.proofs.Common.{◌≡◌, refl, ℕ, ◌*◌, List, [], ◌∷◌, Option, Some, None, pos, negsuc, true, false}
+use Rattle.std.proofs.Common.{◌≡◌, refl, ℕ, ◌*◌, List, [], ◌∷◌, Option, Some, None, pos, negsuc, true, false, lit<, lit≤}
 use Rattle.lola_value.specs.declared.text.Field.{Field}
 use Rattle.lola_value.specs.declared.text.Field.TheVariants as field
 use Rattle.lola_model.specs.declared.journal.Row.{Row}
@@ -12,7 +12,7 @@ use Rattle.lola_model.proofs.Rows.{second, sum_and_trigger, count_of_ten_seconds
 use Rattle.lola_save_text.specs.Forms.{WindowForm}
 use Rattle.lola_save_text.specs.States.{SavedPanes, SavedInstance, SavedState, Number, Extreme, Mean, Truth}
 use Rattle.lola_save_law.specs.PaneFolds.{panes_of}
-use Rattle.lola_save_law.specs.JournalStates.{state_of}
+use Rattle.lola_save_law.specs.JournalStates.{state_of, IsJournalOf}
 
 -- an instance of a stream without a spawn clause
 abbrev pub alone : List Field → List (Option SavedPanes) → List SavedInstance
@@ -25,6 +25,16 @@ first_row = record { start = Some 0; last = Some 0; steps = 1; streams = alone (
 pub first-row : (u : Around) → state_of (sum_and_trigger u) None (accepted_all (row_at 0 (int 1) ∷ [])) ≡ first_row
 unfolding settled_model
 first-row u = refl
+
+-- it is a journal that a run can take
+pub first-journal : (u : Around) → IsJournalOf (sum_and_trigger u) None (accepted_all (row_at 0 (int 1) ∷ []))
+unfolding settled_model
+first-journal u = record {
+  option = refl;
+  legal = (lit≤ tt, tt);
+  fits = (record { fields = (record { integer = refl; within = refl }, tt); source = lit< tt; number = lit< tt; stamp = lit≤ tt; mark = tt }, tt);
+  steps = lit≤ tt;
+}
 
 -- without a row only a start is known, if it was given
 pub no-row : (u : Around) → state_of (sum_and_trigger u) None [] ≡ record { start = None; last = None; steps = 0; streams = alone [] [] ∷ alone [] [] ∷ alone [] [] ∷ [] }

@@ -1,2 +1,3 @@
 pub mod PaneFolds
 pub mod JournalStates
+pub mod Resuming

@@ -11,6 +11,7 @@ ghost use Rattle.lola_save_text.specs.Lines.{state_text};
 ghost use Rattle.lola_save_text.specs.States.{SavedState};
 ghost use Rattle.lola_save_text.specs.Validity.{IsSaved};
 ghost use Rattle.lola_save_law.specs.JournalStates.{IsJournalOf, IsStateOf, state_of};
+ghost use Rattle.lola_save_law.specs.Resuming.{ServesAsStart};
 
 use lola_model::plan::Plan;
 
@@ -29,4 +30,10 @@ pub fn state_of_journal_is_saved(_plan: &Plan)
     ensures saved { (start : Option ℕ) (journal : List Entry) → IsJournalOf _plan.now start journal → IsSaved (forms_of _plan.now) (state_of _plan.now start journal) }
     ensures text { (spec : List ℕ) (start : Option ℕ) (journal : List Entry) → IsJournalOf _plan.now start journal
         → IsStateText spec _plan.now (state_text spec _plan.now (state_of _plan.now start journal)) }
+{}
+
+/// The time in a state's `start` line serves as the start option of what follows: with it a journal that goes on is legal exactly
+/// where it is with the option that the journal began with, and its models and its state are the same.
+pub fn start_serves_as_option(_plan: &Plan)
+    ensures { ServesAsStart _plan.now }
 {}
