@@ -5,19 +5,19 @@ use Rattle.std.specs.Str.{is_utf8}
 use Rattle.std.proofs.lemmas.Bool.{and_from, and_parts, eqb-true}
 use Rattle.std.proofs.lemmas.Str.{is_utf8-from_IsUtf8}
 use Rattle.lola_value.specs.declared.value.Kind.{Kind}
-use Rattle.lola_value.specs.Kinds.{is_bool, is_integer, is_text}
+use Rattle.lola_value.specs.Kinds.{is_integer, is_text}
 use Rattle.lola_value.specs.Arithmetic.{is_within}
 use Rattle.lola_value.specs.declared.text.Field.{Field}
 use Rattle.lola_value.specs.declared.text.Field.TheVariants as field
-use Rattle.lola_value.specs.Answer.{Answer, Given, Missing, Failed, Poisoned}
+use Rattle.lola_value.specs.Answer.{Answer, Poisoned}
 use Rattle.lola_model.specs.Acceptance.{IsAccepted}
 use Rattle.lola_model.specs.Activity.{is_active, is_active_for}
-use Rattle.lola_model.specs.Content.{Content, content, time_of, is_bad}
+use Rattle.lola_model.specs.Content.{content, time_of, is_bad}
 use Rattle.lola_model.specs.Graph.{nodes_of}
-use Rattle.lola_model.specs.Model.{filled_kind, is_input, input_outcome, field_outcome, eval_outcome, survivors, is_among, most_instances, newborn, spawned_in, unknown_spawned, outcome_of, stream_outcome, outcomes_from, evaluated, unknown_from, unknown, asked, closes_from, closing, has_evaluation_fault, answered, last_row, eval_pacing, spawn_pacing}
-use Rattle.lola_model.specs.Named.{all_streams, count_with, has_clause, has_kind, has_when, is_of_bool, is_input_shape, is_output_shape, is_trigger_shape, is_well_shaped}
+use Rattle.lola_model.specs.Model.{filled_kind, is_input, input_outcome, field_outcome, eval_outcome, survivors, is_among, most_instances, newborn, spawned_in, unknown_spawned, outcome_of, stream_outcome, outcomes_from, evaluated, unknown_from, asked, closes_from, closing, has_evaluation_fault, answered, last_row, eval_pacing, spawn_pacing}
+use Rattle.lola_model.specs.Named.{count_with, has_kind, has_when, is_of_bool, is_input_shape, is_output_shape, is_trigger_shape, is_well_shaped}
 use Rattle.lola_model.specs.Store.{layouts_from}
-use Rattle.lola_model.specs.Table.{Step, Instance, Spawned, Idle, Named, SpawnFailed, SpawnPoisoned, Living, StreamRow, TableRow}
+use Rattle.lola_model.specs.Table.{Step, Instance, Spawned, Idle, Named, SpawnFailed, SpawnPoisoned, StreamRow, TableRow}
 use Rattle.lola_model.specs.Trace.{IsFieldOf, input_kinds}
 use Rattle.lola_model.specs.declared.plan.Plan.{Plan}
 use Rattle.lola_model.specs.declared.spec.Clause.{Clause}
@@ -161,11 +161,11 @@ module _ (plan : Plan) (accepted : IsAccepted plan) (texts : list_all is_utf8 pl
         → AreRowsOf ss (outcomes_from plan start rows step row n i ss)
     streams-are n i [] at inputs = tt
     streams-are n i (s ∷ ss) at inputs = (
-        stream-is n i s (subst (λ (x : ℕ). slice_get all x ≡ Some s) (omega arith) (at 0 s refl)) ss inputs,
-        streams-are (n + 1) (if is_input s then i + 1 else i) ss
-            (λ j t q. subst (λ (x : ℕ). slice_get all x ≡ Some t) (omega arith) (at (suc j) t q))
-            (later-inputs (input_kinds all) i s ss (is_input s) inputs),
-      )
+      stream-is n i s (subst (λ (x : ℕ). slice_get all x ≡ Some s) (omega arith) (at 0 s refl)) ss inputs,
+      streams-are (n + 1) (if is_input s then i + 1 else i) ss
+          (λ j t q. subst (λ (x : ℕ). slice_get all x ≡ Some t) (omega arith) (at (suc j) t q))
+          (later-inputs (input_kinds all) i s ss (is_input s) inputs),
+    )
 
     evaluated-is : AreRowsOf all (evaluated plan start rows step row).streams
     evaluated-is = streams-are 0 0 all (λ j s q. subst (λ (x : ℕ). slice_get all x ≡ Some s) (omega arith) q) (λ j k q. subst (λ (x : ℕ). slice_get (input_kinds all) x ≡ Some k) (omega arith) q)
@@ -173,12 +173,12 @@ module _ (plan : Plan) (accepted : IsAccepted plan) (texts : list_all is_utf8 pl
   unknown-is : (n : ℕ) (ss : List Stream) → ((j : ℕ) (s : Stream) → slice_get ss j ≡ Some s → slice_get all (n + j) ≡ Some s) → AreRowsOf ss (unknown_from plan start rows step n ss)
   unknown-is n [] at = tt
   unknown-is n (s ∷ ss) at = (
-      record {
-        spawned = unknown-naming s.parameters s.spawn;
-        living = living-is s (λ x. Poisoned) (survivors n s (last_row rows)) (alive-is n s (subst (λ (x : ℕ). slice_get all x ≡ Some s) (omega arith) (at 0 s refl))) (λ x params. refl);
-      },
-      unknown-is (n + 1) ss (λ j t q. subst (λ (x : ℕ). slice_get all x ≡ Some t) (omega arith) (at (suc j) t q)),
-    )
+    record {
+      spawned = unknown-naming s.parameters s.spawn;
+      living = living-is s (λ x. Poisoned) (survivors n s (last_row rows)) (alive-is n s (subst (λ (x : ℕ). slice_get all x ≡ Some s) (omega arith) (at 0 s refl))) (λ x params. refl);
+    },
+    unknown-is (n + 1) ss (λ j t q. subst (λ (x : ℕ). slice_get all x ≡ Some t) (omega arith) (at (suc j) t q)),
+  )
 
   asked-is : (d : ℕ) → AreRowsOf all (asked plan start rows step d).streams
   asked-is zero = unknown-is 0 all (λ j s q. subst (λ (x : ℕ). slice_get all x ≡ Some s) (omega arith) q)

@@ -1,20 +1,17 @@
 -- The state of a journal is one that the plan can have.
-use Rattle.std.proofs.Common.{◌≡◌, ℕ, zero, suc, ◌+◌, ◌-◌, ◌<◌, ◌≤◌, ◌^◌, List, [], ◌∷◌, ◌++◌, length, drop, map, refl, sym, subst, ap, ◌∙◌, arith, Bool, true, false, ◌&&◌, ◌||◌, not, Option, Some, None, nat_le, nat_eq, if◌then◌else◌, slice_get, unwrap_or}
-use Rattle.std.specs.Prelude.{is_some, filter_map}
+use Rattle.std.proofs.Common.{◌≡◌, ℕ, zero, suc, ◌+◌, ◌-◌, ◌≤◌, List, [], ◌∷◌, length, drop, map, refl, sym, subst, ap, ◌∙◌, arith, Bool, true, false, Option, Some, None, if◌then◌else◌, slice_get}
+use Rattle.std.specs.Prelude.{is_some}
 use Rattle.std.specs.List.{list_all, cons_option}
-use Rattle.std.specs.Str.{is_utf8}
-use Rattle.std.proofs.lemmas.Bool.{and_from, and_parts, le-leb, leb-true, or_from}
+use Rattle.std.proofs.lemmas.Bool.{and_from, or_from}
 use Rattle.std.proofs.lemmas.List.{length-drop, length-map}
 use Rattle.lola_value.specs.declared.text.Field.{Field}
 use Rattle.lola_value.specs.declared.value.Kind.{Kind}
 use Rattle.lola_value.specs.Answer.{Answer, Given, Missing, Failed, Poisoned}
 use Rattle.lola_value.specs.Arithmetic.{all_equal}
-use Rattle.lola_value.specs.Times.{latest}
-use Rattle.lola_model.specs.Acceptance.{IsAccepted}
-use Rattle.lola_model.specs.Content.{Life, StreamContent, values_over, value_in, timed, outcome_in, time_of}
+use Rattle.lola_model.specs.Content.{values_over, timed, outcome_in, time_of}
 use Rattle.lola_model.specs.Model.{filled_kind, survivors, last_row, the_instance}
 use Rattle.lola_model.specs.Runs.{life_after, streams_after}
-use Rattle.lola_model.specs.Store.{StreamLayout, layouts_from}
+use Rattle.lola_model.specs.Store.{layouts_from}
 use Rattle.lola_model.specs.Table.{Instance, TableRow}
 use Rattle.lola_model.specs.declared.pacing.ClausePacings.{ClausePacings}
 use Rattle.lola_model.specs.declared.plan.Plan.{Plan}
@@ -23,13 +20,13 @@ use Rattle.lola_model.specs.declared.spec.Stream.{Stream}
 use Rattle.lola_save_text.specs.Fitting.{Times, time_or, is_value, are_values, is_among, are_panes}
 use Rattle.lola_save_text.specs.Forms.{WindowForm, StreamForm, HaveLength, AreStorable, stream_forms}
 use Rattle.lola_save_text.specs.Lines.{count_of}
-use Rattle.lola_save_text.specs.States.{SavedPanes, SavedInstance}
+use Rattle.lola_save_text.specs.States.{SavedInstance}
 use Rattle.lola_save_text.specs.Validity.{AllPanes, IsBorn, IsInstance, AreInstances, IsStream, AreStreams}
 use Rattle.lola_save_law.specs.PaneFolds.{panes_of}
 use Rattle.lola_save_law.specs.JournalStates.{last_values, saved_life, saved_streams}
-use Rattle.lola_save_law.proofs.Crowds.{IsBehind, AreBehind, AreInLine, AreBornBefore, IsCrowd}
+use Rattle.lola_save_law.proofs.Crowds.{AreBehind, AreInLine, AreBornBefore, IsCrowd}
 use Rattle.lola_save_law.proofs.KindedRows.{AreInstancesOf, IsTableOf, few-since, values-since}
-use Rattle.lola_save_law.proofs.Panes.{IsTimedValue, AreTimedValues, panes-right}
+use Rattle.lola_save_law.proofs.Panes.{AreTimedValues, panes-right}
 use Rattle.lola_save_law.proofs.Seen.{AreOfKind}
 use Rattle.lola_save_law.proofs.StepTimes.{AreTimed, AreUpTo, time-between, times-rise}
 
@@ -195,12 +192,12 @@ module _ (plan : Plan) (times : Times) (table : List TableRow) (known : IsKnownT
         → (form.spawns ≡ true → AreNotBefore low is) → AreInstances times form seen low (map (saved_life start form) (map (life_after table n) is))
     instances-are seen low [] line params new born later = tt
     instances-are seen low (i ∷ is) line params new born later = (
-        instance-is i params.0,
-        born-is low (time_of 0 (slice_get table i.born)) form.spawns refl (λ e. ((later e).0, (time-between start last table i.born known.timed known.up_to (born e).0).1)),
-        new.0,
-        instances-are (i.params ∷ seen) (time_or low (if form.spawns then Some (time_of 0 (slice_get table i.born)) else None)) is line.1 params.1 (new-more i seen is line.0 new.1) (λ e. (born e).1)
-            (next-later low i is form.spawns refl line.0 (λ e. (born e).1)),
-      )
+      instance-is i params.0,
+      born-is low (time_of 0 (slice_get table i.born)) form.spawns refl (λ e. ((later e).0, (time-between start last table i.born known.timed known.up_to (born e).0).1)),
+      new.0,
+      instances-are (i.params ∷ seen) (time_or low (if form.spawns then Some (time_of 0 (slice_get table i.born)) else None)) is line.1 params.1 (new-more i seen is line.0 new.1) (λ e. (born e).1)
+          (next-later low i is form.spawns refl line.0 (λ e. (born e).1)),
+    )
 
     -- all instances of the stream
     module _ (spawns_is : form.spawns ≡ elim s.spawn as (λ _. Bool) [ None ↦ false | Some k ↦ true ]) (crowd : IsCrowd s (length table) (survivors n s (last_row table))) (params : AreInstancesOf s (survivors n s (last_row table))) where

@@ -1,23 +1,22 @@
 -- What the clauses of a stream of an accepted plan come to: values of the stream's kind, and parameters of their kinds.
-use Rattle.std.proofs.Common.{◌≡◌, ℕ, ◌+◌, ◌<◌, ◌^◌, List, [], ◌∷◌, ◌++◌, length, drop, refl, sym, subst, ap, ◌∙◌, arith, Bool, true, false, ◌&&◌, ◌||◌, not, Option, Some, None, Result, Ok, Err, nat_eq, nat_lt, if◌then◌else◌, slice_get, unwrap_or}
+use Rattle.std.proofs.Common.{◌≡◌, ℕ, ◌<◌, ◌^◌, List, [], ◌∷◌, length, drop, refl, sym, subst, ap, ◌∙◌, arith, Bool, true, false, ◌&&◌, not, Option, Some, None, Result, Ok, Err, nat_eq, nat_lt, if◌then◌else◌, slice_get, unwrap_or}
 use Rattle.std.specs.List.{Contains, list_all}
 use Rattle.std.specs.Str.{is_utf8}
 use Rattle.std.proofs.lemmas.Bool.{and_from, and_parts, eqb-true, ltb-true}
 use Rattle.lola_value.specs.declared.value.Kind.{Kind}
-use Rattle.lola_value.specs.declared.value.Kind.TheVariants as kind
 use Rattle.lola_value.specs.declared.value.FaultKind.TheVariants as fault
 use Rattle.lola_value.specs.declared.text.Field.{Field}
 use Rattle.lola_value.specs.declared.text.Field.TheVariants as field
 use Rattle.lola_value.specs.Answer.{Answer, Given, Missing, Failed, Poisoned}
 use Rattle.lola_model.specs.Content.{Content}
 use Rattle.lola_model.specs.Denotation.{den, with_argument}
-use Rattle.lola_model.specs.Model.{filled_kind, guarded, when_answer, first_answer, clause_answer, named_params, naming_outcome, spawn_guarded, spawn_outcome, eval_outcome, is_among, most_instances, is_input}
-use Rattle.lola_model.specs.Named.{IsNamed, all_numbers, all_streams, count_with, has_clause, has_when, has_kind, is_of_bool, is_input_shape, is_output_shape, is_trigger_shape, is_well_shaped, literal_text}
+use Rattle.lola_model.specs.Model.{filled_kind, guarded, when_answer, first_answer, clause_answer, named_params, naming_outcome, spawn_guarded, spawn_outcome, eval_outcome, is_among, most_instances}
+use Rattle.lola_model.specs.Named.{IsNamed, all_numbers, count_with, has_clause, has_when, has_kind, is_of_bool, is_input_shape, is_output_shape, is_trigger_shape, is_well_shaped, literal_text}
 use Rattle.lola_model.specs.Parts.{listed, listed_clause, listed_spec, listed_stream, listed_when, listed_with}
 use Rattle.lola_model.specs.Store.{layouts_from}
 use Rattle.lola_model.specs.Table.{Instance, Spawned, Idle, Named, SpawnFailed, SpawnPoisoned}
-use Rattle.lola_model.specs.Typed.{IsTyped, scope_in, whole_is_typed}
-use Rattle.lola_model.specs.Typing.{same_kind, noted, is_certain, is_typed, is_whole}
+use Rattle.lola_model.specs.Typed.{IsTyped, whole_is_typed}
+use Rattle.lola_model.specs.Typing.{noted}
 use Rattle.lola_model.specs.Wholes.{Whole, clause_wholes, condition_wholes, with_wholes, stream_wholes, wholes_of}
 use Rattle.lola_model.specs.declared.expr.Expr.{Expr}
 use Rattle.lola_model.specs.declared.spec.Clause.{Clause}
@@ -126,7 +125,7 @@ module _ (spec : Spec) (named : IsNamed spec) (typed : IsTyped spec) (texts : li
   whole-is n q ks want before e among p params =
       let is = and_parts _ _ (among.passes (whole_is_typed spec) typed.typed) in
       let known : AreTexts spec c most content few texts (listed literal_text e) =
-          λ i m. ltb-true i (length spec.texts) (passes (λ j. nat_lt j (length spec.texts)) (listed_spec literal_text spec) i named.text_numbers (among.lists literal_text i m)) in
+      λ i m. ltb-true i (length spec.texts) (passes (λ j. nat_lt j (length spec.texts)) (listed_spec literal_text spec) i named.text_numbers (among.lists literal_text i m)) in
       moved (noted e) want (den spec c p e) (and_parts _ _ is.1).0 (den-is spec c most content few texts ks p params e is.0 known)
 
   module _ (n : ℕ) (s : Stream) (at : slice_get spec.streams n ≡ Some s) where
@@ -155,9 +154,9 @@ module _ (spec : Spec) (named : IsNamed spec) (typed : IsTyped spec) (texts : li
         let whens = condition_wholes n part.Eval s.parameters k.when_at k.when in
         let withs = with_wholes n part.Eval s.parameters (filled_kind s ∷ []) k.with_at k.with in
         let b : IsAmong (clause_wholes n part.Eval s.parameters (filled_kind s ∷ []) (Some k)) (λ g. listed_clause g (Some k)) w =
-            among_others w whens withs (λ g. listed_when g k.when) (λ g. listed_with g k.with) a in
+        among_others w whens withs (λ g. listed_when g k.when) (λ g. listed_with g k.with) a in
         let d : IsAmong (clause_wholes n part.Eval s.parameters (filled_kind s ∷ []) s.eval) (λ g. listed_clause g s.eval) w =
-            subst (λ (o : Option Clause). IsAmong (clause_wholes n part.Eval s.parameters (filled_kind s ∷ []) o) (λ g. listed_clause g o) w) (sym is) b in
+        subst (λ (o : Option Clause). IsAmong (clause_wholes n part.Eval s.parameters (filled_kind s ∷ []) o) (λ g. listed_clause g o) w) (sym is) b in
         whole-is n part.Eval s.parameters want before e (in-spec w (of_eval n s (filled_kind s) w d)) p params))
 
     -- where it is active or not
@@ -167,6 +166,7 @@ module _ (spec : Spec) (named : IsNamed spec) (typed : IsTyped spec) (texts : li
         either : (k : Clause) → s.eval ≡ Some k → (b : Bool) → is_answer (filled_kind s) (if b then clause_answer spec c p k else Missing) ≡ true
         either k e true = eval-is k e p params
         either k e false = refl
+
         by : (o : Option Clause) → s.eval ≡ o → is_answer (filled_kind s) (eval_outcome spec c bad active o p) ≡ true
         by None e = refl
         by (Some k) e = either k e (not bad && active)
@@ -200,9 +200,9 @@ module _ (spec : Spec) (named : IsNamed spec) (typed : IsTyped spec) (texts : li
         let whens = condition_wholes n part.Spawn [] k.when_at k.when in
         let withs = with_wholes n part.Spawn [] s.parameters k.with_at k.with in
         let b : IsAmong (clause_wholes n part.Spawn [] s.parameters (Some k)) (λ g. listed_clause g (Some k)) w =
-            among_others w whens withs (λ g. listed_when g k.when) (λ g. listed_with g k.with) a in
+        among_others w whens withs (λ g. listed_when g k.when) (λ g. listed_with g k.with) a in
         let d : IsAmong (clause_wholes n part.Spawn [] s.parameters s.spawn) (λ g. listed_clause g s.spawn) w =
-            subst (λ (o : Option Clause). IsAmong (clause_wholes n part.Spawn [] s.parameters o) (λ g. listed_clause g o) w) (sym is) b in
+        subst (λ (o : Option Clause). IsAmong (clause_wholes n part.Spawn [] s.parameters o) (λ g. listed_clause g o) w) (sym is) b in
         whole-is n part.Spawn [] want before e (in-spec w (of_spawn n s (filled_kind s) w d)) [] refl)))
 
     pub spawn-outcome-is : is_well_shaped s ≡ true → (active : Bool) (alive : List Instance) → IsNaming s.parameters (spawn_outcome spec c active s.spawn alive)

@@ -1,5 +1,5 @@
 -- The instances of a stream that live after the rows of a table: each once, in the order of birth, and not too many.
-use Rattle.std.proofs.Common.{◌≡◌, ℕ, zero, suc, ◌+◌, ◌<◌, ◌≤◌, List, [], ◌∷◌, ◌++◌, length, map, refl, sym, subst, ap, ◌∙◌, arith, Bool, true, false, ◌&&◌, ◌||◌, not, Option, Some, None, nat_lt, if◌then◌else◌, slice_get, length-append, append-nil}
+use Rattle.std.proofs.Common.{◌≡◌, ℕ, zero, suc, ◌+◌, ◌<◌, ◌≤◌, List, [], ◌∷◌, ◌++◌, length, map, refl, sym, subst, ap, ◌∙◌, arith, Bool, true, false, ◌&&◌, not, Option, Some, None, nat_lt, if◌then◌else◌, slice_get, length-append, append-nil}
 use Rattle.std.proofs.lemmas.Bool.{and_parts, or_parts, ltb-true, not-true}
 use Rattle.lola_value.specs.declared.text.Field.{Field}
 use Rattle.lola_value.specs.Answer.{Answer, Poisoned}
@@ -8,7 +8,7 @@ use Rattle.lola_model.specs.Acceptance.{IsAccepted}
 use Rattle.lola_model.specs.Activity.{is_active}
 use Rattle.lola_model.specs.Content.{Content, content}
 use Rattle.lola_model.specs.Graph.{nodes_of}
-use Rattle.lola_model.specs.Model.{is_input, survivors, survivors_in, surviving, is_closed, is_among, most_instances, newborn, spawned_in, unknown_spawned, spawn_outcome, outcome_of, stream_outcome, outcomes_from, evaluated, unknown_from, unknown, asked, closed_among, asked_to_close, closes_from, closing, has_evaluation_fault, answered, last_row, the_instance, spawn_pacing}
+use Rattle.lola_model.specs.Model.{is_input, survivors, survivors_in, surviving, is_closed, is_among, most_instances, newborn, spawned_in, unknown_spawned, spawn_outcome, outcome_of, outcomes_from, unknown_from, asked, closed_among, asked_to_close, closes_from, closing, has_evaluation_fault, answered, last_row, the_instance, spawn_pacing}
 use Rattle.lola_model.specs.Named.{is_well_shaped}
 use Rattle.lola_model.specs.Table.{Step, Instance, Spawned, Idle, Named, SpawnFailed, SpawnPoisoned, Living, StreamRow, TableRow}
 use Rattle.lola_model.specs.declared.plan.Plan.{Plan}

@@ -1,32 +1,20 @@
 -- The values and parameters in the rows of a table are of their streams' kinds.
-use Rattle.std.proofs.Common.{◌≡◌, ℕ, zero, suc, ◌+◌, ◌<◌, ◌≤◌, ◌^◌, List, [], ◌∷◌, ◌++◌, length, drop, map, refl, sym, subst, ap, ◌∙◌, arith, inl, inr, Bool, true, false, ◌&&◌, not, Option, Some, None, nat_lt, if◌then◌else◌, slice_get}
-use Rattle.std.specs.Prelude.{filter_map}
-use Rattle.std.specs.List.{AllZip, cons_option, list_all}
-use Rattle.std.specs.Str.{is_utf8}
-use Rattle.std.proofs.lemmas.Bool.{and_from, and_parts}
+use Rattle.std.proofs.Common.{◌≡◌, ℕ, zero, suc, ◌+◌, ◌≤◌, List, [], ◌∷◌, ◌++◌, length, drop, map, refl, sym, subst, ap, arith, Bool, true, false, Option, Some, None, if◌then◌else◌, slice_get}
+use Rattle.std.specs.List.{cons_option}
 use Rattle.std.proofs.lemmas.List.{length-drop}
-use Rattle.std.proofs.lemmas.Str.{is_utf8-from_IsUtf8}
 use Rattle.lola_value.specs.declared.value.Kind.{Kind}
 use Rattle.lola_value.specs.declared.text.Field.{Field}
-use Rattle.lola_value.specs.declared.text.Field.TheVariants as field
 use Rattle.lola_value.specs.Answer.{Answer, Given, Missing, Failed, Poisoned}
-use Rattle.lola_model.specs.Acceptance.{IsAccepted}
-use Rattle.lola_model.specs.Content.{Life, StreamContent, Content, seen, outcome_among, outcome_in, timed, value_in, values_over, life_of, streams_from, content, time_of, is_bad}
-use Rattle.lola_model.specs.Activity.{is_active, is_active_for}
-use Rattle.lola_model.specs.Graph.{nodes_of}
-use Rattle.lola_model.specs.Model.{filled_kind, is_input, input_outcome, field_outcome, survivors, survivors_in, surviving, is_closed, is_among, most_instances, newborn, spawned_in, unknown_spawned, outcome_of, stream_outcome, outcomes_from, evaluated, unknown_from, asked, closes_from, closing, has_evaluation_fault, answered, last_row, the_instance, eval_pacing, spawn_pacing}
-use Rattle.lola_model.specs.Named.{all_streams, is_well_shaped}
+use Rattle.lola_model.specs.Content.{StreamContent, seen, outcome_among, outcome_in, timed, value_in, values_over, life_of, streams_from, content, is_bad}
+use Rattle.lola_model.specs.Model.{filled_kind, survivors, survivors_in, surviving, is_closed, last_row, the_instance}
 use Rattle.lola_model.specs.Store.{kind_in, layouts_from}
-use Rattle.lola_model.specs.Table.{Step, Instance, is_instance, Spawned, Idle, Named, SpawnFailed, SpawnPoisoned, Living, StreamRow, TableRow}
-use Rattle.lola_model.specs.Trace.{IsFieldOf, input_kinds}
+use Rattle.lola_model.specs.Table.{Instance, is_instance, Living, StreamRow, TableRow}
 use Rattle.lola_model.specs.declared.pacing.ClausePacings.{ClausePacings}
-use Rattle.lola_model.specs.declared.plan.Plan.{Plan}
 use Rattle.lola_model.specs.declared.spec.Clause.{Clause}
 use Rattle.lola_model.specs.declared.spec.Stream.{Stream}
-use Rattle.lola_model.proofs.Growth.{last_row-append}
-use Rattle.lola_save_text.specs.Fitting.{is_value, are_values}
-use Rattle.lola_save_law.proofs.Seen.{is_answer, AreOfKind, IsLifeOf, AreLivesOf, IsContentOf}
-use Rattle.lola_save_law.proofs.ClauseKinds.{IsNaming, eval-outcome-is, spawn-outcome-is}
+use Rattle.lola_save_text.specs.Fitting.{are_values}
+use Rattle.lola_save_law.proofs.Seen.{is_answer, AreOfKind, AreLivesOf, IsContentOf}
+use Rattle.lola_save_law.proofs.ClauseKinds.{IsNaming}
 
 -- instances with their outcomes: parameters are of their kinds, and values of the stream's
 abbrev pub AreLivingOf : Stream → List Living → Type 0
@@ -170,13 +158,13 @@ lives-of : (ss : List Stream) (rows : List TableRow) (most time : ℕ) → IsTab
     → AreLivesOf (filled_kind s) most (map (life_of rows time n) ls)
 lives-of ss rows most time h few n s at [] g = tt
 lives-of ss rows most time h few n s at (l ∷ ls) g = (
-    record {
-      earlier = values-since ss rows h n s at l.instance;
-      outcome = seen-is (filled_kind s) l.outcome g.1;
-      few = let a = few-since n l.instance rows in omega (arith, a, few);
-    },
-    lives-of ss rows most time h few n s at ls g.2,
-  )
+  record {
+    earlier = values-since ss rows h n s at l.instance;
+    outcome = seen-is (filled_kind s) l.outcome g.1;
+    few = let a = few-since n l.instance rows in omega (arith, a, few);
+  },
+  lives-of ss rows most time h few n s at ls g.2,
+)
 
 kind-at : (ss : List Stream) (kept : List ℕ) (pacings : List ClausePacings) (n : ℕ) (s : Stream) → slice_get ss n ≡ Some s → filled_kind s ≡ kind_in (slice_get (layouts_from ss kept pacings) n)
 kind-at [] kept pacings n s e = absurd (cc)

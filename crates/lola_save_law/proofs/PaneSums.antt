@@ -1,22 +1,12 @@
 -- The panes of values: each value lies in one pane, so the panes together have no more values than there are.
-use Rattle.std.proofs.Common.{◌≡◌, ℕ, zero, suc, ◌+◌, ◌-◌, ◌*◌, ◌/◌, ◌^◌, ◌<◌, ◌≤◌, List, [], ◌∷◌, length, map, min, refl, sym, subst, ap, ◌∙◌, arith, pos, Bool, true, false, ◌&&◌, Option, Some, None, nat_eq, nat_le, nat_lt, int_le, unsigned_abs, if◌then◌else◌}
-use Rattle.std.specs.Prelude.{filter, is_some}
-use Rattle.std.specs.List.{list_all, sum_by}
-use Rattle.std.proofs.lemmas.Bool.{and_from, eqb-true, eqb-false, ne_eqb, lt-ltb, le-leb, eq-eqb}
+use Rattle.std.proofs.Common.{◌≡◌, ℕ, zero, suc, ◌+◌, ◌-◌, ◌*◌, ◌<◌, ◌≤◌, List, [], ◌∷◌, length, map, refl, arith, Bool, true, false, nat_eq, if◌then◌else◌}
+use Rattle.std.specs.Prelude.{filter}
+use Rattle.std.specs.List.{sum_by}
+use Rattle.std.proofs.lemmas.Bool.{eqb-true, ne_eqb}
 use Rattle.std.proofs.lemmas.List.Sums.{sum_by-cons}
-use Rattle.std.proofs.Math.Nat.{div-mul-le_self}
 use Rattle.lola_model.specs.Named.{counted}
-use Rattle.lola_model.specs.Windows.{number_of, total}
-use Rattle.lola_model.specs.declared.spec.Agg.{Agg}
-use Rattle.lola_model.specs.declared.spec.Agg.TheVariants as agg
-use Rattle.lola_value.specs.declared.value.Kind.{Kind}
 use Rattle.lola_value.specs.declared.text.Field.{Field}
-use Rattle.lola_save_text.specs.Fitting.{Times, time_or, is_partial, total_size, are_panes}
-use Rattle.lola_save_text.specs.Fitting as fitting
-use Rattle.lola_save_text.specs.Forms.{WindowForm}
-use Rattle.lola_save_text.specs.States.{SavedPanes}
-use Rattle.lola_save_law.specs.PaneFolds.{pane_number, is_in_pane, values_in_pane, partial_of, kept_panes, panes_to, panes_of, panes_by, newest_time}
-use Rattle.lola_save_law.proofs.Ranged.{AllIn, AreValues, numbers-in, least-in, greatest-in, total-least, total-greatest, total-size}
+use Rattle.lola_save_law.specs.PaneFolds.{pane_number, is_in_pane, values_in_pane}
 
 -- sums
 

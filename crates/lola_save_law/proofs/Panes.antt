@@ -1,5 +1,5 @@
 -- The panes of a window over the values of an instance are those that a state can have.
-use Rattle.std.proofs.Common.{◌≡◌, ℕ, zero, suc, ◌+◌, ◌-◌, ◌*◌, ◌/◌, ◌^◌, ◌<◌, ◌≤◌, List, [], ◌∷◌, length, map, min, refl, sym, subst, ap, ◌∙◌, arith, ℤ, pos, Bool, true, false, ◌&&◌, Option, Some, None, nat_eq, nat_le, nat_lt, int_le, unsigned_abs, if◌then◌else◌, inl, inr, ◌*ℤ◌}
+use Rattle.std.proofs.Common.{◌≡◌, ℕ, zero, suc, ◌+◌, ◌-◌, ◌*◌, ◌/◌, ◌^◌, ◌<◌, ◌≤◌, List, [], ◌∷◌, length, map, min, refl, subst, ap, ◌∙◌, arith, ℤ, pos, Bool, true, false, ◌&&◌, Option, Some, None, nat_eq, int_le, unsigned_abs, if◌then◌else◌, ◌*ℤ◌}
 use Rattle.std.specs.Prelude.{filter, is_some}
 use Rattle.std.specs.List.{list_all, sum_by}
 use Rattle.std.proofs.lemmas.Bool.{and_from, ne_eqb, cond-false, lt-ltb, le-leb, eq-eqb}
@@ -9,14 +9,14 @@ use Rattle.lola_model.specs.Named.{counted}
 use Rattle.lola_model.specs.Windows.{number_of, total}
 use Rattle.lola_model.specs.declared.spec.Agg.{Agg}
 use Rattle.lola_model.specs.declared.spec.Agg.TheVariants as agg
-use Rattle.lola_value.specs.Arithmetic.{least, greatest, is_within}
+use Rattle.lola_value.specs.Arithmetic.{least, greatest}
 use Rattle.lola_value.specs.declared.value.Kind.{Kind}
 use Rattle.lola_value.specs.declared.text.Field.{Field}
 use Rattle.lola_save_text.specs.Fitting as fitting
 use Rattle.lola_save_text.specs.Fitting.{Times, time_or, is_partial, is_value, total_size, are_panes}
 use Rattle.lola_save_text.specs.Forms.{WindowForm}
-use Rattle.lola_save_text.specs.States.{Partial, Extreme, Mean, SavedPanes}
-use Rattle.lola_save_law.specs.PaneFolds.{pane_number, is_in_pane, values_in_pane, partial_of, least_among, greatest_among, kept_panes, panes_to, panes_of, panes_by, newest_time}
+use Rattle.lola_save_text.specs.States.{Partial, Extreme, Mean}
+use Rattle.lola_save_law.specs.PaneFolds.{pane_number, is_in_pane, values_in_pane, partial_of, least_among, greatest_among, kept_panes, panes_of, panes_by, newest_time}
 use Rattle.lola_save_law.proofs.Ranged.{AllIn, AreValues, numbers-in, least-in, greatest-in, total-least, total-greatest, total-size}
 use Rattle.lola_save_law.proofs.PaneSums.{sum-le, sum-times, count_in, sum-counts}
 
@@ -137,9 +137,9 @@ module _ (times : Times) (k : Kind) (w : WindowForm) (vs : List (ℕ × Field)) 
       let many : length (map part ms) ≡ min (number + 1) w.count = length-map ms part ∙ length-counted (number + 1 - w.count) (min (number + 1) w.count) in
       let counts : sum_by (count_in start w.pane vs) ms ≤ length vs = sum-counts start w.pane vs (number + 1 - w.count) (min (number + 1) w.count) in
       let counted_few : sum_by (fitting.counted w.how) (map part ms) ≤ sum_by (count_in start w.pane vs) ms =
-          sum-le (fitting.counted w.how) part (count_in start w.pane vs) ms (λ m. counted-le w.how (values_in_pane start w.pane vs m)) in
+      sum-le (fitting.counted w.how) part (count_in start w.pane vs) ms (λ m. counted-le w.how (values_in_pane start w.pane vs m)) in
       let sizes : sum_by (total_size w.how) (map part ms) ≤ sum_by (λ m. count_in start w.pane vs m * 2 ^ 64) ms =
-          sum-le (total_size w.how) part (λ m. count_in start w.pane vs m * 2 ^ 64) ms (λ m. size-le w.how k (values_in_pane start w.pane vs m) (in-pane k start last w.pane vs m values)) in
+      sum-le (total_size w.how) part (λ m. count_in start w.pane vs m * 2 ^ 64) ms (λ m. size-le w.how k (values_in_pane start w.pane vs m) (in-pane k start last w.pane vs m values)) in
       let scaled = sum-times (count_in start w.pane vs) (2 ^ 64) ms in
       and_from _ _
       (and_from _ _
@@ -159,6 +159,7 @@ module _ (times : Times) (k : Kind) (w : WindowForm) (vs : List (ℕ × Field)) 
       some : (t : ℕ) → newest_time vs ≡ Some t → (b : Bool) → is_some times.last ≡ b → is_some times.last ≡ true
       some t e true q = q
       some t e false q = absurd (newest-none vs t e (none q))
+
       by : (o : Option ℕ) → newest_time vs ≡ o → are_panes times k w (panes_by start w vs o) ≡ true
       by None e = refl
       by (Some t) e =

@@ -1,18 +1,17 @@
 -- The law: the state of a journal is one that its plan can have, and it is the only one.
-use Rattle.std.proofs.Common.{◌≡◌, ℕ, zero, suc, ◌+◌, ◌<◌, ◌≤◌, ◌^◌, ◌↔◌, List, [], ◌∷◌, ◌++◌, length, refl, sym, subst, ap, ◌∙◌, arith, Bool, true, false, ◌&&◌, Option, Some, None, nat_le, unwrap_or, slice_get}
+use Rattle.std.proofs.Common.{◌≡◌, ℕ, ◌+◌, ◌≤◌, ◌^◌, ◌↔◌, List, [], ◌∷◌, length, refl, sym, subst, ap, ◌∙◌, arith, true, false, Option, Some, None, nat_le, slice_get}
 use Rattle.std.specs.Prelude.{is_some}
 use Rattle.std.specs.List.{list_all}
 use Rattle.std.specs.Str.{is_utf8}
-use Rattle.std.proofs.lemmas.Bool.{and_from, and_parts, le-leb, leb-true}
-use Rattle.lola_value.specs.declared.value.Kind.{Kind}
+use Rattle.std.proofs.lemmas.Bool.{and_from, le-leb}
 use Rattle.lola_value.specs.Times.{latest}
 use Rattle.lola_model.specs.Acceptance.{IsAccepted}
-use Rattle.lola_model.specs.Journal.{opening_time, add_accepted, accepted, IsLegal}
-use Rattle.lola_model.specs.Model.{made, survivors, last_row}
+use Rattle.lola_model.specs.Journal.{opening_time, accepted}
+use Rattle.lola_model.specs.Model.{made}
 use Rattle.lola_model.specs.NextStep.{next_settled, most_steps}
-use Rattle.lola_model.specs.Runs.{run_start, settled_model, HasModelsOfRuns, streams_after}
+use Rattle.lola_model.specs.Runs.{settled_model, HasModelsOfRuns, streams_after}
 use Rattle.lola_model.specs.StepOrder.{DoNotFall}
-use Rattle.lola_model.specs.Steps.{first_stamp, start_of}
+use Rattle.lola_model.specs.Steps.{start_of}
 use Rattle.lola_model.specs.Table.{TableRow}
 use Rattle.lola_model.specs.Trace.{IsTraceable, input_kinds}
 use Rattle.lola_model.specs.declared.journal.Entry.{Entry}
@@ -20,7 +19,6 @@ use Rattle.lola_model.specs.declared.journal.Mark.{Mark}
 use Rattle.lola_model.specs.declared.journal.Mark.TheVariants as mark
 use Rattle.lola_model.specs.declared.journal.Row.{Row}
 use Rattle.lola_model.specs.declared.plan.Plan.{Plan}
-use Rattle.lola_model.specs.declared.spec.Stream.{Stream}
 use Rattle.lola_model.proofs.RunModels.{has_models_of_runs}
 use Rattle.lola_model.proofs.StepsInOrder.{legal_do_not_fall}
 use Rattle.lola_step_law.proofs.Shapes.{passes_at}
@@ -35,7 +33,7 @@ use Rattle.lola_save_law.proofs.AnsweredKinds.{plain-stream}
 use Rattle.lola_save_law.proofs.Assembly.{IsKnownTable, streams-are}
 use Rattle.lola_save_law.proofs.KindedRows.{survivors-of}
 use Rattle.lola_save_law.proofs.Sound.{IsSound, sound-made}
-use Rattle.lola_save_law.proofs.StepTimes.{StampsUpTo, AllFit, IsUnderWay, under-way-first}
+use Rattle.lola_save_law.proofs.StepTimes.{StampsUpTo, AllFit, under-way-first}
 
 -- the accepted rows of a journal
 
@@ -136,7 +134,7 @@ module _ (plan : Plan) (accepted_plan : IsAccepted plan) (texts : list_all is_ut
   known : IsKnownTable plan times (settled_model plan start journal)
   known =
       let s : IsSound plan (time_or 0 (known_start start rows)) (time_or 0 (last_accepted rows)) rows (settled_model plan start journal) =
-          subst (λ (b : ℕ). IsSound plan b (time_or 0 (last_accepted rows)) rows (settled_model plan start journal)) (sym (start-is start rows)) sound in
+      subst (λ (b : ℕ). IsSound plan b (time_or 0 (last_accepted rows)) rows (settled_model plan start journal)) (sym (start-is start rows)) sound in
       record {
         timed = s.way.timed;
         up_to = s.way.up_to;

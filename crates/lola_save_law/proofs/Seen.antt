@@ -1,8 +1,7 @@
 -- What accesses and windows answer in a content whose values are of their streams' kinds.
-use Rattle.std.proofs.Common.{◌≡◌, ℕ, zero, suc, ◌+◌, ◌-◌, ◌<◌, ◌≤◌, ◌^◌, List, [], ◌∷◌, ◌++◌, length, map, refl, sym, subst, ap, ◌∙◌, arith, ℤ, pos, Bool, true, false, ◌&&◌, ◌||◌, Option, Some, None, nat_le, nat_lt, int_le, if◌then◌else◌, slice_get, length-append, cond}
+use Rattle.std.proofs.Common.{◌≡◌, ℕ, zero, suc, ◌+◌, ◌-◌, ◌<◌, ◌≤◌, ◌^◌, List, [], ◌∷◌, ◌++◌, length, map, refl, arith, ℤ, pos, Bool, true, false, ◌&&◌, ◌||◌, Option, Some, None, nat_le, nat_lt, if◌then◌else◌, slice_get, length-append}
 use Rattle.std.specs.Prelude.{filter}
-use Rattle.std.proofs.lemmas.Bool.{and_from, and_parts, le-leb}
-use Rattle.std.proofs.lemmas.Int.{ints}
+use Rattle.std.proofs.lemmas.Bool.{and_from, le-leb}
 use Rattle.lola_value.specs.declared.value.Kind.{Kind}
 use Rattle.lola_value.specs.declared.value.Kind.TheVariants as kind
 use Rattle.lola_value.specs.declared.text.Field.{Field}
@@ -11,17 +10,16 @@ use Rattle.lola_value.specs.declared.value.FaultKind.TheVariants as fault
 use Rattle.lola_value.specs.Answer.{Answer, Given, Missing, Failed, Poisoned}
 use Rattle.lola_value.specs.Arithmetic.{all_equal, is_within, within}
 use Rattle.lola_value.specs.Kinds.{is_integer}
-use Rattle.lola_model.specs.Accesses.{life_with, life_in, bad_in, value_or_missing, from_end, now_of, held, held_of, earlier_of, accessed, answer_of, one_more, all_values}
+use Rattle.lola_model.specs.Accesses.{life_with, life_in, bad_in, value_or_missing, from_end, held, accessed, answer_of, one_more, all_values}
 use Rattle.lola_model.specs.Content.{Life, StreamContent, Content}
 use Rattle.lola_model.specs.Store.{StreamLayout, kind_in, gives_kind}
-use Rattle.lola_model.specs.Typing.{takes, same_kind}
-use Rattle.lola_model.specs.Windows.{number_of, truth_of, total, least_of, greatest_of, mean_of, minimum_of, maximum_of, aggregated, is_within_window, values_within, window_values, is_poisoned, window_answer}
+use Rattle.lola_model.specs.Typing.{takes}
+use Rattle.lola_model.specs.Windows.{number_of, total, least_of, greatest_of, mean_of, minimum_of, maximum_of, aggregated, is_within_window, values_within, window_values, is_poisoned, window_answer}
 use Rattle.lola_model.specs.declared.expr.Access.{Access}
 use Rattle.lola_model.specs.declared.expr.Access.TheVariants as access
 use Rattle.lola_model.specs.declared.spec.Agg.{Agg}
 use Rattle.lola_model.specs.declared.spec.Agg.TheVariants as agg
 use Rattle.lola_model.specs.declared.spec.WindowSpec.{WindowSpec}
-use Rattle.lola_expr.proofs.Parts.{same_kind-true}
 use Rattle.lola_save_text.specs.Fitting.{is_value}
 use Rattle.lola_save_law.proofs.Ranged.{AllIn, AreValues, numbers-in, least-in, greatest-in, mean-in}
 
@@ -202,10 +200,13 @@ window-of layouts most c h few w q t =
   where
     k : Kind
     k = kind_in (slice_get layouts w.target)
+
     o : Option StreamContent
     o = slice_get c.streams w.target
+
     l : Option Life
     l = life_in q o
+
     by : (a b : Bool) → is_answer (gives_kind w.using k) (if a then Poisoned else (if b then Missing else aggregated w.using k (window_values w.over c.time l))) ≡ true
     by true b = refl
     by false true = refl

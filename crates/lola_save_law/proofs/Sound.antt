@@ -1,5 +1,5 @@
 -- What is true of the table of a run's settled steps: by induction over its rows.
-use Rattle.std.proofs.Common.{◌≡◌, ℕ, zero, suc, ◌+◌, ◌<◌, ◌≤◌, ◌^◌, List, [], ◌∷◌, ◌++◌, length, refl, sym, subst, ap, ◌∙◌, arith, Bool, true, false, Option, Some, None, append_assoc, append-nil, length-append}
+use Rattle.std.proofs.Common.{◌≡◌, ℕ, zero, suc, ◌<◌, ◌≤◌, ◌^◌, List, [], ◌∷◌, ◌++◌, length, refl, sym, subst, arith, Bool, true, false, Option, Some, None, append_assoc, append-nil, length-append}
 use Rattle.std.specs.List.{list_all}
 use Rattle.std.specs.Str.{is_utf8}
 use Rattle.lola_model.specs.Acceptance.{IsAccepted}
@@ -21,8 +21,10 @@ module _ (plan : Plan) (start : ℕ) (next : Next) (P : List TableRow → Type 0
     where
       joined : (row : TableRow) (more : List TableRow) → (rows ++ row ∷ []) ++ more ≡ rows ++ row ∷ more
       joined row more = append_assoc rows (row ∷ []) more
+
       shorter : (row : TableRow) (more : List TableRow) → length (rows ++ row ∷ more) ≤ bound → length rows < bound
       shorter row more m = let a = length-append rows (row ∷ more) in omega (arith, a, m)
+
       by-fault : (step : Step) → next rows ≡ Some step → (b : Bool)
           → length (rows ++ elim b as (λ _. List TableRow) [ true ↦ answered plan start rows step ∷ [] | false ↦ answered plan start rows step ∷ made plan start next most (rows ++ answered plan start rows step ∷ []) ]) ≤ bound
           → ((row : TableRow) → P (rows ++ row ∷ []) → length ((rows ++ row ∷ []) ++ made plan start next most (rows ++ row ∷ [])) ≤ bound → P ((rows ++ row ∷ []) ++ made plan start next most (rows ++ row ∷ [])))
@@ -33,6 +35,7 @@ module _ (plan : Plan) (start : ℕ) (next : Next) (P : List TableRow → Type 0
           let more : List TableRow = made plan start next most (rows ++ row ∷ []) in
           subst P (joined row more)
           (on row (kept rows step h (shorter row more m) e) (subst (λ (ts : List TableRow). length ts ≤ bound) (sym (joined row more)) m))
+
       by : (o : Option Step) → next rows ≡ o
           → length (rows ++ elim o as (λ _. List TableRow) [ None ↦ [] | Some step ↦ elim (has_fault (answered plan start rows step)) as (λ _. List TableRow) [ true ↦ answered plan start rows step ∷ [] | false ↦ answered plan start rows step ∷ made plan start next most (rows ++ answered plan start rows step ∷ []) ] ]) ≤ bound
           → ((row : TableRow) → P (rows ++ row ∷ []) → length ((rows ++ row ∷ []) ++ made plan start next most (rows ++ row ∷ [])) ≤ bound → P ((rows ++ row ∷ []) ++ made plan start next most (rows ++ row ∷ [])))

@@ -8,8 +8,8 @@ use Rattle.lola_value.specs.declared.value.Kind.{Kind}
 use Rattle.lola_model.specs.Acceptance.{IsAccepted}
 use Rattle.lola_model.specs.Content.{time_of}
 use Rattle.lola_model.specs.Graph.{nodes_of}
-use Rattle.lola_model.specs.Model.{survivors, last_row, asked, closing, has_evaluation_fault, closes_from, answered, the_instance, Next}
-use Rattle.lola_model.specs.NextStep.{local_rates, earlier, first_due, open_after, open_from, due_of_instances, due_of_streams, due, rows_taken, below_or, step_before, next_settled}
+use Rattle.lola_model.specs.Model.{survivors, last_row, asked, closing, has_evaluation_fault, closes_from, answered, the_instance}
+use Rattle.lola_model.specs.NextStep.{local_rates, earlier, first_due, open_after, open_from, due_of_instances, due_of_streams, due, below_or, step_before, next_settled}
 use Rattle.lola_model.specs.Runs.{time_of_last}
 use Rattle.lola_model.specs.StepOrder.{DoNotFall}
 use Rattle.lola_model.specs.Steps.{deadline_step, row_step, rates_of, first_after}
@@ -125,7 +125,7 @@ module _ (plan : Plan) (accepted : IsAccepted plan) where
   first-not-before start t e =
       let none = no-streams 0 plan.spec.streams (λ j s q. subst (λ (x : ℕ). slice_get plan.spec.streams x ≡ Some s) (let z : j ≡ 0 + j = omega arith in z) q) in
       let alone : due plan [] start ≡ first_due start (rates_of plan.pacings) 0 =
-          ap (λ (o : Option ℕ). earlier (first_due start (rates_of plan.pacings) 0) o) none ∙ earlier-none (first_due start (rates_of plan.pacings) 0) in
+      ap (λ (o : Option ℕ). earlier (first_due start (rates_of plan.pacings) 0) o) none ∙ earlier-none (first_due start (rates_of plan.pacings) 0) in
       mapped-le start (first_after (rates_of plan.pacings) (0 - start - 1)) t (sym alone ∙ e)
 
   -- and later ones not before the last step
@@ -143,6 +143,7 @@ module _ (plan : Plan) (accepted : IsAccepted plan) where
       there : (r : TableRow) (rows : List TableRow) → (q : TableRow) × (last_row (r ∷ rows) ≡ Some q)
       there r [] = (r, refl)
       there r (q ∷ rows) = there q rows
+
       by : (o : Option TableRow) → last_row (r ∷ rows) ≡ o → (q : TableRow) × (last_row (r ∷ rows) ≡ Some q) → time_of_last start o ≤ t
       by None f w = let z = w.1 in absurd (cc)
       by (Some q) f w =

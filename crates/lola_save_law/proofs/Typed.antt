@@ -1,5 +1,5 @@
 -- An expression of a typed specification comes to a value of its kind, or to none.
-use Rattle.std.proofs.Common.{◌≡◌, ℕ, zero, suc, ◌+◌, ◌<◌, ◌≤◌, ◌^◌, List, [], ◌∷◌, ◌++◌, length, drop, refl, sym, subst, ap, ◌∙◌, arith, ℤ, neg_ℤ, int_le, int_lt, Bool, true, false, ◌&&◌, not, Option, Some, None, Result, Ok, Err, nat_lt, if◌then◌else◌, slice_get, unwrap_or}
+use Rattle.std.proofs.Common.{◌≡◌, ℕ, zero, suc, ◌<◌, ◌^◌, List, [], ◌∷◌, ◌++◌, length, drop, refl, sym, subst, arith, ℤ, neg_ℤ, int_le, int_lt, Bool, true, false, ◌&&◌, not, Option, Some, None, Result, Ok, Err, if◌then◌else◌, slice_get, unwrap_or}
 use Rattle.std.specs.Prelude.{option_and_then}
 use Rattle.std.specs.List.{Contains, list_all}
 use Rattle.std.specs.Str.{is_utf8}
@@ -18,11 +18,10 @@ use Rattle.lola_value.specs.Kinds.{is_bool, is_integer, is_of_kind, is_signed, i
 use Rattle.lola_value.specs.Naming.{the_text}
 use Rattle.lola_model.specs.Accesses.{answer_of}
 use Rattle.lola_model.specs.Content.{Content}
-use Rattle.lola_model.specs.Denotation.{kind_of, literal, given_or_missing, on_numbers, on_number, on_truth, truth, operated, negated, and_then, conjoined, disjoined, with_right, joined, chosen, defaulted, with_argument, with_arguments, target_kind, window_of, den, den_all}
-use Rattle.lola_model.specs.Model.{filled_kind}
+use Rattle.lola_model.specs.Denotation.{kind_of, literal, given_or_missing, on_numbers, truth, negated, and_then, conjoined, disjoined, with_right, chosen, defaulted, with_argument, with_arguments, target_kind, window_of, den, den_all}
 use Rattle.lola_model.specs.Named.{literal_text}
-use Rattle.lola_model.specs.Parts.{listed, listed_all}
-use Rattle.lola_model.specs.Store.{StreamLayout, kind_in, layouts_from, gives_kind}
+use Rattle.lola_model.specs.Parts.{listed}
+use Rattle.lola_model.specs.Store.{kind_in, layouts_from, gives_kind}
 use Rattle.lola_model.specs.Typed.{scope_in}
 use Rattle.lola_model.specs.Typing.{Scope, same_kind, noted, is_noted, is_certain, row_holds, takes, is_kind_at, each_part, part_is_typed, is_reference, window_row, prefix_row, binary_row}
 use Rattle.lola_model.specs.Windows.{window_answer}

@@ -4,11 +4,11 @@ use Rattle.std.proofs.lemmas.Fmt.{decimal_digit, decimal_step}
 use Rattle.lola_model.proofs.Build.{Around, row_at, accepted_all, int}
 use Rattle.lola_model.proofs.Rows.{second, sum_and_trigger}
 use Rattle.lola_save_text.specs.Forms.{forms_of}
-use Rattle.lola_save_text.specs.Lines.{StateLine, StartLine, LastLine, StepsLine, StreamLine, RingLine, PanesLine, head_text, line_text, lines_text, state_lines, state_text}
+use Rattle.lola_save_text.specs.Lines.{StartLine, LastLine, StepsLine, StreamLine, RingLine, PanesLine, head_text, line_text, lines_text, state_lines, state_text}
 use Rattle.lola_save_text.specs.States.{Number}
 use Rattle.lola_save_text.proofs.Corners.{worked-text}
 use Rattle.lola_save_law.specs.JournalStates.{state_of}
-use Rattle.lola_save_law.proofs.WorkedStates.{first_row, first-row, counts_each_second, two_rows, two-panes}
+use Rattle.lola_save_law.proofs.WorkedStates.{first-row, counts_each_second, two_rows, two-panes}
 
 -- an output of one more than its input, and a trigger, after one row at 0 with the value 1
 

@@ -4,6 +4,7 @@
 //! values, and the panes of each window, folded anew from the values of its life. A crate of laws has no code.
 //! Promised: over each journal an accepted plan has exactly one state; and of a journal that a run can take, of at most 2^62 settled
 //! steps, the state is one that the plan can have, where the plan's text literals are in UTF-8. So its text is a state text of the plan.
+//! The start that it tells serves as the start option of whatever comes behind the journal.
 //! Not promised: that a store or an engine holds this state, and that the literals of a compiled text are in UTF-8.
 #![tactic(auto)]
 
