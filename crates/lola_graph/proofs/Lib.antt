@@ -1,5 +1,5 @@
 pub mod ReadLemmas
 mod FlagLemmas
-mod NodeLemmas
+pub mod NodeLemmas
 pub mod ListLemmas
 pub mod CycleLemmas

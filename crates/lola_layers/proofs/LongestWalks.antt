@@ -11,7 +11,8 @@ use Rattle.lola_model.proofs.Layers.{layer_low}
 use Rattle.lola_model.proofs.Walks.{depth_of, layer_exists}
 use Rattle.lola_model.specs.Nodes.{node_count}
 use Rattle.lola_graph.specs.Small.{is_small_graph}
-use Rattle.lola_layers.proofs.GraphLemmas.{node_low, count_low}
+use Rattle.lola_graph.proofs.NodeLemmas.{node_low}
+use Rattle.lola_layers.proofs.GraphLemmas.{count_low}
 use Rattle.lola_layers.specs.Raised.{IsReached, AreReached, AreFalling}
 
 -- all numbers below a bound

@@ -2,7 +2,7 @@ use Rattle.std.proofs.Common.{◌<◌, ◌∷◌, [], pos, arith, length, take}
 use Rattle.std.specs.List.{slice_index_or}
 use Rattle.std.proofs.lemmas.List.{take_more}
 use Rattle.lola_model.specs.declared.graph.Edge.{Edge}
-use Rattle.lola_layers.proofs.GraphLemmas.{node_low, edge_in}
+use Rattle.lola_graph.proofs.NodeLemmas.{node_low, edge_in}
 use Rattle.lola_layers.proofs.LongestWalks.{reached_low}
 use Rattle.lola_layers.proofs.RaiseLemmas.{raised_both}
 use Rattle.lola_layers.proofs.raise.Goals as goal
