@@ -1,4 +1,5 @@
--- Which nesting of a sentence its reading ends at: the first that is too many, or behind a bracket that is a nesting the next one.
+-- Which nesting of a sentence its reading ends at: the first that is too many, or behind a bracket that is a nesting the next one,
+-- and then no nesting before the last one is too many.
 use Rattle.std.proofs.Common.{◌≡◌, ℕ, zero, suc, ◌+◌, ◌-◌, ◌≤◌, Bool, true, false, cond, not, List, [], ◌∷◌, ◌++◌, length, Some, None, Ok, Err, refl, sym, ap, subst, ◌∙◌, append_assoc, arith, inl, inr, ◌⊎◌}
 use Rattle.std.proofs.lemmas.List.{length-append, append_cancel_right}
 use Rattle.std.proofs.lemmas.Bool.{and_parts, not-true, false_from_ne_true}
@@ -37,8 +38,12 @@ module _ (nestings : List Terminal) where
   abbrev WithNestings : Type 1
   WithNestings = List Lexeme → Lexeme → List Lexeme → Type 0
 
+  -- none before the last nesting of u is too many
+  abbrev pub IsBehindLast : WithNestings → (ℕ → Type 0) → WithNestings
+  IsBehindLast N K u t v = N u t v × (a : List Lexeme) × (m : Lexeme) × (b : List Lexeme) × (u ≡ a ++ m ∷ b) × (nestings_in nestings b ≡ 0) × (is_nesting nestings m ≡ true) × K (length a)
+
   abbrev Firsts : WithNestings → WithNestings → (ℕ → Type 0) → List Lexeme → List Lexeme → List Lexeme → Type 0
-  Firsts Q N K z rest d = (u : List Lexeme) × (t : Lexeme) × (v : List Lexeme) × (z ≡ u ++ t ∷ v) × (d ≡ t ∷ (v ++ rest)) × ((Q u t v × K (length u)) ⊎ N u t v)
+  Firsts Q N K z rest d = (u : List Lexeme) × (t : Lexeme) × (v : List Lexeme) × (z ≡ u ++ t ∷ v) × (d ≡ t ∷ (v ++ rest)) × ((Q u t v × K (length u)) ⊎ IsBehindLast N K u t v)
 
   -- of the sentence z and what follows it, reading ended at its first nesting too many, or at the next nesting
   abbrev pub IsFirst : {A : Type 0} → Syntax A → List Lexeme → A → List Lexeme → List Lexeme → Type 0
@@ -58,7 +63,7 @@ module _ (nestings : List Terminal) where
     p.4 ∙ ap (λ (w : List Lexeme). p.1 ∷ w) (sym (append_assoc p.2 z2 rest)),
     elim p.5 [
       | inl q ↦ inl (grow p.0 p.1 p.2 q.0, keep (length p.0) (omega (arith, ap length p.3, length-append p.0 (p.1 ∷ p.2))) q.1)
-      | inr q ↦ inr (next p.0 p.1 p.2 q)
+      | inr q ↦ inr (next p.0 p.1 p.2 q.0, q.1, q.2, q.3, q.4, q.5, q.6, keep (length q.1) (omega (arith, ap length p.3, length-append p.0 (p.1 ∷ p.2), ap length q.4, length-append q.1 (q.2 ∷ q.3))) q.7)
     ],
   )
 
@@ -73,7 +78,17 @@ module _ (nestings : List Terminal) where
     p.4,
     elim p.5 [
       | inl q ↦ inl (grow p.0 p.1 p.2 q.0, keep (length (z1 ++ p.0)) (length p.0) (omega (arith, length-append z1 p.0)) q.1)
-      | inr q ↦ inr (next p.0 p.1 p.2 q)
+      | inr q ↦
+          inr (
+            next p.0 p.1 p.2 q.0,
+            z1 ++ q.1,
+            q.2,
+            q.3,
+            ap (λ (w : List Lexeme). z1 ++ w) q.4 ∙ sym (append_assoc z1 q.1 (q.2 ∷ q.3)),
+            q.5,
+            q.6,
+            keep (length (z1 ++ q.1)) (length q.1) (omega (arith, length-append z1 q.1)) q.7,
+          )
     ],
   )
 
@@ -140,7 +155,7 @@ module _ (nestings : List Terminal) where
     p.4,
     elim p.5 [
       | inl q ↦ inl (grow p.0 p.1 p.2 q.0, keep (length p.0) q.1)
-      | inr q ↦ inr (next p.0 p.1 p.2 q)
+      | inr q ↦ inr (next p.0 p.1 p.2 q.0, q.1, q.2, q.3, q.4, q.5, q.6, keep (length q.1) q.7)
     ],
   )
 
@@ -181,7 +196,19 @@ module _ (nestings : List Terminal) where
                   inl (inl (p.2, z2, refl, there, hb, p.5, p.6)),
                   keeps_list nestings max_nestings ks a b c f (length p.0) 0 z1 z2 x ha hb (few_front nestings max_nestings 0 z1 p.0 (p.1 ∷ p.2) p.3 (omega (arith, p.5))) (keeps_none nestings max_nestings b z2 x.1) (omega (arith, ap length p.3, length-append p.0 (p.1 ∷ p.2))),
                 )
-            | inr hc ↦ inr (inl (p.2, z2, refl, there, hc, p.5, p.6))
+            | inr hc ↦
+                let l = last_is nestings ks g.same p.0 (p.1 ∷ p.2) (p.1 ∷ p.2) 511 (omega (arith, p.5)) in
+                let whole : z1 ≡ l.0 ++ l.1 ∷ (l.2 ++ p.1 ∷ p.2) = p.3 ∙ ap (λ (w : List Lexeme). w ++ p.1 ∷ p.2) l.3 ∙ append_assoc l.0 (l.1 ∷ l.2) (p.1 ∷ p.2) in
+                inr (
+                  inl (p.2, z2, refl, there, hc, p.5, p.6),
+                  l.0,
+                  l.1,
+                  l.2,
+                  l.3,
+                  l.6,
+                  l.4,
+                  keeps_bracket nestings max_nestings ks a b c f (length l.0) 0 z1 z2 x ha hc (few_front nestings max_nestings 1 z1 l.0 (l.1 ∷ (l.2 ++ p.1 ∷ p.2)) whole (omega (arith, l.5))) (λ u t v parts low nesting. absurd (omega (arith, low))) (omega (arith, ap length whole, length-append l.0 (l.1 ∷ (l.2 ++ p.1 ∷ p.2)))),
+                )
           ],
         )
 

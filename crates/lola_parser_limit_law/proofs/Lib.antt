@@ -9,4 +9,5 @@ pub mod Going
 pub mod Answered
 pub mod Levels
 pub mod First
+pub mod Last
 pub mod Place

@@ -1,14 +1,15 @@
 -- The place at which a text is refused as too deep.
 use Rattle.std.proofs.Common.{◌≡◌, ℕ, zero, suc, ◌<◌, true, List, [], ◌∷◌, ◌++◌, length, Some, None, Err, refl, sym, ap, subst, ◌∙◌, append_assoc, arith, inl, inr, ◌⊎◌}
-use Rattle.std.proofs.lemmas.List.{append-nil, length-append, append_cancel_right}
-use Rattle.lola_parser_grammars_law.specs.Syntax.{Lexeme, Terminal, Syntax, Past, Token, Nesting, Whole, Known, Then, Map, Either, Maybe, Many, Fork, Spells, is_fine, TooDeep, max_nestings, read, read_all}
+use Rattle.std.proofs.lemmas.List.{length-append, append_cancel_right}
+use Rattle.lola_parser_grammars_law.specs.Syntax.{Lexeme, Terminal, Syntax, Past, Token, Nesting, Whole, Known, Then, Map, Either, Maybe, Many, Fork, Spells, is_fine, TooDeep, max_nestings, read_all}
 use Rattle.lola_parser_grammars_law.specs.Nestings.{is_counted}
 use Rattle.lola_parser_grammars_law.specs.Exceeding.{ExceedsAmong}
-use Rattle.lola_parser_limit_law.specs.Late.{IsNestingBehind, IsNextBehindBracket, IsLate, IsLateInEvery, NoneIsLate, IsFirstLate, IsDeepPlace, IsNextInEvery, HasNoNext}
+use Rattle.lola_parser_limit_law.specs.Late.{IsNestingBehind, IsNextBehindBracket, IsLate, IsLateInEvery, IsFirstLate, IsDeepPlace, IsNextInEvery, HasNoNext}
 use Rattle.lola_parser_limit_law.specs.Fronts.{IsLongestFront}
 use Rattle.lola_parser_limit_law.proofs.Opening.{forks_open}
-use Rattle.lola_parser_limit_law.proofs.Placed.{fronts, in_front, decided_all}
-use Rattle.lola_parser_limit_law.proofs.First.{first_late}
+use Rattle.lola_parser_limit_law.proofs.Placed.{fronts}
+use Rattle.lola_parser_limit_law.proofs.Last.{IsFirstOrLast, moved}
+use Rattle.lola_parser_limit_law.proofs.Last as last
 use Rattle.lola_parser_limit_law.proofs.Answered.{late_is_deep}
 
 module _ (nestings : List Terminal) where
@@ -18,7 +19,8 @@ module _ (nestings : List Terminal) where
   next_among P Q R f u t v (x ∷ xs) (inl h) = inl (h.0, h.1, h.2, f u t h.0 x h.3, h.4)
   next_among P Q R f u t v (x ∷ xs) (inr h) = inr (h.0, h.1, h.2, h.3, next_among P Q R f h.1 t v xs h.4)
 
-  next_nesting : {A : Type 0} (s : Syntax A) (u : List Lexeme) (t : Lexeme) (v : List Lexeme) (x : A) → IsNextBehindBracket nestings s u t v x → IsNestingBehind nestings (suc max_nestings) s u t v x
+  -- the next nesting behind a bracket that is one has more than the limit before it
+  pub next_nesting : {A : Type 0} (s : Syntax A) (u : List Lexeme) (t : Lexeme) (v : List Lexeme) (x : A) → IsNextBehindBracket nestings s u t v x → IsNestingBehind nestings (suc max_nestings) s u t v x
   unfolding IsNestingBehind IsNextBehindBracket
   next_nesting (Past a) u t v x h = h
   next_nesting (Token k) u t v x h = h
@@ -39,42 +41,15 @@ module _ (nestings : List Terminal) where
   abbrev pub IsFirstOrNext : {A : Type 0} → Syntax A → List Lexeme → Lexeme → List Lexeme → A → Type 0
   IsFirstOrNext s u t v x = IsFirstLate nestings s u t v x ⊎ IsNextBehindBracket nestings s u t v x
 
-  moved : {A : Type 0} (s : Syntax A) (u u' : List Lexeme) (t t' : Lexeme) (v v' : List Lexeme) (x : A) → u ≡ u' → t ≡ t' → v ≡ v' → IsFirstOrNext s u t v x → IsFirstOrNext s u' t' v' x
-  moved s u u' t t' v v' x e f g h =
-      subst (λ (w : List Lexeme). IsFirstOrNext s u' t' w x) g (subst (λ (y : Lexeme). IsFirstOrNext s u' y v x) f (subst (λ (w : List Lexeme). IsFirstOrNext s w t v x) e h))
-
-  -- in a sentence, of which reading ends there
-  ends_first : {A : Type 0} (s : Syntax A) → is_fine s ≡ true → is_counted nestings s ≡ true → (u : List Lexeme) (t : Lexeme) (v : List Lexeme) (x : A) → Spells s (u ++ t ∷ v) x → read s max_nestings (u ++ t ∷ v) ≡ Err (TooDeep (t ∷ v)) → IsFirstOrNext s u t v x
-  ends_first s fine count u t v x h e =
-      let z = u ++ t ∷ v in
-      let p = first_late nestings s fine count max_nestings z x [] (t ∷ v) h refl (ap (λ (w : List Lexeme). read s max_nestings w) (append-nil z) ∙ e) in
-      let there : t ∷ v ≡ p.1 ∷ p.2 = p.4 ∙ ap (λ (w : List Lexeme). p.1 ∷ w) (append-nil p.2) in
-      let front : p.0 ≡ u = append_cancel_right p.0 u (t ∷ v) (ap (λ (w : List Lexeme). p.0 ++ w) there ∙ sym p.3) in
-      let token : p.1 ≡ t = cc in
-      let behind : p.2 ≡ v = cc in
-      moved s p.0 u p.1 t p.2 v x front token behind
-      (elim p.5 [
-        | inl q ↦ inl (q.0, subst (λ (w : List Lexeme). NoneIsLate nestings s (length p.0) w x) p.3 q.1)
-        | inr q ↦ inr q
-      ])
+  first_or_next : {A : Type 0} (s : Syntax A) (u : List Lexeme) (t : Lexeme) (v : List Lexeme) (x : A) → IsFirstOrLast nestings s u t v x → IsFirstOrNext s u t v x
+  first_or_next s u t v x (inl h) = inl h
+  first_or_next s u t v x (inr h) = inr h.0
 
   pub deep_is_first : {A : Type 0} (s : Syntax A) → is_fine s ≡ true → is_counted nestings s ≡ true → forks_open s ≡ true → (ts d p rest : List Lexeme) → read_all s ts ≡ Err (TooDeep d) → IsLongestFront s ts p rest
       → (u : List Lexeme) × (t : Lexeme) × (w : List Lexeme) × (p ≡ u ++ t ∷ w) × (d ≡ t ∷ (w ++ rest)) × ((q : List Lexeme) (x : A) → Spells s (u ++ t ∷ (w ++ q)) x → IsFirstOrNext s u t (w ++ q) x)
   deep_is_first s fine count opens ts d p rest h l =
-      let c = decided_all nestings s fine count opens ts d h in
-      let z = c.0 ++ c.1 ∷ c.2 in
-      let whole : ts ≡ z ++ c.3 = c.4 ∙ sym (append_assoc c.0 (c.1 ∷ c.2) c.3) in
-      let f = in_front s z c.3 p rest c.7 (sym whole ∙ l.0, l.1, l.2) in (
-        c.0,
-        c.1,
-        c.2 ++ f.0,
-        f.1 ∙ append_assoc c.0 (c.1 ∷ c.2) f.0,
-        c.5 ∙ ap (λ (w : List Lexeme). c.1 ∷ w) (ap (λ (w : List Lexeme). c.2 ++ w) f.2 ∙ sym (append_assoc c.2 f.0 rest)),
-        λ q x g.
-            let regroup : (c.2 ++ f.0) ++ q ≡ c.2 ++ (f.0 ++ q) = append_assoc c.2 f.0 q in
-            let g' : Spells s (c.0 ++ c.1 ∷ (c.2 ++ (f.0 ++ q))) x = subst (λ (w : List Lexeme). Spells s (c.0 ++ c.1 ∷ w) x) regroup g in
-            subst (λ (w : List Lexeme). IsFirstOrNext s c.0 c.1 w x) (sym regroup) (ends_first s fine count c.0 c.1 (c.2 ++ (f.0 ++ q)) x g' (c.6 (f.0 ++ q))),
-      )
+      let f = last.deep_is_first nestings s fine count opens ts d p rest h l in
+      (f.0, f.1, f.2, f.3, f.4, λ q x g. first_or_next s f.0 f.1 (f.2 ++ q) x (f.5 q x g))
 
   first_is_late : {A : Type 0} (s : Syntax A) (u : List Lexeme) (t : Lexeme) (v : List Lexeme) (x : A) → IsFirstOrNext s u t v x → IsLate nestings s u t v x
   first_is_late s u t v x (inl h) = (max_nestings, omega arith, h.0)
@@ -199,4 +174,4 @@ module _ (nestings : List Terminal) where
           (λ q x g.
           let whole : f.0 ++ f.1 ∷ (f.2 ++ q) ≡ u ++ t ∷ (w ++ q) = ap (λ (y : List Lexeme). y ++ (f.1 ∷ (f.2 ++ q))) front ∙ ap (λ (y : List Lexeme). u ++ (y ++ q)) rests in
           let found = f.5 q x (subst (λ (y : List Lexeme). Spells s y x) (sym whole) g) in
-          moved s f.0 u f.1 t (f.2 ++ q) (w ++ q) x front (sym token) (ap (λ (y : List Lexeme). y ++ q) (sym tail)) found)
+          moved (λ u t v. IsFirstOrNext s u t v x) f.0 u f.1 t (f.2 ++ q) (w ++ q) front (sym token) (ap (λ (y : List Lexeme). y ++ q) (sym tail)) found)

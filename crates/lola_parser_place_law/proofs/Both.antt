@@ -17,7 +17,7 @@ use Rattle.lola_parser.specs.Turns.{Left}
 use Rattle.lola_parser.specs.Places.{Cut, cut_last, behind_bracket, is_enclosed, nesting_or, place_behind, place_too_deep, IsPlacedAt}
 use Rattle.lola_parser.proofs.Cuts.{own_place, other_count, nesting_before}
 use Rattle.lola_parser_place_law.specs.Law.{IsEnclosedBehind, IsRulePlace}
-use Rattle.lola_parser_place_law.proofs.Last.{IsFirstOrLast, deep_is_first}
+use Rattle.lola_parser_limit_law.proofs.Last.{IsFirstOrLast, deep_is_first}
 use Rattle.lola_parser_place_law.proofs.InList.{list_is_deep}
 use Rattle.lola_parser_place_law.proofs.WithNestings.{next_is_deep}
 use Rattle.lola_parser_place_law.proofs.Enclosed.{next_in_every}

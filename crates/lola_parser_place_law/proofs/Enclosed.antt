@@ -26,7 +26,7 @@ use Rattle.lola_parser.proofs.Skims.{leaves}
 use Rattle.lola_parser_place_law.specs.Law.{IsEnclosedBehind}
 use Rattle.lola_parser_place_law.proofs.Around.{NotEval, OpensNext, IsAround, around_specification}
 use Rattle.lola_parser_place_law.proofs.InList.{deeper, shut_stops}
-use Rattle.lola_parser_place_law.proofs.Last.{IsFirstOrLast}
+use Rattle.lola_parser_limit_law.proofs.Last.{IsFirstOrLast}
 use Rattle.lola_parser_place_law.proofs.WithNestings.{same_cut}
 
 -- ---- what a cut says

@@ -25,9 +25,9 @@ use Rattle.lola_parser.proofs.Sentences.{skims_sentence}
 use Rattle.lola_parser.proofs.Lacks.{words, cut_more, cut_here, not_here, fewer}
 use Rattle.lola_parser.proofs.Forking.{next_is_behind}
 use Rattle.lola_parser_place_law.specs.Law.{IsEnclosedBehind}
-use Rattle.lola_parser_place_law.proofs.Before.{IsBehindLast}
-use Rattle.lola_parser_place_law.proofs.Last.{IsFirstOrLast, deep_is_first}
-use Rattle.lola_parser_place_law.proofs.Next.{next_nesting}
+use Rattle.lola_parser_limit_law.proofs.First.{IsBehindLast}
+use Rattle.lola_parser_limit_law.proofs.Last.{IsFirstOrLast, deep_is_first}
+use Rattle.lola_parser_limit_law.proofs.Place.{next_nesting}
 use Rattle.lola_parser_place_law.proofs.Listed.{IsLow, Led, IsListed, walk_specification}
 
 -- ---- an expression that ends at a bracket
@@ -156,7 +156,7 @@ list_is_deep n ts d p rest u t w less l e back each none = (
   λ q x g.
       elim (each q x g) [
         | inl a ↦ (max_nestings, omega arith, a.0)
-        | inr b ↦ (suc max_nestings, omega arith, next_nesting (specification n) u t (w ++ q) x b.0)
+        | inr b ↦ (suc max_nestings, omega arith, next_nesting all_nestings (specification n) u t (w ++ q) x b.0)
       ],
   λ u' t' w' same before late.
       let g = subst (λ (y : List Lexeme). Spells (specification n) y l.1.1) (with_more p l.1.0 u w t e) l.1.2 in

@@ -23,7 +23,7 @@ use Rattle.lola_parser_place_law.specs.Law.{IsFirstLateAt, IsRefusedAt}
 use Rattle.lola_parser_place_law.proofs.Both.{Decided, decided}
 use Rattle.lola_parser_place_law.proofs.Enclosed.{enclosed_is_next}
 use Rattle.lola_parser_place_law.proofs.InList.{NextIn, next_is_enclosed}
-use Rattle.lola_parser_place_law.proofs.Last.{IsFirstOrLast, ends_first, deep_is_first}
+use Rattle.lola_parser_limit_law.proofs.Last.{IsFirstOrLast, ends_first, deep_is_first}
 use Rattle.lola_parser_place_law.proofs.WithNestings.{cut_is, same_cut, last_late, only_next}
 
 -- ---- the place

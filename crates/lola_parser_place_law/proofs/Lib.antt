@@ -1,6 +1,4 @@
-pub mod Before
 pub mod Next
-pub mod Last
 pub mod Listed
 pub mod InList
 pub mod WithNestings

@@ -1,10 +1,10 @@
 -- Parts of the grammar in which no bracket shows only behind its end that it is a nesting.
-use Rattle.std.proofs.Common.{◌≡◌, ℕ, suc, true, List, [], ◌∷◌, ◌++◌, Some, None, refl, ap, inl, inr}
+use Rattle.std.proofs.Common.{◌≡◌, ℕ, suc, true, List, ◌∷◌, ◌++◌, refl}
 use Rattle.lola_lexer.specs.declared.shape.TokenShape.TheVariants as is
-use Rattle.lola_parser_grammars_law.specs.Syntax.{Lexeme, Syntax, Past, Token, Nesting, Whole, Known, Then, Map, Either, Maybe, Many, Fork, Spells, max_nestings}
-use Rattle.lola_parser_grammars_law.specs.Exceeding.{ExceedsAmong}
-use Rattle.lola_parser_limit_law.specs.Late.{IsNestingBehind, IsNextBehindBracket}
+use Rattle.lola_parser_grammars_law.specs.Syntax.{Lexeme, Syntax, Then, Maybe, Spells, max_nestings}
+use Rattle.lola_parser_limit_law.specs.Late.{IsNextBehindBracket}
 use Rattle.lola_parser_limit_law.proofs.Keeps.{nesting_spells}
+use Rattle.lola_parser_limit_law.proofs.Place.{next_nesting}
 use Rattle.lola_parser_grammar.specs.Grammar as g
 use Rattle.lola_parser_grammar.specs.Grammar.{all_nestings}
 use Rattle.lola_parser.proofs.Forking.{forkless, never}
@@ -12,32 +12,8 @@ use Rattle.lola_parser.proofs.Forking.{forkless, never}
 abbrev pub Never : {A : Type 0} → Syntax A → Type 0
 Never {A} s = (u : List Lexeme) (t : Lexeme) (v : List Lexeme) (x : A) → IsNextBehindBracket all_nestings s u t v x → ⊥
 
-next_among : {A : Type 0} (P : List Lexeme → A → Type 0) (Q R : List Lexeme → Lexeme → List Lexeme → A → Type 0) → ((u : List Lexeme) (t : Lexeme) (v : List Lexeme) (x : A) → Q u t v x → R u t v x)
-    → (u : List Lexeme) (t : Lexeme) (v : List Lexeme) (xs : List A) → ExceedsAmong Q P u t v xs → ExceedsAmong R P u t v xs
-next_among P Q R f u t v [] h = h
-next_among P Q R f u t v (x ∷ xs) (inl h) = inl (h.0, h.1, h.2, f u t h.0 x h.3, h.4)
-next_among P Q R f u t v (x ∷ xs) (inr h) = inr (h.0, h.1, h.2, h.3, next_among P Q R f h.1 t v xs h.4)
-
-pub next_nesting : {A : Type 0} (s : Syntax A) (u : List Lexeme) (t : Lexeme) (v : List Lexeme) (x : A) → IsNextBehindBracket all_nestings s u t v x → IsNestingBehind all_nestings (suc max_nestings) s u t v x
-unfolding IsNestingBehind IsNextBehindBracket
-next_nesting (Past a) u t v x h = h
-next_nesting (Token k) u t v x h = h
-next_nesting (Nesting k) u t v x h = h
-next_nesting (Whole a) u t v x h = absurd h
-next_nesting (Known fs ms a) u t v x h = next_nesting a u t v x h
-next_nesting (Then a b) u t v x (inl h) = inl (h.0, h.1, h.2, next_nesting a u t h.0 x.0 h.3, h.4)
-next_nesting (Then a b) u t v x (inr h) = inr (h.0, h.1, h.2, h.3, next_nesting b h.1 t v x.1 h.4)
-next_nesting (Map f a) u t v y h = (h.0, h.1, next_nesting a u t v h.0 h.2)
-next_nesting (Either a b) u t v x (inl h) = inl (next_nesting a u t v x h)
-next_nesting (Either a b) u t v x (inr h) = inr (next_nesting b u t v x h)
-next_nesting (Maybe a) u t v None h = h
-next_nesting (Maybe a) u t v (Some x) h = next_nesting a u t v x h
-next_nesting (Many a) u t v xs h = next_among (Spells a) (IsNextBehindBracket all_nestings a) (IsNestingBehind all_nestings (suc max_nestings) a) (next_nesting a) u t v xs h
-next_nesting (Fork ks a b c) u t v x (inl h) = inl (inr (h.0, h.1, h.2, h.3, h.4, ap suc h.5, h.6))
-next_nesting (Fork ks a b c) u t v x (inr h) = inr (inl (h.0, h.1, h.2, h.3, next_nesting b h.1 t v x.1 h.4))
-
 pub next_spells : {A : Type 0} (s : Syntax A) (u : List Lexeme) (t : Lexeme) (v : List Lexeme) (x : A) → IsNextBehindBracket all_nestings s u t v x → Spells s (u ++ t ∷ v) x
-next_spells s u t v x h = nesting_spells all_nestings s (suc max_nestings) u t v x (next_nesting s u t v x h)
+next_spells s u t v x h = nesting_spells all_nestings s (suc max_nestings) u t v x (next_nesting all_nestings s u t v x h)
 
 -- ---- parts of specifications
 

@@ -15,8 +15,8 @@ use Rattle.lola_parser_grammar.specs.Whole.{most_levels}
 use Rattle.lola_parser_grammar.proofs.Fine.{specification_fine}
 use Rattle.lola_parser.specs.Places.{Cut, cut_last}
 use Rattle.lola_parser.proofs.Lacks.{cut_more, cut_here, not_here}
-use Rattle.lola_parser_place_law.proofs.Before.{IsBehindLast}
-use Rattle.lola_parser_place_law.proofs.Last.{IsFirstOrLast, deep_is_first}
+use Rattle.lola_parser_limit_law.proofs.First.{IsBehindLast}
+use Rattle.lola_parser_limit_law.proofs.Last.{IsFirstOrLast, deep_is_first}
 
 -- ---- the last nesting
 

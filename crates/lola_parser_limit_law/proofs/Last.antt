@@ -8,15 +8,15 @@ use Rattle.lola_parser_limit_law.specs.Late.{IsNextBehindBracket, NoneIsLate, Is
 use Rattle.lola_parser_limit_law.specs.Fronts.{IsLongestFront}
 use Rattle.lola_parser_limit_law.proofs.Opening.{forks_open}
 use Rattle.lola_parser_limit_law.proofs.Placed.{in_front, decided_all}
-use Rattle.lola_parser_place_law.proofs.Before.{IsBehindLast, first_late}
+use Rattle.lola_parser_limit_law.proofs.First.{IsBehindLast, first_late}
+
+-- what is said of a place is said of an equal one
+pub moved : (R : List Lexeme → Lexeme → List Lexeme → Type 0) (u u' : List Lexeme) (t t' : Lexeme) (v v' : List Lexeme) → u ≡ u' → t ≡ t' → v ≡ v' → R u t v → R u' t' v'
+moved R u u' t t' v v' e f g h = subst (λ (w : List Lexeme). R u' t' w) g (subst (λ (y : Lexeme). R u' y v) f (subst (λ (w : List Lexeme). R w t v) e h))
 
 module _ (nestings : List Terminal) where
   abbrev pub IsFirstOrLast : {A : Type 0} → Syntax A → List Lexeme → Lexeme → List Lexeme → A → Type 0
   IsFirstOrLast s u t v x = IsFirstLate nestings s u t v x ⊎ IsBehindLast nestings (λ u t v. IsNextBehindBracket nestings s u t v x) (λ n. NoneIsLate nestings s n (u ++ t ∷ v) x) u t v
-
-  moved : {A : Type 0} (s : Syntax A) (u u' : List Lexeme) (t t' : Lexeme) (v v' : List Lexeme) (x : A) → u ≡ u' → t ≡ t' → v ≡ v' → IsFirstOrLast s u t v x → IsFirstOrLast s u' t' v' x
-  moved s u u' t t' v v' x e f g h =
-      subst (λ (w : List Lexeme). IsFirstOrLast s u' t' w x) g (subst (λ (y : Lexeme). IsFirstOrLast s u' y v x) f (subst (λ (w : List Lexeme). IsFirstOrLast s w t v x) e h))
 
   -- in a sentence, of which reading ends there
   pub ends_first : {A : Type 0} (s : Syntax A) → is_fine s ≡ true → is_counted nestings s ≡ true → (u : List Lexeme) (t : Lexeme) (v : List Lexeme) (x : A) → Spells s (u ++ t ∷ v) x → read s max_nestings (u ++ t ∷ v) ≡ Err (TooDeep (t ∷ v)) → IsFirstOrLast s u t v x
@@ -27,7 +27,7 @@ module _ (nestings : List Terminal) where
       let front : p.0 ≡ u = append_cancel_right p.0 u (t ∷ v) (ap (λ (w : List Lexeme). p.0 ++ w) there ∙ sym p.3) in
       let token : p.1 ≡ t = cc in
       let behind : p.2 ≡ v = cc in
-      moved s p.0 u p.1 t p.2 v x front token behind
+      moved (λ u t v. IsFirstOrLast s u t v x) p.0 u p.1 t p.2 v front token behind
       (elim p.5 [
         | inl q ↦ inl (q.0, subst (λ (w : List Lexeme). NoneIsLate nestings s (length p.0) w x) p.3 q.1)
         | inr q ↦ inr (q.0, q.1, q.2, q.3, q.4, q.5, q.6, subst (λ (w : List Lexeme). NoneIsLate nestings s (length q.1) w x) p.3 q.7)
