@@ -239,3 +239,7 @@ text_token w t =
       each = pieces z;
       utf8 = quoted_utf8 (flat_map escape z) (written_utf8 z utf8);
     }
+
+-- a text whose token is in UTF-8 is so itself
+pub text_utf8 : (z : List ℕ) → IsText (out.text z).text → IsUtf8 z
+text_utf8 z t = subst IsUtf8 (bytes_back z) (read_utf8 (flat_map escape z) (inner_utf8 (flat_map escape z) t.utf8))

@@ -5,7 +5,8 @@
 //! Promised: over each journal an accepted plan has exactly one state; and of a journal that a run can take, of at most 2^62 settled
 //! steps, the state is one that the plan can have, where the plan's text literals are in UTF-8. So its text is a state text of the plan.
 //! The start that it tells serves as the start option of whatever comes behind the journal.
-//! Not promised: that a store or an engine holds this state, and that the literals of a compiled text are in UTF-8.
+//! Not promised: that a store or an engine holds this state. That the text literals of a compiled text are in UTF-8 is a law of
+//! `lola_front_texts_law`.
 #![tactic(auto)]
 
 pub mod law;

@@ -1,0 +1,3 @@
+pub mod ExpressionTexts
+pub mod ClauseTexts
+pub mod PlanLiterals
