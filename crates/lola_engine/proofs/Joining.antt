@@ -24,7 +24,7 @@ use Rattle.lola_model.proofs.Orderly.{of_no_rows}
 use Rattle.lola_step_law.specs.Ready.{HasTexts}
 use Rattle.lola_step_law.proofs.Settled.{settled_at_none}
 use Rattle.lola_step.specs.Progress.{IsRun}
-use Rattle.lola_engine.specs.Engines.{Accepts, AreStarted, Brings, Completes, CutsOut, CutsRow, FailsOut, Finishes, IsEngine, IsUnderWay, IsWaiting, RunsOut, StandsFor, accepted_entry}
+use Rattle.lola_engine.specs.Engines.{AreStarted, Brings, Completes, CutsOut, CutsRow, FailsOut, IsEngine, IsUnderWay, IsWaiting, accepted_entry}
 use Rattle.lola_engine.specs.Going.{Add, CutsOn, FailsOn, Goes, GoesBy, HasKept, HasRun, IsOpenBehind, RunsOn, Tally, lines_after, tally_of}
 use Rattle.lola_engine.specs.Rules.{Come, TellsDue, deadlines_below, due_told}
 use Rattle.lola_engine.specs.declared.engine.EngineState.{EngineState}
@@ -33,6 +33,7 @@ use Rattle.lola_engine.specs.declared.end.EngineEnd.TheVariants.{Fault, Memory}
 use Rattle.lola_engine.proofs.Longer.{after_last_is, goes_longer, own_steps, settled_front, settled_taken, whole_has_one, whole_is_settled}
 use Rattle.lola_engine.proofs.Rows.{merged_is_last, opening_is_start, start_stays}
 use Rattle.lola_engine.proofs.Rules.{comes_to, steps_of}
+use Rattle.lola_engine.proofs.Standings.{AcceptsBoth, EndsOut, EndsRow, FinishesBoth, IsAt, RunsOutAt, RunsRowAt, both_end, both_end_out, both_run, both_run_out}
 use Rattle.lola_engine.proofs.Tables.{faulty_lines, fine_goes_on}
 use Rattle.lola_engine.proofs.Tables as tables
 use Rattle.lola_engine.proofs.Told.{told_due, told_open}
@@ -42,7 +43,7 @@ pub some_is : {A : Type 0} (o : Option A) (a b : A) → o ≡ Some a → o ≡ S
 some_is None a b h k = absurd (cc)
 some_is (Some x) a b h k = cc
 
-none_or : {A : Type 0} (o : Option A) (a : A) → o ≡ None → o ≡ Some a → ⊥
+pub none_or : {A : Type 0} (o : Option A) (a : A) → o ≡ None → o ≡ Some a → ⊥
 none_or None a h k = cc
 none_or (Some x) a h k = cc
 
@@ -61,8 +62,6 @@ has_renamed t start steps m s names m2 s2 h naming texts stands = record {
   fine = h.fine;
   run = record { naming = naming; texts = texts; of_rows = h.run.of_rows; settled = h.run.settled };
   stands = stands (content_after t.plan start (model t.plan start steps)) h.stands;
-  steps_are = h.steps_are;
-  lines_are = h.lines_are;
 }
 
 -- without a row nothing is made
@@ -83,7 +82,7 @@ start_low e s start engine at =
     let same : start_seen s ≡ start = (subst (λ o. AreStarted s o) at engine.sound.started).1 in
     omega (arith, same, engine.sound.of.order, engine.time)
 
-module _ (e : EngineState) (known : IsAccepted e.plan) (s : Seen) (m : Memories) (journal : List Entry) (h : StandsFor e s m journal) where
+module _ (e : EngineState) (known : IsAccepted e.plan) (s : Seen) (m : Memories) (journal : List Entry) (h : IsAt e s m journal) where
   -- the steps that were run
   abbrev pub past : List Step
   past = steps_of (settled_model e.plan e.given_start journal)
@@ -94,10 +93,6 @@ module _ (e : EngineState) (known : IsAccepted e.plan) (s : Seen) (m : Memories)
 
   not_ended : is_ended (settled_model e.plan e.given_start journal) ≡ false
   not_ended = fine_goes_on (settled_model e.plan e.given_start journal) fine_is
-
-  lines_is : e.lines ≡ length (table_lines e.show e.plan.spec.streams (settled_model e.plan e.given_start journal))
-  unfolding settled_lines
-  lines_is = h.lines
 
   pub model_is : (start : ℕ) → start_of e.given_start (accepted journal) ≡ start → model e.plan start past ≡ settled_model e.plan e.given_start journal
   model_is start here = ap (λ z. model e.plan z past) (sym here) ∙ own_steps e.plan known e.given_start journal
@@ -111,8 +106,6 @@ module _ (e : EngineState) (known : IsAccepted e.plan) (s : Seen) (m : Memories)
         run = subst (λ t. IsRun e.plan e.texts.held t) same u.run;
         stands = subst (λ t. StandsBetween e.texts.held m s (content_after e.plan start t)) same
             (subst (λ z. StandsBetween e.texts.held m s (content_after e.plan z (settled_model e.plan e.given_start journal))) here u.stands);
-        steps_are = h.steps ∙ ap length same;
-        lines_are = lines_is ∙ ap (λ t. length (table_lines e.show e.plan.spec.streams t)) same;
       }
 
   -- the deadlines that are open are those from the merged time on, and all rows are taken
@@ -155,7 +148,7 @@ pub record Begins (e : EngineState) (names : Naming) (row : Row) (start from : �
 
 module _ (e : EngineState) (s : Seen) (m : Memories) (row : Row) (names : Naming) (start from : ℕ) (m2 : Memories) (s2 : Seen)
     (engine : IsEngine e s) (order : e.merged ≤ row.stamp) (naming : IsNaming names) (texts : HasTexts names e.plan.spec.texts) (from_is : from ≡ max e.merged start) where
-  module _ (journal : List Entry) (h : StandsFor e s m journal) where
+  module _ (journal : List Entry) (h : IsAt e s m journal) where
     -- where it was under way
     begins_under_way : IsUnderWay e s m journal → e.clock.start ≡ Some start → ((c : Content) → StandsBetween e.texts.held m s c → StandsBetween names m2 s2 c) → Begins e names row start from m2 s2 journal
     begins_under_way u at stands =
@@ -184,8 +177,6 @@ module _ (e : EngineState) (s : Seen) (m : Memories) (row : Row) (names : Naming
             fine = ap (λ t. fault_of_last (last_row t)) empty;
             run = subst (λ t. IsRun e.plan names t) (sym empty) (record { naming = naming; texts = texts; of_rows = of_no_rows; settled = settled_at_none e.plan });
             stands = subst (λ t. StandsBetween names m2 s2 (content_after e.plan start t)) (sym empty) (subst (λ z. StandsBetween names m2 s2 (content_after e.plan z [])) (sym at) stands);
-            steps_are = h.steps ∙ ap length (waiting_model e known s m journal h w ∙ sym empty);
-            lines_are = lines_is e known s m journal h ∙ ap (λ t. length (table_lines e.show e.plan.spec.streams t)) (waiting_model e known s m journal h w ∙ sym empty);
           };
           opens = subst (λ t. IsOpenBehind start from (accepted journal) t) (sym empty) (first, ap length (sym w.none));
         }
@@ -194,16 +185,16 @@ module _ (e : EngineState) (s : Seen) (m : Memories) (row : Row) (names : Naming
   module _ (going : (a : ℕ) → e.clock.start ≡ Some a → (start ≡ a) × ((c : Content) → StandsBetween e.texts.held m s c → StandsBetween names m2 s2 c))
       (first : e.clock.start ≡ None → start ≡ row.stamp)
       (fresh : e.clock.start ≡ None → s ≡ new_seen (layout_of e.plan) → ((z : Naming) (n i : ℕ) → i < length (instances_seen s n) → m z n i []) → StandsBetween names m2 s2 (content_after e.plan row.stamp [])) where
-    begins_by : (journal : List Entry) → StandsFor e s m journal → IsWaiting e s m journal ⊎ IsUnderWay e s m journal → Begins e names row start from m2 s2 journal
+    begins_by : (journal : List Entry) → IsAt e s m journal → IsWaiting e s m journal ⊎ IsUnderWay e s m journal → Begins e names row start from m2 s2 journal
     begins_by journal h (inl w) = begins_waiting journal h w (first w.clock) (fresh w.clock w.new w.past)
     begins_by journal h (inr u) = let k = going _ u.clock in begins_under_way journal h u (u.clock ∙ ap (λ a. Some a) (sym k.0)) k.1
 
-    pub begins : (journal : List Entry) → StandsFor e s m journal → Begins e names row start from m2 s2 journal
+    pub begins : (journal : List Entry) → IsAt e s m journal → Begins e names row start from m2 s2 journal
     begins journal h = begins_by journal h h.state
 
 -- the journal with the row
 module _ (e : EngineState) (known : IsAccepted e.plan) (s : Seen) (m : Memories) (row : Row) (names : Naming) (start from : ℕ) (m2 : Memories) (s2 : Seen)
-    (begin : (journal : List Entry) → StandsFor e s m journal → Begins e names row start from m2 s2 journal) where
+    (begin : (journal : List Entry) → IsAt e s m journal → Begins e names row start from m2 s2 journal) where
   abbrev before : Tally
   before = record { plan = e.plan; show = e.show; names = names; steps = e.steps; lines = e.lines }
 
@@ -216,7 +207,7 @@ module _ (e : EngineState) (known : IsAccepted e.plan) (s : Seen) (m : Memories)
   abbrev ran : List Entry → List Step
   ran journal = steps_of (settled_model e.plan e.given_start journal)
 
-  module _ (journal : List Entry) (h : StandsFor e s m journal) where
+  module _ (journal : List Entry) (h : IsAt e s m journal) where
     b : Begins e names row start from m2 s2 journal
     b = begin journal h
 
@@ -248,11 +239,10 @@ module _ (e : EngineState) (known : IsAccepted e.plan) (s : Seen) (m : Memories)
 
   module _ (x0 x1 : List ℕ) where
     -- a step ended the run
-    pub accepts_no_more : (end : EngineEnd) (t : Tally) (m' : Memories) (s' : Seen)
+    ends_row : (end : EngineEnd) (t : Tally) (m' : Memories) (s' : Seen)
         → ((journal : List Entry) → GoesBy (Err end) start (IsOpenBehind start from (accepted journal)) (rule journal) before m2 s2 t m' s' x0 x1)
-        → (new : EngineState) (s3 : Seen) (m3 : Memories) → Accepts (Err end) row e s m new s3 m3 x0 x1
-    accepts_no_more (Fault stream kind time) t m' s' goes new s3 m3 =
-        λ journal h.
+        → (journal : List Entry) → IsAt e s m journal → EndsRow end row journal e x0 x1
+    ends_row (Fault stream kind time) t m' s' goes journal h =
         let b = begin journal h in
         let g = goes journal (ran journal) b.has b.opens in
         let w = reach journal h g.more g.come in
@@ -263,8 +253,7 @@ module _ (e : EngineState) (known : IsAccepted e.plan) (s : Seen) (m : Memories)
           brings = brings journal h (g.more ++ w.0) f.lines w.1 f.add;
           text = f.text;
         }
-    accepts_no_more Memory t m' s' goes new s3 m3 =
-        λ journal h.
+    ends_row Memory t m' s' goes journal h =
         let b = begin journal h in
         let g = goes journal (ran journal) b.has b.opens in
         let w = reach journal h g.more g.come in
@@ -278,17 +267,22 @@ module _ (e : EngineState) (known : IsAccepted e.plan) (s : Seen) (m : Memories)
           text = f.text;
         }
 
+    pub accepts_no_more : (end : EngineEnd) (t : Tally) (m' : Memories) (s' : Seen)
+        → ((journal : List Entry) → GoesBy (Err end) start (IsOpenBehind start from (accepted journal)) (rule journal) before m2 s2 t m' s' x0 x1)
+        → (new : EngineState) (s3 : Seen) (m3 : Memories) → AcceptsBoth row e s m new s3 m3 x0 x1 (Err end)
+    accepts_no_more end t m' s' goes new s3 m3 = both_end row e s m new s3 m3 x0 x1 end (ends_row end t m' s' goes)
+
     -- all is run
     module _ (new : EngineState) (s' : Seen) (m' : Memories) (goes : (journal : List Entry) → GoesBy (Ok tt) start (IsOpenBehind start from (accepted journal)) (rule journal) before m2 s2 (tally_of new) m' s' x0 x1)
         (plan : new.plan ≡ e.plan) (given_start : new.given_start ≡ e.given_start) (show : new.show ≡ e.show) (ended : new.ended ≡ e.ended)
-        (rows : new.rows ≡ e.rows + 1) (merged : new.merged ≡ row.stamp) (at : new.clock.start ≡ Some start) (passed : new.clock.passed ≡ max start (row.stamp - 1)) where
+        (behind : new.behind ≡ e.behind) (rows : new.rows ≡ e.rows + 1) (merged : new.merged ≡ row.stamp) (at : new.clock.start ≡ Some start) (passed : new.clock.passed ≡ max start (row.stamp - 1)) where
       abbrev told : EngineState
       told = record new { plan = e.plan; given_start = e.given_start; show = e.show }
 
       is_told : told ≡ new
       is_told = same_state new e plan given_start show
 
-      module _ (journal : List Entry) (h : StandsFor e s m journal) where
+      module _ (journal : List Entry) (h : IsAt e s m journal) where
         all_run : (more : List Step) × (settled_model e.plan e.given_start (with_row journal) ≡ model e.plan start (ran journal ++ more)) × RunsOn start (ran journal) more before (tally_of told) m' s' x0 x1
         all_run =
             let b = begin journal h in
@@ -312,12 +306,8 @@ module _ (e : EngineState) (known : IsAccepted e.plan) (s : Seen) (m : Memories)
         unfolding settled_fault
         fine_longer = ap (λ t. fault_of_last (last_row t)) settled_is ∙ has.fine
 
-        lines_longer : new.lines ≡ length (settled_lines e.plan e.given_start (with_row journal) e.show)
-        unfolding settled_lines
-        lines_longer = has.lines_are ∙ ap (λ t. length (table_lines e.show e.plan.spec.streams t)) (sym settled_is)
-
-        some_rows : accepted (with_row journal) ≡ [] → IsSome e.given_start
-        some_rows k = absurd (not_none (accepted journal) (sym (rows_are e known s m journal h row) ∙ k))
+        some_row : accepted (with_row journal) ≡ [] → ⊥
+        some_row k = not_none (accepted journal) (sym (rows_are e known s m journal h row) ∙ k)
           where
             not_none : (rs : List Row) → rs ++ row ∷ [] ≡ [] → ⊥
             not_none [] q = cc
@@ -327,7 +317,7 @@ module _ (e : EngineState) (known : IsAccepted e.plan) (s : Seen) (m : Memories)
         under_way =
             let same = sym settled_is in
             record {
-              begun = some_rows;
+              begun = λ k. absurd (some_row k);
               run = subst (λ t. IsRun e.plan new.texts.held t) same has.run;
               stands = subst (λ z. StandsBetween new.texts.held m' s' (content_after e.plan z (settled_model e.plan e.given_start (with_row journal)))) (sym (start_longer journal h))
                   (subst (λ t. StandsBetween new.texts.held m' s' (content_after e.plan start t)) same has.stands);
@@ -335,33 +325,47 @@ module _ (e : EngineState) (known : IsAccepted e.plan) (s : Seen) (m : Memories)
               passed = omega (arith, passed, merged, start_longer journal h);
             }
 
-        stands_longer : StandsFor told s' m' (with_row journal)
-        stands_longer = record {
+        at_longer : IsAt told s' m' (with_row journal)
+        at_longer = record {
           going = ended ∙ h.going;
           fine = fine_longer;
           merged = merged ∙ sym (merged_from-append_accepted (opening_time e.given_start) journal (accepted_entry row) refl);
-          steps = has.steps_are ∙ ap length (sym settled_is);
-          lines = lines_longer;
-          rows = omega (arith, rows, h.rows, ap length (rows_are e known s m journal h row), length-append (accepted journal) (row ∷ []));
+          none = λ q. absurd (omega (arith, rows, q));
+          some = λ k. absurd (some_row k);
           state = inr under_way;
         }
 
         runs_row : (lines : List (List ℕ)) → Add before start (ran journal) more lines → Brings e journal (accepted_entry row) lines
         runs_row lines add = brings journal h more lines settled_is add
 
-      pub accepts_all : Accepts (Ok tt) row e s m new s' m' x0 x1
-      accepts_all =
-          λ journal h.
+        steps_longer : new.steps + length (settled_model e.plan e.given_start journal) ≡ e.steps + length (settled_model e.plan e.given_start (with_row journal))
+        steps_longer =
+            let here = ap length (begin journal h).model_is in
+            let there = ap length settled_is in
+            omega (arith, here, there, all_run.2.steps_more)
+
+      runs_at : (journal : List Entry) → IsAt e s m journal → RunsRowAt row journal e new s' m' x0 x1
+      runs_at journal h =
           let r = (all_run journal h).2 in
           record {
+            plan = plan;
+            given_start = given_start;
+            show = show;
+            behind = behind;
             lines = r.lines;
             brings = runs_row journal h r.lines r.add;
             text = r.text;
-            stands = subst (λ d. StandsFor d s' m' (with_row journal)) is_told (stands_longer journal h);
+            at = subst (λ d. IsAt d s' m' (with_row journal)) is_told (at_longer journal h);
+            steps_more = steps_longer journal h;
+            lines_more = r.lines_more;
+            rows_more = rows;
           }
 
+      pub accepts_all : AcceptsBoth row e s m new s' m' x0 x1 (Ok tt)
+      accepts_all = both_run row e s m new s' m' x0 x1 runs_at
+
 -- where the row could not be read, nothing of its lines is appended
-module _ (e : EngineState) (known : IsAccepted e.plan) (s : Seen) (m : Memories) (row : Row) (x : List ℕ) (journal : List Entry) (h : StandsFor e s m journal) where
+module _ (e : EngineState) (known : IsAccepted e.plan) (s : Seen) (m : Memories) (row : Row) (x : List ℕ) (journal : List Entry) (h : IsAt e s m journal) where
   a_front : (lines : List (List ℕ)) × Brings e journal (accepted_entry row) lines
   unfolding settled_lines
   a_front =
@@ -373,8 +377,8 @@ module _ (e : EngineState) (known : IsAccepted e.plan) (s : Seen) (m : Memories)
   unread : CutsRow row journal e x x
   unread = let f = a_front in record { lines = f.0; brings = f.1; part = []; rest = text_of f.0; joined = refl; text = sym (append-nil x) }
 
-pub accepts_unread : (e : EngineState) → IsAccepted e.plan → (s : Seen) (m : Memories) (row : Row) (x : List ℕ) (new : EngineState) (s' : Seen) (m' : Memories) → Accepts (Err Memory) row e s m new s' m' x x
-accepts_unread e known s m row x new s' m' = λ journal h. unread e known s m row x journal h
+pub accepts_unread : (e : EngineState) → IsAccepted e.plan → (s : Seen) (m : Memories) (row : Row) (x : List ℕ) (new : EngineState) (s' : Seen) (m' : Memories) → AcceptsBoth row e s m new s' m' x x (Err Memory)
+accepts_unread e known s m row x new s' m' = both_end row e s m new s' m' x x Memory (λ journal h. unread e known s m row x journal h)
 
 -- the end of a run
 
@@ -383,14 +387,10 @@ fault_of_at : (t : ℕ) (o : Option RowFault) (f : RunFault) → at_time t o ≡
 fault_of_at t None f k = absurd (cc)
 fault_of_at t (Some g) f k = (g, refl)
 
-nothing_of : {A : Type 0} (xs : List A) → length xs ≡ 0 → xs ≡ []
-nothing_of [] k = refl
-nothing_of (x ∷ xs) k = absurd (omega arith)
-
 nothing_behind : {A : Type 0} (ks ls : List A) → ks ++ ls ≡ ks ++ [] → ls ≡ []
 nothing_behind ks ls k = let q = ap length k in nothing_of ls (omega (arith, q, length-append ks ls, ap length (append-nil ks)))
 
-module _ (e : EngineState) (known : IsAccepted e.plan) (s : Seen) (m : Memories) (journal : List Entry) (h : StandsFor e s m journal) where
+module _ (e : EngineState) (known : IsAccepted e.plan) (s : Seen) (m : Memories) (journal : List Entry) (h : IsAt e s m journal) where
   -- no step is left
   module _ (none : whole_model e.plan e.given_start journal ≡ settled_model e.plan e.given_start journal) where
     final_is_settled : final_lines e.plan e.given_start journal e.show ≡ settled_lines e.plan e.given_start journal e.show
@@ -401,14 +401,14 @@ module _ (e : EngineState) (known : IsAccepted e.plan) (s : Seen) (m : Memories)
     unfolding first_fault settled_fault
     fine_at_last = ap (λ t. fault_of_last (last_row t)) none ∙ h.fine
 
-    pub runs_out_of_none : (x : List ℕ) → RunsOut journal e e x x
+    pub runs_out_of_none : (x : List ℕ) → RunsOutAt journal e e x x
     runs_out_of_none x = record {
       fine = fine_at_last;
       lines = [];
       completes = final_is_settled ∙ sym (append-nil (settled_lines e.plan e.given_start journal e.show));
       text = sym (append-nil x);
-      steps = h.steps ∙ ap length (sym none);
-      counted = h.lines ∙ ap length (sym final_is_settled);
+      steps_more = (let same = ap length none in omega (arith, same));
+      lines_more = omega arith;
     }
 
   -- one step is left
@@ -434,18 +434,14 @@ module _ (e : EngineState) (known : IsAccepted e.plan) (s : Seen) (m : Memories)
           subst (λ p. HasRun (record { plan = p; show = e.show; names = new.texts.held; steps = new.steps; lines = new.lines }) start (done ++ of ∷ []) m' s') plan
           (subst (λ w. HasRun (record { plan = new.plan; show = w; names = new.texts.held; steps = new.steps; lines = new.lines }) start (done ++ of ∷ []) m' s') show r.has)
 
-      lines_last : new.lines ≡ length (final_lines e.plan e.given_start journal e.show)
-      unfolding final_lines
-      lines_last = has_last.lines_are ∙ ap (λ t. length (table_lines e.show e.plan.spec.streams t)) (sym whole_is)
-
-      pub runs_out : RunsOut journal e new x0 x1
+      pub runs_out : RunsOutAt journal e new x0 x1
       runs_out = record {
         fine = fault_by None has_last.fine;
         lines = r.lines;
         completes = completes_by r.lines r.add;
         text = r.text;
-        steps = has_last.steps_are ∙ ap length (sym whole_is);
-        counted = lines_last;
+        steps_more = (let before = ap length (model_is e known s m journal h start here) in let after = ap length whole_is in omega (arith, before, after, r.steps_more));
+        lines_more = r.lines_more;
       }
 
     -- the step with the fault has no line
@@ -469,16 +465,16 @@ module _ (e : EngineState) (known : IsAccepted e.plan) (s : Seen) (m : Memories)
     cuts_out x0 x1 f = record { lines = f.lines; completes = completes_by f.lines f.add; part = f.part; rest = f.rest; joined = f.joined; text = f.text }
 
 -- no row was accepted
-pub finishes_at_once : (e : EngineState) → IsAccepted e.plan → (s : Seen) (m : Memories) (x : List ℕ) → e.rows ≡ 0 → Finishes (Ok tt) e s m e x x
+pub finishes_at_once : (e : EngineState) → IsAccepted e.plan → (s : Seen) (m : Memories) (x : List ℕ) → e.rows ≡ 0 → FinishesBoth e s m e x x (Ok tt)
 finishes_at_once e known s m x none =
-    λ journal h. runs_out_of_none e known s m journal h (nothing_whole e.plan e.given_start journal (nothing_of (accepted journal) (sym h.rows ∙ none))) x
+    both_run_out e s m e x x (λ journal h. runs_out_of_none e known s m journal h (nothing_whole e.plan e.given_start journal (h.none none)) x)
 
 -- a row was, and the clock has not started: that cannot be
-pub finishes_never : (e : EngineState) (s : Seen) (m : Memories) (x : List ℕ) → (e.rows ≡ 0 → ⊥) → e.clock.start ≡ None → Finishes (Ok tt) e s m e x x
-finishes_never e s m x some at = λ journal h. absurd (go journal h h.state)
+pub finishes_never : (e : EngineState) (s : Seen) (m : Memories) (x : List ℕ) → (e.rows ≡ 0 → ⊥) → e.clock.start ≡ None → FinishesBoth e s m e x x (Ok tt)
+finishes_never e s m x some at = both_run_out e s m e x x (λ journal h. absurd (go journal h h.state))
   where
-    go : (journal : List Entry) → StandsFor e s m journal → IsWaiting e s m journal ⊎ IsUnderWay e s m journal → ⊥
-    go journal h (inl w) = some (h.rows ∙ ap length w.none)
+    go : (journal : List Entry) → IsAt e s m journal → IsWaiting e s m journal ⊎ IsUnderWay e s m journal → ⊥
+    go journal h (inl w) = some (h.some w.none)
     go journal h (inr u) = none_or e.clock.start _ at u.clock
 
 module _ (e : EngineState) (s : Seen) (m : Memories) (engine : IsEngine e s) (some : e.rows ≡ 0 → ⊥) (start : ℕ) (at : e.clock.start ≡ Some start) (tells : TellsDue e.plan m s) where
@@ -488,12 +484,12 @@ module _ (e : EngineState) (s : Seen) (m : Memories) (engine : IsEngine e s) (so
   abbrev first_told : Option ℕ
   first_told = due_told e.local e.clock s e.merged
 
-  module _ (journal : List Entry) (h : StandsFor e s m journal) where
+  module _ (journal : List Entry) (h : IsAt e s m journal) where
     is_going : IsUnderWay e s m journal
     is_going = go h.state
       where
         go : IsWaiting e s m journal ⊎ IsUnderWay e s m journal → IsUnderWay e s m journal
-        go (inl w) = absurd (some (h.rows ∙ ap length w.none))
+        go (inl w) = absurd (some (h.some w.none))
         go (inr u) = u
 
     is_here : start_of e.given_start (accepted journal) ≡ start
@@ -505,7 +501,7 @@ module _ (e : EngineState) (s : Seen) (m : Memories) (engine : IsEngine e s) (so
     -- the deadlines that are left are those up to the last stamp
     limit_is : after_last (accepted journal) ≡ e.merged + 1
     limit_is =
-        after_last_is (opening_time e.given_start) (accepted journal) (λ q. some (h.rows ∙ ap length q))
+        after_last_is (opening_time e.given_start) (accepted journal) (λ q. some (h.some q))
         ∙ ap (λ n. n + 1) (sym (h.merged ∙ merged_is_last (opening_time e.given_start) journal))
 
     -- what is told is what is left
@@ -519,16 +515,17 @@ module _ (e : EngineState) (s : Seen) (m : Memories) (engine : IsEngine e s) (so
         ∙ sym (told_due e.plan known s of.of.layout e.clock start e.merged of.rates at (engine.passed start at) (start_low e s start engine at)
         e.texts.held m tells table stands (open_behind e known s m journal h is_going start is_here).0 (e.merged + 1) (omega (arith, engine.merged)) e.local of.local))
 
-  finishes_none : (x : List ℕ) → below_or first_told (e.merged + 1) None ≡ None → Finishes (Ok tt) e s m e x x
+  finishes_none : (x : List ℕ) → below_or first_told (e.merged + 1) None ≡ None → FinishesBoth e s m e x x (Ok tt)
   finishes_none x none =
-      λ journal h. runs_out_of_none e known s m journal h (whole_is_settled e.plan known e.given_start journal (fine_here journal h) (left_as_told journal h ∙ none)) x
+      both_run_out e s m e x x
+      (λ journal h. runs_out_of_none e known s m journal h (whole_is_settled e.plan known e.given_start journal (fine_here journal h) (left_as_told journal h ∙ none)) x)
 
   -- no deadline is told
-  pub finishes_done : (x : List ℕ) → None ≡ first_told → Finishes (Ok tt) e s m e x x
+  pub finishes_done : (x : List ℕ) → None ≡ first_told → FinishesBoth e s m e x x (Ok tt)
   finishes_done x q = finishes_none x (ap (λ z. below_or z (e.merged + 1) None) (sym q))
 
   -- or one that is later
-  pub finishes_before : (x : List ℕ) (due : ℕ) → Some due ≡ first_told → e.merged < due → Finishes (Ok tt) e s m e x x
+  pub finishes_before : (x : List ℕ) (due : ℕ) → Some due ≡ first_told → e.merged < due → FinishesBoth e s m e x x (Ok tt)
   finishes_before x due q later =
       finishes_none x (ap (λ z. below_or z (e.merged + 1) None) (sym q) ∙ (let far : e.merged + 1 ≤ due = omega arith in rw (le-ltb due (e.merged + 1) far) refl))
 
@@ -541,7 +538,7 @@ module _ (e : EngineState) (s : Seen) (m : Memories) (engine : IsEngine e s) (so
     told_last = told_open e.plan known s engine.sound.of.layout e.clock start e.merged engine.sound.rates at (engine.passed start at) (start_low e s start engine at) e.local due (sym next)
 
     -- it is the one step that is left
-    one_left : (journal : List Entry) (h : StandsFor e s m journal) → whole_model e.plan e.given_start journal ≡ model e.plan start (past e known s m journal h ++ deadline_step due ∷ [])
+    one_left : (journal : List Entry) (h : IsAt e s m journal) → whole_model e.plan e.given_start journal ≡ model e.plan start (past e known s m journal h ++ deadline_step due ∷ [])
     one_left journal h =
         let done = past e known s m journal h in
         let same = model_is e known s m journal h start (is_here journal h) in
@@ -551,17 +548,22 @@ module _ (e : EngineState) (s : Seen) (m : Memories) (engine : IsEngine e s) (so
         ∙ (ap (λ t. t ++ answered e.plan start t (deadline_step due) ∷ []) (sym same)
         ∙ sym (tables.one_row_more e.plan start done (deadline_step due) (ap is_ended same ∙ fine_here journal h))))
 
-    has_all : (journal : List Entry) (h : StandsFor e s m journal) → HasRun (tally_of e) start (past e known s m journal h) m s
+    has_all : (journal : List Entry) (h : IsAt e s m journal) → HasRun (tally_of e) start (past e known s m journal h) m s
     has_all journal h = has_run e known s m journal h (is_going journal h) start (is_here journal h)
 
+    ends_step : (end : EngineEnd) (t : Tally) (s' : Seen) (m' : Memories) (x0 x1 : List ℕ) → Goes (Err end) start (deadline_step due ∷ []) (tally_of e) m s t m' s' x0 x1
+        → (journal : List Entry) → IsAt e s m journal → EndsOut end journal e x0 x1
+    ends_step (Fault stream kind time) t s' m' x0 x1 goes journal h =
+        fails_out e known s m journal h start (deadline_step due) (is_here journal h) (one_left journal h) (has_all journal h) _ x0 x1
+        (goes (past e known s m journal h) [] (has_all journal h))
+    ends_step Memory t s' m' x0 x1 goes journal h =
+        cuts_out e known s m journal h start (deadline_step due) (is_here journal h) (one_left journal h) x0 x1
+        (goes (past e known s m journal h) [] (has_all journal h))
+
     pub finishes_step : (r : Result (Unit {0}) EngineEnd) (new : EngineState) (s' : Seen) (m' : Memories) (x0 x1 : List ℕ) → HasKept e new
-        → Goes r start (deadline_step due ∷ []) (tally_of e) m s (tally_of new) m' s' x0 x1 → Finishes r e s m new x0 x1
+        → Goes r start (deadline_step due ∷ []) (tally_of e) m s (tally_of new) m' s' x0 x1 → FinishesBoth e s m new x0 x1 r
     finishes_step (Ok _) new s' m' x0 x1 kept goes =
-        λ journal h. runs_out e known s m journal h start (deadline_step due) (is_here journal h) (one_left journal h) new s' m' x0 x1 kept.plan kept.show
-        (goes (past e known s m journal h) (has_all journal h))
-    finishes_step (Err (Fault stream kind time)) new s' m' x0 x1 kept goes =
-        λ journal h. fails_out e known s m journal h start (deadline_step due) (is_here journal h) (one_left journal h) (has_all journal h) _ x0 x1
-        (goes (past e known s m journal h) [] (has_all journal h))
-    finishes_step (Err Memory) new s' m' x0 x1 kept goes =
-        λ journal h. cuts_out e known s m journal h start (deadline_step due) (is_here journal h) (one_left journal h) x0 x1
-        (goes (past e known s m journal h) [] (has_all journal h))
+        both_run_out e s m new x0 x1
+        (λ journal h. runs_out e known s m journal h start (deadline_step due) (is_here journal h) (one_left journal h) new s' m' x0 x1 kept.plan kept.show
+        (goes (past e known s m journal h) (has_all journal h)))
+    finishes_step (Err end) new s' m' x0 x1 kept goes = both_end_out e s m new x0 x1 end (ends_step end (tally_of new) s' m' x0 x1 goes)

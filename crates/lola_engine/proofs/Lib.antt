@@ -9,9 +9,11 @@ pub mod Longer
 pub mod Told
 pub mod Steps
 pub mod Loop
+pub mod Standings
 pub mod Joining
 pub mod Ranges
 pub mod Opening
+pub mod Resumed
 pub mod Sweeping
 pub mod RunsBegun
 pub mod Deadlines

@@ -34,6 +34,7 @@ kept_then a b c h k = record {
   texts = k.texts ∙ h.texts;
   ids = k.ids ∙ h.ids;
   swept = k.swept ∙ h.swept;
+  behind = k.behind ∙ h.behind;
   rows = k.rows ∙ h.rows;
   merged = k.merged ∙ h.merged;
   ended = k.ended ∙ h.ended;
@@ -41,7 +42,7 @@ kept_then a b c h k = record {
 
 -- and where nothing is done
 pub kept_all : (a : EngineState) → HasKept a a
-kept_all a = record { plan = refl; given_start = refl; show = refl; texts = refl; ids = refl; swept = refl; rows = refl; merged = refl; ended = refl }
+kept_all a = record { plan = refl; given_start = refl; show = refl; texts = refl; ids = refl; swept = refl; behind = refl; rows = refl; merged = refl; ended = refl }
 
 -- a state whose clock has passed more
 pub sound_clock : (e : EngineState) (s : Seen) (k : ClockState) → k.rates ≡ e.clock.rates → k.start ≡ e.clock.start → IsSound e s → IsSound (record e { clock = k }) s
@@ -186,8 +187,9 @@ module _ (start limit from0 : ℕ) (d0 : EngineState) (m0 : Memories) (s0 : Seen
             time = omega (arith, time_is);
             passed = omega (arith, same_passed, w.below.passed, w.below.low);
             below = omega arith;
+            few_behind = omega (arith, kept.behind, w.below.few_behind);
             few_rows = omega (arith, kept.rows, w.below.few_rows);
-            few_steps = omega (arith, kept.rows, stepped.steps, w.below.few_steps);
+            few_steps = omega (arith, kept.behind, kept.rows, stepped.steps, w.below.few_steps);
           };
           kept = (let both = kept_then d0 d d1 w.kept kept in record {
             plan = both.plan;
@@ -196,6 +198,7 @@ module _ (start limit from0 : ℕ) (d0 : EngineState) (m0 : Memories) (s0 : Seen
             texts = both.texts;
             ids = both.ids;
             swept = both.swept;
+            behind = both.behind;
             rows = both.rows;
             merged = both.merged;
             ended = both.ended;

@@ -1,5 +1,5 @@
 -- An engine that has run nothing.
-use Rattle.std.proofs.Common.{◌≡◌, refl, ap, sym, subst, ◌∙◌, ℕ, ◌<◌, ◌≤◌, inl, inr, [], Option, Some, None, is_some, length, arith}
+use Rattle.std.proofs.Common.{◌≡◌, refl, ap, sym, subst, ◌∙◌, ℕ, ◌^◌, ◌<◌, ◌≤◌, inl, inr, [], Option, Some, None, is_some, length, arith}
 use Rattle.lola_value.specs.Naming.{Naming}
 use Rattle.lola_value.specs.Times.{latest}
 use Rattle.lola_clock.specs.Clock.{ClockState}
@@ -15,10 +15,12 @@ use Rattle.lola_model.specs.declared.journal.Show.{Show}
 use Rattle.lola_model.specs.declared.plan.Plan.{Plan}
 use Rattle.lola_model.proofs.Orderly.{of_no_rows}
 use Rattle.lola_step.specs.Progress.{IsRun}
-use Rattle.lola_engine.specs.Engines.{IsEngine, IsUnderWay, StandsFor}
+use Rattle.lola_text.specs.Texts.{Texts}
+use Rattle.lola_engine.specs.Behind.{StandsBehind}
+use Rattle.lola_engine.specs.Engines.{IsEngine, IsSound, IsUnderWay, StandsFor}
 use Rattle.lola_engine.specs.Going.{IsMade}
 use Rattle.lola_engine.specs.declared.engine.EngineState.{EngineState}
-use Rattle.lola_engine.proofs.Joining.{some_is}
+use Rattle.lola_engine.proofs.Joining.{none_or, some_is}
 use Rattle.lola_step_law.proofs.Settled.{settled_at_none}
 use Rattle.lola_engine.proofs.Ranges.{sound_rows, sound_started}
 
@@ -36,9 +38,45 @@ module _ (plan : Plan) (given_start : Option ℕ) where
   unfolding settled_lines
   none_told show = ap (table_lines show plan.spec.streams) none_settled
 
-module _ (e : EngineState) (plan : Plan) (given_start : Option ℕ) (show : Show) (workers : ℕ) (made : IsMade plan given_start show workers e) (s : Seen) (new : s ≡ new_seen (layout_of plan)) where
+-- who stands for the empty journal, and has nothing behind, stands for it behind the empty one
+pub behind_nothing : (e : EngineState) (s : Seen) (m : Memories) → e.behind ≡ 0 → StandsFor e s m [] → StandsBehind e s m [] []
+behind_nothing e s m none h =
+    let no_steps = ap length (none_settled e.plan e.given_start) in
+    let no_lines = ap length (none_told e.plan e.given_start e.show) in
+    record {
+      since = [];
+      split = refl;
+      going = h.going;
+      fine = h.fine;
+      merged = h.merged;
+      behind = omega (arith, none, no_steps);
+      steps = omega (arith, none, h.steps);
+      lines = omega (arith, no_lines, h.lines);
+      rows = omega (arith, h.rows);
+      state = h.state;
+    }
+
+module _ (e : EngineState) (plan : Plan) (texts : Texts) (given_start : Option ℕ) (show : Show) (workers : ℕ) (made : IsMade plan texts given_start show workers e) (s : Seen) (new : s ≡ new_seen (layout_of plan)) where
   pub new_of : s ≡ new_seen (layout_of e.plan)
   new_of = new ∙ ap (λ p. new_seen (layout_of p)) (sym made.plan_is)
+
+  -- it is an engine
+  pub new_engine : texts.given ≤ 2 ^ 32 → IsEngine e s
+  new_engine few =
+      let given_is : e.texts.given ≡ texts.given = ap (λ (t : Texts). t.given) made.texts_are in
+      let time_is : time_seen s ≡ 0 = ap time_seen new in
+      let steps_are : s.steps ≡ 0 = ap (λ (z : Seen). z.steps) new in
+      record {
+        sound = subst (λ z. IsSound e z) (sym new) made.sound;
+        time = omega (arith, time_is);
+        passed = λ a q. absurd (none_or e.clock.start a made.clock.0 q);
+        merged = omega (arith, made.nothing.1);
+        few_behind = omega (arith, made.nothing.5);
+        few_rows = omega (arith, made.nothing.0);
+        few_steps = omega (arith, steps_are);
+        few_texts = omega (arith, given_is, few);
+        few_swept = omega (arith, given_is, few, made.few_swept);
+      }
 
   -- one that waits for its first row
   pub waits : (m : Memories) → given_start ≡ None → ((names : Naming) (n i : ℕ) → i < length (instances_seen s n) → m names n i []) → StandsFor e s m []
@@ -52,6 +90,9 @@ module _ (e : EngineState) (plan : Plan) (given_start : Option ℕ) (show : Show
     state = inl (record { without = made.given_start_is ∙ without; none = refl; new = new_of; past = past; clock = made.clock.0 });
   }
 
+  pub waits_behind : (m : Memories) → given_start ≡ None → ((names : Naming) (n i : ℕ) → i < length (instances_seen s n) → m names n i []) → StandsBehind e s m [] []
+  waits_behind m without past = behind_nothing e s m made.nothing.5 (waits m without past)
+
   module _ (start : ℕ) (le : start ≤ latest) (s2 : Seen) (k : ClockState) (at : k ≡ record e.clock { start = Some start; passed = start }) (shows : s2 ≡ after_start s start) where
     abbrev opened : EngineState
     opened = record e { clock = k; merged = start }
@@ -60,8 +101,9 @@ module _ (e : EngineState) (plan : Plan) (given_start : Option ℕ) (show : Show
     shown = shows ∙ ap (λ z. after_start z start) new
 
     -- one that was given a start
-    pub opened_engine : IsEngine opened s2
-    opened_engine =
+    pub opened_engine : texts.given ≤ 2 ^ 32 → IsEngine opened s2
+    opened_engine few =
+        let given_is : e.texts.given ≡ texts.given = ap (λ (t : Texts). t.given) made.texts_are in
         let passed_is : k.passed ≡ start = ap (λ (z : ClockState). z.passed) at in
         let time_is : time_seen s2 ≡ start = ap time_seen shown in
         let steps_are : s2.steps ≡ 0 = ap (λ (z : Seen). z.steps) shown in
@@ -70,10 +112,11 @@ module _ (e : EngineState) (plan : Plan) (given_start : Option ℕ) (show : Show
           time = omega (arith, time_is);
           passed = λ a q. let same : start ≡ a = some_is k.start start a (ap (λ (z : ClockState). z.start) at) q in omega (arith, passed_is);
           merged = le;
+          few_behind = omega (arith, made.nothing.5);
           few_rows = omega (arith, made.nothing.0);
           few_steps = omega (arith, steps_are);
-          few_texts = omega (arith, made.few_texts);
-          few_swept = omega (arith, made.few_swept);
+          few_texts = omega (arith, given_is, few);
+          few_swept = omega (arith, given_is, few, made.few_swept);
         }
 
     -- and stands for what nothing has come to
@@ -100,3 +143,6 @@ module _ (e : EngineState) (plan : Plan) (given_start : Option ℕ) (show : Show
           rows = made.nothing.0;
           state = inr under_way;
         }
+
+    pub opened_behind : (m : Memories) → given_start ≡ Some start → StandsBetween e.texts.held m s2 (content_after e.plan start []) → StandsBehind opened s2 m [] []
+    opened_behind m given stands = behind_nothing opened s2 m made.nothing.5 (opened_stands m given stands)

@@ -44,14 +44,14 @@ few_fields plan fields accepted h =
     omega (arith, long, kinds_are_inputs plan.spec.streams, accepted.named.few_inputs)
 
 -- so their texts get numbers
-pub few_numbers : (e : EngineState) (s : Seen) (fields : List Field) → IsEngine e s → e.rows < 2 ^ 47 → AllZip IsFieldOf (input_kinds e.plan.spec.streams) fields → e.texts.given + length fields ≤ 2 ^ 62
+pub few_numbers : (e : EngineState) (s : Seen) (fields : List Field) → IsEngine e s → e.rows < 2 ^ 47 → AllZip IsFieldOf (input_kinds e.plan.spec.streams) fields → e.texts.given + length fields ≤ 2 ^ 62 + 2 ^ 53
 few_numbers e s fields h more zip = omega (arith, few_fields e.plan fields h.sound.accepted zip, h.few_texts, more)
 
 -- and so is what a sweep leaves
 pub few_swept : (e : EngineState) (s : Seen) → IsEngine e s → (bounded : Bool) (holds : List TextId) (between : Texts) (left : ℕ) → LetsGo bounded holds e.plan.spec.texts e.texts e.swept between left
-    → left ≤ 2 ^ 32 + 64 * e.rows
+    → left ≤ 2 ^ 62 + 64 * e.rows
 few_swept e s h bounded holds between left goes =
-    few_left bounded holds e.plan.spec.texts e.texts e.swept between left goes (2 ^ 32 + 64 * e.rows) h.sound.table h.few_swept h.few_texts
+    few_left bounded holds e.plan.spec.texts e.texts e.swept between left goes (2 ^ 62 + 64 * e.rows) h.sound.table h.few_swept h.few_texts
 
 -- a state with another table that has the texts of its plan
 pub sound_texts : (e : EngineState) (s : Seen) (t : Texts) (ids : List TextId) (left : ℕ) → IsTable t → HasTexts t.held e.plan.spec.texts → IsSound e s
@@ -128,6 +128,7 @@ module _ (e : EngineState) (s s2 : Seen) (k : ClockState) (t : Texts) (ids : Lis
         time = omega (arith, from_is, engine.time);
         passed = omega (arith, passed_is, passed, before, from_is);
         below = omega (arith, from_is, before, order);
+        few_behind = engine.few_behind;
         few_rows = engine.few_rows;
         few_steps = omega (arith, from_is, engine.few_steps);
       })
@@ -135,7 +136,6 @@ module _ (e : EngineState) (s s2 : Seen) (k : ClockState) (t : Texts) (ids : Lis
   ready_first : e.clock.start ≡ None → start ≡ stamp → k ≡ record e.clock { start = Some stamp; passed = stamp } → s2 ≡ after_start s stamp → IsBelow ready s2 start from stamp
   ready_first none first at shows =
       let passed_is : k.passed ≡ stamp = ap (λ (z : ClockState). z.passed) at in
-      let no_steps : s.steps ≡ 0 = (subst (λ o. AreStarted s o) none engine.sound.started).1 in
       let time_is : time_seen s2 ≡ stamp = ap time_seen shows in
       let steps_are : s2.steps ≡ s.steps = ap (λ (z : Seen). z.steps) shows in
       record {
@@ -145,8 +145,9 @@ module _ (e : EngineState) (s s2 : Seen) (k : ClockState) (t : Texts) (ids : Lis
         time = omega (arith, from_is, time_is, first);
         passed = omega (arith, passed_is, first, from_is, order);
         below = omega (arith, from_is, first, order);
+        few_behind = engine.few_behind;
         few_rows = engine.few_rows;
-        few_steps = omega (arith, no_steps, steps_are);
+        few_steps = omega (arith, steps_are, engine.few_steps, from_is, order, first);
       }
 
   -- an engine that has read a row and started may run the deadlines before it
@@ -160,7 +161,7 @@ module _ (e : EngineState) (s s2 : Seen) (k : ClockState) (t : Texts) (ids : Lis
 
   -- and holds again once the row is run
   pub engine_again : (d : EngineState) (s' : Seen) (fields : List Field) → HasTaken ready d s' start stamp → HasKept ready d → e.rows < 2 ^ 47 → AllZip IsFieldOf (input_kinds e.plan.spec.streams) fields
-      → t.given ≤ e.texts.given + length fields → left ≤ 2 ^ 32 + 64 * e.rows → IsEngine (record d { rows = d.rows + 1; merged = stamp }) s'
+      → t.given ≤ e.texts.given + length fields → left ≤ 2 ^ 62 + 64 * e.rows → IsEngine (record d { rows = d.rows + 1; merged = stamp }) s'
   engine_again d s' fields taken kept more zip given few =
       let same_given : d.texts.given ≡ t.given = ap (λ (z : Texts). z.given) kept.texts in
       record {
@@ -168,8 +169,9 @@ module _ (e : EngineState) (s s2 : Seen) (k : ClockState) (t : Texts) (ids : Lis
         time = omega (arith, taken.time);
         passed = λ a q. let same : start ≡ a = some_is d.clock.start start a taken.start_is q in omega (arith, taken.passed);
         merged = le;
+        few_behind = omega (arith, kept.behind, engine.few_behind);
         few_rows = omega (arith, kept.rows, more);
-        few_steps = omega (arith, kept.rows, taken.few_steps);
+        few_steps = omega (arith, kept.behind, kept.rows, taken.few_steps);
         few_texts = omega (arith, same_given, kept.rows, given, engine.few_texts, few_fields e.plan fields engine.sound.accepted zip);
         few_swept = omega (arith, kept.swept, kept.rows, few);
       }

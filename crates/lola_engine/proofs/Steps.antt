@@ -33,6 +33,8 @@ goes_none start t m s text steps h = record {
   lines = [];
   add = ap (lines_after t start) (append-nil steps) ∙ sym (append-nil (lines_after t start steps));
   text = sym (append-nil text);
+  steps_more = (let same = ap (λ xs. length (model t.plan start xs)) (append-nil steps) in omega (arith, same));
+  lines_more = omega arith;
 }
 
 -- lines of more steps, and of still more
@@ -56,12 +58,23 @@ module _ (t u : Tally) (plan : u.plan ≡ t.plan) (show : u.show ≡ t.show) (st
 -- one stretch after another
 module _ (start : ℕ) (steps a b : List Step) (t u : Tally) (m1 : Memories) (s1 : Seen) (x0 x1 x2 : List ℕ)
     (plan : u.plan ≡ t.plan) (show : u.show ≡ t.show) (f : RunsOn start steps a t u m1 s1 x0 x1) where
+  -- how many steps there are then
+  steps_then : (count : ℕ) → count + length (model u.plan start (steps ++ a)) ≡ u.steps + length (model u.plan start ((steps ++ a) ++ b))
+      → count + length (model t.plan start steps) ≡ t.steps + length (model t.plan start (steps ++ (a ++ b)))
+  steps_then count more =
+      let first = ap (λ (p : Plan). length (model p start (steps ++ a))) plan in
+      let both = ap (λ (p : Plan). length (model p start ((steps ++ a) ++ b))) plan in
+      let joined = ap (λ (xs : List Step). length (model t.plan start xs)) (append_assoc steps a b) in
+      omega (arith, more, first, both, joined, f.steps_more)
+
   pub runs_then : (v : Tally) (m2 : Memories) (s2 : Seen) → RunsOn start (steps ++ a) b u v m2 s2 x1 x2 → RunsOn start steps (a ++ b) t v m2 s2 x0 x2
   runs_then v m2 s2 n = record {
     has = subst (λ xs. HasRun v start xs m2 s2) (append_assoc steps a b) n.has;
     lines = f.lines ++ n.lines;
     add = add_then t start steps a b f.lines n.lines f.add (add_same t u plan show start (steps ++ a) b n.lines n.add);
     text = text_then f.lines x0 x1 x2 (text_of n.lines) f.text n.text ∙ ap (λ (xs : List ℕ). x0 ++ xs) (sym (text_of-append f.lines n.lines));
+    steps_more = steps_then v.steps n.steps_more;
+    lines_more = (let both = length-append f.lines n.lines in omega (arith, both, f.lines_more, n.lines_more));
   }
 
   -- whatever was still to come
@@ -167,10 +180,10 @@ module _ (t : Tally) (start : ℕ) (x : Step) (m0 : Memories) (s0 : Seen) (x0 x1
             });
             stands = subst (λ (table : List TableRow). StandsBetween t.names m1 s1 (content_after t.plan start table)) (sym one)
                 (content_left start (rows steps) (row steps), d.stands, answered_grows t.plan start (rows steps) x h.run.of_rows);
-            steps_are = (let g = ap length one ∙ length-append (rows steps) (row steps ∷ []) in omega (arith, g, h.steps_are));
-            lines_are = (let g = ap length add ∙ length-append (lines_after t start steps) ls in omega (arith, g, h.lines_are, count));
           };
           lines = ls;
           add = add;
           text = e;
+          steps_more = (let g = ap length one ∙ length-append (rows steps) (row steps ∷ []) in omega (arith, g));
+          lines_more = omega (arith, count);
         }

@@ -25,9 +25,9 @@ use Rattle.lola_engine.specs.declared.engine.EngineState.{EngineState}
 use Rattle.lola_engine.specs.declared.end.EngineEnd.{EngineEnd}
 use Rattle.lola_engine.specs.declared.end.EngineEnd.TheVariants.{Fault, Memory}
 
--- the store and the clock have started together: before that no step has begun
+-- the store and the clock have started together
 abbrev pub AreStarted : Seen → Option ℕ → Type 0
-AreStarted s None = IsNew s × (s.steps ≡ 0)
+AreStarted s None = IsNew s
 AreStarted s (Some start) = IsStarted s × (start_seen s ≡ start)
 
 -- what holds of every engine, also between the steps of one call, whose store shows this
@@ -41,7 +41,7 @@ pub record IsSound (e : EngineState) (s : Seen) : Type 0 where
   pub scratch : IsScratchOf e.plan e.scratch
   pub table : IsTable e.texts
   pub texts : HasTexts e.texts.held e.plan.spec.texts
-  pub counted : e.steps ≤ s.steps
+  pub counted : e.behind + e.steps ≤ s.steps
   pub few_lines : e.lines ≤ e.steps * 2 ^ 64
 
 -- what holds of every engine between calls
@@ -51,11 +51,12 @@ pub record IsEngine (e : EngineState) (s : Seen) : Type 0 where
   pub time : time_seen s ≤ e.merged
   pub passed : (start : ℕ) → e.clock.start ≡ Some start → e.clock.passed ≡ max start (e.merged - 1)
   pub merged : e.merged ≤ latest
-  -- numbers stay in their ranges: each step has a row or a moment of its own, and each row at most 64 new texts
+  -- numbers stay in their ranges: each step since the engine was made has a row or a moment of its own, and each row at most 64 new texts
+  pub few_behind : e.behind ≤ 2 ^ 62
   pub few_rows : e.rows ≤ 2 ^ 47
-  pub few_steps : s.steps ≤ e.rows + e.merged
-  pub few_texts : e.texts.given ≤ 2 ^ 32 + 64 * e.rows
-  pub few_swept : e.swept ≤ 2 ^ 32 + 64 * e.rows
+  pub few_steps : s.steps ≤ e.behind + e.rows + e.merged
+  pub few_texts : e.texts.given ≤ 2 ^ 62 + 64 * e.rows
+  pub few_swept : e.swept ≤ 2 ^ 62 + 64 * e.rows
 
 -- a row, accepted
 abbrev pub accepted_entry : Row → Entry

@@ -13,8 +13,8 @@ use Rattle.lola_model.specs.declared.journal.Row.{Row}
 use Rattle.lola_model.specs.declared.journal.Show.{Show}
 use Rattle.lola_model.specs.declared.plan.Plan.{Plan}
 use Rattle.lola_step.specs.Progress.{IsRun}
+use Rattle.lola_text.specs.Texts.{Texts}
 use Rattle.lola_engine.specs.Engines.{IsSound}
-use Rattle.lola_engine.specs.Read.{numbered}
 use Rattle.lola_engine.specs.Rules.{Come, opened_at}
 use Rattle.lola_engine.specs.declared.engine.EngineState.{EngineState}
 use Rattle.lola_engine.specs.declared.end.EngineEnd.{EngineEnd}
@@ -35,24 +35,24 @@ tally_of e = record { plan = e.plan; show = e.show; names = e.texts.held; steps 
 abbrev pub lines_after : Tally → ℕ → List Step → List (List ℕ)
 lines_after t start steps = table_lines t.show t.plan.spec.streams (model t.plan start steps)
 
--- these steps were run from a start, without a fault: the store stands for what is behind them, and they are counted
+-- these steps were run from a start, without a fault: the store stands for what is behind them
 pub record HasRun (t : Tally) (start : ℕ) (steps : List Step) (remembers : Memories) (s : Seen) : Type 0 where
   pub fine : fault_of_last (last_row (model t.plan start steps)) ≡ None
   pub run : IsRun t.plan t.names (model t.plan start steps)
   pub stands : StandsBetween t.names remembers s (content_after t.plan start (model t.plan start steps))
-  pub steps_are : t.steps ≡ length (model t.plan start steps)
-  pub lines_are : t.lines ≡ length (lines_after t start steps)
 
 -- the lines that more steps bring behind those of these steps
 abbrev pub Add : Tally → ℕ → List Step → List Step → List (List ℕ) → Type 0
 Add t start steps more lines = lines_after t start (steps ++ more) ≡ lines_after t start steps ++ lines
 
--- more steps were run: their lines are appended
+-- more steps were run: their lines are appended, and both are counted on
 pub record RunsOn (start : ℕ) (steps more : List Step) (old new : Tally) (remembers : Memories) (s : Seen) (text0 text1 : List ℕ) : Type 0 where
   pub has : HasRun new start (steps ++ more) remembers s
   pub lines : List (List ℕ)
   pub add : Add old start steps more lines
   pub text : text1 ≡ text0 ++ text_of lines
+  pub steps_more : new.steps + length (model old.plan start steps) ≡ old.steps + length (model old.plan start (steps ++ more))
+  pub lines_more : new.lines ≡ old.lines + length lines
 
 -- one of them has a fault: the lines of those before it are appended
 pub record FailsOn (fault : RunFault) (start : ℕ) (steps more : List Step) (old : Tally) (text0 text1 : List ℕ) : Type 0 where
@@ -118,6 +118,7 @@ pub record HasKept (old new : EngineState) : Type 0 where
   pub texts : new.texts ≡ old.texts
   pub ids : new.ids ≡ old.ids
   pub swept : new.swept ≡ old.swept
+  pub behind : new.behind ≡ old.behind
   pub rows : new.rows ≡ old.rows
   pub merged : new.merged ≡ old.merged
   pub ended : new.ended ≡ old.ended
@@ -127,6 +128,7 @@ pub record HasStayed (old new : EngineState) : Type 0 where
   pub plan : new.plan ≡ old.plan
   pub given_start : new.given_start ≡ old.given_start
   pub show : new.show ≡ old.show
+  pub behind : new.behind ≡ old.behind
   pub ended : new.ended ≡ old.ended
 
 -- a state that may run the steps below a moment, where deadlines are open from another on: the last step is not behind that, all deadlines
@@ -138,8 +140,9 @@ pub record IsBelow (e : EngineState) (s : Seen) (start from limit : ℕ) : Type 
   pub time : time_seen s ≤ from
   pub passed : e.clock.passed ≡ max start (from - 1)
   pub below : from ≤ limit
+  pub few_behind : e.behind ≤ 2 ^ 62
   pub few_rows : e.rows ≤ 2 ^ 47
-  pub few_steps : s.steps ≤ e.rows + from
+  pub few_steps : s.steps ≤ e.behind + e.rows + from
 
 -- the deadlines below a moment were run
 pub record HasPassed (e : EngineState) (s : Seen) (start limit : ℕ) : Type 0 where
@@ -152,17 +155,16 @@ pub record HasTaken (old new : EngineState) (s : Seen) (start limit : ℕ) : Typ
   pub start_is : new.clock.start ≡ Some start
   pub passed : new.clock.passed ≡ max start (limit - 1)
   pub time : time_seen s ≡ limit
-  pub few_steps : s.steps ≤ old.rows + limit + 1
+  pub few_steps : s.steps ≤ old.behind + old.rows + limit + 1
 
--- the state of an engine that is new
-pub record IsMade (plan : Plan) (given_start : Option ℕ) (show : Show) (workers : ℕ) (e : EngineState) : Type 0 where
+-- the state of an engine that is new, over a table of texts
+pub record IsMade (plan : Plan) (texts : Texts) (given_start : Option ℕ) (show : Show) (workers : ℕ) (e : EngineState) : Type 0 where
   pub sound : IsSound e (new_seen (layout_of plan))
   pub plan_is : e.plan ≡ plan
   pub given_start_is : e.given_start ≡ given_start
   pub show_is : e.show ≡ show
   pub clock : (e.clock.start ≡ None) × (e.clock.passed ≡ 0)
-  pub few_texts : e.texts.given ≤ 2 ^ 32
-  pub literals_are : e.texts.held ≡ numbered 0 plan.spec.texts
+  pub texts_are : e.texts ≡ texts
   pub swept_is : e.swept ≡ length e.texts.held
-  pub few_swept : e.swept ≤ 2 ^ 32
-  pub nothing : (e.rows ≡ 0) × (e.merged ≡ 0) × (e.steps ≡ 0) × (e.lines ≡ 0) × (e.ended ≡ None)
+  pub few_swept : e.swept ≤ e.texts.given
+  pub nothing : (e.rows ≡ 0) × (e.merged ≡ 0) × (e.steps ≡ 0) × (e.lines ≡ 0) × (e.ended ≡ None) × (e.behind ≡ 0)

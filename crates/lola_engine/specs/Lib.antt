@@ -5,3 +5,5 @@ pub mod Shown
 pub mod Rules
 pub mod Going
 pub mod Sweeps
+pub mod Behind
+pub mod Resuming

@@ -21,6 +21,7 @@ ghost use Rattle.lola_step_law.specs.Ready.{HasTexts};
 ghost use Rattle.lola_text.specs.Texts.{IsTable};
 ghost use Rattle.lola_step.specs.Moments.{ReadAs};
 ghost use Rattle.lola_step.specs.Steps.{AreInputs, AreOfInputs, IsStepped, ReadFields};
+ghost use Rattle.lola_engine.specs.Behind.{AcceptsBehind, FinishesBehind, StandsBehind};
 ghost use Rattle.lola_engine.specs.Engines.{Accepts, AreStarted, Finishes, IsEngine, IsOptionInTime, IsSound, IsTakeable, StandsFor};
 ghost use Rattle.lola_engine.specs.Going.{Goes, GoesBy, HasKept, HasPassed, HasStayed, HasTaken, IsBelow, IsMade, IsOpenAt, IsOpenBehind, tally_of};
 ghost use Rattle.lola_engine.specs.Rates.{HaveDeadlinesOf};
@@ -56,7 +57,8 @@ use std::thread::Threads;
 
 /// All of an engine but its store: the plan, the start if one was given, what is shown, how many workers evaluate instances, the clock of
 /// the deadlines that count from the start, whether others count from births, the texts, the list for those that are needed, how many the
-/// newest sweep left, the notes of steps, and what was counted.
+/// newest sweep left, the notes of steps, and what was counted: the steps of engines that ran before, accepted rows with the last one
+/// that they had, and the steps and lines of its own.
 #[derive(Drop)]
 pub struct EngineState {
     pub(crate) alloc: Global,
@@ -70,6 +72,7 @@ pub struct EngineState {
     pub(crate) ids: Ids,
     pub(crate) swept: u64,
     pub(crate) scratch: Scratch,
+    pub(crate) behind: u64,
     pub(crate) rows: u64,
     pub(crate) merged: u64,
     pub(crate) steps: u64,
@@ -169,24 +172,24 @@ fn new_texts(alloc: Global, hasher: RandomState, plan: &Plan) -> Result<TextTabl
     Ok(texts)
 }
 
-/// All of a new engine but its store, which is new too.
-fn new_state(
+/// All of an engine but its store, before anything was run: over a table that has the texts of the plan's literals.
+pub(crate) fn new_state(
     alloc: Global,
-    hasher: RandomState,
     plan: Plan,
+    texts: TextTable,
     given_start: Option<u64>,
     show: Show,
     workers: u32,
 ) -> Result<EngineState, Memory>
     requires accepted { IsAccepted plan }
+    requires literals { HasTexts texts.held plan.spec.texts }
     requires workers { (1 ≤ workers) × (workers ≤ 64) }
-    ensures { IfOk result (IsMade plan given_start show workers) }
+    ensures { IfOk result (IsMade plan texts given_start show workers) }
 {
     let rates = rates_in(alloc, plan.pacings.as_slice())?;
     let clock = Clock::create(alloc, rates.as_slice())?;
     let local = some_of_birth(plan.pacings.as_slice());
     let scratch = Scratch::create(alloc, &plan)?;
-    let texts = new_texts(alloc, hasher, &plan)?;
     let swept = texts.len();
     Ok(EngineState {
         alloc,
@@ -200,6 +203,7 @@ fn new_state(
         ids: Ids::create(alloc),
         swept,
         scratch,
+        behind: 0,
         rows: 0,
         merged: 0,
         steps: 0,
@@ -407,8 +411,8 @@ fn read_row<S: TextStore>(
     inputs: &mut Vec<Outcome>,
 ) -> Result<(), Memory>
     requires kinds { AllZip IsFieldOf (input_kinds plan.now.spec.streams) row.now.fields }
-    requires few { texts.old.given + length row.now.fields ≤ 2 ^ 62 }
-    requires left { left.old ≤ 2 ^ 62 }
+    requires few { texts.old.given + length row.now.fields ≤ 2 ^ 62 + 2 ^ 53 }
+    requires left { left.old ≤ 2 ^ 62 + 2 ^ 53 }
     requires literals { HasTexts texts.old.held plan.now.spec.texts }
     ensures ok { OnOk result (ReadAs texts.new.held inputs.new.items row.now.fields) }
     ensures kinds { OnOk result (AreOfInputs plan.now.spec.streams inputs.new.items) }
@@ -445,6 +449,8 @@ fn run_row<R: Threads + Sync, S: TextStore + Sync, G: Gate + Sync>(
     ensures texts { OnOk result (RenewsTexts S.BOUNDED (S.holds store.old) row.now.fields state.old state.new) }
     ensures few { OnOk result (IsTrue S.BOUNDED → length state.new.texts.held ≤ 2 * state.new.swept + 1024) }
     ensures accepts { Accepts result row.now state.old (S.seen store.old) (S.remembers store.old)
+        state.new (S.seen store.new) (S.remembers store.new) lines.old lines.new
+        × AcceptsBehind result row.now state.old (S.seen store.old) (S.remembers store.old)
         state.new (S.seen store.new) (S.remembers store.new) lines.old lines.new }
 {
     if let Err(Memory) = read_row(
@@ -490,7 +496,8 @@ fn run_last<R: Threads + Sync, S: StreamStore + Sync, G: Gate + Sync>(
 ) -> Result<(), EngineEnd>
     requires { IsEngine state.old (S.seen store.old) }
     ensures kept { HasKept state.old state.new }
-    ensures finishes { Finishes result state.old (S.seen store.old) (S.remembers store.old) state.new lines.old lines.new }
+    ensures finishes { Finishes result state.old (S.seen store.old) (S.remembers store.old) state.new lines.old lines.new
+        × FinishesBehind result state.old (S.seen store.old) (S.remembers store.old) state.new lines.old lines.new }
 {
     if state.rows == 0 {
         return Ok(());
@@ -536,8 +543,10 @@ impl<S: TextStore + Sync> Engine<S> {
         ensures literals { IfOk result (λ engine. engine.state.texts.held ≡ numbered 0 plan.spec.texts) }
         ensures swept { IfOk result (λ engine. engine.state.swept ≡ length engine.state.texts.held) }
         ensures stands { IfOk result (λ engine. StandsFor engine.state (S.seen engine.store) (S.remembers engine.store) []) }
+        ensures behind { IfOk result (λ engine. StandsBehind engine.state (S.seen engine.store) (S.remembers engine.store) [] []) }
     {
-        let state = new_state(alloc, hasher, plan, start, show, workers)?;
+        let texts = new_texts(alloc, hasher, &plan)?;
+        let state = new_state(alloc, plan, texts, start, show, workers)?;
         let mut engine = Engine {
             store,
             state,
@@ -582,6 +591,8 @@ impl<S: TextStore + Sync> Engine<S> {
         ensures few { OnOk result (IsTrue S.BOUNDED → length self.new.state.texts.held ≤ 2 * self.new.state.swept + 1024) }
         ensures accepts { Accepts result row.now self.old.state (S.seen self.old.store) (S.remembers self.old.store)
             self.new.state (S.seen self.new.store) (S.remembers self.new.store) lines.old lines.new }
+        ensures behind { AcceptsBehind result row.now self.old.state (S.seen self.old.store) (S.remembers self.old.store)
+            self.new.state (S.seen self.new.store) (S.remembers self.new.store) lines.old lines.new }
         ensures ok { OnOk result ((self.old.state.ended ≡ None) × (self.new.state.ended ≡ None)) }
         ensures err { IfErr result (λ end. self.new.state.ended ≡ Some end) }
         ensures ended { (end : EngineEnd) → self.old.state.ended ≡ Some end → IfErr result (λ e. e ≡ end) × (self.new ≡ self.old) × (lines.new ≡ lines.old) }
@@ -617,6 +628,7 @@ impl<S: TextStore + Sync> Engine<S> {
         requires engine { self.old.state.ended ≡ None → IsEngine self.old.state (S.seen self.old.store) }
         ensures plan { self.new.state.plan ≡ self.old.state.plan }
         ensures finishes { Finishes result self.old.state (S.seen self.old.store) (S.remembers self.old.store) self.new.state lines.old lines.new }
+        ensures behind { FinishesBehind result self.old.state (S.seen self.old.store) (S.remembers self.old.store) self.new.state lines.old lines.new }
         ensures ok { OnOk result (self.old.state.ended ≡ None) }
         ensures err { IfErr result (λ end. self.new.state.ended ≡ Some end) }
         ensures ended { (end : EngineEnd) → self.old.state.ended ≡ Some end → IfErr result (λ e. e ≡ end) × (self.new ≡ self.old) × (lines.new ≡ lines.old) }
@@ -633,7 +645,7 @@ impl<S: TextStore + Sync> Engine<S> {
         }
     }
 
-    /// What it has counted.
+    /// What it has counted. Steps and lines of engines that ran before it are left out.
     pub fn counts(&self) -> Counts
         ensures steps { result.steps ≡ self.now.state.steps }
         ensures lines { result.lines ≡ self.now.state.lines }

@@ -15,8 +15,8 @@ use lola_value::value::TextId;
 /// Whether texts are to go before a row may bring up to 64 new ones: where the store keeps only what accesses need, and many more are
 /// held than the newest sweep left.
 fn is_full(bounded: bool, held: u64, left: u64) -> bool
-    requires held { held ≤ 2 ^ 62 }
-    requires left { left ≤ 2 ^ 62 }
+    requires held { held ≤ 2 ^ 62 + 2 ^ 53 }
+    requires left { left ≤ 2 ^ 62 + 2 ^ 53 }
     ensures { result ≡ has_too_many bounded held left }
 {
     bounded && held + 64 > 2 * left + 1024
@@ -62,8 +62,8 @@ pub(crate) fn let_go<S: TextStore>(
     ids: &mut Ids,
     left: &mut u64,
 ) -> Result<(), Memory>
-    requires few { texts.old.given ≤ 2 ^ 62 }
-    requires left { left.old ≤ 2 ^ 62 }
+    requires few { texts.old.given ≤ 2 ^ 62 + 2 ^ 53 }
+    requires left { left.old ≤ 2 ^ 62 + 2 ^ 53 }
     ensures goes { OnOk result (LetsGo S.BOUNDED (S.holds store.now) plan.now.spec.texts texts.old left.old texts.new left.new) }
     ensures stays { OnErr result ((texts.new ≡ texts.old) × (left.new ≡ left.old)) }
     ensures room { OnOk result (IsTrue S.BOUNDED → length texts.new.held + 64 ≤ 2 * left.new + 1024) }

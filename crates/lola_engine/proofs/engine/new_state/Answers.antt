@@ -23,10 +23,10 @@ returns c =
             (subst (λ ps. HaveDeadlinesOf (rates_of ps) c.in_ok-rates.rates.items) c.as_slice.ensures c.in_ok-rates.ensures);
         local = c.some_of_birth-local.ensures ∙ ap has_local c.as_slice-3.ensures;
         of = of_new c.args.plan;
-        started = subst (λ o. AreStarted (new_seen (layout_of c.args.plan)) o) (sym started_is) (refl, refl);
+        started = subst (λ o. AreStarted (new_seen (layout_of c.args.plan)) o) (sym started_is) refl;
         scratch = c.in_ok-scratch.ensures;
-        table = c.in_ok-texts.ensures.table;
-        texts = c.in_ok-texts.ensures.texts;
+        table = c.len-swept.ensures.table;
+        texts = c.requires.literals;
         counted = omega arith;
         few_lines = omega arith;
       };
@@ -34,9 +34,8 @@ returns c =
       given_start_is = refl;
       show_is = refl;
       clock = (started_is, ap (λ (z : ClockState). z.passed) c.in_ok-clock.ensures);
-      few_texts = c.in_ok-texts.ensures.few;
-      literals_are = c.in_ok-texts.ensures.exact;
+      texts_are = refl;
       swept_is = c.len-swept.ensures.count;
-      few_swept = (let most = count_between 0 c.in_ok-texts.texts.given c.in_ok-texts.texts.held c.in_ok-texts.ensures.table.numbers in omega (arith, most, c.len-swept.ensures.count, c.in_ok-texts.ensures.few));
-      nothing = (refl, refl, refl, refl, refl);
+      few_swept = (let most = count_between 0 c.args.texts.given c.args.texts.held c.len-swept.ensures.table.numbers in omega (arith, most, c.len-swept.ensures.count));
+      nothing = (refl, refl, refl, refl, refl, refl);
     }

@@ -51,7 +51,7 @@ returns-in-Ok-clause-accepts g c =
     (λ q shows past. c.started-start.ensures.stands q shows past names))
     c.args.lines.now c.run_taken.new.lines new (seen c.run_taken.new.store) (remembers c.run_taken.new.store)
     (λ journal. c.in-Ok.ensures.goes (accepted journal) c.args.row.now refl (subst (λ os. ReadAs names os c.args.row.now.fields) (sym c.as_slice.ensures.value) c.in_default.ensures.ok))
-    c.in-Ok.ensures.kept.plan c.in-Ok.ensures.kept.given_start c.in-Ok.ensures.kept.show c.in-Ok.ensures.kept.ended
+    c.in-Ok.ensures.kept.plan c.in-Ok.ensures.kept.given_start c.in-Ok.ensures.kept.show c.in-Ok.ensures.kept.ended c.in-Ok.ensures.kept.behind
     (ap (λ n. n + 1) c.in-Ok.ensures.kept.rows) refl c.in-Ok.ensures.taken.start_is c.in-Ok.ensures.taken.passed
 
 pub returns-in-Err-run_taken-clause-accepts : goal.returns-in-Err-run_taken-clause-accepts
