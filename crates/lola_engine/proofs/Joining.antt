@@ -33,7 +33,7 @@ use Rattle.lola_engine.specs.declared.end.EngineEnd.TheVariants.{Fault, Memory}
 use Rattle.lola_engine.proofs.Longer.{after_last_is, goes_longer, own_steps, settled_front, settled_taken, whole_has_one, whole_is_settled}
 use Rattle.lola_engine.proofs.Rows.{merged_is_last, opening_is_start, start_stays}
 use Rattle.lola_engine.proofs.Rules.{comes_to, steps_of}
-use Rattle.lola_engine.proofs.Standings.{AcceptsBoth, EndsOut, EndsRow, FinishesBoth, IsAt, RunsOutAt, RunsRowAt, both_end, both_end_out, both_run, both_run_out}
+use Rattle.lola_engine.proofs.Standings.{AcceptsBoth, EndsOut, EndsRow, FinishesBoth, IsAt, RunsOutAt, RunsRowAt, both_end, both_end_out, both_run, both_run_out, nothing_of}
 use Rattle.lola_engine.proofs.Tables.{faulty_lines, fine_goes_on}
 use Rattle.lola_engine.proofs.Tables as tables
 use Rattle.lola_engine.proofs.Told.{told_due, told_open}

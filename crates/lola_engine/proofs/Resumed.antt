@@ -37,43 +37,6 @@ use Rattle.lola_engine.proofs.Rules.{steps_of}
 use Rattle.lola_engine.proofs.Standings.{at_behind}
 use Rattle.lola_engine.proofs.Tables.{one_by_one}
 
--- times of a store are times
-
-times_in : (start last : Option ℕ) (phase : Phase) (s : Seen) → s.phase ≡ phase → IsAtTimes start last phase → start_seen s ≤ time_seen s → time_seen s ≤ latest → IsOptionInTime start × IsOptionInTime last
-times_in None None phase s shows at order le = (tt, tt)
-times_in None (Some last) phase s shows at order le = absurd at
-times_in (Some start) None phase s shows at order le =
-    let time : time_seen s ≡ start = ap (λ (p : Phase). elim p [ New ↦ 0 | Started a ↦ a | Running a t ↦ t ]) (shows ∙ at) in
-    (subst (λ n. n ≤ latest) time le, tt)
-times_in (Some start) (Some last) phase s shows at order le =
-    let time : time_seen s ≡ last = ap (λ (p : Phase). elim p [ New ↦ 0 | Started a ↦ a | Running a t ↦ t ]) (shows ∙ at) in
-    let first : start_seen s ≡ start = ap (λ (p : Phase). elim p [ New ↦ 0 | Started a ↦ a | Running a t ↦ a ]) (shows ∙ at) in
-    let low : start ≤ latest = omega (arith, time, first, order, le) in
-    let high : last ≤ latest = omega (arith, time, le) in
-    (low, high)
-
-pub restored_in_time : (plan : Plan) (times : RunTimes) (s : Seen) → IsRestored plan times s → IsOptionInTime times.start × IsOptionInTime times.last
-restored_in_time plan times s h = times_in times.start times.last s.phase s refl h.phase h.of.order h.of.in_time
-
--- the times with these parts
-abbrev times_with : Option ℕ → Option ℕ → ℕ → RunTimes
-times_with start last steps = record { start = start; last = last; steps = steps }
-
-same_times : (a b c d : Option ℕ) (n k : ℕ) → a ≡ b → c ≡ d → n ≡ k → times_with a c n ≡ times_with b d k
-same_times a b c d n k p q r = ap (λ x. times_with x c n) p ∙ (ap (λ x. times_with b x n) q ∙ ap (λ x. times_with b d x) r)
-
--- what an engine with so many rows tells of the last stamp
-abbrev last_told : ℕ → ℕ → Option ℕ
-last_told rows merged = if nat_eq rows 0 then None else Some merged
-
--- what an engine was made for
-pub record IsMadeFor (plan : Plan) (texts : Texts) (given_start : Option ℕ) (show : Show) (e : EngineState) : Type 0 where
-  pub plan_is : e.plan ≡ plan
-  pub texts_are : e.texts ≡ texts
-  pub given_start_is : e.given_start ≡ given_start
-  pub show_is : e.show ≡ show
-  pub counts : (e.steps ≡ 0) × (e.lines ≡ 0)
-
 -- what holds of every engine holds of one that goes on
 
 module _ (plan : Plan) (texts : Texts) (given_start : Option ℕ) (show : Show) (workers : ℕ) (e : EngineState) (made : IsMade plan texts given_start show workers e) (s : Seen) where
@@ -167,28 +130,6 @@ module _ (plan : Plan) (texts : Texts) (given_start : Option ℕ) (show : Show) 
 
   pub resumed_engine : (times : RunTimes) → IsRestored plan times s → texts.given ≤ 2 ^ 62 → IsEngine (going_on times.start times.last times.steps e) s
   resumed_engine times h few = going_engine times.start times.last times.steps h.of h.phase h.steps h.few few
-
-  -- what it was made for stays
-  pub going_kept : (start last : Option ℕ) (steps : ℕ) → IsMadeFor plan texts given_start show (going_on start last steps e)
-  going_kept None last steps = record { plan_is = made.plan_is; texts_are = made.texts_are; given_start_is = made.given_start_is; show_is = made.show_is; counts = (made.nothing.2, made.nothing.3) }
-  going_kept (Some start) None steps = record { plan_is = made.plan_is; texts_are = made.texts_are; given_start_is = made.given_start_is; show_is = made.show_is; counts = (made.nothing.2, made.nothing.3) }
-  going_kept (Some start) (Some last) steps = record { plan_is = made.plan_is; texts_are = made.texts_are; given_start_is = made.given_start_is; show_is = made.show_is; counts = (made.nothing.2, made.nothing.3) }
-
-  -- the times are those that were given
-  no_row : last_told e.rows e.merged ≡ None
-  no_row = ap (λ n. last_told n e.merged) made.nothing.0
-
-  all_behind : (steps : ℕ) → steps + e.steps ≡ steps
-  all_behind steps = omega (arith, made.nothing.2)
-
-  going_times : (start last : Option ℕ) (steps : ℕ) → IsAtTimes start last s.phase → times_of (going_on start last steps e) ≡ record { start = start; last = last; steps = steps }
-  going_times None None steps at = same_times e.clock.start None (last_told e.rows e.merged) None (steps + e.steps) steps made.clock.0 no_row (all_behind steps)
-  going_times None (Some last) steps at = absurd at
-  going_times (Some start) None steps at = same_times (Some start) (Some start) (last_told e.rows start) None (steps + e.steps) steps refl (ap (λ n. last_told n start) made.nothing.0) (all_behind steps)
-  going_times (Some start) (Some last) steps at = same_times (Some start) (Some start) (Some last) (Some last) (steps + e.steps) steps refl refl (all_behind steps)
-
-  pub resumed_times : (times : RunTimes) → IsRestored plan times s → times_of (going_on times.start times.last times.steps e) ≡ times
-  resumed_times times h = going_times times.start times.last times.steps h.phase
 
 -- rows that may stand before a step: those of each model over steps
 

@@ -1,0 +1,20 @@
+-- An engine that goes on where others left off stands for what they stood for.
+use Rattle.std.proofs.Common.{sym, subst}
+use Rattle.lola_engine.specs.Behind.{StandsBehind}
+use Rattle.lola_engine.specs.Engines.{IsEngine}
+use Rattle.lola_engine.specs.declared.engine.EngineState.{EngineState}
+use Rattle.lola_engine.proofs.Resumed.{resumed_engine, resumed_stands}
+use Rattle.lola_engine.proofs.engine.Engine.resume.Goals as goal
+
+pub returns-clause-engine : goal.returns-clause-engine
+returns-clause-engine g c =
+    let s = g.S.StreamStore.seen c.args.store in
+    subst (λ (d : EngineState). IsEngine d s) (sym c.go_on.ensures)
+    (resumed_engine c.args.plan c.args.texts c.args.times.start c.args.show c.args.workers c.in_ok-state.state c.in_ok-state.ensures s c.args.times c.requires.store c.requires.texts)
+
+pub returns-clause-stands : goal.returns-clause-stands
+returns-clause-stands g c given_start journal left =
+    let s = g.S.StreamStore.seen c.args.store in
+    let m = g.S.StreamStore.remembers c.args.store in
+    subst (λ (d : EngineState). StandsBehind d s m journal journal) (sym c.go_on.ensures)
+    (resumed_stands c.args.plan c.args.texts c.args.show c.args.workers c.args.times c.in_ok-state.state s m c.in_ok-state.ensures c.requires.store given_start journal left)
