@@ -1,5 +1,5 @@
 -- From the steps of a row to the journal with the row, and from the last steps to the end.
-use Rattle.std.proofs.Common.{◌≡◌, refl, ap, sym, subst, ◌∙◌, ℕ, ◌+◌, ◌-◌, ◌<◌, ◌≤◌, ◌⊎◌, inl, inr, List, [], ◌∷◌, ◌++◌, Option, Some, None, IsSome, false, Result, Ok, Err, max, length, append-nil, length-append, arith}
+use Rattle.std.proofs.Common.{◌≡◌, refl, ap, sym, subst, ◌∙◌, ℕ, ◌+◌, ◌-◌, ◌<◌, ◌≤◌, ◌⊎◌, inl, inr, List, [], ◌∷◌, ◌++◌, Option, Some, None, false, Result, Ok, Err, max, length, append-nil, length-append, arith}
 use Rattle.std.proofs.lemmas.Bool.{le-ltb, lt-ltb}
 use Rattle.lola_value.specs.Naming.{Naming, IsNaming}
 use Rattle.lola_model.specs.Acceptance.{IsAccepted}

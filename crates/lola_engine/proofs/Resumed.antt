@@ -1,17 +1,16 @@
 -- An engine that goes on where others left off.
-use Rattle.std.proofs.Common.{◌≡◌, refl, ap, sym, subst, ◌∙◌, ℕ, zero, suc, ◌+◌, ◌*◌, ◌-◌, ◌^◌, ◌<◌, ◌≤◌, ◌⊎◌, inl, inr, List, [], ◌∷◌, ◌++◌, Option, Some, None, IsSome, is_some, Bool, true, false, nat_eq, if◌then◌else◌, length, max, append_assoc, append-nil, arith}
+use Rattle.std.proofs.Common.{◌≡◌, refl, ap, sym, subst, ◌∙◌, ℕ, ◌^◌, ◌≤◌, ◌⊎◌, inl, inr, List, [], ◌∷◌, ◌++◌, Option, Some, None, IsSome, is_some, Bool, true, false, nat_eq, if◌then◌else◌, length, append-nil, arith}
 use Rattle.std.proofs.lemmas.Bool.{ne_eqb}
-use Rattle.lola_value.specs.Naming.{IsNaming, Naming}
-use Rattle.lola_value.specs.Times.{latest}
+use Rattle.lola_value.specs.Naming.{IsNaming}
 use Rattle.lola_model.specs.Acceptance.{IsAccepted}
 use Rattle.lola_model.specs.Journal.{accepted, merged_from, opening_time}
 use Rattle.lola_model.specs.Faults.{fault_of_last}
 use Rattle.lola_model.specs.Model.{answered, last_row, made, model}
 use Rattle.lola_model.specs.NextStep.{most_steps, next_settled}
-use Rattle.lola_model.specs.Runs.{content_after, run_start, settled_fault, settled_lines, settled_model}
+use Rattle.lola_model.specs.Runs.{content_after, run_start, settled_fault, settled_model}
 use Rattle.lola_model.specs.Standing.{StandsBetween}
 use Rattle.lola_model.specs.Steps.{start_of}
-use Rattle.lola_model.specs.Store.{Memories, New, Phase, Running, Seen, Started, instances_seen, layout_of, new_seen, start_seen, time_seen, is_new}
+use Rattle.lola_model.specs.Store.{Memories, New, Phase, Running, Seen, Started, time_seen, is_new}
 use Rattle.lola_model.specs.Table.{Step, TableRow}
 use Rattle.lola_model.specs.declared.journal.Entry.{Entry}
 use Rattle.lola_model.specs.declared.journal.Row.{Row}
@@ -25,12 +24,12 @@ use Rattle.lola_step_law.proofs.Settled.{settled_at_none, stay_settled}
 use Rattle.lola_step.specs.Progress.{IsOf, IsRun}
 use Rattle.lola_text.specs.Texts.{Texts}
 use Rattle.lola_engine.specs.Behind.{StandsBehind}
-use Rattle.lola_engine.specs.Engines.{AreStarted, IsEngine, IsOptionInTime, IsSound, IsUnderWay, IsWaiting}
+use Rattle.lola_engine.specs.Engines.{AreStarted, IsEngine, IsSound, IsUnderWay, IsWaiting}
 use Rattle.lola_engine.specs.Going.{IsMade}
 use Rattle.lola_engine.specs.Resuming.{HasReached, IsAtTimes, IsLeftAt, IsRestored, StandsAfter, going_on, last_stamp, start_known, times_of}
 use Rattle.lola_engine.specs.declared.engine.EngineState.{EngineState}
 use Rattle.lola_engine.specs.declared.times.RunTimes.{RunTimes}
-use Rattle.lola_engine.proofs.Joining.{none_or, some_is}
+use Rattle.lola_engine.proofs.Joining.{none_or}
 use Rattle.lola_engine.proofs.Longer.{own_steps}
 use Rattle.lola_engine.proofs.Rows.{last_or, merged_is_last}
 use Rattle.lola_engine.proofs.Rules.{steps_of}

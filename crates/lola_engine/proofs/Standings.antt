@@ -1,6 +1,5 @@
 -- What an engine stands for whatever it counts, and what it counts: all of a journal, or what came since others left off.
-use Rattle.std.proofs.Common.{◌≡◌, refl, ap, sym, ◌∙◌, ℕ, ◌+◌, ◌-◌, ◌⊎◌, List, [], ◌∷◌, ◌++◌, Option, None, Some, Result, Ok, Err, length, length-append, append_assoc, arith}
-use Rattle.lola_model.specs.Faults.{RunFault}
+use Rattle.std.proofs.Common.{◌≡◌, refl, ap, sym, ◌∙◌, ℕ, ◌+◌, ◌⊎◌, List, [], ◌∷◌, ◌++◌, Option, None, Result, Ok, Err, length, length-append, append_assoc, arith}
 use Rattle.lola_model.specs.Journal.{accepted, merged_from, opening_time}
 use Rattle.lola_model.specs.Runs.{final_lines, first_fault, settled_fault, settled_lines, settled_model, whole_model}
 use Rattle.lola_model.specs.Store.{Memories, Seen}

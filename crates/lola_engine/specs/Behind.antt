@@ -1,5 +1,5 @@
 -- What an engine stands for that goes on where others left off: a journal whose front they have run.
-use Rattle.std.specs.Prelude.{ℕ, ◌≡◌, ◌+◌, ◌-◌, ◌⊎◌, List, [], ◌∷◌, ◌++◌, Option, Some, None, Result, Ok, Err, length}
+use Rattle.std.specs.Prelude.{ℕ, ◌≡◌, ◌+◌, ◌-◌, ◌⊎◌, List, [], ◌∷◌, ◌++◌, None, Result, Ok, Err, length}
 use Rattle.lola_model.specs.Journal.{accepted, merged_from, opening_time}
 use Rattle.lola_model.specs.Runs.{final_lines, first_fault, settled_fault, settled_lines, settled_model, whole_model}
 use Rattle.lola_model.specs.Store.{Memories, Seen}
