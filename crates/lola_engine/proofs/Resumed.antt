@@ -26,7 +26,7 @@ use Rattle.lola_text.specs.Texts.{Texts}
 use Rattle.lola_engine.specs.Behind.{StandsBehind}
 use Rattle.lola_engine.specs.Engines.{AreStarted, IsEngine, IsSound, IsUnderWay, IsWaiting}
 use Rattle.lola_engine.specs.Going.{IsMade}
-use Rattle.lola_engine.specs.Resuming.{HasReached, IsAtTimes, IsLeftAt, IsRestored, StandsAfter, going_on, last_stamp, start_known, times_of}
+use Rattle.lola_engine.specs.Resuming.{HasReached, IsAtTimes, IsLeftAt, IsRestored, StandsAfter, going_on, last_accepted, known_start, times_of}
 use Rattle.lola_engine.specs.declared.engine.EngineState.{EngineState}
 use Rattle.lola_engine.specs.declared.times.RunTimes.{RunTimes}
 use Rattle.lola_engine.proofs.Joining.{none_or}
@@ -156,7 +156,7 @@ module _ (plan : Plan) (known : IsAccepted plan) where
 
 -- a run whose start is given where it was
 
-one_start : (option : Option ℕ) (rows : List Row) (start : Option ℕ) → start ≡ start_known option rows → start_of start rows ≡ start_of option rows
+one_start : (option : Option ℕ) (rows : List Row) (start : Option ℕ) → start ≡ known_start option rows → start_of start rows ≡ start_of option rows
 one_start (Some t) rows start e = ap (λ o. start_of o rows) e
 one_start None [] start e = ap (λ o. start_of o []) e
 one_start None (r ∷ rows) start e = ap (λ o. start_of o (r ∷ rows)) e
@@ -172,24 +172,24 @@ module _ (plan : Plan) (start option : Option ℕ) (journal : List Entry) (same 
 
 -- the last stamp
 
-stamp_behind : (stamp : ℕ) (rows : List Row) → last_stamp (Some stamp) rows ≡ Some (last_or stamp rows)
-stamp_behind stamp [] = refl
-stamp_behind stamp (r ∷ rows) = stamp_behind r.stamp rows
+stamp_behind : (row : Row) (rows : List Row) → last_accepted (row ∷ rows) ≡ Some (last_or row.stamp rows)
+stamp_behind row [] = refl
+stamp_behind row (r ∷ rows) = stamp_behind r rows
 
-none_last : (rows : List Row) → None ≡ last_stamp None rows → rows ≡ []
+none_last : (rows : List Row) → None ≡ last_accepted rows → rows ≡ []
 none_last [] e = refl
-none_last (r ∷ rows) e = let k = stamp_behind r.stamp rows in absurd (cc)
+none_last (r ∷ rows) e = let k = stamp_behind r rows in absurd (cc)
 
-some_last : (m : ℕ) (rows : List Row) (last : ℕ) → Some last ≡ last_stamp None rows → (last ≡ last_or m rows) × (1 ≤ length rows)
+some_last : (m : ℕ) (rows : List Row) (last : ℕ) → Some last ≡ last_accepted rows → (last ≡ last_or m rows) × (1 ≤ length rows)
 some_last m [] last e = absurd (cc)
-some_last m (r ∷ rows) last e = let k = stamp_behind r.stamp rows in let same : last ≡ last_or r.stamp rows = cc in (same, omega arith)
+some_last m (r ∷ rows) last e = let k = stamp_behind r rows in let same : last ≡ last_or r.stamp rows = cc in (same, omega arith)
 
 -- it stands for the journal
 
 module _ (e : EngineState) (known : IsAccepted e.plan) (naming : IsNaming e.texts.held) (texts : HasTexts e.texts.held e.plan.spec.texts)
     (going : e.ended ≡ None) (waits : e.clock.start ≡ None) (no_rows : e.rows ≡ 0) (no_time : e.merged ≡ 0) (no_steps : e.steps ≡ 0) (no_lines : e.lines ≡ 0)
     (s : Seen) (m : Memories) (option : Option ℕ) (journal : List Entry) (fine : settled_fault e.plan option journal ≡ None) where
-  module _ (start : Option ℕ) (given : e.given_start ≡ start) (at : start ≡ start_known option (accepted journal)) where
+  module _ (start : Option ℕ) (given : e.given_start ≡ start) (at : start ≡ known_start option (accepted journal)) where
     same_start : run_start e.plan e.given_start journal ≡ run_start e.plan option journal
     same_start = one_start option (accepted journal) e.given_start (given ∙ at)
 
@@ -208,7 +208,7 @@ module _ (e : EngineState) (known : IsAccepted e.plan) (naming : IsNaming e.text
     steps_then : (steps : ℕ) → steps ≡ length (settled_model e.plan option journal) → steps ≡ length (settled_model e.plan e.given_start journal)
     steps_then steps is = is ∙ ap length (sym same_table)
 
-  module _ (start : ℕ) (given : e.given_start ≡ Some start) (at : Some start ≡ start_known option (accepted journal)) where
+  module _ (start : ℕ) (given : e.given_start ≡ Some start) (at : Some start ≡ known_start option (accepted journal)) where
     start_then : run_start e.plan e.given_start journal ≡ start
     start_then = ap (λ o. start_of o (accepted journal)) given
 
@@ -218,7 +218,7 @@ module _ (e : EngineState) (known : IsAccepted e.plan) (naming : IsNaming e.text
         subst (λ z. StandsBetween e.texts.held m s (content_after e.plan z (settled_model e.plan e.given_start journal))) (sym start_then)
         (subst (λ t. StandsBetween e.texts.held m s (content_after e.plan start t)) (sym (same_table (Some start) given at)) h)
 
-  going_stands : (start last : Option ℕ) (steps : ℕ) → IsAtTimes start last s.phase → e.given_start ≡ start → start ≡ start_known option (accepted journal) → last ≡ last_stamp None (accepted journal)
+  going_stands : (start last : Option ℕ) (steps : ℕ) → IsAtTimes start last s.phase → e.given_start ≡ start → start ≡ known_start option (accepted journal) → last ≡ last_accepted (accepted journal)
       → steps ≡ length (settled_model e.plan option journal) → StandsAfter e.plan e.texts.held m s start option journal → StandsBehind (going_on start last steps e) s m journal journal
   going_stands None None steps phase given at last counted stands =
       let none = none_last (accepted journal) last in
@@ -296,22 +296,22 @@ resumed_stands plan texts show workers times e s m made restored option journal 
 
 -- what an engine tells of how far it has come
 
-known_is : (given_start : Option ℕ) (rows : List Row) → (rows ≡ [] → IsSome given_start) → Some (start_of given_start rows) ≡ start_known given_start rows
+known_is : (given_start : Option ℕ) (rows : List Row) → (rows ≡ [] → IsSome given_start) → Some (start_of given_start rows) ≡ known_start given_start rows
 known_is (Some t) rows begun = refl
 known_is None [] begun = let some = begun refl in absurd (cc)
 known_is None (r ∷ rows) begun = refl
 
 module _ (e : EngineState) (s : Seen) (m : Memories) (before journal : List Entry) (h : StandsBehind e s m before journal) where
-  told_start : IsWaiting e s m journal ⊎ IsUnderWay e s m journal → e.clock.start ≡ start_known e.given_start (accepted journal)
-  told_start (inl w) = w.clock ∙ sym (ap (λ o. start_known o (accepted journal)) w.without ∙ ap (start_known None) w.none)
+  told_start : IsWaiting e s m journal ⊎ IsUnderWay e s m journal → e.clock.start ≡ known_start e.given_start (accepted journal)
+  told_start (inl w) = w.clock ∙ sym (ap (λ o. known_start o (accepted journal)) w.without ∙ ap (known_start None) w.none)
   told_start (inr u) = u.clock ∙ known_is e.given_start (accepted journal) u.begun
 
-  told_last : (rows : List Row) → accepted journal ≡ rows → (if nat_eq e.rows 0 then None else Some e.merged) ≡ last_stamp None rows
+  told_last : (rows : List Row) → accepted journal ≡ rows → (if nat_eq e.rows 0 then None else Some e.merged) ≡ last_accepted rows
   told_last [] is = let none : e.rows ≡ 0 = (at_behind e s m before journal h).some is in rw none refl
   told_last (r ∷ rows) is =
       let some : e.rows ≡ 0 → ⊥ = λ q. let none = (at_behind e s m before journal h).none q in let k = sym none ∙ is in cc in
       let merged : e.merged ≡ last_or r.stamp rows = h.merged ∙ (merged_is_last (opening_time e.given_start) journal ∙ ap (last_or (opening_time e.given_start)) is) in
-      ap (λ b. if b then None else Some e.merged) (ne_eqb e.rows 0 some) ∙ (ap Some merged ∙ sym (stamp_behind r.stamp rows))
+      ap (λ b. if b then None else Some e.merged) (ne_eqb e.rows 0 some) ∙ (ap Some merged ∙ sym (stamp_behind r rows))
 
   pub has_reached : HasReached e.plan e.given_start journal (times_of e)
   has_reached = record { start = told_start h.state; last = told_last (accepted journal) refl; steps = h.steps }

@@ -12,21 +12,22 @@ use Rattle.lola_step.specs.Progress.{IsOf}
 use Rattle.lola_engine.specs.declared.engine.EngineState.{EngineState}
 use Rattle.lola_engine.specs.declared.times.RunTimes.{RunTimes}
 
--- where time counts from, once that is known: the start that was given, or the first row's stamp
-abbrev pub start_known : Option ℕ → List Row → Option ℕ
-start_known (Some start) rows = Some start
-start_known None [] = None
-start_known None (row ∷ rows) = Some row.stamp
+-- the start of a run, if it is known: the start that was given, or else the stamp of the first accepted row
+abbrev pub known_start : Option ℕ → List Row → Option ℕ
+known_start (Some t) rows = Some t
+known_start None [] = None
+known_start None (r ∷ rs) = Some r.stamp
 
--- the stamp of the last of these rows, or else this one
-abbrev pub last_stamp : Option ℕ → List Row → Option ℕ
-last_stamp stamp [] = stamp
-last_stamp stamp (row ∷ rows) = last_stamp (Some row.stamp) rows
+-- the stamp of the last accepted row, if there is one
+abbrev pub last_accepted : List Row → Option ℕ
+last_accepted [] = None
+last_accepted (r ∷ []) = Some r.stamp
+last_accepted (r ∷ q ∷ rs) = last_accepted (q ∷ rs)
 
 -- so far a run has come with the settled steps of a journal
 pub record HasReached (plan : Plan) (given_start : Option ℕ) (journal : List Entry) (times : RunTimes) : Type 0 where
-  pub start : times.start ≡ start_known given_start (accepted journal)
-  pub last : times.last ≡ last_stamp None (accepted journal)
+  pub start : times.start ≡ known_start given_start (accepted journal)
+  pub last : times.last ≡ last_accepted (accepted journal)
   pub steps : times.steps ≡ length (settled_model plan given_start journal)
 
 -- so far an engine has come, with those that ran before it
