@@ -1,14 +1,20 @@
 -- Worked runs: the state of each is what it should be.
 use Rattle.std.proofs.Common.{◌≡◌, refl, ℕ, ◌*◌, List, [], ◌∷◌, Option, Some, None, pos, negsuc, true, false, lit<, lit≤}
+use Rattle.std.specs.Prelude.{codes}
+use Rattle.std.specs.Str.{chars, is_utf8}
 use Rattle.lola_value.specs.declared.text.Field.{Field}
 use Rattle.lola_value.specs.declared.text.Field.TheVariants as field
+use Rattle.lola_value.specs.declared.value.Kind.TheVariants as kind
+use Rattle.lola_value.specs.declared.value.Value.TheVariants as value
+use Rattle.lola_model.specs.declared.expr.Expr.TheVariants.{Literal}
 use Rattle.lola_model.specs.declared.journal.Row.{Row}
 use Rattle.lola_model.specs.declared.plan.Plan.{Plan}
 use Rattle.lola_model.specs.declared.spec.Agg.{Agg}
 use Rattle.lola_model.specs.declared.spec.Agg.TheVariants as agg
 use Rattle.lola_model.specs.Runs.{settled_model}
-use Rattle.lola_model.proofs.Build.{Around, row_at, accepted_all, int}
+use Rattle.lola_model.proofs.Build.{Around, named, input, output, on_a, plan_of, row_at, accepted_all, int}
 use Rattle.lola_model.proofs.Rows.{second, sum_and_trigger, count_of_ten_seconds, counts_of_values}
+use Rattle.lola_save_text.specs.Fitting.{is_value}
 use Rattle.lola_save_text.specs.Forms.{WindowForm}
 use Rattle.lola_save_text.specs.States.{SavedPanes, SavedInstance, SavedState, Number, Extreme, Mean, Truth}
 use Rattle.lola_save_law.specs.PaneFolds.{panes_of}
@@ -131,3 +137,19 @@ from-a-start = refl
 
 pub of-nothing : panes_of 0 (form agg.Sum) [] ≡ None
 of-nothing = refl
+
+-- a literal that is not in UTF-8 comes to a value that no state may have: why the law asks that of the plan's texts
+
+abbrev odd_text : Plan
+odd_text =
+    record (plan_of (named (codes "a") input ∷ named (codes "b") (output kind.Text (Literal (record { at = 0; kind = Some kind.Text }) (value.Text (record { 0 = 0 })))) ∷ []) [] (on_a ∷ on_a ∷ []))
+    { spec = record { streams = named (codes "a") input ∷ named (codes "b") (output kind.Text (Literal (record { at = 0; kind = Some kind.Text }) (value.Text (record { 0 = 0 })))) ∷ []; windows = []; texts = (255 ∷ []) ∷ []; constants = []; refused = [] } }
+
+pub odd-state : state_of odd_text None (accepted_all (row_at 0 (int 1) ∷ []))
+    ≡ record { start = Some 0; last = Some 0; steps = 1; streams = alone (int 1 ∷ []) [] ∷ alone (field.Text (255 ∷ []) ∷ []) [] ∷ [] }
+unfolding settled_model
+odd-state = refl
+
+pub odd-value : is_value kind.Text (field.Text (255 ∷ [])) ≡ false
+unfolding is_utf8 chars
+odd-value = refl
