@@ -1,8 +1,10 @@
 pub mod Workers
 pub mod Desks
-pub mod Seats
 pub mod Moving
 mod Asking
 mod Made
 mod Shelves
 mod Turning
+pub mod DeskCalls
+pub mod LockCalls
+pub mod LockEnding

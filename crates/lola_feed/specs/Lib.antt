@@ -1,5 +1,6 @@
 pub mod Feeding
-pub mod Seating
+pub mod SharedIntakes
+pub mod LockSeats
 pub mod Drills
 pub mod Fetching
 pub mod Lending

@@ -8,6 +8,8 @@
 
 pub mod desk;
 mod drill;
+pub mod intake;
+mod lock_intake;
 pub mod rooms;
 mod rows;
 mod seat_desk;
@@ -16,5 +18,5 @@ mod text;
 pub mod worker;
 
 pub use drill::Drill;
-pub use seat_desk::SeatDesk;
+pub use seat_desk::{HeldSeat, SeatDesk};
 pub use text::specification;
