@@ -8,8 +8,6 @@ use Rattle.lola_model.specs.Faults.{RunFault}
 use Rattle.lola_model.specs.Texts.{text_of}
 use Rattle.lola_model.specs.Trace.{IsTraceable, trace_line, trace_text}
 use Rattle.lola_model.specs.declared.journal.Entry.{Entry}
-use Rattle.lola_model.specs.declared.journal.Mark.{Mark}
-use Rattle.lola_model.specs.declared.journal.Mark.TheVariants as mark
 use Rattle.lola_model.proofs.Journals.{IsLegalFrom-append_left, IsLegalFrom-append_right, trace_text-append_one}
 use Rattle.lola_engine.specs.Engines.{Brings}
 use Rattle.lola_monitor_run.specs.Verdicts.{AreOfSources, AreTraceable, IsRowFault, Setting, settled_fault_in, settled_text}

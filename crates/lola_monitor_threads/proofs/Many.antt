@@ -1,5 +1,5 @@
 -- How many entries there are in a journal, by sources.
-use Rattle.std.proofs.Common.{◌≡◌, ℕ, zero, suc, ◌<◌, ◌≤◌, ◌+◌, ◌*◌, cond, List, [], ◌∷◌, map, length, eqb, eq-eqb, ne_eqb, true, false, refl, ap, arith}
+use Rattle.std.proofs.Common.{◌≡◌, ℕ, zero, suc, ◌<◌, ◌≤◌, ◌+◌, ◌*◌, cond, List, [], ◌∷◌, length, eq-eqb, ne_eqb, refl, ap, arith}
 use Rattle.std.proofs.lemmas.List.Elements.{All-head, All-tail}
 use mathlib.Core.Logic.{dite}
 use native.Mathlib.Decide.{ℕ_discrete}
@@ -8,7 +8,6 @@ use Rattle.lola_model.specs.declared.journal.Row.{Row}
 use Rattle.lola_model.specs.declared.journal.Entry.{Entry}
 use Rattle.lola_model.specs.declared.journal.Mark.{Mark}
 use Rattle.lola_model.specs.declared.journal.Mark.TheVariants as mark
-use Rattle.lola_intake.specs.Histories.{entries_of}
 use Rattle.lola_monitor_run.specs.Verdicts.{AreOfSources, late_count, most_rows}
 
 -- each entry is accepted or late
@@ -20,14 +19,6 @@ all_counted (e ∷ es) = by_mark e.row e.mark (all_counted es)
         → length (accepted (record { row = row; mark = m } ∷ es)) + late_count (record { row = row; mark = m } ∷ es) ≡ suc (length es)
     by_mark row mark.Accepted i = omega arith
     by_mark row (mark.Late t) i = omega arith
-
--- the rows of a source are those of its entries
-pub rows_of_entries : (s : ℕ) (es : List Entry) → map (λ e. e.row) (entries_of s es) ≡ rows_of s es
-rows_of_entries s [] = refl
-rows_of_entries s (e ∷ es) = elim (eqb e.row.source s) as (λ b. map (λ (e : Entry). e.row) (cond b (e ∷ entries_of s es) (entries_of s es)) ≡ cond b (e.row ∷ rows_of s es) (rows_of s es)) [
-  | true ↦ ap (λ (l : List Row). e.row ∷ l) (rows_of_entries s es)
-  | false ↦ rows_of_entries s es
-]
 
 -- an entry gives a row of its source
 pub rows_first : (e : Entry) (es : List Entry) (s : ℕ) → e.row.source ≡ s → rows_of s (e ∷ es) ≡ e.row ∷ rows_of s es

@@ -1,15 +1,13 @@
 -- Seated workers that stay here go on, one after another.
-use Rattle.std.proofs.Common.{◌≡◌, ℕ, zero, suc, ◌<◌, List, [], ◌∷◌, refl, sym, ap, ◌∙◌, subst, arith, length, get_or, slice_set}
+use Rattle.std.proofs.Common.{◌≡◌, ℕ, zero, suc, ◌<◌, List, [], ◌∷◌, refl, ◌∙◌, arith, length, get_or, slice_set}
 use Rattle.std.specs.List.{AllZip}
-use Rattle.std.proofs.lemmas.List.Elements.{AllZip-get_or}
 use Rattle.std.proofs.lemmas.Slice.Zip.{AllZip-long}
-use Rattle.atomic_table.specs.Seated.{TableId}
-use Rattle.lola_monitor_threads.specs.Seated.{AreAt, Seated, WentOn}
+use Rattle.lola_monitor_threads.specs.Seated.{Seated, WentOn}
 
 -- a seated worker that took no turn went on
 pub stays_there : (p : Seated) → WentOn p p
 stays_there p = record {
-  seat = record { intake = refl; setting = refl; caller = refl; source = refl };
+  seat = record { intake = refl; source = refl; in_order = refl };
   kept = record { shape = refl; place = refl };
   offers = λ from h. h;
 }
@@ -19,9 +17,8 @@ pub goes_on_twice : (p q r : Seated) → WentOn p q → WentOn q r → WentOn p 
 goes_on_twice p q r first second = record {
   seat = record {
     intake = second.seat.intake ∙ first.seat.intake;
-    setting = second.seat.setting ∙ first.seat.setting;
-    caller = second.seat.caller ∙ first.seat.caller;
     source = second.seat.source ∙ first.seat.source;
+    in_order = second.seat.in_order ∙ first.seat.in_order;
   };
   kept = record { shape = second.kept.shape ∙ first.kept.shape; place = second.kept.place ∙ first.kept.place };
   offers = λ from h. second.offers from (first.offers from h);

@@ -1,8 +1,9 @@
 -- Seated workers that were sent away and came back, in the order in which they waited.
 use Rattle.std.proofs.Common.{◌≡◌, ◌∙◌, ℕ, List, [], ◌∷◌, ◌++◌, ◌+◌, ◌<◌, ◌≤◌, Some, ap, append_assoc, arith, length, length-append, subst, sym}
+use Rattle.std.proofs.lemmas.List.{append-nil}
 use Rattle.std.specs.List.{All, AllZip}
 use Rattle.std.proofs.lemmas.List.Elements.{All-pop, AllZip-push, length_all_zip}
-use Rattle.atomic_table.specs.Seated.{TableId}
+use Rattle.lola_feed.specs.SharedIntakes.{IntakeId}
 use Rattle.lola_monitor_threads.specs.Seated.{Seated, WentOn}
 
 -- what holds of all that wait holds of the last, and of those before it
@@ -10,7 +11,7 @@ pub of_last : (P : Seated → Type 0) (waiting before : List Seated) (last : Sea
 of_last P waiting before last waited all = All-pop P waiting before (Some last) waited all
 
 -- a seated worker that went on is at the same intake
-pub still_at : (id : TableId) (mine got : Seated) → mine.seat.intake ≡ id → WentOn mine got → got.seat.intake ≡ id
+pub still_at : (id : IntakeId) (mine got : Seated) → mine.seat.intake ≡ id → WentOn mine got → got.seat.intake ≡ id
 still_at id mine got at went = went.seat.intake ∙ at
 
 -- where seated workers went on, so did the last, and those before it
@@ -58,3 +59,8 @@ pub of_equals : {A B C D : Type 0} (P : A → B → C → D → Type 0) (a other
     → P otherA otherB otherC otherD
 of_equals P a otherA b otherB c otherC d otherD ea eb ec ed h =
     subst (λ x. P x otherB otherC otherD) (sym ea) (subst (λ x. P a x otherC otherD) (sym eb) (subst (λ x. P a b x otherD) (sym ec) (subst (λ x. P a b c x) (sym ed) h)))
+
+-- where none waits none comes back
+pub none_came : (waiting back : List Seated) → length waiting ≡ 0 → (came : List Seated) × (back ≡ back ++ came) × AllZip WentOn waiting came
+none_came [] back none = ([], sym (append-nil back), tt)
+none_came (x ∷ xs) back none = absurd (omega (arith, none))

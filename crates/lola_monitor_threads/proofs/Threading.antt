@@ -1,15 +1,13 @@
 -- A run whose sources are read on threads: from what it was given and what came back, to how its rows came.
-use Rattle.std.proofs.Common.{◌≡◌, ℕ, ◌<◌, false, List, [], Result, Ok, Err, length, reverse, map, refl, sym, ap, ◌∙◌, subst}
+use Rattle.std.proofs.Common.{◌≡◌, ℕ, ◌<◌, true, false, List, [], Result, Ok, Err, length, reverse, map, refl, sym, ap, ◌∙◌, subst}
 use Rattle.std.proofs.lemmas.List.Elements.{All-nil}
 use Rattle.std.specs.Prelude.{OnOk}
 use Rattle.std.specs.List.{AllZip}
-use Rattle.atomic_table.specs.Seated.{TableId}
 use Rattle.lola_port.specs.States.{SinkState, grown}
 use Rattle.lola_model.specs.Trace.{input_kinds}
 use Rattle.lola_model.specs.declared.journal.Entry.{Entry}
-use Rattle.lola_intake.specs.Histories.{EndsDone, taken}
-use Rattle.lola_intake.specs.Intakes.{AreSeatsOf, Shown, Whole, new_seat, setting}
-use Rattle.lola_feed.specs.Seating.{IsSameSeat}
+use Rattle.lola_feed.specs.SharedIntakes.{AreNewSeats, AreSeatsOf, IntakeId, IsWhole, SeatShown, TakerShown}
+use Rattle.lola_feed.specs.SharedIntakes as shared
 use Rattle.lola_feed.specs.Feeding.{Working}
 use Rattle.lola_monitor_run.specs.Verdicts.{AreOfSources}
 use Rattle.lola_monitor_run.specs.Running.{IsGoing, Keeping, Stands, setting_in}
@@ -17,8 +15,8 @@ use Rattle.lola_monitor_run.specs.declared.stop.Stop.{Stop}
 use Rattle.lola_monitor_run.proofs.Fronts.{nothing_settled}
 use Rattle.lola_monitor_run.proofs.Sinks.{grown_nil}
 use Rattle.lola_monitor_run.specs.Feeds.{AreInPlace, AreReady, EndsRun, World, supply_of, world}
-use Rattle.lola_monitor_threads.specs.Seated.{AreNewSeats, Seated, WentOn, all_seated}
-use Rattle.lola_monitor_threads.specs.Takings.{Halts, HasRun, Place, Taking, place}
+use Rattle.lola_monitor_threads.specs.Seated.{Seated, WentOn, all_seated}
+use Rattle.lola_monitor_threads.specs.Takings.{Halts, HasRun, IsSameTaker, Place, Taking, place}
 use Rattle.lola_monitor_threads.specs.Joining.{Joins}
 use Rattle.lola_monitor_threads.specs.declared.halt.Halt.{Halt}
 use Rattle.lola_monitor_threads.specs.declared.halt.Halt.TheVariants as halt
@@ -42,16 +40,16 @@ still_going (Ok done) count first entries now halts = halts.0.stands.going
 still_going (Err how) count first entries now halts = tt
 
 -- a taker that has taken nothing
-abbrev pub new_taker : Keeping → TableId → ℕ → Taking
+abbrev pub new_taker : Keeping → IntakeId → ℕ → Taking
 new_taker kept id count = record {
-  seat = new_seat id (setting count kept.state.given_start) 0 0;
+  seat = shared.new_taker id count kept.state.given_start;
   inputs = record { count = count; kinds = input_kinds kept.state.plan.spec.streams };
   batch = [];
 }
 
 -- it has run nothing
-abbrev pub has_run_none : (kept : Keeping) (id : TableId) (count : ℕ) (taker : Taking) (out trace : SinkState) → taker ≡ new_taker kept id count → Stands [] kept → (first : Place) × HasRun first (taken taker.seat.mine) (place kept out trace)
-has_run_none kept id count taker out trace made stands = (place kept out trace, subst (λ (t : Taking). HasRun (place kept out trace) (taken t.seat.mine) (place kept out trace)) (sym made) (not_yet_run kept out trace stands))
+abbrev pub has_run_none : (kept : Keeping) (id : IntakeId) (count : ℕ) (taker : Taking) (out trace : SinkState) → taker ≡ new_taker kept id count → Stands [] kept → (first : Place) × HasRun first taker.seat.taken (place kept out trace)
+has_run_none kept id count taker out trace made stands = (place kept out trace, subst (λ (t : Taking). HasRun (place kept out trace) t.seat.taken (place kept out trace)) (sym made) (not_yet_run kept out trace stands))
 
 -- how a run ends is told of workers in a slice
 pub ends_with : (halted : Result (Unit {0}) Halt) (result : Result (Unit {0}) Stop) (first : World) (k1 k2 : Keeping) (out1 out2 trace : SinkState) (news slice : List Working) → slice ≡ news
@@ -61,8 +59,8 @@ ends_with halted result first k1 k2 out1 out2 trace news slice is ends came =
     subst (λ (l : List Working). EndsRun false result first (world k2 (map supply_of l) out2 trace)) is
     (ends first trace (subst (λ (l : List Working). Joins halted first (world k1 (map supply_of l) out1 trace)) (sym is) came))
 
-module _ (kept : Keeping) (id : TableId) (olds : List Working) (seats : List Shown) (ready : AreReady kept.state.plan olds) (fresh : AreNewSeats id (setting (length olds) kept.state.given_start) (length olds) seats) where
-  module _ (waiting back : List Seated) (news : List Working) (backs : List Shown) (are : reverse waiting ≡ all_seated olds seats) (went : AllZip WentOn waiting back)
+module _ (kept : Keeping) (id : IntakeId) (olds : List Working) (seats : List SeatShown) (ready : AreReady kept.state.plan olds) (fresh : AreNewSeats id (length olds) seats) where
+  module _ (waiting back : List Seated) (news : List Working) (backs : List SeatShown) (are : reverse waiting ≡ all_seated olds seats) (went : AllZip WentOn waiting back)
       (parted : all_seated news backs ≡ reverse back) (many : (length news ≡ length back) × (length backs ≡ length back)) where
     all_back : length back ≡ length olds
     all_back = zip_long WentOn waiting back went ∙ as_many kept.state.plan kept.state.given_start id olds seats ready fresh waiting are
@@ -82,30 +80,33 @@ module _ (kept : Keeping) (id : TableId) (olds : List Working) (seats : List Sho
     pub places_kept : AreInPlace olds news
     places_kept = in_place kept.state.plan kept.state.given_start id olds seats ready fresh news backs news_many backs_many all_went
 
-    module _ (taker : Taking) (made : taker ≡ new_taker kept id (length olds)) (engine : Shown) (same : IsSameSeat taker.seat engine) (left : List Entry) (whole : Whole engine backs left) where
-      setting_is : engine.setting ≡ setting (length olds) kept.state.given_start
-      setting_is = same.setting ∙ ap (λ (t : Taking). t.seat.setting) made
+    module _ (taker : Taking) (made : taker ≡ new_taker kept id (length olds)) (taker_then : TakerShown) (same : IsSameTaker taker.seat taker_then) (left : List Entry) (whole : IsWhole taker_then backs left) where
+      sources_are : taker_then.sources ≡ length olds
+      sources_are = same.sources ∙ ap (λ (t : Taking). t.seat.sources) made
 
-      all_joined : AreJoined kept.state.plan kept.state.given_start olds news backs engine left
-      all_joined = joined kept.state.plan kept.state.given_start id olds seats ready fresh news backs news_many backs_many all_went engine left setting_is whole
+      start_is : taker_then.start ≡ kept.state.given_start
+      start_is = same.start ∙ ap (λ (t : Taking). t.seat.start) made
+
+      all_joined : AreJoined kept.state.plan kept.state.given_start olds news backs taker_then left
+      all_joined = joined kept.state.plan kept.state.given_start id olds seats ready fresh news backs news_many backs_many all_went taker_then left sources_are start_is whole
 
       module _ (now : Keeping) (out0 out1 trace0 trace1 : SinkState) (halted : Result (Unit {0}) Halt)
-          (halts : (first : Place) → HasRun first (taken taker.seat.mine) (place kept out0 trace0) → AreOfSources taker.inputs.count (taken taker.seat.mine) → Halts halted taker.inputs.count first (taken engine.mine) (place now out1 trace1))
-          (ends : OnOk halted (EndsDone engine.mine false)) (stands : Stands [] kept) where
-        begins : HasRun (place kept out0 trace0) (taken taker.seat.mine) (place kept out0 trace0)
+          (halts : (first : Place) → HasRun first taker.seat.taken (place kept out0 trace0) → AreOfSources taker.inputs.count taker.seat.taken → Halts halted taker.inputs.count first taker_then.taken (place now out1 trace1))
+          (ends : OnOk halted (taker_then.done ≡ true)) (stands : Stands [] kept) where
+        begins : HasRun (place kept out0 trace0) taker.seat.taken (place kept out0 trace0)
         begins = (has_run_none kept id (length olds) taker out0 trace0 made stands).1
 
-        of_none : AreOfSources taker.inputs.count (taken taker.seat.mine)
-        of_none = subst (λ (t : Taking). AreOfSources t.inputs.count (taken t.seat.mine)) (sym made) (All-nil (λ (e : Entry). e.row.source < length olds))
+        of_none : AreOfSources taker.inputs.count taker.seat.taken
+        of_none = subst (λ (t : Taking). AreOfSources t.inputs.count t.seat.taken) (sym made) (All-nil (λ (e : Entry). e.row.source < length olds))
 
-        has_halted : Halts halted (length olds) (place kept out0 trace0) (taken engine.mine) (place now out1 trace1)
-        has_halted = subst (λ (n : ℕ). Halts halted n (place kept out0 trace0) (taken engine.mine) (place now out1 trace1)) (ap (λ (t : Taking). t.inputs.count) made) (halts (place kept out0 trace0) begins of_none)
+        has_halted : Halts halted (length olds) (place kept out0 trace0) taker_then.taken (place now out1 trace1)
+        has_halted = subst (λ (n : ℕ). Halts halted n (place kept out0 trace0) taker_then.taken (place now out1 trace1)) (ap (λ (t : Taking). t.inputs.count) made) (halts (place kept out0 trace0) begins of_none)
 
         pub has_joined : Joins halted (world kept (map supply_of olds) out0 trace0) (world now (map supply_of news) out1 trace1)
-        has_joined = joins kept.state.plan kept.state.given_start olds news backs engine left all_joined kept now out0 out1 trace0 trace1 refl refl halted has_halted ends
+        has_joined = joins kept.state.plan kept.state.given_start olds news backs taker_then left all_joined kept now out0 out1 trace0 trace1 refl refl halted has_halted ends
 
         pub goes_on : OnOk halted (IsGoing now)
-        goes_on = still_going halted (length olds) (place kept out0 trace0) (taken engine.mine) (place now out1 trace1) has_halted
+        goes_on = still_going halted (length olds) (place kept out0 trace0) taker_then.taken (place now out1 trace1) has_halted
 
         pub is_fit : halted ≡ Err halt.Unfit → ⊥
         is_fit is = subst (λ (h : Result (Unit {0}) Halt). Joins h (world kept (map supply_of olds) out0 trace0) (world now (map supply_of news) out1 trace1)) is has_joined

@@ -1,3 +1,4 @@
 pub mod Seated
 pub mod Takings
 pub mod Joining
+pub mod Sending

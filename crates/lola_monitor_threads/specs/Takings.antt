@@ -1,13 +1,12 @@
 -- What the engine's thread takes out of an intake, and what becomes of it.
 use Rattle.std.specs.Prelude.{◌≡◌, ◌⊎◌, ◌+◌, ◌<◌, ◌^◌, ℕ, Bool, List, [], ◌∷◌, ◌++◌, None, Result, Ok, Err}
 use Rattle.lola_port.specs.States.{PutBroke, SinkState, grown}
-use Rattle.atomic_table.specs.Seated.{TableId}
 use Rattle.lola_value.specs.declared.value.Kind.{Kind}
 use Rattle.lola_model.specs.Faults.{RunFault}
 use Rattle.lola_model.specs.Journal.{IsLegal}
 use Rattle.lola_model.specs.Trace.{input_kinds, trace_text}
 use Rattle.lola_model.specs.declared.journal.Entry.{Entry}
-use Rattle.lola_intake.specs.Intakes.{Shown}
+use Rattle.lola_feed.specs.SharedIntakes.{IntakeId, TakerShown}
 use Rattle.lola_monitor_run.specs.Verdicts.{AreOfSources, AreTraceable, HasFront, IsCutAtRow, IsCutInLine, IsRowFault, settled_fault_in, settled_text}
 use Rattle.lola_monitor_run.specs.Running.{IsRowFor, IsSetAs, Keeping, Stands, setting_in}
 use Rattle.lola_monitor_run.specs.declared.stop.Stop.{Stop}
@@ -93,16 +92,22 @@ pub record InputsOf : Type 0 where
 
 -- what the engine's thread takes rows with
 pub record Taking : Type 0 where
-  pub seat : Shown
+  pub seat : TakerShown
   pub inputs : InputsOf
   pub batch : List Entry
 
 -- it takes rows of an intake for a run: nothing is in its batch, and it was made for the run's plan and start
-pub record IsReady (taking : Taking) (intake : TableId) (kept : Keeping) : Type 0 where
+pub record IsReady (taking : Taking) (intake : IntakeId) (kept : Keeping) : Type 0 where
   pub own : taking.seat.intake ≡ intake
   pub kinds : taking.inputs.kinds ≡ input_kinds kept.state.plan.spec.streams
-  pub start : taking.seat.setting.start ≡ kept.state.given_start
+  pub start : taking.seat.start ≡ kept.state.given_start
   pub empty : taking.batch ≡ []
+
+-- a taker's seat stays that of its intake, with as many sources, and from when on
+pub record IsSameTaker (old new : TakerShown) : Type 0 where
+  pub intake : new.intake ≡ old.intake
+  pub sources : new.sources ≡ old.sources
+  pub start : new.start ≡ old.start
 
 -- an entry that a run of a plan takes: its source is one of so many, its row fits the plan, and one row more can be counted
 pub record IsFit (count : ℕ) (kept : Keeping) (entry : Entry) : Type 0 where

@@ -2,10 +2,10 @@
 ghost use Rattle.std.specs.Prelude.{◌≡◌};
 ghost use Rattle.lola_monitor_threads.specs.Seated.{WentOn};
 
-use crate::seated::{SeatedWorker, begin_or_look_at, turn_at};
+use crate::seated::{SeatedWorker, begin_or_look_at, settle_at, turn_at};
 use lola_feed::SeatDesk;
+use lola_feed::intake::{IntakeSeat, SourceIntake};
 use lola_feed::worker::{SourceWorker, TurnEnd};
-use lola_intake::intake::Intake;
 use lola_monitor_board::Board;
 use lola_port::{Gate, Source};
 use std::marker::Model;
@@ -13,40 +13,44 @@ use std::sync::Wait;
 
 /// A source's worker at the desk of its seat, for a source that the calling thread reads. Contracts see the worker and its seat.
 #[derive(Drop)]
-pub struct DeskWorker<'a, S: Source, R: Wait + Sync> {
+pub struct DeskWorker<'a, S: Source, P: IntakeSeat, I: SourceIntake<P>, R: Wait + Sync> {
     worker: SourceWorker<S>,
-    desk: SeatDesk<'a, R>,
+    desk: SeatDesk<'a, P, I, R>,
     source: u32,
 }
 
-impl<'a, S: Source, R: Wait + Sync> Model for DeskWorker<'a, S, R> {
-    ghost use Rattle.std.specs.Prelude.{◌≡◌};
-    ghost use Rattle.lola_monitor_threads.specs.Seated.{Seated};
+impl<'a, S: Source, P: IntakeSeat, I: SourceIntake<P>, R: Wait + Sync> Model
+    for DeskWorker<'a, S, P, I, R> {
+    ghost use Rattle.lola_monitor_threads.specs.Seated.{IsSeated, Seated};
 
     ghost Value = { Seated };
 
-    ghost view = { λ p. record { working = p.worker; seat = p.desk } };
+    ghost view = { λ p. record { working = p.worker; seat = p.desk.seat } };
 
-    ghost invariant = { λ p. p.worker.reader.shape.index ≡ p.desk.source };
+    ghost invariant = { λ p. IsSeated p.worker p.desk };
 }
 
-impl<'a, S: Source, R: Wait + Sync> DeskWorker<'a, S, R> {
+impl<'a, S: Source, P: IntakeSeat, I: SourceIntake<P>, R: Wait + Sync> DeskWorker<'a, S, P, I, R> {
     /// A seated worker at the desk of its seat.
-    pub fn create(rt: &'a R, intake: &'a Intake, seated: SeatedWorker<S>) -> DeskWorker<'a, S, R>
-        requires { seated.seat.intake ≡ intake.now }
+    pub fn create(
+        rt: &'a R,
+        intake: &'a I,
+        seated: SeatedWorker<S, P>,
+    ) -> DeskWorker<'a, S, P, I, R>
+        requires { seated.seat.intake ≡ I.id intake.now }
         ensures { result ≡ seated }
     {
         let source = seated.source();
-        let (worker, seat) = seated.into_parts();
+        let (worker, held) = seated.into_parts();
         DeskWorker {
             worker,
-            desk: SeatDesk::create(rt, intake, seat),
+            desk: SeatDesk::create(rt, intake, held),
             source,
         }
     }
 
     /// The worker with its seat.
-    pub fn into_seated(self) -> SeatedWorker<S>
+    pub fn into_seated(self) -> SeatedWorker<S, P>
         ensures { result ≡ self.entry }
     {
         let DeskWorker {
@@ -54,7 +58,7 @@ impl<'a, S: Source, R: Wait + Sync> DeskWorker<'a, S, R> {
             desk,
             source: _source,
         } = self;
-        SeatedWorker::create(worker, desk.into_seat())
+        SeatedWorker::create(worker, desk.into_held())
     }
 
     /// The number of its source.
@@ -134,12 +138,22 @@ impl<'a, S: Source, R: Wait + Sync> DeskWorker<'a, S, R> {
         self.tell(board);
     }
 
-    /// Looks at the next row of the source, where it was not looked at and can be read at once.
+    // Tells the intake that the source has ended, where it had no room for that before.
+    fn settle(&mut self)
+        ensures { WentOn self.old self.new }
+    {
+        settle_at(&self.worker, &mut self.desk);
+    }
+
+    /// Looks at the next row of the source, where it was not looked at and can be read at once. Of a source that has ended the intake
+    /// is told so, where it had no room for that before.
     pub fn look_ahead(&mut self, board: &Board)
         ensures { WentOn self.old self.new }
     {
         if self.comes_within(0) {
             self.look(board);
+        } else {
+            self.settle();
         }
     }
 

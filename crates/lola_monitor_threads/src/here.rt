@@ -6,6 +6,7 @@ ghost use Rattle.lola_monitor_threads.specs.Seated.{WentOn};
 
 use crate::desk::DeskWorker;
 use crate::seated::SeatedWorker;
+use lola_feed::intake::{IntakeSeat, SourceIntake};
 use lola_monitor_board::Board;
 use lola_port::{Gate, Source};
 use std::sync::Wait;
@@ -24,9 +25,9 @@ struct First {
 }
 
 // The source at a place looks at its next row, where it can be read at once.
-fn look_one<S: Source, R: Wait + Sync>(
+fn look_one<S: Source, P: IntakeSeat, I: SourceIntake<P>, R: Wait + Sync>(
     board: &Board,
-    here: &mut Vec<DeskWorker<'_, S, R>>,
+    here: &mut Vec<DeskWorker<'_, S, P, I, R>>,
     place: usize,
 )
     requires { place < length here.old.items }
@@ -37,9 +38,9 @@ fn look_one<S: Source, R: Wait + Sync>(
 }
 
 // The source at a place has a turn. It tells whether a row was handed in.
-fn turn_one<S: Source, R: Wait + Sync, G: Gate>(
+fn turn_one<S: Source, P: IntakeSeat, I: SourceIntake<P>, R: Wait + Sync, G: Gate>(
     board: &Board,
-    here: &mut Vec<DeskWorker<'_, S, R>>,
+    here: &mut Vec<DeskWorker<'_, S, P, I, R>>,
     place: usize,
     gate: &G,
 ) -> bool
@@ -51,7 +52,10 @@ fn turn_one<S: Source, R: Wait + Sync, G: Gate>(
 }
 
 // All look at their next rows whose rows can be read at once.
-fn look_all<S: Source, R: Wait + Sync>(board: &Board, here: &mut Vec<DeskWorker<'_, S, R>>)
+fn look_all<S: Source, P: IntakeSeat, I: SourceIntake<P>, R: Wait + Sync>(
+    board: &Board,
+    here: &mut Vec<DeskWorker<'_, S, P, I, R>>,
+)
     ensures here { AllZip WentOn here.old.items here.new.items }
     ensures room { vec_capacity here.new ≡ vec_capacity here.old }
 {
@@ -66,7 +70,9 @@ fn is_before(one: (u64, u32), other: (u64, u32)) -> bool {
 }
 
 // The one with the least of the rows in hand; the number of all, where none has one.
-fn least<S: Source, R: Wait + Sync>(here: &[DeskWorker<'_, S, R>]) -> First {
+fn least<S: Source, P: IntakeSeat, I: SourceIntake<P>, R: Wait + Sync>(
+    here: &[DeskWorker<'_, S, P, I, R>],
+) -> First {
     let mut place = here.len();
     let mut first = (u64::MAX, u32::MAX);
     let mut limit = (u64::MAX, u32::MAX);
@@ -86,7 +92,10 @@ fn least<S: Source, R: Wait + Sync>(here: &[DeskWorker<'_, S, R>]) -> First {
 }
 
 // The one that has the least of the rows in hand after this one has handed one in.
-fn next_least<S: Source, R: Wait + Sync>(here: &[DeskWorker<'_, S, R>], first: First) -> First {
+fn next_least<S: Source, P: IntakeSeat, I: SourceIntake<P>, R: Wait + Sync>(
+    here: &[DeskWorker<'_, S, P, I, R>],
+    first: First,
+) -> First {
     if let Some(worker) = here.get(first.place) {
         if let Some(stamp) = worker.waiting() {
             if is_before((stamp, worker.source()), first.limit) {
@@ -98,9 +107,9 @@ fn next_least<S: Source, R: Wait + Sync>(here: &[DeskWorker<'_, S, R>], first: F
 }
 
 // Whether no thread has a row in hand that comes before the one of the source at a place, if it has one.
-fn is_turn_of<S: Source, R: Wait + Sync>(
+fn is_turn_of<S: Source, P: IntakeSeat, I: SourceIntake<P>, R: Wait + Sync>(
     board: &Board,
-    here: &[DeskWorker<'_, S, R>],
+    here: &[DeskWorker<'_, S, P, I, R>],
     place: usize,
 ) -> bool {
     match here.get(place) {
@@ -111,9 +120,9 @@ fn is_turn_of<S: Source, R: Wait + Sync>(
 
 // Hands in a row of the one that has the least, unless that comes later than one of another thread, and tells who has the least then. None
 // where no row was handed in.
-fn hand_in<S: Source, R: Wait + Sync, G: Gate>(
+fn hand_in<S: Source, P: IntakeSeat, I: SourceIntake<P>, R: Wait + Sync, G: Gate>(
     board: &Board,
-    here: &mut Vec<DeskWorker<'_, S, R>>,
+    here: &mut Vec<DeskWorker<'_, S, P, I, R>>,
     first: First,
     gate: &G,
 ) -> Option<First>
@@ -132,9 +141,9 @@ fn hand_in<S: Source, R: Wait + Sync, G: Gate>(
 }
 
 // Hands rows in, until one comes later than that of another thread, or there is no room, or many are in.
-fn hand_in_many<S: Source, R: Wait + Sync, G: Gate>(
+fn hand_in_many<S: Source, P: IntakeSeat, I: SourceIntake<P>, R: Wait + Sync, G: Gate>(
     board: &Board,
-    here: &mut Vec<DeskWorker<'_, S, R>>,
+    here: &mut Vec<DeskWorker<'_, S, P, I, R>>,
     gate: &G,
 )
     ensures here { AllZip WentOn here.old.items here.new.items }
@@ -151,12 +160,12 @@ fn hand_in_many<S: Source, R: Wait + Sync, G: Gate>(
 
 /// Whether the calling thread reads a source of so many: nobody waits for its reads, it rings when its bytes have come, or it is the only
 /// one. The threads that rows pass through would cost more than they give.
-pub fn is_here<S: Source>(seated: &SeatedWorker<S>, count: usize) -> bool {
+pub fn is_here<S: Source, P: IntakeSeat>(seated: &SeatedWorker<S, P>, count: usize) -> bool {
     count == 1 || seated.answers_at_once() || seated.rings()
 }
 
 /// Whether it reads each of these, which are all sources.
-pub fn are_all_here<S: Source>(waiting: &[SeatedWorker<S>]) -> bool {
+pub fn are_all_here<S: Source, P: IntakeSeat>(waiting: &[SeatedWorker<S, P>]) -> bool {
     for seated in waiting {
         if !is_here(seated, waiting.len()) {
             return false;
@@ -167,9 +176,9 @@ pub fn are_all_here<S: Source>(waiting: &[SeatedWorker<S>]) -> bool {
 
 /// All here look at their next rows that can without waiting for anybody, and rows are handed in, the least first, until one
 /// comes later than that of another thread, or there is no room, or many are in.
-pub fn turn_here<S: Source, R: Wait + Sync, G: Gate>(
+pub fn turn_here<S: Source, P: IntakeSeat, I: SourceIntake<P>, R: Wait + Sync, G: Gate>(
     board: &Board,
-    here: &mut Vec<DeskWorker<'_, S, R>>,
+    here: &mut Vec<DeskWorker<'_, S, P, I, R>>,
     gate: &G,
 )
     ensures here { AllZip WentOn here.old.items here.new.items }
@@ -181,7 +190,9 @@ pub fn turn_here<S: Source, R: Wait + Sync, G: Gate>(
 
 /// Whether all that is to be done here waits for other threads, which wake the calling thread: one has a row in hand, or no source has rows
 /// to come but those that ring.
-pub fn waits_for_others<S: Source, R: Wait + Sync>(here: &[DeskWorker<'_, S, R>]) -> bool {
+pub fn waits_for_others<S: Source, P: IntakeSeat, I: SourceIntake<P>, R: Wait + Sync>(
+    here: &[DeskWorker<'_, S, P, I, R>],
+) -> bool {
     for worker in here {
         if worker.waiting().is_some() {
             return true;
@@ -196,7 +207,9 @@ pub fn waits_for_others<S: Source, R: Wait + Sync>(here: &[DeskWorker<'_, S, R>]
 }
 
 /// Waits a moment for the lines of the first source here that has not ended, and does not ring.
-pub fn rest<S: Source, R: Wait + Sync>(here: &[DeskWorker<'_, S, R>]) {
+pub fn rest<S: Source, P: IntakeSeat, I: SourceIntake<P>, R: Wait + Sync>(
+    here: &[DeskWorker<'_, S, P, I, R>],
+) {
     for worker in here {
         if !worker.has_ended() && !worker.rings() {
             worker.comes_within(MOMENT);

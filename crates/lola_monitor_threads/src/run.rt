@@ -3,12 +3,11 @@ ghost use Rattle.std.specs.Prelude.{◌≡◌, ◌≤◌, ◌↔◌, [], Err, So
 ghost use Rattle.std.specs.List.{AllZip};
 ghost use Rattle.lola_port.specs.States.{SinkState};
 ghost use Rattle.lola_model.specs.Trace.{input_kinds};
-ghost use Rattle.lola_feed.specs.Feeding.{Working};
-ghost use Rattle.lola_intake.specs.Intakes.{Shown, new_seat, setting};
+ghost use Rattle.lola_feed.specs.SharedIntakes.{AreNewSeats, new_taker};
 ghost use Rattle.lola_monitor_run.specs.Running.{IsGoing, Stands, keeping};
 ghost use Rattle.lola_monitor_run.specs.Feeds.{AreInPlace, AreReady, EndsRun, World, supply_of, world};
 ghost use Rattle.lola_monitor_threads.specs.Joining.{Joins};
-ghost use Rattle.lola_monitor_threads.specs.Seated.{AreNewSeats, SomeOutOfMemory, all_seated};
+ghost use Rattle.lola_monitor_threads.specs.Seated.{IsNewPair, SomeOutOfMemory, all_seated};
 ghost use Rattle.lola_monitor_threads.specs.declared.halt.Halt.TheVariants as halt;
 
 use crate::fit::RunInputs;
@@ -17,9 +16,9 @@ use crate::here::are_all_here;
 use crate::seated::SeatedWorker;
 use crate::sending::send_all;
 use crate::taking::Taker;
+use lola_feed::HeldSeat;
+use lola_feed::intake::{IntakeSeat, IntakeTaker, SharedIntake};
 use lola_feed::worker::{SourceEnd, SourceWorker};
-use lola_intake::intake::Intake;
-use lola_intake::seats::SourceSeat;
 use lola_merge::batch::Batch;
 use lola_model::plan::Plan;
 use lola_monitor_board::Board;
@@ -39,23 +38,28 @@ use std::thread::Threads;
 /// wait for each other, a flag for each source, room for the seated workers that wait and for those that came back, and for what the
 /// intake has left at its end.
 #[derive(Drop)]
-struct Room<S: Source> {
-    intake: Intake,
-    seats: Vec<SourceSeat>,
-    taker: Taker,
+struct Room<S: Source, P: IntakeSeat, Q: IntakeTaker, I: SharedIntake<P, Q>> {
+    intake: I,
+    seats: Vec<P>,
+    taker: Taker<Q>,
     board: Board,
     flags: Vec<AtomicBool>,
-    waiting: Vec<SeatedWorker<S>>,
-    back: Vec<SeatedWorker<S>>,
+    waiting: Vec<SeatedWorker<S, P>>,
+    back: Vec<SeatedWorker<S, P>>,
     left: Batch,
 }
 
-impl<S: Source> Room<S> {
+impl<S: Source, P: IntakeSeat, Q: IntakeTaker, I: SharedIntake<P, Q>> Room<S, P, Q, I> {
     // Room for so many sources of a plan.
-    fn create(alloc: Global, plan: &Plan, count: u32, start: Option<u64>) -> Result<Room<S>, Memory>
+    fn create(
+        alloc: Global,
+        plan: &Plan,
+        count: u32,
+        start: Option<u64>,
+    ) -> Result<Room<S, P, Q, I>, Memory>
         requires { (1 ≤ count) × (count ≤ 64) }
-        ensures taker { IfOk result (λ room. room.taker ≡ record { seat = new_seat room.intake (setting count start) 0 0; inputs = record { count = count; kinds = input_kinds plan.now.spec.streams }; batch = [] }) }
-        ensures seats { IfOk result (λ room. AreNewSeats room.intake (setting count start) count room.seats.items) }
+        ensures taker { IfOk result (λ room. room.taker ≡ record { seat = new_taker (I.id room.intake) count start; inputs = record { count = count; kinds = input_kinds plan.now.spec.streams }; batch = [] }) }
+        ensures seats { IfOk result (λ room. AreNewSeats (I.id room.intake) count (map P.shows room.seats.items)) }
         ensures flags { IfOk result (λ room. length room.flags.items ≡ count) }
         ensures waiting { IfOk result (λ room. (room.waiting.items ≡ []) × (count ≤ vec_capacity room.waiting)) }
         ensures back { IfOk result (λ room. (room.back.items ≡ []) × (count ≤ vec_capacity room.back)) }
@@ -69,7 +73,7 @@ impl<S: Source> Room<S> {
         let left = Batch::create(alloc)?;
         let batch = Batch::create(alloc)?;
         let inputs = RunInputs::create(alloc, plan, count)?;
-        let (intake, seats, seat) = Intake::create(alloc, count, start)?;
+        let (intake, seats, seat) = I::create(alloc, count, start)?;
         Ok(Room {
             intake,
             seats,
@@ -84,9 +88,9 @@ impl<S: Source> Room<S> {
 }
 
 // Tells the board how many processors the threads of these sources can have, if there are such threads, and the machine tells.
-fn tell_processors<R: Threads, S: Source>(
+fn tell_processors<R: Threads, S: Source, P: IntakeSeat>(
     rt: &R,
-    waiting: &Vec<SeatedWorker<S>>,
+    waiting: &Vec<SeatedWorker<S, P>>,
     board: &mut Board,
 ) {
     if are_all_here(waiting.as_slice()) {
@@ -119,16 +123,16 @@ fn read_ahead<S: Source>(worker: &mut SourceWorker<S>, is_only: bool, bell: &Bel
 }
 
 // Joins each worker with the seat of its source, the last first, and asks that its bytes be read ahead.
-fn seat_all<S: Source>(
+fn seat_all<S: Source, P: IntakeSeat>(
     workers: &mut Vec<SourceWorker<S>>,
-    seats: &mut Vec<SourceSeat>,
-    waiting: &mut Vec<SeatedWorker<S>>,
+    seats: &mut Vec<P>,
+    waiting: &mut Vec<SeatedWorker<S, P>>,
     bell: &Bell,
 )
-    requires pairs { AllZip (λ (w : Working) (p : Shown). w.reader.shape.index ≡ p.source) workers.old.items seats.old.items }
+    requires pairs { AllZip IsNewPair workers.old.items (map P.shows seats.old.items) }
     requires none { waiting.old.items ≡ [] }
     requires room { length workers.old.items ≤ vec_capacity waiting.old }
-    ensures seated { reverse waiting.new.items ≡ all_seated workers.old.items seats.old.items }
+    ensures seated { reverse waiting.new.items ≡ all_seated workers.old.items (map P.shows seats.old.items) }
     ensures workers { (workers.new.items ≡ []) × (vec_capacity workers.new ≡ vec_capacity workers.old) }
     ensures seats { (seats.new.items ≡ []) × (vec_capacity seats.new ≡ vec_capacity seats.old) }
 {
@@ -136,27 +140,27 @@ fn seat_all<S: Source>(
     while let Some(mut worker) = workers.pop() {
         if let Some(seat) = seats.pop() {
             read_ahead(&mut worker, is_only, bell);
-            waiting.push_reserved(SeatedWorker::create(worker, seat));
+            waiting.push_reserved(SeatedWorker::create(worker, HeldSeat::create(seat)));
         }
     }
 }
 
 // Takes seated workers apart, the last first.
-fn take_apart<S: Source>(
-    back: Vec<SeatedWorker<S>>,
+fn take_apart<S: Source, P: IntakeSeat>(
+    back: Vec<SeatedWorker<S, P>>,
     workers: &mut Vec<SourceWorker<S>>,
-    seats: &mut Vec<SourceSeat>,
+    seats: &mut Vec<P>,
 )
     requires none { (workers.old.items ≡ []) × (seats.old.items ≡ []) }
     requires room { (length back.items ≤ vec_capacity workers.old) × (length back.items ≤ vec_capacity seats.old) }
-    ensures seated { all_seated workers.new.items seats.new.items ≡ reverse back.items }
+    ensures seated { all_seated workers.new.items (map P.shows seats.new.items) ≡ reverse back.items }
     ensures many { (length workers.new.items ≡ length back.items) × (length seats.new.items ≡ length back.items) }
 {
     let mut back = back;
     while let Some(seated) = back.pop() {
-        let (worker, seat) = seated.into_parts();
+        let (worker, held) = seated.into_parts();
         workers.push_reserved(worker);
-        seats.push_reserved(seat);
+        seats.push_reserved(held.into_seat());
     }
 }
 
@@ -210,10 +214,19 @@ fn settle<R: Threads + Sync, S: Source, K: Sink, G: Gate + Sync>(
 }
 
 // Runs sources with this room.
-fn run_room<R: Threads + Wait + Sync, S: Source + Send, K: Sink, T: Sink, G: Gate + Sync>(
+fn run_room<
+    P: IntakeSeat + Send,
+    Q: IntakeTaker,
+    I: SharedIntake<P, Q> + Sync,
+    R: Threads + Wait + Sync,
+    S: Source + Send,
+    K: Sink,
+    T: Sink,
+    G: Gate + Sync,
+>(
     rt: &R,
     alloc: Global,
-    room: Room<S>,
+    room: Room<S, P, Q, I>,
     run: &mut Run,
     workers: Vec<SourceWorker<S>>,
     out: &mut K,
@@ -222,8 +235,8 @@ fn run_room<R: Threads + Wait + Sync, S: Source + Send, K: Sink, T: Sink, G: Gat
 ) -> (Vec<SourceWorker<S>>, Result<(), Stop>)
     requires stands { Stands [] (keeping run.old) }
     requires ready { AreReady (keeping run.old).state.plan workers.items }
-    requires taker { room.taker ≡ record { seat = new_seat room.intake (setting (length workers.items) (keeping run.old).state.given_start) 0 0; inputs = record { count = length workers.items; kinds = input_kinds (keeping run.old).state.plan.spec.streams }; batch = [] } }
-    requires seats { AreNewSeats room.intake (setting (length workers.items) (keeping run.old).state.given_start) (length workers.items) room.seats.items }
+    requires taker { room.taker ≡ record { seat = new_taker (I.id room.intake) (length workers.items) (keeping run.old).state.given_start; inputs = record { count = length workers.items; kinds = input_kinds (keeping run.old).state.plan.spec.streams }; batch = [] } }
+    requires seats { AreNewSeats (I.id room.intake) (length workers.items) (map P.shows room.seats.items) }
     requires flags { length room.flags.items ≡ length workers.items }
     requires waiting { (room.waiting.items ≡ []) × (length workers.items ≤ vec_capacity room.waiting) }
     requires back { (room.back.items ≡ []) × (length workers.items ≤ vec_capacity room.back) }
@@ -253,7 +266,7 @@ fn run_room<R: Threads + Wait + Sync, S: Source + Send, K: Sink, T: Sink, G: Gat
         rt, &intake, gate, &board, &flags, waiting, here, back, &mut taker, run, out, trace,
     );
     take_apart(back, &mut workers, &mut seats);
-    taker.end(intake, seats, &mut left);
+    taker.end(rt, intake, seats, &mut left);
     let stopped = settle(rt, run, workers.as_slice(), halted, out, gate);
     (workers, stopped)
 }
@@ -264,7 +277,16 @@ fn run_room<R: Threads + Wait + Sync, S: Source + Send, K: Sink, T: Sink, G: Gat
 /// order in which they are handed in, which may be any that keeps the order of each source; it is that of stamp and source, as far as nobody
 /// has to wait for a source that is silent. What ends the run ends it at once, also where sources are silent, but for a source whose thread waits
 /// in a read. The workers come back as their turns left them.
-pub fn run_in_threads<R: Threads + Wait + Sync, S: Source + Send, K: Sink, T: Sink, G: Gate + Sync>(
+pub fn run_in_threads<
+    P: IntakeSeat + Send,
+    Q: IntakeTaker,
+    I: SharedIntake<P, Q> + Sync,
+    R: Threads + Wait + Sync,
+    S: Source + Send,
+    K: Sink,
+    T: Sink,
+    G: Gate + Sync,
+>(
     rt: &R,
     alloc: Global,
     run: &mut Run,
@@ -282,7 +304,7 @@ pub fn run_in_threads<R: Threads + Wait + Sync, S: Source + Send, K: Sink, T: Si
     ensures places { AreInPlace workers.items result.0.items }
     ensures plan { (keeping run.new).state.plan ≡ (keeping run.old).state.plan }
 {
-    match Room::create(alloc, run.plan(), workers.len() as u32, start) {
+    match Room::<S, P, Q, I>::create(alloc, run.plan(), workers.len() as u32, start) {
         Ok(room) => run_room(rt, alloc, room, run, workers, out, trace, gate),
         Err(_) => (workers, Err(Stop::Memory)),
     }

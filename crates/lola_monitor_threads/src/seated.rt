@@ -1,11 +1,10 @@
 //! A source's worker with its seat at the intake.
 ghost use Rattle.std.specs.Prelude.{◌≡◌};
-ghost use Rattle.lola_monitor_threads.specs.Seated.{WentOn, seated};
+ghost use Rattle.lola_monitor_threads.specs.Seated.{IsSeated, WentOn, seated};
 
-use lola_feed::SeatDesk;
+use lola_feed::intake::{IntakeSeat, SourceIntake};
 use lola_feed::worker::{SourceWorker, TurnEnd};
-use lola_intake::intake::Intake;
-use lola_intake::seats::SourceSeat;
+use lola_feed::{HeldSeat, SeatDesk};
 use lola_monitor_board::{Board, Watch};
 use lola_port::{Gate, Source};
 use std::marker::Model;
@@ -16,20 +15,19 @@ const PIECE: u16 = 100;
 
 /// A source's worker and its seat, which go together to the thread that reads the source.
 #[derive(Drop)]
-pub struct SeatedWorker<S: Source> {
+pub struct SeatedWorker<S: Source, P: IntakeSeat> {
     worker: SourceWorker<S>,
-    seat: SourceSeat,
+    held: HeldSeat<P>,
 }
 
-impl<S: Source> Model for SeatedWorker<S> {
-    ghost use Rattle.std.specs.Prelude.{◌≡◌};
-    ghost use Rattle.lola_monitor_threads.specs.Seated.{Seated};
+impl<S: Source, P: IntakeSeat> Model for SeatedWorker<S, P> {
+    ghost use Rattle.lola_monitor_threads.specs.Seated.{IsSeated, Seated};
 
     ghost Value = { Seated };
 
-    ghost view = { λ p. record { working = p.worker; seat = p.seat } };
+    ghost view = { λ p. record { working = p.worker; seat = p.held.seat } };
 
-    ghost invariant = { λ p. p.worker.reader.shape.index ≡ p.seat.source };
+    ghost invariant = { λ p. IsSeated p.worker p.held };
 }
 
 // Waits until a read of a source answers at once, where it has to be read. It tells whether one would: else the run was stopped.
@@ -55,34 +53,37 @@ fn wait_to_read<S: Source, R: Wait>(
 }
 
 // Reads the heading of a source, unless it was read; where there is none, its desk is told so. It tells whether the worker goes on.
-fn begin_at<S: Source, R: Wait + Sync>(
+fn begin_at<S: Source, P: IntakeSeat, I: SourceIntake<P>, R: Wait + Sync>(
     worker: &mut SourceWorker<S>,
-    desk: &mut SeatDesk<'_, R>,
+    desk: &mut SeatDesk<'_, P, I, R>,
 ) -> bool
-    requires { worker.old.reader.shape.index ≡ desk.old.source }
-    ensures { WentOn (seated worker.old desk.old) (seated worker.new desk.new) }
+    requires { IsSeated worker.old desk.old }
+    ensures went { WentOn (seated worker.old desk.old.seat) (seated worker.new desk.new.seat) }
+    ensures at { IsSeated worker.new desk.new }
 {
     worker.begin(desk)
 }
 
 // Looks at the next row of a source; where none is to come, its desk is told so.
-fn look_at<S: Source, R: Wait + Sync>(
+fn look_at<S: Source, P: IntakeSeat, I: SourceIntake<P>, R: Wait + Sync>(
     worker: &mut SourceWorker<S>,
-    desk: &mut SeatDesk<'_, R>,
+    desk: &mut SeatDesk<'_, P, I, R>,
 ) -> Option<u64>
-    requires { worker.old.reader.shape.index ≡ desk.old.source }
-    ensures { WentOn (seated worker.old desk.old) (seated worker.new desk.new) }
+    requires { IsSeated worker.old desk.old }
+    ensures went { WentOn (seated worker.old desk.old.seat) (seated worker.new desk.new.seat) }
+    ensures at { IsSeated worker.new desk.new }
 {
     worker.hold(desk)
 }
 
 /// Looks at the next row of a source, or reads the heading before the first.
-pub fn begin_or_look_at<S: Source, R: Wait + Sync>(
+pub fn begin_or_look_at<S: Source, P: IntakeSeat, I: SourceIntake<P>, R: Wait + Sync>(
     worker: &mut SourceWorker<S>,
-    desk: &mut SeatDesk<'_, R>,
+    desk: &mut SeatDesk<'_, P, I, R>,
 )
-    requires { worker.old.reader.shape.index ≡ desk.old.source }
-    ensures { WentOn (seated worker.old desk.old) (seated worker.new desk.new) }
+    requires { IsSeated worker.old desk.old }
+    ensures went { WentOn (seated worker.old desk.old.seat) (seated worker.new desk.new.seat) }
+    ensures at { IsSeated worker.new desk.new }
 {
     if worker.has_begun() {
         look_at(worker, desk);
@@ -92,14 +93,52 @@ pub fn begin_or_look_at<S: Source, R: Wait + Sync>(
 }
 
 /// One turn of a source at its desk.
-pub fn turn_at<S: Source, R: Wait + Sync>(
+pub fn turn_at<S: Source, P: IntakeSeat, I: SourceIntake<P>, R: Wait + Sync>(
     worker: &mut SourceWorker<S>,
-    desk: &mut SeatDesk<'_, R>,
+    desk: &mut SeatDesk<'_, P, I, R>,
 ) -> TurnEnd
-    requires { worker.old.reader.shape.index ≡ desk.old.source }
-    ensures { WentOn (seated worker.old desk.old) (seated worker.new desk.new) }
+    requires { IsSeated worker.old desk.old }
+    ensures went { WentOn (seated worker.old desk.old.seat) (seated worker.new desk.new.seat) }
+    ensures at { IsSeated worker.new desk.new }
 {
     worker.turn(desk)
+}
+
+/// Tells the intake that a source has ended, where it had no room for that before. It tells whether nothing is left to be told.
+pub fn settle_at<S: Source, P: IntakeSeat, I: SourceIntake<P>, R: Wait + Sync>(
+    worker: &SourceWorker<S>,
+    desk: &mut SeatDesk<'_, P, I, R>,
+) -> bool
+    requires { IsSeated worker.now desk.old }
+    ensures went { WentOn (seated worker.now desk.old.seat) (seated worker.now desk.new.seat) }
+    ensures at { IsSeated worker.now desk.new }
+{
+    let _ = worker;
+    desk.settle()
+}
+
+// Tells the intake that a source has ended, where it had no room for that before. Its thread waits for room meanwhile.
+fn settle_all<S: Source, P: IntakeSeat, I: SourceIntake<P>, R: Wait + Sync>(
+    rt: &R,
+    worker: &SourceWorker<S>,
+    desk: &mut SeatDesk<'_, P, I, R>,
+    source: u32,
+    board: &Board,
+)
+    requires { IsSeated worker.now desk.old }
+    ensures went { WentOn (seated worker.now desk.old.seat) (seated worker.now desk.new.seat) }
+    ensures at { IsSeated worker.now desk.new }
+{
+    let mut times: u32 = 0;
+    for _ in rt.forever() {
+        if settle_at(worker, desk) {
+            board.row_is_in(source, times);
+            return;
+        }
+        board.wait_for_room(rt, source, times);
+        times = times.saturating_add(1);
+    }
+    unreachable!()
 }
 
 // Nobody waits any more for a source whose worker has ended, after its last row has found no room so many times.
@@ -110,16 +149,17 @@ fn leave(board: &Board, source: u32, times: u32) {
 
 // Hands in the row that waits. Where the intake is full, its thread waits for room before the next turn. It tells whether the
 // worker goes on.
-fn hand_in<S: Source, R: Wait + Sync, G: Gate>(
+fn hand_in<S: Source, P: IntakeSeat, I: SourceIntake<P>, R: Wait + Sync, G: Gate>(
     rt: &R,
     worker: &mut SourceWorker<S>,
-    desk: &mut SeatDesk<'_, R>,
+    desk: &mut SeatDesk<'_, P, I, R>,
     source: u32,
     gate: &G,
     board: &Board,
 ) -> bool
-    requires { worker.old.reader.shape.index ≡ desk.old.source }
-    ensures { WentOn (seated worker.old desk.old) (seated worker.new desk.new) }
+    requires { IsSeated worker.old desk.old }
+    ensures went { WentOn (seated worker.old desk.old.seat) (seated worker.new desk.new.seat) }
+    ensures at { IsSeated worker.new desk.new }
 {
     let mut times: u32 = 0;
     for _ in rt.forever() {
@@ -145,17 +185,18 @@ fn hand_in<S: Source, R: Wait + Sync, G: Gate>(
 // The next row of a source, read and handed in once it is the least of those that others have in hand. The gate is told before it
 // is read, and before each further turn. It tells whether the worker goes on: it does not where it has ended, or where the run is
 // stopped while its source is silent.
-fn pass_row<S: Source, R: Wait + Sync, G: Gate>(
+fn pass_row<S: Source, P: IntakeSeat, I: SourceIntake<P>, R: Wait + Sync, G: Gate>(
     rt: &R,
     worker: &mut SourceWorker<S>,
-    desk: &mut SeatDesk<'_, R>,
+    desk: &mut SeatDesk<'_, P, I, R>,
     source: u32,
     gate: &G,
     board: &Board,
     watch: &mut Watch,
 ) -> bool
-    requires { worker.old.reader.shape.index ≡ desk.old.source }
-    ensures { WentOn (seated worker.old desk.old) (seated worker.new desk.new) }
+    requires { IsSeated worker.old desk.old }
+    ensures went { WentOn (seated worker.old desk.old.seat) (seated worker.new desk.new.seat) }
+    ensures at { IsSeated worker.new desk.new }
 {
     gate.source_turn(source);
     if !wait_to_read(rt, worker, source, board) {
@@ -174,16 +215,17 @@ fn pass_row<S: Source, R: Wait + Sync, G: Gate>(
 }
 
 // The heading of a source and all its rows, one after another.
-fn run_at<S: Source, R: Wait + Sync, G: Gate>(
+fn run_at<S: Source, P: IntakeSeat, I: SourceIntake<P>, R: Wait + Sync, G: Gate>(
     rt: &R,
     worker: &mut SourceWorker<S>,
-    desk: &mut SeatDesk<'_, R>,
+    desk: &mut SeatDesk<'_, P, I, R>,
     source: u32,
     gate: &G,
     board: &Board,
 )
-    requires { worker.old.reader.shape.index ≡ desk.old.source }
-    ensures { WentOn (seated worker.old desk.old) (seated worker.new desk.new) }
+    requires { IsSeated worker.old desk.old }
+    ensures went { WentOn (seated worker.old desk.old.seat) (seated worker.new desk.new.seat) }
+    ensures at { IsSeated worker.new desk.new }
 {
     if !wait_to_read(rt, worker, source, board) {
         return;
@@ -201,20 +243,20 @@ fn run_at<S: Source, R: Wait + Sync, G: Gate>(
     unreachable!()
 }
 
-impl<S: Source> SeatedWorker<S> {
+impl<S: Source, P: IntakeSeat> SeatedWorker<S, P> {
     /// The worker of a source with the seat of that source.
-    pub fn create(worker: SourceWorker<S>, seat: SourceSeat) -> SeatedWorker<S>
-        requires { worker.reader.shape.index ≡ seat.source }
-        ensures { result ≡ seated worker seat }
+    pub fn create(worker: SourceWorker<S>, held: HeldSeat<P>) -> SeatedWorker<S, P>
+        requires { IsSeated worker held }
+        ensures { result ≡ seated worker held.seat }
     {
-        SeatedWorker { worker, seat }
+        SeatedWorker { worker, held }
     }
 
     /// The number of its source.
     pub fn source(&self) -> u32
         ensures { result ≡ self.now.seat.source }
     {
-        self.seat.source()
+        self.held.source()
     }
 
     /// Whether each read of its source answers at once.
@@ -228,31 +270,33 @@ impl<S: Source> SeatedWorker<S> {
     }
 
     /// All turns of the source, until its worker has ended, or until the run is stopped while the source is silent.
-    pub fn run<R: Wait + Sync, G: Gate>(
+    pub fn run<I: SourceIntake<P>, R: Wait + Sync, G: Gate>(
         self,
         rt: &R,
-        intake: &Intake,
+        intake: &I,
         gate: &G,
         board: &Board,
-    ) -> SeatedWorker<S>
-        requires { self.seat.intake ≡ intake.now }
+    ) -> SeatedWorker<S, P>
+        requires { self.seat.intake ≡ I.id intake.now }
         ensures { WentOn self result }
     {
-        let SeatedWorker { mut worker, seat } = self;
-        let source = seat.source();
-        let mut desk = SeatDesk::create(rt, intake, seat);
+        let SeatedWorker { mut worker, held } = self;
+        let source = held.source();
+        let mut desk = SeatDesk::create(rt, intake, held);
         run_at(rt, &mut worker, &mut desk, source, gate, board);
+        settle_all(rt, &worker, &mut desk, source, board);
         SeatedWorker {
             worker,
-            seat: desk.into_seat(),
+            held: desk.into_held(),
         }
     }
 
-    /// The worker and the seat.
-    pub fn into_parts(self) -> (SourceWorker<S>, SourceSeat)
-        ensures { seated result.0 result.1 ≡ self }
+    /// The worker and what it has of the seat.
+    pub fn into_parts(self) -> (SourceWorker<S>, HeldSeat<P>)
+        ensures parts { seated result.0 result.1.seat ≡ self }
+        ensures at { IsSeated result.0 result.1 }
     {
-        let SeatedWorker { worker, seat } = self;
-        (worker, seat)
+        let SeatedWorker { worker, held } = self;
+        (worker, held)
     }
 }

@@ -1,21 +1,20 @@
 //! The threads of the sources that have one: each is started by a call that then goes on to the next source, and joined when that has come back.
-ghost use Rattle.std.specs.Prelude.{◌≡◌, ◌+◌, ◌≤◌, ◌<◌, ◌++◌, ◌∷◌, [], IfErr, IfOk, List, OnOk, false, length, vec_capacity};
+ghost use Rattle.std.specs.Prelude.{◌≡◌, ◌+◌, ◌≤◌, ◌<◌, ◌++◌, ◌∷◌, [], IfErr, IfOk, List, OnOk, true, length, vec_capacity};
 ghost use Rattle.std.specs.List.{AllZip};
 ghost use Rattle.lola_model.specs.Journal.{IsLegalFrom, opening_time};
-ghost use Rattle.lola_intake.specs.Histories.{EndsDone, taken};
-ghost use Rattle.lola_feed.specs.Seating.{IsSameSeat};
 ghost use Rattle.lola_monitor_run.specs.Verdicts.{AreOfSources};
 ghost use Rattle.lola_monitor_run.specs.Running.{keeping};
 ghost use Rattle.lola_monitor_threads.specs.Joining.{HaveFlags};
 ghost use Rattle.lola_monitor_threads.specs.Seated.{AreAt, Seated, WentOn};
-ghost use Rattle.lola_monitor_threads.specs.Takings.{Halts, HasRun, IsReady, Place, place};
+ghost use Rattle.lola_monitor_threads.specs.Sending.{HasSent, MaySend};
+ghost use Rattle.lola_monitor_threads.specs.Takings.{Halts, HasRun, IsReady, IsSameTaker, Place, place};
 
 use crate::desk::DeskWorker;
 use crate::halt::Halt;
 use crate::here::is_here;
 use crate::seated::SeatedWorker;
 use crate::taking::Taker;
-use lola_intake::intake::Intake;
+use lola_feed::intake::{IntakeSeat, IntakeTaker, SharedIntake, SourceIntake};
 use lola_monitor_board::Board;
 use lola_monitor_run::run::Run;
 use lola_port::{Gate, Sink, Source};
@@ -27,9 +26,9 @@ use std::thread::{Promise, PromisedHandle, Scope, Threads};
 
 /// That a seated worker that comes back from a thread is the one that was sent there, and went on.
 #[derive(Drop)]
-pub struct ComesBack<S: Source>(Snapshot<SeatedWorker<S>>);
+pub struct ComesBack<S: Source, P: IntakeSeat>(Snapshot<SeatedWorker<S, P>>);
 
-impl<S: Source> Promise<SeatedWorker<S>> for ComesBack<S> {
+impl<S: Source, P: IntakeSeat> Promise<SeatedWorker<S, P>> for ComesBack<S, P> {
     ghost use Rattle.lola_monitor_threads.specs.Seated.{WentOn};
 
     ghost kept_by = { λ p r. WentOn p.0.value r };
@@ -38,24 +37,24 @@ impl<S: Source> Promise<SeatedWorker<S>> for ComesBack<S> {
 /// What all threads of a run share: the intake, the gate, the board, and a flag for each source. A flag that is set says that no
 /// thread could be started for its source.
 #[derive(Drop)]
-pub struct ThreadContext<'s, R, G> {
+pub struct ThreadContext<'s, R, I, G> {
     pub rt: &'s R,
-    pub intake: &'s Intake,
+    pub intake: &'s I,
     pub gate: &'s G,
     pub board: &'s Board,
     pub flags: &'s [AtomicBool],
 }
 
 // The work of a source's thread: all turns of the source, or none where no thread could be started.
-fn work<S: Source, R: Wait + Sync, G: Gate>(
+fn work<S: Source, P: IntakeSeat, I: SourceIntake<P>, R: Wait + Sync, G: Gate>(
     rt: &R,
-    intake: &Intake,
+    intake: &I,
     gate: &G,
     board: &Board,
     flag: &AtomicBool,
-    seated: SeatedWorker<S>,
-) -> SeatedWorker<S>
-    requires { seated.seat.intake ≡ intake.now }
+    seated: SeatedWorker<S, P>,
+) -> SeatedWorker<S, P>
+    requires { seated.seat.intake ≡ I.id intake.now }
     ensures { WentOn seated result }
 {
     if flag.load(Ordering::SeqCst) {
@@ -66,12 +65,20 @@ fn work<S: Source, R: Wait + Sync, G: Gate>(
 
 // Starts a thread for a seated worker. Where none is to be, or can be made, the seated worker comes back; in the second case the flag
 // of its source is set, and no thread waits for that source.
-fn start<'s, E, S: Source + Send + 's, R: Threads + Wait + Sync, G: Gate + Sync>(
-    context: &ThreadContext<'s, R, G>,
+fn start<
+    's,
+    E,
+    S: Source + Send + 's,
+    P: IntakeSeat + Send + 's,
+    I: SourceIntake<P> + Sync + 's,
+    R: Threads + Wait + Sync,
+    G: Gate + Sync,
+>(
+    context: &ThreadContext<'s, R, I, G>,
     scope: &Scope<'s, E>,
-    seated: SeatedWorker<S>,
-) -> Result<PromisedHandle<SeatedWorker<S>, ComesBack<S>>, SeatedWorker<S>>
-    requires intake { seated.seat.intake ≡ context.now.intake.now }
+    seated: SeatedWorker<S, P>,
+) -> Result<PromisedHandle<SeatedWorker<S, P>, ComesBack<S, P>>, SeatedWorker<S, P>>
+    requires intake { seated.seat.intake ≡ I.id context.now.intake.now }
     requires flag { seated.seat.source < length context.now.flags.now }
     ensures sent { IfOk result (λ handle. handle.promise.0.value ≡ seated) }
     ensures kept { IfErr result (λ kept. WentOn seated kept) }
@@ -95,8 +102,8 @@ fn start<'s, E, S: Source + Send + 's, R: Threads + Wait + Sync, G: Gate + Sync>
     let promise = ComesBack(Snapshot::of(&seated));
     match scope.spawn_with(
         promise,
-        move || -> SeatedWorker<S>
-            requires { seated.seat.intake ≡ intake.now }
+        move || -> SeatedWorker<S, P>
+            requires { seated.seat.intake ≡ I.id intake.now }
             ensures { WentOn seated result }
         { work(rt, intake, gate, board, flag, seated) },
     ) {
@@ -112,9 +119,9 @@ fn start<'s, E, S: Source + Send + 's, R: Threads + Wait + Sync, G: Gate + Sync>
 }
 
 // Moves the last of the workers here behind the seated workers that came back.
-fn move_last<S: Source, R: Wait + Sync>(
-    here: &mut Vec<DeskWorker<'_, S, R>>,
-    back: &mut Vec<SeatedWorker<S>>,
+fn move_last<S: Source, P: IntakeSeat, I: SourceIntake<P>, R: Wait + Sync>(
+    here: &mut Vec<DeskWorker<'_, S, P, I, R>>,
+    back: &mut Vec<SeatedWorker<S, P>>,
 )
     requires some { 0 < length here.old.items }
     requires room { length back.old.items < vec_capacity back.old }
@@ -133,36 +140,39 @@ fn send_each<
     's,
     E,
     S: Source + Send + 's,
+    P: IntakeSeat + Send + 's,
+    Q: IntakeTaker,
+    I: SharedIntake<P, Q> + Sync + 's,
     R: Threads + Wait + Sync,
     K: Sink,
     T: Sink,
     G: Gate + Sync,
 >(
-    context: &ThreadContext<'s, R, G>,
+    context: &ThreadContext<'s, R, I, G>,
     scope: &Scope<'s, E>,
-    waiting: Vec<SeatedWorker<S>>,
-    here: Vec<DeskWorker<'s, S, R>>,
-    back: Vec<SeatedWorker<S>>,
-    taker: &mut Taker,
+    waiting: Vec<SeatedWorker<S, P>>,
+    here: Vec<DeskWorker<'s, S, P, I, R>>,
+    back: Vec<SeatedWorker<S, P>>,
+    taker: &mut Taker<Q>,
     run: &mut Run,
     out: &mut K,
     trace: &mut T,
 ) -> (
-    Vec<DeskWorker<'s, S, R>>,
-    Vec<SeatedWorker<S>>,
+    Vec<DeskWorker<'s, S, P, I, R>>,
+    Vec<SeatedWorker<S, P>>,
     Result<(), Halt>,
 )
-    requires ready { IsReady taker.old context.now.intake.now (keeping run.old) }
-    requires waiting { AreAt context.now.intake.now waiting.items }
+    requires ready { IsReady taker.old (I.id context.now.intake.now) (keeping run.old) }
+    requires waiting { AreAt (I.id context.now.intake.now) waiting.items }
     requires flags { HaveFlags (length context.now.flags.now) waiting.items }
     requires room_here { length waiting.items + length here.items ≤ vec_capacity here }
     requires room_back { length waiting.items + length back.items ≤ vec_capacity back }
-    requires run { (first : Place) × HasRun first (taken taker.old.seat.mine) (place (keeping run.old) (K.state out.old) (T.state trace.old)) }
-    ensures halts { (first : Place) → HasRun first (taken taker.old.seat.mine) (place (keeping run.old) (K.state out.old) (T.state trace.old)) → AreOfSources taker.old.inputs.count (taken taker.old.seat.mine)
-        → Halts result.2 taker.old.inputs.count first (taken taker.new.seat.mine) (place (keeping run.new) (K.state out.new) (T.state trace.new)) }
-    ensures done { OnOk result.2 (EndsDone taker.new.seat.mine false) }
-    ensures marked { IsLegalFrom (opening_time taker.old.seat.setting.start) (taken taker.new.seat.mine) }
-    ensures seat { IsSameSeat taker.old.seat taker.new.seat }
+    requires run { (first : Place) × HasRun first taker.old.seat.taken (place (keeping run.old) (K.state out.old) (T.state trace.old)) }
+    ensures halts { (first : Place) → HasRun first taker.old.seat.taken (place (keeping run.old) (K.state out.old) (T.state trace.old)) → AreOfSources taker.old.inputs.count taker.old.seat.taken
+        → Halts result.2 taker.old.inputs.count first taker.new.seat.taken (place (keeping run.new) (K.state out.new) (T.state trace.new)) }
+    ensures done { OnOk result.2 (taker.new.seat.done ≡ true) }
+    ensures marked { IsLegalFrom (opening_time taker.old.seat.start) taker.new.seat.taken }
+    ensures seat { IsSameTaker taker.old.seat taker.new.seat }
     ensures plan { (keeping run.new).state.plan ≡ (keeping run.old).state.plan }
     ensures here { AllZip WentOn here.entry.items result.0.items }
     ensures back { (sent : List Seated) × (result.1.items ≡ back.items ++ sent) × AllZip WentOn waiting.items sent }
@@ -210,35 +220,32 @@ fn take_back<V>(_lent: &mut V)
 
 /// Starts a thread for each of the seated workers that wait, but for those that the calling thread reads, the last first, takes rows, and reads
 /// the other sources, until all is done or the run is stopped, and joins all threads. The seated workers come back in the order in which they waited.
-pub fn send_all<'s, S: Source + Send, R: Threads + Wait + Sync, K: Sink, T: Sink, G: Gate + Sync>(
+pub fn send_all<
+    's,
+    S: Source + Send,
+    P: IntakeSeat + Send,
+    Q: IntakeTaker,
+    I: SharedIntake<P, Q> + Sync,
+    R: Threads + Wait + Sync,
+    K: Sink,
+    T: Sink,
+    G: Gate + Sync,
+>(
     rt: &'s R,
-    intake: &'s Intake,
+    intake: &'s I,
     gate: &'s G,
     board: &'s Board,
     flags: &'s [AtomicBool],
-    waiting: Vec<SeatedWorker<S>>,
-    here: Vec<DeskWorker<'s, S, R>>,
-    back: Vec<SeatedWorker<S>>,
-    taker: &mut Taker,
+    waiting: Vec<SeatedWorker<S, P>>,
+    here: Vec<DeskWorker<'s, S, P, I, R>>,
+    back: Vec<SeatedWorker<S, P>>,
+    taker: &mut Taker<Q>,
     run: &mut Run,
     out: &mut K,
     trace: &mut T,
-) -> (Vec<SeatedWorker<S>>, Result<(), Halt>)
-    requires ready { IsReady taker.old intake.now (keeping run.old) }
-    requires waiting { AreAt intake.now waiting.items }
-    requires here { here.items ≡ [] }
-    requires back { back.items ≡ [] }
-    requires flags { HaveFlags (length flags.now) waiting.items }
-    requires room_here { length waiting.items ≤ vec_capacity here }
-    requires room_back { length waiting.items ≤ vec_capacity back }
-    requires run { (first : Place) × HasRun first (taken taker.old.seat.mine) (place (keeping run.old) (K.state out.old) (T.state trace.old)) }
-    ensures halts { (first : Place) → HasRun first (taken taker.old.seat.mine) (place (keeping run.old) (K.state out.old) (T.state trace.old)) → AreOfSources taker.old.inputs.count (taken taker.old.seat.mine)
-        → Halts result.1 taker.old.inputs.count first (taken taker.new.seat.mine) (place (keeping run.new) (K.state out.new) (T.state trace.new)) }
-    ensures done { OnOk result.1 (EndsDone taker.new.seat.mine false) }
-    ensures marked { IsLegalFrom (opening_time taker.old.seat.setting.start) (taken taker.new.seat.mine) }
-    ensures seat { IsSameSeat taker.old.seat taker.new.seat }
-    ensures plan { (keeping run.new).state.plan ≡ (keeping run.old).state.plan }
-    ensures back { AllZip WentOn waiting.items result.0.items }
+) -> (Vec<SeatedWorker<S, P>>, Result<(), Halt>)
+    requires { MaySend (I.id intake.now) (length flags.now) waiting.items here.items back.items (vec_capacity here) (vec_capacity back) taker.old (place (keeping run.old) (K.state out.old) (T.state trace.old)) }
+    ensures { HasSent result.1 waiting.items result.0.items taker.old taker.new (place (keeping run.old) (K.state out.old) (T.state trace.old)) (place (keeping run.new) (K.state out.new) (T.state trace.new)) }
 {
     let context = ThreadContext {
         rt,
@@ -251,33 +258,19 @@ pub fn send_all<'s, S: Source + Send, R: Threads + Wait + Sync, K: Sink, T: Sink
         thread::scope_env(),
         rt,
         move |scope| -> (
-            &mut Taker,
+            &mut Taker<Q>,
             &mut Run,
             &mut K,
             &mut T,
-            Vec<SeatedWorker<S>>,
+            Vec<SeatedWorker<S, P>>,
             Result<(), Halt>,
         )
-            requires ready { IsReady taker.now context.intake.now (keeping run.now) }
-            requires waiting { AreAt context.intake.now waiting.items }
-            requires here { here.items ≡ [] }
-            requires back { back.items ≡ [] }
-            requires flags { HaveFlags (length context.flags.now) waiting.items }
-            requires room_here { length waiting.items ≤ vec_capacity here }
-            requires room_back { length waiting.items ≤ vec_capacity back }
-            requires run { (first : Place) × HasRun first (taken taker.now.seat.mine) (place (keeping run.now) (K.state out.now) (T.state trace.now)) }
+            requires { MaySend (I.id context.intake.now) (length context.flags.now) waiting.items here.items back.items (vec_capacity here) (vec_capacity back) taker.now (place (keeping run.now) (K.state out.now) (T.state trace.now)) }
             ensures same_taker { result.0.ghost_name ≡ taker.entry.ghost_name }
             ensures same_run { result.1.ghost_name ≡ run.entry.ghost_name }
             ensures same_out { result.2.ghost_name ≡ out.entry.ghost_name }
             ensures same_trace { result.3.ghost_name ≡ trace.entry.ghost_name }
-            ensures halts { (first : Place) → HasRun first (taken taker.entry.now.seat.mine) (place (keeping run.entry.now) (K.state out.entry.now) (T.state trace.entry.now))
-                → AreOfSources taker.entry.now.inputs.count (taken taker.entry.now.seat.mine)
-                → Halts result.5 taker.entry.now.inputs.count first (taken result.0.now.seat.mine) (place (keeping result.1.now) (K.state result.2.now) (T.state result.3.now)) }
-            ensures done { OnOk result.5 (EndsDone result.0.now.seat.mine false) }
-            ensures marked { IsLegalFrom (opening_time taker.entry.now.seat.setting.start) (taken result.0.now.seat.mine) }
-            ensures seat { IsSameSeat taker.entry.now.seat result.0.now.seat }
-            ensures plan { (keeping result.1.now).state.plan ≡ (keeping run.entry.now).state.plan }
-            ensures back { AllZip WentOn waiting.items result.4.items }
+            ensures sent { HasSent result.5 waiting.items result.4.items taker.entry.now result.0.now (place (keeping run.entry.now) (K.state out.entry.now) (T.state trace.entry.now)) (place (keeping result.1.now) (K.state result.2.now) (T.state result.3.now)) }
         {
             let (_, back, halted) = send_each(
                 &context, scope, waiting, here, back, taker, run, out, trace,

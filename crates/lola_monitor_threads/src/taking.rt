@@ -1,23 +1,20 @@
 //! The engine's thread: it takes rows out of the intake, tests, traces and runs them.
-ghost use Rattle.std.specs.Prelude.{◌≡◌, ◌++◌, ◌<◌, ◌∷◌, [], ◌↔◌, List, IfOk, IsTrue, OnOk, false, true, length, vec_capacity};
+ghost use Rattle.std.specs.Prelude.{◌≡◌, ◌++◌, ◌<◌, ◌∷◌, [], ◌↔◌, List, IfOk, IsTrue, OnOk, true, length, map, vec_capacity};
 ghost use Rattle.std.specs.List.{AllZip};
 ghost use Rattle.lola_model.specs.Journal.{IsLegalFrom, opening_time};
 ghost use Rattle.lola_model.specs.Trace.{input_kinds};
 ghost use Rattle.lola_model.specs.declared.journal.Entry.{Entry};
-ghost use Rattle.lola_intake.specs.Histories.{EndsDone, taken};
-ghost use Rattle.lola_intake.specs.Intakes.{AreSeatsOf, Whole};
-ghost use Rattle.lola_feed.specs.Seating.{IsSameSeat};
+ghost use Rattle.lola_feed.specs.SharedIntakes.{AreSeatsOf, IsWhole};
 ghost use Rattle.lola_monitor_run.specs.Verdicts.{AreOfSources};
 ghost use Rattle.lola_monitor_run.specs.Running.{HasRoom, IsGoing, IsNext, IsRowFor, IsSetAs, keeping};
 ghost use Rattle.lola_monitor_threads.specs.Seated.{WentOn};
-ghost use Rattle.lola_monitor_threads.specs.Takings.{GoesOn, Halts, HasRun, IsReady, IsPartlyRun, Place, RunsOne, place, was_taken};
+ghost use Rattle.lola_monitor_threads.specs.Takings.{GoesOn, Halts, HasRun, IsReady, IsSameTaker, IsPartlyRun, Place, RunsOne, place, was_taken};
 
 use crate::desk::DeskWorker;
 use crate::fit::RunInputs;
 use crate::halt::Halt;
 use crate::here::{rest, turn_here, waits_for_others};
-use lola_intake::intake::Intake;
-use lola_intake::seats::{EngineSeat, SourceSeat};
+use lola_feed::intake::{IntakeSeat, IntakeTaker, SharedIntake, SourceIntake};
 use lola_merge::batch::Batch;
 use lola_merge::state::Take;
 use lola_model::journal::Entry;
@@ -117,10 +114,10 @@ fn is_all_done(take: Take) -> bool
 
 // What follows a take: rows leave room for others. Where there was nothing yet, the thread sleeps until a row is in or bytes have come, unless
 // sources here may have rows to come that nobody wakes it for.
-fn rest_after<S: Source, R: Wait + Sync>(
+fn rest_after<S: Source, P: IntakeSeat, I: SourceIntake<P>, R: Wait + Sync>(
     rt: &R,
     board: &Board,
-    here: &[DeskWorker<'_, S, R>],
+    here: &[DeskWorker<'_, S, P, I, R>],
     take: Take,
 ) {
     match take {
@@ -138,24 +135,24 @@ fn rest_after<S: Source, R: Wait + Sync>(
 
 /// What the engine's thread takes rows with: its seat at the intake, what a row is tested by, and room for what is taken.
 #[derive(Drop)]
-pub struct Taker {
-    seat: EngineSeat,
+pub struct Taker<Q: IntakeTaker> {
+    seat: Q,
     inputs: RunInputs,
     batch: Batch,
 }
 
-impl Model for Taker {
+impl<Q: IntakeTaker> Model for Taker<Q> {
     ghost use Rattle.lola_monitor_threads.specs.Takings.{Taking};
 
     ghost Value = { Taking };
 
-    ghost view = { λ t. record { seat = t.seat; inputs = t.inputs; batch = t.batch } };
+    ghost view = { λ t. record { seat = Q.shows t.seat; inputs = t.inputs; batch = t.batch } };
 }
 
-impl Taker {
+impl<Q: IntakeTaker> Taker<Q> {
     /// A seat, the inputs of a run, and an empty batch.
-    pub fn create(seat: EngineSeat, inputs: RunInputs, batch: Batch) -> Taker
-        ensures { result ≡ record { seat = seat; inputs = inputs; batch = batch } }
+    pub fn create(seat: Q, inputs: RunInputs, batch: Batch) -> Taker<Q>
+        ensures { result ≡ record { seat = Q.shows seat; inputs = inputs; batch = batch } }
     {
         Taker {
             seat,
@@ -165,30 +162,38 @@ impl Taker {
     }
 
     // Takes all pending rows out of the intake, and runs them. It tells whether all is done.
-    fn take_once<S: Source, R: Threads + Wait + Sync, K: Sink, T: Sink, G: Gate + Sync>(
+    fn take_once<
+        S: Source,
+        P: IntakeSeat,
+        I: SharedIntake<P, Q>,
+        R: Threads + Wait + Sync,
+        K: Sink,
+        T: Sink,
+        G: Gate + Sync,
+    >(
         &mut self,
         rt: &R,
-        intake: &Intake,
+        intake: &I,
         board: &Board,
-        here: &[DeskWorker<'_, S, R>],
+        here: &[DeskWorker<'_, S, P, I, R>],
         run: &mut Run,
         out: &mut K,
         trace: &mut T,
         gate: &G,
     ) -> Result<bool, Halt>
-        requires ready { IsReady self.old intake.now (keeping run.old) }
-        requires run { (first : Place) × HasRun first (taken self.old.seat.mine) (place (keeping run.old) (K.state out.old) (T.state trace.old)) }
-        ensures halts { (first : Place) → HasRun first (taken self.old.seat.mine) (place (keeping run.old) (K.state out.old) (T.state trace.old)) → AreOfSources self.old.inputs.count (taken self.old.seat.mine)
-            → Halts (was_taken result) self.old.inputs.count first (taken self.new.seat.mine) (place (keeping run.new) (K.state out.new) (T.state trace.new)) }
-        ensures goes { OnOk result ((first : Place) → HasRun first (taken self.old.seat.mine) (place (keeping run.old) (K.state out.old) (T.state trace.old)) → HasRun first (taken self.new.seat.mine) (place (keeping run.new) (K.state out.new) (T.state trace.new))) }
-        ensures ready { OnOk result (IsReady self.new intake.now (keeping run.new)) }
+        requires ready { IsReady self.old (I.id intake.now) (keeping run.old) }
+        requires run { (first : Place) × HasRun first self.old.seat.taken (place (keeping run.old) (K.state out.old) (T.state trace.old)) }
+        ensures halts { (first : Place) → HasRun first self.old.seat.taken (place (keeping run.old) (K.state out.old) (T.state trace.old)) → AreOfSources self.old.inputs.count self.old.seat.taken
+            → Halts (was_taken result) self.old.inputs.count first self.new.seat.taken (place (keeping run.new) (K.state out.new) (T.state trace.new)) }
+        ensures goes { OnOk result ((first : Place) → HasRun first self.old.seat.taken (place (keeping run.old) (K.state out.old) (T.state trace.old)) → HasRun first self.new.seat.taken (place (keeping run.new) (K.state out.new) (T.state trace.new))) }
+        ensures ready { OnOk result (IsReady self.new (I.id intake.now) (keeping run.new)) }
         ensures inputs { self.new.inputs ≡ self.old.inputs }
-        ensures done { IfOk result (λ done. done ≡ true → EndsDone self.new.seat.mine false) }
-        ensures marked { IsLegalFrom (opening_time self.old.seat.setting.start) (taken self.new.seat.mine) }
-        ensures seat { IsSameSeat self.old.seat self.new.seat }
+        ensures done { IfOk result (λ done. done ≡ true → self.new.seat.done ≡ true) }
+        ensures marked { IsLegalFrom (opening_time self.old.seat.start) self.new.seat.taken }
+        ensures seat { IsSameTaker self.old.seat self.new.seat }
         ensures setting { IsSetAs (keeping run.old) (keeping run.new) }
     {
-        let take = intake.try_take(rt, &mut self.seat, &mut self.batch);
+        let take = intake.take(rt, &mut self.seat, &mut self.batch);
         rest_after(rt, board, here, take);
         if let Err(halt) = run_batch(rt, run, &self.inputs, &mut self.batch, out, trace, gate) {
             return Err(halt);
@@ -198,24 +203,33 @@ impl Taker {
 
     /// Takes rows out of the intake and runs them, until all sources have finished and all is taken; the sources here hand rows in
     /// before each take. Where something ends it sooner, the intake is closed, and the threads that wait at the board are told so.
-    pub fn take_all<'a, S: Source, R: Threads + Wait + Sync, K: Sink, T: Sink, G: Gate + Sync>(
+    pub fn take_all<
+        'a,
+        S: Source,
+        P: IntakeSeat,
+        I: SharedIntake<P, Q>,
+        R: Threads + Wait + Sync,
+        K: Sink,
+        T: Sink,
+        G: Gate + Sync,
+    >(
         &mut self,
         rt: &R,
-        intake: &Intake,
+        intake: &I,
         board: &Board,
-        here: Vec<DeskWorker<'a, S, R>>,
+        here: Vec<DeskWorker<'a, S, P, I, R>>,
         run: &mut Run,
         out: &mut K,
         trace: &mut T,
         gate: &G,
-    ) -> (Vec<DeskWorker<'a, S, R>>, Result<(), Halt>)
-        requires ready { IsReady self.old intake.now (keeping run.old) }
-        requires run { (first : Place) × HasRun first (taken self.old.seat.mine) (place (keeping run.old) (K.state out.old) (T.state trace.old)) }
-        ensures halts { (first : Place) → HasRun first (taken self.old.seat.mine) (place (keeping run.old) (K.state out.old) (T.state trace.old)) → AreOfSources self.old.inputs.count (taken self.old.seat.mine)
-            → Halts result.1 self.old.inputs.count first (taken self.new.seat.mine) (place (keeping run.new) (K.state out.new) (T.state trace.new)) }
-        ensures done { OnOk result.1 (EndsDone self.new.seat.mine false) }
-        ensures marked { IsLegalFrom (opening_time self.old.seat.setting.start) (taken self.new.seat.mine) }
-        ensures seat { IsSameSeat self.old.seat self.new.seat }
+    ) -> (Vec<DeskWorker<'a, S, P, I, R>>, Result<(), Halt>)
+        requires ready { IsReady self.old (I.id intake.now) (keeping run.old) }
+        requires run { (first : Place) × HasRun first self.old.seat.taken (place (keeping run.old) (K.state out.old) (T.state trace.old)) }
+        ensures halts { (first : Place) → HasRun first self.old.seat.taken (place (keeping run.old) (K.state out.old) (T.state trace.old)) → AreOfSources self.old.inputs.count self.old.seat.taken
+            → Halts result.1 self.old.inputs.count first self.new.seat.taken (place (keeping run.new) (K.state out.new) (T.state trace.new)) }
+        ensures done { OnOk result.1 (self.new.seat.done ≡ true) }
+        ensures marked { IsLegalFrom (opening_time self.old.seat.start) self.new.seat.taken }
+        ensures seat { IsSameTaker self.old.seat self.new.seat }
         ensures here { AllZip WentOn here.entry.items result.0.items }
         ensures room { vec_capacity result.0 ≡ vec_capacity here.entry }
         ensures plan { (keeping run.new).state.plan ≡ (keeping run.old).state.plan }
@@ -227,7 +241,7 @@ impl Taker {
                 Ok(false) => {}
                 Ok(true) => return (here, Ok(())),
                 Err(halt) => {
-                    intake.close_intake(rt, &mut self.seat);
+                    intake.close(rt, &mut self.seat);
                     board.stop();
                     return (here, Err(halt));
                 }
@@ -237,13 +251,19 @@ impl Taker {
     }
 
     /// Takes all seats back into the intake, which ends, and moves what is left there into an empty batch.
-    pub fn end(self, intake: Intake, seats: Vec<SourceSeat>, left: &mut Batch)
-        requires engine { self.seat.intake ≡ intake }
-        requires seats { AreSeatsOf intake seats.items }
-        requires all { length seats.items ≡ self.seat.setting.sources }
+    pub fn end<P: IntakeSeat, I: SharedIntake<P, Q>, R: Wait>(
+        self,
+        rt: &R,
+        intake: I,
+        seats: Vec<P>,
+        left: &mut Batch,
+    )
+        requires taker { self.seat.intake ≡ I.id intake }
+        requires seats { AreSeatsOf (I.id intake) (map P.shows seats.items) }
+        requires all { length seats.items ≡ self.seat.sources }
         requires empty { left.old ≡ [] }
-        ensures { Whole self.seat seats.items left.new }
+        ensures { IsWhole self.seat (map P.shows seats.items) left.new }
     {
-        intake.end(self.seat, seats, left);
+        intake.end(rt, self.seat, seats, left);
     }
 }

@@ -1,4 +1,5 @@
-use Rattle.std.proofs.Common.{ℕ, length, map, sym, ap, ◌∙◌, subst, arith}
+use Rattle.std.proofs.Common.{ℕ, length, map, sym, ap, ◌∙◌, subst, arith, rules}
+use Rattle.std.proofs.lemmas.List.{length-map}
 use Rattle.lola_monitor_run.specs.Running.{keeping}
 use Rattle.lola_monitor_run.specs.Feeds.{supply_of, world}
 use Rattle.lola_monitor_threads.specs.Joining.{HaveFlags}
@@ -12,61 +13,60 @@ use Rattle.lola_monitor_threads.proofs.Settling.{no_turns}
 use Rattle.lola_monitor_threads.proofs.run.run_room.Goals as goal
 
 pub seat_all-requires-clause-pairs : goal.seat_all-requires-clause-pairs
-seat_all-requires-clause-pairs g c = in_pairs (keeping c.args.run.now).state.plan (keeping c.args.run.now).state.given_start c.args.room.intake c.args.workers.items c.args.room.seats.items c.requires.ready c.requires.seats
+seat_all-requires-clause-pairs g c = in_pairs (keeping c.args.run.now).state.plan (keeping c.args.run.now).state.given_start (g.I.SourceIntake.id c.args.room.intake) c.args.workers.items (map g.P.IntakeSeat.shows c.args.room.seats.items) c.requires.ready c.requires.seats
 
-pub send_all-back-requires-clause-waiting : goal.send_all-back-requires-clause-waiting
-send_all-back-requires-clause-waiting g c κs within = at_intake (keeping c.args.run.now).state.plan (keeping c.args.run.now).state.given_start c.args.room.intake c.args.workers.items c.args.room.seats.items c.requires.ready c.requires.seats
-    c.seat_all.new.waiting.items c.seat_all.ensures.seated
-
-pub send_all-back-requires-clause-flags : goal.send_all-back-requires-clause-flags
-send_all-back-requires-clause-flags g c κs within =
-    subst (λ (n : ℕ). HaveFlags n c.seat_all.new.waiting.items) (sym (ap length c.deref.ensures.value ∙ c.requires.flags))
-    (have_flags (keeping c.args.run.now).state.plan (keeping c.args.run.now).state.given_start c.args.room.intake c.args.workers.items c.args.room.seats.items c.requires.ready c.requires.seats c.seat_all.new.waiting.items c.seat_all.ensures.seated)
-
-pub send_all-back-requires-clause-room_here : goal.send_all-back-requires-clause-room_here
-send_all-back-requires-clause-room_here g c κs within =
-    let many = as_many (keeping c.args.run.now).state.plan (keeping c.args.run.now).state.given_start c.args.room.intake c.args.workers.items c.args.room.seats.items c.requires.ready c.requires.seats c.seat_all.new.waiting.items c.seat_all.ensures.seated in
-    omega (arith, c.in-Ok.ensures.capacity, c.len.ensures, c.args.workers.ok.0, many)
-
-pub send_all-back-requires-clause-room_back : goal.send_all-back-requires-clause-room_back
-send_all-back-requires-clause-room_back g c κs within =
-    let many = as_many (keeping c.args.run.now).state.plan (keeping c.args.run.now).state.given_start c.args.room.intake c.args.workers.items c.args.room.seats.items c.requires.ready c.requires.seats c.seat_all.new.waiting.items c.seat_all.ensures.seated in
-    omega (arith, c.requires.back.1, many)
-
-pub send_all-back-requires-clause-run : goal.send_all-back-requires-clause-run
-send_all-back-requires-clause-run g c κs within =
-    has_run_none (keeping c.args.run.now) c.args.room.intake (length c.args.workers.items) c.args.room.taker (g.K.Sink.state c.args.out.now) (g.T.Sink.state c.args.trace.now) c.requires.taker c.requires.stands
+pub send_all-back-requires-after_bounds : goal.send_all-back-requires-after_bounds
+send_all-back-requires-after_bounds g c κs within = record {
+  ready = record {
+    own = ap (λ (t : Taking). t.seat.intake) c.requires.taker;
+    kinds = ap (λ (t : Taking). t.inputs.kinds) c.requires.taker;
+    start = ap (λ (t : Taking). t.seat.start) c.requires.taker;
+    empty = ap (λ (t : Taking). t.batch) c.requires.taker;
+  };
+  waiting_at = at_intake (keeping c.args.run.now).state.plan (keeping c.args.run.now).state.given_start (g.I.SourceIntake.id c.args.room.intake) c.args.workers.items (map g.P.IntakeSeat.shows c.args.room.seats.items) c.requires.ready c.requires.seats
+      c.seat_all.new.waiting.items c.seat_all.ensures.seated;
+  none_here = search rules;
+  none_back = c.requires.back.0;
+  have_flags = subst (λ (n : ℕ). HaveFlags n c.seat_all.new.waiting.items) (sym (ap length c.deref.ensures.value ∙ c.requires.flags))
+      (have_flags (keeping c.args.run.now).state.plan (keeping c.args.run.now).state.given_start (g.I.SourceIntake.id c.args.room.intake) c.args.workers.items (map g.P.IntakeSeat.shows c.args.room.seats.items) c.requires.ready c.requires.seats c.seat_all.new.waiting.items c.seat_all.ensures.seated);
+  fit_here = let many = as_many (keeping c.args.run.now).state.plan (keeping c.args.run.now).state.given_start (g.I.SourceIntake.id c.args.room.intake) c.args.workers.items (map g.P.IntakeSeat.shows c.args.room.seats.items) c.requires.ready c.requires.seats c.seat_all.new.waiting.items c.seat_all.ensures.seated in
+      omega (arith, c.in-Ok.ensures.capacity, c.len.ensures, c.args.workers.ok.0, many);
+  fit_back = let many = as_many (keeping c.args.run.now).state.plan (keeping c.args.run.now).state.given_start (g.I.SourceIntake.id c.args.room.intake) c.args.workers.items (map g.P.IntakeSeat.shows c.args.room.seats.items) c.requires.ready c.requires.seats c.seat_all.new.waiting.items c.seat_all.ensures.seated in
+      omega (arith, c.requires.back.1, many);
+  run = has_run_none (keeping c.args.run.now) (g.I.SourceIntake.id c.args.room.intake) (length c.args.workers.items) c.args.room.taker (g.K.Sink.state c.args.out.now) (g.T.Sink.state c.args.trace.now) c.requires.taker c.requires.stands;
+}
 
 pub take_apart-requires-clause-room : goal.take_apart-requires-clause-room
 take_apart-requires-clause-room g c =
-    let many = as_many (keeping c.args.run.now).state.plan (keeping c.args.run.now).state.given_start c.args.room.intake c.args.workers.items c.args.room.seats.items c.requires.ready c.requires.seats c.seat_all.new.waiting.items c.seat_all.ensures.seated in
+    let many = as_many (keeping c.args.run.now).state.plan (keeping c.args.run.now).state.given_start (g.I.SourceIntake.id c.args.room.intake) c.args.workers.items (map g.P.IntakeSeat.shows c.args.room.seats.items) c.requires.ready c.requires.seats c.seat_all.new.waiting.items c.seat_all.ensures.seated in
     let back = zip_long WentOn c.seat_all.new.waiting.items c.send_all-back.result.0.items c.send_all-back.ensures.back in (
       omega (arith, many, back, c.seat_all.ensures.workers.1, c.args.workers.ok.0, c.args.workers.ok.1),
-      omega (arith, many, back, c.seat_all.ensures.seats.1, c.requires.seats.many, c.args.room.seats.ok.0, c.args.room.seats.ok.1),
+      omega (arith, many, back, c.seat_all.ensures.seats.1, c.requires.seats.many, length-map c.args.room.seats.items g.P.IntakeSeat.shows, c.args.room.seats.ok.0, c.args.room.seats.ok.1),
     )
 
 pub end-requires-clause-seats : goal.end-requires-clause-seats
-end-requires-clause-seats g c = seats_back (keeping c.args.run.now) c.args.room.intake c.args.workers.items c.args.room.seats.items c.requires.ready c.requires.seats c.seat_all.new.waiting.items c.send_all-back.result.0.items
-    c.take_apart.new.workers.items c.take_apart.new.seats.items c.seat_all.ensures.seated c.send_all-back.ensures.back c.take_apart.ensures.seated c.take_apart.ensures.many
+end-requires-clause-seats g c = seats_back (keeping c.args.run.now) (g.I.SourceIntake.id c.args.room.intake) c.args.workers.items (map g.P.IntakeSeat.shows c.args.room.seats.items) c.requires.ready c.requires.seats c.seat_all.new.waiting.items c.send_all-back.result.0.items
+    c.take_apart.new.workers.items (map g.P.IntakeSeat.shows c.take_apart.new.seats.items) c.seat_all.ensures.seated c.send_all-back.ensures.back c.take_apart.ensures.seated (c.take_apart.ensures.many.0, length-map c.take_apart.new.seats.items g.P.IntakeSeat.shows ∙ c.take_apart.ensures.many.1)
 
 pub end-requires-clause-all : goal.end-requires-clause-all
 end-requires-clause-all g c =
-    backs_many (keeping c.args.run.now) c.args.room.intake c.args.workers.items c.args.room.seats.items c.requires.ready c.requires.seats c.seat_all.new.waiting.items c.send_all-back.result.0.items
-    c.take_apart.new.workers.items c.take_apart.new.seats.items c.seat_all.ensures.seated c.send_all-back.ensures.back c.take_apart.ensures.seated c.take_apart.ensures.many
-    ∙ sym (ap (λ k. k.sources) c.send_all-back.ensures.seat.setting ∙ ap (λ (t : Taking). t.seat.setting.sources) c.requires.taker)
+    sym (length-map c.take_apart.new.seats.items g.P.IntakeSeat.shows)
+    ∙ backs_many (keeping c.args.run.now) (g.I.SourceIntake.id c.args.room.intake) c.args.workers.items (map g.P.IntakeSeat.shows c.args.room.seats.items) c.requires.ready c.requires.seats c.seat_all.new.waiting.items c.send_all-back.result.0.items
+    c.take_apart.new.workers.items (map g.P.IntakeSeat.shows c.take_apart.new.seats.items) c.seat_all.ensures.seated c.send_all-back.ensures.back c.take_apart.ensures.seated (c.take_apart.ensures.many.0, length-map c.take_apart.new.seats.items g.P.IntakeSeat.shows ∙ c.take_apart.ensures.many.1)
+    ∙ sym (c.send_all-back.ensures.seat.sources ∙ ap (λ (t : Taking). t.seat.sources) c.requires.taker)
 
 pub settle-stopped-requires-clause-going : goal.settle-stopped-requires-clause-going
 settle-stopped-requires-clause-going g c κs within =
-    goes_on (keeping c.args.run.now) c.args.room.intake c.args.workers.items c.args.room.seats.items c.requires.ready c.requires.seats c.seat_all.new.waiting.items c.send_all-back.result.0.items
-    c.take_apart.new.workers.items c.take_apart.new.seats.items c.seat_all.ensures.seated c.send_all-back.ensures.back c.take_apart.ensures.seated c.take_apart.ensures.many
+    goes_on (keeping c.args.run.now) (g.I.SourceIntake.id c.args.room.intake) c.args.workers.items (map g.P.IntakeSeat.shows c.args.room.seats.items) c.requires.ready c.requires.seats c.seat_all.new.waiting.items c.send_all-back.result.0.items
+    c.take_apart.new.workers.items (map g.P.IntakeSeat.shows c.take_apart.new.seats.items) c.seat_all.ensures.seated c.send_all-back.ensures.back c.take_apart.ensures.seated (c.take_apart.ensures.many.0, length-map c.take_apart.new.seats.items g.P.IntakeSeat.shows ∙ c.take_apart.ensures.many.1)
     c.args.room.taker c.requires.taker c.send_all-back.new.taker.seat c.send_all-back.ensures.seat c.end.new.left c.end.ensures
     (keeping c.send_all-back.new.run) (g.K.Sink.state c.args.out.now) (g.K.Sink.state c.send_all-back.new.out) (g.T.Sink.state c.args.trace.now) (g.T.Sink.state c.send_all-back.new.trace)
     c.send_all-back.result.1 c.send_all-back.ensures.halts c.send_all-back.ensures.done c.requires.stands
 
 pub settle-stopped-requires-clause-fit : goal.settle-stopped-requires-clause-fit
 settle-stopped-requires-clause-fit g c κs within =
-    is_fit (keeping c.args.run.now) c.args.room.intake c.args.workers.items c.args.room.seats.items c.requires.ready c.requires.seats c.seat_all.new.waiting.items c.send_all-back.result.0.items
-    c.take_apart.new.workers.items c.take_apart.new.seats.items c.seat_all.ensures.seated c.send_all-back.ensures.back c.take_apart.ensures.seated c.take_apart.ensures.many
+    is_fit (keeping c.args.run.now) (g.I.SourceIntake.id c.args.room.intake) c.args.workers.items (map g.P.IntakeSeat.shows c.args.room.seats.items) c.requires.ready c.requires.seats c.seat_all.new.waiting.items c.send_all-back.result.0.items
+    c.take_apart.new.workers.items (map g.P.IntakeSeat.shows c.take_apart.new.seats.items) c.seat_all.ensures.seated c.send_all-back.ensures.back c.take_apart.ensures.seated (c.take_apart.ensures.many.0, length-map c.take_apart.new.seats.items g.P.IntakeSeat.shows ∙ c.take_apart.ensures.many.1)
     c.args.room.taker c.requires.taker c.send_all-back.new.taker.seat c.send_all-back.ensures.seat c.end.new.left c.end.ensures
     (keeping c.send_all-back.new.run) (g.K.Sink.state c.args.out.now) (g.K.Sink.state c.send_all-back.new.out) (g.T.Sink.state c.args.trace.now) (g.T.Sink.state c.send_all-back.new.trace)
     c.send_all-back.result.1 c.send_all-back.ensures.halts c.send_all-back.ensures.done c.requires.stands
@@ -80,12 +80,12 @@ returns-clause-run g c =
     (world (keeping c.args.run.now) (map supply_of c.args.workers.items) (g.K.Sink.state c.args.out.now) (g.T.Sink.state c.args.trace.now))
     (keeping c.send_all-back.new.run) (keeping c.settle-stopped.new.run) (g.K.Sink.state c.send_all-back.new.out) (g.K.Sink.state c.settle-stopped.new.out) (g.T.Sink.state c.send_all-back.new.trace)
     c.take_apart.new.workers.items c.as_slice.result.now c.as_slice.ensures.value c.settle-stopped.ensures.run
-    (has_joined (keeping c.args.run.now) c.args.room.intake c.args.workers.items c.args.room.seats.items c.requires.ready c.requires.seats c.seat_all.new.waiting.items c.send_all-back.result.0.items
-    c.take_apart.new.workers.items c.take_apart.new.seats.items c.seat_all.ensures.seated c.send_all-back.ensures.back c.take_apart.ensures.seated c.take_apart.ensures.many
+    (has_joined (keeping c.args.run.now) (g.I.SourceIntake.id c.args.room.intake) c.args.workers.items (map g.P.IntakeSeat.shows c.args.room.seats.items) c.requires.ready c.requires.seats c.seat_all.new.waiting.items c.send_all-back.result.0.items
+    c.take_apart.new.workers.items (map g.P.IntakeSeat.shows c.take_apart.new.seats.items) c.seat_all.ensures.seated c.send_all-back.ensures.back c.take_apart.ensures.seated (c.take_apart.ensures.many.0, length-map c.take_apart.new.seats.items g.P.IntakeSeat.shows ∙ c.take_apart.ensures.many.1)
     c.args.room.taker c.requires.taker c.send_all-back.new.taker.seat c.send_all-back.ensures.seat c.end.new.left c.end.ensures
     (keeping c.send_all-back.new.run) (g.K.Sink.state c.args.out.now) (g.K.Sink.state c.send_all-back.new.out) (g.T.Sink.state c.args.trace.now) (g.T.Sink.state c.send_all-back.new.trace)
     c.send_all-back.result.1 c.send_all-back.ensures.halts c.send_all-back.ensures.done c.requires.stands)
 
 pub returns-clause-places : goal.returns-clause-places
-returns-clause-places g c = places_kept (keeping c.args.run.now) c.args.room.intake c.args.workers.items c.args.room.seats.items c.requires.ready c.requires.seats c.seat_all.new.waiting.items c.send_all-back.result.0.items
-    c.take_apart.new.workers.items c.take_apart.new.seats.items c.seat_all.ensures.seated c.send_all-back.ensures.back c.take_apart.ensures.seated c.take_apart.ensures.many
+returns-clause-places g c = places_kept (keeping c.args.run.now) (g.I.SourceIntake.id c.args.room.intake) c.args.workers.items (map g.P.IntakeSeat.shows c.args.room.seats.items) c.requires.ready c.requires.seats c.seat_all.new.waiting.items c.send_all-back.result.0.items
+    c.take_apart.new.workers.items (map g.P.IntakeSeat.shows c.take_apart.new.seats.items) c.seat_all.ensures.seated c.send_all-back.ensures.back c.take_apart.ensures.seated (c.take_apart.ensures.many.0, length-map c.take_apart.new.seats.items g.P.IntakeSeat.shows ∙ c.take_apart.ensures.many.1)

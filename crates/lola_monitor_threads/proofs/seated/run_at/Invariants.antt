@@ -1,8 +1,9 @@
-use Rattle.lola_monitor_threads.specs.Seated.{WentOn, seated}
+use Rattle.lola_monitor_threads.specs.Seated.{IsSeated, WentOn, seated}
 use Rattle.lola_monitor_threads.proofs.seated.run_at.Given as goal
 
 abbrev pub invariant-loop : goal.invariant-loop
 invariant-loop g l = record {
   goes : (goal.iterator-loop g).can_next l.iterator' × (goal.iterator-loop g).is_finite l.iterator';
-  went_on : WentOn (seated l.fn.worker l.fn.desk) (seated l.worker l.desk);
+  went_on : WentOn (seated l.fn.worker l.fn.desk.seat) (seated l.worker l.desk.seat);
+  at : IsSeated l.worker l.desk;
 }

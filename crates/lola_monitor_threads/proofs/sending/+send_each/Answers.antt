@@ -1,14 +1,18 @@
 use Rattle.std.proofs.Common.{◌≡◌, ◌<◌, arith, length, subst, sym}
 use Rattle.lola_monitor_threads.specs.Seated.{WentOn}
 use Rattle.lola_monitor_threads.specs.Seated.{Seated}
-use Rattle.lola_monitor_threads.proofs.SentWorkers.{came_back, of_last, room_left, some_here, stayed_here, still_at}
+use Rattle.lola_monitor_threads.proofs.SentWorkers.{came_back, none_came, of_last, room_left, some_here, stayed_here, still_at}
 use Rattle.lola_monitor_threads.proofs.Passing.{goes_on_twice}
 use Rattle.lola_monitor_threads.proofs.sending.+send_each.Goals as goal
+
+-- none waits
+pub returns-in_default-clause-back : goal.returns-in_default-clause-back
+returns-in_default-clause-back g t c = none_came c.args.waiting.items c.args.back.items (let none = c.in_default.ensures.cases in let long = c.args.waiting.ok.0 in omega arith)
 
 -- the last seated worker that waits, and those before it
 pub start-requires-clause-intake : goal.start-requires-clause-intake
 start-requires-clause-intake g t c κs within =
-    (of_last (λ (p : Seated). p.seat.intake ≡ c.args.context.now.intake.now) c.args.waiting.items c.pop.new.self.items c.in-Some.seated c.in-Some.ensures.items c.requires.waiting).1
+    (of_last (λ (p : Seated). p.seat.intake ≡ (g.I.SourceIntake.id c.args.context.now.intake.now)) c.args.waiting.items c.pop.new.self.items c.in-Some.seated c.in-Some.ensures.items c.requires.waiting).1
 
 pub start-requires-clause-flag : goal.start-requires-clause-flag
 start-requires-clause-flag g t c κs within =
@@ -16,7 +20,7 @@ start-requires-clause-flag g t c κs within =
 
 pub send_each-here-requires-clause-waiting : goal.send_each-here-requires-clause-waiting
 send_each-here-requires-clause-waiting g t c κs within =
-    (of_last (λ (p : Seated). p.seat.intake ≡ c.args.context.now.intake.now) c.args.waiting.items c.pop.new.self.items c.in-Some.seated c.in-Some.ensures.items c.requires.waiting).0
+    (of_last (λ (p : Seated). p.seat.intake ≡ (g.I.SourceIntake.id c.args.context.now.intake.now)) c.args.waiting.items c.pop.new.self.items c.in-Some.seated c.in-Some.ensures.items c.requires.waiting).0
 
 pub send_each-here-requires-clause-flags : goal.send_each-here-requires-clause-flags
 send_each-here-requires-clause-flags g t c κs within =
@@ -35,7 +39,7 @@ returns-in-Ok-clause-back g t c =
 
 pub send_each-here-requires-in-Err-clause-waiting : goal.send_each-here-requires-in-Err-clause-waiting
 send_each-here-requires-in-Err-clause-waiting g t c κs within =
-    (of_last (λ (p : Seated). p.seat.intake ≡ c.args.context.now.intake.now) c.args.waiting.items c.pop.new.self.items c.in-Some.seated c.in-Some.ensures.items c.requires.waiting).0
+    (of_last (λ (p : Seated). p.seat.intake ≡ (g.I.SourceIntake.id c.args.context.now.intake.now)) c.args.waiting.items c.pop.new.self.items c.in-Some.seated c.in-Some.ensures.items c.requires.waiting).0
 
 pub send_each-here-requires-in-Err-clause-flags : goal.send_each-here-requires-in-Err-clause-flags
 send_each-here-requires-in-Err-clause-flags g t c κs within =
@@ -43,8 +47,8 @@ send_each-here-requires-in-Err-clause-flags g t c κs within =
 
 pub create-requires-after_bounds : goal.create-requires-after_bounds
 create-requires-after_bounds g t c κs within =
-    still_at c.args.context.now.intake.now c.in-Some.seated c.in-Err.seated
-    (of_last (λ (p : Seated). p.seat.intake ≡ c.args.context.now.intake.now) c.args.waiting.items c.pop.new.self.items c.in-Some.seated c.in-Some.ensures.items c.requires.waiting).1
+    still_at (g.I.SourceIntake.id c.args.context.now.intake.now) c.in-Some.seated c.in-Err.seated
+    (of_last (λ (p : Seated). p.seat.intake ≡ (g.I.SourceIntake.id c.args.context.now.intake.now)) c.args.waiting.items c.pop.new.self.items c.in-Some.seated c.in-Some.ensures.items c.requires.waiting).1
     c.in-Err.ensures.kept
 
 pub move_last-requires-clause-some : goal.move_last-requires-clause-some

@@ -1,11 +1,10 @@
-use Rattle.std.proofs.Common.{◌∙◌, Ok, Err, refl, sym, ap, subst}
+use Rattle.std.proofs.Common.{◌∙◌, ℕ, Option, Ok, Err, refl, sym, ap, subst}
 use Rattle.lola_model.specs.Journal.{IsLegalFrom, opening_time}
-use Rattle.lola_intake.specs.declared.event.Setting.{Setting}
-use Rattle.lola_intake.specs.Histories.{taken}
+use Rattle.lola_feed.specs.SharedIntakes.{TakerShown}
 use Rattle.lola_monitor_run.specs.Running.{keeping}
-use Rattle.lola_monitor_threads.specs.Takings.{Halts, InputsOf, Taking, place}
+use Rattle.lola_monitor_threads.specs.Takings.{Halts, InputsOf, IsSameTaker, Taking, place}
 use Rattle.lola_monitor_threads.proofs.Passing.{all_go_on_twice, all_stay}
-use Rattle.lola_monitor_threads.proofs.Took.{closing_took, halts_on, same_seat_twice, still_seat}
+use Rattle.lola_monitor_threads.proofs.Took.{closing_same, halts_on, same_taker_twice, still_taker}
 use Rattle.lola_monitor_threads.proofs.taking.Taker.take_all.Goals as goal
 
 pub loop-init : goal.loop-init
@@ -14,7 +13,7 @@ loop-init g c = record {
   ready = c.requires.ready;
   here = all_stay c.args.here.items;
   room = refl;
-  seat = still_seat c.args.self.now.seat;
+  seat = still_taker c.args.self.now.seat;
   inputs = refl;
   setting = refl;
   run = c.requires.run;
@@ -26,7 +25,7 @@ returns-in-Ok-true-clause-halts g c = λ first run sources.
     let inv = c.loop.invariant in
     let now = place (keeping c.loop.run) (g.K.Sink.state c.loop.out) (g.T.Sink.state c.loop.trace) in
     let next = place (keeping c.take_once.new.run) (g.K.Sink.state c.take_once.new.out) (g.T.Sink.state c.take_once.new.trace) in
-    halts_on (Ok tt) c.args.self.now.inputs.count c.loop.self.inputs.count first (taken c.loop.self.seat.mine) (taken c.take_once.new.self.seat.mine) now next
+    halts_on (Ok tt) c.args.self.now.inputs.count c.loop.self.inputs.count first c.loop.self.seat.taken c.take_once.new.self.seat.taken now next
     (ap (λ (i : InputsOf). i.count) inv.inputs) (c.in-Ok-true.ensures.halts first) (inv.halts first run sources)
 
 pub returns-in-Ok-true-clause-done : goal.returns-in-Ok-true-clause-done
@@ -45,11 +44,11 @@ loop-preserved g c =
       ready = c.in-Ok-false.ensures.ready;
       here = all_go_on_twice c.args.here.items c.loop.here.items c.turn_here.new.here.items inv.here c.turn_here.ensures.here;
       room = c.turn_here.ensures.room ∙ inv.room;
-      seat = same_seat_twice c.args.self.now.seat c.loop.self.seat c.take_once.new.self.seat inv.seat c.take_once.ensures.seat;
+      seat = same_taker_twice c.args.self.now.seat c.loop.self.seat c.take_once.new.self.seat inv.seat c.take_once.ensures.seat;
       inputs = c.take_once.ensures.inputs ∙ inv.inputs;
       setting = c.take_once.ensures.setting ∙ inv.setting;
       run = (inv.run.0, c.in-Ok-false.ensures.goes inv.run.0 inv.run.1);
-      halts = λ first run sources. halts_on (Ok tt) c.args.self.now.inputs.count c.loop.self.inputs.count first (taken c.loop.self.seat.mine) (taken c.take_once.new.self.seat.mine) now next
+      halts = λ first run sources. halts_on (Ok tt) c.args.self.now.inputs.count c.loop.self.inputs.count first c.loop.self.seat.taken c.take_once.new.self.seat.taken now next
           (ap (λ (i : InputsOf). i.count) inv.inputs) (c.in-Ok-false.ensures.halts first) (inv.halts first run sources);
     }
 
@@ -59,15 +58,20 @@ returns-in-Err-clause-halts g c = λ first run sources.
     let now = place (keeping c.loop.run) (g.K.Sink.state c.loop.out) (g.T.Sink.state c.loop.trace) in
     let next = place (keeping c.take_once.new.run) (g.K.Sink.state c.take_once.new.out) (g.T.Sink.state c.take_once.new.trace) in
     subst (λ l. Halts (Err c.in-Err.halt) c.args.self.now.inputs.count first l next)
-    (sym (closing_took c.self.inside.seat c.close_intake.new.seat c.close_intake.ensures ∙ ap (λ (t : Taking). taken t.seat.mine) c.self.view_is))
-    (halts_on (Err c.in-Err.halt) c.args.self.now.inputs.count c.loop.self.inputs.count first (taken c.loop.self.seat.mine) (taken c.take_once.new.self.seat.mine) now next
+    (sym (ap (λ (p : TakerShown). p.taken) c.close.ensures.shows ∙ ap (λ (t : Taking). t.seat.taken) c.self.view_is))
+    (halts_on (Err c.in-Err.halt) c.args.self.now.inputs.count c.loop.self.inputs.count first c.loop.self.seat.taken c.take_once.new.self.seat.taken now next
     (ap (λ (i : InputsOf). i.count) inv.inputs) (c.in-Err.ensures.halts first) (inv.halts first run sources))
 
 pub returns-in-Err-clause-marked : goal.returns-in-Err-clause-marked
 returns-in-Err-clause-marked g c =
-    subst (IsLegalFrom (opening_time c.args.self.now.seat.setting.start))
-    (sym (closing_took c.self.inside.seat c.close_intake.new.seat c.close_intake.ensures ∙ ap (λ (t : Taking). taken t.seat.mine) c.self.view_is))
-    (subst (λ (k : Setting). IsLegalFrom (opening_time k.start) (taken c.take_once.new.self.seat.mine)) c.loop.invariant.seat.setting c.take_once.ensures.marked)
+    subst (IsLegalFrom (opening_time c.args.self.now.seat.start))
+    (sym (ap (λ (p : TakerShown). p.taken) c.close.ensures.shows ∙ ap (λ (t : Taking). t.seat.taken) c.self.view_is))
+    (subst (λ (o : Option ℕ). IsLegalFrom (opening_time o) c.take_once.new.self.seat.taken) c.loop.invariant.seat.start c.take_once.ensures.marked)
+
+pub returns-in-Err-clause-seat : goal.returns-in-Err-clause-seat
+returns-in-Err-clause-seat g c =
+    same_taker_twice c.args.self.now.seat c.take_once.new.self.seat _ (same_taker_twice c.args.self.now.seat c.loop.self.seat c.take_once.new.self.seat c.loop.invariant.seat c.take_once.ensures.seat)
+    (subst (λ (t : Taking). IsSameTaker t.seat (g.Q.IntakeTaker.shows c.close.new.taker)) c.self.view_is (closing_same (g.Q.IntakeTaker.shows c.self.inside.seat) (g.Q.IntakeTaker.shows c.close.new.taker) c.close.ensures.shows))
 
 pub returns-in-Err-clause-here : goal.returns-in-Err-clause-here
 returns-in-Err-clause-here g c = all_go_on_twice c.args.here.items c.loop.here.items c.turn_here.new.here.items c.loop.invariant.here c.turn_here.ensures.here

@@ -1,11 +1,9 @@
 use Rattle.std.proofs.Common.{◌≡◌, Ok, vec_capacity}
 use Rattle.std.specs.List.{AllZip}
-use Rattle.lola_intake.specs.Histories.{taken}
-use Rattle.lola_feed.specs.Seating.{IsSameSeat}
 use Rattle.lola_monitor_run.specs.Verdicts.{AreOfSources}
 use Rattle.lola_monitor_run.specs.Running.{IsSetAs, keeping}
 use Rattle.lola_monitor_threads.specs.Seated.{WentOn}
-use Rattle.lola_monitor_threads.specs.Takings.{Halts, HasRun, IsReady, Place, place}
+use Rattle.lola_monitor_threads.specs.Takings.{Halts, HasRun, IsReady, IsSameTaker, Place, place}
 use Rattle.lola_monitor_threads.proofs.taking.Taker.take_all.Given as goal
 
 abbrev pub invariant-loop : goal.invariant-loop
@@ -14,13 +12,13 @@ invariant-loop g l =
     let trace = g.T.Sink.state in
     record {
       turns : (goal.iterator-loop g).can_next l.iterator' × (goal.iterator-loop g).is_finite l.iterator';
-      ready : IsReady l.self l.intake (keeping l.run);
+      ready : IsReady l.self (g.I.SourceIntake.id l.intake) (keeping l.run);
       here : AllZip WentOn l.fn.here.items l.here.items;
       room : vec_capacity l.here ≡ vec_capacity l.fn.here;
-      seat : IsSameSeat l.fn.self.seat l.self.seat;
+      seat : IsSameTaker l.fn.self.seat l.self.seat;
       inputs : l.self.inputs ≡ l.fn.self.inputs;
       setting : IsSetAs (keeping l.fn.run) (keeping l.run);
-      run : (first : Place) × HasRun first (taken l.self.seat.mine) (place (keeping l.run) (out l.out) (trace l.trace));
-      halts : (first : Place) → HasRun first (taken l.fn.self.seat.mine) (place (keeping l.fn.run) (out l.fn.out) (trace l.fn.trace)) → AreOfSources l.fn.self.inputs.count (taken l.fn.self.seat.mine)
-          → Halts (Ok tt) l.fn.self.inputs.count first (taken l.self.seat.mine) (place (keeping l.run) (out l.out) (trace l.trace));
+      run : (first : Place) × HasRun first l.self.seat.taken (place (keeping l.run) (out l.out) (trace l.trace));
+      halts : (first : Place) → HasRun first l.fn.self.seat.taken (place (keeping l.fn.run) (out l.fn.out) (trace l.fn.trace)) → AreOfSources l.fn.self.inputs.count l.fn.self.seat.taken
+          → Halts (Ok tt) l.fn.self.inputs.count first l.self.seat.taken (place (keeping l.run) (out l.out) (trace l.trace));
     }
