@@ -9,7 +9,7 @@ use lola_value::text::{Fields, Memory};
 use std::alloc::Global;
 use std::process::Abort;
 
-fn row(alloc: Global, source: u32, number: u64, stamp: u64) -> Row
+pub(crate) fn row(alloc: Global, source: u32, number: u64, stamp: u64) -> Row
     ensures { result.source ≡ source }
 {
     let fields = Fields::create(alloc);

@@ -7,12 +7,12 @@ use Rattle.lola_model.specs.declared.journal.Entry.{Entry}
 use Rattle.lola_merge.specs.Merging.{Merging}
 use Rattle.lola_queue_intake.specs.declared.item.Item.{Item}
 use Rattle.lola_queue_intake.specs.declared.item.Item.TheVariants as item
-use Rattle.lola_queue_intake.specs.declared.closing.Sight.{Sight}
+use Rattle.lola_queue_intake.specs.declared.closing.WordView.{WordView}
 use Rattle.lola_queue_intake.specs.declared.delivery.Known.{Known}
 use Rattle.lola_queue_intake.specs.declared.delivery.View.{View}
-use Rattle.lola_queue_intake.specs.Closings.{IsWarranted}
-use Rattle.lola_queue_intake.specs.Deliveries.{source_of, items_of, rows_in, has_finish, FinishesLast, Settled}
-use Rattle.lola_queue_intake.specs.Intakes.{SourceShown, TakerShown, entry_at, entries, taken, Whole, Mirrors, Tells}
+use Rattle.lola_queue_intake.specs.Closings.{IsClosedWhereFound}
+use Rattle.lola_queue_intake.specs.Deliveries.{source_of, items_of, rows_in, has_finish, FinishesLast, Accounts}
+use Rattle.lola_queue_intake.specs.Intakes.{SourceShown, TakerShown, entry_at, entries, taken, Whole, Mirrors, AgreesWith}
 use Rattle.lola_queue_intake.proofs.Items.{items_of-append, nothing_behind}
 use Rattle.lola_queue_intake.proofs.Mirroring.{entries_legal}
 
@@ -70,14 +70,14 @@ nothing_more n popped (x ∷ xs) none last all =
     let split : items_of s (popped ++ x ∷ xs) ≡ items_of s popped ++ x ∷ items_of s xs = items_of-append s popped (x ∷ xs) ∙ ap (λ l. items_of s popped ++ l) (its_own x xs) in
     dite (dec_le n s)
     (λ past. let no = ap length (sym split ∙ none s past) in absurd (omega (arith, length-append (items_of s popped) (x ∷ items_of s xs))))
-    (λ no. let gone : x ∷ items_of s xs ≡ [] = nothing_behind (items_of s popped) (x ∷ items_of s xs) (subst FinishesLast split (last s)) (all s (lt_of_not-le no)) in absurd (cc))
+    (λ no. let spent : x ∷ items_of s xs ≡ [] = nothing_behind (items_of s popped) (x ∷ items_of s xs) (subst FinishesLast split (last s)) (all s (lt_of_not-le no)) in absurd (cc))
 
-pub whole : (t : TakerShown) (v : View) (more : List Item) (seats : List SourceShown) (left : List Entry) (m : Merging) (sight : Sight)
-    → v.made ≡ t.sources → v.mine ≡ t.popped ++ more → Settled v [] → Mirrors t.start v.mine (taken t) m → left ≡ m.pending
-    → ((s : ℕ) (p : SourceShown) → slice_get seats s ≡ Some p → (k : Known) × (slice_get v.known s ≡ Some k) × Tells k p)
-    → ((s : ℕ) (p : SourceShown) → slice_get seats s ≡ Some p → slice_get sight.known s ≡ Some p.closed)
-    → IsWarranted sight → sight.closed ≡ t.closed → Whole t seats left
-whole t v more seats left m sight made popped settled mirrors left_is known looks warranted closed =
+pub whole : (t : TakerShown) (v : View) (more : List Item) (seats : List SourceShown) (left : List Entry) (m : Merging) (word_seat : WordView)
+    → v.made ≡ t.sources → v.mine ≡ t.popped ++ more → Accounts v [] → Mirrors t.start v.mine (taken t) m → left ≡ m.pending
+    → ((s : ℕ) (p : SourceShown) → slice_get seats s ≡ Some p → (k : Known) × (slice_get v.known s ≡ Some k) × AgreesWith k p)
+    → ((s : ℕ) (p : SourceShown) → slice_get seats s ≡ Some p → slice_get word_seat.known s ≡ Some p.closed)
+    → IsClosedWhereFound word_seat → word_seat.closed ≡ t.closed → Whole t seats left
+whole t v more seats left m word_seat made popped settled mirrors left_is known looks warranted closed =
     let o : ℕ = opening_time t.start in
     let all : taken t ++ left ≡ entries o v.mine = ap (λ l. taken t ++ l) left_is ∙ sym mirrors.pending in
     let nil : v.mine ++ [] ≡ v.mine = append-nil v.mine in

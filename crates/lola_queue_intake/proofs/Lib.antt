@@ -7,3 +7,4 @@ pub mod Mirroring
 pub mod Taking
 pub mod Seating
 pub mod Finishing
+pub mod SeatsShown

@@ -6,11 +6,11 @@ use Rattle.lola_queue_intake.specs.declared.item.Item.{Item}
 use Rattle.lola_queue_intake.specs.declared.item.Item.TheVariants as item
 use Rattle.lola_queue_intake.specs.declared.answer.Push.{Push}
 use Rattle.lola_queue_intake.specs.declared.answer.Push.TheVariants as push
-use Rattle.lola_queue_intake.specs.declared.answer.Finish.{Finish}
-use Rattle.lola_queue_intake.specs.declared.answer.Finish.TheVariants as finish
+use Rattle.lola_feed.specs.declared.intake.Finish.{Finish}
+use Rattle.lola_feed.specs.declared.intake.Finish.TheVariants as finish
 use Rattle.lola_queue_intake.specs.declared.delivery.View.{View}
 use Rattle.lola_queue_intake.specs.Deliveries.{rows_in, has_finish, with_item}
-use Rattle.lola_queue_intake.specs.Intakes.{SourceShown, source_shown, after_push, IsBack, IsStillUp, after_finish}
+use Rattle.lola_queue_intake.specs.Intakes.{SourceShown, source_shown, after_push, IsBack, IsSameSeat, after_finish}
 
 pub rows_in-row : (xs : List Item) (row : Row) → rows_in (xs ++ item.Row row ∷ []) ≡ rows_in xs ++ row ∷ []
 rows_in-row [] row = refl
@@ -86,7 +86,7 @@ back_is_row row (Ok u) A B C told = tt
 back_is_row row (Err back) A B C told = (row, told.0)
 
 -- a push is of the same seat, and finishes nothing
-pub push_keeps : (p : SourceShown) (row : Row) (a : Push) → IsStillUp p (after_push p row a)
-push_keeps p row push.Queued = (refl, refl, refl)
-push_keeps p row (push.Full back) = (refl, refl, refl)
-push_keeps p row (push.Closed back) = (refl, refl, refl)
+pub push_same_seat : (p : SourceShown) (row : Row) (a : Push) → IsSameSeat p (after_push p row a)
+push_same_seat p row push.Queued = (refl, refl, refl)
+push_same_seat p row (push.Full back) = (refl, refl, refl)
+push_same_seat p row (push.Closed back) = (refl, refl, refl)

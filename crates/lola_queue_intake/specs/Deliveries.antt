@@ -7,7 +7,7 @@ use Rattle.lola_model.specs.declared.journal.Row.{Row}
 use Rattle.lola_queue_intake.specs.declared.item.Item.{Item}
 use Rattle.lola_queue_intake.specs.declared.item.Item.TheVariants as item
 use Rattle.lola_queue_intake.specs.declared.delivery.Role.{Role}
-use Rattle.lola_queue_intake.specs.declared.delivery.Role.TheVariants.{Taker, Source, Gone}
+use Rattle.lola_queue_intake.specs.declared.delivery.Role.TheVariants.{Taker, Source, Returned}
 use Rattle.lola_queue_intake.specs.declared.delivery.Known.{Known}
 use Rattle.lola_queue_intake.specs.declared.delivery.View.{View}
 
@@ -49,50 +49,50 @@ FinishesLast (item.Row row ∷ xs) = FinishesLast xs
 FinishesLast (item.Finish source ∷ xs) = xs ≡ []
 
 -- how many items the sources queued that came back
-abbrev pub came : List Known → ℕ
-came known = total (λ k. length k.queued) known
+abbrev pub items_of_known : List Known → ℕ
+items_of_known known = total (λ k. length k.queued) known
 
 -- one of a pass of a source
-abbrev pub lives : Role → ℕ
-lives Taker = 0
-lives (Source source) = 1
-lives Gone = 0
+abbrev pub source_passes : Role → ℕ
+source_passes Taker = 0
+source_passes (Source source) = 1
+source_passes Returned = 0
 
 -- how many items are queued by whom a pass answers for: a source for itself, and the taker for those that came back
 abbrev pub answers_for : Role → List Item → List Known → ℕ
-answers_for Taker mine known = came known
+answers_for Taker mine known = items_of_known known
 answers_for (Source source) mine known = length mine
-answers_for Gone mine known = 0
+answers_for Returned mine known = 0
 
 -- the taker's pass at first
 abbrev pub taker : View
 taker = record { role = Taker; mine = []; made = 0; known = [] }
 
 -- the taker makes the pass of one more source
-abbrev pub one_more : View → View
-one_more v = record v { made = v.made + 1 }
+abbrev pub with_source_made : View → View
+with_source_made v = record v { made = v.made + 1 }
 
 -- the pass that it makes, of the source with the next number
-abbrev pub newcomer : View → View
-newcomer v = record { role = Source v.made; mine = []; made = 0; known = [] }
+abbrev pub pass_made : View → View
+pass_made v = record { role = Source v.made; mine = []; made = 0; known = [] }
 
 -- the number of a source
 abbrev pub number_of : Role → ℕ
 number_of Taker = 0
 number_of (Source source) = source
-number_of Gone = 0
+number_of Returned = 0
 
 -- what the taker knows of a source that came back
 abbrev pub known_of : View → Known
 known_of v = record { source = number_of v.role; queued = v.mine }
 
 -- the taker takes a source's pass back
-abbrev pub taking : View → View → View
-taking v w = record v { known = v.known ++ known_of w ∷ [] }
+abbrev pub with_returned : View → View → View
+with_returned v w = record v { known = v.known ++ known_of w ∷ [] }
 
 -- what is left of it
-abbrev pub gone : View
-gone = record { role = Gone; mine = []; made = 0; known = [] }
+abbrev pub spent : View
+spent = record { role = Returned; mine = []; made = 0; known = [] }
 
 -- after a step of its own, with this item
 abbrev pub with_item : View → Item → View
@@ -103,9 +103,9 @@ abbrev pub with_items : View → List Item → View
 with_items v xs = record v { mine = v.mine ++ xs }
 
 -- What holds of the pass i, where these items were ever queued and these popped
-pub record Fits (all popped : List Item) (made : ℕ) (known : List Known) (seat : ℕ → ℕ) (i : ℕ) (v : View) : Type 0 where
+pub record IsViewOf (all popped : List Item) (made : ℕ) (known : List Known) (seat : ℕ → ℕ) (i : ℕ) (v : View) : Type 0 where
   pub source : (s : ℕ) → v.role ≡ Source s → (seat s ≡ i) × (s < made) × (items_of s all ≡ v.mine)
-  pub taking : v.role ≡ Taker → (i ≡ 0) × (v.mine ≡ popped) × (v.made ≡ made) × (v.known ≡ known)
+  pub with_returned : v.role ≡ Taker → (i ≡ 0) × (v.mine ≡ popped) × (v.made ≡ made) × (v.known ≡ known)
   pub first : i ≡ 0 → v.role ≡ Taker
 
 -- The rule. The pass of the source s is `seat s`, or the taker's, which is the pass 0, once that has it back. All that was
@@ -120,18 +120,18 @@ pub record Delivers (items : List Item) (views : List View) : Type 0 where
   pub fits : length items ≤ most_items
   pub theirs : (s : ℕ) → made ≤ s → items_of s all ≡ []
   pub last : (s : ℕ) → FinishesLast (items_of s all)
-  pub living : total (λ v. lives v.role) views + length known ≡ made
+  pub living : total (λ v. source_passes v.role) views + length known ≡ made
   pub counted : total (λ v. answers_for v.role v.mine v.known) views ≡ length all
   pub each_known : (j : ℕ) (k : Known) → slice_get known j ≡ Some k → (seat k.source ≡ 0) × (k.source < made) × (items_of k.source all ≡ k.queued)
-  pub each_pass : (i : ℕ) (v : View) → get_elem? views i ≡ some v → Fits all popped made known seat i v
+  pub each_pass : (i : ℕ) (v : View) → get_elem? views i ≡ some v → IsViewOf all popped made known seat i v
 
 -- What a pop tells the taker: the item is one more of those that it popped. Where all sources came back, it had not popped all that they queued.
-abbrev pub Popped : View → Item → View → Type 0
-Popped v x w = (w ≡ with_item v x) × (length v.known ≡ v.made → length v.mine < came v.known)
+abbrev pub AfterPop : View → Item → View → Type 0
+AfterPop v x w = (w ≡ with_item v x) × (length v.known ≡ v.made → length v.mine < items_of_known v.known)
 
 -- What the taker learns of the items that the queue holds: with those that it popped they are all that was queued
-pub record Settled (v : View) (items : List Item) : Type 0 where
+pub record Accounts (v : View) (items : List Item) : Type 0 where
   pub theirs : (s : ℕ) → v.made ≤ s → items_of s (v.mine ++ items) ≡ []
   pub last : (s : ℕ) → FinishesLast (items_of s (v.mine ++ items))
   pub known : (j : ℕ) (k : Known) → slice_get v.known j ≡ Some k → (k.source < v.made) × (items_of k.source (v.mine ++ items) ≡ k.queued)
-  pub room : length v.known ≡ v.made → came v.known ≤ length v.mine + most_items
+  pub room : length v.known ≡ v.made → items_of_known v.known ≤ length v.mine + most_items

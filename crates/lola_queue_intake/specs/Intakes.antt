@@ -12,8 +12,8 @@ use Rattle.lola_queue_intake.specs.declared.item.Item.{Item}
 use Rattle.lola_queue_intake.specs.declared.item.Item.TheVariants as item
 use Rattle.lola_queue_intake.specs.declared.answer.Push.{Push}
 use Rattle.lola_queue_intake.specs.declared.answer.Push.TheVariants as push
-use Rattle.lola_queue_intake.specs.declared.answer.Finish.{Finish}
-use Rattle.lola_queue_intake.specs.declared.answer.Finish.TheVariants as finish
+use Rattle.lola_feed.specs.declared.intake.Finish.{Finish}
+use Rattle.lola_feed.specs.declared.intake.Finish.TheVariants as finish
 use Rattle.lola_queue_intake.specs.declared.delivery.Known.{Known}
 use Rattle.lola_queue_intake.specs.Deliveries.{most_items, items_of, rows_in, has_finish}
 
@@ -113,8 +113,8 @@ IsBack row (push.Full back) = back ≡ row
 IsBack row (push.Closed back) = back ≡ row
 
 -- the seat is of the same intake and source, and has finished where it had
-abbrev pub IsStillUp : SourceShown → SourceShown → Type 0
-IsStillUp old new = (new.intake ≡ old.intake) × (new.source ≡ old.source) × (new.finished ≡ old.finished)
+abbrev pub IsSameSeat : SourceShown → SourceShown → Type 0
+IsSameSeat old new = (new.intake ≡ old.intake) × (new.source ≡ old.source) × (new.finished ≡ old.finished)
 
 -- a source's seat after a finish
 abbrev pub after_finish : SourceShown → Finish → SourceShown
@@ -158,8 +158,8 @@ pub record Mirrors (start : Option ℕ) (popped : List Item) (done : List Entry)
   pub closed : m.closed ≡ false
 
 -- what the taker knows of a source that came back is what the source's seat shows
-abbrev pub Tells : Known → SourceShown → Type 0
-Tells k p = (k.source ≡ p.source) × (rows_in k.queued ≡ p.queued) × (has_finish k.queued ≡ p.finished)
+abbrev pub AgreesWith : Known → SourceShown → Type 0
+AgreesWith k p = (k.source ≡ p.source) × (rows_in k.queued ≡ p.queued) × (has_finish k.queued ≡ p.finished)
 
 -- the merge object after an item
 abbrev pub after_item : Merging → Item → Merging

@@ -1,3 +1,4 @@
 pub mod Deliveries
 pub mod Closings
 pub mod Intakes
+pub mod Sharing

@@ -22,7 +22,7 @@ pub struct CountedPass<T, V> {
 }
 
 // One more. A count that stands at the greatest u64 waits for ever, so that it is never wrong.
-fn one_more<R: Wait>(rt: &R, count: u64) -> u64
+fn raised<R: Wait>(rt: &R, count: u64) -> u64
     ensures { result ≡ count + 1 }
 {
     for _ in rt.forever() {
@@ -90,7 +90,7 @@ impl<T, V> CountedPass<T, V> {
         match queue.push_as::<M, R>(rt, &mut self.pass, value) {
             Ok(()) => Ok(()),
             Err(value) => {
-                self.full = one_more(rt, self.full);
+                self.full = raised(rt, self.full);
                 Err(value)
             }
         }
@@ -111,7 +111,7 @@ impl<T, V> CountedPass<T, V> {
     {
         let popped = queue.pop_as::<M, R>(rt, &mut self.pass);
         if popped.is_none() {
-            self.empty = one_more(rt, self.empty);
+            self.empty = raised(rt, self.empty);
         }
         popped
     }

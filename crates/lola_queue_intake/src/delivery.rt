@@ -1,7 +1,7 @@
 //! The rule of the queue: each source's items come out in the order in which they went in, each once.
 
 ghost use Rattle.std.specs.Prelude.{◌≡◌};
-ghost use Rattle.lola_queue_intake.specs.Deliveries.{Delivers, taker, one_more, newcomer, taking, gone, with_item, Popped, Settled};
+ghost use Rattle.lola_queue_intake.specs.Deliveries.{Delivers, taker, with_source_made, pass_made, with_returned, spent, with_item, AfterPop, Accounts};
 
 use crate::item::Item;
 use crossbeam_queue::protocol::{Join, Lesson, Outcome, Protocol, Split};
@@ -15,7 +15,7 @@ pub enum Role {
     /// That of the source of this number.
     Source(u32),
     /// A source's that the taker has back.
-    Gone,
+    Returned,
 }
 
 /// A source whose pass the taker has back: its number, and the items that it queued.
@@ -45,24 +45,24 @@ impl Protocol<Item, View> for Delivery {
 }
 
 /// The queue of an intake.
-pub(crate) type Line = RuledArrayQueue<Item, View, Delivery>;
+pub(crate) type ItemQueue = RuledArrayQueue<Item, View, Delivery>;
 
 /// A pass of it.
-pub(crate) type LinePass = Pass<Item, View>;
+pub(crate) type ItemPass = Pass<Item, View>;
 
 /// A source's pass is made of the taker's, or taken back.
-pub(crate) struct Another;
+pub(crate) struct SourcePass;
 
-impl Split<View> for Another {
-    ghost left = { one_more };
+impl Split<View> for SourcePass {
+    ghost left = { with_source_made };
 
-    ghost right = { newcomer };
+    ghost right = { pass_made };
 }
 
-impl Join<View> for Another {
-    ghost both = { taking };
+impl Join<View> for SourcePass {
+    ghost both = { with_returned };
 
-    ghost spent = { gone };
+    ghost spent = { spent };
 }
 
 /// A source queues an item. Where the queue is full nothing is learned beyond that.
@@ -80,9 +80,9 @@ impl Lesson<Item, View> for Queues {
 pub(crate) struct Pops;
 
 impl Outcome<Item, View> for Pops {
-    ghost then = { Popped };
+    ghost then = { AfterPop };
 }
 
 impl Lesson<Item, View> for Pops {
-    ghost fact = { Settled };
+    ghost fact = { Accounts };
 }

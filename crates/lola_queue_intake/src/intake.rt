@@ -9,17 +9,18 @@ ghost use Rattle.lola_model.specs.declared.journal.Row.{Row};
 ghost use Rattle.lola_queue_intake.specs.declared.item.Item.{Item};
 ghost use Rattle.lola_queue_intake.specs.declared.item.Item.TheVariants as item;
 ghost use Rattle.lola_queue_intake.specs.declared.answer.Push.TheVariants as push;
-ghost use Rattle.lola_queue_intake.specs.declared.answer.Finish.TheVariants as finish;
+ghost use Rattle.lola_feed.specs.declared.intake.Finish.TheVariants as finish;
 ghost use Rattle.lola_queue_intake.specs.declared.delivery.Role.TheVariants.{Taker, Source};
-ghost use Rattle.lola_queue_intake.specs.Deliveries.{most_items, source_of, has_finish, with_item, with_items, rows_in, Settled};
-ghost use Rattle.lola_queue_intake.specs.Intakes.{AreSeatsOf, new_source, new_taker, after_push, IsBack, IsStillUp, after_finish, Took, Whole, Mirrors, after_item};
+ghost use Rattle.lola_queue_intake.specs.Deliveries.{most_items, source_of, has_finish, with_item, with_items, rows_in, Accounts};
+ghost use Rattle.lola_queue_intake.specs.Intakes.{AreSeatsOf, new_source, new_taker, after_push, IsBack, IsSameSeat, after_finish, Took, Whole, Mirrors, after_item};
 
-use crate::answer::{Finish, Push};
+use crate::answer::Push;
 use crate::closing::Word;
 use crate::counted::CountedPass;
-use crate::delivery::{Another, Delivery, Line, Pops, Queues, View};
+use crate::delivery::{Delivery, ItemQueue, Pops, Queues, SourcePass, View};
 use crate::item::Item;
 use crate::seats::{QueueSeat, TakerSeat};
+use lola_feed::intake::Finish;
 use lola_merge::batch::{Batch, MOST};
 use lola_merge::state::{MergeState, Take};
 use lola_model::journal::Row;
@@ -31,7 +32,7 @@ use std::sync::Wait;
 /// A bounded queue of rows and finishes, and the closing word. Contracts see which intake it is.
 #[derive(Drop)]
 pub struct QueueIntake {
-    line: Line,
+    queue: ItemQueue,
     word: Word,
 }
 
@@ -43,19 +44,19 @@ impl Model for QueueIntake {
 
     ghost Value = { IntakeId };
 
-    ghost view = { λ i. record { queue = i.line.table.shared.table_id; word = i.word.table.shared.table_id } };
+    ghost view = { λ i. record { queue = i.queue.table.shared.table_id; word = i.word.table.shared.table_id } };
 
-    ghost invariant = { λ i. ruled_capacity i.line ≡ most_items };
+    ghost invariant = { λ i. ruled_capacity i.queue ≡ most_items };
 }
 
 // Queues an item of a source that has not finished. It comes back only where the queue was full.
 fn queue_item<R: Wait>(
     rt: &R,
-    line: &Line,
+    queue: &ItemQueue,
     pass: &mut CountedPass<Item, View>,
     item: Item,
 ) -> Result<(), Item>
-    requires line { (ruled_capacity line.now ≡ most_items) × IsPassOf line.now pass.old.pass }
+    requires queue { (ruled_capacity queue.now ≡ most_items) × IsPassOf queue.now pass.old.pass }
     requires source { (view pass.old.pass).role ≡ Source (source_of item) }
     requires unfinished { has_finish (view pass.old.pass).mine ≡ false }
     ensures same { IsSamePass pass.old.pass pass.new.pass }
@@ -63,7 +64,7 @@ fn queue_item<R: Wait>(
         (λ _. (view pass.new.pass ≡ with_item (view pass.old.pass) item) × (pass.new.full ≡ pass.old.full))
         (λ back. (back ≡ item) × (view pass.new.pass ≡ view pass.old.pass) × (pass.new.full ≡ pass.old.full + 1)) }
 {
-    pass.push::<Delivery, Queues, R>(rt, line, item)
+    pass.push::<Delivery, Queues, R>(rt, queue, item)
 }
 
 // What a source is told of its row, which is queued or came back.
@@ -115,8 +116,13 @@ fn receive(merging: &mut MergeState, item: Item) -> usize
 }
 
 // Pops items until as many rows are pending as there is room for, or a pop found the queue empty.
-fn fill<R: Wait>(rt: &R, line: &Line, pass: &mut CountedPass<Item, View>, merging: &mut MergeState)
-    requires line { IsPassOf line.now pass.old.pass }
+fn fill<R: Wait>(
+    rt: &R,
+    queue: &ItemQueue,
+    pass: &mut CountedPass<Item, View>,
+    merging: &mut MergeState,
+)
+    requires queue { IsPassOf queue.now pass.old.pass }
     requires taker { (view pass.old.pass).role ≡ Taker }
     requires empty { (merging.old.pending ≡ []) × (merging.old.closed ≡ false) }
     ensures same { IsSamePass pass.old.pass pass.new.pass }
@@ -130,7 +136,7 @@ fn fill<R: Wait>(rt: &R, line: &Line, pass: &mut CountedPass<Item, View>, mergin
         if rows == MOST {
             return;
         }
-        match pass.pop::<Delivery, Pops, R>(rt, line) {
+        match pass.pop::<Delivery, Pops, R>(rt, queue) {
             Some(item) => rows += receive(merging, item),
             None => return,
         }
@@ -139,17 +145,22 @@ fn fill<R: Wait>(rt: &R, line: &Line, pass: &mut CountedPass<Item, View>, mergin
 }
 
 // Pops all items, once all sources came back. Then the queue is empty.
-fn drain<R: Wait>(rt: &R, line: &Line, pass: &mut CountedPass<Item, View>, merging: &mut MergeState)
-    requires line { IsPassOf line.now pass.old.pass }
+fn drain<R: Wait>(
+    rt: &R,
+    queue: &ItemQueue,
+    pass: &mut CountedPass<Item, View>,
+    merging: &mut MergeState,
+)
+    requires queue { IsPassOf queue.now pass.old.pass }
     requires taker { ((view pass.old.pass).role ≡ Taker) × (length (view pass.old.pass).known ≡ (view pass.old.pass).made) }
     requires empty { (merging.old.pending ≡ []) × (merging.old.closed ≡ false) }
     ensures popped { (more : List Item) × (view pass.new.pass ≡ with_items (view pass.old.pass) more) }
-    ensures settled { Settled (view pass.new.pass) [] }
+    ensures settled { Accounts (view pass.new.pass) [] }
     ensures mirrors { (start : Option ℕ) (done : List Entry) → Mirrors start (view pass.old.pass).mine done merging.old → Mirrors start (view pass.new.pass).mine done merging.new }
 {
-    pass.learn::<Delivery, Pops>(line);
+    pass.learn::<Delivery, Pops>(queue);
     for _ in rt.forever() {
-        match pass.pop::<Delivery, Pops, R>(rt, line) {
+        match pass.pop::<Delivery, Pops, R>(rt, queue) {
             Some(item) => {
                 receive(merging, item);
             }
@@ -175,26 +186,26 @@ impl QueueIntake {
     {
         let merging = MergeState::create(alloc, sources, start)?;
         let mut seats = Vec::with_capacity(alloc, sources as usize)?;
-        let (line, mut pass) = Line::ruled(alloc, MOST)?;
-        let (word, mut sight) = Word::create(alloc)?;
+        let (queue, mut pass) = ItemQueue::ruled(alloc, MOST)?;
+        let (word, mut word_seat) = Word::create(alloc)?;
         for source in 0..sources {
-            let theirs = line.another::<Another>(&mut pass);
-            let looks = word.another(&mut sight);
+            let theirs = queue.another::<SourcePass>(&mut pass);
+            let their_word = word.another(&mut word_seat);
             let counted = CountedPass::of(theirs);
             seats.push_reserved(QueueSeat {
                 pass: counted,
-                word: looks,
+                word: their_word,
                 source,
             });
         }
         let pass = CountedPass::of(pass);
         let taker = TakerSeat {
             pass,
-            word: sight,
+            word: word_seat,
             merging,
             start,
         };
-        Ok((QueueIntake { line, word }, seats, taker))
+        Ok((QueueIntake { queue, word }, seats, taker))
     }
 
     /// Queues a row of the seat's source, which has not finished. First the closing word is looked at.
@@ -203,13 +214,13 @@ impl QueueIntake {
         requires source { row.source ≡ seat.old.source }
         requires unfinished { seat.old.finished ≡ false }
         ensures told { seat.new ≡ after_push seat.old row result }
-        ensures kept { IsStillUp seat.old seat.new }
+        ensures kept { IsSameSeat seat.old seat.new }
         ensures back { IsBack row result }
     {
         if self.word.look(&mut seat.word) {
             return Push::Closed(row);
         }
-        let queued = queue_item(rt, &self.line, &mut seat.pass, Item::Row(row));
+        let queued = queue_item(rt, &self.queue, &mut seat.pass, Item::Row(row));
         row_answer(queued)
     }
 
@@ -223,7 +234,7 @@ impl QueueIntake {
             return Finish::Closed;
         }
         let source = seat.source;
-        let queued = queue_item(rt, &self.line, &mut seat.pass, Item::Finish(source));
+        let queued = queue_item(rt, &self.queue, &mut seat.pass, Item::Finish(source));
         finish_answer(queued)
     }
 
@@ -237,7 +248,7 @@ impl QueueIntake {
         if is_all_done(seat.merging.take(into)) {
             return Take::AllDone;
         }
-        fill(rt, &self.line, &mut seat.pass, &mut seat.merging);
+        fill(rt, &self.queue, &mut seat.pass, &mut seat.merging);
         seat.merging.take(into)
     }
 
@@ -259,7 +270,7 @@ impl QueueIntake {
     {
         let TakerSeat {
             pass,
-            word: mut sight,
+            word: mut word_seat,
             mut merging,
             start: _,
         } = taker;
@@ -267,17 +278,17 @@ impl QueueIntake {
         for seat in seats {
             let QueueSeat {
                 pass: counted,
-                word: looks,
+                word: their_word,
                 source: _,
             } = seat;
             let theirs = counted.into_pass();
-            self.line.absorb::<Another>(&mut pass, theirs);
-            self.word.take_back(&mut sight, looks);
+            self.queue.absorb::<SourcePass>(&mut pass, theirs);
+            self.word.take_back(&mut word_seat, their_word);
         }
-        let QueueIntake { line, word } = self;
+        let QueueIntake { queue, word } = self;
         let mut pass = CountedPass::of(pass);
-        drain(rt, &line, &mut pass, &mut merging);
+        drain(rt, &queue, &mut pass, &mut merging);
         merging.take(into);
-        word.end(sight);
+        word.end(word_seat);
     }
 }

@@ -16,3 +16,4 @@ mod delivery;
 pub mod intake;
 pub mod item;
 pub mod seats;
+mod shared;

@@ -3,7 +3,7 @@ use Rattle.crossbeam_queue.specs.Passes.{view}
 use Rattle.lola_merge.proofs.Answering.{none_left}
 use Rattle.lola_queue_intake.specs.declared.item.Item.{Item}
 use Rattle.lola_queue_intake.specs.declared.delivery.View.{View}
-use Rattle.lola_queue_intake.specs.Deliveries.{rows_in, with_item, came, Settled}
+use Rattle.lola_queue_intake.specs.Deliveries.{rows_in, with_item, items_of_known, Accounts}
 use Rattle.lola_queue_intake.specs.Intakes.{Mirrors, after_item}
 use Rattle.lola_queue_intake.proofs.QueueSteps.{pops, settles}
 use Rattle.lola_queue_intake.proofs.Mirroring.{mirrors_more, pending_more, still_open, at_most_one}
@@ -36,8 +36,8 @@ loop-preserved g c =
     let more = inv.popped.0 in
     let is = inv.popped.1 in
     let after = c.receive.ensures.after in
-    let left : length (v0.mine ++ more) < came v0.known = subst (λ (u : View). length u.mine < came u.known) is (told.0.1 (subst (λ (u : View). length u.known ≡ u.made) (sym is) c.requires.taker.1)) in
-    let room : length m.pending < 1024 = below (length m.pending) v0.mine more (came v0.known) inv.popped.2 left inv.room in record {
+    let left : length (v0.mine ++ more) < items_of_known v0.known = subst (λ (u : View). length u.mine < items_of_known u.known) is (told.0.1 (subst (λ (u : View). length u.known ≡ u.made) (sym is) c.requires.taker.1)) in
+    let room : length m.pending < 1024 = below (length m.pending) v0.mine more (items_of_known v0.known) inv.popped.2 left inv.room in record {
       same = (same.0 ∙ inv.same.0, same.1 ∙ inv.same.1, same.2 ∙ inv.same.2);
       popped = (
         more ++ x ∷ [],
@@ -60,7 +60,7 @@ pub returns-in-None-pop-clause-settled : goal.returns-in-None-pop-clause-settled
 returns-in-None-pop-clause-settled g c =
     let told = c.in-None-pop.ensures.popped in
     let held = told.1 in
-    subst (λ (u : View). Settled u []) (sym told.0) (subst (λ (l : List Item). Settled (view c.loop.pass.pass) l) (none_left held.0 held.1) held.2)
+    subst (λ (u : View). Accounts u []) (sym told.0) (subst (λ (l : List Item). Accounts (view c.loop.pass.pass) l) (none_left held.0 held.1) held.2)
 
 pub returns-in-None-pop-clause-mirrors : goal.returns-in-None-pop-clause-mirrors
 returns-in-None-pop-clause-mirrors g c = λ start done h. subst (λ v. Mirrors start v.mine done c.loop.merging) (sym c.in-None-pop.ensures.popped.0) (c.loop.invariant.mirrors start done h)

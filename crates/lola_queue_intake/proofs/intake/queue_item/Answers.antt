@@ -7,6 +7,6 @@ use Rattle.lola_queue_intake.proofs.intake.queue_item.Goals as goal
 
 pub push-requires-clause-rule : goal.push-requires-clause-rule
 push-requires-clause-rule g c = let id = c.args.pass.now.pass.id in let v = view c.args.pass.now.pass in let x = c.args.item in (
-  subst (λ n. Pushes Delivers n id v x (λ w. w ≡ with_item v x)) (sym c.requires.line.0) (pushes id v (source_of x) x c.requires.source refl c.requires.unfinished),
+  subst (λ n. Pushes Delivers n id v x (λ w. w ≡ with_item v x)) (sym c.requires.queue.0) (pushes id v (source_of x) x c.requires.source refl c.requires.unfinished),
   λ items views d at. tt,
 )

@@ -5,8 +5,8 @@ use Rattle.lola_merge.proofs.Answering.{none_left}
 use Rattle.lola_queue_intake.specs.declared.item.Item.{Item}
 use Rattle.lola_queue_intake.specs.declared.delivery.Known.{Known}
 use Rattle.lola_queue_intake.specs.declared.delivery.View.{View}
-use Rattle.lola_queue_intake.specs.Deliveries.{number_of, known_of, taking, with_items}
-use Rattle.lola_queue_intake.specs.Intakes.{IntakeId, SourceShown, TakerShown, Tells, entries, taken, Mirrors}
+use Rattle.lola_queue_intake.specs.Deliveries.{number_of, known_of, with_returned, with_items}
+use Rattle.lola_queue_intake.specs.Intakes.{IntakeId, SourceShown, TakerShown, AgreesWith, entries, taken, Mirrors}
 use Rattle.lola_queue_intake.proofs.QueueSteps.{merges}
 use Rattle.lola_queue_intake.proofs.Views.{get_mid, each_more}
 use Rattle.lola_queue_intake.proofs.Seating.{seat_of}
@@ -57,28 +57,28 @@ loop-seat-preserved g c =
     let theirs = view c.into_pass-theirs.result in
     let known = inv.known.0 in
     let back = c.take_back.ensures in
-    let seen = c.loop-seat.sight.me.0.known in
+    let seen = c.loop-seat.word_seat.me.0.known in
     let found : ℕ = c.seat.inside.word.me.0.found in
-    let tells : Tells (known_of theirs) p = subst (λ (z : Pass Item View). Tells (known_of (knows z)) p) (sym c.into_pass-theirs.ensures)
-    (subst (λ (q : SourceShown). Tells (known_of (view c.seat.inside.pass.pass)) q) c.seat.view_is (ap number_of c.seat.invariant.1, refl, refl)) in
-    let looks = each_more (λ (n : ℕ) (q : SourceShown). n ≡ q.closed) seen done found p inv.looks.0 inv.looks.1 (ap (λ (z : SourceShown). z.closed) c.seat.view_is) in record {
+    let tells : AgreesWith (known_of theirs) p = subst (λ (z : Pass Item View). AgreesWith (known_of (knows z)) p) (sym c.into_pass-theirs.ensures)
+    (subst (λ (q : SourceShown). AgreesWith (known_of (view c.seat.inside.pass.pass)) q) c.seat.view_is (ap number_of c.seat.invariant.1, refl, refl)) in
+    let their_word = each_more (λ (n : ℕ) (q : SourceShown). n ≡ q.closed) seen done found p inv.their_word.0 inv.their_word.1 (ap (λ (z : SourceShown). z.closed) c.seat.view_is) in record {
       goes = search rules;
       own = (c.absorb.ensures.queue.0 ∙ inv.own.0, c.absorb.ensures.queue.2 ∙ inv.own.1);
       word = (back.same.0 ∙ inv.word.0, back.same.1 ∙ inv.word.1, ap (λ m. m.1) back.taken ∙ inv.word.2);
       known = (
         known ++ known_of theirs ∷ [],
-        c.absorb.ensures.rule ∙ ap (λ (u : View). taking u theirs) inv.known.1,
+        c.absorb.ensures.rule ∙ ap (λ (u : View). with_returned u theirs) inv.known.1,
         (let e = inv.known.2 in omega (arith, length-append known (known_of theirs ∷ []), length-append done (p ∷ []))),
-        each_more Tells known done (known_of theirs) p inv.known.2 inv.known.3 tells,
+        each_more AgreesWith known done (known_of theirs) p inv.known.2 inv.known.3 tells,
       );
       split = append_assoc done (p ∷ []) c.next.new.self.rest.items ∙ (ap (λ l. done ++ l) (sym c.in-Some.ensures.steps.0) ∙ inv.split);
       closed = ap (λ m. m.0.closed) back.taken ∙ inv.closed;
-      looks = subst (λ (l : List ℕ). (length l ≡ length (done ++ p ∷ [])) × ((s : ℕ) (q : SourceShown) → slice_get (done ++ p ∷ []) s ≡ Some q → (n : ℕ) × (slice_get l s ≡ Some n) × (n ≡ q.closed))) (sym (ap (λ m. m.0.known) back.taken))
-          ((let e = inv.looks.0 in omega (arith, length-append seen (found ∷ []), length-append done (p ∷ []))), looks);
+      their_word = subst (λ (l : List ℕ). (length l ≡ length (done ++ p ∷ [])) × ((s : ℕ) (q : SourceShown) → slice_get (done ++ p ∷ []) s ≡ Some q → (n : ℕ) × (slice_get l s ≡ Some n) × (n ≡ q.closed))) (sym (ap (λ m. m.0.known) back.taken))
+          ((let e = inv.their_word.0 in omega (arith, length-append seen (found ∷ []), length-append done (p ∷ []))), their_word);
     }
 
-pub drain-requires-clause-line : goal.drain-requires-clause-line
-drain-requires-clause-line g c = let inv = c.loop-seat.invariant in let of = c.of-pass.ensures.0 in (ap (λ z. z.table_id) of ∙ inv.own.0, ap (λ z. z.me.1) of ∙ inv.own.1)
+pub drain-requires-clause-queue : goal.drain-requires-clause-queue
+drain-requires-clause-queue g c = let inv = c.loop-seat.invariant in let of = c.of-pass.ensures.0 in (ap (λ z. z.table_id) of ∙ inv.own.0, ap (λ z. z.me.1) of ∙ inv.own.1)
 
 pub drain-requires-clause-taker : goal.drain-requires-clause-taker
 drain-requires-clause-taker g c =
@@ -111,15 +111,15 @@ returns g c =
     let is : v ≡ with_items (with_known known v0) more = popped.1 ∙ ap (λ (u : View). with_items u more) before in
     let whole_mirror = c.drain.ensures.mirrors s.start (entries (opening_time s.start) v0.mine)
     (subst (λ (u : View). Mirrors s.start u.mine (entries (opening_time s.start) v0.mine) s.merging) (sym before) c.taker.invariant.8) in
-    whole c.args.taker v more c.args.seats.items c.take.new.into c.drain.new.merging c.loop-seat.sight.me.0
+    whole c.args.taker v more c.args.seats.items c.take.new.into c.drain.new.merging c.loop-seat.word_seat.me.0
     (ap (λ (u : View). u.made) is ∙ (c.taker.invariant.3 ∙ ap (λ (z : TakerShown). z.sources) c.taker.view_is))
     (ap (λ (u : View). u.mine) is ∙ ap (λ (z : TakerShown). z.popped ++ more) c.taker.view_is)
     c.drain.ensures.settled
     (subst (λ (z : TakerShown). Mirrors z.start v.mine (taken z) c.drain.new.merging) c.taker.view_is whole_mirror)
     c.take.ensures.moved
-    (subst (λ (l : List SourceShown). (s : ℕ) (p : SourceShown) → slice_get l s ≡ Some p → (k : Known) × (slice_get v.known s ≡ Some k) × Tells k p) all
+    (subst (λ (l : List SourceShown). (s : ℕ) (p : SourceShown) → slice_get l s ≡ Some p → (k : Known) × (slice_get v.known s ≡ Some k) × AgreesWith k p) all
     (λ s p at. let k = inv.known.3 s p at in (k.0, ap (λ (u : View). slice_get u.known s) is ∙ k.1, k.2)))
-    (subst (λ (l : List SourceShown). (s : ℕ) (p : SourceShown) → slice_get l s ≡ Some p → slice_get c.loop-seat.sight.me.0.known s ≡ Some p.closed) all
-    (λ s p at. let k = inv.looks.1 s p at in k.1 ∙ ap Some k.2))
+    (subst (λ (l : List SourceShown). (s : ℕ) (p : SourceShown) → slice_get l s ≡ Some p → slice_get c.loop-seat.word_seat.me.0.known s ≡ Some p.closed) all
+    (λ s p at. let k = inv.their_word.1 s p at in k.1 ∙ ap Some k.2))
     c.end.ensures
     (inv.closed ∙ ap (λ (z : TakerShown). z.closed) c.taker.view_is)

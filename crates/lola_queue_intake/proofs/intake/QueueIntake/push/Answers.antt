@@ -2,8 +2,8 @@ use Rattle.std.proofs.Common.{◌≡◌, ◌+◌, ap, refl, sym, subst}
 use Rattle.crossbeam_queue.specs.Passes.{view}
 use Rattle.lola_queue_intake.specs.declared.item.Item.TheVariants as item
 use Rattle.lola_queue_intake.specs.Deliveries.{with_item}
-use Rattle.lola_queue_intake.specs.Intakes.{SourceShown, source_shown, after_push, IsStillUp}
-use Rattle.lola_queue_intake.proofs.Telling.{row_told, row_back, back_is_row, push_keeps}
+use Rattle.lola_queue_intake.specs.Intakes.{SourceShown, source_shown, after_push, IsSameSeat}
+use Rattle.lola_queue_intake.proofs.Telling.{row_told, row_back, back_is_row, push_same_seat}
 use Rattle.lola_queue_intake.proofs.intake.QueueIntake.push.Goals as goal
 
 pub row_answer-requires : goal.row_answer-requires
@@ -27,4 +27,4 @@ returns-clause-back g c = let p = c.seat.inside.pass in let q = c.queue_item-que
     c.queue_item-queued.ensures.told c.row_answer.ensures
 
 pub returns-clause-kept : goal.returns-clause-kept
-returns-clause-kept g c = subst (IsStillUp c.args.seat.now) (sym (returns-clause-told g c)) (push_keeps c.args.seat.now c.args.row c.row_answer.result)
+returns-clause-kept g c = subst (IsSameSeat c.args.seat.now) (sym (returns-clause-told g c)) (push_same_seat c.args.seat.now c.args.row c.row_answer.result)
