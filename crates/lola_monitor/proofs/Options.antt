@@ -6,13 +6,14 @@ use Rattle.std.specs.Str.{bytes_eq}
 use Rattle.std.proofs.lemmas.Bool.{and_parts}
 use Rattle.lola_value.specs.Times.{is_digit, is_point, is_time, latest, nanoseconds, number_of, up_to_latest}
 use Rattle.lola_model.specs.declared.journal.Show.TheVariants as show
-use Rattle.lola_monitor_command.specs.Command.{are_sources, behind_names, behind_options, come_once, command_of, drill_with, front_names, in_turns_said, is_empty, is_number, of_said, replay_by, replay_with, run_by, run_over, show_said, start_said, suit_replay, workers_said}
+use Rattle.lola_monitor_command.specs.Command.{are_sources, behind_names, behind_options, come_once, command_of, drill_with, front_names, in_turns_said, intake_said, is_empty, is_number, of_said, replay_by, replay_with, run_by, run_over, show_said, start_said, suit_replay, workers_said}
 use Rattle.lola_monitor_command.specs.Command as said_command
-use Rattle.lola_monitor_command.specs.Said.{Word, after, begins_with_minus, is_worker_count, names_from, option_by, option_with, said_from, says, show_by, start_by, thing_of, valued, with_front, workers_by}
+use Rattle.lola_monitor_command.specs.Said.{Word, after, begins_with_minus, intake_by, is_worker_count, names_from, option_by, option_with, said_from, says, show_by, start_by, thing_of, valued, with_front, workers_by}
+use Rattle.lola_monitor_command.specs.declared.said.IntakeKind.TheVariants as intake
 use Rattle.lola_monitor_command.specs.declared.said.Said.{Said}
 use Rattle.lola_monitor_command.specs.declared.said.Said.TheVariants as said
-use Rattle.lola_monitor_command.specs.declared.said.Thing.{Thing}
-use Rattle.lola_monitor_command.specs.declared.said.Thing.TheVariants as thing
+use Rattle.lola_monitor_command.specs.declared.said.WordSense.{WordSense}
+use Rattle.lola_monitor_command.specs.declared.said.WordSense.TheVariants as thing
 use Rattle.lola_monitor_command.specs.declared.command.Command.{Command}
 use Rattle.lola_monitor_command.specs.declared.command.Command.TheVariants.{Run, Analyse, Drill, Replay}
 use Rattle.lola_monitor_command.specs.declared.command.DrillCommand.{DrillCommand}
@@ -26,6 +27,7 @@ IsRight (said.Show s) = Unit {0}
 IsRight (said.Workers n) = (1 ≤ n) × (n ≤ 64)
 IsRight (said.Start t) = t ≤ latest
 IsRight said.InTurns = Unit {0}
+IsRight (said.Intake kind) = Unit {0}
 
 abbrev AllRight : List Said → Type 0
 AllRight [] = Unit {0}
@@ -35,7 +37,7 @@ abbrev IfRight : Option Said → Type 0
 IfRight None = Unit {0}
 IfRight (Some s) = IsRight s
 
-abbrev SaysRight : Thing → Type 0
+abbrev SaysRight : WordSense → Type 0
 SaysRight thing.Dashes = Unit {0}
 SaysRight (thing.Says s b) = IsRight s
 SaysRight thing.Wrong = Unit {0}
@@ -44,7 +46,7 @@ if_option : (b : Bool) (x y : Option Said) → IfRight x → IfRight y → IfRig
 if_option true x y h k = h
 if_option false x y h k = k
 
-if_thing : (b : Bool) (x y : Thing) → SaysRight x → SaysRight y → SaysRight (if b then x else y)
+if_thing : (b : Bool) (x y : WordSense) → SaysRight x → SaysRight y → SaysRight (if b then x else y)
 if_thing true x y h k = h
 if_thing false x y h k = k
 
@@ -74,10 +76,14 @@ start_right v = go (is_time (before_first is_point v) (after_first is_point v)) 
     go true t = start_in t
     go false t = tt
 
+intake_right : (v : Word) → IfRight (intake_by v)
+intake_right v = if_option (bytes_eq v (codes "lock")) (Some (said.Intake intake.Lock)) _ tt (if_option (bytes_eq v (codes "queue")) (Some (said.Intake intake.Queue)) None tt tt)
+
 option_right : (name v : Word) → IfRight (option_by name v)
 option_right name v =
     if_option (bytes_eq name (codes "--show")) (show_by v) _ (if_option (bytes_eq v (codes "triggers")) (Some (said.Show show.Triggers)) _ tt (if_option (bytes_eq v (codes "outputs")) (Some (said.Show show.Outputs)) None tt tt))
-    (if_option (bytes_eq name (codes "--workers")) (workers_by v) _ (workers_right v) (if_option (bytes_eq name (codes "--start")) (start_by v) None (start_right v) tt))
+    (if_option (bytes_eq name (codes "--workers")) (workers_by v) _ (workers_right v) (if_option (bytes_eq name (codes "--start")) (start_by v) _ (start_right v)
+    (if_option (bytes_eq name (codes "--intake")) (intake_by v) None (intake_right v) tt)))
 
 with_right : (name : Word) (next : Option Word) → IfRight (option_with name next)
 with_right name None = tt
@@ -105,7 +111,7 @@ front_right : (s : Said) (o : Option (List Said)) (ss : List Said) → IsRight s
 front_right s None ss h rest is = absurd (cc)
 front_right s (Some ts) ss h rest is = subst AllRight (same_some (s ∷ ts) ss is) (h, rest ts refl)
 
-after_right : (at : ℕ) (ws : List Word) (t : Thing) (rest : Bool → Option (List Said)) (ss : List Said) → SaysRight t → ((b : Bool) (ts : List Said) → rest b ≡ Some ts → AllRight ts) → after at ws t rest ≡ Some ss → AllRight ss
+after_right : (at : ℕ) (ws : List Word) (t : WordSense) (rest : Bool → Option (List Said)) (ss : List Said) → SaysRight t → ((b : Bool) (ts : List Said) → rest b ≡ Some ts → AllRight ts) → after at ws t rest ≡ Some ss → AllRight ss
 after_right at ws thing.Dashes rest ss h r is = subst AllRight (same_some (names_from (at + 1) ws) ss is) (names_right (at + 1) ws)
 after_right at ws (thing.Says s b) rest ss h r is = front_right s (rest b) ss h (r b) is
 after_right at ws thing.Wrong rest ss h r is = absurd (cc)
@@ -125,6 +131,7 @@ workers_bound (said.Show s ∷ ss) h = workers_bound ss h.1
 workers_bound (said.Workers n ∷ ss) h = h.0
 workers_bound (said.Start t ∷ ss) h = workers_bound ss h.1
 workers_bound (said.InTurns ∷ ss) h = workers_bound ss h.1
+workers_bound (said.Intake kind ∷ ss) h = workers_bound ss h.1
 
 start_bound : (ss : List Said) → AllRight ss → IsOptionInTime (start_said ss)
 start_bound [] h = tt
@@ -133,6 +140,7 @@ start_bound (said.Show s ∷ ss) h = start_bound ss h.1
 start_bound (said.Workers n ∷ ss) h = start_bound ss h.1
 start_bound (said.Start t ∷ ss) h = h.0
 start_bound (said.InTurns ∷ ss) h = start_bound ss h.1
+start_bound (said.Intake kind ∷ ss) h = start_bound ss h.1
 
 -- a run in its bounds
 abbrev InBounds : Option Command → Type 0
@@ -154,7 +162,7 @@ over_bound ss n rest h = go (come_once ss && are_sources (front_names rest) (beh
   where
     go : (b : Bool) → (come_once ss && are_sources (front_names rest) (behind_names rest)) ≡ b
         → InBounds (if b
-        then Some (Run (record { specification = n; sources = front_names rest; show = show_said ss; workers = workers_said ss; start = start_said ss; in_turns = in_turns_said ss }))
+        then Some (Run (record { specification = n; sources = front_names rest; show = show_said ss; workers = workers_said ss; start = start_said ss; in_turns = in_turns_said ss; intake = intake_said ss }))
         else None)
     go true is = (workers_bound ss h, start_bound ss h, sources_bound ss rest is)
     go false is = tt
@@ -166,6 +174,7 @@ by_bound ss (said.Show s ∷ rest) h = tt
 by_bound ss (said.Workers n ∷ rest) h = tt
 by_bound ss (said.Start t ∷ rest) h = tt
 by_bound ss (said.InTurns ∷ rest) h = tt
+by_bound ss (said.Intake kind ∷ rest) h = tt
 
 of_bound : (o : Option (List Said)) → ((ss : List Said) → o ≡ Some ss → AllRight ss) → InBounds (of_said said_command.run_of o)
 of_bound None h = tt
@@ -179,6 +188,7 @@ analyse_bound (said.Show s ∷ ss) = tt
 analyse_bound (said.Workers n ∷ ss) = tt
 analyse_bound (said.Start t ∷ ss) = tt
 analyse_bound (said.InTurns ∷ ss) = tt
+analyse_bound (said.Intake kind ∷ ss) = tt
 
 analysed_bound : (o : Option (List Said)) → InBounds (of_said said_command.analyse_of o)
 analysed_bound None = tt
@@ -211,16 +221,19 @@ drill_said words ((said.Show x) ∷ ss) = tt
 drill_said words ((said.Workers n) ∷ ss) = tt
 drill_said words ((said.Start t) ∷ ss) = tt
 drill_said words (said.InTurns ∷ ss) = tt
+drill_said words (said.Intake kind ∷ ss) = tt
 drill_said words (said.Name a ∷ []) = tt
 drill_said words (said.Name a ∷ (said.Show x) ∷ ss) = tt
 drill_said words (said.Name a ∷ (said.Workers n) ∷ ss) = tt
 drill_said words (said.Name a ∷ (said.Start t) ∷ ss) = tt
 drill_said words (said.Name a ∷ said.InTurns ∷ ss) = tt
+drill_said words (said.Name a ∷ said.Intake kind ∷ ss) = tt
 drill_said words (said.Name a ∷ said.Name b ∷ []) = tt
 drill_said words (said.Name a ∷ said.Name b ∷ (said.Show x) ∷ ss) = tt
 drill_said words (said.Name a ∷ said.Name b ∷ (said.Workers n) ∷ ss) = tt
 drill_said words (said.Name a ∷ said.Name b ∷ (said.Start t) ∷ ss) = tt
 drill_said words (said.Name a ∷ said.Name b ∷ said.InTurns ∷ ss) = tt
+drill_said words (said.Name a ∷ said.Name b ∷ said.Intake kind ∷ ss) = tt
 drill_said words (said.Name a ∷ said.Name b ∷ said.Name c ∷ []) = drill_bound (said_command.word_of words a) (said_command.word_of words b) (said_command.word_of words c)
 drill_said words (said.Name a ∷ said.Name b ∷ said.Name c ∷ x ∷ ss) = tt
 

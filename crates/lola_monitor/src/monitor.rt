@@ -143,7 +143,7 @@ fn work<R: Threads + Wait + Sync, F: Shelf, K: Sink, T: Sink, G: Gate + Sync>(
 /// A run has 1 to 64 sources, numbered from 0. With `--in-turns` they are read in turns: one row of source 0, one of source 1, and
 /// so on, and then the next round, in which a source that has ended has no turn. Without it they are read by the calling thread and by
 /// threads that are started through `rt`; the gate is called before each turn, and the rows may come in any order that keeps that of
-/// each source.
+/// each source. `--intake` then says what they are handed in at, the lock or the queue, and no promise depends on it.
 /// A source that ends at a malformed line, or whose read fails, ends alone: the others are read to their ends.
 ///
 /// | Status | What has come, and what was left |

@@ -1,5 +1,5 @@
 //! The sources of a run: fetched, run in turns or as their rows come, and given back.
-ghost use Rattle.std.specs.Prelude.{◌≡◌, ◌≤◌, ℕ, List, [], IfOk, length, map, string_bytes};
+ghost use Rattle.std.specs.Prelude.{◌≡◌, ◌≤◌, ℕ, List, [], IfOk, false, length, map, string_bytes};
 ghost use Rattle.std.specs.Vec.{vec_capacity};
 ghost use Rattle.lola_port.specs.States.{ShelfState};
 ghost use Rattle.lola_model.specs.Acceptance.{IsAccepted};
@@ -17,14 +17,19 @@ use crate::outcome::CallEnd;
 use lola_feed::rooms::reserve_all;
 use lola_feed::sources::{FetchStop, fetch_all, give_all_back};
 use lola_feed::worker::SourceWorker;
+use lola_intake::intake::Intake;
+use lola_intake::seats::{EngineSeat, SourceSeat};
 use lola_model::plan::Plan;
 use lola_monitor_command::command::RunCommand;
+use lola_monitor_command::said::IntakeKind;
 use lola_monitor_run::rows::{MOST_ROWS, run_in_turns};
 use lola_monitor_run::run::Run;
 use lola_monitor_run::run_law::{no_rows_have_no_verdicts, puts_add_up};
 use lola_monitor_run::stop::Stop;
 use lola_monitor_threads::run::run_in_threads;
 use lola_port::{Gate, Shelf, Sink, Source};
+use lola_queue_intake::intake::QueueIntake;
+use lola_queue_intake::seats::{QueueSeat, TakerSeat};
 use lola_report_lines::end::EndLine;
 use lola_rows::EmptyReader;
 use lola_value::text::Memory;
@@ -80,6 +85,36 @@ fn not_fetched(stop: FetchStop) -> CallEnd
     }
 }
 
+// Runs sources as their rows come, which hand them in at this intake.
+fn run_in_time<R: Threads + Wait + Sync, S: Source + Send, K: Sink, T: Sink, G: Gate + Sync>(
+    rt: &R,
+    alloc: Global,
+    run: &mut Run,
+    workers: Vec<SourceWorker<S>>,
+    start: Option<u64>,
+    intake: IntakeKind,
+    out: &mut K,
+    trace: &mut T,
+    gate: &G,
+) -> (Vec<SourceWorker<S>>, Result<(), Stop>)
+    requires stands { Stands [] (keeping run.old) }
+    requires ready { AreReady (keeping run.old).state.plan workers.items }
+    requires start { start ≡ (keeping run.old).state.given_start }
+    ensures run { EndsRun false result.1 (world (keeping run.old) (map supply_of workers.items) (K.state out.old) (T.state trace.old))
+        (world (keeping run.new) (map supply_of result.0.items) (K.state out.new) (T.state trace.new)) }
+    ensures places { AreInPlace workers.items result.0.items }
+    ensures plan { (keeping run.new).state.plan ≡ (keeping run.old).state.plan }
+{
+    match intake {
+        IntakeKind::Lock => run_in_threads::<SourceSeat, EngineSeat, Intake, R, S, K, T, G>(
+            rt, alloc, run, workers, start, out, trace, gate,
+        ),
+        IntakeKind::Queue => run_in_threads::<QueueSeat, TakerSeat, QueueIntake, R, S, K, T, G>(
+            rt, alloc, run, workers, start, out, trace, gate,
+        ),
+    }
+}
+
 // Runs sources, in turns or as their rows come.
 fn run_workers<R: Threads + Wait + Sync, S: Source + Send, K: Sink, T: Sink, G: Gate + Sync>(
     rt: &R,
@@ -88,6 +123,7 @@ fn run_workers<R: Threads + Wait + Sync, S: Source + Send, K: Sink, T: Sink, G: 
     workers: Vec<SourceWorker<S>>,
     start: Option<u64>,
     in_turns: bool,
+    intake: IntakeKind,
     out: &mut K,
     trace: &mut T,
     gate: &G,
@@ -103,7 +139,7 @@ fn run_workers<R: Threads + Wait + Sync, S: Source + Send, K: Sink, T: Sink, G: 
     if in_turns {
         run_in_turns(rt, alloc, run, workers, start, out, trace, gate)
     } else {
-        run_in_threads(rt, alloc, run, workers, start, out, trace, gate)
+        run_in_time(rt, alloc, run, workers, start, intake, out, trace, gate)
     }
 }
 
@@ -115,6 +151,7 @@ fn run_lent<R: Threads + Wait + Sync, F: Shelf, K: Sink, T: Sink, G: Gate + Sync
     workers: Vec<SourceWorker<F::File>>,
     start: Option<u64>,
     in_turns: bool,
+    intake: IntakeKind,
     shelf: &mut F,
     out: &mut K,
     trace: &mut T,
@@ -131,7 +168,7 @@ fn run_lent<R: Threads + Wait + Sync, F: Shelf, K: Sink, T: Sink, G: Gate + Sync
         (outside (F.state shelf.new) (K.state out.new) (T.state trace.new)) }
 {
     let (workers, stopped) = run_workers(
-        rt, alloc, run, workers, start, in_turns, out, trace, gate,
+        rt, alloc, run, workers, start, in_turns, intake, out, trace, gate,
     );
     let end = end_of(workers.as_slice());
     give_all_back(shelf, workers);
@@ -179,6 +216,7 @@ fn run_room<R: Threads + Wait + Sync, F: Shelf, K: Sink, T: Sink, G: Gate + Sync
         workers,
         command.start,
         command.in_turns,
+        command.intake,
         shelf,
         out,
         trace,

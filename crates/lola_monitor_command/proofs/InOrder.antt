@@ -2,7 +2,7 @@
 use Rattle.std.proofs.Common.{◌≡◌, refl, ap, subst, ◌∙◌, ℕ, ◌≤◌, List, [], ◌∷◌, ◌++◌, Option, Some, None, Bool, true, false, ◌&&◌, if◌then◌else◌, nat_le, length, map, arith}
 use Rattle.std.specs.List.{list_all}
 use Rattle.std.proofs.lemmas.Bool.{and_parts}
-use Rattle.lola_monitor_command.specs.Command.{come_once, show_said, workers_said, start_said, in_turns_said, front_names, behind_names, behind_options, is_empty, are_sources, run_over, run_by, run_of}
+use Rattle.lola_monitor_command.specs.Command.{come_once, show_said, workers_said, start_said, in_turns_said, intake_said, front_names, behind_names, behind_options, is_empty, are_sources, run_over, run_by, run_of}
 use Rattle.lola_monitor_command.specs.Order.{is_setting, IsRunOf, RunsAreInOrder}
 use Rattle.lola_monitor_command.specs.declared.said.Said.{Said}
 use Rattle.lola_monitor_command.specs.declared.said.Said.TheVariants as said
@@ -18,6 +18,7 @@ front_options (said.Show s ∷ ss) = said.Show s ∷ front_options ss
 front_options (said.Workers n ∷ ss) = said.Workers n ∷ front_options ss
 front_options (said.Start t ∷ ss) = said.Start t ∷ front_options ss
 front_options (said.InTurns ∷ ss) = said.InTurns ∷ front_options ss
+front_options (said.Intake kind ∷ ss) = said.Intake kind ∷ front_options ss
 
 pub split : (ss : List Said) → ss ≡ front_options ss ++ behind_options ss
 split [] = refl
@@ -26,6 +27,7 @@ split (said.Show s ∷ ss) = ap (λ z. said.Show s ∷ z) (split ss)
 split (said.Workers n ∷ ss) = ap (λ z. said.Workers n ∷ z) (split ss)
 split (said.Start t ∷ ss) = ap (λ z. said.Start t ∷ z) (split ss)
 split (said.InTurns ∷ ss) = ap (λ z. said.InTurns ∷ z) (split ss)
+split (said.Intake kind ∷ ss) = ap (λ z. said.Intake kind ∷ z) (split ss)
 
 pub all_options : (ss : List Said) → list_all is_setting (front_options ss) ≡ true
 all_options [] = refl
@@ -34,6 +36,7 @@ all_options (said.Show s ∷ ss) = all_options ss
 all_options (said.Workers n ∷ ss) = all_options ss
 all_options (said.Start t ∷ ss) = all_options ss
 all_options (said.InTurns ∷ ss) = all_options ss
+all_options (said.Intake kind ∷ ss) = all_options ss
 
 -- behind options stands what stands behind them
 pub past : (xs : List Said) (ys : List Said) → list_all is_setting xs ≡ true → behind_options ys ≡ ys → behind_options (xs ++ ys) ≡ ys
@@ -43,6 +46,7 @@ past (said.Show s ∷ xs) ys o e = past xs ys o e
 past (said.Workers n ∷ xs) ys o e = past xs ys o e
 past (said.Start t ∷ xs) ys o e = past xs ys o e
 past (said.InTurns ∷ xs) ys o e = past xs ys o e
+past (said.Intake kind ∷ xs) ys o e = past xs ys o e
 
 -- names at the front
 split_names : (ss : List Said) → ss ≡ map said.Name (front_names ss) ++ behind_names ss
@@ -52,6 +56,7 @@ split_names (said.Show s ∷ ss) = refl
 split_names (said.Workers n ∷ ss) = refl
 split_names (said.Start t ∷ ss) = refl
 split_names (said.InTurns ∷ ss) = refl
+split_names (said.Intake kind ∷ ss) = refl
 
 -- only options
 pub none_behind : (ss : List Said) → is_empty (behind_options ss) ≡ true → list_all is_setting ss ≡ true
@@ -61,6 +66,7 @@ none_behind (said.Show s ∷ ss) e = none_behind ss e
 none_behind (said.Workers n ∷ ss) e = none_behind ss e
 none_behind (said.Start t ∷ ss) e = none_behind ss e
 none_behind (said.InTurns ∷ ss) e = none_behind ss e
+none_behind (said.Intake kind ∷ ss) e = none_behind ss e
 
 pub only_options : (ss : List Said) → list_all is_setting ss ≡ true → is_empty (behind_options ss) ≡ true
 only_options [] o = refl
@@ -69,6 +75,7 @@ only_options (said.Show s ∷ ss) o = only_options ss o
 only_options (said.Workers n ∷ ss) o = only_options ss o
 only_options (said.Start t ∷ ss) o = only_options ss o
 only_options (said.InTurns ∷ ss) o = only_options ss o
+only_options (said.Intake kind ∷ ss) o = only_options ss o
 
 -- options have no name at the front
 no_names : (ss : List Said) → list_all is_setting ss ≡ true → front_names ss ≡ []
@@ -78,6 +85,7 @@ no_names (said.Show s ∷ ss) o = refl
 no_names (said.Workers n ∷ ss) o = refl
 no_names (said.Start t ∷ ss) o = refl
 no_names (said.InTurns ∷ ss) o = refl
+no_names (said.Intake kind ∷ ss) o = refl
 
 all_behind : (ss : List Said) → list_all is_setting ss ≡ true → behind_names ss ≡ ss
 all_behind [] o = refl
@@ -86,6 +94,7 @@ all_behind (said.Show s ∷ ss) o = refl
 all_behind (said.Workers n ∷ ss) o = refl
 all_behind (said.Start t ∷ ss) o = refl
 all_behind (said.InTurns ∷ ss) o = refl
+all_behind (said.Intake kind ∷ ss) o = refl
 
 names_of : (ns : List ℕ) (ss : List Said) → list_all is_setting ss ≡ true → front_names (map said.Name ns ++ ss) ≡ ns
 names_of [] ss o = no_names ss o
@@ -103,7 +112,7 @@ named_front (n ∷ ns) ss some = refl
 -- the run that is told so
 abbrev told : List Said → ℕ → List ℕ → RunCommand
 told ss specification sources =
-    record { specification = specification; sources = sources; show = show_said ss; workers = workers_said ss; start = start_said ss; in_turns = in_turns_said ss }
+    record { specification = specification; sources = sources; show = show_said ss; workers = workers_said ss; start = start_said ss; in_turns = in_turns_said ss; intake = intake_said ss }
 
 -- ---- from the definition to the order
 
@@ -142,6 +151,7 @@ ordered ss rest specification r at_front e =
       workers = refl;
       start = refl;
       in_turns = refl;
+      intake = refl;
     })
 
 by_front : (ss front : List Said) (r : RunCommand) → behind_options ss ≡ front → run_by ss front ≡ Some (command.Run r) → IsRunOf ss r
@@ -151,6 +161,7 @@ by_front ss (said.Show s ∷ rest) r at_front e = absurd (grind (arith, e))
 by_front ss (said.Workers n ∷ rest) r at_front e = absurd (grind (arith, e))
 by_front ss (said.Start t ∷ rest) r at_front e = absurd (grind (arith, e))
 by_front ss (said.InTurns ∷ rest) r at_front e = absurd (grind (arith, e))
+by_front ss (said.Intake kind ∷ rest) r at_front e = absurd (grind (arith, e))
 
 -- ---- from the order to the definition
 
@@ -167,7 +178,7 @@ defined ss r o =
     let rest = rest_of r.sources o.behind o.options_behind in
     let test : (come_once ss && are_sources (front_names z) (behind_names z)) ≡ true =
     rw (names, rest, o.once, only_options o.behind o.options_behind) (within (length r.sources) o.some o.few) in
-    let is : told ss r.specification (front_names z) ≡ r = rw (names, ← o.show, ← o.workers, ← o.start, ← o.in_turns) refl in
+    let is : told ss r.specification (front_names z) ≡ r = rw (names, ← o.show, ← o.workers, ← o.start, ← o.in_turns, ← o.intake) refl in
     ap (run_by ss) front ∙ ap (run_over ss r.specification) at_z
     ∙ if_true (come_once ss && are_sources (front_names z) (behind_names z)) (Some (command.Run (told ss r.specification (front_names z)))) None test
     ∙ ap (λ (q : RunCommand). Some (command.Run q)) is

@@ -1,12 +1,10 @@
 -- The order of what a replay is told, both ways.
-use Rattle.std.proofs.Common.{◌≡◌, refl, ap, subst, ◌∙◌, ℕ, List, [], ◌∷◌, ◌++◌, Option, Some, None, Bool, true, false, ◌&&◌, if◌then◌else◌, arith}
-use Rattle.std.specs.List.{list_all}
+use Rattle.std.proofs.Common.{◌≡◌, refl, ap, subst, ◌∙◌, ℕ, List, ◌∷◌, ◌++◌, Some, None, true, ◌&&◌, arith}
 use Rattle.std.proofs.lemmas.Bool.{and_parts}
 use Rattle.lola_monitor_command.specs.Command.{come_once, suit_replay, show_said, start_said, behind_options, is_empty, replay_by, replay_of, replay_with}
-use Rattle.lola_monitor_command.specs.Order.{is_setting, IsReplayOf, ReplaysAreInOrder}
+use Rattle.lola_monitor_command.specs.Order.{IsReplayOf, ReplaysAreInOrder}
 use Rattle.lola_monitor_command.specs.declared.said.Said.{Said}
 use Rattle.lola_monitor_command.specs.declared.said.Said.TheVariants as said
-use Rattle.lola_monitor_command.specs.declared.command.Command.{Command}
 use Rattle.lola_monitor_command.specs.declared.command.Command.TheVariants as command
 use Rattle.lola_monitor_command.specs.declared.command.ReplayCommand.{ReplayCommand}
 use Rattle.lola_monitor_command.proofs.InOrder.{all_options, chosen, front_options, if_true, none_behind, only_options, past, split}

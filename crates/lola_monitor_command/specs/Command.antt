@@ -6,6 +6,8 @@ use Rattle.lola_value.specs.Times.{is_digit, number_of}
 use Rattle.lola_model.specs.declared.journal.Show.{Show}
 use Rattle.lola_model.specs.declared.journal.Show.TheVariants as show
 use Rattle.lola_monitor_command.specs.Said.{Word, said_from}
+use Rattle.lola_monitor_command.specs.declared.said.IntakeKind.{IntakeKind}
+use Rattle.lola_monitor_command.specs.declared.said.IntakeKind.TheVariants as intake
 use Rattle.lola_monitor_command.specs.declared.said.Said.{Said}
 use Rattle.lola_monitor_command.specs.declared.said.Said.TheVariants as said
 use Rattle.lola_monitor_command.specs.declared.command.Command.{Command}
@@ -29,18 +31,23 @@ abbrev pub is_in_turns : Said → Bool
 is_in_turns said.InTurns = true
 is_in_turns _ = false
 
+abbrev pub is_intake : Said → Bool
+is_intake (said.Intake kind) = true
+is_intake _ = false
+
 -- at most one of these is so
 abbrev pub at_most_once : (Said → Bool) → List Said → Bool
 at_most_once f ss = nat_le (length (filter f ss)) 1
 
 -- each option comes at most once
 abbrev pub come_once : List Said → Bool
-come_once ss = at_most_once is_show ss && (at_most_once is_workers ss && (at_most_once is_start ss && at_most_once is_in_turns ss))
+come_once ss = at_most_once is_show ss && (at_most_once is_workers ss && (at_most_once is_start ss && (at_most_once is_in_turns ss && at_most_once is_intake ss)))
 
 -- an option that a replay has too, or a name
 abbrev pub suits_replay : Said → Bool
 suits_replay (said.Workers n) = false
 suits_replay said.InTurns = false
+suits_replay (said.Intake kind) = false
 suits_replay _ = true
 
 abbrev pub suit_replay : List Said → Bool
@@ -67,6 +74,11 @@ abbrev pub in_turns_said : List Said → Bool
 in_turns_said [] = false
 in_turns_said (said.InTurns ∷ ss) = true
 in_turns_said (s ∷ ss) = in_turns_said ss
+
+abbrev pub intake_said : List Said → IntakeKind
+intake_said [] = intake.Lock
+intake_said (said.Intake kind ∷ ss) = kind
+intake_said (s ∷ ss) = intake_said ss
 
 -- the names at the front, and what stands behind them
 abbrev pub front_names : List Said → List ℕ
@@ -102,6 +114,7 @@ run_over ss specification rest =
       workers = workers_said ss;
       start = start_said ss;
       in_turns = in_turns_said ss;
+      intake = intake_said ss;
     }))
     else None
 

@@ -1,7 +1,7 @@
 -- The order in which a run and a replay are told what they are told.
 use Rattle.std.specs.Prelude.{◌≡◌, ◌≤◌, ◌↔◌, List, ◌∷◌, ◌++◌, Some, Bool, true, false, length, map}
 use Rattle.std.specs.List.{list_all}
-use Rattle.lola_monitor_command.specs.Command.{come_once, suit_replay, show_said, workers_said, start_said, in_turns_said, run_of, replay_of}
+use Rattle.lola_monitor_command.specs.Command.{come_once, suit_replay, show_said, workers_said, start_said, in_turns_said, intake_said, run_of, replay_of}
 use Rattle.lola_monitor_command.specs.declared.said.Said.{Said}
 use Rattle.lola_monitor_command.specs.declared.said.Said.TheVariants as said
 use Rattle.lola_monitor_command.specs.declared.command.Command.TheVariants as command
@@ -15,6 +15,7 @@ is_setting (said.Show s) = true
 is_setting (said.Workers n) = true
 is_setting (said.Start t) = true
 is_setting said.InTurns = true
+is_setting (said.Intake kind) = true
 
 -- options, the specification, options, from 1 to 64 sources with nothing between them, options; each option comes at most once
 pub record IsRunOf (ss : List Said) (r : RunCommand) : Type 0 where
@@ -32,6 +33,7 @@ pub record IsRunOf (ss : List Said) (r : RunCommand) : Type 0 where
   pub workers : r.workers ≡ workers_said ss
   pub start : r.start ≡ start_said ss
   pub in_turns : r.in_turns ≡ in_turns_said ss
+  pub intake : r.intake ≡ intake_said ss
 
 -- what is said is a run exactly where it stands in that order
 abbrev pub RunsAreInOrder : Type 0

@@ -4,6 +4,7 @@ use Rattle.std.specs.List.{list_all, position}
 use Rattle.std.specs.Str.{bytes_eq}
 use Rattle.lola_value.specs.Times.{is_digit, number_of, read_time}
 use Rattle.lola_model.specs.declared.journal.Show.TheVariants as show
+use Rattle.lola_monitor_command.specs.declared.said.IntakeKind.TheVariants as intake
 use Rattle.lola_monitor_command.specs.declared.said.Said.{Said}
 use Rattle.lola_monitor_command.specs.declared.said.Said.TheVariants as said
 use Rattle.lola_monitor_command.specs.declared.said.WordSense.{WordSense}
@@ -37,12 +38,19 @@ workers_by v = if is_worker_count v then Some (said.Workers (number_of v)) else 
 abbrev pub start_by : Word → Option Said
 start_by v = option_map (λ t. said.Start t) (read_time v)
 
+-- what sources hand their rows in at
+abbrev pub intake_by : Word → Option Said
+intake_by v =
+    if bytes_eq v (codes "lock") then Some (said.Intake intake.Lock)
+    else if bytes_eq v (codes "queue") then Some (said.Intake intake.Queue) else None
+
 -- an option of this name, with this value
 abbrev pub option_by : Word → Word → Option Said
 option_by name v =
     if bytes_eq name (codes "--show") then show_by v
     else if bytes_eq name (codes "--workers") then workers_by v
-    else if bytes_eq name (codes "--start") then start_by v else None
+    else if bytes_eq name (codes "--start") then start_by v
+    else if bytes_eq name (codes "--intake") then intake_by v else None
 
 -- a value in a word of its own does not begin with a minus
 abbrev pub option_with : Word → Option Word → Option Said

@@ -7,10 +7,10 @@ ghost use Rattle.lola_monitor_command.specs.Said.{said_from};
 ghost use Rattle.lola_monitor_command.specs.Command.{front_names, behind_names, are_sources, run_over, run_of, analyse_of, is_number, drill_with, word_of, drill_of, replay_by, replay_of, replay_with, of_said, command_of};
 
 use crate::options::all_digits;
-use crate::said::{Said, SaidList};
+use crate::said::{IntakeKind, Said, SaidList};
 use crate::settings::{
-    how_many_workers, is_once, past_options, suit_replay, what_is_shown, where_time_begins,
-    whether_in_turns,
+    how_many_workers, is_once, past_options, suit_replay, what_is_shown, where_rows_come_in,
+    where_time_begins, whether_in_turns,
 };
 use crate::words::all_said;
 use lola_model::journal::Show;
@@ -74,6 +74,8 @@ pub struct RunCommand {
     pub start: Option<u64>,
     /// Whether the sources are read in turns on one thread.
     pub in_turns: bool,
+    /// What the sources hand their rows in at unless they are read in turns; the lock where nothing is said.
+    pub intake: IntakeKind,
 }
 
 /// What a drill is told.
@@ -105,7 +107,7 @@ pub struct ReplayCommand {
 /// A command.
 #[derive(Drop)]
 pub enum Command {
-    /// `run [--show triggers|outputs] [--workers N] [--start T] [--in-turns] SPEC SOURCE..`
+    /// `run [--show triggers|outputs] [--workers N] [--start T] [--in-turns] [--intake lock|queue] SPEC SOURCE..`
     Run(RunCommand),
     /// `analyse SPEC`, by the word that names the specification.
     Analyse(usize),
@@ -157,6 +159,7 @@ fn run_over_specification(
         workers: how_many_workers(said),
         start: where_time_begins(said),
         in_turns: whether_in_turns(said),
+        intake: where_rows_come_in(said),
     })))
 }
 

@@ -3,9 +3,9 @@
 ghost use Rattle.std.specs.Prelude.{◌≡◌, ◌≤◌, option_map, length, true, false, Some, None, if◌then◌else◌, position};
 ghost use Rattle.std.specs.List.{list_all};
 ghost use Rattle.lola_value.specs.Times.{is_digit, number_of};
-ghost use Rattle.lola_monitor_command.specs.Said.{begins_with_minus, is_option, show_by, is_worker_count, workers_by, start_by, option_by, option_with, is_equals, says, valued as valued_by, thing_of};
+ghost use Rattle.lola_monitor_command.specs.Said.{begins_with_minus, is_option, show_by, is_worker_count, workers_by, start_by, intake_by, option_by, option_with, is_equals, says, valued as valued_by, thing_of};
 
-use crate::said::{Said, WordSense};
+use crate::said::{IntakeKind, Said, WordSense};
 use lola_model::journal::Show;
 use lola_value::times::time_read;
 
@@ -89,6 +89,18 @@ fn start_value(value: &[u8]) -> Option<Said>
     }
 }
 
+fn intake_value(value: &[u8]) -> Option<Said>
+    ensures { result ≡ intake_by value.now }
+{
+    if value == b"lock".as_slice() {
+        Some(Said::Intake(IntakeKind::Lock))
+    } else if value == b"queue".as_slice() {
+        Some(Said::Intake(IntakeKind::Queue))
+    } else {
+        None
+    }
+}
+
 // The option of this name with this value, if there is one.
 fn option_of(name: &[u8], value: &[u8]) -> Option<Said>
     ensures { result ≡ option_by name.now value.now }
@@ -99,6 +111,8 @@ fn option_of(name: &[u8], value: &[u8]) -> Option<Said>
         workers_value(value)
     } else if name == b"--start".as_slice() {
         start_value(value)
+    } else if name == b"--intake".as_slice() {
+        intake_value(value)
     } else {
         None
     }

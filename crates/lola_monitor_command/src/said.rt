@@ -7,6 +7,15 @@ use lola_value::text::Memory;
 use std::alloc::Global;
 use std::marker::Model;
 
+/// What the sources of a run hand their rows in at.
+#[derive(Clone, Copy, Debug, PartialEq, Eq)]
+pub enum IntakeKind {
+    /// A merge object round which there is a lock.
+    Lock,
+    /// A queue.
+    Queue,
+}
+
 /// A name, or an option with its value.
 #[derive(Clone, Copy, Debug, PartialEq, Eq)]
 pub enum Said {
@@ -20,6 +29,8 @@ pub enum Said {
     Start(u64),
     /// `--in-turns`
     InTurns,
+    /// `--intake`
+    Intake(IntakeKind),
 }
 
 /// What one word says where it stands.

@@ -2,9 +2,9 @@
 
 ghost use Rattle.std.specs.Prelude.{◌≡◌, filter, length};
 ghost use Rattle.std.specs.List.{list_all};
-ghost use Rattle.lola_monitor_command.specs.Command.{is_show, is_workers, is_start, is_in_turns, come_once, suit_replay, suits_replay, show_said, workers_said, start_said, in_turns_said, behind_options};
+ghost use Rattle.lola_monitor_command.specs.Command.{is_show, is_workers, is_start, is_in_turns, is_intake, come_once, suit_replay, suits_replay, show_said, workers_said, start_said, in_turns_said, intake_said, behind_options};
 
-use crate::said::Said;
+use crate::said::{IntakeKind, Said};
 use lola_model::journal::Show;
 
 // How often an option comes.
@@ -40,6 +40,14 @@ fn count_in_turns(said: &[Said]) -> usize
         .count()
 }
 
+fn count_intakes(said: &[Said]) -> usize
+    ensures { result ≡ length (filter is_intake said.now) }
+{
+    said.iter()
+        .filter(|one| matches!(one, Said::Intake(_)))
+        .count()
+}
+
 /// Whether each option comes at most once.
 pub(crate) fn is_once(said: &[Said]) -> bool
     ensures { result ≡ come_once said.now }
@@ -48,6 +56,7 @@ pub(crate) fn is_once(said: &[Said]) -> bool
         && count_workers(said) <= 1
         && count_starts(said) <= 1
         && count_in_turns(said) <= 1
+        && count_intakes(said) <= 1
 }
 
 /// What is shown.
@@ -98,6 +107,18 @@ pub(crate) fn whether_in_turns(said: &[Said]) -> bool
     false
 }
 
+/// What sources hand their rows in at.
+pub(crate) fn where_rows_come_in(said: &[Said]) -> IntakeKind
+    ensures { result ≡ intake_said said.now }
+{
+    for one in said {
+        if let Said::Intake(kind) = one {
+            return *kind;
+        }
+    }
+    IntakeKind::Lock
+}
+
 /// What stands behind the options at the front.
 pub(crate) fn past_options(said: &[Said]) -> &[Said]
     ensures { result.now ≡ behind_options said.now }
@@ -114,7 +135,7 @@ pub(crate) fn past_options(said: &[Said]) -> &[Said]
 fn suits_replay(one: &Said) -> bool
     ensures { result ≡ suits_replay one.now }
 {
-    !matches!(one, Said::Workers(_) | Said::InTurns)
+    !matches!(one, Said::Workers(_) | Said::InTurns | Said::Intake(_))
 }
 
 /// Whether there is no option that a run alone has.

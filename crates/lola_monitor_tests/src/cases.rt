@@ -29,6 +29,9 @@ pub struct Case<'a> {
     pub trace: &'a str,
 }
 
+/// What the sources of a run hand their rows in at, as the command says it.
+pub const INTAKES: [&str; 2] = ["--intake=lock", "--intake=queue"];
+
 /// The most bytes that a case's texts have.
 const MOST: usize = 10_000;
 
@@ -56,10 +59,13 @@ fn source_at<'a>(case: &Case<'a>, number: usize) -> Source<'a> {
     }
 }
 
-/// The words of a command.
-fn words(alloc: Global, texts: &[&str]) -> Result<Vec<String>, Memory> {
+/// The words of a run with this option behind the command's.
+fn words(alloc: Global, texts: &[&str], option: &str) -> Result<Vec<String>, Memory> {
     let mut words = Vec::new(alloc);
-    for text in texts {
+    for (place, text) in texts.iter().enumerate() {
+        if place == 2 {
+            words.push(String::from_str(alloc, option)?)?;
+        }
         words.push(String::from_str(alloc, text)?)?;
     }
     Ok(words)
@@ -107,11 +113,12 @@ pub struct Left {
     pub trace: MemorySink,
 }
 
-/// Runs a command over the objects of a case; none where they have no form that a shelf takes.
+/// Runs a command with this option over the objects of a case; none where they have no form that a shelf takes.
 pub fn run<R: Threads + Wait + Sync, G: Gate + Sync>(
     rt: &R,
     alloc: Global,
     texts: &[&str],
+    option: &str,
     case: &Case<'_>,
     gate: &G,
 ) -> Result<Option<Left>, Memory> {
@@ -120,7 +127,7 @@ pub fn run<R: Threads + Wait + Sync, G: Gate + Sync>(
     };
     let mut out = MemorySink::create(alloc, case.failing_puts)?;
     let mut trace = MemorySink::create(alloc, case.failing_trace_puts)?;
-    let words = words(alloc, texts)?;
+    let words = words(alloc, texts, option)?;
     let status = run_monitor(
         rt,
         alloc,
@@ -134,21 +141,25 @@ pub fn run<R: Threads + Wait + Sync, G: Gate + Sync>(
     Ok(Some(Left { status, out, trace }))
 }
 
-/// Whether a command leaves what the case says.
+/// Whether a run leaves what the case says, whatever its sources hand their rows in at.
 pub fn leaves<R: Threads + Wait + Sync>(
     rt: &R,
     alloc: Global,
     texts: &[&str],
     case: &Case<'_>,
 ) -> Result<bool, Memory> {
-    let Some(left) = run(rt, alloc, texts, case, &IdleGate)? else {
-        return Ok(false);
-    };
-    Ok(
-        left.status == case.status
-            && left.out.written() == case.out.as_bytes()
-            && left.trace.written() == case.trace.as_bytes(),
-    )
+    for intake in INTAKES {
+        let Some(left) = run(rt, alloc, texts, intake, case, &IdleGate)? else {
+            return Ok(false);
+        };
+        if left.status != case.status
+            || left.out.written() != case.out.as_bytes()
+            || left.trace.written() != case.trace.as_bytes()
+        {
+            return Ok(false);
+        }
+    }
+    Ok(true)
 }
 
 /// The worked run, to be changed in one part.

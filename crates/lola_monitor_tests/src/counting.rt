@@ -1,8 +1,9 @@
 //! How many tasks and steps there are, and turns of sources that wait.
 
-use crate::cases::{Case, readable, run, worked};
+use crate::cases::{Case, INTAKES, readable, run, worked};
 use lola_port::Gate;
 use std::alloc::Global;
+use std::process::Abort;
 use std::sync::Wait;
 use std::sync::atomic::{AtomicBool, AtomicU32, Ordering};
 use std::test::Fail;
@@ -70,7 +71,7 @@ fn counted<R: Threads + Wait + Sync>(
         ..worked()
     };
     let texts = ["lolamon", "run", "spec", "first"];
-    let Some(left) = run(rt, alloc, &texts, &case, &gate)? else {
+    let Some(left) = run(rt, alloc, &texts, INTAKES[0], &case, &gate)? else {
         return Err(Fail::new("no run"));
     };
     Ok((
@@ -129,22 +130,35 @@ fn zeros(alloc: Global, rows: u32) -> Result<String, Fail> {
     Ok(text)
 }
 
-/// The first row has a fault, while eight sources of 400 rows wait at an intake that takes 1,024: the run ends, and the trace has
-/// that row alone.
+/// The first row has a fault, while eight sources of 400 rows wait at an intake that takes 1,024, the lock's or the queue: the run ends,
+/// and the trace has that row alone.
 #[test]
 fn fault_while_sources_wait(rt: HostRuntime) -> Result<(), Fail> {
     let rows = zeros(rt.alloc(), 400)?;
+    for intake in INTAKES {
+        ends_at_its_first_row(&rt, rt.alloc(), intake, rows.as_str())?;
+    }
+    Ok(())
+}
+
+/// Runs eight sources of these rows, whose first row has a fault, while all wait at this intake.
+fn ends_at_its_first_row<R: Threads + Wait + Sync + Abort>(
+    rt: &R,
+    alloc: Global,
+    intake: &str,
+    rows: &str,
+) -> Result<(), Fail> {
     let gate = CountingGate::new(1030);
     let case = Case {
         specification: "input a: Int64\noutput b: Int64 := 1 / a",
-        sources: &[readable(rows.as_str())],
+        sources: &[readable(rows)],
         ..worked()
     };
     let texts = [
         "lolamon", "run", "spec", "first", "first", "first", "first", "first", "first", "first",
         "first",
     ];
-    let Some(left) = run(&rt, rt.alloc(), &texts, &case, &gate)? else {
+    let Some(left) = run(rt, alloc, &texts, intake, &case, &gate)? else {
         return Err(Fail::new("no run"));
     };
     assert!(rt; left.status == 5 && gate.held.load(Ordering::SeqCst));

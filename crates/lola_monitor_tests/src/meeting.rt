@@ -1,6 +1,6 @@
 //! Two workers that are at one layer together, and two sources that are read together.
 
-use crate::cases::{Case, readable, run, worked};
+use crate::cases::{Case, INTAKES, readable, run, worked};
 use lola_port::Gate;
 use lola_value::text::Memory;
 use std::alloc::Global;
@@ -58,6 +58,7 @@ fn meet<R: Threads + Wait + Sync>(
     rt: &R,
     alloc: Global,
     texts: &[&str],
+    intake: &str,
     of_sources: bool,
     turns: u32,
 ) -> Result<bool, Memory> {
@@ -73,7 +74,7 @@ fn meet<R: Threads + Wait + Sync>(
         sources: &[row, row],
         ..worked()
     };
-    let Some(left) = run(rt, alloc, texts, &case, &gate)? else {
+    let Some(left) = run(rt, alloc, texts, intake, &case, &gate)? else {
         return Ok(false);
     };
     Ok(left.status == 0 && gate.met.load(Ordering::SeqCst))
@@ -83,14 +84,19 @@ fn meet<R: Threads + Wait + Sync>(
 fn two_workers_meet(rt: HostRuntime) -> Result<(), Memory> {
     let by_two = ["lolamon", "run", "--workers", "2", "spec", "first"];
     let by_one = ["lolamon", "run", "--workers", "1", "spec", "first"];
-    assert!(rt; meet(&rt, rt.alloc(), &by_two, false, 1_000_000)?);
-    assert!(rt; !meet(&rt, rt.alloc(), &by_one, false, 1000)?);
+    assert!(rt; meet(&rt, rt.alloc(), &by_two, INTAKES[0], false, 1_000_000)?);
+    assert!(rt; !meet(&rt, rt.alloc(), &by_one, INTAKES[0], false, 1000)?);
     Ok(())
 }
 
 #[test]
 fn two_sources_meet(rt: HostRuntime) -> Result<(), Memory> {
     let texts = ["lolamon", "run", "spec", "first", "second"];
-    assert!(rt; meet(&rt, rt.alloc(), &texts, true, 1_000_000)?);
+    for intake in INTAKES {
+        assert!(rt;
+            meet(&rt, rt.alloc(), &texts, intake, true, 1_000_000)?,
+            "{intake}"
+        );
+    }
     Ok(())
 }
