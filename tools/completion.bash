@@ -4,7 +4,7 @@
 # lines begin with one.
 _lolamon_options() {
     case $1 in
-        lolamon) if [[ ${COMP_WORDS[1]} == replay ]]; then echo --show --start; else echo --show --workers --start --in-turns; fi ;;
+        lolamon) if [[ ${COMP_WORDS[1]} == replay ]]; then echo --show --start; else echo --show --workers --start --in-turns --intake; fi ;;
         *) "$2" --help 2>/dev/null | sed -n '/^lolamon-/p; /^  --/p' | grep -o -e '--[a-z][a-z-]*' | sort -u ;;
     esac
 }
@@ -21,6 +21,7 @@ _lolamon_free_options() {
 _lolamon_values() {
     case $1 in
         --show) echo triggers outputs ;;
+        --intake) echo lock queue ;;
         --workers | --jobs) echo 1 2 4 8 16 32 64 ;;
         --unit) echo s ms us ns ;;
         --commands) echo parallel slurm ;;

@@ -21,7 +21,7 @@ def test_usage_and_help(checks: Checks) -> None:
         checks.same(f"status of {words}", 2, ended.status)
         told = split(ended, "= usage\n")
         for piece in ("lolamon run", "lolamon analyse SPEC", "lolamon drill NUMBER ROWS WORKERS", "--show outputs",
-                      "--in-turns", "--start 0", "--workers 4", "docs/formats.md#command-words"):
+                      "--in-turns", "--intake queue", "--start 0", "--workers 4", "docs/formats.md#command-words"):
             checks.has(f"help of {words}", piece, told)
         if words:
             checks.lacks(f"no complaint of {words}", "no command", told)

@@ -43,6 +43,8 @@ it read to standard error, which is the trace. Its options, each once:
       lolamon run --show outputs height.lola flight.csv
   --in-turns       takes a row of each source in turn, whatever their times
       lolamon run --in-turns zones.lola vehicle.csv ground.csv
+  --intake queue   has sources queue rows, not take turns; else: --intake lock
+      lolamon run --intake queue zones.lola vehicle.csv ground.csv
   --start T        counts time from T seconds, not from the first row
       lolamon run --start 0 height.lola flight.csv
   --workers N      shares the instances out among 1 to 64 threads

@@ -14,6 +14,7 @@ VALUES = {
     "--show": "'triggers' or 'outputs'",
     "--workers": "a number from 1 to 64",
     "--start": "a time in seconds, such as 0 or 1735689600.5",
+    "--intake": "'lock' or 'queue'",
 }
 MOST_SOURCES = 64
 MOST_SEED = 2_147_483_646
@@ -49,6 +50,8 @@ def is_time(word: str) -> bool:
 def is_value(option: str, word: str) -> bool:
     if option == "--show":
         return word in ("triggers", "outputs")
+    if option == "--intake":
+        return word in ("lock", "queue")
     if option == "--workers":
         return is_number(word, 2, 1, 64)
     return is_time(word)
