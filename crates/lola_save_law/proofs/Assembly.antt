@@ -17,10 +17,13 @@ use Rattle.lola_model.specs.declared.pacing.ClausePacings.{ClausePacings}
 use Rattle.lola_model.specs.declared.plan.Plan.{Plan}
 use Rattle.lola_model.specs.declared.spec.Clause.{Clause}
 use Rattle.lola_model.specs.declared.spec.Stream.{Stream}
-use Rattle.lola_save_text.specs.Fitting.{Times, time_or, is_value, are_values, is_among, are_panes}
-use Rattle.lola_save_text.specs.Forms.{WindowForm, StreamForm, HaveLength, AreStorable, stream_forms}
+use Rattle.lola_save_text.specs.declared.state.Times.{Times}
+use Rattle.lola_save_text.specs.Fitting.{time_or, is_value, are_values, is_among, are_panes}
+use Rattle.lola_save_text.specs.declared.forms.WindowForm.{WindowForm}
+use Rattle.lola_save_text.specs.declared.forms.StreamForm.{StreamForm}
+use Rattle.lola_save_text.specs.Forms.{HaveLength, AreStorable, stream_forms}
 use Rattle.lola_save_text.specs.Lines.{count_of}
-use Rattle.lola_save_text.specs.States.{SavedInstance}
+use Rattle.lola_save_text.specs.declared.state.SavedInstance.{SavedInstance}
 use Rattle.lola_save_text.specs.Validity.{AllPanes, IsBorn, IsInstance, AreInstances, IsStream, AreStreams}
 use Rattle.lola_save_law.specs.PaneFolds.{panes_of}
 use Rattle.lola_save_law.specs.JournalStates.{last_values, saved_life, saved_streams}

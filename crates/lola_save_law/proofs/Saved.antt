@@ -23,9 +23,10 @@ use Rattle.lola_model.proofs.RunModels.{has_models_of_runs}
 use Rattle.lola_model.proofs.StepsInOrder.{legal_do_not_fall}
 use Rattle.lola_step_law.proofs.Shapes.{passes_at}
 use Rattle.lola_model.specs.Named.{is_well_shaped}
-use Rattle.lola_save_text.specs.Fitting.{Times, time_or, is_start, is_last}
+use Rattle.lola_save_text.specs.declared.state.Times.{Times}
+use Rattle.lola_save_text.specs.Fitting.{time_or, is_start, is_last}
 use Rattle.lola_save_text.specs.Forms.{forms_of}
-use Rattle.lola_save_text.specs.States.{SavedState}
+use Rattle.lola_save_text.specs.declared.state.SavedState.{SavedState}
 use Rattle.lola_save_text.specs.Validity.{AreStreams, IsSaved}
 use Rattle.lola_save_text.proofs.AcceptedForms.{accepted-storable}
 use Rattle.lola_save_law.specs.JournalStates.{known_start, last_accepted, saved_streams, state_of, state_over, IsStateOf, AreTraceable, IsJournalOf}

@@ -13,7 +13,7 @@ use Rattle.lola_model.specs.declared.journal.Row.{Row}
 use Rattle.lola_model.specs.declared.plan.Plan.{Plan}
 use Rattle.lola_model.proofs.Journals.{accepted-append, accepted_is_row, time_after-accepted, rightly_late, IsRightlyMarked-accepted}
 use Rattle.lola_save_text.specs.Forms.{forms_of}
-use Rattle.lola_save_text.specs.States.{SavedState}
+use Rattle.lola_save_text.specs.declared.state.SavedState.{SavedState}
 use Rattle.lola_save_law.specs.JournalStates.{known_start, last_accepted, saved_streams, state_of}
 use Rattle.lola_save_law.specs.Resuming.{ServesAsStart}
 

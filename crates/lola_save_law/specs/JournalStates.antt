@@ -10,8 +10,10 @@ use Rattle.lola_model.specs.declared.journal.Entry.{Entry}
 use Rattle.lola_model.specs.declared.journal.Row.{Row}
 use Rattle.lola_model.specs.declared.plan.Plan.{Plan}
 use Rattle.lola_save_text.specs.Fitting.{is_start, most_steps}
-use Rattle.lola_save_text.specs.Forms.{StreamForm, forms_of}
-use Rattle.lola_save_text.specs.States.{SavedInstance, SavedState}
+use Rattle.lola_save_text.specs.declared.forms.StreamForm.{StreamForm}
+use Rattle.lola_save_text.specs.Forms.{forms_of}
+use Rattle.lola_save_text.specs.declared.state.SavedInstance.{SavedInstance}
+use Rattle.lola_save_text.specs.declared.state.SavedState.{SavedState}
 use Rattle.lola_save_law.specs.PaneFolds.{panes_of}
 
 -- the start of a run, if it is known: its option, or else the stamp of the first accepted row

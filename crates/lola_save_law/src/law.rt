@@ -8,7 +8,7 @@ ghost use Rattle.lola_model.specs.declared.journal.Entry.{Entry};
 ghost use Rattle.lola_save_text.specs.Damage.{IsStateText};
 ghost use Rattle.lola_save_text.specs.Forms.{forms_of};
 ghost use Rattle.lola_save_text.specs.Lines.{state_text};
-ghost use Rattle.lola_save_text.specs.States.{SavedState};
+ghost use Rattle.lola_save_text.specs.declared.state.SavedState.{SavedState};
 ghost use Rattle.lola_save_text.specs.Validity.{IsSaved};
 ghost use Rattle.lola_save_law.specs.JournalStates.{IsJournalOf, IsStateOf, state_of};
 ghost use Rattle.lola_save_law.specs.Resuming.{ServesAsStart};

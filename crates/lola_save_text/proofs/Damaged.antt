@@ -39,7 +39,7 @@ texts-number : (ls : List StateLine) → length (texts ls) ≡ length ls
 texts-number [] = refl
 texts-number (l ∷ ls) = let h = texts-number ls in omega (arith, h)
 
-lines-text-both : (ls ms : List StateLine) → lines_text (ls ++ ms) ≡ lines_text ls ++ lines_text ms
+pub lines-text-both : (ls ms : List StateLine) → lines_text (ls ++ ms) ≡ lines_text ls ++ lines_text ms
 lines-text-both [] ms = refl
 lines-text-both (l ∷ ls) ms = ap (λ (t : List ℕ). line_text l ++ t) (lines-text-both ls ms) ∙ sym (append_assoc (line_text l) (lines_text ls) (lines_text ms))
 

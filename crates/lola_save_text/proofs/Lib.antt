@@ -1,3 +1,4 @@
+pub mod PlanForms
 pub mod Claims
 pub mod Choices
 pub mod SameCuts
@@ -18,8 +19,4 @@ pub mod SameRuns
 pub mod Damaged
 pub mod Corners
 pub mod AcceptedForms
-pub mod FirstLf
-pub mod HeadLines
 pub mod CutTexts
-pub mod ReadWords
-pub mod ReadTimes

@@ -51,7 +51,7 @@ pub decimal-same : (m n : ℕ) → m < 10 ^ 64 → n < 10 ^ 64 → decimal m ≡
 decimal-same m n a b e = sym (spells m a).value ∙ ap number_of e ∙ (spells n b).value
 
 -- digits do not begin with a minus sign
-no-sign : (ds es : List ℕ) → list_all is_digit ds ≡ true → ds ≡ 45 ∷ es → ⊥
+pub no-sign : (ds es : List ℕ) → list_all is_digit ds ≡ true → ds ≡ 45 ∷ es → ⊥
 no-sign ds es a e = let f : list_all is_digit ds ≡ false = ap (list_all is_digit) e in cc
 
 pub integer-same : (y z : ℤ) → unsigned_abs y < 10 ^ 64 → unsigned_abs z < 10 ^ 64 → integer_text y ≡ integer_text z → y ≡ z

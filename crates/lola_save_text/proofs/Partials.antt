@@ -20,13 +20,13 @@ use Rattle.lola_save_text.proofs.Numbers.{decimal-digits, decimal-same, decimal-
 use Rattle.lola_save_text.proofs.Values.{bool-cut, integer-cut, within-small}
 
 -- the variant of a partial result, and that of an aggregation
-abbrev variant : Partial → ℕ
+abbrev pub variant : Partial → ℕ
 variant (Number z) = 0
 variant (Extreme o) = 1
 variant (Mean s n) = 2
 variant (Truth b) = 3
 
-abbrev variant_of : Agg → ℕ
+abbrev pub variant_of : Agg → ℕ
 variant_of agg.Count = 0
 variant_of agg.Sum = 0
 variant_of agg.Min = 1
@@ -35,7 +35,7 @@ variant_of agg.Avg = 2
 variant_of agg.Forall = 3
 variant_of agg.Exists = 3
 
-variant-is : (how : Agg) (k : Kind) (q : Partial) → is_partial how k q ≡ true → variant q ≡ variant_of how
+pub variant-is : (how : Agg) (k : Kind) (q : Partial) → is_partial how k q ≡ true → variant q ≡ variant_of how
 variant-is agg.Count k (Number z) e = refl
 variant-is agg.Count k (Extreme None) e = absurd (cc)
 variant-is agg.Count k (Extreme (Some z)) e = absurd (cc)
@@ -73,7 +73,7 @@ variant-is agg.Exists k (Mean s n) e = absurd (cc)
 variant-is agg.Exists k (Truth b) e = refl
 
 -- numbers with few digits
-abbrev IsShort : Partial → Type 0
+abbrev pub IsShort : Partial → Type 0
 IsShort (Number z) = unsigned_abs z < 10 ^ 64
 IsShort (Extreme None) = Unit {0}
 IsShort (Extreme (Some z)) = unsigned_abs z < 10 ^ 64
@@ -81,7 +81,7 @@ IsShort (Mean total count) = (unsigned_abs total < 10 ^ 64) × (count < 10 ^ 64)
 IsShort (Truth b) = Unit {0}
 
 -- a partial result that counts so few values, and whose total is so small, is short
-short-is : (how : Agg) (k : Kind) (q : Partial) → is_partial how k q ≡ true → counted how q < 10 ^ 64 → total_size how q < 10 ^ 64 → IsShort q
+pub short-is : (how : Agg) (k : Kind) (q : Partial) → is_partial how k q ≡ true → counted how q < 10 ^ 64 → total_size how q < 10 ^ 64 → IsShort q
 short-is agg.Count k (Number z) e a b = a
 short-is agg.Sum k (Number z) e a b = b
 short-is agg.Min k (Number z) e a b = absurd (cc)
@@ -107,7 +107,7 @@ short-is agg.Exists k (Mean total count) e a b = absurd (cc)
 short-is how k (Truth b) e a c = tt
 
 -- the minus sign alone is no number
-no-dash : (z : ℤ) → unsigned_abs z < 10 ^ 64 → codes "-" ≡ integer_text z → ⊥
+pub no-dash : (z : ℤ) → unsigned_abs z < 10 ^ 64 → codes "-" ≡ integer_text z → ⊥
 no-dash (pos n) a e =
     let f : list_all is_digit (codes "-") ≡ true = ap (list_all is_digit) e ∙ decimal-digits n a in cc
 no-dash (negsuc n) a e =
@@ -115,7 +115,7 @@ no-dash (negsuc n) a e =
     let some = decimal-some (n + 1) (omega (arith, a)) in some (sym f)
 
 -- the bytes of a total
-abbrev is_signed : ℕ → Bool
+abbrev pub is_signed : ℕ → Bool
 is_signed b = is_digit b || nat_eq b 45
 
 digits-signed : (ds : List ℕ) → list_all is_digit ds ≡ true → list_all is_signed ds ≡ true
@@ -124,16 +124,16 @@ digits-signed (d ∷ ds) e =
     let p = and_parts (is_digit d) (list_all is_digit ds) e in
     and_from (is_signed d) (list_all is_signed ds) (ap (λ b. b || nat_eq d 45) p.0) (digits-signed ds p.1)
 
-integer-signed : (z : ℤ) → unsigned_abs z < 10 ^ 64 → list_all is_signed (integer_text z) ≡ true
+pub integer-signed : (z : ℤ) → unsigned_abs z < 10 ^ 64 → list_all is_signed (integer_text z) ≡ true
 integer-signed (pos n) a = digits-signed (decimal n) (decimal-digits n a)
 integer-signed (negsuc n) a = and_from (is_signed 45) (list_all is_signed (decimal (n + 1))) refl (digits-signed (decimal (n + 1)) (decimal-digits (n + 1) (omega (arith, a))))
 
-mean-mild : (z : ℤ) (n : ℕ) → Mild (partial_text (Mean z n))
+pub mean-mild : (z : ℤ) (n : ℕ) → Mild (partial_text (Mean z n))
 mean-mild z n = mild_both (integer_text z) (47 ∷ decimal n) (integer_mild z) (mild_and 47 (decimal n) refl (decimal_mild n))
 
 -- a partial result with what stands behind it
 module _ (u v : List ℕ) (s : Stops is_mild u) (t : Stops is_mild v) where
-  same-cut : (q r : Partial) → IsShort q → IsShort r → variant q ≡ variant r → partial_text q ++ u ≡ partial_text r ++ v → (q ≡ r) × (u ≡ v)
+  pub same-cut : (q r : Partial) → IsShort q → IsShort r → variant q ≡ variant r → partial_text q ++ u ≡ partial_text r ++ v → (q ≡ r) × (u ≡ v)
   same-cut (Number y) (Number z) a b n e = let r = integer-cut y z u v a b s t e in (ap (λ w. Number w) r.0, r.1)
   same-cut (Extreme None) (Extreme None) a b n e = (refl, let f : u ≡ v = cc in f)
   same-cut (Extreme None) (Extreme (Some z)) a b n e =
@@ -164,11 +164,11 @@ module _ (u v : List ℕ) (s : Stops is_mild u) (t : Stops is_mild v) where
   same-cut (Truth c) (Mean z l) a b n e = absurd (omega (arith, n))
 
 -- all in a line
-abbrev AllShort : List Partial → Type 0
+abbrev pub AllShort : List Partial → Type 0
 AllShort [] = Unit {0}
 AllShort (q ∷ qs) = IsShort q × AllShort qs
 
-partials-stop : (qs : List Partial) → Stops is_mild (partials_text qs)
+pub partials-stop : (qs : List Partial) → Stops is_mild (partials_text qs)
 partials-stop [] = tt
 partials-stop (q ∷ qs) = refl
 
@@ -187,7 +187,7 @@ partials-same how k (q ∷ qs) (r ∷ rs) a b c d e =
     λ i. h i ∷ m i
 
 -- few values and small totals make each partial result short
-all-short : (how : Agg) (k : Kind) (qs : List Partial) → list_all (is_partial how k) qs ≡ true → sum_by (counted how) qs < 10 ^ 64 → sum_by (total_size how) qs < 10 ^ 64 → AllShort qs
+pub all-short : (how : Agg) (k : Kind) (qs : List Partial) → list_all (is_partial how k) qs ≡ true → sum_by (counted how) qs < 10 ^ 64 → sum_by (total_size how) qs < 10 ^ 64 → AllShort qs
 all-short how k [] c a b = tt
 all-short how k (q ∷ qs) c a b =
     let x = and_parts (is_partial how k q) (list_all (is_partial how k) qs) c in
@@ -215,13 +215,13 @@ last-small None (Some l) e = absurd (cc)
 last-small (Some a) (Some l) e = let h = leb-true l latest (and_parts (nat_le a l) (nat_le l latest) e).1 in omega (arith, h)
 
 -- what the test of panes says, part by part
-record HasPanes (t : Times) (k : Kind) (w : WindowForm) (p : SavedPanes) : Type 0 where
+pub record HasPanes (t : Times) (k : Kind) (w : WindowForm) (p : SavedPanes) : Type 0 where
   pub newest : p.last * w.pane < (time_or 0 t.last - time_or 0 t.start) + w.pane
   pub are : list_all (is_partial w.how k) p.partials ≡ true
   pub counts : sum_by (counted w.how) p.partials ≤ t.steps
   pub totals : sum_by (total_size w.how) p.partials ≤ t.steps * 2 ^ 64
 
-has-panes : (t : Times) (k : Kind) (w : WindowForm) (p : SavedPanes) → are_panes t k w (Some p) ≡ true → HasPanes t k w p
+pub has-panes : (t : Times) (k : Kind) (w : WindowForm) (p : SavedPanes) → are_panes t k w (Some p) ≡ true → HasPanes t k w p
 has-panes t k w p e =
     let e5 = and_parts _ _ e in
     let e4 = and_parts _ _ e5.0 in
@@ -237,7 +237,7 @@ has-panes t k w p e =
 
 -- panes of a window in a line
 module _ (t : Times) (k : Kind) (w : WindowForm) (order : is_last t.start t.last ≡ true) (few : t.steps ≤ most_steps) (length-of : 1 ≤ w.pane) where
-  small-number : (p : SavedPanes) → HasPanes t k w p → p.last < 10 ^ 64
+  pub small-number : (p : SavedPanes) → HasPanes t k w p → p.last < 10 ^ 64
   small-number p h =
       let a = newest-fits p.last w.pane (time_or 0 t.last - time_or 0 t.start) length-of h.newest in
       let b = last-small t.start t.last order in

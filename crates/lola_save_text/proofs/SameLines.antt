@@ -37,7 +37,7 @@ dash-same None (Some t) x y e = absurd (no-time t y e)
 dash-same (Some t) None x y e = absurd (no-time t x (sym e))
 dash-same (Some t) (Some u) x y e = ap (λ (n : ℕ). Some n) (time-same t u x y e)
 
-dash-mild : (a : Option ℕ) → Mild (time_or_dash a)
+pub dash-mild : (a : Option ℕ) → Mild (time_or_dash a)
 dash-mild None = refl
 dash-mild (Some t) = time_mild t
 

@@ -53,7 +53,7 @@ panes-plain (Some p) = both (32 ∷ decimal p.last) (partials_text p.partials) (
 number-plain : (n : ℕ) → Plain (32 ∷ decimal n)
 number-plain n = byte_and 32 (decimal n) refl (decimal_plain n)
 
-body-plain : (l : StateLine) → Plain (line_body l)
+pub body-plain : (l : StateLine) → Plain (line_body l)
 body-plain (StartLine o) = both (codes "start") (32 ∷ time_or_dash o) refl (byte_and 32 (time_or_dash o) refl (dash-plain o))
 body-plain (LastLine o) = both (codes "last") (32 ∷ time_or_dash o) refl (byte_and 32 (time_or_dash o) refl (dash-plain o))
 body-plain (StepsLine n) = both (codes "steps") (32 ∷ decimal n) refl (number-plain n)

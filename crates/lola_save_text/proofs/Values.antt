@@ -35,7 +35,7 @@ only-text : (k : Kind) → is_text k ≡ true → is_integer k ≡ false
 only-text kind.Text e = refl
 only-text _ e = absurd (cc)
 
-bool-same : (b c : Bool) → bool_name b ≡ bool_name c → b ≡ c
+pub bool-same : (b c : Bool) → bool_name b ≡ bool_name c → b ≡ c
 bool-same true true e = refl
 bool-same false false e = refl
 bool-same true false e = absurd (let h = ap length e in omega (arith, h))
@@ -56,7 +56,7 @@ integer-cut y z u v a b s t e =
 
 -- a value with what stands behind it
 module _ (k : Kind) (u v : List ℕ) (s : Stops is_mild u) (t : Stops is_mild v) where
-  value-cut : (x y : Field) → is_value k x ≡ true → is_value k y ≡ true → value_text x ++ u ≡ value_text y ++ v → (x ≡ y) × (u ≡ v)
+  pub value-cut : (x y : Field) → is_value k x ≡ true → is_value k y ≡ true → value_text x ++ u ≡ value_text y ++ v → (x ≡ y) × (u ≡ v)
   value-cut field.Absent y a b e = absurd (cc)
   value-cut x field.Absent a b e = absurd (cc)
   value-cut (field.Bool x) (field.Bool y) a b e = let r = bool-cut x y u v s t e in (ap (λ w. field.Bool w) r.0, r.1)

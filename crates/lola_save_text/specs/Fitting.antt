@@ -11,13 +11,8 @@ use Rattle.lola_value.specs.Times.{latest}
 use Rattle.lola_model.specs.declared.spec.Agg.{Agg}
 use Rattle.lola_model.specs.declared.spec.Agg.TheVariants as agg
 use Rattle.lola_save_text.specs.Forms.{WindowForm}
+pub use Rattle.lola_save_text.specs.declared.state.Times.{Times}
 use Rattle.lola_save_text.specs.States.{Partial, Number, Extreme, Mean, Truth, SavedPanes}
-
--- the start of a run, the time of its last accepted row, and how many steps there were: what all that follows is measured by
-pub record Times : Type 0 where
-  pub start : Option ℕ
-  pub last : Option ℕ
-  pub steps : ℕ
 
 -- a time, or this one where there is none
 abbrev pub time_or : ℕ → Option ℕ → ℕ

@@ -1,27 +1,15 @@
 -- What of a plan its states depend on.
-use Rattle.std.specs.Prelude.{ℕ, ◌≡◌, ◌+◌, ◌≤◌, List, [], ◌∷◌, ◌++◌, Bool, false, drop, if◌then◌else◌, nat_eq, slice_get, unwrap_or}
+use Rattle.std.specs.Prelude.{ℕ, ◌≡◌, ◌+◌, ◌≤◌, List, [], ◌∷◌, ◌++◌, Bool, true, false, Option, Some, None, drop, if◌then◌else◌, nat_eq, slice_get, unwrap_or}
 use Rattle.lola_value.specs.declared.value.Kind.{Kind}
 use Rattle.lola_model.specs.Store.{StreamLayout, layout_of}
 use Rattle.lola_model.specs.declared.plan.PaneSize.{PaneSize}
 use Rattle.lola_model.specs.declared.plan.Plan.{Plan}
 use Rattle.lola_model.specs.declared.spec.Agg.{Agg}
 use Rattle.lola_model.specs.declared.spec.WindowSpec.{WindowSpec}
-
--- a window: its number in the plan, its aggregation, the length of a pane in nanoseconds, and how many panes are kept
-pub record WindowForm : Type 0 where
-  pub number : ℕ
-  pub how : Agg
-  pub pane : ℕ
-  pub count : ℕ
-
--- a stream: the kinds of its values and parameters, whether it has a spawn clause, how many values are kept, and the windows
--- onto it
-pub record StreamForm : Type 0 where
-  pub kind : Kind
-  pub parameters : List Kind
-  pub spawns : Bool
-  pub kept : ℕ
-  pub windows : List WindowForm
+use Rattle.lola_model.specs.declared.spec.Stream.{Stream}
+use Rattle.lola_model.specs.Model.{filled_kind}
+pub use Rattle.lola_save_text.specs.declared.forms.WindowForm.{WindowForm}
+pub use Rattle.lola_save_text.specs.declared.forms.StreamForm.{StreamForm}
 
 -- the panes of the first of some windows
 abbrev pub first_size : List PaneSize → PaneSize
@@ -42,6 +30,16 @@ stream_forms plan n [] = []
 stream_forms plan n (s ∷ ss) =
     record { kind = s.kind; parameters = s.parameters; spawns = s.spawns; kept = s.kept; windows = windows_onto n 0 plan.spec.windows plan.panes }
     ∷ stream_forms plan (n + 1) ss
+
+-- of a stream of a plan, of whose values so many are kept
+abbrev pub form_with : Plan → ℕ → Stream → ℕ → StreamForm
+form_with plan n s kept = record {
+  kind = filled_kind s;
+  parameters = s.parameters;
+  spawns = elim s.spawn [ None ↦ false | Some c ↦ true ];
+  kept = kept;
+  windows = windows_onto n 0 plan.spec.windows plan.panes;
+}
 
 -- of a plan
 abbrev pub forms_of : Plan → List StreamForm

@@ -6,5 +6,4 @@ pub mod Validity
 pub mod Damage
 pub mod Places
 pub mod Runs
-pub mod Heads
-pub mod Reads
+pub mod Shapes

@@ -1,11 +1,11 @@
 //! The state of a run as a text: what a run holds between two steps, which states a plan can have, their text, and at which line other
-//! bytes are damaged. A reader takes such a text line by line; it is a machine of places, and the laws say that it accepts exactly the
-//! beginnings of state texts. Of the code there is what reads the lines before those of the state, and its first three. That the state of
-//! a run is one of these, and the reading of its instances, are not here.
+//! bytes are damaged.
+//!
+//! Promised: a text tells one state. A reader that takes a text line by line is a machine of places; it accepts exactly the beginnings of
+//! state texts, and the first line that it refuses is the one at which bytes are damaged.
+//! Not promised: that the state of a run is one of these.
 #![tactic(auto)]
 
-mod cuts;
-pub mod head;
+pub mod forms;
 pub mod law;
-pub mod times;
-mod words;
+pub mod state;

@@ -1,0 +1,7 @@
+use Rattle.std.proofs.Common.{◌≡◌, take, true}
+use Rattle.std.specs.List.{list_all}
+use Rattle.lola_save_read.specs.Words.{is_no_slash}
+use Rattle.lola_save_read.proofs.cuts.cut_at_slash.Given as goal
+
+abbrev pub invariant-loop-place : goal.invariant-loop-place
+invariant-loop-place l = list_all is_no_slash (take l.place l.bytes) ≡ true
