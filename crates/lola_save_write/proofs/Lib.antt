@@ -1,0 +1,4 @@
+pub mod SoFar
+pub mod Items
+pub mod LineRows
+pub mod Whole
