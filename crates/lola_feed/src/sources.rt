@@ -1,6 +1,6 @@
 //! Sources, fetched and given back.
 
-ghost use Rattle.std.specs.Prelude.{◌≡◌, ◌+◌, ◌<◌, ◌≤◌, ℕ, List, [], Some, length, map, slice_get, string_bytes, unwrap_or, IfOk, OnOk, IsErrOf};
+ghost use Rattle.std.specs.Prelude.{◌≡◌, ◌+◌, ◌<◌, ◌≤◌, ℕ, List, [], Some, length, map, string_bytes, IfOk, OnOk, IsErrOf};
 ghost use Rattle.std.specs.Vec.{vec_capacity};
 ghost use Rattle.lola_port.specs.States.{FetchBroke, ShelfState, lent};
 ghost use Rattle.lola_rows.specs.Reading.{Shape};
@@ -11,6 +11,7 @@ ghost use Rattle.lola_feed.specs.Lending.{AreGiven, AreInPlace, Fetches, HasRetu
 use crate::worker::SourceWorker;
 use lola_port::{FetchEnd, Shelf};
 use lola_rows::EmptyReader;
+use lola_value::words::word_at;
 
 /// Why not all sources were fetched.
 #[derive(Clone, Copy, Debug, PartialEq, Eq)]
@@ -101,16 +102,6 @@ fn fetch_one<F: Shelf>(
     match shelf.fetch(name) {
         Ok(file) => Ok(SourceWorker::create(room.with(file))),
         Err(end) => Err(end),
-    }
-}
-
-// The word of a number, or an empty one where there is none.
-fn word_at<'a>(words: &'a [String], number: usize) -> &'a str
-    ensures { result.now ≡ unwrap_or (slice_get (map string_bytes words.now) number) [] }
-{
-    match words.get(number) {
-        Some(word) => word.as_str(),
-        None => "",
     }
 }
 

@@ -5,7 +5,8 @@ use Rattle.lola_monitor_command.specs.declared.command.Command.TheVariants.{Run,
 use Rattle.lola_monitor_command.specs.declared.command.DrillCommand.{DrillCommand}
 use Rattle.lola_monitor_command.specs.declared.command.ReplayCommand.{ReplayCommand}
 use Rattle.lola_monitor_command.specs.declared.command.RunCommand.{RunCommand}
-use Rattle.lola_monitor.specs.Command.{all_names, analysed_named, analysed_of, drill_named, drill_of, names_asked, names_with, replay_named, replay_names, replay_of, replay_with, run_by, run_of, specification_named, specification_of, word_at}
+use Rattle.lola_value.specs.Words.{word_at}
+use Rattle.lola_monitor.specs.Command.{all_names, analysed_named, analysed_of, drill_named, drill_of, names_asked, names_with, replay_named, replay_names, replay_of, replay_with, run_by, run_of, specification_named, specification_of}
 
 module _ (words : List (List ℕ)) (r : RunCommand) (is : command_of words ≡ Some (Run r)) where
   pub specification_is : specification_of words ≡ Some (word_at words r.specification)

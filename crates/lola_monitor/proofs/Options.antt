@@ -5,6 +5,7 @@ use Rattle.std.specs.List.{after_first, before_first, list_all}
 use Rattle.std.specs.Str.{bytes_eq}
 use Rattle.std.proofs.lemmas.Bool.{and_parts}
 use Rattle.lola_value.specs.Times.{is_digit, is_point, is_time, latest, nanoseconds, number_of, up_to_latest}
+use Rattle.lola_value.specs.Words.{word_at}
 use Rattle.lola_model.specs.declared.journal.Show.TheVariants as show
 use Rattle.lola_monitor_command.specs.Command.{are_sources, behind_names, behind_options, come_once, command_of, drill_with, front_names, in_turns_said, intake_said, is_empty, is_number, of_said, replay_by, replay_with, run_by, run_over, show_said, start_said, suit_replay, workers_said}
 use Rattle.lola_monitor_command.specs.Command as said_command
@@ -234,7 +235,7 @@ drill_said words (said.Name a ∷ said.Name b ∷ (said.Workers n) ∷ ss) = tt
 drill_said words (said.Name a ∷ said.Name b ∷ (said.Start t) ∷ ss) = tt
 drill_said words (said.Name a ∷ said.Name b ∷ said.InTurns ∷ ss) = tt
 drill_said words (said.Name a ∷ said.Name b ∷ said.Intake kind ∷ ss) = tt
-drill_said words (said.Name a ∷ said.Name b ∷ said.Name c ∷ []) = drill_bound (said_command.word_of words a) (said_command.word_of words b) (said_command.word_of words c)
+drill_said words (said.Name a ∷ said.Name b ∷ said.Name c ∷ []) = drill_bound (word_at words a) (word_at words b) (word_at words c)
 drill_said words (said.Name a ∷ said.Name b ∷ said.Name c ∷ x ∷ ss) = tt
 
 drilled_bound : (words : List Word) (o : Option (List Said)) → InBounds (of_said (said_command.drill_of words) o)

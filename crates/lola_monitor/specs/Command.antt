@@ -1,5 +1,6 @@
 -- What the words of a command ask for.
-use Rattle.std.specs.Prelude.{ℕ, Bool, List, [], ◌∷◌, Option, Some, None, map, slice_get, unwrap_or}
+use Rattle.std.specs.Prelude.{ℕ, Bool, List, [], ◌∷◌, Option, Some, None, map}
+use Rattle.lola_value.specs.Words.{word_at}
 use Rattle.lola_model.specs.declared.journal.Show.{Show}
 use Rattle.lola_monitor_command.specs.Said.{Word}
 use Rattle.lola_monitor_command.specs.Command.{command_of}
@@ -22,10 +23,6 @@ pub record Names : Type 0 where
 -- in the order of fetching
 abbrev pub names_of : Names → List (List ℕ)
 names_of names = names.specification ∷ names.sources
-
--- the word of this number
-abbrev pub word_at : List Word → ℕ → Word
-word_at words n = unwrap_or (slice_get words n) []
 
 abbrev pub names_with : List Word → RunCommand → Names
 names_with words r = record {

@@ -15,6 +15,5 @@ mod putting;
 mod reading;
 mod replaying;
 mod sources;
-mod words;
 
 pub use monitor::run_monitor;

@@ -8,12 +8,12 @@ ghost use Rattle.lola_monitor.specs.ReplayOutcomes.{Judges, ReplaysTexts};
 
 use crate::outcome::CallEnd;
 use crate::reading::read_name;
-use crate::words::word_at;
 use lola_model::plan::Plan;
 use lola_monitor_command::command::ReplayCommand;
 use lola_port::{FetchEnd, Shelf};
 use lola_replay::replay::replay;
 use lola_replay_report::end::ReplayEnd;
+use lola_value::words::word_at;
 use std::alloc::Global;
 
 /// The most bytes of a text: what a source has at most.

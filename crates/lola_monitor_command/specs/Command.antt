@@ -1,8 +1,9 @@
 -- The commands, by what their words say.
-use Rattle.std.specs.Prelude.{ℕ, List, [], ◌∷◌, Option, Some, None, Bool, true, false, ◌&&◌, if◌then◌else◌, nat_le, length, filter, slice_get, unwrap_or, codes}
+use Rattle.std.specs.Prelude.{ℕ, List, [], ◌∷◌, Option, Some, None, Bool, true, false, ◌&&◌, if◌then◌else◌, nat_le, length, filter, codes}
 use Rattle.std.specs.List.{list_all}
 use Rattle.std.specs.Str.{bytes_eq}
 use Rattle.lola_value.specs.Times.{is_digit, number_of}
+use Rattle.lola_value.specs.Words.{word_at}
 use Rattle.lola_model.specs.declared.journal.Show.{Show}
 use Rattle.lola_model.specs.declared.journal.Show.TheVariants as show
 use Rattle.lola_monitor_command.specs.Said.{Word, said_from}
@@ -142,13 +143,9 @@ drill_with number rows workers =
     then Some (command.Drill (record { number = number_of number; rows = number_of rows; workers = number_of workers }))
     else None
 
--- the word of this number
-abbrev pub word_of : List Word → ℕ → Word
-word_of words n = unwrap_or (slice_get words n) []
-
 -- three words and no option
 abbrev pub drill_of : List Word → List Said → Option Command
-drill_of words (said.Name number ∷ said.Name rows ∷ said.Name workers ∷ []) = drill_with (word_of words number) (word_of words rows) (word_of words workers)
+drill_of words (said.Name number ∷ said.Name rows ∷ said.Name workers ∷ []) = drill_with (word_at words number) (word_at words rows) (word_at words workers)
 drill_of words _ = None
 
 -- a replay of what these words name, with this behind them

@@ -4,7 +4,7 @@ ghost use Rattle.std.specs.Prelude.{◌≡◌, ◌≤◌, ◌++◌, [], ◌∷�
 ghost use Rattle.std.specs.List.{list_all};
 ghost use Rattle.lola_value.specs.Times.{is_digit, number_of};
 ghost use Rattle.lola_monitor_command.specs.Said.{said_from};
-ghost use Rattle.lola_monitor_command.specs.Command.{front_names, behind_names, are_sources, run_over, run_of, analyse_of, is_number, drill_with, word_of, drill_of, replay_by, replay_of, replay_with, of_said, command_of};
+ghost use Rattle.lola_monitor_command.specs.Command.{front_names, behind_names, are_sources, run_over, run_of, analyse_of, is_number, drill_with, drill_of, replay_by, replay_of, replay_with, of_said, command_of};
 
 use crate::options::all_digits;
 use crate::said::{IntakeKind, Said, SaidList};
@@ -15,6 +15,7 @@ use crate::settings::{
 use crate::words::all_said;
 use lola_model::journal::Show;
 use lola_value::text::Memory;
+use lola_value::words::word_at;
 use std::alloc::Global;
 use std::marker::Model;
 
@@ -229,25 +230,15 @@ fn drill_of_words(number: &[u8], rows: &[u8], workers: &[u8]) -> Option<Command>
     }))
 }
 
-// The bytes of the word of this number, or none where there is no such word.
-fn word_at(words: &[String], at: usize) -> &[u8]
-    ensures { result.now ≡ word_of (map string_bytes words.now) at }
-{
-    match words.get(at) {
-        Some(word) => word.as_bytes(),
-        None => b"",
-    }
-}
-
 // The drill that this says.
 fn drill_said(words: &[String], said: &[Said]) -> Option<Command>
     ensures { result ≡ drill_of (map string_bytes words.now) said.now }
 {
     match said {
         [Said::Name(number), Said::Name(rows), Said::Name(workers)] => drill_of_words(
-            word_at(words, *number),
-            word_at(words, *rows),
-            word_at(words, *workers),
+            word_at(words, *number).as_bytes(),
+            word_at(words, *rows).as_bytes(),
+            word_at(words, *workers).as_bytes(),
         ),
         _ => None,
     }

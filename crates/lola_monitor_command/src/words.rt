@@ -9,7 +9,7 @@ use lola_value::text::Memory;
 use std::alloc::Global;
 
 // The bytes of a word, if there is one of this number.
-fn word_at(words: &[String], at: usize) -> Option<&[u8]>
+fn word_behind(words: &[String], at: usize) -> Option<&[u8]>
     ensures { option_map (λ w. w.now) result ≡ slice_get (map string_bytes words.now) at }
 {
     match words.get(at) {
@@ -37,7 +37,7 @@ pub fn all_said(alloc: Global, words: &[String], from: usize) -> Result<Option<S
     let mut said = SaidList::create(alloc);
     let mut at = from;
     while at < words.len() {
-        match thing(at, words[at].as_bytes(), word_at(words, at + 1)) {
+        match thing(at, words[at].as_bytes(), word_behind(words, at + 1)) {
             WordSense::Wrong => return Ok(None),
             WordSense::Dashes => {
                 push_names(&mut said, words, at + 1)?;

@@ -1,5 +1,5 @@
 -- Greatest common divisors of multiples, and fractions in lowest terms.
-use Rattle.std.proofs.Common.{◌≡◌, ℕ, zero, suc, ◌+◌, ◌*◌, ◌/◌, ◌%◌, ◌<◌, ◌≤◌, sym, ap, ◌∙◌, arith, subst, ⊎_elim}
+use Rattle.std.proofs.Common.{◌≡◌, ℕ, zero, suc, ◌+◌, ◌*◌, ◌^◌, ◌/◌, ◌%◌, ◌<◌, ◌≤◌, sym, ap, ◌∙◌, arith, subst, ⊎_elim}
 use Rattle.std.specs.Int.{◌∣◌, IsGcd}
 use Rattle.std.proofs.lemmas.Bool.{cases_lt}
 use Rattle.std.proofs.lemmas.Nat.{div-add-mod', mod_below}
@@ -102,3 +102,12 @@ lowest_is_one r q hr hq lr lq same =
 -- fractions with the same parts are one
 pub same_ratio : (r q : Ratio) → IsSameRatio r q → r ≡ q
 same_ratio r q same = ap (λ n. let x : Ratio = record { num = n; den = r.den } in x) same.num ∙ ap (λ d. let x : Ratio = record { num = q.num; den = d } in x) same.den
+
+-- the greatest common divisor of two numbers is that of others that are equal to them
+pub same_divisor : (m n g a b : ℕ) → m ≡ a → n ≡ b → IsGcd m n g → IsGcd a b g
+same_divisor m n g a b first second is = subst (λ k. IsGcd k b g) first (subst (λ k. IsGcd m k g) second is)
+
+-- it is not above a number that is not 0, so it has no more bits than the two
+pub divisor_below : (a b g : ℕ) → 0 < a + b → a < 2 ^ 64 → b < 2 ^ 64 → IsGcd a b g → g < 2 ^ 64
+divisor_below a zero g some a-fits b-fits is = let below : g ≤ a = le_of_dvd (omega (arith, some)) is.0 in omega (arith, below, a-fits)
+divisor_below a (suc b) g some a-fits b-fits is = let below : g ≤ suc b = le_of_dvd (omega arith) is.1 in omega (arith, below, b-fits)

@@ -1,6 +1,7 @@
 use Rattle.std.proofs.Common.{Global, List, ℕ, ◌∷◌, Some, map, string_bytes, ap, sym, subst, refl, ◌∙◌}
 use Rattle.lola_monitor_run.specs.Verdicts.{Setting}
-use Rattle.lola_monitor.specs.Command.{Names, word_at}
+use Rattle.lola_value.specs.Words.{word_at}
+use Rattle.lola_monitor.specs.Command.{Names}
 use Rattle.lola_monitor.specs.Monitor.{outside}
 use Rattle.lola_monitor.specs.Outcomes.{Works}
 use Rattle.lola_monitor.proofs.Asking.{names_are, run_is, specification_is}

@@ -4,7 +4,7 @@ use Rattle.lola_port.specs.States.{grown}
 use Rattle.lola_monitor_run.specs.Running.{keeping, setting_in}
 use Rattle.lola_monitor_run.specs.Verdicts.{most_rows}
 use Rattle.lola_feed.specs.Lending.{AreRooms, Fetches, IsLent, names_at}
-use Rattle.lola_monitor.specs.Command.{word_at}
+use Rattle.lola_value.specs.Words.{word_at}
 use Rattle.lola_monitor.specs.Monitor.{outside}
 use Rattle.lola_monitor.specs.Outcomes.{RunsSources}
 use Rattle.lola_monitor.proofs.Lent.{lent_ready, unfetched_run}

@@ -1,6 +1,6 @@
 use Rattle.std.proofs.Common.{ℕ, ◌+◌, ◌<◌}
 use Rattle.std.specs.Int.{IsGcd}
-use Rattle.lola_value.proofs.rate.gcd.Given as goal
+use Rattle.lola_value.proofs.rate.wide_gcd.Given as goal
 
 abbrev pub invariant-loop-rest : goal.invariant-loop-rest
 invariant-loop-rest l = record {
