@@ -1,5 +1,4 @@
 pub mod Growth
-pub mod Entering
 pub mod Numbering
 pub mod TableLemmas
 pub mod TreeLemmas

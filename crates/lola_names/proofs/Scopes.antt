@@ -6,7 +6,8 @@ use Rattle.lola_value.specs.Arithmetic.{bytes_equal}
 use Rattle.lola_parser_tree.specs.declared.literals.Typed.{Typed}
 use Rattle.lola_parser_tree.specs.declared.declarations.Declaration.{Declaration}
 use Rattle.lola_parser_tree.specs.declared.declarations.Declaration.TheVariants as d
-use Rattle.lola_names.specs.Targets.{Targets, Count, target_in, hidden_by, input_targets, parameter_targets, targets_from, counted_with, targets_of}
+use Rattle.lola_names_refused.specs.Table.{meaning_in, hides}
+use Rattle.lola_names.specs.Targets.{Targets, Count, input_targets, parameter_targets, targets_from, counted_with, targets_of}
 use Rattle.lola_names.specs.Tables.{Means}
 use Rattle.lola_names.specs.Made.{IsConstantDeclared, IsScope, NamesConstants}
 use Rattle.lola_names.specs.declared.scope.Scope.{Scope}
@@ -16,7 +17,7 @@ use Rattle.lola_names.proofs.Growth.{got-seam}
 
 -- a parameter is no constant
 parameter_or_none : (n : ℕ) (ps : List Typed) (text : List ℕ)
-    → (target_in (parameter_targets n ps) text ≡ None) ⊎ ((k : ℕ) × (target_in (parameter_targets n ps) text ≡ Some (target.Parameter k)))
+    → (meaning_in (parameter_targets n ps) text ≡ None) ⊎ ((k : ℕ) × (meaning_in (parameter_targets n ps) text ≡ Some (target.Parameter k)))
 parameter_or_none n [] text = inl refl
 parameter_or_none n (p ∷ ps) text = elim (cases_Bool (bytes_equal text p.name.text)) [
   | inl hit ↦ inr (n, rw hit refl)
@@ -24,7 +25,7 @@ parameter_or_none n (p ∷ ps) text = elim (cases_Bool (bytes_equal text p.name.
 ]
 
 -- nor is an input
-behind_inputs : (s i : ℕ) (ts : List Typed) (rest : Targets) (text : List ℕ) (c : ℕ) → target_in (input_targets s i ts ++ rest) text ≡ Some (target.Constant c) → target_in rest text ≡ Some (target.Constant c)
+behind_inputs : (s i : ℕ) (ts : List Typed) (rest : Targets) (text : List ℕ) (c : ℕ) → meaning_in (input_targets s i ts ++ rest) text ≡ Some (target.Constant c) → meaning_in rest text ≡ Some (target.Constant c)
 behind_inputs s i [] rest text c is = is
 behind_inputs s i (t ∷ ts) rest text c is = elim (cases_Bool (bytes_equal text t.name.text)) [
   | inl hit ↦ let is' = rw hit at is in absurd (cc is')
@@ -33,7 +34,7 @@ behind_inputs s i (t ∷ ts) rest text c is = elim (cases_Bool (bytes_equal text
 
 -- a constant's number is its place
 module _ (text : List ℕ) (c : ℕ) where
-  constants_behind : (k : Count) (front xs : List Declaration) → k.declarations ≡ length front → target_in (targets_from k xs) text ≡ Some (target.Constant c) → IsConstantDeclared (slice_get (front ++ xs) c)
+  constants_behind : (k : Count) (front xs : List Declaration) → k.declarations ≡ length front → meaning_in (targets_from k xs) text ≡ Some (target.Constant c) → IsConstantDeclared (slice_get (front ++ xs) c)
   constants_behind k front [] at is = absurd (cc is)
   constants_behind k front (d.Inputs x ∷ xs) at is =
       let counted = length-append front (d.Inputs x ∷ []) in
@@ -70,10 +71,10 @@ module _ (text : List ℕ) (c : ℕ) where
 pub names_constants : (ds : List Declaration) (ps : List Typed) → NamesConstants ds (parameter_targets 0 ps) (targets_of ds)
 names_constants ds ps text c is = elim (parameter_or_none 0 ps text) [
   | inl none ↦
-      let is' : target_in (targets_of ds) text ≡ Some (target.Constant c) = ap (λ (o : Option Target). hidden_by o (target_in (targets_of ds) text)) (sym none) ∙ is in
+      let is' : meaning_in (targets_of ds) text ≡ Some (target.Constant c) = ap (λ (o : Option Target). hides o (meaning_in (targets_of ds) text)) (sym none) ∙ is in
       constants_behind text c (record { streams = 0; inputs = 0; declarations = 0 }) [] ds refl is'
   | inr some ↦
-      let is' : Some (target.Parameter some.0) ≡ Some (target.Constant c) = ap (λ (o : Option Target). hidden_by o (target_in (targets_of ds) text)) (sym some.1) ∙ is in
+      let is' : Some (target.Parameter some.0) ≡ Some (target.Constant c) = ap (λ (o : Option Target). hides o (meaning_in (targets_of ds) text)) (sym some.1) ∙ is in
       absurd (cc is')
 ]
 

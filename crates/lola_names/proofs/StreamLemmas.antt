@@ -14,11 +14,12 @@ use Rattle.lola_model.specs.Named.{window_number, literal_text}
 use Rattle.lola_model.specs.declared.expr.Expr.{Expr}
 use Rattle.lola_model.specs.declared.spec.Stream.{Stream}
 use Rattle.lola_model.specs.declared.spec.WindowSpec.{WindowSpec}
+use Rattle.lola_names_refused.specs.Table.{meaning_in}
 use Rattle.lola_names.specs.Clauses.{IsOutput, IsTrigger, input_stream}
 use Rattle.lola_names.specs.Made.{Grows, IsConstantDeclared, IsScope, NamesConstants}
 use Rattle.lola_names.specs.Specification.{AreStreams}
 use Rattle.lola_names.specs.Tables.{Means}
-use Rattle.lola_names.specs.Targets.{Targets, Count, counted_with, hidden_by, input_targets, parameter_targets, target_in, target_of, targets_from, targets_of, targets_with}
+use Rattle.lola_names.specs.Targets.{Targets, Count, counted_with, input_targets, parameter_targets, target_of, targets_from, targets_of, targets_with}
 use Rattle.lola_names.specs.declared.targets.Target.{Target}
 use Rattle.lola_names.specs.declared.targets.Target.TheVariants as target
 use Rattle.lola_names.specs.declared.made.Made.{Made}
@@ -31,7 +32,7 @@ use Rattle.lola_names.proofs.Pieces.{grows_as, left_more, left_none, listed_stre
 
 -- equal tables mean the same
 pub means_same : (t s : Targets) → t ≡ s → Means t s
-means_same t s e = λ text. ap (λ (l : Targets). target_in l text) e
+means_same t s e = λ text. ap (λ (l : Targets). meaning_in l text) e
 
 pub means_parameters : (t : Targets) (xs ps : List Typed) → xs ≡ ps → Means t (parameter_targets 0 xs) → Means t (parameter_targets 0 ps)
 means_parameters t xs ps e m = let P : List Typed → Type 0 = λ l. Means t (parameter_targets 0 l) in subst P e m

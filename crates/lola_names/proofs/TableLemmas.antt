@@ -1,12 +1,12 @@
 -- Tables of names.
-use Rattle.std.proofs.Common.{◌≡◌, ℕ, ◌+◌, ◌<◌, ◌≤◌, length, get_or, drop, append-nil, true, false, List, [], ◌∷◌, ◌++◌, Option, Some, None, refl, sym, ap, subst, inl, inr, ◌∙◌, append_assoc, is_some}
-use Rattle.std.proofs.lemmas.Bool.{cases_Bool}
+use Rattle.std.proofs.Common.{◌≡◌, ℕ, ◌+◌, ◌<◌, ◌≤◌, length, get_or, drop, append-nil, List, [], ◌∷◌, ◌++◌, refl, sym, ap, subst, ◌∙◌, append_assoc}
 use Rattle.std.proofs.lemmas.List.{at_drop_more, at_drop_all}
+use Rattle.lola_parser_tree.specs.declared.literals.Name.{Name}
 use Rattle.lola_parser_tree.specs.declared.literals.Typed.{Typed}
 use Rattle.lola_parser_tree.specs.declared.declarations.Declaration.{Declaration}
-use Rattle.lola_model.proofs.Lookups.{bytes_equal-true}
-use Rattle.lola_value.specs.Arithmetic.{bytes_equal}
-use Rattle.lola_names.specs.Targets.{Targets, Count, target_in, input_targets, parameter_targets, targets_with, targets_from, counted_with}
+use Rattle.lola_names_refused.specs.Table.{meaning_in, with_name}
+use Rattle.lola_names_refused.proofs.Tables.{meaning-append, hides-with_name}
+use Rattle.lola_names.specs.Targets.{Targets, Count, input_targets, parameter_targets, targets_with, targets_from, counted_with}
 use Rattle.lola_names.specs.Tables.{Means, PutsBehind}
 use Rattle.lola_names.specs.declared.targets.Target.{Target}
 use Rattle.lola_names.specs.declared.targets.Target.TheVariants as target
@@ -18,40 +18,13 @@ puts_none t rest text = refl
 -- some, and then some more
 pub puts_then : (a b c more last : Targets) → PutsBehind a more b → PutsBehind b last c → PutsBehind a (more ++ last) c
 puts_then a b c more last p q rest text =
-    q rest text ∙ p (last ++ rest) text ∙ ap (λ (l : Targets). target_in (a ++ l) text) (sym (append_assoc more last rest))
+    q rest text ∙ p (last ++ rest) text ∙ ap (λ (l : Targets). meaning_in (a ++ l) text) (sym (append_assoc more last rest))
 
--- a name behind the others
-pub puts_new : (t : Targets) (n : List ℕ × Target) → PutsBehind t (n ∷ []) (t ++ n ∷ [])
-puts_new t n rest text = ap (λ (l : Targets). target_in l text) (append_assoc t (n ∷ []) rest)
-
--- a list that means something means that with more behind
-found : (t more : Targets) (text : List ℕ) (x : Target) → target_in t text ≡ Some x → target_in (t ++ more) text ≡ Some x
-found [] more text x is = absurd (cc is)
-found (n ∷ t) more text x is = elim (cases_Bool (bytes_equal text n.0)) [
-  | inl hit ↦ rw hit (rw hit at is)
-  | inr miss ↦ rw miss (found t more text x (rw miss at is))
-]
-
--- a name behind others says nothing of other names
-skipped : (t more : Targets) (n : List ℕ × Target) (text : List ℕ) → bytes_equal text n.0 ≡ false → target_in (t ++ more) text ≡ target_in (t ++ (n ∷ more)) text
-skipped [] more n text other = rw other refl
-skipped (m ∷ t) more n text other = elim (cases_Bool (bytes_equal text m.0)) [
-  | inl hit ↦ rw hit refl
-  | inr miss ↦ rw miss (skipped t more n text other)
-]
-
--- a name that is there already says nothing
-pub puts_known : (t : Targets) (n : List ℕ × Target) (x : Target) → target_in t n.0 ≡ Some x → PutsBehind t (n ∷ []) t
-puts_known t n x is rest text = elim (cases_Bool (bytes_equal text n.0)) [
-  | inl hit ↦
-      let there : target_in t text ≡ Some x = ap (target_in t) (bytes_equal-true text n.0 hit) ∙ is in
-      found t rest text x there ∙ sym (found t (n ∷ rest) text x there)
-  | inr miss ↦ skipped t rest n text miss
-]
-
-pub some_of : {A : Type 0} (o : Option A) → is_some o ≡ true → (x : A) × (o ≡ Some x)
-some_of None is = absurd (cc is)
-some_of (Some x) is = (x, refl)
+-- one name more
+pub puts_name : (t t' : Targets) (name : Name) (x : Target) → t' ≡ with_name t (name, x) → PutsBehind t ((name.text, x) ∷ []) t'
+puts_name t t' name x is rest text =
+    ap (λ (l : Targets). meaning_in (l ++ rest) text) is ∙ meaning-append (with_name t (name, x)) rest text
+    ∙ hides-with_name t (name, x) text (meaning_in rest text) ∙ sym (meaning-append t ((name.text, x) ∷ rest) text)
 
 -- ---- loops
 
@@ -85,20 +58,20 @@ targets_turn t t' whole c c' i xs x within is p counted so_far rest text =
     let same : targets_from c (drop i xs) ≡ targets_with c x ++ more =
     ap (targets_from c) (dropped xs i x within is) ∙ ap (λ (k : Count). targets_with c x ++ targets_from k (drop (i + 1) xs)) (sym counted) in
     p (more ++ rest) text
-    ∙ ap (λ (l : Targets). target_in (t ++ l) text) (sym (append_assoc (targets_with c x) more rest) ∙ ap (λ (l : Targets). l ++ rest) (sym same))
+    ∙ ap (λ (l : Targets). meaning_in (t ++ l) text) (sym (append_assoc (targets_with c x) more rest) ∙ ap (λ (l : Targets). l ++ rest) (sym same))
     ∙ so_far rest text
 
 -- the end of a loop
 pub means_end : {A : Type 0} (F : List A → Targets) (xs : List A) (i : ℕ) (t whole : Targets) → F [] ≡ [] → length xs ≤ i → ((rest : Targets) → Means (t ++ (F (drop i xs) ++ rest)) (whole ++ rest)) → Means t whole
 means_end F xs i t whole none all so_far text =
     let last : F (drop i xs) ≡ [] = at_drop_all F xs i all ∙ none in
-    ap (λ (l : Targets). target_in l text) (sym (append-nil t) ∙ ap (λ (l : Targets). t ++ (l ++ [])) (sym last)) ∙ so_far [] text ∙ ap (λ (l : Targets). target_in l text) (append-nil whole)
+    ap (λ (l : Targets). meaning_in l text) (sym (append-nil t) ∙ ap (λ (l : Targets). t ++ (l ++ [])) (sym last)) ∙ so_far [] text ∙ ap (λ (l : Targets). meaning_in l text) (append-nil whole)
 
 pub puts_end : {A : Type 0} (F : List A → Targets) (xs : List A) (i : ℕ) (t old more : Targets) → F [] ≡ [] → length xs ≤ i
     → ((rest : Targets) → Means (t ++ (F (drop i xs) ++ rest)) ((old ++ more) ++ rest)) → PutsBehind old more t
 puts_end F xs i t old more none all so_far rest text =
     let last : F (drop i xs) ≡ [] = at_drop_all F xs i all ∙ none in
-    ap (λ (l : Targets). target_in (t ++ (l ++ rest)) text) (sym last) ∙ so_far rest text ∙ ap (λ (l : Targets). target_in l text) (append_assoc old more rest)
+    ap (λ (l : Targets). meaning_in (t ++ (l ++ rest)) text) (sym last) ∙ so_far rest text ∙ ap (λ (l : Targets). meaning_in l text) (append_assoc old more rest)
 
 pub puts_start : (old more : Targets) (rest : Targets) → Means (old ++ (more ++ rest)) ((old ++ more) ++ rest)
-puts_start old more rest text = ap (λ (l : Targets). target_in l text) (sym (append_assoc old more rest))
+puts_start old more rest text = ap (λ (l : Targets). meaning_in l text) (sym (append_assoc old more rest))

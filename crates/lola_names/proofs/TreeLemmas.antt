@@ -25,7 +25,8 @@ use Rattle.lola_model.specs.declared.expr.Arguments.TheVariants.{End, More'}
 use Rattle.lola_model.specs.declared.spec.Formula.{Formula}
 use Rattle.lola_model.specs.declared.spec.Formula.TheVariants.{And', Or'}
 use Rattle.lola_model.specs.declared.spec.WindowSpec.{WindowSpec}
-use Rattle.lola_names.specs.Targets.{Targets, target_of, hidden_by}
+use Rattle.lola_names_refused.specs.Table.{hides}
+use Rattle.lola_names.specs.Targets.{Targets, target_of}
 use Rattle.lola_names.specs.Resolved.{Standing, IsResolved, AreArguments, IsReference, Where, is_stream, arguments_in, place_at, prefix_of, binary_of}
 use Rattle.lola_names.specs.Clauses.{IsFormula}
 use Rattle.lola_names.specs.Made.{Grows, GrowsBy, FromNowOn, ResolvesTo, IsScope, IsFormulaBy, standing_in}
@@ -134,7 +135,7 @@ resolves-If scope made at x y z place u s v t w q p r k l targets parameters sc 
 
 -- what a name stands for, by the tables and by the lists
 pub same_target : (scope : Scope) (targets parameters : Targets) → IsScope scope targets parameters → (text : List ℕ) → target_of scope.parameters.now scope.targets.now text ≡ target_of parameters targets text
-same_target scope targets parameters s text = ap₂ hidden_by (s.own text) (s.all text)
+same_target scope targets parameters s text = ap₂ hides (s.own text) (s.all text)
 
 constant_in : (declarations : List Declaration) (o : Option Target) → ((c : ℕ) → o ≡ Some (target.Constant c) → IsConstantIn declarations (Some (target.Constant c))) → IsConstantIn declarations o
 constant_in declarations None all = tt

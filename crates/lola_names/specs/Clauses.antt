@@ -29,7 +29,8 @@ use Rattle.lola_model.specs.declared.spec.Sort.TheVariants as sort
 use Rattle.lola_model.specs.declared.spec.Stream.{Stream}
 use Rattle.lola_model.specs.declared.spec.WindowSpec.{WindowSpec}
 use Rattle.lola_names_refused.specs.Quantities.{fraction_of, IsWrittenAs}
-use Rattle.lola_names.specs.Targets.{Targets, target_in, parameter_targets}
+use Rattle.lola_names_refused.specs.Table.{meaning_in}
+use Rattle.lola_names.specs.Targets.{Targets, parameter_targets}
 use Rattle.lola_names.specs.Resolved.{Standing, IsResolved, kind_spelled}
 use Rattle.lola_names.specs.declared.targets.Target.{Target}
 use Rattle.lola_names.specs.declared.targets.Target.TheVariants as target
@@ -44,7 +45,7 @@ input_of (Some (target.Input s i)) = i
 input_of _ = 0
 
 abbrev pub IsFormula : Targets → TreeFormula → Formula → Type 0
-IsFormula targets (f.Input n) (Input i) = i ≡ input_of (target_in targets n.text)
+IsFormula targets (f.Input n) (Input i) = i ≡ input_of (meaning_in targets n.text)
 IsFormula targets (f.Both' at h (more_of-Formula x end_of-Formula) i (more_of-Formula y end_of-Formula)) (And' u s v t) =
     IsFormula targets x s × IsFormula targets y t
 IsFormula targets (f.Either' at h (more_of-Formula x end_of-Formula) i (more_of-Formula y end_of-Formula)) (Or' u s v t) =

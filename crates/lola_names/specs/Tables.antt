@@ -1,11 +1,12 @@
 -- Tables of names.
 use Rattle.std.specs.Prelude.{ℕ, ◌≡◌, ◌++◌, List}
-use Rattle.lola_names.specs.Targets.{Targets, Count, target_in}
+use Rattle.lola_names_refused.specs.Table.{meaning_in}
+use Rattle.lola_names.specs.Targets.{Targets, Count}
 use Rattle.lola_names.specs.declared.targets.Counts.{Counts}
 
 -- one list of names means what another does
 abbrev pub Means : Targets → Targets → Type 0
-Means table targets = (text : List ℕ) → target_in table text ≡ target_in targets text
+Means table targets = (text : List ℕ) → meaning_in table text ≡ meaning_in targets text
 
 -- a table means what it meant with more names behind it, whatever stands behind both
 abbrev pub PutsBehind : Targets → Targets → Targets → Type 0

@@ -1,21 +1,16 @@
 -- What names stand for, by numbers: streams in the order of the text, inputs counted by themselves too, constants by their places
 -- among the declarations, parameters by their places.
-use Rattle.std.specs.Prelude.{ℕ, ◌+◌, List, [], ◌∷◌, ◌++◌, Option, Some, None, if◌then◌else◌, length}
-use Rattle.lola_value.specs.Arithmetic.{bytes_equal}
+use Rattle.std.specs.Prelude.{ℕ, ◌+◌, List, [], ◌∷◌, ◌++◌, Option, length}
 use Rattle.lola_parser_tree.specs.declared.literals.Typed.{Typed}
 use Rattle.lola_parser_tree.specs.declared.declarations.Declaration.{Declaration}
 use Rattle.lola_parser_tree.specs.declared.declarations.Declaration.TheVariants as d
+use Rattle.lola_names_refused.specs.Table.{meant}
 use Rattle.lola_names.specs.declared.targets.Target.{Target}
 use Rattle.lola_names.specs.declared.targets.Target.TheVariants as target
 
 -- names, each with what it stands for
 abbrev pub Targets : Type 0
 Targets = List (List ℕ × Target)
-
--- what a name stands for; of several entries the first counts
-abbrev pub target_in : Targets → List ℕ → Option Target
-target_in [] text = None
-target_in (t ∷ ts) text = if bytes_equal text t.0 then Some t.1 else target_in ts text
 
 -- inputs, of which the first is this stream and this input
 abbrev pub input_targets : ℕ → ℕ → List Typed → Targets
@@ -56,9 +51,5 @@ parameter_targets n [] = []
 parameter_targets n (t ∷ ts) = (t.name.text, target.Parameter n) ∷ parameter_targets (n + 1) ts
 
 -- what a name stands for where these parameters are in scope: a parameter hides other names
-abbrev pub hidden_by : Option Target → Option Target → Option Target
-hidden_by None t = t
-hidden_by (Some p) t = Some p
-
 abbrev pub target_of : Targets → Targets → List ℕ → Option Target
-target_of parameters targets text = hidden_by (target_in parameters text) (target_in targets text)
+target_of parameters targets text = meant parameters targets text

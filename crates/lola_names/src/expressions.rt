@@ -115,9 +115,9 @@ fn literal(place: Place, written: &Written, made: &mut Made) -> Result<Expr, Mem
 fn target(scope: &Scope, name: &Name) -> Option<Target>
     ensures { result ≡ target_of scope.now.parameters.now scope.now.targets.now name.now.text }
 {
-    match scope.parameters.target(name.text.as_bytes()) {
+    match scope.parameters.meaning(name.text.as_bytes()) {
         Some(target) => Some(target),
-        None => scope.targets.target(name.text.as_bytes()),
+        None => scope.targets.meaning(name.text.as_bytes()),
     }
 }
 

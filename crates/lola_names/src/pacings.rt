@@ -1,7 +1,7 @@
 //! Pacings resolved.
 
 ghost use Rattle.std.specs.Prelude.{◌≡◌, IfOk};
-ghost use Rattle.lola_names.specs.Targets.{target_in};
+ghost use Rattle.lola_names_refused.specs.Table.{meaning_in};
 ghost use Rattle.lola_names.specs.Clauses.{input_of};
 ghost use Rattle.lola_names.specs.Made.{IsFormulaBy, IsPaceBy, IsPacingBy};
 
@@ -15,9 +15,9 @@ use std::alloc::Global;
 
 /// The input that a name stands for; the first for one that stands for none, which is refused.
 fn input(targets: &TargetTable, name: &Name) -> u32
-    ensures { result ≡ input_of (target_in targets.now name.now.text) }
+    ensures { result ≡ input_of (meaning_in targets.now name.now.text) }
 {
-    match targets.target(name.text.as_bytes()) {
+    match targets.meaning(name.text.as_bytes()) {
         Some(Target::Input(_, number)) => number,
         _ => 0,
     }

@@ -1,15 +1,14 @@
 //! What names stand for.
 
 ghost use Rattle.std.specs.Prelude.{◌≡◌, ◌++◌, [], ◌∷◌, ◌+◌, IfOk, OnOk, length};
-ghost use Rattle.lola_names.specs.Targets.{target_in, targets_of, targets_with, counted_with, input_targets, parameter_targets};
+ghost use Rattle.lola_names.specs.Targets.{targets_of, targets_with, counted_with, input_targets, parameter_targets};
 ghost use Rattle.lola_names.specs.Tables.{PutsBehind, Means, count_of};
 
-use indexmap::IndexMap;
+use lola_names_refused::table::NameTable;
 use lola_parser_tree::declarations::Declaration;
 use lola_parser_tree::literals::{Name, Typed};
 use lola_value::text::Memory;
 use std::alloc::Global;
-use std::marker::Model;
 
 /// What a name stands for, by number.
 #[derive(Clone, Copy, Debug, PartialEq, Eq)]
@@ -24,52 +23,8 @@ pub enum Target {
     Parameter(u32),
 }
 
-/// Names with what they stand for, each name once.
-#[derive(Drop)]
-pub struct TargetTable {
-    alloc: Global,
-    entries: IndexMap<Vec<u8>, Target>,
-}
-
-impl Model for TargetTable {
-    ghost use Rattle.lola_names.specs.Targets.{Targets};
-    ghost use Rattle.lola_names.specs.Entries.{targets_in};
-
-    ghost Value = { Targets };
-
-    ghost view = { λ t. targets_in t.entries.entries };
-}
-
-impl TargetTable {
-    /// No names.
-    pub fn create(alloc: Global) -> TargetTable
-        ensures { result ≡ [] }
-    {
-        TargetTable {
-            alloc,
-            entries: IndexMap::new(alloc),
-        }
-    }
-
-    /// What a name stands for.
-    pub fn target(&self, text: &[u8]) -> Option<Target>
-        ensures { result ≡ target_in self.now text.now }
-    {
-        self.entries.get(text).copied()
-    }
-
-    /// Puts a name behind the others, unless it is there.
-    fn put(&mut self, name: &Name, target: Target) -> Result<(), Memory>
-        ensures { OnOk result (PutsBehind self.old ((name.now.text, target) ∷ []) self.new) }
-    {
-        if self.target(name.text.as_bytes()).is_some() {
-            return Ok(());
-        }
-        let text = Vec::from_slice(self.alloc, name.text.as_bytes())?;
-        self.entries.insert(text, target)?;
-        Ok(())
-    }
-}
+/// Names with what they stand for.
+pub type TargetTable = NameTable<Target>;
 
 /// How many streams, inputs and declarations stand before.
 #[derive(Clone, Copy, Debug)]

@@ -30,7 +30,8 @@ use Rattle.lola_model.specs.declared.spec.Stream.{Stream}
 use Rattle.lola_model.specs.declared.spec.WindowSpec.{WindowSpec}
 use Rattle.lola_names_refused.specs.declared.names.Meaning.{Meaning}
 use Rattle.lola_names_refused.specs.declared.names.Meaning.TheVariants as meaning
-use Rattle.lola_names_refused.specs.Known.{Known, meant}
+use Rattle.lola_names_refused.specs.Table.{meant}
+use Rattle.lola_names_refused.specs.Known.{Known}
 use Rattle.lola_names_refused.specs.Quantities.{span_of}
 use Rattle.lola_names_refused.specs.Refused.{unless, name_use, access_use, reference_use, uses, argument_uses, how_many}
 use Rattle.lola_names.specs.declared.targets.Target.{Target}

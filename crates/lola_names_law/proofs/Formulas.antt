@@ -25,11 +25,12 @@ use Rattle.lola_model.specs.declared.spec.Stream.{Stream}
 use Rattle.lola_model.specs.declared.spec.WindowSpec.{WindowSpec}
 use Rattle.lola_names_refused.specs.declared.names.Meaning.{Meaning}
 use Rattle.lola_names_refused.specs.declared.names.Meaning.TheVariants as meaning
-use Rattle.lola_names_refused.specs.Known.{Known, meaning_in, with_names, parameters_of}
+use Rattle.lola_names_refused.specs.Table.{meaning_in}
+use Rattle.lola_names_refused.specs.Known.{Known, with_names, parameters_of}
 use Rattle.lola_names_refused.specs.Refused.{of_option, is_input_name, formula_uses, rhythm_uses, pacing_uses, when_uses, with_uses, uses, spawn_uses, eval_uses, close_uses, head_uses, declaration_uses}
 use Rattle.lola_names.specs.declared.targets.Target.{Target}
 use Rattle.lola_names.specs.declared.targets.Target.TheVariants as target
-use Rattle.lola_names.specs.Targets.{Targets, target_in}
+use Rattle.lola_names.specs.Targets.{Targets}
 use Rattle.lola_names.specs.Resolved.{Standing}
 use Rattle.lola_names.specs.Clauses.{IsFormula, IsPace, IsPacing, IsOptional, IsSpawn, IsEval, IsClose, IsTriggerClause, input_of, input_stream}
 use Rattle.lola_names.specs.Specification.{AreStreams}
@@ -49,11 +50,11 @@ module _ (ds : List Declaration) (ss : List Stream) (targets : Targets) (texts :
   abbrev around : Around
   around = record { declarations = ds; streams = ss; inputs = 64; parameters = 0 }
 
-  module _ (fits : (q : List ℕ) → FitsIf around (meaning_in names q) (target_in targets q)) where
+  module _ (fits : (q : List ℕ) → FitsIf around (meaning_in names q) (meaning_in targets q)) where
     formula_below : (x : TreeFormula) (s : Formula) → formula_uses names x ≡ [] → IsFormula targets x s → HasInputsBelow 64 s
     formula_below (f.Input n) (Input i) none is =
         subst (λ k. k < 64) (sym is)
-        (input_below around (meaning_in names n.text) (target_in targets n.text) (fits n.text) (unless_none (is_input_name (meaning_in names n.text)) code.Unknown n.at none))
+        (input_below around (meaning_in names n.text) (meaning_in targets n.text) (fits n.text) (unless_none (is_input_name (meaning_in names n.text)) code.Unknown n.at none))
     formula_below (f.Both' at h (more_of-Formula x end_of-Formula) i (more_of-Formula y end_of-Formula)) (And' u s v t) none is =
         (formula_below x s (none_left (formula_uses names x) (formula_uses names y) none) is.0, formula_below y t (none_right (formula_uses names x) (formula_uses names y) none) is.1)
     formula_below (f.Either' at h (more_of-Formula x end_of-Formula) i (more_of-Formula y end_of-Formula)) (Or' u s v t) none is =

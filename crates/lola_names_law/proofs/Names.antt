@@ -14,9 +14,10 @@ use Rattle.lola_model.specs.declared.spec.WindowSpec.{WindowSpec}
 use Rattle.lola_model.proofs.Lookups.{bytes_equal-true, bytes_equal-same}
 use Rattle.lola_names_refused.specs.declared.names.Meaning.{Meaning}
 use Rattle.lola_names_refused.specs.declared.names.Meaning.TheVariants as meaning
-use Rattle.lola_names_refused.specs.Known.{Known, Declared, declared, meaning_in, hides, with_name, with_names, parameters_of}
+use Rattle.lola_names_refused.specs.Table.{meaning_in, hides, with_name}
+use Rattle.lola_names_refused.specs.Known.{Known, Declared, declared, with_names, parameters_of}
 use Rattle.lola_names_refused.specs.Refused.{where_, repeated, repeated_parameters, repeats, all_repeats, parameters_in}
-use Rattle.lola_names_refused.proofs.FirstDeclaration.{meaning-append}
+use Rattle.lola_names_refused.proofs.Tables.{meaning-append}
 use Rattle.lola_names.specs.Targets.{Targets}
 use Rattle.lola_names.specs.Clauses.{input_stream}
 use Rattle.lola_names.specs.Specification.{AreStreams}

@@ -13,13 +13,14 @@ use Rattle.lola_model.specs.declared.spec.Stream.{Stream}
 use Rattle.lola_model.specs.declared.spec.WindowSpec.{WindowSpec}
 use Rattle.lola_names_refused.specs.declared.names.Meaning.{Meaning}
 use Rattle.lola_names_refused.specs.declared.names.Meaning.TheVariants as meaning
-use Rattle.lola_names_refused.specs.Known.{Known, Declared, declared, parameters_of, meaning_in, hides, names_of, with_names}
+use Rattle.lola_names_refused.specs.Table.{meaning_in, hides}
+use Rattle.lola_names_refused.specs.Known.{Known, Declared, declared, parameters_of, names_of, with_names}
 use Rattle.lola_names_refused.specs.Law.{plain}
 use Rattle.lola_names_refused.specs.Refused.{input_places, places_of}
 use Rattle.lola_names_refused.proofs.FirstDeclaration.{names-meaning, means_first_declaration}
 use Rattle.lola_names.specs.declared.targets.Target.{Target}
 use Rattle.lola_names.specs.declared.targets.Target.TheVariants as target
-use Rattle.lola_names.specs.Targets.{Targets, Count, target_in, hidden_by, input_targets, counted_with, targets_with, targets_from, targets_of, parameter_targets}
+use Rattle.lola_names.specs.Targets.{Targets, Count, input_targets, counted_with, targets_with, targets_from, targets_of, parameter_targets}
 use Rattle.lola_names.specs.Resolved.{kind_spelled}
 use Rattle.lola_names.specs.Clauses.{input_stream}
 use Rattle.lola_names.specs.Specification.{AreStreams}
@@ -64,7 +65,7 @@ module _ (u : Around) where
   InStep (e ∷ es) (f ∷ fs) = (f.0 ≡ e.0) × Fits e.1 f.1 × InStep es fs
   InStep _ _ = ⊥
 
-  pub fits_in : (es : Known) (fs : Targets) (q : List ℕ) → InStep es fs → FitsIf (meaning_in es q) (target_in fs q)
+  pub fits_in : (es : Known) (fs : Targets) (q : List ℕ) → InStep es fs → FitsIf (meaning_in es q) (meaning_in fs q)
   fits_in [] [] q h = tt
   fits_in (e ∷ es) (f ∷ fs) q h = rw h.0 (elim (cases_Bool (bytes_equal q e.0)) [
     | inl hit ↦ rw hit h.1
@@ -79,7 +80,7 @@ module _ (u : Around) where
   step_append [] b (y ∷ c) e h k = absurd h
   step_append (x ∷ a) b [] e h k = absurd h
 
-  pub fits_hidden : (m n : Option Meaning) (t s : Option Target) → FitsIf m t → FitsIf n s → FitsIf (hides m n) (hidden_by t s)
+  pub fits_hidden : (m n : Option Meaning) (t s : Option Target) → FitsIf m t → FitsIf n s → FitsIf (hides m n) (hides t s)
   fits_hidden None n None s h k = k
   fits_hidden (Some m) n (Some t) s h k = h
   fits_hidden None n (Some t) s h k = absurd h
@@ -93,7 +94,7 @@ module _ (u : Around) where
       let more : (n + 1) + length ps ≤ u.parameters = omega (arith, h) in
       (refl, here, parameters_step (n + 1) ps more)
 
-  pub fits_parameters : (ps : List Typed) (q : List ℕ) → length ps ≤ u.parameters → FitsIf (meaning_in (with_names [] (parameters_of ps)) q) (target_in (parameter_targets 0 ps) q)
+  pub fits_parameters : (ps : List Typed) (q : List ℕ) → length ps ≤ u.parameters → FitsIf (meaning_in (with_names [] (parameters_of ps)) q) (meaning_in (parameter_targets 0 ps) q)
   fits_parameters ps q h =
       let all : 0 + length ps ≤ u.parameters = omega (arith, h) in
       rw (names-meaning [] (parameters_of ps) q) (fits_in (plain (parameters_of ps)) (parameter_targets 0 ps) q (parameters_step 0 ps all))
@@ -173,7 +174,7 @@ module _ (u : Around) where
         declarations_step (counted_with c (d.Trigger x)) (k + 1) ds rest are.1 (later_stream c.streams s rest at) (later c.declarations (d.Trigger x) ds said) few
 
     pub fits_declared : (k : ℕ) → AreStreams u.declarations targets texts windows 0 k u.declarations u.streams → length (flat_map input_places u.declarations) ≤ u.inputs
-        → (q : List ℕ) → FitsIf (meaning_in (names_of u.declarations) q) (target_in (targets_of u.declarations) q)
+        → (q : List ℕ) → FitsIf (meaning_in (names_of u.declarations) q) (meaning_in (targets_of u.declarations) q)
     fits_declared k are few q =
         let zero_add : (j : ℕ) → j ≡ 0 + j = λ j. omega arith in
         let all : 0 + length (flat_map input_places u.declarations) ≤ u.inputs = omega (arith, few) in

@@ -22,9 +22,10 @@ use Rattle.lola_model.specs.declared.spec.Part.{Part}
 use Rattle.lola_model.specs.declared.spec.Part.TheVariants as part
 use Rattle.lola_model.specs.declared.spec.Stream.{Stream}
 use Rattle.lola_model.specs.declared.spec.WindowSpec.{WindowSpec}
-use Rattle.lola_names_refused.specs.Known.{Known, names_of, meaning_in, parameters_of, with_names}
+use Rattle.lola_names_refused.specs.Table.{meaning_in}
+use Rattle.lola_names_refused.specs.Known.{Known, names_of, parameters_of, with_names}
 use Rattle.lola_names_refused.specs.Refused.{of_option, input_places, uses, when_uses, with_uses, pacing_uses, spawn_uses, eval_uses, close_uses, head_uses, output_uses, declaration_uses}
-use Rattle.lola_names.specs.Targets.{Targets, target_in, targets_of, parameter_targets}
+use Rattle.lola_names.specs.Targets.{Targets, targets_of, parameter_targets}
 use Rattle.lola_names.specs.Resolved.{Standing, IsResolved, kind_spelled}
 use Rattle.lola_names.specs.Clauses.{IsOptional, IsPart, ArePartsOf, IsSpawn, IsEval, IsClose, IsTriggerClause, IsOutput, IsTrigger, input_stream}
 use Rattle.lola_names.specs.Specification.{AreStreams, expr_ranges, part_ranges, pacing_ranges, pace_in, spawn_ranges, eval_ranges, close_ranges, output_ranges, trigger_ranges, ranges_of}
@@ -65,7 +66,7 @@ module _ (ds : List Declaration) (ss : List Stream) (inputs : ℕ) (texts : List
           let within : length ps ≤ length ks = omega (arith, many) in
           resolved_passes (around ds ss inputs (length ks)) texts windows here G (t n p (length ks)) (targets_of ds) known (names_of ds) (passing n p (length ks) (parameter_targets 0 ps))
           (λ q.
-          fits_hidden (around ds ss inputs (length ks)) (meaning_in known q) (meaning_in (names_of ds) q) (target_in (parameter_targets 0 ps) q) (target_in (targets_of ds) q)
+          fits_hidden (around ds ss inputs (length ks)) (meaning_in known q) (meaning_in (names_of ds) q) (meaning_in (parameter_targets 0 ps) q) (meaning_in (targets_of ds) q)
           (fits_parameters (around ds ss inputs (length ks)) ps q within)
           (fits_declared (around ds ss inputs (length ks)) (targets_of ds) texts windows 0 are few q))
           x r none ranged is

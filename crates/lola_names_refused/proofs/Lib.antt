@@ -1,5 +1,6 @@
 pub mod Noting
 pub mod Entering
+pub mod Tables
 pub mod Trees
 pub mod Repeats
 pub mod FirstDeclaration

@@ -6,7 +6,8 @@ use Rattle.lola_parser_tree.specs.declared.literals.Typed.{Typed}
 use Rattle.lola_parser_tree.specs.declared.declarations.Declaration.{Declaration}
 use Rattle.lola_names_refused.specs.declared.names.Meaning.{Meaning}
 use Rattle.lola_names_refused.specs.declared.names.Meaning.TheVariants as meaning
-use Rattle.lola_names_refused.specs.Known.{Known, Declared, declared, meaning_in, meant, with_name, with_names, with_declarations}
+use Rattle.lola_names_refused.specs.Table.{meaning_in, meant, with_name}
+use Rattle.lola_names_refused.specs.Known.{Known, Declared, declared, with_names, with_declarations}
 use Rattle.lola_names_refused.specs.Noted.{noted, Finds}
 use Rattle.lola_names_refused.specs.Refused.{where_, repeated, repeated_parameters, repeats, all_repeats}
 use Rattle.lola_names_refused.proofs.Noting.{noted-append, turn, end}

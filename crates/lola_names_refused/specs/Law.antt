@@ -2,7 +2,8 @@
 use Rattle.std.specs.Prelude.{ℕ, ◌≡◌, List, map}
 use Rattle.std.specs.List.{flat_map}
 use Rattle.lola_parser_tree.specs.declared.declarations.Declaration.{Declaration}
-use Rattle.lola_names_refused.specs.Known.{Known, Declared, declared, meaning_in, names_of}
+use Rattle.lola_names_refused.specs.Table.{meaning_in}
+use Rattle.lola_names_refused.specs.Known.{Known, Declared, declared, names_of}
 
 -- declared names, in order, repeated ones too
 abbrev pub plain : List Declared → Known

@@ -1,7 +1,8 @@
 pub mod Noted
 pub mod Words
-pub mod Known
+pub mod Table
 pub mod Entries
+pub mod Known
 pub mod Refused
 pub mod Law
 pub mod Quantities

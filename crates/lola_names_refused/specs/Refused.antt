@@ -1,5 +1,5 @@
 -- The refusals of names: E5 Duplicate, E6 Unknown, E7 TooMany, E8 BadArity, as the table of refusals of the language has them.
-use Rattle.std.specs.Prelude.{ℕ, suc, ◌+◌, List, [], ◌∷◌, ◌++◌, Option, Some, None, Bool, true, false, ◌&&◌, if◌then◌else◌, is_some, nat_eq, nat_lt, length, map, slice_get}
+use Rattle.std.specs.Prelude.{ℕ, suc, List, [], ◌∷◌, ◌++◌, Option, Some, None, Bool, true, false, ◌&&◌, if◌then◌else◌, is_some, nat_eq, nat_lt, length, map, slice_get}
 use Rattle.std.specs.List.{flat_map}
 use Rattle.lola_value.specs.declared.front.Code.{Code}
 use Rattle.lola_value.specs.declared.front.Code.TheVariants as code
@@ -24,7 +24,8 @@ use Rattle.lola_parser_tree.specs.declared.declarations.Declaration.{Declaration
 use Rattle.lola_parser_tree.specs.declared.declarations.Declaration.TheVariants as d
 use Rattle.lola_names_refused.specs.declared.names.Meaning.{Meaning}
 use Rattle.lola_names_refused.specs.declared.names.Meaning.TheVariants as meaning
-use Rattle.lola_names_refused.specs.Known.{Known, Declared, declared, meaning_in, meant, names_of, parameters_of, with_name, with_names}
+use Rattle.lola_names_refused.specs.Table.{meaning_in, meant, with_name}
+use Rattle.lola_names_refused.specs.Known.{Known, Declared, declared, names_of, parameters_of, with_names}
 use Rattle.lola_names_refused.specs.Words.{kind_named, aggregation_named}
 
 -- one refusal

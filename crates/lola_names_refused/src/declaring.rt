@@ -5,7 +5,8 @@ ghost use Rattle.lola_value.specs.declared.front.Code.TheVariants as code;
 ghost use Rattle.lola_parser_tree.specs.declared.literals.Typed.{Typed as TypedValue};
 ghost use Rattle.lola_names_refused.specs.declared.names.Meaning.TheVariants as is;
 ghost use Rattle.lola_names_refused.specs.Noted.{Finds};
-ghost use Rattle.lola_names_refused.specs.Known.{declared, meant, meaning_in, names_of, parameters_of, with_name, with_names, with_declarations};
+ghost use Rattle.lola_names_refused.specs.Table.{meant, meaning_in, with_name};
+ghost use Rattle.lola_names_refused.specs.Known.{declared, names_of, parameters_of, with_names, with_declarations};
 ghost use Rattle.lola_names_refused.specs.Refused.{where_, repeated, repeated_parameters, parameters_in, repeats, all_repeats};
 
 use crate::names::{Meaning, Names};

@@ -10,6 +10,7 @@ pub mod law;
 mod names;
 pub mod quantities;
 mod refusing;
+pub mod table;
 mod uses;
 pub mod words;
 

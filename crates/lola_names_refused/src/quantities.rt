@@ -1,13 +1,12 @@
 //! Durations and rates as they are written.
 
 ghost use Rattle.std.specs.Prelude.{◌≡◌, ◌+◌, ◌*◌, ◌/◌, ◌%◌, ◌^◌, ◌<◌, ◌≤◌, IsTrue};
-ghost use Rattle.std.specs.Int.{IsGcd};
 ghost use Rattle.lola_value.specs.Rate.{IsLowest};
 ghost use Rattle.lola_names_refused.specs.Quantities as quantity;
 
 use lola_model::spec::WrittenRate;
 use lola_parser_tree::literals::{Quantity, QuantityUnit};
-use lola_value::rate::Rate;
+use lola_value::rate::{Rate, wide_gcd};
 
 // One more than the greatest number of 18 digits, which is the greatest numerator of a rate too.
 const TOO_LONG: u128 = 1_000_000_000_000_000_000;
@@ -108,22 +107,6 @@ fn in_hertz(q: &Quantity) -> Fraction
     Fraction { num, den }
 }
 
-/// The greatest common divisor of two numbers that are not both 0.
-fn gcd(a: u128, b: u128) -> u128
-    requires { 0 < a + b }
-    ensures divisor { IsGcd a b result }
-    ensures positive { 0 < result }
-{
-    let mut divisor = a;
-    let mut rest = b;
-    while rest != 0 {
-        let next = divisor % rest;
-        divisor = rest;
-        rest = next;
-    }
-    divisor
-}
-
 /// A rate in lowest terms as it is noted.
 fn noted(num: u128, den: u128) -> WrittenRate
     requires num { 0 < num }
@@ -150,7 +133,7 @@ fn written(num: u128, den: u128) -> WrittenRate
     if num == 0 || den == 0 {
         return WrittenRate::OutOfRange;
     }
-    let common = gcd(num, den);
+    let common = wide_gcd(num, den);
     noted(num / common, den / common)
 }
 

@@ -31,7 +31,8 @@ use Rattle.lola_model.specs.declared.spec.Pace.{Pace}
 use Rattle.lola_model.specs.declared.spec.Pace.TheVariants as pace
 use Rattle.lola_model.specs.declared.spec.WrittenRate.{WrittenRate}
 use Rattle.lola_names_refused.specs.Quantities.{fraction_of, span_of}
-use Rattle.lola_names.specs.Targets.{Targets, target_in, target_of}
+use Rattle.lola_names_refused.specs.Table.{meaning_in}
+use Rattle.lola_names.specs.Targets.{Targets, target_of}
 use Rattle.lola_names.specs.Resolved.{Standing, IsLiteral, IsValue, IsConstantUse, IsAccess, IsReference, IsResolved, AreArguments, Where, is_stream, arguments_in, access_of, aggregation_spelled, kind_spelled, integer_of, place_at, prefix_of, binary_of}
 use Rattle.lola_names.specs.Clauses.{IsRateOf, IsFormula, IsPace, IsPacing, input_of}
 use Rattle.lola_names.specs.Made.{IsConstantDeclared, NamesConstants}
@@ -47,7 +48,7 @@ rate_of : (q : Quantity) → (w : WrittenRate) × IsRateOf q w
 rate_of q = written_as (fraction_of q).num (fraction_of q).den
 
 formula_of : (targets : Targets) (x : TreeFormula) → (y : Formula) × IsFormula targets x y
-formula_of targets (f.Input n) = (Input (input_of (target_in targets n.text)), refl)
+formula_of targets (f.Input n) = (Input (input_of (meaning_in targets n.text)), refl)
 formula_of targets (f.Both' at h (more_of-Formula x end_of-Formula) i (more_of-Formula y end_of-Formula)) =
     let s = formula_of targets x in
     let t = formula_of targets y in

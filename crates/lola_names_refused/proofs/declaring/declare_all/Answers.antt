@@ -2,7 +2,8 @@ use Rattle.std.proofs.Common.{◌≡◌, ◌++◌, [], List, length, is_some, ma
 use Rattle.lola_value.specs.declared.front.Refusal.{Refusal}
 use Rattle.lola_value.specs.declared.front.Code.TheVariants as code
 use Rattle.lola_names_refused.specs.declared.names.Meaning.TheVariants as is
-use Rattle.lola_names_refused.specs.Known.{declared, meaning_in, parameters_of, with_name, with_names}
+use Rattle.lola_names_refused.specs.Table.{meaning_in, with_name}
+use Rattle.lola_names_refused.specs.Known.{declared, parameters_of, with_names}
 use Rattle.lola_names_refused.specs.Noted.{Finds}
 use Rattle.lola_names_refused.specs.Refused.{where_, repeated, repeated_parameters, repeats}
 use Rattle.lola_names_refused.proofs.Noting.{finds_more, ok_then, ok_of}
