@@ -17,3 +17,4 @@ pub mod Resumed
 pub mod Sweeping
 pub mod RunsBegun
 pub mod Deadlines
+pub mod LateRows

@@ -3,7 +3,7 @@ use Rattle.std.proofs.Common.{◌≡◌, refl, ap, sym, subst, ◌∙◌, ℕ, �
 use Rattle.std.proofs.lemmas.Bool.{ne_eqb}
 use Rattle.lola_value.specs.Naming.{IsNaming}
 use Rattle.lola_model.specs.Acceptance.{IsAccepted}
-use Rattle.lola_model.specs.Journal.{accepted, merged_from, opening_time}
+use Rattle.lola_model.specs.Journal.{accepted, known_start, last_accepted, merged_from, opening_time}
 use Rattle.lola_model.specs.Faults.{fault_of_last}
 use Rattle.lola_model.specs.Model.{answered, last_row, made, model}
 use Rattle.lola_model.specs.NextStep.{most_steps, next_settled}
@@ -26,7 +26,7 @@ use Rattle.lola_text.specs.Texts.{Texts}
 use Rattle.lola_engine.specs.Behind.{StandsBehind}
 use Rattle.lola_engine.specs.Engines.{AreStarted, IsEngine, IsSound, IsUnderWay, IsWaiting}
 use Rattle.lola_engine.specs.Going.{IsMade}
-use Rattle.lola_engine.specs.Resuming.{HasReached, IsAtTimes, IsLeftAt, IsRestored, StandsAfter, going_on, last_accepted, known_start, times_of}
+use Rattle.lola_engine.specs.Resuming.{HasReached, IsAtTimes, IsLeftAt, IsRestored, StandsAfter, going_on, steps_at, times_of}
 use Rattle.lola_engine.specs.declared.engine.EngineState.{EngineState}
 use Rattle.lola_engine.specs.declared.times.RunTimes.{RunTimes}
 use Rattle.lola_engine.proofs.Joining.{none_or}
@@ -39,7 +39,7 @@ use Rattle.lola_engine.proofs.Tables.{one_by_one}
 -- what holds of every engine holds of one that goes on
 
 module _ (plan : Plan) (texts : Texts) (given_start : Option ℕ) (show : Show) (workers : ℕ) (e : EngineState) (made : IsMade plan texts given_start show workers e) (s : Seen) where
-  going_sound : (start last : Option ℕ) (steps : ℕ) → IsOf plan s → IsAtTimes start last s.phase → s.steps ≡ steps → IsSound (going_on start last steps e) s
+  going_sound : (start last : Option ℕ) (steps : ℕ) → IsOf plan s → IsAtTimes start last s.phase → s.steps ≡ steps_at last steps → IsSound (going_on start last steps e) s
   going_sound None None steps of at counted = record {
     accepted = made.sound.accepted;
     workers = made.sound.workers;
@@ -87,7 +87,7 @@ module _ (plan : Plan) (texts : Texts) (given_start : Option ℕ) (show : Show) 
   given_is : e.texts.given ≡ texts.given
   given_is = ap (λ (t : Texts). t.given) made.texts_are
 
-  going_engine : (start last : Option ℕ) (steps : ℕ) → IsOf plan s → IsAtTimes start last s.phase → s.steps ≡ steps → steps ≤ 2 ^ 62 → texts.given ≤ 2 ^ 62 → IsEngine (going_on start last steps e) s
+  going_engine : (start last : Option ℕ) (steps : ℕ) → IsOf plan s → IsAtTimes start last s.phase → s.steps ≡ steps_at last steps → steps ≤ 2 ^ 62 → texts.given ≤ 2 ^ 62 → IsEngine (going_on start last steps e) s
   going_engine None None steps of at counted most few = record {
     sound = going_sound None None steps of at counted;
     time = (let now = time_at New at in omega (arith, now));

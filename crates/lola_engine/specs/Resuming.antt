@@ -1,7 +1,7 @@
 -- How far a run has come, and an engine that goes on from there.
 use Rattle.std.specs.Prelude.{ℕ, ◌≡◌, ◌+◌, ◌-◌, ◌^◌, ◌<◌, ◌≤◌, List, [], ◌∷◌, Option, Some, None, nat_eq, if◌then◌else◌, length, max}
 use Rattle.lola_value.specs.Naming.{Naming}
-use Rattle.lola_model.specs.Journal.{accepted}
+use Rattle.lola_model.specs.Journal.{accepted, known_start, last_accepted}
 use Rattle.lola_model.specs.Runs.{content_after, settled_fault, settled_model}
 use Rattle.lola_model.specs.Standing.{StandsBetween}
 use Rattle.lola_model.specs.Store.{Memories, New, Phase, Running, Seen, Started, instances_seen, layout_of, new_seen}
@@ -11,18 +11,6 @@ use Rattle.lola_model.specs.declared.plan.Plan.{Plan}
 use Rattle.lola_step.specs.Progress.{IsOf}
 use Rattle.lola_engine.specs.declared.engine.EngineState.{EngineState}
 use Rattle.lola_engine.specs.declared.times.RunTimes.{RunTimes}
-
--- the start of a run, if it is known: the start that was given, or else the stamp of the first accepted row
-abbrev pub known_start : Option ℕ → List Row → Option ℕ
-known_start (Some t) rows = Some t
-known_start None [] = None
-known_start None (r ∷ rs) = Some r.stamp
-
--- the stamp of the last accepted row, if there is one
-abbrev pub last_accepted : List Row → Option ℕ
-last_accepted [] = None
-last_accepted (r ∷ []) = Some r.stamp
-last_accepted (r ∷ q ∷ rs) = last_accepted (q ∷ rs)
 
 -- so far a run has come with the settled steps of a journal
 pub record HasReached (plan : Plan) (given_start : Option ℕ) (journal : List Entry) (times : RunTimes) : Type 0 where
@@ -41,11 +29,17 @@ IsAtTimes None (Some last) phase = ⊥
 IsAtTimes (Some start) None phase = phase ≡ Started start
 IsAtTimes (Some start) (Some last) phase = phase ≡ Running start last
 
+-- how many steps a store shows that goes on there: behind a last row it is in the step that is over, in which all was restored, and
+-- which is one more
+abbrev pub steps_at : Option ℕ → ℕ → ℕ
+steps_at None steps = steps
+steps_at (Some last) steps = steps + 1
+
 -- what a store of a plan shows that was brought to where a run had come
 pub record IsRestored (plan : Plan) (times : RunTimes) (s : Seen) : Type 0 where
   pub of : IsOf plan s
   pub phase : IsAtTimes times.start times.last s.phase
-  pub steps : s.steps ≡ times.steps
+  pub steps : s.steps ≡ steps_at times.last times.steps
   pub few : times.steps ≤ 2 ^ 62
 
 -- a store stands for what a run that started here has come to: it is new where the run has no start yet

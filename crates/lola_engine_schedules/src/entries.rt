@@ -25,7 +25,7 @@ fn accepted_row(entry: &Entry) -> Option<&Row>
 }
 
 // Hands an entry to an engine, if it is accepted, whatever journal the engine stands for.
-fn run_entry<R: Threads + Sync, S: TextStore + Sync, G: Gate + Sync>(
+fn accept_entry<R: Threads + Sync, S: TextStore + Sync, G: Gate + Sync>(
     rt: &R,
     gate: &G,
     engine: &mut Engine<S>,
@@ -64,7 +64,7 @@ pub fn run_entries<R: Threads + Sync, S: TextStore + Sync, G: Gate + Sync>(
     ensures hands { Hands result entries.now engine.old.state engine.new.state (S.seen engine.new.store) (S.remembers engine.new.store) lines.old lines.new }
 {
     for entry in entries {
-        match run_entry(rt, gate, engine, entry, lines) {
+        match accept_entry(rt, gate, engine, entry, lines) {
             Ok(()) => {}
             Err(end) => return Err(end),
         }

@@ -12,7 +12,7 @@ use Rattle.lola_feed.specs.declared.worker.SourceEnd.TheVariants as end
 use Rattle.lola_feed.specs.declared.worker.TurnEnd.{TurnEnd}
 use Rattle.lola_feed.specs.declared.worker.TurnEnd.TheVariants as turn
 use Rattle.lola_monitor_run.specs.Verdicts.{Setting}
-use Rattle.lola_monitor_run.specs.Running.{IsNext, IsSetAs, Keeping, Puts, Stands, StandsNext, Takes}
+use Rattle.lola_monitor_run.specs.Running.{Enters, IsNext, IsSetAs, Keeping, Puts, Stands, StandsNext, Takes}
 use Rattle.lola_monitor_run.specs.declared.stop.Stop.{Stop}
 use Rattle.lola_monitor_run.specs.declared.stop.Stop.TheVariants as stop
 use Rattle.lola_monitor_run.proofs.Taking.{merged_is}
@@ -27,7 +27,7 @@ sound_on source none failed = some_not (sym failed ∙ none)
 
 module _ (k0 : Keeping) (o0 t0 : SinkState) (entry : Entry) (mark : IsNext k0 entry) (told : IsTraceable k0.state.plan entry) (s : ℕ) (olds news : List Supply) (took : TookRow k0.state.plan s entry.row olds news) where
   -- a row was taken, and its trace line was not put whole
-  pub not_traced : (t1 : SinkState) (how : Stop) → Puts (Err how) (trace_line entry) t0 t1 → Steps (Err how) s (world k0 olds o0 t0) (world k0 news o0 t1)
+  not_traced : (t1 : SinkState) (how : Stop) → Puts (Err how) (trace_line entry) t0 t1 → Steps (Err how) s (world k0 olds o0 t0) (world k0 news o0 t1)
   not_traced t1 (stop.Fault stream kind time) puts = absurd puts
   not_traced t1 (stop.CutFault stream kind time) puts = absurd puts
   not_traced t1 stop.Put puts = inl (record { at = took.at; sound = sound_on took.at.new took.goes_on; entry = entry; traceable = told; trace = puts; out = refl })
@@ -38,12 +38,22 @@ module _ (k0 : Keeping) (o0 t0 : SinkState) (entry : Entry) (mark : IsNext k0 en
     abbrev traced : Traced s entry (world k0 olds o0 t0) (world k1 news o1 t1)
     traced = record { took = took; mark = mark; traceable = told; trace = trace }
 
-    pub stepped : (result : Result (Unit {0}) Stop) → Takes result entry k0 k1 o0 o1 → RunsTaken result s (world k0 olds o0 t0) (world k1 news o1 t1)
+    stepped : (result : Result (Unit {0}) Stop) → Takes result entry k0 k1 o0 o1 → RunsTaken result s (world k0 olds o0 t0) (world k1 news o1 t1)
     stepped (Ok done) takes = record { entry = entry; traced = traced; setting = takes.1; runs = takes.0 }
     stepped (Err (stop.Fault stream kind time)) takes = record { entry = entry; traced = traced; accepted = takes.1; runs = takes.0 }
     stepped (Err (stop.CutFault stream kind time)) takes = record { entry = entry; traced = traced; accepted = takes.1; runs = takes.0 }
     stepped (Err stop.Put) takes = inr (record { entry = entry; traced = traced; accepted = takes.1; runs = takes.0 })
     stepped (Err stop.Memory) takes = inr (record { entry = entry; traced = traced; runs = takes.0 })
+
+-- a row was taken, and its entry was to be traced and run
+pub entered : (k0 k1 : Keeping) (o0 o1 t0 t1 : SinkState) (entry : Entry) → IsNext k0 entry → (s : ℕ) (olds news : List Supply) → TookRow k0.state.plan s entry.row olds news → (result : Result (Unit {0}) Stop)
+    → Enters result entry k0 k1 o0 o1 t0 t1 → RunsTaken result s (world k0 olds o0 t0) (world k1 news o1 t1)
+entered k0 k1 o0 o1 t0 t1 entry mark s olds news took result e = elim e.does [
+  | inl n ↦ subst (λ (r : Result (Unit {0}) Stop). RunsTaken r s (world k0 olds o0 t0) (world k1 news o1 t1)) (sym n.is)
+      (subst (λ (k : Keeping). RunsTaken (Err n.how) s (world k0 olds o0 t0) (world k news o1 t1)) (sym n.kept)
+      (subst (λ (o : SinkState). RunsTaken (Err n.how) s (world k0 olds o0 t0) (world k0 news o t1)) (sym n.out) (not_traced k0 o0 t0 entry mark e.told s olds news took t1 n.how n.puts)))
+  | inr w ↦ stepped k0 o0 t0 entry mark e.told s olds news took k1 o1 t1 w.trace result w.takes
+]
 
 -- the merged time after an entry
 time_next : (journal : List Entry) (entry : Entry) (old new : Keeping) (o0 o1 : SinkState) → Stands journal old → StandsNext journal entry old new o0 o1 → IsSetAs old new → new.state.merged ≡ time_after old.state.merged entry
@@ -53,9 +63,15 @@ time_next journal entry old new o0 o1 stands next setting =
     ∙ (merged_from-append (opening_time old.state.given_start) journal (entry ∷ [])
     ∙ ap (λ t. time_after t entry) (sym (merged_is journal old stands))))
 
-pub merged_next : (result : Result (Unit {0}) Stop) (entry : Entry) (old new : Keeping) (o0 o1 : SinkState) → IsStanding old → Takes result entry old new o0 o1 → OnOk result (new.state.merged ≡ time_after old.state.merged entry)
+merged_next : (result : Result (Unit {0}) Stop) (entry : Entry) (old new : Keeping) (o0 o1 : SinkState) → IsStanding old → Takes result entry old new o0 o1 → OnOk result (new.state.merged ≡ time_after old.state.merged entry)
 merged_next (Ok done) entry old new o0 o1 standing takes = time_next standing.0 entry old new o0 o1 standing.1 (takes.0 standing.0 standing.1) takes.1
 merged_next (Err how) entry old new o0 o1 standing takes = tt
+
+pub merged_entered : (entry : Entry) (old new : Keeping) (o0 o1 t0 t1 : SinkState) → IsStanding old → Enters (Ok tt) entry old new o0 o1 t0 t1 → new.state.merged ≡ time_after old.state.merged entry
+merged_entered entry old new o0 o1 t0 t1 standing e = elim e.does [
+  | inl n ↦ let is = n.is in absurd (cc (is))
+  | inr w ↦ merged_next (Ok tt) entry old new o0 o1 standing w.takes
+]
 
 module _ (s : ℕ) (old mid new : Feeding) (kept : Keeping) (idle : IsIdle old kept) (answer : TurnEnd) (t : TookTurn s answer old mid) where
   -- there was no memory for a row

@@ -8,7 +8,7 @@ use Rattle.lola_port.specs.declared.traits.PutEnd.TheVariants as put
 use Rattle.lola_model.specs.Journal.{IsLegal, IsRightlyMarked, accepted}
 use Rattle.lola_model.specs.Faults.{RunFault}
 use Rattle.lola_model.specs.Texts.{text_of}
-use Rattle.lola_model.specs.Trace.{IsFieldOf, input_kinds}
+use Rattle.lola_model.specs.Trace.{IsFieldOf, IsTraceable, input_kinds, trace_line}
 use Rattle.lola_model.specs.Runs.{final_lines, whole_model}
 use Rattle.lola_model.specs.declared.plan.Plan.{Plan}
 use Rattle.lola_model.specs.declared.journal.Row.{Row}
@@ -202,3 +202,21 @@ Puts (Err stop.Memory) bytes old new = new ≡ old
 abbrev pub stop_of : PutEnd → Stop
 stop_of put.Failed = stop.Put
 stop_of put.Memory = stop.Memory
+
+-- the trace line of an entry was not put whole, and the entry was not run
+pub record WasNotTraced (result : Result (Unit {0}) Stop) (entry : Entry) (old new : Keeping) (out0 out1 trace0 trace1 : SinkState) : Type 0 where
+  pub how : Stop
+  pub is : result ≡ Err how
+  pub puts : Puts (Err how) (trace_line entry) trace0 trace1
+  pub kept : new ≡ old
+  pub out : out1 ≡ out0
+
+-- it was put, and the entry was run
+pub record WasTraced (result : Result (Unit {0}) Stop) (entry : Entry) (old new : Keeping) (out0 out1 trace0 trace1 : SinkState) : Type 0 where
+  pub trace : trace1 ≡ grown trace0 (trace_line entry)
+  pub takes : Takes result entry old new out0 out1
+
+-- what becomes of an entry that is to be traced and run; a line can tell it
+pub record Enters (result : Result (Unit {0}) Stop) (entry : Entry) (old new : Keeping) (out0 out1 trace0 trace1 : SinkState) : Type 0 where
+  pub told : IsTraceable old.state.plan entry
+  pub does : WasNotTraced result entry old new out0 out1 trace0 trace1 ⊎ WasTraced result entry old new out0 out1 trace0 trace1

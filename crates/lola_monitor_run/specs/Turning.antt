@@ -175,10 +175,6 @@ abbrev pub RunsTaken : Result (Unit {0}) Stop → ℕ → World → World → Ty
 RunsTaken (Ok done) s old new = Steps (Ok true) s old new
 RunsTaken (Err end) s old new = Steps (Err end) s old new
 
--- an entry was traced and run, whichever source its row was taken of
-abbrev pub RunsEntry : Result (Unit {0}) Stop → Entry → (List Supply → World) → (List Supply → World) → Type 0
-RunsEntry result entry old new = (s : ℕ) (olds news : List Supply) → TookRow (old olds).kept.state.plan s entry.row olds news → RunsTaken result s (old olds) (new news)
-
 -- this source has not ended
 abbrev pub Goes : List Supply → ℕ → Type 0
 Goes sources s = (source : Supply) × (slice_get sources s ≡ Some source) × (source.end ≡ None)

@@ -2,10 +2,9 @@
 ghost use Rattle.std.specs.Prelude.{◌≡◌, ◌<◌, ◌≤◌, ◌↔◌, ◌||◌, Bool, true, List, [], IfOk, IsTrue, OnOk, length, map};
 ghost use Rattle.lola_port.specs.States.{SinkState};
 ghost use Rattle.lola_merge.specs.Merging.{opening};
-ghost use Rattle.lola_model.specs.Journal.{time_after};
-ghost use Rattle.lola_monitor_run.specs.Running.{HasRoom, IsGoing, IsNext, IsRowFor, IsSetAs, Stands, keeping};
+ghost use Rattle.lola_monitor_run.specs.Running.{HasRoom, IsGoing, IsSetAs, Stands, keeping};
 ghost use Rattle.lola_monitor_run.specs.Feeds.{AreInPlace, AreReady, EndsRun, IsFresh, IsIdle, RanToEnd, Runs, Supply, World, supplies_of, supply_of, world};
-ghost use Rattle.lola_monitor_run.specs.Turning.{GoesRound, IsOutOfMemory, IsStanding, IsBetweenRounds, RunsEntry, Steps};
+ghost use Rattle.lola_monitor_run.specs.Turning.{GoesRound, IsOutOfMemory, IsStanding, IsBetweenRounds, Steps};
 
 use crate::feed::Feed;
 use crate::run::Run;
@@ -13,7 +12,6 @@ use crate::stop::Stop;
 use lola_feed::worker::{SourceEnd, SourceWorker, TurnEnd};
 use lola_merge::batch::Batch;
 use lola_merge::state::MergeState;
-use lola_model::journal::Entry;
 use lola_port::{Gate, Sink, Source};
 use lola_value::text::Memory;
 use std::alloc::Global;
@@ -21,30 +19,6 @@ use std::thread::Threads;
 
 /// The most rows of a source.
 pub const MOST_ROWS: u64 = 1099511627776;
-
-// Traces an entry and runs it.
-fn run_entry<R: Threads + Sync, K: Sink, T: Sink, G: Gate + Sync>(
-    rt: &R,
-    run: &mut Run,
-    entry: &Entry,
-    out: &mut K,
-    trace: &mut T,
-    gate: &G,
-) -> Result<(), Stop>
-    requires standing { IsStanding (keeping run.old) }
-    requires room { HasRoom (keeping run.old) }
-    requires fits { IsRowFor (keeping run.old).state.plan entry.now.row }
-    requires mark { IsNext (keeping run.old) entry.now }
-    ensures runs { RunsEntry result entry.now (λ sources. world (keeping run.old) sources (K.state out.old) (T.state trace.old))
-        (λ sources. world (keeping run.new) sources (K.state out.new) (T.state trace.new)) }
-    ensures merged { OnOk result ((keeping run.new).state.merged ≡ time_after (keeping run.old).state.merged entry.now) }
-    ensures setting { IsSetAs (keeping run.old) (keeping run.new) }
-{
-    if let Err(stop) = run.trace(entry, trace) {
-        return Err(stop);
-    }
-    run.take(rt, entry, out, gate)
-}
 
 // Whether a worker has ended for want of memory.
 fn is_out_of_memory(turn: TurnEnd) -> bool
@@ -81,7 +55,7 @@ fn run_turn<R: Threads + Sync, S: Source, K: Sink, T: Sink, G: Gate + Sync>(
         Some(entry) => entry,
         None => return Ok(false),
     };
-    match run_entry(rt, run, &entry, out, trace, gate) {
+    match run.enter(rt, &entry, out, trace, gate) {
         Ok(()) => Ok(true),
         Err(stop) => Err(stop),
     }

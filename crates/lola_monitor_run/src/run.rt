@@ -4,7 +4,7 @@ ghost use Rattle.lola_model.specs.Acceptance.{IsAccepted};
 ghost use Rattle.lola_model.specs.Trace.{IsTraceable, trace_line};
 ghost use Rattle.lola_engine.specs.Engines.{IsEngine, IsOptionInTime, StandsFor};
 ghost use Rattle.lola_instances.specs.Stores.{bounded_remembers, bounded_seen};
-ghost use Rattle.lola_monitor_run.specs.Running.{Closes, HasRoom, IsGoing, IsNext, IsRowFor, IsSetAs, Puts, RunsAccepted, Stands, StopsAt, Takes, keeping, setting_at, setting_in};
+ghost use Rattle.lola_monitor_run.specs.Running.{Closes, Enters, HasRoom, IsGoing, IsNext, IsRowFor, IsSetAs, Puts, RunsAccepted, Stands, StopsAt, Takes, keeping, setting_at, setting_in};
 
 use crate::putting::{put_entry, put_text};
 use crate::run_law::numbers_are_in_range;
@@ -153,6 +153,28 @@ impl Run {
                 Ok(())
             }
         }
+    }
+
+    /// Traces an entry, and runs it once its line was put.
+    pub fn enter<R: Threads + Sync, K: Sink, T: Sink, G: Gate + Sync>(
+        &mut self,
+        rt: &R,
+        entry: &Entry,
+        out: &mut K,
+        trace: &mut T,
+        gate: &G,
+    ) -> Result<(), Stop>
+        requires going { IsGoing (keeping self.old) }
+        requires fits { IsRowFor (keeping self.old).state.plan entry.now.row }
+        requires room { HasRoom (keeping self.old) }
+        requires mark { IsNext (keeping self.old) entry.now }
+        ensures enters { Enters result entry.now (keeping self.old) (keeping self.new) (K.state out.old) (K.state out.new) (T.state trace.old) (T.state trace.new) }
+        ensures setting { IsSetAs (keeping self.old) (keeping self.new) }
+    {
+        if let Err(stop) = self.trace(entry, trace) {
+            return Err(stop);
+        }
+        self.take(rt, entry, out, gate)
     }
 
     /// Runs the deadlines at the last accepted stamp and puts their lines, once no more rows come.

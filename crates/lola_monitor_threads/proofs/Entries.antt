@@ -11,7 +11,7 @@ use Rattle.lola_model.specs.declared.journal.Entry.{Entry}
 use Rattle.lola_model.proofs.Journals.{IsLegalFrom-append_left, IsLegalFrom-append_right, trace_text-append_one}
 use Rattle.lola_engine.specs.Engines.{Brings}
 use Rattle.lola_monitor_run.specs.Verdicts.{AreOfSources, AreTraceable, IsRowFault, Setting, settled_fault_in, settled_text}
-use Rattle.lola_monitor_run.specs.Running.{CutFaultNext, CutNext, FaultNext, HasRoom, IsAccepted, IsNext, IsSetAs, Keeping, KeptNext, Puts, StandsNext, Takes, setting_in}
+use Rattle.lola_monitor_run.specs.Running.{CutFaultNext, CutNext, Enters, FaultNext, HasRoom, IsAccepted, IsNext, IsSetAs, Keeping, KeptNext, Puts, StandsNext, Takes, setting_in}
 use Rattle.lola_monitor_run.specs.declared.stop.Stop.{Stop}
 use Rattle.lola_monitor_run.specs.declared.stop.Stop.TheVariants as stop
 use Rattle.lola_monitor_run.proofs.Entries.{BringsIn, accepted_is, all_put, cut_at_row, last_not_put, text_more, told_more}
@@ -31,7 +31,7 @@ module _ (first : Place) (journal : List Entry) (k0 : Keeping) (o0 t0 : SinkStat
   all_told : AreTraceable first.kept.state.plan (journal ++ entry ∷ [])
   all_told = told_more first.kept.state.plan journal entry so.traceable told_first
 
-  pub not_traced : (t1 : SinkState) (how : Stop) → Puts (Err how) (trace_line entry) t0 t1 → RunsOne (Err how) first journal entry (place k0 o0 t1)
+  not_traced : (t1 : SinkState) (how : Stop) → Puts (Err how) (trace_line entry) t0 t1 → RunsOne (Err how) first journal entry (place k0 o0 t1)
   not_traced t1 (stop.Fault stream kind time) puts = absurd puts
   not_traced t1 (stop.CutFault stream kind time) puts = absurd puts
   not_traced t1 stop.Put puts = (
@@ -92,12 +92,22 @@ module _ (first : Place) (journal : List Entry) (k0 : Keeping) (o0 t0 : SinkStat
     stopped : (how : Stop) → StopsBy how first (journal ++ entry ∷ []) (place k1 o1 t1) → RunsOne (Err how) first journal entry (place k1 o1 t1)
     stopped how by = (journal ++ entry ∷ [], inr refl, record { traceable = all_told; by = by })
 
-    pub ran_one : (result : Result (Unit {0}) Stop) → Takes result entry k0 k1 o0 o1 → RunsOne result first journal entry (place k1 o1 t1)
+    ran_one : (result : Result (Unit {0}) Stop) → Takes result entry k0 k1 o0 o1 → RunsOne result first journal entry (place k1 o1 t1)
     ran_one (Ok done) takes = ran (takes.0 journal so.stands) takes.1
     ran_one (Err (stop.Fault stream kind time)) takes = stopped (stop.Fault stream kind time) (failed (record { stream = stream; kind = kind; time = time }) (takes.0 journal so.stands) takes.1)
     ran_one (Err (stop.CutFault stream kind time)) takes = stopped (stop.CutFault stream kind time) (failed_cut (record { stream = stream; kind = kind; time = time }) (takes.0 journal so.stands) takes.1)
     ran_one (Err stop.Put) takes = stopped stop.Put (inr (broken (takes.0 journal so.stands) takes.1))
     ran_one (Err stop.Memory) takes = stopped stop.Memory (unput (takes.0 journal so.stands))
+
+-- an entry was to be traced and run
+pub ran_entered : (first : Place) (journal : List Entry) (k0 k1 : Keeping) (o0 o1 t0 t1 : SinkState) → HasRun first journal (place k0 o0 t0) → (entry : Entry) (result : Result (Unit {0}) Stop) → Enters result entry k0 k1 o0 o1 t0 t1
+    → RunsOne result first journal entry (place k1 o1 t1)
+ran_entered first journal k0 k1 o0 o1 t0 t1 so entry result e = elim e.does [
+  | inl n ↦ subst (λ (r : Result (Unit {0}) Stop). RunsOne r first journal entry (place k1 o1 t1)) (sym n.is)
+      (subst (λ (k : Keeping). RunsOne (Err n.how) first journal entry (place k o1 t1)) (sym n.kept)
+      (subst (λ (o : SinkState). RunsOne (Err n.how) first journal entry (place k0 o t1)) (sym n.out) (not_traced first journal k0 o0 t0 so entry e.told t1 n.how n.puts)))
+  | inr w ↦ ran_one first journal k0 o0 t0 so entry e.told k1 o1 t1 w.trace result w.takes
+]
 
 -- one entry more, of one of so many sources
 of_sources_more : (count : ℕ) (journal : List Entry) (entry : Entry) → AreOfSources count journal → entry.row.source < count → AreOfSources count (journal ++ entry ∷ [])

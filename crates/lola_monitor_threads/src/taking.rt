@@ -6,9 +6,9 @@ ghost use Rattle.lola_model.specs.Trace.{input_kinds};
 ghost use Rattle.lola_model.specs.declared.journal.Entry.{Entry};
 ghost use Rattle.lola_feed.specs.SharedIntakes.{AreSeatsOf, IsWhole};
 ghost use Rattle.lola_monitor_run.specs.Verdicts.{AreOfSources};
-ghost use Rattle.lola_monitor_run.specs.Running.{HasRoom, IsGoing, IsNext, IsRowFor, IsSetAs, keeping};
+ghost use Rattle.lola_monitor_run.specs.Running.{IsSetAs, keeping};
 ghost use Rattle.lola_monitor_threads.specs.Seated.{WentOn};
-ghost use Rattle.lola_monitor_threads.specs.Takings.{GoesOn, Halts, HasRun, IsReady, IsSameTaker, IsPartlyRun, Place, RunsOne, place, was_taken};
+ghost use Rattle.lola_monitor_threads.specs.Takings.{GoesOn, Halts, HasRun, IsReady, IsSameTaker, IsPartlyRun, Place, place, was_taken};
 
 use crate::desk::DeskWorker;
 use crate::fit::RunInputs;
@@ -25,29 +25,6 @@ use lola_port::{Gate, Sink, Source};
 use std::marker::Model;
 use std::sync::Wait;
 use std::thread::Threads;
-
-// Traces an entry and runs it.
-fn run_entry<R: Threads + Sync, K: Sink, T: Sink, G: Gate + Sync>(
-    rt: &R,
-    run: &mut Run,
-    entry: &Entry,
-    out: &mut K,
-    trace: &mut T,
-    gate: &G,
-) -> Result<(), Stop>
-    requires going { IsGoing (keeping run.old) }
-    requires fits { IsRowFor (keeping run.old).state.plan entry.now.row }
-    requires room { HasRoom (keeping run.old) }
-    requires mark { IsNext (keeping run.old) entry.now }
-    ensures runs { (first : Place) (journal : List Entry) → HasRun first journal (place (keeping run.old) (K.state out.old) (T.state trace.old))
-        → RunsOne result first journal entry.now (place (keeping run.new) (K.state out.new) (T.state trace.new)) }
-    ensures setting { IsSetAs (keeping run.old) (keeping run.new) }
-{
-    if let Err(stop) = run.trace(entry, trace) {
-        return Err(stop);
-    }
-    run.take(rt, entry, out, gate)
-}
 
 // Tests an entry, and traces and runs it.
 fn test_entry<R: Threads + Sync, K: Sink, T: Sink, G: Gate + Sync>(
@@ -70,7 +47,7 @@ fn test_entry<R: Threads + Sync, K: Sink, T: Sink, G: Gate + Sync>(
     if !inputs.fit(run, entry) {
         return Err(Halt::Unfit);
     }
-    match run_entry(rt, run, entry, out, trace, gate) {
+    match run.enter(rt, entry, out, trace, gate) {
         Ok(()) => Ok(()),
         Err(stop) => Err(Halt::Stopped(stop)),
     }

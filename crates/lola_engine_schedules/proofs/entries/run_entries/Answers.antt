@@ -5,8 +5,8 @@ use Rattle.lola_engine_schedules.proofs.entries.run_entries.Goals as goal
 pub loop-entry-init : goal.loop-entry-init
 loop-entry-init g c = let e = c.args.engine.now in begins e.state (g.S.StreamStore.seen e.store) (g.S.StreamStore.remembers e.store) c.args.lines.now c.requires.engine c.requires.fresh
 
-pub run_entry-requires-clause-row : goal.run_entry-requires-clause-row
-run_entry-requires-clause-row g c κs within =
+pub accept_entry-requires-clause-row : goal.accept_entry-requires-clause-row
+accept_entry-requires-clause-row g c κs within =
     let l = c.loop-entry in
     next_takeable c.args.entries.now l.entry-index c.entry-item.result (omega arith) c.entry-item.is c.args.engine.now.state l.engine.state _ _ _ l.lines l.invariant c.requires.legal c.requires.rows c.requires.few
 
@@ -14,10 +14,10 @@ pub returns-in-Err-clause-hands : goal.returns-in-Err-clause-hands
 returns-in-Err-clause-hands g c =
     let l = c.loop-entry in
     ends c.args.entries.now l.entry-index c.entry-item.result (omega arith) c.entry-item.is c.args.engine.now.state l.engine.state _ _ _ l.lines l.invariant
-    c.in-Err.end c.run_entry.new.engine.state _ _ c.run_entry.new.lines c.in-Err.ensures.takes
+    c.in-Err.end c.accept_entry.new.engine.state _ _ c.accept_entry.new.lines c.in-Err.ensures.takes
 
 pub loop-entry-preserved : goal.loop-entry-preserved
 loop-entry-preserved g c =
     let l = c.loop-entry in
     goes_on c.args.entries.now l.entry-index c.entry-item.result (omega arith) c.entry-item.is c.args.engine.now.state l.engine.state _ _ _ l.lines l.invariant
-    c.run_entry.new.engine.state _ _ c.run_entry.new.lines c.in-Ok.ensures.engine c.in-Ok.ensures.setting (c.in-Ok.ensures.takes _ l.invariant.stands)
+    c.accept_entry.new.engine.state _ _ c.accept_entry.new.lines c.in-Ok.ensures.engine c.in-Ok.ensures.setting (c.in-Ok.ensures.takes _ l.invariant.stands)

@@ -1,5 +1,5 @@
 use Rattle.lola_engine_schedules.proofs.Handed.{late_runs}
-use Rattle.lola_engine_schedules.proofs.entries.run_entry.Goals as goal
+use Rattle.lola_engine_schedules.proofs.entries.accept_entry.Goals as goal
 
 pub returns-in-None-clause-takes : goal.returns-in-None-clause-takes
 returns-in-None-clause-takes g c =
