@@ -13,7 +13,8 @@ use Rattle.lola_instances_stream.specs.Rights.{AreRight, CrowdRight, owed}
 use Rattle.lola_instances_stream.proofs.Beginnings.{crowd_quiet}
 use Rattle.lola_instances_stream.proofs.Finding.{seen_at}
 use Rattle.lola_instances_stream.proofs.Lists.{same_set, other_set}
-use Rattle.lola_instances.specs.Placed.{IsPaneOf, IsPlaced, ArePlaced}
+use Rattle.lola_instances.specs.Opening.{count_onto}
+use Rattle.lola_instances.specs.Placed.{IsPaneOf, IsPlaced, ArePlaced, AreCovered}
 use Rattle.lola_instances.specs.Spawning.{AreNumbered, is_among}
 use Rattle.lola_instances.specs.Streams.{crowd_layout, slots_in, slot_at}
 use Rattle.lola_instances.proofs.Asking.{stream_at}
@@ -60,6 +61,17 @@ placed_set ws sizes places cs n c y e l q h =
             | false ↦ λ t. h.each i w p k x f g a (sym (other_set cs n w.target y (eqb-false w.target n t)) ∙ at)
           ]) refl;
     }
+
+-- it has as many places as before
+pub covered_set : (ws : List WindowSpec) (cs : List Crowd) (n : ℕ) (c y : Crowd) → slice_get cs n ≡ Some c → y.windows ≡ c.windows → AreCovered ws cs → AreCovered ws (slice_set cs n y)
+covered_set ws cs n c y e q h = λ m x at.
+    (elim (nat_eq m n) as (λ b. nat_eq m n ≡ b → length x.windows ≡ count_onto m ws) [
+      | true ↦ λ t.
+          let k : m ≡ n = eqb-true m n t in
+          let s : y ≡ x = some_same (sym (same_set cs n c y e) ∙ (sym (ap (λ (j : ℕ). slice_get (slice_set cs n y) j) k) ∙ at)) in
+          ap (λ (z : Crowd). length z.windows) (sym s) ∙ (ap length q ∙ h m c (ap (λ (j : ℕ). slice_get cs j) k ∙ e))
+      | false ↦ λ t. h m x (sym (other_set cs n m y (eqb-false m n t)) ∙ at)
+    ]) refl
 
 -- its number is listed as before
 pub numbered_set : (cs : List Crowd) (ns : List ℕ) (n : ℕ) (c y : Crowd) → slice_get cs n ≡ Some c → y.layout ≡ c.layout → AreNumbered cs ns → AreNumbered (slice_set cs n y) ns

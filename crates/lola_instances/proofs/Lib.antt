@@ -12,3 +12,10 @@ mod Preparing
 mod Keeping
 mod Dues
 mod Spawners
+mod Recalled
+mod Resuming
+mod Restored
+mod Remembered
+mod Covering
+mod Windowed
+mod Beside

@@ -8,7 +8,7 @@ use Rattle.lola_instances_one.specs.Holdings.{Holdings}
 use Rattle.lola_instances_stream.specs.Crowds.{Crowd, crowd_seen}
 use Rattle.lola_instances_stream.specs.Rights.{CrowdRight}
 use Rattle.lola_instances_stream.proofs.Beginnings.{owed_two}
-use Rattle.lola_instances.specs.Placed.{ArePlaced}
+use Rattle.lola_instances.specs.Placed.{ArePlaced, AreCovered}
 use Rattle.lola_instances.specs.Rooms.{IsKept, AreKept, AreReady, IsReady}
 use Rattle.lola_instances.specs.Spawning.{AreNumbered, is_among}
 use Rattle.lola_instances.specs.Streams.{crowd_layout, slot_at}
@@ -140,6 +140,11 @@ pub numbered_still : (cs ds : List Crowd) (ns : List ℕ) → AreKept cs ds → 
 numbered_still cs ds ns k h = λ n d at spawns.
     let p = kept_at cs ds n d k at in
     h n p.0 p.1 (sym (ap (λ (z : Crowd). z.layout.spawns) p.2.rest) ∙ spawns)
+
+pub covered_still : (ws : List WindowSpec) (cs ds : List Crowd) → AreKept cs ds → AreCovered ws cs → AreCovered ws ds
+covered_still ws cs ds k h = λ n d at.
+    let p = kept_at cs ds n d k at in
+    ap (λ (z : Crowd). length z.windows) p.2.rest ∙ h n p.0 p.1
 
 pub seen_still : (step : ℕ) (cs ds : List Crowd) → AreKept cs ds → map (crowd_seen step) ds ≡ map (crowd_seen step) cs
 seen_still step [] [] h = refl

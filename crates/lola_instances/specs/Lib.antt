@@ -10,3 +10,5 @@ pub mod Streams
 pub mod Texts
 pub mod Dues
 pub mod Needing
+pub mod Saved
+pub mod Restoring

@@ -5,6 +5,7 @@ use Rattle.lola_model.specs.declared.plan.PaneSize.{PaneSize}
 use Rattle.lola_model.specs.declared.spec.WindowSpec.{WindowSpec}
 use Rattle.lola_instances_one.specs.declared.window.WindowPanes.{WindowPanes}
 use Rattle.lola_instances_stream.specs.Crowds.{Crowd}
+use Rattle.lola_instances.specs.Opening.{count_onto}
 
 -- panes of a window, onto values of a kind
 pub record IsPaneOf (kind : Kind) (w : WindowSpec) (size : PaneSize) (q : WindowPanes) : Type 0 where
@@ -26,3 +27,7 @@ pub record ArePlaced (ws : List WindowSpec) (sizes : List PaneSize) (places : Li
   pub place_count : length places ≡ length ws
   pub each : (i : ℕ) (w : WindowSpec) (p : PaneSize) (k : ℕ) (c : Crowd) → slice_get ws i ≡ Some w → slice_get sizes i ≡ Some p → slice_get places i ≡ Some k
       → slice_get cs w.target ≡ Some c → IsPlaced w p k c
+
+-- each stream has as many places as there are windows onto it
+abbrev pub AreCovered : List WindowSpec → List Crowd → Type 0
+AreCovered ws cs = (n : ℕ) (c : Crowd) → slice_get cs n ≡ Some c → length c.windows ≡ count_onto n ws

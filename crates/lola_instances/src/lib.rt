@@ -13,6 +13,8 @@ pub mod layout;
 mod opening;
 mod prepare;
 mod reading;
+mod restoring;
+mod saved;
 pub mod shared;
 pub mod stage;
 pub mod store;

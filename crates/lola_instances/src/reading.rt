@@ -24,7 +24,7 @@ use lola_value::brief::Brief;
 use lola_value::value::{Outcome, Params};
 
 /// The instances of a stream.
-fn lives_of(s: &BoundedStore, stream: u32) -> &Instances
+pub(crate) fn lives_of(s: &BoundedStore, stream: u32) -> &Instances
     requires { stream < length (bounded_seen s.now).layout.streams }
     ensures { slice_get s.now.streams.items stream ≡ Some result.now }
 {
@@ -177,7 +177,7 @@ pub fn find(s: &BoundedStore, stream: u32, params: &Params) -> Whereabouts
 }
 
 /// What a window is.
-fn spec_of(s: &BoundedStore, window: u32) -> &WindowSpec
+pub(crate) fn spec_of(s: &BoundedStore, window: u32) -> &WindowSpec
     requires { window < length (bounded_seen s.now).layout.windows }
     ensures { slice_get (bounded_seen s.now).layout.windows window ≡ Some result.now }
 {
@@ -186,7 +186,7 @@ fn spec_of(s: &BoundedStore, window: u32) -> &WindowSpec
 }
 
 /// The place of a window's panes among those of its target.
-fn place_of_panes(s: &BoundedStore, window: u32) -> usize
+pub(crate) fn place_of_panes(s: &BoundedStore, window: u32) -> usize
     requires { window < length (bounded_seen s.now).layout.windows }
     ensures { slice_get s.now.places.items window ≡ Some result }
 {

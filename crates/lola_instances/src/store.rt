@@ -5,7 +5,8 @@ ghost use Rattle.std.proofs.Props.{props};
 ghost use Rattle.lola_instances_stream.specs.Each.{Each};
 ghost use Rattle.lola_instances_stream.specs.Props.{AllOf-prop, AllGiven-prop, AllPanesOf-prop};
 ghost use Rattle.lola_instances_stream.specs.Rights.{CrowdRight};
-ghost use Rattle.lola_instances.specs.Placed.{ArePlaced};
+ghost use Rattle.lola_instances.specs.Opening.{ArePlaces};
+ghost use Rattle.lola_instances.specs.Placed.{ArePlaced, AreCovered};
 ghost use Rattle.lola_instances.specs.Spawning.{AreNumbered};
 ghost use Rattle.lola_instances.specs.Stages.{is_on, start_in, time_in};
 
@@ -37,6 +38,8 @@ pub struct BoundedStore {
     ghost offset_is: { offset ≡ time_in stage - start_in stage },
     ghost right: { Each (CrowdRight (is_on stage) prepared step (time_in stage - start_in stage)) streams.items } by { Prim.hlevel (props, AllOf-prop, AllGiven-prop, AllPanesOf-prop) },
     ghost placed: { ArePlaced windows sizes places.items streams.items },
+    ghost at_places: { ArePlaces windows places.items },
+    ghost covered: { AreCovered windows streams.items },
     ghost numbered: { AreNumbered streams.items spawning.items },
 }
 

@@ -334,6 +334,14 @@ impl Instance {
         partial_at(&self.panes, place, k)
     }
 
+    /// It was told nothing later than in the step of this number, which is over, and nothing in it that is shown.
+    pub fn rest(&mut self, step: u64)
+        ensures { self.new ≡ record self.old { stamp = step; outcome = outcome.Missing } }
+    {
+        self.stamp = step;
+        self.outcome = Brief::missing();
+    }
+
     /// One more of the values that a saved instance had, from the oldest of its last values on. It is none of this step.
     pub fn restore_value(&mut self, value: BriefValue)
         ensures { self.new ≡ record self.old { ring = kept (keep_last self.old.ring.capacity (self.old.ring.values ++ value ∷ [])) self.old.ring.capacity } }

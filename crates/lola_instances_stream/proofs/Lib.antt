@@ -11,3 +11,4 @@ pub mod Needing
 pub mod Taken
 pub mod Known
 pub mod Parts
+pub mod Restored

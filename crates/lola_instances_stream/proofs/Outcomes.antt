@@ -56,11 +56,11 @@ given_more offset later most more kind (p ∷ ps) h l m =
     let b = h.0.1 in
     ((omega arith, omega arith, h.0.2), given_more offset later most more kind ps h.1 l m)
 
-kind_more : (k : Kind) (vs : List Value) (v : Value) → AllOf k vs → IsTrue (is_of_kind k v) → AllOf k (vs ++ v ∷ [])
+pub kind_more : (k : Kind) (vs : List Value) (v : Value) → AllOf k vs → IsTrue (is_of_kind k v) → AllOf k (vs ++ v ∷ [])
 kind_more k [] v h g = (g, tt)
 kind_more k (x ∷ vs) v h g = (h.0, kind_more k vs v h.1 g)
 
-kind_dropped : (k : Kind) (d : ℕ) (vs : List Value) → AllOf k vs → AllOf k (drop d vs)
+pub kind_dropped : (k : Kind) (d : ℕ) (vs : List Value) → AllOf k vs → AllOf k (drop d vs)
 kind_dropped k zero vs h = h
 kind_dropped k (suc d) [] h = tt
 kind_dropped k (suc d) (x ∷ vs) h = kind_dropped k d vs h.1

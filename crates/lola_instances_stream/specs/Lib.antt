@@ -8,6 +8,7 @@ pub mod Givings
 pub mod Keys
 pub mod Listings
 pub mod Props
+pub mod Restoring
 pub mod Rights
 pub mod Windowed
 pub mod Texts

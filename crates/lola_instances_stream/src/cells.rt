@@ -28,9 +28,9 @@ use std::thread::Threads;
 /// the other in a time that does not grow with them, by bits that say which cells are taken.
 #[derive(Drop)]
 pub struct Cells {
-    cells: Vec<Option<Instance>>,
-    flags: BitVector,
-    empty: usize,
+    pub(crate) cells: Vec<Option<Instance>>,
+    pub(crate) flags: BitVector,
+    pub(crate) empty: usize,
     // the cells of instances with parameters
     table: Directory,
     // how many cells there is memory for
@@ -62,7 +62,12 @@ fn nth_flagged(flags: &BitVector, before: usize) -> usize
 
 // The cell of the instance at a place among those that live.
 #[inline(always)]
-fn cell_at(_cells: &Vec<Option<Instance>>, flags: &BitVector, empty: usize, place: usize) -> usize
+pub(crate) fn cell_at(
+    _cells: &Vec<Option<Instance>>,
+    flags: &BitVector,
+    empty: usize,
+    place: usize,
+) -> usize
     requires place { place < length (living _cells.now.items) }
     requires flagged { AreFlagged _cells.now.items flags.now }
     requires count { empty + length (living _cells.now.items) ≡ length _cells.now.items }

@@ -58,8 +58,8 @@ pub struct Instances {
     dues: DueTimes,
     windows: Vec<WindowPanes>,
     bad_at: u64,
-    spawned_at: u64,
-    slots: Cells,
+    pub(crate) spawned_at: u64,
+    pub(crate) slots: Cells,
     // made ahead, for instances that are still to be born
     spares: Vec<Instance>,
 }
@@ -150,7 +150,7 @@ impl Instances {
     }
 
     // The instance at a place.
-    fn slot(&self, index: usize) -> &Instance
+    pub(crate) fn slot(&self, index: usize) -> &Instance
         requires { index < length self.now.slots }
         ensures { slice_get self.now.slots index ≡ Some result.now }
     {
@@ -547,7 +547,7 @@ impl Instances {
     }
 
     // A new instance, from one that was made ahead.
-    fn give_birth(&mut self, step: u64, time: u64, params: Params)
+    pub(crate) fn give_birth(&mut self, step: u64, time: u64, params: Params)
         requires places { IsTrue (is_well_formed params) }
         requires room { length self.old.slots < self.old.capacity }
         requires spare { 1 ≤ self.old.spares }

@@ -11,4 +11,6 @@ mod giving;
 pub mod instances;
 mod key;
 mod nothing;
+mod restoring;
+mod saved;
 mod slots;

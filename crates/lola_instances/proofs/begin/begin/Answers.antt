@@ -33,6 +33,8 @@ invariant_of-s c =
       offset_is = c.time_since-s.ensures;
       right = λ i k at. crowd_later (is_on s.stage) s.step (time_in s.stage - start_in s.stage) (c.args.time - c.start_of-start.result) k (r i k at) (omega arith);
       placed = s.placed;
+      at_places = s.at_places;
+      covered = s.covered;
       numbered = s.numbered;
     }
 

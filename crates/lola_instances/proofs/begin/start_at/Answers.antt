@@ -22,6 +22,8 @@ invariant_of-s c =
       right = λ i k at. subst (λ (b : Bool). CrowdRight b s.prepared s.step (c.args.start - c.args.start) k) off
           (subst (λ (m : ℕ). CrowdRight (is_on s.stage) s.prepared s.step m k) n (s.right i k at));
       placed = s.placed;
+      at_places = s.at_places;
+      covered = s.covered;
       numbered = s.numbered;
     }
 

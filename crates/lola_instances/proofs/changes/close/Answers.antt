@@ -7,7 +7,7 @@ use Rattle.lola_instances_stream.specs.Rights.{CrowdRight, SlotRight}
 use Rattle.lola_instances_stream.proofs.Lists.{each-set, each-remove, remove_before, remove_after, remove_length, remove_map}
 use Rattle.lola_instances.specs.Stages.{phase_in, start_in, time_in, is_on}
 use Rattle.lola_instances.proofs.Asking.{found_stream, index_is}
-use Rattle.lola_instances.proofs.Changing.{layout_set, changed_set, placed_set, numbered_set, past_remove, slots_right, slots_seen}
+use Rattle.lola_instances.proofs.Changing.{layout_set, changed_set, placed_set, numbered_set, covered_set, past_remove, slots_right, slots_seen}
 use Rattle.lola_instances.proofs.changes.close.Goals as goal
 
 pub close-requires : goal.close-requires
@@ -39,6 +39,8 @@ invariant_of-s c =
           (slots_right (is_on s.stage) s.prepared s.step off l k p refl (remove_length l.slots c.args.index)
           (each-remove (SlotRight l.layout l.windows (is_on s.stage) s.step off) l.slots c.args.index p.each)));
       placed = placed_set s.windows s.sizes s.places.items s.streams.items n l y e (ap (λ (z : Crowd). z.layout) q) (ap (λ (z : Crowd). z.windows) q) s.placed;
+      at_places = s.at_places;
+      covered = covered_set s.windows s.streams.items n l y e (ap (λ (z : Crowd). z.windows) q) s.covered;
       numbered = numbered_set s.streams.items s.spawning.items n l y e (ap (λ (z : Crowd). z.layout) q) s.numbered;
     }
 

@@ -6,7 +6,7 @@ use Rattle.lola_instances_stream.specs.Rights.{AreRight, CrowdRight}
 use Rattle.lola_instances_stream.proofs.Lists.{each-set}
 use Rattle.lola_instances.specs.Stages.{phase_in, start_in, time_in, is_on}
 use Rattle.lola_instances.proofs.Asking.{found_stream, index_is}
-use Rattle.lola_instances.proofs.Changing.{silent_in, layout_set, changed_set, placed_set, numbered_set, past_set, slots_right, slots_seen}
+use Rattle.lola_instances.proofs.Changing.{silent_in, layout_set, changed_set, placed_set, numbered_set, covered_set, past_set, slots_right, slots_seen}
 use Rattle.lola_instances.proofs.Phases.{running_is_on}
 use Rattle.lola_instances.proofs.changes.poison.Goals as goal
 
@@ -52,6 +52,8 @@ invariant_of-s c =
       right = each-set (CrowdRight (is_on s.stage) s.prepared s.step (time_in s.stage - start_in s.stage)) s.streams.items n y s.right
           (slots_right (is_on s.stage) s.prepared s.step (time_in s.stage - start_in s.stage) l y (s.right n l e) rest (omega arith) right);
       placed = placed_set s.windows s.sizes s.places.items s.streams.items n l y e (ap (λ (z : Crowd). z.layout) rest) (ap (λ (z : Crowd). z.windows) rest) s.placed;
+      at_places = s.at_places;
+      covered = covered_set s.windows s.streams.items n l y e (ap (λ (z : Crowd). z.windows) rest) s.covered;
       numbered = numbered_set s.streams.items s.spawning.items n l y e (ap (λ (z : Crowd). z.layout) rest) s.numbered;
     }
 

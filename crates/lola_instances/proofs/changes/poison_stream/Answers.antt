@@ -7,7 +7,7 @@ use Rattle.lola_instances_stream.proofs.Lists.{each-set}
 use Rattle.std.proofs.Common.{ap, ◌∙◌, subst}
 use Rattle.lola_instances.specs.Stages.{phase_in, start_in, time_in, is_on}
 use Rattle.lola_instances.proofs.Asking.{stream_read}
-use Rattle.lola_instances.proofs.Changing.{layout_set, changed_set, placed_set, numbered_set, past_set}
+use Rattle.lola_instances.proofs.Changing.{layout_set, changed_set, placed_set, numbered_set, covered_set, past_set}
 use Rattle.lola_instances.proofs.changes.poison_stream.Goals as goal
 
 pub invariant_of-s : goal.invariant_of-s
@@ -29,6 +29,8 @@ invariant_of-s c =
           (subst (CrowdRight (is_on s.stage) s.prepared s.step (time_in s.stage - start_in s.stage)) (sym q)
           (record { bad_le = omega arith; spawned_le = p.spawned_le; kept = p.kept; few = p.few; each = p.each; room = p.room; spares = p.spares }));
       placed = placed_set s.windows s.sizes s.places.items s.streams.items n l y e (ap (λ (z : Crowd). z.layout) q) (ap (λ (z : Crowd). z.windows) q) s.placed;
+      at_places = s.at_places;
+      covered = covered_set s.windows s.streams.items n l y e (ap (λ (z : Crowd). z.windows) q) s.covered;
       numbered = numbered_set s.streams.items s.spawning.items n l y e (ap (λ (z : Crowd). z.layout) q) s.numbered;
     }
 

@@ -1,4 +1,4 @@
-use Rattle.std.proofs.Common.{◌≡◌, ◌∙◌, ℕ, ◌-◌, ◌++◌, ◌∷◌, [], Option, Bool, true, false, IsTrue, length, slice_get, slice_set, refl, ap, sym, subst, arith, if◌then◌else◌}
+use Rattle.std.proofs.Common.{◌≡◌, ◌∙◌, ℕ, ◌-◌, ◌++◌, [], ◌∷◌, Option, Bool, true, false, IsTrue, length, slice_get, slice_set, refl, ap, sym, subst, arith, if◌then◌else◌}
 use Rattle.lola_value.specs.declared.value.Params.{Params}
 use Rattle.lola_value.specs.Kinds.{are_of_kinds}
 use Rattle.lola_value.specs.Naming.{the_values}
@@ -14,7 +14,7 @@ use Rattle.lola_instances.specs.Stores.{bounded_seen}
 use Rattle.lola_instances.specs.Streams.{slots_in, slot_at}
 use Rattle.lola_instances.proofs.Asking.{stream_read, layout_at, place_is, count_is}
 use Rattle.lola_instances.proofs.Births.{spawns_at, unspawned, spawn_right, spawn_layout, spawn_windows, spawn_seen}
-use Rattle.lola_instances.proofs.Changing.{layout_set, placed_set, numbered_set, past_set}
+use Rattle.lola_instances.proofs.Changing.{layout_set, placed_set, numbered_set, covered_set, past_set}
 use Rattle.lola_instances.proofs.Owed.{owed_some}
 use Rattle.lola_instances.proofs.Phases.{phase_time, running_is_on}
 use Rattle.lola_instances.proofs.changes.spawn.Goals as goal
@@ -74,6 +74,8 @@ invariant_of-s c =
       right = each-set (CrowdRight (is_on s.stage) s.prepared s.step off) s.streams.items n y s.right
           (spawn_right (is_on s.stage) s.prepared s.step off l y c.birth_time-time.result c.args.params b (s.right n l e) o refl on (unspawned s.step s.streams.items n l e c.requires.first) q.living q.born q.spares right);
       placed = placed_set s.windows s.sizes s.places.items s.streams.items n l y e (spawn_layout s.step l y c.birth_time-time.result c.args.params b q.living q.born) (spawn_windows s.step l y c.birth_time-time.result c.args.params b q.living q.born) s.placed;
+      at_places = s.at_places;
+      covered = covered_set s.windows s.streams.items n l y e (spawn_windows s.step l y c.birth_time-time.result c.args.params b q.living q.born) s.covered;
       numbered = numbered_set s.streams.items s.spawning.items n l y e (spawn_layout s.step l y c.birth_time-time.result c.args.params b q.living q.born) s.numbered;
     }
 

@@ -2,7 +2,7 @@ use Rattle.std.proofs.Common.{◌-◌, ◌∙◌, ap, true}
 use Rattle.lola_instances_stream.specs.Crowds.{RemembersAt}
 use Rattle.lola_instances.specs.Spawning.{is_among}
 use Rattle.lola_instances.specs.Stages.{phase_in, start_in, time_in, is_on}
-use Rattle.lola_instances.proofs.Preparing.{kept_at, kept_right, ready_right, seen_still, layout_still, slots_still, placed_still, numbered_still}
+use Rattle.lola_instances.proofs.Preparing.{kept_at, kept_right, ready_right, seen_still, layout_still, slots_still, placed_still, numbered_still, covered_still}
 use Rattle.lola_instances.proofs.prepare.prepare.Goals as goal
 
 pub invariant_of-s : goal.invariant_of-s
@@ -19,6 +19,8 @@ invariant_of-s c =
       offset_is = s.offset_is;
       right = λ i y e. let p = kept_at s.streams.items ks i y k e in kept_right (is_on s.stage) s.prepared s.step off p.0 y p.2 (s.right i p.0 p.1);
       placed = placed_still s.windows s.sizes s.places.items s.streams.items ks k s.placed;
+      at_places = s.at_places;
+      covered = covered_still s.windows s.streams.items ks k s.covered;
       numbered = numbered_still s.streams.items ks s.spawning.items k s.numbered;
     }
 
@@ -36,6 +38,8 @@ invariant_of-s-in-Ok c =
       offset_is = s.offset_is;
       right = λ i y e. let p = kept_at s.streams.items ks i y k e in ready_right (is_on s.stage) s.prepared s.step off p.0 y p.2 (s.right i p.0 p.1) (λ w. c.in-Ok.ensures.ok i y e (ap (is_among i) c.as_slice.ensures.value ∙ numbered_still s.streams.items ks s.spawning.items k s.numbered i y e w));
       placed = placed_still s.windows s.sizes s.places.items s.streams.items ks k s.placed;
+      at_places = s.at_places;
+      covered = covered_still s.windows s.streams.items ks k s.covered;
       numbered = numbered_still s.streams.items ks s.spawning.items k s.numbered;
     }
 

@@ -1,14 +1,15 @@
-use Rattle.std.proofs.Common.{◌≡◌, ◌∙◌, ℕ, Some, false, map, slice_get, ap, refl, sym, subst, arith, IsTrue, List}
+use Rattle.std.proofs.Common.{◌≡◌, ◌∙◌, ℕ, Some, false, length, map, slice_get, ap, refl, sym, subst, arith, IsTrue, List}
 use Rattle.lola_value.specs.declared.value.Kind.{Kind}
 use Rattle.lola_model.specs.Store.{New, kind_in, layouts_from, opened}
 use Rattle.lola_model.specs.Typing.{takes}
 use Rattle.lola_instances_one.specs.Unborn.{AllSound}
 use Rattle.lola_instances_stream.specs.Crowds.{Crowd}
-use Rattle.lola_instances.specs.Opening.{ArePlaces, IsOpened, onto}
+use Rattle.lola_instances.specs.Opening.{ArePlaces, IsOpened, count_onto, onto}
 use Rattle.lola_instances.specs.Placed.{ArePlaced}
 use Rattle.lola_instances.specs.Spawning.{AreNumbered}
 use Rattle.lola_instances.specs.Streams.{crowd_layout}
 use Rattle.lola_instances.proofs.Asking.{layout_at, slots_count}
+use Rattle.lola_instances.proofs.Covering.{onto_count}
 use Rattle.lola_instances.proofs.Opened.{all_opened, blank_at, onto_sound, opened_placed}
 use Rattle.lola_instances.proofs.store.BoundedStore.create.Goals as goal
 
@@ -37,6 +38,8 @@ invariant_of-result c =
       right = λ i k at. (made i k at).right (c.requires.plain i k.layout (ap (λ xs. slice_get xs i) (sym lay) ∙ layout_at ls i k at));
       placed = subst (λ t. t) (λ j. ArePlaced (sym c.in_ok-windows.ensures j) (sym c.in_ok-sizes.ensures j) c.in_ok-places.places.items ls)
           (opened_placed plan.spec.windows plan.panes c.in_ok-places.places.items ls c.requires.sizes c.requires.cut places made);
+      at_places = subst (λ ws. ArePlaces ws c.in_ok-places.places.items) (sym c.in_ok-windows.ensures) places;
+      covered = λ n k e. ap length (made n k e).windows ∙ (onto_count n k.layout.kind plan.spec.windows plan.panes ∙ ap (count_onto n) (sym c.in_ok-windows.ensures));
       numbered = subst (λ (xs : List Crowd). AreNumbered xs c.in_ok-spawning.spawning.items) c.as_slice-7.ensures.value c.in_ok-spawning.ensures;
     }
 
