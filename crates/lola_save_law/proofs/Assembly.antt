@@ -56,7 +56,7 @@ times-over n i low high (row ∷ rows) h u =
     one-time low high row.step.time (outcome_in i (slice_get row.streams n)) (values_over n i rows) h.0 u.0
     (lower-times low row.step.time high (values_over n i rows) h.0 (times-over n i row.step.time high rows h.1 u.1))
 
-timed-drop : (low n : ℕ) (rows : List TableRow) → AreTimed low rows → AreTimed low (drop n rows)
+pub timed-drop : (low n : ℕ) (rows : List TableRow) → AreTimed low rows → AreTimed low (drop n rows)
 timed-drop low zero rows h = h
 timed-drop low (suc n) [] h = tt
 timed-drop low (suc n) (r ∷ rows) h = weaker low r.step.time (drop n rows) h.0 (timed-drop r.step.time n rows h.1)
@@ -142,7 +142,7 @@ module _ (plan : Plan) (times : Times) (table : List TableRow) (known : IsKnownT
     kinded : (i : Instance) → AreOfKind form.kind (values_over n i (drop i.born table))
     kinded i = subst (λ (k : Kind). AreOfKind k (values_over n i (drop i.born table))) (sym kind_is) (values-since plan.spec.streams table known.kinds n s at i)
 
-    few : (i : Instance) → length (values_over n i (drop i.born table)) ≤ times.steps
+    pub few : (i : Instance) → length (values_over n i (drop i.born table)) ≤ times.steps
     few i = let a = few-since n i table in let b = known.steps in omega (arith, a, b)
 
     none-of : (i : Instance) → is_some times.last ≡ false → length (values_over n i (drop i.born table)) ≡ 0
@@ -151,7 +151,7 @@ module _ (plan : Plan) (times : Times) (table : List TableRow) (known : IsKnownT
         let b : length table ≡ 0 = ap (λ (rows : List TableRow). length rows) (known.none e) in
         omega (arith, a, b)
 
-    timed-values : (i : Instance) → AreTimedValues form.kind start last (values_over n i (drop i.born table))
+    pub timed-values : (i : Instance) → AreTimedValues form.kind start last (values_over n i (drop i.born table))
     timed-values i =
         both-of form.kind start last (values_over n i (drop i.born table)) (kinded i)
         (times-over n i start last (drop i.born table) (timed-drop start i.born table known.timed) (up-drop last i.born table known.up_to))

@@ -12,12 +12,12 @@ use Rattle.lola_model.specs.declared.spec.Agg.TheVariants as agg
 use Rattle.lola_value.specs.Arithmetic.{least, greatest}
 use Rattle.lola_value.specs.declared.value.Kind.{Kind}
 use Rattle.lola_value.specs.declared.text.Field.{Field}
+use Rattle.lola_panes.specs.declared.partial.Partial.{Partial}
+use Rattle.lola_panes.specs.declared.partial.Partial.TheVariants.{Extreme, Mean}
 use Rattle.lola_save_text.specs.Fitting as fitting
 use Rattle.lola_save_text.specs.declared.state.Times.{Times}
 use Rattle.lola_save_text.specs.Fitting.{time_or, is_partial, is_value, total_size, are_panes}
 use Rattle.lola_save_text.specs.declared.forms.WindowForm.{WindowForm}
-use Rattle.lola_save_text.specs.declared.state.Partial.{Partial}
-use Rattle.lola_save_text.specs.declared.state.Partial.TheVariants.{Extreme, Mean}
 use Rattle.lola_save_law.specs.PaneFolds.{pane_number, is_in_pane, values_in_pane, partial_of, least_among, greatest_among, kept_panes, panes_of, panes_by, newest_time}
 use Rattle.lola_save_law.proofs.Ranged.{AllIn, AreValues, numbers-in, least-in, greatest-in, total-least, total-greatest, total-size}
 use Rattle.lola_save_law.proofs.PaneSums.{sum-le, sum-times, count_in, sum-counts}

@@ -6,7 +6,7 @@ use Rattle.std.specs.Str.{is_utf8}
 use Rattle.std.proofs.lemmas.Bool.{and_from, le-leb}
 use Rattle.lola_value.specs.Times.{latest}
 use Rattle.lola_model.specs.Acceptance.{IsAccepted}
-use Rattle.lola_model.specs.Journal.{opening_time, accepted}
+use Rattle.lola_model.specs.Journal.{accepted, known_start, last_accepted, opening_time}
 use Rattle.lola_model.specs.Model.{made}
 use Rattle.lola_model.specs.NextStep.{next_settled, most_steps}
 use Rattle.lola_model.specs.Runs.{settled_model, HasModelsOfRuns, streams_after}
@@ -29,7 +29,7 @@ use Rattle.lola_save_text.specs.Forms.{forms_of}
 use Rattle.lola_save_text.specs.declared.state.SavedState.{SavedState}
 use Rattle.lola_save_text.specs.Validity.{AreStreams, IsSaved}
 use Rattle.lola_save_text.proofs.AcceptedForms.{accepted-storable}
-use Rattle.lola_save_law.specs.JournalStates.{known_start, last_accepted, saved_streams, state_of, state_over, IsStateOf, AreTraceable, IsJournalOf}
+use Rattle.lola_save_law.specs.JournalStates.{saved_streams, state_of, state_over, IsStateOf, AreTraceable, IsJournalOf}
 use Rattle.lola_save_law.proofs.AnsweredKinds.{plain-stream}
 use Rattle.lola_save_law.proofs.Assembly.{IsKnownTable, streams-are}
 use Rattle.lola_save_law.proofs.KindedRows.{survivors-of}
@@ -38,7 +38,7 @@ use Rattle.lola_save_law.proofs.StepTimes.{StampsUpTo, AllFit, under-way-first}
 
 -- the accepted rows of a journal
 
-start-is : (start : Option ℕ) (rows : List Row) → time_or 0 (known_start start rows) ≡ start_of start rows
+pub start-is : (start : Option ℕ) (rows : List Row) → time_or 0 (known_start start rows) ≡ start_of start rows
 start-is (Some t) rows = refl
 start-is None [] = refl
 start-is None (r ∷ rs) = refl
@@ -109,7 +109,7 @@ no-rows (r ∷ []) e = absurd (cc)
 no-rows (r ∷ q ∷ rs) e = absurd (let z = no-rows (q ∷ rs) e in cc)
 
 -- where no row was accepted, there is no step
-no-steps : (plan : Plan) (start : Option ℕ) (journal : List Entry) → accepted journal ≡ [] → settled_model plan start journal ≡ []
+pub no-steps : (plan : Plan) (start : Option ℕ) (journal : List Entry) → accepted journal ≡ [] → settled_model plan start journal ≡ []
 unfolding settled_model
 no-steps plan start journal e = ap (λ (rows : List Row). made plan (start_of start rows) (next_settled plan (start_of start rows) rows) (most_steps 0 0 rows) []) e
 
@@ -132,7 +132,7 @@ module _ (plan : Plan) (accepted_plan : IsAccepted plan) (texts : list_all is_ut
   abbrev times : Times
   times = record { start = known_start start rows; last = last_accepted rows; steps = length (settled_model plan start journal) }
 
-  known : IsKnownTable plan times (settled_model plan start journal)
+  pub known : IsKnownTable plan times (settled_model plan start journal)
   known =
       let s : IsSound plan (time_or 0 (known_start start rows)) (time_or 0 (last_accepted rows)) rows (settled_model plan start journal) =
       subst (λ (b : ℕ). IsSound plan b (time_or 0 (last_accepted rows)) rows (settled_model plan start journal)) (sym (start-is start rows)) sound in

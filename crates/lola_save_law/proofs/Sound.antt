@@ -11,7 +11,7 @@ use Rattle.lola_model.specs.declared.plan.Plan.{Plan}
 use Rattle.lola_save_law.proofs.KindedRows.{IsTableOf, table-more}
 use Rattle.lola_save_law.proofs.AnsweredKinds.{answered-is}
 use Rattle.lola_save_law.proofs.Crowds.{IsCrowdTable, crowds-first, crowds-more}
-use Rattle.lola_save_law.proofs.StepTimes.{IsUnderWay, comes-next, answered-step}
+use Rattle.lola_save_law.proofs.StepTimes.{HasRowsLeft, comes-next, answered-step}
 
 -- what holds at first and is kept by each row that is made holds at the end
 module _ (plan : Plan) (start : ℕ) (next : Next) (P : List TableRow → Type 0) (bound : ℕ) (kept : (rows : List TableRow) (step : Step) → P rows → length rows < bound → next rows ≡ Some step → P (rows ++ answered plan start rows step ∷ [])) where
@@ -45,7 +45,7 @@ module _ (plan : Plan) (start : ℕ) (next : Next) (P : List TableRow → Type 0
 
 -- the table of a run: its times, the kinds of its values, and who lives after it
 pub record IsSound (plan : Plan) (start high : ℕ) (journal : List Row) (table : List TableRow) : Type 0 where
-  pub way : IsUnderWay plan start high journal table
+  pub way : HasRowsLeft plan start high journal table
   pub kinds : IsTableOf plan.spec.streams table
   pub crowds : IsCrowdTable plan.spec.streams table
 
@@ -62,7 +62,7 @@ module _ (plan : Plan) (accepted : IsAccepted plan) (texts : list_all is_utf8 pl
       }
 
   -- all rows that are made
-  pub sound-made : (most : ℕ) → IsUnderWay plan start high journal [] → length (made plan start (next_settled plan start journal) most []) ≤ bound
+  pub sound-made : (most : ℕ) → HasRowsLeft plan start high journal [] → length (made plan start (next_settled plan start journal) most []) ≤ bound
       → IsSound plan start high journal (made plan start (next_settled plan start journal) most [])
   sound-made most first le =
       made-keeps plan start (next_settled plan start journal) (IsSound plan start high journal) bound sound-more most []

@@ -1,6 +1,6 @@
 -- The start of a journal serves as the start option of what follows it.
 use Rattle.std.proofs.Common.{◌≡◌, ℕ, ◌≤◌, ◌↔◌, List, [], ◌∷◌, ◌++◌, length, refl, sym, subst, ap, ◌∙◌, arith, Option, Some, None}
-use Rattle.lola_model.specs.Journal.{IsRightlyMarked, IsLegalFrom, IsLegal, accepted}
+use Rattle.lola_model.specs.Journal.{IsRightlyMarked, IsLegalFrom, IsLegal, accepted, known_start, last_accepted}
 use Rattle.lola_model.specs.Model.{made}
 use Rattle.lola_model.specs.NextStep.{next_step, next_settled, most_steps, after_last}
 use Rattle.lola_model.specs.Runs.{run_start, settled_model, whole_model, content_after}
@@ -14,7 +14,7 @@ use Rattle.lola_model.specs.declared.plan.Plan.{Plan}
 use Rattle.lola_model.proofs.Journals.{accepted-append, accepted_is_row, time_after-accepted, rightly_late, IsRightlyMarked-accepted}
 use Rattle.lola_save_text.specs.Forms.{forms_of}
 use Rattle.lola_save_text.specs.declared.state.SavedState.{SavedState}
-use Rattle.lola_save_law.specs.JournalStates.{known_start, last_accepted, saved_streams, state_of}
+use Rattle.lola_save_law.specs.JournalStates.{saved_streams, state_of}
 use Rattle.lola_save_law.specs.Resuming.{ServesAsStart}
 
 start-same : (start : Option ℕ) (rows more : List Row) → start_of (known_start start rows) (rows ++ more) ≡ start_of start (rows ++ more)

@@ -158,7 +158,7 @@ AllFit ks [] = Unit {0}
 AllFit ks (r ∷ rs) = AllZip IsFieldOf ks r.fields × AllFit ks rs
 
 -- where a run is: the rows taken and those left, which are not before the last step
-pub record IsUnderWay (plan : Plan) (start high : ℕ) (journal : List Row) (table : List TableRow) : Type 0 where
+pub record HasRowsLeft (plan : Plan) (start high : ℕ) (journal : List Row) (table : List TableRow) : Type 0 where
   pub front : List Row
   pub left : List Row
   pub at : IsAt journal table front left
@@ -170,7 +170,7 @@ pub record IsUnderWay (plan : Plan) (start high : ℕ) (journal : List Row) (tab
 
 -- a step after which it is under way too
 pub record IsNext (plan : Plan) (start high : ℕ) (journal : List Row) (table : List TableRow) (step : Step) : Type 0 where
-  pub way : (row : TableRow) → row.step ≡ step → IsUnderWay plan start high journal (table ++ row ∷ [])
+  pub way : (row : TableRow) → row.step ≡ step → HasRowsLeft plan start high journal (table ++ row ∷ [])
   pub fields : AreFieldsOf (input_kinds plan.spec.streams) step.fields
 
 module _ (plan : Plan) (accepted : IsAccepted plan) (start high : ℕ) (journal : List Row) (table : List TableRow) where
@@ -239,13 +239,13 @@ module _ (plan : Plan) (accepted : IsAccepted plan) (start high : ℕ) (journal 
           subst (IsNext plan start high journal table) same (of-row front r left at ordered ahead fits timed up)
 
   -- the settled step that comes next
-  pub comes-next : IsUnderWay plan start high journal table → (step : Step) → next_settled plan start journal table ≡ Some step → IsNext plan start high journal table step
+  pub comes-next : HasRowsLeft plan start high journal table → (step : Step) → next_settled plan start journal table ≡ Some step → IsNext plan start high journal table step
   comes-next h step e =
       by-left h.front h.left step h.at h.ordered h.ahead h.fits h.timed h.up_to
       (ap (λ (o : Option Row). step_before o 0 (due plan table start)) (sym (next_row journal table h.front h.left h.at)) ∙ e)
 
 -- at first
-pub under-way-first : (plan : Plan) (start high : ℕ) (journal : List Row) → DoNotFall start journal → StampsUpTo high journal → AllFit (input_kinds plan.spec.streams) journal → IsUnderWay plan start high journal []
+pub under-way-first : (plan : Plan) (start high : ℕ) (journal : List Row) → DoNotFall start journal → StampsUpTo high journal → AllFit (input_kinds plan.spec.streams) journal → HasRowsLeft plan start high journal []
 under-way-first plan start high journal ordered ahead fits = record {
   front = [];
   left = journal;

@@ -14,12 +14,12 @@ use Rattle.lola_model.specs.declared.spec.Agg.TheVariants as agg
 use Rattle.lola_model.specs.Runs.{settled_model}
 use Rattle.lola_model.proofs.Build.{Around, named, input, output, on_a, plan_of, row_at, accepted_all, int}
 use Rattle.lola_model.proofs.Rows.{second, sum_and_trigger, count_of_ten_seconds, counts_of_values}
+use Rattle.lola_panes.specs.declared.partial.Partial.TheVariants.{Number, Extreme, Mean, Truth}
 use Rattle.lola_save_text.specs.Fitting.{is_value}
 use Rattle.lola_save_text.specs.declared.forms.WindowForm.{WindowForm}
 use Rattle.lola_save_text.specs.declared.state.SavedPanes.{SavedPanes}
 use Rattle.lola_save_text.specs.declared.state.SavedInstance.{SavedInstance}
 use Rattle.lola_save_text.specs.declared.state.SavedState.{SavedState}
-use Rattle.lola_save_text.specs.declared.state.Partial.TheVariants.{Number, Extreme, Mean, Truth}
 use Rattle.lola_save_law.specs.PaneFolds.{panes_of}
 use Rattle.lola_save_law.specs.JournalStates.{state_of, IsJournalOf}
 

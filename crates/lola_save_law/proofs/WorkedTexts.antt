@@ -3,9 +3,9 @@ use Rattle.std.proofs.Common.{◌≡◌, refl, ap, ◌∙◌, ℕ, List, [], ◌
 use Rattle.std.proofs.lemmas.Fmt.{decimal_digit, decimal_step}
 use Rattle.lola_model.proofs.Build.{Around, row_at, accepted_all, int}
 use Rattle.lola_model.proofs.Rows.{second, sum_and_trigger}
+use Rattle.lola_panes.specs.declared.partial.Partial.TheVariants.{Number}
 use Rattle.lola_save_text.specs.Forms.{forms_of}
 use Rattle.lola_save_text.specs.Lines.{StartLine, LastLine, StepsLine, StreamLine, RingLine, PanesLine, head_text, line_text, lines_text, state_lines, state_text}
-use Rattle.lola_save_text.specs.declared.state.Partial.TheVariants.{Number}
 use Rattle.lola_save_text.proofs.Corners.{worked-text}
 use Rattle.lola_save_law.specs.JournalStates.{state_of}
 use Rattle.lola_save_law.proofs.WorkedStates.{first-row, counts_each_second, two_rows, two-panes}

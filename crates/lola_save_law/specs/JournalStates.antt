@@ -2,7 +2,7 @@
 use Rattle.std.specs.Prelude.{ℕ, ◌≡◌, ◌≤◌, ◌-◌, List, [], ◌∷◌, Option, Some, None, true, if◌then◌else◌, length, map, drop}
 use Rattle.lola_value.specs.declared.text.Field.{Field}
 use Rattle.lola_model.specs.Content.{Life, StreamContent}
-use Rattle.lola_model.specs.Journal.{accepted, IsLegal}
+use Rattle.lola_model.specs.Journal.{accepted, IsLegal, known_start, last_accepted}
 use Rattle.lola_model.specs.Runs.{run_start, settled_model, IsSettledModel, content_after}
 use Rattle.lola_model.specs.Table.{TableRow}
 use Rattle.lola_model.specs.Trace.{IsTraceable}
@@ -15,18 +15,6 @@ use Rattle.lola_save_text.specs.Forms.{forms_of}
 use Rattle.lola_save_text.specs.declared.state.SavedInstance.{SavedInstance}
 use Rattle.lola_save_text.specs.declared.state.SavedState.{SavedState}
 use Rattle.lola_save_law.specs.PaneFolds.{panes_of}
-
--- the start of a run, if it is known: its option, or else the stamp of the first accepted row
-abbrev pub known_start : Option ℕ → List Row → Option ℕ
-known_start (Some t) rows = Some t
-known_start None [] = None
-known_start None (r ∷ rs) = Some r.stamp
-
--- the stamp of the last accepted row, if there is one
-abbrev pub last_accepted : List Row → Option ℕ
-last_accepted [] = None
-last_accepted (r ∷ []) = Some r.stamp
-last_accepted (r ∷ q ∷ rs) = last_accepted (q ∷ rs)
 
 -- the last of some values, so many or all that there are, from the oldest on
 abbrev pub last_values : ℕ → List (ℕ × Field) → List Field

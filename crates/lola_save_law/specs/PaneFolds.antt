@@ -5,10 +5,10 @@ use Rattle.lola_model.specs.Named.{counted}
 use Rattle.lola_model.specs.Windows.{number_of, total, least_of, greatest_of, all_true, some_true}
 use Rattle.lola_model.specs.declared.spec.Agg.{Agg}
 use Rattle.lola_model.specs.declared.spec.Agg.TheVariants as agg
+use Rattle.lola_panes.specs.declared.partial.Partial.{Partial}
+use Rattle.lola_panes.specs.declared.partial.Partial.TheVariants.{Number, Extreme, Mean, Truth}
 use Rattle.lola_save_text.specs.declared.forms.WindowForm.{WindowForm}
-use Rattle.lola_save_text.specs.declared.state.Partial.{Partial}
 use Rattle.lola_save_text.specs.declared.state.SavedPanes.{SavedPanes}
-use Rattle.lola_save_text.specs.declared.state.Partial.TheVariants.{Number, Extreme, Mean, Truth}
 
 -- the number of the pane of an offset from the start, for panes of a length: pane 0 has the start itself, and pane m the offsets
 -- above m - 1 lengths and at most m lengths

@@ -1,10 +1,10 @@
 -- What the start of a saved state serves for.
 use Rattle.std.specs.Prelude.{ℕ, ◌≡◌, ◌↔◌, ◌++◌, List, Option}
-use Rattle.lola_model.specs.Journal.{accepted, IsLegal}
+use Rattle.lola_model.specs.Journal.{accepted, IsLegal, known_start}
 use Rattle.lola_model.specs.Runs.{settled_model, whole_model}
 use Rattle.lola_model.specs.declared.journal.Entry.{Entry}
 use Rattle.lola_model.specs.declared.plan.Plan.{Plan}
-use Rattle.lola_save_law.specs.JournalStates.{known_start, state_of}
+use Rattle.lola_save_law.specs.JournalStates.{state_of}
 
 -- with this start option a longer journal is legal exactly where it is with the start of its first part, and comes to the same
 pub record IsStartedBy (plan : Plan) (start : Option ℕ) (before since : List Entry) : Type 0 where

@@ -8,9 +8,9 @@ use Rattle.std.proofs.lemmas.List.Sums.{sum_by-append, sum_by-cons}
 use Rattle.std.proofs.lemmas.Grind.{flat_map-append}
 use Rattle.lola_value.specs.declared.value.Kind.{Kind}
 use Rattle.lola_model.specs.declared.spec.Agg.{Agg}
+use Rattle.lola_panes.specs.declared.partial.Partial.{Partial}
 use Rattle.lola_save_text.specs.Fitting.{counted, is_partial, total_size}
 use Rattle.lola_save_text.specs.Lines.{partial_text, partials_text, word}
-use Rattle.lola_save_text.specs.declared.state.Partial.{Partial}
 use Rattle.lola_save_text.proofs.Partials.{AllShort, all-short, same-cut, variant-is}
 use Rattle.lola_save_read.specs.Parts.{ArePartials, IsNextPartial}
 use Rattle.lola_save_read.specs.Words.{IsWordEnd}

@@ -6,10 +6,10 @@ use Rattle.std.proofs.Math.Nat.{mul-le-mul_left}
 use Rattle.std.proofs.lemmas.Bool.{and_from, and_parts, le-leb, leb-true, leb-false, ltb-true, eqb-true, eq-eqb}
 use Rattle.lola_value.specs.declared.value.Kind.{Kind}
 use Rattle.lola_value.specs.Times.{latest}
+use Rattle.lola_panes.specs.declared.partial.Partial.{Partial}
 use Rattle.lola_save_text.specs.Fitting.{are_panes, counted, is_last, time_or, total_size}
 use Rattle.lola_save_text.specs.Lines.{panes_text, partials_text}
 use Rattle.lola_save_text.specs.declared.forms.WindowForm.{WindowForm}
-use Rattle.lola_save_text.specs.declared.state.Partial.{Partial}
 use Rattle.lola_save_text.specs.declared.state.SavedPanes.{SavedPanes}
 use Rattle.lola_save_text.specs.declared.state.Times.{Times}
 use Rattle.lola_save_text.proofs.Numbers.{decimal-same}

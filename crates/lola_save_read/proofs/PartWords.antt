@@ -10,10 +10,10 @@ use Rattle.lola_model.specs.declared.spec.Agg.{Agg}
 use Rattle.lola_model.specs.declared.spec.Agg.TheVariants as agg
 use Rattle.lola_report_lines.specs.Pieces.{bool_name}
 use Rattle.lola_report_lines.proofs.Mild.{bool_mild, integer_mild}
+use Rattle.lola_panes.specs.declared.partial.Partial.{Partial}
+use Rattle.lola_panes.specs.declared.partial.Partial.TheVariants.{Number, Extreme, Mean, Truth}
 use Rattle.lola_save_text.specs.Fitting.{counted, is_partial, total_size}
 use Rattle.lola_save_text.specs.Lines.{partial_text}
-use Rattle.lola_save_text.specs.declared.state.Partial.{Partial}
-use Rattle.lola_save_text.specs.declared.state.Partial.TheVariants.{Number, Extreme, Mean, Truth}
 use Rattle.lola_save_text.proofs.Partials.{IsShort, integer-signed, is_signed, mean-mild, same-cut, variant, variant_of}
 use Rattle.lola_save_text.proofs.SameCuts.{cut-same}
 use Rattle.lola_save_read.specs.Parts.{IsNarrow, IsNextPartial, ReadsPartial, fits, has_form}

@@ -4,11 +4,11 @@ use Rattle.std.specs.List.{list_all, sum_by}
 use Rattle.lola_value.specs.declared.value.Kind.{Kind}
 use Rattle.lola_model.specs.declared.spec.Agg.{Agg}
 use Rattle.lola_model.specs.declared.spec.Agg.TheVariants as agg
+use Rattle.lola_panes.specs.declared.partial.Partial.{Partial}
+use Rattle.lola_panes.specs.declared.partial.Partial.TheVariants.{Number, Extreme, Mean, Truth}
 use Rattle.lola_save_text.specs.Fitting.{counted, is_last, is_partial, most_steps, total_size}
 use Rattle.lola_save_text.specs.declared.state.Times.{Times}
 use Rattle.lola_save_text.specs.Lines.{partial_text}
-use Rattle.lola_save_text.specs.declared.state.Partial.{Partial}
-use Rattle.lola_save_text.specs.declared.state.Partial.TheVariants.{Number, Extreme, Mean, Truth}
 use Rattle.lola_save_read.specs.Words.{IsWordEnd}
 
 -- a partial result has the form of an aggregation

@@ -1,9 +1,9 @@
 //! The panes of a window to the end of a line.
 
 ghost use Rattle.std.specs.Prelude.{◌≡◌, ◌≢◌, ◌≤◌, ◌+◌, ◌-◌, ◌*◌, ◌^◌, ◌&&◌, ◌↔◌, [], List, Option, Some, true, IfOk, IsTrue, MatchOption, codes, is_some, min, nat_lt};
+ghost use Rattle.lola_panes.specs.declared.partial.Partial.{Partial};
 ghost use Rattle.lola_save_text.specs.Fitting.{are_panes, time_or};
 ghost use Rattle.lola_save_text.specs.Lines.{panes_text, partials_text};
-ghost use Rattle.lola_save_text.specs.declared.state.Partial.{Partial};
 ghost use Rattle.lola_save_text.specs.declared.state.SavedPanes.{SavedPanes};
 ghost use Rattle.lola_save_read.specs.Parts.{ArePartials, AreTimes};
 ghost use Rattle.lola_save_read.specs.Words.{IsWordEnd};

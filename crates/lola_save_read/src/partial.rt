@@ -3,8 +3,8 @@
 ghost use Rattle.std.specs.Prelude.{◌≡◌, ◌≤◌, ◌^◌, ◌*ℤ◌, ◌&&◌, ℕ, List, MatchOption, int_le, pos};
 ghost use Rattle.lola_value.specs.Arithmetic.{greatest, least};
 ghost use Rattle.lola_model.specs.declared.spec.Agg.TheVariants as agg;
+ghost use Rattle.lola_panes.specs.declared.partial.Partial.{Partial};
 ghost use Rattle.lola_save_text.specs.Fitting.{counted, is_partial, total_size};
-ghost use Rattle.lola_save_text.specs.declared.state.Partial.{Partial};
 ghost use Rattle.lola_save_read.specs.Parts.{IsNextPartial, ReadsPartial, fits};
 
 use crate::cuts::{cut_at_slash, next_word};
@@ -12,7 +12,7 @@ use crate::value::{is_within, truth_word};
 use crate::wide::integer_word;
 use crate::words::{is_dash, number_word};
 use lola_model::spec::Agg;
-use lola_save_text::state::Partial;
+use lola_panes::partial::Partial;
 use lola_value::arithmetic::range;
 use lola_value::value::Kind;
 

@@ -2,22 +2,10 @@
 
 ghost use Rattle.std.specs.Prelude.{◌≡◌, ◌++◌, [], ◌∷◌, OnOk, OnErr};
 
+use lola_panes::partial::Partial;
 use lola_value::text::{Fields, Memory};
 use std::alloc::Global;
 use std::marker::Model;
-
-/// The partial result of a pane: what the values of one pane come to.
-#[derive(Clone, Copy, Debug, PartialEq, Eq)]
-pub enum Partial {
-    /// How many there are, for `count`, and their sum, for `sum`.
-    Number(i128),
-    /// The least, for `min`, and the greatest, for `max`; none where there is no value.
-    Extreme(Option<i128>),
-    /// Their sum, and how many there are, for `avg`.
-    Mean { total: i128, count: u64 },
-    /// Whether all are true, for `forall`, and whether some is, for `exists`.
-    Truth(bool),
-}
 
 /// The partial results of a window, from the oldest kept pane to the newest.
 #[derive(Drop)]
@@ -27,7 +15,7 @@ pub struct Partials {
 
 impl Model for Partials {
     ghost use Rattle.std.specs.Prelude.{List};
-    ghost use Rattle.lola_save_text.specs.declared.state.Partial.{Partial};
+    ghost use Rattle.lola_panes.specs.declared.partial.Partial.{Partial};
 
     ghost Value = { List Partial };
 

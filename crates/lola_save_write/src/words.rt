@@ -8,7 +8,8 @@ ghost use Rattle.lola_report_lines.specs.Pieces.{bool_name};
 ghost use Rattle.lola_save_text.specs.Lines.{panes_text, partial_text, partials_text, time_or_dash, values_text};
 
 use crate::spelling::quote;
-use lola_save_text::state::{Partial, SavedPanes};
+use lola_panes::partial::Partial;
+use lola_save_text::state::SavedPanes;
 use lola_value::numbers::{integer_text, number_text};
 use lola_value::text::{Field, Memory, Text};
 use lola_value::times::time_text;
