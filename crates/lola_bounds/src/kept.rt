@@ -4,7 +4,7 @@ ghost use Rattle.std.specs.Prelude.{◌≡◌, ◌+◌, ◌≤◌, ℕ, All, IfO
 ghost use Rattle.lola_model.specs.Bounds.{IsKept};
 ghost use Rattle.lola_bounds.specs.Offsets.{HasSmallOffsets};
 
-use crate::offsets::raise_by_streams;
+use crate::offsets::{greatest_onto, raise_by_streams};
 use lola_model::plan::Numbers;
 use lola_model::spec::Spec;
 use lola_value::text::Memory;
@@ -15,9 +15,7 @@ pub fn kept(spec: &Spec, stream: u32) -> u32
     requires { HasSmallOffsets spec.now }
     ensures { IsKept spec.now stream result }
 {
-    let mut greatest = [0];
-    raise_by_streams(&mut greatest, stream, spec.streams.as_slice());
-    1 + greatest[0]
+    1 + greatest_onto(stream, spec.streams.as_slice())
 }
 
 /// One more than each of some offsets.
@@ -33,13 +31,13 @@ fn one_more(alloc: Global, greatest: &[u32]) -> Result<Numbers, Memory>
 }
 
 /// What is kept of each stream, found in room that has a 0 for each.
-fn kept_in(alloc: Global, spec: &Spec, room: &mut [u32]) -> Result<Numbers, Memory>
+fn kept_in(alloc: Global, spec: &Spec, room: &mut Vec<u32>) -> Result<Numbers, Memory>
     requires small { HasSmallOffsets spec.now }
-    requires room { room.old ≡ replicate (length spec.now.streams) 0 }
+    requires room { room.old.items ≡ replicate (length spec.now.streams) 0 }
     ensures count { IfOk result (λ numbers. length numbers ≡ length spec.now.streams) }
     ensures each { IfOk result (λ numbers. (n k : ℕ) → slice_get numbers n ≡ Some k → IsKept spec.now n k) }
 {
-    raise_by_streams(room, 0, spec.streams.as_slice());
+    raise_by_streams(room, spec.streams.as_slice());
     one_more(alloc, room)
 }
 

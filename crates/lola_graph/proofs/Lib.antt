@@ -1,3 +1,4 @@
+mod PartLemmas
 pub mod ReadLemmas
 mod FlagLemmas
 pub mod NodeLemmas

@@ -1,17 +1,17 @@
 -- Expressions whose reads are edges of a small graph.
-use Rattle.std.specs.Prelude.{ℕ, List, ◌++◌, Option, Some, None, Bool, true, ◌&&◌, nat_lt}
-use Rattle.std.specs.List.{list_all}
-use Rattle.lola_model.specs.Graph.{eval_node, spawn_node, to_spawn, clause_reads}
+use Rattle.std.specs.Prelude.{ℕ, List, [], ◌∷◌, ◌++◌, Option, Bool, true, ◌&&◌, nat_lt, slice_get}
+use Rattle.lola_model.specs.Graph.{weight_of, edge_to, window_edge, eval_node, spawn_node, to_spawn, clause_reads}
 use Rattle.lola_model.specs.declared.expr.Access.{Access}
 use Rattle.lola_model.specs.declared.expr.Access.TheVariants as access
 use Rattle.lola_model.specs.declared.expr.Arguments.{Arguments}
-use Rattle.lola_model.specs.declared.expr.Arguments.TheVariants.{End, More'}
 use Rattle.lola_model.specs.declared.expr.Expr.{Expr}
-use Rattle.lola_model.specs.declared.expr.Expr.TheVariants.{Literal, Parameter, Read, Window, Defaults', Unary', Both', Choice'}
 use Rattle.lola_model.specs.declared.spec.Clause.{Clause}
 use Rattle.lola_model.specs.declared.spec.Stream.{Stream}
 use Rattle.lola_model.specs.declared.graph.Edge.{Edge}
 use Rattle.lola_model.specs.declared.spec.WindowSpec.{WindowSpec}
+use Rattle.lola_model_parts.specs.Reading.{parts_pass, arguments_pass, when_passes, clause_passes}
+use Rattle.lola_model_parts.specs.declared.part.ReadPart.{ReadPart}
+use Rattle.lola_model_parts.specs.declared.part.ReadPart.TheVariants.{Read, Window}
 use Rattle.lola_graph.specs.Small.{is_small_offset}
 
 -- an access by no more than 4,096 values
@@ -19,31 +19,31 @@ abbrev pub is_small_access : Access → Bool
 is_small_access (access.Offset k) = is_small_offset k
 is_small_access _ = true
 
-abbrev mutual
-  -- it reads streams of numbers below 1,024
-  pub is_readable : Expr → Bool
-  is_readable (Literal place v) = true
-  is_readable (Parameter place i) = true
-  is_readable (Read place n how args) = (nat_lt n 1024 && is_small_access how) && are_readable args
-  is_readable (Window place w args) = are_readable args
-  is_readable (Defaults' place u a v b) = is_readable a && is_readable b
-  is_readable (Unary' place operator u a) = is_readable a
-  is_readable (Both' place operator u a v b) = is_readable a && is_readable b
-  is_readable (Choice' place u a v b w d) = is_readable a && (is_readable b && is_readable d)
+-- a part that reads a stream of a number below 1,024
+abbrev pub is_readable_part : ReadPart → Bool
+is_readable_part (Read at n how) = nat_lt n 1024 && is_small_access how
+is_readable_part (Window at w) = true
 
-  pub are_readable : Arguments → Bool
-  are_readable End = true
-  are_readable (More' u a v rest) = is_readable a && are_readable rest
+-- each part of an expression that reads is so
+abbrev pub is_readable : Expr → Bool
+is_readable = parts_pass is_readable_part
+
+-- of arguments
+abbrev pub are_readable : Arguments → Bool
+are_readable = arguments_pass is_readable_part
 
 -- a condition, if there is one
 abbrev pub is_readable_when : Option Expr → Bool
-is_readable_when None = true
-is_readable_when (Some e) = is_readable e
+is_readable_when = when_passes is_readable_part
 
 -- a clause, if there is one
 abbrev pub is_readable_clause : Option Clause → Bool
-is_readable_clause None = true
-is_readable_clause (Some c) = is_readable_when c.when && list_all is_readable c.with
+is_readable_clause = clause_passes is_readable_part
+
+-- the edge of a part that reads
+abbrev pub part_reads : List WindowSpec → ℕ → ReadPart → List Edge
+part_reads ws from (Read at n how) = edge_to from n (weight_of how) ∷ []
+part_reads ws from (Window at w) = window_edge from (slice_get ws w)
 
 -- the clauses of a stream that are nodes
 abbrev pub is_readable_stream : Stream → Bool

@@ -1,7 +1,6 @@
 //! The nodes that each node reads in the same step.
 
 ghost use Rattle.std.specs.Prelude.{List, ◌≡◌, ◌≤◌, ◌<◌, ◌++◌, [], ◌∷◌, IsTrue, IfOk, OnOk, length, replicate, slice_set};
-ghost use Rattle.std.specs.List.{slice_index_or};
 ghost use Rattle.lola_model.specs.declared.graph.Edge.{Edge as EdgeValue};
 ghost use Rattle.lola_model.specs.Nodes.{node_count as node_count_of};
 ghost use Rattle.lola_graph.specs.Paths.{AreReads, read_by};
@@ -9,49 +8,12 @@ ghost use Rattle.lola_graph.specs.Small.{is_small_graph};
 
 use crate::nodes::{is_within_step, node_count};
 use lola_model::graph::Edge;
+use lola_value::list::ListOf;
 use lola_value::text::Memory;
 use std::alloc::Global;
-use std::marker::Model;
 
 /// Some nodes.
-#[derive(Drop)]
-pub struct Nodes {
-    items: Vec<u32>,
-}
-
-impl Model for Nodes {
-    ghost use Rattle.std.specs.Prelude.{List, ℕ, List};
-
-    ghost Value = { List ℕ };
-
-    ghost view = { λ a. a.items.items };
-}
-
-impl Nodes {
-    /// None.
-    pub fn create(alloc: Global) -> Nodes
-        ensures { result ≡ [] }
-    {
-        Nodes {
-            items: Vec::new(alloc),
-        }
-    }
-
-    /// Puts a node behind the others.
-    pub fn push(&mut self, node: u32) -> Result<(), Memory>
-        ensures { OnOk result (self.new ≡ self.old ++ node ∷ []) }
-    {
-        self.items.push(node)?;
-        Ok(())
-    }
-
-    /// All of them.
-    pub fn as_slice(&self) -> &[u32]
-        ensures { result.now ≡ self.now }
-    {
-        self.items.as_slice()
-    }
-}
+pub type Nodes = ListOf<u32>;
 
 /// So many lists without a node.
 fn empty_lists(alloc: Global, count: u32) -> Result<Vec<Nodes>, Memory>

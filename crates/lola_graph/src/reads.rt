@@ -3,13 +3,15 @@
 ghost use Rattle.std.specs.Prelude.{◌≡◌, ◌++◌, [], ◌∷◌, ◌+◌, ◌*◌, ◌<◌, ◌≤◌, IsTrue, IfOk, OnOk, length, pos, slice_get};
 ghost use Rattle.std.specs.List.{list_all};
 ghost use Rattle.lola_model.specs.Accepted.{IsSpecInRange};
-ghost use Rattle.lola_model.specs.Graph.{weight_of, edge_to, window_edge, reads as reads_of, reads_all, when_reads, with_reads, clause_reads, to_spawn, edges_from, edges_of};
-ghost use Rattle.lola_graph.specs.Readable.{stream_edges, is_small_access, is_readable, are_readable, is_readable_when, is_readable_clause, is_readable_stream, is_readable_window};
+ghost use Rattle.lola_model.specs.Graph.{weight_of, edge_to, window_edge, clause_reads, to_spawn, edges_from, edges_of};
+ghost use Rattle.lola_graph.specs.Readable.{stream_edges, part_reads, is_small_access, is_readable_part, is_readable_clause, is_readable_stream, is_readable_window};
 ghost use Rattle.lola_graph.specs.Small.{HasSmallOffsets, is_small_graph};
 
-use lola_model::expr::{Access, Arguments, Expr};
+use lola_model::expr::Access;
 use lola_model::graph::{Edge, Edges};
 use lola_model::spec::{Clause, Spec, Stream, WindowSpec};
+use lola_model_parts::part::{PartVisitor, ReadPart};
+use lola_model_parts::walk::visit_clause;
 use lola_value::text::Memory;
 use std::alloc::Global;
 
@@ -59,98 +61,35 @@ fn put_window(
     }
 }
 
-/// Puts an edge for each access of an expression, arguments included.
-#[cycle(expression)]
-fn put_reads(
-    edges: &mut Edges,
-    windows: &[WindowSpec],
+// What is put of a clause: an edge for each access.
+#[derive(Drop)]
+struct Reads<'a> {
+    windows: &'a [WindowSpec],
+    // The node that reads.
     from: u32,
-    expr: &Expr,
-) -> Result<(), Memory>
-    requires windows { IsTrue (list_all is_readable_window windows.now) }
-    requires expr { IsTrue (is_readable expr.now) }
-    ensures { OnOk result (edges.new ≡ edges.old ++ reads_of windows.now from expr.now) }
-{
-    match expr {
-        Expr::Literal(_, _) => Ok(()),
-        Expr::Parameter(_, _) => Ok(()),
-        Expr::Read(_, stream, access, arguments) => {
-            put_edge(edges, from, *stream, weight(*access))?;
-            put_arguments(edges, windows, from, arguments)
-        }
-        Expr::Window(_, window, arguments) => {
-            put_window(edges, windows, from, *window)?;
-            put_arguments(edges, windows, from, arguments)
-        }
-        Expr::Unary(_, _, a) => put_reads(edges, windows, from, a),
-        Expr::Defaults(_, a, b) => {
-            put_reads(edges, windows, from, a)?;
-            put_reads(edges, windows, from, b)
-        }
-        Expr::Both(_, _, a, b) => {
-            put_reads(edges, windows, from, a)?;
-            put_reads(edges, windows, from, b)
-        }
-        Expr::Choice(_, a, b, c) => {
-            put_reads(edges, windows, from, a)?;
-            put_reads(edges, windows, from, b)?;
-            put_reads(edges, windows, from, c)
-        }
-    }
 }
 
-/// Puts an edge for each access of arguments.
-#[cycle(expression)]
-fn put_arguments(
-    edges: &mut Edges,
-    windows: &[WindowSpec],
-    from: u32,
-    arguments: &Arguments,
-) -> Result<(), Memory>
-    requires windows { IsTrue (list_all is_readable_window windows.now) }
-    requires arguments { IsTrue (are_readable arguments.now) }
-    ensures { OnOk result (edges.new ≡ edges.old ++ reads_all windows.now from arguments.now) }
-{
-    match arguments {
-        Arguments::End => Ok(()),
-        Arguments::More(first, rest) => {
-            put_reads(edges, windows, from, first)?;
-            put_arguments(edges, windows, from, rest)
+impl<'a> PartVisitor for Reads<'a> {
+    type Target = Edges;
+
+    type Error = Memory;
+
+    ghost ready = { λ reads. IsTrue (list_all is_readable_window reads.windows.now) };
+
+    ghost may = { is_readable_part };
+
+    ghost takes = { λ reads part old new. new ≡ old ++ part_reads reads.windows.now reads.from part };
+
+    fn visit(&self, part: ReadPart, edges: &mut Edges) -> Result<(), Memory> {
+        match part {
+            ReadPart::Read { stream, access, .. } => put_edge(
+                edges,
+                self.from,
+                stream,
+                weight(access),
+            ),
+            ReadPart::Window { window, .. } => put_window(edges, self.windows, self.from, window),
         }
-    }
-}
-
-/// Puts an edge for each access of the expressions of a clause behind `with`.
-fn put_with(
-    edges: &mut Edges,
-    windows: &[WindowSpec],
-    from: u32,
-    exprs: &[Expr],
-) -> Result<(), Memory>
-    requires windows { IsTrue (list_all is_readable_window windows.now) }
-    requires exprs { IsTrue (list_all is_readable exprs.now) }
-    ensures { OnOk result (edges.new ≡ edges.old ++ with_reads windows.now from exprs.now) }
-{
-    for expr in exprs {
-        put_reads(edges, windows, from, expr)?;
-    }
-    Ok(())
-}
-
-/// Puts an edge for each access of a condition, if there is one.
-fn put_when(
-    edges: &mut Edges,
-    windows: &[WindowSpec],
-    from: u32,
-    when: &Option<Expr>,
-) -> Result<(), Memory>
-    requires windows { IsTrue (list_all is_readable_window windows.now) }
-    requires when { IsTrue (is_readable_when when.now) }
-    ensures { OnOk result (edges.new ≡ edges.old ++ when_reads windows.now from when.now) }
-{
-    match when {
-        None => Ok(()),
-        Some(expr) => put_reads(edges, windows, from, expr),
     }
 }
 
@@ -165,13 +104,8 @@ fn put_clause(
     requires clause { IsTrue (is_readable_clause clause.now) }
     ensures { OnOk result (edges.new ≡ edges.old ++ clause_reads windows.now from clause.now) }
 {
-    match clause {
-        None => Ok(()),
-        Some(clause) => {
-            put_when(edges, windows, from, &clause.when)?;
-            put_with(edges, windows, from, clause.with.as_slice())
-        }
-    }
+    visit_clause(&Reads { windows, from }, clause, edges)?;
+    Ok(())
 }
 
 /// Puts an edge from a stream's eval clause to its spawn clause, if it has one.

@@ -20,7 +20,7 @@ use Rattle.lola_model.specs.declared.spec.WrittenRate.TheVariants as rate
 use Rattle.lola_model.specs.Leaves.{is_end, is_end_of, has_pace, is_written}
 use Rattle.lola_model.specs.PacingFound.{AreOwn, IsOwn, IsGiven, IsWritten, IsWrittenIn, input_finding, inputs_with, IsFound, IsCombined, IsJoined, IsRateFound, is_multiple, given_local, given_rate, no_pacing, any_row, forms_of, rates_of, finding_at, findings_at, is_unpaced, is_event, is_periodic}
 use Rattle.lola_model.specs.PacingRefused.{clause_refusals}
-use Rattle.lola_pacing_findings.proofs.FineLemmas.{accepts_fine}
+use Rattle.lola_pacing.proofs.FineLemmas.{accepts_fine}
 use Rattle.lola_model.specs.declared.finding.FoundPacing.{FoundPacing}
 use Rattle.lola_model.specs.declared.finding.FoundPacing.TheVariants.{Paced, Refused, Unpaced}
 use Rattle.lola_model.specs.Pacings.{InStep, IsPaceFound, IsClauseFound, IsEvalFound, IsSpawnFound, IsCloseFound, only_pacing, place_of, Found, refusals_of, refusals_from, stream_refusals}

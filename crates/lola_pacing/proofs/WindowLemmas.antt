@@ -34,7 +34,7 @@ use Rattle.lola_model.specs.declared.uses.Use.TheVariants.{OfWindow}
 use Rattle.lola_model.specs.PacingFound.{finding_at, is_unpaced}
 use Rattle.lola_model.specs.PacingRefused.{clause_refusals, used}
 use Rattle.lola_model.specs.Pacings.{AreVerdicts, Found, finding_of_part, pacing_of, pacings_from, refusals_of}
-use Rattle.lola_pacing_findings.proofs.FineLemmas.{accepts_fine}
+use Rattle.lola_pacing.proofs.FineLemmas.{accepts_fine}
 use Rattle.lola_pacing.proofs.ListedLemmas.{Has, in_some_stream, maps_clause}
 use Rattle.lola_pacing.proofs.PacedLemmas.{empty_left, empty_right, first_true, here, later, paces_all, range_at, second_true}
 use Rattle.lola_pacing.specs.Accepted.{IsPacedWhere, IsWindowPaced, PacesWindows}

@@ -11,13 +11,13 @@ ghost use Rattle.lola_pacing.specs.Phase.{AnswersPacing};
 
 use crate::clauses::of_parts;
 use crate::given::owns;
+use crate::leaves::lists_of;
 use crate::pacings::pacings;
 use crate::refusals::{first, refusals};
 use crate::verdicts::of_windows;
 use lola_model::finding::FoundPacing;
 use lola_model::pacing::Pacings;
 use lola_model::spec::{Part, Spec};
-use lola_pacing_leaves::leaves::lists_of;
 use lola_value::front::{Code, FrontEnd};
 use lola_value::text::Memory;
 use std::alloc::Global;

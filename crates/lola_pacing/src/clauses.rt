@@ -10,11 +10,11 @@ ghost use Rattle.lola_pacing.specs.Steps.{IsPartFound};
 
 use crate::found::of_leaves;
 use crate::given::{has_spawn, of_pace};
+use crate::given_rates::{copied, none_found};
+use crate::leaves::{is_end, leaves};
+use crate::numbers::StreamNumbers;
 use lola_model::finding::FoundPacing;
 use lola_model::spec::{Clause, Part, Spec, Stream};
-use lola_pacing_findings::given::{copied, none_found};
-use lola_pacing_leaves::leaves::{is_end, leaves};
-use lola_pacing_leaves::numbers::StreamNumbers;
 use lola_value::text::Memory;
 use std::alloc::Global;
 

@@ -4,11 +4,11 @@ ghost use Rattle.std.specs.Prelude.{◌≡◌, ◌<◌, IfOk, length};
 ghost use Rattle.lola_model.specs.PacingFound.{any_row, finding_at, findings_at, form_of, forms_of, IsCombined, IsFound, IsJoined};
 ghost use Rattle.lola_pacing.specs.Joins.{AnswersNext};
 
+use crate::given_rates::{none_found, one_too_wide};
+use crate::rates::of_rates;
+use crate::sorts::{are_events, are_periodic, form_at, is_some_unpaced};
 use lola_model::finding::FoundPacing;
 use lola_model::pacing::{InputSet, NormalForm, Pacing};
-use lola_pacing_findings::given::{none_found, one_too_wide};
-use lola_pacing_findings::rates::of_rates;
-use lola_pacing_findings::sorts::{are_events, are_periodic, form_at, is_some_unpaced};
 use lola_pacing_normal::answer::NormalEnd;
 use lola_pacing_normal::normal::conjunction;
 use lola_value::text::Memory;

@@ -7,10 +7,10 @@ ghost use Rattle.lola_model.specs.NormalForms.{HasInputsBelow};
 ghost use Rattle.lola_model.specs.PacingFound.{AreOwn, IsGiven, IsGivenEvent, IsOwn, IsWrittenIn, inputs_with};
 ghost use Rattle.lola_model.specs.Formulas.{AreOverInputs, IsClauseOverInputs, IsOverInputs};
 
+use crate::given_rates::{of_input, of_local_rate, of_rate, one_too_wide};
 use lola_model::finding::FoundPacing;
 use lola_model::pacing::Pacing;
 use lola_model::spec::{Clause, Formula, Pace, Stream};
-use lola_pacing_findings::given::{of_input, of_local_rate, of_rate, one_too_wide};
 use lola_pacing_normal::answer::NormalEnd;
 use lola_pacing_normal::normal::normal;
 use lola_value::text::Memory;

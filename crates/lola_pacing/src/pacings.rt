@@ -4,10 +4,10 @@ ghost use Rattle.std.specs.Prelude.{◌≡◌, ◌≤◌, IfOk, length};
 ghost use Rattle.lola_model.specs.PacingFound.{finding_at};
 ghost use Rattle.lola_model.specs.Pacings.{pacing_of, pacings_from};
 
+use crate::given_rates::copied;
 use lola_model::finding::FoundPacing;
 use lola_model::pacing::{ClausePacings, Pacing, Pacings};
 use lola_model::spec::Stream;
-use lola_pacing_findings::given::copied;
 use lola_value::text::Memory;
 use std::alloc::Global;
 

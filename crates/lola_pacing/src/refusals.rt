@@ -6,10 +6,10 @@ ghost use Rattle.lola_model.specs.PacingFound.{finding_at};
 ghost use Rattle.lola_model.specs.PacingRefused.{clause_refusals};
 ghost use Rattle.lola_model.specs.Pacings.{refusals_from, stream_refusals};
 
+use crate::refused::put_clause;
 use lola_model::finding::FoundPacing;
 use lola_model::refusals::Refusals;
 use lola_model::spec::{Clause, Stream};
-use lola_pacing_findings::refused::put_clause;
 use lola_value::front::{Code, Refusal};
 use lola_value::text::Memory;
 use std::alloc::Global;

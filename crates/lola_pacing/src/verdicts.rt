@@ -6,9 +6,9 @@ ghost use Rattle.lola_model.specs.PacingFound.{finding_at};
 ghost use Rattle.lola_model.specs.WindowVerdicts.{IsVerdict};
 ghost use Rattle.lola_model.specs.Pacings.{AreVerdicts, finding_of_part};
 
+use crate::verdict::verdict;
 use lola_model::finding::FoundPacing;
 use lola_model::spec::{Part, WindowSpec};
-use lola_pacing_findings::verdict::verdict;
 use lola_value::front::Code;
 use lola_value::text::Memory;
 use std::alloc::Global;

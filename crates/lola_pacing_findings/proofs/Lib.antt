@@ -1,3 +1,0 @@
-pub mod RateLemmas
-pub mod LawLemmas
-pub mod FineLemmas
