@@ -8,6 +8,7 @@ pub mod PartWords
 pub mod PaneRows
 pub mod PaneTexts
 pub mod SeenParams
+pub mod SpelledParams
 pub mod BodyForms
 pub mod TurnsOn
 pub mod LineKinds

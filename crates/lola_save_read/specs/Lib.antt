@@ -1,6 +1,7 @@
 pub mod Words
 pub mod Parts
 pub mod Turns
+pub mod Spelled
 pub mod Bodies
 pub mod Readings
 pub mod Ends

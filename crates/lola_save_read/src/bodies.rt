@@ -1,6 +1,6 @@
 //! The lines of a stream's instances without their LF, word by word.
 
-ghost use Rattle.std.specs.Prelude.{◌≡◌, ◌≢◌, ◌≤◌, ◌<◌, ◌^◌, ◌++◌, [], ℕ, List, Option, IfOk, MatchOption, if◌then◌else◌, decimal, is_some, true, false};
+ghost use Rattle.std.specs.Prelude.{◌≡◌, ◌≢◌, ◌≤◌, ◌<◌, ◌^◌, ◌++◌, [], ◌∷◌, ℕ, List, Option, IfOk, IfSome, MatchOption, if◌then◌else◌, decimal, is_some, true, false};
 ghost use Rattle.std.specs.List.{list_all};
 ghost use Rattle.lola_value.specs.declared.text.Field.{Field};
 ghost use Rattle.lola_save_text.specs.Lines.{time_or_dash, word};
@@ -8,12 +8,14 @@ ghost use Rattle.lola_save_text.specs.Places.{choices, is_birth, is_count, most_
 ghost use Rattle.lola_save_text.specs.declared.state.SavedPanes.{SavedPanes};
 ghost use Rattle.lola_save_read.specs.Bodies.{IsBirthBehind, IsInstBody, IsPanesBody, IsRingBody, IsStreamBody, alone};
 ghost use Rattle.lola_save_read.specs.Parts.{AreTimes};
+ghost use Rattle.lola_save_read.specs.Spelled.{AreSpelled};
 ghost use Rattle.lola_save_read.specs.Turns.{hand, seen_after};
 ghost use Rattle.lola_save_read.specs.Words.{IsBehindName, IsBehindNumber, is_no_space};
 
 use crate::cuts::{cut_word, is_nothing, is_word, next_word};
 use crate::panes::panes;
 use crate::seen::is_new;
+use crate::spelled::Spelled;
 use crate::values::{ring_values, values_of_kinds};
 use crate::words::{is_decimal, number_word, time_or_dash};
 use lola_save_text::forms::{StreamForm, WindowForm};
@@ -181,18 +183,22 @@ fn birth_behind<'a>(
     }
 }
 
-/// The birth and the parameters that the line of an instance tells, behind these instances of its stream.
+/// The birth and the parameters that the line of an instance tells, behind these instances of its stream, whose words are spelled. Afterwards
+/// its own are too.
 pub(crate) fn inst_body(
     alloc: Global,
     times: Times,
     form: &StreamForm,
     low: u64,
     seen: &[SavedInstance],
+    spelled: &mut Spelled,
     body: &[u8],
     room: &mut Text,
 ) -> Result<Option<(Option<u64>, Fields)>, Memory>
-    requires { AreTimes times }
-    ensures { IfOk result (λ read. MatchOption read ((born : Option ℕ) (params : List Field) → IsInstBody times form.now (seen_after [] seen.now) low body.now born params → ⊥) (λ x. IsInstBody times form.now (seen_after [] seen.now) low body.now x.0 x.1)) }
+    requires times { AreTimes times }
+    requires others { AreSpelled spelled.old (seen_after [] seen.now) }
+    ensures read { IfOk result (λ read. MatchOption read ((born : Option ℕ) (params : List Field) → IsInstBody times form.now (seen_after [] seen.now) low body.now born params → ⊥) (λ x. IsInstBody times form.now (seen_after [] seen.now) low body.now x.0 x.1)) }
+    ensures noted { IfOk result (λ read. IfSome read (λ x. AreSpelled spelled.new (x.1 ∷ seen_after [] seen.now))) }
 {
     match birth_behind(times, form, low, body) {
         None => Ok(None),
@@ -200,7 +206,8 @@ pub(crate) fn inst_body(
             match values_of_kinds(alloc, form.parameters.as_slice(), words, room)? {
                 None => Ok(None),
                 Some(params) => {
-                    if is_new(params.as_slice(), seen) {
+                    let fresh = is_new(params.as_slice(), words, seen, spelled)?;
+                    if fresh {
                         Ok(Some((born, params)))
                     } else {
                         Ok(None)

@@ -1,12 +1,14 @@
 //! The instances of a stream. What is refused is told by how many bytes are left where it begins.
 
-ghost use Rattle.std.specs.Prelude.{◌≡◌, [], List, IfOk, MatchResult, false};
+ghost use Rattle.std.specs.Prelude.{◌≡◌, [], ◌∷◌, List, IfOk, MatchResult, false};
 ghost use Rattle.lola_save_text.specs.Forms.{HaveLength};
 ghost use Rattle.lola_save_read.specs.Parts.{AreTimes};
 ghost use Rattle.lola_save_read.specs.Readings.{ReadsInstance, ReadsInstances, ReadsPanes, ReadsStream, RefusesInstance, RefusesInstances, RefusesPanes, RefusesStream};
+ghost use Rattle.lola_save_read.specs.Spelled.{AreSpelled};
 ghost use Rattle.lola_save_read.specs.Turns.{seen_after};
 
 use crate::lines::{inst_line, panes_line, ring_line, stream_line};
+use crate::spelled::Spelled;
 use crate::words::time_or;
 use lola_save_text::forms::StreamForm;
 use lola_save_text::state::{InstancePanes, SavedInstance, SavedInstances, Times};
@@ -38,21 +40,24 @@ fn read_panes<'a>(
     Ok(Ok((panes, left)))
 }
 
-// An instance, behind others.
+// An instance, behind others, whose words are spelled. Afterwards its own are too.
 fn read_instance<'a>(
     alloc: Global,
     times: Times,
     form: &StreamForm,
     low: u64,
     seen: &[SavedInstance],
+    spelled: &mut Spelled,
     bytes: &'a [u8],
     room: &mut Text,
 ) -> Result<Result<(SavedInstance, &'a [u8]), usize>, Memory>
     requires times { AreTimes times }
     requires lengths { HaveLength form.now.windows }
-    ensures { IfOk result (λ read. MatchResult read (λ x. ReadsInstance times form.now (seen_after [] seen.now) low bytes.now x.0 x.1.now) (λ many. RefusesInstance times form.now (seen_after [] seen.now) low bytes.now many)) }
+    requires others { AreSpelled spelled.old (seen_after [] seen.now) }
+    ensures read { IfOk result (λ read. MatchResult read (λ x. ReadsInstance times form.now (seen_after [] seen.now) low bytes.now x.0 x.1.now) (λ many. RefusesInstance times form.now (seen_after [] seen.now) low bytes.now many)) }
+    ensures noted { IfOk result (λ read. IfOk read (λ x. AreSpelled spelled.new (x.0.params ∷ seen_after [] seen.now))) }
 {
-    match inst_line(alloc, times, form, low, seen, bytes, room)? {
+    match inst_line(alloc, times, form, low, seen, spelled, bytes, room)? {
         None => Ok(Err(bytes.len())),
         Some((born, params, values)) => match ring_line(alloc, times, form, values, room)? {
             None => Ok(Err(values.len())),
@@ -72,6 +77,45 @@ fn read_instance<'a>(
     }
 }
 
+// So many instances. The words of each are put among those that are spelled.
+fn read_each<'a>(
+    alloc: Global,
+    times: Times,
+    form: &StreamForm,
+    count: u64,
+    spelled: &mut Spelled,
+    bytes: &'a [u8],
+    room: &mut Text,
+) -> Result<Result<(SavedInstances, &'a [u8]), usize>, Memory>
+    requires times { AreTimes times }
+    requires lengths { HaveLength form.now.windows }
+    ensures { IfOk result (λ read. MatchResult read (λ x. ReadsInstances times form.now count bytes.now x.0 x.1.now) (λ many. RefusesInstances times form.now count bytes.now many)) }
+{
+    let mut instances = SavedInstances::create(alloc);
+    let mut left = bytes;
+    let mut low = time_or(0, times.start);
+    for _turn in 0..count {
+        match read_instance(
+            alloc,
+            times,
+            form,
+            low,
+            instances.as_slice(),
+            spelled,
+            left,
+            room,
+        )? {
+            Err(many) => return Ok(Err(many)),
+            Ok((instance, rest)) => {
+                low = time_or(low, instance.born);
+                instances.push(instance)?;
+                left = rest;
+            }
+        }
+    }
+    Ok(Ok((instances, left)))
+}
+
 // So many instances.
 fn read_instances<'a>(
     alloc: Global,
@@ -85,20 +129,8 @@ fn read_instances<'a>(
     requires lengths { HaveLength form.now.windows }
     ensures { IfOk result (λ read. MatchResult read (λ x. ReadsInstances times form.now count bytes.now x.0 x.1.now) (λ many. RefusesInstances times form.now count bytes.now many)) }
 {
-    let mut instances = SavedInstances::create(alloc);
-    let mut left = bytes;
-    let mut low = time_or(0, times.start);
-    for _turn in 0..count {
-        match read_instance(alloc, times, form, low, instances.as_slice(), left, room)? {
-            Err(many) => return Ok(Err(many)),
-            Ok((instance, rest)) => {
-                low = time_or(low, instance.born);
-                instances.push(instance)?;
-                left = rest;
-            }
-        }
-    }
-    Ok(Ok((instances, left)))
+    let mut spelled = Spelled::create(alloc);
+    read_each(alloc, times, form, count, &mut spelled, bytes, room)
 }
 
 /// A stream with this number.

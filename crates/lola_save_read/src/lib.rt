@@ -15,6 +15,7 @@ mod partial;
 mod quotes;
 pub mod read;
 mod seen;
+mod spelled;
 mod streams;
 pub mod times;
 mod value;

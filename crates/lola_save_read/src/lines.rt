@@ -1,13 +1,15 @@
 //! The lines of a stream's instances: each is read where it is one that may come there, and only there.
 
-ghost use Rattle.std.specs.Prelude.{◌≡◌, ◌≤◌, [], List, IfOk, MatchOption, false};
+ghost use Rattle.std.specs.Prelude.{◌≡◌, ◌≤◌, [], ◌∷◌, List, IfOk, IfSome, MatchOption, false};
 ghost use Rattle.lola_save_text.specs.declared.state.SavedPanes.{SavedPanes};
 ghost use Rattle.lola_save_read.specs.Parts.{AreTimes};
 ghost use Rattle.lola_save_read.specs.Readings.{IsEndLine, IsInstLine, IsPanesLine, IsRingLine, IsStreamLine, NoEndLine, NoInstLine, NoPanesLine, NoRingLine, NoStreamLine};
+ghost use Rattle.lola_save_read.specs.Spelled.{AreSpelled};
 ghost use Rattle.lola_save_read.specs.Turns.{seen_after};
 
 use crate::bodies::{inst_body, panes_body, ring_body, stream_body};
 use crate::cuts::{behind, cut_at_lf};
+use crate::spelled::Spelled;
 use lola_save_text::forms::{StreamForm, WindowForm};
 use lola_save_text::state::{SavedInstance, SavedPanes, Times};
 use lola_value::text::{Fields, Memory, Text};
@@ -32,23 +34,26 @@ pub(crate) fn stream_line<'a>(
     }
 }
 
-/// The birth and the parameters that the line of an instance tells, behind these instances of its stream, and what stands behind
-/// that line.
+/// The birth and the parameters that the line of an instance tells, behind these instances of its stream, whose words are spelled, and what
+/// stands behind that line. Afterwards its own words are spelled too.
 pub(crate) fn inst_line<'a>(
     alloc: Global,
     times: Times,
     form: &StreamForm,
     low: u64,
     seen: &[SavedInstance],
+    spelled: &mut Spelled,
     bytes: &'a [u8],
     room: &mut Text,
 ) -> Result<Option<(Option<u64>, Fields, &'a [u8])>, Memory>
-    requires { AreTimes times }
-    ensures { IfOk result (λ read. MatchOption read (NoInstLine times form.now (seen_after [] seen.now) low bytes.now) (λ x. IsInstLine times form.now (seen_after [] seen.now) low bytes.now x.0 x.1 x.2.now)) }
+    requires times { AreTimes times }
+    requires others { AreSpelled spelled.old (seen_after [] seen.now) }
+    ensures read { IfOk result (λ read. MatchOption read (NoInstLine times form.now (seen_after [] seen.now) low bytes.now) (λ x. IsInstLine times form.now (seen_after [] seen.now) low bytes.now x.0 x.1 x.2.now)) }
+    ensures noted { IfOk result (λ read. IfSome read (λ x. AreSpelled spelled.new (x.1 ∷ seen_after [] seen.now))) }
 {
     match cut_at_lf(bytes) {
         None => Ok(None),
-        Some((body, rest)) => match inst_body(alloc, times, form, low, seen, body, room)? {
+        Some((body, rest)) => match inst_body(alloc, times, form, low, seen, spelled, body, room)? {
             None => Ok(None),
             Some((born, params)) => Ok(Some((born, params, rest))),
         },

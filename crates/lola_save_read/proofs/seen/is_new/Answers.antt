@@ -1,14 +1,16 @@
-use Rattle.std.proofs.Common.{not, ap, sym, ◌∙◌}
-use Rattle.lola_value.specs.Arithmetic.{all_equal}
-use Rattle.lola_save_read.proofs.SeenParams.{among-at, among-not-at}
+use Rattle.std.proofs.Common.{[], sym, ◌∙◌}
+use Rattle.lola_save_read.specs.Turns.{seen_after}
+use Rattle.lola_save_read.proofs.SpelledParams.{new-words, spelled-more}
 use Rattle.lola_save_read.proofs.seen.is_new.Goals as goal
 
-pub returns-then-all_equal : goal.returns-then-all_equal
-returns-then-all_equal c =
-    sym (ap not (among-at c.args.params.now c.args.seen.now c.loop-instance.instance-index c.instance-item.result _ c.loop-instance-test.true c.instance-item.is
-    (ap (all_equal c.args.params.now) (sym c.as_slice.ensures) ∙ sym c.all_equal.ensures ∙ c.if-all_equal.true)))
+pub returns-then-fresh-clause-answer : goal.returns-then-fresh-clause-answer
+returns-then-fresh-clause-answer c =
+    new-words c.args.spelled.now c.args.words.now c.args.params.now (seen_after [] c.args.seen.now) c.requires.spelling c.requires.others (sym c.in_ok-fresh.ensures.fresh ∙ c.if-fresh.true)
 
-pub loop-instance-preserved : goal.loop-instance-preserved
-loop-instance-preserved c =
-    among-not-at c.args.params.now c.args.seen.now c.loop-instance.instance-index c.instance-item.result _ c.loop-instance-test.true c.instance-item.is c.loop-instance.invariant
-    (ap (all_equal c.args.params.now) (sym c.as_slice.ensures) ∙ sym c.all_equal.ensures ∙ c.if-all_equal.false)
+pub returns-then-fresh-clause-noted : goal.returns-then-fresh-clause-noted
+returns-then-fresh-clause-noted c =
+    rw c.in_ok-fresh.ensures.words (spelled-more c.args.spelled.now c.args.words.now c.args.params.now (seen_after [] c.args.seen.now) c.requires.spelling c.requires.others)
+
+pub returns-clause-noted : goal.returns-clause-noted
+returns-clause-noted c =
+    rw c.in_ok-fresh.ensures.words (spelled-more c.args.spelled.now c.args.words.now c.args.params.now (seen_after [] c.args.seen.now) c.requires.spelling c.requires.others)
