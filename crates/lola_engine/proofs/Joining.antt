@@ -21,8 +21,8 @@ use Rattle.lola_model.proofs.Growing.{is_ended, model_none}
 use Rattle.lola_model.proofs.Growth.{last_row-append}
 use Rattle.lola_model.proofs.Journals.{accepted-append_accepted, merged_from-append_accepted, table_lines-append, table_lines-append_one}
 use Rattle.lola_model.proofs.Orderly.{of_no_rows}
-use Rattle.lola_step_law.specs.Ready.{HasTexts}
-use Rattle.lola_step_law.proofs.Settled.{settled_at_none}
+use Rattle.lola_step_contents.specs.Ready.{HasTexts}
+use Rattle.lola_step_contents.proofs.Settled.{settled_at_none}
 use Rattle.lola_step.specs.Progress.{IsRun}
 use Rattle.lola_engine.specs.Engines.{AreStarted, Brings, Completes, CutsOut, CutsRow, FailsOut, IsEngine, IsUnderWay, IsWaiting, accepted_entry}
 use Rattle.lola_engine.specs.Going.{Add, CutsOn, FailsOn, Goes, GoesBy, HasKept, HasRun, IsOpenBehind, RunsOn, Tally, lines_after, tally_of}

@@ -11,7 +11,7 @@ use Rattle.lola_model.specs.declared.plan.Plan.{Plan}
 use Rattle.lola_model.specs.declared.spec.Stream.{Stream}
 use Rattle.lola_report_lines.proofs.Sequences.{part_within}
 use Rattle.lola_report_lines.specs.Verdicts.{verdict_text}
-use Rattle.lola_step_law.specs.Ends.{lines_of}
+use Rattle.lola_step_contents.specs.Ends.{lines_of}
 use Rattle.lola_step.specs.Notes.{AreVerdicts, IsVerdict, read_verdict}
 use Rattle.lola_step.specs.declared.verdict.Verdict.{Verdict}
 use Rattle.lola_engine.specs.Shown.{IsShownBy, lines_for}

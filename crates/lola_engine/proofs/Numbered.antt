@@ -7,7 +7,7 @@ use Rattle.lola_value.specs.Arithmetic.{bytes_equal}
 use Rattle.lola_value.specs.Naming.{Naming, text_at}
 use Rattle.lola_model.specs.Named.{are_distinct, is_listed}
 use Rattle.lola_model.proofs.Lookups.{bytes_equal-true, bytes_equal-same}
-use Rattle.lola_step_law.specs.Ready.{HasTexts}
+use Rattle.lola_step_contents.specs.Ready.{HasTexts}
 use Rattle.lola_text.specs.Texts.{Gives, Interns, IsTable, Texts, no_texts, number_in, with_text}
 use Rattle.lola_engine.specs.Read.{numbered}
 

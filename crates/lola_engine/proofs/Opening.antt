@@ -21,7 +21,7 @@ use Rattle.lola_engine.specs.Engines.{IsEngine, IsSound, IsUnderWay, StandsFor}
 use Rattle.lola_engine.specs.Going.{IsMade}
 use Rattle.lola_engine.specs.declared.engine.EngineState.{EngineState}
 use Rattle.lola_engine.proofs.Joining.{none_or, some_is}
-use Rattle.lola_step_law.proofs.Settled.{settled_at_none}
+use Rattle.lola_step_contents.proofs.Settled.{settled_at_none}
 use Rattle.lola_engine.proofs.Ranges.{sound_rows, sound_started}
 
 -- of an empty journal there is nothing

@@ -15,7 +15,7 @@ use Rattle.lola_model.specs.declared.pacing.ClausePacings.{ClausePacings}
 use Rattle.lola_model.specs.declared.plan.Plan.{Plan}
 use Rattle.lola_model.specs.declared.spec.Clause.{Clause}
 use Rattle.lola_model.specs.declared.spec.Stream.{Stream}
-use Rattle.lola_step_law.specs.Ready.{HasTexts}
+use Rattle.lola_step_contents.specs.Ready.{HasTexts}
 use Rattle.lola_text.specs.Texts.{IsTable, Texts}
 use Rattle.lola_step.specs.Progress.{IsOf}
 use Rattle.lola_engine.specs.Rates.{HaveDeadlinesOf}

@@ -18,9 +18,9 @@ use Rattle.lola_model.specs.declared.journal.Show.{Show}
 use Rattle.lola_model.specs.declared.plan.Plan.{Plan}
 use Rattle.lola_model.proofs.Growing.{grown, is_ended, model_more, model_none}
 use Rattle.lola_model.proofs.Orderly.{AreOfRows, answered_orderly, of_more_rows, of_no_rows}
-use Rattle.lola_step_law.specs.Ready.{HasTexts}
-use Rattle.lola_step_law.specs.Stages.{AreSettled}
-use Rattle.lola_step_law.proofs.Settled.{settled_at_none, stay_settled}
+use Rattle.lola_step_contents.specs.Ready.{HasTexts}
+use Rattle.lola_step_contents.specs.Stages.{AreSettled}
+use Rattle.lola_step_contents.proofs.Settled.{settled_at_none, stay_settled}
 use Rattle.lola_step.specs.Progress.{IsOf, IsRun}
 use Rattle.lola_text.specs.Texts.{Texts}
 use Rattle.lola_engine.specs.Behind.{StandsBehind}
@@ -315,3 +315,9 @@ module _ (e : EngineState) (s : Seen) (m : Memories) (before journal : List Entr
 
   pub has_reached : HasReached e.plan e.given_start journal (times_of e)
   has_reached = record { start = told_start h.state; last = told_last (accepted journal) refl; steps = h.steps }
+
+-- of rows it has counted one at most, the last one of those that ran before
+pub few_rows : (start last : Option ℕ) (steps : ℕ) (e : EngineState) → e.rows ≡ 0 → (going_on start last steps e).rows ≤ 1
+few_rows None last steps e none = omega (arith, none)
+few_rows (Some start) None steps e none = omega (arith, none)
+few_rows (Some start) (Some last) steps e none = omega arith

@@ -14,8 +14,8 @@ use Rattle.lola_model.specs.declared.plan.Plan.{Plan}
 use Rattle.lola_model.specs.declared.journal.Show.{Show}
 use Rattle.lola_model.proofs.Journals.{table_lines-append_one, text_of-append}
 use Rattle.lola_model.proofs.Orderly.{answered_grows, answered_orderly, of_more_rows}
-use Rattle.lola_step_law.specs.Ends.{lines_of}
-use Rattle.lola_step_law.proofs.Settled.{stay_settled}
+use Rattle.lola_step_contents.specs.Ends.{lines_of}
+use Rattle.lola_step_contents.proofs.Settled.{stay_settled}
 use Rattle.lola_step.specs.Notes.{read_verdict}
 use Rattle.lola_step.specs.Progress.{IsRun}
 use Rattle.lola_step.specs.Steps.{IsDoneStep}

@@ -12,8 +12,8 @@ use Rattle.lola_value.specs.declared.value.TextId.{TextId}
 use Rattle.lola_value.specs.Naming.{Naming, text_at}
 use Rattle.lola_model.specs.Reading.{IsHeldBy}
 use Rattle.lola_model.proofs.Growing.{slice_get_some}
-use Rattle.lola_step_law.specs.Ready.{HasTexts}
-use Rattle.lola_text_sweep.specs.Needed.{KeepsTexts}
+use Rattle.lola_step_contents.specs.Ready.{HasTexts}
+use Rattle.lola_text.specs.Needed.{KeepsTexts}
 use Rattle.lola_text.specs.Texts.{AreBetween, Gives, Interns, IsTable, Texts, is_among, number_in, swept}
 use Rattle.lola_engine.specs.Sweeps.{AddsTexts, LetsGo, TakesTexts, count_left, has_too_many, literals_from, needed, texts_left}
 

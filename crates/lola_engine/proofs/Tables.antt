@@ -10,7 +10,7 @@ use Rattle.lola_model.specs.declared.plan.Plan.{Plan}
 use Rattle.lola_model.specs.declared.spec.Stream.{Stream}
 use Rattle.lola_model.proofs.Growth.{last_row-append}
 use Rattle.lola_model.proofs.Journals.{table_lines-append}
-use Rattle.lola_step_law.proofs.Quiet.{asked_at}
+use Rattle.lola_step_contents.proofs.Quiet.{asked_at}
 use Rattle.lola_model.proofs.Growing.{ended_by_fault, grown, is_ended, model_more, row_fault_some}
 
 -- one more step, and those after it

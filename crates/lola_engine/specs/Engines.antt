@@ -16,7 +16,7 @@ use Rattle.lola_model.specs.Texts.{text_of}
 use Rattle.lola_model.specs.declared.journal.Entry.{Entry}
 use Rattle.lola_model.specs.declared.journal.Mark.TheVariants as mark
 use Rattle.lola_model.specs.declared.journal.Row.{Row}
-use Rattle.lola_step_law.specs.Ready.{HasTexts}
+use Rattle.lola_step_contents.specs.Ready.{HasTexts}
 use Rattle.lola_text.specs.Texts.{IsTable}
 use Rattle.lola_step.specs.Progress.{IsOf, IsRun}
 use Rattle.lola_step.specs.Scratches.{IsScratchOf}

@@ -5,7 +5,7 @@ ghost use Rattle.std.specs.List.{AllZip};
 ghost use Rattle.lola_model.specs.Named.{are_distinct};
 ghost use Rattle.lola_model.specs.Reading.{IsHeldBy};
 ghost use Rattle.lola_model.specs.Trace.{IsFieldOf, input_kinds};
-ghost use Rattle.lola_step_law.specs.Ready.{HasTexts};
+ghost use Rattle.lola_step_contents.specs.Ready.{HasTexts};
 ghost use Rattle.lola_step.specs.Moments.{ReadAs};
 ghost use Rattle.lola_step.specs.Steps.{AreOfInputs};
 ghost use Rattle.lola_text.specs.Texts.{IsTable, no_texts};

@@ -4,7 +4,7 @@ ghost use Rattle.std.specs.Prelude.{◌≡◌, ◌≤◌, ◌++◌, length, map,
 ghost use Rattle.lola_value.specs.Appending.{AppendsPart};
 ghost use Rattle.lola_value.specs.Naming.{Naming, read, read_params};
 ghost use Rattle.lola_model.specs.Texts.{text_of};
-ghost use Rattle.lola_step_law.specs.Ends.{lines_of};
+ghost use Rattle.lola_step_contents.specs.Ends.{lines_of};
 ghost use Rattle.lola_step.specs.Notes.{AreVerdicts, IsVerdict, read_verdict};
 ghost use Rattle.lola_engine.specs.Shown.{IsShownBy, lines_for};
 

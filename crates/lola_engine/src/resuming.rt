@@ -5,7 +5,7 @@ ghost use Rattle.std.specs.Option.{option_map};
 ghost use Rattle.lola_value.specs.Naming.{text_at};
 ghost use Rattle.lola_model.specs.Acceptance.{IsAccepted};
 ghost use Rattle.lola_model.specs.declared.journal.Entry.{Entry};
-ghost use Rattle.lola_step_law.specs.Ready.{HasTexts};
+ghost use Rattle.lola_step_contents.specs.Ready.{HasTexts};
 ghost use Rattle.lola_engine.specs.Behind.{StandsBehind};
 ghost use Rattle.lola_engine.specs.Engines.{IsEngine, IsOptionInTime};
 ghost use Rattle.lola_engine.specs.Resuming.{HasReached, IsLeftAt, IsRestored, going_on, times_of};
@@ -15,7 +15,7 @@ use crate::times::RunTimes;
 use lola_model::journal::Show;
 use lola_model::plan::Plan;
 use lola_text::TextTable;
-use lola_text_sweep::store::TextStore;
+use lola_text::store::TextStore;
 use lola_value::text::Memory;
 use lola_value::value::TextId;
 use std::alloc::Global;
@@ -75,6 +75,7 @@ impl<S: TextStore + Sync> Engine<S> {
         ensures show { IfOk result (λ engine. engine.state.show ≡ show) }
         ensures counts { IfOk result (λ engine. (engine.state.steps ≡ 0) × (engine.state.lines ≡ 0)) }
         ensures times { IfOk result (λ engine. times_of engine.state ≡ times) }
+        ensures rows { IfOk result (λ engine. engine.state.rows ≤ 1) }
         ensures stands { IfOk result (λ engine. (given_start : Option ℕ) (journal : List Entry) → IsLeftAt plan texts.held (S.remembers store) (S.seen store) times given_start journal
             → StandsBehind engine.state (S.seen engine.store) (S.remembers engine.store) journal journal) }
     {

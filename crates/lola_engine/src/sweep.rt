@@ -1,14 +1,14 @@
 //! Letting go of texts that nothing needs.
 
 ghost use Rattle.std.specs.Prelude.{◌≡◌, ◌+◌, ◌*◌, ◌^◌, ◌≤◌, ◌++◌, IsTrue, OnOk, OnErr, length};
-ghost use Rattle.lola_step_law.specs.Ready.{HasTexts};
+ghost use Rattle.lola_step_contents.specs.Ready.{HasTexts};
 ghost use Rattle.lola_text.specs.Texts.{IsTable, swept};
 ghost use Rattle.lola_engine.specs.Sweeps.{LetsGo, has_too_many, literals_from, needed};
 
 use lola_model::plan::Plan;
 use lola_text::TextTable;
-use lola_text_sweep::ids::Ids;
-use lola_text_sweep::store::TextStore;
+use lola_text::ids::Ids;
+use lola_text::store::TextStore;
 use lola_value::text::Memory;
 use lola_value::value::TextId;
 

@@ -17,7 +17,7 @@ use lola_rows::laws::rows_fit;
 use lola_rows::{RowAnswer, RowReader};
 use lola_store::store::WholeStore;
 use lola_text::keys::fixed_keys;
-use lola_text_sweep::store::TextStore;
+use lola_text::store::TextStore;
 use lola_value::text::{Memory, Text};
 use std::alloc::Global;
 use std::thread::Threads;

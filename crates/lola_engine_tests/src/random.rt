@@ -11,15 +11,15 @@ use std::test::Fail;
 use std::thread::Threads;
 
 /// Offsets, holds and windows of each aggregation, over numbers and texts.
-const VALUES: &str =
+pub(crate) const VALUES: &str =
     "input a: Int64\ninput s: String\noutput x: Int64 := x.offset(by: -1).defaults(to: 0) + a\noutput y: Int64 := a.offset(by: -3).defaults(to: 0)\noutput back: String := s.offset(by: -2).defaults(to: \"none\")\noutput same: Bool := s == s.last(or: \"\")\noutput odd: Bool := a % 2 == 1\noutput held: String @2Hz := s.hold(or: \"nothing\")\noutput n: UInt64 @2Hz := a.aggregate(over: 2s, using: count)\noutput sum: Int64 @1Hz := x.aggregate(over: 3s, using: sum)\noutput least: Int64 @2Hz := a.aggregate(over: 1500ms, using: min).defaults(to: 77)\noutput most: Int64 @1Hz := a.aggregate(over: 3s, using: max).defaults(to: 77)\noutput mean: Int64 @2Hz := a.aggregate(over_exactly: 2s, using: avg).defaults(to: 99)\noutput all: Bool @1Hz := odd.aggregate(over: 2s, using: forall)\noutput any: Bool @1Hz := odd.aggregate(over_exactly: 4s, using: exists).defaults(to: false)\noutput texts: UInt64 @1Hz := s.aggregate(over: 2s, using: count)\n";
 
 /// Instances that are born, closed and born again, by numbers and by texts, with windows onto them.
-const INSTANCES: &str =
+pub(crate) const INSTANCES: &str =
     "input a: Int64\ninput s: String\noutput z(p: Int64): Int64\n  spawn with a\n  eval @a when a == p with z(p).last(or: 0) + 1\n  close when a == 0\noutput count(name: String): Int64\n  spawn with s\n  eval @s when s == name with count(name).offset(by: -2).defaults(to: 0) + 1\n  close @a when a == 3\noutput seen: UInt64 @1Hz := z(1).aggregate(over: 3s, using: count)\noutput best: Int64 @2Hz := count(\"p\").aggregate(over: 2s, using: max).defaults(to: 55)\noutput now: Int64 @2Hz := z(2).hold(or: 66)\noutput q: Int64 @1Hz := count(\"q\").hold(or: 44)\n";
 
 /// Instances whose deadlines count from their births: of eval clauses, of close clauses, and beside a rate that counts from the start.
-const LOCALS: &str =
+pub(crate) const LOCALS: &str =
     "input a: Int64\ninput s: String\noutput z(p: Int64): Int64\n  spawn with a\n  eval @Local(2Hz) with z(p).last(or: 0) + a.hold(or: 0)\n  close @a when a == 0\noutput beats(name: String): Int64\n  spawn with s\n  eval @s when s == name with beats(name).last(or: 0) + 1\n  close @Local(1500ms) when ticks(name).hold(or: 0) > 2 * beats(name).hold(or: 0)\noutput ticks(name: String): Int64\n  spawn with s\n  eval @Local(700ms) with ticks(name).last(or: 0) + 1\n  close @Local(2s) when ticks(name).hold(or: 0) > beats(name).hold(or: 0)\noutput sum: Int64 @Global(2Hz) := z(1).hold(or: 66) + z(2).hold(or: 77)\noutput seen: UInt64 @1Hz := ticks(\"p\").aggregate(over: 3s, using: count)\n";
 
 /// Sums of instances that leave their kind at a deadline that counts from a birth.
@@ -72,7 +72,7 @@ fn put_text(dice: &mut Dice, text: &mut String) -> Result<(), Fail> {
 }
 
 /// A source of sixty rows, at stamps that mostly rise, by tenths of a second.
-fn source(alloc: Global, seed: u64) -> Result<String, Fail> {
+pub(crate) fn source(alloc: Global, seed: u64) -> Result<String, Fail> {
     let mut dice = Dice(seed);
     let mut text = String::from_str(alloc, "time,a,s\n")?;
     let mut tenths: u64 = 10;

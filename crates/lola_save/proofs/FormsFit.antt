@@ -91,7 +91,7 @@ form-of layout forms i form h e = let at : 0 + i ≡ i = omega arith in subst (�
 
 -- and there are as many as streams
 
-many-layouts : (ss : List Stream) (kept : List ℕ) (pacings : List ClausePacings) → length (layouts_from ss kept pacings) ≡ length ss
+pub many-layouts : (ss : List Stream) (kept : List ℕ) (pacings : List ClausePacings) → length (layouts_from ss kept pacings) ≡ length ss
 many-layouts [] kept pacings = refl
 many-layouts (s ∷ ss) kept pacings = ap suc (many-layouts ss (drop 1 kept) (drop 1 pacings))
 

@@ -24,7 +24,7 @@ map-drop f zero xs = refl
 map-drop f (suc n) [] = refl
 map-drop f (suc n) (x ∷ xs) = map-drop f n xs
 
-last-kept : (kept : ℕ) (vs : List (ℕ × Field)) → keep_last kept (map (λ (v : ℕ × Field). v.1) vs) ≡ last_values kept vs
+pub last-kept : (kept : ℕ) (vs : List (ℕ × Field)) → keep_last kept (map (λ (v : ℕ × Field). v.1) vs) ≡ last_values kept vs
 last-kept kept vs =
     ap (λ (n : ℕ). drop (n - kept) (map (λ (v : ℕ × Field). v.1) vs)) (length-map vs (λ (v : ℕ × Field). v.1))
     ∙ sym (map-drop (λ (v : ℕ × Field). v.1) (length vs - kept) vs)

@@ -1,2 +1,4 @@
 pub mod Taken
 pub mod Fitting
+pub mod Loaded
+pub mod Opening

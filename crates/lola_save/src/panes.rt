@@ -13,7 +13,7 @@ ghost use Rattle.lola_save.specs.Taken.{ArePartsOf, HavePanes};
 
 use lola_instances::law::panes_stand_for_values;
 use lola_instances::store::BoundedStore;
-use lola_save_panes_law::law::{kept_partials_are_same, newest_panes_are_same};
+use lola_save_law::panes::{kept_partials_are_same, newest_panes_are_same};
 use lola_save_text::forms::WindowForm;
 use lola_save_text::state::{InstancePanes, Partials, SavedPanes};
 use lola_value::text::Memory;

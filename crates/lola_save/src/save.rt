@@ -11,12 +11,12 @@ ghost use Rattle.lola_save_text.specs.Lines.{state_text};
 ghost use Rattle.lola_save_law.specs.JournalStates.{state_of};
 
 use crate::instances::streams_of;
+use crate::write::write_state;
 use lola_engine::engine::Engine;
 use lola_instances::law::accepted_is_storable;
 use lola_instances::store::BoundedStore;
 use lola_save_text::forms::{StreamForm, stream_forms};
 use lola_save_text::state::SavedState;
-use lola_save_write::write::write_state;
 use lola_value::text::{Memory, Text};
 use std::alloc::Global;
 

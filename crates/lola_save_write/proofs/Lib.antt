@@ -1,4 +1,0 @@
-pub mod SoFar
-pub mod Items
-pub mod LineRows
-pub mod Whole
