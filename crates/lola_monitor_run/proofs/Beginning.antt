@@ -1,18 +1,23 @@
 -- Workers that are ready, and a run that has not begun.
-use Rattle.std.proofs.Common.{◌≡◌, ℕ, List, [], Option, None, true, length, sym, ap, ◌∙◌, arith}
+use Rattle.std.proofs.Common.{◌≡◌, ℕ, List, [], Option, None, true, length, refl, sym, ap, ◌∙◌, subst, arith}
 use Rattle.std.proofs.lemmas.List.{length-replicate}
 use Rattle.std.specs.Prelude.{map}
 use Rattle.lola_port.specs.States.{SinkState}
+use Rattle.lola_model.specs.Journal.{opening_time}
 use Rattle.lola_model.specs.declared.plan.Plan.{Plan}
+use Rattle.lola_model.specs.declared.journal.Entry.{Entry}
 use Rattle.lola_merge.specs.Merging.{Merging, opening}
 use Rattle.lola_feed.specs.Feeding.{Working, handed_in}
 use Rattle.lola_monitor_run.specs.Running.{Keeping, Stands, setting_in}
-use Rattle.lola_monitor_run.proofs.Entries.{all_put}
-use Rattle.lola_monitor_run.specs.Feeds.{AreReady, Feeding, IsFresh, IsIdle, RanOutOfMemory, World, supplies_of, supply_of, world}
+use Rattle.lola_monitor_run.specs.Behind.{AtFirst, Beginning, HasTakenNone, RanOutOfMemoryBehind, StandsFrom, front_of}
+use Rattle.lola_monitor_run.specs.Feeds.{AreReady, Feeding, IsFresh, IsIdle, RanOutOfMemory, Supply, World, supplies_of, supply_of, world}
 use Rattle.lola_monitor_run.specs.Turning.{SoFar}
 use Rattle.lola_monitor_run.proofs.Going.{begun, in_rounds}
 use Rattle.lola_monitor_run.proofs.Rounding.{few_sources, fresh_sources}
-use Rattle.lola_monitor_run.proofs.Runs.{started}
+use Rattle.lola_monitor_run.proofs.Runs.{all_now, legal_now, none_taken, started}
+use Rattle.lola_monitor_run.proofs.Taking.{stands_first}
+use Rattle.lola_monitor_run.proofs.TextsBehind.{all_put_behind}
+use Rattle.lola_monitor_run.proofs.Anew.{out_of_memory_first}
 
 -- workers that are ready, at any merge object, have not begun
 pub ready_fresh : (plan : Plan) (feed : Feeding) → AreReady plan feed.workers → IsFresh feed
@@ -22,36 +27,48 @@ ready_fresh plan feed ready = record {
 }
 
 -- at a merge object that has just been made they are between turns
-pub ready_idle : (kept : Keeping) (feed : Feeding) (sources : ℕ) (start : Option ℕ) → Stands [] kept → AreReady kept.state.plan feed.workers → start ≡ kept.state.given_start
+pub ready_idle : (kept : Keeping) (feed : Feeding) (sources : ℕ) (start : Option ℕ) → AreReady kept.state.plan feed.workers → opening_time start ≡ kept.state.merged
     → sources ≡ length feed.workers → feed.merging ≡ opening sources start → feed.batch ≡ [] → IsIdle feed kept
-ready_idle kept feed sources start stands ready same many made batch = record {
+ready_idle kept feed sources start ready same many made batch = record {
   pending = ap (λ (m : Merging). m.pending) made;
   batch = batch;
   lets_in = ap (λ (m : Merging). m.closed) made;
-  merged = ap (λ (m : Merging). m.merged) made ∙ (ap (λ o. (opening sources o).merged) same ∙ sym stands.engine.merged);
+  merged = ap (λ (m : Merging). m.merged) made ∙ same;
   many = ap (λ (m : Merging). length m.finished) made ∙ (length-replicate sources _ ∙ many);
   workers = λ s w is. (ready.new s w is).2;
 }
 
+-- what is said of the sources of a feed is said of the workers that it was made of, and of those that come out of it
+pub over_workers : (Says : List Supply → List Supply → Type 0) (made left : Feeding) (olds news : List Working) (merging : Merging) (batch : List Entry) → made ≡ record { workers = olds; merging = merging; batch = batch }
+    → news ≡ left.workers → Says (supplies_of made) (supplies_of left) → Says (map supply_of olds) (map supply_of news)
+over_workers Says made left olds news merging batch is back says =
+    subst (λ (ws : List Working). Says (map supply_of olds) (map supply_of ws)) (sym back) (subst (λ (feed : Feeding). Says (supplies_of feed) (supplies_of left)) is says)
+
 -- a run for which there was no memory before its first row
-cut_at_first : (first : World) → SoFar first 0 0 first → RanOutOfMemory true first first
-cut_at_first first so = record {
+cut_at_first : (first : World) (b : Beginning) → SoFar first 0 0 first → StandsFrom b (front_of b) first.kept → RanOutOfMemoryBehind (front_of b) first first
+cut_at_first first b so stood = record {
   came = record {
     journal = so.journal;
-    legal = so.stands.legal;
+    legal = legal_now first first refl b so.journal (so.stands b stood);
     sources = so.drawn.of_sources;
     traceable = so.traceable;
-    rounds = λ turns. in_rounds first 0 0 first.sources so.journal (omega arith) so.drawn;
+    rounds = in_rounds first 0 0 first.sources so.journal (omega arith) so.drawn;
   };
   begun = begun first.sources first.sources so.journal so.drawn.fed;
   trace = so.trace;
-  out = all_put (setting_in first.kept) so.journal first.out first.out so.out;
+  out = all_put_behind (setting_in first.kept) (front_of b) so.journal first.out first.out (all_now first first refl b so.journal (so.stands b stood)) (so.out b stood);
 }
 
--- a run of ready workers for which there was no memory to begin
+-- a run of ready workers for which there was no memory to begin, or to go on
+pub never_went_on : (kept : Keeping) (workers : List Working) (out trace : SinkState) (b : Beginning) → HasTakenNone kept → StandsFrom b (front_of b) kept → AreReady kept.state.plan workers
+    → RanOutOfMemoryBehind (front_of b) (world kept (map supply_of workers) out trace) (world kept (map supply_of workers) out trace)
+never_went_on kept workers out trace b none stood ready =
+    let feed : Feeding = record { workers = workers; merging = opening 0 None; batch = [] } in
+    cut_at_first (world kept (supplies_of feed) out trace) b
+    (started (world kept (supplies_of feed) out trace) (few_sources feed ready.many.1) none (fresh_sources feed (ready_fresh kept.state.plan feed ready))) stood
+
 pub never_begun : (kept : Keeping) (workers : List Working) (out trace : SinkState) → Stands [] kept → AreReady kept.state.plan workers
     → RanOutOfMemory true (world kept (map supply_of workers) out trace) (world kept (map supply_of workers) out trace)
 never_begun kept workers out trace stands ready =
-    let feed : Feeding = record { workers = workers; merging = opening 0 None; batch = [] } in
-    cut_at_first (world kept (supplies_of feed) out trace)
-    (started (world kept (supplies_of feed) out trace) (few_sources feed ready.many.1) stands (fresh_sources feed (ready_fresh kept.state.plan feed ready)))
+    out_of_memory_first (world kept (map supply_of workers) out trace) (world kept (map supply_of workers) out trace)
+    (never_went_on kept workers out trace AtFirst (none_taken kept stands) (stands_first [] kept stands) ready)

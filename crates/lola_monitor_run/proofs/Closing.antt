@@ -19,7 +19,7 @@ use Rattle.lola_monitor_run.specs.Feeds.{CameTo, EndedByCutFault, EndedByFault, 
 use Rattle.lola_monitor_run.proofs.Going.{begun}
 
 -- the lines of the whole model, in a setting
-abbrev CompletesIn : Setting → List Entry → List (List ℕ) → Type 0
+abbrev pub CompletesIn : Setting → List Entry → List (List ℕ) → Type 0
 CompletesIn s journal lines = final_lines s.plan s.start journal s.show ≡ settled_lines s.plan s.start journal s.show ++ lines
 
 all_text : (s : Setting) (journal : List Entry) (lines : List (List ℕ)) → CompletesIn s journal lines → verdicts s journal ≡ settled_text s journal ++ text_of lines

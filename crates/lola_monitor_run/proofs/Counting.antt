@@ -76,8 +76,8 @@ room_left first n k now so =
     let rows = journal_total (length first.sources) so.journal so.drawn.of_sources in
     let m = so.few in
     record {
-      engine = omega (arith, so.stands.engine.rows, so.stands.accepted, so.stands.late, count, few, rows, m);
-      rows = omega (arith, so.stands.accepted, so.stands.late, count, few, rows, m);
+      engine = omega (arith, so.rows, count, few, rows, m);
+      rows = omega (arith, so.accepted, so.late, count, few, rows, m);
     }
 
 -- what is left of sources falls where one is changed and may take less

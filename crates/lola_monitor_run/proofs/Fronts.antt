@@ -27,7 +27,7 @@ module _ (s : Setting) (journal : List Entry) where
   ended_by fault is = sym (ended_by_fault (settled_model s.plan s.start journal)) ∙ ap is_some is
 
   -- the settled lines are a front of all
-  lines_front : (more : List (List ℕ)) × (final_lines s.plan s.start journal s.show ≡ settled_lines s.plan s.start journal s.show ++ more)
+  pub lines_front : (more : List (List ℕ)) × (final_lines s.plan s.start journal s.show ≡ settled_lines s.plan s.start journal s.show ++ more)
   unfolding final_lines settled_lines
   lines_front =
       let w = whole_front in (
@@ -40,7 +40,7 @@ module _ (s : Setting) (journal : List Entry) where
   text_front = let l = lines_front in (text_of l.0, ap text_of l.1 ∙ text_of-append (settled_lines s.plan s.start journal s.show) l.0)
 
   module _ (fault : RunFault) (is : settled_fault_in s journal ≡ Some fault) where
-    lines_stay : final_lines s.plan s.start journal s.show ≡ settled_lines s.plan s.start journal s.show
+    pub lines_stay : final_lines s.plan s.start journal s.show ≡ settled_lines s.plan s.start journal s.show
     unfolding final_lines settled_lines
     lines_stay = ap (table_lines s.show s.plan.spec.streams) (whole_stays (ended_by fault is))
 
@@ -54,6 +54,10 @@ module _ (s : Setting) (journal : List Entry) where
     text_stays = ap text_of lines_stay
 
 -- no row of a journal: no verdict and no fault
+pub no_lines : (s : Setting) → settled_lines s.plan s.start [] s.show ≡ []
+unfolding settled_lines settled_model
+no_lines s = refl
+
 pub nothing_settled : (s : Setting) → settled_text s [] ≡ []
 unfolding settled_lines settled_model
 nothing_settled s = refl

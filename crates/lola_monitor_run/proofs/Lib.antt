@@ -2,6 +2,7 @@ pub mod Sinks
 pub mod Entries
 pub mod Fronts
 pub mod Taking
+pub mod TextsBehind
 pub mod Listing
 pub mod Lists
 pub mod Turns
@@ -11,5 +12,7 @@ pub mod Counting
 pub mod Stepping
 pub mod Runs
 pub mod Closing
+pub mod ClosingBehind
+pub mod Anew
 pub mod Rounding
 pub mod Beginning

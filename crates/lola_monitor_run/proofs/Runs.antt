@@ -1,50 +1,68 @@
 -- How a run goes on, and how its rows end.
-use Rattle.std.proofs.Common.{◌≡◌, ℕ, suc, ◌⊎◌, ◌<◌, ◌≤◌, List, [], ◌∷◌, ◌++◌, Option, None, Some, Ok, Err, Bool, true, false, sym, ap, ◌∙◌, refl, inl, inr, arith, subst, length}
+use Rattle.std.proofs.Common.{◌≡◌, ℕ, suc, ◌⊎◌, ◌+◌, ◌<◌, ◌≤◌, List, [], ◌∷◌, ◌++◌, Option, None, Some, Result, Ok, Err, Bool, true, false, sym, ap, ◌∙◌, refl, inl, inr, arith, subst, append_assoc, length}
+use Rattle.std.proofs.lemmas.List.{append-nil}
 use Rattle.std.specs.Prelude.{slice_get}
 use Rattle.lola_port.specs.States.{PutBroke, SinkState, grown}
-use Rattle.lola_model.specs.Journal.{IsLegal}
+use Rattle.lola_model.specs.Journal.{IsLegal, accepted}
 use Rattle.lola_model.specs.Faults.{RunFault}
 use Rattle.lola_model.specs.Texts.{text_of}
 use Rattle.lola_model.specs.Trace.{IsTraceable, trace_line, trace_text}
 use Rattle.lola_model.specs.declared.journal.Entry.{Entry}
 use Rattle.lola_model.proofs.Journals.{trace_text-append_one}
 use Rattle.lola_engine.specs.Engines.{Brings}
-use Rattle.lola_monitor_run.specs.Verdicts.{AreTraceable, IsRowFault, Setting, settled_fault_in, settled_text}
-use Rattle.lola_monitor_run.specs.Running.{IsAccepted, IsSetAs, Stands, setting_in}
+use Rattle.lola_monitor_run.specs.Verdicts.{AreTraceable, Setting, settled_fault_in}
+use Rattle.lola_monitor_run.specs.Running.{IsAccepted, IsGoing, IsSetAs, Keeping, Stands, setting_in}
 use Rattle.lola_monitor_run.specs.declared.stop.Stop.{Stop}
 use Rattle.lola_monitor_run.specs.declared.stop.Stop.TheVariants as stop
-use Rattle.lola_monitor_run.proofs.Entries.{BringsIn, accepted_is, all_put, cut_at_row, last_not_put, text_more, told_more}
-use Rattle.lola_monitor_run.proofs.Fronts.{nothing_settled}
+use Rattle.lola_monitor_run.specs.Feeds.{GoInRounds, HaveEnded, IsSound, RanToEnd, Supply, World}
+use Rattle.lola_monitor_run.specs.Behind.{AtFirst, Beginning, CameBehind, Following, HasTakenNone, IsBehind, IsRowFaultBehind, RanOutOfMemoryBehind, RanToCutFaultBehind, RanToEndBehind, RanToFailedPutBehind, RanToFaultBehind, RanToRowCutBehind, RanToTraceCutBehind, RunsBehind, StandsFrom, front_of, settled_behind}
+use Rattle.lola_monitor_run.specs.Turning.{Drawn, NotTraced, OutCut, OutKept, Passed, RunsOn, SawCutFault, SawFault, SoFar, Stepped, Steps, StopsFrom, Touched, TraceCut, Traced}
+use Rattle.lola_monitor_run.proofs.Entries.{BringsIn, accepted_is, told_more}
 use Rattle.lola_monitor_run.proofs.Sinks.{broke_behind, grown_nil, more_text}
-use Rattle.lola_monitor_run.proofs.Taking.{legal_more}
-use Rattle.lola_monitor_run.specs.Feeds.{CameTo, GoInRounds, HaveEnded, IsSound, RanOutOfMemory, RanToCutFault, RanToEnd, RanToFault, RanToFailedPut, RanToRowCut, RanToTraceCut, Runs, Supply, World}
-use Rattle.lola_monitor_run.specs.Turning.{Drawn, NotTraced, OutCut, OutKept, Passed, SawCutFault, SawFault, SoFar, Stepped, Steps, Touched, TraceCut, Traced}
+use Rattle.lola_monitor_run.proofs.Taking.{accepted_append, engine_fine, late_append, legal_more, no_fewer_lines, stands_first}
+use Rattle.lola_monitor_run.proofs.TextsBehind.{HasAll, all_put_behind, cut_at_row_behind, has_all_more, last_not_put_behind, nothing_behind, settled_first, settled_more}
 use Rattle.lola_monitor_run.proofs.Drawing.{drawn_none, draws, round_drawn, sits}
 use Rattle.lola_monitor_run.proofs.Going.{begun, in_rounds, touched_in_rounds}
 
--- a run has begun
-pub started : (first : World) → length first.sources ≤ 64 → Stands [] first.kept
+-- a run that stands for the empty journal has counted no entry
+pub none_taken : (kept : Keeping) → Stands [] kept → HasTakenNone kept
+none_taken kept stands = let rows = stands.engine.rows in record { going = stands.going; accepted = stands.accepted; late = stands.late; rows = omega (arith, rows) }
+
+-- a run has begun, or begins to go on
+pub started : (first : World) → length first.sources ≤ 64 → HasTakenNone first.kept
     → ((s : ℕ) (source : Supply) → slice_get first.sources s ≡ Some source → (source.end ≡ None) × (source.number ≡ 0)) → SoFar first 0 0 first
 started first few fresh none = record {
   few = few;
   journal = [];
-  stands = fresh;
   drawn = drawn_none first none;
   setting = refl;
   traceable = tt;
   trace = sym (grown_nil first.trace);
-  out = sym (grown_nil first.out) ∙ ap (grown first.out) (sym (nothing_settled (setting_in first.kept)));
+  going = fresh.going;
+  rows = omega (arith, fresh.rows);
+  late = fresh.late;
+  accepted = fresh.accepted;
+  stands = λ b stands. subst (λ (j : List Entry). StandsFrom b j first.kept) (sym (append-nil (front_of b))) stands;
+  out = λ b stands. sym (grown_nil first.out) ∙ ap (grown first.out) (sym (nothing_behind (setting_in first.kept) (front_of b)));
 }
 
 -- a journal that is legal for a run is so for what the run was made for
 legal_first : (first now : World) (journal : List Entry) → IsSetAs first.kept now.kept → IsLegal now.kept.state.given_start journal → IsLegal first.kept.state.given_start journal
 legal_first first now journal setting legal = subst (λ (o : Option ℕ). IsLegal o journal) (ap (λ (s : Setting). s.start) setting) legal
 
-module _ (first : World) (n k : ℕ) (now next : World) (within : k < length first.sources) (so : SoFar first n k now) (entry : Entry) (traced : Traced k entry now next) where
-  -- the journal with the entry is legal, and all of it was drawn and traced
-  pub legal_is : IsLegal first.kept.state.given_start (so.journal ++ entry ∷ [])
-  legal_is = legal_first first now (so.journal ++ entry ∷ []) so.setting (legal_more so.journal entry now.kept so.stands traced.mark)
+-- what a run stands for at first, whatever it is
+module _ (first now : World) (setting : IsSetAs first.kept now.kept) (b : Beginning) (journal : List Entry) (stands : StandsFrom b (front_of b ++ journal) now.kept) where
+  pub legal_now : IsLegal first.kept.state.given_start (front_of b ++ journal)
+  legal_now = legal_first first now (front_of b ++ journal) setting stands.legal
 
+  pub fine_now : settled_fault_in (setting_in first.kept) (front_of b ++ journal) ≡ None
+  fine_now = ap (λ (s : Setting). settled_fault_in s (front_of b ++ journal)) (sym setting) ∙ engine_fine b (front_of b ++ journal) now.kept stands.engine
+
+  pub all_now : HasAll (setting_in first.kept) (front_of b) journal
+  all_now = subst (λ (s : Setting). HasAll s (front_of b) journal) setting (no_fewer_lines b (front_of b ++ journal) now.kept stands.engine)
+
+module _ (first : World) (n k : ℕ) (now next : World) (within : k < length first.sources) (so : SoFar first n k now) (entry : Entry) (traced : Traced k entry now next) where
+  -- all of the journal with the entry was drawn and traced
   pub drawn_is : Drawn first n (suc k) next.sources (so.journal ++ entry ∷ [])
   drawn_is = draws first n k now.sources so.journal so.drawn now.kept.state.plan next.sources entry traced.took
 
@@ -57,37 +75,74 @@ module _ (first : World) (n k : ℕ) (now next : World) (within : k < length fir
   pub trace_is : next.trace ≡ grown first.trace (trace_text (so.journal ++ entry ∷ []))
   trace_is = more_text _ _ _ _ _ _ so.trace traced.trace (trace_text-append_one so.journal entry)
 
-  pub text_is : (lines : List (List ℕ)) → Brings now.kept.state so.journal entry lines → settled_text (setting_in first.kept) (so.journal ++ entry ∷ []) ≡ settled_text (setting_in first.kept) so.journal ++ text_of lines
-  text_is lines brings = text_more (setting_in first.kept) so.journal entry lines (subst (λ (s : Setting). BringsIn s so.journal entry lines) so.setting brings)
+  module _ (b : Beginning) (stood : StandsFrom b (front_of b) first.kept) where
+    -- it is legal
+    legal_is : IsLegal first.kept.state.given_start (front_of b ++ (so.journal ++ entry ∷ []))
+    legal_is =
+        legal_first first now (front_of b ++ (so.journal ++ entry ∷ [])) so.setting
+        (subst (λ (j : List Entry). IsLegal now.kept.state.given_start j) (append_assoc (front_of b) so.journal (entry ∷ [])) (legal_more b (front_of b ++ so.journal) entry now.kept (so.stands b stood) traced.mark))
 
-  abbrev came_on : CameTo true first next
-  came_on = record { journal = so.journal ++ entry ∷ []; legal = legal_is; sources = drawn_is.of_sources; traceable = told_is; rounds = λ turns. rounds_are }
+    module _ (lines : List (List ℕ)) (brings : Brings now.kept.state (front_of b ++ so.journal) entry lines) where
+      brings_is : BringsIn (setting_in first.kept) (front_of b ++ so.journal) entry lines
+      brings_is = subst (λ (s : Setting). BringsIn s (front_of b ++ so.journal) entry lines) so.setting brings
+
+      text_is : settled_behind (setting_in first.kept) (front_of b) (so.journal ++ entry ∷ []) ≡ settled_behind (setting_in first.kept) (front_of b) so.journal ++ text_of lines
+      text_is = settled_more (setting_in first.kept) (front_of b) so.journal entry lines brings_is (all_now first now so.setting b so.journal (so.stands b stood))
+
+      all_is : HasAll (setting_in first.kept) (front_of b) (so.journal ++ entry ∷ [])
+      all_is = has_all_more (setting_in first.kept) (front_of b) so.journal entry lines brings_is (all_now first now so.setting b so.journal (so.stands b stood))
+
+    -- the journal of a row's fault, and its verdicts, are said of front and journal
+    fault_is : (fault : RunFault) → settled_fault_in (setting_in now.kept) ((front_of b ++ so.journal) ++ entry ∷ []) ≡ Some fault → settled_fault_in (setting_in first.kept) (front_of b ++ (so.journal ++ entry ∷ [])) ≡ Some fault
+    fault_is fault is =
+        ap (settled_fault_in (setting_in first.kept)) (sym (append_assoc (front_of b) so.journal (entry ∷ [])))
+        ∙ (ap (λ (s : Setting). settled_fault_in s ((front_of b ++ so.journal) ++ entry ∷ [])) (sym so.setting) ∙ is)
+
+    none_is : settled_fault_in (setting_in now.kept) ((front_of b ++ so.journal) ++ entry ∷ []) ≡ None → settled_fault_in (setting_in first.kept) (front_of b ++ (so.journal ++ entry ∷ [])) ≡ None
+    none_is is =
+        ap (settled_fault_in (setting_in first.kept)) (sym (append_assoc (front_of b) so.journal (entry ∷ [])))
+        ∙ (ap (λ (s : Setting). settled_fault_in s ((front_of b ++ so.journal) ++ entry ∷ [])) (sym so.setting) ∙ is)
+
+    abbrev came_on : CameBehind (front_of b) first next
+    came_on = record { journal = so.journal ++ entry ∷ []; legal = legal_is; sources = drawn_is.of_sources; traceable = told_is; rounds = rounds_are }
 
 module _ (first : World) (n k : ℕ) (now next : World) (within : k < length first.sources) (so : SoFar first n k now) where
   steps_on : Stepped k now next → SoFar first n (suc k) next
   steps_on step =
-      let after = step.runs so.journal so.stands in
+      let taken = step.taken in
+      let more = accepted_append so.journal (step.entry ∷ []) in
+      let later = late_append so.journal (step.entry ∷ []) in
       record {
         few = so.few;
         journal = so.journal ++ step.entry ∷ [];
-        stands = after.stands;
         drawn = drawn_is first n k now next within so step.entry step.traced;
         setting = step.setting ∙ so.setting;
         traceable = told_is first n k now next within so step.entry step.traced;
         trace = trace_is first n k now next within so step.entry step.traced;
-        out = more_text _ _ _ _ _ _ so.out after.out (text_is first n k now next within so step.entry step.traced after.lines after.brings);
+        going = taken.going;
+        rows = omega (arith, taken.rows, so.rows, more);
+        late = omega (arith, taken.late, so.late, later);
+        accepted = omega (arith, taken.accepted, so.accepted, more);
+        stands = λ b stood. subst (λ (j : List Entry). StandsFrom b j next.kept) (append_assoc (front_of b) so.journal (step.entry ∷ [])) (step.runs b (front_of b ++ so.journal) (so.stands b stood)).stands;
+        out = λ b stood.
+            let after = step.runs b (front_of b ++ so.journal) (so.stands b stood) in
+            more_text _ _ _ _ _ _ (so.out b stood) after.out (text_is first n k now next within so step.entry step.traced b stood after.lines after.brings);
       }
 
   passes_on : Passed k now next → SoFar first n (suc k) next
   passes_on p = record {
     few = so.few;
     journal = so.journal;
-    stands = subst (Stands so.journal) (sym p.only.kept) so.stands;
     drawn = sits first n k now.sources so.journal so.drawn next.sources p.out_of;
     setting = ap setting_in p.only.kept ∙ so.setting;
     traceable = so.traceable;
     trace = p.only.trace ∙ so.trace;
-    out = p.only.out ∙ so.out;
+    going = subst IsGoing (sym p.only.kept) so.going;
+    rows = subst (λ (kept : Keeping). kept.state.rows ≤ length (accepted so.journal) + 1) (sym p.only.kept) so.rows;
+    late = ap (λ (kept : Keeping). kept.late) p.only.kept ∙ so.late;
+    accepted = ap (λ (kept : Keeping). kept.accepted) p.only.kept ∙ so.accepted;
+    stands = λ b stood. subst (StandsFrom b (front_of b ++ so.journal)) (sym p.only.kept) (so.stands b stood);
+    out = λ b stood. p.only.out ∙ so.out b stood;
   }
 
   pub goes_on : (row : Bool) → Steps (Ok row) k now next → SoFar first n (suc k) next
@@ -99,68 +154,101 @@ pub next_begins : (first : World) (n : ℕ) (now : World) → SoFar first n (len
 next_begins first n now so = record {
   few = so.few;
   journal = so.journal;
-  stands = so.stands;
   drawn = round_drawn first n now.sources so.journal so.drawn;
   setting = so.setting;
   traceable = so.traceable;
   trace = so.trace;
+  going = so.going;
+  rows = so.rows;
+  late = so.late;
+  accepted = so.accepted;
+  stands = so.stands;
   out = so.out;
 }
 
 -- all sources have ended
-pub ran_to_end : (first : World) (n : ℕ) (last : World) → SoFar first n 0 last → HaveEnded last.sources → RanToEnd true first last
-ran_to_end first n last so ended = record {
-  came = record {
-    journal = so.journal;
-    legal = legal_first first last so.journal so.setting so.stands.legal;
-    sources = so.drawn.of_sources;
-    traceable = so.traceable;
-    rounds = λ turns. in_rounds first n 0 last.sources so.journal (omega arith) so.drawn;
-  };
-  setting = so.setting;
-  fed = so.drawn.fed;
-  ended = ended;
-  trace = so.trace;
-  out = so.out;
-  stands = so.stands;
-}
+module _ (first : World) (n : ℕ) (last : World) (so : SoFar first n 0 last) (ended : HaveEnded last.sources) where
+  -- of a run that began
+  pub ran_to_end : Stands [] first.kept → RanToEnd true first last
+  ran_to_end stood =
+      let stands = so.stands AtFirst (stands_first [] first.kept stood) in
+      record {
+        came = record {
+          journal = so.journal;
+          legal = legal_now first last so.setting AtFirst so.journal stands;
+          sources = so.drawn.of_sources;
+          traceable = so.traceable;
+          rounds = λ turns. in_rounds first n 0 last.sources so.journal (omega arith) so.drawn;
+        };
+        setting = so.setting;
+        fed = so.drawn.fed;
+        ended = ended;
+        trace = so.trace;
+        out = so.out AtFirst (stands_first [] first.kept stood) ∙ ap (grown first.out) (settled_first (setting_in first.kept) so.journal);
+        stands = record { legal = stands.legal; accepted = so.accepted; late = so.late; engine = stands.engine; going = so.going };
+      }
 
-module _ (first : World) (n k : ℕ) (now last : World) (within : k < length first.sources) (so : SoFar first n k now) where
-  fine_so_far : settled_fault_in (setting_in first.kept) so.journal ≡ None
-  fine_so_far = ap (λ (s : Setting). settled_fault_in s so.journal) (sym so.setting) ∙ so.stands.engine.fine
+  -- of one that went on behind others
+  pub ran_behind : (before : List Entry) → IsBehind before before first.kept → RanToEndBehind before first last
+  ran_behind before stood =
+      let stands = so.stands (Following before) stood in
+      record {
+        came = record {
+          journal = so.journal;
+          legal = legal_now first last so.setting (Following before) so.journal stands;
+          sources = so.drawn.of_sources;
+          traceable = so.traceable;
+          rounds = in_rounds first n 0 last.sources so.journal (omega arith) so.drawn;
+        };
+        setting = so.setting;
+        fed = so.drawn.fed;
+        ended = ended;
+        trace = so.trace;
+        out = so.out (Following before) stood;
+        stands = stands;
+        accepted = so.accepted;
+        late = so.late;
+      }
 
+-- all rows of a run that went on behind others
+pub all_rows_behind : (result : Result (Unit {0}) Stop) (first last : World) → RunsOn result first last → (before : List Entry) → IsBehind before before first.kept → RunsBehind before result first last
+all_rows_behind (Ok done) first last ran before stood = ran_behind first ran.0.0 last ran.0.1 ran.1 before stood
+all_rows_behind (Err how) first last ran before stood = ran (Following before) stood
+
+module _ (first : World) (n k : ℕ) (now last : World) (within : k < length first.sources) (so : SoFar first n k now) (b : Beginning) (stood : StandsFrom b (front_of b) first.kept) where
   -- the last row has a fault
-  abbrev row_fault : (entry : Entry) (fault : RunFault) (accepted : IsAccepted entry) → settled_fault_in (setting_in now.kept) (so.journal ++ entry ∷ []) ≡ Some fault → IsRowFault (setting_in first.kept) (so.journal ++ entry ∷ []) fault
-  row_fault entry fault accepted is = record {
+  abbrev row_fault : (entry : Entry) (fault : RunFault) (traced : Traced k entry now last) (accepted : IsAccepted entry)
+      → settled_fault_in (setting_in now.kept) ((front_of b ++ so.journal) ++ entry ∷ []) ≡ Some fault → IsRowFaultBehind (setting_in first.kept) (front_of b) (so.journal ++ entry ∷ []) fault
+  row_fault entry fault traced accepted is = record {
     front = so.journal;
     row = entry.row;
     whole = ap (λ (e : Entry). so.journal ++ e ∷ []) (accepted_is entry accepted);
-    none_before = fine_so_far;
-    settled = ap (λ (s : Setting). settled_fault_in s (so.journal ++ entry ∷ [])) (sym so.setting) ∙ is;
+    none_before = fine_now first now so.setting b so.journal (so.stands b stood);
+    settled = fault_is first n k now last within so entry traced b stood fault is;
   }
 
-  fails : (fault : RunFault) → SawFault fault k now last → RanToFault true fault first last
+  fails : (fault : RunFault) → SawFault fault k now last → RanToFaultBehind (front_of b) fault first last
   fails fault saw =
-      let bad = saw.runs so.journal so.stands in
+      let bad = saw.runs b (front_of b ++ so.journal) (so.stands b stood) in
       record {
-        came = came_on first n k now last within so saw.entry saw.traced;
+        came = came_on first n k now last within so saw.entry saw.traced b stood;
         begun = begun first.sources last.sources (so.journal ++ saw.entry ∷ []) (drawn_is first n k now last within so saw.entry saw.traced).fed;
         trace = trace_is first n k now last within so saw.entry saw.traced;
-        out = more_text _ _ _ _ _ _ so.out bad.out (text_is first n k now last within so saw.entry saw.traced bad.lines bad.brings);
-        stands = row_fault saw.entry fault saw.accepted bad.is_fault;
+        out = more_text _ _ _ _ _ _ (so.out b stood) bad.out (text_is first n k now last within so saw.entry saw.traced b stood bad.lines bad.brings);
+        stands = row_fault saw.entry fault saw.traced saw.accepted bad.is_fault;
       }
 
   -- the lines before a fault were cut short
-  fails_cut : (fault : RunFault) → SawCutFault fault k now last → RanToCutFault true fault first last
+  fails_cut : (fault : RunFault) → SawCutFault fault k now last → RanToCutFaultBehind (front_of b) fault first last
   fails_cut fault saw =
-      let bad = saw.runs so.journal so.stands in
+      let bad = saw.runs b (front_of b ++ so.journal) (so.stands b stood) in
       record {
-        came = came_on first n k now last within so saw.entry saw.traced;
+        came = came_on first n k now last within so saw.entry saw.traced b stood;
         begun = begun first.sources last.sources (so.journal ++ saw.entry ∷ []) (drawn_is first n k now last within so saw.entry saw.traced).fed;
         trace = trace_is first n k now last within so saw.entry saw.traced;
-        out = subst (PutBroke first.out last.out) (sym (text_is first n k now last within so saw.entry saw.traced bad.lines bad.brings))
-            (broke_behind first.out now.out last.out (settled_text (setting_in first.kept) so.journal) (text_of bad.lines) so.out bad.out);
-        stands = row_fault saw.entry fault saw.accepted bad.is_fault;
+        out = subst (PutBroke first.out last.out) (sym (text_is first n k now last within so saw.entry saw.traced b stood bad.lines bad.brings))
+            (broke_behind first.out now.out last.out (settled_behind (setting_in first.kept) (front_of b) so.journal) (text_of bad.lines) (so.out b stood) bad.out);
+        stands = row_fault saw.entry fault saw.traced saw.accepted bad.is_fault;
       }
 
   now_in_rounds : GoInRounds first.sources now.sources so.journal
@@ -171,69 +259,72 @@ module _ (first : World) (n k : ℕ) (now last : World) (within : k < length fir
   rounds_cut (inr at) = touched_in_rounds first.sources now.sources last.sources k so.journal at.0 at.1 now_in_rounds
 
   -- the rows up to here, the last of which was not traced whole
-  abbrev came_here : (last.sources ≡ now.sources) ⊎ ((at : Touched k now.sources last.sources) × IsSound at.new) → CameTo true first last
+  abbrev came_here : (last.sources ≡ now.sources) ⊎ ((at : Touched k now.sources last.sources) × IsSound at.new) → CameBehind (front_of b) first last
   came_here touched = record {
     journal = so.journal;
-    legal = legal_first first now so.journal so.setting so.stands.legal;
+    legal = legal_now first now so.setting b so.journal (so.stands b stood);
     sources = so.drawn.of_sources;
     traceable = so.traceable;
-    rounds = λ turns. rounds_cut touched;
+    rounds = rounds_cut touched;
   }
 
-  trace_cut : TraceCut k now last → RanToTraceCut true first last
+  trace_cut : TraceCut k now last → RanToTraceCutBehind (front_of b) first last
   trace_cut cut = record {
     came = came_here (inr (cut.at, cut.sound));
     begun = begun first.sources now.sources so.journal so.drawn.fed;
-    no_fault = fine_so_far;
+    no_fault = fine_now first now so.setting b so.journal (so.stands b stood);
     trace = record {
       entry = cut.entry;
       traceable = subst (λ (s : Setting). IsTraceable s.plan cut.entry) so.setting cut.traceable;
       cut = subst (λ (t : SinkState). PutBroke t last.trace (trace_line cut.entry)) so.trace cut.trace;
     };
-    out = cut.out ∙ so.out;
+    out = cut.out ∙ so.out b stood;
   }
 
-  row_cut : OutCut k now last → RanToRowCut true first last
+  row_cut : OutCut k now last → RanToRowCutBehind (front_of b) first last
   row_cut cut =
-      let c = cut.runs so.journal so.stands in
+      let c = cut.runs b (front_of b ++ so.journal) (so.stands b stood) in
       record {
-        came = came_on first n k now last within so cut.entry cut.traced;
+        came = came_on first n k now last within so cut.entry cut.traced b stood;
         begun = begun first.sources last.sources (so.journal ++ cut.entry ∷ []) (drawn_is first n k now last within so cut.entry cut.traced).fed;
-        no_fault = ap (λ (s : Setting). settled_fault_in s (so.journal ++ cut.entry ∷ [])) (sym so.setting) ∙ c.fine;
+        no_fault = none_is first n k now last within so cut.entry cut.traced b stood c.fine;
         trace = trace_is first n k now last within so cut.entry cut.traced;
-        out = cut_at_row (setting_in first.kept) so.journal cut.entry (text_of c.lines) first.out now.out last.out cut.accepted
-            (text_is first n k now last within so cut.entry cut.traced c.lines c.brings) so.out c.out;
+        out = cut_at_row_behind (setting_in first.kept) (front_of b) so.journal cut.entry (text_of c.lines) first.out now.out last.out (all_is first n k now last within so cut.entry cut.traced b stood c.lines c.brings) cut.accepted
+            (text_is first n k now last within so cut.entry cut.traced b stood c.lines c.brings) (so.out b stood) c.out;
       }
 
-  not_traced : NotTraced k now last → RanOutOfMemory true first last
+  not_traced : NotTraced k now last → RanOutOfMemoryBehind (front_of b) first last
   not_traced none = record {
     came = came_here none.touched;
     begun = begun first.sources now.sources so.journal so.drawn.fed;
     trace = none.trace ∙ so.trace;
-    out = all_put (setting_in first.kept) so.journal first.out last.out (none.out ∙ so.out);
+    out = all_put_behind (setting_in first.kept) (front_of b) so.journal first.out last.out (all_now first now so.setting b so.journal (so.stands b stood)) (none.out ∙ so.out b stood);
   }
 
-  not_put : OutKept k now last → RanOutOfMemory true first last
+  not_put : OutKept k now last → RanOutOfMemoryBehind (front_of b) first last
   not_put kept =
-      let c = kept.runs so.journal so.stands in
+      let c = kept.runs b (front_of b ++ so.journal) (so.stands b stood) in
       record {
-        came = came_on first n k now last within so kept.entry kept.traced;
+        came = came_on first n k now last within so kept.entry kept.traced b stood;
         begun = begun first.sources last.sources (so.journal ++ kept.entry ∷ []) (drawn_is first n k now last within so kept.entry kept.traced).fed;
         trace = trace_is first n k now last within so kept.entry kept.traced;
-        out = last_not_put (setting_in first.kept) so.journal kept.entry (text_of c.lines) first.out last.out
-            (text_is first n k now last within so kept.entry kept.traced c.lines c.brings) (c.out ∙ so.out);
+        out = last_not_put_behind (setting_in first.kept) (front_of b) so.journal kept.entry (text_of c.lines) first.out last.out (all_is first n k now last within so kept.entry kept.traced b stood c.lines c.brings)
+            (text_is first n k now last within so kept.entry kept.traced b stood c.lines c.brings) (c.out ∙ so.out b stood);
       }
 
-  put_fault : TraceCut k now last ⊎ OutCut k now last → RanToFailedPut true first last
+  put_fault : TraceCut k now last ⊎ OutCut k now last → RanToFailedPutBehind (front_of b) first last
   put_fault (inl cut) = inl (trace_cut cut)
   put_fault (inr cut) = inr (row_cut cut)
 
-  out_of_memory : NotTraced k now last ⊎ OutKept k now last → RanOutOfMemory true first last
+  out_of_memory : NotTraced k now last ⊎ OutKept k now last → RanOutOfMemoryBehind (front_of b) first last
   out_of_memory (inl none) = not_traced none
   out_of_memory (inr kept) = not_put kept
 
-  pub stops : (how : Stop) → Steps (Err how) k now last → Runs true (Err how) first last
-  stops (stop.Fault stream kind time) saw = fails (record { stream = stream; kind = kind; time = time }) saw
-  stops (stop.CutFault stream kind time) saw = fails_cut (record { stream = stream; kind = kind; time = time }) saw
-  stops stop.Put saw = put_fault saw
-  stops stop.Memory saw = out_of_memory saw
+  stops_from : (how : Stop) → Steps (Err how) k now last → RunsBehind (front_of b) (Err how) first last
+  stops_from (stop.Fault stream kind time) saw = fails (record { stream = stream; kind = kind; time = time }) saw
+  stops_from (stop.CutFault stream kind time) saw = fails_cut (record { stream = stream; kind = kind; time = time }) saw
+  stops_from stop.Put saw = put_fault saw
+  stops_from stop.Memory saw = out_of_memory saw
+
+pub stops : (first : World) (n k : ℕ) (now last : World) → k < length first.sources → SoFar first n k now → (how : Stop) → Steps (Err how) k now last → StopsFrom how first last
+stops first n k now last within so how step b stood = stops_from first n k now last within so b stood how step

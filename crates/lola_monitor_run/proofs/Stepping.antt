@@ -3,21 +3,20 @@ use Rattle.std.proofs.Common.{◌≡◌, ℕ, [], ◌∷◌, ◌++◌, ◌⊎◌
 use Rattle.std.specs.Option.{option_to_list}
 use Rattle.std.specs.Prelude.{OnOk}
 use Rattle.lola_port.specs.States.{SinkState, grown}
-use Rattle.lola_model.specs.Journal.{merged_from, opening_time, time_after}
+use Rattle.lola_model.specs.Journal.{time_after}
 use Rattle.lola_model.specs.Trace.{IsTraceable, trace_line}
 use Rattle.lola_model.specs.declared.journal.Entry.{Entry}
-use Rattle.lola_model.proofs.Journals.{merged_from-append}
 use Rattle.lola_merge.specs.Merging.{sources_of}
 use Rattle.lola_feed.specs.declared.worker.SourceEnd.TheVariants as end
 use Rattle.lola_feed.specs.declared.worker.TurnEnd.{TurnEnd}
 use Rattle.lola_feed.specs.declared.worker.TurnEnd.TheVariants as turn
 use Rattle.lola_monitor_run.specs.Verdicts.{Setting}
-use Rattle.lola_monitor_run.specs.Running.{Enters, IsNext, IsSetAs, Keeping, Puts, Stands, StandsNext, Takes}
+use Rattle.lola_monitor_run.specs.Running.{Enters, IsNext, IsSetAs, Keeping, Puts, Takes, WasNotTraced, WasTraced}
+use Rattle.lola_monitor_run.specs.Behind.{EntersFrom, HasTaken, TakesFromAny}
 use Rattle.lola_monitor_run.specs.declared.stop.Stop.{Stop}
 use Rattle.lola_monitor_run.specs.declared.stop.Stop.TheVariants as stop
-use Rattle.lola_monitor_run.proofs.Taking.{merged_is}
 use Rattle.lola_monitor_run.specs.Feeds.{Feeding, IsIdle, IsSound, Supply, supplies_of, world}
-use Rattle.lola_monitor_run.specs.Turning.{IsOutOfMemory, IsStanding, NotTraced, Passed, RunsTaken, SatOut, Steps, TookEntry, TookRow, TookTurn, Touched, Traced}
+use Rattle.lola_monitor_run.specs.Turning.{IsOutOfMemory, NotTraced, Passed, RunsTaken, SatOut, Steps, TookEntry, TookRow, TookTurn, Touched, Traced}
 use Rattle.lola_monitor_run.proofs.Lists.{some_not}
 use Rattle.lola_monitor_run.proofs.Turns.{GaveEntry, GaveNone, after_turn, idle_next}
 
@@ -38,40 +37,28 @@ module _ (k0 : Keeping) (o0 t0 : SinkState) (entry : Entry) (mark : IsNext k0 en
     abbrev traced : Traced s entry (world k0 olds o0 t0) (world k1 news o1 t1)
     traced = record { took = took; mark = mark; traceable = told; trace = trace }
 
-    stepped : (result : Result (Unit {0}) Stop) → Takes result entry k0 k1 o0 o1 → RunsTaken result s (world k0 olds o0 t0) (world k1 news o1 t1)
-    stepped (Ok done) takes = record { entry = entry; traced = traced; setting = takes.1; runs = takes.0 }
-    stepped (Err (stop.Fault stream kind time)) takes = record { entry = entry; traced = traced; accepted = takes.1; runs = takes.0 }
-    stepped (Err (stop.CutFault stream kind time)) takes = record { entry = entry; traced = traced; accepted = takes.1; runs = takes.0 }
-    stepped (Err stop.Put) takes = inr (record { entry = entry; traced = traced; accepted = takes.1; runs = takes.0 })
-    stepped (Err stop.Memory) takes = inr (record { entry = entry; traced = traced; runs = takes.0 })
+    stepped : (result : Result (Unit {0}) Stop) → Takes result entry k0 k1 o0 o1 → TakesFromAny result entry k0 k1 o0 o1 → OnOk result (HasTaken entry k0 k1) → RunsTaken result s (world k0 olds o0 t0) (world k1 news o1 t1)
+    stepped (Ok done) takes from taken = record { entry = entry; traced = traced; setting = takes.1; taken = taken; runs = from }
+    stepped (Err (stop.Fault stream kind time)) takes from taken = record { entry = entry; traced = traced; accepted = takes.1; runs = from }
+    stepped (Err (stop.CutFault stream kind time)) takes from taken = record { entry = entry; traced = traced; accepted = takes.1; runs = from }
+    stepped (Err stop.Put) takes from taken = inr (record { entry = entry; traced = traced; accepted = takes.1; runs = from })
+    stepped (Err stop.Memory) takes from taken = inr (record { entry = entry; traced = traced; runs = from })
 
 -- a row was taken, and its entry was to be traced and run
-pub entered : (k0 k1 : Keeping) (o0 o1 t0 t1 : SinkState) (entry : Entry) → IsNext k0 entry → (s : ℕ) (olds news : List Supply) → TookRow k0.state.plan s entry.row olds news → (result : Result (Unit {0}) Stop)
-    → Enters result entry k0 k1 o0 o1 t0 t1 → RunsTaken result s (world k0 olds o0 t0) (world k1 news o1 t1)
-entered k0 k1 o0 o1 t0 t1 entry mark s olds news took result e = elim e.does [
-  | inl n ↦ subst (λ (r : Result (Unit {0}) Stop). RunsTaken r s (world k0 olds o0 t0) (world k1 news o1 t1)) (sym n.is)
+module _ (k0 k1 : Keeping) (o0 o1 t0 t1 : SinkState) (entry : Entry) (mark : IsNext k0 entry) (s : ℕ) (olds news : List Supply) (took : TookRow k0.state.plan s entry.row olds news) (result : Result (Unit {0}) Stop) where
+  was_not_traced : IsTraceable k0.state.plan entry → WasNotTraced result entry k0 k1 o0 o1 t0 t1 → RunsTaken result s (world k0 olds o0 t0) (world k1 news o1 t1)
+  was_not_traced told n =
+      subst (λ (r : Result (Unit {0}) Stop). RunsTaken r s (world k0 olds o0 t0) (world k1 news o1 t1)) (sym n.is)
       (subst (λ (k : Keeping). RunsTaken (Err n.how) s (world k0 olds o0 t0) (world k news o1 t1)) (sym n.kept)
-      (subst (λ (o : SinkState). RunsTaken (Err n.how) s (world k0 olds o0 t0) (world k0 news o t1)) (sym n.out) (not_traced k0 o0 t0 entry mark e.told s olds news took t1 n.how n.puts)))
-  | inr w ↦ stepped k0 o0 t0 entry mark e.told s olds news took k1 o1 t1 w.trace result w.takes
-]
+      (subst (λ (o : SinkState). RunsTaken (Err n.how) s (world k0 olds o0 t0) (world k0 news o t1)) (sym n.out) (not_traced k0 o0 t0 entry mark told s olds news took t1 n.how n.puts)))
 
--- the merged time after an entry
-time_next : (journal : List Entry) (entry : Entry) (old new : Keeping) (o0 o1 : SinkState) → Stands journal old → StandsNext journal entry old new o0 o1 → IsSetAs old new → new.state.merged ≡ time_after old.state.merged entry
-time_next journal entry old new o0 o1 stands next setting =
-    merged_is (journal ++ entry ∷ []) new next.stands
-    ∙ (ap (λ (s : Setting). merged_from (opening_time s.start) (journal ++ entry ∷ [])) setting
-    ∙ (merged_from-append (opening_time old.state.given_start) journal (entry ∷ [])
-    ∙ ap (λ t. time_after t entry) (sym (merged_is journal old stands))))
-
-merged_next : (result : Result (Unit {0}) Stop) (entry : Entry) (old new : Keeping) (o0 o1 : SinkState) → IsStanding old → Takes result entry old new o0 o1 → OnOk result (new.state.merged ≡ time_after old.state.merged entry)
-merged_next (Ok done) entry old new o0 o1 standing takes = time_next standing.0 entry old new o0 o1 standing.1 (takes.0 standing.0 standing.1) takes.1
-merged_next (Err how) entry old new o0 o1 standing takes = tt
-
-pub merged_entered : (entry : Entry) (old new : Keeping) (o0 o1 t0 t1 : SinkState) → IsStanding old → Enters (Ok tt) entry old new o0 o1 t0 t1 → new.state.merged ≡ time_after old.state.merged entry
-merged_entered entry old new o0 o1 t0 t1 standing e = elim e.does [
-  | inl n ↦ let is = n.is in absurd (cc (is))
-  | inr w ↦ merged_next (Ok tt) entry old new o0 o1 standing w.takes
-]
+  pub entered : Enters result entry k0 k1 o0 o1 t0 t1 → EntersFrom result entry k0 k1 o0 o1 t0 t1 → OnOk result (HasTaken entry k0 k1) → RunsTaken result s (world k0 olds o0 t0) (world k1 news o1 t1)
+  entered e from taken = by_both e.does from
+    where
+      by_both : WasNotTraced result entry k0 k1 o0 o1 t0 t1 ⊎ WasTraced result entry k0 k1 o0 o1 t0 t1 → EntersFrom result entry k0 k1 o0 o1 t0 t1 → RunsTaken result s (world k0 olds o0 t0) (world k1 news o1 t1)
+      by_both (inl n) f = was_not_traced e.told n
+      by_both (inr w) (inl n) = was_not_traced e.told n
+      by_both (inr w) (inr f) = stepped k0 o0 t0 entry mark e.told s olds news took k1 o1 t1 w.trace result w.takes f.takes taken
 
 module _ (s : ℕ) (old mid new : Feeding) (kept : Keeping) (idle : IsIdle old kept) (answer : TurnEnd) (t : TookTurn s answer old mid) where
   -- there was no memory for a row

@@ -2,4 +2,5 @@ pub mod Verdicts
 pub mod Running
 pub mod Rounds
 pub mod Feeds
+pub mod Behind
 pub mod Turning

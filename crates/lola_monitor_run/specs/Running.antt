@@ -16,6 +16,7 @@ use Rattle.lola_model.specs.declared.journal.Entry.{Entry}
 use Rattle.lola_model.specs.declared.journal.Mark.TheVariants as mark
 use Rattle.lola_instances.specs.declared.store.BoundedStore.{BoundedStore}
 use Rattle.lola_instances.specs.Stores.{bounded_remembers, bounded_seen}
+use Rattle.lola_engine.specs.Behind.{AcceptsBehind}
 use Rattle.lola_engine.specs.Engines.{Accepts, Brings, Completes, IsEngine, StandsFor}
 use Rattle.lola_engine.specs.declared.engine.EngineState.{EngineState}
 use Rattle.lola_engine.specs.declared.end.EngineEnd.{EngineEnd}
@@ -122,10 +123,11 @@ Takes (Err (stop.CutFault stream kind time)) entry old new out0 out1 =
 Takes (Err stop.Put) entry old new out0 out1 = ((journal : List Entry) → Stands journal old → CutNext journal entry old out0 out1) × IsAccepted entry × IsSetAs old new
 Takes (Err stop.Memory) entry old new out0 out1 = ((journal : List Entry) → Stands journal old → KeptNext journal entry old out0 out1) × IsSetAs old new
 
--- what an engine of a run does with a row that is given an empty text
+-- what an engine of a run does with a row that is given an empty text, where it counts all of its journal and where it counts behind others
 abbrev pub AcceptsRow : Result (Unit {0}) EngineEnd → Row → Keeping → Keeping → List ℕ → Type 0
 AcceptsRow result row old new text =
     Accepts result row old.state (bounded_seen old.store) (bounded_remembers old.store) new.state (bounded_seen new.store) (bounded_remembers new.store) [] text
+    × AcceptsBehind result row old.state (bounded_seen old.store) (bounded_remembers old.store) new.state (bounded_seen new.store) (bounded_remembers new.store) [] text
 
 -- the engine has run a row, and appended this text; what the run keeps goes with it
 pub record RanRow (row : Row) (old new : Keeping) (text : List ℕ) : Type 0 where
@@ -134,6 +136,7 @@ pub record RanRow (row : Row) (old new : Keeping) (text : List ℕ) : Type 0 whe
   pub merged : new.state.merged ≡ row.stamp
   pub accepted : new.accepted ≡ old.accepted + 1
   pub late : new.late ≡ old.late
+  pub rows : new.state.rows ≡ old.state.rows + 1
   pub setting : IsSetAs old new
 
 -- a step of a row has a fault

@@ -2,7 +2,7 @@
 use Rattle.std.specs.Prelude.{ℕ, suc, ◌≡◌, ◌⊎◌, ◌+◌, ◌<◌, ◌≤◌, Bool, true, false, List, [], ◌∷◌, ◌++◌, Option, Some, None, IsSome, Result, Ok, Err, length, map, slice_get, slice_set}
 use Rattle.std.specs.Option.{option_to_list}
 use Rattle.lola_port.specs.States.{PutBroke, Rose, grown}
-use Rattle.lola_model.specs.Journal.{rows_of}
+use Rattle.lola_model.specs.Journal.{accepted, rows_of}
 use Rattle.lola_model.specs.Faults.{RunFault}
 use Rattle.lola_model.specs.Trace.{IsTraceable, trace_line, trace_text}
 use Rattle.lola_model.specs.declared.plan.Plan.{Plan}
@@ -16,12 +16,13 @@ use Rattle.lola_feed.specs.declared.worker.SourceEnd as worker
 use Rattle.lola_feed.specs.declared.worker.SourceEnd.TheVariants as end
 use Rattle.lola_feed.specs.declared.worker.TurnEnd.{TurnEnd}
 use Rattle.lola_feed.specs.declared.worker.TurnEnd.TheVariants as turn
-use Rattle.lola_monitor_run.specs.Verdicts.{AreOfSources, AreTraceable, most_rows, settled_text}
-use Rattle.lola_monitor_run.specs.Running.{CutFaultNext, CutNext, FaultNext, IsAccepted, IsNext, IsRowFor, IsSetAs, Keeping, KeptNext, Stands, StandsNext, setting_in}
+use Rattle.lola_monitor_run.specs.Verdicts.{AreOfSources, AreTraceable, late_count, most_rows}
+use Rattle.lola_monitor_run.specs.Running.{CutFaultNext, CutNext, FaultNext, IsAccepted, IsGoing, IsNext, IsRowFor, IsSetAs, KeptNext, setting_in}
+use Rattle.lola_monitor_run.specs.Behind.{Beginning, HasTaken, NextFrom, RunsBehind, StandsFrom, front_of, settled_behind}
 use Rattle.lola_monitor_run.specs.declared.stop.Stop.{Stop}
 use Rattle.lola_monitor_run.specs.declared.stop.Stop.TheVariants as stop
 use Rattle.lola_monitor_run.specs.Rounds.{InTurn}
-use Rattle.lola_monitor_run.specs.Feeds.{AreFed, Feeding, HaveEnded, IsAt, IsSound, Passes, Runs, Supply, World}
+use Rattle.lola_monitor_run.specs.Feeds.{AreFed, Feeding, HaveEnded, IsAt, IsSound, Passes, Supply, World}
 
 -- a turn ended for want of memory
 abbrev pub IsOutOfMemory : TurnEnd → Type 0
@@ -112,7 +113,8 @@ pub record Stepped (s : ℕ) (old new : World) : Type 0 where
   pub entry : Entry
   pub traced : Traced s entry old new
   pub setting : IsSetAs old.kept new.kept
-  pub runs : (journal : List Entry) → Stands journal old.kept → StandsNext journal entry old.kept new.kept old.out new.out
+  pub taken : HasTaken entry old.kept new.kept
+  pub runs : (b : Beginning) (journal : List Entry) → StandsFrom b journal old.kept → NextFrom b journal entry old.kept new.kept old.out new.out
 
 -- a source had no row
 pub record Passed (s : ℕ) (old new : World) : Type 0 where
@@ -124,14 +126,14 @@ pub record SawFault (fault : RunFault) (s : ℕ) (old new : World) : Type 0 wher
   pub entry : Entry
   pub traced : Traced s entry old new
   pub accepted : IsAccepted entry
-  pub runs : (journal : List Entry) → Stands journal old.kept → FaultNext fault journal entry old.kept old.out new.out
+  pub runs : (b : Beginning) (journal : List Entry) → StandsFrom b journal old.kept → FaultNext fault journal entry old.kept old.out new.out
 
 -- a row was taken and traced, and has a fault, the lines before which were cut short
 pub record SawCutFault (fault : RunFault) (s : ℕ) (old new : World) : Type 0 where
   pub entry : Entry
   pub traced : Traced s entry old new
   pub accepted : IsAccepted entry
-  pub runs : (journal : List Entry) → Stands journal old.kept → CutFaultNext fault journal entry old.kept old.out new.out
+  pub runs : (b : Beginning) (journal : List Entry) → StandsFrom b journal old.kept → CutFaultNext fault journal entry old.kept old.out new.out
 
 -- a row was taken, and its line was cut short
 pub record TraceCut (s : ℕ) (old new : World) : Type 0 where
@@ -153,13 +155,13 @@ pub record OutCut (s : ℕ) (old new : World) : Type 0 where
   pub entry : Entry
   pub traced : Traced s entry old new
   pub accepted : IsAccepted entry
-  pub runs : (journal : List Entry) → Stands journal old.kept → CutNext journal entry old.kept old.out new.out
+  pub runs : (b : Beginning) (journal : List Entry) → StandsFrom b journal old.kept → CutNext journal entry old.kept old.out new.out
 
 -- a row was taken and traced, and its lines were not put
 pub record OutKept (s : ℕ) (old new : World) : Type 0 where
   pub entry : Entry
   pub traced : Traced s entry old new
-  pub runs : (journal : List Entry) → Stands journal old.kept → KeptNext journal entry old.kept old.out new.out
+  pub runs : (b : Beginning) (journal : List Entry) → StandsFrom b journal old.kept → KeptNext journal entry old.kept old.out new.out
 
 -- one turn: whether a row was taken
 abbrev pub Steps : Result Bool Stop → ℕ → World → World → Type 0
@@ -185,20 +187,30 @@ pub record Drawn (first : World) (round turn : ℕ) (sources : List Supply) (jou
   pub fed : AreFed first.sources sources journal
   pub turns : InTurn (length first.sources) round turn (Goes sources) (λ s. rows_of s journal) (map (λ e. e.row) journal)
 
--- a run up to here: the journal of the rows that came
+-- a run up to here: the journal of the rows that came since it began or went on, and what it stands for and has put, whatever it
+-- stood for then
 pub record SoFar (first : World) (round turn : ℕ) (now : World) : Type 0 where
   pub few : length first.sources ≤ 64
   pub journal : List Entry
-  pub stands : Stands journal now.kept
   pub drawn : Drawn first round turn now.sources journal
   pub setting : IsSetAs first.kept now.kept
   pub traceable : AreTraceable first.kept.state.plan journal
   pub trace : now.trace ≡ grown first.trace (trace_text journal)
-  pub out : now.out ≡ grown first.out (settled_text (setting_in first.kept) journal)
+  pub going : IsGoing now.kept
+  pub rows : now.kept.state.rows ≤ length (accepted journal) + 1
+  pub late : now.kept.late ≡ late_count journal
+  pub accepted : now.kept.accepted ≡ length (accepted journal)
+  pub stands : (b : Beginning) → StandsFrom b (front_of b) first.kept → StandsFrom b (front_of b ++ journal) now.kept
+  pub out : (b : Beginning) → StandsFrom b (front_of b) first.kept → now.out ≡ grown first.out (settled_behind (setting_in first.kept) (front_of b) journal)
 
--- a run that goes on
-abbrev pub IsStanding : Keeping → Type 0
-IsStanding kept = (journal : List Entry) × Stands journal kept
+-- how the rows of a run were stopped, whatever it stood for at first
+abbrev pub StopsFrom : Stop → World → World → Type 0
+StopsFrom end first last = (b : Beginning) → StandsFrom b (front_of b) first.kept → RunsBehind (front_of b) (Err end) first last
+
+-- all rows of a run, to the end of its sources or to what stopped them
+abbrev pub RunsOn : Result (Unit {0}) Stop → World → World → Type 0
+RunsOn (Ok done) first last = ((round : ℕ) × SoFar first round 0 last) × HaveEnded last.sources
+RunsOn (Err end) first last = StopsFrom end first last
 
 -- a run between two rounds
 abbrev pub IsBetweenRounds : World → Type 0
@@ -224,4 +236,4 @@ pub record InRound (turn : ℕ) (moved : Bool) (old now : World) : Type 0 where
 abbrev pub GoesRound : Result Bool Stop → World → World → Type 0
 GoesRound (Ok true) old new = ((first : World) (round : ℕ) → SoFar first round 0 old → SoFar first (suc round) 0 new) × (left_of new.sources < left_of old.sources)
 GoesRound (Ok false) old new = ((first : World) (round : ℕ) → SoFar first round 0 old → SoFar first (suc round) 0 new) × HaveEnded new.sources
-GoesRound (Err end) old new = (first : World) (round : ℕ) → SoFar first round 0 old → Runs true (Err end) first new
+GoesRound (Err end) old new = (first : World) (round : ℕ) → SoFar first round 0 old → StopsFrom end first new

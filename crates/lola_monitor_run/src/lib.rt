@@ -2,7 +2,8 @@
 //! turns by one thread, round after round.
 //!
 //! Promised: whatever journal a run stands for, a row takes it to that journal with the row: its trace line, its verdicts, its
-//! fault; sources in turns give their rows in rounds.
+//! fault; sources in turns give their rows in rounds. A run that goes on where others left off promises the same behind the rows that
+//! they had taken, and counts and puts what comes since.
 #![tactic(auto)]
 
 mod feed;

@@ -1,10 +1,13 @@
 //! The rows of sources, in turns.
 ghost use Rattle.std.specs.Prelude.{◌≡◌, ◌<◌, ◌≤◌, ◌↔◌, ◌||◌, Bool, true, List, [], IfOk, IsTrue, OnOk, length, map};
 ghost use Rattle.lola_port.specs.States.{SinkState};
+ghost use Rattle.lola_model.specs.Journal.{opening_time};
+ghost use Rattle.lola_model.specs.declared.journal.Entry.{Entry};
 ghost use Rattle.lola_merge.specs.Merging.{opening};
 ghost use Rattle.lola_monitor_run.specs.Running.{HasRoom, IsGoing, IsSetAs, Stands, keeping};
-ghost use Rattle.lola_monitor_run.specs.Feeds.{AreInPlace, AreReady, EndsRun, IsFresh, IsIdle, RanToEnd, Runs, Supply, World, supplies_of, supply_of, world};
-ghost use Rattle.lola_monitor_run.specs.Turning.{GoesRound, IsOutOfMemory, IsStanding, IsBetweenRounds, Steps};
+ghost use Rattle.lola_monitor_run.specs.Feeds.{AreInPlace, AreReady, EndsRun, IsFresh, IsIdle, RanToEnd, Supply, World, supplies_of, supply_of, world};
+ghost use Rattle.lola_monitor_run.specs.Behind.{EndsBehind, HasTakenNone, IsBehind, RanToEndBehind, RunsBehind};
+ghost use Rattle.lola_monitor_run.specs.Turning.{GoesRound, IsOutOfMemory, IsBetweenRounds, RunsOn, Steps};
 
 use crate::feed::Feed;
 use crate::run::Run;
@@ -38,7 +41,7 @@ fn run_turn<R: Threads + Sync, S: Source, K: Sink, T: Sink, G: Gate + Sync>(
     gate: &G,
 ) -> Result<bool, Stop>
     requires there { source < length feed.old.workers }
-    requires standing { IsStanding (keeping run.old) }
+    requires going { IsGoing (keeping run.old) }
     requires room { HasRoom (keeping run.old) }
     requires idle { IsIdle feed.old (keeping run.old) }
     ensures steps { Steps result source (world (keeping run.old) (supplies_of feed.old) (K.state out.old) (T.state trace.old))
@@ -107,10 +110,10 @@ fn run_rows<R: Threads + Sync, S: Source, K: Sink, T: Sink, G: Gate + Sync>(
     trace: &mut T,
     gate: &G,
 ) -> Result<(), Stop>
-    requires stands { Stands [] (keeping run.old) }
+    requires none { HasTakenNone (keeping run.old) }
     requires idle { IsIdle feed.old (keeping run.old) }
     requires fresh { IsFresh feed.old }
-    ensures run { Runs true result (world (keeping run.old) (supplies_of feed.old) (K.state out.old) (T.state trace.old))
+    ensures run { RunsOn result (world (keeping run.old) (supplies_of feed.old) (K.state out.old) (T.state trace.old))
         (world (keeping run.new) (supplies_of feed.new) (K.state out.new) (T.state trace.new)) }
     ensures places { AreInPlace feed.old.workers feed.new.workers }
     ensures setting { IsSetAs (keeping run.old) (keeping run.new) }
@@ -135,6 +138,8 @@ pub fn run_out<R: Threads + Sync, K: Sink, G: Gate + Sync>(
     requires going { IsGoing (keeping run.old) }
     ensures run { (in_turns : Bool) (first : World) (sources : List Supply) (trace : SinkState) → RanToEnd in_turns first (world (keeping run.old) sources (K.state out.old) trace)
         → EndsRun in_turns result first (world (keeping run.new) sources (K.state out.new) trace) }
+    ensures behind { (before : List Entry) (first : World) (sources : List Supply) (trace : SinkState) → RanToEndBehind before first (world (keeping run.old) sources (K.state out.old) trace)
+        → EndsBehind before result first (world (keeping run.new) sources (K.state out.new) trace) }
     ensures plan { (keeping run.new).state.plan ≡ (keeping run.old).state.plan }
 {
     run.close(rt, out, gate)
@@ -150,10 +155,13 @@ fn run_whole<R: Threads + Sync, S: Source, K: Sink, T: Sink, G: Gate + Sync>(
     trace: &mut T,
     gate: &G,
 ) -> Result<(), Stop>
-    requires stands { Stands [] (keeping run.old) }
+    requires none { HasTakenNone (keeping run.old) }
     requires idle { IsIdle feed.old (keeping run.old) }
     requires fresh { IsFresh feed.old }
-    ensures run { EndsRun true result (world (keeping run.old) (supplies_of feed.old) (K.state out.old) (T.state trace.old))
+    ensures run { Stands [] (keeping run.old) → EndsRun true result (world (keeping run.old) (supplies_of feed.old) (K.state out.old) (T.state trace.old))
+        (world (keeping run.new) (supplies_of feed.new) (K.state out.new) (T.state trace.new)) }
+    ensures behind { (before : List Entry) → IsBehind before before (keeping run.old)
+        → EndsBehind before result (world (keeping run.old) (supplies_of feed.old) (K.state out.old) (T.state trace.old))
         (world (keeping run.new) (supplies_of feed.new) (K.state out.new) (T.state trace.new)) }
     ensures places { AreInPlace feed.old.workers feed.new.workers }
     ensures plan { (keeping run.new).state.plan ≡ (keeping run.old).state.plan }
@@ -162,6 +170,38 @@ fn run_whole<R: Threads + Sync, S: Source, K: Sink, T: Sink, G: Gate + Sync>(
         Ok(()) => run_out(rt, run, out, gate),
         Err(stop) => Err(stop),
     }
+}
+
+// Runs all rows of sources in turns, and then the deadlines at the last stamp, for a run that has begun or goes on.
+fn run_all<R: Threads + Sync, S: Source, K: Sink, T: Sink, G: Gate + Sync>(
+    rt: &R,
+    alloc: Global,
+    run: &mut Run,
+    workers: Vec<SourceWorker<S>>,
+    start: Option<u64>,
+    out: &mut K,
+    trace: &mut T,
+    gate: &G,
+) -> (Vec<SourceWorker<S>>, Result<(), Stop>)
+    requires none { HasTakenNone (keeping run.old) }
+    requires ready { AreReady (keeping run.old).state.plan workers.items }
+    requires start { opening_time start ≡ (keeping run.old).state.merged }
+    ensures run { Stands [] (keeping run.old) → EndsRun true result.1 (world (keeping run.old) (map supply_of workers.items) (K.state out.old) (T.state trace.old))
+        (world (keeping run.new) (map supply_of result.0.items) (K.state out.new) (T.state trace.new)) }
+    ensures behind { (before : List Entry) → IsBehind before before (keeping run.old)
+        → EndsBehind before result.1 (world (keeping run.old) (map supply_of workers.items) (K.state out.old) (T.state trace.old))
+        (world (keeping run.new) (map supply_of result.0.items) (K.state out.new) (T.state trace.new)) }
+    ensures places { AreInPlace workers.items result.0.items }
+    ensures plan { (keeping run.new).state.plan ≡ (keeping run.old).state.plan }
+{
+    let sources = workers.len() as u32;
+    let (state, batch) = match make_room(alloc, sources, start) {
+        Ok(room) => room,
+        Err(_) => return (workers, Err(Stop::Memory)),
+    };
+    let mut feed = Feed::create(workers, state, batch);
+    let stopped = run_whole(rt, run, &mut feed, out, trace, gate);
+    (feed.into_workers(), stopped)
 }
 
 /// Runs all rows of sources, which are read in turns, and then the deadlines at the last stamp, unless a row has a fault
@@ -184,13 +224,65 @@ pub fn run_in_turns<R: Threads + Sync, S: Source, K: Sink, T: Sink, G: Gate + Sy
     ensures places { AreInPlace workers.items result.0.items }
     ensures plan { (keeping run.new).state.plan ≡ (keeping run.old).state.plan }
 {
+    run_all(rt, alloc, run, workers, start, out, trace, gate)
+}
+
+/// Runs all rows of sources, which are read in turns, and then the deadlines at the last stamp, in a run that goes on: whatever journal
+/// others had taken, the rows come behind it, and the deadlines at its last stamp are still to be run, also where no row comes.
+/// `start` is the time that was merged: the stamp of the last accepted row, or else the start. The workers come back as their turns
+/// left them.
+pub fn resume_in_turns<R: Threads + Sync, S: Source, K: Sink, T: Sink, G: Gate + Sync>(
+    rt: &R,
+    alloc: Global,
+    run: &mut Run,
+    workers: Vec<SourceWorker<S>>,
+    start: Option<u64>,
+    out: &mut K,
+    trace: &mut T,
+    gate: &G,
+) -> (Vec<SourceWorker<S>>, Result<(), Stop>)
+    requires none { HasTakenNone (keeping run.old) }
+    requires ready { AreReady (keeping run.old).state.plan workers.items }
+    requires start { opening_time start ≡ (keeping run.old).state.merged }
+    ensures run { (before : List Entry) → IsBehind before before (keeping run.old)
+        → EndsBehind before result.1 (world (keeping run.old) (map supply_of workers.items) (K.state out.old) (T.state trace.old))
+        (world (keeping run.new) (map supply_of result.0.items) (K.state out.new) (T.state trace.new)) }
+    ensures places { AreInPlace workers.items result.0.items }
+    ensures plan { (keeping run.new).state.plan ≡ (keeping run.old).state.plan }
+{
+    run_all(rt, alloc, run, workers, start, out, trace, gate)
+}
+
+/// Runs all rows of sources, which are read in turns, and leaves the deadlines at the last stamp to be run by others, who go on from the
+/// state that the run has come to. The run has begun or goes on: whatever journal others had taken, the rows come behind it. `start` is
+/// the time that was merged: the stamp of the last accepted row, or else the start. The workers come back as their turns left them.
+pub fn rows_in_turns<R: Threads + Sync, S: Source, K: Sink, T: Sink, G: Gate + Sync>(
+    rt: &R,
+    alloc: Global,
+    run: &mut Run,
+    workers: Vec<SourceWorker<S>>,
+    start: Option<u64>,
+    out: &mut K,
+    trace: &mut T,
+    gate: &G,
+) -> (Vec<SourceWorker<S>>, Result<(), Stop>)
+    requires none { HasTakenNone (keeping run.old) }
+    requires ready { AreReady (keeping run.old).state.plan workers.items }
+    requires start { opening_time start ≡ (keeping run.old).state.merged }
+    ensures run { (before : List Entry) → IsBehind before before (keeping run.old)
+        → RunsBehind before result.1 (world (keeping run.old) (map supply_of workers.items) (K.state out.old) (T.state trace.old))
+        (world (keeping run.new) (map supply_of result.0.items) (K.state out.new) (T.state trace.new)) }
+    ensures places { AreInPlace workers.items result.0.items }
+    ensures setting { IsSetAs (keeping run.old) (keeping run.new) }
+    ensures going { OnOk result.1 (IsGoing (keeping run.new)) }
+{
     let sources = workers.len() as u32;
     let (state, batch) = match make_room(alloc, sources, start) {
         Ok(room) => room,
         Err(_) => return (workers, Err(Stop::Memory)),
     };
     let mut feed = Feed::create(workers, state, batch);
-    let stopped = run_whole(rt, run, &mut feed, out, trace, gate);
+    let stopped = run_rows(rt, run, &mut feed, out, trace, gate);
     (feed.into_workers(), stopped)
 }
 

@@ -1,10 +1,12 @@
 //! A run: marked rows are traced, accepted ones are run, and their verdicts put.
-ghost use Rattle.std.specs.Prelude.{◌≡◌, ◌+◌, ◌<◌, ◌≤◌, [], IfOk};
+ghost use Rattle.std.specs.Prelude.{◌≡◌, ◌+◌, ◌<◌, ◌≤◌, [], IfOk, OnOk};
 ghost use Rattle.lola_model.specs.Acceptance.{IsAccepted};
 ghost use Rattle.lola_model.specs.Trace.{IsTraceable, trace_line};
+ghost use Rattle.lola_engine.specs.Behind.{StandsBehind};
 ghost use Rattle.lola_engine.specs.Engines.{IsEngine, IsOptionInTime, StandsFor};
 ghost use Rattle.lola_instances.specs.Stores.{bounded_remembers, bounded_seen};
 ghost use Rattle.lola_monitor_run.specs.Running.{Closes, Enters, HasRoom, IsGoing, IsNext, IsRowFor, IsSetAs, Puts, RunsAccepted, Stands, StopsAt, Takes, keeping, setting_at, setting_in};
+ghost use Rattle.lola_monitor_run.specs.Behind.{ClosesBehind, EntersFrom, HasTaken, HasTakenNone, IsBehind, TakesFromAny};
 
 use crate::putting::{put_entry, put_text};
 use crate::run_law::numbers_are_in_range;
@@ -62,6 +64,7 @@ fn new_engine(
     ensures engine { IfOk result (λ engine. IsEngine engine.state (bounded_seen engine.store)) }
     ensures setting { IfOk result (λ engine. setting_at engine.state ≡ record { plan = plan; start = start; show = show }) }
     ensures stands { IfOk result (λ engine. StandsFor engine.state (bounded_seen engine.store) (bounded_remembers engine.store) []) }
+    ensures behind { IfOk result (λ engine. StandsBehind engine.state (bounded_seen engine.store) (bounded_remembers engine.store) [] []) }
 {
     accepted_is_storable(&plan);
     let store = BoundedStore::create(alloc, hasher, &plan)?;
@@ -84,10 +87,21 @@ impl Run {
         requires start { IsOptionInTime start }
         ensures fresh { IfOk result (λ run. Stands [] (keeping run)) }
         ensures setting { IfOk result (λ run. setting_in (keeping run) ≡ record { plan = plan; start = start; show = show }) }
+        ensures none { IfOk result (λ run. HasTakenNone (keeping run)) }
+        ensures behind { IfOk result (λ run. IsBehind [] [] (keeping run)) }
+    {
+        let engine = new_engine(alloc, hasher, plan, start, show, workers)?;
+        let run = Run::resume(alloc, engine)?;
+        Ok(run)
+    }
+
+    /// A run over an engine that goes on, as one that was made from a saved state. Rows are counted anew, and whatever journal the engine
+    /// stands for, the run stands for it.
+    pub fn resume(alloc: Global, engine: Engine<BoundedStore>) -> Result<Run, Memory>
+        ensures { IfOk result (λ run. keeping run ≡ record { state = engine.state; store = engine.store; accepted = 0; late = 0 }) }
     {
         let line = Text::from_bytes(alloc, b"")?;
         let lines = Text::from_bytes(alloc, b"")?;
-        let engine = new_engine(alloc, hasher, plan, start, show, workers)?;
         Ok(Run {
             alloc,
             engine,
@@ -131,7 +145,7 @@ impl Run {
         put_text(self.lines.as_bytes(), out)
     }
 
-    /// Runs an entry, whatever journal the run stands for. A late one is counted.
+    /// Runs an entry, whatever journal the run stands for, and whatever front of it other runs had taken. A late one is counted.
     pub fn take<R: Threads + Sync, K: Sink, G: Gate + Sync>(
         &mut self,
         rt: &R,
@@ -144,6 +158,8 @@ impl Run {
         requires room { HasRoom (keeping self.old) }
         requires mark { IsNext (keeping self.old) entry.now }
         ensures takes { Takes result entry.now (keeping self.old) (keeping self.new) (K.state out.old) (K.state out.new) }
+        ensures from { TakesFromAny result entry.now (keeping self.old) (keeping self.new) (K.state out.old) (K.state out.new) }
+        ensures taken { OnOk result (HasTaken entry.now (keeping self.old) (keeping self.new)) }
         ensures setting { IsSetAs (keeping self.old) (keeping self.new) }
     {
         match entry.mark {
@@ -169,6 +185,8 @@ impl Run {
         requires room { HasRoom (keeping self.old) }
         requires mark { IsNext (keeping self.old) entry.now }
         ensures enters { Enters result entry.now (keeping self.old) (keeping self.new) (K.state out.old) (K.state out.new) (T.state trace.old) (T.state trace.new) }
+        ensures from { EntersFrom result entry.now (keeping self.old) (keeping self.new) (K.state out.old) (K.state out.new) (T.state trace.old) (T.state trace.new) }
+        ensures taken { OnOk result (HasTaken entry.now (keeping self.old) (keeping self.new)) }
         ensures setting { IsSetAs (keeping self.old) (keeping self.new) }
     {
         if let Err(stop) = self.trace(entry, trace) {
@@ -186,6 +204,7 @@ impl Run {
     ) -> Result<(), Stop>
         requires going { IsGoing (keeping self.old) }
         ensures closes { Closes result (keeping self.old) (keeping self.new) (K.state out.old) (K.state out.new) }
+        ensures behind { ClosesBehind result (keeping self.old) (keeping self.new) (K.state out.old) (K.state out.new) }
         ensures plan { self.new.engine.state.plan ≡ self.old.engine.state.plan }
     {
         self.lines.clear();
@@ -193,6 +212,14 @@ impl Run {
             return Err(stop_at(end, self.lines.as_bytes(), out));
         }
         put_text(self.lines.as_bytes(), out)
+    }
+
+    /// The engine that it runs, whose state can be saved.
+    pub fn engine(&self) -> &Engine<BoundedStore>
+        ensures state { result.now.state ≡ (keeping self.now).state }
+        ensures store { result.now.store ≡ (keeping self.now).store }
+    {
+        &self.engine
     }
 
     /// The plan that it runs.

@@ -6,11 +6,10 @@ use Rattle.lola_monitor_run.proofs.Counting.{room_left}
 use Rattle.lola_monitor_run.proofs.Rounding.{round_over, round_stops, round_turns, sources_many}
 use Rattle.lola_monitor_run.proofs.rows.run_round.Goals as goal
 
-pub run_turn-requires-clause-standing : goal.run_turn-requires-clause-standing
-run_turn-requires-clause-standing g c κs lives =
+pub run_turn-requires-clause-going : goal.run_turn-requires-clause-going
+run_turn-requires-clause-going g c κs lives =
     let u = c.requires.under_way in
-    let so = c.loop-source.invariant.round.so_far u.0 u.1 u.2 in
-    (so.journal, so.stands)
+    (c.loop-source.invariant.round.so_far u.0 u.1 u.2).going
 
 pub run_turn-requires-clause-room : goal.run_turn-requires-clause-room
 run_turn-requires-clause-room g c κs lives =

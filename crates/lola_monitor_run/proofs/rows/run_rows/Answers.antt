@@ -2,12 +2,12 @@ use Rattle.std.proofs.Common.{suc, ◌∙◌, refl}
 use Rattle.lola_monitor_run.specs.Running.{keeping}
 use Rattle.lola_monitor_run.specs.Feeds.{supplies_of, world}
 use Rattle.lola_monitor_run.proofs.Rounding.{few_sources, fresh_sources, round_goes, round_less, round_quiet}
-use Rattle.lola_monitor_run.proofs.Runs.{ran_to_end, started}
+use Rattle.lola_monitor_run.proofs.Runs.{started}
 use Rattle.lola_monitor_run.proofs.rows.run_rows.Goals as goal
 
 pub loop-stop-init : goal.loop-stop-init
 loop-stop-init g c = record {
-  so_far = (0, started (world (keeping c.args.run.now) (supplies_of c.args.feed.now) (g.K.Sink.state c.args.out.now) (g.T.Sink.state c.args.trace.now)) (few_sources c.args.feed.now c.requires.fresh.many.1) c.requires.stands (fresh_sources c.args.feed.now c.requires.fresh));
+  so_far = (0, started (world (keeping c.args.run.now) (supplies_of c.args.feed.now) (g.K.Sink.state c.args.out.now) (g.T.Sink.state c.args.trace.now)) (few_sources c.args.feed.now c.requires.fresh.many.1) c.requires.none (fresh_sources c.args.feed.now c.requires.fresh));
   idle = c.requires.idle;
   places = refl;
 }
@@ -27,10 +27,10 @@ loop-stop-smaller g c = round_less _ _ _ c.in-Ok-true.field-0-test c.in-Ok-true.
 pub returns-in-Ok-false-clause-run : goal.returns-in-Ok-false-clause-run
 returns-in-Ok-false-clause-run g c =
     let so = c.loop-stop.invariant.so_far in
-    ran_to_end _ (suc so.0) _ (round_goes _ _ _ c.in-Ok-false.ensures.goes _ so.0 so.1) (round_quiet _ _ _ c.in-Ok-false.field-0-test c.in-Ok-false.ensures.goes)
+    ((suc so.0, round_goes _ _ _ c.in-Ok-false.ensures.goes _ so.0 so.1), round_quiet _ _ _ c.in-Ok-false.field-0-test c.in-Ok-false.ensures.goes)
 
 pub returns-in-Ok-false-clause-going : goal.returns-in-Ok-false-clause-going
-returns-in-Ok-false-clause-going g c = let so = c.loop-stop.invariant.so_far in (round_goes _ _ _ c.in-Ok-false.ensures.goes _ so.0 so.1).stands.going
+returns-in-Ok-false-clause-going g c = let so = c.loop-stop.invariant.so_far in (round_goes _ _ _ c.in-Ok-false.ensures.goes _ so.0 so.1).going
 
 pub returns-in-Err-clause-run : goal.returns-in-Err-clause-run
 returns-in-Err-clause-run g c = let so = c.loop-stop.invariant.so_far in c.in-Err.ensures.goes _ so.0 so.1

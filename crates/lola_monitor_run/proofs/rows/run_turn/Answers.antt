@@ -1,7 +1,7 @@
 use Rattle.std.proofs.Common.{inl, Ok, Err}
 use Rattle.lola_monitor_run.specs.Running.{keeping}
 use Rattle.lola_monitor_run.specs.Feeds.{supplies_of}
-use Rattle.lola_monitor_run.proofs.Stepping.{entered, gave_it, idle_still, idle_then, merged_entered, out_of_memory, sat_out}
+use Rattle.lola_monitor_run.proofs.Stepping.{entered, gave_it, idle_still, idle_then, out_of_memory, sat_out}
 use Rattle.lola_monitor_run.proofs.Turns.{in_place, in_place_then}
 use Rattle.lola_monitor_run.proofs.rows.run_turn.Goals as goal
 
@@ -26,9 +26,6 @@ returns-in-None-clause-idle g c =
 pub returns-in-None-clause-places : goal.returns-in-None-clause-places
 returns-in-None-clause-places g c = in_place_then c.args.source c.turn-turn.result c.args.feed.now c.turn-turn.new.self c.take.new.self c.take.result c.turn-turn.ensures c.take.ensures
 
-pub enter-requires-clause-going : goal.enter-requires-clause-going
-enter-requires-clause-going g c κs lives = c.requires.standing.1.going
-
 pub enter-requires-clause-fits : goal.enter-requires-clause-fits
 enter-requires-clause-fits g c κs lives =
     (gave_it c.args.source c.args.feed.now c.turn-turn.new.self c.take.new.self (keeping c.args.run.now) c.requires.idle c.turn-turn.result c.turn-turn.ensures c.take.result c.take.ensures c.in-Some.entry c.in-Some.is).took_row.fits
@@ -41,14 +38,12 @@ pub returns-in-Ok-clause-steps : goal.returns-in-Ok-clause-steps
 returns-in-Ok-clause-steps g c =
     let gave = gave_it c.args.source c.args.feed.now c.turn-turn.new.self c.take.new.self (keeping c.args.run.now) c.requires.idle c.turn-turn.result c.turn-turn.ensures c.take.result c.take.ensures c.in-Some.entry c.in-Some.is in
     entered (keeping c.args.run.now) (keeping c.enter.new.self) (g.K.Sink.state c.args.out.now) (g.K.Sink.state c.enter.new.out) (g.T.Sink.state c.args.trace.now) (g.T.Sink.state c.enter.new.trace) c.in-Some.entry gave.mark
-    c.args.source (supplies_of c.args.feed.now) (supplies_of c.take.new.self) gave.took_row (Ok tt) c.in-Ok.ensures.enters
+    c.args.source (supplies_of c.args.feed.now) (supplies_of c.take.new.self) gave.took_row (Ok tt) c.in-Ok.ensures.enters c.in-Ok.ensures.from c.in-Ok.ensures.taken
 
 pub returns-in-Ok-clause-idle : goal.returns-in-Ok-clause-idle
 returns-in-Ok-clause-idle g c =
     idle_then c.args.source c.args.feed.now c.turn-turn.new.self c.take.new.self (keeping c.args.run.now) c.requires.idle c.turn-turn.result c.turn-turn.ensures c.take.result c.take.ensures c.in-Some.entry c.in-Some.is
-    (keeping c.enter.new.self)
-    (merged_entered c.in-Some.entry (keeping c.args.run.now) (keeping c.enter.new.self) (g.K.Sink.state c.args.out.now) (g.K.Sink.state c.enter.new.out) (g.T.Sink.state c.args.trace.now) (g.T.Sink.state c.enter.new.trace) c.requires.standing c.in-Ok.ensures.enters)
-    c.enter.ensures.setting
+    (keeping c.enter.new.self) c.in-Ok.ensures.taken.merged c.enter.ensures.setting
 
 pub returns-in-Ok-clause-places : goal.returns-in-Ok-clause-places
 returns-in-Ok-clause-places g c = in_place_then c.args.source c.turn-turn.result c.args.feed.now c.turn-turn.new.self c.take.new.self c.take.result c.turn-turn.ensures c.take.ensures
@@ -57,7 +52,7 @@ pub returns-clause-steps : goal.returns-clause-steps
 returns-clause-steps g c =
     let gave = gave_it c.args.source c.args.feed.now c.turn-turn.new.self c.take.new.self (keeping c.args.run.now) c.requires.idle c.turn-turn.result c.turn-turn.ensures c.take.result c.take.ensures c.in-Some.entry c.in-Some.is in
     entered (keeping c.args.run.now) (keeping c.enter.new.self) (g.K.Sink.state c.args.out.now) (g.K.Sink.state c.enter.new.out) (g.T.Sink.state c.args.trace.now) (g.T.Sink.state c.enter.new.trace) c.in-Some.entry gave.mark
-    c.args.source (supplies_of c.args.feed.now) (supplies_of c.take.new.self) gave.took_row (Err c.in-Err.stop) c.in-Err.ensures.enters
+    c.args.source (supplies_of c.args.feed.now) (supplies_of c.take.new.self) gave.took_row (Err c.in-Err.stop) c.in-Err.ensures.enters c.in-Err.ensures.from tt
 
 pub returns-clause-places : goal.returns-clause-places
 returns-clause-places g c = in_place_then c.args.source c.turn-turn.result c.args.feed.now c.turn-turn.new.self c.take.new.self c.take.result c.turn-turn.ensures c.take.ensures

@@ -1,15 +1,36 @@
 use Rattle.std.proofs.Common.{true}
 use Rattle.lola_monitor_run.specs.Running.{keeping}
 use Rattle.lola_monitor_run.specs.Feeds.{supplies_of, world}
+use Rattle.lola_monitor_run.specs.Behind.{AtFirst, Following}
+use Rattle.lola_monitor_run.proofs.Anew.{stopped_first}
 use Rattle.lola_monitor_run.proofs.Closing.{stays_ended}
+use Rattle.lola_monitor_run.proofs.ClosingBehind.{stays_ended_behind}
+use Rattle.lola_monitor_run.proofs.Runs.{ran_behind, ran_to_end}
+use Rattle.lola_monitor_run.proofs.Taking.{stands_first}
 use Rattle.lola_monitor_run.proofs.rows.run_whole.Goals as goal
 
 pub returns-in-Ok-clause-run : goal.returns-in-Ok-clause-run
-returns-in-Ok-clause-run g c =
-    c.run_out.ensures.run true (world (keeping c.args.run.now) (supplies_of c.args.feed.now) (g.K.Sink.state c.args.out.now) (g.T.Sink.state c.args.trace.now)) (supplies_of c.run_rows.new.feed) (g.T.Sink.state c.run_rows.new.trace) c.in-Ok.ensures.run
-
-pub returns-in-Err-clause-run : goal.returns-in-Err-clause-run
-returns-in-Err-clause-run g c =
+returns-in-Ok-clause-run g c = λ stood.
     let first = world (keeping c.args.run.now) (supplies_of c.args.feed.now) (g.K.Sink.state c.args.out.now) (g.T.Sink.state c.args.trace.now) in
     let last = world (keeping c.run_rows.new.run) (supplies_of c.run_rows.new.feed) (g.K.Sink.state c.run_rows.new.out) (g.T.Sink.state c.run_rows.new.trace) in
-    stays_ended true c.in-Err.stop first last c.in-Err.ensures.run
+    let ran = c.in-Ok.ensures.run in
+    c.run_out.ensures.run true first (supplies_of c.run_rows.new.feed) (g.T.Sink.state c.run_rows.new.trace) (ran_to_end first ran.0.0 last ran.0.1 ran.1 stood)
+
+pub returns-in-Ok-clause-behind : goal.returns-in-Ok-clause-behind
+returns-in-Ok-clause-behind g c = λ before stood.
+    let first = world (keeping c.args.run.now) (supplies_of c.args.feed.now) (g.K.Sink.state c.args.out.now) (g.T.Sink.state c.args.trace.now) in
+    let last = world (keeping c.run_rows.new.run) (supplies_of c.run_rows.new.feed) (g.K.Sink.state c.run_rows.new.out) (g.T.Sink.state c.run_rows.new.trace) in
+    let ran = c.in-Ok.ensures.run in
+    c.run_out.ensures.behind before first (supplies_of c.run_rows.new.feed) (g.T.Sink.state c.run_rows.new.trace) (ran_behind first ran.0.0 last ran.0.1 ran.1 before stood)
+
+pub returns-in-Err-clause-run : goal.returns-in-Err-clause-run
+returns-in-Err-clause-run g c = λ stood.
+    let first = world (keeping c.args.run.now) (supplies_of c.args.feed.now) (g.K.Sink.state c.args.out.now) (g.T.Sink.state c.args.trace.now) in
+    let last = world (keeping c.run_rows.new.run) (supplies_of c.run_rows.new.feed) (g.K.Sink.state c.run_rows.new.out) (g.T.Sink.state c.run_rows.new.trace) in
+    stays_ended true c.in-Err.stop first last (stopped_first first last c.in-Err.stop (c.in-Err.ensures.run AtFirst (stands_first _ _ stood)))
+
+pub returns-in-Err-clause-behind : goal.returns-in-Err-clause-behind
+returns-in-Err-clause-behind g c = λ before stood.
+    let first = world (keeping c.args.run.now) (supplies_of c.args.feed.now) (g.K.Sink.state c.args.out.now) (g.T.Sink.state c.args.trace.now) in
+    let last = world (keeping c.run_rows.new.run) (supplies_of c.run_rows.new.feed) (g.K.Sink.state c.run_rows.new.out) (g.T.Sink.state c.run_rows.new.trace) in
+    stays_ended_behind before first last c.in-Err.stop (c.in-Err.ensures.run (Following before) stood)
