@@ -1,22 +1,19 @@
 -- An engine that is handed one entry more, and what it has run so far.
-use Rattle.std.proofs.Common.{◌≡◌, ◌⊎◌, inl, inr, ℕ, ◌+◌, ◌-◌, ◌<◌, ◌≤◌, ◌^◌, List, [], ◌∷◌, ◌++◌, Option, None, Some, Err, max, refl, sym, ap, ◌∙◌, subst, arith, length, length-append, take, drop, get_or, append_assoc, append-nil}
+use Rattle.std.proofs.Common.{◌≡◌, ℕ, ◌+◌, ◌-◌, ◌<◌, ◌≤◌, ◌^◌, List, [], ◌∷◌, ◌++◌, Option, None, Some, Err, refl, sym, ap, ◌∙◌, subst, arith, length, length-append, take, drop, get_or, append_assoc, append-nil}
 use Rattle.std.proofs.lemmas.List.{at_drop_more, take-append-drop, take_all, take_more}
 use Rattle.std.specs.List.{All}
 use Rattle.lola_model.specs.Faults.{RunFault}
 use Rattle.lola_model.specs.Journal.{IsLegalFrom, accepted, merged_from, opening_time}
-use Rattle.lola_model.specs.Runs.{content_after, run_start, settled_fault, settled_lines, settled_model}
-use Rattle.lola_model.specs.Standing.{StandsBetween}
+use Rattle.lola_model.specs.Runs.{settled_fault, settled_lines, settled_model}
 use Rattle.lola_model.specs.Store.{Memories, Seen}
-use Rattle.lola_model.specs.Table.{TableRow}
 use Rattle.lola_model.specs.Texts.{text_of}
 use Rattle.lola_model.specs.declared.journal.Entry.{Entry}
 use Rattle.lola_model.specs.declared.journal.Mark.TheVariants as mark
 use Rattle.lola_model.specs.declared.journal.Show.{Show}
 use Rattle.lola_model.specs.declared.plan.Plan.{Plan}
-use Rattle.lola_model.proofs.Journals.{IsLegalFrom-append_right, accepted-append, accepted-append_late, accepted_is_row, merged_from-append_late, rightly_accepted, run_start-append_late, settled_fault-append_late, settled_lines-append_late, settled_model-append_late, text_of-append}
-use Rattle.lola_step.specs.Progress.{IsRun}
+use Rattle.lola_model.proofs.Journals.{IsLegalFrom-append_right, accepted-append, accepted_is_row, rightly_accepted, settled_lines-append_late, text_of-append}
 use Rattle.lola_engine.proofs.LateRows.{late_stands}
-use Rattle.lola_engine.specs.Engines.{Brings, CutsRow, FailsRow, IsEngine, IsTakeable, IsUnderWay, IsWaiting, StandsFor, accepted_entry}
+use Rattle.lola_engine.specs.Engines.{Brings, CutsRow, FailsRow, IsEngine, IsTakeable, StandsFor, accepted_entry}
 use Rattle.lola_engine.specs.declared.engine.EngineState.{EngineState}
 use Rattle.lola_engine.specs.declared.end.EngineEnd.{EngineEnd}
 use Rattle.lola_engine.specs.declared.end.EngineEnd.TheVariants.{Fault, Memory}

@@ -10,7 +10,7 @@ use lola_engine::end::EngineEnd;
 use lola_engine::engine::Engine;
 use lola_model::journal::{Entry, Mark, Row};
 use lola_port::Gate;
-use lola_text_sweep::store::TextStore;
+use lola_text::store::TextStore;
 use lola_value::text::Text;
 use std::thread::Threads;
 

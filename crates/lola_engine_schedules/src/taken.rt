@@ -15,7 +15,7 @@ use lola_engine::engine::Engine;
 use lola_merge::law::every_order;
 use lola_merge::world::World;
 use lola_port::Gate;
-use lola_text_sweep::store::TextStore;
+use lola_text::store::TextStore;
 use lola_value::text::Text;
 use std::thread::Threads;
 

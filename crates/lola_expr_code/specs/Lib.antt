@@ -2,3 +2,4 @@ pub mod Code
 pub mod Machine
 pub mod Plans
 pub mod Numbered
+pub mod Keys

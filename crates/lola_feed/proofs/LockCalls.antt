@@ -2,8 +2,8 @@
 use Rattle.std.proofs.Common.{◌≡◌, ℕ, Bool, true, false, true≢false, List, [], ◌∷◌, ◌++◌, map, length, refl, sym, ap, ◌∙◌, subst, arith, append_assoc}
 use Rattle.std.proofs.lemmas.List.{append-nil, map-append}
 use Rattle.atomic_table.specs.Seated.{TableId}
-use Rattle.lola_intake_turns.specs.declared.view.Turn.{Turn}
-use Rattle.lola_intake_turns.specs.Turns.{Runs, turn_by}
+use Rattle.lola_intake.specs.declared.view.Turn.{Turn}
+use Rattle.lola_intake.specs.Turns.{Runs, turn_by}
 use Rattle.lola_model.specs.Journal.{IsLegalFrom, opening_time}
 use Rattle.lola_model.specs.declared.journal.Row.{Row}
 use Rattle.lola_model.specs.declared.journal.Entry.{Entry}

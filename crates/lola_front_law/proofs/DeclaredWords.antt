@@ -5,8 +5,8 @@ use Rattle.lola_parser_tree.specs.declared.literals.Typed.{Typed}
 use Rattle.lola_parser_tree.specs.declared.declarations.Declaration.{Declaration}
 use Rattle.lola_parser_tree.specs.declared.declarations.Declaration.TheVariants as d
 use Rattle.lola_lexer.specs.declared.shape.TokenShape.TheVariants as is
-use Rattle.lola_parser_grammars_law.specs.Syntax.{Lexeme, Syntax, Then, Map, Either, Maybe, Many, Spells, Repeats, fits}
-use Rattle.lola_parser_grammars_law.proofs.Tests.{shape_is}
+use Rattle.lola_parser_grammar.specs.Syntax.{Lexeme, Syntax, Then, Map, Either, Maybe, Many, Spells, Repeats, fits}
+use Rattle.lola_parser_grammar.proofs.Tests.{shape_is}
 use Rattle.lola_parser_grammar.specs.Grammar.{token, name, typed, further, listed, parameters, kind, inputs, constant, body, output, trigger, declaration, specification}
 use Rattle.lola_front_law.proofs.NameTokens.{Word, Worded}
 

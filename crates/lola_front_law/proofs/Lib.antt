@@ -32,3 +32,21 @@ mod PlainTrees
 mod PlainSpecs
 mod PlainPlans
 mod AnswerDeciding
+pub mod Telling
+pub mod Reaching
+mod LeavesFound
+mod LeastFound
+mod FormsFound
+mod RatesFound
+mod ClausesFound
+pub mod PacingsFound
+mod CyclesFound
+mod LayersFound
+mod BoundsFound
+pub mod Laws
+pub mod ExpressionTexts
+pub mod ClauseTexts
+pub mod PlanLiterals
+mod FullFilled
+mod RatedStreams
+mod Phases

@@ -13,7 +13,7 @@ use Rattle.lola_lexer.specs.Lexical.{thing_at}
 use Rattle.lola_lexer.specs.Longest.{IsSound, StandsAt}
 use Rattle.lola_lexer.specs.Tokens.{Cut, after, tokens_from, tokens_of, with_front}
 use Rattle.lola_lexer.proofs.Sound.{sound}
-use Rattle.lola_parser_grammars_law.specs.Syntax.{Lexeme}
+use Rattle.lola_parser_grammar.specs.Syntax.{Lexeme}
 use Rattle.lola_parser_grammar.specs.Cursor.{lexeme, lexemes}
 
 -- a text of letters, digits and `_`

@@ -12,7 +12,7 @@ use Rattle.lola_model.specs.declared.spec.Clause.{Clause}
 use Rattle.lola_model.specs.declared.spec.Spec.{Spec}
 use Rattle.lola_model.specs.declared.spec.Stream.{Stream}
 use Rattle.lola_model.specs.declared.spec.WindowSpec.{WindowSpec}
-use Rattle.lola_model_alike_law.specs.Alike.{nowhere, plain, plain_all, plain_clause, plain_stream, plain_spec}
+use Rattle.lola_model_law.specs.Alike.{nowhere, plain, plain_all, plain_clause, plain_stream, plain_spec}
 use Rattle.lola_types.specs.Filled.{note, note_part, settled, settled_if, filled, filled_all, filled_whole, FilledWhen, FilledWith, FilledClause, FilledClauses, FilledStream, FilledStreams, IsFilled}
 use Rattle.lola_types.specs.Found.{Setting, found, found_all, joint, some_broken, arguments_fit, of_kind, kind_found, reference_part, stream_parameters, parameters_at, window_parameters, window_at, prefix_part, binary_part, defaults_part, choice_part}
 use Rattle.lola_types.specs.LeftOut.{first_expression, part_kind, kind_of_expression, declared_kinds, setting_of, kind_after, round_from, round, after_round, rounds, kinds_of}

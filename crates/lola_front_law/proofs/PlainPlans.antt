@@ -2,7 +2,7 @@
 use Rattle.std.proofs.Common.{◌≡◌, subst, ℕ, List}
 use Rattle.lola_parser_tree.specs.declared.declarations.Declaration.{Declaration}
 use Rattle.lola_model.specs.declared.spec.Spec.{Spec}
-use Rattle.lola_model_alike_law.specs.Alike.{plain_spec}
+use Rattle.lola_model_law.specs.Alike.{plain_spec}
 use Rattle.lola_names.specs.Specification.{Resolves}
 use Rattle.lola_front.specs.Front.{IsFull}
 use Rattle.lola_front_law.proofs.AlikePlans.{same_windows}

@@ -1,5 +1,5 @@
 -- What differs in addresses alone has one plain form, part by part.
-use Rattle.std.proofs.Common.{◌≡◌, sym, ap, ◌∙◌, refl, ℕ, List, [], ◌∷◌, Option, Some, None, map}
+use Rattle.std.proofs.Common.{◌≡◌, ap, ◌∙◌, refl, ℕ, List, Option, Some, None}
 use Rattle.std.specs.Option.{option_map}
 use Rattle.lola_value.specs.declared.value.Kind.{Kind}
 use Rattle.lola_model.specs.declared.expr.Arguments.{Arguments}
@@ -16,7 +16,7 @@ use Rattle.lola_model.specs.declared.spec.Sort.{Sort}
 use Rattle.lola_model.specs.declared.spec.Spec.{Spec}
 use Rattle.lola_model.specs.declared.spec.Stream.{Stream}
 use Rattle.lola_model.specs.declared.spec.WindowSpec.{WindowSpec}
-use Rattle.lola_model_alike_law.specs.Alike.{nowhere, plain, plain_all, plain_formula, plain_pace}
+use Rattle.lola_model_law.specs.Alike.{plain, plain_all, plain_formula, plain_pace}
 use Rattle.lola_types.specs.Filled.{SameTree, SameArguments, SameFormula, SamePace}
 use Rattle.lola_front_law.proofs.AlikeKinds.{two, three}
 

@@ -6,8 +6,8 @@ use Rattle.lola_value.specs.declared.front.Code.TheVariants as code
 use Rattle.lola_value.specs.declared.front.Refusal.{Refusal}
 use Rattle.lola_value.specs.declared.front.FrontEnd.TheVariants as front_end
 use Rattle.lola_parser_tree.specs.declared.declarations.Declaration.{Declaration}
-use Rattle.lola_parser_grammars_law.specs.Syntax.{Lexeme, read_all}
-use Rattle.lola_parser_grammars_law.specs.Syntax as reading
+use Rattle.lola_parser_grammar.specs.Syntax.{Lexeme, read_all}
+use Rattle.lola_parser_grammar.specs.Syntax as reading
 use Rattle.lola_parser_grammar.specs.Cursor.{place_of}
 use Rattle.lola_parser_grammar.specs.Grammar.{specification}
 use Rattle.lola_parser_grammar.specs.Whole.{most_levels}

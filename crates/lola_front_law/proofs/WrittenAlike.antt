@@ -1,5 +1,5 @@
 -- Of all specifications that declarations are resolved to the same pacings are written, at the same places.
-use Rattle.std.proofs.Common.{◌≡◌, sym, ◌∙◌, ℕ, Option, Some, None}
+use Rattle.std.proofs.Common.{sym, ◌∙◌, ℕ, Option, Some, None}
 use Rattle.lola_parser_tree.specs.declared.pacing.Formula.{Formula as TreeFormula, more_of-Formula, end_of-Formula}
 use Rattle.lola_parser_tree.specs.declared.pacing.Formula.TheVariants as f
 use Rattle.lola_parser_tree.specs.declared.pacing.Rhythm.{Rhythm}

@@ -6,3 +6,7 @@ pub mod OneRest
 pub mod OneLine
 pub mod OnePacing
 pub mod OneAnswer
+pub mod Rated
+pub mod Planned
+pub mod PlanTexts
+pub mod Answered

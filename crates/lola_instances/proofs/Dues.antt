@@ -6,7 +6,7 @@ use Rattle.lola_model.specs.Dues.{due_among, due_from, due_in, due_places, is_du
 use Rattle.lola_model.specs.NextStep.{earlier, first_due}
 use Rattle.lola_model.specs.Store.{instances_of}
 use Rattle.lola_instances_one.specs.Holdings.{Holdings, slot_seen}
-use Rattle.lola_instances_due.specs.Dues.{due_births}
+use Rattle.lola_instances_one.specs.Dues.{due_births}
 use Rattle.lola_instances_stream.specs.Births.{births_of}
 use Rattle.lola_instances_stream.specs.Crowds.{Crowd, crowd_seen}
 use Rattle.lola_instances_stream.specs.Dues.{due_at_births, due_since, in_time}

@@ -4,10 +4,10 @@ use Rattle.std.specs.Prelude.{flat_map}
 use Rattle.lola_value.specs.declared.text.Field.{Field}
 use Rattle.lola_value.specs.Naming.{Naming, the_values}
 use Rattle.lola_model.specs.Store.{SeenInstance, instances_of, instances_seen}
-use Rattle.lola_text_sweep.specs.Needed.{AreAmong, IsAmongIn, KeepsTexts}
+use Rattle.lola_text.specs.Needed.{AreAmong, IsAmongIn, KeepsTexts}
 use Rattle.lola_instances_one.specs.Holdings.{Holdings}
 use Rattle.lola_instances_one.specs.Texts.{slot_texts, KeepsOutcome}
-use Rattle.lola_text_sweep.proofs.Among.{AreWithin, within_front, within_back, item_within}
+use Rattle.lola_text.proofs.Among.{AreWithin, within_front, within_back, item_within}
 use Rattle.lola_instances_stream.specs.Crowds.{Crowd, crowd_seen}
 use Rattle.lola_instances_stream.specs.Each.{Each}
 use Rattle.lola_instances_stream.specs.Texts.{crowd_texts}

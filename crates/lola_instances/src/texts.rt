@@ -5,8 +5,8 @@ ghost use Rattle.lola_instances_stream.specs.Texts.{crowd_texts};
 
 use crate::store::BoundedStore;
 use lola_instances_stream::instances::Instances;
-use lola_text_sweep::ids::Ids;
-use lola_text_sweep::store::TextStore;
+use lola_text::ids::Ids;
+use lola_text::store::TextStore;
 use lola_value::text::Memory;
 
 // The numbers of the texts of each stream.

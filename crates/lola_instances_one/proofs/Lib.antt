@@ -5,3 +5,8 @@ pub mod Births
 pub mod Giving
 pub mod Needing
 pub mod Silent
+pub mod Parts
+pub mod Moments
+pub mod Queues
+pub mod DueBirths
+pub mod DuePlaces

@@ -8,14 +8,14 @@ use Rattle.lola_value.specs.declared.value.Outcome.{Outcome}
 use Rattle.lola_value.specs.declared.value.Outcome.TheVariants as outcome
 use Rattle.lola_value.specs.Naming.{Naming, the_values}
 use Rattle.lola_model.specs.Accesses.{one_more}
-use Rattle.lola_text_sweep.specs.Needed.{text_in, texts_in, text_of_outcome, AreAmong, IsAmong, IsAmongIn, KeepsTexts}
+use Rattle.lola_text.specs.Needed.{text_in, texts_in, text_of_outcome, AreAmong, IsAmong, IsAmongIn, KeepsTexts}
 use Rattle.lola_buffer.specs.Kept.{before_newest}
 use Rattle.lola_buffer.proofs.Ends.{before_newest-kept}
 use Rattle.lola_panes.proofs.Noting.{lt_yes}
 use Rattle.lola_instances_one.specs.Holdings.{Holdings, shown, value_or_missing}
 use Rattle.lola_instances_one.specs.Memories.{Remembers, life_values, shifted, AllSince, AllStandFor}
 use Rattle.lola_instances_one.specs.Texts.{slot_texts, KeepsOutcome}
-use Rattle.lola_text_sweep.proofs.Among.{within_front, within_back, value_within, all_within, outcome_within, value_among, all_among, all_read, all_held, outcome_read, outcome_held}
+use Rattle.lola_text.proofs.Among.{within_front, within_back, value_within, all_within, outcome_within, value_among, all_among, all_read, all_held, outcome_read, outcome_held}
 
 -- a value of a list has its text among those of the list
 got_among : (vs : List Value) (i : ℕ) (v : Value) → slice_get vs i ≡ Some v → IsAmong (texts_in vs) v

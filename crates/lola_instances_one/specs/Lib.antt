@@ -5,3 +5,7 @@ pub mod Texts
 pub mod WindowAnswers
 pub mod Unborn
 pub mod Saved
+pub mod Bits
+pub mod Dues
+pub mod Moments
+pub mod Queues

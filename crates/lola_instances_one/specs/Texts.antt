@@ -4,7 +4,7 @@ use Rattle.lola_value.specs.declared.value.TextId.{TextId}
 use Rattle.lola_value.specs.declared.value.Value.{Value}
 use Rattle.lola_value.specs.declared.value.Outcome.TheVariants as outcome
 use Rattle.lola_value.specs.Naming.{the_values}
-use Rattle.lola_text_sweep.specs.Needed.{texts_in}
+use Rattle.lola_text.specs.Needed.{texts_in}
 use Rattle.lola_buffer.specs.Kept.{before_newest}
 use Rattle.lola_instances_one.specs.Holdings.{Holdings}
 

@@ -1,12 +1,12 @@
 //! The numbers of the texts in a ring, added to a list.
 
 ghost use Rattle.std.specs.Prelude.{◌≡◌, ◌++◌, OnOk};
-ghost use Rattle.lola_text_sweep.specs.Needed.{texts_in};
+ghost use Rattle.lola_text.specs.Needed.{texts_in};
 
 use crate::instance::or_missing;
 use lola_buffer::buffer::Buffer;
-use lola_text_sweep::adding::add_outcome;
-use lola_text_sweep::ids::Ids;
+use lola_text::adding::add_outcome;
+use lola_text::ids::Ids;
 use lola_value::text::Memory;
 
 /// The numbers of the texts among the values of a ring, from the oldest on. Where there is no memory some of them may have

@@ -6,7 +6,7 @@ use Rattle.lola_value.specs.Times.{latest, up_to_latest}
 use Rattle.lola_model.specs.NextStep.{earlier}
 use Rattle.lola_instances_one.specs.declared.window.WindowPanes.{WindowPanes}
 use Rattle.lola_instances_one.specs.Holdings.{Holdings}
-use Rattle.lola_instances_due.specs.Dues.{due_births, is_timed}
+use Rattle.lola_instances_one.specs.Dues.{due_births, is_timed}
 use Rattle.lola_instances_stream.specs.Births.{births_of, firsts}
 use Rattle.lola_instances_stream.specs.Changes.{IsChangedAt}
 use Rattle.lola_instances_stream.specs.Dues.{due_at_births, due_since, in_time}

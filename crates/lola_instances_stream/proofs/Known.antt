@@ -4,8 +4,8 @@ use Rattle.std.proofs.lemmas.Option.{slice_get_within}
 use Rattle.std.proofs.lemmas.Bool.{le-leb, false_from_ne_true}
 use Rattle.std.specs.Prelude.{replicate}
 use Rattle.std.proofs.lemmas.List.{length-append}
-use Rattle.lola_instances_bits.specs.Bits.{Extends, rank}
-use Rattle.lola_instances_bits.proofs.Parts.{below_or_not}
+use Rattle.lola_instances_one.specs.Bits.{Extends, rank}
+use Rattle.lola_instances_one.proofs.Parts.{below_or_not}
 use Rattle.lola_value.specs.declared.value.Params.{Params}
 use Rattle.lola_value.specs.Kinds.{is_well_formed, same_params}
 use Rattle.lola_value.proofs.ParamsLemmas.{same_well_formed}

@@ -5,10 +5,10 @@ use Rattle.lola_value.specs.declared.text.Field.{Field}
 use Rattle.lola_value.specs.declared.value.TextId.{TextId}
 use Rattle.lola_value.specs.Naming.{Naming, the_values}
 use Rattle.lola_model.specs.Store.{SeenInstance}
-use Rattle.lola_text_sweep.specs.Needed.{AreAmong, IsAmongIn, KeepsTexts}
+use Rattle.lola_text.specs.Needed.{AreAmong, IsAmongIn, KeepsTexts}
 use Rattle.lola_instances_one.specs.Holdings.{Holdings, slot_seen}
 use Rattle.lola_instances_one.specs.Texts.{slot_texts, KeepsOutcome}
-use Rattle.lola_text_sweep.proofs.Among.{AreWithin, within_front, within_back, all_within, outcome_within, keeps_within}
+use Rattle.lola_text.proofs.Among.{AreWithin, within_front, within_back, all_within, outcome_within, keeps_within}
 use Rattle.lola_instances_one.proofs.Needing.{params_among, shown_among, remembers-kept}
 use Rattle.lola_instances_stream.specs.Crowds.{RemembersAt}
 use Rattle.lola_instances_stream.specs.Each.{Each}

@@ -1,5 +1,5 @@
 -- An instance that is restored.
-use Rattle.std.proofs.Common.{◌≡◌, ℕ, zero, suc, ◌+◌, ◌-◌, ◌≤◌, ◌<◌, List, [], ◌∷◌, ◌++◌, length, map, refl, ap, sym, ◌∙◌, subst, arith, Option, Some, None, slice_get, slice_set, if◌then◌else◌, true, IsTrue, MatchOption}
+use Rattle.std.proofs.Common.{◌≡◌, ℕ, zero, suc, ◌+◌, ◌-◌, ◌≤◌, ◌<◌, List, [], ◌∷◌, ◌++◌, length, map, refl, ap, sym, ◌∙◌, subst, arith, Option, Some, slice_get, slice_set, true, IsTrue, MatchOption}
 use Rattle.std.proofs.lemmas.List.{length_push}
 use Rattle.lola_value.specs.declared.text.Field.{Field}
 use Rattle.lola_value.specs.declared.value.Kind.{Kind}
@@ -23,7 +23,7 @@ use Rattle.lola_instances_stream.specs.Births.{newborn}
 use Rattle.lola_instances_stream.specs.Changes.{IsChangedAt}
 use Rattle.lola_instances_stream.specs.Crowds.{Crowd, RemembersAt}
 use Rattle.lola_instances_stream.specs.Restoring.{HasOneMore, HasPanesRestored, IsRested}
-use Rattle.lola_instances_stream.specs.Rights.{AreRight, IsSteady, IsTimely, SlotRight}
+use Rattle.lola_instances_stream.specs.Rights.{AreRight, SlotRight}
 use Rattle.lola_instances_stream.proofs.Lists.{each-append, got_last, map_set}
 use Rattle.lola_instances_stream.proofs.Newborns.{newborn_remembers, newborn_right, past_append}
 use Rattle.lola_instances_stream.proofs.Outcomes.{earlier, given_more, is_missing, kind_dropped, kind_more, not_shown}

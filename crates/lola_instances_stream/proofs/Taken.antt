@@ -2,8 +2,8 @@
 use Rattle.std.proofs.Common.{◌≡◌, ℕ, zero, suc, ◌+◌, ◌≤◌, ◌<◌, inl, inr, Bool, true, false, List, [], ◌∷◌, ◌++◌, length, take, get_or, filter, refl, ap, sym, ◌∙◌, subst, arith, Option, Some, None, is_some, slice_get, slice_set, nat_lt}
 use Rattle.std.specs.Prelude.{remove, replicate}
 use Rattle.std.proofs.lemmas.List.Sums.{sum_by-cons, sum_by-append}
-use Rattle.lola_instances_bits.specs.Bits.{bit, ones, rank}
-use Rattle.lola_instances_bits.proofs.Parts.{below_or_not}
+use Rattle.lola_instances_one.specs.Bits.{bit, ones, rank}
+use Rattle.lola_instances_one.proofs.Parts.{below_or_not}
 use Rattle.lola_panes.proofs.Noting.{lt_yes, lt_no}
 use Rattle.lola_instances_one.specs.Holdings.{Holdings}
 use Rattle.lola_instances_stream.specs.Cells.{AreFlagged, IsTaken, StandsIn, living}

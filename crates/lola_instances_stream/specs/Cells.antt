@@ -1,6 +1,6 @@
 -- Cells of instances in order of birth. The cell of one that is closed stays, empty, until the others move up.
 use Rattle.std.specs.Prelude.{ℕ, zero, suc, ◌≡◌, ◌+◌, ◌≤◌, Bool, true, false, List, [], ◌∷◌, Option, Some, None, length, slice_get, IsTrue}
-use Rattle.lola_instances_bits.specs.Bits.{ones}
+use Rattle.lola_instances_one.specs.Bits.{ones}
 use Rattle.lola_value.specs.Kinds.{is_well_formed}
 use Rattle.lola_instances_one.specs.Holdings.{Holdings}
 use Rattle.lola_instances_stream.specs.Listings.{Listing, cell_of}

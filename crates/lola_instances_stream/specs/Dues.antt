@@ -4,7 +4,7 @@ use Rattle.std.specs.Option.{option_and_then}
 use Rattle.lola_value.specs.Ratio.{Ratio}
 use Rattle.lola_value.specs.Times.{up_to_latest}
 use Rattle.lola_instances_one.specs.Holdings.{Holdings}
-use Rattle.lola_instances_due.specs.Dues.{Timetable, due_births, due_of_births, is_timed}
+use Rattle.lola_instances_one.specs.Dues.{Timetable, due_births, due_of_births, is_timed}
 use Rattle.lola_instances_stream.specs.Births.{births_of}
 
 -- a moment, if it is a time

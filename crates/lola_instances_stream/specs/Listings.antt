@@ -1,7 +1,7 @@
 -- Tables of the instances of a stream by their parameters.
 use Rattle.std.specs.Prelude.{ℕ, ◌≡◌, Bool, false, cond, List, Option, Some, slice_get, nat_le, length, if◌then◌else◌}
 use Rattle.std.specs.Map.{lookup}
-use Rattle.lola_instances_bits.specs.Bits.{rank}
+use Rattle.lola_instances_one.specs.Bits.{rank}
 use Rattle.lola_value.specs.declared.value.Kind.{Kind}
 use Rattle.lola_value.specs.declared.value.Params.{Params}
 use Rattle.lola_model.specs.Whereabouts.{AreOthers, may_stand_at}

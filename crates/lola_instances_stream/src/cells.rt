@@ -2,7 +2,7 @@
 
 ghost use Rattle.std.specs.Prelude.{◌≡◌, ℕ, ◌≤◌, ◌<◌, ◌+◌, ◌++◌, ◌∷◌, [], Some, None, true, false, length, filter, slice_get, slice_index_or, slice_set, remove, IfSome, OnOk, IsTrue, MatchOption, is_some};
 ghost use Rattle.std.specs.Vec.{vec_capacity};
-ghost use Rattle.lola_instances_bits.specs.Bits.{Extends, ones, rank};
+ghost use Rattle.lola_instances_one.specs.Bits.{Extends, ones, rank};
 ghost use Rattle.lola_value.specs.Kinds.{is_well_formed, same_params};
 ghost use Rattle.lola_instances_one.specs.Holdings.{Holdings};
 ghost use Rattle.lola_instances_one.specs.Telling.{AllReady};
@@ -13,7 +13,7 @@ ghost use Rattle.lola_instances_stream.specs.Givings.{AreGiven, AreReadyFor};
 
 use crate::directory::Directory;
 use crate::giving::give_cells;
-use lola_instances_bits::bits::BitVector;
+use lola_instances_one::bits::BitVector;
 use lola_instances_one::instance::Instance;
 use lola_value::brief::{Brief, BriefValue};
 use lola_value::text::Memory;

@@ -2,14 +2,14 @@
 
 ghost use Rattle.std.specs.Prelude.{◌≡◌, ℕ, ◌≤◌, ◌<◌, ◌+◌, [], Some, None, true, map, length, nat_le, if◌then◌else◌, IsTrue, OnOk};
 ghost use Rattle.indexmap.specs.IndexMap.{spare};
-ghost use Rattle.lola_instances_bits.specs.Bits.{rank};
+ghost use Rattle.lola_instances_one.specs.Bits.{rank};
 ghost use Rattle.lola_value.specs.Kinds.{is_well_formed};
 ghost use Rattle.lola_instances_stream.specs.Keys.{same_places};
 ghost use Rattle.lola_instances_stream.specs.Listings.{HasCell, cell_of, packed};
 
 use crate::key::Key;
 use indexmap::IndexMap;
-use lola_instances_bits::bits::BitVector;
+use lola_instances_one::bits::BitVector;
 use lola_value::text::Memory;
 use lola_value::value::Params;
 use std::alloc::Global;

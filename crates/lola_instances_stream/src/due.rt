@@ -2,10 +2,10 @@
 
 ghost use Rattle.std.specs.Prelude.{◌≡◌, ◌≤◌, [], ◌∷◌, true, IfOk, OnOk, if◌then◌else◌};
 ghost use Rattle.lola_model.specs.NextStep.{earlier};
-ghost use Rattle.lola_instances_due.specs.Dues.{is_timed};
+ghost use Rattle.lola_instances_one.specs.Dues.{is_timed};
 
 use crate::cells::Cells;
-use lola_instances_due::times::DueTimes;
+use lola_instances_one::times::DueTimes;
 use lola_value::rate::Rate;
 use lola_value::text::Memory;
 use std::alloc::Global;

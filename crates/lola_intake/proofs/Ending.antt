@@ -4,8 +4,8 @@ use Rattle.std.specs.List.{All}
 use Rattle.std.proofs.lemmas.List.Elements.{All-append}
 use mathlib.Core.Logic.{dite}
 use native.Mathlib.Decide.{ℕ_discrete, dec_le}
-use Rattle.lola_intake_turns.specs.declared.view.Turn.{Turn}
-use Rattle.lola_intake_turns.specs.Turns.{turn_by, calls_by, Runs}
+use Rattle.lola_intake.specs.declared.view.Turn.{Turn}
+use Rattle.lola_intake.specs.Turns.{turn_by, calls_by, Runs}
 use Rattle.lola_model.specs.declared.journal.Row.{Row}
 use Rattle.lola_model.specs.declared.journal.Entry.{Entry}
 use Rattle.lola_model.specs.declared.journal.Mark.TheVariants as mark

@@ -2,8 +2,8 @@
 use Rattle.std.proofs.Common.{◌≡◌, ◌≢◌, ◌+◌, ◌<◌, ◌≤◌, ℕ, zero, suc, Bool, true, false, true≢false, List, [], ◌∷◌, ◌++◌, cond, length, refl, sym, ap, ◌∙◌, subst, arith, append_assoc, append-nil, eqb, eq-eqb, ne_eqb, ◌⊎◌, inl, inr, ⊎_elim, get_or, set, length-set, get_or-set_same, get_or-set_other, add-one, length-append, replicate, le_refl, lt_of_not-le}
 use mathlib.Core.Logic.{dite}
 use native.Mathlib.Decide.{ℕ_discrete, dec_le}
-use Rattle.lola_intake_turns.specs.declared.view.Turn.{Turn}
-use Rattle.lola_intake_turns.specs.Turns.{turn_by, calls_by, Runs}
+use Rattle.lola_intake.specs.declared.view.Turn.{Turn}
+use Rattle.lola_intake.specs.Turns.{turn_by, calls_by, Runs}
 use Rattle.lola_model.specs.declared.journal.Row.{Row}
 use Rattle.lola_model.specs.declared.journal.Entry.{Entry}
 use Rattle.lola_merge.specs.declared.state.Offer.{Offer}

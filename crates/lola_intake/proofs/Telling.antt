@@ -5,9 +5,9 @@ use Rattle.std.proofs.lemmas.List.{length-map}
 use mathlib.Core.Option.{some, some-injective, some-ne-none}
 use lib.ListN.{get_elem?}
 use Rattle.atomic_table.specs.Seated.{TableId}
-use Rattle.lola_intake_turns.specs.declared.view.View.{View}
-use Rattle.lola_intake_turns.specs.declared.view.Known.{Known}
-use Rattle.lola_intake_turns.specs.Turns.{calls_by, StartsWith, Turned, maker, newcomer, Ended}
+use Rattle.lola_intake.specs.declared.view.View.{View}
+use Rattle.lola_intake.specs.declared.view.Known.{Known}
+use Rattle.lola_intake.specs.Turns.{calls_by, StartsWith, Turned, maker, newcomer, Ended}
 use Rattle.lola_intake.specs.declared.event.Setting.{Setting}
 use Rattle.lola_model.specs.declared.journal.Entry.{Entry}
 use Rattle.lola_intake.specs.declared.event.Event.{Event}

@@ -1,8 +1,8 @@
 -- A history of the merge object under the lock: each call of each caller, in the order of their turns.
 -- Caller 0 is the engine, and caller s + 1 is the source s.
 use Rattle.std.specs.Prelude.{◌≡◌, ℕ, ◌+◌, ◌-◌, ◌≤◌, ◌==◌, Bool, true, false, if◌then◌else◌, List, [], ◌∷◌, ◌++◌, length}
-use Rattle.lola_intake_turns.specs.declared.view.Turn.{Turn}
-use Rattle.lola_intake_turns.specs.Turns.{Reached}
+use Rattle.lola_intake.specs.declared.view.Turn.{Turn}
+use Rattle.lola_intake.specs.Turns.{Reached}
 use Rattle.lola_model.specs.Journal.{opening_time, merged_from}
 use Rattle.lola_model.specs.declared.journal.Row.{Row}
 use Rattle.lola_model.specs.declared.journal.Entry.{Entry}

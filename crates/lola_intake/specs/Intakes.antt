@@ -1,9 +1,9 @@
 -- What seats show, what a call tells its caller, and what is known at the end.
 use Rattle.std.specs.Prelude.{◌≡◌, ◌<◌, ◌⊎◌, ℕ, false, List, [], ◌∷◌, ◌++◌, Option, Some, None, slice_get, All, true}
 use Rattle.atomic_table.specs.Seated.{TableId}
-use Rattle.lola_intake_turns.specs.declared.view.Turn.{Turn}
-use Rattle.lola_intake_turns.specs.declared.view.View.{View}
-use Rattle.lola_intake_turns.specs.Turns.{turn_by, calls_by, StartsWith}
+use Rattle.lola_intake.specs.declared.view.Turn.{Turn}
+use Rattle.lola_intake.specs.declared.view.View.{View}
+use Rattle.lola_intake.specs.Turns.{turn_by, calls_by, StartsWith}
 use Rattle.lola_model.specs.Journal.{opening_time, IsLegalFrom}
 use Rattle.lola_model.specs.declared.journal.Entry.{Entry}
 use Rattle.lola_intake.specs.declared.event.Setting.{Setting}

@@ -1,2 +1,3 @@
 pub mod Histories
 pub mod Intakes
+pub mod Turns

@@ -5,7 +5,7 @@ ghost use Rattle.lola_intake.specs.declared.event.Event.TheVariants.{Offered, Fi
 ghost use Rattle.lola_intake.specs.Histories.{Begins, Changes};
 
 use crate::event::{Event, Setting};
-use lola_intake_turns::{Act, LockSeat, Object, TicketLock};
+use crate::{Act, LockSeat, Object, TicketLock};
 use lola_merge::state::{MergeState, Offer};
 use lola_model::journal::Row;
 

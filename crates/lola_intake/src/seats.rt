@@ -13,7 +13,7 @@ pub struct SourceSeat {
 
 impl Model for SourceSeat {
     ghost use Rattle.std.specs.Prelude.{◌≡◌, ◌+◌};
-    ghost use Rattle.lola_intake_turns.specs.Turns.{IsIdle};
+    ghost use Rattle.lola_intake.specs.Turns.{IsIdle};
     ghost use Rattle.lola_intake.specs.Intakes.{Shown, shown};
 
     ghost Value = { Shown };
@@ -42,7 +42,7 @@ pub struct EngineSeat {
 
 impl Model for EngineSeat {
     ghost use Rattle.std.specs.Prelude.{◌≡◌, []};
-    ghost use Rattle.lola_intake_turns.specs.Turns.{IsIdle};
+    ghost use Rattle.lola_intake.specs.Turns.{IsIdle};
     ghost use Rattle.lola_intake.specs.Intakes.{Shown, shown, setting_of};
 
     ghost Value = { Shown };

@@ -1,9 +1,9 @@
 -- The last line of a replay, and its status.
 use Rattle.std.proofs.Common.{◌≡◌, ◌⊎◌, ℕ, List, inl, inr, ap, ◌∙◌, subst}
 use Rattle.lola_port.specs.States.{PutBroke, SinkState, grown}
-use Rattle.lola_replay_report.specs.ReplayEnds.{finding_text, replay_end_text}
-use Rattle.lola_replay_report.specs.declared.end.ReplayEnd.{ReplayEnd}
-use Rattle.lola_replay_report.specs.declared.end.ReplayEnd.TheVariants.{Found}
+use Rattle.lola_replay.specs.ReplayEnds.{finding_text, replay_end_text}
+use Rattle.lola_replay.specs.declared.end.ReplayEnd.{ReplayEnd}
+use Rattle.lola_replay.specs.declared.end.ReplayEnd.TheVariants.{Found}
 use Rattle.lola_replay.specs.declared.finding.Finding.{Finding}
 use Rattle.lola_replay.specs.declared.finding.Finding.TheVariants.{Same, TraceDiffers, VerdictsDiffer}
 use Rattle.lola_monitor.specs.Monitor.{Call, IsEarly, Outside, Wrote, call}

@@ -6,7 +6,7 @@ use Rattle.lola_port.specs.States.{Rose, ShelfState}
 use Rattle.lola_port.specs.declared.traits.Ask.{Ask}
 use Rattle.lola_model.specs.declared.plan.Plan.{Plan}
 use Rattle.lola_replay.specs.Findings.{Told}
-use Rattle.lola_replay_report.specs.declared.end.ReplayEnd.TheVariants.{Found, UnreadableTrace, UnreadableVerdicts}
+use Rattle.lola_replay.specs.declared.end.ReplayEnd.TheVariants.{Found, UnreadableTrace, UnreadableVerdicts}
 use Rattle.lola_monitor.specs.Command.{ReplayNames, replay_names, replay_of}
 use Rattle.lola_monitor.specs.Monitor.{Outside, asks_between, first_failed_ask}
 use Rattle.lola_monitor.specs.Outcomes.{AreUntouched, Grew, Marred, ReadPlan, Stopped, Works, noted}

@@ -5,7 +5,7 @@ use Rattle.std.specs.Prelude.{not, nat_eq, nat_lt, length}
 use Rattle.lola_model.specs.declared.journal.Row.{Row}
 use Rattle.lola_model.specs.declared.source.MalformedKind.{MalformedKind}
 use Rattle.lola_model.specs.declared.source.MalformedKind.TheVariants as malformed
-use Rattle.lola_rows_csv.specs.Line.{begins_with_mark, fields_of_line}
+use Rattle.lola_rows.specs.Line.{begins_with_mark, fields_of_line}
 use Rattle.lola_rows.specs.Columns.{Columns}
 use Rattle.lola_rows.specs.Lines.{Line, lines_of, without_mark}
 use Rattle.lola_rows.specs.Rows.{SourceRows, columns_of_line, flaw_if, flaw_of_line, or_else_flaw, row_before, row_of_fields, row_of_line, row_with, rows_from, rows_of_lines, rows_of_source, rows_under, then_value, time_of, unless, values_of}

@@ -4,9 +4,9 @@ use Rattle.lola_port.specs.States.{PutBroke, SinkState, grown}
 use Rattle.lola_report_lines.specs.Ends.{end_text}
 use Rattle.lola_report_lines.specs.declared.end.EndLine.{EndLine}
 use Rattle.lola_report_lines.specs.declared.end.EndLine.TheVariants.{Done, Usage, Refused, Malformed, Fault, UnreadableSpecification, UnreadableSource, Analysed}
-use Rattle.lola_replay_report.specs.ReplayEnds.{replay_end_text}
-use Rattle.lola_replay_report.specs.declared.end.ReplayEnd.{ReplayEnd}
-use Rattle.lola_replay_report.specs.declared.end.ReplayEnd.TheVariants.{Found, UnreadableTrace, UnreadableVerdicts}
+use Rattle.lola_replay.specs.ReplayEnds.{replay_end_text}
+use Rattle.lola_replay.specs.declared.end.ReplayEnd.{ReplayEnd}
+use Rattle.lola_replay.specs.declared.end.ReplayEnd.TheVariants.{Found, UnreadableTrace, UnreadableVerdicts}
 use Rattle.lola_replay.specs.declared.finding.Finding.{Finding}
 use Rattle.lola_replay.specs.declared.finding.Finding.TheVariants.{Same, TraceDiffers, VerdictsDiffer}
 use Rattle.lola_monitor.specs.declared.outcome.CallEnd.{CallEnd}

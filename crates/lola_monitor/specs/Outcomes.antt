@@ -26,8 +26,8 @@ use Rattle.lola_feed.specs.declared.sources.FetchStop.{FetchStop}
 use Rattle.lola_feed.specs.declared.sources.FetchStop.TheVariants as fetch
 use Rattle.lola_monitor.specs.Command.{specification_of}
 use Rattle.lola_monitor.specs.Drilling.{DrillsTo, OfDrill}
-use Rattle.lola_replay_report.specs.declared.end.ReplayEnd.{ReplayEnd}
-use Rattle.lola_replay_report.specs.declared.end.ReplayEnd.TheVariants as replayed
+use Rattle.lola_replay.specs.declared.end.ReplayEnd.{ReplayEnd}
+use Rattle.lola_replay.specs.declared.end.ReplayEnd.TheVariants as replayed
 use Rattle.lola_replay.specs.declared.finding.Finding.{Finding}
 use Rattle.lola_monitor.specs.Replaying.{Replay, Unread}
 use Rattle.lola_monitor.specs.Monitor.{AllBegin, AllEnd, AllRead, AllWell, Analysis, AreGiven, CutShort, CutsOff, Ends, GoInTurns, HasItsModels, IsAtDeadline, IsCutOff, IsEarly, IsFault, IsFrontOf, IsRefusedBy, IsUnfinished, MalformedSource, Outside, Plans, SomeMalformed, UpToFault, analysis_text, asks_between, call, done_line, fault_line, first_failed_ask, first_malformed, is_failed_ask, setting_of}

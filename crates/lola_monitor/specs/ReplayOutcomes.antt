@@ -3,7 +3,7 @@ use Rattle.std.specs.Prelude.{◌≡◌, ℕ, List, [], ◌∷◌}
 use Rattle.lola_port.specs.States.{ShelfState}
 use Rattle.lola_model.specs.declared.plan.Plan.{Plan}
 use Rattle.lola_replay.specs.Findings.{Finds, Told}
-use Rattle.lola_replay_report.specs.declared.end.ReplayEnd.TheVariants.{Found, UnreadableTrace, UnreadableVerdicts}
+use Rattle.lola_replay.specs.declared.end.ReplayEnd.TheVariants.{Found, UnreadableTrace, UnreadableVerdicts}
 use Rattle.lola_replay.specs.declared.finding.Finding.{Finding}
 use Rattle.lola_monitor.specs.Command.{ReplayNames}
 use Rattle.lola_monitor.specs.Outcomes.{Grew, Marred, noted}

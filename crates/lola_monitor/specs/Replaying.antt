@@ -7,9 +7,9 @@ use Rattle.lola_model.specs.Acceptance.{IsAccepted}
 use Rattle.lola_model.specs.declared.plan.Plan.{Plan}
 use Rattle.lola_front.specs.Front.{IsPlanOf, IsRefusalOf}
 use Rattle.lola_replay.specs.Findings.{Finds, Told}
-use Rattle.lola_replay_report.specs.ReplayEnds.{finding_text, replay_end_text}
-use Rattle.lola_replay_report.specs.declared.end.ReplayEnd.{ReplayEnd}
-use Rattle.lola_replay_report.specs.declared.end.ReplayEnd.TheVariants.{Found, UnreadableTrace, UnreadableVerdicts}
+use Rattle.lola_replay.specs.ReplayEnds.{finding_text, replay_end_text}
+use Rattle.lola_replay.specs.declared.end.ReplayEnd.{ReplayEnd}
+use Rattle.lola_replay.specs.declared.end.ReplayEnd.TheVariants.{Found, UnreadableTrace, UnreadableVerdicts}
 use Rattle.lola_replay.specs.declared.finding.Finding.{Finding}
 use Rattle.lola_replay.specs.declared.finding.Finding.TheVariants.{Same, TraceDiffers, VerdictsDiffer}
 use Rattle.lola_monitor.specs.Command.{ReplayNames, replay_names, replay_of}

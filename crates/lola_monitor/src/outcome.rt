@@ -1,6 +1,6 @@
 //! How a call ends before its last line is put.
 
-use lola_replay_report::end::ReplayEnd;
+use lola_replay::end::ReplayEnd;
 use lola_report_lines::end::EndLine;
 use lola_value::front::Refusal;
 use lola_value::text::Text;

@@ -1,13 +1,13 @@
 //! The last line of a call, put to a sink.
 ghost use Rattle.std.specs.Prelude.{◌≡◌, ◌<◌, IfOk};
 ghost use Rattle.lola_report_lines.specs.Ends.{end_text};
-ghost use Rattle.lola_replay_report.specs.ReplayEnds.{replay_end_text};
+ghost use Rattle.lola_replay.specs.ReplayEnds.{replay_end_text};
 ghost use Rattle.lola_monitor.specs.Conclusions.{Concluded, status_found, status_replayed, status_replayed_without, status_with, status_without};
 
 use crate::outcome::CallEnd;
 use lola_port::{PutEnd, Sink};
+use lola_replay::end::{ReplayEnd, replay_end_line};
 use lola_replay::finding::Finding;
-use lola_replay_report::end::{ReplayEnd, replay_end_line};
 use lola_report_lines::end::{EndLine, end_line};
 use lola_value::text::{Memory, Text};
 use std::alloc::Global;

@@ -11,8 +11,8 @@ use crate::reading::read_name;
 use lola_model::plan::Plan;
 use lola_monitor_command::command::ReplayCommand;
 use lola_port::{FetchEnd, Shelf};
+use lola_replay::end::ReplayEnd;
 use lola_replay::replay::replay;
-use lola_replay_report::end::ReplayEnd;
 use lola_value::words::word_at;
 use std::alloc::Global;
 

@@ -1,64 +1,26 @@
 //! Commands.
 
-ghost use Rattle.std.specs.Prelude.{◌≡◌, ◌≤◌, ◌++◌, [], ◌∷◌, true, false, if◌then◌else◌, IfOk, OnOk, OnErr, drop, length, map, string_bytes};
+ghost use Rattle.std.specs.Prelude.{◌≡◌, ◌≤◌, ◌++◌, true, false, if◌then◌else◌, IfOk, OnOk, drop, length, map, string_bytes};
 ghost use Rattle.std.specs.List.{list_all};
 ghost use Rattle.lola_value.specs.Times.{is_digit, number_of};
 ghost use Rattle.lola_monitor_command.specs.Said.{said_from};
 ghost use Rattle.lola_monitor_command.specs.Command.{front_names, behind_names, are_sources, run_over, run_of, analyse_of, is_number, drill_with, drill_of, replay_by, replay_of, replay_with, of_said, command_of};
 
 use crate::options::all_digits;
-use crate::said::{IntakeKind, Said, SaidList};
+use crate::said::{IntakeKind, Said};
 use crate::settings::{
     how_many_workers, is_once, past_options, suit_replay, what_is_shown, where_rows_come_in,
     where_time_begins, whether_in_turns,
 };
 use crate::words::all_said;
 use lola_model::journal::Show;
+use lola_value::list::ListOf;
 use lola_value::text::Memory;
 use lola_value::words::word_at;
 use std::alloc::Global;
-use std::marker::Model;
 
 /// Numbers of words of the command line, from 0 for the program's name.
-#[derive(Drop)]
-pub struct WordNumbers {
-    items: Vec<usize>,
-}
-
-impl Model for WordNumbers {
-    ghost use Rattle.std.specs.Prelude.{ℕ, List};
-
-    ghost Value = { List ℕ };
-
-    ghost view = { λ a. a.items.items };
-}
-
-impl WordNumbers {
-    /// An empty list.
-    pub fn create(alloc: Global) -> WordNumbers
-        ensures { result ≡ [] }
-    {
-        WordNumbers {
-            items: Vec::new(alloc),
-        }
-    }
-
-    /// Puts one behind the others; unchanged where there is no memory.
-    pub fn push(&mut self, item: usize) -> Result<(), Memory>
-        ensures ok { OnOk result (self.new ≡ self.old ++ item ∷ []) }
-        ensures err { OnErr result (self.new ≡ self.old) }
-    {
-        self.items.push(item)?;
-        Ok(())
-    }
-
-    /// All of them, in order.
-    pub fn as_slice(&self) -> &[usize]
-        ensures { result.now ≡ self.now }
-    {
-        self.items.as_slice()
-    }
-}
+pub type WordNumbers = ListOf<usize>;
 
 /// What a run is told.
 #[derive(Drop)]

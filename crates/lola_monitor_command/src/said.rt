@@ -1,11 +1,7 @@
 //! What the words of a command line say, one after another.
 
-ghost use Rattle.std.specs.Prelude.{◌≡◌, ◌++◌, [], ◌∷◌, OnOk, OnErr};
-
 use lola_model::journal::Show;
-use lola_value::text::Memory;
-use std::alloc::Global;
-use std::marker::Model;
+use lola_value::list::ListOf;
 
 /// What the sources of a run hand their rows in at.
 #[derive(Clone, Copy, Debug, PartialEq, Eq)]
@@ -45,43 +41,4 @@ pub enum WordSense {
 }
 
 /// What words say, in order.
-#[derive(Drop)]
-pub struct SaidList {
-    items: Vec<Said>,
-}
-
-impl Model for SaidList {
-    ghost use Rattle.std.specs.Prelude.{List};
-    ghost use Rattle.lola_monitor_command.specs.declared.said.Said.{Said};
-
-    ghost Value = { List Said };
-
-    ghost view = { λ a. a.items.items };
-}
-
-impl SaidList {
-    /// An empty list.
-    pub fn create(alloc: Global) -> SaidList
-        ensures { result ≡ [] }
-    {
-        SaidList {
-            items: Vec::new(alloc),
-        }
-    }
-
-    /// Puts one behind the others; unchanged where there is no memory.
-    pub fn push(&mut self, item: Said) -> Result<(), Memory>
-        ensures ok { OnOk result (self.new ≡ self.old ++ item ∷ []) }
-        ensures err { OnErr result (self.new ≡ self.old) }
-    {
-        self.items.push(item)?;
-        Ok(())
-    }
-
-    /// All of them, in order.
-    pub fn as_slice(&self) -> &[Said]
-        ensures { result.now ≡ self.now }
-    {
-        self.items.as_slice()
-    }
-}
+pub type SaidList = ListOf<Said>;

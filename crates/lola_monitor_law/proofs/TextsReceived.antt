@@ -1,11 +1,10 @@
 -- What a trace received is the lines of a journal, or those and the front of one more line.
-use Rattle.std.proofs.Common.{◌≡◌, ◌⊎◌, ◌<◌, ℕ, List, [], ◌∷◌, ◌++◌, Option, Some, inl, inr, Bool, false, length, refl, sym, ap, ◌∙◌, subst, arith, append_assoc, append-nil}
+use Rattle.std.proofs.Common.{◌≡◌, ◌<◌, ℕ, List, [], ◌∷◌, ◌++◌, Option, Some, inl, inr, false, length, refl, sym, ap, ◌∙◌, subst, arith, append_assoc}
 use Rattle.std.proofs.lemmas.List.{append_cancel_left}
 use Rattle.std.proofs.lemmas.Bool.{or_from, or_parts}
-use Rattle.std.specs.Prelude.{◌↔◌, Contains}
+use Rattle.std.specs.Prelude.{◌↔◌}
 use Rattle.std.specs.Io.KnownBytes.{append_known}
 use Rattle.std.specs.List.{list_any}
-use Rattle.lola_port.specs.States.{grown}
 use Rattle.lola_model.specs.Trace.{IsTraceable, input_kinds, trace_line, trace_text}
 use Rattle.lola_model.specs.declared.journal.Entry.{Entry}
 use Rattle.lola_model.specs.declared.plan.Plan.{Plan}
@@ -14,9 +13,9 @@ use Rattle.lola_report.proofs.Bytes.{absent-from, line-no-lf}
 use Rattle.lola_report.proofs.FieldLines.{content, content-one-line, line-content}
 use Rattle.lola_report.proofs.ReadBack.{parts-of}
 use Rattle.lola_report.proofs.Texts.{its-text, one-journal}
-use Rattle.lola_monitor_run.specs.Verdicts.{AreTraceable, IsCutInLine}
-use Rattle.lola_monitor.specs.Monitor.{AreTraced, Call, CutsOff, IsCutOff, Rows, setting_of}
-use Rattle.lola_monitor_law.specs.Telling.{Received, TellsThem}
+use Rattle.lola_monitor_run.specs.Verdicts.{IsCutInLine}
+use Rattle.lola_monitor.specs.Monitor.{AreTraced, Call, CutsOff, Rows, setting_of}
+use Rattle.lola_monitor_law.specs.Telling.{TellsThem}
 
 -- a text that spells one journal spells no other
 only : (plan : Plan) (text : List ℕ) (journal : List Entry) → Spells plan text journal → (other : List Entry) → Spells plan text other ↔ (other ≡ journal)

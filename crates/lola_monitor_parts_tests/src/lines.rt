@@ -1,6 +1,6 @@
 //! Fields of lines, beside those of csv's own reader.
 use csv::{ByteRecord, Error, ReaderBuilder};
-use lola_rows_csv::line::{has_line_end, read_line};
+use lola_rows::line::{has_line_end, read_line};
 use std::alloc::Global;
 use std::str::from_utf8;
 use std::test::Fail;

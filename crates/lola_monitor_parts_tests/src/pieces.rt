@@ -1,8 +1,8 @@
 //! Bytes that come in pieces, and reads and writes that are made again.
 
-use lola_port_bytes::again::{put_all, read_some};
-use lola_port_bytes::line::Line;
-use lola_port_bytes::piece::Piece;
+use lola_port::again::{put_all, read_some};
+use lola_port::line::Line;
+use lola_port::piece::Piece;
 use lola_value::text::Memory;
 use std::cell::Cell;
 use std::io;

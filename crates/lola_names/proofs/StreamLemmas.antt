@@ -1,7 +1,5 @@
 -- Streams from their clauses, and the streams of all declarations.
-use Rattle.std.proofs.Common.{◌≡◌, ℕ, zero, suc, ◌+◌, ◌<◌, ◌≤◌, List, [], ◌∷◌, ◌++◌, Option, Some, None, Bool, true, false, if◌then◌else◌, length, get_or, drop, map, refl, sym, ap, subst, ◌∙◌, append_assoc, append-nil, add-zero, length-append, arith}
-use Rattle.std.specs.Prelude.{slice_get}
-use Rattle.lola_value.specs.Arithmetic.{bytes_equal}
+use Rattle.std.proofs.Common.{◌≡◌, ℕ, zero, suc, ◌+◌, ◌<◌, ◌≤◌, List, [], ◌∷◌, ◌++◌, length, get_or, drop, map, refl, sym, ap, subst, ◌∙◌, append_assoc, append-nil, add-zero, length-append}
 use Rattle.lola_parser_tree.specs.declared.literals.Typed.{Typed}
 use Rattle.lola_parser_tree.specs.declared.declarations.Inputs.{Inputs}
 use Rattle.lola_parser_tree.specs.declared.declarations.Constant.{Constant as TreeConstant}
@@ -16,15 +14,11 @@ use Rattle.lola_model.specs.declared.spec.Stream.{Stream}
 use Rattle.lola_model.specs.declared.spec.WindowSpec.{WindowSpec}
 use Rattle.lola_names_refused.specs.Table.{meaning_in}
 use Rattle.lola_names.specs.Clauses.{IsOutput, IsTrigger, input_stream}
-use Rattle.lola_names.specs.Made.{Grows, IsConstantDeclared, IsScope, NamesConstants}
 use Rattle.lola_names.specs.Specification.{AreStreams}
 use Rattle.lola_names.specs.Tables.{Means}
-use Rattle.lola_names.specs.Targets.{Targets, Count, counted_with, input_targets, parameter_targets, target_of, targets_from, targets_of, targets_with}
-use Rattle.lola_names.specs.declared.targets.Target.{Target}
-use Rattle.lola_names.specs.declared.targets.Target.TheVariants as target
+use Rattle.lola_names.specs.Targets.{Targets, parameter_targets, targets_of}
 use Rattle.lola_names.specs.declared.made.Made.{Made}
-use Rattle.lola_names.specs.declared.scope.Scope.{Scope}
-use Rattle.lola_names.proofs.Growth.{begin_before, got-append, got-seam, grows_none, grows_then}
+use Rattle.lola_names.proofs.Growth.{begin_before, grows_none, grows_then}
 use Rattle.lola_names.specs.Making.{AreBegun, AreDeclared, AreStreamsOf, GrowsByStream, GrowsByStreams, IsOnly, OutputOf, Puts, TriggerOf, triggers_behind}
 use Rattle.lola_names.proofs.Pieces.{grows_as, left_more, left_none, listed_streams-append, listed_streams-one}
 

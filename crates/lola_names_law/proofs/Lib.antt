@@ -10,3 +10,8 @@ pub mod Spelled
 pub mod Formulas
 pub mod Laws
 mod Corners
+pub mod RatesWritten
+pub mod Makers
+pub mod TreesMade
+pub mod StreamsMade
+pub mod Made

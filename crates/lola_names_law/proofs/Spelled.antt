@@ -5,7 +5,7 @@ use Rattle.lola_parser_tree.specs.declared.clauses.Close.{Close}
 use Rattle.lola_parser_tree.specs.declared.declarations.Declaration.{Declaration}
 use Rattle.lola_parser_tree.specs.declared.declarations.Declaration.TheVariants as d
 use Rattle.lola_lexer.specs.declared.shape.TokenShape.TheVariants as is
-use Rattle.lola_parser_grammars_law.specs.Syntax.{Lexeme, Syntax, Then, Map, Either, Maybe, Spells, Repeats}
+use Rattle.lola_parser_grammar.specs.Syntax.{Lexeme, Syntax, Then, Map, Either, Maybe, Spells, Repeats}
 use Rattle.lola_parser_grammar.specs.Grammar.{Body, token, name, parameters, kind, inputs, constant, spawn, eval, close, short_eval, body, output, trigger, declaration, specification}
 use Rattle.lola_names_law.specs.Meant.{ClosesSpawned, ClosesAreSpawned}
 

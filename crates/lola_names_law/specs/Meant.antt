@@ -1,6 +1,6 @@
 -- A specification whose names are resolved, and of whose names nothing is refused, is named.
 use Rattle.std.specs.Prelude.{◌≡◌, ℕ, List, [], ◌∷◌, Option, Some, None, IsSome}
-use Rattle.lola_parser_grammars_law.specs.Syntax.{Lexeme, Spells}
+use Rattle.lola_parser_grammar.specs.Syntax.{Lexeme, Spells}
 use Rattle.lola_parser_grammar.specs.Grammar.{specification}
 use Rattle.lola_parser_tree.specs.declared.clauses.Spawn.{Spawn}
 use Rattle.lola_parser_tree.specs.declared.clauses.Close.{Close}

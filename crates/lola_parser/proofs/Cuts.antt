@@ -4,8 +4,8 @@ use Rattle.lola_lexer.specs.declared.shape.TokenShape.{TokenShape}
 use Rattle.lola_lexer.specs.declared.shape.TokenShape.TheVariants as is
 use Rattle.lola_lexer.specs.declared.token.Token.{Token}
 use Rattle.lola_lexer.specs.Tokens.{AreInOrder, StandIn}
-use Rattle.lola_parser_grammars_law.specs.Syntax.{Lexeme, Terminal, Of, any_fits, fits, same_shape, starts}
-use Rattle.lola_parser_grammars_law.specs.Nestings.{is_nesting, one_if, nestings_in}
+use Rattle.lola_parser_grammar.specs.Syntax.{Lexeme, Terminal, Of, any_fits, fits, same_shape, starts}
+use Rattle.lola_parser_grammar.specs.Nestings.{is_nesting, one_if, nestings_in}
 use Rattle.lola_parser_grammar.specs.Cursor.{lexeme, lexemes}
 use Rattle.lola_parser_grammar.specs.Grammar.{all_nestings, expr_in}
 use Rattle.lola_parser.specs.Looking as looking

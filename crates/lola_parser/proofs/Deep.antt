@@ -1,6 +1,6 @@
 -- What a text that is refused as too deep is cut into.
 use Rattle.std.proofs.Common.{◌≡◌, List, ◌∷◌, ◌++◌, Err, arith}
-use Rattle.lola_parser_grammars_law.specs.Syntax.{Lexeme, TooDeep, read_all}
+use Rattle.lola_parser_grammar.specs.Syntax.{Lexeme, TooDeep, read_all}
 use Rattle.lola_parser_grammar.specs.Grammar.{specification, all_nestings}
 use Rattle.lola_parser_grammar.specs.Whole.{most_levels}
 use Rattle.lola_parser_grammar.proofs.Fine.{specification_fine}

@@ -1,9 +1,9 @@
 -- More levels than there are tokens change nothing.
 use Rattle.std.proofs.Common.{◌≡◌, ℕ, suc, ◌<◌, ◌≤◌, Bool, true, false, List, [], ◌∷◌, length, Ok, Err, refl, sym, ap, ◌∙◌, arith}
 use Rattle.std.proofs.lemmas.List.{length-append}
-use Rattle.lola_parser_grammars_law.specs.Syntax.{Lexeme, Syntax, Unexpected, TooDeep, Outcome, read}
-use Rattle.lola_parser_grammars_law.specs.Nestings.{is_nesting, one_if, nestings_in}
-use Rattle.lola_parser_grammars_law.proofs.Over.{over}
+use Rattle.lola_parser_grammar.specs.Syntax.{Lexeme, Syntax, Unexpected, TooDeep, Outcome, read}
+use Rattle.lola_parser_grammar.specs.Nestings.{is_nesting, one_if, nestings_in}
+use Rattle.lola_parser_grammar.proofs.Over.{over}
 use Rattle.lola_parser_grammar.specs.Grammar.{all_nestings, level, expr_in, other_in}
 use Rattle.lola_parser_grammar.proofs.Depth.{level_tallies, level_deep}
 use Rattle.lola_parser_grammar.proofs.Levels.{levels_same}

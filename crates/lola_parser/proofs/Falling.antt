@@ -2,7 +2,7 @@
 use Rattle.std.proofs.Common.{◌≡◌, ℕ, ◌+◌, ◌*◌, ◌<◌, ◌≤◌, Bool, true, false, cond, List, [], ◌∷◌, ◌++◌, length, drop, Some, None, refl, arith, codes, subst}
 use Rattle.lola_lexer.specs.declared.shape.TokenShape.{TokenShape}
 use Rattle.lola_lexer.specs.declared.shape.TokenShape.TheVariants as is
-use Rattle.lola_parser_grammars_law.specs.Syntax.{Lexeme, Terminal, Of, Word, any_fits, starts}
+use Rattle.lola_parser_grammar.specs.Syntax.{Lexeme, Terminal, Of, Word, any_fits, starts}
 use Rattle.lola_parser.specs.declared.pending.Pending.{Pending}
 use Rattle.lola_parser.specs.declared.pending.Pending.TheVariants as p
 use Rattle.lola_parser.specs.Turns.{Left, ◌>->◌, behind, shape, word, Turn, and_parts, and_turn, if_next, distance, frame, to, defaults_to, inner, expression_turn, operand_turn, substitute, access, operators_turn, token_turn, turned, over_words, held_words, product_nestings, product, sum_nestings, sum, comparison_nestings, conjunction, disjunction, conditional, prefix_operators, literals, arguments}

@@ -2,9 +2,9 @@
 use Rattle.std.proofs.Common.{◌≡◌, ℕ, zero, suc, Bool, true, false, not, ◌&&◌, List, [], ◌∷◌, ◌++◌, Some, None, refl, ap, ◌∙◌, inl, inr}
 use Rattle.std.proofs.lemmas.Bool.{and_parts, not-true, false_from_ne_true}
 use Rattle.lola_lexer.specs.declared.shape.TokenShape.TheVariants as is
-use Rattle.lola_parser_grammars_law.specs.Syntax.{Lexeme, Terminal, Of, fits, any_fits, clashes, within, same_shape, Syntax, Past, Token, Nesting, Whole, Known, Then, Map, Either, Maybe, Many, Fork, Repeats, Spells}
-use Rattle.lola_parser_grammars_law.proofs.Tests.{clashes_true, within_fits}
-use Rattle.lola_parser_grammars_law.proofs.Complete.{and_three}
+use Rattle.lola_parser_grammar.specs.Syntax.{Lexeme, Terminal, Of, fits, any_fits, clashes, within, same_shape, Syntax, Past, Token, Nesting, Whole, Known, Then, Map, Either, Maybe, Many, Fork, Repeats, Spells}
+use Rattle.lola_parser_grammar.proofs.Tests.{clashes_true, within_fits}
+use Rattle.lola_parser_grammar.proofs.Complete.{and_three}
 use Rattle.lola_parser_grammar.specs.Grammar as g
 use Rattle.lola_parser_grammar.specs.Grammar.{level, formula_level, expr_in, pacing, part_behind}
 use Rattle.lola_parser.specs.Places.{Cut, cut_at, cut_last}

@@ -1,7 +1,7 @@
 -- Where no bracket of a spawn clause stands before it, the nesting at which reading ended is the place of the rule.
 use Rattle.std.proofs.Common.{◌≡◌, ℕ, ◌≤◌, List, ◌∷◌, ◌++◌, Some, None, Result, Ok, Err, refl, sym, ap, subst, ◌∙◌, append_assoc, arith, inl, inr, ◌⊎◌}
 use Rattle.lola_parser_tree.specs.declared.declarations.Declaration.{Declaration}
-use Rattle.lola_parser_grammars_law.specs.Syntax.{Lexeme, TooDeep, Spells, max_nestings, read_all}
+use Rattle.lola_parser_grammar.specs.Syntax.{Lexeme, TooDeep, Spells, max_nestings, read_all}
 use Rattle.lola_parser_limit_law.specs.Late.{IsNextBehindBracket, IsFirstLate, IsDeepPlace}
 use Rattle.lola_parser_limit_law.specs.Fronts.{IsLongestFront}
 use Rattle.lola_parser_limit_law.proofs.Levels.{counted_at}

@@ -1,9 +1,9 @@
 -- Each expression is recognized.
 use Rattle.std.proofs.Common.{◌≡◌, ℕ, ◌-◌, ◌<◌, true, false, List, ◌++◌, length, Some, arith}
 use Rattle.lola_parser_tree.specs.declared.expressions.Expr.{Expr}
-use Rattle.lola_parser_grammars_law.specs.Syntax.{Lexeme, Spells, starts, more, is_fine}
-use Rattle.lola_parser_grammars_law.specs.Nestings.{tallies, guards, nestings_in}
-use Rattle.lola_parser_grammars_law.proofs.Within.{complete_within}
+use Rattle.lola_parser_grammar.specs.Syntax.{Lexeme, Spells, starts, more, is_fine}
+use Rattle.lola_parser_grammar.specs.Nestings.{tallies, guards, nestings_in}
+use Rattle.lola_parser_grammar.proofs.Within.{complete_within}
 use Rattle.lola_parser_grammar.specs.Grammar.{all_nestings, expr_in, expr_goes_on, whole}
 use Rattle.lola_parser_grammar.proofs.Fine.{whole_fine}
 use Rattle.lola_parser_grammar.proofs.Depth.{level_tallies, level_deep}

@@ -2,10 +2,10 @@
 use Rattle.std.proofs.Common.{◌≡◌, ℕ, zero, suc, ◌-◌, ◌<◌, ◌≤◌, Bool, true, false, cond, ◌||◌, List, [], ◌∷◌, ◌++◌, length, Some, None, Ok, Err, refl, sym, ap, ◌∙◌, append_assoc, arith, inl, inr}
 use Rattle.std.proofs.lemmas.List.{length-append}
 use Rattle.std.proofs.lemmas.Bool.{or_cases}
-use Rattle.lola_parser_grammars_law.specs.Syntax.{Lexeme, Terminal, fits, any_fits, Syntax, Past, Token, Nesting, Whole, Known, Then, Map, Either, Maybe, Many, Fork, Repeats, Spells, starts, first, nullable, is_fine, Refusal, Unexpected, TooDeep, Outcome, Reader, counted, repeated, read, max_nestings, charged, either_rest, last_nesting}
-use Rattle.lola_parser_grammars_law.proofs.Laws.{chosen, done_is, bind_ok, counted_ok}
-use Rattle.lola_parser_grammars_law.proofs.Viable.{bind_err}
-use Rattle.lola_parser_grammars_law.proofs.Complete.{spells_nil}
+use Rattle.lola_parser_grammar.specs.Syntax.{Lexeme, Terminal, fits, any_fits, Syntax, Past, Token, Nesting, Whole, Known, Then, Map, Either, Maybe, Many, Fork, Repeats, Spells, starts, first, nullable, is_fine, Refusal, Unexpected, TooDeep, Outcome, Reader, counted, repeated, read, max_nestings, charged, either_rest, last_nesting}
+use Rattle.lola_parser_grammar.proofs.Laws.{chosen, done_is, bind_ok, counted_ok}
+use Rattle.lola_parser_grammar.proofs.Viable.{bind_err}
+use Rattle.lola_parser_grammar.proofs.Complete.{spells_nil}
 use Rattle.lola_parser.specs.Turns.{Left, ◌>->◌, behind}
 use Rattle.lola_parser.specs.Skims.{again, skim}
 

@@ -1,8 +1,8 @@
 -- What is left behind an expression, in the words of the grammar.
 use Rattle.std.specs.Prelude.{◌≡◌, ℕ, ◌<◌, ◌≤◌, false, List, ◌∷◌, ◌++◌, length, Some, Err}
 use Rattle.lola_parser_tree.specs.declared.expressions.Expr.{Expr}
-use Rattle.lola_parser_grammars_law.specs.Syntax.{Lexeme, TooDeep, Spells, starts, max_nestings, read_all}
-use Rattle.lola_parser_grammars_law.specs.Nestings.{nestings_in}
+use Rattle.lola_parser_grammar.specs.Syntax.{Lexeme, TooDeep, Spells, starts, max_nestings, read_all}
+use Rattle.lola_parser_grammar.specs.Nestings.{nestings_in}
 use Rattle.lola_parser_limit_law.specs.Late.{IsDeepPlace}
 use Rattle.lola_parser_limit_law.specs.Fronts.{IsLongestFront}
 use Rattle.lola_parser_grammar.specs.Whole.{most_levels}

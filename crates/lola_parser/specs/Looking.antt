@@ -3,7 +3,7 @@ use Rattle.std.specs.Prelude.{◌≡◌, ◌<◌, ℕ, Bool, true, false, ◌||�
 use Rattle.lola_lexer.specs.declared.shape.TokenShape.{TokenShape}
 use Rattle.lola_lexer.specs.declared.shape.TokenShape.TheVariants as is
 use Rattle.lola_lexer.specs.declared.token.Token.{Token}
-use Rattle.lola_parser_grammars_law.specs.Syntax.{same_shape}
+use Rattle.lola_parser_grammar.specs.Syntax.{same_shape}
 
 -- the tokens that are counted in an expression or formula
 unfoldable pub is_nesting_shape : TokenShape → Bool

@@ -1,7 +1,7 @@
 -- What the parts that are still to be read leave of a text, where no nesting is counted.
 use Rattle.std.specs.Prelude.{◌≡◌, ◌<◌, ℕ, Bool, true, false, List, [], ◌∷◌, length, Some, None}
 use Rattle.lola_lexer.specs.declared.shape.TokenShape.TheVariants as is
-use Rattle.lola_parser_grammars_law.specs.Syntax.{Lexeme, Then, Maybe, Many}
+use Rattle.lola_parser_grammar.specs.Syntax.{Lexeme, Then, Maybe, Many}
 use Rattle.lola_parser_grammar.specs.Grammar.{expr_in, other_in, token, unary, products, joined, joined_once, sum_operators, product, comparison_operators, sum, and_operators, comparison, or_operators, conjunction, defaults, arguments, further, suffix}
 use Rattle.lola_parser.specs.declared.pending.Pending.{Pending}
 use Rattle.lola_parser.specs.declared.pending.Pending.TheVariants as p

@@ -5,9 +5,9 @@ use Rattle.lola_value.specs.declared.front.Code.TheVariants as code
 use Rattle.lola_value.specs.declared.front.FrontEnd.{FrontEnd}
 use Rattle.lola_value.specs.declared.front.FrontEnd.TheVariants as front_end
 use Rattle.lola_parser_tree.specs.declared.declarations.Declaration.{Declaration}
-use Rattle.lola_parser_grammars_law.specs.Syntax.{Lexeme, Terminal, Of, any_fits, fits, starts, max_nestings, Spells, read_all}
-use Rattle.lola_parser_grammars_law.specs.Syntax as reading
-use Rattle.lola_parser_grammars_law.specs.Nestings.{nestings_in}
+use Rattle.lola_parser_grammar.specs.Syntax.{Lexeme, Terminal, Of, any_fits, fits, starts, max_nestings, Spells, read_all}
+use Rattle.lola_parser_grammar.specs.Syntax as reading
+use Rattle.lola_parser_grammar.specs.Nestings.{nestings_in}
 use Rattle.lola_parser_grammar.specs.Cursor.{place_of}
 use Rattle.lola_parser_grammar.specs.Grammar.{expr_in, all_nestings, specification}
 use Rattle.lola_parser_grammar.specs.Whole.{most_levels, IsMisfitAt}

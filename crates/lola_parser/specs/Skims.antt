@@ -1,6 +1,6 @@
 -- What a part of the grammar leaves of a text, where no nesting is counted and no value is kept.
 use Rattle.std.specs.Prelude.{ℕ, zero, suc, if◌then◌else◌, List, [], ◌∷◌, length, Some, None}
-use Rattle.lola_parser_grammars_law.specs.Syntax.{Lexeme, Terminal, Syntax, Past, Token, Nesting, Whole, Known, Then, Map, Either, Maybe, Many, Fork, starts, first}
+use Rattle.lola_parser_grammar.specs.Syntax.{Lexeme, Terminal, Syntax, Past, Token, Nesting, Whole, Known, Then, Map, Either, Maybe, Many, Fork, starts, first}
 use Rattle.lola_parser.specs.Turns.{Left, ◌>->◌, behind}
 
 -- as often as it begins, which is no more often than there are tokens

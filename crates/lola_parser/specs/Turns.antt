@@ -3,7 +3,7 @@
 use Rattle.std.specs.Prelude.{◌≡◌, ℕ, if◌then◌else◌, List, [], ◌∷◌, drop, codes, Option, Some, None}
 use Rattle.lola_lexer.specs.declared.shape.TokenShape.{TokenShape}
 use Rattle.lola_lexer.specs.declared.shape.TokenShape.TheVariants as is
-use Rattle.lola_parser_grammars_law.specs.Syntax.{Lexeme, Terminal, Of, Word, starts}
+use Rattle.lola_parser_grammar.specs.Syntax.{Lexeme, Terminal, Of, Word, starts}
 use Rattle.lola_parser.specs.declared.pending.Pending.{Pending}
 use Rattle.lola_parser.specs.declared.pending.Pending.TheVariants as p
 

@@ -2,7 +2,7 @@
 
 ghost use Rattle.std.specs.Prelude.{◌≡◌, ◌≤◌, ◌∷◌, [], drop, length, MatchOption};
 ghost use Rattle.std.specs.Str.{bytes_eq};
-ghost use Rattle.lola_parser_grammars_law.specs.Syntax.{Of, Word, starts, same_shape};
+ghost use Rattle.lola_parser_grammar.specs.Syntax.{Of, Word, starts, same_shape};
 ghost use Rattle.lola_lexer.specs.Tokens.{StandIn};
 ghost use Rattle.lola_parser_grammar.specs.Cursor.{lexemes, text_of};
 ghost use Rattle.lola_parser.specs.Turns.{Gives, behind};
@@ -21,7 +21,7 @@ pub struct Cursor<'a> {
 }
 
 impl<'a> Model for Cursor<'a> {
-    ghost use Rattle.lola_parser_grammars_law.specs.Syntax.{Lexeme};
+    ghost use Rattle.lola_parser_grammar.specs.Syntax.{Lexeme};
     ghost use Rattle.lola_parser_grammar.specs.Cursor.{lexemes};
     ghost use Rattle.lola_lexer.specs.Tokens.{StandIn};
     ghost use Rattle.std.specs.Prelude.{◌≤◌, List, length, drop};

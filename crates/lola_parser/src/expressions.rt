@@ -2,7 +2,7 @@
 //! be read stands in a list, so that nothing recurses.
 
 ghost use Rattle.std.specs.Prelude.{◌≡◌, [], drop, if◌then◌else◌, MatchOption, IfOk};
-ghost use Rattle.lola_parser_grammars_law.specs.Syntax.{starts};
+ghost use Rattle.lola_parser_grammar.specs.Syntax.{starts};
 ghost use Rattle.lola_parser.specs.Parts.{IsRecognized};
 ghost use Rattle.lola_parser.specs.Turns as turns;
 ghost use Rattle.lola_parser.specs.Turns.{Gives};

@@ -4,7 +4,7 @@ ghost use Rattle.std.specs.Prelude.{◌≡◌, ◌≤◌, ℕ, List, ◌∷◌, 
 ghost use Rattle.lola_parser_grammar.specs.Cursor.{lexemes};
 ghost use Rattle.lola_lexer.specs.declared.shape.TokenShape.TheVariants as is;
 ghost use Rattle.lola_parser.specs.Places as places;
-ghost use Rattle.lola_parser_grammars_law.specs.Syntax.{Of, starts, same_shape};
+ghost use Rattle.lola_parser_grammar.specs.Syntax.{Of, starts, same_shape};
 ghost use Rattle.lola_parser.specs.Looking.{is_either, is_nesting_shape, nestings_among, IsLast};
 
 use lola_lexer::shape::TokenShape;
@@ -65,7 +65,7 @@ pub fn count_of_nestings(tokens: &[Token], start: usize) -> usize
     count
 }
 
-#[tactic(auto, unfolding(lola_parser_grammars_law::specs::Syntax::same_shape))]
+#[tactic(auto, unfolding(lola_parser_grammar::specs::Syntax::same_shape))]
 fn same(a: TokenShape, b: TokenShape) -> bool
     ensures { result ≡ same_shape a b }
 {

@@ -1,7 +1,7 @@
 //! The entry point.
 
 ghost use Rattle.std.specs.Prelude.{◌≡◌, ◌≢◌, ℕ, List, ◌∷◌, ◌++◌, ◌<◌, ◌≤◌, ◌^◌, length, take, drop, slice_index_or, IfOk, MatchOption};
-ghost use Rattle.lola_parser_grammars_law.specs.Syntax.{Lexeme};
+ghost use Rattle.lola_parser_grammar.specs.Syntax.{Lexeme};
 ghost use Rattle.lola_lexer.specs.Tokens.{StandIn, AreInOrder};
 ghost use Rattle.lola_lexer.specs.declared.token.Token as lexed;
 ghost use Rattle.lola_parser_grammar.specs.Cursor.{lexemes};

@@ -1,6 +1,6 @@
 -- Back to the last nesting that was read.
 use Rattle.std.proofs.Common.{◌≡◌, ℕ, suc, ◌<◌, true, false, List, [], ◌∷◌, length, drop, refl, arith}
-use Rattle.lola_parser_grammars_law.specs.Syntax.{Lexeme, Terminal, starts, last_nesting}
+use Rattle.lola_parser_grammar.specs.Syntax.{Lexeme, Terminal, starts, last_nesting}
 
 pub none_left : (ks : List Terminal) (best ts : List Lexeme) → last_nesting ks 0 best ts ≡ best
 none_left ks best [] = refl

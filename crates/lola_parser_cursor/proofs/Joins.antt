@@ -2,8 +2,8 @@
 use Rattle.std.proofs.Common.{◌≡◌, ℕ, suc, Bool, true, false, cond, List, [], ◌∷◌, ◌++◌, length, Option, Some, None, Ok, Err, refl, sym, ap, ◌∙◌, append_assoc}
 use Rattle.std.proofs.lemmas.List.{append-nil}
 use Rattle.std.specs.Prelude.{fold}
-use Rattle.lola_parser_grammars_law.specs.Syntax.{Lexeme, Terminal, Syntax, Then, Map, Maybe, Many, starts, first, nullable, Refusal, Outcome, ◌>>=◌, repeated, read}
-use Rattle.lola_parser_grammars_law.proofs.Laws.{done_is}
+use Rattle.lola_parser_grammar.specs.Syntax.{Lexeme, Terminal, Syntax, Then, Map, Maybe, Many, starts, first, nullable, Refusal, Outcome, ◌>>=◌, repeated, read}
+use Rattle.lola_parser_grammar.proofs.Laws.{done_is}
 use Rattle.lola_parser_tree.specs.declared.expressions.Expr.{Expr}
 use Rattle.lola_parser_grammar.specs.Grammar.{Operator, join, onto, folded, added, joined_once, nesting, operator, product_operators, sum_operators, comparison_operators, and_operators, or_operators}
 

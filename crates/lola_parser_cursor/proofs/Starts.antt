@@ -1,6 +1,6 @@
 -- Which tokens come next, one test after the other.
 use Rattle.std.proofs.Common.{◌≡◌, Bool, true, false, ◌||◌, List, [], ◌∷◌, refl}
-use Rattle.lola_parser_grammars_law.specs.Syntax.{Lexeme, Terminal, any_fits, fits, starts}
+use Rattle.lola_parser_grammar.specs.Syntax.{Lexeme, Terminal, any_fits, fits, starts}
 
 one_test : (a b : Bool) → (a || b) ≡ ((a || false) || b)
 one_test true b = refl

@@ -2,7 +2,7 @@
 use Rattle.std.proofs.Common.{not, ◌≡◌, ℕ, zero, suc, ◌+◌, ◌-◌, ◌<◌, Bool, true, false, ◌||◌, ◌&&◌, List, [], ◌∷◌, length, get_or, drop, Ok, Err, refl, sym, ap, ◌∙◌, arith}
 use Rattle.lola_lexer.specs.declared.shape.TokenShape.{TokenShape}
 use Rattle.lola_lexer.specs.declared.token.Token.{Token}
-use Rattle.lola_parser_grammars_law.specs.Syntax.{Lexeme, Of, Word, Other, fits, same_shape, starts, read, Unexpected, TooDeep}
+use Rattle.lola_parser_grammar.specs.Syntax.{Lexeme, Of, Word, Other, fits, same_shape, starts, read, Unexpected, TooDeep}
 use Rattle.lola_parser_grammar.specs.Cursor.{lexemes, text_of}
 use Rattle.lola_parser_grammar.specs.Grammar.{token, nesting, word}
 use Rattle.lola_lexer.specs.declared.shape.TokenShape.TheVariants as is

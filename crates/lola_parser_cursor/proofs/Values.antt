@@ -1,8 +1,8 @@
 -- A token by another of its values than its place.
 use Rattle.std.proofs.Common.{◌≡◌, ℕ, Bool, true, false, cond, not, ◌&&◌, ◌||◌, List, [], ◌∷◌, Ok, Err, refl, sym, ap, ◌∙◌}
 use Rattle.lola_lexer.specs.declared.shape.TokenShape.TheVariants as is
-use Rattle.lola_parser_grammars_law.specs.Syntax.{Lexeme, Terminal, Of, Other, is_among, Map, Token, ◌>>=◌, fits, same_shape, starts, read, Refusal, Unexpected, TooDeep}
-use Rattle.lola_parser_grammars_law.proofs.Laws.{done, done_is}
+use Rattle.lola_parser_grammar.specs.Syntax.{Lexeme, Terminal, Of, Other, is_among, Map, Token, ◌>>=◌, fits, same_shape, starts, read, Refusal, Unexpected, TooDeep}
+use Rattle.lola_parser_grammar.proofs.Laws.{done, done_is}
 use Rattle.lola_parser_grammar.specs.Cursor.{Cursor, Reads, text_of}
 use Rattle.lola_parser_grammar.specs.declared.error.ParseError.{ParseError}
 use Rattle.lola_parser_grammar.specs.declared.error.ParseError.TheVariants as errors

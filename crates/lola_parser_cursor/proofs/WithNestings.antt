@@ -1,6 +1,6 @@
 -- Whether the next token is a nesting, by parts.
 use Rattle.std.proofs.Common.{◌≡◌, ◌||◌, Bool, true, false, List, [], ◌∷◌, ◌++◌, refl, ap, ◌∙◌}
-use Rattle.lola_parser_grammars_law.specs.Syntax.{Lexeme, Terminal, any_fits, fits, starts}
+use Rattle.lola_parser_grammar.specs.Syntax.{Lexeme, Terminal, any_fits, fits, starts}
 use Rattle.lola_parser_grammar.specs.Grammar.{opening_nestings, joining_nestings, comparing_nestings, operator_nestings, all_nestings}
 
 or_assoc : (a b c : Bool) → (a || (b || c)) ≡ ((a || b) || c)

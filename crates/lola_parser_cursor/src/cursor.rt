@@ -2,7 +2,7 @@
 
 ghost use Rattle.std.specs.Prelude.{◌≡◌, ◌≢◌, ◌<◌, ◌≤◌, ◌∷◌, ◌-◌, nat_lt, not, ◌||◌, length, drop, [], MatchOption};
 ghost use Rattle.std.specs.Str.{bytes_eq};
-ghost use Rattle.lola_parser_grammars_law.specs.Syntax.{Of, Word, Other, Lexeme, same_shape, starts, max_nestings, last_nesting};
+ghost use Rattle.lola_parser_grammar.specs.Syntax.{Of, Word, Other, Lexeme, same_shape, starts, max_nestings, last_nesting};
 ghost use Rattle.lola_parser_grammar.specs.Cursor.{IsRead, lexemes, place_of, text_of};
 ghost use Rattle.lola_lexer.specs.Tokens.{StandIn};
 ghost use Rattle.lola_parser_grammar.specs.Grammar as spec;

@@ -1,7 +1,7 @@
 //! The operators between operands.
 
 ghost use Rattle.std.specs.Prelude.{◌≡◌};
-ghost use Rattle.lola_parser_grammars_law.specs.Syntax.{Maybe};
+ghost use Rattle.lola_parser_grammar.specs.Syntax.{Maybe};
 ghost use Rattle.lola_parser_grammar.specs.Cursor.{IsRead};
 ghost use Rattle.lola_parser_grammar.specs.Grammar as spec;
 
@@ -13,7 +13,7 @@ use lola_parser_tree::expressions::Binary;
 /// An operator, and its place.
 pub type Operator = (Binary, u32);
 
-#[tactic(auto, unfolding(lola_parser_grammars_law::specs::Syntax::read, lola_parser_grammars_law::specs::Syntax::first, lola_parser_grammars_law::specs::Syntax::nullable, lola_parser_grammar::specs::Grammar::operator))]
+#[tactic(auto, unfolding(lola_parser_grammar::specs::Syntax::read, lola_parser_grammar::specs::Syntax::first, lola_parser_grammar::specs::Syntax::nullable, lola_parser_grammar::specs::Grammar::operator))]
 fn operator(parser: &mut Parser<'_>, shape: TokenShape, op: Binary) -> Result<Operator, ParseError>
     ensures { IsRead (spec.operator shape op) parser.old result parser.new }
 {
@@ -22,7 +22,7 @@ fn operator(parser: &mut Parser<'_>, shape: TokenShape, op: Binary) -> Result<Op
 }
 
 /// `*`, `/` or `%`, if it comes next.
-#[tactic(auto, using(crate::proofs::Starts::starts_more), unfolding(lola_parser_grammars_law::specs::Syntax::read, lola_parser_grammars_law::specs::Syntax::first, lola_parser_grammars_law::specs::Syntax::nullable, lola_parser_grammar::specs::Grammar::product_operators, lola_parser_grammar::specs::Grammar::operator, lola_parser_grammar::specs::Grammar::nesting))]
+#[tactic(auto, using(crate::proofs::Starts::starts_more), unfolding(lola_parser_grammar::specs::Syntax::read, lola_parser_grammar::specs::Syntax::first, lola_parser_grammar::specs::Syntax::nullable, lola_parser_grammar::specs::Grammar::product_operators, lola_parser_grammar::specs::Grammar::operator, lola_parser_grammar::specs::Grammar::nesting))]
 pub fn product_operator(parser: &mut Parser<'_>) -> Result<Option<Operator>, ParseError>
     ensures { IsRead (Maybe spec.product_operators) parser.old result parser.new }
 {
@@ -38,7 +38,7 @@ pub fn product_operator(parser: &mut Parser<'_>) -> Result<Option<Operator>, Par
 }
 
 /// `+` or `-`, if it comes next.
-#[tactic(auto, using(crate::proofs::Starts::starts_more), unfolding(lola_parser_grammars_law::specs::Syntax::read, lola_parser_grammars_law::specs::Syntax::first, lola_parser_grammars_law::specs::Syntax::nullable, lola_parser_grammar::specs::Grammar::sum_operators, lola_parser_grammar::specs::Grammar::operator, lola_parser_grammar::specs::Grammar::nesting))]
+#[tactic(auto, using(crate::proofs::Starts::starts_more), unfolding(lola_parser_grammar::specs::Syntax::read, lola_parser_grammar::specs::Syntax::first, lola_parser_grammar::specs::Syntax::nullable, lola_parser_grammar::specs::Grammar::sum_operators, lola_parser_grammar::specs::Grammar::operator, lola_parser_grammar::specs::Grammar::nesting))]
 pub fn sum_operator(parser: &mut Parser<'_>) -> Result<Option<Operator>, ParseError>
     ensures { IsRead (Maybe spec.sum_operators) parser.old result parser.new }
 {
@@ -52,7 +52,7 @@ pub fn sum_operator(parser: &mut Parser<'_>) -> Result<Option<Operator>, ParseEr
 }
 
 /// An operator that compares, if it comes next.
-#[tactic(auto, using(crate::proofs::Starts::starts_more), unfolding(lola_parser_grammars_law::specs::Syntax::read, lola_parser_grammars_law::specs::Syntax::first, lola_parser_grammars_law::specs::Syntax::nullable, lola_parser_grammar::specs::Grammar::comparison_operators, lola_parser_grammar::specs::Grammar::operator, lola_parser_grammar::specs::Grammar::nesting))]
+#[tactic(auto, using(crate::proofs::Starts::starts_more), unfolding(lola_parser_grammar::specs::Syntax::read, lola_parser_grammar::specs::Syntax::first, lola_parser_grammar::specs::Syntax::nullable, lola_parser_grammar::specs::Grammar::comparison_operators, lola_parser_grammar::specs::Grammar::operator, lola_parser_grammar::specs::Grammar::nesting))]
 pub fn comparison_operator(parser: &mut Parser<'_>) -> Result<Option<Operator>, ParseError>
     ensures { IsRead (Maybe spec.comparison_operators) parser.old result parser.new }
 {
@@ -74,7 +74,7 @@ pub fn comparison_operator(parser: &mut Parser<'_>) -> Result<Option<Operator>, 
 }
 
 /// `&&`, if it comes next.
-#[tactic(auto, using(crate::proofs::Starts::starts_more), unfolding(lola_parser_grammars_law::specs::Syntax::read, lola_parser_grammars_law::specs::Syntax::first, lola_parser_grammars_law::specs::Syntax::nullable, lola_parser_grammar::specs::Grammar::and_operators, lola_parser_grammar::specs::Grammar::operator, lola_parser_grammar::specs::Grammar::nesting))]
+#[tactic(auto, using(crate::proofs::Starts::starts_more), unfolding(lola_parser_grammar::specs::Syntax::read, lola_parser_grammar::specs::Syntax::first, lola_parser_grammar::specs::Syntax::nullable, lola_parser_grammar::specs::Grammar::and_operators, lola_parser_grammar::specs::Grammar::operator, lola_parser_grammar::specs::Grammar::nesting))]
 pub fn and_operator(parser: &mut Parser<'_>) -> Result<Option<Operator>, ParseError>
     ensures { IsRead (Maybe spec.and_operators) parser.old result parser.new }
 {
@@ -86,7 +86,7 @@ pub fn and_operator(parser: &mut Parser<'_>) -> Result<Option<Operator>, ParseEr
 }
 
 /// `||`, if it comes next.
-#[tactic(auto, using(crate::proofs::Starts::starts_more), unfolding(lola_parser_grammars_law::specs::Syntax::read, lola_parser_grammars_law::specs::Syntax::first, lola_parser_grammars_law::specs::Syntax::nullable, lola_parser_grammar::specs::Grammar::or_operators, lola_parser_grammar::specs::Grammar::operator, lola_parser_grammar::specs::Grammar::nesting))]
+#[tactic(auto, using(crate::proofs::Starts::starts_more), unfolding(lola_parser_grammar::specs::Syntax::read, lola_parser_grammar::specs::Syntax::first, lola_parser_grammar::specs::Syntax::nullable, lola_parser_grammar::specs::Grammar::or_operators, lola_parser_grammar::specs::Grammar::operator, lola_parser_grammar::specs::Grammar::nesting))]
 pub fn or_operator(parser: &mut Parser<'_>) -> Result<Option<Operator>, ParseError>
     ensures { IsRead (Maybe spec.or_operators) parser.old result parser.new }
 {

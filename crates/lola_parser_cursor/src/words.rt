@@ -11,7 +11,7 @@ use lola_parser_tree::literals::{Literal, Value};
 use std::alloc::Global;
 
 /// Takes `true`, `false` or a text.
-#[tactic(auto, using(crate::proofs::Starts::starts_more), unfolding(lola_parser_grammars_law::specs::Syntax::read, lola_parser_grammars_law::specs::Syntax::first, lola_parser_grammars_law::specs::Syntax::nullable, lola_parser_grammar::specs::Grammar::word_literal, lola_parser_grammar::specs::Grammar::token, lola_parser_grammar::specs::Grammar::text))]
+#[tactic(auto, using(crate::proofs::Starts::starts_more), unfolding(lola_parser_grammar::specs::Syntax::read, lola_parser_grammar::specs::Syntax::first, lola_parser_grammar::specs::Syntax::nullable, lola_parser_grammar::specs::Grammar::word_literal, lola_parser_grammar::specs::Grammar::token, lola_parser_grammar::specs::Grammar::text))]
 pub fn word_literal(alloc: Global, parser: &mut Parser<'_>) -> Result<Literal, ParseError>
     ensures { IsRead spec.word_literal parser.old result parser.new }
 {

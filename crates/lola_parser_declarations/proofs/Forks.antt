@@ -3,8 +3,8 @@ use Rattle.std.proofs.Common.{◌≡◌, ℕ, suc, ◌-◌, ◌≤◌, ◌<◌, 
 use Rattle.std.proofs.lemmas.List.{length-append}
 use Rattle.lola_parser_tree.specs.declared.clauses.Part.{Part}
 use Rattle.lola_parser_tree.specs.declared.expressions.Expr.{Expr}
-use Rattle.lola_parser_grammars_law.specs.Syntax.{Lexeme, Terminal, Syntax, Fork, Map, starts, first, Unexpected, TooDeep, Outcome, ◌>>=◌, last_nesting, max_nestings, read}
-use Rattle.lola_parser_grammars_law.proofs.Laws.{sound}
+use Rattle.lola_parser_grammar.specs.Syntax.{Lexeme, Terminal, Syntax, Fork, Map, starts, first, Unexpected, TooDeep, Outcome, ◌>>=◌, last_nesting, max_nestings, read}
+use Rattle.lola_parser_grammar.proofs.Laws.{sound}
 use Rattle.lola_parser_grammar.specs.Grammar.{Parts, placed, given}
 
 pub shorter : {A : Type 0} (s : Syntax A) (m : ℕ) (ts : List Lexeme) (x : A) (i : ℕ) (mid : List Lexeme) → read s m ts ≡ Ok (x, i, mid) → length mid ≤ length ts

@@ -1,7 +1,7 @@
 //! The clauses of a stream.
 
 ghost use Rattle.std.specs.Prelude.{◌≡◌};
-ghost use Rattle.lola_parser_grammars_law.specs.Syntax.{Map, Maybe, Then};
+ghost use Rattle.lola_parser_grammar.specs.Syntax.{Map, Maybe, Then};
 ghost use Rattle.lola_lexer.specs.declared.shape.TokenShape.TheVariants as is;
 ghost use Rattle.lola_parser_declarations.specs.Bodies.{alone, spawned};
 ghost use Rattle.lola_parser_grammar.specs.Cursor.{IsRead};
@@ -10,7 +10,7 @@ ghost use Rattle.lola_parser_grammar.specs.Grammar as spec;
 use crate::parts::{maybe_when, maybe_with, part_behind};
 use lola_lexer::shape::TokenShape;
 use lola_parser_cursor::cursor::{MAX_LEVELS, Parser};
-use lola_parser_formulas::pacings::maybe_pacing;
+use lola_parser_expressions::pacings::maybe_pacing;
 use lola_parser_grammar::error::ParseError;
 use lola_parser_tree::clauses::{Close, Eval, Part, Spawn};
 use sqlite_items::Items;
@@ -29,7 +29,7 @@ fn parts_or_none(alloc: Global, parts: Option<Items<Part>>) -> Items<Part>
 }
 
 /// The condition and the parameters of a `spawn` clause, where they are written.
-#[tactic(auto, unfolding(lola_parser_grammars_law::specs::Syntax::read, lola_parser_grammars_law::specs::Syntax::first, lola_parser_grammars_law::specs::Syntax::nullable))]
+#[tactic(auto, unfolding(lola_parser_grammar::specs::Syntax::read, lola_parser_grammar::specs::Syntax::first, lola_parser_grammar::specs::Syntax::nullable))]
 fn when_and_parts(
     alloc: Global,
     parser: &mut Parser<'_>,
@@ -41,7 +41,7 @@ fn when_and_parts(
     Ok((when, with))
 }
 
-#[tactic(auto, unfolding(lola_parser_grammars_law::specs::Syntax::read, lola_parser_grammars_law::specs::Syntax::first, lola_parser_grammars_law::specs::Syntax::nullable, lola_parser_grammar::specs::Grammar::spawn))]
+#[tactic(auto, unfolding(lola_parser_grammar::specs::Syntax::read, lola_parser_grammar::specs::Syntax::first, lola_parser_grammar::specs::Syntax::nullable, lola_parser_grammar::specs::Grammar::spawn))]
 fn spawn(alloc: Global, parser: &mut Parser<'_>) -> Result<Spawn, ParseError>
     ensures { IsRead (spec.spawn MAX_LEVELS) parser.old result parser.new }
 {
@@ -57,7 +57,7 @@ fn spawn(alloc: Global, parser: &mut Parser<'_>) -> Result<Spawn, ParseError>
 }
 
 /// The condition of an `eval` clause, where it is written, and its expression.
-#[tactic(auto, unfolding(lola_parser_grammars_law::specs::Syntax::read, lola_parser_grammars_law::specs::Syntax::first, lola_parser_grammars_law::specs::Syntax::nullable))]
+#[tactic(auto, unfolding(lola_parser_grammar::specs::Syntax::read, lola_parser_grammar::specs::Syntax::first, lola_parser_grammar::specs::Syntax::nullable))]
 fn when_and_with(alloc: Global, parser: &mut Parser<'_>) -> Result<(Option<Part>, Part), ParseError>
     ensures { IsRead (Then (Maybe (spec.part_behind MAX_LEVELS is.When)) (spec.part_behind MAX_LEVELS is.With)) parser.old result parser.new }
 {
@@ -66,7 +66,7 @@ fn when_and_with(alloc: Global, parser: &mut Parser<'_>) -> Result<(Option<Part>
     Ok((when, with))
 }
 
-#[tactic(auto, unfolding(lola_parser_grammars_law::specs::Syntax::read, lola_parser_grammars_law::specs::Syntax::first, lola_parser_grammars_law::specs::Syntax::nullable, lola_parser_grammar::specs::Grammar::eval))]
+#[tactic(auto, unfolding(lola_parser_grammar::specs::Syntax::read, lola_parser_grammar::specs::Syntax::first, lola_parser_grammar::specs::Syntax::nullable, lola_parser_grammar::specs::Grammar::eval))]
 fn eval(alloc: Global, parser: &mut Parser<'_>) -> Result<Eval, ParseError>
     ensures { IsRead (spec.eval MAX_LEVELS) parser.old result parser.new }
 {
@@ -81,7 +81,7 @@ fn eval(alloc: Global, parser: &mut Parser<'_>) -> Result<Eval, ParseError>
     })
 }
 
-#[tactic(auto, unfolding(lola_parser_grammars_law::specs::Syntax::read, lola_parser_grammars_law::specs::Syntax::first, lola_parser_grammars_law::specs::Syntax::nullable, lola_parser_grammar::specs::Grammar::close))]
+#[tactic(auto, unfolding(lola_parser_grammar::specs::Syntax::read, lola_parser_grammar::specs::Syntax::first, lola_parser_grammar::specs::Syntax::nullable, lola_parser_grammar::specs::Grammar::close))]
 fn close(alloc: Global, parser: &mut Parser<'_>) -> Result<Close, ParseError>
     ensures { IsRead (spec.close MAX_LEVELS) parser.old result parser.new }
 {
@@ -91,7 +91,7 @@ fn close(alloc: Global, parser: &mut Parser<'_>) -> Result<Close, ParseError>
     Ok(Close { at, pacing, when })
 }
 
-#[tactic(auto, unfolding(lola_parser_grammars_law::specs::Syntax::read, lola_parser_grammars_law::specs::Syntax::first, lola_parser_grammars_law::specs::Syntax::nullable, lola_parser_grammar::specs::Grammar::close, lola_parser_grammar::specs::Grammar::token))]
+#[tactic(auto, unfolding(lola_parser_grammar::specs::Syntax::read, lola_parser_grammar::specs::Syntax::first, lola_parser_grammar::specs::Syntax::nullable, lola_parser_grammar::specs::Grammar::close, lola_parser_grammar::specs::Grammar::token))]
 fn maybe_close(alloc: Global, parser: &mut Parser<'_>) -> Result<Option<Close>, ParseError>
     ensures { IsRead (Maybe (spec.close MAX_LEVELS)) parser.old result parser.new }
 {
@@ -103,7 +103,7 @@ fn maybe_close(alloc: Global, parser: &mut Parser<'_>) -> Result<Option<Close>, 
 }
 
 /// `@p := e` is `eval @p with e`.
-#[tactic(auto, unfolding(lola_parser_grammars_law::specs::Syntax::read, lola_parser_grammars_law::specs::Syntax::first, lola_parser_grammars_law::specs::Syntax::nullable, lola_parser_grammar::specs::Grammar::short_eval))]
+#[tactic(auto, unfolding(lola_parser_grammar::specs::Syntax::read, lola_parser_grammar::specs::Syntax::first, lola_parser_grammar::specs::Syntax::nullable, lola_parser_grammar::specs::Grammar::short_eval))]
 fn short_eval(alloc: Global, parser: &mut Parser<'_>) -> Result<Eval, ParseError>
     ensures { IsRead (spec.short_eval MAX_LEVELS) parser.old result parser.new }
 {
@@ -117,7 +117,7 @@ fn short_eval(alloc: Global, parser: &mut Parser<'_>) -> Result<Eval, ParseError
     })
 }
 
-#[tactic(auto, unfolding(lola_parser_grammars_law::specs::Syntax::read, lola_parser_grammars_law::specs::Syntax::first, lola_parser_grammars_law::specs::Syntax::nullable))]
+#[tactic(auto, unfolding(lola_parser_grammar::specs::Syntax::read, lola_parser_grammar::specs::Syntax::first, lola_parser_grammar::specs::Syntax::nullable))]
 fn short_body(alloc: Global, parser: &mut Parser<'_>) -> Result<Body, ParseError>
     ensures { IsRead (Map alone (spec.short_eval MAX_LEVELS)) parser.old result parser.new }
 {
@@ -125,7 +125,7 @@ fn short_body(alloc: Global, parser: &mut Parser<'_>) -> Result<Body, ParseError
     Ok((None, eval, None))
 }
 
-#[tactic(auto, unfolding(lola_parser_grammars_law::specs::Syntax::read, lola_parser_grammars_law::specs::Syntax::first, lola_parser_grammars_law::specs::Syntax::nullable))]
+#[tactic(auto, unfolding(lola_parser_grammar::specs::Syntax::read, lola_parser_grammar::specs::Syntax::first, lola_parser_grammar::specs::Syntax::nullable))]
 fn eval_body(alloc: Global, parser: &mut Parser<'_>) -> Result<Body, ParseError>
     ensures { IsRead (Map alone (spec.eval MAX_LEVELS)) parser.old result parser.new }
 {
@@ -133,7 +133,7 @@ fn eval_body(alloc: Global, parser: &mut Parser<'_>) -> Result<Body, ParseError>
     Ok((None, eval, None))
 }
 
-#[tactic(auto, unfolding(lola_parser_grammars_law::specs::Syntax::read, lola_parser_grammars_law::specs::Syntax::first, lola_parser_grammars_law::specs::Syntax::nullable))]
+#[tactic(auto, unfolding(lola_parser_grammar::specs::Syntax::read, lola_parser_grammar::specs::Syntax::first, lola_parser_grammar::specs::Syntax::nullable))]
 fn eval_and_close(
     alloc: Global,
     parser: &mut Parser<'_>,
@@ -145,7 +145,7 @@ fn eval_and_close(
     Ok((eval, close))
 }
 
-#[tactic(auto, unfolding(lola_parser_grammars_law::specs::Syntax::read, lola_parser_grammars_law::specs::Syntax::first, lola_parser_grammars_law::specs::Syntax::nullable))]
+#[tactic(auto, unfolding(lola_parser_grammar::specs::Syntax::read, lola_parser_grammar::specs::Syntax::first, lola_parser_grammar::specs::Syntax::nullable))]
 fn spawn_body(alloc: Global, parser: &mut Parser<'_>) -> Result<Body, ParseError>
     ensures { IsRead (Map spawned (Then (spec.spawn MAX_LEVELS) (Then (spec.eval MAX_LEVELS) (Maybe (spec.close MAX_LEVELS))))) parser.old result parser.new }
 {
@@ -155,7 +155,7 @@ fn spawn_body(alloc: Global, parser: &mut Parser<'_>) -> Result<Body, ParseError
 }
 
 /// The clauses of an output.
-#[tactic(auto, using(lola_parser_cursor::proofs::Starts::starts_more), unfolding(lola_parser_grammars_law::specs::Syntax::read, lola_parser_grammars_law::specs::Syntax::first, lola_parser_grammars_law::specs::Syntax::nullable, lola_parser_grammar::specs::Grammar::body, lola_parser_grammar::specs::Grammar::short_eval, lola_parser_grammar::specs::Grammar::eval, lola_parser_grammar::specs::Grammar::pacing, lola_parser_grammar::specs::Grammar::part_behind, lola_parser_grammar::specs::Grammar::token))]
+#[tactic(auto, using(lola_parser_cursor::proofs::Starts::starts_more), unfolding(lola_parser_grammar::specs::Syntax::read, lola_parser_grammar::specs::Syntax::first, lola_parser_grammar::specs::Syntax::nullable, lola_parser_grammar::specs::Grammar::body, lola_parser_grammar::specs::Grammar::short_eval, lola_parser_grammar::specs::Grammar::eval, lola_parser_grammar::specs::Grammar::pacing, lola_parser_grammar::specs::Grammar::part_behind, lola_parser_grammar::specs::Grammar::token))]
 pub fn body(alloc: Global, parser: &mut Parser<'_>) -> Result<Body, ParseError>
     ensures { IsRead (spec.body MAX_LEVELS) parser.old result parser.new }
 {

@@ -1,7 +1,7 @@
 //! Declarations.
 
 ghost use Rattle.std.specs.Prelude.{◌≡◌, ◌∷◌, []};
-ghost use Rattle.lola_parser_grammars_law.specs.Syntax.{Maybe, Then, starts, first};
+ghost use Rattle.lola_parser_grammar.specs.Syntax.{Maybe, Then, starts, first};
 ghost use Rattle.lola_lexer.specs.declared.shape.TokenShape.TheVariants as is;
 ghost use Rattle.lola_parser_grammar.specs.Cursor.{IsRead};
 ghost use Rattle.lola_parser_grammar.specs.Grammar as spec;
@@ -11,7 +11,7 @@ use lola_lexer::shape::TokenShape;
 use lola_parser_cursor::cursor::{MAX_LEVELS, Parser};
 use lola_parser_cursor::words::word_literal;
 use lola_parser_expressions::nested::whole;
-use lola_parser_formulas::pacings::maybe_pacing;
+use lola_parser_expressions::pacings::maybe_pacing;
 use lola_parser_grammar::error::ParseError;
 use lola_parser_tree::clauses::Part;
 use lola_parser_tree::declarations::{Ast, Constant, Declaration, Inputs, Output, Trigger};
@@ -25,7 +25,7 @@ use std::alloc::Global;
 type Bracketed = (u32, Items<Typed>);
 
 /// `name: kind`
-#[tactic(auto, unfolding(lola_parser_grammars_law::specs::Syntax::read, lola_parser_grammars_law::specs::Syntax::first, lola_parser_grammars_law::specs::Syntax::nullable, lola_parser_grammar::specs::Grammar::typed))]
+#[tactic(auto, unfolding(lola_parser_grammar::specs::Syntax::read, lola_parser_grammar::specs::Syntax::first, lola_parser_grammar::specs::Syntax::nullable, lola_parser_grammar::specs::Grammar::typed))]
 fn typed(alloc: Global, parser: &mut Parser<'_>) -> Result<Typed, ParseError>
     ensures { IsRead spec.typed parser.old result parser.new }
 {
@@ -35,7 +35,7 @@ fn typed(alloc: Global, parser: &mut Parser<'_>) -> Result<Typed, ParseError>
     Ok(Typed { name, kind })
 }
 
-#[tactic(auto, unfolding(lola_parser_grammars_law::specs::Syntax::read, lola_parser_grammars_law::specs::Syntax::first, lola_parser_grammars_law::specs::Syntax::nullable, lola_parser_grammar::specs::Grammar::token))]
+#[tactic(auto, unfolding(lola_parser_grammar::specs::Syntax::read, lola_parser_grammar::specs::Syntax::first, lola_parser_grammar::specs::Syntax::nullable, lola_parser_grammar::specs::Grammar::token))]
 fn further_typed(
     alloc: Global,
     parser: &mut Parser<'_>,
@@ -55,7 +55,7 @@ fn further_typed(
     Ok(all)
 }
 
-#[tactic(auto, unfolding(lola_parser_grammars_law::specs::Syntax::read, lola_parser_grammars_law::specs::Syntax::first, lola_parser_grammars_law::specs::Syntax::nullable))]
+#[tactic(auto, unfolding(lola_parser_grammar::specs::Syntax::read, lola_parser_grammar::specs::Syntax::first, lola_parser_grammar::specs::Syntax::nullable))]
 fn typed_list(alloc: Global, parser: &mut Parser<'_>) -> Result<Items<Typed>, ParseError>
     ensures { IsRead (spec.listed spec.typed) parser.old result parser.new }
 {
@@ -65,7 +65,7 @@ fn typed_list(alloc: Global, parser: &mut Parser<'_>) -> Result<Items<Typed>, Pa
     further_typed(alloc, parser, all)
 }
 
-#[tactic(auto, unfolding(lola_parser_grammars_law::specs::Syntax::read, lola_parser_grammars_law::specs::Syntax::first, lola_parser_grammars_law::specs::Syntax::nullable, lola_parser_grammar::specs::Grammar::parameters, lola_parser_grammar::specs::Grammar::token))]
+#[tactic(auto, unfolding(lola_parser_grammar::specs::Syntax::read, lola_parser_grammar::specs::Syntax::first, lola_parser_grammar::specs::Syntax::nullable, lola_parser_grammar::specs::Grammar::parameters, lola_parser_grammar::specs::Grammar::token))]
 fn maybe_parameters(alloc: Global, parser: &mut Parser<'_>) -> Result<Option<Bracketed>, ParseError>
     ensures { IsRead (Maybe spec.parameters) parser.old result parser.new }
 {
@@ -79,7 +79,7 @@ fn maybe_parameters(alloc: Global, parser: &mut Parser<'_>) -> Result<Option<Bra
     }
 }
 
-#[tactic(auto, unfolding(lola_parser_grammars_law::specs::Syntax::read, lola_parser_grammars_law::specs::Syntax::first, lola_parser_grammars_law::specs::Syntax::nullable, lola_parser_grammar::specs::Grammar::kind, lola_parser_grammar::specs::Grammar::token))]
+#[tactic(auto, unfolding(lola_parser_grammar::specs::Syntax::read, lola_parser_grammar::specs::Syntax::first, lola_parser_grammar::specs::Syntax::nullable, lola_parser_grammar::specs::Grammar::kind, lola_parser_grammar::specs::Grammar::token))]
 fn maybe_kind(alloc: Global, parser: &mut Parser<'_>) -> Result<Option<Name>, ParseError>
     ensures { IsRead (Maybe spec.kind) parser.old result parser.new }
 {
@@ -92,7 +92,7 @@ fn maybe_kind(alloc: Global, parser: &mut Parser<'_>) -> Result<Option<Name>, Pa
 }
 
 /// A literal, of which a `-` may be a part.
-#[tactic(auto, using(lola_parser_cursor::proofs::Starts::starts_more), unfolding(lola_parser_grammars_law::specs::Syntax::read, lola_parser_grammars_law::specs::Syntax::first, lola_parser_grammars_law::specs::Syntax::nullable, lola_parser_grammar::specs::Grammar::literal, lola_parser_grammar::specs::Grammar::integer, lola_parser_grammar::specs::Grammar::token))]
+#[tactic(auto, using(lola_parser_cursor::proofs::Starts::starts_more), unfolding(lola_parser_grammar::specs::Syntax::read, lola_parser_grammar::specs::Syntax::first, lola_parser_grammar::specs::Syntax::nullable, lola_parser_grammar::specs::Grammar::literal, lola_parser_grammar::specs::Grammar::integer, lola_parser_grammar::specs::Grammar::token))]
 fn literal(alloc: Global, parser: &mut Parser<'_>) -> Result<Literal, ParseError>
     ensures { IsRead spec.literal parser.old result parser.new }
 {
@@ -110,7 +110,7 @@ fn literal(alloc: Global, parser: &mut Parser<'_>) -> Result<Literal, ParseError
     word_literal(alloc, parser)
 }
 
-#[tactic(auto, unfolding(lola_parser_grammars_law::specs::Syntax::read, lola_parser_grammars_law::specs::Syntax::first, lola_parser_grammars_law::specs::Syntax::nullable, lola_parser_grammar::specs::Grammar::inputs))]
+#[tactic(auto, unfolding(lola_parser_grammar::specs::Syntax::read, lola_parser_grammar::specs::Syntax::first, lola_parser_grammar::specs::Syntax::nullable, lola_parser_grammar::specs::Grammar::inputs))]
 fn inputs(alloc: Global, parser: &mut Parser<'_>) -> Result<Declaration, ParseError>
     ensures { IsRead spec.inputs parser.old result parser.new }
 {
@@ -120,7 +120,7 @@ fn inputs(alloc: Global, parser: &mut Parser<'_>) -> Result<Declaration, ParseEr
 }
 
 /// `:= literal`: the place of the sign, and the literal.
-#[tactic(auto, unfolding(lola_parser_grammars_law::specs::Syntax::read, lola_parser_grammars_law::specs::Syntax::first, lola_parser_grammars_law::specs::Syntax::nullable))]
+#[tactic(auto, unfolding(lola_parser_grammar::specs::Syntax::read, lola_parser_grammar::specs::Syntax::first, lola_parser_grammar::specs::Syntax::nullable))]
 fn defined(alloc: Global, parser: &mut Parser<'_>) -> Result<(u32, Literal), ParseError>
     ensures { IsRead (Then (spec.token is.Define) spec.literal) parser.old result parser.new }
 {
@@ -129,7 +129,7 @@ fn defined(alloc: Global, parser: &mut Parser<'_>) -> Result<(u32, Literal), Par
     Ok((at, literal))
 }
 
-#[tactic(auto, unfolding(lola_parser_grammars_law::specs::Syntax::read, lola_parser_grammars_law::specs::Syntax::first, lola_parser_grammars_law::specs::Syntax::nullable, lola_parser_grammar::specs::Grammar::constant))]
+#[tactic(auto, unfolding(lola_parser_grammar::specs::Syntax::read, lola_parser_grammar::specs::Syntax::first, lola_parser_grammar::specs::Syntax::nullable, lola_parser_grammar::specs::Grammar::constant))]
 fn constant(alloc: Global, parser: &mut Parser<'_>) -> Result<Declaration, ParseError>
     ensures { IsRead spec.constant parser.old result parser.new }
 {
@@ -158,7 +158,7 @@ fn with_parameters(alloc: Global, found: Option<Bracketed>) -> (Option<u32>, Ite
 }
 
 /// The kind of an output, if one is written, and its clauses.
-#[tactic(auto, unfolding(lola_parser_grammars_law::specs::Syntax::read, lola_parser_grammars_law::specs::Syntax::first, lola_parser_grammars_law::specs::Syntax::nullable))]
+#[tactic(auto, unfolding(lola_parser_grammar::specs::Syntax::read, lola_parser_grammar::specs::Syntax::first, lola_parser_grammar::specs::Syntax::nullable))]
 fn kind_and_body(alloc: Global, parser: &mut Parser<'_>) -> Result<(Option<Name>, Body), ParseError>
     ensures { IsRead (Then (Maybe spec.kind) (spec.body MAX_LEVELS)) parser.old result parser.new }
 {
@@ -167,7 +167,7 @@ fn kind_and_body(alloc: Global, parser: &mut Parser<'_>) -> Result<(Option<Name>
     Ok((kind, body))
 }
 
-#[tactic(auto, unfolding(lola_parser_grammars_law::specs::Syntax::read, lola_parser_grammars_law::specs::Syntax::first, lola_parser_grammars_law::specs::Syntax::nullable, lola_parser_grammar::specs::Grammar::output))]
+#[tactic(auto, unfolding(lola_parser_grammar::specs::Syntax::read, lola_parser_grammar::specs::Syntax::first, lola_parser_grammar::specs::Syntax::nullable, lola_parser_grammar::specs::Grammar::output))]
 fn output(alloc: Global, parser: &mut Parser<'_>) -> Result<Declaration, ParseError>
     ensures { IsRead (spec.output MAX_LEVELS) parser.old result parser.new }
 {
@@ -189,7 +189,7 @@ fn output(alloc: Global, parser: &mut Parser<'_>) -> Result<Declaration, ParseEr
 }
 
 /// The message of a trigger, which is the empty text where none is written.
-#[tactic(auto, unfolding(lola_parser_grammars_law::specs::Syntax::read, lola_parser_grammars_law::specs::Syntax::first, lola_parser_grammars_law::specs::Syntax::nullable, lola_parser_grammar::specs::Grammar::message, lola_parser_grammar::specs::Grammar::text))]
+#[tactic(auto, unfolding(lola_parser_grammar::specs::Syntax::read, lola_parser_grammar::specs::Syntax::first, lola_parser_grammar::specs::Syntax::nullable, lola_parser_grammar::specs::Grammar::message, lola_parser_grammar::specs::Grammar::text))]
 fn message(alloc: Global, parser: &mut Parser<'_>) -> Result<Text, ParseError>
     ensures { IsRead spec.message parser.old result parser.new }
 {
@@ -202,7 +202,7 @@ fn message(alloc: Global, parser: &mut Parser<'_>) -> Result<Text, ParseError>
 }
 
 /// The expression of a trigger, and its message.
-#[tactic(auto, unfolding(lola_parser_grammars_law::specs::Syntax::read, lola_parser_grammars_law::specs::Syntax::first, lola_parser_grammars_law::specs::Syntax::nullable))]
+#[tactic(auto, unfolding(lola_parser_grammar::specs::Syntax::read, lola_parser_grammar::specs::Syntax::first, lola_parser_grammar::specs::Syntax::nullable))]
 fn expr_and_message(alloc: Global, parser: &mut Parser<'_>) -> Result<(Expr, Text), ParseError>
     ensures { IsRead (Then (spec.whole MAX_LEVELS) spec.message) parser.old result parser.new }
 {
@@ -211,7 +211,7 @@ fn expr_and_message(alloc: Global, parser: &mut Parser<'_>) -> Result<(Expr, Tex
     Ok((expr, message))
 }
 
-#[tactic(auto, unfolding(lola_parser_grammars_law::specs::Syntax::read, lola_parser_grammars_law::specs::Syntax::first, lola_parser_grammars_law::specs::Syntax::nullable, lola_parser_grammar::specs::Grammar::trigger))]
+#[tactic(auto, unfolding(lola_parser_grammar::specs::Syntax::read, lola_parser_grammar::specs::Syntax::first, lola_parser_grammar::specs::Syntax::nullable, lola_parser_grammar::specs::Grammar::trigger))]
 fn trigger(alloc: Global, parser: &mut Parser<'_>) -> Result<Declaration, ParseError>
     ensures { IsRead (spec.trigger MAX_LEVELS) parser.old result parser.new }
 {
@@ -225,7 +225,7 @@ fn trigger(alloc: Global, parser: &mut Parser<'_>) -> Result<Declaration, ParseE
     }))
 }
 
-#[tactic(auto, using(lola_parser_cursor::proofs::Starts::starts_more), unfolding(lola_parser_grammars_law::specs::Syntax::read, lola_parser_grammars_law::specs::Syntax::first, lola_parser_grammars_law::specs::Syntax::nullable, lola_parser_grammar::specs::Grammar::declaration, lola_parser_grammar::specs::Grammar::inputs, lola_parser_grammar::specs::Grammar::constant, lola_parser_grammar::specs::Grammar::output, lola_parser_grammar::specs::Grammar::token))]
+#[tactic(auto, using(lola_parser_cursor::proofs::Starts::starts_more), unfolding(lola_parser_grammar::specs::Syntax::read, lola_parser_grammar::specs::Syntax::first, lola_parser_grammar::specs::Syntax::nullable, lola_parser_grammar::specs::Grammar::declaration, lola_parser_grammar::specs::Grammar::inputs, lola_parser_grammar::specs::Grammar::constant, lola_parser_grammar::specs::Grammar::output, lola_parser_grammar::specs::Grammar::token))]
 fn declaration(alloc: Global, parser: &mut Parser<'_>) -> Result<Declaration, ParseError>
     ensures { IsRead (spec.declaration MAX_LEVELS) parser.old result parser.new }
 {
@@ -241,7 +241,7 @@ fn declaration(alloc: Global, parser: &mut Parser<'_>) -> Result<Declaration, Pa
     trigger(alloc, parser)
 }
 
-#[tactic(auto, using(lola_parser_cursor::proofs::Starts::starts_more), unfolding(lola_parser_grammars_law::specs::Syntax::read, lola_parser_grammars_law::specs::Syntax::first, lola_parser_grammars_law::specs::Syntax::nullable, lola_parser_grammar::specs::Grammar::declaration, lola_parser_grammar::specs::Grammar::inputs, lola_parser_grammar::specs::Grammar::constant, lola_parser_grammar::specs::Grammar::output, lola_parser_grammar::specs::Grammar::trigger, lola_parser_grammar::specs::Grammar::token))]
+#[tactic(auto, using(lola_parser_cursor::proofs::Starts::starts_more), unfolding(lola_parser_grammar::specs::Syntax::read, lola_parser_grammar::specs::Syntax::first, lola_parser_grammar::specs::Syntax::nullable, lola_parser_grammar::specs::Grammar::declaration, lola_parser_grammar::specs::Grammar::inputs, lola_parser_grammar::specs::Grammar::constant, lola_parser_grammar::specs::Grammar::output, lola_parser_grammar::specs::Grammar::trigger, lola_parser_grammar::specs::Grammar::token))]
 fn begins(parser: &Parser<'_>) -> bool
     ensures { result ≡ starts (first (spec.declaration MAX_LEVELS)) parser.now.rest }
 {

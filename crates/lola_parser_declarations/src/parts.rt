@@ -1,7 +1,7 @@
 //! The expressions of clauses, and the list of them that a `with` may have.
 
 ghost use Rattle.std.specs.Prelude.{◌≡◌, ◌∷◌, [], IfOk};
-ghost use Rattle.lola_parser_grammars_law.specs.Syntax.{Maybe, Map};
+ghost use Rattle.lola_parser_grammar.specs.Syntax.{Maybe, Map};
 ghost use Rattle.lola_lexer.specs.declared.shape.TokenShape.TheVariants as is;
 ghost use Rattle.lola_parser_grammar.specs.Cursor.{IsRead};
 ghost use Rattle.lola_parser_grammar.specs.Grammar as spec;
@@ -24,7 +24,7 @@ fn single(alloc: Global, part: Part) -> Result<Items<Part>, AllocError>
 }
 
 /// A word or a sign, and the whole expression behind it.
-#[tactic(auto, unfolding(lola_parser_grammars_law::specs::Syntax::read, lola_parser_grammars_law::specs::Syntax::first, lola_parser_grammars_law::specs::Syntax::nullable, lola_parser_grammar::specs::Grammar::part_behind))]
+#[tactic(auto, unfolding(lola_parser_grammar::specs::Syntax::read, lola_parser_grammar::specs::Syntax::first, lola_parser_grammar::specs::Syntax::nullable, lola_parser_grammar::specs::Grammar::part_behind))]
 pub fn part_behind(
     alloc: Global,
     parser: &mut Parser<'_>,
@@ -38,7 +38,7 @@ pub fn part_behind(
 }
 
 /// A condition, if one is written.
-#[tactic(auto, unfolding(lola_parser_grammars_law::specs::Syntax::read, lola_parser_grammars_law::specs::Syntax::first, lola_parser_grammars_law::specs::Syntax::nullable, lola_parser_grammar::specs::Grammar::part_behind, lola_parser_grammar::specs::Grammar::token))]
+#[tactic(auto, unfolding(lola_parser_grammar::specs::Syntax::read, lola_parser_grammar::specs::Syntax::first, lola_parser_grammar::specs::Syntax::nullable, lola_parser_grammar::specs::Grammar::part_behind, lola_parser_grammar::specs::Grammar::token))]
 pub fn maybe_when(alloc: Global, parser: &mut Parser<'_>) -> Result<Option<Part>, ParseError>
     ensures { IsRead (Maybe (spec.part_behind MAX_LEVELS is.When)) parser.old result parser.new }
 {
@@ -49,7 +49,7 @@ pub fn maybe_when(alloc: Global, parser: &mut Parser<'_>) -> Result<Option<Part>
     }
 }
 
-#[tactic(auto, unfolding(lola_parser_grammars_law::specs::Syntax::read, lola_parser_grammars_law::specs::Syntax::first, lola_parser_grammars_law::specs::Syntax::nullable, lola_parser_grammar::specs::Grammar::part_behind, lola_parser_grammar::specs::Grammar::token))]
+#[tactic(auto, unfolding(lola_parser_grammar::specs::Syntax::read, lola_parser_grammar::specs::Syntax::first, lola_parser_grammar::specs::Syntax::nullable, lola_parser_grammar::specs::Grammar::part_behind, lola_parser_grammar::specs::Grammar::token))]
 fn further_parts(
     alloc: Global,
     parser: &mut Parser<'_>,
@@ -69,7 +69,7 @@ fn further_parts(
 }
 
 /// The rest of a list, behind its first expression.
-#[tactic(auto, unfolding(lola_parser_grammars_law::specs::Syntax::read, lola_parser_grammars_law::specs::Syntax::first, lola_parser_grammars_law::specs::Syntax::nullable, lola_parser_grammar::specs::Grammar::more_parts))]
+#[tactic(auto, unfolding(lola_parser_grammar::specs::Syntax::read, lola_parser_grammar::specs::Syntax::first, lola_parser_grammar::specs::Syntax::nullable, lola_parser_grammar::specs::Grammar::more_parts))]
 fn more_parts(
     alloc: Global,
     parser: &mut Parser<'_>,
@@ -92,7 +92,7 @@ fn more_parts(
 }
 
 /// The rest of a whole expression that begins with a bracket and this one.
-#[tactic(auto, unfolding(lola_parser_grammars_law::specs::Syntax::read, lola_parser_grammars_law::specs::Syntax::first, lola_parser_grammars_law::specs::Syntax::nullable, lola_parser_grammar::specs::Grammar::one_part))]
+#[tactic(auto, unfolding(lola_parser_grammar::specs::Syntax::read, lola_parser_grammar::specs::Syntax::first, lola_parser_grammar::specs::Syntax::nullable, lola_parser_grammar::specs::Grammar::one_part))]
 fn one_part(
     alloc: Global,
     parser: &mut Parser<'_>,
@@ -107,7 +107,7 @@ fn one_part(
 }
 
 /// Behind a bracket, which is a nesting only where the first expression goes on behind its end.
-#[tactic(auto, unfolding(lola_parser_grammars_law::specs::Syntax::read, lola_parser_grammars_law::specs::Syntax::first, lola_parser_grammars_law::specs::Syntax::nullable, lola_parser_grammar::specs::Grammar::forked))]
+#[tactic(auto, unfolding(lola_parser_grammar::specs::Syntax::read, lola_parser_grammar::specs::Syntax::first, lola_parser_grammar::specs::Syntax::nullable, lola_parser_grammar::specs::Grammar::forked))]
 fn forked(
     alloc: Global,
     parser: &mut Parser<'_>,
@@ -133,7 +133,7 @@ fn forked(
     one_part(alloc, parser, first, bracket, with)
 }
 
-#[tactic(auto, unfolding(lola_parser_grammars_law::specs::Syntax::read, lola_parser_grammars_law::specs::Syntax::first, lola_parser_grammars_law::specs::Syntax::nullable, lola_parser_grammar::specs::Grammar::whole_unbracketed, lola_parser_grammar::specs::Grammar::unbracketed))]
+#[tactic(auto, unfolding(lola_parser_grammar::specs::Syntax::read, lola_parser_grammar::specs::Syntax::first, lola_parser_grammar::specs::Syntax::nullable, lola_parser_grammar::specs::Grammar::whole_unbracketed, lola_parser_grammar::specs::Grammar::unbracketed))]
 fn unbracketed(alloc: Global, parser: &mut Parser<'_>) -> Result<Expr, ParseError>
     ensures { IsRead (spec.whole_unbracketed MAX_LEVELS) parser.old result parser.new }
 {
@@ -142,7 +142,7 @@ fn unbracketed(alloc: Global, parser: &mut Parser<'_>) -> Result<Expr, ParseErro
 }
 
 /// An expression or a list of them, behind a `with` at this place.
-#[tactic(auto, unfolding(lola_parser_grammars_law::specs::Syntax::read, lola_parser_grammars_law::specs::Syntax::first, lola_parser_grammars_law::specs::Syntax::nullable, lola_parser_grammar::specs::Grammar::parts, lola_parser_grammar::specs::Grammar::token))]
+#[tactic(auto, unfolding(lola_parser_grammar::specs::Syntax::read, lola_parser_grammar::specs::Syntax::first, lola_parser_grammar::specs::Syntax::nullable, lola_parser_grammar::specs::Grammar::parts, lola_parser_grammar::specs::Grammar::token))]
 fn parts(alloc: Global, parser: &mut Parser<'_>, with: u32) -> Result<Items<Part>, ParseError>
     ensures { IsRead (Map (spec.behind_with with) (spec.parts MAX_LEVELS)) parser.old result parser.new }
 {
@@ -154,7 +154,7 @@ fn parts(alloc: Global, parser: &mut Parser<'_>, with: u32) -> Result<Items<Part
     Ok(single(alloc, Part { at: with, expr })?)
 }
 
-#[tactic(auto, unfolding(lola_parser_grammars_law::specs::Syntax::read, lola_parser_grammars_law::specs::Syntax::first, lola_parser_grammars_law::specs::Syntax::nullable, lola_parser_grammar::specs::Grammar::with_parts))]
+#[tactic(auto, unfolding(lola_parser_grammar::specs::Syntax::read, lola_parser_grammar::specs::Syntax::first, lola_parser_grammar::specs::Syntax::nullable, lola_parser_grammar::specs::Grammar::with_parts))]
 fn with_parts(alloc: Global, parser: &mut Parser<'_>) -> Result<Items<Part>, ParseError>
     ensures { IsRead (spec.with_parts MAX_LEVELS) parser.old result parser.new }
 {
@@ -163,7 +163,7 @@ fn with_parts(alloc: Global, parser: &mut Parser<'_>) -> Result<Items<Part>, Par
 }
 
 /// `with` and its expressions, if they are written.
-#[tactic(auto, unfolding(lola_parser_grammars_law::specs::Syntax::read, lola_parser_grammars_law::specs::Syntax::first, lola_parser_grammars_law::specs::Syntax::nullable, lola_parser_grammar::specs::Grammar::with_parts, lola_parser_grammar::specs::Grammar::token))]
+#[tactic(auto, unfolding(lola_parser_grammar::specs::Syntax::read, lola_parser_grammar::specs::Syntax::first, lola_parser_grammar::specs::Syntax::nullable, lola_parser_grammar::specs::Grammar::with_parts, lola_parser_grammar::specs::Grammar::token))]
 pub fn maybe_with(alloc: Global, parser: &mut Parser<'_>) -> Result<Option<Items<Part>>, ParseError>
     ensures { IsRead (Maybe (spec.with_parts MAX_LEVELS)) parser.old result parser.new }
 {

@@ -1,6 +1,6 @@
 -- One level further in.
 use Rattle.std.proofs.Common.{◌≡◌, ℕ, zero, suc, ◌-◌, ◌<◌, Bool, true, false, List, Err, refl, ap, arith}
-use Rattle.lola_parser_grammars_law.specs.Syntax.{Lexeme, read, TooDeep}
+use Rattle.lola_parser_grammar.specs.Syntax.{Lexeme, read, TooDeep}
 use Rattle.lola_parser_grammar.specs.Grammar.{level, nested, expr_with, other_with, expr_in, other_in}
 
 pub nested_ends : (b : Bool) (n m : ℕ) (ts : List Lexeme) → n ≡ 0 → read (nested b n) m ts ≡ Err (TooDeep ts)

@@ -1,1 +1,2 @@
 pub mod Inward
+pub mod InwardFormulas

@@ -35,7 +35,7 @@ pub fn nested(
 }
 
 /// A whole expression.
-#[tactic(auto, unfolding(lola_parser_grammars_law::specs::Syntax::read, lola_parser_grammars_law::specs::Syntax::first, lola_parser_grammars_law::specs::Syntax::nullable, lola_parser_grammar::specs::Grammar::whole))]
+#[tactic(auto, unfolding(lola_parser_grammar::specs::Syntax::read, lola_parser_grammar::specs::Syntax::first, lola_parser_grammar::specs::Syntax::nullable, lola_parser_grammar::specs::Grammar::whole))]
 pub fn whole(alloc: Global, parser: &mut Parser<'_>) -> Result<Expr, ParseError>
     ensures { IsRead (spec.whole MAX_LEVELS) parser.old result parser.new }
 {

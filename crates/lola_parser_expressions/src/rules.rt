@@ -2,7 +2,7 @@
 //! by itself.
 
 ghost use Rattle.std.specs.Prelude.{◌≡◌, IfOk, true, false};
-ghost use Rattle.lola_parser_grammars_law.specs.Syntax.{Then};
+ghost use Rattle.lola_parser_grammar.specs.Syntax.{Then};
 ghost use Rattle.lola_lexer.specs.declared.shape.TokenShape.TheVariants as is;
 ghost use Rattle.lola_parser_grammar.specs.Cursor.{IsRead};
 ghost use Rattle.lola_parser_grammar.specs.Grammar.{◌*>◌};
@@ -60,7 +60,7 @@ impl<F: Fn(Global, &mut Parser<'_>, bool, usize) -> Result<Expr, ParseError>> Ru
     }
 
     /// An expression behind `then` or `else`.
-    #[tactic(auto, unfolding(lola_parser_grammars_law::specs::Syntax::read, lola_parser_grammars_law::specs::Syntax::first, lola_parser_grammars_law::specs::Syntax::nullable))]
+    #[tactic(auto, unfolding(lola_parser_grammar::specs::Syntax::read, lola_parser_grammar::specs::Syntax::first, lola_parser_grammar::specs::Syntax::nullable))]
     fn branch(&self, parser: &mut Parser<'_>, shape: TokenShape) -> Result<Expr, ParseError>
         requires { Nests self.now.depth (F.pre self.now.nested) (F.post self.now.nested) }
         ensures { IsRead (spec.token shape *> spec.expr_in self.now.depth) parser.old result parser.new }
@@ -71,7 +71,7 @@ impl<F: Fn(Global, &mut Parser<'_>, bool, usize) -> Result<Expr, ParseError>> Ru
     }
 
     /// The two expressions behind a condition.
-    #[tactic(auto, unfolding(lola_parser_grammars_law::specs::Syntax::read, lola_parser_grammars_law::specs::Syntax::first, lola_parser_grammars_law::specs::Syntax::nullable))]
+    #[tactic(auto, unfolding(lola_parser_grammar::specs::Syntax::read, lola_parser_grammar::specs::Syntax::first, lola_parser_grammar::specs::Syntax::nullable))]
     fn branches(&self, parser: &mut Parser<'_>) -> Result<(Expr, Expr), ParseError>
         requires { Nests self.now.depth (F.pre self.now.nested) (F.post self.now.nested) }
         ensures { IsRead (Then (spec.token is.Then *> spec.expr_in self.now.depth) (spec.token is.Else *> spec.expr_in self.now.depth)) parser.old result parser.new }
@@ -81,7 +81,7 @@ impl<F: Fn(Global, &mut Parser<'_>, bool, usize) -> Result<Expr, ParseError>> Ru
         Ok((yes, no))
     }
 
-    #[tactic(auto, unfolding(lola_parser_grammars_law::specs::Syntax::read, lola_parser_grammars_law::specs::Syntax::first, lola_parser_grammars_law::specs::Syntax::nullable, lola_parser_grammar::specs::Grammar::conditional))]
+    #[tactic(auto, unfolding(lola_parser_grammar::specs::Syntax::read, lola_parser_grammar::specs::Syntax::first, lola_parser_grammar::specs::Syntax::nullable, lola_parser_grammar::specs::Grammar::conditional))]
     pub(crate) fn conditional(&self, parser: &mut Parser<'_>) -> Result<Expr, ParseError>
         requires { Nests self.now.depth (F.pre self.now.nested) (F.post self.now.nested) }
         ensures { IsRead (spec.conditional (spec.expr_in self.now.depth) (spec.other_in self.now.depth)) parser.old result parser.new }
@@ -93,7 +93,7 @@ impl<F: Fn(Global, &mut Parser<'_>, bool, usize) -> Result<Expr, ParseError>> Ru
     }
 
     /// An expression.
-    #[tactic(auto, unfolding(lola_parser_grammars_law::specs::Syntax::read, lola_parser_grammars_law::specs::Syntax::first, lola_parser_grammars_law::specs::Syntax::nullable, lola_parser_grammar::specs::Grammar::expr_with, lola_parser_grammar::specs::Grammar::conditional, lola_parser_grammar::specs::Grammar::nesting))]
+    #[tactic(auto, unfolding(lola_parser_grammar::specs::Syntax::read, lola_parser_grammar::specs::Syntax::first, lola_parser_grammar::specs::Syntax::nullable, lola_parser_grammar::specs::Grammar::expr_with, lola_parser_grammar::specs::Grammar::conditional, lola_parser_grammar::specs::Grammar::nesting))]
     pub(crate) fn expr_with(&self, parser: &mut Parser<'_>) -> Result<Expr, ParseError>
         requires { Nests self.now.depth (F.pre self.now.nested) (F.post self.now.nested) }
         ensures { IsRead (spec.expr_with (spec.expr_in self.now.depth) (spec.other_in self.now.depth)) parser.old result parser.new }
@@ -105,7 +105,7 @@ impl<F: Fn(Global, &mut Parser<'_>, bool, usize) -> Result<Expr, ParseError>> Ru
         self.disjunctions(parser, start)
     }
 
-    #[tactic(auto, unfolding(lola_parser_grammars_law::specs::Syntax::read, lola_parser_grammars_law::specs::Syntax::first, lola_parser_grammars_law::specs::Syntax::nullable, lola_parser_grammar::specs::Grammar::open_operand, lola_parser_grammar::specs::Grammar::number, lola_parser_grammar::specs::Grammar::integer))]
+    #[tactic(auto, unfolding(lola_parser_grammar::specs::Syntax::read, lola_parser_grammar::specs::Syntax::first, lola_parser_grammar::specs::Syntax::nullable, lola_parser_grammar::specs::Grammar::open_operand, lola_parser_grammar::specs::Grammar::number, lola_parser_grammar::specs::Grammar::integer))]
     fn open_operand(&self, parser: &mut Parser<'_>) -> Result<Expr, ParseError>
         requires { Nests self.now.depth (F.pre self.now.nested) (F.post self.now.nested) }
         ensures { IsRead (spec.open_operand (spec.expr_in self.now.depth) (spec.other_in self.now.depth)) parser.old result parser.new }
@@ -118,7 +118,7 @@ impl<F: Fn(Global, &mut Parser<'_>, bool, usize) -> Result<Expr, ParseError>> Ru
     }
 
     /// An expression that begins with no bracket.
-    #[tactic(auto, unfolding(lola_parser_grammars_law::specs::Syntax::read, lola_parser_grammars_law::specs::Syntax::first, lola_parser_grammars_law::specs::Syntax::nullable, lola_parser_grammar::specs::Grammar::open_expr, lola_parser_grammar::specs::Grammar::conditional, lola_parser_grammar::specs::Grammar::nesting))]
+    #[tactic(auto, unfolding(lola_parser_grammar::specs::Syntax::read, lola_parser_grammar::specs::Syntax::first, lola_parser_grammar::specs::Syntax::nullable, lola_parser_grammar::specs::Grammar::open_expr, lola_parser_grammar::specs::Grammar::conditional, lola_parser_grammar::specs::Grammar::nesting))]
     pub(crate) fn open_expr(&self, parser: &mut Parser<'_>) -> Result<Expr, ParseError>
         requires { Nests self.now.depth (F.pre self.now.nested) (F.post self.now.nested) }
         ensures { IsRead (spec.open_expr (spec.expr_in self.now.depth) (spec.other_in self.now.depth)) parser.old result parser.new }
@@ -131,7 +131,7 @@ impl<F: Fn(Global, &mut Parser<'_>, bool, usize) -> Result<Expr, ParseError>> Ru
     }
 
     /// Behind an opening bracket and an expression, the rest of an expression that begins so.
-    #[tactic(auto, unfolding(lola_parser_grammars_law::specs::Syntax::read, lola_parser_grammars_law::specs::Syntax::first, lola_parser_grammars_law::specs::Syntax::nullable, lola_parser_grammar::specs::Grammar::closed))]
+    #[tactic(auto, unfolding(lola_parser_grammar::specs::Syntax::read, lola_parser_grammar::specs::Syntax::first, lola_parser_grammar::specs::Syntax::nullable, lola_parser_grammar::specs::Grammar::closed))]
     pub(crate) fn closed(&self, parser: &mut Parser<'_>, start: Expr) -> Result<Expr, ParseError>
         requires { Nests self.now.depth (F.pre self.now.nested) (F.post self.now.nested) }
         ensures { IsRead (spec.onto start (spec.closed (spec.expr_in self.now.depth) (spec.other_in self.now.depth))) parser.old result parser.new }

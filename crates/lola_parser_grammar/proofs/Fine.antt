@@ -2,7 +2,7 @@
 use Rattle.std.proofs.Common.{◌≡◌, ℕ, zero, suc, Bool, true, false, [], ◌∷◌, ◌++◌, refl, codes}
 use Rattle.lola_lexer.specs.declared.shape.TokenShape.{TokenShape}
 use Rattle.lola_lexer.specs.declared.shape.TokenShape.TheVariants as is
-use Rattle.lola_parser_grammars_law.specs.Syntax.{Of, Word, Other, is_fine, within, first, more, nullable, same_shape}
+use Rattle.lola_parser_grammar.specs.Syntax.{Of, Word, Other, is_fine, within, first, more, nullable, same_shape}
 use Rattle.lola_parser_grammar.specs.Grammar.{token, nesting, word, name, other_name, integer, text, quantity, operator, product_operators, sum_operators, comparison_operators, and_operators, or_operators, word_literal, offset, over, window, arguments, stand_in, hold, get, last, default, reading, dotted_default, defaults, dotted, suffix, named, number, worded, bracketed, operand, negation, negative, minus, plain, other_with, unary, products, product, sums, sum, comparisons, comparison, conjunctions, conjunction, disjunctions, conditional, expr_with, atom, conjunctions_of, conjunct, alternatives_of, formula_with, typed, parameters, kind, clock, message, whole, whole_formula, whole_unbracketed, rhythm, pacing, part_behind, more_parts, one_part, forked, parts, with_parts, spawn, eval, close, short_eval, body, literal, inputs, constant, output, trigger, declaration, specification, open_operand, open_expr, closed, unbracketed, level, expr_begins, expr_goes_on, other_begins, other_goes_on, formula_level, formula_begins, formula_goes_on, open_begins, clock_words}
 
 expr_first : (n : ℕ) → within (first (level true n)) expr_begins ≡ true

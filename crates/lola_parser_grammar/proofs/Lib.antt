@@ -2,3 +2,15 @@ pub mod Fine
 pub mod Depth
 pub mod Levels
 pub mod Ends
+pub mod Tests
+pub mod Laws
+pub mod Complete
+pub mod Local
+pub mod Viable
+pub mod Refusal
+pub mod Within
+pub mod Over
+pub mod All
+pub mod Deep
+pub mod Same
+pub mod Exactly

@@ -1,7 +1,7 @@
 -- What a parser reads from, and what reading leaves.
 use Rattle.std.specs.Prelude.{◌≡◌, ℕ, ◌-◌, List, [], ◌∷◌, map, take, drop, Result, Ok, Err}
 use Rattle.lola_lexer.specs.declared.token.Token.{Token}
-use Rattle.lola_parser_grammars_law.specs.Syntax.{Lexeme, Syntax, Outcome, Unexpected, TooDeep, read}
+use Rattle.lola_parser_grammar.specs.Syntax.{Lexeme, Syntax, Outcome, Unexpected, TooDeep, read}
 use Rattle.lola_parser_grammar.specs.declared.error.ParseError.{ParseError}
 use Rattle.lola_parser_grammar.specs.declared.error.ParseError.TheVariants as errors
 

@@ -28,7 +28,7 @@ use Rattle.lola_parser_tree.specs.declared.clauses.Eval.{Eval}
 use Rattle.lola_parser_tree.specs.declared.clauses.Close.{Close}
 use Rattle.lola_parser_tree.specs.declared.declarations.Declaration.{Declaration}
 use Rattle.lola_parser_tree.specs.declared.declarations.Declaration.TheVariants as d
-use Rattle.lola_parser_grammars_law.specs.Syntax.{Lexeme, Terminal, Of, Word, Other, Syntax, Past, Token, Nesting, Whole, Known, Then, Map, Either, Maybe, Many, Fork}
+use Rattle.lola_parser_grammar.specs.Syntax.{Lexeme, Terminal, Of, Word, Other, Syntax, Past, Token, Nesting, Whole, Known, Then, Map, Either, Maybe, Many, Fork}
 use Rattle.lola_parser_grammar.specs.Literals.{number_of, digits_in, decimals_in, unit_of, text_of_literal}
 
 -- ---- tokens

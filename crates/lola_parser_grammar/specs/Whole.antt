@@ -5,10 +5,10 @@ use Rattle.lola_value.specs.declared.front.Code.TheVariants as code
 use Rattle.lola_value.specs.declared.front.FrontEnd.{FrontEnd}
 use Rattle.lola_value.specs.declared.front.FrontEnd.TheVariants as front_end
 use Rattle.lola_parser_tree.specs.declared.declarations.Declaration.{Declaration}
-use Rattle.lola_parser_grammars_law.specs.Syntax.{Lexeme, Spells, read_all, IsFirstMisfit}
-use Rattle.lola_parser_grammars_law.specs.Syntax as reading
-use Rattle.lola_parser_grammars_law.specs.Nestings.{IsOver, Fits}
-use Rattle.lola_parser_grammars_law.specs.Exceeding.{Exceeds}
+use Rattle.lola_parser_grammar.specs.Syntax.{Lexeme, Spells, read_all, IsFirstMisfit}
+use Rattle.lola_parser_grammar.specs.Syntax as reading
+use Rattle.lola_parser_grammar.specs.Nestings.{IsOver, Fits}
+use Rattle.lola_parser_grammar.specs.Exceeding.{Exceeds}
 use Rattle.lola_parser_grammar.specs.Cursor.{place_of}
 use Rattle.lola_parser_grammar.specs.Grammar.{specification, all_nestings}
 

@@ -1,9 +1,9 @@
 -- A text that has a nesting too many, whatever follows, is refused as too deep.
 use Rattle.std.proofs.Common.{◌≡◌, true, List, [], ◌∷◌, ◌++◌, length, Result, Ok, Err, refl, sym, ap, subst, ◌∙◌, append_assoc, arith}
 use Rattle.std.proofs.lemmas.List.{append-nil, length-append, append_cancel_right}
-use Rattle.lola_parser_grammars_law.specs.Syntax.{Lexeme, Terminal, Syntax, Spells, is_fine, Refusal, Unexpected, TooDeep, Outcome, max_nestings, read, all_read, read_all, IsFirstMisfit}
-use Rattle.lola_parser_grammars_law.specs.Nestings.{is_counted}
-use Rattle.lola_parser_grammars_law.proofs.Refusal.{refused_at}
+use Rattle.lola_parser_grammar.specs.Syntax.{Lexeme, Terminal, Syntax, Spells, is_fine, Refusal, Unexpected, TooDeep, Outcome, max_nestings, read, all_read, read_all, IsFirstMisfit}
+use Rattle.lola_parser_grammar.specs.Nestings.{is_counted}
+use Rattle.lola_parser_grammar.proofs.Refusal.{refused_at}
 use Rattle.lola_parser_limit_law.specs.Late.{IsLateInEvery, NoneIsLate}
 use Rattle.lola_parser_limit_law.specs.Fronts.{IsLongestFront}
 use Rattle.lola_parser_limit_law.proofs.Placed.{in_front}

@@ -2,14 +2,14 @@
 use Rattle.std.proofs.Common.{◌≡◌, ℕ, zero, suc, ◌+◌, ◌-◌, ◌<◌, Bool, true, false, cond, not, List, [], ◌∷◌, ◌++◌, length, Some, Ok, Err, refl, sym, ap, subst, ◌∙◌, append_assoc, arith, inl, inr, ◌⊎◌}
 use Rattle.std.proofs.lemmas.List.{append-nil, length-append, append_cancel_right}
 use Rattle.std.proofs.lemmas.Bool.{and_parts, not-true}
-use Rattle.lola_parser_grammars_law.specs.Syntax.{Lexeme, Terminal, fits, any_fits, Syntax, Past, Token, Nesting, Whole, Known, Then, Map, Either, Maybe, Many, Fork, charged, either_rest, last_nesting, Repeats, Spells, starts, first, nullable, more, apart, within, is_fine, Refusal, Unexpected, TooDeep, Outcome, Reader, ◌>>=◌, max_nestings, repeated, read}
-use Rattle.lola_parser_grammars_law.specs.Nestings.{lower, least, guards, is_nesting, nestings_in, tallies, is_counted}
-use Rattle.lola_parser_grammars_law.proofs.Laws.{IsSound, sound, chosen}
-use Rattle.lola_parser_grammars_law.proofs.Complete.{and_three, choice_parts, known_parts, fork_is}
-use Rattle.lola_parser_grammars_law.proofs.Local.{IsLocal, local, through, same_start, fuel, eats}
-use Rattle.lola_parser_grammars_law.proofs.Viable.{sample, bind_err}
-use Rattle.lola_parser_grammars_law.proofs.Within.{lower_is, none_is, spells_least}
-use Rattle.lola_parser_grammars_law.proofs.Over.{counts, one_over, charged_ends, last_is, fork_counted}
+use Rattle.lola_parser_grammar.specs.Syntax.{Lexeme, Terminal, fits, any_fits, Syntax, Past, Token, Nesting, Whole, Known, Then, Map, Either, Maybe, Many, Fork, charged, either_rest, last_nesting, Repeats, Spells, starts, first, nullable, more, apart, within, is_fine, Refusal, Unexpected, TooDeep, Outcome, Reader, ◌>>=◌, max_nestings, repeated, read}
+use Rattle.lola_parser_grammar.specs.Nestings.{lower, least, guards, is_nesting, nestings_in, tallies, is_counted}
+use Rattle.lola_parser_grammar.proofs.Laws.{IsSound, sound, chosen}
+use Rattle.lola_parser_grammar.proofs.Complete.{and_three, choice_parts, known_parts, fork_is}
+use Rattle.lola_parser_grammar.proofs.Local.{IsLocal, local, through, same_start, fuel, eats}
+use Rattle.lola_parser_grammar.proofs.Viable.{sample, bind_err}
+use Rattle.lola_parser_grammar.proofs.Within.{lower_is, none_is, spells_least}
+use Rattle.lola_parser_grammar.proofs.Over.{counts, one_over, charged_ends, last_is, fork_counted}
 use Rattle.lola_parser_limit_law.proofs.Opening.{Opens, opens_then, is_open, first_begins, forks_open}
 
 -- Reading ends at t, the tokens up to w decide that, and something begins with them.

@@ -3,16 +3,16 @@
 use Rattle.std.proofs.Common.{◌≡◌, ℕ, zero, suc, ◌+◌, ◌-◌, ◌≤◌, Bool, true, false, cond, not, List, [], ◌∷◌, ◌++◌, length, Some, None, Ok, Err, refl, sym, ap, subst, ◌∙◌, append_assoc, arith, inl, inr, ◌⊎◌}
 use Rattle.std.proofs.lemmas.List.{length-append, append_cancel_right}
 use Rattle.std.proofs.lemmas.Bool.{and_parts, not-true, false_from_ne_true}
-use Rattle.lola_parser_grammars_law.specs.Syntax.{Lexeme, Terminal, fits, any_fits, apart, within, Syntax, Past, Token, Nesting, Whole, Known, Then, Map, Either, Maybe, Many, Fork, charged, either_rest, last_nesting, Repeats, Spells, starts, first, nullable, more, is_fine, Unexpected, TooDeep, Outcome, ◌>>=◌, take_token, max_nestings, repeated, read}
-use Rattle.lola_parser_grammars_law.specs.Nestings.{guards, is_nesting, nestings_in, tallies, is_counted}
-use Rattle.lola_parser_grammars_law.specs.Exceeding.{ExceedsAmong}
-use Rattle.lola_parser_grammars_law.proofs.Tests.{apart_excludes}
-use Rattle.lola_parser_grammars_law.proofs.Laws.{chosen, done_is}
-use Rattle.lola_parser_grammars_law.proofs.Complete.{and_three, choice_parts, known_parts, fork_is, begins, spells_nil, any_split, follows, tail_stops, stops_within, fork_follows, complete, OkOrDeep, ForkParts}
-use Rattle.lola_parser_grammars_law.proofs.Viable.{bind_err}
-use Rattle.lola_parser_grammars_law.proofs.Within.{complete_within}
-use Rattle.lola_parser_grammars_law.proofs.Over.{counts, ForkCounted, fork_counted, charged_ends, last_is}
-use Rattle.lola_parser_grammars_law.proofs.Exactly.{few_or_more, too_many, opens_part, misses_part}
+use Rattle.lola_parser_grammar.specs.Syntax.{Lexeme, Terminal, fits, any_fits, apart, within, Syntax, Past, Token, Nesting, Whole, Known, Then, Map, Either, Maybe, Many, Fork, charged, either_rest, last_nesting, Repeats, Spells, starts, first, nullable, more, is_fine, Unexpected, TooDeep, Outcome, ◌>>=◌, take_token, max_nestings, repeated, read}
+use Rattle.lola_parser_grammar.specs.Nestings.{guards, is_nesting, nestings_in, tallies, is_counted}
+use Rattle.lola_parser_grammar.specs.Exceeding.{ExceedsAmong}
+use Rattle.lola_parser_grammar.proofs.Tests.{apart_excludes}
+use Rattle.lola_parser_grammar.proofs.Laws.{chosen, done_is}
+use Rattle.lola_parser_grammar.proofs.Complete.{and_three, choice_parts, known_parts, fork_is, begins, spells_nil, any_split, follows, tail_stops, stops_within, fork_follows, complete, OkOrDeep, ForkParts}
+use Rattle.lola_parser_grammar.proofs.Viable.{bind_err}
+use Rattle.lola_parser_grammar.proofs.Within.{complete_within}
+use Rattle.lola_parser_grammar.proofs.Over.{counts, ForkCounted, fork_counted, charged_ends, last_is}
+use Rattle.lola_parser_grammar.proofs.Exactly.{few_or_more, too_many, opens_part, misses_part}
 use Rattle.lola_parser_limit_law.specs.Late.{IsNestingBehind, IsNextBehindBracket}
 use Rattle.lola_parser_limit_law.proofs.Keeps.{Keeps, KeepsAmong, few_all, few_front, keeps_none, keeps_whole, keeps_then, keeps_left, keeps_right, keeps_map, keeps_some, keeps_cons, keeps_list, keeps_bracket, after_item}
 use Rattle.lola_parser_limit_law.proofs.Kept.{read_kept}

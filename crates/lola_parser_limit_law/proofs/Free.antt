@@ -2,11 +2,11 @@
 use Rattle.std.proofs.Common.{◌≡◌, ℕ, zero, suc, Bool, true, false, not, ◌||◌, List, [], ◌∷◌, ◌++◌, length, Some, None, Ok, Err, refl, sym, ap, ◌∙◌, inl, inr, Result, subst}
 use Rattle.std.proofs.lemmas.List.{append-nil, append_cancel_right}
 use Rattle.std.proofs.lemmas.Bool.{and_parts, not-true}
-use Rattle.lola_parser_grammars_law.specs.Syntax.{Lexeme, Terminal, fits, clash, clashes, apart, within, Syntax, Past, Token, Nesting, Whole, Known, Then, Map, Either, Maybe, Many, Fork, Repeats, Spells, starts, first, nullable, more, is_fine, Unexpected, TooDeep, Reader, max_nestings, repeated, read, Outcome, all_read, read_all, Begins, IsFirstMisfit, Refusal}
-use Rattle.lola_parser_grammars_law.proofs.Laws.{chosen, done_is}
-use Rattle.lola_parser_grammars_law.proofs.Complete.{and_three, choice_parts, known_parts, fork_is, complete}
-use Rattle.lola_parser_grammars_law.proofs.Viable.{bind_err}
-use Rattle.lola_parser_grammars_law.proofs.Refusal.{read_is_spelled, refused_at}
+use Rattle.lola_parser_grammar.specs.Syntax.{Lexeme, Terminal, fits, clash, clashes, apart, within, Syntax, Past, Token, Nesting, Whole, Known, Then, Map, Either, Maybe, Many, Fork, Repeats, Spells, starts, first, nullable, more, is_fine, Unexpected, TooDeep, Reader, max_nestings, repeated, read, Outcome, all_read, read_all, Begins, IsFirstMisfit, Refusal}
+use Rattle.lola_parser_grammar.proofs.Laws.{chosen, done_is}
+use Rattle.lola_parser_grammar.proofs.Complete.{and_three, choice_parts, known_parts, fork_is, complete}
+use Rattle.lola_parser_grammar.proofs.Viable.{bind_err}
+use Rattle.lola_parser_grammar.proofs.Refusal.{read_is_spelled, refused_at}
 use Rattle.lola_parser_limit_law.specs.Fronts.{IsLongestFront}
 
 unfoldable pub free : {A : Type 0} → Syntax A → Syntax A

@@ -3,13 +3,13 @@
 use Rattle.std.proofs.Common.{◌≡◌, ℕ, zero, suc, ◌+◌, ◌-◌, ◌≤◌, true, not, List, [], ◌∷◌, ◌++◌, length, Some, Ok, Err, refl, sym, ap, subst, ◌∙◌, append_assoc, arith, inl, inr, ◌⊎◌}
 use Rattle.std.proofs.lemmas.List.{append-nil, length-append, append_cancel_right}
 use Rattle.std.proofs.lemmas.Bool.{and_parts}
-use Rattle.lola_parser_grammars_law.specs.Syntax.{Lexeme, Terminal, fits, apart, within, Syntax, Past, Token, Nesting, Whole, Known, Then, Map, Either, Maybe, Many, Fork, charged, either_rest, last_nesting, Repeats, Spells, starts, first, nullable, more, is_fine, Unexpected, TooDeep, Reader, counted, max_nestings, repeated, read}
-use Rattle.lola_parser_grammars_law.specs.Nestings.{guards, nestings_in, tallies, is_counted}
-use Rattle.lola_parser_grammars_law.proofs.Laws.{chosen}
-use Rattle.lola_parser_grammars_law.proofs.Complete.{and_three, choice_parts, known_parts, fork_is}
-use Rattle.lola_parser_grammars_law.proofs.Viable.{sample, bind_err, viable}
-use Rattle.lola_parser_grammars_law.proofs.Within.{nestings-append}
-use Rattle.lola_parser_grammars_law.proofs.Over.{Counts, counts, fork_counted}
+use Rattle.lola_parser_grammar.specs.Syntax.{Lexeme, Terminal, fits, apart, within, Syntax, Past, Token, Nesting, Whole, Known, Then, Map, Either, Maybe, Many, Fork, charged, either_rest, last_nesting, Repeats, Spells, starts, first, nullable, more, is_fine, Unexpected, TooDeep, Reader, counted, max_nestings, repeated, read}
+use Rattle.lola_parser_grammar.specs.Nestings.{guards, nestings_in, tallies, is_counted}
+use Rattle.lola_parser_grammar.proofs.Laws.{chosen}
+use Rattle.lola_parser_grammar.proofs.Complete.{and_three, choice_parts, known_parts, fork_is}
+use Rattle.lola_parser_grammar.proofs.Viable.{sample, bind_err, viable}
+use Rattle.lola_parser_grammar.proofs.Within.{nestings-append}
+use Rattle.lola_parser_grammar.proofs.Over.{Counts, counts, fork_counted}
 use Rattle.lola_parser_limit_law.specs.Late.{IsNestingBehind}
 use Rattle.lola_parser_limit_law.proofs.Keeps.{Keeps, KeepsAmong, few_all, few_front, keeps_none, keeps_whole, keeps_then, keeps_left, keeps_right, keeps_map, keeps_some, keeps_nil, keeps_cons, keeps_list, keeps_bracket}
 use Rattle.lola_parser_limit_law.proofs.Kept.{IsKept, read_kept}

@@ -2,12 +2,12 @@
 use Rattle.std.proofs.Common.{◌≡◌, ℕ, suc, ◌+◌, ◌≤◌, ◌<◌, Bool, true, false, List, [], ◌∷◌, ◌++◌, length, Some, None, refl, sym, ap, subst, ◌∙◌, append_assoc, arith, inl, inr, ◌⊎◌}
 use Rattle.std.proofs.lemmas.List.{length-append, append_cancel_right}
 use Rattle.std.proofs.lemmas.Bool.{false_from_ne_true}
-use Rattle.lola_parser_grammars_law.specs.Syntax.{Lexeme, Terminal, any_fits, apart, Syntax, Past, Token, Nesting, Whole, Known, Then, Map, Either, Maybe, Many, Fork, Repeats, Spells, starts, first, nullable, more, is_fine}
-use Rattle.lola_parser_grammars_law.specs.Nestings.{is_nesting, nestings_in, one_if}
-use Rattle.lola_parser_grammars_law.specs.Exceeding.{ExceedsAmong}
-use Rattle.lola_parser_grammars_law.proofs.Tests.{apart_excludes}
-use Rattle.lola_parser_grammars_law.proofs.Complete.{begins, any_split, follows, tail_stops, repeats_begin, ForkParts, full_is, fork_follows}
-use Rattle.lola_parser_grammars_law.proofs.Within.{nestings-append}
+use Rattle.lola_parser_grammar.specs.Syntax.{Lexeme, Terminal, any_fits, apart, Syntax, Past, Token, Nesting, Whole, Known, Then, Map, Either, Maybe, Many, Fork, Repeats, Spells, starts, first, nullable, more, is_fine}
+use Rattle.lola_parser_grammar.specs.Nestings.{is_nesting, nestings_in, one_if}
+use Rattle.lola_parser_grammar.specs.Exceeding.{ExceedsAmong}
+use Rattle.lola_parser_grammar.proofs.Tests.{apart_excludes}
+use Rattle.lola_parser_grammar.proofs.Complete.{begins, any_split, follows, tail_stops, repeats_begin, ForkParts, full_is, fork_follows}
+use Rattle.lola_parser_grammar.proofs.Within.{nestings-append}
 use Rattle.lola_parser_limit_law.specs.Late.{IsNestingBehind}
 use Rattle.lola_parser_limit_law.proofs.Placed.{fronts}
 use Rattle.lola_parser_limit_law.proofs.Free.{unique}

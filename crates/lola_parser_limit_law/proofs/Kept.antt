@@ -2,11 +2,11 @@
 -- sentence in which none of these tokens is a nesting too many.
 use Rattle.std.proofs.Common.{◌≡◌, ℕ, zero, suc, ◌-◌, true, not, List, [], ◌∷◌, ◌++◌, length, Some, None, Ok, refl, sym, ap, subst, ◌∙◌, append_assoc, arith, inl, inr, ◌⊎◌}
 use Rattle.std.proofs.lemmas.Bool.{and_parts}
-use Rattle.lola_parser_grammars_law.specs.Syntax.{Lexeme, Terminal, apart, within, Syntax, Past, Token, Nesting, Whole, Known, Then, Map, Either, Maybe, Many, Fork, charged, either_rest, last_nesting, Repeats, Spells, starts, first, nullable, more, is_fine, Reader, max_nestings, repeated, read}
-use Rattle.lola_parser_grammars_law.specs.Nestings.{guards, nestings_in, tallies, is_counted}
-use Rattle.lola_parser_grammars_law.proofs.Laws.{chosen, done_is, bind_ok, sound}
-use Rattle.lola_parser_grammars_law.proofs.Complete.{and_three, choice_parts, known_parts, fork_is}
-use Rattle.lola_parser_grammars_law.proofs.Over.{counts, fork_counted}
+use Rattle.lola_parser_grammar.specs.Syntax.{Lexeme, Terminal, apart, within, Syntax, Past, Token, Nesting, Whole, Known, Then, Map, Either, Maybe, Many, Fork, charged, either_rest, last_nesting, Repeats, Spells, starts, first, nullable, more, is_fine, Reader, max_nestings, repeated, read}
+use Rattle.lola_parser_grammar.specs.Nestings.{guards, nestings_in, tallies, is_counted}
+use Rattle.lola_parser_grammar.proofs.Laws.{chosen, done_is, bind_ok, sound}
+use Rattle.lola_parser_grammar.proofs.Complete.{and_three, choice_parts, known_parts, fork_is}
+use Rattle.lola_parser_grammar.proofs.Over.{counts, fork_counted}
 use Rattle.lola_parser_limit_law.specs.Late.{IsNestingBehind}
 use Rattle.lola_parser_limit_law.proofs.Keeps.{Keeps, KeepsAmong, few_all, keeps_whole, keeps_then, keeps_left, keeps_right, keeps_map, keeps_some, keeps_nil, keeps_cons, keeps_list, keeps_bracket}
 

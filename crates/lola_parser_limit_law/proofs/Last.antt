@@ -2,8 +2,8 @@
 -- nesting before the last one is too many.
 use Rattle.std.proofs.Common.{◌≡◌, true, List, [], ◌∷◌, ◌++◌, length, Err, refl, sym, ap, subst, ◌∙◌, append_assoc, inl, inr, ◌⊎◌}
 use Rattle.std.proofs.lemmas.List.{append-nil, append_cancel_right}
-use Rattle.lola_parser_grammars_law.specs.Syntax.{Lexeme, Terminal, Syntax, Spells, is_fine, TooDeep, max_nestings, read, read_all}
-use Rattle.lola_parser_grammars_law.specs.Nestings.{is_counted}
+use Rattle.lola_parser_grammar.specs.Syntax.{Lexeme, Terminal, Syntax, Spells, is_fine, TooDeep, max_nestings, read, read_all}
+use Rattle.lola_parser_grammar.specs.Nestings.{is_counted}
 use Rattle.lola_parser_limit_law.specs.Late.{IsNextBehindBracket, NoneIsLate, IsFirstLate}
 use Rattle.lola_parser_limit_law.specs.Fronts.{IsLongestFront}
 use Rattle.lola_parser_limit_law.proofs.Opening.{forks_open}

@@ -1,7 +1,7 @@
 -- What holds of the grammar of specifications with enough levels.
 use Rattle.std.proofs.Common.{◌≡◌, ℕ, suc, ◌≤◌, true, arith}
-use Rattle.lola_parser_grammars_law.specs.Syntax.{max_nestings}
-use Rattle.lola_parser_grammars_law.specs.Nestings.{is_counted}
+use Rattle.lola_parser_grammar.specs.Syntax.{max_nestings}
+use Rattle.lola_parser_grammar.specs.Nestings.{is_counted}
 use Rattle.lola_parser_grammar.specs.Grammar.{specification, all_nestings}
 use Rattle.lola_parser_grammar.specs.Whole.{most_levels}
 use Rattle.lola_parser_grammar.proofs.Depth.{specification_counted}

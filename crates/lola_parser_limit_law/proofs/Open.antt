@@ -1,6 +1,6 @@
 -- In a specification, each token that may go an expression on behind a bracket begins some sentence.
 use Rattle.std.proofs.Common.{◌≡◌, ℕ, true, refl}
-use Rattle.lola_parser_grammars_law.specs.Syntax.{same_shape, first, nullable}
+use Rattle.lola_parser_grammar.specs.Syntax.{same_shape, first, nullable}
 use Rattle.lola_parser_grammar.specs.Grammar.{token, word, name, other_name, integer, text, quantity, word_literal, closed, typed, parameters, kind, clock, message, whole, whole_formula, whole_unbracketed, rhythm, pacing, part_behind, more_parts, one_part, forked, parts, with_parts, spawn, eval, close, short_eval, body, literal, inputs, constant, output, trigger, declaration, specification}
 use Rattle.lola_parser_limit_law.proofs.Opening.{is_open, forks_open}
 

@@ -2,9 +2,9 @@
 use Rattle.std.proofs.Common.{◌≡◌, Bool, true, false, not, ◌&&◌, ◌||◌, cond, List, [], ◌∷◌, ◌++◌, Some, refl, sym, ap, append_assoc, inl, inr, ◌⊎◌}
 use Rattle.std.proofs.lemmas.List.{append-nil}
 use Rattle.std.proofs.lemmas.Bool.{and_parts, or_cases, not-true}
-use Rattle.lola_parser_grammars_law.specs.Syntax.{Lexeme, Terminal, fits, any_fits, within, Syntax, Past, Token, Nesting, Whole, Known, Then, Map, Either, Maybe, Many, Fork, Spells, nullable, first}
-use Rattle.lola_parser_grammars_law.proofs.Tests.{within_fits}
-use Rattle.lola_parser_grammars_law.proofs.Viable.{sample}
+use Rattle.lola_parser_grammar.specs.Syntax.{Lexeme, Terminal, fits, any_fits, within, Syntax, Past, Token, Nesting, Whole, Known, Then, Map, Either, Maybe, Many, Fork, Spells, nullable, first}
+use Rattle.lola_parser_grammar.proofs.Tests.{within_fits}
+use Rattle.lola_parser_grammar.proofs.Viable.{sample}
 
 -- something that begins with these tokens
 abbrev pub Opens : {A : Type 0} → (List Lexeme → A → Type 0) → List Lexeme → Type 0

@@ -1,9 +1,9 @@
 -- The place at which a text is refused as too deep.
 use Rattle.std.proofs.Common.{◌≡◌, ℕ, zero, suc, ◌<◌, true, List, [], ◌∷◌, ◌++◌, length, Some, None, Err, refl, sym, ap, subst, ◌∙◌, append_assoc, arith, inl, inr, ◌⊎◌}
 use Rattle.std.proofs.lemmas.List.{length-append, append_cancel_right}
-use Rattle.lola_parser_grammars_law.specs.Syntax.{Lexeme, Terminal, Syntax, Past, Token, Nesting, Whole, Known, Then, Map, Either, Maybe, Many, Fork, Spells, is_fine, TooDeep, max_nestings, read_all}
-use Rattle.lola_parser_grammars_law.specs.Nestings.{is_counted}
-use Rattle.lola_parser_grammars_law.specs.Exceeding.{ExceedsAmong}
+use Rattle.lola_parser_grammar.specs.Syntax.{Lexeme, Terminal, Syntax, Past, Token, Nesting, Whole, Known, Then, Map, Either, Maybe, Many, Fork, Spells, is_fine, TooDeep, max_nestings, read_all}
+use Rattle.lola_parser_grammar.specs.Nestings.{is_counted}
+use Rattle.lola_parser_grammar.specs.Exceeding.{ExceedsAmong}
 use Rattle.lola_parser_limit_law.specs.Late.{IsNestingBehind, IsNextBehindBracket, IsLate, IsLateInEvery, IsFirstLate, IsDeepPlace, IsNextInEvery, HasNoNext}
 use Rattle.lola_parser_limit_law.specs.Fronts.{IsLongestFront}
 use Rattle.lola_parser_limit_law.proofs.Opening.{forks_open}

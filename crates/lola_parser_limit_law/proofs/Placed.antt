@@ -1,7 +1,7 @@
 -- What decides that reading is too deep stands before the first token that does not fit.
 use Rattle.std.proofs.Common.{◌≡◌, true, List, [], ◌∷◌, ◌++◌, Ok, Err, refl, sym, ap, subst, ◌∙◌, append_assoc, inl, inr, ◌⊎◌}
-use Rattle.lola_parser_grammars_law.specs.Syntax.{Lexeme, Terminal, Syntax, Spells, is_fine, Unexpected, TooDeep, Outcome, max_nestings, read, all_read, read_all, Begins}
-use Rattle.lola_parser_grammars_law.specs.Nestings.{is_counted}
+use Rattle.lola_parser_grammar.specs.Syntax.{Lexeme, Terminal, Syntax, Spells, is_fine, Unexpected, TooDeep, Outcome, max_nestings, read, all_read, read_all, Begins}
+use Rattle.lola_parser_grammar.specs.Nestings.{is_counted}
 use Rattle.lola_parser_limit_law.specs.Fronts.{EndsThere, IsLongestFront}
 use Rattle.lola_parser_limit_law.proofs.Opening.{forks_open}
 use Rattle.lola_parser_limit_law.proofs.Decided.{IsDecided, decided}

@@ -1,6 +1,6 @@
 -- The tokens before the first that does not fit.
 use Rattle.std.specs.Prelude.{◌≡◌, List, [], ◌∷◌, ◌++◌}
-use Rattle.lola_parser_grammars_law.specs.Syntax.{Lexeme, Syntax, Begins}
+use Rattle.lola_parser_grammar.specs.Syntax.{Lexeme, Syntax, Begins}
 
 -- no sentence begins with p and the token behind it
 abbrev pub EndsThere : {A : Type 0} → Syntax A → List Lexeme → List Lexeme → Type 0

@@ -1,8 +1,8 @@
 -- Which nesting of its whole expression a token is.
 use Rattle.std.specs.Prelude.{◌≡◌, ℕ, suc, ◌+◌, ◌≤◌, ◌<◌, true, List, ◌∷◌, ◌++◌, length, ◌⊎◌}
-use Rattle.lola_parser_grammars_law.specs.Syntax.{Lexeme, Terminal, Syntax, Past, Token, Nesting, Whole, Known, Then, Map, Either, Maybe, Many, Fork, Spells, max_nestings}
-use Rattle.lola_parser_grammars_law.specs.Nestings.{is_nesting, nestings_in}
-use Rattle.lola_parser_grammars_law.specs.Exceeding.{ExceedsAmong, ExceedsIfSome}
+use Rattle.lola_parser_grammar.specs.Syntax.{Lexeme, Terminal, Syntax, Past, Token, Nesting, Whole, Known, Then, Map, Either, Maybe, Many, Fork, Spells, max_nestings}
+use Rattle.lola_parser_grammar.specs.Nestings.{is_nesting, nestings_in}
+use Rattle.lola_parser_grammar.specs.Exceeding.{ExceedsAmong, ExceedsIfSome}
 
 module _ (nestings : List Terminal) where
   module _ (k : ℕ) where

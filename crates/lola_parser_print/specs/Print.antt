@@ -35,7 +35,7 @@ use Rattle.lola_parser_tree.specs.declared.declarations.Output.{Output}
 use Rattle.lola_parser_tree.specs.declared.declarations.Trigger.{Trigger}
 use Rattle.lola_parser_tree.specs.declared.declarations.Declaration.{Declaration}
 use Rattle.lola_parser_tree.specs.declared.declarations.Declaration.TheVariants as d
-use Rattle.lola_parser_grammars_law.specs.Syntax.{Lexeme}
+use Rattle.lola_parser_grammar.specs.Syntax.{Lexeme}
 
 -- ---- tokens
 

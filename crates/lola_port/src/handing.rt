@@ -7,8 +7,8 @@
 
 use crate::ReadFailed;
 use crate::bell::Bell;
-use lola_port_bytes::line::Line;
-use lola_port_bytes::piece::{Piece, ROOM};
+use crate::line::Line;
+use crate::piece::{Piece, ROOM};
 use std::alloc::Global;
 use std::fs::File;
 use std::io::Read;

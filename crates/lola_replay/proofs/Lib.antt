@@ -16,3 +16,4 @@ pub mod EndingLemmas
 pub mod WrittenLemmas
 pub mod BeginningLemmas
 pub mod FindingLemmas
+pub mod Parts

@@ -11,3 +11,4 @@ pub mod Tracked
 pub mod Running
 pub mod EndLines
 pub mod Ending
+pub mod ReplayEnds

@@ -1,4 +1,4 @@
-//! Checks a finished run by a second, plainer evaluator: whether a trace and verdicts are those of one run.
+//! Checks a finished run by a second, plainer evaluator: whether a trace and verdicts are those of one run; and the end line that tells it.
 //!
 //! The evaluator follows the definition of the model: what a clause comes to is asked for on demand, of what is known of the step so
 //! far, and nothing of the engine that runs monitors is used.
@@ -8,6 +8,7 @@
 #![tactic(auto)]
 
 pub mod compare;
+pub mod end;
 pub mod ending;
 pub mod entries;
 pub mod finding;

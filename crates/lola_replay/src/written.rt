@@ -13,7 +13,7 @@ ghost use Rattle.lola_replay.specs.Progressing.{the_run_fault};
 use crate::progress::{Course, Fault};
 use lola_model::source::MalformedKind;
 use lola_report_lines::end::{EndLine, end_line};
-use lola_rows_csv::numbers::number;
+use lola_rows::numbers::number;
 use lola_value::numbers::number_text;
 use lola_value::text::{Memory, Text};
 use lola_value::value::Kind;

@@ -12,8 +12,8 @@ use Rattle.std.proofs.lemmas.List.Elements.{Contains-append_left, Contains-appen
 use Rattle.lola_model.proofs.Strictly.{Contains-cases, Contains-none}
 use Rattle.lola_value.specs.Times.{is_digit, is_point}
 use Rattle.lola_report_lines.proofs.Mild.{Mild, is_mild}
-use Rattle.lola_rows_csv.specs.Line.{ends_line, has_line_end}
-use Rattle.lola_rows_csv.proofs.LineFacts.{any-at}
+use Rattle.lola_rows.specs.Line.{ends_line, has_line_end}
+use Rattle.lola_rows.proofs.LineFacts.{any-at}
 use Rattle.lola_report.specs.Journals.{is_lf}
 
 digit-range : (b : ℕ) → is_digit b ≡ true → (48 ≤ b) × (b ≤ 57)

@@ -14,7 +14,7 @@ use Rattle.lola_value.specs.Numbers.{integer_text}
 use Rattle.lola_value.specs.Times.{is_digit, is_point, is_time, latest, nanoseconds, nine_digits, number_after, number_of, read_time, time_text, up_to_latest}
 use Rattle.lola_value.proofs.Printing.{nine_at_most}
 use Rattle.lola_value.proofs.Ranges.{small}
-use Rattle.lola_rows_csv.specs.Values.{and_then, in_range, read_digits, read_integer, read_number}
+use Rattle.lola_rows.specs.Values.{and_then, in_range, read_digits, read_integer, read_number}
 use Rattle.lola_report.specs.Candidates.{natural, read_natural}
 use Rattle.lola_report.proofs.Bytes.{digits-no-point, first-after, first-before}
 

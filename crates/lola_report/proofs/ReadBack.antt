@@ -22,9 +22,9 @@ use Rattle.lola_model.specs.declared.journal.Mark.TheVariants as mark
 use Rattle.lola_model.specs.declared.plan.Plan.{Plan}
 use Rattle.lola_model.specs.Trace.{IsFieldOf, IsMarkInTime, IsTraceable, IsTraceableText, entry_fields, field_bytes, input_kinds, mark_text, trace_line}
 use Rattle.lola_model.proofs.Lookups.{bytes_equal-true}
-use Rattle.lola_rows_csv.specs.Line.{fields_of_line, has_line_end}
-use Rattle.lola_rows_csv.specs.Values.{and_then, in_range, read_number}
-use Rattle.lola_rows_csv.specs.Values as csv
+use Rattle.lola_rows.specs.Line.{fields_of_line, has_line_end}
+use Rattle.lola_rows.specs.Values.{and_then, in_range, read_number}
+use Rattle.lola_rows.specs.Values as csv
 use Rattle.lola_report.specs.declared.candidate.Head.{Head}
 use Rattle.lola_report.specs.Candidates.{candidate_of, entry_with, is_field_text, natural, read_entry, read_field, read_fields, read_head, read_integer, read_mark, read_natural, read_text, text_at}
 use Rattle.lola_report.proofs.Bytes.{absent-from, line-no-cr, line-no-lf}

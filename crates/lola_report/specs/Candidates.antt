@@ -11,8 +11,8 @@ use Rattle.lola_value.specs.Times.{read_time}
 use Rattle.lola_model.specs.declared.journal.Entry.{Entry}
 use Rattle.lola_model.specs.declared.journal.Mark.{Mark}
 use Rattle.lola_model.specs.declared.journal.Mark.TheVariants as mark
-use Rattle.lola_rows_csv.specs.Line.{fields_of_line, has_line_end}
-use Rattle.lola_rows_csv.specs.Values.{and_then, read_number}
+use Rattle.lola_rows.specs.Line.{fields_of_line, has_line_end}
+use Rattle.lola_rows.specs.Values.{and_then, read_number}
 use Rattle.lola_report.specs.declared.candidate.Head.{Head}
 
 -- the field at a place, and an empty one behind the last

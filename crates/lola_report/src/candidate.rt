@@ -11,8 +11,8 @@ ghost use Rattle.lola_report.specs.Candidates.{is_field_text, read_entry, read_f
 
 use csv::ByteRecord;
 use lola_model::journal::{Entry, Mark, Row};
-use lola_rows_csv::line::has_line_end;
-use lola_rows_csv::numbers::number;
+use lola_rows::line::has_line_end;
+use lola_rows::numbers::number;
 use lola_value::text::{Field, Fields, Memory, Text};
 use lola_value::times::time_read;
 use lola_value::value::Kind;

@@ -10,7 +10,7 @@ use crate::candidate::entry;
 use csv::ByteRecord;
 use lola_model::journal::Entry;
 use lola_report_lines::trace::trace_line;
-use lola_rows_csv::line::{has_line_end, read_line};
+use lola_rows::line::{has_line_end, read_line};
 use lola_value::text::{Memory, Text};
 use lola_value::value::Kind;
 use std::alloc::Global;

@@ -17,12 +17,12 @@ use Rattle.lola_model.specs.Trace.{IsFieldOf, IsTraceableText}
 use Rattle.lola_model.specs.declared.journal.Row.{Row}
 use Rattle.lola_model.specs.declared.source.MalformedKind.{MalformedKind}
 use Rattle.lola_model.specs.declared.source.MalformedKind.TheVariants as malformed
-use Rattle.lola_rows_csv.specs.Blanks.{trimmed}
-use Rattle.lola_rows_csv.specs.Line.{begins_with_mark, ends_line, fields_of_line, has_line_end}
-use Rattle.lola_rows_csv.specs.Values.{and_then, in_range, is_absent, read_integer, read_number, read_plain, read_truth, read_value}
-use Rattle.lola_rows_csv.proofs.LineFacts.{any-at}
-use Rattle.lola_rows_csv.proofs.CleanFacts.{AreWithin, fields-of-line-within}
-use Rattle.lola_rows_csv.proofs.Utf8Facts.{AreTexts, fields-are-texts}
+use Rattle.lola_rows.specs.Blanks.{trimmed}
+use Rattle.lola_rows.specs.Line.{begins_with_mark, ends_line, fields_of_line, has_line_end}
+use Rattle.lola_rows.specs.Values.{and_then, in_range, is_absent, read_integer, read_number, read_plain, read_truth, read_value}
+use Rattle.lola_rows.proofs.LineFacts.{any-at}
+use Rattle.lola_rows.proofs.CleanFacts.{AreWithin, fields-of-line-within}
+use Rattle.lola_rows.proofs.Utf8Facts.{AreTexts, fields-are-texts}
 use Rattle.lola_rows.specs.Lines.{Line, is_line_end}
 use Rattle.lola_rows.specs.Columns.{Columns, column_of, columns_of, is_time_name, is_twice, titles_of}
 use Rattle.lola_rows.specs.declared.columns.Input.{Input}

@@ -6,3 +6,10 @@ pub mod RowFacts
 pub mod FitFacts
 pub mod Readers
 pub mod Composing
+pub mod LineFacts
+pub mod CleanFacts
+pub mod BlankFacts
+pub mod NumeralFacts
+pub mod ValueFacts
+pub mod Utf8Facts
+pub mod Searches

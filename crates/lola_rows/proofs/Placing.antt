@@ -7,7 +7,7 @@ use Rattle.csv.specs.Records.{field_at}
 use Rattle.lola_value.specs.Arithmetic.{bytes_equal}
 use Rattle.lola_model.specs.declared.source.MalformedKind.{MalformedKind}
 use Rattle.lola_model.specs.declared.source.MalformedKind.TheVariants as malformed
-use Rattle.lola_rows_csv.specs.Blanks.{trimmed}
+use Rattle.lola_rows.specs.Blanks.{trimmed}
 use Rattle.lola_rows.specs.Columns.{column_of, columns_in, is_time_name, is_twice}
 use Rattle.lola_rows.specs.Places.{after_title, column_made, columns_made, places_from, places_in, title_at}
 use Rattle.lola_rows.specs.Rows.{or_else_flaw, then_value}

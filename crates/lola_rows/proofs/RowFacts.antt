@@ -12,9 +12,9 @@ use Rattle.lola_value.specs.declared.text.Memory.{Memory}
 use Rattle.lola_value.specs.declared.value.Kind.{Kind}
 use Rattle.lola_value.specs.Times.{read_time}
 use Rattle.lola_model.specs.declared.source.MalformedKind.{MalformedKind}
-use Rattle.lola_rows_csv.specs.Blanks.{trimmed}
-use Rattle.lola_rows_csv.specs.Values.{and_then, read_value}
-use Rattle.lola_rows_csv.specs.Line.{has_line_end}
+use Rattle.lola_rows.specs.Blanks.{trimmed}
+use Rattle.lola_rows.specs.Values.{and_then, read_value}
+use Rattle.lola_rows.specs.Line.{has_line_end}
 use Rattle.lola_rows.specs.Steps.{Pushes, Tells}
 use Rattle.lola_rows.specs.Lines.{Line, is_line_end, is_return, longest_line}
 use Rattle.lola_rows.specs.Rows.{flaw_of_line, time_of, value_at, value_of, values_of}

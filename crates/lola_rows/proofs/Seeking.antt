@@ -4,7 +4,7 @@ use Rattle.std.specs.List.{list_any}
 use Rattle.std.specs.Io.KnownBytes.{IsAtEnd, prepend_known}
 use Rattle.std.proofs.lemmas.Bool.{cases_Bool, eq-eqb, eqb-true, ne_eqb}
 use Rattle.std.proofs.lemmas.List.{append-nil, length-drop, length-take-le, take-take, take_all, drop_all}
-use Rattle.lola_rows_csv.proofs.LineFacts.{any-take}
+use Rattle.lola_rows.proofs.LineFacts.{any-take}
 use Rattle.lola_port.specs.States.{ReadBroke, Rose, SourceState}
 use Rattle.lola_rows.specs.Filling.{BeginsTooLong, Brought, Failed, Finds, IsFront, LastFound, Lost, Sought}
 use Rattle.lola_rows.specs.Lines.{Line, ended_line, is_empty, is_line_end, is_return, last_line, line_before, lines_between, lines_of, longest_line, without_return}

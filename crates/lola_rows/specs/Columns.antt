@@ -6,8 +6,8 @@ use Rattle.lola_model.specs.Model.{is_input, filled_kind}
 use Rattle.lola_model.specs.declared.spec.Stream.{Stream}
 use Rattle.lola_rows.specs.declared.columns.Column.{Column}
 use Rattle.lola_rows.specs.declared.columns.Input.{Input}
-use Rattle.lola_rows_csv.specs.Blanks.{trimmed}
-use Rattle.lola_rows_csv.specs.Line.{begins_with_mark, fields_of_line}
+use Rattle.lola_rows.specs.Blanks.{trimmed}
+use Rattle.lola_rows.specs.Line.{begins_with_mark, fields_of_line}
 
 -- the inputs among streams, in order
 abbrev pub inputs_of : List Stream → List Input

@@ -6,3 +6,6 @@ pub mod Window
 pub mod Filling
 pub mod Steps
 pub mod Places
+pub mod Line
+pub mod Blanks
+pub mod Values

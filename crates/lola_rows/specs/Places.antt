@@ -4,7 +4,7 @@ use Rattle.csv.specs.Records.{field_at}
 use Rattle.lola_value.specs.Arithmetic.{bytes_equal}
 use Rattle.lola_model.specs.declared.source.MalformedKind.{MalformedKind}
 use Rattle.lola_model.specs.declared.source.MalformedKind.TheVariants as malformed
-use Rattle.lola_rows_csv.specs.Blanks.{trimmed}
+use Rattle.lola_rows.specs.Blanks.{trimmed}
 use Rattle.lola_rows.specs.Columns.{Columns, column_of, is_time_name, is_twice}
 use Rattle.lola_rows.specs.declared.columns.Column.{Column}
 use Rattle.lola_rows.specs.declared.columns.Input.{Input}

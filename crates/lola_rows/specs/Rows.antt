@@ -9,9 +9,9 @@ use Rattle.lola_value.specs.Times.{read_time}
 use Rattle.lola_model.specs.declared.journal.Row.{Row}
 use Rattle.lola_model.specs.declared.source.MalformedKind.{MalformedKind}
 use Rattle.lola_model.specs.declared.source.MalformedKind.TheVariants as malformed
-use Rattle.lola_rows_csv.specs.Blanks.{trimmed}
-use Rattle.lola_rows_csv.specs.Line.{begins_with_mark, fields_of_line}
-use Rattle.lola_rows_csv.specs.Values.{and_then, read_value}
+use Rattle.lola_rows.specs.Blanks.{trimmed}
+use Rattle.lola_rows.specs.Line.{begins_with_mark, fields_of_line}
+use Rattle.lola_rows.specs.Values.{and_then, read_value}
 use Rattle.lola_rows.specs.Columns.{Columns, columns_of}
 use Rattle.lola_rows.specs.declared.columns.Column.{Column}
 use Rattle.lola_rows.specs.declared.columns.Input.{Input}

@@ -2,7 +2,7 @@
 ghost use Rattle.std.specs.Prelude.{◌≡◌};
 ghost use Rattle.std.specs.List.{list_any};
 ghost use Rattle.std.specs.Str.{is_utf8};
-ghost use Rattle.lola_rows_csv.specs.Line.{begins_with_mark};
+ghost use Rattle.lola_rows.specs.Line.{begins_with_mark};
 ghost use Rattle.lola_rows.specs.Lines.{is_return};
 ghost use Rattle.lola_rows.specs.Rows.{flaw_of_line};
 ghost use Rattle.lola_rows.specs.Steps.{Tells};

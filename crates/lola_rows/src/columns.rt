@@ -1,18 +1,18 @@
 //! Which fields of a source's rows give its times and its inputs, as the heading tells.
 ghost use Rattle.std.specs.Prelude.{◌≡◌, ◌++◌, ◌∷◌, [], map, IfOk, OnOk};
 ghost use Rattle.csv.specs.Records.{fields_of};
-ghost use Rattle.lola_rows_csv.specs.Blanks.{trimmed};
+ghost use Rattle.lola_rows.specs.Blanks.{trimmed};
 ghost use Rattle.lola_rows.specs.Columns.{columns_in, inputs_of, is_time_name};
 ghost use Rattle.lola_rows.specs.Places.{after_title, column_made, columns_made, is_wanted, layout_columns, places_in, title_at};
 ghost use Rattle.lola_rows.specs.Rows.{or_else_flaw};
 ghost use Rattle.lola_rows.specs.Steps.{Makes};
 ghost use Rattle.lola_model.specs.declared.source.MalformedKind.TheVariants as malformed;
 
+use crate::blanks::trim;
 use crate::flaw::Flaw;
 use csv::ByteRecord;
 use lola_model::source::MalformedKind;
 use lola_model::spec::{Sort, Stream};
-use lola_rows_csv::blanks::trim;
 use lola_value::text::{Memory, Text};
 use lola_value::value::Kind;
 use std::alloc::Global;

@@ -2,21 +2,21 @@
 ghost use Rattle.std.specs.Prelude.{◌≡◌, false, slice_get, IfOk, OnOk, option_map};
 ghost use Rattle.std.specs.List.{list_any};
 ghost use Rattle.csv.specs.Records.{fields_of};
-ghost use Rattle.lola_rows_csv.specs.Line.{fields_of_line, has_line_end};
+ghost use Rattle.lola_rows.specs.Line.{fields_of_line, has_line_end};
 ghost use Rattle.lola_rows.specs.Lines.{is_line_end};
 ghost use Rattle.lola_rows.specs.Places.{layout_columns};
 ghost use Rattle.lola_rows.specs.Rows.{columns_of_line, row_of_fields, row_of_line, time_of, value_at, value_of, values_of};
 ghost use Rattle.lola_rows.specs.Steps.{Makes, Pushes};
 
+use crate::blanks::trim;
 use crate::checks::{begins_with_mark, check_line};
 use crate::columns::{Column, Input, Layout, read_layout};
 use crate::flaw::Flaw;
+use crate::line::read_line;
+use crate::values::value;
 use csv::ByteRecord;
 use lola_model::journal::Row;
 use lola_model::source::MalformedKind;
-use lola_rows_csv::blanks::trim;
-use lola_rows_csv::line::read_line;
-use lola_rows_csv::values::value;
 use lola_value::text::{Field, Fields, Memory};
 use lola_value::times::time_read;
 use lola_value::value::Kind;

@@ -24,7 +24,7 @@ use Rattle.lola_model.specs.declared.spec.Clause.{Clause}
 use Rattle.lola_model.specs.declared.spec.Sort.{Sort}
 use Rattle.lola_model.specs.declared.spec.Sort.TheVariants as sort
 use Rattle.lola_model.specs.declared.spec.Stream.{Stream}
-use Rattle.lola_step_law.proofs.Shapes.{passes_at}
+use Rattle.lola_step_contents.proofs.Shapes.{passes_at}
 use Rattle.lola_save_text.specs.Fitting.{are_values}
 use Rattle.lola_save_law.proofs.Seen.{is_answer, IsContentOf}
 use Rattle.lola_save_law.proofs.ClauseKinds.{IsNaming, eval-outcome-is, spawn-outcome-is}

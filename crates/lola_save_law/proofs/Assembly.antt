@@ -29,7 +29,7 @@ use Rattle.lola_save_law.specs.PaneFolds.{panes_of}
 use Rattle.lola_save_law.specs.JournalStates.{last_values, saved_life, saved_streams}
 use Rattle.lola_save_law.proofs.Crowds.{AreBehind, AreInLine, AreBornBefore, IsCrowd}
 use Rattle.lola_save_law.proofs.KindedRows.{AreInstancesOf, IsTableOf, few-since, values-since}
-use Rattle.lola_save_law.proofs.Panes.{AreTimedValues, panes-right}
+use Rattle.lola_save_law.proofs.PanesOfLives.{AreTimedValues, panes-right}
 use Rattle.lola_save_law.proofs.Seen.{AreOfKind}
 use Rattle.lola_save_law.proofs.StepTimes.{AreTimed, AreUpTo, time-between, times-rise}
 

@@ -27,7 +27,7 @@ use Rattle.lola_model.specs.declared.spec.Sort.TheVariants as sort
 use Rattle.lola_model.specs.declared.spec.Spec.{Spec}
 use Rattle.lola_model.specs.declared.spec.Stream.{Stream}
 use Rattle.lola_model.proofs.Strictly.{Contains-cases, Contains-none}
-use Rattle.lola_step_law.proofs.Among.{IsAmong, whole, among_first, among_others, among_one, of_eval, of_spawn, of_streams}
+use Rattle.lola_step_contents.proofs.Among.{IsAmong, whole, among_first, among_others, among_one, of_eval, of_spawn, of_streams}
 use Rattle.lola_save_text.specs.Fitting.{are_values}
 use Rattle.lola_save_law.proofs.Seen.{is_answer, IsContentOf}
 use Rattle.lola_save_law.proofs.Typed.{AreTexts, den-is, moved}

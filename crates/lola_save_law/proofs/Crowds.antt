@@ -16,7 +16,7 @@ use Rattle.lola_model.specs.declared.spec.Clause.{Clause}
 use Rattle.lola_model.specs.declared.spec.Spec.{Spec}
 use Rattle.lola_model.specs.declared.spec.Stream.{Stream}
 use Rattle.lola_model.proofs.Growth.{last_row-append}
-use Rattle.lola_step_law.proofs.Shapes.{passes_at, never_closes}
+use Rattle.lola_step_contents.proofs.Shapes.{passes_at, never_closes}
 
 -- one instance behind another: not born before it, and of other parameters
 pub record IsBehind (i j : Instance) : Type 0 where

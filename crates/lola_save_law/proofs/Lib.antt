@@ -1,6 +1,6 @@
 pub mod Ranged
 pub mod PaneSums
-pub mod Panes
+pub mod PanesOfLives
 pub mod Seen
 pub mod Typed
 pub mod ClauseKinds
@@ -14,3 +14,10 @@ pub mod Saved
 pub mod WorkedStates
 pub mod StartOptions
 pub mod WorkedTexts
+pub mod SamePanes
+pub mod LastTimes
+pub mod Values
+pub mod Standing
+pub mod Restoring
+pub mod FirstStates
+pub mod WorkedStores

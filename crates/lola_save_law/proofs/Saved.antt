@@ -21,7 +21,7 @@ use Rattle.lola_model.specs.declared.journal.Row.{Row}
 use Rattle.lola_model.specs.declared.plan.Plan.{Plan}
 use Rattle.lola_model.proofs.RunModels.{has_models_of_runs}
 use Rattle.lola_model.proofs.StepsInOrder.{legal_do_not_fall}
-use Rattle.lola_step_law.proofs.Shapes.{passes_at}
+use Rattle.lola_step_contents.proofs.Shapes.{passes_at}
 use Rattle.lola_model.specs.Named.{is_well_shaped}
 use Rattle.lola_save_text.specs.declared.state.Times.{Times}
 use Rattle.lola_save_text.specs.Fitting.{time_or, is_start, is_last}

@@ -1,6 +1,6 @@
 -- The forms of a plan's streams do not depend on their pacings.
 use Rattle.std.proofs.Common.{◌≡◌, ◌∷◌, ℕ, ◌+◌, List, [], drop, refl, ap}
-use Rattle.std.specs.Prelude.{Some, None, true, false, slice_get, unwrap_or}
+use Rattle.std.specs.Prelude.{slice_get, unwrap_or}
 use Rattle.lola_model.specs.Store.{layouts_from}
 use Rattle.lola_model.specs.declared.pacing.ClausePacings.{ClausePacings}
 use Rattle.lola_model.specs.declared.plan.Plan.{Plan}

@@ -1,10 +1,8 @@
 -- What of a plan its states depend on.
-use Rattle.std.specs.Prelude.{ℕ, ◌≡◌, ◌+◌, ◌≤◌, List, [], ◌∷◌, ◌++◌, Bool, true, false, Option, Some, None, drop, if◌then◌else◌, nat_eq, slice_get, unwrap_or}
-use Rattle.lola_value.specs.declared.value.Kind.{Kind}
+use Rattle.std.specs.Prelude.{ℕ, ◌≡◌, ◌+◌, ◌≤◌, List, [], ◌∷◌, ◌++◌, true, false, Some, None, drop, if◌then◌else◌, nat_eq, slice_get, unwrap_or}
 use Rattle.lola_model.specs.Store.{StreamLayout, layout_of}
 use Rattle.lola_model.specs.declared.plan.PaneSize.{PaneSize}
 use Rattle.lola_model.specs.declared.plan.Plan.{Plan}
-use Rattle.lola_model.specs.declared.spec.Agg.{Agg}
 use Rattle.lola_model.specs.declared.spec.WindowSpec.{WindowSpec}
 use Rattle.lola_model.specs.declared.spec.Stream.{Stream}
 use Rattle.lola_model.specs.Model.{filled_kind}

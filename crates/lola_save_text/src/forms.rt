@@ -1,14 +1,14 @@
 //! What of a plan its states depend on: for each stream its kinds, how many values are kept, and the windows onto it.
 
-ghost use Rattle.std.specs.Prelude.{◌≡◌, ◌++◌, ◌+◌, [], ◌∷◌, IfOk, OnOk, OnErr, drop, slice_get, unwrap_or};
+ghost use Rattle.std.specs.Prelude.{◌≡◌, ◌++◌, ◌+◌, [], IfOk, OnOk, drop, slice_get, unwrap_or};
 ghost use Rattle.lola_save_text.specs.Forms.{first_size, form_with, forms_of, one_onto, windows_onto};
 
 use lola_model::plan::{PaneSize, Plan};
 use lola_model::spec::{Agg, Kinds, Stream, WindowSpec};
+use lola_value::list::ListOf;
 use lola_value::text::Memory;
 use lola_value::value::Kind;
 use std::alloc::Global;
-use std::marker::Model;
 
 /// A window onto a stream.
 #[derive(Clone, Copy, Debug)]
@@ -24,46 +24,7 @@ pub struct WindowForm {
 }
 
 /// The windows onto a stream, in their order.
-#[derive(Drop)]
-pub struct WindowForms {
-    items: Vec<WindowForm>,
-}
-
-impl Model for WindowForms {
-    ghost use Rattle.std.specs.Prelude.{List};
-    ghost use Rattle.lola_save_text.specs.declared.forms.WindowForm.{WindowForm};
-
-    ghost Value = { List WindowForm };
-
-    ghost view = { λ a. a.items.items };
-}
-
-impl WindowForms {
-    /// None.
-    pub fn create(alloc: Global) -> WindowForms
-        ensures { result ≡ [] }
-    {
-        WindowForms {
-            items: Vec::new(alloc),
-        }
-    }
-
-    /// Puts a window behind the others; unchanged where there is no memory.
-    pub fn push(&mut self, item: WindowForm) -> Result<(), Memory>
-        ensures ok { OnOk result (self.new ≡ self.old ++ item ∷ []) }
-        ensures err { OnErr result (self.new ≡ self.old) }
-    {
-        self.items.push(item)?;
-        Ok(())
-    }
-
-    /// All of them, in order.
-    pub fn as_slice(&self) -> &[WindowForm]
-        ensures { result.now ≡ self.now }
-    {
-        self.items.as_slice()
-    }
-}
+pub type WindowForms = ListOf<WindowForm>;
 
 /// A stream.
 #[derive(Drop)]
@@ -81,46 +42,7 @@ pub struct StreamForm {
 }
 
 /// The streams of a plan, in their order.
-#[derive(Drop)]
-pub struct StreamForms {
-    items: Vec<StreamForm>,
-}
-
-impl Model for StreamForms {
-    ghost use Rattle.std.specs.Prelude.{List};
-    ghost use Rattle.lola_save_text.specs.declared.forms.StreamForm.{StreamForm};
-
-    ghost Value = { List StreamForm };
-
-    ghost view = { λ a. a.items.items };
-}
-
-impl StreamForms {
-    /// None.
-    pub fn create(alloc: Global) -> StreamForms
-        ensures { result ≡ [] }
-    {
-        StreamForms {
-            items: Vec::new(alloc),
-        }
-    }
-
-    /// Puts a stream behind the others; unchanged where there is no memory.
-    pub fn push(&mut self, item: StreamForm) -> Result<(), Memory>
-        ensures ok { OnOk result (self.new ≡ self.old ++ item ∷ []) }
-        ensures err { OnErr result (self.new ≡ self.old) }
-    {
-        self.items.push(item)?;
-        Ok(())
-    }
-
-    /// All of them, in order.
-    pub fn as_slice(&self) -> &[StreamForm]
-        ensures { result.now ≡ self.now }
-    {
-        self.items.as_slice()
-    }
-}
+pub type StreamForms = ListOf<StreamForm>;
 
 // The panes of the first of some windows.
 fn first_size(sizes: &[PaneSize]) -> PaneSize

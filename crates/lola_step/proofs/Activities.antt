@@ -8,8 +8,8 @@ use Rattle.lola_model.specs.Table.{Step}
 use Rattle.lola_model.specs.declared.pacing.Pacing.{Pacing}
 use Rattle.lola_model.specs.declared.pacing.Pacing.TheVariants.{Event, Periodic, Local}
 use Rattle.lola_model.specs.declared.plan.Plan.{Plan}
-use Rattle.lola_step_law.specs.Ready.{IsAtStep}
-use Rattle.lola_step_law.specs.Stages.{Stage}
+use Rattle.lola_step_contents.specs.Ready.{IsAtStep}
+use Rattle.lola_step_contents.specs.Stages.{Stage}
 use Rattle.lola_step.specs.Moments.{IsMoment, active_at, active_for_in, active_in, may_be_active_in}
 use Rattle.lola_step.specs.Progress.{GoesOn, IsAt, IsMomentOf}
 use Rattle.lola_step.specs.declared.moment.Moment.{Moment}

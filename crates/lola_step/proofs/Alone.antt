@@ -20,7 +20,7 @@ use Rattle.lola_model.specs.declared.spec.Clause.{Clause}
 use Rattle.lola_model.specs.declared.store.Whereabouts.{Whereabouts}
 use Rattle.lola_model.specs.declared.store.Whereabouts.TheVariants.{At}
 use Rattle.lola_expr.specs.Evaluation.{Sees}
-use Rattle.lola_step_law.specs.Ends.{Place, add_place}
+use Rattle.lola_step_contents.specs.Ends.{Place, add_place}
 use Rattle.lola_step.specs.Clauses.{IsAnswer, closing_answer}
 use Rattle.lola_step.specs.Closings.{FindsAmong, MayAskClosing, closed_by, condition_of, least_condition, places_true}
 use Rattle.lola_step.specs.Found as found

@@ -19,7 +19,7 @@ use Rattle.lola_model.specs.declared.plan.Plan.{Plan}
 use Rattle.lola_model.specs.declared.spec.Spec.{Spec}
 use Rattle.lola_expr.specs.Evaluation.{IsDenoted, is_named, is_no_value}
 use Rattle.lola_expr.proofs.OperandLemmas.{first, second}
-use Rattle.lola_step_law.specs.Ready.{AreAskable, HasTexts}
+use Rattle.lola_step_contents.specs.Ready.{AreAskable, HasTexts}
 use Rattle.lola_step.specs.Clauses.{AreExpressions, IsAnswer}
 
 -- the first of some expressions is the answer

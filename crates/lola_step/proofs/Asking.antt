@@ -13,9 +13,9 @@ use Rattle.lola_model.specs.declared.plan.Plan.{Plan}
 use Rattle.lola_model.specs.declared.spec.Clause.{Clause}
 use Rattle.lola_model.specs.declared.spec.Stream.{Stream}
 use Rattle.lola_model.proofs.LocalsSpawn.{locals_spawn}
-use Rattle.lola_step_law.specs.Ready.{IsAtStep}
-use Rattle.lola_step_law.proofs.Clauses.{close_may_ask}
-use Rattle.lola_step_law.proofs.Shapes.{never_closes, passes_at}
+use Rattle.lola_step_contents.specs.Ready.{IsAtStep}
+use Rattle.lola_step_contents.proofs.Clauses.{close_may_ask}
+use Rattle.lola_step_contents.proofs.Shapes.{never_closes, passes_at}
 use Rattle.lola_step.specs.Closings.{MayAskClosing}
 use Rattle.lola_step.specs.Moments.{active_for_in}
 use Rattle.lola_step.specs.Progress.{IsMomentOf, IsOf}

@@ -19,8 +19,8 @@ use Rattle.lola_model.specs.Table.{Step, TableRow}
 use Rattle.lola_model.specs.declared.journal.Show.{Show}
 use Rattle.lola_model.specs.declared.plan.Plan.{Plan}
 use Rattle.lola_model.specs.declared.spec.Stream.{Stream}
-use Rattle.lola_step_law.specs.Stages.{content_so_far, first_stage, layer_stage}
-use Rattle.lola_step_law.proofs.Begin.{begins}
+use Rattle.lola_step_contents.specs.Stages.{content_so_far, first_stage, layer_stage}
+use Rattle.lola_step_contents.proofs.Begin.{begins}
 use Rattle.lola_step.specs.Beginnings.{moment_at}
 use Rattle.lola_step.specs.Conclusions.{Concludes}
 use Rattle.lola_step.specs.Inputs.{TakesInputs}

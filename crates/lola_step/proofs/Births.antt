@@ -10,8 +10,8 @@ use Rattle.lola_model.specs.Store.{Seen, SeenInstance, SeenStream, is_running, a
 use Rattle.lola_model.specs.declared.plan.Plan.{Plan}
 use Rattle.lola_model.specs.declared.spec.Clause.{Clause}
 use Rattle.lola_model.specs.declared.spec.Stream.{Stream}
-use Rattle.lola_step_law.specs.Stages.{Stage, is_behind, is_spawned, spawn_stage}
-use Rattle.lola_step_law.proofs.Behind.{equal_behind, next_behind}
+use Rattle.lola_step_contents.specs.Stages.{Stage, is_behind, is_spawned, spawn_stage}
+use Rattle.lola_step_contents.proofs.Behind.{equal_behind, next_behind}
 use Rattle.lola_step.specs.Progress.{GoesOn, IsAt, IsOf}
 use Rattle.lola_step.specs.Spawns.{IsAfterClause, after_clause}
 use Rattle.lola_step.proofs.Shown.{changed_else, changed_length, goes_on_by, goes_on_far, goes_on_same, kept_of, moved_of, of_same}

@@ -16,7 +16,7 @@ use Rattle.lola_model.specs.declared.pacing.Pacing.TheVariants.{Event, Local, Pe
 use Rattle.lola_model.specs.declared.plan.Plan.{Plan}
 use Rattle.lola_model.specs.declared.spec.Clause.{Clause}
 use Rattle.lola_expr.specs.Evaluation.{Sees}
-use Rattle.lola_step_law.specs.Ends.{Place, add_place}
+use Rattle.lola_step_contents.specs.Ends.{Place, add_place}
 use Rattle.lola_step.specs.Clauses.{IsAnswer, closing_answer}
 use Rattle.lola_step.specs.Closings.{AreUpTo, FindsAmong, IsShown, closed_by, condition_of, least_condition, places_true}
 use Rattle.lola_step.specs.Found.{least_of}

@@ -19,9 +19,9 @@ use Rattle.lola_model.specs.declared.plan.Plan.{Plan}
 use Rattle.lola_model.specs.declared.spec.Clause.{Clause}
 use Rattle.lola_model.specs.declared.spec.Stream.{Stream}
 use Rattle.lola_expr.specs.Evaluation.{Sees}
-use Rattle.lola_step_law.specs.Ends.{Place, add_place, closing_fault, closings, closings_from, close_fault, first_close_fault, places_closed}
-use Rattle.lola_step_law.specs.Stages.{full_row}
-use Rattle.lola_step_law.proofs.Fixed.{full_is}
+use Rattle.lola_step_contents.specs.Ends.{Place, add_place, closing_fault, closings, closings_from, close_fault, first_close_fault, places_closed}
+use Rattle.lola_step_contents.specs.Stages.{full_row}
+use Rattle.lola_step_contents.proofs.Fixed.{full_is}
 use Rattle.lola_step.specs.Clauses.{IsAnswer, closing_answer}
 use Rattle.lola_step.specs.Closings.{FindsAll, FindsAmong, FindsIn, IsShown, all_places, closed_by, condition_of, first_condition, least_condition, places_true, stream_condition, stream_places}
 use Rattle.lola_step.specs.Ends.{FindsClosings}

@@ -8,7 +8,7 @@ use Rattle.lola_model.specs.Named.{has_clause}
 use Rattle.lola_model.specs.declared.plan.Plan.{Plan}
 use Rattle.lola_model.specs.declared.spec.Clause.{Clause}
 use Rattle.lola_model.specs.declared.spec.Stream.{Stream}
-use Rattle.lola_step_law.proofs.Places.{stream_or_none}
+use Rattle.lola_step_contents.proofs.Places.{stream_or_none}
 use Rattle.lola_step.specs.Progress.{IsOf}
 use Rattle.lola_step.specs.Scratches.{HasRoom, IsScratchOf, instances_to_come, least_room, of_streams}
 use Rattle.lola_step.specs.Schedules.{has_duty, numbers_of, duties_of}

@@ -10,9 +10,9 @@ use Rattle.lola_model.specs.Store.{Memories, Seen, Stands}
 use Rattle.lola_model.specs.Table.{Step, TableRow}
 use Rattle.lola_model.specs.declared.journal.Show.{Show}
 use Rattle.lola_model.specs.declared.plan.Plan.{Plan}
-use Rattle.lola_step_law.specs.Ends.{IsFine, closed_each, closings, evaluation_fault, full_content, lines_of}
-use Rattle.lola_step_law.specs.Stages.{full_row}
-use Rattle.lola_step_law.proofs.Ending.{each_step_ends}
+use Rattle.lola_step_contents.specs.Ends.{IsFine, closed_each, closings, evaluation_fault, full_content, lines_of}
+use Rattle.lola_step_contents.specs.Stages.{full_row}
+use Rattle.lola_step_contents.proofs.Ending.{each_step_ends}
 use Rattle.lola_step.specs.Ends.{CollectsVerdicts, FindsClosings, FindsFault}
 use Rattle.lola_step.specs.Moments.{IsMoment}
 use Rattle.lola_step.specs.Notes.{AreNoted, AreSpans, AreWithin, places_of}

@@ -15,9 +15,9 @@ use Rattle.lola_model.specs.Store.{Memories, Seen, Stands, instances_seen, kind_
 use Rattle.lola_model.specs.Table.{Step, StreamRow, TableRow}
 use Rattle.lola_model.specs.declared.plan.Plan.{Plan}
 use Rattle.lola_model.specs.declared.spec.Stream.{Stream}
-use Rattle.lola_step_law.specs.Stages.{Stage, eval_stage, full_row, is_behind, is_evaluated, layer_stage}
-use Rattle.lola_step_law.proofs.Behind.{layer_behind}
-use Rattle.lola_step_law.proofs.Complete.{completes}
+use Rattle.lola_step_contents.specs.Stages.{Stage, eval_stage, full_row, is_behind, is_evaluated, layer_stage}
+use Rattle.lola_step_contents.proofs.Behind.{layer_behind}
+use Rattle.lola_step_contents.proofs.Complete.{completes}
 use Rattle.lola_step.specs.Evals.{EvalsTake, HasRooms, IsReadyFor, ShowsMore}
 use Rattle.lola_step.specs.Notes.{AreSpawnResults, AreNoted, AreOutcomesOf, IsSpan, ShowResults, asked_in, done_of, in_span, spawn_result_of}
 use Rattle.lola_step.specs.Progress.{GoesOn, IsAt, IsMomentOf, IsRunAt, TakesTo}

@@ -14,10 +14,10 @@ use Rattle.lola_model.specs.Faults.{RowFault, lesser_kind, add_failed, least_fai
 use Rattle.lola_model.specs.Model.{field_outcome, input_outcome, is_input, spawned_in}
 use Rattle.lola_model.specs.Table.{Step, Spawned, Idle, Named, SpawnFailed, SpawnPoisoned, Living, StreamRow, TableRow}
 use Rattle.lola_model.specs.declared.plan.Plan.{Plan}
-use Rattle.lola_step_law.specs.Ends.{evaluation_fault}
-use Rattle.lola_step_law.specs.Nexts.{InputIs, inputs_before, living_in}
-use Rattle.lola_step_law.specs.Stages.{full_row}
-use Rattle.lola_step_law.proofs.Inputs.{inputs_go}
+use Rattle.lola_step_contents.specs.Ends.{evaluation_fault}
+use Rattle.lola_step_contents.specs.Nexts.{InputIs, inputs_before, living_in}
+use Rattle.lola_step_contents.specs.Stages.{full_row}
+use Rattle.lola_step_contents.proofs.Inputs.{inputs_go}
 use Rattle.lola_step.specs.Ends.{FindsFault}
 use Rattle.lola_step.specs.Found.{least_of, add_fault, least_among, fault_of, fault_or, first_among}
 use Rattle.lola_step.specs.Notes.{AreNoted, AreSilent, OneOf, ReadEach, ShowLiving, asked_in, in_span, spawn_result_of, read_fault}

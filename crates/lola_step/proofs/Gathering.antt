@@ -10,8 +10,8 @@ use Rattle.lola_model.specs.declared.pacing.Pacing.{Pacing}
 use Rattle.lola_model.specs.declared.plan.Plan.{Plan}
 use Rattle.lola_model.specs.declared.spec.Stream.{Stream}
 use Rattle.lola_model.specs.declared.store.Whereabouts.{Whereabouts}
-use Rattle.lola_step_law.specs.Stages.{Stage, eval_stage, is_behind, is_evaluated, layer_stage}
-use Rattle.lola_step_law.proofs.Behind.{equal_behind, layer_behind, same_behind}
+use Rattle.lola_step_contents.specs.Stages.{Stage, eval_stage, is_behind, is_evaluated, layer_stage}
+use Rattle.lola_step_contents.proofs.Behind.{equal_behind, layer_behind, same_behind}
 use Rattle.lola_step.specs.Notes.{layer_spans, layer_tasks, places_asked, runs_in, sought_at, stream_tasks, tasks_at}
 use Rattle.lola_step.specs.Rooms.{room_of, rooms, to_come}
 use Rattle.lola_step.specs.declared.spawn_result.SpawnResult.{SpawnResult}

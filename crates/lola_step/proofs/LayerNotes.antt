@@ -10,8 +10,8 @@ use Rattle.lola_model.specs.Store.{Memories, Seen, instances_seen, kind_in}
 use Rattle.lola_model.specs.declared.plan.Plan.{Plan}
 use Rattle.lola_model.specs.declared.spec.Stream.{Stream}
 use Rattle.lola_model.specs.declared.store.Whereabouts.{Whereabouts}
-use Rattle.lola_step_law.specs.Stages.{Stage, eval_stage, is_evaluated, layer_stage}
-use Rattle.lola_step_law.proofs.Places.{stream_or_none}
+use Rattle.lola_step_contents.specs.Stages.{Stage, eval_stage, is_evaluated, layer_stage}
+use Rattle.lola_step_contents.proofs.Places.{stream_or_none}
 use Rattle.lola_step.specs.Evals.{HasRooms, IsReadyFor}
 use Rattle.lola_step.specs.Given.{AreResults, after_all}
 use Rattle.lola_step.specs.Notes.{AreOfStream, AreOutcomesOf, IsSpan, asked_in, in_span, layer_spans, layer_tasks, sought_at}

@@ -15,11 +15,11 @@ use Rattle.lola_model.specs.declared.spec.Sort.{Sort}
 use Rattle.lola_model.specs.declared.spec.Sort.TheVariants as sort
 use Rattle.lola_model.specs.declared.spec.Stream.{Stream}
 use Rattle.lola_model.specs.declared.store.Whereabouts.{Whereabouts}
-use Rattle.lola_step_law.specs.Ready.{IsAtStep}
-use Rattle.lola_step_law.proofs.Clauses.{eval_may_ask}
-use Rattle.lola_step_law.specs.Stages.{Stage, eval_stage, is_evaluated, is_spawned, layer_stage}
-use Rattle.lola_step_law.proofs.Behind.{layer_behind}
-use Rattle.lola_step_law.proofs.Shapes.{passes_at}
+use Rattle.lola_step_contents.specs.Ready.{IsAtStep}
+use Rattle.lola_step_contents.proofs.Clauses.{eval_may_ask}
+use Rattle.lola_step_contents.specs.Stages.{Stage, eval_stage, is_evaluated, is_spawned, layer_stage}
+use Rattle.lola_step_contents.proofs.Behind.{layer_behind}
+use Rattle.lola_step_contents.proofs.Shapes.{passes_at}
 use Rattle.lola_step.specs.Given.{AreResults, CanGiveAll, after_all}
 use Rattle.lola_step.specs.Moments.{born_seen, may_be_active_in}
 use Rattle.lola_step.specs.Notes.{AreOfStream, is_fine, layer_tasks, runs_in, sought_at, stream_tasks}

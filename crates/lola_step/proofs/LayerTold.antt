@@ -24,10 +24,10 @@ use Rattle.lola_model.specs.declared.spec.Stream.{Stream}
 use Rattle.lola_model.specs.declared.store.Whereabouts.{Whereabouts}
 use Rattle.lola_step_contents.specs.Changed.{lives_in, told}
 use Rattle.lola_expr.specs.Evaluation.{Sees}
-use Rattle.lola_step_law.specs.Nexts.{EvalIs, EvalsGo, Told, is_run_in, living_in, told_each, told_from, told_in_layer}
-use Rattle.lola_step_law.specs.Stages.{Stage, content_so_far, eval_stage, full_row, is_behind, is_evaluated, layer_stage}
-use Rattle.lola_step_law.proofs.Behind.{same_behind}
-use Rattle.lola_step_law.proofs.Evals.{evals_go}
+use Rattle.lola_step_contents.specs.Nexts.{EvalIs, EvalsGo, Told, is_run_in, living_in, told_each, told_from, told_in_layer}
+use Rattle.lola_step_contents.specs.Stages.{Stage, content_so_far, eval_stage, full_row, is_behind, is_evaluated, layer_stage}
+use Rattle.lola_step_contents.proofs.Behind.{same_behind}
+use Rattle.lola_step_contents.proofs.Evals.{evals_go}
 use Rattle.lola_step.specs.Clauses.{IsAnswer, eval_answer}
 use Rattle.lola_step.specs.Evals.{IsReadyFor}
 use Rattle.lola_step.specs.Given.{AreHeldIn, AreResults, told_outcomes}

@@ -13,7 +13,7 @@ use Rattle.lola_model.specs.declared.plan.Plan.{Plan}
 use Rattle.lola_model.specs.declared.spec.Clause.{Clause}
 use Rattle.lola_model.specs.declared.spec.Stream.{Stream}
 use Rattle.lola_step_contents.specs.Changed.{closed}
-use Rattle.lola_step_law.specs.Ends.{Place, closed_each}
+use Rattle.lola_step_contents.specs.Ends.{Place, closed_each}
 use Rattle.lola_step.specs.Notes.{IsBefore, IsClosable, place_of_task, places_of}
 use Rattle.lola_step.specs.Progress.{IsOf}
 use Rattle.lola_step.specs.declared.tasks.Task.{Task}

@@ -8,7 +8,7 @@ use Rattle.lola_model.specs.Content.{Content, Life, StreamContent, seen}
 use Rattle.lola_model.specs.Store.{Memories, SeenInstance, StandForLives, is_silent, now_at}
 use Rattle.lola_model.specs.Table.{Living}
 use Rattle.lola_step_contents.specs.Changed.{changed, lives_in, told, told_at}
-use Rattle.lola_step_law.specs.Nexts.{told_each, told_from}
+use Rattle.lola_step_contents.specs.Nexts.{told_each, told_from}
 use Rattle.lola_step.specs.Given.{AreHeldIn, told_outcomes}
 use Rattle.lola_step.specs.Notes.{AreOfStream, AreSilent, OneOf, ReadEach}
 use Rattle.lola_step.specs.declared.tasks.Task.{Task}

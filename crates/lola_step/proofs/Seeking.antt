@@ -18,8 +18,8 @@ use Rattle.lola_model.specs.declared.spec.Spec.{Spec}
 use Rattle.lola_model.specs.declared.spec.Stream.{Stream}
 use Rattle.lola_model.specs.declared.store.Whereabouts.{Whereabouts}
 use Rattle.lola_model.specs.declared.store.Whereabouts.TheVariants.{Unknown}
-use Rattle.lola_step_law.proofs.Clauses.{eval_may_ask}
-use Rattle.lola_step_law.specs.Stages.{eval_stage}
+use Rattle.lola_step_contents.proofs.Clauses.{eval_may_ask}
+use Rattle.lola_step_contents.specs.Stages.{eval_stage}
 use Rattle.lola_step.specs.Clauses.{eval_answer}
 use Rattle.lola_step.specs.Moments.{active_for_in}
 use Rattle.lola_step.specs.Notes.{runs_in, sought_at}

@@ -19,10 +19,9 @@ use Rattle.lola_model.specs.contracts.spec.Formula.TheKnot as formula_knot
 use Rattle.lola_model.specs.declared.spec.Formula.TheBlock.{member-Formula}
 use Rattle.lola_model.specs.declared.spec.Formula.TheBlock as formula_block
 use Rattle.lola_model.specs.contracts.spec.Pace as pace
-use Rattle.lola_model.specs.contracts.spec.Exprs as exprs
+use Rattle.lola_value.specs.contracts.list.ListOf as list
 use Rattle.lola_model.specs.contracts.spec.Clause as clause
 use Rattle.lola_model.specs.contracts.spec.Stream as stream
-use Rattle.lola_model.specs.contracts.spec.Streams as streams
 use Rattle.lola_model.specs.contracts.spec.Spec as spec
 use Rattle.lola_model.specs.contracts.plan.Plan as plan
 use Rattle.lola_model.proofs.expr.Place.TheSendSync as place_crosses
@@ -30,10 +29,8 @@ use Rattle.lola_model.proofs.expr.Access.TheSendSync as access_crosses
 use Rattle.lola_model.proofs.expr.Prefix.TheSendSync as prefix_crosses
 use Rattle.lola_model.proofs.expr.Binary.TheSendSync as binary_crosses
 use Rattle.lola_model.proofs.spec.WrittenRate.TheSendSync as rate_crosses
-use Rattle.lola_model.proofs.pacing.Pacings.TheSendSync as pacings_crosses
-use Rattle.lola_model.proofs.plan.Layers.TheSendSync as layers_crosses
-use Rattle.lola_model.proofs.plan.Numbers.TheSendSync as numbers_crosses
-use Rattle.lola_model.proofs.plan.PaneSizes.TheSendSync as sizes_crosses
+use Rattle.lola_model.proofs.pacing.ClausePacings.TheSendSync as pacing_crosses
+use Rattle.lola_model.proofs.plan.PaneSize.TheSendSync as size_crosses
 use Rattle.lola_value.proofs.value.Value.TheSendSync as value_crosses
 use Rattle.lola_expr_code.specs.contracts.plan.PlanCode as plan_code
 use Rattle.lola_expr_code.proofs.plan.EvalCode.TheSendSync as code_crosses
@@ -79,7 +76,7 @@ formula_sync = record { shared = λ x b o κ. subst (λ (f : ℕ → ℕ → Lft
 pace_sync : IsSync pace.the_row
 pace_sync = search (sendable, crosses, variants_sync, as_row_sync, formula_sync, rate_crosses.the_sync) depth 40
 
-exprs_sync : IsSync exprs.the_row
+exprs_sync : IsSync (list.the_row expr.the_row)
 exprs_sync = search (sendable, crosses, expr_sync) depth 40
 
 clause_sync : IsSync clause.the_row
@@ -88,7 +85,7 @@ clause_sync = search (sendable, crosses, expr_sync, exprs_sync, pace_sync) depth
 stream_sync : IsSync stream.the_row
 stream_sync = search (sendable, crosses, clause_sync) depth 40
 
-streams_sync : IsSync streams.the_row
+streams_sync : IsSync (list.the_row stream.the_row)
 streams_sync = search (sendable, crosses, stream_sync) depth 40
 
 spec_sync : IsSync spec.the_row
@@ -96,7 +93,7 @@ spec_sync = search (sendable, crosses, streams_sync) depth 40
 
 -- a plan
 pub plan_sync : IsSync plan.the_row
-plan_sync = declared_sync plan.the_type (spec_sync, (pacings_crosses.the_sync, (layers_crosses.the_sync, (numbers_crosses.the_sync, (sizes_crosses.the_sync, tt)))))
+plan_sync = declared_sync plan.the_type (spec_sync, (search (sendable, crosses, pacing_crosses.the_sync) depth 40, (search (sendable, crosses) depth 40, (search (sendable, crosses) depth 40, (search (sendable, crosses, size_crosses.the_sync) depth 40, tt)))))
 
 -- the code of a specification
 code_sync : IsSync plan_code.the_row

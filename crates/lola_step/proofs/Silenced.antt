@@ -10,7 +10,7 @@ use Rattle.lola_model.specs.declared.journal.Show.TheVariants.{Outputs, Triggers
 use Rattle.lola_model.specs.declared.spec.Sort.{Sort}
 use Rattle.lola_model.specs.declared.spec.Sort.TheVariants as sort
 use Rattle.lola_model.specs.declared.spec.Stream.{Stream}
-use Rattle.lola_step_law.specs.Ends.{RowValue, add_value, lines_at, lines_of, row_values, values_among}
+use Rattle.lola_step_contents.specs.Ends.{RowValue, add_value, lines_at, lines_of, row_values, values_among}
 use Rattle.lola_step.specs.Ends.{shown_values}
 use Rattle.lola_step.specs.Found.{hides_outputs, is_hidden}
 

@@ -21,11 +21,11 @@ use Rattle.lola_model.specs.declared.spec.Clause.{Clause}
 use Rattle.lola_model.specs.declared.spec.Sort.{Sort}
 use Rattle.lola_model.specs.declared.spec.Sort.TheVariants as sort
 use Rattle.lola_model.specs.declared.spec.Stream.{Stream}
-use Rattle.lola_step_law.specs.Nexts.{EvalIs, living_in}
-use Rattle.lola_step_law.specs.Stages.{AreSettled, content_so_far, eval_stage, full_row}
-use Rattle.lola_step_law.proofs.Evals.{evals_go}
-use Rattle.lola_step_law.proofs.Shapes.{passes_at}
-use Rattle.lola_step_law.proofs.Spawns.{spawns_go}
+use Rattle.lola_step_contents.specs.Nexts.{EvalIs, living_in}
+use Rattle.lola_step_contents.specs.Stages.{AreSettled, content_so_far, eval_stage, full_row}
+use Rattle.lola_step_contents.proofs.Evals.{evals_go}
+use Rattle.lola_step_contents.proofs.Shapes.{passes_at}
+use Rattle.lola_step_contents.proofs.Spawns.{spawns_go}
 use Rattle.lola_step.specs.Progress.{IsOf}
 use Rattle.lola_step.specs.Tasks.{params_at, params_given, params_seen}
 use Rattle.lola_step.proofs.Asking.{evals_locally}

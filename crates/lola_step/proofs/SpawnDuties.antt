@@ -15,13 +15,13 @@ use Rattle.lola_model.specs.declared.spec.Sort.{Sort}
 use Rattle.lola_model.specs.declared.spec.Sort.TheVariants as sort
 use Rattle.lola_model.specs.declared.spec.Stream.{Stream}
 use Rattle.lola_expr.specs.Evaluation.{Sees}
-use Rattle.lola_step_law.specs.Ready.{IsClauseAskable}
-use Rattle.lola_step_law.proofs.Clauses.{spawn_may_ask}
-use Rattle.lola_step_law.specs.Nexts.{NothingSpawns, SpawnIs, after_asking, did_of}
-use Rattle.lola_step_law.specs.Stages.{Stage, content_so_far, full_row, is_spawned, layer_stage, spawn_stage}
-use Rattle.lola_step_law.proofs.Behind.{next_behind, other_behind}
-use Rattle.lola_step_law.proofs.Shapes.{input_never_spawns, passes_at}
-use Rattle.lola_step_law.proofs.Spawns.{spawns_go}
+use Rattle.lola_step_contents.specs.Ready.{IsClauseAskable}
+use Rattle.lola_step_contents.proofs.Clauses.{spawn_may_ask}
+use Rattle.lola_step_contents.specs.Nexts.{NothingSpawns, SpawnIs, after_asking, did_of}
+use Rattle.lola_step_contents.specs.Stages.{Stage, content_so_far, full_row, is_spawned, layer_stage, spawn_stage}
+use Rattle.lola_step_contents.proofs.Behind.{next_behind, other_behind}
+use Rattle.lola_step_contents.proofs.Shapes.{input_never_spawns, passes_at}
+use Rattle.lola_step_contents.proofs.Spawns.{spawns_go}
 use Rattle.lola_step.specs.Clauses.{IsSpawning, IsWellNamed}
 use Rattle.lola_step.specs.Moments.{IsMoment, active_in}
 use Rattle.lola_step.specs.Notes.{AreSpawnResults, done_of, spawn_result_of}

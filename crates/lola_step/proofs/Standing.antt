@@ -9,8 +9,8 @@ use Rattle.lola_model.specs.Table.{Step, StreamRow, TableRow}
 use Rattle.lola_model.specs.declared.plan.Plan.{Plan}
 use Rattle.lola_model.specs.declared.spec.Stream.{Stream}
 use Rattle.lola_model.proofs.Rounds.{row_of}
-use Rattle.lola_step_law.specs.Stages.{full_row}
-use Rattle.lola_step_law.proofs.Fixed.{full, fixed}
+use Rattle.lola_step_contents.specs.Stages.{full_row}
+use Rattle.lola_step_contents.proofs.Fixed.{full, fixed}
 use Rattle.lola_step.specs.Rooms.{room_of, rooms, total}
 
 -- a row has all streams of its plan

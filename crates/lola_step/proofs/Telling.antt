@@ -16,11 +16,11 @@ use Rattle.lola_model.specs.declared.plan.Plan.{Plan}
 use Rattle.lola_model.specs.declared.spec.Stream.{Stream}
 use Rattle.lola_step_contents.specs.Changed.{told}
 use Rattle.lola_step_contents.proofs.Tellings.{stands_told}
-use Rattle.lola_step_law.specs.Nexts.{inputs_before}
-use Rattle.lola_step_law.specs.Stages.{content_so_far, is_behind, is_evaluated}
-use Rattle.lola_step_law.proofs.Behind.{next_below}
-use Rattle.lola_step_law.proofs.Inputs.{inputs_go}
-use Rattle.lola_step_law.proofs.Shapes.{input_never_spawns, passes_at}
+use Rattle.lola_step_contents.specs.Nexts.{inputs_before}
+use Rattle.lola_step_contents.specs.Stages.{content_so_far, is_behind, is_evaluated}
+use Rattle.lola_step_contents.proofs.Behind.{next_below}
+use Rattle.lola_step_contents.proofs.Inputs.{inputs_go}
+use Rattle.lola_step_contents.proofs.Shapes.{input_never_spawns, passes_at}
 use Rattle.lola_step.specs.Inputs.{TakesInputsTo, input_outcome_at, input_stage}
 use Rattle.lola_step.specs.Moments.{ReadAs}
 use Rattle.lola_step.specs.Progress.{GoesOn, IsAt}

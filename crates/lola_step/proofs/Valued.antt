@@ -20,9 +20,9 @@ use Rattle.lola_model.specs.Table.{Step, Living, StreamRow, TableRow}
 use Rattle.lola_model.specs.declared.journal.Show.{Show}
 use Rattle.lola_model.specs.declared.plan.Plan.{Plan}
 use Rattle.lola_model.specs.declared.spec.Stream.{Stream}
-use Rattle.lola_step_law.specs.Ends.{RowValue, add_value, values_among}
-use Rattle.lola_step_law.specs.Nexts.{living_in}
-use Rattle.lola_step_law.specs.Stages.{full_row}
+use Rattle.lola_step_contents.specs.Ends.{RowValue, add_value, values_among}
+use Rattle.lola_step_contents.specs.Nexts.{living_in}
+use Rattle.lola_step_contents.specs.Stages.{full_row}
 use Rattle.lola_step.specs.Ends.{CollectsVerdicts, shown_values}
 use Rattle.lola_step.specs.Found.{FitLayout, add_verdict, verdicts_among, verdicts_with, all_verdicts, is_hidden}
 use Rattle.lola_step.specs.Notes.{AreNoted, AreOfStream, AreOutcomesOf, AreSilent, AreSpans, AreVerdicts, AreVerdictsHeld, OneOf, ReadEach, ShowLiving, asked_in, in_span, read_verdict}

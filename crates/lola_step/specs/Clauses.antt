@@ -18,8 +18,8 @@ use Rattle.lola_model.specs.declared.spec.Clause.{Clause}
 use Rattle.lola_model.specs.declared.spec.Spec.{Spec}
 use Rattle.lola_model.specs.declared.spec.Stream.{Stream}
 use Rattle.lola_expr.specs.Evaluation.{Sees}
-use Rattle.lola_step_law.specs.Ready.{HasTexts, IsAskable}
-use Rattle.lola_step_law.specs.Nexts.{asked_of, spawn_asks}
+use Rattle.lola_step_contents.specs.Ready.{HasTexts, IsAskable}
+use Rattle.lola_step_contents.specs.Nexts.{asked_of, spawn_asks}
 use Rattle.lola_step.specs.declared.clauses.Spawning.{Spawning}
 use Rattle.lola_step.specs.declared.clauses.Spawning.TheVariants as spawning
 

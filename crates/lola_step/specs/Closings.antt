@@ -16,8 +16,8 @@ use Rattle.lola_model.specs.declared.pacing.Pacing.{Pacing}
 use Rattle.lola_model.specs.declared.plan.Plan.{Plan}
 use Rattle.lola_model.specs.declared.spec.Clause.{Clause}
 use Rattle.lola_model.specs.declared.spec.Stream.{Stream}
-use Rattle.lola_step_law.specs.Ready.{HasTexts, IsClauseAskable}
-use Rattle.lola_step_law.specs.Ends.{Place, add_place}
+use Rattle.lola_step_contents.specs.Ready.{HasTexts, IsClauseAskable}
+use Rattle.lola_step_contents.specs.Ends.{Place, add_place}
 use Rattle.lola_step.specs.Clauses.{closing_answer}
 use Rattle.lola_step.specs.Found.{fault_or}
 use Rattle.lola_step.specs.Moments.{active_for_in}

@@ -7,7 +7,7 @@ use Rattle.lola_model.specs.Store.{Memories, Seen, Stands}
 use Rattle.lola_model.specs.Table.{Step, TableRow}
 use Rattle.lola_model.specs.declared.journal.Show.{Show}
 use Rattle.lola_model.specs.declared.plan.Plan.{Plan}
-use Rattle.lola_step_law.specs.Stages.{full_row}
+use Rattle.lola_step_contents.specs.Stages.{full_row}
 use Rattle.lola_step.specs.Moments.{IsMoment}
 use Rattle.lola_step.specs.Notes.{AreNoted}
 use Rattle.lola_step.specs.Progress.{IsOf, IsRun}

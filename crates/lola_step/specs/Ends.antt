@@ -9,8 +9,8 @@ use Rattle.lola_model.specs.Table.{Step, StreamRow, TableRow}
 use Rattle.lola_model.specs.declared.journal.Show.{Show}
 use Rattle.lola_model.specs.declared.plan.Plan.{Plan}
 use Rattle.lola_model.specs.declared.spec.Stream.{Stream}
-use Rattle.lola_step_law.specs.Ends.{RowValue, closing_fault, closings, evaluation_fault, values_among}
-use Rattle.lola_step_law.specs.Stages.{full_row}
+use Rattle.lola_step_contents.specs.Ends.{RowValue, closing_fault, closings, evaluation_fault, values_among}
+use Rattle.lola_step_contents.specs.Stages.{full_row}
 use Rattle.lola_step.specs.Found.{is_hidden}
 use Rattle.lola_step.specs.Moments.{IsMoment}
 use Rattle.lola_step.specs.Notes.{AreNoted, AreVerdictsHeld, places_of, read_fault, read_verdict}

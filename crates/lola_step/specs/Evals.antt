@@ -9,7 +9,7 @@ use Rattle.lola_model.specs.Store.{Memories, Seen}
 use Rattle.lola_model.specs.Table.{Step, TableRow}
 use Rattle.lola_model.specs.declared.plan.Plan.{Plan}
 use Rattle.lola_model.specs.declared.spec.Stream.{Stream}
-use Rattle.lola_step_law.specs.Stages.{Stage, eval_stage, full_row, layer_stage}
+use Rattle.lola_step_contents.specs.Stages.{Stage, eval_stage, full_row, layer_stage}
 use Rattle.lola_step.specs.Notes.{AreEmpty, AreSpawnResults, AreSpans, ShowResults}
 use Rattle.lola_step.specs.Progress.{IsRunAt}
 use Rattle.lola_step.specs.Rooms.{rooms, to_come, total}

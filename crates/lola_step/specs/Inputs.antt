@@ -6,7 +6,7 @@ use Rattle.lola_value.specs.Naming.{Naming}
 use Rattle.lola_model.specs.Store.{Memories, Seen, Stands, start_seen}
 use Rattle.lola_model.specs.Table.{Step, TableRow}
 use Rattle.lola_model.specs.declared.plan.Plan.{Plan}
-use Rattle.lola_step_law.specs.Stages.{Stage, content_so_far, first_stage, layer_stage}
+use Rattle.lola_step_contents.specs.Stages.{Stage, content_so_far, first_stage, layer_stage}
 use Rattle.lola_step.specs.Progress.{IsRun}
 use Rattle.lola_step.specs.Steps.{ReadFields}
 

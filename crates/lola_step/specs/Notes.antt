@@ -18,9 +18,9 @@ use Rattle.lola_model.specs.declared.plan.Plan.{Plan}
 use Rattle.lola_model.specs.declared.spec.Stream.{Stream}
 use Rattle.lola_model.specs.declared.store.Whereabouts.{Whereabouts}
 use Rattle.lola_model.specs.declared.store.Whereabouts.TheVariants.{At, Nowhere, Unknown}
-use Rattle.lola_step_law.specs.Ends.{RowValue, Place}
-use Rattle.lola_step_law.specs.Nexts.{living_in}
-use Rattle.lola_step_law.specs.Stages.{Stage, is_evaluated, is_spawned}
+use Rattle.lola_step_contents.specs.Ends.{RowValue, Place}
+use Rattle.lola_step_contents.specs.Nexts.{living_in}
+use Rattle.lola_step_contents.specs.Stages.{Stage, is_evaluated, is_spawned}
 use Rattle.lola_step.specs.Moments.{may_be_active_in}
 use Rattle.lola_step.specs.declared.spawn_result.SpawnResult.{SpawnResult}
 use Rattle.lola_step.specs.declared.spawn_result.SpawnResult.TheVariants as spawn_result

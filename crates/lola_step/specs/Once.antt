@@ -17,7 +17,7 @@ use Rattle.lola_model.specs.declared.spec.Clause.{Clause}
 use Rattle.lola_model.specs.declared.spec.Stream.{Stream}
 use Rattle.lola_expr.specs.Evaluation.{is_named}
 use Rattle.lola_expr.proofs.Parts.{same_kind-true}
-use Rattle.lola_step_law.specs.Ready.{AreAskable, HasTexts, IsAskable, IsClauseAskable, IsWhenAskable}
+use Rattle.lola_step_contents.specs.Ready.{AreAskable, HasTexts, IsAskable, IsClauseAskable, IsWhenAskable}
 use Rattle.lola_step.specs.Tasks.{AreReady, IsEvalReady, IsReady}
 use Rattle.lola_step.specs.declared.moment.Moment.{Moment}
 use Rattle.lola_step.specs.declared.tasks.Task.{Task}

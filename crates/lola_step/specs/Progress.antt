@@ -8,8 +8,8 @@ use Rattle.lola_model.specs.Table.{Step, TableRow}
 use Rattle.lola_model.specs.declared.plan.Plan.{Plan}
 use Rattle.lola_model.specs.declared.spec.Stream.{Stream}
 use Rattle.lola_model.proofs.Orderly.{AreOfRows}
-use Rattle.lola_step_law.specs.Ready.{HasTexts}
-use Rattle.lola_step_law.specs.Stages.{AreSettled, Stage, content_so_far, is_evaluated, is_spawned}
+use Rattle.lola_step_contents.specs.Ready.{HasTexts}
+use Rattle.lola_step_contents.specs.Stages.{AreSettled, Stage, content_so_far, is_evaluated, is_spawned}
 use Rattle.lola_step.specs.Moments.{IsMoment}
 use Rattle.lola_step.specs.Rooms.{rooms}
 use Rattle.lola_step.specs.declared.moment.Moment.{Moment}

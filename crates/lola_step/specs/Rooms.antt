@@ -3,7 +3,7 @@ use Rattle.std.specs.Prelude.{ℕ, ◌+◌, List, [], ◌∷◌, ◌||◌, if◌
 use Rattle.lola_model.specs.Model.{is_input}
 use Rattle.lola_model.specs.Store.{Seen, SeenStream}
 use Rattle.lola_model.specs.declared.spec.Stream.{Stream}
-use Rattle.lola_step_law.specs.Stages.{Stage, is_evaluated}
+use Rattle.lola_step_contents.specs.Stages.{Stage, is_evaluated}
 
 -- of a stream: its instances, and one that may be born yet in this step
 abbrev pub room_of : SeenStream → ℕ

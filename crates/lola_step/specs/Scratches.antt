@@ -7,7 +7,7 @@ use Rattle.lola_model.specs.Store.{Memories, Seen, SeenStream, Stands}
 use Rattle.lola_model.specs.Table.{Step, TableRow}
 use Rattle.lola_model.specs.declared.plan.Plan.{Plan}
 use Rattle.lola_value.specs.Naming.{Naming}
-use Rattle.lola_step_law.specs.Stages.{full_row, layer_stage}
+use Rattle.lola_step_contents.specs.Stages.{full_row, layer_stage}
 use Rattle.lola_step.specs.Notes.{AreNoted}
 use Rattle.lola_step.specs.Progress.{IsRunAt}
 use Rattle.lola_step.specs.Rooms.{total}

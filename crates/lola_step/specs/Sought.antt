@@ -14,7 +14,7 @@ use Rattle.lola_model.specs.declared.spec.Clause.{Clause}
 use Rattle.lola_model.specs.declared.spec.Stream.{Stream}
 use Rattle.lola_model.specs.declared.store.Whereabouts.{Whereabouts}
 use Rattle.lola_model.specs.declared.store.Whereabouts.TheVariants.{Unknown}
-use Rattle.lola_step_law.specs.Ready.{IsWhenAskable}
+use Rattle.lola_step_contents.specs.Ready.{IsWhenAskable}
 use Rattle.lola_step.specs.Clauses.{eval_answer}
 use Rattle.lola_step.specs.Closings.{IsShown}
 use Rattle.lola_step.specs.Moments.{active_for_in}

@@ -7,8 +7,8 @@ use Rattle.lola_model.specs.Model.{most_instances, spawned_in}
 use Rattle.lola_model.specs.Store.{IsRunning, Memories, Seen, Stands, after_poison_stream, after_spawn, has_spawned, instances_seen, parameters_of, spawns_in}
 use Rattle.lola_model.specs.Table.{Step, StreamRow, TableRow}
 use Rattle.lola_model.specs.declared.plan.Plan.{Plan}
-use Rattle.lola_step_law.specs.Nexts.{after_asking, did_of}
-use Rattle.lola_step_law.specs.Stages.{Stage, full_row, is_spawned, spawn_stage}
+use Rattle.lola_step_contents.specs.Nexts.{after_asking, did_of}
+use Rattle.lola_step_contents.specs.Stages.{Stage, full_row, is_spawned, spawn_stage}
 use Rattle.lola_step.specs.Clauses.{IsSpawningHeld, IsWellNamed, read_spawning}
 use Rattle.lola_step.specs.Notes.{done_of, spawn_result_of}
 use Rattle.lola_step.specs.Progress.{GoesOn, IsAt, IsRunAt, TakesTo}

@@ -15,7 +15,7 @@ use Rattle.lola_model.specs.Texts.{row_lines}
 use Rattle.lola_model.specs.declared.journal.Show.{Show}
 use Rattle.lola_model.specs.declared.plan.Plan.{Plan}
 use Rattle.lola_model.specs.declared.spec.Stream.{Stream}
-use Rattle.lola_step_law.specs.Ends.{lines_of}
+use Rattle.lola_step_contents.specs.Ends.{lines_of}
 use Rattle.lola_step.specs.Moments.{ReadAs}
 use Rattle.lola_step.specs.Notes.{AreVerdictsHeld, read_verdict}
 use Rattle.lola_step.specs.Progress.{IsOf}

@@ -12,7 +12,7 @@ use Rattle.lola_model.specs.declared.pacing.Pacing.{Pacing}
 use Rattle.lola_model.specs.declared.plan.Plan.{Plan}
 use Rattle.lola_model.specs.declared.spec.Clause.{Clause}
 use Rattle.lola_model.specs.declared.spec.Stream.{Stream}
-use Rattle.lola_step_law.specs.Ready.{IsClauseAskable}
+use Rattle.lola_step_contents.specs.Ready.{IsClauseAskable}
 use Rattle.lola_step.specs.Clauses.{IsAnswer, eval_answer}
 use Rattle.lola_step.specs.Moments.{active_for_in, born_seen, may_be_active_in}
 use Rattle.lola_step.specs.declared.moment.Moment.{Moment}

@@ -10,7 +10,7 @@ ghost use Rattle.lola_model.specs.Store.{IsRunning, no_params};
 ghost use Rattle.lola_model.specs.Typing.{can_ask, noted};
 ghost use Rattle.lola_expr_code.specs.Plans.{IsCodeOf, IsEvalCode, first_of};
 ghost use Rattle.lola_expr.specs.Evaluation.{IsDenoted, Sees, is_no_value};
-ghost use Rattle.lola_step_law.specs.Ready.{AreAskable, HasTexts, IsClauseAskable, IsWhenAskable};
+ghost use Rattle.lola_step_contents.specs.Ready.{AreAskable, HasTexts, IsClauseAskable, IsWhenAskable};
 ghost use Rattle.lola_step.specs.Clauses.{IsAnswer, IsSpawning, IsWellNamed, AreExpressions, AreNamed};
 
 use lola_expr::evaluation::eval;

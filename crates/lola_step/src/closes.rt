@@ -10,7 +10,7 @@ ghost use Rattle.lola_model.specs.Dues.{locals_of};
 ghost use Rattle.lola_model.specs.Model.{close_pacing};
 ghost use Rattle.lola_model.specs.NextStep.{is_local};
 ghost use Rattle.lola_model.specs.Store.{IsRunning, Stands, instances_seen, layout_of, spawns_in};
-ghost use Rattle.lola_step_law.specs.Ends.{closed_each};
+ghost use Rattle.lola_step_contents.specs.Ends.{closed_each};
 ghost use Rattle.lola_step.specs.Clauses.{IsAnswer, closing_answer};
 ghost use Rattle.lola_step.specs.Closings.{AreUpTo, FindsAmong, FindsIn, MayAskClosing, closed_by};
 ghost use Rattle.lola_step.specs.Ends.{FindsClosings};

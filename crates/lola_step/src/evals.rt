@@ -14,7 +14,7 @@ ghost use Rattle.lola_model.specs.NextStep.{is_local};
 ghost use Rattle.lola_model.specs.Store.{IsRunning, Stands, instances_seen, layout_of, no_params};
 ghost use Rattle.lola_model.specs.declared.spec.Stream.{Stream};
 ghost use Rattle.lola_step_contents.specs.Changed.{told};
-ghost use Rattle.lola_step_law.specs.Stages.{eval_stage, layer_stage};
+ghost use Rattle.lola_step_contents.specs.Stages.{eval_stage, layer_stage};
 ghost use Rattle.lola_step.specs.Evals.{EvalsTake, HasRooms, IsReadyFor, ShowsMore};
 ghost use Rattle.lola_step.specs.Found.{has_fault, is_fault};
 ghost use Rattle.lola_step.specs.Given.{AreAnswered, AreHeldIn, AreResults, CanGive, CanGiveAll, after_all, after_giving, told_outcomes};

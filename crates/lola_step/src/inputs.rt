@@ -6,7 +6,7 @@ ghost use Rattle.lola_model.specs.Acceptance.{IsAccepted};
 ghost use Rattle.lola_model.specs.Content.{Content};
 ghost use Rattle.lola_model.specs.Store.{IsRunning, Stands, after_outcome, instances_seen, is_silent, kind_in, now_seen};
 ghost use Rattle.lola_step_contents.specs.Changed.{told};
-ghost use Rattle.lola_step_law.specs.Stages.{first_stage, layer_stage};
+ghost use Rattle.lola_step_contents.specs.Stages.{first_stage, layer_stage};
 ghost use Rattle.lola_step.specs.Inputs.{TakesInputs, input_outcome_at};
 ghost use Rattle.lola_step.specs.Progress.{GoesOn, IsAt};
 ghost use Rattle.lola_step.specs.Schedules.{duties_of};

@@ -6,7 +6,7 @@ ghost use Rattle.lola_model.specs.Acceptance.{IsAccepted};
 ghost use Rattle.lola_model.specs.Graph.{layer_of};
 ghost use Rattle.lola_model.specs.Model.{spawn_pacing};
 ghost use Rattle.lola_model.specs.Table.{Step, TableRow};
-ghost use Rattle.lola_step_law.specs.Stages.{eval_stage, full_row, layer_stage, spawn_stage};
+ghost use Rattle.lola_step_contents.specs.Stages.{eval_stage, full_row, layer_stage, spawn_stage};
 ghost use Rattle.lola_step.specs.Found.{NoneFailed, is_failed};
 ghost use Rattle.lola_step.specs.Notes.{AreSpawnResults};
 ghost use Rattle.lola_step.specs.Progress.{GoesOn, IsAt, IsMomentOf, IsRunAt, TakesTo};

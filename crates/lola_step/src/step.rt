@@ -10,7 +10,7 @@ ghost use Rattle.lola_model.specs.Runs.{content_after};
 ghost use Rattle.lola_model.specs.Standing.{StandsBetween};
 ghost use Rattle.lola_model.specs.Store.{IsRunning, IsStarted, Stands, after_prepare, never_spawns, no_params, start_seen, time_seen};
 ghost use Rattle.lola_model.specs.Table.{Step, TableRow};
-ghost use Rattle.lola_step_law.specs.Stages.{layer_stage};
+ghost use Rattle.lola_step_contents.specs.Stages.{layer_stage};
 ghost use Rattle.lola_step.specs.Beginnings.{moment_at};
 ghost use Rattle.lola_step.specs.Conclusions.{Concludes, ShowsConcluded};
 ghost use Rattle.lola_step.specs.Evals.{IsReadyFor};

@@ -7,7 +7,7 @@ ghost use Rattle.lola_value.specs.Times.{latest};
 ghost use Rattle.lola_model.specs.Model.{clause_answer, eval_pacing, filled_kind};
 ghost use Rattle.lola_model.specs.Store.{IsRunning, instances_seen, layout_of, no_params, parameters_of};
 ghost use Rattle.lola_expr_code.specs.Plans.{IsEvalCode};
-ghost use Rattle.lola_step_law.specs.Ready.{IsClauseAskable};
+ghost use Rattle.lola_step_contents.specs.Ready.{IsClauseAskable};
 ghost use Rattle.lola_step.specs.Clauses.{IsAnswer};
 ghost use Rattle.lola_step.specs.Once.{AreReady-prop};
 ghost use Rattle.lola_step.specs.Tasks.{AreReady, AreTasks, IsActiveTask, IsOutcome, IsTask, IsResult, IsResultAt, params_seen};

@@ -6,7 +6,7 @@ use Rattle.lola_value.specs.declared.value.TextId.{TextId}
 use Rattle.lola_value.specs.Naming.{Naming, the_values}
 use Rattle.lola_model.specs.Accesses.{one_more}
 use Rattle.lola_model.specs.Store.{SeenInstance, instances_of, instances_seen}
-use Rattle.lola_text_sweep.specs.Needed.{texts_in, text_of_outcome, AreAmong, IsAmongIn, KeepsTexts}
+use Rattle.lola_text.specs.Needed.{texts_in, text_of_outcome, AreAmong, IsAmongIn, KeepsTexts}
 use Rattle.lola_store.specs.declared.tally.Timed.{Timed}
 use Rattle.lola_store.specs.declared.instance.Instance.{Instance}
 use Rattle.lola_store.specs.declared.population.Population.{Population}
@@ -17,7 +17,7 @@ use Rattle.lola_instances.specs.Stages.{time_in}
 use Rattle.lola_store.specs.Stores.{whole_seen, whole_remembers}
 use Rattle.lola_store.specs.Tallies.{read_timed}
 use Rattle.lola_store.specs.Texts.{items_of, instance_texts, population_texts, whole_texts}
-use Rattle.lola_text_sweep.proofs.Among.{AreWithin, within_front, within_back, item_within, all_within, outcome_within, keeps_within, all_among, outcome_among, value_read, value_held, outcome_read, outcome_held}
+use Rattle.lola_text.proofs.Among.{AreWithin, within_front, within_back, item_within, all_within, outcome_within, keeps_within, all_among, outcome_among, value_read, value_held, outcome_read, outcome_held}
 
 none_at : {X : Type 0} (P : Type 0) (i : ℕ) (x : X) → slice_get [] i ≡ Some x → P
 none_at P zero x e = absurd (cc)

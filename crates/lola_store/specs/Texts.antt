@@ -3,7 +3,7 @@ use Rattle.std.specs.Prelude.{ℕ, List, ◌++◌, map, flat_map}
 use Rattle.lola_value.specs.declared.value.TextId.{TextId}
 use Rattle.lola_value.specs.declared.value.Value.{Value}
 use Rattle.lola_value.specs.Naming.{the_values}
-use Rattle.lola_text_sweep.specs.Needed.{texts_in, text_of_outcome}
+use Rattle.lola_text.specs.Needed.{texts_in, text_of_outcome}
 use Rattle.lola_store.specs.declared.tally.Timed.{Timed}
 use Rattle.lola_store.specs.declared.instance.Instance.{Instance}
 use Rattle.lola_store.specs.declared.population.Population.{Population}

@@ -1,16 +1,16 @@
 //! The plain store as one that tells which texts it holds.
 
 ghost use Rattle.std.specs.Prelude.{◌≡◌, ◌++◌, OnOk, flat_map};
-ghost use Rattle.lola_text_sweep.specs.Needed.{texts_in};
+ghost use Rattle.lola_text.specs.Needed.{texts_in};
 ghost use Rattle.lola_store.specs.Texts.{instance_texts, items_of, population_texts};
 
 use crate::instance::Instance;
 use crate::population::Population;
 use crate::store::WholeStore;
 use crate::tally::Timed;
-use lola_text_sweep::adding::{add_outcome, add_params, add_value};
-use lola_text_sweep::ids::Ids;
-use lola_text_sweep::store::TextStore;
+use lola_text::adding::{add_outcome, add_params, add_value};
+use lola_text::ids::Ids;
+use lola_text::store::TextStore;
 use lola_value::text::Memory;
 
 // The numbers of the texts among kept values.

@@ -2,3 +2,5 @@ pub mod Held
 pub mod Entering
 pub mod Flagging
 pub mod Finding
+pub mod Kept
+pub mod Among

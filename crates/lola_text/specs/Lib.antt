@@ -1,3 +1,4 @@
 pub mod Texts
 pub mod Flags
 pub mod TextKeys
+pub mod Needed

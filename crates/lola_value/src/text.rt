@@ -1,7 +1,8 @@
 //! Texts, rows of fields, and the one answer for want of memory.
 
-ghost use Rattle.std.specs.Prelude.{◌≡◌, ◌++◌, [], ◌∷◌, IfOk, OnOk, OnErr};
+ghost use Rattle.std.specs.Prelude.{◌≡◌, ◌++◌, [], IfOk, OnOk, OnErr};
 
+use crate::list::ListOf;
 use std::alloc::{AllocError, AllocFailed, Global};
 use std::marker::Model;
 
@@ -80,52 +81,4 @@ pub enum Field {
 }
 
 /// The fields of a row, one for each input or parameter, seen as the list of them.
-#[derive(Drop)]
-pub struct Fields {
-    items: Vec<Field>,
-}
-
-impl Model for Fields {
-    ghost use Rattle.std.specs.Prelude.{List};
-    ghost use Rattle.lola_value.specs.declared.text.Field.{Field};
-
-    ghost Value = { List Field };
-
-    ghost view = { λ a. a.items.items };
-}
-
-impl Fields {
-    /// No fields.
-    pub fn create(alloc: Global) -> Fields
-        ensures { result ≡ [] }
-    {
-        Fields {
-            items: Vec::new(alloc),
-        }
-    }
-
-    /// No fields, with room for so many.
-    pub fn with_room(alloc: Global, count: usize) -> Result<Fields, Memory>
-        ensures { IfOk result (λ fields. fields ≡ []) }
-    {
-        Ok(Fields {
-            items: Vec::with_capacity(alloc, count)?,
-        })
-    }
-
-    /// The fields in order.
-    pub fn as_slice(&self) -> &[Field]
-        ensures { result.now ≡ self.now }
-    {
-        self.items.as_slice()
-    }
-
-    /// Puts a field behind the others. Where there is no memory they are as they were.
-    pub fn push(&mut self, item: Field) -> Result<(), Memory>
-        ensures ok { OnOk result (self.new ≡ self.old ++ item ∷ []) }
-        ensures err { OnErr result (self.new ≡ self.old) }
-    {
-        self.items.push(item)?;
-        Ok(())
-    }
-}
+pub type Fields = ListOf<Field>;

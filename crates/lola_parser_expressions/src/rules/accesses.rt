@@ -1,7 +1,7 @@
 //! Names with their arguments, and how they are read.
 
 ghost use Rattle.std.specs.Prelude.{◌≡◌, IfOk, codes};
-ghost use Rattle.lola_parser_grammars_law.specs.Syntax.{Maybe, Then};
+ghost use Rattle.lola_parser_grammar.specs.Syntax.{Maybe, Then};
 ghost use Rattle.lola_lexer.specs.declared.shape.TokenShape.TheVariants as is;
 ghost use Rattle.lola_parser_grammar.specs.Cursor.{IsRead};
 ghost use Rattle.lola_parser_grammar.specs.Grammar.{◌*>◌, ◌<*◌};
@@ -43,7 +43,7 @@ fn or_else(alloc: Global, dot: u32, left: Expr, other: Option<Expr>) -> Result<E
 }
 
 /// Behind the bracket of an offset, `by: -n)`: how many values back, and the place of the number.
-#[tactic(auto, unfolding(lola_parser_grammars_law::specs::Syntax::read, lola_parser_grammars_law::specs::Syntax::first, lola_parser_grammars_law::specs::Syntax::nullable))]
+#[tactic(auto, unfolding(lola_parser_grammar::specs::Syntax::read, lola_parser_grammar::specs::Syntax::first, lola_parser_grammar::specs::Syntax::nullable))]
 fn steps_back(parser: &mut Parser<'_>) -> Result<(u128, u32), ParseError>
     ensures { IsRead (spec.word (codes "by") *> spec.token is.Colon *> spec.nesting is.Minus *> spec.integer <* spec.token is.Shut) parser.old result parser.new }
 {
@@ -55,7 +55,7 @@ fn steps_back(parser: &mut Parser<'_>) -> Result<(u128, u32), ParseError>
     Ok(found)
 }
 
-#[tactic(auto, unfolding(lola_parser_grammars_law::specs::Syntax::read, lola_parser_grammars_law::specs::Syntax::first, lola_parser_grammars_law::specs::Syntax::nullable, lola_parser_grammar::specs::Grammar::offset))]
+#[tactic(auto, unfolding(lola_parser_grammar::specs::Syntax::read, lola_parser_grammar::specs::Syntax::first, lola_parser_grammar::specs::Syntax::nullable, lola_parser_grammar::specs::Grammar::offset))]
 fn offset(parser: &mut Parser<'_>, dot: u32) -> Result<Reading, ParseError>
     ensures { IsRead (spec.at_dot dot spec.offset) parser.old result parser.new }
 {
@@ -65,7 +65,7 @@ fn offset(parser: &mut Parser<'_>, dot: u32) -> Result<Reading, ParseError>
     Ok((Access::Offset(dot, steps, at), None))
 }
 
-#[tactic(auto, unfolding(lola_parser_grammars_law::specs::Syntax::read, lola_parser_grammars_law::specs::Syntax::first, lola_parser_grammars_law::specs::Syntax::nullable, lola_parser_grammar::specs::Grammar::over, lola_parser_grammar::specs::Grammar::word))]
+#[tactic(auto, unfolding(lola_parser_grammar::specs::Syntax::read, lola_parser_grammar::specs::Syntax::first, lola_parser_grammar::specs::Syntax::nullable, lola_parser_grammar::specs::Grammar::over, lola_parser_grammar::specs::Grammar::word))]
 fn over(parser: &mut Parser<'_>) -> Result<bool, ParseError>
     ensures { IsRead spec.over parser.old result parser.new }
 {
@@ -79,7 +79,7 @@ fn over(parser: &mut Parser<'_>) -> Result<bool, ParseError>
 }
 
 /// How a window is aggregated, behind its length.
-#[tactic(auto, unfolding(lola_parser_grammars_law::specs::Syntax::read, lola_parser_grammars_law::specs::Syntax::first, lola_parser_grammars_law::specs::Syntax::nullable))]
+#[tactic(auto, unfolding(lola_parser_grammar::specs::Syntax::read, lola_parser_grammar::specs::Syntax::first, lola_parser_grammar::specs::Syntax::nullable))]
 fn aggregation(alloc: Global, parser: &mut Parser<'_>) -> Result<Name, ParseError>
     ensures { IsRead (spec.token is.Comma *> spec.word (codes "using") *> spec.token is.Colon *> spec.name) parser.old result parser.new }
 {
@@ -91,7 +91,7 @@ fn aggregation(alloc: Global, parser: &mut Parser<'_>) -> Result<Name, ParseErro
 }
 
 /// Whether a window is exact, its length, and how it is aggregated.
-#[tactic(auto, unfolding(lola_parser_grammars_law::specs::Syntax::read, lola_parser_grammars_law::specs::Syntax::first, lola_parser_grammars_law::specs::Syntax::nullable))]
+#[tactic(auto, unfolding(lola_parser_grammar::specs::Syntax::read, lola_parser_grammar::specs::Syntax::first, lola_parser_grammar::specs::Syntax::nullable))]
 fn windowed(alloc: Global, parser: &mut Parser<'_>) -> Result<(bool, (Quantity, Name)), ParseError>
     ensures { IsRead (Then spec.over (Then (spec.token is.Colon *> spec.quantity) (spec.token is.Comma *> spec.word (codes "using") *> spec.token is.Colon *> spec.name))) parser.old result parser.new }
 {
@@ -102,7 +102,7 @@ fn windowed(alloc: Global, parser: &mut Parser<'_>) -> Result<(bool, (Quantity, 
     Ok((is_exact, (length, aggregation)))
 }
 
-#[tactic(auto, unfolding(lola_parser_grammars_law::specs::Syntax::read, lola_parser_grammars_law::specs::Syntax::first, lola_parser_grammars_law::specs::Syntax::nullable, lola_parser_grammar::specs::Grammar::window))]
+#[tactic(auto, unfolding(lola_parser_grammar::specs::Syntax::read, lola_parser_grammar::specs::Syntax::first, lola_parser_grammar::specs::Syntax::nullable, lola_parser_grammar::specs::Grammar::window))]
 fn window(alloc: Global, parser: &mut Parser<'_>, dot: u32) -> Result<Reading, ParseError>
     ensures { IsRead (spec.at_dot dot spec.window) parser.old result parser.new }
 {
@@ -115,7 +115,7 @@ fn window(alloc: Global, parser: &mut Parser<'_>, dot: u32) -> Result<Reading, P
 
 impl<F: Fn(Global, &mut Parser<'_>, bool, usize) -> Result<Expr, ParseError>> Rules<F> {
     /// The arguments behind the first.
-    #[tactic(auto, unfolding(lola_parser_grammars_law::specs::Syntax::read, lola_parser_grammars_law::specs::Syntax::first, lola_parser_grammars_law::specs::Syntax::nullable, lola_parser_grammar::specs::Grammar::token))]
+    #[tactic(auto, unfolding(lola_parser_grammar::specs::Syntax::read, lola_parser_grammar::specs::Syntax::first, lola_parser_grammar::specs::Syntax::nullable, lola_parser_grammar::specs::Grammar::token))]
     fn more_arguments(
         &self,
         parser: &mut Parser<'_>,
@@ -137,7 +137,7 @@ impl<F: Fn(Global, &mut Parser<'_>, bool, usize) -> Result<Expr, ParseError>> Ru
     }
 
     /// Arguments in brackets: the opening one's place, and they.
-    #[tactic(auto, unfolding(lola_parser_grammars_law::specs::Syntax::read, lola_parser_grammars_law::specs::Syntax::first, lola_parser_grammars_law::specs::Syntax::nullable, lola_parser_grammar::specs::Grammar::arguments))]
+    #[tactic(auto, unfolding(lola_parser_grammar::specs::Syntax::read, lola_parser_grammar::specs::Syntax::first, lola_parser_grammar::specs::Syntax::nullable, lola_parser_grammar::specs::Grammar::arguments))]
     fn arguments(&self, parser: &mut Parser<'_>) -> Result<(u32, Items<Expr>), ParseError>
         requires { Nests self.now.depth (F.pre self.now.nested) (F.post self.now.nested) }
         ensures { IsRead (spec.arguments (spec.expr_in self.now.depth) (spec.other_in self.now.depth)) parser.old result parser.new }
@@ -152,7 +152,7 @@ impl<F: Fn(Global, &mut Parser<'_>, bool, usize) -> Result<Expr, ParseError>> Ru
     }
 
     /// In brackets, what stands in where there is no value, if it is written.
-    #[tactic(auto, unfolding(lola_parser_grammars_law::specs::Syntax::read, lola_parser_grammars_law::specs::Syntax::first, lola_parser_grammars_law::specs::Syntax::nullable, lola_parser_grammar::specs::Grammar::stand_in, lola_parser_grammar::specs::Grammar::word))]
+    #[tactic(auto, unfolding(lola_parser_grammar::specs::Syntax::read, lola_parser_grammar::specs::Syntax::first, lola_parser_grammar::specs::Syntax::nullable, lola_parser_grammar::specs::Grammar::stand_in, lola_parser_grammar::specs::Grammar::word))]
     fn stand_in(&self, parser: &mut Parser<'_>) -> Result<Option<Expr>, ParseError>
         requires { Nests self.now.depth (F.pre self.now.nested) (F.post self.now.nested) }
         ensures { IsRead (spec.stand_in (spec.expr_in self.now.depth) (spec.other_in self.now.depth)) parser.old result parser.new }
@@ -169,7 +169,7 @@ impl<F: Fn(Global, &mut Parser<'_>, bool, usize) -> Result<Expr, ParseError>> Ru
         Ok(found)
     }
 
-    #[tactic(auto, unfolding(lola_parser_grammars_law::specs::Syntax::read, lola_parser_grammars_law::specs::Syntax::first, lola_parser_grammars_law::specs::Syntax::nullable, lola_parser_grammar::specs::Grammar::hold))]
+    #[tactic(auto, unfolding(lola_parser_grammar::specs::Syntax::read, lola_parser_grammar::specs::Syntax::first, lola_parser_grammar::specs::Syntax::nullable, lola_parser_grammar::specs::Grammar::hold))]
     fn hold(&self, parser: &mut Parser<'_>, dot: u32) -> Result<Reading, ParseError>
         requires { Nests self.now.depth (F.pre self.now.nested) (F.post self.now.nested) }
         ensures { IsRead (spec.at_dot dot (spec.hold (spec.expr_in self.now.depth) (spec.other_in self.now.depth))) parser.old result parser.new }
@@ -179,7 +179,7 @@ impl<F: Fn(Global, &mut Parser<'_>, bool, usize) -> Result<Expr, ParseError>> Ru
         Ok((Access::Hold(dot), other))
     }
 
-    #[tactic(auto, unfolding(lola_parser_grammars_law::specs::Syntax::read, lola_parser_grammars_law::specs::Syntax::first, lola_parser_grammars_law::specs::Syntax::nullable, lola_parser_grammar::specs::Grammar::get))]
+    #[tactic(auto, unfolding(lola_parser_grammar::specs::Syntax::read, lola_parser_grammar::specs::Syntax::first, lola_parser_grammar::specs::Syntax::nullable, lola_parser_grammar::specs::Grammar::get))]
     fn get(&self, parser: &mut Parser<'_>, dot: u32) -> Result<Reading, ParseError>
         requires { Nests self.now.depth (F.pre self.now.nested) (F.post self.now.nested) }
         ensures { IsRead (spec.at_dot dot (spec.get (spec.expr_in self.now.depth) (spec.other_in self.now.depth))) parser.old result parser.new }
@@ -190,7 +190,7 @@ impl<F: Fn(Global, &mut Parser<'_>, bool, usize) -> Result<Expr, ParseError>> Ru
     }
 
     /// `last` is the offset by 1.
-    #[tactic(auto, unfolding(lola_parser_grammars_law::specs::Syntax::read, lola_parser_grammars_law::specs::Syntax::first, lola_parser_grammars_law::specs::Syntax::nullable, lola_parser_grammar::specs::Grammar::last))]
+    #[tactic(auto, unfolding(lola_parser_grammar::specs::Syntax::read, lola_parser_grammar::specs::Syntax::first, lola_parser_grammar::specs::Syntax::nullable, lola_parser_grammar::specs::Grammar::last))]
     fn last(&self, parser: &mut Parser<'_>, dot: u32) -> Result<Reading, ParseError>
         requires { Nests self.now.depth (F.pre self.now.nested) (F.post self.now.nested) }
         ensures { IsRead (spec.at_dot dot (spec.last (spec.expr_in self.now.depth) (spec.other_in self.now.depth))) parser.old result parser.new }
@@ -201,7 +201,7 @@ impl<F: Fn(Global, &mut Parser<'_>, bool, usize) -> Result<Expr, ParseError>> Ru
     }
 
     /// What stands behind the point after a name.
-    #[tactic(auto, using(lola_parser_cursor::proofs::Starts::starts_more), unfolding(lola_parser_grammars_law::specs::Syntax::read, lola_parser_grammars_law::specs::Syntax::first, lola_parser_grammars_law::specs::Syntax::nullable, lola_parser_grammar::specs::Grammar::reading, lola_parser_grammar::specs::Grammar::offset, lola_parser_grammar::specs::Grammar::hold, lola_parser_grammar::specs::Grammar::get, lola_parser_grammar::specs::Grammar::last, lola_parser_grammar::specs::Grammar::window, lola_parser_grammar::specs::Grammar::word))]
+    #[tactic(auto, using(lola_parser_cursor::proofs::Starts::starts_more), unfolding(lola_parser_grammar::specs::Syntax::read, lola_parser_grammar::specs::Syntax::first, lola_parser_grammar::specs::Syntax::nullable, lola_parser_grammar::specs::Grammar::reading, lola_parser_grammar::specs::Grammar::offset, lola_parser_grammar::specs::Grammar::hold, lola_parser_grammar::specs::Grammar::get, lola_parser_grammar::specs::Grammar::last, lola_parser_grammar::specs::Grammar::window, lola_parser_grammar::specs::Grammar::word))]
     fn reading(&self, parser: &mut Parser<'_>, dot: u32) -> Result<Reading, ParseError>
         requires { Nests self.now.depth (F.pre self.now.nested) (F.post self.now.nested) }
         ensures { IsRead (spec.at_dot dot (spec.reading (spec.expr_in self.now.depth) (spec.other_in self.now.depth))) parser.old result parser.new }
@@ -225,7 +225,7 @@ impl<F: Fn(Global, &mut Parser<'_>, bool, usize) -> Result<Expr, ParseError>> Ru
         Ok((Access::Direct, Some(other)))
     }
 
-    #[tactic(auto, unfolding(lola_parser_grammars_law::specs::Syntax::read, lola_parser_grammars_law::specs::Syntax::first, lola_parser_grammars_law::specs::Syntax::nullable, lola_parser_grammar::specs::Grammar::arguments, lola_parser_grammar::specs::Grammar::nesting))]
+    #[tactic(auto, unfolding(lola_parser_grammar::specs::Syntax::read, lola_parser_grammar::specs::Syntax::first, lola_parser_grammar::specs::Syntax::nullable, lola_parser_grammar::specs::Grammar::arguments, lola_parser_grammar::specs::Grammar::nesting))]
     fn maybe_arguments(&self, parser: &mut Parser<'_>) -> Result<Option<Arguments>, ParseError>
         requires { Nests self.now.depth (F.pre self.now.nested) (F.post self.now.nested) }
         ensures { IsRead (Maybe (spec.arguments (spec.expr_in self.now.depth) (spec.other_in self.now.depth))) parser.old result parser.new }
@@ -238,7 +238,7 @@ impl<F: Fn(Global, &mut Parser<'_>, bool, usize) -> Result<Expr, ParseError>> Ru
     }
 
     /// The point behind a name, and what it brings.
-    #[tactic(auto, unfolding(lola_parser_grammars_law::specs::Syntax::read, lola_parser_grammars_law::specs::Syntax::first, lola_parser_grammars_law::specs::Syntax::nullable, lola_parser_grammar::specs::Grammar::dotted))]
+    #[tactic(auto, unfolding(lola_parser_grammar::specs::Syntax::read, lola_parser_grammar::specs::Syntax::first, lola_parser_grammar::specs::Syntax::nullable, lola_parser_grammar::specs::Grammar::dotted))]
     fn dotted(
         &self,
         parser: &mut Parser<'_>,
@@ -255,7 +255,7 @@ impl<F: Fn(Global, &mut Parser<'_>, bool, usize) -> Result<Expr, ParseError>> Ru
     }
 
     /// All that follows a name with a point behind it.
-    #[tactic(auto, unfolding(lola_parser_grammars_law::specs::Syntax::read, lola_parser_grammars_law::specs::Syntax::first, lola_parser_grammars_law::specs::Syntax::nullable, lola_parser_grammar::specs::Grammar::suffix))]
+    #[tactic(auto, unfolding(lola_parser_grammar::specs::Syntax::read, lola_parser_grammar::specs::Syntax::first, lola_parser_grammar::specs::Syntax::nullable, lola_parser_grammar::specs::Grammar::suffix))]
     fn suffixed(
         &self,
         parser: &mut Parser<'_>,
@@ -270,7 +270,7 @@ impl<F: Fn(Global, &mut Parser<'_>, bool, usize) -> Result<Expr, ParseError>> Ru
     }
 
     /// An operand that begins with a name.
-    #[tactic(auto, unfolding(lola_parser_grammars_law::specs::Syntax::read, lola_parser_grammars_law::specs::Syntax::first, lola_parser_grammars_law::specs::Syntax::nullable, lola_parser_grammar::specs::Grammar::named, lola_parser_grammar::specs::Grammar::suffix, lola_parser_grammar::specs::Grammar::dotted, lola_parser_grammar::specs::Grammar::nesting))]
+    #[tactic(auto, unfolding(lola_parser_grammar::specs::Syntax::read, lola_parser_grammar::specs::Syntax::first, lola_parser_grammar::specs::Syntax::nullable, lola_parser_grammar::specs::Grammar::named, lola_parser_grammar::specs::Grammar::suffix, lola_parser_grammar::specs::Grammar::dotted, lola_parser_grammar::specs::Grammar::nesting))]
     pub(crate) fn named(&self, parser: &mut Parser<'_>) -> Result<Expr, ParseError>
         requires { Nests self.now.depth (F.pre self.now.nested) (F.post self.now.nested) }
         ensures { IsRead (spec.named (spec.expr_in self.now.depth) (spec.other_in self.now.depth)) parser.old result parser.new }

@@ -19,7 +19,7 @@ use std::alloc::Global;
 
 impl<F: Fn(Global, &mut Parser<'_>, bool, usize) -> Result<Expr, ParseError>> Rules<F> {
     /// Behind the bracket of a default, `to: e)`.
-    #[tactic(auto, unfolding(lola_parser_grammars_law::specs::Syntax::read, lola_parser_grammars_law::specs::Syntax::first, lola_parser_grammars_law::specs::Syntax::nullable))]
+    #[tactic(auto, unfolding(lola_parser_grammar::specs::Syntax::read, lola_parser_grammar::specs::Syntax::first, lola_parser_grammar::specs::Syntax::nullable))]
     fn default_value(&self, parser: &mut Parser<'_>) -> Result<Expr, ParseError>
         requires { Nests self.now.depth (F.pre self.now.nested) (F.post self.now.nested) }
         ensures { IsRead (spec.word (codes "to") *> spec.token is.Colon *> spec.expr_in self.now.depth <* spec.token is.Shut) parser.old result parser.new }
@@ -32,7 +32,7 @@ impl<F: Fn(Global, &mut Parser<'_>, bool, usize) -> Result<Expr, ParseError>> Ru
     }
 
     /// Behind a point, `defaults(to: e)`.
-    #[tactic(auto, unfolding(lola_parser_grammars_law::specs::Syntax::read, lola_parser_grammars_law::specs::Syntax::first, lola_parser_grammars_law::specs::Syntax::nullable, lola_parser_grammar::specs::Grammar::default))]
+    #[tactic(auto, unfolding(lola_parser_grammar::specs::Syntax::read, lola_parser_grammar::specs::Syntax::first, lola_parser_grammar::specs::Syntax::nullable, lola_parser_grammar::specs::Grammar::default))]
     pub(crate) fn default(&self, parser: &mut Parser<'_>) -> Result<Expr, ParseError>
         requires { Nests self.now.depth (F.pre self.now.nested) (F.post self.now.nested) }
         ensures { IsRead (spec.default (spec.expr_in self.now.depth) (spec.other_in self.now.depth)) parser.old result parser.new }
@@ -44,7 +44,7 @@ impl<F: Fn(Global, &mut Parser<'_>, bool, usize) -> Result<Expr, ParseError>> Ru
     }
 
     /// The defaults behind an operand.
-    #[tactic(auto, unfolding(lola_parser_grammars_law::specs::Syntax::read, lola_parser_grammars_law::specs::Syntax::first, lola_parser_grammars_law::specs::Syntax::nullable, lola_parser_grammar::specs::Grammar::defaults, lola_parser_grammar::specs::Grammar::dotted_default, lola_parser_grammar::specs::Grammar::nesting))]
+    #[tactic(auto, unfolding(lola_parser_grammar::specs::Syntax::read, lola_parser_grammar::specs::Syntax::first, lola_parser_grammar::specs::Syntax::nullable, lola_parser_grammar::specs::Grammar::defaults, lola_parser_grammar::specs::Grammar::dotted_default, lola_parser_grammar::specs::Grammar::nesting))]
     pub(crate) fn with_defaults(
         &self,
         parser: &mut Parser<'_>,
@@ -66,7 +66,7 @@ impl<F: Fn(Global, &mut Parser<'_>, bool, usize) -> Result<Expr, ParseError>> Ru
     }
 
     /// An operand that begins with an integer.
-    #[tactic(auto, unfolding(lola_parser_grammars_law::specs::Syntax::read, lola_parser_grammars_law::specs::Syntax::first, lola_parser_grammars_law::specs::Syntax::nullable, lola_parser_grammar::specs::Grammar::number))]
+    #[tactic(auto, unfolding(lola_parser_grammar::specs::Syntax::read, lola_parser_grammar::specs::Syntax::first, lola_parser_grammar::specs::Syntax::nullable, lola_parser_grammar::specs::Grammar::number))]
     pub(crate) fn number(&self, parser: &mut Parser<'_>) -> Result<Expr, ParseError>
         requires { Nests self.now.depth (F.pre self.now.nested) (F.post self.now.nested) }
         ensures { IsRead (spec.number (spec.expr_in self.now.depth) (spec.other_in self.now.depth)) parser.old result parser.new }
@@ -77,7 +77,7 @@ impl<F: Fn(Global, &mut Parser<'_>, bool, usize) -> Result<Expr, ParseError>> Ru
     }
 
     /// An operand that begins with a bracket.
-    #[tactic(auto, unfolding(lola_parser_grammars_law::specs::Syntax::read, lola_parser_grammars_law::specs::Syntax::first, lola_parser_grammars_law::specs::Syntax::nullable, lola_parser_grammar::specs::Grammar::bracketed))]
+    #[tactic(auto, unfolding(lola_parser_grammar::specs::Syntax::read, lola_parser_grammar::specs::Syntax::first, lola_parser_grammar::specs::Syntax::nullable, lola_parser_grammar::specs::Grammar::bracketed))]
     pub(crate) fn bracketed(&self, parser: &mut Parser<'_>) -> Result<Expr, ParseError>
         requires { Nests self.now.depth (F.pre self.now.nested) (F.post self.now.nested) }
         ensures { IsRead (spec.bracketed (spec.expr_in self.now.depth) (spec.other_in self.now.depth)) parser.old result parser.new }
@@ -88,7 +88,7 @@ impl<F: Fn(Global, &mut Parser<'_>, bool, usize) -> Result<Expr, ParseError>> Ru
         self.with_defaults(parser, found)
     }
 
-    #[tactic(auto, unfolding(lola_parser_grammars_law::specs::Syntax::read, lola_parser_grammars_law::specs::Syntax::first, lola_parser_grammars_law::specs::Syntax::nullable, lola_parser_grammar::specs::Grammar::worded))]
+    #[tactic(auto, unfolding(lola_parser_grammar::specs::Syntax::read, lola_parser_grammar::specs::Syntax::first, lola_parser_grammar::specs::Syntax::nullable, lola_parser_grammar::specs::Grammar::worded))]
     fn worded(&self, parser: &mut Parser<'_>) -> Result<Expr, ParseError>
         requires { Nests self.now.depth (F.pre self.now.nested) (F.post self.now.nested) }
         ensures { IsRead (spec.worded (spec.expr_in self.now.depth) (spec.other_in self.now.depth)) parser.old result parser.new }
@@ -97,7 +97,7 @@ impl<F: Fn(Global, &mut Parser<'_>, bool, usize) -> Result<Expr, ParseError>> Ru
         self.with_defaults(parser, Expr::Literal(literal))
     }
 
-    #[tactic(auto, unfolding(lola_parser_grammars_law::specs::Syntax::read, lola_parser_grammars_law::specs::Syntax::first, lola_parser_grammars_law::specs::Syntax::nullable, lola_parser_grammar::specs::Grammar::negation))]
+    #[tactic(auto, unfolding(lola_parser_grammar::specs::Syntax::read, lola_parser_grammar::specs::Syntax::first, lola_parser_grammar::specs::Syntax::nullable, lola_parser_grammar::specs::Grammar::negation))]
     fn negation(&self, parser: &mut Parser<'_>) -> Result<Expr, ParseError>
         requires { Nests self.now.depth (F.pre self.now.nested) (F.post self.now.nested) }
         ensures { IsRead (spec.negation (spec.expr_in self.now.depth) (spec.other_in self.now.depth)) parser.old result parser.new }
@@ -107,7 +107,7 @@ impl<F: Fn(Global, &mut Parser<'_>, bool, usize) -> Result<Expr, ParseError>> Ru
         Ok(prefix(self.alloc, Prefix::Not, at, inner)?)
     }
 
-    #[tactic(auto, unfolding(lola_parser_grammars_law::specs::Syntax::read, lola_parser_grammars_law::specs::Syntax::first, lola_parser_grammars_law::specs::Syntax::nullable, lola_parser_grammar::specs::Grammar::operand, lola_parser_grammar::specs::Grammar::number, lola_parser_grammar::specs::Grammar::integer))]
+    #[tactic(auto, unfolding(lola_parser_grammar::specs::Syntax::read, lola_parser_grammar::specs::Syntax::first, lola_parser_grammar::specs::Syntax::nullable, lola_parser_grammar::specs::Grammar::operand, lola_parser_grammar::specs::Grammar::number, lola_parser_grammar::specs::Grammar::integer))]
     fn operand(&self, parser: &mut Parser<'_>) -> Result<Expr, ParseError>
         requires { Nests self.now.depth (F.pre self.now.nested) (F.post self.now.nested) }
         ensures { IsRead (spec.operand (spec.expr_in self.now.depth) (spec.other_in self.now.depth)) parser.old result parser.new }
@@ -120,7 +120,7 @@ impl<F: Fn(Global, &mut Parser<'_>, bool, usize) -> Result<Expr, ParseError>> Ru
     }
 
     /// A `-` directly before an integer makes one literal with it.
-    #[tactic(auto, unfolding(lola_parser_grammars_law::specs::Syntax::read, lola_parser_grammars_law::specs::Syntax::first, lola_parser_grammars_law::specs::Syntax::nullable, lola_parser_grammar::specs::Grammar::minus, lola_parser_grammar::specs::Grammar::negative, lola_parser_grammar::specs::Grammar::integer))]
+    #[tactic(auto, unfolding(lola_parser_grammar::specs::Syntax::read, lola_parser_grammar::specs::Syntax::first, lola_parser_grammar::specs::Syntax::nullable, lola_parser_grammar::specs::Grammar::minus, lola_parser_grammar::specs::Grammar::negative, lola_parser_grammar::specs::Grammar::integer))]
     fn minus(&self, parser: &mut Parser<'_>) -> Result<Expr, ParseError>
         requires { Nests self.now.depth (F.pre self.now.nested) (F.post self.now.nested) }
         ensures { IsRead (spec.minus (spec.expr_in self.now.depth) (spec.other_in self.now.depth)) parser.old result parser.new }
@@ -136,7 +136,7 @@ impl<F: Fn(Global, &mut Parser<'_>, bool, usize) -> Result<Expr, ParseError>> Ru
     }
 
     /// An operand that begins with no integer and no bracket.
-    #[tactic(auto, using(lola_parser_cursor::proofs::Starts::starts_more), unfolding(lola_parser_grammars_law::specs::Syntax::read, lola_parser_grammars_law::specs::Syntax::first, lola_parser_grammars_law::specs::Syntax::nullable, lola_parser_grammar::specs::Grammar::plain, lola_parser_grammar::specs::Grammar::negation, lola_parser_grammar::specs::Grammar::minus, lola_parser_grammar::specs::Grammar::named, lola_parser_grammar::specs::Grammar::name, lola_parser_grammar::specs::Grammar::nesting))]
+    #[tactic(auto, using(lola_parser_cursor::proofs::Starts::starts_more), unfolding(lola_parser_grammar::specs::Syntax::read, lola_parser_grammar::specs::Syntax::first, lola_parser_grammar::specs::Syntax::nullable, lola_parser_grammar::specs::Grammar::plain, lola_parser_grammar::specs::Grammar::negation, lola_parser_grammar::specs::Grammar::minus, lola_parser_grammar::specs::Grammar::named, lola_parser_grammar::specs::Grammar::name, lola_parser_grammar::specs::Grammar::nesting))]
     pub(crate) fn plain(&self, parser: &mut Parser<'_>) -> Result<Expr, ParseError>
         requires { Nests self.now.depth (F.pre self.now.nested) (F.post self.now.nested) }
         ensures { IsRead (spec.plain (spec.expr_in self.now.depth) (spec.other_in self.now.depth)) parser.old result parser.new }
@@ -154,7 +154,7 @@ impl<F: Fn(Global, &mut Parser<'_>, bool, usize) -> Result<Expr, ParseError>> Ru
     }
 
     /// An operand that begins with no integer.
-    #[tactic(auto, unfolding(lola_parser_grammars_law::specs::Syntax::read, lola_parser_grammars_law::specs::Syntax::first, lola_parser_grammars_law::specs::Syntax::nullable, lola_parser_grammar::specs::Grammar::other_with, lola_parser_grammar::specs::Grammar::bracketed, lola_parser_grammar::specs::Grammar::nesting))]
+    #[tactic(auto, unfolding(lola_parser_grammar::specs::Syntax::read, lola_parser_grammar::specs::Syntax::first, lola_parser_grammar::specs::Syntax::nullable, lola_parser_grammar::specs::Grammar::other_with, lola_parser_grammar::specs::Grammar::bracketed, lola_parser_grammar::specs::Grammar::nesting))]
     pub(crate) fn other_with(&self, parser: &mut Parser<'_>) -> Result<Expr, ParseError>
         requires { Nests self.now.depth (F.pre self.now.nested) (F.post self.now.nested) }
         ensures { IsRead (spec.other_with (spec.expr_in self.now.depth) (spec.other_in self.now.depth)) parser.old result parser.new }
@@ -167,7 +167,7 @@ impl<F: Fn(Global, &mut Parser<'_>, bool, usize) -> Result<Expr, ParseError>> Ru
     }
 
     /// An operand.
-    #[tactic(auto, unfolding(lola_parser_grammars_law::specs::Syntax::read, lola_parser_grammars_law::specs::Syntax::first, lola_parser_grammars_law::specs::Syntax::nullable, lola_parser_grammar::specs::Grammar::unary, lola_parser_grammar::specs::Grammar::number, lola_parser_grammar::specs::Grammar::integer))]
+    #[tactic(auto, unfolding(lola_parser_grammar::specs::Syntax::read, lola_parser_grammar::specs::Syntax::first, lola_parser_grammar::specs::Syntax::nullable, lola_parser_grammar::specs::Grammar::unary, lola_parser_grammar::specs::Grammar::number, lola_parser_grammar::specs::Grammar::integer))]
     pub(crate) fn unary(&self, parser: &mut Parser<'_>) -> Result<Expr, ParseError>
         requires { Nests self.now.depth (F.pre self.now.nested) (F.post self.now.nested) }
         ensures { IsRead (spec.unary (spec.expr_in self.now.depth) (spec.other_in self.now.depth)) parser.old result parser.new }

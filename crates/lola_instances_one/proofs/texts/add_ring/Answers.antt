@@ -1,7 +1,7 @@
 -- The ring's values are told from the oldest on, so each is followed by those behind it.
 use Rattle.std.proofs.Common.{◌≡◌, List, ◌++◌, ◌+◌, ◌-◌, length, drop, ap, sym, ◌∙◌, arith, append_assoc}
 use Rattle.lola_value.specs.declared.value.TextId.{TextId}
-use Rattle.lola_text_sweep.specs.Needed.{texts_in, text_of_outcome}
+use Rattle.lola_text.specs.Needed.{texts_in, text_of_outcome}
 use Rattle.lola_buffer.specs.Kept.{before_newest}
 use Rattle.lola_instances_one.specs.Holdings.{value_or_missing}
 use Rattle.lola_instances_one.proofs.Needing.{texts_from}

@@ -1,5 +1,5 @@
 use Rattle.std.proofs.Common.{◌≡◌, ◌++◌, drop}
-use Rattle.lola_text_sweep.specs.Needed.{texts_in}
+use Rattle.lola_text.specs.Needed.{texts_in}
 use Rattle.lola_instances_one.proofs.texts.add_ring.Given as goal
 
 abbrev pub invariant-loop-i : goal.invariant-loop-i

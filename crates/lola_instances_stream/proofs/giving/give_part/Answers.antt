@@ -1,5 +1,5 @@
 -- One more cell is given its outcome.
-use Rattle.std.proofs.Common.{◌≡◌, ◌∙◌, ℕ, ◌<◌, Option, length, arith, sym, subst, slice_get, get_or, set, below_more}
+use Rattle.std.proofs.Common.{◌∙◌, ℕ, ◌<◌, Option, length, arith, sym, subst, slice_get, get_or, set, below_more}
 use Rattle.std.proofs.lemmas.List.{get_or-set_same, get_or-set_other, get_or_default, length-set}
 use Rattle.lola_instances_one.specs.Holdings.{Holdings}
 use Rattle.lola_instances_stream.specs.Cells.{IsSlotChanged}

@@ -1,7 +1,7 @@
 use Rattle.std.proofs.Common.{◌≡◌, ℕ, ◌+◌, suc, true, false, Some, None, List, take, drop, [], ◌∷◌, get_or, sym, ap, ◌∙◌, arith}
 use Rattle.lola_lexer.specs.declared.shape.TokenShape.TheVariants as is
 use Rattle.lola_lexer.specs.declared.token.Token.{Token}
-use Rattle.lola_parser_grammars_law.specs.Syntax.{Of, starts}
+use Rattle.lola_parser_grammar.specs.Syntax.{Of, starts}
 use Rattle.lola_parser_grammar.specs.Cursor.{lexeme, lexemes}
 use Rattle.lola_parser.specs.Looking.{is_either, IsLast}
 use Rattle.lola_parser.specs.Places.{clause_words, cut_last, is_spawn, behind_with}

@@ -1,6 +1,6 @@
 use Rattle.std.proofs.Common.{Some, None, sym, ap, ◌∙◌}
 use Rattle.lola_lexer.specs.declared.shape.TokenShape.TheVariants as is
-use Rattle.lola_parser_grammars_law.specs.Syntax.{fits}
+use Rattle.lola_parser_grammar.specs.Syntax.{fits}
 use Rattle.lola_parser.specs.Looking.{is_either}
 use Rattle.lola_parser.specs.Places.{clause_words, is_spawn}
 use Rattle.lola_parser.proofs.Cuts.{either_tells, cut_of}

@@ -1,7 +1,7 @@
 use Rattle.std.proofs.Common.{ℕ, List, ◌∷◌, length, Result, Ok, Err, get_or, drop, sym, ap, ◌∙◌}
 use Rattle.lola_lexer.specs.declared.shape.TokenShape.TheVariants as is
 use Rattle.lola_lexer.specs.declared.token.Token.{Token}
-use Rattle.lola_parser_grammars_law.specs.Syntax.{Lexeme}
+use Rattle.lola_parser_grammar.specs.Syntax.{Lexeme}
 use Rattle.std.specs.Result.{IfOk}
 use Rattle.lola_value.specs.declared.text.Memory.{Memory}
 use Rattle.lola_parser_grammar.specs.Cursor.{lexemes}

@@ -1,6 +1,6 @@
 use Rattle.std.proofs.Common.{◌≡◌, true, Some, None, get_or, take, drop, sym, ap, ◌∙◌}
 use Rattle.lola_lexer.specs.declared.token.Token.{Token}
-use Rattle.lola_parser_grammars_law.specs.Nestings.{nestings_in}
+use Rattle.lola_parser_grammar.specs.Nestings.{nestings_in}
 use Rattle.lola_parser_grammar.specs.Cursor.{lexemes}
 use Rattle.lola_parser_grammar.specs.Grammar.{all_nestings}
 use Rattle.lola_parser.specs.Looking.{is_nesting_shape}

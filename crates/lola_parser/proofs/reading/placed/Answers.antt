@@ -1,8 +1,8 @@
 use Rattle.std.proofs.Common.{◌≡◌, ℕ, List, ◌∷◌, ◌++◌, Err, refl, ap, ◌∙◌, inl, inr, length, rules}
 use Rattle.lola_value.specs.declared.front.Refusal.{Refusal}
 use Rattle.lola_value.specs.declared.front.Code.TheVariants as code
-use Rattle.lola_parser_grammars_law.specs.Syntax.{Lexeme}
-use Rattle.lola_parser_grammars_law.specs.Syntax as reading
+use Rattle.lola_parser_grammar.specs.Syntax.{Lexeme}
+use Rattle.lola_parser_grammar.specs.Syntax as reading
 use Rattle.lola_parser_grammar.specs.Cursor.{lexemes, place_of}
 use Rattle.lola_parser_grammar.specs.Whole.{Stopped}
 use Rattle.lola_parser.specs.Places.{IsPlacedAt, place_too_deep}

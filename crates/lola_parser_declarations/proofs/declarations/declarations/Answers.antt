@@ -1,6 +1,6 @@
 use Rattle.std.proofs.Common.{rules, arith, ◌≡◌, ◌-◌, ◌+◌, ◌∙◌, length, true, Ok}
 use Rattle.std.proofs.lemmas.Grind.{common_steps}
-use Rattle.lola_parser_grammars_law.specs.Syntax.{starts, read, first}
+use Rattle.lola_parser_grammar.specs.Syntax.{starts, read, first}
 use Rattle.lola_parser_grammar.specs.Grammar.{declaration, specification}
 use Rattle.lola_parser_cursor.proofs.Joins.{goes_on, snoc, all_begins, goes_fails, goes_further}
 use Rattle.lola_parser_cursor.proofs.Turns.{one_more}

@@ -1,5 +1,5 @@
 use Rattle.std.proofs.Common.{◌≡◌, ◌-◌}
-use Rattle.lola_parser_grammars_law.specs.Syntax.{read}
+use Rattle.lola_parser_grammar.specs.Syntax.{read}
 use Rattle.lola_parser_grammar.specs.Grammar.{declaration, specification}
 use Rattle.lola_parser_cursor.proofs.Joins.{goes_on, snoc}
 use Rattle.lola_parser_declarations.proofs.declarations.declarations.Given as goal

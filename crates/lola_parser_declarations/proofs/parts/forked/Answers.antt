@@ -1,7 +1,7 @@
 use Rattle.std.proofs.Common.{arith, ◌≡◌, suc, ◌-◌, ◌<◌, ◌∙◌, ap, true, false, List, [], ◌∷◌, Ok}
 use Rattle.std.proofs.lemmas.Grind.{common_steps}
 use Rattle.lola_lexer.specs.declared.shape.TokenShape.TheVariants as is
-use Rattle.lola_parser_grammars_law.specs.Syntax.{Terminal, Of, starts, first, read, max_nestings}
+use Rattle.lola_parser_grammar.specs.Syntax.{Terminal, Of, starts, first, read, max_nestings}
 use Rattle.lola_parser_grammar.specs.Grammar.{all_nestings, expr_in, more_parts, one_part, forked}
 use Rattle.lola_parser_grammar.proofs.Fine.{more_parts_first, one_part_first}
 use Rattle.lola_parser_declarations.proofs.Forks.{shorter, fork_list, fork_stops, fork_deep, fork_one}

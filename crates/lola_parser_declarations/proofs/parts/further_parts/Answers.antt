@@ -1,7 +1,7 @@
 use Rattle.std.proofs.Common.{rules, arith, ◌≡◌, ◌-◌, ◌+◌, ◌∙◌, length, true, Ok}
 use Rattle.std.proofs.lemmas.Grind.{common_steps}
 use Rattle.lola_lexer.specs.declared.shape.TokenShape.TheVariants as is
-use Rattle.lola_parser_grammars_law.specs.Syntax.{starts, read, first, nullable}
+use Rattle.lola_parser_grammar.specs.Syntax.{starts, read, first, nullable}
 use Rattle.lola_parser_grammar.specs.Grammar.{token, part_behind}
 use Rattle.lola_parser_cursor.proofs.Joins.{goes_on, snoc, list_begins, goes_fails, goes_further}
 use Rattle.lola_parser_cursor.proofs.Turns.{one_more}

@@ -1,6 +1,6 @@
 use Rattle.std.proofs.Common.{◌≡◌, ◌-◌}
 use Rattle.lola_lexer.specs.declared.shape.TokenShape.TheVariants as is
-use Rattle.lola_parser_grammars_law.specs.Syntax.{read}
+use Rattle.lola_parser_grammar.specs.Syntax.{read}
 use Rattle.lola_parser_grammar.specs.Grammar.{added, part_behind}
 use Rattle.lola_parser_cursor.proofs.Joins.{goes_on, snoc}
 use Rattle.lola_parser_declarations.proofs.parts.further_parts.Given as goal

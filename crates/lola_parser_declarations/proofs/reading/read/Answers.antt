@@ -1,5 +1,5 @@
 use Rattle.std.proofs.Common.{arith, refl, ◌≡◌, Ok, Err, inl, inr}
-use Rattle.lola_parser_grammars_law.specs.Syntax.{read, max_nestings, Unexpected, TooDeep}
+use Rattle.lola_parser_grammar.specs.Syntax.{read, max_nestings, Unexpected, TooDeep}
 use Rattle.lola_parser_grammar.specs.Cursor.{lexemes}
 use Rattle.lola_parser_grammar.specs.Grammar.{specification}
 use Rattle.lola_parser_grammar.proofs.Ends.{all_ok, all_left, all_err}

@@ -1,6 +1,6 @@
 use Rattle.std.proofs.Common.{List, ◌≡◌, ◌++◌, ◌+◌, take, subst, sym, ap, ◌∙◌}
 use Rattle.lola_lexer.specs.declared.shape.TokenShape.TheVariants as is
-use Rattle.lola_parser_grammars_law.specs.Syntax.{Lexeme}
+use Rattle.lola_parser_grammar.specs.Syntax.{Lexeme}
 use Rattle.lola_parser_print.specs.Print as out
 use Rattle.lola_parser_print.proofs.Writing.{adds_more, each_more}
 use Rattle.lola_parser_print.proofs.clauses.further_parts.Goals as goal

@@ -1,5 +1,5 @@
 use Rattle.std.proofs.Common.{List, ◌≡◌, ◌++◌, ◌+◌, take, subst, sym, ap, ◌∙◌}
-use Rattle.lola_parser_grammars_law.specs.Syntax.{Lexeme}
+use Rattle.lola_parser_grammar.specs.Syntax.{Lexeme}
 use Rattle.lola_parser_print.specs.Print as out
 use Rattle.lola_parser_print.proofs.Writing.{adds_more, each_more}
 use Rattle.lola_parser_print.proofs.declarations.declarations.Goals as goal

@@ -1,7 +1,7 @@
 use Rattle.std.proofs.Common.{List, ◌∷◌, [], ◌++◌, ◌≡◌, ◌-◌, ◌+◌, subst, length, take, drop, refl, sym, ap, ap₂, ◌∙◌, append_assoc}
 use Rattle.std.specs.Prelude.{codes, nat_lt}
 use Rattle.lola_lexer.specs.declared.shape.TokenShape.TheVariants as is
-use Rattle.lola_parser_grammars_law.specs.Syntax.{Lexeme}
+use Rattle.lola_parser_grammar.specs.Syntax.{Lexeme}
 use Rattle.lola_parser_print.specs.Print as out
 use Rattle.lola_parser_print.specs.Print.{lex, bare, print, second, spelled_out}
 use Rattle.lola_parser_print.proofs.Writing.{ends_more, ends_bytes, adds_more, fitted_parts, spelled-append, further_more, args_whole}

@@ -1,5 +1,5 @@
 use Rattle.std.proofs.Common.{◌∙◌}
-use Rattle.lola_rows_csv.proofs.Searches.{found-any}
+use Rattle.lola_rows.proofs.Searches.{found-any}
 use Rattle.lola_rows.specs.Lines.{is_return}
 use Rattle.lola_rows.proofs.checks.has_return.Goals as goal
 

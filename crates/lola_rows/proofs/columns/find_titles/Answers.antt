@@ -1,6 +1,6 @@
 use Rattle.std.proofs.Common.{◌∙◌, ◌+◌, ◌<◌, arith, sym, ap, map, drop, length, Bool}
 use Rattle.csv.specs.Records.{fields_of}
-use Rattle.lola_rows_csv.specs.Blanks.{trimmed}
+use Rattle.lola_rows.specs.Blanks.{trimmed}
 use Rattle.lola_rows.specs.Places.{after_title, is_wanted, places_from}
 use Rattle.lola_rows.specs.declared.columns.Places.{Places}
 use Rattle.lola_rows.proofs.Placing.{next-title}

@@ -1,6 +1,6 @@
 use Rattle.std.proofs.Common.{◌≡◌, drop, map}
 use Rattle.csv.specs.Records.{fields_of}
-use Rattle.lola_rows_csv.specs.Blanks.{trimmed}
+use Rattle.lola_rows.specs.Blanks.{trimmed}
 use Rattle.lola_rows.specs.Places.{is_wanted, places_from, places_in}
 use Rattle.lola_rows.proofs.columns.find_titles.Given as goal
 

@@ -1,7 +1,7 @@
 use Rattle.std.proofs.Common.{◌∙◌, sym, ap, map, List, ℕ, Ok}
 use Rattle.csv.specs.Records.{fields_of}
 use Rattle.lola_value.specs.Arithmetic.{bytes_equal}
-use Rattle.lola_rows_csv.specs.Blanks.{trimmed}
+use Rattle.lola_rows.specs.Blanks.{trimmed}
 use Rattle.lola_rows.specs.Columns.{is_time_name}
 use Rattle.lola_rows.specs.Places.{places_in}
 use Rattle.lola_rows.specs.declared.columns.Column.{Column}

@@ -1,6 +1,6 @@
 use Rattle.std.proofs.Common.{◌≡◌, drop, map}
 use Rattle.csv.specs.Records.{fields_of}
-use Rattle.lola_rows_csv.specs.Blanks.{trimmed}
+use Rattle.lola_rows.specs.Blanks.{trimmed}
 use Rattle.lola_rows.specs.Places.{columns_made}
 use Rattle.lola_rows.proofs.Placing.{led_columns}
 use Rattle.lola_rows.proofs.columns.input_columns.Given as goal

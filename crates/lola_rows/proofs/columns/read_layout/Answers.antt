@@ -1,7 +1,7 @@
 use Rattle.std.proofs.Common.{◌∙◌, sym, ap, subst, map, length, List, Ok, Err, Result, Vec, Global}
 use Rattle.csv.specs.Records.{fields_of}
 use Rattle.lola_model.specs.declared.source.MalformedKind.{MalformedKind}
-use Rattle.lola_rows_csv.specs.Blanks.{trimmed}
+use Rattle.lola_rows.specs.Blanks.{trimmed}
 use Rattle.lola_rows.specs.Columns.{Columns}
 use Rattle.lola_rows.specs.Places.{layout_columns}
 use Rattle.lola_rows.specs.Rows.{then_value}

@@ -3,7 +3,7 @@ use Rattle.std.proofs.Common.{◌≡◌, subst, sym, Option}
 use Rattle.lola_value.specs.Naming.{IsHeldIn, read_outcome, read_params}
 use Rattle.lola_model.specs.Model.{when_answer}
 use Rattle.lola_model.specs.declared.expr.Expr.{Expr}
-use Rattle.lola_step_law.specs.Ready.{IsWhenAskable}
+use Rattle.lola_step_contents.specs.Ready.{IsWhenAskable}
 use Rattle.lola_step.proofs.clauses.coded_condition.Goals as goal
 
 pub returns-in-Some : goal.returns-in-Some

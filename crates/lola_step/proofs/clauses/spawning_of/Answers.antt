@@ -4,7 +4,7 @@ use Rattle.lola_value.specs.declared.value.Kind.{Kind}
 use Rattle.lola_value.specs.declared.value.Params.{Params}
 use Rattle.lola_model.specs.declared.expr.Expr.{Expr}
 use Rattle.lola_model.specs.Typing.{noted}
-use Rattle.lola_step_law.specs.Ready.{IsWhenAskable}
+use Rattle.lola_step_contents.specs.Ready.{IsWhenAskable}
 use Rattle.lola_step.specs.Clauses.{AreExpressions, IsWellNamed}
 use Rattle.lola_step.proofs.Asked.{kinds_are, none_is, of_their_own}
 use Rattle.lola_step.proofs.clauses.spawning_of.Goals as goal

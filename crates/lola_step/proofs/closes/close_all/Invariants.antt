@@ -2,7 +2,7 @@ use Rattle.std.proofs.Common.{◌≡◌, ◌<◌, ◌≤◌, ℕ, Some, drop, le
 use Rattle.lola_value.specs.Naming.{Naming}
 use Rattle.lola_model.specs.Content.{Content}
 use Rattle.lola_model.specs.Store.{Stands}
-use Rattle.lola_step_law.specs.Ends.{closed_each}
+use Rattle.lola_step_contents.specs.Ends.{closed_each}
 use Rattle.lola_step.specs.Notes.{IsClosable, places_of}
 use Rattle.lola_step.specs.Progress.{IsOf}
 use Rattle.lola_step.specs.declared.tasks.Task.{Task}

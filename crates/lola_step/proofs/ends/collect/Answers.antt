@@ -2,7 +2,7 @@ use Rattle.std.proofs.Common.{◌∙◌, ◌+◌, ap, arith, drop, get_or, lengt
 use Rattle.std.proofs.lemmas.Option.{slice_get-get_or}
 use Rattle.lola_model.specs.Named.{is_well_shaped}
 use Rattle.lola_model.specs.Store.{Layout, parameters_of}
-use Rattle.lola_step_law.proofs.Shapes.{passes_at}
+use Rattle.lola_step_contents.proofs.Shapes.{passes_at}
 use Rattle.lola_step.specs.Notes.{IsSpan}
 use Rattle.lola_step.specs.Schedules.{has_duty}
 use Rattle.lola_step.specs.Scratches.{no_span}

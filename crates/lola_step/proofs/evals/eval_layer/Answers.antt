@@ -3,7 +3,7 @@ use Rattle.lola_value.specs.Times.{latest}
 use Rattle.lola_value.specs.declared.value.Outcome.{Outcome}
 use Rattle.lola_model.specs.Content.{Content}
 use Rattle.lola_model.specs.Store.{Layout, Memories, Seen, Stands}
-use Rattle.lola_step_law.specs.Stages.{content_so_far, eval_stage, full_row, layer_stage}
+use Rattle.lola_step_contents.specs.Stages.{content_so_far, eval_stage, full_row, layer_stage}
 use Rattle.lola_step.specs.Evals.{IsReadyFor}
 use Rattle.lola_step.specs.Found.{has_fault}
 use Rattle.lola_step.specs.Given.{AreHeldIn, AreKnown, AreResults, CanGiveAll, after_all, told_outcomes}

@@ -4,7 +4,7 @@ use Rattle.lola_value.specs.declared.value.Params.{Params}
 use Rattle.lola_model.specs.Model.{when_answer}
 use Rattle.lola_model.specs.Store.{SeenInstance, instances_seen}
 use Rattle.lola_model.specs.declared.expr.Expr.{Expr}
-use Rattle.lola_step_law.specs.Ready.{IsWhenAskable}
+use Rattle.lola_step_contents.specs.Ready.{IsWhenAskable}
 use Rattle.lola_step.proofs.Elements.{Element, element}
 use Rattle.lola_step.proofs.Standing.{params_held}
 use Rattle.lola_step.proofs.seek.seek.Goals as goal

@@ -1,7 +1,7 @@
 use Rattle.std.proofs.Common.{◌≡◌, ◌+◌, ◌++◌, ◌||◌, refl, ap, sym, subst, ◌∙◌, List, length, take, drop, arith}
 use Rattle.std.proofs.lemmas.List.{take_at}
 use Rattle.std.proofs.lemmas.Bool.{or_parts}
-use Rattle.lola_step_law.specs.Stages.{eval_stage}
+use Rattle.lola_step_contents.specs.Stages.{eval_stage}
 use Rattle.lola_step.specs.Evals.{EvalsTake, IsReadyFor, ShowsMore}
 use Rattle.lola_step.specs.Found.{NoneFailed, has_fault}
 use Rattle.lola_step.specs.Schedules.{IsScheduleOf}

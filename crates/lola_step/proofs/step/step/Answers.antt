@@ -1,7 +1,7 @@
 use Rattle.std.proofs.Common.{◌≡◌, refl, ap, ◌∙◌, sym, subst, arith}
 use Rattle.std.specs.Vec.{vec_capacity}
 use Rattle.lola_model.specs.Store.{Seen, after_begin, after_prepare, start_seen}
-use Rattle.lola_step_law.specs.Stages.{first_stage}
+use Rattle.lola_step_contents.specs.Stages.{first_stage}
 use Rattle.lola_step.specs.Beginnings.{moment_at}
 use Rattle.lola_step.specs.Conclusions.{ShowsConcluded}
 use Rattle.lola_step.specs.Progress.{IsAt, IsMomentOf}

@@ -7,7 +7,7 @@ use Rattle.lola_model.specs.Model.{clause_answer}
 use Rattle.lola_model.specs.Store.{instances_seen, parameters_of}
 use Rattle.std.proofs.Common.{[], ◌∷◌, unwrap_or}
 use Rattle.lola_value.specs.declared.value.Kind.TheVariants as kind
-use Rattle.lola_step_law.specs.Ready.{IsClauseAskable}
+use Rattle.lola_step_contents.specs.Ready.{IsClauseAskable}
 use Rattle.lola_step.specs.Clauses.{IsAnswer}
 use Rattle.lola_step.proofs.Done.{params_are}
 use Rattle.lola_step.proofs.tasks.own_outcome.Goals as goal

@@ -4,7 +4,7 @@ use Rattle.lola_value.specs.Naming.{read_params}
 use Rattle.lola_model.specs.Spawning.{has_room}
 use Rattle.lola_model.specs.Store.{Stands, after_spawn, instances_seen, place_of}
 use Rattle.lola_step_contents.specs.Changed.{after_spawning}
-use Rattle.lola_step_contents.proofs.Spawns.{spawn_ends, stands_spawned}
+use Rattle.lola_step_contents.proofs.SpawnContents.{spawn_ends, stands_spawned}
 use Rattle.lola_step_contents.proofs.calls.spawn.Goals as goal
 
 pub returns-clause-end : goal.returns-clause-end

@@ -1,5 +1,5 @@
 use Rattle.std.proofs.Common.{◌≡◌, ◌++◌, drop}
-use Rattle.lola_text_sweep.specs.Needed.{texts_in}
+use Rattle.lola_text.specs.Needed.{texts_in}
 use Rattle.lola_store.specs.Texts.{items_of}
 use Rattle.lola_store.proofs.texts.add_kept.Given as goal
 

@@ -1,6 +1,6 @@
 use Rattle.std.proofs.Common.{◌∙◌, ap, sym, remove, arith}
 use Rattle.lola_instances_one.specs.Holdings.{Holdings}
-use Rattle.lola_instances_due.specs.Dues.{is_timed}
+use Rattle.lola_instances_one.specs.Dues.{is_timed}
 use Rattle.lola_instances_stream.specs.Births.{births_of}
 use Rattle.lola_instances_stream.specs.Cells.{Line}
 use Rattle.lola_instances_stream.proofs.Lists.{remove_map}

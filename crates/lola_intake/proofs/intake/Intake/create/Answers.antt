@@ -1,5 +1,5 @@
 use Rattle.std.proofs.Common.{rules, ◌+◌, ◌∙◌, ap, slice_get}
-use Rattle.lola_intake_turns.specs.Turns.{one_more, newcomer}
+use Rattle.lola_intake.specs.Turns.{one_more, newcomer}
 use Rattle.lola_intake.specs.Intakes.{shown, setting, new_seat}
 use Rattle.lola_intake.proofs.Seating.{of_new}
 use Rattle.lola_intake.proofs.Telling.{get_snoc, seat_made}

@@ -1,5 +1,5 @@
 use Rattle.std.proofs.Common.{◌≡◌, ◌<◌, ◌≤◌, ◌+◌, ℕ, length, Some, slice_get, vec_capacity}
-use Rattle.lola_intake_turns.specs.Turns.{IsIdle}
+use Rattle.lola_intake.specs.Turns.{IsIdle}
 use Rattle.lola_intake.specs.Intakes.{setting, new_seat}
 use Rattle.lola_intake.proofs.Telling.{made_so_far}
 use Rattle.lola_intake.proofs.intake.Intake.create.Given as goal

@@ -1,5 +1,5 @@
 use Rattle.std.proofs.Common.{◌≡◌, ◌++◌, ◌+◌, ℕ, map, slice_get, Some}
-use Rattle.lola_intake_turns.specs.Turns.{IsIdle}
+use Rattle.lola_intake.specs.Turns.{IsIdle}
 use Rattle.lola_intake.specs.Intakes.{Shown}
 use Rattle.lola_intake.proofs.Telling.{knows}
 use Rattle.lola_intake.proofs.intake.Intake.end.Given as goal

@@ -1,6 +1,6 @@
 use Rattle.std.proofs.Common.{◌∙◌, List, refl, ap, sym, subst}
-use Rattle.lola_intake_turns.specs.Turns.{turn_by, calls_by}
-use Rattle.lola_intake_turns.proofs.Keeps.{may_tell, turned, idle_again, changed}
+use Rattle.lola_intake.specs.Turns.{turn_by, calls_by}
+use Rattle.lola_intake.proofs.Keeps.{may_tell, turned, idle_again, changed}
 use Rattle.lola_intake.specs.declared.event.Event.TheVariants.{Took}
 use Rattle.lola_intake.specs.Histories.{Begins, Changes, IsLegal, taken}
 use Rattle.lola_intake.specs.declared.event.Event.{Event}

@@ -1,5 +1,5 @@
 use Rattle.std.proofs.Common.{◌≡◌, ℕ, ◌-◌, ◌∙◌, refl, sym, ap, drop, length, arith}
-use Rattle.lola_parser_grammars_law.specs.Syntax.{last_nesting}
+use Rattle.lola_parser_grammar.specs.Syntax.{last_nesting}
 use Rattle.lola_parser_grammar.specs.Cursor.{Cursor, lexemes}
 use Rattle.lola_parser_grammar.specs.Grammar.{all_nestings}
 use Rattle.lola_parser_cursor.proofs.Backwards.{none_left}

@@ -1,5 +1,5 @@
 use Rattle.std.proofs.Common.{◌≡◌, ◌-◌, ◌≤◌, length}
-use Rattle.lola_parser_grammars_law.specs.Syntax.{last_nesting}
+use Rattle.lola_parser_grammar.specs.Syntax.{last_nesting}
 use Rattle.lola_parser_grammar.specs.Grammar.{all_nestings}
 use Rattle.lola_parser_cursor.proofs.cursor.Parser.back_to_last_nesting.Given as goal
 

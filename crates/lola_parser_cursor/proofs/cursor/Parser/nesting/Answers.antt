@@ -1,6 +1,6 @@
 use Rattle.std.proofs.Common.{◌≡◌, ◌<◌, true, false, arith}
 use Rattle.std.proofs.lemmas.Grind.{common_steps}
-use Rattle.lola_parser_grammars_law.specs.Syntax.{same_shape}
+use Rattle.lola_parser_grammar.specs.Syntax.{same_shape}
 use Rattle.lola_parser_cursor.proofs.Steps.{nesting_ended, nesting_missed, nesting_taken, nesting_deep}
 use Rattle.lola_parser_cursor.proofs.cursor.Parser.nesting.Goals as goal
 

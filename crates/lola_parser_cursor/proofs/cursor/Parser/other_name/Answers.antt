@@ -1,5 +1,5 @@
 use Rattle.std.proofs.Common.{◌≡◌, ◌∷◌, [], true, false}
-use Rattle.lola_parser_grammars_law.specs.Syntax.{starts, Other}
+use Rattle.lola_parser_grammar.specs.Syntax.{starts, Other}
 use Rattle.lola_parser_grammar.specs.Grammar.{name_of, name, other_name}
 use Rattle.lola_parser_cursor.proofs.Values.{as_any_name, other_missed}
 use Rattle.lola_parser_cursor.proofs.cursor.Parser.other_name.Goals as goal

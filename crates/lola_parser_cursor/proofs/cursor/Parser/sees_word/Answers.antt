@@ -1,7 +1,7 @@
 use Rattle.std.proofs.Common.{◌≡◌, ◌∙◌, ◌&&◌, sym, ap, true, false}
 use Rattle.std.specs.Str.{bytes_eq}
 use Rattle.lola_lexer.specs.declared.shape.TokenShape.TheVariants as is
-use Rattle.lola_parser_grammars_law.specs.Syntax.{same_shape}
+use Rattle.lola_parser_grammar.specs.Syntax.{same_shape}
 use Rattle.lola_parser_grammar.specs.Cursor.{text_of}
 use Rattle.lola_parser_cursor.proofs.Steps.{sees_word_is}
 use Rattle.lola_parser_cursor.proofs.cursor.Parser.sees_word.Goals as goal

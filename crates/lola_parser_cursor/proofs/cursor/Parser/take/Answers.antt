@@ -1,5 +1,5 @@
 use Rattle.std.proofs.Common.{◌≡◌, true, false}
-use Rattle.lola_parser_grammars_law.specs.Syntax.{same_shape}
+use Rattle.lola_parser_grammar.specs.Syntax.{same_shape}
 use Rattle.lola_parser_cursor.proofs.Steps.{token_ended, token_missed, token_taken}
 use Rattle.lola_parser_cursor.proofs.cursor.Parser.take.Goals as goal
 

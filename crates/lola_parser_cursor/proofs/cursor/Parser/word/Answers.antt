@@ -1,5 +1,5 @@
 use Rattle.std.proofs.Common.{◌≡◌, ◌∷◌, [], true, false}
-use Rattle.lola_parser_grammars_law.specs.Syntax.{starts, Word}
+use Rattle.lola_parser_grammar.specs.Syntax.{starts, Word}
 use Rattle.lola_parser_cursor.proofs.Steps.{word_ended, word_missed, word_taken}
 use Rattle.lola_parser_cursor.proofs.cursor.Parser.word.Goals as goal
 

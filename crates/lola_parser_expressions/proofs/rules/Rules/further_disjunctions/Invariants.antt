@@ -1,5 +1,5 @@
 use Rattle.std.proofs.Common.{◌≡◌, ◌-◌}
-use Rattle.lola_parser_grammars_law.specs.Syntax.{read}
+use Rattle.lola_parser_grammar.specs.Syntax.{read}
 use Rattle.lola_parser_grammar.specs.Grammar.{onto, joined, conjunction, or_operators, expr_in, other_in}
 use Rattle.lola_parser_cursor.proofs.Joins.{operators_on}
 use Rattle.lola_parser_expressions.proofs.rules.Rules.further_disjunctions.Given as goal

@@ -1,6 +1,6 @@
 use Rattle.std.proofs.Common.{rules, arith, ◌≡◌, ◌-◌, ◌+◌, ◌∙◌, length, Some, Ok}
 use Rattle.std.proofs.lemmas.Grind.{common_steps}
-use Rattle.lola_parser_grammars_law.specs.Syntax.{read, Maybe, Then}
+use Rattle.lola_parser_grammar.specs.Syntax.{read, Maybe, Then}
 use Rattle.lola_parser_grammar.specs.Grammar.{join, product, sum_operators, expr_in, other_in}
 use Rattle.lola_parser_cursor.proofs.Joins.{operators_on, tail_begins, sum_full, turn_ends, turn_fails, turn_breaks, turn_goes}
 use Rattle.lola_parser_cursor.proofs.Turns.{one_more}

@@ -1,6 +1,6 @@
 use Rattle.std.proofs.Common.{refl, ◌≡◌, ◌-◌, ◌+◌, ◌∷◌, [], ◌∙◌, true, Ok}
 use Rattle.lola_lexer.specs.declared.shape.TokenShape.TheVariants as is
-use Rattle.lola_parser_grammars_law.specs.Syntax.{Of, starts, read, first, nullable}
+use Rattle.lola_parser_grammar.specs.Syntax.{Of, starts, read, first, nullable}
 use Rattle.lola_parser_grammar.specs.Grammar.{nesting, with_default, dotted_default, expr_in, other_in}
 use Rattle.lola_parser_cursor.proofs.Joins.{goes_on, goes_further}
 use Rattle.lola_parser_cursor.proofs.Turns.{one_more}

@@ -1,5 +1,5 @@
 use Rattle.std.proofs.Common.{◌≡◌, ◌-◌}
-use Rattle.lola_parser_grammars_law.specs.Syntax.{read}
+use Rattle.lola_parser_grammar.specs.Syntax.{read}
 use Rattle.lola_parser_grammar.specs.Grammar.{onto, defaults, dotted_default, with_default, expr_in, other_in}
 use Rattle.lola_parser_cursor.proofs.Joins.{goes_on}
 use Rattle.lola_parser_expressions.proofs.rules.Rules.with_defaults.Given as goal

@@ -1,3 +1,0 @@
-mod FullFilled
-mod RatedStreams
-mod Phases

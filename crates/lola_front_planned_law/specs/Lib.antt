@@ -1,2 +1,0 @@
-pub mod Rated
-pub mod Planned

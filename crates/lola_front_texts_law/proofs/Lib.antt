@@ -1,3 +1,0 @@
-pub mod ExpressionTexts
-pub mod ClauseTexts
-pub mod PlanLiterals

@@ -1,5 +1,0 @@
-use Rattle.lola_front_texts_law.proofs.PlanLiterals.{plan-texts}
-use Rattle.lola_front_texts_law.proofs.law.plan_texts_are_utf8.Goals as goal
-
-pub returns : goal.returns
-returns c = plan-texts

@@ -1,7 +1,0 @@
-use Rattle.std.proofs.Common.{◌≡◌, ◌+◌, take}
-use Rattle.std.specs.List.{sum_by}
-use Rattle.lola_instances_bits.specs.Bits.{bit}
-use Rattle.lola_instances_bits.proofs.sums.bit_past.Given as goal
-
-abbrev pub invariant-loop-i : goal.invariant-loop-i
-invariant-loop-i l = sum_by bit (take l.i l.bits) + l.rest ≡ sum_by bit (take l.from l.bits) + l.units

@@ -1,4 +1,0 @@
-pub mod Moments
-pub mod Queues
-pub mod Births
-pub mod DuePlaces

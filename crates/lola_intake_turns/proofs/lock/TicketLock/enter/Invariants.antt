@@ -1,5 +1,0 @@
-use Rattle.lola_intake_turns.specs.Turns.{HasDrawn}
-use Rattle.lola_intake_turns.proofs.lock.TicketLock.enter.Given as goal
-
-abbrev pub invariant-loop : goal.invariant-loop
-invariant-loop g l = HasDrawn l.ticket l.fn.seat l.seat

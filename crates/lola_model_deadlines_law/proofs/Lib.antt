@@ -1,6 +1,0 @@
-mod LeastMoments
-mod RateFormula
-mod NextLocal
-mod PlacesListed
-mod LayoutRates
-mod DeadlineCorners

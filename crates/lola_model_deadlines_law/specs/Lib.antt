@@ -1,3 +1,0 @@
-pub mod Formula
-pub mod LocalDues
-pub mod LocalRates

@@ -1,0 +1,13 @@
+mod PlainExpressions
+mod PlainRows
+mod PlainRuns
+mod PlainStores
+mod PlainLines
+mod BothWays
+mod Corners
+mod LeastMoments
+mod RateFormula
+mod NextLocal
+mod PlacesListed
+mod LayoutRates
+mod DeadlineCorners

@@ -1,0 +1,5 @@
+pub mod Alike
+pub mod Meaning
+pub mod Formula
+pub mod LocalDues
+pub mod LocalRates

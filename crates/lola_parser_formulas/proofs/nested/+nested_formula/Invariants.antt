@@ -1,4 +1,0 @@
-use Rattle.lola_parser_formulas.proofs.nested.+nested_formula.Given as goal
-
-abbrev pub decreases-nested_formula : goal.decreases-nested_formula
-decreases-nested_formula l = l.depth

@@ -1,0 +1,9 @@
+pub mod Erased
+pub mod Fitting
+pub mod Fewest
+pub mod Literals
+pub mod Places
+pub mod Round
+pub mod Law
+pub mod Plain
+pub mod Alike

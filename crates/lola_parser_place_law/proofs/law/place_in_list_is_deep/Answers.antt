@@ -1,5 +1,0 @@
-use Rattle.lola_parser_place_law.proofs.InList.{in_list}
-use Rattle.lola_parser_place_law.proofs.law.place_in_list_is_deep.Goals as goal
-
-pub returns : goal.returns
-returns c n le ts d p rest less h l = in_list n le ts d p rest less h l

@@ -1,5 +1,0 @@
-use Rattle.lola_parser_place_law.proofs.Both.{place_is}
-use Rattle.lola_parser_place_law.proofs.law.place_is_deep.Goals as goal
-
-pub returns : goal.returns
-returns c n le ts at less h p rest l = place_is n le ts at less h p rest l

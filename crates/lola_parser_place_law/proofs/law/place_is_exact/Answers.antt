@@ -1,5 +1,0 @@
-use Rattle.lola_parser_place_law.proofs.InTree.{exact}
-use Rattle.lola_parser_place_law.proofs.law.place_is_exact.Goals as goal
-
-pub returns : goal.returns
-returns c n le ts at less h x g = exact n le ts at less h x g

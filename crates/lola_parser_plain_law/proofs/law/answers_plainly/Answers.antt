@@ -1,5 +1,0 @@
-use Rattle.lola_parser_plain_law.proofs.Whole.{reads_plainly, refuses_plainly}
-use Rattle.lola_parser_plain_law.proofs.law.answers_plainly.Goals as goal
-
-pub returns : goal.returns
-returns c ts end r = (refuses_plainly ts end r, reads_plainly ts r)

@@ -1,5 +1,0 @@
-use Rattle.lola_parser_plain_law.proofs.Whole.{one_tree}
-use Rattle.lola_parser_plain_law.proofs.law.has_one_tree.Goals as goal
-
-pub returns : goal.returns
-returns c ts x y s t = one_tree ts x y s t

@@ -1,5 +1,0 @@
-use Rattle.lola_parser_plain_law.proofs.Whole.{factored_of, plain_of}
-use Rattle.lola_parser_plain_law.proofs.law.same_sentences.Goals as goal
-
-pub returns : goal.returns
-returns c ts x = (factored_of ts x, plain_of ts x)

@@ -1,5 +1,0 @@
-use Rattle.lola_parser_print_law.proofs.FewestExpressions.{fewest}
-use Rattle.lola_parser_print_law.proofs.fewest.fewest_nestings.Goals as goal
-
-pub returns : goal.returns
-returns c n ts x h = fewest n ts x h

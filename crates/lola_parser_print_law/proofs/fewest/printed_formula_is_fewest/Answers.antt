@@ -1,5 +1,0 @@
-use Rattle.lola_parser_print_law.proofs.Places.{printed_formula_fewest}
-use Rattle.lola_parser_print_law.proofs.fewest.printed_formula_is_fewest.Goals as goal
-
-pub returns : goal.returns
-returns c m x h = printed_formula_fewest m x h

@@ -1,5 +1,0 @@
-use Rattle.lola_parser_print_law.proofs.Round.{places_free}
-use Rattle.lola_parser_print_law.proofs.reprinted.places_are_free.Goals as goal
-
-pub returns : goal.returns
-returns c = places_free

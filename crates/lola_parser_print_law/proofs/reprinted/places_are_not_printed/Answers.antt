@@ -1,5 +1,0 @@
-use Rattle.lola_parser_print_law.proofs.Unplaced.{not_printed}
-use Rattle.lola_parser_print_law.proofs.reprinted.places_are_not_printed.Goals as goal
-
-pub returns : goal.returns
-returns c = not_printed

@@ -1,5 +1,0 @@
-use Rattle.lola_parser_print_law.proofs.Cut.{printed_cut}
-use Rattle.lola_parser_print_law.proofs.reprinted.printed_is_cut.Goals as goal
-
-pub returns : goal.returns
-returns c = printed_cut

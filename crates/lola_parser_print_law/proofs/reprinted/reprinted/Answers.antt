@@ -1,5 +1,0 @@
-use Rattle.lola_parser_print_law.proofs.Round.{reprinted}
-use Rattle.lola_parser_print_law.proofs.reprinted.reprinted.Goals as goal
-
-pub returns : goal.returns
-returns c = reprinted

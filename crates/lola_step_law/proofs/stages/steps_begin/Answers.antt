@@ -1,5 +1,0 @@
-use Rattle.lola_step_law.proofs.Begin.{begins}
-use Rattle.lola_step_law.proofs.stages.steps_begin.Goals as goal
-
-pub returns : goal.returns
-returns g c = λ start rows step settled. begins c.args._plan.now start rows step settled (g.S.StreamStore.remembers c.args._store.now) (g.S.StreamStore.seen c.args._store.now)

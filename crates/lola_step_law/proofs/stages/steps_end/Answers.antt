@@ -1,5 +1,0 @@
-use Rattle.lola_step_law.proofs.stages.steps_end.Goals as goal
-use Rattle.lola_step_law.proofs.Ending.{each_step_ends}
-
-pub returns : goal.returns
-returns c = each_step_ends

@@ -1,4 +1,0 @@
-pub mod Ready
-pub mod Stages
-pub mod Nexts
-pub mod Ends
