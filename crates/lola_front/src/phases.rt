@@ -2,6 +2,7 @@
 
 ghost use Rattle.lola_front.specs.Front.{Fills, Reads, ResolvesText};
 
+use crate::law::{filled_is_named, filled_is_typed};
 use lola_lexer::cut::tokens;
 use lola_model::spec::Spec;
 use lola_names::resolve;
@@ -11,7 +12,6 @@ use lola_names_law::law::{
 use lola_parser::reading::specification;
 use lola_parser_tree::declarations::Ast;
 use lola_types::full::check;
-use lola_types_law::law::{filled_is_named, filled_is_typed};
 use lola_value::front::FrontEnd;
 use std::alloc::Global;
 

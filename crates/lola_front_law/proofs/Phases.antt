@@ -10,7 +10,7 @@ use Rattle.lola_names.specs.Targets.{targets_of}
 use Rattle.lola_names_law.specs.Resolvable.{ResolvesEach}
 use Rattle.lola_names_law.specs.Meant.{ClosesAreSpawned, ResolvedIsNamed, ResolvedNotesConstants, SpelledClosesAreSpawned}
 use Rattle.lola_types.specs.Refused.{kind_refusals}
-use Rattle.lola_types_law.specs.Filled.{FilledIsNamed, FilledIsTyped}
+use Rattle.lola_front.specs.Filled.{FilledIsNamed, FilledIsTyped}
 use Rattle.lola_pacing.specs.Accepted.{PacesWindows}
 use Rattle.lola_graph.specs.Cycle.{IsLeastOnCycle}
 use Rattle.lola_graph.proofs.ReadLemmas.{graph_small}

@@ -4,9 +4,9 @@ use Rattle.lola_parser_grammar.specs.Syntax.{Lexeme, TooDeep, read_all}
 use Rattle.lola_parser_grammar.specs.Grammar.{specification, all_nestings}
 use Rattle.lola_parser_grammar.specs.Whole.{most_levels}
 use Rattle.lola_parser_grammar.proofs.Fine.{specification_fine}
-use Rattle.lola_parser_limit_law.proofs.Levels.{counted_at}
-use Rattle.lola_parser_limit_law.proofs.Open.{specification_open}
-use Rattle.lola_parser_limit_law.proofs.Placed.{decided_all}
+use Rattle.lola_parser.proofs.Levels.{counted_at}
+use Rattle.lola_parser.proofs.Open.{specification_open}
+use Rattle.lola_parser.proofs.Placed.{decided_all}
 
 pub deep_parts : (ts d : List Lexeme) → read_all (specification most_levels) ts ≡ Err (TooDeep d) → (u : List Lexeme) × (t : Lexeme) × (w : List Lexeme) × (ts ≡ u ++ t ∷ w) × (d ≡ t ∷ w)
 deep_parts ts d h =

@@ -8,7 +8,7 @@ use Rattle.lola_parser_grammar.specs.Syntax.{Lexeme, Terminal, Of, fits, any_fit
 use Rattle.lola_parser_grammar.specs.Nestings.{nestings_in}
 use Rattle.lola_parser_grammar.specs.Exceeding.{ExceedsAmong}
 use Rattle.lola_parser_grammar.proofs.Tests.{shape_is}
-use Rattle.lola_parser_limit_law.specs.Late.{IsNextBehindBracket}
+use Rattle.lola_parser.specs.Late.{IsNextBehindBracket}
 use Rattle.lola_parser_tree.specs.declared.clauses.Part.{Part}
 use Rattle.lola_parser_tree.specs.declared.clauses.Spawn.{Spawn}
 use Rattle.lola_parser_tree.specs.declared.pacing.Pacing.{Pacing}

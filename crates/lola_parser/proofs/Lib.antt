@@ -1,3 +1,16 @@
+pub mod Opening
+pub mod Decided
+pub mod Placed
+pub mod Open
+pub mod Free
+pub mod Keeps
+pub mod Kept
+pub mod Going
+pub mod Answered
+pub mod Levels
+pub mod First
+pub mod Last
+pub mod Place
 pub mod Skims
 pub mod Deeper
 pub mod Turning

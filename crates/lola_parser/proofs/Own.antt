@@ -2,11 +2,11 @@
 use Rattle.std.proofs.Common.{◌≡◌, ℕ, ◌≤◌, List, ◌∷◌, ◌++◌, Some, None, Result, Ok, Err, refl, sym, ap, subst, ◌∙◌, append_assoc, arith, inl, inr, ◌⊎◌}
 use Rattle.lola_parser_tree.specs.declared.declarations.Declaration.{Declaration}
 use Rattle.lola_parser_grammar.specs.Syntax.{Lexeme, TooDeep, Spells, max_nestings, read_all}
-use Rattle.lola_parser_limit_law.specs.Late.{IsNextBehindBracket, IsFirstLate, IsDeepPlace}
-use Rattle.lola_parser_limit_law.specs.Fronts.{IsLongestFront}
-use Rattle.lola_parser_limit_law.proofs.Levels.{counted_at}
-use Rattle.lola_parser_limit_law.proofs.Open.{specification_open}
-use Rattle.lola_parser_limit_law.proofs.Place.{deep_is_first}
+use Rattle.lola_parser.specs.Late.{IsNextBehindBracket, IsFirstLate, IsDeepPlace}
+use Rattle.lola_parser.specs.Fronts.{IsLongestFront}
+use Rattle.lola_parser.proofs.Levels.{counted_at}
+use Rattle.lola_parser.proofs.Open.{specification_open}
+use Rattle.lola_parser.proofs.Place.{deep_is_first}
 use Rattle.lola_parser_grammar.specs.Grammar.{specification, all_nestings}
 use Rattle.lola_parser_grammar.specs.Whole.{most_levels}
 use Rattle.lola_parser_grammar.proofs.Fine.{specification_fine}

@@ -5,8 +5,8 @@ use Rattle.lola_value.specs.declared.front.FrontEnd.{FrontEnd}
 use Rattle.lola_value.specs.declared.front.FrontEnd.TheVariants as front_end
 use Rattle.lola_parser_tree.specs.declared.declarations.Declaration.{Declaration}
 use Rattle.lola_parser_grammar.specs.Syntax.{Lexeme}
-use Rattle.lola_parser_limit_law.specs.Late.{IsDeepPlace}
-use Rattle.lola_parser_limit_law.specs.Fronts.{IsLongestFront}
+use Rattle.lola_parser.specs.Late.{IsDeepPlace}
+use Rattle.lola_parser.specs.Fronts.{IsLongestFront}
 use Rattle.lola_parser_grammar.specs.Grammar.{all_nestings, specification}
 use Rattle.lola_parser_grammar.specs.Whole.{most_levels}
 use Rattle.lola_parser.specs.Law.{IsBehind}

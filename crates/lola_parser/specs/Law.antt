@@ -3,8 +3,8 @@ use Rattle.std.specs.Prelude.{◌≡◌, ℕ, ◌<◌, ◌≤◌, false, List, �
 use Rattle.lola_parser_tree.specs.declared.expressions.Expr.{Expr}
 use Rattle.lola_parser_grammar.specs.Syntax.{Lexeme, TooDeep, Spells, starts, max_nestings, read_all}
 use Rattle.lola_parser_grammar.specs.Nestings.{nestings_in}
-use Rattle.lola_parser_limit_law.specs.Late.{IsDeepPlace}
-use Rattle.lola_parser_limit_law.specs.Fronts.{IsLongestFront}
+use Rattle.lola_parser.specs.Late.{IsDeepPlace}
+use Rattle.lola_parser.specs.Fronts.{IsLongestFront}
 use Rattle.lola_parser_grammar.specs.Whole.{most_levels}
 use Rattle.lola_parser.specs.Places.{behind_bracket}
 use Rattle.lola_parser_grammar.specs.Grammar.{expr_in, expr_goes_on, all_nestings, specification}

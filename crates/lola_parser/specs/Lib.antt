@@ -1,3 +1,6 @@
+pub mod Late
+pub mod Fronts
+pub mod Limit
 pub mod Turns
 pub mod Skims
 pub mod Parts

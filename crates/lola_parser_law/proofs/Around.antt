@@ -9,8 +9,8 @@ use Rattle.lola_parser_tree.specs.declared.pacing.Pacing.{Pacing}
 use Rattle.lola_parser_grammar.specs.Syntax.{Lexeme, Terminal, Of, any_fits, fits, apart, same_shape, within, Syntax, Then, Map, Either, Maybe, Many, Spells, nullable}
 use Rattle.lola_parser_grammar.proofs.Tests.{apart_excludes}
 use Rattle.lola_parser_grammar.proofs.Complete.{begins, full_is}
-use Rattle.lola_parser_limit_law.specs.Late.{IsNextBehindBracket}
-use Rattle.lola_parser_limit_law.proofs.Placed.{fronts}
+use Rattle.lola_parser.specs.Late.{IsNextBehindBracket}
+use Rattle.lola_parser.proofs.Placed.{fronts}
 use Rattle.lola_parser_grammar.specs.Grammar as g
 use Rattle.lola_parser_grammar.specs.Grammar.{all_nestings, expr_in, specification}
 use Rattle.lola_parser_grammar.proofs.Fine.{unbracketed_first, unbracketed_fine}

@@ -5,10 +5,10 @@ use Rattle.std.proofs.lemmas.Bool.{eq-eqb, eqb-true}
 use Rattle.lola_parser_tree.specs.declared.declarations.Declaration.{Declaration}
 use Rattle.lola_parser_grammar.specs.Syntax.{Lexeme, TooDeep, Spells, max_nestings, read_all}
 use Rattle.lola_parser_grammar.specs.Nestings.{nestings_in}
-use Rattle.lola_parser_limit_law.specs.Late.{IsDeepPlace}
-use Rattle.lola_parser_limit_law.specs.Fronts.{IsLongestFront}
-use Rattle.lola_parser_limit_law.proofs.Levels.{counted_at}
-use Rattle.lola_parser_limit_law.proofs.Open.{specification_open}
+use Rattle.lola_parser.specs.Late.{IsDeepPlace}
+use Rattle.lola_parser.specs.Fronts.{IsLongestFront}
+use Rattle.lola_parser.proofs.Levels.{counted_at}
+use Rattle.lola_parser.proofs.Open.{specification_open}
 use Rattle.lola_parser_grammar.specs.Grammar.{all_nestings, specification}
 use Rattle.lola_parser_grammar.specs.Whole.{most_levels}
 use Rattle.lola_parser_grammar.proofs.Fine.{specification_fine}
@@ -17,7 +17,7 @@ use Rattle.lola_parser.specs.Turns.{Left}
 use Rattle.lola_parser.specs.Places.{Cut, cut_last, behind_bracket, is_enclosed, nesting_or, place_behind, place_too_deep, IsPlacedAt}
 use Rattle.lola_parser.proofs.Cuts.{own_place, other_count, nesting_before}
 use Rattle.lola_parser_law.specs.Law.{IsEnclosedBehind, IsRulePlace}
-use Rattle.lola_parser_limit_law.proofs.Last.{IsFirstOrLast, deep_is_first}
+use Rattle.lola_parser.proofs.Last.{IsFirstOrLast, deep_is_first}
 use Rattle.lola_parser_law.proofs.InList.{list_is_deep}
 use Rattle.lola_parser_law.proofs.WithNestings.{next_is_deep}
 use Rattle.lola_parser_law.proofs.Enclosed.{next_in_every}

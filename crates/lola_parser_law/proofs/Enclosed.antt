@@ -11,11 +11,11 @@ use Rattle.lola_parser_grammar.specs.Exceeding.{ExceedsAmong}
 use Rattle.lola_parser_grammar.proofs.Tests.{apart_excludes}
 use Rattle.lola_parser_grammar.proofs.Complete.{and_three, choice_parts, known_parts, fork_is, fork_follows}
 use Rattle.lola_parser_grammar.proofs.Exactly.{opens_part}
-use Rattle.lola_parser_limit_law.specs.Late.{IsNestingBehind, IsNextBehindBracket}
-use Rattle.lola_parser_limit_law.specs.Fronts.{IsLongestFront}
-use Rattle.lola_parser_limit_law.proofs.Opening.{is_open, first_begins}
-use Rattle.lola_parser_limit_law.proofs.Placed.{fronts, in_front}
-use Rattle.lola_parser_limit_law.proofs.Free.{unique}
+use Rattle.lola_parser.specs.Late.{IsNestingBehind, IsNextBehindBracket}
+use Rattle.lola_parser.specs.Fronts.{IsLongestFront}
+use Rattle.lola_parser.proofs.Opening.{is_open, first_begins}
+use Rattle.lola_parser.proofs.Placed.{fronts, in_front}
+use Rattle.lola_parser.proofs.Free.{unique}
 use Rattle.lola_parser_grammar.specs.Grammar as g
 use Rattle.lola_parser_grammar.specs.Grammar.{expr_in, expr_goes_on, all_nestings, specification}
 use Rattle.lola_parser_grammar.proofs.Fine.{whole_fine, parts_fine, more_parts_first, one_part_first}
@@ -26,7 +26,7 @@ use Rattle.lola_parser.proofs.Skims.{leaves}
 use Rattle.lola_parser_law.specs.Law.{IsEnclosedBehind}
 use Rattle.lola_parser_law.proofs.Around.{NotEval, OpensNext, IsAround, around_specification}
 use Rattle.lola_parser_law.proofs.InList.{deeper, shut_stops}
-use Rattle.lola_parser_limit_law.proofs.Last.{IsFirstOrLast}
+use Rattle.lola_parser.proofs.Last.{IsFirstOrLast}
 use Rattle.lola_parser_law.proofs.WithNestings.{same_cut}
 
 -- ---- what a cut says

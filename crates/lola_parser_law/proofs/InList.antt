@@ -9,11 +9,11 @@ use Rattle.lola_parser_grammar.specs.Syntax.{Lexeme, Terminal, Of, any_fits, fit
 use Rattle.lola_parser_grammar.specs.Nestings.{nestings_in}
 use Rattle.lola_parser_grammar.proofs.Tests.{apart_excludes}
 use Rattle.lola_parser_grammar.proofs.Within.{nestings-append}
-use Rattle.lola_parser_limit_law.specs.Late.{IsNextBehindBracket, IsLateInEvery, NoneIsLate, IsDeepPlace}
-use Rattle.lola_parser_limit_law.specs.Fronts.{IsLongestFront}
-use Rattle.lola_parser_limit_law.proofs.Levels.{counted_at}
-use Rattle.lola_parser_limit_law.proofs.Open.{specification_open}
-use Rattle.lola_parser_limit_law.proofs.Placed.{fronts}
+use Rattle.lola_parser.specs.Late.{IsNextBehindBracket, IsLateInEvery, NoneIsLate, IsDeepPlace}
+use Rattle.lola_parser.specs.Fronts.{IsLongestFront}
+use Rattle.lola_parser.proofs.Levels.{counted_at}
+use Rattle.lola_parser.proofs.Open.{specification_open}
+use Rattle.lola_parser.proofs.Placed.{fronts}
 use Rattle.lola_parser_grammar.specs.Grammar.{expr_in, expr_goes_on, all_nestings, specification}
 use Rattle.lola_parser_grammar.specs.Whole.{most_levels}
 use Rattle.lola_parser_grammar.proofs.Fine.{specification_fine}
@@ -25,9 +25,9 @@ use Rattle.lola_parser.proofs.Sentences.{skims_sentence}
 use Rattle.lola_parser.proofs.Lacks.{words, cut_more, cut_here, not_here, fewer}
 use Rattle.lola_parser.proofs.Forking.{next_is_behind}
 use Rattle.lola_parser_law.specs.Law.{IsEnclosedBehind}
-use Rattle.lola_parser_limit_law.proofs.First.{IsBehindLast}
-use Rattle.lola_parser_limit_law.proofs.Last.{IsFirstOrLast, deep_is_first}
-use Rattle.lola_parser_limit_law.proofs.Place.{next_nesting}
+use Rattle.lola_parser.proofs.First.{IsBehindLast}
+use Rattle.lola_parser.proofs.Last.{IsFirstOrLast, deep_is_first}
+use Rattle.lola_parser.proofs.Place.{next_nesting}
 use Rattle.lola_parser_law.proofs.Listed.{IsLow, Led, IsListed, walk_specification}
 
 -- ---- an expression that ends at a bracket

@@ -7,13 +7,13 @@ use Rattle.lola_parser_tree.specs.declared.declarations.Declaration.{Declaration
 use Rattle.lola_parser_grammar.specs.Syntax.{Lexeme, Refusal, Unexpected, TooDeep, Terminal, Syntax, Outcome, Spells, is_fine, max_nestings, read, all_read, read_all}
 use Rattle.lola_parser_grammar.specs.Nestings.{is_counted}
 use Rattle.lola_parser_grammar.proofs.Complete.{complete}
-use Rattle.lola_parser_limit_law.specs.Late.{IsLate, IsFirstLate}
-use Rattle.lola_parser_limit_law.proofs.Answered.{sentence_front}
-use Rattle.lola_parser_limit_law.proofs.Keeps.{nesting_spells}
-use Rattle.lola_parser_limit_law.proofs.Kept.{read_kept}
-use Rattle.lola_parser_limit_law.proofs.Levels.{counted_at}
-use Rattle.lola_parser_limit_law.proofs.Open.{specification_open}
-use Rattle.lola_parser_limit_law.proofs.Placed.{deep_read}
+use Rattle.lola_parser.specs.Late.{IsLate, IsFirstLate}
+use Rattle.lola_parser.proofs.Answered.{sentence_front}
+use Rattle.lola_parser.proofs.Keeps.{nesting_spells}
+use Rattle.lola_parser.proofs.Kept.{read_kept}
+use Rattle.lola_parser.proofs.Levels.{counted_at}
+use Rattle.lola_parser.proofs.Open.{specification_open}
+use Rattle.lola_parser.proofs.Placed.{deep_read}
 use Rattle.lola_parser_grammar.specs.Grammar.{all_nestings, specification}
 use Rattle.lola_parser_grammar.specs.Whole.{most_levels}
 use Rattle.lola_parser_grammar.proofs.Fine.{specification_fine}
@@ -23,7 +23,7 @@ use Rattle.lola_parser_law.specs.Law.{IsFirstLateAt, IsRefusedAt}
 use Rattle.lola_parser_law.proofs.Both.{Decided, decided}
 use Rattle.lola_parser_law.proofs.Enclosed.{enclosed_is_next}
 use Rattle.lola_parser_law.proofs.InList.{NextIn, next_is_enclosed}
-use Rattle.lola_parser_limit_law.proofs.Last.{IsFirstOrLast, ends_first, deep_is_first}
+use Rattle.lola_parser.proofs.Last.{IsFirstOrLast, ends_first, deep_is_first}
 use Rattle.lola_parser_law.proofs.WithNestings.{cut_is, same_cut, last_late, only_next}
 
 -- ---- the place

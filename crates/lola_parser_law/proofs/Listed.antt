@@ -10,8 +10,8 @@ use Rattle.lola_parser_grammar.specs.Exceeding.{ExceedsAmong}
 use Rattle.lola_parser_grammar.proofs.Complete.{and_three, choice_parts, known_parts, fork_is}
 use Rattle.lola_parser_grammar.proofs.Exactly.{opens_part}
 use Rattle.lola_parser_grammar.proofs.Viable.{sample}
-use Rattle.lola_parser_limit_law.specs.Late.{IsNestingBehind, IsNextBehindBracket}
-use Rattle.lola_parser_limit_law.proofs.Keeps.{Keeps, KeepsAmong, few_front, keeps_none, keeps_then, keeps_left, keeps_right, keeps_map, keeps_some, keeps_cons, keeps_list}
+use Rattle.lola_parser.specs.Late.{IsNestingBehind, IsNextBehindBracket}
+use Rattle.lola_parser.proofs.Keeps.{Keeps, KeepsAmong, few_front, keeps_none, keeps_then, keeps_left, keeps_right, keeps_map, keeps_some, keeps_cons, keeps_list}
 use Rattle.lola_parser_grammar.specs.Grammar as g
 use Rattle.lola_parser_grammar.specs.Grammar.{all_nestings, expr_in, specification}
 use Rattle.lola_parser_grammar.proofs.Fine.{one_part_first}

@@ -2,9 +2,9 @@
 use Rattle.std.proofs.Common.{◌≡◌, ℕ, suc, true, List, ◌∷◌, ◌++◌, refl}
 use Rattle.lola_lexer.specs.declared.shape.TokenShape.TheVariants as is
 use Rattle.lola_parser_grammar.specs.Syntax.{Lexeme, Syntax, Then, Maybe, Spells, max_nestings}
-use Rattle.lola_parser_limit_law.specs.Late.{IsNextBehindBracket}
-use Rattle.lola_parser_limit_law.proofs.Keeps.{nesting_spells}
-use Rattle.lola_parser_limit_law.proofs.Place.{next_nesting}
+use Rattle.lola_parser.specs.Late.{IsNextBehindBracket}
+use Rattle.lola_parser.proofs.Keeps.{nesting_spells}
+use Rattle.lola_parser.proofs.Place.{next_nesting}
 use Rattle.lola_parser_grammar.specs.Grammar as g
 use Rattle.lola_parser_grammar.specs.Grammar.{all_nestings}
 use Rattle.lola_parser.proofs.Forking.{forkless, never}

@@ -6,17 +6,17 @@ use Rattle.lola_parser_grammar.specs.Syntax.{Lexeme, TooDeep, Syntax, Past, Toke
 use Rattle.lola_parser_grammar.specs.Nestings.{is_nesting, one_if, nestings_in}
 use Rattle.lola_parser_grammar.specs.Exceeding.{ExceedsAmong}
 use Rattle.lola_parser_grammar.proofs.Over.{last_is}
-use Rattle.lola_parser_limit_law.specs.Late.{IsNestingBehind, IsNextBehindBracket, NoneIsLate, IsDeepPlace, IsNextInEvery}
-use Rattle.lola_parser_limit_law.specs.Fronts.{IsLongestFront}
-use Rattle.lola_parser_limit_law.proofs.Levels.{counted_at}
-use Rattle.lola_parser_limit_law.proofs.Open.{specification_open}
+use Rattle.lola_parser.specs.Late.{IsNestingBehind, IsNextBehindBracket, NoneIsLate, IsDeepPlace, IsNextInEvery}
+use Rattle.lola_parser.specs.Fronts.{IsLongestFront}
+use Rattle.lola_parser.proofs.Levels.{counted_at}
+use Rattle.lola_parser.proofs.Open.{specification_open}
 use Rattle.lola_parser_grammar.specs.Grammar.{all_nestings, specification}
 use Rattle.lola_parser_grammar.specs.Whole.{most_levels}
 use Rattle.lola_parser_grammar.proofs.Fine.{specification_fine}
 use Rattle.lola_parser.specs.Places.{Cut, cut_last}
 use Rattle.lola_parser.proofs.Lacks.{cut_more, cut_here, not_here}
-use Rattle.lola_parser_limit_law.proofs.First.{IsBehindLast}
-use Rattle.lola_parser_limit_law.proofs.Last.{IsFirstOrLast, deep_is_first}
+use Rattle.lola_parser.proofs.First.{IsBehindLast}
+use Rattle.lola_parser.proofs.Last.{IsFirstOrLast, deep_is_first}
 
 -- ---- the last nesting
 

@@ -6,8 +6,8 @@ use Rattle.lola_value.specs.declared.front.FrontEnd.TheVariants as front_end
 use Rattle.lola_parser_tree.specs.declared.declarations.Declaration.{Declaration}
 use Rattle.lola_parser_grammar.specs.Syntax.{Lexeme, TooDeep, Spells, max_nestings, read_all}
 use Rattle.lola_parser_grammar.specs.Nestings.{nestings_in}
-use Rattle.lola_parser_limit_law.specs.Late.{IsLate, IsFirstLate, IsDeepPlace, IsNextInEvery}
-use Rattle.lola_parser_limit_law.specs.Fronts.{IsLongestFront}
+use Rattle.lola_parser.specs.Late.{IsLate, IsFirstLate, IsDeepPlace, IsNextInEvery}
+use Rattle.lola_parser.specs.Fronts.{IsLongestFront}
 use Rattle.lola_parser_grammar.specs.Grammar.{all_nestings, specification}
 use Rattle.lola_parser_grammar.specs.Whole.{most_levels}
 use Rattle.lola_parser.specs.Places.{cut_last, behind_bracket, is_enclosed, IsPlacedAt, Answers}
