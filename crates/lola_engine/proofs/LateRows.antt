@@ -13,7 +13,7 @@ use Rattle.lola_engine.specs.Engines.{IsUnderWay, IsWaiting, StandsFor}
 use Rattle.lola_engine.specs.declared.engine.EngineState.{EngineState}
 
 -- whether it waits for a first row or is under way
-late_state : (e : EngineState) (seen : Seen) (remembers : Memories) (journal : List Entry) (late : Entry) (t : ℕ) → late.mark ≡ mark.Late t
+pub late_state : (e : EngineState) (seen : Seen) (remembers : Memories) (journal : List Entry) (late : Entry) (t : ℕ) → late.mark ≡ mark.Late t
     → IsWaiting e seen remembers journal ⊎ IsUnderWay e seen remembers journal → IsWaiting e seen remembers (journal ++ late ∷ []) ⊎ IsUnderWay e seen remembers (journal ++ late ∷ [])
 late_state e seen remembers journal late t is (inl w) = inl (record { without = w.without; none = accepted-append_late journal late t is ∙ w.none; new = w.new; past = w.past; clock = w.clock })
 late_state e seen remembers journal late t is (inr u) =

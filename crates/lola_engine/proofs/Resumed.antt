@@ -26,7 +26,7 @@ use Rattle.lola_text.specs.Texts.{Texts}
 use Rattle.lola_engine.specs.Behind.{StandsBehind}
 use Rattle.lola_engine.specs.Engines.{AreStarted, IsEngine, IsSound, IsUnderWay, IsWaiting}
 use Rattle.lola_engine.specs.Going.{IsMade}
-use Rattle.lola_engine.specs.Resuming.{HasReached, IsAtTimes, IsLeftAt, IsRestored, StandsAfter, going_on, steps_at, times_of}
+use Rattle.lola_engine.specs.Resuming.{HasReached, IsAtTimes, IsLeftAt, IsRestored, StandsAfter, going_on, last_or_start, steps_at, times_of}
 use Rattle.lola_engine.specs.declared.engine.EngineState.{EngineState}
 use Rattle.lola_engine.specs.declared.times.RunTimes.{RunTimes}
 use Rattle.lola_engine.proofs.Joining.{none_or}
@@ -321,3 +321,11 @@ pub few_rows : (start last : Option ℕ) (steps : ℕ) (e : EngineState) → e.r
 few_rows None last steps e none = omega (arith, none)
 few_rows (Some start) None steps e none = omega (arith, none)
 few_rows (Some start) (Some last) steps e none = omega arith
+
+-- it has merged up to the last row of those that ran before, or up to the start where there was none
+pub merged_so_far : (start last : Option ℕ) (steps : ℕ) (e : EngineState) (phase : Phase) → e.merged ≡ 0 → IsAtTimes start last phase
+    → (going_on start last steps e).merged ≡ opening_time (last_or_start last start)
+merged_so_far None None steps e phase none at = none
+merged_so_far None (Some last) steps e phase none at = absurd at
+merged_so_far (Some start) None steps e phase none at = refl
+merged_so_far (Some start) (Some last) steps e phase none at = refl

@@ -22,6 +22,15 @@ pub record HasReached (plan : Plan) (given_start : Option ℕ) (journal : List E
 abbrev pub times_of : EngineState → RunTimes
 times_of e = record { start = e.clock.start; last = if nat_eq e.rows 0 then None else Some e.merged; steps = e.behind + e.steps }
 
+-- a last stamp, or, where there is none, the start
+abbrev pub last_or_start : Option ℕ → Option ℕ → Option ℕ
+last_or_start None start = start
+last_or_start (Some last) start = Some last
+
+-- the start of a merge of rows that go on behind those of a run: the stamp of its last row, or, where it had none, where its time counts from
+abbrev pub merge_start : RunTimes → Option ℕ
+merge_start times = last_or_start times.last times.start
+
 -- how far a store is whose last row came at this time: a last row there is only where there is a start
 abbrev pub IsAtTimes : Option ℕ → Option ℕ → Phase → Type 0
 IsAtTimes None None phase = phase ≡ New

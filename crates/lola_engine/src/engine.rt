@@ -157,7 +157,7 @@ fn some_of_birth(pacings: &[ClausePacings]) -> bool
 
 /// A table with the texts of a plan's literals, each with the number of its place. Numbers of literals have 32 bits: a plan with more
 /// texts is answered with `Memory`.
-fn new_texts(alloc: Global, hasher: RandomState, plan: &Plan) -> Result<TextTable, Memory>
+pub fn literal_texts(alloc: Global, hasher: RandomState, plan: &Plan) -> Result<TextTable, Memory>
     requires { IsTrue (are_distinct plan.now.spec.texts) }
     ensures texts { IfOk result (λ texts. HasTexts texts.held plan.now.spec.texts) }
     ensures exact { IfOk result (λ texts. texts.held ≡ numbered 0 plan.now.spec.texts) }
@@ -545,7 +545,7 @@ impl<S: TextStore + Sync> Engine<S> {
         ensures stands { IfOk result (λ engine. StandsFor engine.state (S.seen engine.store) (S.remembers engine.store) []) }
         ensures behind { IfOk result (λ engine. StandsBehind engine.state (S.seen engine.store) (S.remembers engine.store) [] []) }
     {
-        let texts = new_texts(alloc, hasher, &plan)?;
+        let texts = literal_texts(alloc, hasher, &plan)?;
         let state = new_state(alloc, plan, texts, start, show, workers)?;
         let mut engine = Engine {
             store,

@@ -4,11 +4,12 @@ ghost use Rattle.std.specs.Prelude.{◌≡◌, ◌≤◌, ◌^◌, ℕ, List, Op
 ghost use Rattle.std.specs.Option.{option_map};
 ghost use Rattle.lola_value.specs.Naming.{text_at};
 ghost use Rattle.lola_model.specs.Acceptance.{IsAccepted};
+ghost use Rattle.lola_model.specs.Journal.{opening_time};
 ghost use Rattle.lola_model.specs.declared.journal.Entry.{Entry};
 ghost use Rattle.lola_step_contents.specs.Ready.{HasTexts};
 ghost use Rattle.lola_engine.specs.Behind.{StandsBehind};
 ghost use Rattle.lola_engine.specs.Engines.{IsEngine, IsOptionInTime};
-ghost use Rattle.lola_engine.specs.Resuming.{HasReached, IsLeftAt, IsRestored, going_on, times_of};
+ghost use Rattle.lola_engine.specs.Resuming.{HasReached, IsLeftAt, IsRestored, going_on, merge_start, times_of};
 
 use crate::engine::{Engine, EngineState, new_state};
 use crate::times::RunTimes;
@@ -76,6 +77,7 @@ impl<S: TextStore + Sync> Engine<S> {
         ensures counts { IfOk result (λ engine. (engine.state.steps ≡ 0) × (engine.state.lines ≡ 0)) }
         ensures times { IfOk result (λ engine. times_of engine.state ≡ times) }
         ensures rows { IfOk result (λ engine. engine.state.rows ≤ 1) }
+        ensures merged { IfOk result (λ engine. engine.state.merged ≡ opening_time (merge_start times)) }
         ensures stands { IfOk result (λ engine. (given_start : Option ℕ) (journal : List Entry) → IsLeftAt plan texts.held (S.remembers store) (S.seen store) times given_start journal
             → StandsBehind engine.state (S.seen engine.store) (S.remembers engine.store) journal journal) }
     {

@@ -1,5 +1,5 @@
 -- What is said of a run behind a front, where the front is empty: it is a run of its own.
-use Rattle.std.proofs.Common.{ℕ, List, [], ◌++◌, Err, true, inl, inr, sym, ap, ◌∙◌, subst}
+use Rattle.std.proofs.Common.{Bool, ℕ, List, [], ◌++◌, Err, inl, inr, sym, ap, ◌∙◌, subst}
 use Rattle.lola_port.specs.States.{PutBroke, SinkState, grown}
 use Rattle.lola_model.specs.Faults.{RunFault}
 use Rattle.lola_model.specs.declared.journal.Entry.{Entry}
@@ -38,11 +38,11 @@ module _ (s : Setting) (journal : List Entry) where
     put = h.put ∙ ap (grown old) (settled_first s h.front);
   }
 
-module _ (first last : World) where
-  abbrev came_first : CameBehind [] first last → CameTo true first last
-  came_first c = record { journal = c.journal; legal = c.legal; sources = c.sources; traceable = c.traceable; rounds = λ turns. c.rounds }
+module _ (in_turns : Bool) (first last : World) where
+  abbrev came_first : CameBehind in_turns [] first last → CameTo in_turns first last
+  came_first c = record { journal = c.journal; legal = c.legal; sources = c.sources; traceable = c.traceable; rounds = c.rounds }
 
-  to_fault_first : (fault : RunFault) → RanToFaultBehind [] fault first last → RanToFault true fault first last
+  to_fault_first : (fault : RunFault) → RanToFaultBehind in_turns [] fault first last → RanToFault in_turns fault first last
   to_fault_first fault r = record {
     came = came_first r.came;
     begun = r.begun;
@@ -51,7 +51,7 @@ module _ (first last : World) where
     stands = row_fault_first (setting_in first.kept) r.came.journal fault r.stands;
   }
 
-  to_cut_fault_first : (fault : RunFault) → RanToCutFaultBehind [] fault first last → RanToCutFault true fault first last
+  to_cut_fault_first : (fault : RunFault) → RanToCutFaultBehind in_turns [] fault first last → RanToCutFault in_turns fault first last
   to_cut_fault_first fault r = record {
     came = came_first r.came;
     begun = r.begun;
@@ -60,7 +60,7 @@ module _ (first last : World) where
     stands = row_fault_first (setting_in first.kept) r.came.journal fault r.stands;
   }
 
-  to_trace_cut_first : RanToTraceCutBehind [] first last → RanToTraceCut true first last
+  to_trace_cut_first : RanToTraceCutBehind in_turns [] first last → RanToTraceCut in_turns first last
   to_trace_cut_first r = record {
     came = came_first r.came;
     begun = r.begun;
@@ -69,7 +69,7 @@ module _ (first last : World) where
     out = r.out ∙ ap (grown first.out) (settled_first (setting_in first.kept) r.came.journal);
   }
 
-  to_row_cut_first : RanToRowCutBehind [] first last → RanToRowCut true first last
+  to_row_cut_first : RanToRowCutBehind in_turns [] first last → RanToRowCut in_turns first last
   to_row_cut_first r = record {
     came = came_first r.came;
     begun = r.begun;
@@ -78,7 +78,7 @@ module _ (first last : World) where
     out = cut_at_row_first (setting_in first.kept) r.came.journal first.out last.out r.out;
   }
 
-  pub out_of_memory_first : RanOutOfMemoryBehind [] first last → RanOutOfMemory true first last
+  pub out_of_memory_first : RanOutOfMemoryBehind in_turns [] first last → RanOutOfMemory in_turns first last
   out_of_memory_first r = record {
     came = came_first r.came;
     begun = r.begun;
@@ -86,11 +86,11 @@ module _ (first last : World) where
     out = has_front_first (setting_in first.kept) r.came.journal first.out last.out r.out;
   }
 
-  failed_put_first : RanToFailedPutBehind [] first last → RanToFailedPut true first last
+  failed_put_first : RanToFailedPutBehind in_turns [] first last → RanToFailedPut in_turns first last
   failed_put_first (inl cut) = inl (to_trace_cut_first cut)
   failed_put_first (inr cut) = inr (to_row_cut_first cut)
 
-  pub stopped_first : (how : Stop) → RunsBehind [] (Err how) first last → Runs true (Err how) first last
+  pub stopped_first : (how : Stop) → RunsBehind in_turns [] (Err how) first last → Runs in_turns (Err how) first last
   stopped_first (stop.Fault stream kind time) r = to_fault_first (record { stream = stream; kind = kind; time = time }) r
   stopped_first (stop.CutFault stream kind time) r = to_cut_fault_first (record { stream = stream; kind = kind; time = time }) r
   stopped_first stop.Put r = failed_put_first r

@@ -45,14 +45,14 @@ over_workers Says made left olds news merging batch is back says =
     subst (λ (ws : List Working). Says (map supply_of olds) (map supply_of ws)) (sym back) (subst (λ (feed : Feeding). Says (supplies_of feed) (supplies_of left)) is says)
 
 -- a run for which there was no memory before its first row
-cut_at_first : (first : World) (b : Beginning) → SoFar first 0 0 first → StandsFrom b (front_of b) first.kept → RanOutOfMemoryBehind (front_of b) first first
+cut_at_first : (first : World) (b : Beginning) → SoFar first 0 0 first → StandsFrom b (front_of b) first.kept → RanOutOfMemoryBehind true (front_of b) first first
 cut_at_first first b so stood = record {
   came = record {
     journal = so.journal;
     legal = legal_now first first refl b so.journal (so.stands b stood);
     sources = so.drawn.of_sources;
     traceable = so.traceable;
-    rounds = in_rounds first 0 0 first.sources so.journal (omega arith) so.drawn;
+    rounds = λ turns. in_rounds first 0 0 first.sources so.journal (omega arith) so.drawn;
   };
   begun = begun first.sources first.sources so.journal so.drawn.fed;
   trace = so.trace;
@@ -61,7 +61,7 @@ cut_at_first first b so stood = record {
 
 -- a run of ready workers for which there was no memory to begin, or to go on
 pub never_went_on : (kept : Keeping) (workers : List Working) (out trace : SinkState) (b : Beginning) → HasTakenNone kept → StandsFrom b (front_of b) kept → AreReady kept.state.plan workers
-    → RanOutOfMemoryBehind (front_of b) (world kept (map supply_of workers) out trace) (world kept (map supply_of workers) out trace)
+    → RanOutOfMemoryBehind true (front_of b) (world kept (map supply_of workers) out trace) (world kept (map supply_of workers) out trace)
 never_went_on kept workers out trace b none stood ready =
     let feed : Feeding = record { workers = workers; merging = opening 0 None; batch = [] } in
     cut_at_first (world kept (supplies_of feed) out trace) b
@@ -70,5 +70,5 @@ never_went_on kept workers out trace b none stood ready =
 pub never_begun : (kept : Keeping) (workers : List Working) (out trace : SinkState) → Stands [] kept → AreReady kept.state.plan workers
     → RanOutOfMemory true (world kept (map supply_of workers) out trace) (world kept (map supply_of workers) out trace)
 never_begun kept workers out trace stands ready =
-    out_of_memory_first (world kept (map supply_of workers) out trace) (world kept (map supply_of workers) out trace)
+    out_of_memory_first true (world kept (map supply_of workers) out trace) (world kept (map supply_of workers) out trace)
     (never_went_on kept workers out trace AtFirst (none_taken kept stands) (stands_first [] kept stands) ready)

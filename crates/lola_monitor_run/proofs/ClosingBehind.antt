@@ -1,5 +1,5 @@
 -- The deadlines at the last stamp, behind the rows of a run that went on behind others.
-use Rattle.std.proofs.Common.{◌≡◌, ◌+◌, ℕ, List, [], ◌++◌, length, None, Result, Ok, Err, inl, inr, sym, ap, ◌∙◌, subst}
+use Rattle.std.proofs.Common.{Bool, ◌≡◌, ◌+◌, ℕ, List, [], ◌++◌, length, None, Result, Ok, Err, inl, inr, sym, ap, ◌∙◌, subst}
 use Rattle.std.proofs.lemmas.List.{append-nil}
 use Rattle.lola_port.specs.States.{PutBroke, SinkState, grown}
 use Rattle.lola_model.specs.Faults.{RunFault}
@@ -20,7 +20,7 @@ use Rattle.lola_monitor_run.proofs.Runs.{all_now, fine_now}
 use Rattle.lola_monitor_run.proofs.Sinks.{more_text}
 use Rattle.lola_monitor_run.proofs.TextsBehind.{HasAll, all_put_behind, stays_behind, verdicts_more}
 
-module _ (before : List Entry) (first : World) (k1 k2 : Keeping) (sources : List Supply) (o1 o2 t1 : SinkState) (ran : RanToEndBehind before first (world k1 sources o1 t1)) where
+module _ (in_turns : Bool) (before : List Entry) (first : World) (k1 k2 : Keeping) (sources : List Supply) (o1 o2 t1 : SinkState) (ran : RanToEndBehind in_turns before first (world k1 sources o1 t1)) where
   abbrev last : World
   last = world k2 sources o2 t1
 
@@ -36,10 +36,10 @@ module _ (before : List Entry) (first : World) (k1 k2 : Keeping) (sources : List
   text_all : (lines : List (List ℕ)) → Completes k1.state (before ++ journal) lines → verdicts_behind (setting_in first.kept) before journal ≡ settled_behind (setting_in first.kept) before journal ++ text_of lines
   text_all lines completes = verdicts_more (setting_in first.kept) before journal lines (subst (λ (s : Setting). CompletesIn s (before ++ journal) lines) ran.setting completes) all
 
-  abbrev came_last : CameBehind before first last
+  abbrev came_last : CameBehind in_turns before first last
   came_last = record { journal = journal; legal = ran.came.legal; sources = ran.came.sources; traceable = ran.came.traceable; rounds = ran.came.rounds }
 
-  well : ClosedBehind before (before ++ journal) k1 k2 o1 o2 → ThroughWellBehind before first last
+  well : ClosedBehind before (before ++ journal) k1 k2 o1 o2 → ThroughWellBehind in_turns before first last
   well c = record {
     through = record {
       came = came_last;
@@ -58,7 +58,7 @@ module _ (before : List Entry) (first : World) (k1 k2 : Keeping) (sources : List
   }
 
   -- at the deadline's fault
-  by_fault : (fault : RunFault) → ClosedByFault fault (before ++ journal) k1 o1 o2 → EndedByFaultBehind before fault first last
+  by_fault : (fault : RunFault) → ClosedByFault fault (before ++ journal) k1 o1 o2 → EndedByFaultBehind in_turns before fault first last
   by_fault fault c = record {
     through = record {
       came = came_last;
@@ -71,7 +71,7 @@ module _ (before : List Entry) (first : World) (k1 k2 : Keeping) (sources : List
   }
 
   -- the verdicts of the deadlines were cut short
-  by_put : CutClose (before ++ journal) k1 o1 o2 → ThroughCutBehind before first last
+  by_put : CutClose (before ++ journal) k1 o1 o2 → ThroughCutBehind in_turns before first last
   by_put c = record {
     came = came_last;
     begun = begun first.sources sources journal ran.fed;
@@ -81,7 +81,7 @@ module _ (before : List Entry) (first : World) (k1 k2 : Keeping) (sources : List
     out = record { brings = text_of c.lines; joined = text_all c.lines c.completes; cut = subst (λ (o : SinkState). PutBroke o o2 (text_of c.lines)) ran.out c.out };
   }
 
-  by_memory : o2 ≡ o1 → RanOutOfMemoryBehind before first last
+  by_memory : o2 ≡ o1 → RanOutOfMemoryBehind in_turns before first last
   by_memory same = record {
     came = came_last;
     begun = begun first.sources sources journal ran.fed;
@@ -89,16 +89,16 @@ module _ (before : List Entry) (first : World) (k1 k2 : Keeping) (sources : List
     out = all_put_behind (setting_in first.kept) before journal first.out o2 all (same ∙ ran.out);
   }
 
-  pub closes_behind : (result : Result (Unit {0}) Stop) → ClosesBehind result k1 k2 o1 o2 → EndsBehind before result first last
+  pub closes_behind : (result : Result (Unit {0}) Stop) → ClosesBehind result k1 k2 o1 o2 → EndsBehind in_turns before result first last
   closes_behind (Ok done) did = well (did before (before ++ journal) ran.stands)
   closes_behind (Err (stop.Fault stream kind time)) did = by_fault (record { stream = stream; kind = kind; time = time }) (did before (before ++ journal) ran.stands)
   closes_behind (Err (stop.CutFault stream kind time)) did = absurd (did before (before ++ journal) ran.stands)
   closes_behind (Err stop.Put) did = inr (by_put (did before (before ++ journal) ran.stands))
   closes_behind (Err stop.Memory) did = by_memory did
 
-module _ (before : List Entry) (first final : World) where
+module _ (in_turns : Bool) (before : List Entry) (first final : World) where
   -- at the fault of a row
-  row_fault_ends : (fault : RunFault) → RanToFaultBehind before fault first final → EndedByFaultBehind before fault first final
+  row_fault_ends : (fault : RunFault) → RanToFaultBehind in_turns before fault first final → EndedByFaultBehind in_turns before fault first final
   row_fault_ends fault r = record {
     through = record { came = r.came; begun = r.begun; trace = r.trace; out = r.out ∙ ap (grown first.out) (sym (stays_behind (setting_in first.kept) before r.came.journal fault r.stands.settled)) };
     is_fault = fault_stays (setting_in first.kept) (before ++ r.came.journal) fault r.stands.settled;
@@ -106,7 +106,7 @@ module _ (before : List Entry) (first final : World) where
   }
 
   -- and where the lines before it were cut short
-  row_fault_cut : (fault : RunFault) → RanToCutFaultBehind before fault first final → EndedByCutFaultBehind before fault first final
+  row_fault_cut : (fault : RunFault) → RanToCutFaultBehind in_turns before fault first final → EndedByCutFaultBehind in_turns before fault first final
   row_fault_cut fault r = record {
     came = r.came;
     begun = r.begun;
@@ -117,7 +117,7 @@ module _ (before : List Entry) (first final : World) where
   }
 
   -- no deadlines are run where a row has a fault or the run was cut short
-  pub stays_ended_behind : (how : Stop) → RunsBehind before (Err how) first final → EndsBehind before (Err how) first final
+  pub stays_ended_behind : (how : Stop) → RunsBehind in_turns before (Err how) first final → EndsBehind in_turns before (Err how) first final
   stays_ended_behind (stop.Fault stream kind time) r = row_fault_ends (record { stream = stream; kind = kind; time = time }) r
   stays_ended_behind (stop.CutFault stream kind time) r = row_fault_cut (record { stream = stream; kind = kind; time = time }) r
   stays_ended_behind stop.Put r = inl r

@@ -103,8 +103,8 @@ module _ (first : World) (n k : ℕ) (now next : World) (within : k < length fir
         ap (settled_fault_in (setting_in first.kept)) (sym (append_assoc (front_of b) so.journal (entry ∷ [])))
         ∙ (ap (λ (s : Setting). settled_fault_in s ((front_of b ++ so.journal) ++ entry ∷ [])) (sym so.setting) ∙ is)
 
-    abbrev came_on : CameBehind (front_of b) first next
-    came_on = record { journal = so.journal ++ entry ∷ []; legal = legal_is; sources = drawn_is.of_sources; traceable = told_is; rounds = rounds_are }
+    abbrev came_on : CameBehind true (front_of b) first next
+    came_on = record { journal = so.journal ++ entry ∷ []; legal = legal_is; sources = drawn_is.of_sources; traceable = told_is; rounds = λ turns. rounds_are }
 
 module _ (first : World) (n k : ℕ) (now next : World) (within : k < length first.sources) (so : SoFar first n k now) where
   steps_on : Stepped k now next → SoFar first n (suc k) next
@@ -189,7 +189,7 @@ module _ (first : World) (n : ℕ) (last : World) (so : SoFar first n 0 last) (e
       }
 
   -- of one that went on behind others
-  pub ran_behind : (before : List Entry) → IsBehind before before first.kept → RanToEndBehind before first last
+  pub ran_behind : (before : List Entry) → IsBehind before before first.kept → RanToEndBehind true before first last
   ran_behind before stood =
       let stands = so.stands (Following before) stood in
       record {
@@ -198,7 +198,7 @@ module _ (first : World) (n : ℕ) (last : World) (so : SoFar first n 0 last) (e
           legal = legal_now first last so.setting (Following before) so.journal stands;
           sources = so.drawn.of_sources;
           traceable = so.traceable;
-          rounds = in_rounds first n 0 last.sources so.journal (omega arith) so.drawn;
+          rounds = λ turns. in_rounds first n 0 last.sources so.journal (omega arith) so.drawn;
         };
         setting = so.setting;
         fed = so.drawn.fed;
@@ -211,7 +211,7 @@ module _ (first : World) (n : ℕ) (last : World) (so : SoFar first n 0 last) (e
       }
 
 -- all rows of a run that went on behind others
-pub all_rows_behind : (result : Result (Unit {0}) Stop) (first last : World) → RunsOn result first last → (before : List Entry) → IsBehind before before first.kept → RunsBehind before result first last
+pub all_rows_behind : (result : Result (Unit {0}) Stop) (first last : World) → RunsOn result first last → (before : List Entry) → IsBehind before before first.kept → RunsBehind true before result first last
 all_rows_behind (Ok done) first last ran before stood = ran_behind first ran.0.0 last ran.0.1 ran.1 before stood
 all_rows_behind (Err how) first last ran before stood = ran (Following before) stood
 
@@ -227,7 +227,7 @@ module _ (first : World) (n k : ℕ) (now last : World) (within : k < length fir
     settled = fault_is first n k now last within so entry traced b stood fault is;
   }
 
-  fails : (fault : RunFault) → SawFault fault k now last → RanToFaultBehind (front_of b) fault first last
+  fails : (fault : RunFault) → SawFault fault k now last → RanToFaultBehind true (front_of b) fault first last
   fails fault saw =
       let bad = saw.runs b (front_of b ++ so.journal) (so.stands b stood) in
       record {
@@ -239,7 +239,7 @@ module _ (first : World) (n k : ℕ) (now last : World) (within : k < length fir
       }
 
   -- the lines before a fault were cut short
-  fails_cut : (fault : RunFault) → SawCutFault fault k now last → RanToCutFaultBehind (front_of b) fault first last
+  fails_cut : (fault : RunFault) → SawCutFault fault k now last → RanToCutFaultBehind true (front_of b) fault first last
   fails_cut fault saw =
       let bad = saw.runs b (front_of b ++ so.journal) (so.stands b stood) in
       record {
@@ -259,16 +259,16 @@ module _ (first : World) (n k : ℕ) (now last : World) (within : k < length fir
   rounds_cut (inr at) = touched_in_rounds first.sources now.sources last.sources k so.journal at.0 at.1 now_in_rounds
 
   -- the rows up to here, the last of which was not traced whole
-  abbrev came_here : (last.sources ≡ now.sources) ⊎ ((at : Touched k now.sources last.sources) × IsSound at.new) → CameBehind (front_of b) first last
+  abbrev came_here : (last.sources ≡ now.sources) ⊎ ((at : Touched k now.sources last.sources) × IsSound at.new) → CameBehind true (front_of b) first last
   came_here touched = record {
     journal = so.journal;
     legal = legal_now first now so.setting b so.journal (so.stands b stood);
     sources = so.drawn.of_sources;
     traceable = so.traceable;
-    rounds = rounds_cut touched;
+    rounds = λ turns. rounds_cut touched;
   }
 
-  trace_cut : TraceCut k now last → RanToTraceCutBehind (front_of b) first last
+  trace_cut : TraceCut k now last → RanToTraceCutBehind true (front_of b) first last
   trace_cut cut = record {
     came = came_here (inr (cut.at, cut.sound));
     begun = begun first.sources now.sources so.journal so.drawn.fed;
@@ -281,7 +281,7 @@ module _ (first : World) (n k : ℕ) (now last : World) (within : k < length fir
     out = cut.out ∙ so.out b stood;
   }
 
-  row_cut : OutCut k now last → RanToRowCutBehind (front_of b) first last
+  row_cut : OutCut k now last → RanToRowCutBehind true (front_of b) first last
   row_cut cut =
       let c = cut.runs b (front_of b ++ so.journal) (so.stands b stood) in
       record {
@@ -293,7 +293,7 @@ module _ (first : World) (n k : ℕ) (now last : World) (within : k < length fir
             (text_is first n k now last within so cut.entry cut.traced b stood c.lines c.brings) (so.out b stood) c.out;
       }
 
-  not_traced : NotTraced k now last → RanOutOfMemoryBehind (front_of b) first last
+  not_traced : NotTraced k now last → RanOutOfMemoryBehind true (front_of b) first last
   not_traced none = record {
     came = came_here none.touched;
     begun = begun first.sources now.sources so.journal so.drawn.fed;
@@ -301,7 +301,7 @@ module _ (first : World) (n k : ℕ) (now last : World) (within : k < length fir
     out = all_put_behind (setting_in first.kept) (front_of b) so.journal first.out last.out (all_now first now so.setting b so.journal (so.stands b stood)) (none.out ∙ so.out b stood);
   }
 
-  not_put : OutKept k now last → RanOutOfMemoryBehind (front_of b) first last
+  not_put : OutKept k now last → RanOutOfMemoryBehind true (front_of b) first last
   not_put kept =
       let c = kept.runs b (front_of b ++ so.journal) (so.stands b stood) in
       record {
@@ -312,15 +312,15 @@ module _ (first : World) (n k : ℕ) (now last : World) (within : k < length fir
             (text_is first n k now last within so kept.entry kept.traced b stood c.lines c.brings) (c.out ∙ so.out b stood);
       }
 
-  put_fault : TraceCut k now last ⊎ OutCut k now last → RanToFailedPutBehind (front_of b) first last
+  put_fault : TraceCut k now last ⊎ OutCut k now last → RanToFailedPutBehind true (front_of b) first last
   put_fault (inl cut) = inl (trace_cut cut)
   put_fault (inr cut) = inr (row_cut cut)
 
-  out_of_memory : NotTraced k now last ⊎ OutKept k now last → RanOutOfMemoryBehind (front_of b) first last
+  out_of_memory : NotTraced k now last ⊎ OutKept k now last → RanOutOfMemoryBehind true (front_of b) first last
   out_of_memory (inl none) = not_traced none
   out_of_memory (inr kept) = not_put kept
 
-  stops_from : (how : Stop) → Steps (Err how) k now last → RunsBehind (front_of b) (Err how) first last
+  stops_from : (how : Stop) → Steps (Err how) k now last → RunsBehind true (front_of b) (Err how) first last
   stops_from (stop.Fault stream kind time) saw = fails (record { stream = stream; kind = kind; time = time }) saw
   stops_from (stop.CutFault stream kind time) saw = fails_cut (record { stream = stream; kind = kind; time = time }) saw
   stops_from stop.Put saw = put_fault saw

@@ -1,27 +1,24 @@
 -- A run that takes one entry more, whatever journal it stands for.
-use Rattle.std.proofs.Common.{◌≡◌, ◌⊎◌, ℕ, ◌+◌, ◌≤◌, List, [], ◌∷◌, ◌++◌, Option, None, Some, max, ◌-◌, Result, Ok, Err, inl, inr, refl, sym, ap, ◌∙◌, subst, arith, append_assoc, length, length-append}
+use Rattle.std.proofs.Common.{◌≡◌, ◌⊎◌, ℕ, ◌+◌, ◌≤◌, List, [], ◌∷◌, ◌++◌, Option, None, ◌-◌, Result, Ok, Err, inl, inr, refl, sym, ap, ◌∙◌, subst, arith, append_assoc, length, length-append}
 use Rattle.std.proofs.lemmas.List.{append-nil}
 use Rattle.std.specs.Prelude.{OnOk}
 use Rattle.lola_port.specs.States.{PutBroke, SinkState, grown}
 use Rattle.lola_model.specs.Journal.{IsLegal, IsRightlyMarked, accepted, merged_from, opening_time}
 use Rattle.lola_model.specs.Faults.{RunFault}
-use Rattle.lola_model.specs.Runs.{content_after, run_start, settled_lines, settled_model}
+use Rattle.lola_model.specs.Runs.{settled_lines}
 use Rattle.lola_model.specs.Texts.{text_of}
-use Rattle.lola_model.specs.Standing.{StandsBetween}
-use Rattle.lola_model.specs.Table.{TableRow}
-use Rattle.lola_step.specs.Progress.{IsRun}
 use Rattle.lola_model.specs.declared.journal.Row.{Row}
 use Rattle.lola_model.specs.declared.journal.Show.{Show}
 use Rattle.lola_model.specs.declared.plan.Plan.{Plan}
 use Rattle.lola_model.specs.declared.journal.Entry.{Entry}
 use Rattle.lola_model.specs.declared.journal.Mark.{Mark}
 use Rattle.lola_model.specs.declared.journal.Mark.TheVariants as mark
-use Rattle.lola_model.proofs.Journals.{IsLegalFrom-append_one, accepted-append, accepted-append_late, merged_from-append_late, run_start-append_late, settled_fault-append_late, settled_lines-append_late, settled_model-append_late}
+use Rattle.lola_model.proofs.Journals.{IsLegalFrom-append_one, accepted-append, accepted-append_late, merged_from-append_late, settled_fault-append_late, settled_lines-append_late, settled_model-append_late}
 use Rattle.lola_instances.specs.Stores.{bounded_remembers, bounded_seen}
 use Rattle.lola_instances.specs.declared.store.BoundedStore.{BoundedStore}
-use Rattle.lola_engine.proofs.LateRows.{late_stands}
+use Rattle.lola_engine.proofs.LateRows.{late_stands, late_state}
 use Rattle.lola_engine.specs.Behind.{AcceptsBehind, FinishesBehind, StandsBehind}
-use Rattle.lola_engine.specs.Engines.{Accepts, Brings, CutsRow, FailsRow, Finishes, IsUnderWay, IsWaiting, accepted_entry}
+use Rattle.lola_engine.specs.Engines.{Accepts, Brings, CutsRow, FailsRow, Finishes, accepted_entry}
 use Rattle.lola_engine.specs.declared.engine.EngineState.{EngineState}
 use Rattle.lola_engine.specs.declared.end.EngineEnd.{EngineEnd}
 use Rattle.lola_engine.specs.declared.end.EngineEnd.TheVariants as engine_end
@@ -86,21 +83,6 @@ legal_more b journal entry kept stands next =
     IsLegalFrom-append_one (opening_time kept.state.given_start) journal entry stands.legal (subst (λ m. IsRightlyMarked m entry) (engine_merged b journal kept stands.engine) next)
 
 -- a late entry more, for an engine behind others
-late_state : (e : EngineState) (seen : Seen) (remembers : Memories) (journal : List Entry) (late : Entry) (t : ℕ) → late.mark ≡ mark.Late t
-    → IsWaiting e seen remembers journal ⊎ IsUnderWay e seen remembers journal → IsWaiting e seen remembers (journal ++ late ∷ []) ⊎ IsUnderWay e seen remembers (journal ++ late ∷ [])
-late_state e seen remembers journal late t is (inl w) = inl (record { without = w.without; none = accepted-append_late journal late t is ∙ w.none; new = w.new; past = w.past; clock = w.clock })
-late_state e seen remembers journal late t is (inr u) =
-    let model = sym (settled_model-append_late e.plan e.given_start journal late t is) in
-    let start = sym (run_start-append_late e.plan e.given_start journal late t is) in
-    inr (record {
-      begun = λ none. u.begun (sym (accepted-append_late journal late t is) ∙ none);
-      run = subst (λ (rows : List TableRow). IsRun e.plan e.texts.held rows) model u.run;
-      stands = subst (λ (n : ℕ). StandsBetween e.texts.held remembers seen (content_after e.plan n (settled_model e.plan e.given_start (journal ++ late ∷ [])))) start
-          (subst (λ (rows : List TableRow). StandsBetween e.texts.held remembers seen (content_after e.plan (run_start e.plan e.given_start journal) rows)) model u.stands);
-      clock = u.clock ∙ ap Some start;
-      passed = u.passed ∙ ap (λ n. max n (e.merged - 1)) start;
-    })
-
 late_behind : (e : EngineState) (seen : Seen) (remembers : Memories) (before journal : List Entry) (late : Entry) (t : ℕ) → late.mark ≡ mark.Late t
     → StandsBehind e seen remembers before journal → StandsBehind e seen remembers before (journal ++ late ∷ [])
 late_behind e seen remembers before journal late t is h = record {

@@ -1,5 +1,5 @@
 -- Runs that go on behind a journal that other runs had taken: what their calls do, and how their rows end.
-use Rattle.std.specs.Prelude.{ℕ, ◌≡◌, ◌⊎◌, ◌+◌, ◌≤◌, List, [], ◌∷◌, ◌++◌, None, Some, Result, Ok, Err, drop, length}
+use Rattle.std.specs.Prelude.{Bool, true, ℕ, ◌≡◌, ◌⊎◌, ◌+◌, ◌≤◌, List, [], ◌∷◌, ◌++◌, None, Some, Result, Ok, Err, drop, length}
 use Rattle.lola_port.specs.States.{PutBroke, SinkState, grown}
 use Rattle.lola_model.specs.Journal.{IsLegal, accepted, time_after}
 use Rattle.lola_model.specs.Faults.{RunFault}
@@ -157,17 +157,17 @@ pub record HasFrontBehind (s : Setting) (before : List Entry) (old new : SinkSta
   pub joined : verdicts_behind s before journal ≡ settled_behind s before front ++ more
   pub put : new ≡ grown old (settled_behind s before front)
 
--- where a run came to whose sources are read in turns: the rows that came since, in rounds
-pub record CameBehind (before : List Entry) (first last : World) : Type 0 where
+-- where a run came to: the rows that came since, in rounds where its sources are read in turns
+pub record CameBehind (in_turns : Bool) (before : List Entry) (first last : World) : Type 0 where
   pub journal : List Entry
   pub legal : IsLegal first.kept.state.given_start (before ++ journal)
   pub sources : AreOfSources (length first.sources) journal
   pub traceable : AreTraceable first.kept.state.plan journal
-  pub rounds : GoInRounds first.sources last.sources journal
+  pub rounds : in_turns ≡ true → GoInRounds first.sources last.sources journal
 
 -- a run to the end of its sources, each of which may have failed: it stands for front and journal
-pub record RanToEndBehind (before : List Entry) (first last : World) : Type 0 where
-  pub came : CameBehind before first last
+pub record RanToEndBehind (in_turns : Bool) (before : List Entry) (first last : World) : Type 0 where
+  pub came : CameBehind in_turns before first last
   pub setting : IsSetAs first.kept last.kept
   pub fed : AreFed first.sources last.sources came.journal
   pub ended : HaveEnded last.sources
@@ -178,66 +178,66 @@ pub record RanToEndBehind (before : List Entry) (first last : World) : Type 0 wh
   pub late : last.kept.late ≡ late_count came.journal
 
 -- a run to the first fault of a row
-pub record RanToFaultBehind (before : List Entry) (fault : RunFault) (first last : World) : Type 0 where
-  pub came : CameBehind before first last
+pub record RanToFaultBehind (in_turns : Bool) (before : List Entry) (fault : RunFault) (first last : World) : Type 0 where
+  pub came : CameBehind in_turns before first last
   pub begun : HaveBegun first.sources came.journal
   pub trace : AreTraced first last came.journal
   pub out : last.out ≡ grown first.out (settled_behind (setting_in first.kept) before came.journal)
   pub stands : IsRowFaultBehind (setting_in first.kept) before came.journal fault
 
 -- a run to the first fault of a row, before whose line a put failed: a proper part of the verdicts was put
-pub record RanToCutFaultBehind (before : List Entry) (fault : RunFault) (first last : World) : Type 0 where
-  pub came : CameBehind before first last
+pub record RanToCutFaultBehind (in_turns : Bool) (before : List Entry) (fault : RunFault) (first last : World) : Type 0 where
+  pub came : CameBehind in_turns before first last
   pub begun : HaveBegun first.sources came.journal
   pub trace : AreTraced first last came.journal
   pub out : PutBroke first.out last.out (settled_behind (setting_in first.kept) before came.journal)
   pub stands : IsRowFaultBehind (setting_in first.kept) before came.journal fault
 
 -- a run without a fault to a row whose trace line was cut short: the verdicts of all rows before it were put
-pub record RanToTraceCutBehind (before : List Entry) (first last : World) : Type 0 where
-  pub came : CameBehind before first last
+pub record RanToTraceCutBehind (in_turns : Bool) (before : List Entry) (first last : World) : Type 0 where
+  pub came : CameBehind in_turns before first last
   pub begun : HaveBegun first.sources came.journal
   pub no_fault : settled_fault_in (setting_in first.kept) (before ++ came.journal) ≡ None
   pub trace : IsCutInLine first.kept.state.plan first.trace last.trace came.journal
   pub out : last.out ≡ grown first.out (settled_behind (setting_in first.kept) before came.journal)
 
 -- a run without a fault to a row that was traced, and whose verdicts were cut short
-pub record RanToRowCutBehind (before : List Entry) (first last : World) : Type 0 where
-  pub came : CameBehind before first last
+pub record RanToRowCutBehind (in_turns : Bool) (before : List Entry) (first last : World) : Type 0 where
+  pub came : CameBehind in_turns before first last
   pub begun : HaveBegun first.sources came.journal
   pub no_fault : settled_fault_in (setting_in first.kept) (before ++ came.journal) ≡ None
   pub trace : AreTraced first last came.journal
   pub out : IsCutAtRowBehind (setting_in first.kept) before first.out last.out came.journal
 
 -- a run that a failed put cut short
-abbrev pub RanToFailedPutBehind : List Entry → World → World → Type 0
-RanToFailedPutBehind before first last = RanToTraceCutBehind before first last ⊎ RanToRowCutBehind before first last
+abbrev pub RanToFailedPutBehind : Bool → List Entry → World → World → Type 0
+RanToFailedPutBehind in_turns before first last = RanToTraceCutBehind in_turns before first last ⊎ RanToRowCutBehind in_turns before first last
 
 -- a run that ended for want of memory: all its rows were traced, and a front of their verdicts was put
-pub record RanOutOfMemoryBehind (before : List Entry) (first last : World) : Type 0 where
-  pub came : CameBehind before first last
+pub record RanOutOfMemoryBehind (in_turns : Bool) (before : List Entry) (first last : World) : Type 0 where
+  pub came : CameBehind in_turns before first last
   pub begun : HaveBegun first.sources came.journal
   pub trace : AreTraced first last came.journal
   pub out : HasFrontBehind (setting_in first.kept) before first.out last.out came.journal
 
 -- all rows of a run
-abbrev pub RunsBehind : List Entry → Result (Unit {0}) Stop → World → World → Type 0
-RunsBehind before (Ok done) first last = RanToEndBehind before first last
-RunsBehind before (Err (stop.Fault stream kind time)) first last = RanToFaultBehind before (record { stream = stream; kind = kind; time = time }) first last
-RunsBehind before (Err (stop.CutFault stream kind time)) first last = RanToCutFaultBehind before (record { stream = stream; kind = kind; time = time }) first last
-RunsBehind before (Err stop.Put) first last = RanToFailedPutBehind before first last
-RunsBehind before (Err stop.Memory) first last = RanOutOfMemoryBehind before first last
+abbrev pub RunsBehind : Bool → List Entry → Result (Unit {0}) Stop → World → World → Type 0
+RunsBehind in_turns before (Ok done) first last = RanToEndBehind in_turns before first last
+RunsBehind in_turns before (Err (stop.Fault stream kind time)) first last = RanToFaultBehind in_turns before (record { stream = stream; kind = kind; time = time }) first last
+RunsBehind in_turns before (Err (stop.CutFault stream kind time)) first last = RanToCutFaultBehind in_turns before (record { stream = stream; kind = kind; time = time }) first last
+RunsBehind in_turns before (Err stop.Put) first last = RanToFailedPutBehind in_turns before first last
+RunsBehind in_turns before (Err stop.Memory) first last = RanOutOfMemoryBehind in_turns before first last
 
 -- a whole run, with the deadlines at the last stamp, which may be the front's: all verdicts were put
-pub record ThroughBehind (before : List Entry) (first last : World) : Type 0 where
-  pub came : CameBehind before first last
+pub record ThroughBehind (in_turns : Bool) (before : List Entry) (first last : World) : Type 0 where
+  pub came : CameBehind in_turns before first last
   pub begun : HaveBegun first.sources came.journal
   pub trace : AreTraced first last came.journal
   pub out : last.out ≡ grown first.out (verdicts_behind (setting_in first.kept) before came.journal)
 
 -- a whole run without a fault, to the end of its sources. Steps and lines are counted behind those that the front has settled
-pub record ThroughWellBehind (before : List Entry) (first last : World) : Type 0 where
-  pub through : ThroughBehind before first last
+pub record ThroughWellBehind (in_turns : Bool) (before : List Entry) (first last : World) : Type 0 where
+  pub through : ThroughBehind in_turns before first last
   pub fed : AreFed first.sources last.sources through.came.journal
   pub ended : HaveEnded last.sources
   pub no_fault : fault_in (setting_in first.kept) (before ++ through.came.journal) ≡ None
@@ -256,14 +256,14 @@ pub record IsAtDeadlineBehind (before journal : List Entry) (first last : World)
   pub ended : HaveEnded last.sources
 
 -- a whole run, to its first fault: that of its last row, or of the deadline at the last stamp
-pub record EndedByFaultBehind (before : List Entry) (fault : RunFault) (first last : World) : Type 0 where
-  pub through : ThroughBehind before first last
+pub record EndedByFaultBehind (in_turns : Bool) (before : List Entry) (fault : RunFault) (first last : World) : Type 0 where
+  pub through : ThroughBehind in_turns before first last
   pub is_fault : fault_in (setting_in first.kept) (before ++ through.came.journal) ≡ Some fault
   pub place : IsRowFaultBehind (setting_in first.kept) before through.came.journal fault ⊎ IsAtDeadlineBehind before through.came.journal first last
 
 -- a run to the first fault, before whose line a put failed: a proper part of all verdicts was put
-pub record EndedByCutFaultBehind (before : List Entry) (fault : RunFault) (first last : World) : Type 0 where
-  pub came : CameBehind before first last
+pub record EndedByCutFaultBehind (in_turns : Bool) (before : List Entry) (fault : RunFault) (first last : World) : Type 0 where
+  pub came : CameBehind in_turns before first last
   pub begun : HaveBegun first.sources came.journal
   pub trace : AreTraced first last came.journal
   pub out : PutBroke first.out last.out (verdicts_behind (setting_in first.kept) before came.journal)
@@ -271,8 +271,8 @@ pub record EndedByCutFaultBehind (before : List Entry) (fault : RunFault) (first
   pub place : IsRowFaultBehind (setting_in first.kept) before came.journal fault
 
 -- a whole run without a fault, where the verdicts of the deadlines at the last stamp were cut short
-pub record ThroughCutBehind (before : List Entry) (first last : World) : Type 0 where
-  pub came : CameBehind before first last
+pub record ThroughCutBehind (in_turns : Bool) (before : List Entry) (first last : World) : Type 0 where
+  pub came : CameBehind in_turns before first last
   pub begun : HaveBegun first.sources came.journal
   pub no_fault : fault_in (setting_in first.kept) (before ++ came.journal) ≡ None
   pub place : IsAtDeadlineBehind before came.journal first last
@@ -280,9 +280,9 @@ pub record ThroughCutBehind (before : List Entry) (first last : World) : Type 0 
   pub out : IsCutAtDeadlineBehind (setting_in first.kept) before first.out last.out came.journal
 
 -- how a whole run ends that went on behind a journal which others had taken
-abbrev pub EndsBehind : List Entry → Result (Unit {0}) Stop → World → World → Type 0
-EndsBehind before (Ok done) first last = ThroughWellBehind before first last
-EndsBehind before (Err (stop.Fault stream kind time)) first last = EndedByFaultBehind before (record { stream = stream; kind = kind; time = time }) first last
-EndsBehind before (Err (stop.CutFault stream kind time)) first last = EndedByCutFaultBehind before (record { stream = stream; kind = kind; time = time }) first last
-EndsBehind before (Err stop.Put) first last = RanToFailedPutBehind before first last ⊎ ThroughCutBehind before first last
-EndsBehind before (Err stop.Memory) first last = RanOutOfMemoryBehind before first last
+abbrev pub EndsBehind : Bool → List Entry → Result (Unit {0}) Stop → World → World → Type 0
+EndsBehind in_turns before (Ok done) first last = ThroughWellBehind in_turns before first last
+EndsBehind in_turns before (Err (stop.Fault stream kind time)) first last = EndedByFaultBehind in_turns before (record { stream = stream; kind = kind; time = time }) first last
+EndsBehind in_turns before (Err (stop.CutFault stream kind time)) first last = EndedByCutFaultBehind in_turns before (record { stream = stream; kind = kind; time = time }) first last
+EndsBehind in_turns before (Err stop.Put) first last = RanToFailedPutBehind in_turns before first last ⊎ ThroughCutBehind in_turns before first last
+EndsBehind in_turns before (Err stop.Memory) first last = RanOutOfMemoryBehind in_turns before first last

@@ -205,7 +205,7 @@ pub record SoFar (first : World) (round turn : ℕ) (now : World) : Type 0 where
 
 -- how the rows of a run were stopped, whatever it stood for at first
 abbrev pub StopsFrom : Stop → World → World → Type 0
-StopsFrom end first last = (b : Beginning) → StandsFrom b (front_of b) first.kept → RunsBehind (front_of b) (Err end) first last
+StopsFrom end first last = (b : Beginning) → StandsFrom b (front_of b) first.kept → RunsBehind true (front_of b) (Err end) first last
 
 -- all rows of a run, to the end of its sources or to what stopped them
 abbrev pub RunsOn : Result (Unit {0}) Stop → World → World → Type 0

@@ -138,8 +138,8 @@ pub fn run_out<R: Threads + Sync, K: Sink, G: Gate + Sync>(
     requires going { IsGoing (keeping run.old) }
     ensures run { (in_turns : Bool) (first : World) (sources : List Supply) (trace : SinkState) → RanToEnd in_turns first (world (keeping run.old) sources (K.state out.old) trace)
         → EndsRun in_turns result first (world (keeping run.new) sources (K.state out.new) trace) }
-    ensures behind { (before : List Entry) (first : World) (sources : List Supply) (trace : SinkState) → RanToEndBehind before first (world (keeping run.old) sources (K.state out.old) trace)
-        → EndsBehind before result first (world (keeping run.new) sources (K.state out.new) trace) }
+    ensures behind { (in_turns : Bool) (before : List Entry) (first : World) (sources : List Supply) (trace : SinkState) → RanToEndBehind in_turns before first (world (keeping run.old) sources (K.state out.old) trace)
+        → EndsBehind in_turns before result first (world (keeping run.new) sources (K.state out.new) trace) }
     ensures plan { (keeping run.new).state.plan ≡ (keeping run.old).state.plan }
 {
     run.close(rt, out, gate)
@@ -161,7 +161,7 @@ fn run_whole<R: Threads + Sync, S: Source, K: Sink, T: Sink, G: Gate + Sync>(
     ensures run { Stands [] (keeping run.old) → EndsRun true result (world (keeping run.old) (supplies_of feed.old) (K.state out.old) (T.state trace.old))
         (world (keeping run.new) (supplies_of feed.new) (K.state out.new) (T.state trace.new)) }
     ensures behind { (before : List Entry) → IsBehind before before (keeping run.old)
-        → EndsBehind before result (world (keeping run.old) (supplies_of feed.old) (K.state out.old) (T.state trace.old))
+        → EndsBehind true before result (world (keeping run.old) (supplies_of feed.old) (K.state out.old) (T.state trace.old))
         (world (keeping run.new) (supplies_of feed.new) (K.state out.new) (T.state trace.new)) }
     ensures places { AreInPlace feed.old.workers feed.new.workers }
     ensures plan { (keeping run.new).state.plan ≡ (keeping run.old).state.plan }
@@ -189,7 +189,7 @@ fn run_all<R: Threads + Sync, S: Source, K: Sink, T: Sink, G: Gate + Sync>(
     ensures run { Stands [] (keeping run.old) → EndsRun true result.1 (world (keeping run.old) (map supply_of workers.items) (K.state out.old) (T.state trace.old))
         (world (keeping run.new) (map supply_of result.0.items) (K.state out.new) (T.state trace.new)) }
     ensures behind { (before : List Entry) → IsBehind before before (keeping run.old)
-        → EndsBehind before result.1 (world (keeping run.old) (map supply_of workers.items) (K.state out.old) (T.state trace.old))
+        → EndsBehind true before result.1 (world (keeping run.old) (map supply_of workers.items) (K.state out.old) (T.state trace.old))
         (world (keeping run.new) (map supply_of result.0.items) (K.state out.new) (T.state trace.new)) }
     ensures places { AreInPlace workers.items result.0.items }
     ensures plan { (keeping run.new).state.plan ≡ (keeping run.old).state.plan }
@@ -245,7 +245,7 @@ pub fn resume_in_turns<R: Threads + Sync, S: Source, K: Sink, T: Sink, G: Gate +
     requires ready { AreReady (keeping run.old).state.plan workers.items }
     requires start { opening_time start ≡ (keeping run.old).state.merged }
     ensures run { (before : List Entry) → IsBehind before before (keeping run.old)
-        → EndsBehind before result.1 (world (keeping run.old) (map supply_of workers.items) (K.state out.old) (T.state trace.old))
+        → EndsBehind true before result.1 (world (keeping run.old) (map supply_of workers.items) (K.state out.old) (T.state trace.old))
         (world (keeping run.new) (map supply_of result.0.items) (K.state out.new) (T.state trace.new)) }
     ensures places { AreInPlace workers.items result.0.items }
     ensures plan { (keeping run.new).state.plan ≡ (keeping run.old).state.plan }
@@ -270,7 +270,7 @@ pub fn rows_in_turns<R: Threads + Sync, S: Source, K: Sink, T: Sink, G: Gate + S
     requires ready { AreReady (keeping run.old).state.plan workers.items }
     requires start { opening_time start ≡ (keeping run.old).state.merged }
     ensures run { (before : List Entry) → IsBehind before before (keeping run.old)
-        → RunsBehind before result.1 (world (keeping run.old) (map supply_of workers.items) (K.state out.old) (T.state trace.old))
+        → RunsBehind true before result.1 (world (keeping run.old) (map supply_of workers.items) (K.state out.old) (T.state trace.old))
         (world (keeping run.new) (map supply_of result.0.items) (K.state out.new) (T.state trace.new)) }
     ensures places { AreInPlace workers.items result.0.items }
     ensures setting { IsSetAs (keeping run.old) (keeping run.new) }

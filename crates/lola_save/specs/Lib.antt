@@ -2,3 +2,4 @@ pub mod Taken
 pub mod Fitting
 pub mod Loaded
 pub mod Opening
+pub mod StateEnds

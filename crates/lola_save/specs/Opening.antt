@@ -1,6 +1,7 @@
 -- A store and an engine that were made from a state.
 use Rattle.std.specs.Prelude.{ℕ, ◌≡◌, ◌<◌, ◌≤◌, List, [], Option, Some, None, length}
 use Rattle.lola_value.specs.Naming.{Naming}
+use Rattle.lola_model.specs.Journal.{opening_time}
 use Rattle.lola_model.specs.Runs.{settled_fault}
 use Rattle.lola_model.specs.Store.{instances_seen, layout_of, new_seen}
 use Rattle.lola_model.specs.declared.journal.Entry.{Entry}
@@ -8,7 +9,7 @@ use Rattle.lola_model.specs.declared.journal.Show.{Show}
 use Rattle.lola_model.specs.declared.plan.Plan.{Plan}
 use Rattle.lola_engine.specs.Behind.{StandsBehind}
 use Rattle.lola_engine.specs.Engines.{IsEngine}
-use Rattle.lola_engine.specs.Resuming.{times_of}
+use Rattle.lola_engine.specs.Resuming.{merge_start, times_of}
 use Rattle.lola_engine.specs.Resuming as engines
 use Rattle.lola_engine.specs.declared.engine.EngineState.{EngineState}
 use Rattle.lola_engine.specs.declared.times.RunTimes.{RunTimes}
@@ -59,6 +60,7 @@ pub record GoesOnFrom (plan : Plan) (show : Show) (times : RunTimes) (e : Engine
   pub no_lines : e.lines ≡ 0
   pub few_rows : e.rows ≤ 1
   pub times_are : times_of e ≡ times
+  pub merged : e.merged ≡ opening_time (merge_start times)
 
 -- an engine that was loaded from the text of a state: it goes on from there, and stands behind each journal with that state
 pub record IsLoadedFrom (spec : List ℕ) (plan : Plan) (bytes : List ℕ) (show : Show) (e : EngineState) (s : BoundedStore) : Type 0 where

@@ -7,6 +7,7 @@
 //! Not promised: that a file has the text; and of a state that no run has come to, which journal an engine that goes on from it stands for.
 #![tactic(auto)]
 
+pub mod end;
 mod fields;
 mod instances;
 mod lines;

@@ -4,8 +4,6 @@ ghost use Rattle.std.specs.Prelude.{◌≡◌, ◌≤◌, true, IfOk, OnOk, Matc
 ghost use Rattle.std.specs.List.{list_all};
 ghost use Rattle.std.specs.Str.{is_utf8};
 ghost use Rattle.lola_model.specs.Acceptance.{IsAccepted};
-ghost use Rattle.lola_model.specs.Named.{are_distinct};
-ghost use Rattle.lola_step_contents.specs.Ready.{HasTexts};
 ghost use Rattle.lola_save_text.specs.Forms.{forms_of};
 ghost use Rattle.lola_save_text.specs.Validity.{IsSaved};
 ghost use Rattle.lola_save_read.specs.Ends.{IsReadEnd};
@@ -13,7 +11,7 @@ ghost use Rattle.lola_save.specs.Loaded.{HasMore, HasRoom};
 ghost use Rattle.lola_save.specs.Opening.{GoesOnFrom, IsGoingOn, IsLoadedFrom, IsStoreOf, StandsForJournalsOf, times_in};
 
 use crate::loaded_instances::load_streams;
-use lola_engine::engine::Engine;
+use lola_engine::engine::{Engine, literal_texts};
 use lola_engine::times::RunTimes;
 use lola_instances::law::{accepted_is_storable, resumed_is_there};
 use lola_instances::store::BoundedStore;
@@ -29,23 +27,6 @@ use lola_text::TextTable;
 use lola_value::text::Memory;
 use std::alloc::Global;
 use std::hash::RandomState;
-
-// A table with the texts of a plan's literals, each with the number of its place. Numbers of literals have 32 bits: a plan with more texts
-// is answered with `Memory`.
-fn literals(alloc: Global, hasher: RandomState, plan: &Plan) -> Result<TextTable, Memory>
-    requires { are_distinct plan.now.spec.texts ≡ true }
-    ensures texts { IfOk result (λ texts. HasTexts texts.held plan.now.spec.texts) }
-    ensures room { IfOk result HasRoom }
-{
-    if plan.spec.texts.as_slice().len() > u32::MAX as usize {
-        return Err(Memory);
-    }
-    let mut texts = TextTable::create(alloc, hasher);
-    for text in plan.spec.texts.as_slice() {
-        texts.intern(text.as_bytes())?;
-    }
-    Ok(texts)
-}
 
 // What was saved of instances is restored in a store that goes on. Where no row was accepted there is nothing.
 fn load_lives(
@@ -114,7 +95,7 @@ fn engine_of(
     resumed_is_there();
     content_is_of_journal(&plan);
     first_state_has_no_values(&plan);
-    let mut texts = literals(alloc, hasher, &plan)?;
+    let mut texts = literal_texts(alloc, hasher, &plan)?;
     let store = store_of(alloc, hasher, &plan, state, &mut texts)?;
     restored_stands(&plan, &store);
     let times = RunTimes {

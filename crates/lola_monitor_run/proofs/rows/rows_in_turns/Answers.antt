@@ -1,4 +1,4 @@
-use Rattle.std.proofs.Common.{◌≡◌, length, subst, sym, arith}
+use Rattle.std.proofs.Common.{◌≡◌, true, length, subst, sym, arith}
 use Rattle.lola_monitor_run.specs.Running.{keeping}
 use Rattle.lola_monitor_run.specs.Feeds.{Feeding, IsFresh, IsIdle, world}
 use Rattle.lola_monitor_run.specs.Behind.{Following, RunsBehind}
@@ -28,6 +28,6 @@ returns-clause-run g c = λ before stood.
     let trace = g.T.Sink.state in
     over_workers
     (λ olds news.
-    RunsBehind before c.run_rows-stopped.result (world (keeping c.args.run.now) olds (out c.args.out.now) (trace c.args.trace.now)) (world (keeping c.run_rows-stopped.new.run) news (out c.run_rows-stopped.new.out) (trace c.run_rows-stopped.new.trace)))
+    RunsBehind true before c.run_rows-stopped.result (world (keeping c.args.run.now) olds (out c.args.out.now) (trace c.args.trace.now)) (world (keeping c.run_rows-stopped.new.run) news (out c.run_rows-stopped.new.out) (trace c.run_rows-stopped.new.trace)))
     c.create-feed.result c.run_rows-stopped.new.feed c.args.workers.items c.into_workers.result.items c.in-Ok.room.0 c.in-Ok.room.1 c.create-feed.ensures c.into_workers.ensures
     (all_rows_behind c.run_rows-stopped.result _ _ c.run_rows-stopped.ensures.run before stood)

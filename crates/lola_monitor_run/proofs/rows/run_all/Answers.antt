@@ -39,5 +39,5 @@ returns-clause-behind g c = λ before stood.
     let trace = g.T.Sink.state in
     over_workers
     (λ olds news.
-    EndsBehind before c.run_whole-stopped.result (world (keeping c.args.run.now) olds (out c.args.out.now) (trace c.args.trace.now)) (world (keeping c.run_whole-stopped.new.run) news (out c.run_whole-stopped.new.out) (trace c.run_whole-stopped.new.trace)))
+    EndsBehind true before c.run_whole-stopped.result (world (keeping c.args.run.now) olds (out c.args.out.now) (trace c.args.trace.now)) (world (keeping c.run_whole-stopped.new.run) news (out c.run_whole-stopped.new.out) (trace c.run_whole-stopped.new.trace)))
     c.create-feed.result c.run_whole-stopped.new.feed c.args.workers.items c.into_workers.result.items c.in-Ok.room.0 c.in-Ok.room.1 c.create-feed.ensures c.into_workers.ensures (c.run_whole-stopped.ensures.behind before stood)

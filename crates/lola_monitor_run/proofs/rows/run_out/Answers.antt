@@ -8,5 +8,5 @@ returns-clause-run g c = λ in_turns first sources trace ran.
     closes in_turns first (keeping c.args.run.now) (keeping c.close.new.self) sources (g.K.Sink.state c.args.out.now) (g.K.Sink.state c.close.new.out) trace ran c.close.result c.close.ensures.closes
 
 pub returns-clause-behind : goal.returns-clause-behind
-returns-clause-behind g c = λ before first sources trace ran.
-    closes_behind before first (keeping c.args.run.now) (keeping c.close.new.self) sources (g.K.Sink.state c.args.out.now) (g.K.Sink.state c.close.new.out) trace ran c.close.result c.close.ensures.behind
+returns-clause-behind g c = λ in_turns before first sources trace ran.
+    closes_behind in_turns before first (keeping c.args.run.now) (keeping c.close.new.self) sources (g.K.Sink.state c.args.out.now) (g.K.Sink.state c.close.new.out) trace ran c.close.result c.close.ensures.behind

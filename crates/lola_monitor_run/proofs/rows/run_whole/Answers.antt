@@ -21,16 +21,16 @@ returns-in-Ok-clause-behind g c = λ before stood.
     let first = world (keeping c.args.run.now) (supplies_of c.args.feed.now) (g.K.Sink.state c.args.out.now) (g.T.Sink.state c.args.trace.now) in
     let last = world (keeping c.run_rows.new.run) (supplies_of c.run_rows.new.feed) (g.K.Sink.state c.run_rows.new.out) (g.T.Sink.state c.run_rows.new.trace) in
     let ran = c.in-Ok.ensures.run in
-    c.run_out.ensures.behind before first (supplies_of c.run_rows.new.feed) (g.T.Sink.state c.run_rows.new.trace) (ran_behind first ran.0.0 last ran.0.1 ran.1 before stood)
+    c.run_out.ensures.behind true before first (supplies_of c.run_rows.new.feed) (g.T.Sink.state c.run_rows.new.trace) (ran_behind first ran.0.0 last ran.0.1 ran.1 before stood)
 
 pub returns-in-Err-clause-run : goal.returns-in-Err-clause-run
 returns-in-Err-clause-run g c = λ stood.
     let first = world (keeping c.args.run.now) (supplies_of c.args.feed.now) (g.K.Sink.state c.args.out.now) (g.T.Sink.state c.args.trace.now) in
     let last = world (keeping c.run_rows.new.run) (supplies_of c.run_rows.new.feed) (g.K.Sink.state c.run_rows.new.out) (g.T.Sink.state c.run_rows.new.trace) in
-    stays_ended true c.in-Err.stop first last (stopped_first first last c.in-Err.stop (c.in-Err.ensures.run AtFirst (stands_first _ _ stood)))
+    stays_ended true c.in-Err.stop first last (stopped_first true first last c.in-Err.stop (c.in-Err.ensures.run AtFirst (stands_first _ _ stood)))
 
 pub returns-in-Err-clause-behind : goal.returns-in-Err-clause-behind
 returns-in-Err-clause-behind g c = λ before stood.
     let first = world (keeping c.args.run.now) (supplies_of c.args.feed.now) (g.K.Sink.state c.args.out.now) (g.T.Sink.state c.args.trace.now) in
     let last = world (keeping c.run_rows.new.run) (supplies_of c.run_rows.new.feed) (g.K.Sink.state c.run_rows.new.out) (g.T.Sink.state c.run_rows.new.trace) in
-    stays_ended_behind before first last c.in-Err.stop (c.in-Err.ensures.run (Following before) stood)
+    stays_ended_behind true before first last c.in-Err.stop (c.in-Err.ensures.run (Following before) stood)
