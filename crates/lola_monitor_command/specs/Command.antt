@@ -1,5 +1,5 @@
 -- The commands, by what their words say.
-use Rattle.std.specs.Prelude.{ℕ, List, [], ◌∷◌, Option, Some, None, Bool, true, false, ◌&&◌, if◌then◌else◌, nat_le, length, filter, codes}
+use Rattle.std.specs.Prelude.{ℕ, List, [], ◌∷◌, Option, Some, None, Bool, true, false, ◌&&◌, ◌||◌, if◌then◌else◌, nat_eq, nat_le, length, filter, codes}
 use Rattle.std.specs.List.{list_all}
 use Rattle.std.specs.Str.{bytes_eq}
 use Rattle.lola_value.specs.Times.{is_digit, number_of}
@@ -9,6 +9,7 @@ use Rattle.lola_model.specs.declared.journal.Show.TheVariants as show
 use Rattle.lola_monitor_command.specs.Said.{Word, said_from}
 use Rattle.lola_monitor_command.specs.declared.said.IntakeKind.{IntakeKind}
 use Rattle.lola_monitor_command.specs.declared.said.IntakeKind.TheVariants as intake
+use Rattle.lola_monitor_command.specs.declared.said.NamePlace.{NamePlace}
 use Rattle.lola_monitor_command.specs.declared.said.Said.{Said}
 use Rattle.lola_monitor_command.specs.declared.said.Said.TheVariants as said
 use Rattle.lola_monitor_command.specs.declared.command.Command.{Command}
@@ -36,23 +37,46 @@ abbrev pub is_intake : Said → Bool
 is_intake (said.Intake kind) = true
 is_intake _ = false
 
+abbrev pub is_resume : Said → Bool
+is_resume (said.Resume place) = true
+is_resume _ = false
+
+-- none of these is so
+abbrev pub nowhere : (Said → Bool) → List Said → Bool
+nowhere f ss = nat_eq (length (filter f ss)) 0
+
 -- at most one of these is so
 abbrev pub at_most_once : (Said → Bool) → List Said → Bool
 at_most_once f ss = nat_le (length (filter f ss)) 1
 
 -- each option comes at most once
 abbrev pub come_once : List Said → Bool
-come_once ss = at_most_once is_show ss && (at_most_once is_workers ss && (at_most_once is_start ss && (at_most_once is_in_turns ss && at_most_once is_intake ss)))
+come_once ss = at_most_once is_show ss && (at_most_once is_workers ss && (at_most_once is_start ss && (at_most_once is_in_turns ss && (at_most_once is_intake ss && at_most_once is_resume ss))))
+
+-- not both where time begins and the state from which a run goes on
+abbrev pub start_or_state : List Said → Bool
+start_or_state ss = nowhere is_start ss || nowhere is_resume ss
 
 -- an option that a replay has too, or a name
 abbrev pub suits_replay : Said → Bool
 suits_replay (said.Workers n) = false
 suits_replay said.InTurns = false
 suits_replay (said.Intake kind) = false
+suits_replay (said.Resume place) = false
 suits_replay _ = true
 
 abbrev pub suit_replay : List Said → Bool
 suit_replay ss = list_all suits_replay ss
+
+-- an option that a snapshot has too, or a name
+abbrev pub suits_snapshot : Said → Bool
+suits_snapshot (said.Name at) = true
+suits_snapshot (said.Start t) = true
+suits_snapshot (said.Resume place) = true
+suits_snapshot _ = false
+
+abbrev pub suit_snapshot : List Said → Bool
+suit_snapshot ss = list_all suits_snapshot ss
 
 -- what the options say, or what holds where they are left out
 
@@ -81,6 +105,11 @@ intake_said [] = intake.Lock
 intake_said (said.Intake kind ∷ ss) = kind
 intake_said (s ∷ ss) = intake_said ss
 
+abbrev pub state_said : List Said → Option NamePlace
+state_said [] = None
+state_said (said.Resume place ∷ ss) = Some place
+state_said (s ∷ ss) = state_said ss
+
 -- the names at the front, and what stands behind them
 abbrev pub front_names : List Said → List ℕ
 front_names (said.Name at ∷ ss) = at ∷ front_names ss
@@ -107,7 +136,7 @@ are_sources sources rest = nat_le 1 (length sources) && (nat_le (length sources)
 -- a run over a specification, with what stands behind its name and the options there
 abbrev pub run_over : List Said → ℕ → List Said → Option Command
 run_over ss specification rest =
-    if come_once ss && are_sources (front_names rest) (behind_names rest)
+    if come_once ss && (start_or_state ss && are_sources (front_names rest) (behind_names rest))
     then Some (command.Run (record {
       specification = specification;
       sources = front_names rest;
@@ -116,6 +145,7 @@ run_over ss specification rest =
       start = start_said ss;
       in_turns = in_turns_said ss;
       intake = intake_said ss;
+      state = state_said ss;
     }))
     else None
 
@@ -169,6 +199,26 @@ replay_by ss _ = None
 abbrev pub replay_of : List Said → Option Command
 replay_of ss = replay_by ss (behind_options ss)
 
+-- a snapshot over a specification, with what stands behind its name and the options there
+abbrev pub snapshot_over : List Said → ℕ → List Said → Option Command
+snapshot_over ss specification rest =
+    if come_once ss && (start_or_state ss && (suit_snapshot ss && are_sources (front_names rest) (behind_names rest)))
+    then Some (command.Snapshot (record {
+      specification = specification;
+      sources = front_names rest;
+      start = start_said ss;
+      state = state_said ss;
+    }))
+    else None
+
+-- options, the specification, options, the sources, options
+abbrev pub snapshot_by : List Said → List Said → Option Command
+snapshot_by ss (said.Name specification ∷ rest) = snapshot_over ss specification (behind_options rest)
+snapshot_by ss _ = None
+
+abbrev pub snapshot_of : List Said → Option Command
+snapshot_of ss = snapshot_by ss (behind_options ss)
+
 -- where no word is wrong
 abbrev pub of_said : (List Said → Option Command) → Option (List Said) → Option Command
 of_said f None = None
@@ -180,5 +230,12 @@ command_of (program ∷ word ∷ words) =
     if bytes_eq word (codes "run") then of_said run_of (said_from false 2 words)
     else if bytes_eq word (codes "analyse") then of_said analyse_of (said_from false 2 words)
     else if bytes_eq word (codes "drill") then of_said (drill_of (program ∷ word ∷ words)) (said_from false 2 words)
-    else if bytes_eq word (codes "replay") then of_said replay_of (said_from false 2 words) else None
+    else if bytes_eq word (codes "replay") then of_said replay_of (said_from false 2 words)
+    else if bytes_eq word (codes "snapshot") then of_said snapshot_of (said_from false 2 words) else None
 command_of _ = None
+
+-- the saved state from which what a command does goes on, if it names one
+abbrev pub state_of : Option Command → Option NamePlace
+state_of (Some (command.Run r)) = r.state
+state_of (Some (command.Snapshot s)) = s.state
+state_of _ = None

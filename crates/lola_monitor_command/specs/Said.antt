@@ -2,9 +2,11 @@
 use Rattle.std.specs.Prelude.{ℕ, ◌+◌, List, [], ◌∷◌, ◌++◌, Option, Some, None, Bool, true, false, not, ◌&&◌, if◌then◌else◌, nat_eq, nat_le, nat_lt, length, take, drop, slice_get, option_map, codes}
 use Rattle.std.specs.List.{list_all, position}
 use Rattle.std.specs.Str.{bytes_eq}
+use Rattle.lola_value.specs.Words.{word_at}
 use Rattle.lola_value.specs.Times.{is_digit, number_of, read_time}
 use Rattle.lola_model.specs.declared.journal.Show.TheVariants as show
 use Rattle.lola_monitor_command.specs.declared.said.IntakeKind.TheVariants as intake
+use Rattle.lola_monitor_command.specs.declared.said.NamePlace.{NamePlace}
 use Rattle.lola_monitor_command.specs.declared.said.Said.{Said}
 use Rattle.lola_monitor_command.specs.declared.said.Said.TheVariants as said
 use Rattle.lola_monitor_command.specs.declared.said.WordSense.{WordSense}
@@ -12,6 +14,10 @@ use Rattle.lola_monitor_command.specs.declared.said.WordSense.TheVariants as thi
 
 abbrev pub Word : Type 0
 Word = List ℕ
+
+-- the name that stands there
+abbrev pub name_at : List Word → NamePlace → Word
+name_at words place = drop place.from (word_at words place.word)
 
 abbrev pub begins_with_minus : Word → Bool
 begins_with_minus [] = false
@@ -44,18 +50,19 @@ intake_by v =
     if bytes_eq v (codes "lock") then Some (said.Intake intake.Lock)
     else if bytes_eq v (codes "queue") then Some (said.Intake intake.Queue) else None
 
--- an option of this name, with this value
-abbrev pub option_by : Word → Word → Option Said
-option_by name v =
+-- an option of this name, with this value, which stands there
+abbrev pub option_by : Word → Word → NamePlace → Option Said
+option_by name v place =
     if bytes_eq name (codes "--show") then show_by v
     else if bytes_eq name (codes "--workers") then workers_by v
     else if bytes_eq name (codes "--start") then start_by v
-    else if bytes_eq name (codes "--intake") then intake_by v else None
+    else if bytes_eq name (codes "--intake") then intake_by v
+    else if bytes_eq name (codes "--resume") then Some (said.Resume place) else None
 
--- a value in a word of its own does not begin with a minus
-abbrev pub option_with : Word → Option Word → Option Said
-option_with name None = None
-option_with name (Some v) = if begins_with_minus v then None else option_by name v
+-- an option, by its number and its name, with the next word as its value; that does not begin with a minus
+abbrev pub option_with : ℕ → Word → Option Word → Option Said
+option_with at name None = None
+option_with at name (Some v) = if begins_with_minus v then None else option_by name v (record { word = at + 1; from = 0 })
 
 abbrev pub is_equals : ℕ → Bool
 is_equals b = nat_eq b 61
@@ -66,9 +73,9 @@ says takes_next None = thing.Wrong
 says takes_next (Some s) = thing.Says s takes_next
 
 -- an option whose first `=` is there, between its name and its value; without one its value is the next word
-abbrev pub valued : Word → Option Word → Option ℕ → WordSense
-valued w next None = says true (option_with w next)
-valued w next (Some at) = says false (option_by (take at w) (drop (at + 1) w))
+abbrev pub valued : ℕ → Word → Option Word → Option ℕ → WordSense
+valued at w next None = says true (option_with at w next)
+valued at w next (Some equals) = says false (option_by (take equals w) (drop (equals + 1) w) (record { word = at; from = equals + 1 }))
 
 -- what a word says, by its number, with the word behind it
 abbrev pub thing_of : ℕ → Word → Option Word → WordSense
@@ -76,7 +83,7 @@ thing_of at w next =
     if bytes_eq w (codes "--") then thing.Dashes
     else if not (is_option w) then thing.Says (said.Name at) false
     else if bytes_eq w (codes "--in-turns") then thing.Says said.InTurns false
-    else valued w next (position is_equals w)
+    else valued at w next (position is_equals w)
 
 -- so many words from this number on, all of them names
 abbrev pub names_from : ℕ → List Word → List Said

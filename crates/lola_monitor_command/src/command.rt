@@ -4,13 +4,13 @@ ghost use Rattle.std.specs.Prelude.{◌≡◌, ◌≤◌, ◌++◌, true, false,
 ghost use Rattle.std.specs.List.{list_all};
 ghost use Rattle.lola_value.specs.Times.{is_digit, number_of};
 ghost use Rattle.lola_monitor_command.specs.Said.{said_from};
-ghost use Rattle.lola_monitor_command.specs.Command.{front_names, behind_names, are_sources, run_over, run_of, analyse_of, is_number, drill_with, drill_of, replay_by, replay_of, replay_with, of_said, command_of};
+ghost use Rattle.lola_monitor_command.specs.Command.{front_names, behind_names, are_sources, run_over, run_of, analyse_of, is_number, drill_with, drill_of, replay_by, replay_of, replay_with, snapshot_over, snapshot_of, of_said, command_of};
 
 use crate::options::all_digits;
-use crate::said::{IntakeKind, Said};
+use crate::said::{IntakeKind, NamePlace, Said};
 use crate::settings::{
-    how_many_workers, is_once, past_options, suit_replay, what_is_shown, where_rows_come_in,
-    where_time_begins, whether_in_turns,
+    how_many_workers, is_once, is_start_or_state, past_options, suit_replay, suit_snapshot,
+    what_is_shown, where_rows_come_in, where_time_begins, whether_in_turns, which_state,
 };
 use crate::words::all_said;
 use lola_model::journal::Show;
@@ -39,6 +39,21 @@ pub struct RunCommand {
     pub in_turns: bool,
     /// What the sources hand their rows in at unless they are read in turns; the lock where nothing is said.
     pub intake: IntakeKind,
+    /// The saved state from which the run goes on, if one is named; then `start` is none.
+    pub state: Option<NamePlace>,
+}
+
+/// What a snapshot is told: a run that ends with its state, which is saved.
+#[derive(Drop)]
+pub struct SnapshotCommand {
+    /// The word that names the specification.
+    pub specification: usize,
+    /// The words that name the sources, from 1 to 64, in their order.
+    pub sources: WordNumbers,
+    /// Where time begins, in nanoseconds, if it is said.
+    pub start: Option<u64>,
+    /// The saved state from which the run goes on, if one is named; then `start` is none.
+    pub state: Option<NamePlace>,
 }
 
 /// What a drill is told.
@@ -70,7 +85,7 @@ pub struct ReplayCommand {
 /// A command.
 #[derive(Drop)]
 pub enum Command {
-    /// `run [--show triggers|outputs] [--workers N] [--start T] [--in-turns] [--intake lock|queue] SPEC SOURCE..`
+    /// `run [--show triggers|outputs] [--workers N] [--start T | --resume STATE] [--in-turns] [--intake lock|queue] SPEC SOURCE..`
     Run(RunCommand),
     /// `analyse SPEC`, by the word that names the specification.
     Analyse(usize),
@@ -78,6 +93,8 @@ pub enum Command {
     Drill(DrillCommand),
     /// `replay [--show triggers|outputs] [--start T] SPEC TRACE VERDICTS`
     Replay(ReplayCommand),
+    /// `snapshot [--start T | --resume STATE] SPEC SOURCE..`
+    Snapshot(SnapshotCommand),
 }
 
 // Moves the names at the front behind others, and gives what stands behind them.
@@ -112,7 +129,7 @@ fn run_over_specification(
 {
     let mut sources = WordNumbers::create(alloc);
     let rest = take_names(&mut sources, behind)?;
-    if !is_once(said) || !can_be_sources(sources.as_slice(), rest) {
+    if !is_once(said) || !is_start_or_state(said) || !can_be_sources(sources.as_slice(), rest) {
         return Ok(None);
     }
     Ok(Some(Command::Run(RunCommand {
@@ -123,6 +140,7 @@ fn run_over_specification(
         start: where_time_begins(said),
         in_turns: whether_in_turns(said),
         intake: where_rows_come_in(said),
+        state: which_state(said),
     })))
 }
 
@@ -250,6 +268,45 @@ fn replay_said(said: &[Said]) -> Option<Command>
     replay_behind(said, past_options(said))
 }
 
+// A snapshot over this specification, with what stands behind its name and the options there.
+fn snapshot_over_specification(
+    alloc: Global,
+    said: &[Said],
+    specification: usize,
+    behind: &[Said],
+) -> Result<Option<Command>, Memory>
+    ensures { IfOk result (λ command. command ≡ snapshot_over said.now specification behind.now) }
+{
+    let mut sources = WordNumbers::create(alloc);
+    let rest = take_names(&mut sources, behind)?;
+    if !is_once(said)
+        || !is_start_or_state(said)
+        || !suit_snapshot(said)
+        || !can_be_sources(sources.as_slice(), rest)
+    {
+        return Ok(None);
+    }
+    Ok(Some(Command::Snapshot(SnapshotCommand {
+        specification,
+        sources,
+        start: where_time_begins(said),
+        state: which_state(said),
+    })))
+}
+
+// The snapshot that this says.
+fn snapshot_said(alloc: Global, said: &[Said]) -> Result<Option<Command>, Memory>
+    ensures { IfOk result (λ command. command ≡ snapshot_of said.now) }
+{
+    let front = past_options(said);
+    match front.first() {
+        Some(Said::Name(specification)) => {
+            snapshot_over_specification(alloc, said, *specification, past_options(&front[1..]))
+        }
+        _ => Ok(None),
+    }
+}
+
 // The run that the words behind `run` are.
 fn read_run(alloc: Global, words: &[String]) -> Result<Option<Command>, Memory>
     requires { 2 ≤ length words.now }
@@ -294,12 +351,25 @@ fn read_replay(alloc: Global, words: &[String]) -> Result<Option<Command>, Memor
     }
 }
 
+// The snapshot that the words behind `snapshot` are.
+fn read_snapshot(alloc: Global, words: &[String]) -> Result<Option<Command>, Memory>
+    requires { 2 ≤ length words.now }
+    ensures { IfOk result (λ command. command ≡ of_said snapshot_of (said_from false 2 (drop 2 (map string_bytes words.now)))) }
+{
+    match all_said(alloc, words, 2)? {
+        Some(said) => snapshot_said(alloc, said.as_slice()),
+        None => Ok(None),
+    }
+}
+
 /// The command that the words of a command line are, or none where they are no command. The first word is the
-/// program's name, the second `run`, `analyse`, `drill` or `replay`.
+/// program's name, the second `run`, `analyse`, `drill`, `replay` or `snapshot`.
 ///
-/// The options of a run stand before the specification, between it and the first source, or behind the last source, those of a
-/// replay before the specification or behind the verdicts, and each comes at most once, as `--name value` or `--name=value`.
-/// A word `--` makes all words behind it names. A drill has no option and three numbers, each of digits alone.
+/// The options of a run or of a snapshot stand before the specification, between it and the first source, or behind the last
+/// source, those of a replay before the specification or behind the verdicts, and each comes at most once, as `--name value` or
+/// `--name=value`. A value in a word of its own does not begin with a minus. With `--start` there is no `--resume`; a snapshot has
+/// these two options alone, a replay neither `--resume` nor what says how rows come in. A word `--` makes all words behind it
+/// names. A drill has no option and three numbers, each of digits alone.
 pub fn read_command(alloc: Global, words: &[String]) -> Result<Option<Command>, Memory>
     ensures { IfOk result (λ command. command ≡ command_of (map string_bytes words.now)) }
 {
@@ -311,6 +381,7 @@ pub fn read_command(alloc: Global, words: &[String]) -> Result<Option<Command>, 
         "analyse" => read_analysis(alloc, words),
         "drill" => read_drill(alloc, words),
         "replay" => read_replay(alloc, words),
+        "snapshot" => read_snapshot(alloc, words),
         _ => Ok(None),
     }
 }

@@ -1,11 +1,11 @@
 //! What one word says.
 
-ghost use Rattle.std.specs.Prelude.{◌≡◌, ◌≤◌, option_map, length, true, false, Some, None, if◌then◌else◌, position};
+ghost use Rattle.std.specs.Prelude.{◌≡◌, ◌≤◌, ◌<◌, ◌+◌, ◌^◌, option_map, length, true, false, Some, None, if◌then◌else◌, position};
 ghost use Rattle.std.specs.List.{list_all};
 ghost use Rattle.lola_value.specs.Times.{is_digit, number_of};
 ghost use Rattle.lola_monitor_command.specs.Said.{begins_with_minus, is_option, show_by, is_worker_count, workers_by, start_by, intake_by, option_by, option_with, is_equals, says, valued as valued_by, thing_of};
 
-use crate::said::{IntakeKind, Said, WordSense};
+use crate::said::{IntakeKind, NamePlace, Said, WordSense};
 use lola_model::journal::Show;
 use lola_value::times::time_read;
 
@@ -101,9 +101,9 @@ fn intake_value(value: &[u8]) -> Option<Said>
     }
 }
 
-// The option of this name with this value, if there is one.
-fn option_of(name: &[u8], value: &[u8]) -> Option<Said>
-    ensures { result ≡ option_by name.now value.now }
+// The option of this name with this value, which stands at this place, if there is one.
+fn option_of(name: &[u8], value: &[u8], place: NamePlace) -> Option<Said>
+    ensures { result ≡ option_by name.now value.now place }
 {
     if name == b"--show".as_slice() {
         show_value(value)
@@ -113,14 +113,17 @@ fn option_of(name: &[u8], value: &[u8]) -> Option<Said>
         start_value(value)
     } else if name == b"--intake".as_slice() {
         intake_value(value)
+    } else if name == b"--resume".as_slice() {
+        Some(Said::Resume(place))
     } else {
         None
     }
 }
 
-// The option of this name with the next word as its value.
-fn option_with_next(name: &[u8], next: Option<&[u8]>) -> Option<Said>
-    ensures { result ≡ option_with name.now (option_map (λ w. w.now) next.entry) }
+// The option of this name, which is the word of this number, with the next word as its value.
+fn option_with_next(at: usize, name: &[u8], next: Option<&[u8]>) -> Option<Said>
+    requires { at + 1 < 2 ^ 64 }
+    ensures { result ≡ option_with at name.now (option_map (λ w. w.now) next.entry) }
 {
     match next {
         None => None,
@@ -128,7 +131,11 @@ fn option_with_next(name: &[u8], next: Option<&[u8]>) -> Option<Said>
             if starts_with_minus(value) {
                 None
             } else {
-                option_of(name, value)
+                let place = NamePlace {
+                    word: at + 1,
+                    from: 0,
+                };
+                option_of(name, value, place)
             }
         }
     }
@@ -151,17 +158,28 @@ fn says_option(takes_next: bool, option: Option<Said>) -> WordSense
 }
 
 // What an option says that has more than a name of its own: its value in the same word or in the next one.
-fn valued(word: &[u8], next: Option<&[u8]>) -> WordSense
-    ensures { result ≡ valued_by word.now (option_map (λ w. w.now) next.entry) (position is_equals word.now) }
+fn valued(at: usize, word: &[u8], next: Option<&[u8]>) -> WordSense
+    requires { at + 1 < 2 ^ 64 }
+    ensures { result ≡ valued_by at word.now (option_map (λ w. w.now) next.entry) (position is_equals word.now) }
 {
     match equals_place(word) {
-        None => says_option(true, option_with_next(word, next)),
-        Some(place) => says_option(false, option_of(&word[..place], &word[place + 1..])),
+        None => says_option(true, option_with_next(at, word, next)),
+        Some(equals) => {
+            let place = NamePlace {
+                word: at,
+                from: equals + 1,
+            };
+            says_option(
+                false,
+                option_of(&word[..equals], &word[equals + 1..], place),
+            )
+        }
     }
 }
 
-/// What a word says, with the word behind it.
+/// What the word of a number says, with the word behind it.
 pub fn thing(at: usize, word: &[u8], next: Option<&[u8]>) -> WordSense
+    requires { at + 1 < 2 ^ 64 }
     ensures { result ≡ thing_of at word.now (option_map (λ w. w.now) next.entry) }
 {
     if word == b"--".as_slice() {
@@ -171,6 +189,6 @@ pub fn thing(at: usize, word: &[u8], next: Option<&[u8]>) -> WordSense
     } else if word == b"--in-turns".as_slice() {
         WordSense::Says(Said::InTurns, false)
     } else {
-        valued(word, next)
+        valued(at, word, next)
     }
 }

@@ -12,6 +12,15 @@ pub enum IntakeKind {
     Queue,
 }
 
+/// Where a name stands on the command line: the number of its word, and how many bytes of the word stand before it.
+#[derive(Clone, Copy, Debug, PartialEq, Eq)]
+pub struct NamePlace {
+    /// The number of the word, from 0 for the program's name.
+    pub word: usize,
+    /// How many bytes of the word stand before the name.
+    pub from: usize,
+}
+
 /// A name, or an option with its value.
 #[derive(Clone, Copy, Debug, PartialEq, Eq)]
 pub enum Said {
@@ -27,6 +36,8 @@ pub enum Said {
     InTurns,
     /// `--intake`
     Intake(IntakeKind),
+    /// `--resume`, by where the name of the state stands.
+    Resume(NamePlace),
 }
 
 /// What one word says where it stands.
